@@ -1,0 +1,4 @@
+//! Runs a script of flows and caps.
+#![tactic(auto)]
+
+fn main() {}

@@ -1,0 +1,7 @@
+//! A simulated link scheduler: max-min fair rates over capped peers, and when each message arrives.
+#![tactic(auto)]
+
+pub mod bandwidth;
+pub mod error;
+pub mod peer;
+pub mod ratio;

@@ -1,0 +1,2 @@
+//! Tests of the library through its public surface.
+#![tactic(auto)]
