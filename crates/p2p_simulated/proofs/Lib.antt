@@ -1,0 +1,2 @@
+pub mod FractionFits
+pub mod Ratios
