@@ -2,6 +2,8 @@ pub mod Amount
 pub mod Answers
 pub mod Code
 pub mod Fair
+pub mod FairExample
+pub mod FairLaws
 pub mod Fraction
 pub mod Rates
 pub mod Ratio
