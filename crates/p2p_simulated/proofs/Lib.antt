@@ -1,2 +1,4 @@
 pub mod FractionFits
 pub mod Ratios
+pub mod Denominators
+pub mod Fairness

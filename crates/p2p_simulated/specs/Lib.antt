@@ -3,6 +3,8 @@ pub mod Answers
 pub mod Code
 pub mod Fair
 pub mod Fits
+pub mod FairExample
+pub mod FairLaws
 pub mod Fraction
 pub mod Laws
 pub mod Rates

@@ -8,6 +8,7 @@ ghost use Rattle.p2p_simulated.specs.Sides.{sides_of};
 ghost use Rattle.p2p_simulated.specs.Rates.{AreFairRates, last_rate};
 
 mod filling;
+pub mod laws;
 mod sides;
 
 use crate::error::Error;

@@ -1,0 +1,8 @@
+-- The laws of max-min fairness.
+pub mod Sums
+pub mod Fractions
+pub mod MaxMin
+pub mod OneAllocation
+pub mod ClosedSides
+pub mod SameSides
+pub mod Example
