@@ -1,4 +1,4 @@
-pub mod FractionFits
-pub mod Ratios
 pub mod Denominators
 pub mod Fairness
+pub mod FractionFits
+pub mod Ratios

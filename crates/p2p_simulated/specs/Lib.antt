@@ -2,9 +2,9 @@ pub mod Amount
 pub mod Answers
 pub mod Code
 pub mod Fair
-pub mod Fits
 pub mod FairExample
 pub mod FairLaws
+pub mod Fits
 pub mod Fraction
 pub mod Laws
 pub mod Rates
