@@ -2,6 +2,7 @@ pub mod Amount
 pub mod Answers
 pub mod Code
 pub mod Fair
+pub mod Filling
 pub mod Fits
 pub mod Fraction
 pub mod Laws
