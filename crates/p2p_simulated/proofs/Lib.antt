@@ -1,4 +1,5 @@
 pub mod Denominators
 pub mod Fairness
+pub mod Filling
 pub mod FractionFits
 pub mod Ratios
