@@ -49,9 +49,13 @@ paced_flows sending = map (λ f. f.message) sending
 abbrev pub left_at : {P : Type 0} → ℕ → Paced P → Amount
 left_at t f = drained_by f.rate (t - f.updated) f.left
 
+-- nothing is left of it at t
+abbrev pub IsSpentAt : {P : Type 0} → ℕ → Paced P → Type 0
+IsSpentAt t f = (left_at t f).num ≡ 0
+
 -- at t nothing is left of some message in flight
 abbrev pub SomeSpentAt : {P : Type 0} → List (Paced P) → ℕ → Type 0
-SomeSpentAt {P} sending t = (i : ℕ) × (f : Paced P) × (slice_get sending i ≡ Some f) × (f.updated ≤ t) × ((left_at t f).num ≡ 0)
+SomeSpentAt {P} sending t = (i : ℕ) × (f : Paced P) × (slice_get sending i ≡ Some f) × (f.updated ≤ t) × IsSpentAt t f
 
 -- the messages in flight after they have drained to t, which becomes their update
 abbrev pub drained_to : {P : Type 0} → ℕ → List (Paced P) → List (Paced P)
