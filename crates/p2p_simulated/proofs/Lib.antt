@@ -3,3 +3,4 @@ pub mod Fairness
 pub mod Filling
 pub mod FractionFits
 pub mod Ratios
+pub mod World
