@@ -1,8 +1,8 @@
 -- What the frozen users of a side have, and what is left for the others, by the values of the rates.
-use Rattle.std.proofs.Common.{◌≡◌, ℕ, ◌+◌, ◌*◌, ◌<◌, ◌≤◌, List, length, take, get_or, refl, ap, arith, cond, Option, Some, None, is_none}
+use Rattle.std.proofs.Common.{◌≡◌, ℕ, ◌+◌, ◌*◌, ◌<◌, ◌≤◌, List, length, take, get_or, refl, ap, subst, arith, cond, Option, Some, None, is_none}
 use Rattle.std.specs.Prelude.{unwrap_or, option_map}
 use Rattle.std.proofs.lemmas.List.Sums.{sum_by_more}
-use Rattle.p2p_simulated.specs.Amount.{whole, plus, minus, over}
+use Rattle.p2p_simulated.specs.Amount.{Amount, AreEqual, whole, plus, minus, over}
 use Rattle.p2p_simulated.specs.Fair.{Side}
 use Rattle.p2p_simulated.specs.Filling.{at_level, taken, rising, rising_users, rate_at, parts_at, IsTaken, IsShare, HasRoomAt}
 use Rattle.p2p_simulated.specs.Ratio.{amount_of, IsWorth}
@@ -46,12 +46,16 @@ module _ (rates : List (Option Ratio)) (side : Side) (i : ℕ) (inside : i < len
         omega (arith, was.worth per parts w, ap (λ n. n * total.denominator) both);
   }
 
+-- a ratio is worth the amount that it is
+is_worth : (ratio : Ratio) (amount : Amount) → amount_of ratio ≡ amount → IsWorth ratio amount
+is_worth ratio amount e = subst (λ a. AreEqual (amount_of ratio) a) e refl
+
 -- what is left of the cap, divided by the number of the rising users
-pub share_is : (rates : List (Option Ratio)) (side : Side) (total cap left count share : Ratio) → IsTaken rates side total → IsWorth cap (whole side.cap) → IsWorth left (minus (amount_of cap) (amount_of total)) → IsWorth count (whole (rising_users rates side)) → IsWorth share (over (amount_of left) (amount_of count)) → IsShare rates side share
+pub share_is : (rates : List (Option Ratio)) (side : Side) (total cap left count share : Ratio) → IsTaken rates side total → amount_of cap ≡ whole side.cap → IsWorth left (minus (amount_of cap) (amount_of total)) → amount_of count ≡ whole (rising_users rates side) → IsWorth share (over (amount_of left) (amount_of count)) → IsShare rates side share
 share_is rates side total cap left count share is_total is_cap is_left is_count is_share = record {
   worth = λ per parts w.
-      let rest = sub_parts left.numerator left.denominator cap.numerator cap.denominator total.numerator total.denominator side.cap (taken (parts_at rates parts) side) per cap.positive total.positive is_left is_cap (is_total.worth per parts w) in
-      div_parts share.numerator share.denominator left.numerator left.denominator count.numerator count.denominator (rising_users rates side) _ per left.positive count.positive is_share is_count rest;
+      let rest = sub_parts left.numerator left.denominator cap.numerator cap.denominator total.numerator total.denominator side.cap (taken (parts_at rates parts) side) per cap.positive total.positive is_left (is_worth cap (whole side.cap) is_cap) (is_total.worth per parts w) in
+      div_parts share.numerator share.denominator left.numerator left.denominator count.numerator count.denominator (rising_users rates side) _ per left.positive count.positive is_share (is_worth count (whole (rising_users rates side)) is_count) rest;
 }
 
 -- a side has room at its share
