@@ -2,6 +2,7 @@
 ghost use Rattle.std.specs.Prelude.{◌≡◌, ◌⊎◌, ℕ, List, IfOk, IfErr, length};
 ghost use Rattle.std.specs.Fn.{CalledAt, TakesAt};
 ghost use Rattle.std.specs.Ordering.{nat_cmp};
+ghost use Rattle.std.specs.declared.cmp.Ordering.TheVariants.{Equal};
 ghost use Rattle.std.specs.BTreeMap.{get};
 ghost use Rattle.p2p_simulated.specs.Answers.{Answered, States, AnswerInOrder, NoLink, CallableOnEach, origins, recipients};
 ghost use Rattle.p2p_simulated.specs.Sides.{sides_of};
@@ -10,6 +11,9 @@ ghost use Rattle.p2p_simulated.specs.Rates.{AreFairRates, last_rate};
 mod filling;
 pub mod laws;
 mod sides;
+mod time;
+
+pub use time::{draining_splits, duration, nothing_is_left_from_the_least_time_on, there_is_one_least_time, transfer};
 
 use crate::error::Error;
 use crate::peer::Peer;
@@ -25,6 +29,24 @@ pub struct Flow<P> {
     pub recipient: P,
     /// Whether it arrives. A flow that does not charges its origin alone.
     pub delivered: bool,
+}
+
+impl<P: Peer> Flow<P> {
+    /// The same flow, with a clone of each peer. Refused only where memory was refused for one.
+    pub fn clone(&self) -> Result<Flow<P>, Error>
+        ensures id { IfOk result (λ copy. copy.id ≡ self.now.id) }
+        ensures origin { IfOk result (λ copy. P.cmp copy.origin self.now.origin ≡ Equal) }
+        ensures recipient { IfOk result (λ copy. P.cmp copy.recipient self.now.recipient ≡ Equal) }
+        ensures delivered { IfOk result (λ copy. copy.delivered ≡ self.now.delivered) }
+        ensures refused { IfErr result (λ e. e ≡ Error.OutOfMemory) }
+    {
+        Ok(Flow {
+            id: self.id,
+            origin: self.origin.clone_peer().ok_or(Error::OutOfMemory)?,
+            recipient: self.recipient.clone_peer().ok_or(Error::OutOfMemory)?,
+            delivered: self.delivered,
+        })
+    }
 }
 
 /// How fast a flow may send, in bytes a second.
