@@ -5,6 +5,7 @@ pub mod Fair
 pub mod FairExample
 pub mod FairLaws
 pub mod Fraction
+pub mod PeerCaps
 pub mod Rates
 pub mod Ratio
 pub mod Sides
