@@ -9,3 +9,7 @@ pub mod SameSides
 pub mod Example
 pub mod Subjects
 pub mod CapSides
+pub mod Among
+pub mod Uncapped
+pub mod Part
+pub mod Order

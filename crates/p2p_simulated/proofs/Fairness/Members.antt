@@ -95,3 +95,8 @@ some_or_none {X} test (y ∷ ys) = by_test (test y) refl (some_or_none test ys)
     by_test true is ih = inl (y, inl refl, is)
     by_test false is (inl (x, h, t)) = inl (x, inr h, t)
     by_test false is (inr none) = inr (λ x. elim [ inl e ↦ subst (λ (z : X). test z ≡ false) e is | inr h ↦ none x h ])
+
+pub get_from_map : {X Y : Type 0} (f : X → Y) (xs : List X) (i : ℕ) (y : Y) → slice_get (map f xs) i ≡ Some y → (x : X) × (slice_get xs i ≡ Some x) × (f x ≡ y)
+get_from_map f [] i y e = cc
+get_from_map f (x ∷ xs) zero y e = (x, refl, cc)
+get_from_map f (x ∷ xs) (suc i) y e = get_from_map f xs i y e
