@@ -1,4 +1,5 @@
 -- The laws of max-min fairness.
+pub mod Members
 pub mod Sums
 pub mod Fractions
 pub mod MaxMin
@@ -6,3 +7,9 @@ pub mod OneAllocation
 pub mod ClosedSides
 pub mod SameSides
 pub mod Example
+pub mod Subjects
+pub mod CapSides
+pub mod Among
+pub mod Uncapped
+pub mod Part
+pub mod Order

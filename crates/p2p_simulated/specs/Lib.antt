@@ -8,6 +8,7 @@ pub mod Filling
 pub mod Fits
 pub mod Fraction
 pub mod Laws
+pub mod PeerCaps
 pub mod Rates
 pub mod Ratio
 pub mod Sides

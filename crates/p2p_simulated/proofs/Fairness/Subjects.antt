@@ -1,0 +1,88 @@
+-- Subjects of sides, up to the equality of peers.
+use Rattle.std.proofs.Common.{◌≡◌, true, ◌&&◌, refl}
+use Rattle.std.specs.Cmp.{IsTotalOrder, IsEquivalence}
+use Rattle.std.specs.declared.cmp.Ordering.{Ordering}
+use Rattle.std.specs.declared.cmp.Ordering.TheVariants.{Less, Equal, Greater}
+use Rattle.std.specs.Ordering.{is_eq}
+use Rattle.std.proofs.lemmas.Bool.{and_parts, and_from, false≢true}
+use Rattle.std.proofs.lemmas.Cmp.{eq_by_cmp_equiv}
+use Rattle.p2p_simulated.specs.declared.bandwidth.Flow.{Flow}
+use Rattle.p2p_simulated.specs.Sides.{Subject, sent_by, received_by, sent_between, same_peer, same_subject}
+use Rattle.p2p_simulated.specs.PeerCaps.{Caps, cap_of, AreOfPeers, limits}
+
+equal_from : (o : Ordering) → is_eq o ≡ true → o ≡ Equal
+equal_from Less e = cc
+equal_from Equal e = refl
+equal_from Greater e = cc
+
+module _ {P : Type 0} (cmp : P → P → Ordering) (order : IsTotalOrder cmp) where
+  abbrev laws : IsEquivalence (same_peer cmp)
+  laws = eq_by_cmp_equiv order
+
+  pub same_peer_itself : (p : P) → same_peer cmp p p ≡ true
+  same_peer_itself p = laws.refl p
+
+  -- both peers the same
+  pair_congr : (p q r s t u : P) → (same_peer cmp p r && same_peer cmp q s) ≡ true → (same_peer cmp p t && same_peer cmp q u) ≡ (same_peer cmp r t && same_peer cmp s u)
+  pair_congr p q r s t u e =
+      let parts = and_parts (same_peer cmp p r) (same_peer cmp q s) e in
+      rw (laws.congr p r t parts.0, laws.congr q s u parts.1) refl
+
+  pub subject_refl : (s : Subject P) → same_subject cmp s s ≡ true
+  subject_refl (sent_by p) = laws.refl p
+  subject_refl (received_by p) = laws.refl p
+  subject_refl (sent_between p q) = and_from (same_peer cmp p p) (same_peer cmp q q) (laws.refl p) (laws.refl q)
+
+  pub subject_sym : (s t : Subject P) → same_subject cmp s t ≡ same_subject cmp t s
+  subject_sym (sent_by p) (sent_by q) = laws.symm p q
+  subject_sym (received_by p) (received_by q) = laws.symm p q
+  subject_sym (sent_between p q) (sent_between r s) = rw (laws.symm p r, laws.symm q s) refl
+  subject_sym (sent_by p) (received_by q) = refl
+  subject_sym (sent_by p) (sent_between q r) = refl
+  subject_sym (received_by p) (sent_by q) = refl
+  subject_sym (received_by p) (sent_between q r) = refl
+  subject_sym (sent_between p q) (sent_by r) = refl
+  subject_sym (sent_between p q) (received_by r) = refl
+
+  pub subject_congr : (s t u : Subject P) → same_subject cmp s t ≡ true → same_subject cmp s u ≡ same_subject cmp t u
+  subject_congr (sent_by p) (sent_by q) (sent_by r) e = laws.congr p q r e
+  subject_congr (sent_by p) (sent_by q) (received_by r) e = refl
+  subject_congr (sent_by p) (sent_by q) (sent_between r s) e = refl
+  subject_congr (received_by p) (received_by q) (received_by r) e = laws.congr p q r e
+  subject_congr (received_by p) (received_by q) (sent_by r) e = refl
+  subject_congr (received_by p) (received_by q) (sent_between r s) e = refl
+  subject_congr (sent_between p q) (sent_between r s) (sent_between t u) e = pair_congr p q r s t u e
+  subject_congr (sent_between p q) (sent_between r s) (sent_by t) e = refl
+  subject_congr (sent_between p q) (sent_between r s) (received_by t) e = refl
+  subject_congr (sent_by p) (received_by q) u e = absurd (false≢true e)
+  subject_congr (sent_by p) (sent_between q r) u e = absurd (false≢true e)
+  subject_congr (received_by p) (sent_by q) u e = absurd (false≢true e)
+  subject_congr (received_by p) (sent_between q r) u e = absurd (false≢true e)
+  subject_congr (sent_between p q) (sent_by r) u e = absurd (false≢true e)
+  subject_congr (sent_between p q) (received_by r) u e = absurd (false≢true e)
+
+  -- one subject has one cap
+  pub one_cap : (caps : Caps P) → AreOfPeers cmp caps → (s t : Subject P) → same_subject cmp s t ≡ true → cap_of caps s ≡ cap_of caps t
+  one_cap caps of (sent_by p) (sent_by q) e = of.egress p q (equal_from (cmp p q) e)
+  one_cap caps of (received_by p) (received_by q) e = of.ingress p q (equal_from (cmp p q) e)
+  one_cap caps of (sent_between p q) (sent_between r s) e =
+      let parts = and_parts (same_peer cmp p r) (same_peer cmp q s) e in
+      of.link p q r s (equal_from (cmp p r) parts.0) (equal_from (cmp q s) parts.1)
+  one_cap caps of (sent_by p) (received_by q) e = absurd (false≢true e)
+  one_cap caps of (sent_by p) (sent_between q r) e = absurd (false≢true e)
+  one_cap caps of (received_by p) (sent_by q) e = absurd (false≢true e)
+  one_cap caps of (received_by p) (sent_between q r) e = absurd (false≢true e)
+  one_cap caps of (sent_between p q) (sent_by r) e = absurd (false≢true e)
+  one_cap caps of (sent_between p q) (received_by r) e = absurd (false≢true e)
+
+  -- and limits the same flows
+  pub same_limits : (s t : Subject P) (f : Flow P) → same_subject cmp s t ≡ true → limits cmp s f ≡ limits cmp t f
+  same_limits (sent_by p) (sent_by q) f e = laws.congr p q f.origin e
+  same_limits (received_by p) (received_by q) f e = rw (laws.congr p q f.recipient e) refl
+  same_limits (sent_between p q) (sent_between r s) f e = pair_congr p q r s f.origin f.recipient e
+  same_limits (sent_by p) (received_by q) f e = absurd (false≢true e)
+  same_limits (sent_by p) (sent_between q r) f e = absurd (false≢true e)
+  same_limits (received_by p) (sent_by q) f e = absurd (false≢true e)
+  same_limits (received_by p) (sent_between q r) f e = absurd (false≢true e)
+  same_limits (sent_between p q) (sent_by r) f e = absurd (false≢true e)
+  same_limits (sent_between p q) (received_by r) f e = absurd (false≢true e)
