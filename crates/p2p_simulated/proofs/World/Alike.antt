@@ -1,4 +1,4 @@
--- Lists of messages that are the same up to equal peers have the same capped_sides, and so the same fair rates.
+-- Lists of messages that are the same up to equal peers have the same sides, and so the same fair rates.
 use Rattle.std.proofs.Common.{◌+◌, ◌≡◌, ℕ, suc, List, [], ◌∷◌, ◌++◌, map, length, Bool, true, not, Option, Some, None, refl, sym, ap, ◌∙◌, subst}
 use Rattle.std.specs.Prelude.{◌&&◌, if◌then◌else◌}
 use Rattle.std.specs.List.{list_any, flat_map, AllZip}

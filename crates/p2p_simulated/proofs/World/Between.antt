@@ -299,7 +299,7 @@ module _ {P : Type 0} (cmp : P → P → Ordering) (order : IsTotalOrder cmp) wh
         let none : list_any (is_done cmp (later k)) (later k).sending ≡ false = quiet.none_done in
         cc
 
-    -- the planned finish, where it comes_next first, is the next event
+    -- the planned finish, where it comes first, is the next event
     pub finish_is_next : (e : ℕ) → p.finish ≡ Some e → next_event p ≡ Some e → NextIs cmp w (Some e)
     finish_is_next e is first =
         let after : w.moment < e = finish_is_later e is in
