@@ -13,7 +13,7 @@ use Rattle.p2p_simulated.specs.WorldRates.{AreFair, rate_of}
 use Rattle.p2p_simulated.specs.WorldStands.{CoursesAlike, Follows, IsSameFlight, IsSettled, StandsFor, Tallies}
 use Rattle.p2p_simulated.specs.WorldTime.{Ticks, no_tick}
 use Rattle.p2p_simulated.proofs.World.Alike.{same_itself, peers_alike}
-use Rattle.p2p_simulated.proofs.World.Queue.{leaving, staying}
+use Rattle.p2p_simulated.specs.WorldQueue.{leaving, staying}
 use Rattle.p2p_simulated.proofs.World.Between.{later, follows_later, quiet_before, passes_to}
 use Rattle.p2p_simulated.proofs.World.Instant.{settles_alike, looked, leaving_fewer, staying_waiting}
 use Rattle.p2p_simulated.proofs.World.Event.{settle_quiet, ticks_quiet}
@@ -143,8 +143,8 @@ module _ {P : Type 0} (cmp : P → P → Ordering) (order : IsTotalOrder cmp) wh
       rests : EndsWith (λ v. ready cmp now v ≡ []) (recap cmp now u others)
       rests =
           let x : World P = recapped u others in
-          let few : length (leaving cmp order x) ≤ length x.sending = leaving_fewer cmp order x in
-          let kept : length (staying cmp order x).waiting ≡ length x.waiting = ap (λ (q : List (Message P)). length q) (staying_waiting cmp order x) in
+          let few : length (leaving cmp x) ≤ length x.sending = leaving_fewer cmp order x in
+          let kept : length (staying cmp x).waiting ≡ length x.waiting = ap (λ (q : List (Message P)). length q) (staying_waiting cmp order x) in
           settle_keeps_rest cmp order now x follows.tallies.one_each none_ready (omega arith)
 
       by_case : {course : Course (Completed P) (Planned P)} → Recaps cmp now caps p course → CoursesAlike cmp (λ q v. StandsFor cmp q v × (v.moment ≡ now)) course (recap cmp now u others)

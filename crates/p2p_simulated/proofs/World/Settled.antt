@@ -5,7 +5,8 @@ use Rattle.std.specs.declared.cmp.Ordering.{Ordering}
 use Rattle.std.specs.Cmp.{IsTotalOrder}
 use Rattle.p2p_simulated.specs.World.{Completed, Course, EndsWith, Flight, World, complete, flows, goes, is_done, meets, settle, settle_within}
 use Rattle.p2p_simulated.specs.WorldMessages.{OneForEachPair}
-use Rattle.p2p_simulated.proofs.World.Queue.{over_state, leaving, staying, finish_within, settles_as_queue, settle_first}
+use Rattle.p2p_simulated.specs.WorldQueue.{leaving, staying, finish_within}
+use Rattle.p2p_simulated.proofs.World.Queue.{over_state, settles_as_queue, settle_first}
 use Rattle.p2p_simulated.proofs.World.Rests.{NoneDone, HasAtMost, complete_has, find_in_none, settle_rests}
 use Rattle.p2p_simulated.proofs.World.Others.{ends_more}
 use Rattle.p2p_simulated.proofs.World.Pass.{and_then_alike, ends_both}
@@ -20,7 +21,7 @@ none_taken {X} p (x ∷ xs) e = by_test (p x) e (none_taken p xs)
     by_test false e ih = ap (λ ys. x ∷ ys) (ih e)
 
 module _ {P : Type 0} (cmp : P → P → Ordering) (order : IsTotalOrder cmp) where
-  all_stay : (w : World P) → NoneDone cmp order w → staying cmp order w ≡ w
+  all_stay : (w : World P) → NoneDone cmp order w → staying cmp w ≡ w
   unfolding staying
   all_stay w none = ap (λ (fs : List (Flight P)). record w { sending = fs }) (none_taken (is_done cmp w) w.sending none)
 
@@ -29,9 +30,9 @@ module _ {P : Type 0} (cmp : P → P → Ordering) (order : IsTotalOrder cmp) wh
   same_state f (goes cs v) e = ap (λ (u : World P). goes cs u) e
   same_state f (meets fault) e = refl
 
-  pub settle_is_queue : (t : ℕ) (w : World P) → OneForEachPair cmp (flows w) → settle cmp t w ≡ finish_within cmp order (length w.sending + length w.waiting) t (leaving cmp order w) (staying cmp order w)
+  pub settle_is_queue : (t : ℕ) (w : World P) → OneForEachPair cmp (flows w) → settle cmp t w ≡ finish_within cmp (length w.sending + length w.waiting) t (leaving cmp w) (staying cmp w)
   settle_is_queue t w one =
-      sym (same_state (staying cmp order) (settle cmp t w) (ends_more cmp order (NoneDone cmp order) (λ v. staying cmp order v ≡ v) (settle cmp t w) all_stay (settle_rests cmp order t w)))
+      sym (same_state (staying cmp) (settle cmp t w) (ends_more cmp order (NoneDone cmp order) (λ v. staying cmp v ≡ v) (settle cmp t w) all_stay (settle_rests cmp order t w)))
       ∙ settles_as_queue cmp order (length w.sending + length w.waiting) t w one
 
   pub settle_enough : (n m t : ℕ) (w : World P) → HasAtMost cmp order n w → HasAtMost cmp order m w → settle_within cmp n t w ≡ settle_within cmp m t w
