@@ -30,3 +30,4 @@ pub mod OneNext
 pub mod OneRun
 pub mod Sound
 pub mod PairOrder
+pub mod Obeys

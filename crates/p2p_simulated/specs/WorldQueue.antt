@@ -1,5 +1,5 @@
 -- Settling as a queue: what is done leaves in order of start, and a message that starts and is done at once joins the end.
-use Rattle.std.specs.Prelude.{◌≡◌, ℕ, zero, suc, ◌+◌, List, [], ◌∷◌, ◌++◌, length, Bool, not, ◌&&◌, cond, if◌then◌else◌, Option, Some, None, nat_lt, nat_le}
+use Rattle.std.specs.Prelude.{ℕ, zero, suc, ◌+◌, List, [], ◌∷◌, ◌++◌, length, Bool, not, ◌&&◌, cond, if◌then◌else◌, Option, Some, None, nat_lt, nat_le}
 use Rattle.std.specs.List.{filter}
 use Rattle.std.specs.declared.cmp.Ordering.{Ordering}
 use Rattle.p2p_simulated.specs.declared.error.Error.TheVariants.{MomentTooLate, FlowIdsUsedUp}

@@ -9,7 +9,7 @@ use Rattle.p2p_simulated.specs.Amount.{Amount}
 use Rattle.p2p_simulated.specs.Sides.{same_peer}
 use Rattle.p2p_simulated.specs.World.{Flight, IsQuiet, World, flows, fronts, is_done, last_moment, may_start, ready}
 use Rattle.p2p_simulated.specs.WorldMessages.{Message, OneForEachPair, PairsAlike, SameMessage, same_pair}
-use Rattle.p2p_simulated.specs.WorldPlanned.{IsLeastMoment, IsRated, Paced, Planned, SomeReadyAt, SomeSpentAt, earlier, left_at, may_launch, next_event, paced_flows, is_spent, IsSpentAt}
+use Rattle.p2p_simulated.specs.WorldPlanned.{IsLeastMoment, IsRated, Paced, Planned, SomeReadyAt, SomeSpentAt, earlier, left_at, may_launch, next_event, paced_flows, IsSpentAt}
 use Rattle.p2p_simulated.specs.WorldRates.{AreFair, IsLowest, Parts, drained_by, is_unlimited, rate_of}
 use Rattle.p2p_simulated.specs.WorldStands.{Follows, IsSameFlight, StandsFor, Tallies}
 use Rattle.p2p_simulated.specs.WorldTime.{ArePositive, Drains, NextIs, Passes, comes_next, drain_each, drifted, never_comes, no_time}

@@ -9,7 +9,7 @@ use Rattle.std.proofs.lemmas.List.{append-nil}
 use Rattle.std.proofs.lemmas.Bool.Decides.{nat_tests}
 use Rattle.p2p_simulated.specs.World.{Completed, Course, EndsWith, IsQuiet, World, and_then, complete, first_waiting, fronts, goes, instant, is_done, is_idle, is_in_order, last_moment, later_of, least_pair, may_start, meets, raised, ready, settle, settle_within, start, start_next, turn, wake, wake_within}
 use Rattle.p2p_simulated.specs.WorldCalls.{Call, Runs, act, call_advance, call_enqueue, call_limit, call_next, complete_at_once, moment_of, limited_by, recap, call_limit_link, linked_by}
-use Rattle.p2p_simulated.specs.WorldMessages.{Message, same_pair, with_cap, Caps}
+use Rattle.p2p_simulated.specs.WorldMessages.{Message, same_pair, Caps}
 use Rattle.p2p_simulated.specs.WorldPass.{IsButFor}
 use Rattle.p2p_simulated.specs.WorldTime.{no_time, Drains, NextIs, Passes, Ticks, comes_next, never_comes, no_tick, one_tick, quiet_tick, tick_faults}
 use Rattle.p2p_simulated.specs.declared.error.Error.TheVariants.{MomentTooLate}

@@ -23,7 +23,6 @@ use Rattle.p2p_simulated.proofs.World.Event.{settle_quiet}
 use Rattle.p2p_simulated.proofs.World.Pair.{IsRested, only_taken, only_joined, rested_joined, or_left}
 use Rattle.p2p_simulated.proofs.World.Rested.{IsHeld, rested_other, find_without, all_rested, finish_rests, none_then}
 use Rattle.p2p_simulated.proofs.World.Limit.{IsReached, reaches, settled_rests}
-
 use Rattle.p2p_simulated.proofs.World.Waking.{each_none, own_pair, round_is, round_fuel, round_alike}
 use Rattle.p2p_simulated.proofs.World.InOrder.{not_both_before, before_apart, after_none}
 

@@ -1,10 +1,10 @@
 -- The empty planned world stands for the empty world, and new caps do in the planned world what they do in the world.
-use Rattle.std.proofs.Common.{◌*◌, ◌≡◌, ℕ, zero, suc, ◌+◌, ◌-◌, ◌<◌, ◌≤◌, List, [], ◌∷◌, length, true, false, Option, Some, None, refl, sym, ap, ◌∙◌, subst, arith, lit<}
+use Rattle.std.proofs.Common.{◌≡◌, ℕ, zero, suc, ◌+◌, ◌-◌, ◌<◌, ◌≤◌, List, [], ◌∷◌, length, true, false, Option, Some, None, refl, sym, ap, ◌∙◌, subst, arith, lit<}
 use Rattle.std.specs.Prelude.{IfSome}
 use Rattle.std.specs.List.{list_any, AllZip}
 use Rattle.std.specs.declared.cmp.Ordering.{Ordering}
 use Rattle.std.specs.Cmp.{IsTotalOrder}
-use Rattle.p2p_simulated.specs.World.{Completed, Course, Flight, IsQuiet, World, and_then, goes, is_done, last_moment, meets, new_world, preceded, ready, settle, EndsWith}
+use Rattle.p2p_simulated.specs.World.{Completed, Course, Flight, IsQuiet, World, goes, is_done, last_moment, meets, new_world, preceded, ready, settle, EndsWith}
 use Rattle.p2p_simulated.specs.WorldCalls.{Runs, act, call_limit, Call, recap, limited_by, linked_by, call_limit_link}
 use Rattle.p2p_simulated.specs.WorldEvents.{none_sending, some_sending, Recaps}
 use Rattle.p2p_simulated.specs.WorldMessages.{AnswerAlike, Message, with_cap, Caps, no_caps, PairsAlike, with_link, CapsAlike}
@@ -20,7 +20,6 @@ use Rattle.p2p_simulated.proofs.World.Event.{settle_quiet, ticks_quiet}
 use Rattle.p2p_simulated.proofs.World.Waking.{each_none}
 use Rattle.p2p_simulated.proofs.World.Advance.{woken_stands}
 use Rattle.p2p_simulated.proofs.World.Rested.{settle_keeps_rest}
-
 
 no_sides : {P : Type 0} (cmp : P → P → Ordering) (caps : Caps P) → AreFair cmp caps [] 1 []
 no_sides cmp caps = record {

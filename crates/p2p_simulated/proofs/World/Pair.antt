@@ -1,6 +1,6 @@
 -- Settling what one pair starts touches that pair alone, and leaves it unable to start again at that moment.
 use Rattle.std.proofs.Common.{◌≡◌, ℕ, zero, suc, ◌+◌, ◌≤◌, List, [], ◌∷◌, ◌++◌, length, Bool, true, false, cond, not, Option, Some, None, refl, sym, ap, ◌∙◌, subst, arith, length-append}
-use Rattle.std.specs.Prelude.{nat_le, ◌&&◌, ◌||◌, ◌==◌}
+use Rattle.std.specs.Prelude.{nat_le, ◌&&◌, ◌||◌}
 use Rattle.std.specs.List.{filter, find, list_any}
 use Rattle.std.specs.declared.cmp.Ordering.{Ordering}
 use Rattle.std.specs.Cmp.{IsTotalOrder}
@@ -10,8 +10,8 @@ use Rattle.p2p_simulated.specs.Sides.{same_peer}
 use Rattle.p2p_simulated.specs.World.{Completed, Course, Flight, World, flows, fronts, goes, is_done, last_moment, may_start, meets, ready, without_first, EndsWith}
 use Rattle.p2p_simulated.specs.WorldMessages.{Message, same_pair}
 use Rattle.p2p_simulated.specs.declared.error.Error.TheVariants.{FlowIdsUsedUp, MomentTooLate}
-use Rattle.p2p_simulated.specs.WorldQueue.{is_past, leaving, staying, flight, taken, joined, arrived, completion, launch_then, finish_within}
-use Rattle.p2p_simulated.proofs.World.Queue.{both_alike, both_parts, pair_like, pair_sym, peer_like, find_passes, settles_as_queue}
+use Rattle.p2p_simulated.specs.WorldQueue.{is_past, flight, taken, joined, arrived, completion, launch_then, finish_within}
+use Rattle.p2p_simulated.proofs.World.Queue.{both_alike, both_parts, pair_like, pair_sym, peer_like, find_passes}
 use Rattle.p2p_simulated.proofs.World.Between.{Each, each_map, IsFront, fronts_first, first_found, find_like}
 use Rattle.p2p_simulated.proofs.World.Rests.{ends_preceded, ends_cond, length_without}
 

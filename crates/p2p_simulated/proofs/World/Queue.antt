@@ -1,6 +1,6 @@
 -- Settling the list of messages in flight is finishing a queue of the done ones, whose leavers join at its end.
-use Rattle.std.proofs.Common.{append_assoc, ◌≡◌, ℕ, zero, suc, ◌+◌, List, [], ◌∷◌, ◌++◌, map, length, Bool, true, false, cond, not, Option, Some, None, refl, sym, ap, ◌∙◌, subst, String}
-use Rattle.std.specs.Prelude.{nat_le, ◌&&◌, ◌||◌, nat_lt, ◌==◌, if◌then◌else◌}
+use Rattle.std.proofs.Common.{append_assoc, ◌≡◌, ℕ, zero, suc, ◌+◌, List, [], ◌∷◌, ◌++◌, map, Bool, true, false, cond, not, Option, Some, None, refl, sym, ap, ◌∙◌, subst}
+use Rattle.std.specs.Prelude.{nat_le, ◌&&◌, ◌||◌}
 use Rattle.std.specs.List.{filter, find, list_any}
 use Rattle.std.specs.declared.cmp.Ordering.{Ordering}
 use Rattle.std.specs.declared.cmp.Ordering.TheVariants.{Less, Equal, Greater}
@@ -10,11 +10,10 @@ use Rattle.std.proofs.lemmas.List.Folds.{list_any-append}
 use Rattle.std.proofs.lemmas.List.Elements.{filter-append}
 use Rattle.std.proofs.lemmas.Bool.{or_from, or_parts}
 use Rattle.std.proofs.lemmas.List.{append-nil, map-append}
-use Rattle.p2p_simulated.specs.Amount.{whole}
 use Rattle.p2p_simulated.specs.Sides.{same_peer}
-use Rattle.p2p_simulated.specs.World.{Completed, Course, Flight, World, and_then, complete, completion_of, first_waiting, goes, is_done, is_in_order, last_moment, may_start, meets, preceded, raised, settle_within, start, start_next, without_first}
+use Rattle.p2p_simulated.specs.World.{Completed, Course, Flight, World, and_then, complete, goes, is_done, is_in_order, last_moment, may_start, meets, preceded, settle_within, start, start_next, without_first}
 use Rattle.p2p_simulated.specs.WorldQueue.{leaving, staying, is_past, completion, arrived, flight, taken, joined, launch_then, finish_within}
-use Rattle.p2p_simulated.specs.WorldMessages.{Message, OneForEachPair, is_delivered, same_pair}
+use Rattle.p2p_simulated.specs.WorldMessages.{Message, OneForEachPair, same_pair}
 use Rattle.p2p_simulated.specs.declared.error.Error.TheVariants.{FlowIdsUsedUp, MomentTooLate}
 
 -- ---- courses
