@@ -22,3 +22,12 @@ pub mod Next
 pub mod Limit
 pub mod Enqueue
 pub mod AtOnce
+pub mod Others
+pub mod Settled
+pub mod Pass
+pub mod Calm
+pub mod OneNext
+pub mod OneRun
+pub mod Sound
+pub mod PairOrder
+pub mod Obeys

@@ -19,6 +19,7 @@ pub mod WorldEvents
 pub mod WorldMessages
 pub mod WorldPass
 pub mod WorldPlanned
+pub mod WorldQueue
 pub mod WorldRates
 pub mod WorldReplies
 pub mod WorldStands

@@ -1,11 +1,11 @@
 -- The planned world: what is kept between events, and what is planned.
-use Rattle.std.specs.Prelude.{⊤, ◌≡◌, ℕ, ◌+◌, ◌-◌, ◌≤◌, min, List, [], ◌∷◌, ◌++◌, length, map, Bool, true, false, not, ◌&&◌, ◌||◌, if◌then◌else◌, Option, Some, None, ◌==◌, MatchOption, slice_get}
+use Rattle.std.specs.Prelude.{⊤, ◌≡◌, ℕ, ◌+◌, ◌-◌, ◌≤◌, min, List, [], ◌∷◌, map, Bool, true, false, not, ◌&&◌, ◌||◌, if◌then◌else◌, Option, Some, None, ◌==◌, MatchOption, slice_get}
 use Rattle.std.specs.List.{find, list_any, AllZip}
 use Rattle.std.specs.declared.cmp.Ordering.{Ordering}
-use Rattle.p2p_simulated.specs.Amount.{Amount, whole}
+use Rattle.p2p_simulated.specs.Amount.{Amount}
 use Rattle.p2p_simulated.specs.WorldMessages.{Message, Caps, no_caps, same_pair, pair_before}
 use Rattle.p2p_simulated.specs.WorldRates.{Parts, rate_of, drained_by, is_unlimited, AreFair}
-use Rattle.p2p_simulated.specs.World.{last_moment, is_in_order, without_first}
+use Rattle.p2p_simulated.specs.World.{last_moment, is_in_order}
 
 -- a message in flight, with what was left of it at a moment, and the rate that it has had since; none is without limit
 pub record Paced (P : Type 0) : Type 0 where

@@ -1,25 +1,21 @@
 -- An account at t takes out what is done in the world at t, and leaves the rest as it is there.
-use Rattle.std.proofs.Common.{◌≡◌, ℕ, zero, suc, ◌-◌, ◌<◌, List, [], ◌∷◌, ◌++◌, map, length, Bool, true, false, cond, not, Option, Some, None, refl, sym, ap, ◌∙◌, subst, arith}
-use Rattle.std.specs.Prelude.{◌&&◌, ◌||◌, ◌==◌, IfSome, slice_get, Contains, is_none}
-use Rattle.std.specs.List.{filter, list_any, flat_map, AllZip}
-use Rattle.std.specs.Option.{option_map}
+use Rattle.std.proofs.Common.{◌≡◌, ℕ, zero, suc, ◌-◌, ◌<◌, List, [], ◌∷◌, map, Bool, true, false, cond, not, Option, Some, None, refl, sym, ap, ◌∙◌, subst, arith}
+use Rattle.std.specs.Prelude.{◌==◌, IfSome, slice_get}
+use Rattle.std.specs.List.{filter, list_any, AllZip}
 use Rattle.std.specs.declared.cmp.Ordering.{Ordering}
 use Rattle.std.specs.Cmp.{IsTotalOrder}
 use Rattle.std.proofs.lemmas.Bool.{or_parts}
-use Rattle.std.proofs.lemmas.Option.{slice_get-map}
-use Rattle.std.proofs.lemmas.List.Elements.{Contains-append_left, Contains-append_right}
 use Rattle.p2p_simulated.specs.Amount.{Amount, drained}
-use Rattle.p2p_simulated.specs.Fair.{Side}
-use Rattle.p2p_simulated.specs.Sides.{same_peer}
 use Rattle.p2p_simulated.specs.World.{Flight, World, is_done}
 use Rattle.p2p_simulated.specs.WorldEvents.{Accounts}
-use Rattle.p2p_simulated.specs.WorldMessages.{AnswerAlike, Caps, Message, OneForEachPair, PairsAlike, SameMessage, is_delivered, same_pair, CapsAlike}
+use Rattle.p2p_simulated.specs.WorldMessages.{Message, OneForEachPair, PairsAlike, SameMessage, same_pair, CapsAlike}
 use Rattle.p2p_simulated.specs.WorldPlanned.{AreInPairOrder, Paced, Planned, drained_to, is_spent, left_at, paced_flows}
-use Rattle.p2p_simulated.specs.WorldRates.{AreFair, IsLowest, Parts, drained_by, egress_of, ingress_of, is_unlimited, rate_of}
+use Rattle.p2p_simulated.specs.WorldRates.{AreFair, IsLowest, Parts, drained_by, is_unlimited, rate_of}
 use Rattle.p2p_simulated.specs.WorldStands.{Follows, IsSameFlight, Tallies}
 use Rattle.p2p_simulated.proofs.World.Lowest.{drained_by_lowest, drained_none}
-use Rattle.p2p_simulated.proofs.World.Queue.{leaving, staying, any_filter}
-use Rattle.p2p_simulated.proofs.World.Alike.{same_itself, unlimited_alike}
+use Rattle.p2p_simulated.specs.WorldQueue.{leaving, staying}
+use Rattle.p2p_simulated.proofs.World.Queue.{any_filter}
+use Rattle.p2p_simulated.proofs.World.Alike.{unlimited_alike}
 use Rattle.p2p_simulated.proofs.World.Between.{Each}
 use Rattle.p2p_simulated.proofs.World.Rated.{all_rated}
 
@@ -128,14 +124,14 @@ module _ {P : Type 0} (cmp : P → P → Ordering) (order : IsTotalOrder cmp) wh
       by_test false h ih = ih
 
   -- an account at t takes out what is done in the world at t, and leaves the rest as it is there
-  pub leavers_alike : (t : ℕ) (old new : Planned P) (leavers : List (Message P)) (w : World P) → Tallies cmp t old w → Accounts cmp t old leavers new → AllZip (SameMessage cmp) leavers (map (λ (g : Flight P). g.message) (leaving cmp order w))
+  pub leavers_alike : (t : ℕ) (old new : Planned P) (leavers : List (Message P)) (w : World P) → Tallies cmp t old w → Accounts cmp t old leavers new → AllZip (SameMessage cmp) leavers (map (λ (g : Flight P). g.message) (leaving cmp w))
   unfolding leaving
   leavers_alike t old new leavers w same account =
       subst (λ (ms : List (Message P)). AllZip (SameMessage cmp) ms (map (λ (g : Flight P). g.message) (filter (is_done cmp w) w.sending))) (sym account.left)
       (drawn_messages (filter (is_spent cmp old) (drained_to t old.sending)) (filter (is_done cmp w) w.sending)
       (filter_alike IsDrawn (is_spent cmp old) (is_done cmp w) (spent_alike old w same.caps) (drained_to t old.sending) w.sending (drawn t old.sending w.sending same.sending)))
 
-  pub account_follows : (t : ℕ) (old new : Planned P) (leavers : List (Message P)) (w : World P) → Tallies cmp t old w → Accounts cmp t old leavers new → Follows cmp t new (staying cmp order w)
+  pub account_follows : (t : ℕ) (old new : Planned P) (leavers : List (Message P)) (w : World P) → Tallies cmp t old w → Accounts cmp t old leavers new → Follows cmp t new (staying cmp w)
   unfolding staying
   account_follows t old new leavers w same account = record {
     tallies = record {

@@ -1,5 +1,5 @@
--- Lists of messages that are the same up to equal peers have the same capped_sides, and so the same fair rates.
-use Rattle.std.proofs.Common.{◌+◌, ◌≡◌, ℕ, suc, List, [], ◌∷◌, ◌++◌, map, length, Bool, true, not, Option, Some, None, refl, sym, ap, ◌∙◌, subst}
+-- Lists of messages that are the same up to equal peers have the same sides, and so the same fair rates.
+use Rattle.std.proofs.Common.{◌+◌, ◌≡◌, ℕ, List, [], ◌∷◌, map, Bool, true, not, Option, Some, None, refl, sym, ap, ◌∙◌, subst}
 use Rattle.std.specs.Prelude.{◌&&◌, if◌then◌else◌}
 use Rattle.std.specs.List.{list_any, flat_map, AllZip}
 use Rattle.std.specs.declared.cmp.Ordering.{Ordering}
@@ -8,7 +8,7 @@ use Rattle.std.specs.Cmp.{IsTotalOrder}
 use Rattle.std.proofs.lemmas.Cmp.{tied_itself}
 use Rattle.p2p_simulated.specs.Fair.{IsFair, Side}
 use Rattle.p2p_simulated.specs.Sides.{same_peer}
-use Rattle.p2p_simulated.specs.WorldMessages.{AnswerAlike, Message, SameMessage, is_delivered, same_pair, Caps, CapsAlike}
+use Rattle.p2p_simulated.specs.WorldMessages.{Message, SameMessage, is_delivered, same_pair, Caps, CapsAlike}
 use Rattle.p2p_simulated.specs.WorldRates.{AreFair, Parts, capped_sides, egress_of, ingress_of, is_unlimited, side_of, places_from, link_of, sides_for, rates_from}
 use Rattle.p2p_simulated.proofs.World.Queue.{peer_like, peer_sym, both_alike}
 

@@ -1,9 +1,9 @@
 -- Amounts in lowest terms: equal ones are identical, and draining splits.
-use Rattle.std.proofs.Common.{◌≡◌, ℕ, zero, suc, ◌+◌, ◌-◌, ◌*◌, ◌/◌, ◌%◌, ◌<◌, refl, sym, ap, ◌∙◌, arith}
+use Rattle.std.proofs.Common.{mul-le-mul_right, ◌≤◌, ◌≡◌, ℕ, zero, suc, ◌+◌, ◌-◌, ◌*◌, ◌/◌, ◌%◌, ◌<◌, refl, sym, ap, ◌∙◌, arith, ◌↔◌}
 use Rattle.std.specs.Int.{IsGcd}
 use Rattle.std.proofs.lemmas.Nat.Gcd.{IsGcd-from_zero, IsGcd-from_mod}
 use Rattle.std.proofs.Math.Nat.{mul-div_cancel', mul_comm, mul-sub, mul-div-mul_left, mul-pos, mul-zero, add-mul-mod_self_left, mod-eq_of_lt, mul-lt-mul_of_pos_left}
-use Rattle.p2p_simulated.specs.Amount.{Amount, Covers, billion, drained, gcd_within, reduced}
+use Rattle.p2p_simulated.specs.Amount.{IsLeastTime, Amount, Covers, billion, drained, gcd_within, reduced}
 
 -- one step of Euclid's division
 gcd_step : (s a b : ℕ) → 0 < b → gcd_within (suc s) a b ≡ gcd_within s b (a % b)
@@ -167,3 +167,13 @@ covers_if_spent left rate n h j spent =
     let s : IsScaled m d (reduced m d) = reduced_scales m d (mul-pos h (mul-pos j (omega arith))) in
     let none : m ≡ 0 = s.num ∙ ap (λ x. s.factor * x) spent ∙ mul-zero s.factor in
     omega arith
+
+-- nothing is left exactly from the least time on
+pub spent_from_least : (left rate : Amount) (least n : ℕ) → 0 < left.den → 0 < rate.den → IsLeastTime rate left least → ((drained left rate n).num ≡ 0) ↔ (least ≤ n)
+spent_from_least left rate least n h j is = (
+  λ spent. is.least n (covers_if_spent left rate n h j spent),
+  λ after. spent_if_covers left rate n h j (covers_longer left rate least n after is.covers),
+)
+  where
+    covers_longer : (left rate : Amount) (m n : ℕ) → m ≤ n → Covers rate m left → Covers rate n left
+    covers_longer left rate m n le covers = let more : m * (rate.num * left.den) ≤ n * (rate.num * left.den) = mul-le-mul_right (rate.num * left.den) le in omega (arith, more, covers)

@@ -9,7 +9,7 @@ use Rattle.p2p_simulated.specs.Amount.{Amount}
 use Rattle.p2p_simulated.specs.Sides.{same_peer}
 use Rattle.p2p_simulated.specs.World.{Flight, IsQuiet, World, flows, fronts, is_done, last_moment, may_start, ready}
 use Rattle.p2p_simulated.specs.WorldMessages.{Message, OneForEachPair, PairsAlike, SameMessage, same_pair}
-use Rattle.p2p_simulated.specs.WorldPlanned.{IsLeastMoment, IsRated, Paced, Planned, SomeReadyAt, SomeSpentAt, earlier, left_at, may_launch, next_event, paced_flows, is_spent, IsSpentAt}
+use Rattle.p2p_simulated.specs.WorldPlanned.{IsLeastMoment, IsRated, Paced, Planned, SomeReadyAt, SomeSpentAt, earlier, left_at, may_launch, next_event, paced_flows, IsSpentAt}
 use Rattle.p2p_simulated.specs.WorldRates.{AreFair, IsLowest, Parts, drained_by, is_unlimited, rate_of}
 use Rattle.p2p_simulated.specs.WorldStands.{Follows, IsSameFlight, StandsFor, Tallies}
 use Rattle.p2p_simulated.specs.WorldTime.{ArePositive, Drains, NextIs, Passes, comes_next, drain_each, drifted, never_comes, no_time}
@@ -299,7 +299,7 @@ module _ {P : Type 0} (cmp : P → P → Ordering) (order : IsTotalOrder cmp) wh
         let none : list_any (is_done cmp (later k)) (later k).sending ≡ false = quiet.none_done in
         cc
 
-    -- the planned finish, where it comes_next first, is the next event
+    -- the planned finish, where it comes first, is the next event
     pub finish_is_next : (e : ℕ) → p.finish ≡ Some e → next_event p ≡ Some e → NextIs cmp w (Some e)
     finish_is_next e is first =
         let after : w.moment < e = finish_is_later e is in

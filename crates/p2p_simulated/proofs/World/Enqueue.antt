@@ -13,7 +13,8 @@ use Rattle.p2p_simulated.specs.WorldEvents.{Enqueues, Launches, launches, no_id,
 use Rattle.p2p_simulated.specs.WorldMessages.{Message, SameMessage, pair_before, same_pair}
 use Rattle.p2p_simulated.specs.WorldPlanned.{AreInPairOrder, Planned, may_launch, next_event, next_of, queued}
 use Rattle.p2p_simulated.specs.WorldStands.{CoursesAlike, Follows, IsSettled, StandsFor, Tallies}
-use Rattle.p2p_simulated.proofs.World.Queue.{pair_sym, pair_like, find_passes, flight, taken, joined, finish_within}
+use Rattle.p2p_simulated.specs.WorldQueue.{flight, taken, joined, finish_within}
+use Rattle.p2p_simulated.proofs.World.Queue.{pair_sym, pair_like, find_passes}
 use Rattle.p2p_simulated.proofs.World.Between.{Each, each_map, filter_none, find_like, may_alike, messages_alike}
 use Rattle.p2p_simulated.proofs.World.Alike.{message_itself}
 use Rattle.p2p_simulated.proofs.World.Instant.{both_joined, finishes_alike, no_queue}
@@ -22,7 +23,6 @@ use Rattle.p2p_simulated.proofs.World.Event.{settle_quiet}
 use Rattle.p2p_simulated.proofs.World.Pair.{IsRested, only_taken, only_joined, rested_joined, or_left}
 use Rattle.p2p_simulated.proofs.World.Rested.{IsHeld, rested_other, find_without, all_rested, finish_rests, none_then}
 use Rattle.p2p_simulated.proofs.World.Limit.{IsReached, reaches, settled_rests}
-
 use Rattle.p2p_simulated.proofs.World.Waking.{each_none, own_pair, round_is, round_fuel, round_alike}
 use Rattle.p2p_simulated.proofs.World.InOrder.{not_both_before, before_apart, after_none}
 
@@ -123,16 +123,16 @@ module _ {P : Type 0} (cmp : P → P → Ordering) (order : IsTotalOrder cmp) wh
   others_rest t u m k none_ready off x found = all_rested cmp order t u k none_ready x (sym (find_end (same_pair cmp k) m u.waiting off) ∙ found)
 
   held_after : (t : ℕ) (u : World P) (m y k : Message P) → ready cmp t u ≡ [] → same_pair cmp m y ≡ true → IsHeld cmp order k t (joining cmp order (waits_too u m) y) (started cmp order (waits_too u m) y)
-  held_after t u m y k none_ready pair = by_pair (same_pair cmp k y) refl (is_done cmp (waits_too u m) (flight cmp order y))
+  held_after t u m y k none_ready pair = by_pair (same_pair cmp k y) refl (is_done cmp (waits_too u m) (flight cmp y))
     where
       off_m : same_pair cmp k y ≡ false → same_pair cmp k m ≡ false
       off_m e = pair_sym cmp order k m ∙ sym (pair_like cmp order m y k pair) ∙ pair_sym cmp order y k ∙ e
 
-      by_pair : (a : Bool) → same_pair cmp k y ≡ a → (b : Bool) → IsHeld cmp order k t (cond b (flight cmp order y ∷ []) []) (cond b (taken cmp order (waits_too u m) y) (joined cmp order (waits_too u m) y))
+      by_pair : (a : Bool) → same_pair cmp k y ≡ a → (b : Bool) → IsHeld cmp order k t (cond b (flight cmp y ∷ []) []) (cond b (taken cmp (waits_too u m) y) (joined cmp (waits_too u m) y))
       by_pair true e true = inl (or_left (same_pair cmp k y) false e)
       by_pair true e false = inr (rested_joined cmp order k t (waits_too u m) y e)
-      by_pair false e true = inr (rested_other cmp order k y t (waits_too u m) (taken cmp order (waits_too u m) y) e (only_taken cmp order y (waits_too u m) y (own_pair cmp order y)) (find_without cmp order k y (waits_too u m).waiting e) (others_rest t u m k none_ready (off_m e)))
-      by_pair false e false = inr (rested_other cmp order k y t (waits_too u m) (joined cmp order (waits_too u m) y) e (only_joined cmp order y (waits_too u m) y (own_pair cmp order y)) (find_without cmp order k y (waits_too u m).waiting e) (others_rest t u m k none_ready (off_m e)))
+      by_pair false e true = inr (rested_other cmp order k y t (waits_too u m) (taken cmp (waits_too u m) y) e (only_taken cmp order y (waits_too u m) y (own_pair cmp order y)) (find_without cmp order k y (waits_too u m).waiting e) (others_rest t u m k none_ready (off_m e)))
+      by_pair false e false = inr (rested_other cmp order k y t (waits_too u m) (joined cmp (waits_too u m) y) e (only_joined cmp order y (waits_too u m) y (own_pair cmp order y)) (find_without cmp order k y (waits_too u m).waiting e) (others_rest t u m k none_ready (off_m e)))
 
   all_rest : (t : ℕ) (u : World P) (m y : Message P) → ready cmp t u ≡ [] → find (same_pair cmp m) (waits_too u m).waiting ≡ Some y → may_start cmp t (waits_too u m) y ≡ false → (k : Message P) → IsRested cmp order k t (waits_too u m)
   unfolding IsRested
@@ -211,12 +211,12 @@ module _ {P : Type 0} (cmp : P → P → Ordering) (order : IsTotalOrder cmp) wh
           result (meets fault) (meets fault) (first_is y (meets fault) found (begins t (waits_too u m) y may ∙ fails)) refl tt
       by_may y found true may {x} (launches {leavers = leavers} {mid = mid} under launch finishes) =
           let so : StartsSo cmp order t (waits_too u m) y leavers mid = start_alike cmp order launch (waits_too u m) y there idle may (own_first y found) (abreast y found) in
-          let alike : CoursesAlike cmp (IsSettled cmp t) x (settle cmp t (joined cmp order (waits_too u m) y)) = round_alike cmp order finishes (waits_too u m) y idle so in
+          let alike : CoursesAlike cmp (IsSettled cmp t) x (settle cmp t (joined cmp (waits_too u m) y)) = round_alike cmp order finishes (waits_too u m) y idle so in
           let pair : same_pair cmp m y ≡ true = find_passes (same_pair cmp m) y (u.waiting ++ m ∷ []) found in
-          let rests : EndsWith (λ v. ready cmp t v ≡ []) (settle cmp t (joined cmp order (waits_too u m) y)) =
-          none_then cmp order t (settle cmp t (joined cmp order (waits_too u m) y)) (λ k. subst (λ (c : Course (Completed P) (World P)). EndsWith (IsRested cmp order k t) c) (sym (round_is cmp order t (waits_too u m) y idle so.one_each))
-          (finish_rests cmp order k (length (joined cmp order (waits_too u m) y).sending + length (joined cmp order (waits_too u m) y).waiting) t (joining cmp order (waits_too u m) y) (started cmp order (waits_too u m) y) (round_fuel cmp order (waits_too u m) y) (held_after t u m y k none_ready pair))) in
-          result (settle cmp t (joined cmp order (waits_too u m) y)) x (first_is y (goes [] (joined cmp order (waits_too u m) y)) found (begins t (waits_too u m) y may ∙ so.starts) ∙ no_more_before (settle cmp t (joined cmp order (waits_too u m) y))) alike rests
+          let rests : EndsWith (λ v. ready cmp t v ≡ []) (settle cmp t (joined cmp (waits_too u m) y)) =
+          none_then cmp order t (settle cmp t (joined cmp (waits_too u m) y)) (λ k. subst (λ (c : Course (Completed P) (World P)). EndsWith (IsRested cmp order k t) c) (sym (round_is cmp order t (waits_too u m) y idle so.one_each))
+          (finish_rests cmp order k (length (joined cmp (waits_too u m) y).sending + length (joined cmp (waits_too u m) y).waiting) t (joining cmp order (waits_too u m) y) (started cmp order (waits_too u m) y) (round_fuel cmp order (waits_too u m) y) (held_after t u m y k none_ready pair))) in
+          result (settle cmp t (joined cmp (waits_too u m) y)) x (first_is y (goes [] (joined cmp (waits_too u m) y)) found (begins t (waits_too u m) y may ∙ so.starts) ∙ no_more_before (settle cmp t (joined cmp (waits_too u m) y))) alike rests
       by_may y found true may (at_once off) = other_mode off
       by_may y found false may (at_once off) = other_mode off
       by_may y found false may (no_launch {fault = fault} under launch) =
@@ -226,7 +226,7 @@ module _ {P : Type 0} (cmp : P → P → Ordering) (order : IsTotalOrder cmp) wh
           let same : ◌≡◌ {A = Course (Message P) (Planned P)} (goes leavers mid) (goes [] (record p { waiting = queued cmp m p.waiting })) = stays_out launch (waits_too u m) y there may (abreast y found) in
           let no_leavers : leavers ≡ [] = cc in
           let same_mid : mid ≡ record p { waiting = queued cmp m p.waiting } = cc in
-          let still : CoursesAlike cmp (IsSettled cmp t) x (finish_within cmp order (length (u.waiting ++ m ∷ [])) t [] (waits_too u m)) =
+          let still : CoursesAlike cmp (IsSettled cmp t) x (finish_within cmp (length (u.waiting ++ m ∷ [])) t [] (waits_too u m)) =
           finishes_alike cmp order finishes (length (u.waiting ++ m ∷ [])) [] (waits_too u m) (subst (λ (q : Planned P). Follows cmp t q (waits_too u m)) (sym same_mid) there) idle (subst (λ (ms : List (Message P)). AllZip (SameMessage cmp) ms []) (sym no_leavers) tt) (omega arith) in
           let quiet : settle cmp t (waits_too u m) ≡ goes [] (waits_too u m) = settle_quiet cmp order (length u.sending + length (u.waiting ++ m ∷ [])) t (waits_too u m) none_done in
           result (goes [] (waits_too u m)) x (first_is y (goes [] (waits_too u m)) found (begins_not t (waits_too u m) y may) ∙ no_more_before (settle cmp t (waits_too u m)) ∙ quiet)

@@ -13,8 +13,8 @@ use Rattle.p2p_simulated.specs.WorldPlanned.{IsLeastMoment, Planned, SomeReadyAt
 use Rattle.p2p_simulated.specs.WorldReplies.{SameCompletion}
 use Rattle.p2p_simulated.specs.WorldStands.{CoursesAlike, Follows, IsSettled, StandsFor, Tallies}
 use Rattle.p2p_simulated.specs.declared.error.Error.TheVariants.{MomentTooLate}
-use Rattle.p2p_simulated.proofs.World.Queue.{leaving, staying, completion, arrived, launch_then, finish_within, over_state, settles_as_queue}
-use Rattle.p2p_simulated.proofs.World.Queue as queue
+use Rattle.p2p_simulated.specs.WorldQueue.{is_past, leaving, staying, completion, arrived, launch_then, finish_within}
+use Rattle.p2p_simulated.proofs.World.Queue.{over_state, settles_as_queue}
 use Rattle.p2p_simulated.proofs.World.Alike.{delivered_alike, peers_alike}
 use Rattle.p2p_simulated.proofs.World.Between.{Each, later, follows_later}
 use Rattle.p2p_simulated.proofs.World.Again.{leavers_alike, account_follows}
@@ -51,21 +51,21 @@ module _ {P : Type 0} (cmp : P → P → Ordering) (order : IsTotalOrder cmp) wh
   arrival_alike : (t : ℕ) (m n : Message P) → SameMessage cmp m n → arrival cmp t m ≡ (if is_delivered cmp n then t + n.latency else t)
   arrival_alike t m n e = rw (delivered_alike cmp order m n e, e.latency) refl
 
-  late_alike : (t : ℕ) (m n : Message P) → SameMessage cmp m n → is_late cmp t m ≡ queue.is_late cmp order t n
+  late_alike : (t : ℕ) (m n : Message P) → SameMessage cmp m n → is_late cmp t m ≡ is_past cmp t n
   late_alike t m n e = rw (delivered_alike cmp order m n e, e.latency) (by_test (is_delivered cmp n))
     where
       by_test : (b : Bool) → (b && nat_lt last_moment (t + n.latency)) ≡ (b && nat_lt last_moment (if b then t + n.latency else t))
       by_test true = refl
       by_test false = refl
 
-  completed_alike : (t : ℕ) (m n : Message P) → SameMessage cmp m n → SameCompletion cmp (completed cmp t m) (completion cmp order t n)
+  completed_alike : (t : ℕ) (m n : Message P) → SameMessage cmp m n → SameCompletion cmp (completed cmp t m) (completion cmp t n)
   completed_alike t m n e = record { origin = e.origin; recipient = e.recipient; channel = e.channel; bytes = e.bytes; deliver_at = rw (delivered_alike cmp order m n e, e.latency) refl }
 
   pub raised_alike : (last last' : P → P → Option ℕ) (m n : Message P) (at at' : ℕ) → PairsAlike cmp last last' → SameMessage cmp m n → at ≡ at' → PairsAlike cmp (raised cmp last m at) (raised cmp last' n at')
   raised_alike last last' m n at at' same e f p q r s pq rs =
       rw (peers_alike cmp order m.origin n.origin p q e.origin pq, peers_alike cmp order m.recipient n.recipient r s e.recipient rs, same p q r s pq rs, f) refl
 
-  landed_follows : (t : ℕ) (p : Planned P) (w : World P) (m n : Message P) → Follows cmp t p w → SameMessage cmp m n → Follows cmp t (landed cmp t p m) (arrived cmp order t w n)
+  landed_follows : (t : ℕ) (p : Planned P) (w : World P) (m n : Message P) → Follows cmp t p w → SameMessage cmp m n → Follows cmp t (landed cmp t p m) (arrived cmp t w n)
   landed_follows t p w m n follows e = record {
     tallies = record {
       moment = follows.tallies.moment;
@@ -122,23 +122,23 @@ module _ {P : Type 0} (cmp : P → P → Ordering) (order : IsTotalOrder cmp) wh
 
   -- ---- a queue of leavers
 
-  pub no_queue : (n t : ℕ) (w : World P) → finish_within cmp order n t [] w ≡ goes [] w
+  pub no_queue : (n t : ℕ) (w : World P) → finish_within cmp n t [] w ≡ goes [] w
   unfolding finish_within
   no_queue zero t w = refl
   no_queue (suc n) t w = refl
 
-  first_late : (n t : ℕ) (f : Flight P) (fs : List (Flight P)) (w : World P) → queue.is_late cmp order t f.message ≡ true → finish_within cmp order (suc n) t (f ∷ fs) w ≡ meets MomentTooLate
+  first_late : (n t : ℕ) (f : Flight P) (fs : List (Flight P)) (w : World P) → is_past cmp t f.message ≡ true → finish_within cmp (suc n) t (f ∷ fs) w ≡ meets MomentTooLate
   unfolding finish_within
   first_late n t f fs w e = rw e refl
 
-  first_lands : (n t : ℕ) (f : Flight P) (fs : List (Flight P)) (w : World P) → queue.is_late cmp order t f.message ≡ false
-      → finish_within cmp order (suc n) t (f ∷ fs) w ≡ preceded (completion cmp order t f.message ∷ []) (launch_then cmp order (finish_within cmp order n t) t fs (arrived cmp order t w f.message) (find (same_pair cmp f.message) w.waiting))
+  first_lands : (n t : ℕ) (f : Flight P) (fs : List (Flight P)) (w : World P) → is_past cmp t f.message ≡ false
+      → finish_within cmp (suc n) t (f ∷ fs) w ≡ preceded (completion cmp t f.message ∷ []) (launch_then cmp (finish_within cmp n t) t fs (arrived cmp t w f.message) (find (same_pair cmp f.message) w.waiting))
   unfolding finish_within
   first_lands n t f fs w e = rw e refl
 
   abbrev pub WhenFollowed : ℕ → List (Message P) → Planned P → Course (Completed P) (Planned P) → Type 0
   WhenFollowed t ms p course = (n : ℕ) (fs : List (Flight P)) (w : World P) → Follows cmp t p w → NoneDone cmp order w → AllZip (SameMessage cmp) ms (map (λ (g : Flight P). g.message) fs) → length fs + length w.waiting ≤ n
-      → CourseAlike t course (finish_within cmp order n t fs w)
+      → CourseAlike t course (finish_within cmp n t fs w)
 
   pub finishes_alike : {t : ℕ} {ms : List (Message P)} {p : Planned P} {course : Course (Completed P) (Planned P)} → Finishes cmp t ms p course → WhenFollowed t ms p course
   finishes_alike {t = t} {p = p} (all_completed {q = q} looks) n [] w follows none all fuel = subst (λ (c : Course (Completed P) (World P)). CourseAlike t (goes [] q) c) (sym (no_queue n t w)) (tt, looked t p q w follows none looks)
@@ -150,59 +150,59 @@ module _ {P : Type 0} (cmp : P → P → Ordering) (order : IsTotalOrder cmp) wh
   finishes_alike (stopped not_late launch) n [] w follows none all fuel = absurd all
   finishes_alike (stopped not_late launch) zero (f ∷ fs) w follows none all fuel = absurd (omega arith)
   finishes_alike {t = t} {p = p} (stopped {m = m} {fault = fault} not_late launch) (suc n) (f ∷ fs) w follows none all fuel =
-      let there : Follows cmp t (landed cmp t p m) (arrived cmp order t w f.message) = landed_follows t p w m f.message follows all.0 in
-      let fails : LaunchAlike cmp order t (arrived cmp order t w f.message) fs (find (same_pair cmp f.message) w.waiting) (meets fault) =
-      launch_alike cmp order launch (arrived cmp order t w f.message) fs f.message (find (same_pair cmp f.message) w.waiting) there none refl (next_alike cmp order t p w m f.message follows.tallies all.0) in
-      subst (λ (c : Course (Completed P) (World P)). CourseAlike t (meets fault) c) (sym (first_lands n t f fs w (sym (late_alike t m f.message all.0) ∙ not_late) ∙ ap (preceded (completion cmp order t f.message ∷ [])) (fails (finish_within cmp order n t)))) refl
+      let there : Follows cmp t (landed cmp t p m) (arrived cmp t w f.message) = landed_follows t p w m f.message follows all.0 in
+      let fails : LaunchAlike cmp order t (arrived cmp t w f.message) fs (find (same_pair cmp f.message) w.waiting) (meets fault) =
+      launch_alike cmp order launch (arrived cmp t w f.message) fs f.message (find (same_pair cmp f.message) w.waiting) there none refl (next_alike cmp order t p w m f.message follows.tallies all.0) in
+      subst (λ (c : Course (Completed P) (World P)). CourseAlike t (meets fault) c) (sym (first_lands n t f fs w (sym (late_alike t m f.message all.0) ∙ not_late) ∙ ap (preceded (completion cmp t f.message ∷ [])) (fails (finish_within cmp n t)))) refl
   finishes_alike (completes not_late launch rest) n [] w follows none all fuel = absurd all
   finishes_alike (completes not_late launch rest) zero (f ∷ fs) w follows none all fuel = absurd (omega arith)
   finishes_alike {t = t} {p = p} (completes {m = m} {ms = ms} {more = more} {q = q} {rest = after} not_late launch rest) (suc n) (f ∷ fs) w follows none all fuel =
-      let there : Follows cmp t (landed cmp t p m) (arrived cmp order t w f.message) = landed_follows t p w m f.message follows all.0 in
-      let on : GoesOn cmp order t (arrived cmp order t w f.message) fs (find (same_pair cmp f.message) w.waiting) more q =
-      launch_alike cmp order launch (arrived cmp order t w f.message) fs f.message (find (same_pair cmp f.message) w.waiting) there none refl (next_alike cmp order t p w m f.message follows.tallies all.0) in
+      let there : Follows cmp t (landed cmp t p m) (arrived cmp t w f.message) = landed_follows t p w m f.message follows all.0 in
+      let on : GoesOn cmp order t (arrived cmp t w f.message) fs (find (same_pair cmp f.message) w.waiting) more q =
+      launch_alike cmp order launch (arrived cmp t w f.message) fs f.message (find (same_pair cmp f.message) w.waiting) there none refl (next_alike cmp order t p w m f.message follows.tallies all.0) in
       let leavers : AllZip (SameMessage cmp) (ms ++ more) (map (λ (g : Flight P). g.message) (fs ++ on.more)) =
       subst (λ (ns : List (Message P)). AllZip (SameMessage cmp) (ms ++ more) ns) (sym (map-append (λ (g : Flight P). g.message) fs on.more)) (both_joined (SameMessage cmp) ms (map (λ (g : Flight P). g.message) fs) more (map (λ (g : Flight P). g.message) on.more) all.1 on.leaves) in
       let many : length (fs ++ on.more) ≡ length fs + length on.more = length-append fs on.more in
       let enough : length on.more + length on.world.waiting ≤ length w.waiting = on.fewer in
-      let ih : CourseAlike t after (finish_within cmp order n t (fs ++ on.more) on.world) = finishes_alike rest n (fs ++ on.more) on.world on.follows on.none leavers (omega arith) in
+      let ih : CourseAlike t after (finish_within cmp n t (fs ++ on.more) on.world) = finishes_alike rest n (fs ++ on.more) on.world on.follows on.none leavers (omega arith) in
       subst (λ (c : Course (Completed P) (World P)). CourseAlike t (preceded (completed cmp t m ∷ []) after) c)
-      (sym (first_lands n t f fs w (sym (late_alike t m f.message all.0) ∙ not_late) ∙ ap (preceded (completion cmp order t f.message ∷ [])) (on.launches (finish_within cmp order n t))))
-      (preceded_alike t (completed cmp t m) (completion cmp order t f.message) after (finish_within cmp order n t (fs ++ on.more) on.world) (completed_alike t m f.message all.0) ih)
+      (sym (first_lands n t f fs w (sym (late_alike t m f.message all.0) ∙ not_late) ∙ ap (preceded (completion cmp t f.message ∷ [])) (on.launches (finish_within cmp n t))))
+      (preceded_alike t (completed cmp t m) (completion cmp t f.message) after (finish_within cmp n t (fs ++ on.more) on.world) (completed_alike t m f.message all.0) ih)
 
   -- ---- settling
 
   abbrev RestsNone : World P → Type 0
   RestsNone v = find (is_done cmp v) v.sending ≡ None
 
-  stays_same : (v : World P) → RestsNone v → staying cmp order v ≡ v
+  stays_same : (v : World P) → RestsNone v → staying cmp v ≡ v
   unfolding staying
   stays_same v e = ap (λ (q : List (Flight P)). record v { sending = q }) (all_without (is_done cmp v) v.sending e)
 
-  settled_same : (c : Course (Completed P) (World P)) → EndsWith RestsNone c → over_state (staying cmp order) c ≡ c
+  settled_same : (c : Course (Completed P) (World P)) → EndsWith RestsNone c → over_state (staying cmp) c ≡ c
   unfolding over_state
   settled_same (goes cs v) h = ap (λ (u : World P). goes cs u) (stays_same v h)
   settled_same (meets fault) h = refl
 
-  pub leaving_fewer : (w : World P) → length (leaving cmp order w) ≤ length w.sending
+  pub leaving_fewer : (w : World P) → length (leaving cmp w) ≤ length w.sending
   unfolding leaving
   leaving_fewer w = fewer_passing (is_done cmp w) w.sending
 
-  pub staying_waiting : (w : World P) → (staying cmp order w).waiting ≡ w.waiting
+  pub staying_waiting : (w : World P) → (staying cmp w).waiting ≡ w.waiting
   unfolding staying
   staying_waiting w = refl
 
-  pub settle_is_finish : (t : ℕ) (w : World P) → OneForEachPair cmp (flows w) → settle cmp t w ≡ finish_within cmp order (length w.sending + length w.waiting) t (leaving cmp order w) (staying cmp order w)
+  pub settle_is_finish : (t : ℕ) (w : World P) → OneForEachPair cmp (flows w) → settle cmp t w ≡ finish_within cmp (length w.sending + length w.waiting) t (leaving cmp w) (staying cmp w)
   settle_is_finish t w one = sym (settled_same (settle cmp t w) (settle_rests cmp order t w)) ∙ settles_as_queue cmp order (length w.sending + length w.waiting) t w one
 
   -- settling in the planned world is settling in the world
   pub settles_alike : {t : ℕ} {p : Planned P} {course : Course (Completed P) (Planned P)} → Settles cmp t p course → (w : World P) → Tallies cmp t p w → CourseAlike t course (settle cmp t w)
   settles_alike {t = t} {p = p} {course = course} (settling {leavers = leavers} {mid = mid} account finishes) w same =
       let n : ℕ = length w.sending + length w.waiting in
-      let few : length (leaving cmp order w) ≤ length w.sending = leaving_fewer w in
-      let kept : length (staying cmp order w).waiting ≡ length w.waiting = ap (λ (q : List (Message P)). length q) (staying_waiting w) in
-      let queued : CourseAlike t course (finish_within cmp order n t (leaving cmp order w) (staying cmp order w)) =
-      finishes_alike finishes n (leaving cmp order w) (staying cmp order w) (account_follows cmp order t p mid leavers w same account) (staying_none cmp order w) (leavers_alike cmp order t p mid leavers w same account) (omega arith) in
-      let way : settle cmp t w ≡ finish_within cmp order n t (leaving cmp order w) (staying cmp order w) = settle_is_finish t w same.one_each in
+      let few : length (leaving cmp w) ≤ length w.sending = leaving_fewer w in
+      let kept : length (staying cmp w).waiting ≡ length w.waiting = ap (λ (q : List (Message P)). length q) (staying_waiting w) in
+      let queued : CourseAlike t course (finish_within cmp n t (leaving cmp w) (staying cmp w)) =
+      finishes_alike finishes n (leaving cmp w) (staying cmp w) (account_follows cmp order t p mid leavers w same account) (staying_none cmp order w) (leavers_alike cmp order t p mid leavers w same account) (omega arith) in
+      let way : settle cmp t w ≡ finish_within cmp n t (leaving cmp w) (staying cmp w) = settle_is_finish t w same.one_each in
       subst (λ (c : Course (Completed P) (World P)). CourseAlike t course c) (sym way) queued
 
   -- ---- the event at the planned finish

@@ -1,6 +1,6 @@
 -- A launch in the planned world is a start in the world, and what is done at once leaves.
 use Rattle.std.proofs.Common.{◌≡◌, ℕ, ◌+◌, ◌-◌, ◌<◌, ◌≤◌, List, [], ◌∷◌, ◌++◌, map, length, Bool, true, false, cond, not, Option, Some, None, refl, sym, ap, ◌∙◌, subst, arith}
-use Rattle.std.specs.Prelude.{nat_le, ⊤, ◌&&◌, ◌==◌}
+use Rattle.std.specs.Prelude.{nat_le, ⊤, ◌&&◌}
 use Rattle.std.specs.List.{filter, find, list_any, AllZip}
 use Rattle.std.specs.declared.cmp.Ordering.{Ordering}
 use Rattle.std.specs.Cmp.{IsTotalOrder}
@@ -17,7 +17,8 @@ use Rattle.p2p_simulated.specs.WorldStands.{Follows, IsSameFlight, Tallies}
 use Rattle.p2p_simulated.specs.declared.error.Error.TheVariants.{FlowIdsUsedUp}
 use Rattle.std.proofs.lemmas.Bool.{leb-true, le-leb}
 use Rattle.p2p_simulated.proofs.World.Lowest.{whole_lowest, drained_none}
-use Rattle.p2p_simulated.proofs.World.Queue.{find_none, leaving, staying, flight, taken, joined, launch_then, pair_like, pair_sym, one_pair_more, find_passes}
+use Rattle.p2p_simulated.specs.WorldQueue.{leaving, staying, flight, taken, joined, launch_then}
+use Rattle.p2p_simulated.proofs.World.Queue.{find_none, pair_like, pair_sym, one_pair_more, find_passes}
 use Rattle.p2p_simulated.proofs.World.Alike.{message_itself, pairs_alike}
 use Rattle.p2p_simulated.proofs.World.Between.{Each, each_map, filter_none, messages_alike, may_alike, find_like}
 use Rattle.p2p_simulated.proofs.World.Again.{none_matched, each_passes, leavers_alike, account_follows}
@@ -137,7 +138,7 @@ module _ {P : Type 0} (cmp : P → P → Ordering) (order : IsTotalOrder cmp) wh
 
   -- ---- a message starts
 
-  started_flight : (t : ℕ) (x y : Message P) → SameMessage cmp x y → IsSameFlight cmp t (record { message = x; left = whole (length x.bytes); rate = Some (whole 0); updated = t }) (flight cmp order y)
+  started_flight : (t : ℕ) (x y : Message P) → SameMessage cmp x y → IsSameFlight cmp t (record { message = x; left = whole (length x.bytes); rate = Some (whole 0); updated = t }) (flight cmp y)
   started_flight t x y same =
       let no_time : t - t ≡ 0 = omega arith in
       record {
@@ -155,7 +156,7 @@ module _ {P : Type 0} (cmp : P → P → Ordering) (order : IsTotalOrder cmp) wh
       let none : find (same_pair cmp y) w.waiting ≡ None = find_none (same_pair cmp y) w.waiting (none_matched (SameMessage cmp) (filter (same_pair cmp y) w.waiting) empty) in
       cc
 
-  pub launched_tallies : (t : ℕ) (p : Planned P) (w : World P) (x y : Message P) → Tallies cmp t p w → SameMessage cmp x y → find (same_pair cmp y) w.waiting ≡ Some y → list_any (same_pair cmp y) (flows w) ≡ false → Tallies cmp t (launched cmp t p x) (joined cmp order w y)
+  pub launched_tallies : (t : ℕ) (p : Planned P) (w : World P) (x y : Message P) → Tallies cmp t p w → SameMessage cmp x y → find (same_pair cmp y) w.waiting ≡ Some y → list_any (same_pair cmp y) (flows w) ≡ false → Tallies cmp t (launched cmp t p x) (joined cmp w y)
   launched_tallies t p w x y same alike own idle = record {
     moment = same.moment;
     caps = same.caps;
@@ -164,15 +165,15 @@ module _ {P : Type 0} (cmp : P → P → Ordering) (order : IsTotalOrder cmp) wh
     next_id = ap (λ (n : ℕ). n + 1) same.next_id;
     waiting = λ m. waiting_taken x y m p.waiting w.waiting alike (same.waiting m);
     pair_order = pair_order_without (same_pair cmp x) p.waiting same.pair_order;
-    sending = all_zipped_more (IsSameFlight cmp t) p.sending w.sending (record { message = x; left = whole (length x.bytes); rate = Some (whole 0); updated = t }) (flight cmp order y) same.sending (started_flight t x y alike);
-    one_each = subst (OneForEachPair cmp) (sym (map-append (λ (g : Flight P). g.message) w.sending (flight cmp order y ∷ []))) (one_pair_more cmp order (flows w) y same.one_each idle);
+    sending = all_zipped_more (IsSameFlight cmp t) p.sending w.sending (record { message = x; left = whole (length x.bytes); rate = Some (whole 0); updated = t }) (flight cmp y) same.sending (started_flight t x y alike);
+    one_each = subst (OneForEachPair cmp) (sym (map-append (λ (g : Flight P). g.message) w.sending (flight cmp y ∷ []))) (one_pair_more cmp order (flows w) y same.one_each idle);
     empty_at_first = λ free. absurd (waits_limited t p w y same own free);
   }
 
   abbrev pub NoneDone : World P → Type 0
   NoneDone w = Each (λ g. is_done cmp w g ≡ false) w.sending
 
-  pub staying_none : (w : World P) → NoneDone (staying cmp order w)
+  pub staying_none : (w : World P) → NoneDone (staying cmp w)
   unfolding staying
   staying_none w = each_map (λ g. not (is_done cmp w g) ≡ true) (λ g. is_done cmp w g ≡ false) (filter (λ g. not (is_done cmp w g)) w.sending) (λ g. no (is_done cmp w g)) (each_passes (λ g. not (is_done cmp w g)) w.sending)
     where
@@ -182,30 +183,30 @@ module _ {P : Type 0} (cmp : P → P → Ordering) (order : IsTotalOrder cmp) wh
 
   -- those that join the leavers, and the world after the start
   abbrev pub joining : World P → Message P → List (Flight P)
-  joining w y = cond (is_done cmp w (flight cmp order y)) (flight cmp order y ∷ []) []
+  joining w y = cond (is_done cmp w (flight cmp y)) (flight cmp y ∷ []) []
 
   abbrev pub started : World P → Message P → World P
-  started w y = cond (is_done cmp w (flight cmp order y)) (taken cmp order w y) (joined cmp order w y)
+  started w y = cond (is_done cmp w (flight cmp y)) (taken cmp w y) (joined cmp w y)
 
-  pub joining_leaves : (w : World P) (y : Message P) → NoneDone w → leaving cmp order (joined cmp order w y) ≡ joining w y
+  pub joining_leaves : (w : World P) (y : Message P) → NoneDone w → leaving cmp (joined cmp w y) ≡ joining w y
   unfolding leaving
-  joining_leaves w y none = filter-append (is_done cmp w) w.sending (flight cmp order y ∷ []) ∙ ap (λ (q : List (Flight P)). q ++ joining w y) (filter_none (is_done cmp w) w.sending none)
+  joining_leaves w y none = filter-append (is_done cmp w) w.sending (flight cmp y ∷ []) ∙ ap (λ (q : List (Flight P)). q ++ joining w y) (filter_none (is_done cmp w) w.sending none)
 
-  pub started_stays : (w : World P) (y : Message P) → NoneDone w → staying cmp order (joined cmp order w y) ≡ started w y
+  pub started_stays : (w : World P) (y : Message P) → NoneDone w → staying cmp (joined cmp w y) ≡ started w y
   unfolding staying
   started_stays w y none =
-      ap (λ (q : List (Flight P)). record (joined cmp order w y) { sending = q }) (filter-append (λ g. not (is_done cmp w g)) w.sending (flight cmp order y ∷ []) ∙ ap (λ (q : List (Flight P)). q ++ cond (not (is_done cmp w (flight cmp order y))) (flight cmp order y ∷ []) []) (filter_all (is_done cmp w) w.sending none))
-      ∙ by_test (is_done cmp w (flight cmp order y))
+      ap (λ (q : List (Flight P)). record (joined cmp w y) { sending = q }) (filter-append (λ g. not (is_done cmp w g)) w.sending (flight cmp y ∷ []) ∙ ap (λ (q : List (Flight P)). q ++ cond (not (is_done cmp w (flight cmp y))) (flight cmp y ∷ []) []) (filter_all (is_done cmp w) w.sending none))
+      ∙ by_test (is_done cmp w (flight cmp y))
     where
-      by_test : (b : Bool) → ◌≡◌ {A = World P} (record (joined cmp order w y) { sending = w.sending ++ cond (not b) (flight cmp order y ∷ []) [] }) (cond b (taken cmp order w y) (joined cmp order w y))
-      by_test true = ap (λ (q : List (Flight P)). record (joined cmp order w y) { sending = q }) (append-nil w.sending)
+      by_test : (b : Bool) → ◌≡◌ {A = World P} (record (joined cmp w y) { sending = w.sending ++ cond (not b) (flight cmp y ∷ []) [] }) (cond b (taken cmp w y) (joined cmp w y))
+      by_test true = ap (λ (q : List (Flight P)). record (joined cmp w y) { sending = q }) (append-nil w.sending)
       by_test false = refl
 
   -- the world goes on as the planned world does: with these leavers, in this world
   pub record GoesOn (t : ℕ) (w : World P) (fs : List (Flight P)) (o : Option (Message P)) (leavers : List (Message P)) (new : Planned P) : Type 0 where
     pub more : List (Flight P)
     pub world : World P
-    pub launches : (next : List (Flight P) → World P → Course (Completed P) (World P)) → launch_then cmp order next t fs w o ≡ next (fs ++ more) world
+    pub launches : (next : List (Flight P) → World P → Course (Completed P) (World P)) → launch_then cmp next t fs w o ≡ next (fs ++ more) world
     pub follows : Follows cmp t new world
     pub none : NoneDone world
     pub leaves : AllZip (SameMessage cmp) leavers (map (λ (g : Flight P). g.message) more)
@@ -213,47 +214,47 @@ module _ {P : Type 0} (cmp : P → P → Ordering) (order : IsTotalOrder cmp) wh
 
   abbrev pub LaunchAlike : ℕ → World P → List (Flight P) → Option (Message P) → Course (Message P) (Planned P) → Type 0
   LaunchAlike t w fs o (goes leavers new) = GoesOn t w fs o leavers new
-  LaunchAlike t w fs o (meets fault) = (next : List (Flight P) → World P → Course (Completed P) (World P)) → launch_then cmp order next t fs w o ≡ meets fault
+  LaunchAlike t w fs o (meets fault) = (next : List (Flight P) → World P → Course (Completed P) (World P)) → launch_then cmp next t fs w o ≡ meets fault
 
   -- the same, where it is known that the message may start
   pub record StartsSo (t : ℕ) (w : World P) (y : Message P) (leavers : List (Message P)) (new : Planned P) : Type 0 where
-    pub starts : start cmp w y ≡ goes [] (joined cmp order w y)
+    pub starts : start cmp w y ≡ goes [] (joined cmp w y)
     pub follows : Follows cmp t new (started w y)
     pub none : NoneDone (started w y)
     pub leaves : AllZip (SameMessage cmp) leavers (map (λ (g : Flight P). g.message) (joining w y))
-    pub one_each : OneForEachPair cmp (flows (joined cmp order w y))
+    pub one_each : OneForEachPair cmp (flows (joined cmp w y))
 
   abbrev pub StartAlike : ℕ → World P → Message P → Course (Message P) (Planned P) → Type 0
   StartAlike t w y (goes leavers new) = StartsSo t w y leavers new
   StartAlike t w y (meets fault) = start cmp w y ≡ meets fault
 
-  starts_none : (next : List (Flight P) → World P → Course (Completed P) (World P)) (t : ℕ) (fs : List (Flight P)) (w : World P) → launch_then cmp order next t fs w None ≡ next (fs ++ []) w
+  starts_none : (next : List (Flight P) → World P → Course (Completed P) (World P)) (t : ℕ) (fs : List (Flight P)) (w : World P) → launch_then cmp next t fs w None ≡ next (fs ++ []) w
   unfolding launch_then
   starts_none next t fs w = ap (λ (q : List (Flight P)). next q w) (sym (append-nil fs))
 
-  starts_not : (next : List (Flight P) → World P → Course (Completed P) (World P)) (t : ℕ) (fs : List (Flight P)) (w : World P) (y : Message P) → may_start cmp t w y ≡ false → launch_then cmp order next t fs w (Some y) ≡ next (fs ++ []) w
+  starts_not : (next : List (Flight P) → World P → Course (Completed P) (World P)) (t : ℕ) (fs : List (Flight P)) (w : World P) (y : Message P) → may_start cmp t w y ≡ false → launch_then cmp next t fs w (Some y) ≡ next (fs ++ []) w
   unfolding launch_then
   starts_not next t fs w y e = rw e (ap (λ (q : List (Flight P)). next q w) (sym (append-nil fs)))
 
-  starts_fault : (next : List (Flight P) → World P → Course (Completed P) (World P)) (t : ℕ) (fs : List (Flight P)) (w : World P) (y : Message P) → may_start cmp t w y ≡ true → (nat_le last_moment w.next_id) ≡ true → launch_then cmp order next t fs w (Some y) ≡ meets FlowIdsUsedUp
+  starts_fault : (next : List (Flight P) → World P → Course (Completed P) (World P)) (t : ℕ) (fs : List (Flight P)) (w : World P) (y : Message P) → may_start cmp t w y ≡ true → (nat_le last_moment w.next_id) ≡ true → launch_then cmp next t fs w (Some y) ≡ meets FlowIdsUsedUp
   unfolding launch_then
   starts_fault next t fs w y e f = rw (e, f) refl
 
   starts_so : (next : List (Flight P) → World P → Course (Completed P) (World P)) (t : ℕ) (fs : List (Flight P)) (w : World P) (y : Message P) → may_start cmp t w y ≡ true → (nat_le last_moment w.next_id) ≡ false
-      → launch_then cmp order next t fs w (Some y) ≡ next (fs ++ joining w y) (started w y)
+      → launch_then cmp next t fs w (Some y) ≡ next (fs ++ joining w y) (started w y)
   unfolding launch_then
-  starts_so next t fs w y e f = rw (e, f) (by_test (is_done cmp w (flight cmp order y)))
+  starts_so next t fs w y e f = rw (e, f) (by_test (is_done cmp w (flight cmp y)))
     where
-      by_test : (b : Bool) → cond b (next (fs ++ flight cmp order y ∷ []) (taken cmp order w y)) (next fs (joined cmp order w y)) ≡ next (fs ++ cond b (flight cmp order y ∷ []) []) (cond b (taken cmp order w y) (joined cmp order w y))
+      by_test : (b : Bool) → cond b (next (fs ++ flight cmp y ∷ []) (taken cmp w y)) (next fs (joined cmp w y)) ≡ next (fs ++ cond b (flight cmp y ∷ []) []) (cond b (taken cmp w y) (joined cmp w y))
       by_test true = refl
-      by_test false = ap (λ (q : List (Flight P)). next q (joined cmp order w y)) (sym (append-nil fs))
+      by_test false = ap (λ (q : List (Flight P)). next q (joined cmp w y)) (sym (append-nil fs))
 
   pub started_fewer : (w : World P) (y : Message P) → find (same_pair cmp y) w.waiting ≡ Some y → length (joining w y) + length (started w y).waiting ≤ length w.waiting
   started_fewer w y e =
       let fewer : length (without_first (same_pair cmp y) w.waiting) + 1 ≡ length w.waiting = length_without (same_pair cmp y) y w.waiting e in
-      by_test (is_done cmp w (flight cmp order y)) fewer
+      by_test (is_done cmp w (flight cmp y)) fewer
     where
-      by_test : (b : Bool) → length (without_first (same_pair cmp y) w.waiting) + 1 ≡ length w.waiting → length (cond b (flight cmp order y ∷ []) []) + length (cond b (taken cmp order w y) (joined cmp order w y)).waiting ≤ length w.waiting
+      by_test : (b : Bool) → length (without_first (same_pair cmp y) w.waiting) + 1 ≡ length w.waiting → length (cond b (flight cmp y ∷ []) []) + length (cond b (taken cmp w y) (joined cmp w y)).waiting ≤ length w.waiting
       by_test true h = omega arith
       by_test false h = omega arith
 
@@ -280,14 +281,14 @@ module _ {P : Type 0} (cmp : P → P → Ordering) (order : IsTotalOrder cmp) wh
       let may_too : may_start cmp t w y ≡ true = sym (may_alike cmp order t p w x y follows.tallies.last_arrival (messages_alike cmp order t p.sending w.sending follows.tallies.sending) alike) ∙ may in
       let idle : list_any (same_pair cmp y) (flows w) ≡ false = idle_from (list_any (same_pair cmp y) (flows w)) (is_in_order (w.last_arrival y.origin y.recipient) (t + y.latency)) may_too in
       let own : find (same_pair cmp y) w.waiting ≡ Some y = find_like cmp order m y w.waiting (find_passes (same_pair cmp m) y w.waiting is) ∙ is in
-      let tallies : Tallies cmp t (launched cmp t p x) (joined cmp order w y) = launched_tallies t p w x y follows.tallies alike own idle in
+      let tallies : Tallies cmp t (launched cmp t p x) (joined cmp w y) = launched_tallies t p w x y follows.tallies alike own idle in
       record {
         more = joining w y;
         world = started w y;
         launches = λ next. starts_so next t fs w y may_too (by_id (nat_le last_moment w.next_id) refl follows.tallies.next_id below);
-        follows = subst (λ (v : World P). Follows cmp t new v) (started_stays w y none) (account_follows cmp order t (launched cmp t p x) new leavers (joined cmp order w y) tallies account);
-        none = subst NoneDone (started_stays w y none) (staying_none (joined cmp order w y));
-        leaves = subst (λ (q : List (Flight P)). AllZip (SameMessage cmp) leavers (map (λ (g : Flight P). g.message) q)) (joining_leaves w y none) (leavers_alike cmp order t (launched cmp t p x) new leavers (joined cmp order w y) tallies account);
+        follows = subst (λ (v : World P). Follows cmp t new v) (started_stays w y none) (account_follows cmp order t (launched cmp t p x) new leavers (joined cmp w y) tallies account);
+        none = subst NoneDone (started_stays w y none) (staying_none (joined cmp w y));
+        leaves = subst (λ (q : List (Flight P)). AllZip (SameMessage cmp) leavers (map (λ (g : Flight P). g.message) q)) (joining_leaves w y none) (leavers_alike cmp order t (launched cmp t p x) new leavers (joined cmp w y) tallies account);
         fewer = started_fewer w y own;
       }
     where
@@ -306,12 +307,12 @@ module _ {P : Type 0} (cmp : P → P → Ordering) (order : IsTotalOrder cmp) wh
       rw (le-leb last_moment w.next_id ids) refl
   start_alike {t = t} {p = p} (starts {m = x} {leavers = leavers} {new = new} launches below account) w y follows none may own alike =
       let idle : list_any (same_pair cmp y) (flows w) ≡ false = idle_from (list_any (same_pair cmp y) (flows w)) (is_in_order (w.last_arrival y.origin y.recipient) (t + y.latency)) may in
-      let tallies : Tallies cmp t (launched cmp t p x) (joined cmp order w y) = launched_tallies t p w x y follows.tallies alike own idle in
+      let tallies : Tallies cmp t (launched cmp t p x) (joined cmp w y) = launched_tallies t p w x y follows.tallies alike own idle in
       record {
         starts = rw (by_id (nat_le last_moment w.next_id) refl follows.tallies.next_id below) refl;
-        follows = subst (λ (v : World P). Follows cmp t new v) (started_stays w y none) (account_follows cmp order t (launched cmp t p x) new leavers (joined cmp order w y) tallies account);
-        none = subst NoneDone (started_stays w y none) (staying_none (joined cmp order w y));
-        leaves = subst (λ (q : List (Flight P)). AllZip (SameMessage cmp) leavers (map (λ (g : Flight P). g.message) q)) (joining_leaves w y none) (leavers_alike cmp order t (launched cmp t p x) new leavers (joined cmp order w y) tallies account);
+        follows = subst (λ (v : World P). Follows cmp t new v) (started_stays w y none) (account_follows cmp order t (launched cmp t p x) new leavers (joined cmp w y) tallies account);
+        none = subst NoneDone (started_stays w y none) (staying_none (joined cmp w y));
+        leaves = subst (λ (q : List (Flight P)). AllZip (SameMessage cmp) leavers (map (λ (g : Flight P). g.message) q)) (joining_leaves w y none) (leavers_alike cmp order t (launched cmp t p x) new leavers (joined cmp w y) tallies account);
         one_each = tallies.one_each;
       }
     where

@@ -1,10 +1,10 @@
 -- The empty planned world stands for the empty world, and new caps do in the planned world what they do in the world.
-use Rattle.std.proofs.Common.{◌*◌, ◌≡◌, ℕ, zero, suc, ◌+◌, ◌-◌, ◌<◌, ◌≤◌, List, [], ◌∷◌, length, true, false, Option, Some, None, refl, sym, ap, ◌∙◌, subst, arith, lit<}
+use Rattle.std.proofs.Common.{◌≡◌, ℕ, zero, suc, ◌+◌, ◌-◌, ◌<◌, ◌≤◌, List, [], ◌∷◌, length, true, false, Option, Some, None, refl, sym, ap, ◌∙◌, subst, arith, lit<}
 use Rattle.std.specs.Prelude.{IfSome}
 use Rattle.std.specs.List.{list_any, AllZip}
 use Rattle.std.specs.declared.cmp.Ordering.{Ordering}
 use Rattle.std.specs.Cmp.{IsTotalOrder}
-use Rattle.p2p_simulated.specs.World.{Completed, Course, Flight, IsQuiet, World, and_then, goes, is_done, last_moment, meets, new_world, preceded, ready, settle, EndsWith}
+use Rattle.p2p_simulated.specs.World.{Completed, Course, Flight, IsQuiet, World, goes, is_done, last_moment, meets, new_world, preceded, ready, settle, EndsWith}
 use Rattle.p2p_simulated.specs.WorldCalls.{Runs, act, call_limit, Call, recap, limited_by, linked_by, call_limit_link}
 use Rattle.p2p_simulated.specs.WorldEvents.{none_sending, some_sending, Recaps}
 use Rattle.p2p_simulated.specs.WorldMessages.{AnswerAlike, Message, with_cap, Caps, no_caps, PairsAlike, with_link, CapsAlike}
@@ -13,14 +13,13 @@ use Rattle.p2p_simulated.specs.WorldRates.{AreFair, rate_of}
 use Rattle.p2p_simulated.specs.WorldStands.{CoursesAlike, Follows, IsSameFlight, IsSettled, StandsFor, Tallies}
 use Rattle.p2p_simulated.specs.WorldTime.{Ticks, no_tick}
 use Rattle.p2p_simulated.proofs.World.Alike.{same_itself, peers_alike}
-use Rattle.p2p_simulated.proofs.World.Queue.{leaving, staying}
+use Rattle.p2p_simulated.specs.WorldQueue.{leaving, staying}
 use Rattle.p2p_simulated.proofs.World.Between.{later, follows_later, quiet_before, passes_to}
 use Rattle.p2p_simulated.proofs.World.Instant.{settles_alike, looked, leaving_fewer, staying_waiting}
 use Rattle.p2p_simulated.proofs.World.Event.{settle_quiet, ticks_quiet}
 use Rattle.p2p_simulated.proofs.World.Waking.{each_none}
 use Rattle.p2p_simulated.proofs.World.Advance.{woken_stands}
 use Rattle.p2p_simulated.proofs.World.Rested.{settle_keeps_rest}
-
 
 no_sides : {P : Type 0} (cmp : P → P → Ordering) (caps : Caps P) → AreFair cmp caps [] 1 []
 no_sides cmp caps = record {
@@ -143,8 +142,8 @@ module _ {P : Type 0} (cmp : P → P → Ordering) (order : IsTotalOrder cmp) wh
       rests : EndsWith (λ v. ready cmp now v ≡ []) (recap cmp now u others)
       rests =
           let x : World P = recapped u others in
-          let few : length (leaving cmp order x) ≤ length x.sending = leaving_fewer cmp order x in
-          let kept : length (staying cmp order x).waiting ≡ length x.waiting = ap (λ (q : List (Message P)). length q) (staying_waiting cmp order x) in
+          let few : length (leaving cmp x) ≤ length x.sending = leaving_fewer cmp order x in
+          let kept : length (staying cmp x).waiting ≡ length x.waiting = ap (λ (q : List (Message P)). length q) (staying_waiting cmp order x) in
           settle_keeps_rest cmp order now x follows.tallies.one_each none_ready (omega arith)
 
       by_case : {course : Course (Completed P) (Planned P)} → Recaps cmp now caps p course → CoursesAlike cmp (λ q v. StandsFor cmp q v × (v.moment ≡ now)) course (recap cmp now u others)

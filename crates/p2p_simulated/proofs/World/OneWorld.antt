@@ -1,6 +1,5 @@
 -- A nanosecond leads to one world, whatever denominator its rates are given by.
 use Rattle.std.proofs.Common.{◌≡◌, ℕ, suc, ◌+◌, ◌-◌, ◌*◌, ◌<◌, List, [], ◌∷◌, length, Option, Some, None, refl, sym, ap, ◌∙◌, arith, true}
-use Rattle.std.specs.Prelude.{slice_get}
 use Rattle.std.specs.declared.cmp.Ordering.{Ordering}
 use Rattle.std.proofs.Math.Nat.{mul_comm, mul-sub, mul-pos}
 use Rattle.p2p_simulated.specs.Sides.{same_peer}

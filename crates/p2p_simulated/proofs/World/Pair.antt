@@ -1,6 +1,6 @@
 -- Settling what one pair starts touches that pair alone, and leaves it unable to start again at that moment.
 use Rattle.std.proofs.Common.{◌≡◌, ℕ, zero, suc, ◌+◌, ◌≤◌, List, [], ◌∷◌, ◌++◌, length, Bool, true, false, cond, not, Option, Some, None, refl, sym, ap, ◌∙◌, subst, arith, length-append}
-use Rattle.std.specs.Prelude.{nat_le, ◌&&◌, ◌||◌, ◌==◌}
+use Rattle.std.specs.Prelude.{nat_le, ◌&&◌, ◌||◌}
 use Rattle.std.specs.List.{filter, find, list_any}
 use Rattle.std.specs.declared.cmp.Ordering.{Ordering}
 use Rattle.std.specs.Cmp.{IsTotalOrder}
@@ -10,8 +10,8 @@ use Rattle.p2p_simulated.specs.Sides.{same_peer}
 use Rattle.p2p_simulated.specs.World.{Completed, Course, Flight, World, flows, fronts, goes, is_done, last_moment, may_start, meets, ready, without_first, EndsWith}
 use Rattle.p2p_simulated.specs.WorldMessages.{Message, same_pair}
 use Rattle.p2p_simulated.specs.declared.error.Error.TheVariants.{FlowIdsUsedUp, MomentTooLate}
-use Rattle.p2p_simulated.proofs.World.Queue.{leaving, staying, flight, taken, joined, arrived, completion, launch_then, finish_within, both_alike, both_parts, pair_like, pair_sym, peer_like, find_passes, settles_as_queue}
-use Rattle.p2p_simulated.proofs.World.Queue as queue
+use Rattle.p2p_simulated.specs.WorldQueue.{is_past, flight, taken, joined, arrived, completion, launch_then, finish_within}
+use Rattle.p2p_simulated.proofs.World.Queue.{both_alike, both_parts, pair_like, pair_sym, peer_like, find_passes}
 use Rattle.p2p_simulated.proofs.World.Between.{Each, each_map, IsFront, fronts_first, first_found, find_like}
 use Rattle.p2p_simulated.proofs.World.Rests.{ends_preceded, ends_cond, length_without}
 
@@ -128,7 +128,7 @@ module _ {P : Type 0} (cmp : P → P → Ordering) (order : IsTotalOrder cmp) (y
 
   -- ---- steps
 
-  pub only_arrived : (t : ℕ) (w : World P) (m : Message P) → same_pair cmp y m ≡ true → OnlyPair w (arrived cmp order t w m)
+  pub only_arrived : (t : ℕ) (w : World P) (m : Message P) → same_pair cmp y m ≡ true → OnlyPair w (arrived cmp t w m)
   only_arrived t w m e =
       let parts : (same_peer cmp y.origin m.origin ≡ true) × (same_peer cmp y.recipient m.recipient ≡ true) = both_parts cmp order (same_peer cmp y.origin m.origin) (same_peer cmp y.recipient m.recipient) e in
       record {
@@ -138,13 +138,13 @@ module _ {P : Type 0} (cmp : P → P → Ordering) (order : IsTotalOrder cmp) (y
         fewer = omega arith;
       }
 
-  pub only_taken : (w : World P) (x : Message P) → same_pair cmp y x ≡ true → OnlyPair w (taken cmp order w x)
+  pub only_taken : (w : World P) (x : Message P) → same_pair cmp y x ≡ true → OnlyPair w (taken cmp w x)
   only_taken w x e = record { last = λ p q off. refl; busy = λ m off. refl; others = fronts_without x w.waiting e; fewer = shorter_without (same_pair cmp x) w.waiting }
 
-  pub only_joined : (w : World P) (x : Message P) → same_pair cmp y x ≡ true → OnlyPair w (joined cmp order w x)
+  pub only_joined : (w : World P) (x : Message P) → same_pair cmp y x ≡ true → OnlyPair w (joined cmp w x)
   only_joined w x e = record {
     last = λ p q off. refl;
-    busy = λ m off. ap (list_any (same_pair cmp m)) (map-append (λ (g : Flight P). g.message) w.sending (flight cmp order x ∷ [])) ∙ list_any-append (same_pair cmp m) (flows w) (x ∷ []) ∙ by_pair m (list_any (same_pair cmp m) (flows w)) (pair_sym cmp order m x ∙ pair_like cmp order y x m e ∙ off);
+    busy = λ m off. ap (list_any (same_pair cmp m)) (map-append (λ (g : Flight P). g.message) w.sending (flight cmp x ∷ [])) ∙ list_any-append (same_pair cmp m) (flows w) (x ∷ []) ∙ by_pair m (list_any (same_pair cmp m) (flows w)) (pair_sym cmp order m x ∙ pair_like cmp order y x m e ∙ off);
     others = fronts_without x w.waiting e;
     fewer = shorter_without (same_pair cmp x) w.waiting;
   }
@@ -158,13 +158,13 @@ module _ {P : Type 0} (cmp : P → P → Ordering) (order : IsTotalOrder cmp) (y
   unfoldable pub IsRested : ℕ → World P → Type 0
   IsRested t v = (x : Message P) → find (same_pair cmp y) v.waiting ≡ Some x → may_start cmp t v x ≡ false
 
-  pub rested_joined : (t : ℕ) (w : World P) (x : Message P) → same_pair cmp y x ≡ true → IsRested t (joined cmp order w x)
+  pub rested_joined : (t : ℕ) (w : World P) (x : Message P) → same_pair cmp y x ≡ true → IsRested t (joined cmp w x)
   unfolding IsRested
   rested_joined t w x e z found =
-      let own : same_pair cmp y z ≡ true = find_passes (same_pair cmp y) z (joined cmp order w x).waiting found in
+      let own : same_pair cmp y z ≡ true = find_passes (same_pair cmp y) z (joined cmp w x).waiting found in
       let pair : same_pair cmp z x ≡ true = pair_like cmp order y z x own ∙ e in
-      let sends : list_any (same_pair cmp z) (flows (joined cmp order w x)) ≡ true =
-      ap (list_any (same_pair cmp z)) (map-append (λ (g : Flight P). g.message) w.sending (flight cmp order x ∷ [])) ∙ list_any-append (same_pair cmp z) (flows w) (x ∷ []) ∙ or_right (list_any (same_pair cmp z) (flows w)) (same_pair cmp z x || false) (or_left (same_pair cmp z x) false pair) in
+      let sends : list_any (same_pair cmp z) (flows (joined cmp w x)) ≡ true =
+      ap (list_any (same_pair cmp z)) (map-append (λ (g : Flight P). g.message) w.sending (flight cmp x ∷ [])) ∙ list_any-append (same_pair cmp z) (flows w) (x ∷ []) ∙ or_right (list_any (same_pair cmp z) (flows w)) (same_pair cmp z x || false) (or_left (same_pair cmp z x) false pair) in
       rw sends refl
 
   abbrev pub IsAfter : ℕ → World P → World P → Type 0
@@ -173,21 +173,21 @@ module _ {P : Type 0} (cmp : P → P → Ordering) (order : IsTotalOrder cmp) (y
   pub after_on : (t : ℕ) (w v : World P) (c : Course (Completed P) (World P)) → OnlyPair w v → EndsWith (IsAfter t v) c → EndsWith (IsAfter t w) c
   after_on t w v c f h = ends_so (IsAfter t v) (IsAfter t w) c (λ u g. (only_both w v u f g.0, g.1)) h
 
-  pub finish_only : (n t : ℕ) (fs : List (Flight P)) (w : World P) → Each (λ f. same_pair cmp y f.message ≡ true) fs → length fs + length w.waiting ≤ n → (fs ≡ [] → IsRested t w) → EndsWith (IsAfter t w) (finish_within cmp order n t fs w)
+  pub finish_only : (n t : ℕ) (fs : List (Flight P)) (w : World P) → Each (λ f. same_pair cmp y f.message ≡ true) fs → length fs + length w.waiting ≤ n → (fs ≡ [] → IsRested t w) → EndsWith (IsAfter t w) (finish_within cmp n t fs w)
   unfolding finish_within launch_then IsRested
   finish_only zero t [] w own fuel rested = (only_itself w, rested refl)
   finish_only zero t (f ∷ fs) w own fuel rested = absurd (omega arith)
   finish_only (suc n) t [] w own fuel rested = (only_itself w, rested refl)
   finish_only (suc n) t (f ∷ fs) w own fuel rested =
-      ends_cond (IsAfter t w) (queue.is_late cmp order t f.message) (meets MomentTooLate) _ tt
-      (ends_preceded (IsAfter t w) (completion cmp order t f.message ∷ []) _ (after_on t w (arrived cmp order t w f.message) _ (only_arrived t w f.message own.0)
+      ends_cond (IsAfter t w) (is_past cmp t f.message) (meets MomentTooLate) _ tt
+      (ends_preceded (IsAfter t w) (completion cmp t f.message ∷ []) _ (after_on t w (arrived cmp t w f.message) _ (only_arrived t w f.message own.0)
       (by_next (find (same_pair cmp f.message) w.waiting) (sym (find_like cmp order y f.message w.waiting own.0)) (finish_only n t))))
     where
       by_next : (o : Option (Message P)) → find (same_pair cmp y) w.waiting ≡ o
-          → ((gs : List (Flight P)) (v : World P) → Each (λ g. same_pair cmp y g.message ≡ true) gs → length gs + length v.waiting ≤ n → (gs ≡ [] → IsRested t v) → EndsWith (IsAfter t v) (finish_within cmp order n t gs v))
-          → EndsWith (IsAfter t (arrived cmp order t w f.message)) (launch_then cmp order (finish_within cmp order n t) t fs (arrived cmp order t w f.message) o)
-      by_next None is ih = ih fs (arrived cmp order t w f.message) own.1 (omega arith) (λ e x found. cc)
-      by_next (Some x) is ih = by_may (may_start cmp t (arrived cmp order t w f.message) x) refl
+          → ((gs : List (Flight P)) (v : World P) → Each (λ g. same_pair cmp y g.message ≡ true) gs → length gs + length v.waiting ≤ n → (gs ≡ [] → IsRested t v) → EndsWith (IsAfter t v) (finish_within cmp n t gs v))
+          → EndsWith (IsAfter t (arrived cmp t w f.message)) (launch_then cmp (finish_within cmp n t) t fs (arrived cmp t w f.message) o)
+      by_next None is ih = ih fs (arrived cmp t w f.message) own.1 (omega arith) (λ e x found. cc)
+      by_next (Some x) is ih = by_may (may_start cmp t (arrived cmp t w f.message) x) refl
         where
           pair : same_pair cmp y x ≡ true
           pair = find_passes (same_pair cmp y) x w.waiting is
@@ -195,16 +195,16 @@ module _ {P : Type 0} (cmp : P → P → Ordering) (order : IsTotalOrder cmp) (y
           fewer : length (without_first (same_pair cmp x) w.waiting) + 1 ≡ length w.waiting
           fewer = length_without (same_pair cmp x) x w.waiting (find_like cmp order y x w.waiting pair ∙ is)
 
-          by_done : (b : Bool) → length (without_first (same_pair cmp x) w.waiting) + 1 ≡ length w.waiting → EndsWith (IsAfter t (arrived cmp order t w f.message)) (cond b (finish_within cmp order n t (fs ++ flight cmp order x ∷ []) (taken cmp order (arrived cmp order t w f.message) x)) (finish_within cmp order n t fs (joined cmp order (arrived cmp order t w f.message) x)))
+          by_done : (b : Bool) → length (without_first (same_pair cmp x) w.waiting) + 1 ≡ length w.waiting → EndsWith (IsAfter t (arrived cmp t w f.message)) (cond b (finish_within cmp n t (fs ++ flight cmp x ∷ []) (taken cmp (arrived cmp t w f.message) x)) (finish_within cmp n t fs (joined cmp (arrived cmp t w f.message) x)))
           by_done true less =
-              let many : length (fs ++ flight cmp order x ∷ []) ≡ length fs + 1 = length-append fs (flight cmp order x ∷ []) in
-              after_on t (arrived cmp order t w f.message) (taken cmp order (arrived cmp order t w f.message) x) _ (only_taken (arrived cmp order t w f.message) x pair) (ih (fs ++ flight cmp order x ∷ []) (taken cmp order (arrived cmp order t w f.message) x) (each_more (λ g. same_pair cmp y g.message ≡ true) fs (flight cmp order x) own.1 pair) (omega arith) (λ e. absurd (no_nil fs (flight cmp order x) e)))
-          by_done false less = after_on t (arrived cmp order t w f.message) (joined cmp order (arrived cmp order t w f.message) x) _ (only_joined (arrived cmp order t w f.message) x pair) (ih fs (joined cmp order (arrived cmp order t w f.message) x) own.1 (omega arith) (λ e. rested_joined t (arrived cmp order t w f.message) x pair))
+              let many : length (fs ++ flight cmp x ∷ []) ≡ length fs + 1 = length-append fs (flight cmp x ∷ []) in
+              after_on t (arrived cmp t w f.message) (taken cmp (arrived cmp t w f.message) x) _ (only_taken (arrived cmp t w f.message) x pair) (ih (fs ++ flight cmp x ∷ []) (taken cmp (arrived cmp t w f.message) x) (each_more (λ g. same_pair cmp y g.message ≡ true) fs (flight cmp x) own.1 pair) (omega arith) (λ e. absurd (no_nil fs (flight cmp x) e)))
+          by_done false less = after_on t (arrived cmp t w f.message) (joined cmp (arrived cmp t w f.message) x) _ (only_joined (arrived cmp t w f.message) x pair) (ih fs (joined cmp (arrived cmp t w f.message) x) own.1 (omega arith) (λ e. rested_joined t (arrived cmp t w f.message) x pair))
 
-          by_may : (b : Bool) → may_start cmp t (arrived cmp order t w f.message) x ≡ b
-              → EndsWith (IsAfter t (arrived cmp order t w f.message)) (cond b (cond (nat_le last_moment w.next_id) (meets FlowIdsUsedUp) (cond (is_done cmp (arrived cmp order t w f.message) (flight cmp order x)) (finish_within cmp order n t (fs ++ flight cmp order x ∷ []) (taken cmp order (arrived cmp order t w f.message) x)) (finish_within cmp order n t fs (joined cmp order (arrived cmp order t w f.message) x)))) (finish_within cmp order n t fs (arrived cmp order t w f.message)))
-          by_may true e = ends_cond (IsAfter t (arrived cmp order t w f.message)) (nat_le last_moment w.next_id) (meets FlowIdsUsedUp) _ tt (by_done (is_done cmp (arrived cmp order t w f.message) (flight cmp order x)) fewer)
-          by_may false e = ih fs (arrived cmp order t w f.message) own.1 (omega arith) (λ k z found. let same : x ≡ z = cc in subst (λ (m : Message P). may_start cmp t (arrived cmp order t w f.message) m ≡ false) same e)
+          by_may : (b : Bool) → may_start cmp t (arrived cmp t w f.message) x ≡ b
+              → EndsWith (IsAfter t (arrived cmp t w f.message)) (cond b (cond (nat_le last_moment w.next_id) (meets FlowIdsUsedUp) (cond (is_done cmp (arrived cmp t w f.message) (flight cmp x)) (finish_within cmp n t (fs ++ flight cmp x ∷ []) (taken cmp (arrived cmp t w f.message) x)) (finish_within cmp n t fs (joined cmp (arrived cmp t w f.message) x)))) (finish_within cmp n t fs (arrived cmp t w f.message)))
+          by_may true e = ends_cond (IsAfter t (arrived cmp t w f.message)) (nat_le last_moment w.next_id) (meets FlowIdsUsedUp) _ tt (by_done (is_done cmp (arrived cmp t w f.message) (flight cmp x)) fewer)
+          by_may false e = ih fs (arrived cmp t w f.message) own.1 (omega arith) (λ k z found. let same : x ≡ z = cc in subst (λ (m : Message P). may_start cmp t (arrived cmp t w f.message) m ≡ false) same e)
 
   -- ---- who is ready afterwards
 

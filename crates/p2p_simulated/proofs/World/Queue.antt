@@ -1,6 +1,6 @@
 -- Settling the list of messages in flight is finishing a queue of the done ones, whose leavers join at its end.
-use Rattle.std.proofs.Common.{append_assoc, ◌≡◌, ℕ, zero, suc, ◌+◌, List, [], ◌∷◌, ◌++◌, map, length, Bool, true, false, cond, not, Option, Some, None, refl, sym, ap, ◌∙◌, subst}
-use Rattle.std.specs.Prelude.{nat_le, ◌&&◌, ◌||◌, nat_lt, ◌==◌, if◌then◌else◌}
+use Rattle.std.proofs.Common.{append_assoc, ◌≡◌, ℕ, zero, suc, ◌+◌, List, [], ◌∷◌, ◌++◌, map, Bool, true, false, cond, not, Option, Some, None, refl, sym, ap, ◌∙◌, subst}
+use Rattle.std.specs.Prelude.{nat_le, ◌&&◌, ◌||◌}
 use Rattle.std.specs.List.{filter, find, list_any}
 use Rattle.std.specs.declared.cmp.Ordering.{Ordering}
 use Rattle.std.specs.declared.cmp.Ordering.TheVariants.{Less, Equal, Greater}
@@ -10,10 +10,10 @@ use Rattle.std.proofs.lemmas.List.Folds.{list_any-append}
 use Rattle.std.proofs.lemmas.List.Elements.{filter-append}
 use Rattle.std.proofs.lemmas.Bool.{or_from, or_parts}
 use Rattle.std.proofs.lemmas.List.{append-nil, map-append}
-use Rattle.p2p_simulated.specs.Amount.{whole}
 use Rattle.p2p_simulated.specs.Sides.{same_peer}
-use Rattle.p2p_simulated.specs.World.{Completed, Course, Flight, World, and_then, complete, completion_of, first_waiting, goes, is_done, is_in_order, last_moment, may_start, meets, preceded, raised, settle_within, start, start_next, without_first}
-use Rattle.p2p_simulated.specs.WorldMessages.{Message, OneForEachPair, is_delivered, same_pair}
+use Rattle.p2p_simulated.specs.World.{Completed, Course, Flight, World, and_then, complete, goes, is_done, is_in_order, last_moment, may_start, meets, preceded, settle_within, start, start_next, without_first}
+use Rattle.p2p_simulated.specs.WorldQueue.{leaving, staying, is_past, completion, arrived, flight, taken, joined, launch_then, finish_within}
+use Rattle.p2p_simulated.specs.WorldMessages.{Message, OneForEachPair, same_pair}
 use Rattle.p2p_simulated.specs.declared.error.Error.TheVariants.{FlowIdsUsedUp, MomentTooLate}
 
 -- ---- courses
@@ -185,92 +185,55 @@ module _ {P : Type 0} (cmp : P → P → Ordering) (order : IsTotalOrder cmp) wh
       let parts : (same_pair cmp m n ≡ false) × (list_any (same_pair cmp m) ns ≡ false) = or_parts (same_pair cmp m n) (list_any (same_pair cmp m) ns) h in
       (list_any-append (same_pair cmp n) ns (m ∷ []) ∙ or_from (list_any (same_pair cmp n) ns) (same_pair cmp n m || false) one.0 (or_from (same_pair cmp n m) false (pair_sym n m ∙ parts.0) refl), one_pair_more ns m one.1 parts.1)
 
-  -- ---- the queue
-
-  unfoldable pub leaving : World P → List (Flight P)
-  leaving w = filter (is_done cmp w) w.sending
-
-  unfoldable pub staying : World P → World P
-  staying w = record w { sending = filter (λ f. not (is_done cmp w f)) w.sending }
-
-  abbrev pub is_late : ℕ → Message P → Bool
-  is_late t m = is_delivered cmp m && nat_lt last_moment (if is_delivered cmp m then t + m.latency else t)
-
-  abbrev pub completion : ℕ → Message P → Completed P
-  completion t m = completion_of m (if is_delivered cmp m then Some (if is_delivered cmp m then t + m.latency else t) else None)
-
-  abbrev pub arrived : ℕ → World P → Message P → World P
-  arrived t w m = record w { last_arrival = raised cmp w.last_arrival m (if is_delivered cmp m then t + m.latency else t) }
-
-  abbrev pub flight : Message P → Flight P
-  flight m = record { message = m; left = whole (length m.bytes) }
-
-  abbrev pub taken : World P → Message P → World P
-  taken w m = record w { waiting = without_first (same_pair cmp m) w.waiting; next_id = w.next_id + 1 }
-
-  abbrev pub joined : World P → Message P → World P
-  joined w m = record (taken w m) { sending = w.sending ++ flight m ∷ [] }
-
-  -- the first that waits for a pair starts if it may: it joins the queue's end if it is done at once
-  unfoldable pub launch_then : (List (Flight P) → World P → Course (Completed P) (World P)) → ℕ → List (Flight P) → World P → Option (Message P) → Course (Completed P) (World P)
-  launch_then next t fs w None = next fs w
-  launch_then next t fs w (Some m) = cond (may_start cmp t w m) (cond (nat_le last_moment w.next_id) (meets FlowIdsUsedUp) (cond (is_done cmp w (flight m)) (next (fs ++ flight m ∷ []) (taken w m)) (next fs (joined w m)))) (next fs w)
-
-  -- the first of the queue completes, and its pair's next starts
-  unfoldable pub finish_within : ℕ → ℕ → List (Flight P) → World P → Course (Completed P) (World P)
-  finish_within zero t queue w = goes [] w
-  finish_within (suc n) t [] w = goes [] w
-  finish_within (suc n) t (f ∷ fs) w = cond (is_late t f.message) (meets MomentTooLate) (preceded (completion t f.message ∷ []) (launch_then (finish_within n t) t fs (arrived t w f.message) (first_waiting cmp (arrived t w f.message) f.message)))
-
   -- ---- settling is finishing the queue
 
-  late_or_not : (b : Bool) (c : Completed P) (s l : Course (Completed P) (World P)) (k : World P → Course (Completed P) (World P)) → over_state staying (and_then s k) ≡ l
-      → over_state staying (and_then (cond b (meets MomentTooLate) (preceded (c ∷ []) s)) k) ≡ cond b (meets MomentTooLate) (preceded (c ∷ []) l)
+  late_or_not : (b : Bool) (c : Completed P) (s l : Course (Completed P) (World P)) (k : World P → Course (Completed P) (World P)) → over_state (staying cmp) (and_then s k) ≡ l
+      → over_state (staying cmp) (and_then (cond b (meets MomentTooLate) (preceded (c ∷ []) s)) k) ≡ cond b (meets MomentTooLate) (preceded (c ∷ []) l)
   unfolding over_state
   late_or_not true c s l k e = refl
-  late_or_not false c s l k e = ap (over_state staying) (and_then-preceded c s k) ∙ over_state-preceded staying (c ∷ []) (and_then s k) ∙ ap (preceded (c ∷ [])) e
+  late_or_not false c s l k e = ap (over_state (staying cmp)) (and_then-preceded c s k) ∙ over_state-preceded (staying cmp) (c ∷ []) (and_then s k) ∙ ap (preceded (c ∷ [])) e
 
-  nothing_first : (k : World P → Course (Completed P) (World P)) (w : World P) → over_state staying (and_then (goes [] w) k) ≡ over_state staying (k w)
-  nothing_first k w = ap (over_state staying) (preceded_none (k w))
+  nothing_first : (k : World P → Course (Completed P) (World P)) (w : World P) → over_state (staying cmp) (and_then (goes [] w) k) ≡ over_state (staying cmp) (k w)
+  nothing_first k w = ap (over_state (staying cmp)) (preceded_none (k w))
 
-  finish_alike : (n t : ℕ) (q r : List (Flight P)) (v u : World P) → q ≡ r → v ≡ u → finish_within n t q v ≡ finish_within n t r u
+  finish_alike : (n t : ℕ) (q r : List (Flight P)) (v u : World P) → q ≡ r → v ≡ u → finish_within cmp n t q v ≡ finish_within cmp n t r u
   finish_alike n t q r v u e f = rw (e, f) refl
 
   done_or_not : (b : Bool) (n t : ℕ) (fs : List (Flight P)) (v : World P) (m : Message P)
-      → finish_within n t (fs ++ cond b (flight m ∷ []) []) (record (taken v m) { sending = v.sending ++ cond (not b) (flight m ∷ []) [] })
-      ≡ cond b (finish_within n t (fs ++ flight m ∷ []) (taken v m)) (finish_within n t fs (joined v m))
-  done_or_not true n t fs v m = ap (λ (rest : List (Flight P)). finish_within n t (fs ++ flight m ∷ []) (record (taken v m) { sending = rest })) (append-nil v.sending)
-  done_or_not false n t fs v m = ap (λ (rest : List (Flight P)). finish_within n t rest (joined v m)) (append-nil fs)
+      → finish_within cmp n t (fs ++ cond b (flight cmp m ∷ []) []) (record (taken cmp v m) { sending = v.sending ++ cond (not b) (flight cmp m ∷ []) [] })
+      ≡ cond b (finish_within cmp n t (fs ++ flight cmp m ∷ []) (taken cmp v m)) (finish_within cmp n t fs (joined cmp v m))
+  done_or_not true n t fs v m = ap (λ (rest : List (Flight P)). finish_within cmp n t (fs ++ flight cmp m ∷ []) (record (taken cmp v m) { sending = rest })) (append-nil v.sending)
+  done_or_not false n t fs v m = ap (λ (rest : List (Flight P)). finish_within cmp n t rest (joined cmp v m)) (append-nil fs)
 
   -- a message starts in the one world and in the other
-  module _ (n t : ℕ) (ih : (w : World P) → OneForEachPair cmp (messages w.sending) → over_state staying (settle_within cmp n t w) ≡ finish_within n t (leaving w) (staying w)) where
-    starting : (w : World P) (fs : List (Flight P)) (v : World P) (m : Message P) → OneForEachPair cmp (messages w.sending) → list_any (same_pair cmp m) (messages w.sending) ≡ false → leaving w ≡ fs → staying w ≡ v
-        → over_state staying (and_then (start cmp w m) (settle_within cmp n t)) ≡ cond (nat_le last_moment v.next_id) (meets FlowIdsUsedUp) (cond (is_done cmp v (flight m)) (finish_within n t (fs ++ flight m ∷ []) (taken v m)) (finish_within n t fs (joined v m)))
+  module _ (n t : ℕ) (ih : (w : World P) → OneForEachPair cmp (messages w.sending) → over_state (staying cmp) (settle_within cmp n t w) ≡ finish_within cmp n t (leaving cmp w) (staying cmp w)) where
+    starting : (w : World P) (fs : List (Flight P)) (v : World P) (m : Message P) → OneForEachPair cmp (messages w.sending) → list_any (same_pair cmp m) (messages w.sending) ≡ false → leaving cmp w ≡ fs → staying cmp w ≡ v
+        → over_state (staying cmp) (and_then (start cmp w m) (settle_within cmp n t)) ≡ cond (nat_le last_moment v.next_id) (meets FlowIdsUsedUp) (cond (is_done cmp v (flight cmp m)) (finish_within cmp n t (fs ++ flight cmp m ∷ []) (taken cmp v m)) (finish_within cmp n t fs (joined cmp v m)))
     unfolding leaving staying over_state
     starting w fs v m one idle e f =
-        subst (λ (u : World P). over_state staying (and_then (start cmp w m) (settle_within cmp n t)) ≡ cond (nat_le last_moment u.next_id) (meets FlowIdsUsedUp) (cond (is_done cmp u (flight m)) (finish_within n t (fs ++ flight m ∷ []) (taken u m)) (finish_within n t fs (joined u m)))) f
+        subst (λ (u : World P). over_state (staying cmp) (and_then (start cmp w m) (settle_within cmp n t)) ≡ cond (nat_le last_moment u.next_id) (meets FlowIdsUsedUp) (cond (is_done cmp u (flight cmp m)) (finish_within cmp n t (fs ++ flight cmp m ∷ []) (taken cmp u m)) (finish_within cmp n t fs (joined cmp u m)))) f
         (by_id (nat_le last_moment w.next_id))
       where
         after : World P
-        after = record w { sending = w.sending ++ flight m ∷ []; waiting = without_first (same_pair cmp m) w.waiting; next_id = w.next_id + 1 }
+        after = record w { sending = w.sending ++ flight cmp m ∷ []; waiting = without_first (same_pair cmp m) w.waiting; next_id = w.next_id + 1 }
 
-        one_after : OneForEachPair cmp (messages (w.sending ++ flight m ∷ []))
-        one_after = subst (OneForEachPair cmp) (sym (map-append (λ (g : Flight P). g.message) w.sending (flight m ∷ []))) (one_pair_more (messages w.sending) m one idle)
+        one_after : OneForEachPair cmp (messages (w.sending ++ flight cmp m ∷ []))
+        one_after = subst (OneForEachPair cmp) (sym (map-append (λ (g : Flight P). g.message) w.sending (flight cmp m ∷ []))) (one_pair_more (messages w.sending) m one idle)
 
-        by_id : (b : Bool) → over_state staying (and_then (cond b (meets FlowIdsUsedUp) (goes [] after)) (settle_within cmp n t))
-            ≡ cond b (meets FlowIdsUsedUp) (cond (is_done cmp (staying w) (flight m)) (finish_within n t (fs ++ flight m ∷ []) (taken (staying w) m)) (finish_within n t fs (joined (staying w) m)))
+        by_id : (b : Bool) → over_state (staying cmp) (and_then (cond b (meets FlowIdsUsedUp) (goes [] after)) (settle_within cmp n t))
+            ≡ cond b (meets FlowIdsUsedUp) (cond (is_done cmp (staying cmp w) (flight cmp m)) (finish_within cmp n t (fs ++ flight cmp m ∷ []) (taken cmp (staying cmp w) m)) (finish_within cmp n t fs (joined cmp (staying cmp w) m)))
         by_id true = refl
         by_id false = nothing_first (settle_within cmp n t) after ∙ ih after one_after
-            ∙ finish_alike n t (leaving after) (fs ++ cond (is_done cmp w (flight m)) (flight m ∷ []) []) (staying after) (record (taken (staying w) m) { sending = (staying w).sending ++ cond (not (is_done cmp w (flight m))) (flight m ∷ []) [] })
-            (filter-append (is_done cmp w) w.sending (flight m ∷ []) ∙ ap (λ (q : List (Flight P)). q ++ cond (is_done cmp w (flight m)) (flight m ∷ []) []) e)
-            (ap (λ (q : List (Flight P)). record (staying after) { sending = q }) (filter-append (λ g. not (is_done cmp w g)) w.sending (flight m ∷ [])))
-            ∙ done_or_not (is_done cmp w (flight m)) n t fs (staying w) m
+            ∙ finish_alike n t (leaving cmp after) (fs ++ cond (is_done cmp w (flight cmp m)) (flight cmp m ∷ []) []) (staying cmp after) (record (taken cmp (staying cmp w) m) { sending = (staying cmp w).sending ++ cond (not (is_done cmp w (flight cmp m))) (flight cmp m ∷ []) [] })
+            (filter-append (is_done cmp w) w.sending (flight cmp m ∷ []) ∙ ap (λ (q : List (Flight P)). q ++ cond (is_done cmp w (flight cmp m)) (flight cmp m ∷ []) []) e)
+            (ap (λ (q : List (Flight P)). record (staying cmp after) { sending = q }) (filter-append (λ g. not (is_done cmp w g)) w.sending (flight cmp m ∷ [])))
+            ∙ done_or_not (is_done cmp w (flight cmp m)) n t fs (staying cmp w) m
 
     -- the pair's next starts if it may, in the one world and in the other
-    next_alike : (w : World P) (fs : List (Flight P)) (v : World P) (m : Message P) (o : Option (Message P)) → OneForEachPair cmp (messages w.sending) → list_any (same_pair cmp m) (messages w.sending) ≡ false → leaving w ≡ fs → staying w ≡ v → find (same_pair cmp m) w.waiting ≡ o
-        → over_state staying (and_then (start_next cmp t w o) (settle_within cmp n t)) ≡ launch_then (finish_within n t) t fs v o
+    next_alike : (w : World P) (fs : List (Flight P)) (v : World P) (m : Message P) (o : Option (Message P)) → OneForEachPair cmp (messages w.sending) → list_any (same_pair cmp m) (messages w.sending) ≡ false → leaving cmp w ≡ fs → staying cmp w ≡ v → find (same_pair cmp m) w.waiting ≡ o
+        → over_state (staying cmp) (and_then (start_next cmp t w o) (settle_within cmp n t)) ≡ launch_then cmp (finish_within cmp n t) t fs v o
     unfolding launch_then staying
-    next_alike w fs v m None one idle e f is = nothing_first (settle_within cmp n t) w ∙ ih w one ∙ finish_alike n t (leaving w) fs (staying w) v e f
+    next_alike w fs v m None one idle e f is = nothing_first (settle_within cmp n t) w ∙ ih w one ∙ finish_alike n t (leaving cmp w) fs (staying cmp w) v e f
     next_alike w fs v m (Some x) one idle e f is =
         let same : same_pair cmp m x ≡ true = find_passes (same_pair cmp m) x w.waiting is in
         let idle_in_w : list_any (same_pair cmp x) (messages w.sending) ≡ false = any_like m x (messages w.sending) same ∙ idle in
@@ -279,25 +242,25 @@ module _ {P : Type 0} (cmp : P → P → Ordering) (order : IsTotalOrder cmp) wh
         let in_v : may_start cmp t v x ≡ order_is = subst (λ (u : World P). may_start cmp t u x ≡ order_is) f (idle_still w x idle_in_w) in
         rw (in_w, in_v) (by_order order_is idle_in_w)
       where
-        idle_still : (w : World P) (x : Message P) → list_any (same_pair cmp x) (messages w.sending) ≡ false → may_start cmp t (staying w) x ≡ is_in_order (w.last_arrival x.origin x.recipient) (t + x.latency)
+        idle_still : (w : World P) (x : Message P) → list_any (same_pair cmp x) (messages w.sending) ≡ false → may_start cmp t (staying cmp w) x ≡ is_in_order (w.last_arrival x.origin x.recipient) (t + x.latency)
         idle_still w x h = ap (λ b. not b && is_in_order (w.last_arrival x.origin x.recipient) (t + x.latency)) (any_filter (same_pair cmp x) (λ g. not (is_done cmp w g)) w.sending h)
 
-        by_order : (b : Bool) → list_any (same_pair cmp x) (messages w.sending) ≡ false → over_state staying (and_then (cond b (start cmp w x) (goes [] w)) (settle_within cmp n t))
-            ≡ cond b (cond (nat_le last_moment v.next_id) (meets FlowIdsUsedUp) (cond (is_done cmp v (flight x)) (finish_within n t (fs ++ flight x ∷ []) (taken v x)) (finish_within n t fs (joined v x)))) (finish_within n t fs v)
+        by_order : (b : Bool) → list_any (same_pair cmp x) (messages w.sending) ≡ false → over_state (staying cmp) (and_then (cond b (start cmp w x) (goes [] w)) (settle_within cmp n t))
+            ≡ cond b (cond (nat_le last_moment v.next_id) (meets FlowIdsUsedUp) (cond (is_done cmp v (flight cmp x)) (finish_within cmp n t (fs ++ flight cmp x ∷ []) (taken cmp v x)) (finish_within cmp n t fs (joined cmp v x)))) (finish_within cmp n t fs v)
         by_order true h = starting w fs v x one h e f
-        by_order false h = nothing_first (settle_within cmp n t) w ∙ ih w one ∙ finish_alike n t (leaving w) fs (staying w) v e f
+        by_order false h = nothing_first (settle_within cmp n t) w ∙ ih w one ∙ finish_alike n t (leaving cmp w) fs (staying cmp w) v e f
 
-  as_filter : (w : World P) (q : List (Flight P)) → leaving w ≡ q → filter (is_done cmp w) w.sending ≡ q
+  as_filter : (w : World P) (q : List (Flight P)) → leaving cmp w ≡ q → filter (is_done cmp w) w.sending ≡ q
   unfolding leaving
   as_filter w q e = e
 
-  as_leaving : (w : World P) (q : List (Flight P)) → filter (is_done cmp w) w.sending ≡ q → leaving w ≡ q
+  as_leaving : (w : World P) (q : List (Flight P)) → filter (is_done cmp w) w.sending ≡ q → leaving cmp w ≡ q
   unfolding leaving
   as_leaving w q e = e
 
-  landed_alike : (t : ℕ) (w : World P) (m : Message P) → staying (record (arrived t w m) { sending = without_first (is_done cmp w) w.sending }) ≡ arrived t (staying w) m
+  landed_alike : (t : ℕ) (w : World P) (m : Message P) → staying cmp (record (arrived cmp t w m) { sending = without_first (is_done cmp w) w.sending }) ≡ arrived cmp t (staying cmp w) m
   unfolding staying
-  landed_alike t w m = ap (λ (q : List (Flight P)). record (arrived t w m) { sending = q }) (filter_without (is_done cmp w) w.sending)
+  landed_alike t w m = ap (λ (q : List (Flight P)). record (arrived cmp t w m) { sending = q }) (filter_without (is_done cmp w) w.sending)
 
   pub settle_none : (n t : ℕ) (w : World P) → find (is_done cmp w) w.sending ≡ None → settle_within cmp (suc n) t w ≡ goes [] w
   settle_none n t w e = rw (e, settle_within) refl
@@ -306,16 +269,16 @@ module _ {P : Type 0} (cmp : P → P → Ordering) (order : IsTotalOrder cmp) wh
   settle_first n t w f e = rw (e, settle_within) refl
 
   -- settling the list is finishing the queue of those that are done, and what stays is the same
-  pub settles_as_queue : (n t : ℕ) (w : World P) → OneForEachPair cmp (messages w.sending) → over_state staying (settle_within cmp n t w) ≡ finish_within n t (leaving w) (staying w)
+  pub settles_as_queue : (n t : ℕ) (w : World P) → OneForEachPair cmp (messages w.sending) → over_state (staying cmp) (settle_within cmp n t w) ≡ finish_within cmp n t (leaving cmp w) (staying cmp w)
   unfolding over_state finish_within staying
   settles_as_queue zero t w one = refl
-  settles_as_queue (suc n) t w one = by_queue (leaving w) refl (settles_as_queue n t)
+  settles_as_queue (suc n) t w one = by_queue (leaving cmp w) refl (settles_as_queue n t)
     where
-      by_queue : (q : List (Flight P)) → leaving w ≡ q → ((u : World P) → OneForEachPair cmp (messages u.sending) → over_state staying (settle_within cmp n t u) ≡ finish_within n t (leaving u) (staying u))
-          → over_state staying (settle_within cmp (suc n) t w) ≡ finish_within (suc n) t q (staying w)
-      by_queue [] e ih = ap (over_state staying) (settle_none n t w (find_none (is_done cmp w) w.sending (as_filter w [] e)))
+      by_queue : (q : List (Flight P)) → leaving cmp w ≡ q → ((u : World P) → OneForEachPair cmp (messages u.sending) → over_state (staying cmp) (settle_within cmp n t u) ≡ finish_within cmp n t (leaving cmp u) (staying cmp u))
+          → over_state (staying cmp) (settle_within cmp (suc n) t w) ≡ finish_within cmp (suc n) t q (staying cmp w)
+      by_queue [] e ih = ap (over_state (staying cmp)) (settle_none n t w (find_none (is_done cmp w) w.sending (as_filter w [] e)))
       by_queue (f ∷ fs) e ih =
           let first : (find (is_done cmp w) w.sending ≡ Some f) × (filter (is_done cmp w) (without_first (is_done cmp w) w.sending) ≡ fs) = leaving_without (is_done cmp w) f fs w.sending (as_filter w (f ∷ fs) e) in
-          ap (over_state staying) (settle_first n t w f first.0) ∙ (late_or_not (is_late t f.message) (completion t f.message) _ _ (settle_within cmp n t)
-          (next_alike n t ih (record (arrived t w f.message) { sending = without_first (is_done cmp w) w.sending }) fs (arrived t (staying w) f.message) f.message (find (same_pair cmp f.message) w.waiting)
-          (one_without (is_done cmp w) w.sending one) (pair_is_idle (is_done cmp w) f w.sending first.0 one) (as_leaving (record (arrived t w f.message) { sending = without_first (is_done cmp w) w.sending }) fs first.1) (landed_alike t w f.message) refl))
+          ap (over_state (staying cmp)) (settle_first n t w f first.0) ∙ (late_or_not (is_past cmp t f.message) (completion cmp t f.message) _ _ (settle_within cmp n t)
+          (next_alike n t ih (record (arrived cmp t w f.message) { sending = without_first (is_done cmp w) w.sending }) fs (arrived cmp t (staying cmp w) f.message) f.message (find (same_pair cmp f.message) w.waiting)
+          (one_without (is_done cmp w) w.sending one) (pair_is_idle (is_done cmp w) f w.sending first.0 one) (as_leaving (record (arrived cmp t w f.message) { sending = without_first (is_done cmp w) w.sending }) fs first.1) (landed_alike t w f.message) refl))

@@ -3,12 +3,11 @@ use Rattle.std.proofs.Common.{◌≡◌, ℕ, zero, suc, ◌+◌, ◌*◌, ◌<�
 use Rattle.std.specs.Prelude.{◌&&◌, ◌||◌, slice_get, is_none, if◌then◌else◌}
 use Rattle.std.specs.List.{flat_map}
 use Rattle.std.specs.declared.cmp.Ordering.{Ordering}
-use Rattle.std.specs.Cmp.{IsTotalOrder}
 use Rattle.std.proofs.lemmas.List.Elements.{Contains-append_left, Contains-append_right}
 use Rattle.p2p_simulated.specs.Fair.{Side, IsLimited}
 use Rattle.p2p_simulated.specs.Sides.{same_peer}
 use Rattle.p2p_simulated.specs.WorldMessages.{Message, Caps, is_delivered}
-use Rattle.p2p_simulated.specs.WorldRates.{Parts, places_from, side_of, egress_of, ingress_of, link_of, sides_for, capped_sides, is_unlimited, rates_from, AreFair}
+use Rattle.p2p_simulated.specs.WorldRates.{Parts, places_from, egress_of, ingress_of, link_of, sides_for, capped_sides, is_unlimited, rates_from, AreFair}
 use Rattle.p2p_simulated.proofs.World.OneAllocation.{same_parts}
 
 -- ---- lists

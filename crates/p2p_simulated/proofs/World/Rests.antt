@@ -1,6 +1,6 @@
 -- The number of messages is steps enough: settling ends with nothing done.
 use Rattle.std.proofs.Common.{◌≡◌, ℕ, zero, suc, ◌+◌, ◌≤◌, List, [], ◌∷◌, ◌++◌, length, Bool, true, false, cond, Option, Some, None, refl, sym, ◌∙◌, subst, arith, length-append}
-use Rattle.std.specs.Prelude.{nat_le, ⊤, ◌&&◌, nat_lt, ◌==◌, if◌then◌else◌}
+use Rattle.std.specs.Prelude.{nat_le, ◌&&◌, nat_lt, if◌then◌else◌}
 use Rattle.std.specs.List.{find}
 use Rattle.std.specs.declared.cmp.Ordering.{Ordering}
 use Rattle.std.specs.Cmp.{IsTotalOrder}
@@ -9,7 +9,6 @@ use Rattle.p2p_simulated.specs.World.{Completed, Course, Flight, World, and_then
 use Rattle.p2p_simulated.specs.WorldMessages.{Message, is_delivered, same_pair}
 use Rattle.p2p_simulated.specs.declared.error.Error.TheVariants.{FlowIdsUsedUp, MomentTooLate}
 use Rattle.p2p_simulated.proofs.World.Queue.{pair_like, settle_none, settle_first, find_passes}
-
 
 pub ends_preceded : {X S : Type 0} (Q : S → Type 0) (xs : List X) (c : Course X S) → EndsWith Q c → EndsWith Q (preceded xs c)
 ends_preceded Q xs (goes ys s) h = h

@@ -1,8 +1,8 @@
 -- Ticking for a while and then for another is ticking for both.
-use Rattle.std.proofs.Common.{◌≡◌, ℕ, suc, ◌+◌, List, [], ◌++◌, refl, sym, ap, ◌∙◌, subst, arith, append_assoc}
+use Rattle.std.proofs.Common.{◌≡◌, ℕ, zero, suc, ◌+◌, List, [], ◌++◌, refl, sym, ap, ◌∙◌, subst, arith, append_assoc}
 use Rattle.std.specs.declared.cmp.Ordering.{Ordering}
 use Rattle.p2p_simulated.specs.World.{Completed, Course, World, goes, meets, preceded}
-use Rattle.p2p_simulated.specs.WorldTime.{Ticks, no_tick, one_tick, tick_faults}
+use Rattle.p2p_simulated.specs.WorldTime.{Ticks, no_tick, one_tick, tick_faults, Continues}
 use Rattle.p2p_simulated.specs.declared.error.Error.{Error}
 
 module _ {P : Type 0} (cmp : P → P → Ordering) where
@@ -46,3 +46,24 @@ module _ {P : Type 0} (cmp : P → P → Ordering) where
       let count : suc (b + n) ≡ b + suc n = omega arith in
       let same : f ≡ fault = cc in
       subst (λ (k : ℕ). Ticks cmp k w (meets fault)) count (subst (λ (g : Error). Ticks cmp (suc (b + n)) w (meets g)) same (tick_faults d i))
+
+  continued : (cs : List (Completed P)) (first rest : Course (Completed P) (World P)) (b : ℕ) → Continues cmp b first rest → Continues cmp b (preceded cs first) (preceded cs rest)
+  continued cs (goes ds v) rest b (more, t, e) = (more, t, ap (preceded cs) e ∙ preceded_append cs ds more)
+  continued cs (meets fault) rest b e = ap (preceded cs) e
+
+  -- ticking for both is ticking for a while and then for another
+  pub ticks_apart : {k : ℕ} {w : World P} {course : Course (Completed P) (World P)} → Ticks cmp k w course → (a b : ℕ) → k ≡ a + b → (first : Course (Completed P) (World P)) × Ticks cmp a w first × Continues cmp b first course
+  ticks_apart {k = k} {w = w} {course = course} t zero b e = let count : k ≡ b = omega arith in (goes [] w, no_tick, (course, subst (λ (n : ℕ). Ticks cmp n w course) count t, preceded_none course))
+  ticks_apart no_tick (suc a) b e = absurd (omega arith)
+  ticks_apart (one_tick {n = n} {u = u} {cs = cs} {rest = rest} d i t) (suc a) b e =
+      let ih : (first : Course (Completed P) (World P)) × Ticks cmp a u first × Continues cmp b first rest = ticks_apart {k = n} {w = u} {course = rest} t a b (omega arith) in
+      (preceded cs ih.0, one_tick d i ih.1, continued cs ih.0 rest b ih.2)
+  ticks_apart (tick_faults {fault = fault} d i) (suc a) b e = (meets fault, tick_faults d i, refl)
+
+  pub ticks_both : (a b : ℕ) (w : World P) (first course : Course (Completed P) (World P)) → Ticks cmp a w first → Continues cmp b first course → Ticks cmp (a + b) w course
+  ticks_both a b w (goes cs v) course t (rest, more, e) =
+      let count : b + a ≡ a + b = omega arith in
+      subst (λ (n : ℕ). Ticks cmp n w course) count (subst (λ (c : Course (Completed P) (World P)). Ticks cmp (b + a) w c) (sym e) (ticks_on t b v cs rest refl more))
+  ticks_both a b w (meets fault) course t e =
+      let count : b + a ≡ a + b = omega arith in
+      subst (λ (n : ℕ). Ticks cmp n w course) count (subst (λ (c : Course (Completed P) (World P)). Ticks cmp (b + a) w c) (sym e) (ticks_stop t b fault refl))

@@ -11,7 +11,8 @@ use Rattle.p2p_simulated.specs.WorldMessages.{Message, OneForEachPair, SameMessa
 use Rattle.p2p_simulated.specs.WorldPlanned.{Planned, next_of}
 use Rattle.p2p_simulated.specs.WorldReplies.{SameCompletion}
 use Rattle.p2p_simulated.specs.WorldStands.{CoursesAlike, Follows, IsSettled}
-use Rattle.p2p_simulated.proofs.World.Queue.{then_then, staying, flight, taken, joined, finish_within}
+use Rattle.p2p_simulated.specs.WorldQueue.{staying, flight, taken, joined, finish_within}
+use Rattle.p2p_simulated.proofs.World.Queue.{then_then}
 use Rattle.p2p_simulated.proofs.World.Between.{Each, each_filtered, IsFront, fronts_first, first_found}
 use Rattle.p2p_simulated.proofs.World.Launch.{NoneDone, joining, started, joining_leaves, started_stays, OptionsAlike, next_alike, StartsSo, StartAlike, start_alike}
 use Rattle.p2p_simulated.proofs.World.Instant.{CourseAlike, looked, finishes_alike, settle_is_finish}
@@ -37,19 +38,19 @@ module _ {P : Type 0} (cmp : P → P → Ordering) (order : IsTotalOrder cmp) wh
   pub own_pair : (y : Message P) → same_pair cmp y y ≡ true
   own_pair y = rw (same_itself cmp order y.origin, same_itself cmp order y.recipient) refl
 
-  pub round_is : (t : ℕ) (w : World P) (y : Message P) → NoneDone cmp order w → OneForEachPair cmp (flows (joined cmp order w y))
-      → settle cmp t (joined cmp order w y) ≡ finish_within cmp order (length (joined cmp order w y).sending + length (joined cmp order w y).waiting) t (joining cmp order w y) (started cmp order w y)
-  round_is t w y none one = settle_is_finish cmp order t (joined cmp order w y) one
-      ∙ ap (λ (q : List (Flight P)). finish_within cmp order (length (joined cmp order w y).sending + length (joined cmp order w y).waiting) t q (staying cmp order (joined cmp order w y))) (joining_leaves cmp order w y none)
-      ∙ ap (λ (v : World P). finish_within cmp order (length (joined cmp order w y).sending + length (joined cmp order w y).waiting) t (joining cmp order w y) v) (started_stays cmp order w y none)
+  pub round_is : (t : ℕ) (w : World P) (y : Message P) → NoneDone cmp order w → OneForEachPair cmp (flows (joined cmp w y))
+      → settle cmp t (joined cmp w y) ≡ finish_within cmp (length (joined cmp w y).sending + length (joined cmp w y).waiting) t (joining cmp order w y) (started cmp order w y)
+  round_is t w y none one = settle_is_finish cmp order t (joined cmp w y) one
+      ∙ ap (λ (q : List (Flight P)). finish_within cmp (length (joined cmp w y).sending + length (joined cmp w y).waiting) t q (staying cmp (joined cmp w y))) (joining_leaves cmp order w y none)
+      ∙ ap (λ (v : World P). finish_within cmp (length (joined cmp w y).sending + length (joined cmp w y).waiting) t (joining cmp order w y) v) (started_stays cmp order w y none)
 
-  pub round_fuel : (w : World P) (y : Message P) → length (joining cmp order w y) + length (started cmp order w y).waiting ≤ length (joined cmp order w y).sending + length (joined cmp order w y).waiting
+  pub round_fuel : (w : World P) (y : Message P) → length (joining cmp order w y) + length (started cmp order w y).waiting ≤ length (joined cmp w y).sending + length (joined cmp w y).waiting
   round_fuel w y =
-      let many : length (w.sending ++ flight cmp order y ∷ []) ≡ length w.sending + 1 = length-append w.sending (flight cmp order y ∷ []) in
-      by_test (is_done cmp w (flight cmp order y)) many
+      let many : length (w.sending ++ flight cmp y ∷ []) ≡ length w.sending + 1 = length-append w.sending (flight cmp y ∷ []) in
+      by_test (is_done cmp w (flight cmp y)) many
     where
-      by_test : (b : Bool) → length (w.sending ++ flight cmp order y ∷ []) ≡ length w.sending + 1
-          → length (cond b (flight cmp order y ∷ []) []) + length (cond b (taken cmp order w y) (joined cmp order w y)).waiting ≤ length (w.sending ++ flight cmp order y ∷ []) + length (without_first (same_pair cmp y) w.waiting)
+      by_test : (b : Bool) → length (w.sending ++ flight cmp y ∷ []) ≡ length w.sending + 1
+          → length (cond b (flight cmp y ∷ []) []) + length (cond b (taken cmp w y) (joined cmp w y)).waiting ≤ length (w.sending ++ flight cmp y ∷ []) + length (without_first (same_pair cmp y) w.waiting)
       by_test true h = omega arith
       by_test false h = omega arith
 
@@ -57,33 +58,33 @@ module _ {P : Type 0} (cmp : P → P → Ordering) (order : IsTotalOrder cmp) wh
   abbrev pub IsRound : ℕ → Message P → World P → World P → Type 0
   IsRound t y w v = IsAfter cmp order y t w v × (length v.waiting + 1 ≤ length w.waiting)
 
-  round_after : (t : ℕ) (w : World P) (y : Message P) → NoneDone cmp order w → OneForEachPair cmp (flows (joined cmp order w y)) → find (same_pair cmp y) w.waiting ≡ Some y → EndsWith (IsRound t y w) (settle cmp t (joined cmp order w y))
+  round_after : (t : ℕ) (w : World P) (y : Message P) → NoneDone cmp order w → OneForEachPair cmp (flows (joined cmp w y)) → find (same_pair cmp y) w.waiting ≡ Some y → EndsWith (IsRound t y w) (settle cmp t (joined cmp w y))
   round_after t w y none one found =
       subst (λ (c : Course (Completed P) (World P)). EndsWith (IsRound t y w) c) (sym (round_is t w y none one))
       (ends_so (IsAfter cmp order y t (started cmp order w y)) (IsRound t y w) _ (λ v after. both v after (length_without (same_pair cmp y) y w.waiting found))
-      (finish_only cmp order y (length (joined cmp order w y).sending + length (joined cmp order w y).waiting) t (joining cmp order w y) (started cmp order w y) (own_joining (is_done cmp w (flight cmp order y))) (round_fuel w y) (rests (is_done cmp w (flight cmp order y)))))
+      (finish_only cmp order y (length (joined cmp w y).sending + length (joined cmp w y).waiting) t (joining cmp order w y) (started cmp order w y) (own_joining (is_done cmp w (flight cmp y))) (round_fuel w y) (rests (is_done cmp w (flight cmp y)))))
     where
-      own_joining : (b : Bool) → Each (λ (f : Flight P). same_pair cmp y f.message ≡ true) (cond b (flight cmp order y ∷ []) [])
+      own_joining : (b : Bool) → Each (λ (f : Flight P). same_pair cmp y f.message ≡ true) (cond b (flight cmp y ∷ []) [])
       own_joining true = (own_pair y, tt)
       own_joining false = tt
 
-      rests : (b : Bool) → cond b (flight cmp order y ∷ []) [] ≡ [] → IsRested cmp order y t (cond b (taken cmp order w y) (joined cmp order w y))
+      rests : (b : Bool) → cond b (flight cmp y ∷ []) [] ≡ [] → IsRested cmp order y t (cond b (taken cmp w y) (joined cmp w y))
       rests true e = cc
       rests false e = rested_joined cmp order y t w y (own_pair y)
 
-      only : (b : Bool) → OnlyPair cmp order y w (cond b (taken cmp order w y) (joined cmp order w y))
+      only : (b : Bool) → OnlyPair cmp order y w (cond b (taken cmp w y) (joined cmp w y))
       only true = only_taken cmp order y w y (own_pair y)
       only false = only_joined cmp order y w y (own_pair y)
 
-      waits : (b : Bool) → length (cond b (taken cmp order w y) (joined cmp order w y)).waiting ≡ length (without_first (same_pair cmp y) w.waiting)
+      waits : (b : Bool) → length (cond b (taken cmp w y) (joined cmp w y)).waiting ≡ length (without_first (same_pair cmp y) w.waiting)
       waits true = refl
       waits false = refl
 
       both : (v : World P) → IsAfter cmp order y t (started cmp order w y) v → length (without_first (same_pair cmp y) w.waiting) + 1 ≡ length w.waiting → IsRound t y w v
       both v after fewer =
           let less : length v.waiting ≤ length (started cmp order w y).waiting = after.0.fewer in
-          let some : length (started cmp order w y).waiting ≡ length (without_first (same_pair cmp y) w.waiting) = waits (is_done cmp w (flight cmp order y)) in
-          ((only_both cmp order y w (started cmp order w y) v (only (is_done cmp w (flight cmp order y))) after.0, after.1), omega arith)
+          let some : length (started cmp order w y).waiting ≡ length (without_first (same_pair cmp y) w.waiting) = waits (is_done cmp w (flight cmp y)) in
+          ((only_both cmp order y w (started cmp order w y) v (only (is_done cmp w (flight cmp y))) after.0, after.1), omega arith)
 
   -- ---- the order of the pairs
 
@@ -111,9 +112,9 @@ module _ {P : Type 0} (cmp : P → P → Ordering) (order : IsTotalOrder cmp) wh
   preceded_none (goes cs v) = refl
   preceded_none (meets fault) = refl
 
-  wake_round : (n t : ℕ) (w : World P) (y : Message P) (c : Course (Completed P) (World P)) → least_pair cmp (ready cmp t w) ≡ Some y → start cmp w y ≡ goes [] (joined cmp order w y) → settle cmp t (joined cmp order w y) ≡ c → wake_within cmp (suc n) t w ≡ and_then c (wake_within cmp n t)
+  wake_round : (n t : ℕ) (w : World P) (y : Message P) (c : Course (Completed P) (World P)) → least_pair cmp (ready cmp t w) ≡ Some y → start cmp w y ≡ goes [] (joined cmp w y) → settle cmp t (joined cmp w y) ≡ c → wake_within cmp (suc n) t w ≡ and_then c (wake_within cmp n t)
   wake_round n t w y c least starts e =
-      wake_some n t w y least ∙ ap (λ (d : Course (Completed P) (World P)). and_then d (λ v. and_then (settle cmp t v) (wake_within cmp n t))) starts ∙ preceded_none (and_then (settle cmp t (joined cmp order w y)) (wake_within cmp n t)) ∙ ap (λ (d : Course (Completed P) (World P)). and_then d (wake_within cmp n t)) e
+      wake_some n t w y least ∙ ap (λ (d : Course (Completed P) (World P)). and_then d (λ v. and_then (settle cmp t v) (wake_within cmp n t))) starts ∙ preceded_none (and_then (settle cmp t (joined cmp w y)) (wake_within cmp n t)) ∙ ap (λ (d : Course (Completed P) (World P)). and_then d (wake_within cmp n t)) e
 
   pub preceded_by : (R : Planned P → World P → Type 0) (cs ds : List (Completed P)) (x : Course (Completed P) (Planned P)) (c : Course (Completed P) (World P)) → AllZip (SameCompletion cmp) cs ds → CoursesAlike cmp R x c → CoursesAlike cmp R (preceded cs x) (preceded ds c)
   preceded_by R cs ds (goes es q) (goes fs v) all h = (zips_joined (SameCompletion cmp) cs ds es fs all h.0, h.1)
@@ -144,10 +145,10 @@ module _ {P : Type 0} (cmp : P → P → Ordering) (order : IsTotalOrder cmp) wh
   launch_starts {t = t} {m = m} {p = p} launch w y follows none next same =
       start_alike cmp order launch w y follows none next.may next.found (subst (λ (o : Option (Message P)). OptionsAlike (SameMessage cmp) (next_of cmp p m) o) next.found (next_alike cmp order t p w m y follows.tallies same))
 
-  pub round_alike : {t : ℕ} {more : List (Message P)} {q : Planned P} {course : Course (Completed P) (Planned P)} → Finishes cmp t more q course → (w : World P) (y : Message P) → NoneDone cmp order w → StartsSo cmp order t w y more q → CourseAlike cmp order t course (settle cmp t (joined cmp order w y))
+  pub round_alike : {t : ℕ} {more : List (Message P)} {q : Planned P} {course : Course (Completed P) (Planned P)} → Finishes cmp t more q course → (w : World P) (y : Message P) → NoneDone cmp order w → StartsSo cmp order t w y more q → CourseAlike cmp order t course (settle cmp t (joined cmp w y))
   round_alike {t = t} {course = course} finish w y none so =
       subst (λ (c : Course (Completed P) (World P)). CourseAlike cmp order t course c) (sym (round_is t w y none so.one_each))
-      (finishes_alike cmp order finish (length (joined cmp order w y).sending + length (joined cmp order w y).waiting) (joining cmp order w y) (started cmp order w y) so.follows so.none so.leaves (round_fuel w y))
+      (finishes_alike cmp order finish (length (joined cmp w y).sending + length (joined cmp w y).waiting) (joining cmp order w y) (started cmp order w y) so.follows so.none so.leaves (round_fuel w y))
 
   no_fuel : (t : ℕ) (w : World P) (y : Message P) → IsNext t w y → length w.waiting ≤ 0 → ⊥
   no_fuel t w y next fuel = let fewer : length (without_first (same_pair cmp y) w.waiting) + 1 ≡ length w.waiting = length_without (same_pair cmp y) y w.waiting next.found in omega arith
@@ -162,18 +163,18 @@ module _ {P : Type 0} (cmp : P → P → Ordering) (order : IsTotalOrder cmp) wh
   wakes_alike {t = t} (no_finish launch finish) zero w follows none picks fuel = absurd (no_fuel t w picks.0 (next_is t w picks.0 picks.1) fuel)
   wakes_alike {t = t} (no_finish {more = more} {q = q} {fault = fault} launch finish) (suc n) w follows none picks fuel =
       let so : StartsSo cmp order t w picks.0 more q = launch_starts launch w picks.0 follows none (next_is t w picks.0 picks.1) picks.2 in
-      by_course so.starts (settle cmp t (joined cmp order w picks.0)) refl (round_alike finish w picks.0 none so)
+      by_course so.starts (settle cmp t (joined cmp w picks.0)) refl (round_alike finish w picks.0 none so)
     where
-      by_course : start cmp w picks.0 ≡ goes [] (joined cmp order w picks.0) → (c : Course (Completed P) (World P)) → settle cmp t (joined cmp order w picks.0) ≡ c → CourseAlike cmp order t (meets fault) c → CoursesAlike cmp (IsWoken t) (meets fault) (wake_within cmp (suc n) t w)
+      by_course : start cmp w picks.0 ≡ goes [] (joined cmp w picks.0) → (c : Course (Completed P) (World P)) → settle cmp t (joined cmp w picks.0) ≡ c → CourseAlike cmp order t (meets fault) c → CoursesAlike cmp (IsWoken t) (meets fault) (wake_within cmp (suc n) t w)
       by_course starts (goes ds v) e h = absurd h
       by_course starts (meets g) e h = subst (λ (c : Course (Completed P) (World P)). CoursesAlike cmp (IsWoken t) (meets fault) c) (sym (wake_round n t w picks.0 (meets g) picks.1 starts e)) h
   wakes_alike {t = t} (starts_one launch finish wakes) zero w follows none picks fuel = absurd (no_fuel t w picks.0 (next_is t w picks.0 picks.1) fuel)
   wakes_alike {t = t} (starts_one {m = m} {ms = ms} {more = more} {q = q} {r = r} {cs = cs} {rest = rest} launch finish wakes) (suc n) w follows none picks fuel =
       let next : IsNext t w picks.0 = next_is t w picks.0 picks.1 in
       let so : StartsSo cmp order t w picks.0 more q = launch_starts launch w picks.0 follows none next picks.2 in
-      by_course so.starts (settle cmp t (joined cmp order w picks.0)) refl (round_alike finish w picks.0 none so) (round_after t w picks.0 none so.one_each next.found) (wakes_alike wakes n)
+      by_course so.starts (settle cmp t (joined cmp w picks.0)) refl (round_alike finish w picks.0 none so) (round_after t w picks.0 none so.one_each next.found) (wakes_alike wakes n)
     where
-      by_course : start cmp w picks.0 ≡ goes [] (joined cmp order w picks.0) → (c : Course (Completed P) (World P)) → settle cmp t (joined cmp order w picks.0) ≡ c → CourseAlike cmp order t (goes cs r) c → EndsWith (IsRound t picks.0 w) c
+      by_course : start cmp w picks.0 ≡ goes [] (joined cmp w picks.0) → (c : Course (Completed P) (World P)) → settle cmp t (joined cmp w picks.0) ≡ c → CourseAlike cmp order t (goes cs r) c → EndsWith (IsRound t picks.0 w) c
           → ((v : World P) → Follows cmp t r v → NoneDone cmp order v → Picks (ready cmp t v) ms → length v.waiting ≤ n → CoursesAlike cmp (IsWoken t) rest (wake_within cmp n t v))
           → CoursesAlike cmp (IsWoken t) (preceded cs rest) (wake_within cmp (suc n) t w)
       by_course starts (meets g) e h after ih = absurd h
