@@ -25,6 +25,20 @@ impl Ratio {
         None
     }
 
+    /// The numerator in lowest terms.
+    pub fn numerator(self) -> u128
+        ensures { result ≡ self.numerator }
+    {
+        self.numerator
+    }
+
+    /// The denominator in lowest terms, which is above zero.
+    pub fn denominator(self) -> u128
+        ensures { result ≡ self.denominator }
+    {
+        self.denominator
+    }
+
     pub fn checked_add(self, other: Ratio) -> Option<Ratio>
         ensures value { IfSome result (λ sum. IsWorth sum (plus (amount_of self) (amount_of other))) }
     {
