@@ -3,5 +3,6 @@
 
 pub mod bandwidth;
 pub mod error;
+pub mod linkrun;
 pub mod peer;
 pub mod ratio;
