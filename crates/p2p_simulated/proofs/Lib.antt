@@ -1,1 +1,4 @@
 pub mod Callable
+pub mod Numerals
+pub mod Splitting
+pub mod Wording

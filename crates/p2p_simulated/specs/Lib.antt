@@ -5,4 +5,6 @@ pub mod Fair
 pub mod Fraction
 pub mod Rates
 pub mod Ratio
+pub mod Script
 pub mod Sides
+pub mod Words
