@@ -67,6 +67,10 @@ begins_with_digit n small =
     let range = digit_at (decimal n) 0 numeral.1 numeral.0 in
     omega arith
 
+-- the bytes of a number are digits
+pub digits_of_number : (n : ℕ) → n < 2 ^ 128 → AllDigits 10 (decimal n)
+digits_of_number n small = (decimal_is_IsNumeral_wide n (omega arith)).0.1
+
 -- no number begins with a sign
 pub no_sign : (word : List ℕ) (n : ℕ) → n < 2 ^ 128 → get_or word 0 0 ≡ 43 → word ≡ decimal n → ⊥
 no_sign word n small sign is = omega (arith, begins_with_digit n small, ap (λ w. get_or w 0 0) is)

@@ -1,4 +1,8 @@
 //! The commands of a script.
+ghost use Rattle.std.specs.Prelude.{◌≡◌, ◌↔◌, Some};
+ghost use Rattle.p2p_simulated.specs.Script.{Takes, line_of, command_words, flow_words, IsInRange, IsFlowInRange};
+ghost use Rattle.p2p_simulated.specs.Words.{words_left};
+
 use crate::bandwidth::Flow;
 use crate::linkrun::word::Words;
 
@@ -16,31 +20,42 @@ pub(crate) enum Command {
 }
 
 impl Command {
-    /// The command that a line says, where it is of the language.
-    pub(crate) fn parse(line: &[u8]) -> Option<Command> {
+    /// The command that a line says, where the line is of the language.
+    pub(crate) fn parse(line: &[u8]) -> Option<Command>
+        ensures { (command : Command) → (result ≡ Some command) ↔ ((line.now ≡ line_of command) × IsInRange command) }
+    {
         let mut words = Words::of(str::from_utf8(line).ok()?);
-        let command = match words.next()? {
-            "flow" => Command::Flow(flow(&mut words)?),
-            "egress" => Command::Egress {
-                peer: words.number()?,
-                cap: words.cap()?,
-            },
-            "ingress" => Command::Ingress {
-                peer: words.number()?,
-                cap: words.cap()?,
-            },
-            "rates" => Command::Rates,
-            _ => return None,
-        };
+        let command = Command::take(&mut words)?;
         match words.next() {
             None => Some(command),
             Some(_) => None,
         }
     }
+
+    /// Takes the words of a command.
+    fn take(words: &mut Words<'_>) -> Option<Command>
+        ensures { Takes command_words IsInRange (words_left words.old) result (words_left words.new) }
+    {
+        match words.next()? {
+            "flow" => Some(Command::Flow(flow(words)?)),
+            "egress" => Some(Command::Egress {
+                peer: words.number()?,
+                cap: words.cap()?,
+            }),
+            "ingress" => Some(Command::Ingress {
+                peer: words.number()?,
+                cap: words.cap()?,
+            }),
+            "rates" => Some(Command::Rates),
+            _ => None,
+        }
+    }
 }
 
-/// The flow that the next words say.
-fn flow(words: &mut Words<'_>) -> Option<Flow<u64>> {
+/// Takes the words of a flow.
+fn flow(words: &mut Words<'_>) -> Option<Flow<u64>>
+    ensures { Takes flow_words IsFlowInRange (words_left words.old) result (words_left words.new) }
+{
     Some(Flow {
         id: words.number()?,
         origin: words.number()?,
