@@ -1,4 +1,5 @@
 pub mod Callable
 pub mod Numerals
+pub mod Reading
 pub mod Splitting
 pub mod Wording

@@ -3,8 +3,11 @@ pub mod Answers
 pub mod Code
 pub mod Fair
 pub mod Fraction
+pub mod Lines
+pub mod Outcome
 pub mod Rates
 pub mod Ratio
 pub mod Script
+pub mod Session
 pub mod Sides
 pub mod Words

@@ -1,4 +1,7 @@
 //! Scripts of flows and caps, run line by line.
+ghost use Rattle.std.specs.Prelude.{◌≡◌, Some};
+ghost use Rattle.p2p_simulated.specs.Outcome.{status_of, message_of};
+
 mod answer;
 mod command;
 mod line;
@@ -29,7 +32,9 @@ pub enum Outcome {
 
 impl Outcome {
     /// The status with which a program ends after this outcome.
-    pub fn status(self) -> u8 {
+    pub fn status(self) -> u8
+        ensures { result ≡ status_of self }
+    {
         match self {
             Outcome::Whole => 0,
             Outcome::InputOutput | Outcome::NoMemory => 1,
@@ -40,6 +45,8 @@ impl Outcome {
 
 /// What a program says of the outcome, without a byte at its end, and nothing after a whole script.
 impl fmt::Display for Outcome {
+    ghost output = { λ outcome. Some (message_of outcome) };
+
     fn fmt<W: fmt::Write>(&self, f: &mut fmt::Formatter<W>) -> fmt::Result {
         match self {
             Outcome::Whole => write!(f, ""),

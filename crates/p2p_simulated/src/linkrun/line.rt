@@ -1,4 +1,7 @@
 //! The lines of a script, read as a stream.
+ghost use Rattle.std.specs.Prelude.{IfOk, IfSome, length};
+ghost use Rattle.p2p_simulated.specs.Lines.{IsLengthOf, LacksEndByte, IsFrontOf, IsCut};
+
 use std::io;
 use std::io::{BufRead, Read};
 
@@ -24,17 +27,30 @@ pub(crate) enum LineEnd {
 
 /// Reads the next line, without its end byte, in the place of what `line` held. It takes memory
 /// only where `line` has no room for 257 bytes.
-pub(crate) fn read_line<B: BufRead>(input: &mut B, line: &mut Vec<u8>) -> io::Result<LineEnd> {
+pub(crate) fn read_line<B: BufRead>(input: &mut B, line: &mut Vec<u8>) -> io::Result<LineEnd>
+    ensures length { IfOk result (λ end. IsLengthOf end (length line.new.items)) }
+    ensures one_line { IfOk result (λ _. LacksEndByte line.new.items) }
+    ensures front { IfOk result (λ end. IfSome (B.remaining input.old) (IsFrontOf end line.new.items)) }
+{
     line.clear();
-    let mut front = input.by_ref().take(MOST_READ as u64);
+    let mut front = (&mut *input).take(MOST_READ as u64);
     front.read_until(NEWLINE, line)?;
-    if line.last() == Some(&NEWLINE) {
-        line.pop();
-        return Ok(LineEnd::Newline);
-    }
+    let end = cut_end(line);
     if line.len() > MOST_BYTES {
         Ok(LineEnd::TooLong)
     } else {
-        Ok(LineEnd::Input)
+        Ok(end)
+    }
+}
+
+/// Takes the end byte off what was read of a line, if it is there.
+fn cut_end(line: &mut Vec<u8>) -> LineEnd
+    ensures { IsCut result line.old.items line.new.items }
+{
+    if line.ends_with(&[NEWLINE]) {
+        line.pop();
+        LineEnd::Newline
+    } else {
+        LineEnd::Input
     }
 }

@@ -1,4 +1,9 @@
 //! What a script has said so far.
+ghost use Rattle.std.specs.Prelude.{◌≡◌, ℕ, [], None, OnOk, OnErr};
+ghost use Rattle.std.specs.Ordering.{nat_cmp};
+ghost use Rattle.std.specs.BTreeMap.{get, IsUnchanged};
+ghost use Rattle.p2p_simulated.specs.Session.{Says, SaysSame, SaysAfter, with_cap};
+
 use crate::bandwidth;
 use crate::bandwidth::{Flow, Rate};
 use crate::error::Error;
@@ -18,7 +23,9 @@ pub(crate) struct Session {
 
 impl Session {
     /// Nothing is said.
-    pub(crate) fn new(alloc: Global) -> Session {
+    pub(crate) fn new(alloc: Global) -> Session
+        ensures { Says result [] (λ _. None) (λ _. None) }
+    {
         Session {
             alloc,
             flows: Vec::new(alloc),
@@ -28,7 +35,10 @@ impl Session {
     }
 
     /// Does what a command says. A command that is refused changes nothing.
-    pub(crate) fn perform(&mut self, command: Command) -> Result<Answer, Error> {
+    pub(crate) fn perform(&mut self, command: Command) -> Result<Answer, Error>
+        ensures done { OnOk result (SaysAfter command self.old self.new) }
+        ensures refused { OnErr result (SaysSame self.old self.new) }
+    {
         match command {
             Command::Flow(flow) => self.flows.push(flow)?,
             Command::Egress { peer, cap } => set_cap(&mut self.egress, peer, cap)?,
@@ -50,7 +60,10 @@ impl Session {
 }
 
 /// Sets a peer's cap, or removes it.
-fn set_cap(caps: &mut BTreeMap<u64, u128>, peer: u64, cap: Option<u128>) -> Result<(), Error> {
+fn set_cap(caps: &mut BTreeMap<u64, u128>, peer: u64, cap: Option<u128>) -> Result<(), Error>
+    ensures set { OnOk result ((p : ℕ) → get nat_cmp caps.new p ≡ with_cap (get nat_cmp caps.old) peer cap p) }
+    ensures refused { OnErr result (IsUnchanged caps.old caps.new) }
+{
     match cap {
         Some(cap) => {
             caps.insert(peer, cap)?;
