@@ -1,8 +1,13 @@
+pub mod Callable
 pub mod Denominators
 pub mod Draining
 pub mod Fairness
 pub mod Filling
 pub mod FractionFits
+pub mod Numerals
 pub mod Ratios
+pub mod Reading
+pub mod Splitting
 pub mod Times
+pub mod Wording
 pub mod World

@@ -8,11 +8,16 @@ pub mod Filling
 pub mod Fits
 pub mod Fraction
 pub mod Laws
+pub mod Lines
+pub mod Outcome
 pub mod PeerCaps
 pub mod Rates
 pub mod Ratio
+pub mod Script
+pub mod Session
 pub mod Sides
 pub mod Time
+pub mod Words
 pub mod World
 pub mod WorldCalls
 pub mod WorldEvents
