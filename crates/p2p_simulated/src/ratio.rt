@@ -29,29 +29,7 @@ impl Ord for Ratio {
 
     ghost total = { fraction_total (λ x. x.numerator) (λ x. x.denominator) (λ x. x.positive) };
 
-<<<<<<< HEAD
     ghost matches_partial_cmp = { λ x y. refl };
-=======
-    /// The numerator in lowest terms.
-    pub fn numerator(self) -> u128
-        ensures { result ≡ self.numerator }
-    {
-        self.numerator
-    }
-
-    /// The denominator in lowest terms, which is above zero.
-    pub fn denominator(self) -> u128
-        ensures { result ≡ self.denominator }
-    {
-        self.denominator
-    }
-
-    pub fn checked_add(self, other: Ratio) -> Option<Ratio>
-        ensures value { IfSome result (λ sum. IsWorth sum (plus (amount_of self) (amount_of other))) }
-    {
-        None
-    }
->>>>>>> 7e57e0cdc6d9ac2e6286e595bd6cf3b9d4369089
 
     ghost matches_eq = { λ x y. fraction_cmp-Equal x.numerator x.denominator y.numerator y.denominator x.positive y.positive x.reduced y.reduced };
 
