@@ -13,6 +13,7 @@ pub mod Outcome
 pub mod PeerCaps
 pub mod Rates
 pub mod Ratio
+pub mod Registering
 pub mod Script
 pub mod Session
 pub mod Sides
