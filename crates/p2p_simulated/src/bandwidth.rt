@@ -8,18 +8,22 @@ ghost use Rattle.p2p_simulated.specs.Answers.{Answered, States, AnswerInOrder, N
 ghost use Rattle.p2p_simulated.specs.Sides.{sides_of};
 ghost use Rattle.p2p_simulated.specs.Rates.{AreFairRates, last_rate};
 
+mod equality;
 mod filling;
 pub mod laws;
 mod sides;
 mod time;
 
-pub use time::{draining_splits, duration, nothing_is_left_from_the_least_time_on, there_is_one_least_time, transfer};
-
 use crate::error::Error;
 use crate::peer::Peer;
 use crate::ratio::Ratio;
+pub use equality::rates_are_equal_by_value;
 use std::alloc::Global;
 use std::collections::BTreeMap;
+pub use time::{
+    draining_splits, duration, nothing_is_left_from_the_least_time_on, there_is_one_least_time,
+    transfer,
+};
 
 /// Something that goes from one peer to another.
 #[derive(Debug, Drop)]
