@@ -69,11 +69,12 @@ covers_if_spent left rate n h j spent =
 
 -- at a rate above zero, from the least time on
 pub spent_from_least : (left rate : Amount) (least n : ℕ) → 0 < left.den → 0 < rate.den → IsLeastTime rate left least → ((drained left rate n).num ≡ 0) ↔ (least ≤ n)
-spent_from_least left rate least n h j time =
-    (λ e. time.least n (covers_if_spent left rate n h j e),
-      λ le. let more : least * (rate.num * left.den) ≤ n * (rate.num * left.den) = mul-le-mul_right (rate.num * left.den) le in
-          let enough : Covers rate least left = time.covers in
-          spent_if_covers left rate n h j (omega arith))
+spent_from_least left rate least n h j time = (
+  λ e. time.least n (covers_if_spent left rate n h j e),
+  λ le. let more : least * (rate.num * left.den) ≤ n * (rate.num * left.den) = mul-le-mul_right (rate.num * left.den) le in
+      let enough : Covers rate least left = time.covers in
+      spent_if_covers left rate n h j (omega arith),
+)
 
 -- ---- the least time
 

@@ -3,7 +3,10 @@ use Rattle.std.proofs.Common.{◌≡◌, ℕ, ◌+◌, ◌-◌, ◌*◌, ◌<◌
 use Rattle.std.proofs.Math.Nat.{zero-mul, mul-zero, mul-sub, mul_comm, mul-pos, eq_of_mul-eq-mul_right, le_of_mul-le-mul_right}
 use Rattle.p2p_simulated.specs.Amount.{Amount, AreEqual, whole, minus, times, reduced, drained, billion, Covers, IsLeastTime}
 use Rattle.p2p_simulated.specs.Fits.{ReducedFits, DifferenceFits}
-use Rattle.p2p_simulated.specs.Time.{seconds, taken}
+use Rattle.p2p_simulated.specs.Time.{seconds, taken, left_after}
+use Rattle.p2p_simulated.specs.declared.bandwidth.Rate.{Rate}
+use Rattle.p2p_simulated.specs.declared.bandwidth.Rate.TheVariants.{Unlimited, Finite}
+use Rattle.p2p_simulated.proofs.Draining.{drained_twice}
 use Rattle.p2p_simulated.specs.Ratio.{amount_of, IsWorth}
 use Rattle.p2p_simulated.specs.declared.ratio.Ratio.{Ratio}
 use Rattle.p2p_simulated.specs.Laws.LowestTerms.{reduced_same}
@@ -134,11 +137,12 @@ taken_is rate s n t has worth =
     record { equal = equal; lowest = worth_is_reduced t (taken rate n) has.meant_positive equal }
 
 turned : (l d p q u m : ℕ) → p * u ≡ m * q → 0 < q → 0 < u → (l * q ≤ p * d) ↔ (l * u ≤ m * d)
-turned l d p q u m e h j =
-    (λ le. let up : l * q * u ≤ p * d * u = mul-le-mul_right u le in
-        let across : l * u * q ≤ m * d * q = omega (arith, ap (λ x. x * d) e) in le_of_mul-le-mul_right across h,
-      λ le. let up : l * u * q ≤ m * d * q = mul-le-mul_right q le in
-          let across : l * q * u ≤ p * d * u = omega (arith, ap (λ x. x * d) e) in le_of_mul-le-mul_right across j)
+turned l d p q u m e h j = (
+  λ le. let up : l * q * u ≤ p * d * u = mul-le-mul_right u le in
+      let across : l * u * q ≤ m * d * q = omega (arith, ap (λ x. x * d) e) in le_of_mul-le-mul_right across h,
+  λ le. let up : l * u * q ≤ m * d * q = mul-le-mul_right q le in
+      let across : l * q * u ≤ p * d * u = omega (arith, ap (λ x. x * d) e) in le_of_mul-le-mul_right across j,
+)
 
 -- what is taken is no less than what is left exactly where the time covers it
 pub covers_iff : (left rate t : Amount) (n : ℕ) → 0 < t.den → 0 < rate.den → AreEqual t (taken rate n) → (left.num * t.den ≤ t.num * left.den) ↔ Covers rate n left
@@ -175,11 +179,13 @@ drained_to_zero left rate n rest h j covers zero_is =
 -- where what is taken does not take all, it can be taken off exactly where the difference fits
 pub leaves_iff : (left rate : Amount) (n : ℕ) (t : Ratio) → 0 < rate.den → IsTaken rate n t → t.numerator * left.den < left.num * t.denominator
     → DifferenceFits left (amount_of t) ↔ (Covers rate n left ⊎ DifferenceFits left (reduced (taken rate n).num (taken rate n).den))
-leaves_iff left rate n t j is less =
-    (λ fits. inr (subst (λ x. DifferenceFits left x) is.lowest fits), λ either. elim either [
-      | inl covers ↦ absurd (let le : left.num * t.denominator ≤ t.numerator * left.den = (covers_iff left rate (amount_of t) n t.positive j is.equal).1 covers in omega arith)
-      | inr fits ↦ subst (λ x. DifferenceFits left x) (sym is.lowest) fits
-    ])
+leaves_iff left rate n t j is less = (
+  λ fits. inr (subst (λ x. DifferenceFits left x) is.lowest fits),
+  λ either. elim either [
+    | inl covers ↦ absurd (let le : left.num * t.denominator ≤ t.numerator * left.den = (covers_iff left rate (amount_of t) n t.positive j is.equal).1 covers in omega arith)
+    | inr fits ↦ subst (λ x. DifferenceFits left x) (sym is.lowest) fits
+  ],
+)
 
 pub all_drained : (left rate : Amount) (n : ℕ) (t : Ratio) (r : Option Ratio) → 0 < left.den → 0 < rate.den → IsTaken rate n t
     → IfSome r (λ rest. IsWorth rest (minus left (amount_of t))) → IfSome r (λ rest. amount_of rest ≡ drained left rate n)
@@ -191,3 +197,8 @@ pub all_is_left : (left rate : Ratio) (n : ℕ) → (left.numerator ≡ 0) ⊎ (
 all_is_left left rate n (inl none) = nothing_stays left (amount_of rate) n rate.positive none
 all_is_left left rate n (inr (inl none)) = nothing_drains left (amount_of rate) n rate.positive (ap (λ r. n * (r * left.denominator)) none ∙ ap (λ m. n * m) (zero-mul left.denominator) ∙ mul-zero n)
 all_is_left left rate n (inr (inr none)) = nothing_drains left (amount_of rate) n rate.positive (ap (λ m. m * (rate.numerator * left.denominator)) none ∙ zero-mul (rate.numerator * left.denominator))
+
+-- what is left after a time and then after another is what is left after both
+pub left_after_twice : (rate : Rate) (left : Amount) (a b : ℕ) → 0 < left.den → left_after rate b (left_after rate a left) ≡ left_after rate (a + b) left
+left_after_twice Unlimited left a b h = refl
+left_after_twice (Finite rate) left a b h = drained_twice left (amount_of rate) a b h rate.positive

@@ -2,7 +2,7 @@
 use Rattle.std.specs.Prelude.{◌≡◌, ◌⊎◌, ℕ, ◌*◌, ◌^◌, ◌<◌, ◌≤◌, Option, Some, None}
 use Rattle.p2p_simulated.specs.declared.bandwidth.Rate.{Rate}
 use Rattle.p2p_simulated.specs.declared.bandwidth.Rate.TheVariants.{Unlimited, Finite}
-use Rattle.p2p_simulated.specs.Amount.{Amount, whole, over, times, reduced, billion, drained, Covers, IsLeastTime}
+use Rattle.p2p_simulated.specs.Amount.{Amount, AreEqual, whole, over, times, reduced, billion, drained, Covers, IsLeastTime}
 use Rattle.p2p_simulated.specs.Fits.{ReducedFits, DifferenceFits}
 use Rattle.p2p_simulated.specs.Ratio.{amount_of}
 
@@ -44,3 +44,10 @@ TransferFits (Finite rate) n left = 0 < left.num → 0 < rate.numerator → 0 < 
 abbrev pub left_after : Rate → ℕ → Amount → Amount
 left_after Unlimited n left = whole 0
 left_after (Finite rate) n left = drained left (amount_of rate) n
+
+-- both are unlimited, or both finite and of one value
+abbrev pub HaveOneValue : Rate → Rate → Type 0
+HaveOneValue Unlimited Unlimited = Unit {0}
+HaveOneValue Unlimited (Finite s) = ⊥
+HaveOneValue (Finite r) Unlimited = ⊥
+HaveOneValue (Finite r) (Finite s) = AreEqual (amount_of r) (amount_of s)

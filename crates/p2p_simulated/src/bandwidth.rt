@@ -7,18 +7,22 @@ ghost use Rattle.std.specs.BTreeMap.{get};
 ghost use Rattle.p2p_simulated.specs.Answers.{States, NoLink, CallableOnEach, CallableOnEachPair, origins, recipients, pairs};
 ghost use Rattle.p2p_simulated.specs.Rates.{IsAllocation, last_rate};
 
+mod equality;
 mod filling;
 pub mod laws;
 mod sides;
 mod time;
 
-pub use time::{draining_splits, duration, nothing_is_left_from_the_least_time_on, there_is_one_least_time, transfer};
-
 use crate::error::Error;
 use crate::peer::Peer;
 use crate::ratio::Ratio;
+pub use equality::rates_are_equal_by_value;
 use std::alloc::Global;
 use std::collections::BTreeMap;
+pub use time::{
+    draining_splits, duration, nothing_is_left_from_the_least_time_on, there_is_one_least_time,
+    transfer,
+};
 
 /// Something that goes from one peer to another, as a message while it is sent.
 #[derive(Debug, Drop)]

@@ -2,6 +2,7 @@
 ghost use Rattle.std.specs.Prelude.{◌≡◌, ℕ, ◌+◌, ◌*◌, ◌^◌, ◌<◌, ◌≤◌, ◌↔◌, IsSome, IfSome, IsOk, IfOk, IfErr};
 ghost use Rattle.p2p_simulated.specs.Amount.{Amount, drained, Covers, IsLeastTime};
 ghost use Rattle.p2p_simulated.specs.Ratio.{amount_of};
+ghost use Rattle.p2p_simulated.specs.declared.bandwidth.Rate.{Rate as AnyRate};
 ghost use Rattle.p2p_simulated.specs.Time.{SecondsFit, TimeFits, IsDuration, TakenFits, TransferFits, left_after};
 
 use crate::bandwidth::Rate;
@@ -57,7 +58,9 @@ pub fn transfer(rate: &Rate, elapsed: u64, remaining: Ratio) -> Result<Ratio, Er
 {
     match *rate {
         Rate::Unlimited => Ok(Ratio::zero()),
-        Rate::Finite(rate) if remaining.is_zero() || rate.is_zero() || elapsed == 0 => Ok(remaining),
+        Rate::Finite(rate) if remaining.is_zero() || rate.is_zero() || elapsed == 0 => Ok(
+            remaining,
+        ),
         Rate::Finite(rate) => drain(rate, elapsed, remaining).ok_or(Error::NumberTooLarge),
     }
 }
@@ -74,25 +77,22 @@ fn drain(rate: Ratio, elapsed: u64, remaining: Ratio) -> Option<Ratio>
     remaining.checked_sub(taken)
 }
 
-/// A law of `transfer`: draining over two times in turn is draining over both. The function does
-/// nothing.
+/// A law of `transfer`: draining over two times in turn is draining over both at once. The function
+/// does nothing.
 pub fn draining_splits()
-    ensures { (left : Amount) (rate : Amount) (a : ℕ) (b : ℕ) → 0 < left.den → 0 < rate.den
-        → drained (drained left rate a) rate b ≡ drained left rate (a + b) }
-{
-}
+    ensures { (rate : AnyRate) (left : Amount) (a : ℕ) (b : ℕ) → 0 < left.den
+        → left_after rate b (left_after rate a left) ≡ left_after rate (a + b) left }
+{}
 
 /// A law of `transfer` and `duration`: at a rate above zero nothing is left exactly from the least
 /// time on. The function does nothing.
 pub fn nothing_is_left_from_the_least_time_on()
     ensures { (left : Amount) (rate : Amount) (least : ℕ) (n : ℕ) → 0 < left.den → 0 < rate.den → IsLeastTime rate left least
         → ((drained left rate n).num ≡ 0) ↔ (least ≤ n) }
-{
-}
+{}
 
 /// A law of `duration`: at a rate above zero there is one least time. The function does nothing.
 pub fn there_is_one_least_time()
     ensures some { (left : Amount) (rate : Amount) → 0 < left.den → 0 < rate.num → (n : ℕ) × IsLeastTime rate left n }
     ensures one { (left : Amount) (rate : Amount) (m : ℕ) (n : ℕ) → IsLeastTime rate left m → IsLeastTime rate left n → m ≡ n }
-{
-}
+{}
