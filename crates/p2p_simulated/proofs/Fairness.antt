@@ -10,6 +10,8 @@ pub mod Example
 pub mod Subjects
 pub mod CapSides
 pub mod Among
+pub mod Answered
 pub mod Uncapped
 pub mod Part
+pub mod Apart
 pub mod Order

@@ -20,6 +20,10 @@ half = record { num = 1; den = 2 }
 abbrev pub IsHalf : Ratio → Type 0
 IsHalf ratio = IsWorth ratio half
 
+-- there is such a ratio
+abbrev pub HalfExists : Type 0
+HalfExists = (ratio : Ratio) × IsHalf ratio
+
 -- these rates are fair for the three flows
 abbrev pub AreFair : Rate → Rate → Rate → Type 0
 AreFair first second third = AreFairRates shared 3 (first ∷ second ∷ third ∷ [])

@@ -4,6 +4,7 @@ pub mod Code
 pub mod Fair
 pub mod FairExample
 pub mod FairLaws
+pub mod FairPart
 pub mod Filling
 pub mod Fits
 pub mod Fraction

@@ -7,8 +7,9 @@ use Rattle.std.specs.declared.cmp.Ordering.TheVariants.{Equal}
 use Rattle.p2p_simulated.specs.declared.bandwidth.Flow.{Flow}
 use Rattle.p2p_simulated.specs.declared.bandwidth.Rate.{Rate}
 use Rattle.p2p_simulated.specs.declared.bandwidth.Rate.TheVariants.{Unlimited}
-use Rattle.p2p_simulated.specs.Answers.{Answered, Calls, PairCalls}
+use Rattle.p2p_simulated.specs.Answers.{Answered, Calls, PairCalls, States, AnswerInOrder}
 use Rattle.p2p_simulated.specs.Fair.{Side}
+use Rattle.p2p_simulated.specs.FairPart.{kept}
 use Rattle.p2p_simulated.specs.Rates.{AreFairRates, last_rate}
 use Rattle.p2p_simulated.specs.Sides.{Subject, sent_by, received_by, sent_between, same_peer, sides_of}
 
@@ -43,6 +44,16 @@ AnswersBy {F} {P} call cap = (before : F) (peer : P) (answer : Option ℕ) (afte
 abbrev pub PairAnswersBy : {F P : Type 0} → PairCalls F P → (P → P → Option ℕ) → Type 0
 PairAnswersBy {F} {P} call cap = (before : F) (p q : P) (answer : Option ℕ) (after : F) → call before p q answer after → answer ≡ cap p q
 
+-- closures that answer by the caps answer as `answered_under` says
+abbrev pub AnswersAreThoseOfTheCaps : {P E I L : Type 0} → Calls E P → Calls I P → PairCalls L P → Type 0
+AnswersAreThoseOfTheCaps {P} {E} {I} {L} egress ingress link =
+    (caps : Caps P) (first : States E I L) (flows : List (Flow P)) (answered : List (Answered P))
+    → AnswersBy egress caps.egress
+    → AnswersBy ingress caps.ingress
+    → PairAnswersBy link caps.link
+    → AnswerInOrder egress ingress link first flows answered
+    → answered ≡ map (answered_under caps) flows
+
 -- the flow uses no capped side: nothing limits what its origin sends, what its recipient receives, or what goes between them
 pub record UsesNoCap {P : Type 0} (caps : Caps P) (flow : Flow P) : Type 0 where
   pub origin : caps.egress flow.origin ≡ None
@@ -52,12 +63,6 @@ pub record UsesNoCap {P : Type 0} (caps : Caps P) (flow : Flow P) : Type 0 where
 -- no two flows have one id
 abbrev pub HaveDistinctIds : {P : Type 0} → List (Flow P) → Type 0
 HaveDistinctIds flows = (id : ℕ) → count_by (λ f. f.id == id) flows ≤ 1
-
--- the elements with the flag `true`, in their order
-abbrev pub kept : {X : Type 0} → List Bool → List X → List X
-kept [] xs = []
-kept (flag ∷ flags) [] = []
-kept (flag ∷ flags) (x ∷ xs) = cond flag (x ∷ kept flags xs) (kept flags xs)
 
 module _ {P : Type 0} (cmp : P → P → Ordering) where
   -- the caps are those of the peers: where the order calls two one peer, they have one cap

@@ -1,12 +1,12 @@
 -- The example of a shared cap.
 use Rattle.std.proofs.Common.{◌≡◌, ℕ, zero, suc, ◌*◌, ◌<◌, ◌≤◌, [], ◌∷◌, Contains, get_or, refl, sym, ap, subst, arith}
-use Rattle.std.proofs.Math.Nat.{eq_of_mul-eq-mul_right}
+use Rattle.std.proofs.Math.Nat.{eq_of_mul-eq-mul_right, eq-one_of_dvd-one}
 use Rattle.p2p_simulated.specs.declared.bandwidth.Rate.{Rate}
 use Rattle.p2p_simulated.specs.declared.bandwidth.Rate.TheVariants.{Unlimited, Finite}
 use Rattle.p2p_simulated.specs.declared.ratio.Ratio.{Ratio}
 use Rattle.p2p_simulated.specs.Fair.{Side, load, IsLimited, IsFair}
 use Rattle.p2p_simulated.specs.Rates.{IsRateOf}
-use Rattle.p2p_simulated.specs.FairExample.{shared, IsHalf, AreFair, HalvesAreFair, LessIsUnfair, MoreIsUnfair, NoLimitIsUnfair, LimitIsUnfair}
+use Rattle.p2p_simulated.specs.FairExample.{shared, IsHalf, AreFair, HalfExists, HalvesAreFair, LessIsUnfair, MoreIsUnfair, NoLimitIsUnfair, LimitIsUnfair}
 use Rattle.p2p_simulated.proofs.Fairness.Sums.{All-from_contains}
 use Rattle.p2p_simulated.proofs.Fairness.OneAllocation.{same_amounts}
 
@@ -58,6 +58,9 @@ rated r s e f zero d l = (first_uses, e)
 rated r s e f (suc zero) d l = (second_uses, f)
 rated r s e f (suc (suc zero)) d l = third_uses_none
 rated r s e f (suc (suc (suc k))) d l = absurd (omega arith)
+
+pub half_exists : HalfExists
+half_exists = (record { numerator = 1; denominator = 2; positive = omega arith; reduced = λ k one two. eq-one_of_dvd-one one }, refl)
 
 pub halves_are_fair : HalvesAreFair
 halves_are_fair r s e f = record { one_each = refl; per = 2; parts = one; fair = one_is_fair; rated = rated r s e f }

@@ -86,6 +86,13 @@ pub any_fails : {X : Type 0} (test : X → Bool) (xs : List X) → ((x : X) → 
 any_fails test [] h = refl
 any_fails test (y ∷ ys) h = or_from (test y) (list_any test ys) (h y (inl refl)) (any_fails test ys (λ x g. h x (inr g)))
 
+pub any_passes : {X : Type 0} (test : X → Bool) (xs : List X) (x : X) → In xs x → test x ≡ true → list_any test xs ≡ true
+any_passes test xs x h t = by_any (list_any test xs) refl
+  where
+    by_any : (b : Bool) → list_any test xs ≡ b → list_any test xs ≡ true
+    by_any true e = e
+    by_any false e = let off : test x ≡ false = none_passes test xs e x h in cc
+
 -- some member passes, or none does
 pub some_or_none : {X : Type 0} (test : X → Bool) (xs : List X) → ((x : X) × In xs x × (test x ≡ true)) ⊎ ((x : X) → In xs x → test x ≡ false)
 some_or_none test [] = inr (λ x h. absurd h)

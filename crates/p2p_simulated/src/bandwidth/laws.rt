@@ -1,11 +1,18 @@
 //! What max-min fairness means, and what follows from it. Each function says a law and does
 //! nothing: `AreFairRates sides flows rates` is what `allocate` ensures of its rates.
-ghost use Rattle.p2p_simulated.specs.FairExample.{HalvesAreFair, LessIsUnfair, MoreIsUnfair, NoLimitIsUnfair, LimitIsUnfair};
+ghost use Rattle.p2p_simulated.specs.FairExample.{HalfExists, HalvesAreFair, LessIsUnfair, MoreIsUnfair, NoLimitIsUnfair, LimitIsUnfair};
 ghost use Rattle.p2p_simulated.specs.FairLaws.{FairIsMaxMin, FairRatesAreMaxMin, OneAllocation, FairRatesAreZeroWhereClosed, FairnessIsOfTheSet};
+ghost use Rattle.p2p_simulated.specs.FairPart.{FlowsApartAreFair};
+ghost use Rattle.p2p_simulated.specs.Answers.{NoLink};
+ghost use Rattle.p2p_simulated.specs.PeerCaps.{AnswersAreThoseOfTheCaps, SidesAreOfTheCaps, UnlimitedWhereUncapped, OrderDoesNotMatter, PartIsFair};
+ghost use Rattle.std.specs.Fn.{CalledAt, CalledAtTwo};
+
+use crate::peer::Peer;
 
 /// An example: where two flows share a side of cap 1 and a third flow uses no side, half a byte a
 /// second for each of the two is fair, and nothing else is.
 pub fn a_shared_cap_is_halved()
+    ensures half { HalfExists }
     ensures halves { HalvesAreFair }
     ensures less { LessIsUnfair }
     ensures more { MoreIsUnfair }
@@ -32,4 +39,52 @@ pub fn fair_rates_are_zero_where_closed()
 /// Neither the order of the sides nor how often one is listed changes the fair rates.
 pub fn fairness_is_of_the_set_of_sides()
     ensures { FairnessIsOfTheSet }
+{}
+
+/// Where each side has all its users in a part of the flows or none, the fair rates of the part's
+/// flows are fair for these flows alone.
+pub fn flows_apart_are_fair_alone()
+    ensures { FlowsApartAreFair }
+{}
+
+/// Closures that answer by a function of the peer, whatever they were asked before, answer for
+/// each flow what these caps say.
+pub fn answers_are_those_of_the_caps<P, E, I>()
+where
+    P: Peer,
+    E: FnMut(&P) -> Option<u128>,
+    I: FnMut(&P) -> Option<u128>,
+    ensures { AnswersAreThoseOfTheCaps (CalledAt E.FnMut) (CalledAt I.FnMut) (NoLink {P = P}) }
+{}
+
+/// The same where a third closure answers for ordered pairs.
+pub fn linked_answers_are_those_of_the_caps<P, E, I, L>()
+where
+    P: Peer,
+    E: FnMut(&P) -> Option<u128>,
+    I: FnMut(&P) -> Option<u128>,
+    L: FnMut(&P, &P) -> Option<u128>,
+    ensures { AnswersAreThoseOfTheCaps (CalledAt E.FnMut) (CalledAt I.FnMut) (CalledAtTwo L.FnMut) }
+{}
+
+/// Caps by peer make a side for each subject that has a cap and a flow to limit, and its users are
+/// all flows that it limits.
+pub fn sides_are_of_the_caps<P: Peer>()
+    ensures { SidesAreOfTheCaps P.cmp }
+{}
+
+/// Under caps by peer a flow is unlimited exactly where it uses no capped side.
+pub fn a_flow_without_caps_is_unlimited<P: Peer>()
+    ensures { UnlimitedWhereUncapped P.cmp }
+{}
+
+/// Under caps by peer, with distinct ids, a flow has one fair rate in every order of the flows.
+pub fn the_order_of_flows_does_not_matter<P: Peer>()
+    ensures { OrderDoesNotMatter P.cmp }
+{}
+
+/// Under caps by peer, where each flow has both ends in a set of peers or neither, the fair rates
+/// of the set's flows are fair for these flows alone.
+pub fn a_part_is_fair_alone<P: Peer>()
+    ensures { PartIsFair P.cmp }
 {}
