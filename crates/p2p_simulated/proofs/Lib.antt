@@ -5,6 +5,7 @@ pub mod Fairness
 pub mod Filling
 pub mod FractionFits
 pub mod Numerals
+pub mod Printing
 pub mod Ratios
 pub mod Reading
 pub mod Splitting
