@@ -9,6 +9,7 @@ pub mod NoLinks
 pub mod Numerals
 pub mod Passes
 pub mod Places
+pub mod Printing
 pub mod Ratios
 pub mod Reading
 pub mod Registry

@@ -28,7 +28,7 @@ through-append : (bytes : List ℕ) → take_through 10 bytes ++ drop_through 10
 through-append [] = refl
 through-append (x ∷ xs) =
     let step : (b : Bool) → cond b (x ∷ []) (x ∷ take_through 10 xs) ++ cond b xs (drop_through 10 xs) ≡ x ∷ xs
-        = λ b. elim b as (λ b. cond b (x ∷ []) (x ∷ take_through 10 xs) ++ cond b xs (drop_through 10 xs) ≡ x ∷ xs) [ true ↦ refl | false ↦ ap (λ rest. x ∷ rest) (through-append xs) ] in
+    = λ b. elim b as (λ b. cond b (x ∷ []) (x ∷ take_through 10 xs) ++ cond b xs (drop_through 10 xs) ≡ x ∷ xs) [ true ↦ refl | false ↦ ap (λ rest. x ∷ rest) (through-append xs) ] in
     step (eqb x 10)
 
 -- something is read of some bytes
@@ -55,9 +55,9 @@ one_line read line Newline stops cut =
 one_line read line Input stops cut = λ k d low.
     let same : get_or line k d ≡ get_or read k 0 = ap (λ bytes. get_or bytes k d) cut.0 ∙ get_or_default read k d 0 (omega (arith, ap length cut.0)) in
     λ is. ⊎_elim
-        (λ front. stops k 0 (omega (arith, length-take (length read - 1) read)) (get_or-take (length read - 1) read k 0 front ∙ sym same ∙ is))
-        (λ end. let at : k ≡ length read - 1 = omega (arith, ap length cut.0) in cut.1 (ap (λ n. get_or read n 0) (sym at) ∙ sym same ∙ is))
-        (cases_lt k (length read - 1))
+    (λ front. stops k 0 (omega (arith, length-take (length read - 1) read)) (get_or-take (length read - 1) read k 0 front ∙ sym same ∙ is))
+    (λ end. let at : k ≡ length read - 1 = omega (arith, ap length cut.0) in cut.1 (ap (λ n. get_or read n 0) (sym at) ∙ sym same ∙ is))
+    (cases_lt k (length read - 1))
 one_line read line TooLong stops cut = absurd cut
 
 module _ (bytes read line : List ℕ) (is_read : read ≡ take_through 10 (take 257 bytes)) where

@@ -165,10 +165,13 @@ module _ (line : List ℕ) (before after : List (List ℕ)) (parts : before ≡ 
 
   -- nor does a line with parts left over
   pub says_less : (answer : Option Command) (word : List ℕ) (rest : List (List ℕ)) → TakesCommand answer → after ≡ word ∷ rest → (command : Command) → Says None command
-  says_less answer word rest takes more command = ((λ e. absurd (cc)), λ is.
-      let taken = taken_of answer command takes (answer_of answer command takes is) in
-      let over : after ≡ [] = append_cancel_left (command_words command) after [] (sym taken.0 ∙ parts ∙ parts_said line command is.0 is.1) in
-      absurd (cc (more, over)))
+  says_less answer word rest takes more command = (
+    (λ e. absurd (cc)),
+    λ is.
+        let taken = taken_of answer command takes (answer_of answer command takes is) in
+        let over : after ≡ [] = append_cancel_left (command_words command) after [] (sym taken.0 ∙ parts ∙ parts_said line command is.0 is.1) in
+        absurd (cc (more, over)),
+  )
 
 -- nor does a line that is no text
 pub says_nothing : (line : List ℕ) → ¬ (IsUtf8 line) → (command : Command) → (None ≡ Some command) ↔ ((line ≡ line_of command) × IsInRange command)

@@ -1,4 +1,5 @@
 pub mod Amount
+pub mod Answer
 pub mod Answers
 pub mod Code
 pub mod Fair
