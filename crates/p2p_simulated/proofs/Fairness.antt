@@ -1,7 +1,6 @@
 -- The laws of max-min fairness.
 pub mod Members
 pub mod Sums
-pub mod Fractions
 pub mod MaxMin
 pub mod OneAllocation
 pub mod ClosedSides
@@ -14,4 +13,5 @@ pub mod Answered
 pub mod Uncapped
 pub mod Part
 pub mod Apart
+pub mod Users
 pub mod Order

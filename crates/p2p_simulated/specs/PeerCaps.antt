@@ -3,7 +3,6 @@ use Rattle.std.specs.Prelude.{◌≡◌, ℕ, ◌+◌, ◌==◌, ◌≤◌, ◌�
 use Rattle.std.specs.List.{filter, list_any}
 use Rattle.std.specs.List.Sorted.{IsPermutation}
 use Rattle.std.specs.declared.cmp.Ordering.{Ordering}
-use Rattle.std.specs.declared.cmp.Ordering.TheVariants.{Equal}
 use Rattle.p2p_simulated.specs.declared.bandwidth.Flow.{Flow}
 use Rattle.p2p_simulated.specs.declared.bandwidth.Rate.{Rate}
 use Rattle.p2p_simulated.specs.declared.bandwidth.Rate.TheVariants.{Unlimited}
@@ -11,13 +10,8 @@ use Rattle.p2p_simulated.specs.Answers.{Answered, Calls, PairCalls, States, Answ
 use Rattle.p2p_simulated.specs.Fair.{Side}
 use Rattle.p2p_simulated.specs.FairPart.{kept}
 use Rattle.p2p_simulated.specs.Rates.{AreFairRates, last_rate}
+use Rattle.p2p_simulated.specs.WorldMessages.{Caps, CapsAlike}
 use Rattle.p2p_simulated.specs.Sides.{Subject, sent_by, received_by, sent_between, same_peer, sides_of}
-
--- how much a peer may send, how much it may receive, and how much may go from one peer to another
-pub record Caps (P : Type 0) : Type 0 where
-  pub egress : P → Option ℕ
-  pub ingress : P → Option ℕ
-  pub link : P → P → Option ℕ
 
 -- the cap of what a side limits
 abbrev pub cap_of : {P : Type 0} → Caps P → Subject P → Option ℕ
@@ -66,10 +60,8 @@ HaveDistinctIds flows = (id : ℕ) → count_by (λ f. f.id == id) flows ≤ 1
 
 module _ {P : Type 0} (cmp : P → P → Ordering) where
   -- the caps are those of the peers: where the order calls two one peer, they have one cap
-  pub record AreOfPeers (caps : Caps P) : Type 0 where
-    pub egress : (p q : P) → cmp p q ≡ Equal → caps.egress p ≡ caps.egress q
-    pub ingress : (p q : P) → cmp p q ≡ Equal → caps.ingress p ≡ caps.ingress q
-    pub link : (p q r s : P) → cmp p r ≡ Equal → cmp q s ≡ Equal → caps.link p q ≡ caps.link r s
+  abbrev pub AreOfPeers : Caps P → Type 0
+  AreOfPeers caps = CapsAlike cmp caps caps
 
   -- the sides of the flows under the caps
   abbrev pub sides_under : Caps P → List (Flow P) → List Side

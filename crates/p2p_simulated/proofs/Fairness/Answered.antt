@@ -2,7 +2,8 @@
 use Rattle.std.proofs.Common.{◌≡◌, ℕ, Bool, true, false, cond, List, [], ◌∷◌, Option, None, map, refl, ap, ap₂, ◌∙◌}
 use Rattle.std.specs.List.{FoldsTo}
 use Rattle.p2p_simulated.specs.Answers.{Answered, Calls, PairCalls, States, CallsFor, CalledIfDelivered}
-use Rattle.p2p_simulated.specs.PeerCaps.{Caps, answered_under, AnswersBy, PairAnswersBy, AnswersAreThoseOfTheCaps}
+use Rattle.p2p_simulated.specs.WorldMessages.{Caps}
+use Rattle.p2p_simulated.specs.PeerCaps.{answered_under, AnswersBy, PairAnswersBy, AnswersAreThoseOfTheCaps}
 
 module _ {P E I L : Type 0} (egress : Calls E P) (ingress : Calls I P) (link : PairCalls L P) (caps : Caps P)
     (egress_by : AnswersBy egress caps.egress) (ingress_by : AnswersBy ingress caps.ingress) (link_by : PairAnswersBy link caps.link) where

@@ -1,19 +1,15 @@
 -- One list of rates is fair.
 use Rattle.std.proofs.Common.{◌≡◌, ℕ, zero, suc, ◌*◌, ◌<◌, inl, inr, List, get_or, refl, sym, ap, ◌∙◌, arith, mul-le-mul_right}
-use Rattle.std.proofs.Math.Nat.{lt_of_mul-lt-mul_right}
+use Rattle.std.proofs.Math.Nat.{lt_of_mul-lt-mul_right, eq_of_mul-eq-mul_right}
 use Rattle.std.proofs.lemmas.List.{ext_get_or}
 use Rattle.std.proofs.lemmas.Bool.{cases_order}
-use Rattle.std.specs.Coded.{le_prop}
-use native.Mathlib.Nat.{ℕ_set}
-use mathlib.Core.HLevel.{is_prop→PathP}
 use Rattle.p2p_simulated.specs.declared.bandwidth.Rate.{Rate}
 use Rattle.p2p_simulated.specs.declared.bandwidth.Rate.TheVariants.{Unlimited, Finite}
-use Rattle.p2p_simulated.specs.declared.ratio.Ratio.{Ratio}
+use Rattle.p2p_simulated.specs.Amount.{Amount}
 use Rattle.p2p_simulated.specs.Fair.{Side, IsLimited, IsFair}
-use Rattle.p2p_simulated.specs.Fraction.{IsReduced}
 use Rattle.p2p_simulated.specs.Rates.{IsRateOf}
 use Rattle.p2p_simulated.specs.FairLaws.{OneAllocation}
-use Rattle.p2p_simulated.proofs.Fairness.Fractions.{same_fraction, cross_from_amounts}
+use Rattle.p2p_simulated.proofs.Ratios.{one_ratio}
 use Rattle.p2p_simulated.proofs.Fairness.MaxMin.{fair_is_max_min}
 
 -- of two fair amounts neither is more: who pays for it in the first is paid for in the second by one with less still
@@ -35,23 +31,20 @@ same_amounts sides D E a b f g i limited = elim (cases_order (a i * E) (b i * D)
   | inr (inr more) ↦ absurd (no_more sides E D b a g f (suc (b i)) i limited (omega arith) more)
 ]
 
--- a ratio is its numerator and its denominator
-pub same_ratio : (r s : Ratio) → r.numerator ≡ s.numerator → r.denominator ≡ s.denominator → r ≡ s
-same_ratio r s n d = λ i. record {
-  numerator = n i;
-  denominator = d i;
-  positive = is_prop→PathP (λ j. 0 < d j) (λ j. hlevel le_prop) r.positive s.positive i;
-  reduced = is_prop→PathP (λ j. IsReduced (n j) (d j)) (λ j. hlevel ℕ_set) r.reduced s.reduced i;
-}
+-- m / e is b / E, which is a / D
+worth_too : (m e a D b E : ℕ) → 0 < E → a * E ≡ b * D → m * E ≡ b * e → m * D ≡ a * e
+worth_too m e a D b E pos same worth =
+    let scaled : m * D * E ≡ a * e * E = omega (arith, ap (λ n. n * D) worth, ap (λ n. n * e) same) in
+    eq_of_mul-eq-mul_right E pos (m * D) (a * e) scaled
 
 same_rate : (sides : List Side) (D E : ℕ) (a b : ℕ → ℕ) → IsFair sides D a → IsFair sides E b → (i : ℕ) (x y : Rate) → IsRateOf sides D a i x → IsRateOf sides E b i y → x ≡ y
 same_rate sides D E a b f g i Unlimited Unlimited u v = refl
 same_rate sides D E a b f g i Unlimited (Finite y) u v = absurd (u v.0)
 same_rate sides D E a b f g i (Finite x) Unlimited u v = absurd (v u.0)
 same_rate sides D E a b f g i (Finite x) (Finite y) u v =
-    let cross = cross_from_amounts (a i) (b i) D E x.numerator x.denominator y.numerator y.denominator f.some_part g.some_part (same_amounts sides D E a b f g i u.0) (sym u.1) (sym v.1) in
-    let same = same_fraction x.numerator x.denominator y.numerator y.denominator x.reduced y.reduced cross in
-    ap Finite (same_ratio x y same.0 same.1)
+    let amount : Amount = record { num = a i; den = D } in
+    let worth = worth_too y.numerator y.denominator (a i) D (b i) E g.some_part (same_amounts sides D E a b f g i u.0) v.1 in
+    ap Finite (one_ratio x y amount f.some_part u.1 worth)
 
 pub one_allocation : OneAllocation
 one_allocation sides flows r f s g =

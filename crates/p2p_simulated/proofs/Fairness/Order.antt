@@ -12,7 +12,8 @@ use Rattle.p2p_simulated.specs.declared.bandwidth.Flow.{Flow}
 use Rattle.p2p_simulated.specs.declared.bandwidth.Rate.{Rate}
 use Rattle.p2p_simulated.specs.Sides.{Subject}
 use Rattle.p2p_simulated.specs.Rates.{last_rate}
-use Rattle.p2p_simulated.specs.PeerCaps.{Caps, limits, sides_under, AreFairUnder, OrderDoesNotMatter}
+use Rattle.p2p_simulated.specs.WorldMessages.{Caps}
+use Rattle.p2p_simulated.specs.PeerCaps.{limits, sides_under, AreFairUnder, OrderDoesNotMatter}
 use Rattle.p2p_simulated.proofs.Fairness.Members.{In, in_from_contains, contains_from_in, some_or_none}
 use Rattle.p2p_simulated.proofs.Fairness.OneAllocation.{one_allocation}
 use Rattle.p2p_simulated.proofs.Fairness.Among.{Allotted, flows_of, rates_of, total, AreFairAmong, among_from, under_from}

@@ -2,18 +2,12 @@
 use Rattle.std.proofs.Common.{◌≡◌, true, ◌&&◌, refl}
 use Rattle.std.specs.Cmp.{IsTotalOrder, IsEquivalence}
 use Rattle.std.specs.declared.cmp.Ordering.{Ordering}
-use Rattle.std.specs.declared.cmp.Ordering.TheVariants.{Less, Equal, Greater}
-use Rattle.std.specs.Ordering.{is_eq}
 use Rattle.std.proofs.lemmas.Bool.{and_parts, and_from, false≢true}
 use Rattle.std.proofs.lemmas.Cmp.{eq_by_cmp_equiv}
 use Rattle.p2p_simulated.specs.declared.bandwidth.Flow.{Flow}
 use Rattle.p2p_simulated.specs.Sides.{Subject, sent_by, received_by, sent_between, same_peer, same_subject}
-use Rattle.p2p_simulated.specs.PeerCaps.{Caps, cap_of, AreOfPeers, limits}
-
-equal_from : (o : Ordering) → is_eq o ≡ true → o ≡ Equal
-equal_from Less e = cc
-equal_from Equal e = refl
-equal_from Greater e = cc
+use Rattle.p2p_simulated.specs.WorldMessages.{Caps}
+use Rattle.p2p_simulated.specs.PeerCaps.{cap_of, AreOfPeers, limits}
 
 module _ {P : Type 0} (cmp : P → P → Ordering) (order : IsTotalOrder cmp) where
   abbrev laws : IsEquivalence (same_peer cmp)
@@ -63,11 +57,10 @@ module _ {P : Type 0} (cmp : P → P → Ordering) (order : IsTotalOrder cmp) wh
 
   -- one subject has one cap
   pub one_cap : (caps : Caps P) → AreOfPeers cmp caps → (s t : Subject P) → same_subject cmp s t ≡ true → cap_of caps s ≡ cap_of caps t
-  one_cap caps of (sent_by p) (sent_by q) e = of.egress p q (equal_from (cmp p q) e)
-  one_cap caps of (received_by p) (received_by q) e = of.ingress p q (equal_from (cmp p q) e)
+  one_cap caps of (sent_by p) (sent_by q) e = of.egress p q e
+  one_cap caps of (received_by p) (received_by q) e = of.ingress p q e
   one_cap caps of (sent_between p q) (sent_between r s) e =
-      let parts = and_parts (same_peer cmp p r) (same_peer cmp q s) e in
-      of.link p q r s (equal_from (cmp p r) parts.0) (equal_from (cmp q s) parts.1)
+      let parts = and_parts (same_peer cmp p r) (same_peer cmp q s) e in of.link p r q s parts.0 parts.1
   one_cap caps of (sent_by p) (received_by q) e = absurd (false≢true e)
   one_cap caps of (sent_by p) (sent_between q r) e = absurd (false≢true e)
   one_cap caps of (received_by p) (sent_by q) e = absurd (false≢true e)
