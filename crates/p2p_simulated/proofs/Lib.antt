@@ -1,4 +1,5 @@
 pub mod Callable
+pub mod CapAnswers
 pub mod Denominators
 pub mod Draining
 pub mod Fairness

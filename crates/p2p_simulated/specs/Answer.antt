@@ -3,6 +3,8 @@ use Rattle.std.specs.Prelude.{ℕ, List, [], ◌∷◌, ◌++◌, codes, decimal
 use Rattle.std.specs.List.{flat_map}
 use Rattle.p2p_simulated.specs.declared.bandwidth.Rate.{Rate}
 use Rattle.p2p_simulated.specs.declared.bandwidth.Rate.TheVariants.{Unlimited, Finite}
+use Rattle.p2p_simulated.specs.declared.error.Error.{Error}
+use Rattle.p2p_simulated.specs.declared.error.Error.TheVariants.{OutOfMemory, NumberTooLarge, MomentTooLate, FlowIdsUsedUp}
 use Rattle.p2p_simulated.specs.declared.linkrun.answer.Answer.{Answer}
 use Rattle.p2p_simulated.specs.declared.linkrun.answer.Answer.TheVariants as answers
 
@@ -22,3 +24,10 @@ rates_text entries = flat_map (λ entry. rate_line entry.0 entry.1) entries
 abbrev pub answer_text : Answer → List ℕ
 answer_text answers.Nothing = []
 answer_text (answers.Rates rates) = rates_text rates.entries
+
+-- the number of a refusal
+abbrev pub refusal_number : Error → ℕ
+refusal_number OutOfMemory = 1
+refusal_number NumberTooLarge = 2
+refusal_number MomentTooLate = 3
+refusal_number FlowIdsUsedUp = 4

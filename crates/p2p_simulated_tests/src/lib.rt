@@ -3,3 +3,5 @@
 
 #[cfg(test)]
 mod ratio_tests;
+#[cfg(test)]
+mod scripts;

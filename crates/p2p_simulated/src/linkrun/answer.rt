@@ -1,7 +1,7 @@
 //! What a script prints.
 ghost use Rattle.std.specs.Prelude.{◌≡◌, IfOk, OnOk};
 ghost use Rattle.std.specs.Io.KnownBytes.{Appends};
-ghost use Rattle.p2p_simulated.specs.Answer.{rate_line, rates_text, answer_text};
+ghost use Rattle.p2p_simulated.specs.Answer.{rate_line, rates_text, answer_text, refusal_number};
 
 use crate::bandwidth::Rate;
 use crate::error::Error;
@@ -56,7 +56,9 @@ fn print_rate<W: Write>(output: &mut W, id: u64, rate: Rate) -> io::Result<()>
 }
 
 /// The number of a refusal.
-fn number_of(error: Error) -> u8 {
+fn number_of(error: Error) -> u8
+    ensures { result ≡ refusal_number error }
+{
     match error {
         Error::OutOfMemory => 1,
         Error::NumberTooLarge => 2,

@@ -1,8 +1,8 @@
 //! What a script has said so far.
-ghost use Rattle.std.specs.Prelude.{◌≡◌, ℕ, [], None, OnOk, OnErr};
+ghost use Rattle.std.specs.Prelude.{◌≡◌, ℕ, [], None, IfOk, OnOk, OnErr};
 ghost use Rattle.std.specs.Ordering.{nat_cmp};
 ghost use Rattle.std.specs.BTreeMap.{get, IsUnchanged};
-ghost use Rattle.p2p_simulated.specs.Session.{Says, SaysSame, SaysAfter, with_cap};
+ghost use Rattle.p2p_simulated.specs.Session.{Says, SaysSame, SaysAfter, AnswersTo, AreRatesUnder, caps_of, with_cap};
 
 use crate::bandwidth;
 use crate::bandwidth::{Flow, Rate};
@@ -36,6 +36,7 @@ impl Session {
 
     /// Does what a command says. A command that is refused changes nothing.
     pub(crate) fn perform(&mut self, command: Command) -> Result<Answer, Error>
+        ensures answer { IfOk result (AnswersTo command self.old) }
         ensures done { OnOk result (SaysAfter command self.old self.new) }
         ensures refused { OnErr result (SaysSame self.old self.new) }
     {
@@ -49,7 +50,9 @@ impl Session {
     }
 
     /// The rates of the flows, by id.
-    fn rates(&self) -> Result<BTreeMap<u64, Rate>, Error> {
+    fn rates(&self) -> Result<BTreeMap<u64, Rate>, Error>
+        ensures { IfOk result (λ rates. AreRatesUnder (caps_of self.now) self.now.flows.items (get nat_cmp rates)) }
+    {
         bandwidth::allocate(
             self.alloc,
             &self.flows,
