@@ -30,5 +30,6 @@ pub mod WorldPlanned
 pub mod WorldQueue
 pub mod WorldRates
 pub mod WorldReplies
+pub mod WorldRows
 pub mod WorldStands
 pub mod WorldTime

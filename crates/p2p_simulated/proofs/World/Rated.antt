@@ -8,7 +8,7 @@ use Rattle.p2p_simulated.specs.Fair.{Side, IsLimited}
 use Rattle.p2p_simulated.specs.Sides.{same_peer}
 use Rattle.p2p_simulated.specs.WorldMessages.{Message, Caps, is_delivered}
 use Rattle.p2p_simulated.specs.WorldRates.{Parts, places_from, egress_of, ingress_of, link_of, sides_for, capped_sides, is_unlimited, rates_from, AreFair}
-use Rattle.p2p_simulated.proofs.World.OneAllocation.{same_parts}
+use Rattle.p2p_simulated.proofs.Fairness.OneAllocation.{same_amounts}
 
 -- ---- lists
 
@@ -120,5 +120,5 @@ module _ {P : Type 0} (cmp : P → P → Ordering) where
     -- the fair rates are one
     pub rates_match : (caps : Caps P) (ms : List (Message P)) (d e : ℕ) (xs ys : Parts) → AreFair cmp caps ms d xs → AreFair cmp caps ms e ys → Match xs ys d e
     rates_match caps ms d e xs ys f g =
-        let made : Match (rates_from cmp caps f.parts 0 ms) (rates_from cmp caps g.parts 0 ms) d e = match_from caps f.parts g.parts d e 0 ms (λ i m at h. subst (λ (n : ℕ). f.parts n * e ≡ g.parts n * d) (omega arith) (same_parts (capped_sides cmp caps ms) d e f.parts g.parts f.fair g.fair i (limited_at caps ms i m at h))) in
+        let made : Match (rates_from cmp caps f.parts 0 ms) (rates_from cmp caps g.parts 0 ms) d e = match_from caps f.parts g.parts d e 0 ms (λ i m at h. subst (λ (n : ℕ). f.parts n * e ≡ g.parts n * d) (omega arith) (same_amounts (capped_sides cmp caps ms) d e f.parts g.parts f.fair g.fair i (limited_at caps ms i m at h))) in
         subst (λ (rs : Parts). Match rs ys d e) (sym f.rated) (subst (λ (rs : Parts). Match (rates_from cmp caps f.parts 0 ms) rs d e) (sym g.rated) made)
