@@ -2,7 +2,6 @@ pub mod Amounts
 pub mod Queue
 pub mod Rests
 pub mod Split
-pub mod OneAllocation
 pub mod Rated
 pub mod Stretch
 pub mod OneWorld
@@ -31,3 +30,4 @@ pub mod OneRun
 pub mod Sound
 pub mod PairOrder
 pub mod Obeys
+pub mod Checked

@@ -29,6 +29,8 @@ pub mod WorldPass
 pub mod WorldPlanned
 pub mod WorldQueue
 pub mod WorldRates
+pub mod WorldRefusals
 pub mod WorldReplies
+pub mod WorldRows
 pub mod WorldStands
 pub mod WorldTime

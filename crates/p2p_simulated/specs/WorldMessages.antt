@@ -3,6 +3,7 @@ use Rattle.std.specs.Prelude.{◌≡◌, ⊤, ℕ, List, [], ◌∷◌, Bool, tr
 use Rattle.std.specs.List.{list_any}
 use Rattle.std.specs.declared.cmp.Ordering.{Ordering}
 use Rattle.std.specs.Ordering.{is_lt, ordering_then}
+pub use Rattle.p2p_simulated.specs.PeerCaps.{Caps}
 use Rattle.p2p_simulated.specs.Sides.{same_peer}
 
 -- what one peer sends to another; its latency is in nanoseconds
@@ -13,12 +14,6 @@ pub record Message (P : Type 0) : Type 0 where
   pub bytes : List ℕ
   pub latency : ℕ
   pub should_deliver : Bool
-
--- the caps in bytes a second: on all that a peer sends, on all that a peer receives, and on what goes from one peer to another
-pub record Caps (P : Type 0) : Type 0 where
-  pub egress : P → Option ℕ
-  pub ingress : P → Option ℕ
-  pub link : P → P → Option ℕ
 
 -- nothing is capped
 abbrev pub no_caps : {P : Type 0} → Caps P

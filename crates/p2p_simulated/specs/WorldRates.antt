@@ -27,15 +27,15 @@ pub record IsLowest (a : Amount) : Type 0 where
   pub lowest : reduced a.num a.den ≡ a
 
 -- the places of those that pass the test, where the first has that place
-abbrev pub places_from : {X : Type 0} → ℕ → (X → Bool) → List X → List ℕ
-places_from place test [] = []
-places_from place test (x ∷ xs) = cond (test x) (place ∷ places_from (place + 1) test xs) (places_from (place + 1) test xs)
+abbrev pub places_that_pass : {X : Type 0} → ℕ → (X → Bool) → List X → List ℕ
+places_that_pass place test [] = []
+places_that_pass place test (x ∷ xs) = cond (test x) (place ∷ places_that_pass (place + 1) test xs) (places_that_pass (place + 1) test xs)
 
 module _ {P : Type 0} (cmp : P → P → Ordering) where
   -- the side of this cap, if it is one, that those messages use for which the test passes
   abbrev pub side_of : Option ℕ → (Message P → Bool) → List (Message P) → List Side
   side_of None uses messages = []
-  side_of (Some cap) uses messages = record { cap = cap; users = places_from 0 uses messages } ∷ []
+  side_of (Some cap) uses messages = record { cap = cap; users = places_that_pass 0 uses messages } ∷ []
 
   -- a message uses the egress of its origin, with all messages of that origin
   abbrev pub egress_of : Caps P → List (Message P) → Message P → List Side

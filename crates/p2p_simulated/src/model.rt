@@ -7,4 +7,5 @@
 
 pub mod events;
 pub mod instants;
+pub mod rows;
 pub mod time;

@@ -9,7 +9,7 @@ use Rattle.std.proofs.lemmas.Cmp.{tied_itself}
 use Rattle.p2p_simulated.specs.Fair.{IsFair, Side}
 use Rattle.p2p_simulated.specs.Sides.{same_peer}
 use Rattle.p2p_simulated.specs.WorldMessages.{Message, SameMessage, is_delivered, same_pair, Caps, CapsAlike}
-use Rattle.p2p_simulated.specs.WorldRates.{AreFair, Parts, capped_sides, egress_of, ingress_of, is_unlimited, side_of, places_from, link_of, sides_for, rates_from}
+use Rattle.p2p_simulated.specs.WorldRates.{AreFair, Parts, capped_sides, egress_of, ingress_of, is_unlimited, side_of, places_that_pass, link_of, sides_for, rates_from}
 use Rattle.p2p_simulated.proofs.World.Queue.{peer_like, peer_sym, both_alike}
 
 module _ {P : Type 0} (cmp : P → P → Ordering) (order : IsTotalOrder cmp) where
@@ -42,7 +42,7 @@ module _ {P : Type 0} (cmp : P → P → Ordering) (order : IsTotalOrder cmp) wh
   any_alike R f g same (x ∷ xs) [] h = absurd h
   any_alike R f g same (x ∷ xs) (y ∷ ys) h = rw (same x y h.0, any_alike R f g same xs ys h.1) refl
 
-  side_alike : (c d : Option ℕ) (u v : Message P → Bool) (ms ns : List (Message P)) → c ≡ d → places_from 0 u ms ≡ places_from 0 v ns → side_of cmp c u ms ≡ side_of cmp d v ns
+  side_alike : (c d : Option ℕ) (u v : Message P → Bool) (ms ns : List (Message P)) → c ≡ d → places_that_pass 0 u ms ≡ places_that_pass 0 v ns → side_of cmp c u ms ≡ side_of cmp d v ns
   side_alike None None u v ms ns e f = refl
   side_alike None (Some d) u v ms ns e f = cc
   side_alike (Some c) None u v ms ns e f = cc
@@ -52,7 +52,7 @@ module _ {P : Type 0} (cmp : P → P → Ordering) (order : IsTotalOrder cmp) wh
   if_alike a b x y z e f = rw (e, f) refl
 
   -- the same places pass tests that answer alike
-  pub places_alike : {X Y : Type 0} (R : X → Y → Type 0) (f : X → Bool) (g : Y → Bool) → ((x : X) (y : Y) → R x y → f x ≡ g y) → (place : ℕ) (xs : List X) (ys : List Y) → AllZip R xs ys → places_from place f xs ≡ places_from place g ys
+  pub places_alike : {X Y : Type 0} (R : X → Y → Type 0) (f : X → Bool) (g : Y → Bool) → ((x : X) (y : Y) → R x y → f x ≡ g y) → (place : ℕ) (xs : List X) (ys : List Y) → AllZip R xs ys → places_that_pass place f xs ≡ places_that_pass place g ys
   places_alike R f g same place [] [] h = refl
   places_alike R f g same place [] (y ∷ ys) h = absurd h
   places_alike R f g same place (x ∷ xs) [] h = absurd h

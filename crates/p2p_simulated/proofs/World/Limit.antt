@@ -21,7 +21,7 @@ use Rattle.p2p_simulated.proofs.World.Waking.{each_none}
 use Rattle.p2p_simulated.proofs.World.Advance.{woken_stands}
 use Rattle.p2p_simulated.proofs.World.Rested.{settle_keeps_rest}
 
-no_sides : {P : Type 0} (cmp : P → P → Ordering) (caps : Caps P) → AreFair cmp caps [] 1 []
+pub no_sides : {P : Type 0} (cmp : P → P → Ordering) (caps : Caps P) → AreFair cmp caps [] 1 []
 no_sides cmp caps = record {
   parts = λ flow. 0;
   fair = record { some_part = lit< tt; within = λ k d below. absurd (nothing_in below); held = λ flow limited. absurd (nothing_in limited.1.listed.1) };

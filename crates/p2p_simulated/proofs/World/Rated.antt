@@ -7,8 +7,8 @@ use Rattle.std.proofs.lemmas.List.Elements.{Contains-append_left, Contains-appen
 use Rattle.p2p_simulated.specs.Fair.{Side, IsLimited}
 use Rattle.p2p_simulated.specs.Sides.{same_peer}
 use Rattle.p2p_simulated.specs.WorldMessages.{Message, Caps, is_delivered}
-use Rattle.p2p_simulated.specs.WorldRates.{Parts, places_from, egress_of, ingress_of, link_of, sides_for, capped_sides, is_unlimited, rates_from, AreFair}
-use Rattle.p2p_simulated.proofs.World.OneAllocation.{same_parts}
+use Rattle.p2p_simulated.specs.WorldRates.{Parts, places_that_pass, egress_of, ingress_of, link_of, sides_for, capped_sides, is_unlimited, rates_from, AreFair}
+use Rattle.p2p_simulated.proofs.Fairness.OneAllocation.{same_amounts}
 
 -- ---- lists
 
@@ -21,17 +21,17 @@ in_cons : {X : Type 0} (y x : X) (xs : List X) → Contains xs x → Contains (y
 in_cons y x xs has = Contains-append_right (y ∷ []) xs x has
 
 -- one that passes the test is among the places
-pub place_in : {X : Type 0} (place : ℕ) (test : X → Bool) (xs : List X) (i : ℕ) (x : X) → slice_get xs i ≡ Some x → test x ≡ true → Contains (places_from place test xs) (place + i)
+pub place_in : {X : Type 0} (place : ℕ) (test : X → Bool) (xs : List X) (i : ℕ) (x : X) → slice_get xs i ≡ Some x → test x ≡ true → Contains (places_that_pass place test xs) (place + i)
 place_in place test [] i x at e = cc
 place_in place test (y ∷ ys) zero x at e = let same : y ≡ x = cc in rw (same, e) (0, omega arith, omega arith)
-place_in {X} place test (y ∷ ys) (suc i) x at e = by_test (test y) (subst (λ (n : ℕ). Contains (places_from (place + 1) test ys) n) (omega arith) (place_in (place + 1) test ys i x at e))
+place_in {X} place test (y ∷ ys) (suc i) x at e = by_test (test y) (subst (λ (n : ℕ). Contains (places_that_pass (place + 1) test ys) n) (omega arith) (place_in (place + 1) test ys i x at e))
   where
-    by_test : (b : Bool) → Contains (places_from (place + 1) test ys) (place + suc i) → Contains (cond b (place ∷ places_from (place + 1) test ys) (places_from (place + 1) test ys)) (place + suc i)
-    by_test true has = in_cons place (place + suc i) (places_from (place + 1) test ys) has
+    by_test : (b : Bool) → Contains (places_that_pass (place + 1) test ys) (place + suc i) → Contains (cond b (place ∷ places_that_pass (place + 1) test ys) (places_that_pass (place + 1) test ys)) (place + suc i)
+    by_test true has = in_cons place (place + suc i) (places_that_pass (place + 1) test ys) has
     by_test false has = has
 
-pub place_here : {X : Type 0} (test : X → Bool) (xs : List X) (i : ℕ) (x : X) → slice_get xs i ≡ Some x → test x ≡ true → Contains (places_from 0 test xs) i
-place_here test xs i x at e = subst (λ (n : ℕ). Contains (places_from 0 test xs) n) (omega arith) (place_in 0 test xs i x at e)
+pub place_here : {X : Type 0} (test : X → Bool) (xs : List X) (i : ℕ) (x : X) → slice_get xs i ≡ Some x → test x ≡ true → Contains (places_that_pass 0 test xs) i
+place_here test xs i x at e = subst (λ (n : ℕ). Contains (places_that_pass 0 test xs) n) (omega arith) (place_in 0 test xs i x at e)
 
 pub in_flat_map : {X Y : Type 0} (f : X → List Y) (xs : List X) (i : ℕ) (x : X) (y : Y) → slice_get xs i ≡ Some x → Contains (f x) y → Contains (flat_map f xs) y
 in_flat_map f [] i x y e has = cc
@@ -100,13 +100,13 @@ module _ {P : Type 0} (cmp : P → P → Ordering) where
         by_caps : (c : Option ℕ) (d : Bool) (k l : Option ℕ) → caps.egress m.origin ≡ c → is_delivered cmp m ≡ d → caps.ingress m.recipient ≡ k → caps.link m.origin m.recipient ≡ l → (is_none c && (not d || is_none k) && is_none l) ≡ false
             → HasSide caps ms i m
         by_caps (Some c) d k l out del into between e =
-            let side : Side = record { cap = c; users = places_from 0 (by_egress m) ms } in
+            let side : Side = record { cap = c; users = places_that_pass 0 (by_egress m) ms } in
             (side, Contains-append_left (egress_of cmp caps ms m ++ ingress_of cmp caps ms m) (link_of cmp caps ms m) side (Contains-append_left (egress_of cmp caps ms m) (ingress_of cmp caps ms m) side (rw out (one_in side))), place_here (by_egress m) ms i m at (itself m.origin))
         by_caps None true (Some c) l out del into between e =
-            let side : Side = record { cap = c; users = places_from 0 (by_ingress m) ms } in
+            let side : Side = record { cap = c; users = places_that_pass 0 (by_ingress m) ms } in
             (side, Contains-append_left (egress_of cmp caps ms m ++ ingress_of cmp caps ms m) (link_of cmp caps ms m) side (Contains-append_right (egress_of cmp caps ms m) (ingress_of cmp caps ms m) side (rw (del, into) (one_in side))), place_here (by_ingress m) ms i m at (rw (del, itself m.recipient) refl))
         by_caps None d k (Some c) out del into between e =
-            let side : Side = record { cap = c; users = places_from 0 (by_link m) ms } in
+            let side : Side = record { cap = c; users = places_that_pass 0 (by_link m) ms } in
             (side, Contains-append_right (egress_of cmp caps ms m ++ ingress_of cmp caps ms m) (link_of cmp caps ms m) side (rw between (one_in side)), place_here (by_link m) ms i m at (rw (itself m.origin, itself m.recipient) refl))
         by_caps None false k None out del into between e = cc
         by_caps None true None None out del into between e = cc
@@ -120,5 +120,5 @@ module _ {P : Type 0} (cmp : P → P → Ordering) where
     -- the fair rates are one
     pub rates_match : (caps : Caps P) (ms : List (Message P)) (d e : ℕ) (xs ys : Parts) → AreFair cmp caps ms d xs → AreFair cmp caps ms e ys → Match xs ys d e
     rates_match caps ms d e xs ys f g =
-        let made : Match (rates_from cmp caps f.parts 0 ms) (rates_from cmp caps g.parts 0 ms) d e = match_from caps f.parts g.parts d e 0 ms (λ i m at h. subst (λ (n : ℕ). f.parts n * e ≡ g.parts n * d) (omega arith) (same_parts (capped_sides cmp caps ms) d e f.parts g.parts f.fair g.fair i (limited_at caps ms i m at h))) in
+        let made : Match (rates_from cmp caps f.parts 0 ms) (rates_from cmp caps g.parts 0 ms) d e = match_from caps f.parts g.parts d e 0 ms (λ i m at h. subst (λ (n : ℕ). f.parts n * e ≡ g.parts n * d) (omega arith) (same_amounts (capped_sides cmp caps ms) d e f.parts g.parts f.fair g.fair i (limited_at caps ms i m at h))) in
         subst (λ (rs : Parts). Match rs ys d e) (sym f.rated) (subst (λ (rs : Parts). Match (rates_from cmp caps f.parts 0 ms) rs d e) (sym g.rated) made)
