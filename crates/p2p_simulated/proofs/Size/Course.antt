@@ -39,20 +39,29 @@ one_more f g le x xs c none =
 
 module _ (rates : List (Option Ratio)) (flows : ℕ) (side : Side) (fits : SideFits rates flows side) where
   -- the sum of two amounts that some users of the side have together
-  pub part_fits : (total rate : Ratio) (a b : ℕ) → 0 < flows → IsWorth total (record { num = a; den = fits.per }) → IsWorth rate (record { num = b; den = fits.per }) → a + b ≤ load fits.parts side → SumFits (amount_of total) (amount_of rate)
+  pub part_fits : (total rate : Ratio) (a b : ℕ)
+      → 0 < flows
+      → IsWorth total (record { num = a; den = fits.per })
+      → IsWorth rate (record { num = b; den = fits.per })
+      → a + b ≤ load fits.parts side → SumFits (amount_of total) (amount_of rate)
   part_fits total rate a b some first second le =
-      sum_fits (amount_of total) (amount_of rate) fits.per a b side.cap flows fits.frozen.some_part some fits.small (omega (arith, le, fits.within)) (exact_ratio total fits.per a first) (exact_ratio rate fits.per b second)
+      sum_fits (amount_of total) (amount_of rate) fits.per a b side.cap flows fits.frozen.some_part some fits.small (omega (arith, le, fits.within))
+      (exact_ratio total fits.per a first) (exact_ratio rate fits.per b second)
 
   -- one user more, in the order of the list
-  pub user_fits : (i : ℕ) (total rate : Ratio) → i < length side.users → IsTaken rates (first_users i side) total → rate_at rates (get_or side.users i 0) ≡ Some rate → SumFits (amount_of total) (amount_of rate)
+  pub user_fits : (i : ℕ) (total rate : Ratio) → i < length side.users → IsTaken rates (first_users i side) total
+      → rate_at rates (get_or side.users i 0) ≡ Some rate → SumFits (amount_of total) (amount_of rate)
   user_fits i total rate inside is_taken frozen =
-      part_fits total rate (taken (parts_at rates fits.parts) (first_users i side)) (fits.parts (get_or side.users i 0)) (omega (arith, fits.few)) (is_taken.worth fits.per fits.parts fits.frozen) (fits.frozen.worth _ rate frozen)
+      part_fits total rate (taken (parts_at rates fits.parts) (first_users i side)) (fits.parts (get_or side.users i 0)) (omega (arith, fits.few))
+      (is_taken.worth fits.per fits.parts fits.frozen) (fits.frozen.worth _ rate frozen)
       (sum_by_more_le_part (at_level (parts_at rates fits.parts) 0) fits.parts side.users i 0 inside (had_at_most rates fits.parts))
 
   -- one user more, which freezes now
-  pub freezing_fits : (flow : ℕ) (total level : Ratio) → Contains side.users flow → rate_at rates flow ≡ None → IsTaken rates side total → IsWorth level (record { num = fits.parts flow; den = fits.per }) → SumFits (amount_of total) (amount_of level)
+  pub freezing_fits : (flow : ℕ) (total level : Ratio) → Contains side.users flow → rate_at rates flow ≡ None → IsTaken rates side total
+      → IsWorth level (record { num = fits.parts flow; den = fits.per }) → SumFits (amount_of total) (amount_of level)
   freezing_fits flow total level used rises is_taken worth =
-      part_fits total level (taken (parts_at rates fits.parts) side) (fits.parts flow) (user_somewhere flow side.users flows used fits.few) (is_taken.worth fits.per fits.parts fits.frozen) worth
+      part_fits total level (taken (parts_at rates fits.parts) side) (fits.parts flow) (user_somewhere flow side.users flows used fits.few)
+      (is_taken.worth fits.per fits.parts fits.frozen) worth
       (one_more (at_level (parts_at rates fits.parts) 0) fits.parts (had_at_most rates fits.parts) flow side.users used (ap (λ o. unwrap_or (option_map (λ _. fits.parts flow) o) 0) rises))
 
   -- the frozen users have no more than the cap
@@ -63,21 +72,31 @@ module _ (rates : List (Option Ratio)) (flows : ℕ) (side : Side) (fits : SideF
   rising_few = omega (arith, count_by-le-length (λ flow. is_none (rate_at rates flow)) side.users, fits.few)
 
   -- what the frozen users leave of the cap
-  pub rest_fits : (limit total : Ratio) → 0 < rising_users rates side → amount_of limit ≡ whole side.cap → IsTaken rates side total → DifferenceFits (amount_of limit) (amount_of total)
+  pub rest_fits : (limit total : Ratio) → 0 < rising_users rates side → amount_of limit ≡ whole side.cap → IsTaken rates side total
+      → DifferenceFits (amount_of limit) (amount_of total)
   rest_fits limit total some is_cap is_taken =
-      rw is_cap (difference_fits (amount_of total) fits.per (taken (parts_at rates fits.parts) side) side.cap flows fits.frozen.some_part (omega (arith, some, rising_few)) fits.small taken_within (exact_ratio total fits.per _ (is_taken.worth fits.per fits.parts fits.frozen)))
+      let had = taken (parts_at rates fits.parts) side in
+      let exactly = exact_ratio total fits.per had (is_taken.worth fits.per fits.parts fits.frozen) in
+      rw is_cap (difference_fits (amount_of total) fits.per had side.cap flows fits.frozen.some_part (omega (arith, some, rising_few)) fits.small taken_within exactly)
 
   taken_left : left_of fits.per (parts_at rates fits.parts) side ≤ side.cap * fits.per
   taken_left = omega arith
 
   -- what each rising user gets of that
-  pub share_fits : (limit total left count : Ratio) → 0 < rising_users rates side → amount_of limit ≡ whole side.cap → IsTaken rates side total → IsWorth left (minus (amount_of limit) (amount_of total)) → amount_of count ≡ whole (rising_users rates side) → ReducedFits (over (amount_of left) (amount_of count))
+  pub share_fits : (limit total left count : Ratio) → 0 < rising_users rates side → amount_of limit ≡ whole side.cap → IsTaken rates side total
+      → IsWorth left (minus (amount_of limit) (amount_of total)) → amount_of count ≡ whole (rising_users rates side)
+      → ReducedFits (over (amount_of left) (amount_of count))
   share_fits limit total left count some is_cap is_taken is_left is_count =
-      let left_worth = sub_parts left.numerator left.denominator limit.numerator limit.denominator total.numerator total.denominator side.cap (taken (parts_at rates fits.parts) side) fits.per limit.positive total.positive is_left (omega (arith, ap (λ a. a.num) is_cap, ap (λ a. side.cap * a.den) is_cap)) (is_taken.worth fits.per fits.parts fits.frozen) in
-      subst (λ a. ReducedFits (over (amount_of left) a)) (sym is_count) (quotient_fits (amount_of left) fits.per (left_of fits.per (parts_at rates fits.parts) side) (rising_users rates side) side.cap flows fits.frozen.some_part fits.small taken_left some rising_few (exact_ratio left fits.per _ left_worth))
+      let rest = left_of fits.per (parts_at rates fits.parts) side in
+      let cap_worth : limit.numerator * 1 ≡ side.cap * limit.denominator = omega (arith, ap (λ a. a.num) is_cap, ap (λ a. side.cap * a.den) is_cap) in
+      let left_worth = sub_parts left.numerator left.denominator limit.numerator limit.denominator total.numerator total.denominator side.cap
+      (taken (parts_at rates fits.parts) side) fits.per limit.positive total.positive is_left cap_worth (is_taken.worth fits.per fits.parts fits.frozen) in
+      subst (λ a. ReducedFits (over (amount_of left) a)) (sym is_count)
+      (quotient_fits (amount_of left) fits.per rest (rising_users rates side) side.cap flows fits.frozen.some_part fits.small taken_left some rising_few (exact_ratio left fits.per rest left_worth))
 
 -- each side fits where the fair rates do and the frozen ones are among them
-pub side_fits : (sides : List Side) (flows : ℕ) (fits : FairRatesFit sides flows) (rates : List (Option Ratio)) (side : Side) → AreWorth rates fits.per fits.parts → Contains sides side → length side.users ≤ flows → SideFits rates flows side
+pub side_fits : (sides : List Side) (flows : ℕ) (fits : FairRatesFit sides flows) (rates : List (Option Ratio)) (side : Side)
+    → AreWorth rates fits.per fits.parts → Contains sides side → length side.users ≤ flows → SideFits rates flows side
 side_fits sides flows fits rates side frozen listed few = record {
   per = fits.per;
   parts = fits.parts;
@@ -101,7 +120,9 @@ agree rates parts flow n = by_option (rate_at rates flow)
     by_option (Some rate) e = cc
 
 -- the least of all shares, over the parts of the fair rates
-least_share : (sides : List Side) (per : ℕ) (parts : ℕ → ℕ) (rates : List (Option Ratio)) (place : ℕ) (share : Ratio) → AreWorth rates per parts → (least : IsLeast rates sides (length sides) place share)
+least_share : (sides : List Side) (per : ℕ) (parts : ℕ → ℕ) (rates : List (Option Ratio)) (place : ℕ) (share : Ratio)
+    → AreWorth rates per parts
+    → (least : IsLeast rates sides (length sides) place share)
     → IsLeastShare sides per (parts_at rates parts) least.side share.numerator share.denominator
 least_share sides per parts rates place share frozen least = record {
   positive = share.positive;
@@ -110,11 +131,13 @@ least_share sides per parts rates place share frozen least = record {
   least = λ k d l. rw (rising-parts_at rates parts (get_or sides k d)) ((least.room k d l).room per parts frozen);
 }
 
-module _ (sides : List Side) (per : ℕ) (parts : ℕ → ℕ) (fair : IsFair sides per parts) (rates : List (Option Ratio)) (frozen : AreWorth rates per parts) (place : ℕ) (share : Ratio) (least : IsLeast rates sides (length sides) place share) where
+module _ (sides : List Side) (per : ℕ) (parts : ℕ → ℕ) (fair : IsFair sides per parts)
+    (rates : List (Option Ratio)) (frozen : AreWorth rates per parts) (place : ℕ) (share : Ratio) (least : IsLeast rates sides (length sides) place share) where
   -- the least share is the fair rate of the rising users of its side
   pub share_is_fair : (flow : ℕ) → Contains least.side.users flow → rate_at rates flow ≡ None → IsWorth share (record { num = parts flow; den = per })
   share_is_fair flow used rises =
-      exact sides per parts (parts_at rates parts) fair (agree rates parts) least.side share.numerator share.denominator (least_share sides per parts rates place share frozen least) flow used
+      exact sides per parts (parts_at rates parts) fair (agree rates parts) least.side share.numerator share.denominator
+      (least_share sides per parts rates place share frozen least) flow used
       (ap (λ o. option_map (λ _. parts flow) o) rises)
 
   -- so they may freeze at it

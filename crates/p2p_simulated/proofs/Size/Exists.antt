@@ -108,7 +108,8 @@ nothing_over : (n m : ℕ) → IsOver n m 0
 nothing_over n m = let e : 0 ≡ 0 * denominator_of m = omega arith in subst (λ k. denominator_of n ∣ k) e (dvd-zero (denominator_of n))
 
 -- after a round what each has is whole over the next entry
-over_after : (n : ℕ) (small : n ≤ 16) (m m' : ℕ) (users : List ℕ) (level : ℕ) (frozen : ℕ → Option ℕ) (flow : ℕ) → m ≤ m' → m' ≤ n → IsOver n m (at_level frozen 0 flow) → IsOver n m' level → IsOver n m' (at_level (freeze users level frozen) 0 flow)
+over_after : (n : ℕ) (small : n ≤ 16) (m m' : ℕ) (users : List ℕ) (level : ℕ) (frozen : ℕ → Option ℕ) (flow : ℕ)
+    → m ≤ m' → m' ≤ n → IsOver n m (at_level frozen 0 flow) → IsOver n m' level → IsOver n m' (at_level (freeze users level frozen) 0 flow)
 over_after n small m m' users level frozen flow le within was now =
     let after = freeze users level frozen in
     elim (none_or_some (frozen flow)) [
@@ -185,7 +186,8 @@ module _ (n : ℕ) (small : n ≤ 16) (sides : List Side) (among : HaveUsersAmon
           });
           count = omega (arith, s.count, fewer_rise users now frozen n apart in_range);
           few = omega (arith, s.few);
-          over = λ flow. over_after n small (n - risers) (n - (risers - k)) users now frozen flow (omega arith) (omega arith) (s.over flow) (subst (λ j. IsOver n j now) (entry n risers k s.few within) l.over);
+          over = λ flow. over_after n small (n - risers) (n - (risers - k)) users now frozen flow (omega arith) (omega arith) (s.over flow)
+              (subst (λ j. IsOver n j now) (entry n risers k s.few within) l.over);
         };
       }
 

@@ -78,7 +78,8 @@ module _ (p q r s per a b : ℕ) (some : 0 < per) (x : IsExactly p q per a) (y :
   -- the least common denominator divides the number of parts that make one
   pub common_divides : q / gcd q s * s ∣ per
   common_divides =
-      parts_divide (gcd q s) q s (q / gcd q s) (s / gcd q s) per (gcd-pos q s y.positive) some q_parts s_parts (IsReduced-swap (q / gcd q s) (s / gcd q s) (coprime_parts q s y.positive)) (divides p q per a some x) (divides r s per b some y)
+      parts_divide (gcd q s) q s (q / gcd q s) (s / gcd q s) per (gcd-pos q s y.positive) some q_parts s_parts
+      (IsReduced-swap (q / gcd q s) (s / gcd q s) (coprime_parts q s y.positive)) (divides p q per a some x) (divides r s per b some y)
 
   common_at_most : q / gcd q s * s ≤ per
   common_at_most = le_of_dvd some common_divides

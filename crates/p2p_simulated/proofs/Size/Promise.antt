@@ -23,7 +23,8 @@ few_users flows sides side among distinct listed =
     distinct_length flows side.users (All-contains (λ s. AreDistinct s.users) sides side distinct listed) (All-contains (λ s. All (λ user. user < flows) s.users) sides side among listed)
 
 -- where the fair rates fit and the frozen ones are among them, each side fits
-pub all_sides_fit : (sides : List Side) (flows : ℕ) (fits : FairRatesFit sides flows) (rates : List (Option Ratio)) → HaveUsersAmong flows sides → HaveDistinctUsers sides → AreWorth rates fits.per fits.parts → All (SideFits rates flows) sides
+pub all_sides_fit : (sides : List Side) (flows : ℕ) (fits : FairRatesFit sides flows) (rates : List (Option Ratio))
+    → HaveUsersAmong flows sides → HaveDistinctUsers sides → AreWorth rates fits.per fits.parts → All (SideFits rates flows) sides
 all_sides_fit sides flows fits rates among distinct frozen =
     All-by_contains (SideFits rates flows) sides (λ side listed. side_fits sides flows fits rates side frozen listed (few_users flows sides side among distinct listed))
 
@@ -49,22 +50,26 @@ same_worth : (num den per parts last other : ℕ) → 0 < per → num * per ≡ 
 same_worth num den per parts last other some worth same =
     eq_of_mul-eq-mul_right per some (num * last) (other * den) (omega (arith, ap (λ n. n * last) worth, ap (λ n. n * den) same))
 
-whole_rate : (sides : List Side) (per last : ℕ) (parts other : ℕ → ℕ) → IsFair sides per parts → IsFair sides last other → (flow : ℕ) (rate : Rate) → IsRateOf sides per parts flow rate → IsWholeOver last rate
+whole_rate : (sides : List Side) (per last : ℕ) (parts other : ℕ → ℕ)
+    → IsFair sides per parts → IsFair sides last other → (flow : ℕ) (rate : Rate) → IsRateOf sides per parts flow rate → IsWholeOver last rate
 whole_rate sides per last parts other fair fair' flow Unlimited rated = tt
 whole_rate sides per last parts other fair fair' flow (Finite ratio) rated =
     (other flow, same_worth ratio.numerator ratio.denominator per (parts flow) last (other flow) fair.some_part rated.1 (same_amounts sides per last parts other fair fair' flow rated.0))
 
 -- the fair rates of at most n flows are whole over the entry of the table at n
-pub whole_rates : (n : ℕ) (sides : List Side) (flows : ℕ) (rates : List Rate) → flows ≤ n → n ≤ 16 → HaveUsersAmong flows sides → HaveDistinctUsers sides → AreFairRates sides flows rates → AreWholeOver (denominator_of n) rates
+pub whole_rates : (n : ℕ) (sides : List Side) (flows : ℕ) (rates : List Rate)
+    → flows ≤ n → n ≤ 16 → HaveUsersAmong flows sides → HaveDistinctUsers sides → AreFairRates sides flows rates → AreWholeOver (denominator_of n) rates
 whole_rates n sides flows rates le small among distinct fair =
     let among_n : HaveUsersAmong n sides = λ k d l i e inside. let below : get_or (get_or sides k d).users i e < flows = among k d l i e inside in omega arith in
     let other = fair_parts n small sides among_n distinct in
     λ flow d l. whole_rate sides fair.per (denominator_of n) fair.parts other.0 fair.fair other.1 flow (get_or rates flow d) (fair.rated flow d (omega (arith, l, fair.one_each)))
 
 -- of at most four flows twelve times each rate is whole
-pub twelfths : (sides : List Side) (flows : ℕ) (rates : List Rate) → flows ≤ 4 → HaveUsersAmong flows sides → HaveDistinctUsers sides → AreFairRates sides flows rates → AreWholeOver 12 rates
+pub twelfths : (sides : List Side) (flows : ℕ) (rates : List Rate)
+    → flows ≤ 4 → HaveUsersAmong flows sides → HaveDistinctUsers sides → AreFairRates sides flows rates → AreWholeOver 12 rates
 twelfths sides flows rates small among distinct fair = whole_rates 4 sides flows rates small (omega arith) among distinct fair
 
 -- and of at most sixteen, 54486432000 times
-pub whole_of_sixteen : (sides : List Side) (flows : ℕ) (rates : List Rate) → flows ≤ 16 → HaveUsersAmong flows sides → HaveDistinctUsers sides → AreFairRates sides flows rates → AreWholeOver 54486432000 rates
+pub whole_of_sixteen : (sides : List Side) (flows : ℕ) (rates : List Rate)
+    → flows ≤ 16 → HaveUsersAmong flows sides → HaveDistinctUsers sides → AreFairRates sides flows rates → AreWholeOver 54486432000 rates
 whole_of_sixteen sides flows rates small among distinct fair = whole_rates 16 sides flows rates small (omega arith) among distinct fair
