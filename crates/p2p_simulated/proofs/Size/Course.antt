@@ -1,11 +1,11 @@
 -- What filling computes for a side fits, step by step, where the side fits; and while filling the fair rates stay fair.
-use Rattle.std.proofs.Common.{◌≡◌, ℕ, ◌+◌, ◌-◌, ◌*◌, ◌^◌, ◌<◌, ◌≤◌, List, [], ◌∷◌, length, get_or, Contains, sum_by, inl, inr, refl, sym, ap, ◌∙◌, subst, arith, Option, Some, None, is_none}
+use Rattle.std.proofs.Common.{◌≡◌, ℕ, ◌+◌, ◌-◌, ◌*◌, ◌^◌, ◌<◌, ◌≤◌, List, [], ◌∷◌, length, get_or, All, Contains, sum_by, inl, inr, refl, sym, ap, ◌∙◌, subst, arith, Option, Some, None, is_none}
 use Rattle.std.specs.Prelude.{unwrap_or, option_map}
 use Rattle.std.proofs.lemmas.List.Elements.{All-contains}
 use Rattle.std.proofs.lemmas.List.Sums.{sum_by-cons, get_or-le-sum_by, sum_by_more_le_part, sum_by-le-sum_by, count_by-le-length}
 use Rattle.p2p_simulated.specs.Amount.{whole, minus, over}
 use Rattle.p2p_simulated.specs.Fair.{Side, load, IsFair}
-use Rattle.p2p_simulated.specs.Filling.{at_level, taken, left_of, rising_users, rate_at, parts_at, AreWorth, IsTaken, IsLeast, FreezesAll}
+use Rattle.p2p_simulated.specs.Filling.{at_level, taken, rising_users, rate_at, parts_at, AreWorth, IsTaken, IsShare, HasRoomAt, IsLeast, FreezesAll}
 use Rattle.p2p_simulated.specs.Fits.{SumFits, DifferenceFits, ReducedFits}
 use Rattle.p2p_simulated.specs.Ratio.{amount_of, IsWorth}
 use Rattle.p2p_simulated.specs.Size.{FairRatesFit, SideFits}
@@ -48,6 +48,37 @@ module _ (rates : List (Option Ratio)) (flows : ℕ) (side : Side) (fits : SideF
       sum_fits (amount_of total) (amount_of rate) fits.per a b side.cap flows fits.frozen.some_part some fits.small (omega (arith, le, fits.within))
       (exact_ratio total fits.per a first) (exact_ratio rate fits.per b second)
 
+  -- what they leave of the cap
+  pub part_rest_fits : (limit total : Ratio) (a : ℕ)
+      → 0 < flows
+      → amount_of limit ≡ whole side.cap
+      → IsWorth total (record { num = a; den = fits.per })
+      → a ≤ load fits.parts side
+      → DifferenceFits (amount_of limit) (amount_of total)
+  part_rest_fits limit total a some is_cap worth le =
+      let exactly = exact_ratio total fits.per a worth in
+      rw is_cap (difference_fits (amount_of total) fits.per a side.cap flows fits.frozen.some_part some fits.small (omega (arith, le, fits.within)) exactly)
+
+  -- what each of some other users gets of that
+  pub part_share_fits : (limit total left count : Ratio) (a k : ℕ)
+      → 0 < k
+      → k ≤ flows
+      → amount_of limit ≡ whole side.cap
+      → IsWorth total (record { num = a; den = fits.per })
+      → IsWorth left (minus (amount_of limit) (amount_of total))
+      → amount_of count ≡ whole k
+      → ReducedFits (over (amount_of left) (amount_of count))
+  part_share_fits limit total left count a k some few is_cap worth is_left is_count =
+      let rest = side.cap * fits.per - a in
+      let cap_worth : limit.numerator * 1 ≡ side.cap * limit.denominator = omega (arith, ap (λ n. n.num) is_cap, ap (λ n. side.cap * n.den) is_cap) in
+      let left_worth = sub_parts left.numerator left.denominator limit.numerator limit.denominator total.numerator total.denominator side.cap a fits.per limit.positive total.positive is_left cap_worth worth in
+      let exactly = exact_ratio left fits.per rest left_worth in
+      subst (λ n. ReducedFits (over (amount_of left) n)) (sym is_count)
+      (quotient_fits (amount_of left) fits.per rest k side.cap flows fits.frozen.some_part fits.small (at_most_all (side.cap * fits.per) a) some few exactly)
+    where
+      at_most_all : (n a : ℕ) → n - a ≤ n
+      at_most_all n a = omega arith
+
   -- one user more, in the order of the list
   pub user_fits : (i : ℕ) (total rate : Ratio) → i < length side.users → IsTaken rates (first_users i side) total
       → rate_at rates (get_or side.users i 0) ≡ Some rate → SumFits (amount_of total) (amount_of rate)
@@ -64,35 +95,24 @@ module _ (rates : List (Option Ratio)) (flows : ℕ) (side : Side) (fits : SideF
       (is_taken.worth fits.per fits.parts fits.frozen) worth
       (one_more (at_level (parts_at rates fits.parts) 0) fits.parts (had_at_most rates fits.parts) flow side.users used (ap (λ o. unwrap_or (option_map (λ _. fits.parts flow) o) 0) rises))
 
-  -- the frozen users have no more than the cap
-  pub taken_within : taken (parts_at rates fits.parts) side ≤ side.cap * fits.per
-  taken_within = omega (arith, sum_by-le-sum_by (at_level (parts_at rates fits.parts) 0) fits.parts side.users (had_at_most rates fits.parts), fits.within)
+  taken_within : taken (parts_at rates fits.parts) side ≤ load fits.parts side
+  taken_within = sum_by-le-sum_by (at_level (parts_at rates fits.parts) 0) fits.parts side.users (had_at_most rates fits.parts)
 
   rising_few : rising_users rates side ≤ flows
   rising_few = omega (arith, count_by-le-length (λ flow. is_none (rate_at rates flow)) side.users, fits.few)
 
-  -- what the frozen users leave of the cap
+  -- what all frozen users leave of the cap
   pub rest_fits : (limit total : Ratio) → 0 < rising_users rates side → amount_of limit ≡ whole side.cap → IsTaken rates side total
       → DifferenceFits (amount_of limit) (amount_of total)
   rest_fits limit total some is_cap is_taken =
-      let had = taken (parts_at rates fits.parts) side in
-      let exactly = exact_ratio total fits.per had (is_taken.worth fits.per fits.parts fits.frozen) in
-      rw is_cap (difference_fits (amount_of total) fits.per had side.cap flows fits.frozen.some_part (omega (arith, some, rising_few)) fits.small taken_within exactly)
-
-  taken_left : left_of fits.per (parts_at rates fits.parts) side ≤ side.cap * fits.per
-  taken_left = omega arith
+      part_rest_fits limit total (taken (parts_at rates fits.parts) side) (omega (arith, some, rising_few)) is_cap (is_taken.worth fits.per fits.parts fits.frozen) taken_within
 
   -- what each rising user gets of that
   pub share_fits : (limit total left count : Ratio) → 0 < rising_users rates side → amount_of limit ≡ whole side.cap → IsTaken rates side total
       → IsWorth left (minus (amount_of limit) (amount_of total)) → amount_of count ≡ whole (rising_users rates side)
       → ReducedFits (over (amount_of left) (amount_of count))
   share_fits limit total left count some is_cap is_taken is_left is_count =
-      let rest = left_of fits.per (parts_at rates fits.parts) side in
-      let cap_worth : limit.numerator * 1 ≡ side.cap * limit.denominator = omega (arith, ap (λ a. a.num) is_cap, ap (λ a. side.cap * a.den) is_cap) in
-      let left_worth = sub_parts left.numerator left.denominator limit.numerator limit.denominator total.numerator total.denominator side.cap
-      (taken (parts_at rates fits.parts) side) fits.per limit.positive total.positive is_left cap_worth (is_taken.worth fits.per fits.parts fits.frozen) in
-      subst (λ a. ReducedFits (over (amount_of left) a)) (sym is_count)
-      (quotient_fits (amount_of left) fits.per rest (rising_users rates side) side.cap flows fits.frozen.some_part fits.small taken_left some rising_few (exact_ratio left fits.per rest left_worth))
+      part_share_fits limit total left count (taken (parts_at rates fits.parts) side) (rising_users rates side) some rising_few is_cap (is_taken.worth fits.per fits.parts fits.frozen) is_left is_count
 
 -- each side fits where the fair rates do and the frozen ones are among them
 pub side_fits : (sides : List Side) (flows : ℕ) (fits : FairRatesFit sides flows) (rates : List (Option Ratio)) (side : Side)
@@ -119,38 +139,38 @@ agree rates parts flow n = by_option (rate_at rates flow)
     by_option None e = cc
     by_option (Some rate) e = cc
 
--- the least of all shares, over the parts of the fair rates
-least_share : (sides : List Side) (per : ℕ) (parts : ℕ → ℕ) (rates : List (Option Ratio)) (place : ℕ) (share : Ratio)
-    → AreWorth rates per parts
-    → (least : IsLeast rates sides (length sides) place share)
-    → IsLeastShare sides per (parts_at rates parts) least.side share.numerator share.denominator
-least_share sides per parts rates place share frozen least = record {
-  positive = share.positive;
-  listed = (place, least.inside, least.listed least.side);
-  share = rw (rising-parts_at rates parts least.side) (least.exact.worth per parts frozen);
-  least = λ k d l. rw (rising-parts_at rates parts (get_or sides k d)) ((least.room k d l).room per parts frozen);
-}
+module _ (sides : List Side) (per : ℕ) (parts : ℕ → ℕ) (fair : IsFair sides per parts) (rates : List (Option Ratio)) (frozen : AreWorth rates per parts) where
+  module _ (side : Side) (share : Ratio) (listed : Contains sides side) (is_share : IsShare rates side share) (room : All (HasRoomAt rates share) sides) where
+    least_share : IsLeastShare sides per (parts_at rates parts) side share.numerator share.denominator
+    least_share = record {
+      positive = share.positive;
+      listed = listed;
+      share = rw (rising-parts_at rates parts side) (is_share.worth per parts frozen);
+      least = λ k d l. rw (rising-parts_at rates parts (get_or sides k d)) ((room k d l).room per parts frozen);
+    }
 
-module _ (sides : List Side) (per : ℕ) (parts : ℕ → ℕ) (fair : IsFair sides per parts)
-    (rates : List (Option Ratio)) (frozen : AreWorth rates per parts) (place : ℕ) (share : Ratio) (least : IsLeast rates sides (length sides) place share) where
-  -- the least share is the fair rate of the rising users of its side
-  pub share_is_fair : (flow : ℕ) → Contains least.side.users flow → rate_at rates flow ≡ None → IsWorth share (record { num = parts flow; den = per })
-  share_is_fair flow used rises =
-      exact sides per parts (parts_at rates parts) fair (agree rates parts) least.side share.numerator share.denominator
-      (least_share sides per parts rates place share frozen least) flow used
-      (ap (λ o. option_map (λ _. parts flow) o) rises)
+    -- a share at which all sides have room is the fair rate of the rising users of its side
+    pub share_is_fair : (flow : ℕ) → Contains side.users flow → rate_at rates flow ≡ None → IsWorth share (record { num = parts flow; den = per })
+    share_is_fair flow used rises =
+        exact sides per parts (parts_at rates parts) fair (agree rates parts) side share.numerator share.denominator least_share flow used
+        (ap (λ o. option_map (λ _. parts flow) o) rises)
 
-  -- so they may freeze at it
-  pub fair_after : (after : List (Option Ratio)) → FreezesAll least.side.users rates after share → AreWorth after per parts
-  fair_after after freezes = record {
-    some_part = frozen.some_part;
-    worth = λ flow rate e. elim (none_or_some (rate_at rates flow)) [
-      | inl rises ↦
-          let fresh = freezes.fresh flow rate rises e in
-          subst (λ r. IsWorth r (record { num = parts flow; den = per })) (sym fresh.0) (share_is_fair flow fresh.1 rises)
-      | inr (was, e') ↦
-          let kept = freezes.kept flow was e' in
-          let same : rate ≡ was = cc in
-          frozen.worth flow rate (e' ∙ ap Some (sym same))
-    ];
-  }
+    -- so they may freeze at it
+    pub fair_after_share : (after : List (Option Ratio)) → FreezesAll side.users rates after share → AreWorth after per parts
+    fair_after_share after freezes = record {
+      some_part = frozen.some_part;
+      worth = λ flow rate e. elim (none_or_some (rate_at rates flow)) [
+        | inl rises ↦
+            let fresh = freezes.fresh flow rate rises e in
+            subst (λ r. IsWorth r (record { num = parts flow; den = per })) (sym fresh.0) (share_is_fair flow fresh.1 rises)
+        | inr (was, e') ↦
+            let kept = freezes.kept flow was e' in
+            let same : rate ≡ was = cc in
+            frozen.worth flow rate (e' ∙ ap Some (sym same))
+      ];
+    }
+
+  -- and so they may at the least share
+  pub fair_after : (place : ℕ) (share : Ratio) (least : IsLeast rates sides (length sides) place share) (after : List (Option Ratio)) → FreezesAll least.side.users rates after share → AreWorth after per parts
+  fair_after place share least after freezes =
+      fair_after_share least.side share (place, least.inside, least.listed least.side) least.exact least.room after freezes
