@@ -31,6 +31,10 @@ pub record SideFits (rates : List (Option Ratio)) (flows : ℕ) (side : Side) : 
   pub few : length side.users ≤ flows
   pub small : per * flows * side.cap < 2 ^ 128
 
+-- the frozen rates are fair ones: those of whatever fair rates fit
+pub record AgreesWithFair (rates : List (Option Ratio)) (sides : List Side) (flows : ℕ) : Type 0 where
+  pub agrees : (fits : FairRatesFit sides flows) → AreWorth rates fits.per fits.parts
+
 -- the rate, if it is finite, is a whole number of parts, `per` of which are one byte a second
 abbrev pub IsWholeOver : ℕ → Rate → Type 0
 IsWholeOver per Unlimited = Unit {0}
