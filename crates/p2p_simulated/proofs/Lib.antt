@@ -20,4 +20,5 @@ pub mod Subjects
 pub mod Times
 pub mod Users
 pub mod Wording
+pub mod Size
 pub mod World

@@ -21,6 +21,7 @@ pub mod Session
 pub mod Sides
 pub mod Time
 pub mod Words
+pub mod Size
 pub mod World
 pub mod WorldCalls
 pub mod WorldEvents
