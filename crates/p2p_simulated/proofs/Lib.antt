@@ -15,10 +15,10 @@ pub mod Ratios
 pub mod Reading
 pub mod Registry
 pub mod Shares
+pub mod Size
 pub mod Splitting
 pub mod Subjects
 pub mod Times
 pub mod Users
 pub mod Wording
-pub mod Size
 pub mod World

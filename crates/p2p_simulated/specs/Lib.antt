@@ -19,9 +19,9 @@ pub mod Registering
 pub mod Script
 pub mod Session
 pub mod Sides
+pub mod Size
 pub mod Time
 pub mod Words
-pub mod Size
 pub mod World
 pub mod WorldCalls
 pub mod WorldEvents
