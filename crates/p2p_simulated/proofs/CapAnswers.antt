@@ -5,7 +5,8 @@ use Rattle.std.specs.Ordering.{nat_cmp}
 use Rattle.p2p_simulated.specs.declared.bandwidth.Flow.{Flow}
 use Rattle.p2p_simulated.specs.declared.bandwidth.Rate.{Rate}
 use Rattle.p2p_simulated.specs.Answers.{Answered, Calls, NoLink, States, CallsFor, CalledIfDelivered, AnswerInOrder}
-use Rattle.p2p_simulated.specs.PeerCaps.{Caps, answered_under}
+use Rattle.p2p_simulated.specs.Caps.{Caps}
+use Rattle.p2p_simulated.specs.PeerCaps.{answered_under}
 use Rattle.p2p_simulated.specs.Rates.{AreFairRates, IsAllocation}
 use Rattle.p2p_simulated.specs.Session.{AreRatesUnder}
 use Rattle.p2p_simulated.specs.Sides.{sides_of}

@@ -1,6 +1,7 @@
 pub mod Amount
 pub mod Answer
 pub mod Answers
+pub mod Caps
 pub mod Code
 pub mod Fair
 pub mod FairExample

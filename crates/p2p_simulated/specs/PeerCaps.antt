@@ -10,7 +10,7 @@ use Rattle.p2p_simulated.specs.Answers.{Answered, Calls, PairCalls, States, Answ
 use Rattle.p2p_simulated.specs.Fair.{Side}
 use Rattle.p2p_simulated.specs.FairPart.{kept}
 use Rattle.p2p_simulated.specs.Rates.{AreFairRates, last_rate}
-use Rattle.p2p_simulated.specs.WorldMessages.{Caps, CapsAlike}
+use Rattle.p2p_simulated.specs.Caps.{Caps, CapsAlike}
 use Rattle.p2p_simulated.specs.Sides.{Subject, sent_by, received_by, sent_between, same_peer, sides_of}
 
 -- the cap of what a side limits

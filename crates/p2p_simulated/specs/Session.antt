@@ -9,7 +9,8 @@ use Rattle.p2p_simulated.specs.declared.linkrun.answer.Answer.TheVariants as ans
 use Rattle.p2p_simulated.specs.declared.linkrun.command.Command.{Command}
 use Rattle.p2p_simulated.specs.declared.linkrun.command.Command.TheVariants as commands
 use Rattle.p2p_simulated.specs.declared.linkrun.session.Session.{Session}
-use Rattle.p2p_simulated.specs.PeerCaps.{Caps, answered_under}
+use Rattle.p2p_simulated.specs.Caps.{Caps}
+use Rattle.p2p_simulated.specs.PeerCaps.{answered_under}
 use Rattle.p2p_simulated.specs.Rates.{AreFairRates, last_rate}
 use Rattle.p2p_simulated.specs.Sides.{sides_of}
 
