@@ -1,3 +1,4 @@
+pub mod Asking
 pub mod Callable
 pub mod CapAnswers
 pub mod Denominators
@@ -6,6 +7,7 @@ pub mod Fairness
 pub mod Filling
 pub mod FractionFits
 pub mod LastRates
+pub mod Later
 pub mod NoLinks
 pub mod Numerals
 pub mod Passes
@@ -20,5 +22,6 @@ pub mod Splitting
 pub mod Subjects
 pub mod Times
 pub mod Users
+pub mod Uses
 pub mod Wording
 pub mod World

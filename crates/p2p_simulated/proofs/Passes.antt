@@ -3,13 +3,16 @@ use Rattle.std.proofs.Common.{subst, suc, ◌≡◌, ℕ, ◌+◌, ◌<◌, Bool
 use Rattle.std.proofs.Math.Seq.{take-suc}
 use Rattle.std.proofs.lemmas.List.{append-nil, map-append}
 use Rattle.std.proofs.lemmas.Fn.{FoldsTo-push}
+use Rattle.std.specs.Cmp.{IsTotalOrder}
 use Rattle.std.specs.List.{FoldsTo}
 use Rattle.std.specs.declared.cmp.Ordering.{Ordering}
 use Rattle.p2p_simulated.specs.declared.bandwidth.Flow.{Flow}
 use Rattle.p2p_simulated.specs.declared.bandwidth.sides.Registry.{Registry}
+use Rattle.p2p_simulated.specs.declared.bandwidth.sides.Uses.{Uses}
 use Rattle.p2p_simulated.specs.Answers.{Answered, Calls, PairCalls, CalledIfDelivered, States, CallsFor, CallableOnEach, CallableOnEachPair, origins, recipients, pairs}
-use Rattle.p2p_simulated.specs.Sides.{Ask, sent_by, received_by, sent_between, asks_of_one, asks_from}
-use Rattle.p2p_simulated.specs.Registering.{IsRegistryOf}
+use Rattle.p2p_simulated.specs.Sides.{asks_of_one, asks_from}
+use Rattle.p2p_simulated.specs.Registering.{IsRegistryOf, AreUses}
+use Rattle.p2p_simulated.proofs.Asking.{Asked, all_asked, all_used}
 
 -- what one flow more asks for stands at the end
 asks_from-push : {P : Type 0} (n m : ℕ) (answered : List (Answered P)) (a : Answered P) → m ≡ n + length answered
@@ -20,52 +23,33 @@ asks_from-push n m (b ∷ answered) a e =
 
 module _ {P E I L : Type 0} (cmp : P → P → Ordering) (egress : Calls E P) (ingress : Calls I P) (link : PairCalls L P) where
   -- what the pass over the first n flows has done
-  pub record Passed (first : States E I L) (flows : List (Flow P)) (n : ℕ) (now : States E I L) (registry : Registry P) : Type 0 where
+  pub record Passed (first : States E I L) (flows : List (Flow P)) (n : ℕ) (now : States E I L) (registry : Registry P) (uses : List Uses) : Type 0 where
     pub answered : List (Answered P)
     pub count : length answered ≡ n
     pub flows_are : map (λ a. a.flow) answered ≡ take n flows
     pub calls : FoldsTo (CallsFor egress ingress link) first answered now
     pub registered : IsRegistryOf cmp (asks_from 0 answered) registry
+    pub used : AreUses registry.sides.items n uses
 
-  -- the asks of the flow at place n, one after another
-  pub record Asked (n : ℕ) (a : Answered P) (old new : Registry P) : Type 0 where
-    pub asked : (asks : List (Ask P)) → IsRegistryOf cmp asks old
-        → IsRegistryOf cmp (((asks ++ record { place = n; subject = sent_by a.flow.origin; answer = a.egress } ∷ [])
-        ++ cond a.flow.delivered (record { place = n; subject = received_by a.flow.recipient; answer = a.ingress } ∷ []) [])
-        ++ record { place = n; subject = sent_between a.flow.origin a.flow.recipient; answer = a.link } ∷ []) new
-
-  pub passed : (first : States E I L) (flows : List (Flow P)) (n : ℕ) (before : States E I L) (old : Registry P)
-      → Passed first flows n before old
-      → (a : Answered P) (after : States E I L) (new : Registry P)
+  pub passed : IsTotalOrder cmp → (n : ℕ) (a : Answered P) (u : Uses) (old new : Registry P) → Asked cmp n a u old new
+      → (first : States E I L) (flows : List (Flow P)) (before after : States E I L) (uses : List Uses)
+      → Passed first flows n before old uses
       → n < length flows
       → a.flow ≡ get_or flows n a.flow
       → CallsFor egress ingress link before a after
-      → Asked n a old new
-      → Passed first flows (n + 1) after new
-  passed first flows n before old h a after new below is calls asked =
-      let egress_ask : Ask P = record { place = n; subject = sent_by a.flow.origin; answer = a.egress } in
-      let ingress_ask : List (Ask P) = cond a.flow.delivered (record { place = n; subject = received_by a.flow.recipient; answer = a.ingress } ∷ []) [] in
-      let link_ask : Ask P = record { place = n; subject = sent_between a.flow.origin a.flow.recipient; answer = a.link } in
-      let together : ((asks_from 0 h.answered ++ egress_ask ∷ []) ++ ingress_ask) ++ link_ask ∷ [] ≡ asks_from 0 (h.answered ++ a ∷ []) =
-      ap (λ asks. asks ++ link_ask ∷ []) (append_assoc (asks_from 0 h.answered) (egress_ask ∷ []) ingress_ask)
-      ∙ append_assoc (asks_from 0 h.answered) (egress_ask ∷ [] ++ ingress_ask) (link_ask ∷ [])
-      ∙ sym (asks_from-push 0 n h.answered a (omega (arith, h.count))) in
+      → Passed first flows (n + 1) after new (uses ++ u ∷ [])
+  passed o n a u old new asked first flows before after uses p below is calls =
+      let registered : IsRegistryOf cmp (asks_from 0 (p.answered ++ a ∷ [])) new =
+      subst (λ asks. IsRegistryOf cmp asks new) (sym (asks_from-push 0 n p.answered a (omega (arith, p.count)))) (all_asked cmp n a u old new asked (asks_from 0 p.answered) p.registered) in
       record {
-        answered = h.answered ++ a ∷ [];
-        count = omega (arith, length-append h.answered (a ∷ []), h.count);
-        flows_are = map-append (λ b. b.flow) h.answered (a ∷ []) ∙ ap (λ fs. fs ++ a.flow ∷ []) h.flows_are
+        answered = p.answered ++ a ∷ [];
+        count = omega (arith, length-append p.answered (a ∷ []), p.count);
+        flows_are = map-append (λ b. b.flow) p.answered (a ∷ []) ∙ ap (λ fs. fs ++ a.flow ∷ []) p.flows_are
             ∙ ap (λ g. take n flows ++ g ∷ []) is ∙ sym (take-suc flows n a.flow below) ∙ ap (λ k. take k flows) (sym (add-one n));
-        calls = FoldsTo-push (CallsFor egress ingress link) first h.answered before a after h.calls calls;
-        registered = subst (λ asks. IsRegistryOf cmp asks new) together (asked.asked (asks_from 0 h.answered) h.registered);
+        calls = FoldsTo-push (CallsFor egress ingress link) first p.answered before a after p.calls calls;
+        registered = registered;
+        used = all_used cmp n a u old new asked o uses (asks_from 0 (p.answered ++ a ∷ [])) registered p.used;
       }
-
--- a delivered flow asks for the ingress of its recipient, and one that is not asks for nothing
-module _ {P : Type 0} (cmp : P → P → Ordering) (asks : List (Ask P)) where
-  pub with_recipient : (b : Bool) (ask : Ask P) (registry : Registry P) → b ≡ true → IsRegistryOf cmp (asks ++ ask ∷ []) registry → IsRegistryOf cmp (asks ++ cond b (ask ∷ []) []) registry
-  with_recipient b ask registry e h = subst (λ c. IsRegistryOf cmp (asks ++ cond c (ask ∷ []) []) registry) (sym e) h
-
-  pub without_recipient : (b : Bool) (ask : Ask P) (registry : Registry P) → b ≡ false → IsRegistryOf cmp asks registry → IsRegistryOf cmp (asks ++ cond b (ask ∷ []) []) registry
-  without_recipient b ask registry e h = subst (λ c. IsRegistryOf cmp (asks ++ cond c (ask ∷ []) []) registry) (sym e) (subst (λ a. IsRegistryOf cmp a registry) (sym (append-nil asks)) h)
 
 pub called : {P I : Type 0} (call : Calls I P) (i : I) (p : P) (answer : Option ℕ) (j : I) (b : Bool)
     → b ≡ true → call i p answer j → CalledIfDelivered call b i p answer j

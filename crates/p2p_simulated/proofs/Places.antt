@@ -1,6 +1,6 @@
 -- The users of a side are places in the list of flows, each above those before it.
-use Rattle.std.proofs.Common.{◌≡◌, ℕ, zero, suc, ◌+◌, ◌<◌, ◌≤◌, Bool, true, false, cond, List, [], ◌∷◌, ◌++◌, Option, Some, None, length, get_or, map, refl, sym, ◌∙◌, arith, subst}
-use Rattle.std.specs.Prelude.{All, AllPairs}
+use Rattle.std.proofs.Common.{◌≡◌, ℕ, ◌+◌, ◌<◌, ◌≤◌, Bool, true, false, cond, List, [], ◌∷◌, ◌++◌, Option, Some, None, length, get_or, map, refl, sym, ◌∙◌, arith, subst}
+use Rattle.std.specs.Prelude.{All}
 use Rattle.std.specs.List.{filter}
 use Rattle.std.proofs.lemmas.List.Elements.{All-nil, All-cons, All-append, All-weaker, All-filter, All-map, All-head, All-tail, filter_passes}
 use Rattle.std.specs.Cmp.{IsTotalOrder}
@@ -10,18 +10,12 @@ use Rattle.p2p_simulated.specs.declared.bandwidth.sides.Side as declared_side
 use Rattle.std.proofs.lemmas.List.{get_or-map, length-map}
 use Rattle.p2p_simulated.specs.Answers.{Answered}
 use Rattle.p2p_simulated.specs.Sides.{Ask, sent_by, received_by, sent_between, asks_of_one, asks_from, is_same, is_open, opened, sides_after, sides_of}
+use Rattle.p2p_simulated.proofs.Later.{EachLater}
 use Rattle.p2p_simulated.proofs.Subjects.{same_congr}
 
 -- each number is below all later ones
 abbrev pub Rises : List ℕ → Type 0
-Rises [] = Unit {0}
-Rises (x ∷ xs) = All (λ y. x < y) xs × Rises xs
-
-pub AllPairs-from_rises : (xs : List ℕ) → Rises xs → AllPairs (λ a b. a < b) xs
-AllPairs-from_rises [] h i j d before within = absurd (omega arith)
-AllPairs-from_rises (x ∷ xs) h i zero d before within = absurd (omega arith)
-AllPairs-from_rises (x ∷ xs) h zero (suc j) d before within = h.0 j d (omega arith)
-AllPairs-from_rises (x ∷ xs) h (suc i) (suc j) d before within = AllPairs-from_rises xs h.1 i j d (omega arith) (omega arith)
+Rises xs = EachLater (λ a b. a < b) xs
 
 -- two facts of each element give a third
 All-both : {X : Type 0} (P Q R : X → Type 0) → ((x : X) → P x → Q x → R x) → (xs : List X) → All P xs → All Q xs → All R xs

@@ -20,13 +20,13 @@ get_other (y ∷ xs) zero (suc k) x e = refl
 get_other (y ∷ xs) (suc n) zero x e = refl
 get_other (y ∷ xs) (suc n) (suc k) x e = get_other xs n k x (λ h. e (ap suc h))
 
-get_before : {X : Type 0} (xs : List X) (k : ℕ) (x : X) → k ≢ length xs → slice_get (xs ++ x ∷ []) k ≡ slice_get xs k
+pub get_before : {X : Type 0} (xs : List X) (k : ℕ) (x : X) → k ≢ length xs → slice_get (xs ++ x ∷ []) k ≡ slice_get xs k
 get_before [] zero x e = absurd (e refl)
 get_before [] (suc k) x e = refl
 get_before (y ∷ xs) zero x e = refl
 get_before (y ∷ xs) (suc k) x e = get_before xs k x (λ h. e (ap suc h))
 
-get_last : {X : Type 0} (xs : List X) (x : X) → slice_get (xs ++ x ∷ []) (length xs) ≡ Some x
+pub get_last : {X : Type 0} (xs : List X) (x : X) → slice_get (xs ++ x ∷ []) (length xs) ≡ Some x
 get_last [] x = refl
 get_last (y ∷ xs) x = get_last xs x
 

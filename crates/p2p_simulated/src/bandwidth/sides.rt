@@ -4,7 +4,7 @@ ghost use Rattle.std.specs.Fn.{CalledAt, TakesAt, CalledAtTwo, TakesAtTwo};
 ghost use Rattle.p2p_simulated.specs.Answers.{Answered, States, AnswerInOrder, CallableOnEach, CallableOnEachPair, origins, recipients, pairs};
 ghost use Rattle.p2p_simulated.specs.Sides.{Ask, sides_of};
 ghost use Rattle.p2p_simulated.specs.Code.{side_of};
-ghost use Rattle.p2p_simulated.specs.Registering.{subject_of, IsRegistryOf, FindsSides, AddsUser};
+ghost use Rattle.p2p_simulated.specs.Registering.{FindsSides, Registers, AreUses};
 
 use crate::bandwidth::Flow;
 use crate::error::Error;
@@ -62,9 +62,7 @@ fn register<'a, P: Peer>(
     answer: Option<u128>,
 ) -> Result<Option<usize>, Error>
     requires { FindsSides P.cmp registry.old }
-    ensures registered { OnOk result ((asks : List (Ask P)) → IsRegistryOf P.cmp asks registry.old
-        → IsRegistryOf P.cmp (asks ++ record { place = place; subject = subject_of subject.entry; answer = answer } ∷ []) registry.new) }
-    ensures used { IfOk result (λ number. AddsUser registry.old.sides.items registry.new.sides.items number place) }
+    ensures registers { IfOk result (Registers P.cmp place subject.entry answer registry.old registry.new) }
     ensures refused { IfErr result (λ e. e ≡ Error.OutOfMemory) }
 {
     if let Some(number) = registry.numbers.get(&subject).copied() {
@@ -101,6 +99,7 @@ where
     ensures sides { IfOk result (λ registered. (answered : List (Answered P))
         × AnswerInOrder (CalledAt E.FnMut) (CalledAt I.FnMut) (CalledAtTwo L.FnMut) (record { egress = egress_cap; ingress = ingress_cap; link = link_cap }) flows.now answered
         × (map side_of registered.sides.items ≡ sides_of P.cmp answered)) }
+    ensures uses { IfOk result (λ registered. AreUses registered.sides.items (length flows.now) registered.uses.items) }
     ensures users_are_flows { IfOk result (λ registered. All (λ side. All (λ flow. flow < length flows.now) side.users.items) registered.sides.items) }
     ensures users_rise { IfOk result (λ registered. All (λ side. AllPairs (λ a b. a < b) side.users.items) registered.sides.items) }
     ensures refused { IfErr result (λ e. e ≡ Error.OutOfMemory) }
