@@ -15,3 +15,5 @@ pub mod Part
 pub mod Apart
 pub mod Users
 pub mod Order
+pub mod Allocation
+pub mod ByCaps

@@ -1,3 +1,4 @@
+pub mod AllocationLaws
 pub mod Amount
 pub mod Answer
 pub mod Answers

@@ -11,8 +11,9 @@ use Rattle.p2p_simulated.specs.Fair.{Side}
 use Rattle.p2p_simulated.specs.Sides.{Subject, sent_by, received_by, sent_between, Ask, same_peer, same_subject, is_same, is_open, opened, sides_after, asks_from}
 use Rattle.p2p_simulated.specs.WorldMessages.{Caps}
 use Rattle.p2p_simulated.specs.PeerCaps.{cap_of, answered_under, AreOfPeers, limits, places_from, sides_under, IsCappedSide, SidesAreOfTheCaps}
+use Rattle.p2p_simulated.proofs.Subjects.{same_itself, same_symm, same_congr}
 use Rattle.p2p_simulated.proofs.Fairness.Members.{In, in_left, in_right, in_either, in_from_contains, contains_from_in, none_passes, any_fails}
-use Rattle.p2p_simulated.proofs.Fairness.Subjects.{same_peer_itself, subject_refl, subject_sym, subject_congr, one_cap, same_limits}
+use Rattle.p2p_simulated.proofs.Fairness.Subjects.{same_peer_itself, one_cap, same_limits}
 
 module _ {P : Type 0} (cmp : P → P → Ordering) (order : IsTotalOrder cmp) (caps : Caps P) (of : AreOfPeers cmp caps) where
   -- the ask was answered by the caps
@@ -34,7 +35,7 @@ module _ {P : Type 0} (cmp : P → P → Ordering) (order : IsTotalOrder cmp) (c
   fresh_from earlier a cap all by has closed b among = by_same (is_same cmp b a) refl
     where
       by_same : (t : Bool) → is_same cmp b a ≡ t → is_same cmp a b ≡ false
-      by_same false e = subject_sym cmp order a.subject b.subject ∙ e
+      by_same false e = same_symm cmp order a.subject b.subject ∙ e
       by_same true e =
           let same : cap_of caps b.subject ≡ cap_of caps a.subject = one_cap cmp order caps of b.subject a.subject e in
           let number : b.answer ≡ Some cap = all b among ∙ same ∙ sym by ∙ has in
@@ -44,7 +45,7 @@ module _ {P : Type 0} (cmp : P → P → Ordering) (order : IsTotalOrder cmp) (c
 
   open_from : (earlier : List (Ask P)) (a : Ask P) → ((b : Ask P) → In earlier b → is_same cmp a b ≡ false) → is_open cmp earlier a ≡ false
   open_from earlier a fresh = any_fails (λ b. is_some b.answer && is_same cmp b a) earlier (λ b among.
-      and_right (is_some b.answer) (is_same cmp b a) (subject_sym cmp order b.subject a.subject ∙ fresh b among))
+      and_right (is_some b.answer) (is_same cmp b a) (same_symm cmp order b.subject a.subject ∙ fresh b among))
 
   one_more : (earlier : List (Ask P)) (x : Ask P) → AllByCaps earlier → IsByCaps x → AllByCaps (x ∷ earlier)
   one_more earlier x before by a (inl e) = subst IsByCaps e by
@@ -66,7 +67,7 @@ module _ {P : Type 0} (cmp : P → P → Ordering) (order : IsTotalOrder cmp) (c
           among = inl refl;
           answered = is ∙ ap (λ (s : Side). Some s.cap) e;
           fresh = fresh_from earlier x cap before (all x (inl refl)) is t;
-          users = sym (ap (λ (s : Side). s.users) e) ∙ (rw (subject_refl cmp order x.subject) refl);
+          users = sym (ap (λ (s : Side). s.users) e) ∙ (rw (same_itself cmp order x.subject) refl);
         },
       )
 
@@ -98,15 +99,15 @@ module _ {P : Type 0} (cmp : P → P → Ordering) (order : IsTotalOrder cmp) (c
       head : is_same cmp a x ≡ true → In (cond (is_open cmp earlier x) [] (opened cmp x later x.answer) ++ sides_after cmp (x ∷ earlier) later) (record { cap = cap; users = x.place ∷ map (λ b. b.place) (filter (is_same cmp a) later) })
       head e =
           let number : x.answer ≡ Some cap = all x (inl refl) ∙ sym (one_cap cmp order caps of a.subject x.subject e) ∙ sym (all a h) ∙ has in
-          let closed : is_open cmp earlier x ≡ false = open_from earlier x (λ b among. sym (subject_congr cmp order a.subject x.subject b.subject e) ∙ fresh b among) in
-          let agree : filter (is_same cmp a) later ≡ filter (is_same cmp x) later = filter_agree (is_same cmp a) (is_same cmp x) (λ b. subject_congr cmp order a.subject x.subject b.subject e) later in
+          let closed : is_open cmp earlier x ≡ false = open_from earlier x (λ b among. sym (same_congr cmp order a.subject x.subject b.subject e) ∙ fresh b among) in
+          let agree : filter (is_same cmp a) later ≡ filter (is_same cmp x) later = filter_agree (is_same cmp a) (is_same cmp x) (λ b. same_congr cmp order a.subject x.subject b.subject e) later in
           rw (closed, number, agree) (inl refl)
 
       by_same : (t : Bool) → is_same cmp a x ≡ t → In (x ∷ later) a
           → (In later a → ((b : Ask P) → In (x ∷ earlier) b → is_same cmp a b ≡ false) → In (sides_after cmp (x ∷ earlier) later) (side_asked later a cap))
           → In (sides_after cmp earlier (x ∷ later)) (record { cap = cap; users = map (λ b. b.place) (cond t (x ∷ filter (is_same cmp a) later) (filter (is_same cmp a) later)) })
       by_same true e g ih = head e
-      by_same false e (inl same) ih = let on : is_same cmp a x ≡ true = subst (λ (b : Ask P). is_same cmp a b ≡ true) (sym same) (subject_refl cmp order a.subject) in cc
+      by_same false e (inl same) ih = let on : is_same cmp a x ≡ true = subst (λ (b : Ask P). is_same cmp a b ≡ true) (sym same) (same_itself cmp order a.subject) in cc
       by_same false e (inr g) ih =
           in_right (cond (is_open cmp earlier x) [] (opened cmp x later x.answer)) (sides_after cmp (x ∷ earlier) later) (side_asked later a cap)
           (ih g (λ b. elim [ inl same ↦ subst (λ (c : Ask P). is_same cmp a c ≡ false) same e | inr among ↦ fresh b among ]))
@@ -178,10 +179,10 @@ module _ {P : Type 0} (cmp : P → P → Ordering) (order : IsTotalOrder cmp) (c
   one_limits : (place : ℕ) (f : Flow P) (d : Bool) → f.delivered ≡ d → (a : Ask P) → In (asks_if place f d) a → limits cmp a.subject f ≡ true
   one_limits place f true is a (inl e) = subst (λ (b : Ask P). limits cmp b.subject f ≡ true) e (same_peer_itself cmp order f.origin)
   one_limits place f true is a (inr (inl e)) = subst (λ (b : Ask P). limits cmp b.subject f ≡ true) e (and_from f.delivered (same_peer cmp f.recipient f.recipient) is (same_peer_itself cmp order f.recipient))
-  one_limits place f true is a (inr (inr (inl e))) = subst (λ (b : Ask P). limits cmp b.subject f ≡ true) e (subject_refl cmp order (sent_between f.origin f.recipient))
+  one_limits place f true is a (inr (inr (inl e))) = subst (λ (b : Ask P). limits cmp b.subject f ≡ true) e (same_itself cmp order (sent_between f.origin f.recipient))
   one_limits place f true is a (inr (inr (inr h))) = absurd h
   one_limits place f false is a (inl e) = subst (λ (b : Ask P). limits cmp b.subject f ≡ true) e (same_peer_itself cmp order f.origin)
-  one_limits place f false is a (inr (inl e)) = subst (λ (b : Ask P). limits cmp b.subject f ≡ true) e (subject_refl cmp order (sent_between f.origin f.recipient))
+  one_limits place f false is a (inr (inl e)) = subst (λ (b : Ask P). limits cmp b.subject f ≡ true) e (same_itself cmp order (sent_between f.origin f.recipient))
   one_limits place f false is a (inr (inr h)) = absurd h
 
   -- an ask comes from a flow that its side would limit

@@ -52,10 +52,10 @@ abbrev count_of : Bool → ℕ
 count_of b = cond b 1 0
 
 module _ {P : Type 0} (id : ℕ) where
-  abbrev has : Flow P → Bool
+  abbrev pub has : Flow P → Bool
   has f = f.id == id
 
-  abbrev rate_among : List (Allotted P) → Option Rate
+  abbrev pub rate_among : List (Allotted P) → Option Rate
   rate_among xs = last_rate id (flows_of xs) (rates_of xs)
 
   no_rate : (xs : List (Allotted P)) → ((x : Allotted P) → In xs x → has x.flow ≡ false) → rate_among xs ≡ None
@@ -73,7 +73,7 @@ module _ {P : Type 0} (id : ℕ) where
       by_test false is (inl e) ih = subst (λ (z : Allotted P). has z.flow ≡ false) e is
       by_test false is (inr g) ih = ih (omega (arith, zero_count, sum_by-cons (λ (f : Flow P). cond (has f) 1 0) y.flow (flows_of xs))) g
 
-  own_rate : (xs : List (Allotted P)) (x : Allotted P) → count_by has (flows_of xs) ≤ 1 → In xs x → has x.flow ≡ true → rate_among xs ≡ Some x.rate
+  pub own_rate : (xs : List (Allotted P)) (x : Allotted P) → count_by has (flows_of xs) ≤ 1 → In xs x → has x.flow ≡ true → rate_among xs ≡ Some x.rate
   own_rate [] x few h is = absurd h
   own_rate (y ∷ xs) x few (inl e) is =
       let on : has y.flow ≡ true = subst (λ (z : Allotted P). has z.flow ≡ true) (sym e) is in

@@ -18,10 +18,10 @@ use Rattle.p2p_simulated.proofs.Fairness.Among.{Allotted, flows_of, rates_of, to
 
 module _ {P : Type 0} (cmp : P → P → Ordering) (caps : Caps P) (mine : Flow P → Bool) where
   -- what the test passes
-  abbrev part : List (Allotted P) → List (Allotted P)
+  abbrev pub part : List (Allotted P) → List (Allotted P)
   part xs = filter (λ x. mine x.flow) xs
 
-  flows_of_part : (xs : List (Allotted P)) → flows_of (part xs) ≡ filter mine (flows_of xs)
+  pub flows_of_part : (xs : List (Allotted P)) → flows_of (part xs) ≡ filter mine (flows_of xs)
   flows_of_part [] = refl
   flows_of_part (x ∷ xs) = by_test (mine x.flow) (flows_of_part xs)
     where
@@ -29,7 +29,7 @@ module _ {P : Type 0} (cmp : P → P → Ordering) (caps : Caps P) (mine : Flow 
       by_test true ih = ap (λ (fs : List (Flow P)). x.flow ∷ fs) ih
       by_test false ih = ih
 
-  rates_of_part : (xs : List (Allotted P)) → rates_of (part xs) ≡ kept (map mine (flows_of xs)) (rates_of xs)
+  pub rates_of_part : (xs : List (Allotted P)) → rates_of (part xs) ≡ kept (map mine (flows_of xs)) (rates_of xs)
   rates_of_part [] = refl
   rates_of_part (x ∷ xs) = by_test (mine x.flow) (rates_of_part xs)
     where

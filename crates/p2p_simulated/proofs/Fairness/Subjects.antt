@@ -1,8 +1,8 @@
--- Subjects of sides, up to the equality of peers.
+-- What subjects of sides have in common that are one by the order of peers.
 use Rattle.std.proofs.Common.{◌≡◌, true, ◌&&◌, refl}
 use Rattle.std.specs.Cmp.{IsTotalOrder, IsEquivalence}
 use Rattle.std.specs.declared.cmp.Ordering.{Ordering}
-use Rattle.std.proofs.lemmas.Bool.{and_parts, and_from, false≢true}
+use Rattle.std.proofs.lemmas.Bool.{and_parts, false≢true}
 use Rattle.std.proofs.lemmas.Cmp.{eq_by_cmp_equiv}
 use Rattle.p2p_simulated.specs.declared.bandwidth.Flow.{Flow}
 use Rattle.p2p_simulated.specs.Sides.{Subject, sent_by, received_by, sent_between, same_peer, same_subject}
@@ -21,39 +21,6 @@ module _ {P : Type 0} (cmp : P → P → Ordering) (order : IsTotalOrder cmp) wh
   pair_congr p q r s t u e =
       let parts = and_parts (same_peer cmp p r) (same_peer cmp q s) e in
       rw (laws.congr p r t parts.0, laws.congr q s u parts.1) refl
-
-  pub subject_refl : (s : Subject P) → same_subject cmp s s ≡ true
-  subject_refl (sent_by p) = laws.refl p
-  subject_refl (received_by p) = laws.refl p
-  subject_refl (sent_between p q) = and_from (same_peer cmp p p) (same_peer cmp q q) (laws.refl p) (laws.refl q)
-
-  pub subject_sym : (s t : Subject P) → same_subject cmp s t ≡ same_subject cmp t s
-  subject_sym (sent_by p) (sent_by q) = laws.symm p q
-  subject_sym (received_by p) (received_by q) = laws.symm p q
-  subject_sym (sent_between p q) (sent_between r s) = rw (laws.symm p r, laws.symm q s) refl
-  subject_sym (sent_by p) (received_by q) = refl
-  subject_sym (sent_by p) (sent_between q r) = refl
-  subject_sym (received_by p) (sent_by q) = refl
-  subject_sym (received_by p) (sent_between q r) = refl
-  subject_sym (sent_between p q) (sent_by r) = refl
-  subject_sym (sent_between p q) (received_by r) = refl
-
-  pub subject_congr : (s t u : Subject P) → same_subject cmp s t ≡ true → same_subject cmp s u ≡ same_subject cmp t u
-  subject_congr (sent_by p) (sent_by q) (sent_by r) e = laws.congr p q r e
-  subject_congr (sent_by p) (sent_by q) (received_by r) e = refl
-  subject_congr (sent_by p) (sent_by q) (sent_between r s) e = refl
-  subject_congr (received_by p) (received_by q) (received_by r) e = laws.congr p q r e
-  subject_congr (received_by p) (received_by q) (sent_by r) e = refl
-  subject_congr (received_by p) (received_by q) (sent_between r s) e = refl
-  subject_congr (sent_between p q) (sent_between r s) (sent_between t u) e = pair_congr p q r s t u e
-  subject_congr (sent_between p q) (sent_between r s) (sent_by t) e = refl
-  subject_congr (sent_between p q) (sent_between r s) (received_by t) e = refl
-  subject_congr (sent_by p) (received_by q) u e = absurd (false≢true e)
-  subject_congr (sent_by p) (sent_between q r) u e = absurd (false≢true e)
-  subject_congr (received_by p) (sent_by q) u e = absurd (false≢true e)
-  subject_congr (received_by p) (sent_between q r) u e = absurd (false≢true e)
-  subject_congr (sent_between p q) (sent_by r) u e = absurd (false≢true e)
-  subject_congr (sent_between p q) (received_by r) u e = absurd (false≢true e)
 
   -- one subject has one cap
   pub one_cap : (caps : Caps P) → AreOfPeers cmp caps → (s t : Subject P) → same_subject cmp s t ≡ true → cap_of caps s ≡ cap_of caps t

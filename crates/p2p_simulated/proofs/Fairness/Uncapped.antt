@@ -11,8 +11,9 @@ use Rattle.p2p_simulated.specs.declared.bandwidth.Rate.TheVariants.{Unlimited, F
 use Rattle.p2p_simulated.specs.Sides.{Subject, sent_by, received_by, sent_between, same_peer}
 use Rattle.p2p_simulated.specs.WorldMessages.{Caps}
 use Rattle.p2p_simulated.specs.PeerCaps.{cap_of, AreOfPeers, UsesNoCap, limits, UnlimitedWhereUncapped}
+use Rattle.p2p_simulated.proofs.Subjects.{same_itself}
 use Rattle.p2p_simulated.proofs.Fairness.Members.{in_get, get_from_map}
-use Rattle.p2p_simulated.proofs.Fairness.Subjects.{same_peer_itself, subject_refl, one_cap}
+use Rattle.p2p_simulated.proofs.Fairness.Subjects.{same_peer_itself, one_cap}
 use Rattle.p2p_simulated.proofs.Fairness.Among.{Allotted, IsCapped, IsRated, among_from, rate_there}
 
 module _ {P : Type 0} (cmp : P → P → Ordering) (order : IsTotalOrder cmp) (caps : Caps P) where
@@ -28,7 +29,7 @@ module _ {P : Type 0} (cmp : P → P → Ordering) (order : IsTotalOrder cmp) (c
   no_cap_from_free f free = record {
     origin = open_side f free (sent_by f.origin) (same_peer_itself cmp order f.origin);
     recipient = λ delivered. open_side f free (received_by f.recipient) (and_from f.delivered (same_peer cmp f.recipient f.recipient) delivered (same_peer_itself cmp order f.recipient));
-    pair = open_side f free (sent_between f.origin f.recipient) (subject_refl cmp order (sent_between f.origin f.recipient));
+    pair = open_side f free (sent_between f.origin f.recipient) (same_itself cmp order (sent_between f.origin f.recipient));
   }
 
   free_from_no_cap : AreOfPeers cmp caps → (f : Flow P) → UsesNoCap caps f → ¬ IsCapped cmp caps f
