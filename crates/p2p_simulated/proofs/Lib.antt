@@ -3,4 +3,5 @@ pub mod Fairness
 pub mod Filling
 pub mod FractionFits
 pub mod Ratios
+pub mod Size
 pub mod World

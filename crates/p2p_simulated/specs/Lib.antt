@@ -11,6 +11,7 @@ pub mod Laws
 pub mod Rates
 pub mod Ratio
 pub mod Sides
+pub mod Size
 pub mod World
 pub mod WorldCalls
 pub mod WorldEvents
