@@ -24,4 +24,5 @@ pub mod Times
 pub mod Users
 pub mod Uses
 pub mod Wording
+pub mod Size
 pub mod World

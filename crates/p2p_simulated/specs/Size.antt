@@ -1,15 +1,9 @@
 -- When rates fit in fractions of 128 bits.
-use Rattle.std.specs.Prelude.{ℕ, ◌*◌, ◌^◌, ◌<◌, ◌≤◌, ◌≢◌, List, All, AllPairs, length, Option}
-use Rattle.p2p_simulated.specs.Fair.{Side, load, IsFair}
-use Rattle.p2p_simulated.specs.Filling.{AreWorth}
+use Rattle.std.specs.Prelude.{ℕ, ◌*◌, ◌^◌, ◌<◌, ◌≢◌, List, All, AllPairs}
+use Rattle.p2p_simulated.specs.Fair.{Side, IsFair}
 use Rattle.p2p_simulated.specs.Ratio.{IsWorth}
 use Rattle.p2p_simulated.specs.declared.bandwidth.Rate.{Rate}
 use Rattle.p2p_simulated.specs.declared.bandwidth.Rate.TheVariants.{Unlimited, Finite}
-use Rattle.p2p_simulated.specs.declared.ratio.Ratio.{Ratio}
-
--- the users of each side are among so many flows
-abbrev pub HaveUsersAmong : ℕ → List Side → Type 0
-HaveUsersAmong flows sides = All (λ side. All (λ user. user < flows) side.users) sides
 
 -- no flow uses a side twice
 abbrev pub HaveDistinctUsers : List Side → Type 0
@@ -21,19 +15,6 @@ pub record FairRatesFit (sides : List Side) (flows : ℕ) : Type 0 where
   pub parts : ℕ → ℕ
   pub fair : IsFair sides per parts
   pub small : All (λ side. per * flows * side.cap < 2 ^ 128) sides
-
--- the side carries no more than its cap where its users have some such parts, with which the frozen rates agree
-pub record SideFits (rates : List (Option Ratio)) (flows : ℕ) (side : Side) : Type 0 where
-  pub per : ℕ
-  pub parts : ℕ → ℕ
-  pub frozen : AreWorth rates per parts
-  pub within : load parts side ≤ side.cap * per
-  pub few : length side.users ≤ flows
-  pub small : per * flows * side.cap < 2 ^ 128
-
--- the frozen rates are fair ones: those of whatever fair rates fit
-pub record AgreesWithFair (rates : List (Option Ratio)) (sides : List Side) (flows : ℕ) : Type 0 where
-  pub agrees : (fits : FairRatesFit sides flows) → AreWorth rates fits.per fits.parts
 
 -- the rate, if it is finite, is a whole number of parts, `per` of which are one byte a second
 abbrev pub IsWholeOver : ℕ → Rate → Type 0

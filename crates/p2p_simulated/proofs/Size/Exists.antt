@@ -7,9 +7,11 @@ use Rattle.std.proofs.Math.Nat.{le_of_mul-le-mul_right, dvd-zero}
 use Rattle.std.proofs.lemmas.Bool.{cases_Bool, cond-true, cond-false, eq-eqb, eqb-true}
 use Rattle.std.proofs.lemmas.List.Folds.{list_any_at, Any-from_list_any}
 use Rattle.std.proofs.lemmas.List.Elements.{All-contains}
+use Rattle.std.proofs.lemmas.List.Sums.{get_or-le-sum_by}
 use Rattle.p2p_simulated.specs.Fair.{Side, IsFair}
 use Rattle.p2p_simulated.specs.Filling.{at_level, taken, rising, left_of}
-use Rattle.p2p_simulated.specs.Size.{HaveUsersAmong, HaveDistinctUsers}
+use Rattle.p2p_simulated.specs.FairLaws.{HaveUsersBelow}
+use Rattle.p2p_simulated.specs.Size.{HaveDistinctUsers}
 use Rattle.p2p_simulated.proofs.Denominators.{denominator_of, positive}
 use Rattle.p2p_simulated.proofs.Filling.Frozen.{none_or_some, some_is, at_some, at_none}
 use Rattle.p2p_simulated.proofs.Filling.Level.{least_is_level}
@@ -17,13 +19,19 @@ use Rattle.p2p_simulated.proofs.Filling.Rounds.{start, end, next}
 use Rattle.p2p_simulated.proofs.Filling.States.{IsFilledTo}
 use Rattle.p2p_simulated.proofs.Filling.Sums.{All-by_contains}
 use Rattle.p2p_simulated.proofs.Size.Least.{IsLeastOf, least_of}
-use Rattle.p2p_simulated.proofs.Size.Share.{some_rising}
 use Rattle.p2p_simulated.proofs.Size.Users.{sum_below, AreDistinct, below_less}
 use Rattle.p2p_simulated.proofs.Size.Whole.{IsOver, cap_over, sums, rest, later, level}
 
 -- how many of so many flows rise
 abbrev pub rising_below : ℕ → (ℕ → Option ℕ) → ℕ
 rising_below n frozen = sum_below (λ i. cond (is_none (frozen i)) 1 0) n
+
+-- some user rises
+pub some_rising : (frozen : ℕ → Option ℕ) (flow : ℕ) (users : List ℕ) → Contains users flow → frozen flow ≡ None → 0 < count_by (λ j. is_none (frozen j)) users
+some_rising frozen flow users used free =
+    let one_of : Option ℕ → ℕ = λ o. cond (is_none o) 1 0 in
+    let one : ℕ → ℕ = λ j. one_of (frozen j) in
+    omega (arith, get_or-le-sum_by one users used.0 flow used.1, ap one used.2, ap one_of free)
 
 -- ---- one side freezes
 
@@ -128,7 +136,7 @@ rising_all : (n : ℕ) → rising_below n (λ _. None) ≤ n
 rising_all zero = omega arith
 rising_all (suc n) = omega (arith, rising_all n)
 
-module _ (n : ℕ) (small : n ≤ 16) (sides : List Side) (among : HaveUsersAmong n sides) (distinct : HaveDistinctUsers sides) where
+module _ (n : ℕ) (small : n ≤ 16) (sides : List Side) (among : HaveUsersBelow n sides) (distinct : HaveDistinctUsers sides) where
   -- between two rounds: the state of filling, of which so many flows rise, and what each frozen flow has is whole over the entry for the frozen ones
   record IsFilling (frozen : ℕ → Option ℕ) (risers : ℕ) : Type 0 where
     level : ℕ

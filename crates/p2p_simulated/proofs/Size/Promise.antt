@@ -1,54 +1,26 @@
 -- The promises: sixteen flows with caps below 2^64 fit, and the rates of a few flows are whole over the table.
 use Rattle.std.proofs.Common.{◌≡◌, ◌⊎◌, inl, inr, refl, [], ◌∷◌, AllPairs, ℕ, ◌*◌, ◌^◌, ◌<◌, ◌≤◌, List, length, get_or, All, Contains, ap, arith, lit<, mul-le-mul, le_of_lt}
 use Rattle.std.proofs.Math.Nat.{lt_of_le_of_lt, eq_of_mul-eq-mul_right}
-use Rattle.std.specs.Prelude.{Option, None, map}
+use Rattle.std.specs.Prelude.{map}
 use Rattle.p2p_simulated.specs.Code.{side_of}
 use Rattle.p2p_simulated.specs.Fair.{Side, IsFair}
 use Rattle.p2p_simulated.specs.declared.bandwidth.sides.Side as declared_side
-use Rattle.p2p_simulated.specs.Filling.{rate_at, AreWorth, IsShare, HasRoomAt, FreezesAll}
 use Rattle.p2p_simulated.specs.Rates.{IsRateOf, AreFairRates}
-use Rattle.p2p_simulated.specs.Size.{HaveUsersAmong, HaveDistinctUsers, FairRatesFit, SideFits, AgreesWithFair, IsWholeOver, AreWholeOver}
+use Rattle.p2p_simulated.specs.FairLaws.{HaveUsersBelow}
+use Rattle.p2p_simulated.specs.Size.{HaveDistinctUsers, FairRatesFit, IsWholeOver, AreWholeOver}
 use Rattle.p2p_simulated.specs.declared.bandwidth.Rate.{Rate}
 use Rattle.p2p_simulated.specs.declared.bandwidth.Rate.TheVariants.{Unlimited, Finite}
-use Rattle.p2p_simulated.specs.declared.ratio.Ratio.{Ratio}
 use Rattle.p2p_simulated.proofs.Denominators.{denominator_of, at_most}
 use Rattle.p2p_simulated.proofs.Fairness.OneAllocation.{same_amounts}
-use Rattle.p2p_simulated.proofs.Filling.Sums.{All-by_contains}
 use Rattle.std.proofs.lemmas.Bool.{cases_lt}
 use Rattle.std.proofs.lemmas.List.Elements.{All-contains, All-nil, All-cons, All-map, Contains-append_left, Contains-append_right}
-use Rattle.p2p_simulated.proofs.Size.Course.{side_fits, fair_at_start, fair_after_share}
 use Rattle.p2p_simulated.proofs.Size.Exists.{fair_parts}
 use Rattle.p2p_simulated.proofs.Size.Users.{AreDistinct, distinct_length}
 
 -- no side has more users than there are flows
-pub few_users : (flows : ℕ) (sides : List Side) (side : Side) → HaveUsersAmong flows sides → HaveDistinctUsers sides → Contains sides side → length side.users ≤ flows
+pub few_users : (flows : ℕ) (sides : List Side) (side : Side) → HaveUsersBelow flows sides → HaveDistinctUsers sides → Contains sides side → length side.users ≤ flows
 few_users flows sides side among distinct listed =
     distinct_length flows side.users (All-contains (λ s. AreDistinct s.users) sides side distinct listed) (All-contains (λ s. All (λ user. user < flows) s.users) sides side among listed)
-
--- where the fair rates fit and the frozen ones are among them, each side fits
-pub all_sides_fit : (sides : List Side) (flows : ℕ) (fits : FairRatesFit sides flows) (rates : List (Option Ratio))
-    → HaveUsersAmong flows sides → HaveDistinctUsers sides → AreWorth rates fits.per fits.parts → All (SideFits rates flows) sides
-all_sides_fit sides flows fits rates among distinct frozen =
-    All-by_contains (SideFits rates flows) sides (λ side listed. side_fits sides flows fits rates side frozen listed (few_users flows sides side among distinct listed))
-
--- ---- while filling
-
--- no flow is frozen
-pub agrees_at_start : (rates : List (Option Ratio)) (sides : List Side) (flows : ℕ) → ((flow : ℕ) → rate_at rates flow ≡ None) → AgreesWithFair rates sides flows
-agrees_at_start rates sides flows none = record { agrees = λ fits. fair_at_start rates fits.per fits.parts fits.fair.some_part none }
-
--- the rising users of a side freeze at its share, at which all sides have room
-pub agrees_after : (rates : List (Option Ratio)) (sides : List Side) (flows : ℕ) (side : Side) (share : Ratio) (after : List (Option Ratio))
-    → AgreesWithFair rates sides flows → Contains sides side → IsShare rates side share → All (HasRoomAt rates share) sides → FreezesAll side.users rates after share
-    → AgreesWithFair after sides flows
-agrees_after rates sides flows side share after was listed is_share room freezes = record {
-  agrees = λ fits. fair_after_share sides fits.per fits.parts fits.fair rates (was.agrees fits) side share listed is_share room after freezes;
-}
-
--- a refusal at such rates shows that no fair rates fit
-pub refusal : (rates : List (Option Ratio)) (sides : List Side) (flows : ℕ) → HaveUsersAmong flows sides → HaveDistinctUsers sides
-    → AgreesWithFair rates sides flows → ¬ All (SideFits rates flows) sides → ¬ FairRatesFit sides flows
-refusal rates sides flows among distinct agrees refused fits = refused (all_sides_fit sides flows fits rates among distinct (agrees.agrees fits))
 
 -- ---- sixteen flows
 
@@ -58,7 +30,7 @@ small_product per flows limit per_le flows_le limit_lt =
     lt_of_le_of_lt le (lit< tt)
 
 -- at most sixteen flows with caps below 2^64 fit
-pub sixteen_fit : (sides : List Side) (flows : ℕ) → flows ≤ 16 → HaveUsersAmong flows sides → HaveDistinctUsers sides → All (λ side. side.cap < 2 ^ 64) sides → FairRatesFit sides flows
+pub sixteen_fit : (sides : List Side) (flows : ℕ) → flows ≤ 16 → HaveUsersBelow flows sides → HaveDistinctUsers sides → All (λ side. side.cap < 2 ^ 64) sides → FairRatesFit sides flows
 sixteen_fit sides flows small among distinct caps =
     let fair = fair_parts flows small sides among distinct in
     record {
@@ -80,7 +52,7 @@ caps_below (side ∷ sides) = elim (cases_lt side.cap (2 ^ 64)) [
 ]
 
 -- where no fair rates fit there are more flows, or there is a greater cap
-pub too_many_or_large : (sides : List Side) (flows : ℕ) → HaveUsersAmong flows sides → HaveDistinctUsers sides → ¬ FairRatesFit sides flows
+pub too_many_or_large : (sides : List Side) (flows : ℕ) → HaveUsersBelow flows sides → HaveDistinctUsers sides → ¬ FairRatesFit sides flows
     → (16 < flows) ⊎ ((side : Side) × Contains sides side × (2 ^ 64 ≤ side.cap))
 too_many_or_large sides flows among distinct refused = elim (cases_lt 16 flows) [
   | inl many ↦ inl many
@@ -95,10 +67,11 @@ too_many_or_large sides flows among distinct refused = elim (cases_lt 16 flows) 
 -- users that rise are distinct
 pub distinct_sides : (sides : List declared_side.Side) → All (λ side. AllPairs (λ a b. a < b) side.users.items) sides → HaveDistinctUsers (map side_of sides)
 distinct_sides sides rise =
-    All-map (λ side. AreDistinct side.users) side_of sides (λ k d inside i j e before within same. let less : get_or (get_or sides k d).users.items i e < get_or (get_or sides k d).users.items j e = rise k d inside i j e before within in absurd (omega arith))
+    All-map (λ side. AreDistinct side.users) side_of sides (λ k d inside i j e before within same.
+    let less : get_or (get_or sides k d).users.items i e < get_or (get_or sides k d).users.items j e = rise k d inside i j e before within in absurd (omega arith))
 
-pub among_sides : (flows : ℕ) (sides : List declared_side.Side) → All (λ side. All (λ user. user < flows) side.users.items) sides → HaveUsersAmong flows (map side_of sides)
-among_sides flows sides among = All-map (λ side. All (λ user. user < flows) side.users) side_of sides among
+pub users_below_sides : (flows : ℕ) (sides : List declared_side.Side) → All (λ side. All (λ user. user < flows) side.users.items) sides → HaveUsersBelow flows (map side_of sides)
+users_below_sides flows sides among = All-map (λ side. All (λ user. user < flows) side.users) side_of sides among
 
 -- ---- whole over the table
 
@@ -114,18 +87,18 @@ whole_rate sides per last parts other fair fair' flow (Finite ratio) rated =
 
 -- the fair rates of at most n flows are whole over the entry of the table at n
 pub whole_rates : (n : ℕ) (sides : List Side) (flows : ℕ) (rates : List Rate)
-    → flows ≤ n → n ≤ 16 → HaveUsersAmong flows sides → HaveDistinctUsers sides → AreFairRates sides flows rates → AreWholeOver (denominator_of n) rates
+    → flows ≤ n → n ≤ 16 → HaveUsersBelow flows sides → HaveDistinctUsers sides → AreFairRates sides flows rates → AreWholeOver (denominator_of n) rates
 whole_rates n sides flows rates le small among distinct fair =
-    let among_n : HaveUsersAmong n sides = λ k d l i e inside. let below : get_or (get_or sides k d).users i e < flows = among k d l i e inside in omega arith in
+    let among_n : HaveUsersBelow n sides = λ k d l i e inside. let below : get_or (get_or sides k d).users i e < flows = among k d l i e inside in omega arith in
     let other = fair_parts n small sides among_n distinct in
     λ flow d l. whole_rate sides fair.per (denominator_of n) fair.parts other.0 fair.fair other.1 flow (get_or rates flow d) (fair.rated flow d (omega (arith, l, fair.one_each)))
 
 -- of at most four flows twelve times each rate is whole
 pub twelfths : (sides : List Side) (flows : ℕ) (rates : List Rate)
-    → flows ≤ 4 → HaveUsersAmong flows sides → HaveDistinctUsers sides → AreFairRates sides flows rates → AreWholeOver 12 rates
+    → flows ≤ 4 → HaveUsersBelow flows sides → HaveDistinctUsers sides → AreFairRates sides flows rates → AreWholeOver 12 rates
 twelfths sides flows rates small among distinct fair = whole_rates 4 sides flows rates small (omega arith) among distinct fair
 
 -- and of at most sixteen, 54486432000 times
 pub whole_of_sixteen : (sides : List Side) (flows : ℕ) (rates : List Rate)
-    → flows ≤ 16 → HaveUsersAmong flows sides → HaveDistinctUsers sides → AreFairRates sides flows rates → AreWholeOver 54486432000 rates
+    → flows ≤ 16 → HaveUsersBelow flows sides → HaveDistinctUsers sides → AreFairRates sides flows rates → AreWholeOver 54486432000 rates
 whole_of_sixteen sides flows rates small among distinct fair = whole_rates 16 sides flows rates small (omega arith) among distinct fair
