@@ -24,5 +24,4 @@ pub mod Times
 pub mod Users
 pub mod Uses
 pub mod Wording
-pub mod Size
 pub mod World
