@@ -1,4 +1,3 @@
-pub mod Amounts
 pub mod Queue
 pub mod Rests
 pub mod Split
@@ -31,3 +30,4 @@ pub mod Sound
 pub mod PairOrder
 pub mod Obeys
 pub mod Checked
+pub mod Ranges

@@ -4,7 +4,8 @@ use Rattle.std.specs.Prelude.{IfSome}
 use Rattle.std.proofs.Math.Nat.{mul_comm, mul-pos, mul-le-mul_right}
 use Rattle.p2p_simulated.specs.Amount.{Amount, Covers, billion, drained, reduced, whole}
 use Rattle.p2p_simulated.specs.WorldRates.{IsLowest, drained_by}
-use Rattle.p2p_simulated.proofs.World.Amounts.{IsScaled, reduced_scales, reduced_scaled, reduced_positive, drained_twice, spent_if_covers, covers_if_spent}
+use Rattle.p2p_simulated.specs.Laws.LowestTerms.{IsScaled, reduced_scales, reduced_scaled, reduced_positive}
+use Rattle.p2p_simulated.proofs.Draining.{drained_twice, spent_if_covers, covers_if_spent}
 
 reduced_alike : (n m d e : ℕ) → n ≡ m → d ≡ e → reduced n d ≡ reduced m e
 reduced_alike n m d e p q = rw (p, q) refl

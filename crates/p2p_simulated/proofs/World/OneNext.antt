@@ -8,7 +8,7 @@ use Rattle.p2p_simulated.specs.Amount.{Amount, billion}
 use Rattle.p2p_simulated.specs.World.{Flight, IsQuiet, World, last_moment}
 use Rattle.p2p_simulated.specs.WorldRates.{Parts, drained_by, rate_of}
 use Rattle.p2p_simulated.specs.WorldTime.{ArePositive, Drains, NextIs, Passes, comes_next, drain_each, never_comes, no_time, quiet_tick}
-use Rattle.p2p_simulated.proofs.World.Amounts.{reduced_positive}
+use Rattle.p2p_simulated.specs.Laws.LowestTerms.{reduced_positive}
 use Rattle.p2p_simulated.proofs.World.OneWorld.{one_world}
 use Rattle.p2p_simulated.proofs.World.Alike.{same_itself}
 

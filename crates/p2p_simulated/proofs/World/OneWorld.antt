@@ -7,7 +7,7 @@ use Rattle.p2p_simulated.specs.Amount.{Amount, billion, drained}
 use Rattle.p2p_simulated.specs.World.{Flight, World, flows}
 use Rattle.p2p_simulated.specs.WorldRates.{Parts, drained_by, rate_of}
 use Rattle.p2p_simulated.specs.WorldTime.{ArePositive, Drains, drain_each}
-use Rattle.p2p_simulated.proofs.World.Amounts.{reduced_same}
+use Rattle.p2p_simulated.specs.Laws.LowestTerms.{reduced_same}
 use Rattle.p2p_simulated.proofs.World.Rated.{Match, one_each, rates_match}
 
 less_alike : (k l a b c d : ℕ) → k * a ≡ l * b → k * c ≡ l * d → (a - c) * k ≡ (b - d) * l

@@ -5,7 +5,7 @@ use Rattle.p2p_simulated.specs.Amount.{Amount}
 use Rattle.p2p_simulated.specs.World.{Flight, IsQuiet, World, flows}
 use Rattle.p2p_simulated.specs.WorldRates.{AreFair, Parts, drained_by, rate_of}
 use Rattle.p2p_simulated.specs.WorldTime.{ArePositive, Drains, Passes, drain_each, drifted, no_time, quiet_tick}
-use Rattle.p2p_simulated.proofs.World.Amounts.{drained_twice}
+use Rattle.p2p_simulated.proofs.Draining.{drained_twice}
 
 module _ {P : Type 0} (cmp : P → P → Ordering) where
   pub drained_at_twice : (per : ℕ) (rate : Option ℕ) (a b : ℕ) (left : Amount) → 0 < per → 0 < left.den → drained_by (rate_of per rate) b (drained_by (rate_of per rate) a left) ≡ drained_by (rate_of per rate) (a + b) left

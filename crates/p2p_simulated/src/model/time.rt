@@ -1,20 +1,9 @@
-//! How amounts drain, how nanoseconds add up, and that the simulation has one outcome.
+//! How nanoseconds add up, and that the simulation has one outcome.
 ghost use Rattle.std.specs.Prelude.{◌↔◌, ◌≡◌, ℕ, ◌+◌, ◌<◌, ◌≤◌, Option, Some, IfSome};
-ghost use Rattle.p2p_simulated.specs.Amount.{Amount, drained, IsLeastTime};
 ghost use Rattle.p2p_simulated.specs.WorldRates.{Parts, AreFair};
 ghost use Rattle.p2p_simulated.specs.World.{World, new_world, Completed, Course, flows, IsQuiet, EndsWith};
 ghost use Rattle.p2p_simulated.specs.WorldTime.{ArePositive, drifted, Drains, Passes, Ticks, Continues, NextIs, IsSound};
 ghost use Rattle.p2p_simulated.specs.WorldCalls.{Call, moment_of, Runs};
-
-/// Draining for a while and then for another is draining for both.
-pub fn draining_splits()
-    ensures { (left rate : Amount) (a b : ℕ) → 0 < left.den → 0 < rate.den → drained (drained left rate a) rate b ≡ drained left rate (a + b) }
-{}
-
-/// Nothing is left exactly from the least time on.
-pub fn nothing_is_left_from_the_least_time_on()
-    ensures { (left rate : Amount) (least n : ℕ) → 0 < left.den → 0 < rate.den → IsLeastTime rate left least → ((drained left rate n).num ≡ 0) ↔ (least ≤ n) }
-{}
 
 /// Ticking quiet nanoseconds one by one is draining once for all of them.
 pub fn a_quiet_stretch_is_one_drain<P: Ord>()
