@@ -11,10 +11,10 @@ use Rattle.p2p_simulated.specs.WorldMessages.{Message, Caps, is_delivered}
 abbrev pub Parts : Type 0
 Parts = List (Option ℕ)
 
--- a rate in bytes a second, of so many parts
+-- a rate in bytes a second, of so many parts, in lowest terms
 abbrev pub rate_of : ℕ → Option ℕ → Option Amount
 rate_of per None = None
-rate_of per (Some parts) = Some (record { num = parts; den = per })
+rate_of per (Some parts) = Some (reduced parts per)
 
 -- what is left after n nanoseconds at a rate: nothing at a rate without limit
 abbrev pub drained_by : Option Amount → ℕ → Amount → Amount

@@ -5,7 +5,8 @@ use Rattle.std.specs.List.{filter, list_any, AllZip}
 use Rattle.std.specs.declared.cmp.Ordering.{Ordering}
 use Rattle.std.specs.Cmp.{IsTotalOrder}
 use Rattle.std.proofs.lemmas.Bool.{or_parts}
-use Rattle.p2p_simulated.specs.Amount.{Amount, drained}
+use Rattle.p2p_simulated.specs.Amount.{Amount, drained, reduced}
+use Rattle.p2p_simulated.specs.Laws.LowestTerms.{reduced_positive}
 use Rattle.p2p_simulated.specs.World.{Flight, World, is_done}
 use Rattle.p2p_simulated.specs.WorldEvents.{Accounts}
 use Rattle.p2p_simulated.specs.WorldMessages.{Message, OneForEachPair, PairsAlike, SameMessage, same_pair, CapsAlike}
@@ -87,15 +88,16 @@ module _ {P : Type 0} (cmp : P → P → Ordering) (order : IsTotalOrder cmp) wh
   rated_flights t per [] (s ∷ ss) (n ∷ ns) (g ∷ gs) some all stayed rated none = absurd rated
   rated_flights t per (None ∷ rates) (s ∷ ss) (n ∷ ns) (g ∷ gs) some all stayed rated none = absurd (none 0 refl)
   rated_flights t per (Some a ∷ rates) (s ∷ ss) (n ∷ ns) (g ∷ gs) some all stayed rated none =
-      let rate : Amount = record { num = a; den = per } in
+      let rate : Amount = reduced a per in
+      let positive : 0 < rate.den = reduced_positive a per some in
       let low : IsLowest n.left = subst IsLowest (sym stayed.0.1) all.0.lowest in
       let no_time : t - n.updated ≡ 0 = omega arith in
-      let left : left_at t n ≡ n.left = ap (λ (r : Option Amount). drained_by r (t - n.updated) n.left) rated.0 ∙ ap (λ (k : ℕ). drained n.left rate k) no_time ∙ drained_none n.left rate low some in (
+      let left : left_at t n ≡ n.left = ap (λ (r : Option Amount). drained_by r (t - n.updated) n.left) rated.0 ∙ ap (λ (k : ℕ). drained n.left rate k) no_time ∙ drained_none n.left rate low positive in (
         record {
           message = subst (λ (m : Message P). SameMessage cmp m g.message) (sym stayed.0.0) all.0.message;
           updated = omega arith;
           lowest = low;
-          rate = subst (λ (r : Option Amount). IfSome r (λ x. 0 < x.den)) (sym rated.0) some;
+          rate = subst (λ (r : Option Amount). IfSome r (λ x. 0 < x.den)) (sym rated.0) positive;
           left = all.0.left ∙ sym stayed.0.1 ∙ sym left;
         },
         rated_flights t per rates ss ns gs some all.1 stayed.1 rated.1 (λ i. none (suc i)),

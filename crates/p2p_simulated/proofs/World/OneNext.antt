@@ -4,7 +4,7 @@ use Rattle.std.specs.declared.cmp.Ordering.{Ordering}
 use Rattle.std.specs.Cmp.{IsTotalOrder}
 use Rattle.std.proofs.lemmas.Bool.{cases_lt}
 use Rattle.std.proofs.Math.Nat.{mul-pos}
-use Rattle.p2p_simulated.specs.Amount.{Amount, billion}
+use Rattle.p2p_simulated.specs.Amount.{Amount, billion, reduced}
 use Rattle.p2p_simulated.specs.World.{Flight, IsQuiet, World, last_moment}
 use Rattle.p2p_simulated.specs.WorldRates.{Parts, drained_by, rate_of}
 use Rattle.p2p_simulated.specs.WorldTime.{ArePositive, Drains, NextIs, Passes, comes_next, drain_each, never_comes, no_time, quiet_tick}
@@ -17,7 +17,9 @@ module _ {P : Type 0} (cmp : P → P → Ordering) (order : IsTotalOrder cmp) wh
 
   drained_positive : (per : ℕ) (rate : Option ℕ) (n : ℕ) (left : Amount) → 0 < per → 0 < left.den → 0 < (drained_by (rate_of per rate) n left).den
   drained_positive per None n left h j = omega arith
-  drained_positive per (Some a) n left h j = reduced_positive (left.num * (per * billion) - n * (a * left.den)) (left.den * (per * billion)) (mul-pos j (mul-pos h (omega arith)))
+  drained_positive per (Some a) n left h j =
+      let rate : Amount = reduced a per in
+      reduced_positive (left.num * (rate.den * billion) - n * (rate.num * left.den)) (left.den * (rate.den * billion)) (mul-pos j (mul-pos (reduced_positive a per h) (omega arith)))
 
   pub drain_each_positive : (per : ℕ) (rates : Parts) (n : ℕ) (fs : List (Flight P)) → 0 < per → ArePositive fs → ArePositive (drain_each per rates n fs)
   drain_each_positive per rates n [] h pos = nothing rates

@@ -10,22 +10,6 @@ use Rattle.p2p_simulated.specs.WorldTime.{ArePositive, Drains, drain_each}
 use Rattle.p2p_simulated.specs.Laws.LowestTerms.{reduced_same}
 use Rattle.p2p_simulated.proofs.World.Rated.{Match, one_each, rates_match}
 
-less_alike : (k l a b c d : ℕ) → k * a ≡ l * b → k * c ≡ l * d → (a - c) * k ≡ (b - d) * l
-less_alike k l a b c d e f = mul_comm (a - c) k ∙ mul-sub k a c ∙ minus_alike e f ∙ sym (mul-sub l b d) ∙ mul_comm l (b - d)
-  where
-    minus_alike : {x y z u : ℕ} → x ≡ y → z ≡ u → x - z ≡ y - u
-    minus_alike g h = rw (g, h) refl
-
--- equal rates drain alike
-pub drained_same : (left : Amount) (a d b e n : ℕ) → 0 < left.den → 0 < d → 0 < e → a * e ≡ b * d → drained left (record { num = a; den = d }) n ≡ drained left (record { num = b; den = e }) n
-drained_same left a d b e n h i j same =
-    reduced_same (left.num * (d * billion) - n * (a * left.den)) (left.den * (d * billion)) (left.num * (e * billion) - n * (b * left.den)) (left.den * (e * billion)) (mul-pos h (mul-pos i (omega arith))) (mul-pos h (mul-pos j (omega arith)))
-    (less_alike (left.den * (e * billion)) (left.den * (d * billion)) (left.num * (d * billion)) (left.num * (e * billion)) (n * (a * left.den)) (n * (b * left.den)) (omega arith)
-    (regroup left.den e n a ∙ ap (λ x. x * (left.den * billion * n * left.den)) same ∙ sym (regroup left.den d n b)))
-  where
-    regroup : (l e n a : ℕ) → (l * (e * billion)) * (n * (a * l)) ≡ (a * e) * (l * billion * n * l)
-    regroup l e n a = omega arith
-
 module _ {P : Type 0} (cmp : P → P → Ordering) where
   at_same : (x y : Option ℕ) (d e n : ℕ) (left : Amount) → 0 < left.den → 0 < d → 0 < e → ((a : ℕ) → x ≡ Some a → (b : ℕ) × (y ≡ Some b) × (a * e ≡ b * d)) → ((b : ℕ) → y ≡ Some b → (a : ℕ) × (x ≡ Some a) × (b * d ≡ a * e))
       → drained_by (rate_of d x) n left ≡ drained_by (rate_of e y) n left
@@ -35,7 +19,7 @@ module _ {P : Type 0} (cmp : P → P → Ordering) where
   at_same (Some a) (Some b) d e n left h i j to from =
       let g : (c : ℕ) × (Some b ≡ Some c) × (a * e ≡ c * d) = to a refl in
       let same : g.0 ≡ b = cc in
-      drained_same left a d b e n h i j (g.2 ∙ ap (λ c. c * d) same)
+      ap (λ (rate : Amount). drained left rate n) (reduced_same a d b e i j (g.2 ∙ ap (λ c. c * d) same))
 
   drain_same : (xs ys : Parts) (d e n : ℕ) (fs : List (Flight P)) → ArePositive fs → 0 < d → 0 < e → length xs ≡ length ys → Match xs ys d e → Match ys xs e d → drain_each d xs n fs ≡ drain_each e ys n fs
   drain_same xs ys d e n [] pos i j same to from = nothing xs ys

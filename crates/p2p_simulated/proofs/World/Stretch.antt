@@ -1,7 +1,8 @@
 -- Over a stretch without an event, ticking n nanoseconds is draining once for n nanoseconds.
 use Rattle.std.proofs.Common.{◌≡◌, ℕ, zero, suc, ◌+◌, ◌<◌, ◌≤◌, List, [], ◌∷◌, map, Option, Some, None, refl, sym, ap, subst, arith, add-one, add_assoc}
 use Rattle.std.specs.declared.cmp.Ordering.{Ordering}
-use Rattle.p2p_simulated.specs.Amount.{Amount}
+use Rattle.p2p_simulated.specs.Amount.{Amount, reduced}
+use Rattle.p2p_simulated.specs.Laws.LowestTerms.{reduced_positive}
 use Rattle.p2p_simulated.specs.World.{Flight, IsQuiet, World, flows}
 use Rattle.p2p_simulated.specs.WorldRates.{AreFair, Parts, drained_by, rate_of}
 use Rattle.p2p_simulated.specs.WorldTime.{ArePositive, Drains, Passes, drain_each, drifted, no_time, quiet_tick}
@@ -10,7 +11,7 @@ use Rattle.p2p_simulated.proofs.Draining.{drained_twice}
 module _ {P : Type 0} (cmp : P → P → Ordering) where
   pub drained_at_twice : (per : ℕ) (rate : Option ℕ) (a b : ℕ) (left : Amount) → 0 < per → 0 < left.den → drained_by (rate_of per rate) b (drained_by (rate_of per rate) a left) ≡ drained_by (rate_of per rate) (a + b) left
   drained_at_twice per None a b left h j = refl
-  drained_at_twice per (Some r) a b left h j = drained_twice left (record { num = r; den = per }) a b j h
+  drained_at_twice per (Some r) a b left h j = drained_twice left (reduced r per) a b j (reduced_positive r per h)
 
   pub drain_each_twice : (per : ℕ) (rates : Parts) (a b : ℕ) (fs : List (Flight P)) → 0 < per → ArePositive fs → drain_each per rates b (drain_each per rates a fs) ≡ drain_each per rates (a + b) fs
   drain_each_twice per rates a b [] h pos = nothing_left rates
