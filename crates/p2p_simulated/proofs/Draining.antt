@@ -1,8 +1,11 @@
 -- Draining splits, and leaves nothing exactly where the time covers what is left.
-use Rattle.std.proofs.Common.{◌≡◌, ℕ, zero, suc, ◌+◌, ◌-◌, ◌*◌, ◌<◌, ◌≤◌, ◌↔◌, inl, inr, refl, sym, ap, ◌∙◌, arith, mul-le-mul_right}
-use Rattle.std.proofs.Math.Nat.{mul_comm, mul-sub, mul-pos, mul-zero, lt_of_mul-lt-mul_right, le-mul_of_pos_right}
-use Rattle.std.proofs.lemmas.Bool.{cases_lt}
+use Rattle.std.proofs.Common.{◌≡◌, ℕ, zero, suc, ◌+◌, ◌-◌, ◌*◌, ◌<◌, ◌≤◌, ◌↔◌, refl, sym, ap, ◌∙◌, arith, mul-le-mul_right}
+use Rattle.std.proofs.Math.Nat.{mul_comm, mul-sub, mul-pos, mul-zero}
 use Rattle.p2p_simulated.specs.Amount.{Amount, reduced, drained, billion, Covers, IsLeastTime}
+use Rattle.p2p_simulated.specs.Ratio.{amount_of}
+use Rattle.p2p_simulated.specs.Time.{left_after}
+use Rattle.p2p_simulated.specs.declared.bandwidth.Rate.{Rate}
+use Rattle.p2p_simulated.specs.declared.bandwidth.Rate.TheVariants.{Unlimited, Finite}
 use Rattle.p2p_simulated.specs.Laws.LowestTerms.{IsScaled, reduced_alike, reduced_scaled, reduced_scales, reduced_positive}
 
 same_difference : (a b c d : ℕ) → a ≡ b → c ≡ d → a - c ≡ b - d
@@ -15,7 +18,8 @@ drained_scaled g n d a rate k h i j num den =
     let unit : ℕ = rate.den * billion in
     let some : 0 < a.den * unit = mul-pos i (mul-pos j (omega arith)) in
     let up : g * (a.num * unit - k * (rate.num * a.den)) ≡ n * unit - k * (rate.num * d) =
-    mul-sub g (a.num * unit) (k * (rate.num * a.den)) ∙ same_difference (g * (a.num * unit)) (n * unit) (g * (k * (rate.num * a.den))) (k * (rate.num * d)) (rw num (omega arith)) (rw den (omega arith)) in
+    mul-sub g (a.num * unit) (k * (rate.num * a.den))
+    ∙ same_difference (g * (a.num * unit)) (n * unit) (g * (k * (rate.num * a.den))) (k * (rate.num * d)) (rw num (omega arith)) (rw den (omega arith)) in
     let down : g * (a.den * unit) ≡ d * unit = rw den (omega arith) in
     sym (reduced_scaled g (a.num * unit - k * (rate.num * a.den)) (a.den * unit) h some) ∙ reduced_alike _ _ _ _ up down
 
@@ -36,7 +40,9 @@ drained_twice left rate a b h j =
     let d : ℕ = left.den * unit in
     let some : 0 < d = mul-pos h some_unit in
     let num : (n - a * x) * unit - b * (rate.num * d) ≡ unit * (n - (a + b) * x) =
-    ap (λ y. y - b * (rate.num * d)) (mul_comm (n - a * x) unit) ∙ ap (λ y. unit * (n - a * x) - y) (regroup b rate.num left.den unit) ∙ sym (mul-sub unit (n - a * x) (b * x)) ∙ ap (λ y. unit * y) (twice_less n a b x) in
+    ap (λ y. y - b * (rate.num * d)) (mul_comm (n - a * x) unit)
+    ∙ ap (λ y. unit * (n - a * x) - y) (regroup b rate.num left.den unit)
+    ∙ sym (mul-sub unit (n - a * x) (b * x)) ∙ ap (λ y. unit * y) (twice_less n a b x) in
     drained_reduced (n - a * x) d rate b some j ∙ reduced_alike _ _ _ _ num (mul_comm d unit) ∙ reduced_scaled unit (n - (a + b) * x) d some_unit some
   where
     regroup : (b r l u : ℕ) → b * (r * (l * u)) ≡ u * (b * (r * l))
@@ -76,27 +82,7 @@ spent_from_least left rate least n h j time = (
       spent_if_covers left rate n h j (omega arith),
 )
 
--- ---- the least time
-
-pub least_is_one : (rate left : Amount) (m n : ℕ) → IsLeastTime rate left m → IsLeastTime rate left n → m ≡ n
-least_is_one rate left m n s t =
-    let low : m ≤ n = s.least n t.covers in
-    let high : n ≤ m = t.least m s.covers in
-    omega arith
-
-above : (n k l u : ℕ) → n * u < l → l ≤ k * u → suc n ≤ k
-above n k l u less enough =
-    let up : n * u < k * u = omega arith in
-    let low : n < k = lt_of_mul-lt-mul_right u up in
-    omega arith
-
--- a time that covers is not below the least one, which is found by going down
-least_below : (rate left : Amount) (n : ℕ) → Covers rate n left → (m : ℕ) × IsLeastTime rate left m
-least_below rate left zero covers = (zero, record { covers = covers; least = λ k _. omega arith })
-least_below rate left (suc n) covers = elim (cases_lt (n * (rate.num * left.den)) (left.num * (rate.den * billion))) [
-  | inl less ↦ (suc n, record { covers = covers; least = λ k enough. above n k (left.num * (rate.den * billion)) (rate.num * left.den) less enough })
-  | inr covers' ↦ least_below rate left n covers'
-]
-
-pub some_least : (left rate : Amount) → 0 < left.den → 0 < rate.num → (n : ℕ) × IsLeastTime rate left n
-some_least left rate h j = least_below rate left (left.num * (rate.den * billion)) (le-mul_of_pos_right (left.num * (rate.den * billion)) (mul-pos j h))
+-- what is left after a time and then after another is what is left after both
+pub left_after_twice : (rate : Rate) (left : Amount) (a b : ℕ) → 0 < left.den → left_after rate b (left_after rate a left) ≡ left_after rate (a + b) left
+left_after_twice Unlimited left a b h = refl
+left_after_twice (Finite rate) left a b h = drained_twice left (amount_of rate) a b h rate.positive

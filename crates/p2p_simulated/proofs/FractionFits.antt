@@ -78,24 +78,37 @@ no_greater_over_common a b c d h j =
     )
 
 -- what has the reduced sum of the numerators over the common denominator is worth the sum
-pub sum_worth : (r a b : Amount) (x y d : ℕ) → 0 < a.den → 0 < b.den → AreOverCommon a b x y d → r ≡ reduced (x + y) d → AreEqual r (plus a b)
-sum_worth r a b x y d h j over e =
-    let same : reduced (x + y) d ≡ reduced (raised a b + other_raised a b) (least_common a b) = rw (over.first_is, over.second_is, over.denominator_is) refl in
-    worth_if_reduced r (plus a b) (mul-pos h j) (e ∙ same ∙ sum_over_common a.num a.den b.num b.den h j)
+pub sum_worth : (r x y : Ratio) (p q s d : ℕ) → AreOverCommon (amount_of x) (amount_of y) p q d → s ≡ p + q → amount_of r ≡ reduced s d
+    → IsWorth r (plus (amount_of x) (amount_of y))
+sum_worth r x y p q s d over s_is e =
+    let a = amount_of x in
+    let b = amount_of y in
+    let same : reduced s d ≡ reduced (raised a b + other_raised a b) (least_common a b) = rw (s_is, over.first_is, over.second_is, over.denominator_is) refl in
+    worth_if_reduced (amount_of r) (plus a b) (mul-pos x.positive y.positive) (e ∙ same ∙ sum_over_common a.num a.den b.num b.den x.positive y.positive)
 
 -- and likewise the difference
-pub difference_worth : (r a b : Amount) (x y d : ℕ) → 0 < a.den → 0 < b.den → AreOverCommon a b x y d → r ≡ reduced (x - y) d → AreEqual r (minus a b)
-difference_worth r a b x y d h j over e =
-    let same : reduced (x - y) d ≡ reduced (raised a b - other_raised a b) (least_common a b) = rw (over.first_is, over.second_is, over.denominator_is) refl in
-    worth_if_reduced r (minus a b) (mul-pos h j) (e ∙ same ∙ difference_over_common a.num a.den b.num b.den h j)
+pub difference_worth : (r x y : Ratio) (p q s d : ℕ) → AreOverCommon (amount_of x) (amount_of y) p q d → s ≡ p - q → amount_of r ≡ reduced s d
+    → IsWorth r (minus (amount_of x) (amount_of y))
+difference_worth r x y p q s d over s_is e =
+    let a = amount_of x in
+    let b = amount_of y in
+    let same : reduced s d ≡ reduced (raised a b - other_raised a b) (least_common a b) = rw (s_is, over.first_is, over.second_is, over.denominator_is) refl in
+    worth_if_reduced (amount_of r) (minus a b) (mul-pos x.positive y.positive) (e ∙ same ∙ difference_over_common a.num a.den b.num b.den x.positive y.positive)
 
-pub no_greater_is : (a b : Amount) (x y d : ℕ) → 0 < a.den → 0 < b.den → AreOverCommon a b x y d → (y ≤ x) ↔ (b.num * a.den ≤ a.num * b.den)
-no_greater_is a b x y d h j over =
-    let k = no_greater_over_common a.num a.den b.num b.den h j in
-    (λ le. k.0 (omega (arith, over.first_is, over.second_is)), λ le. let low : other_raised a b ≤ raised a b = k.1 le in omega (arith, over.first_is, over.second_is))
+-- the numerators over the common denominator stand as the fractions do
+pub no_greater_is : (x y : Ratio) (p q d : ℕ) → AreOverCommon (amount_of x) (amount_of y) p q d → (q ≤ p) ↔ (y.numerator * x.denominator ≤ x.numerator * y.denominator)
+no_greater_is x y p q d over =
+    let a = amount_of x in
+    let b = amount_of y in
+    let k = no_greater_over_common a.num a.den b.num b.den x.positive y.positive in (
+      λ le. k.0 (omega (arith, over.first_is, over.second_is)),
+      λ le. let low : other_raised a b ≤ raised a b = k.1 le in omega (arith, over.first_is, over.second_is),
+    )
 
-pub least_common-pos : (a b : Amount) → 0 < a.den → 0 < b.den → 0 < least_common a b
-least_common-pos a b h j = mul-pos (common_parts a.den b.den h j).first_positive j
+-- a common denominator as the code finds it is above zero
+pub common-pos : (x y : Ratio) (g s d : ℕ) → g ≡ gcd x.denominator y.denominator → s ≡ x.denominator / g → d ≡ s * y.denominator → 0 < d
+common-pos x y g s d g_is s_is d_is =
+    rw (d_is, s_is, g_is) (mul-pos (common_parts x.denominator y.denominator x.positive y.positive).first_positive y.positive)
 
 -- equal denominators are their own least common one
 scale_of_equal : (b d : ℕ) → 0 < b → b ≡ d → (b / gcd b d ≡ 1) × (d / gcd b d ≡ 1)
@@ -166,7 +179,9 @@ cross_reduced a b c d h j r t =
       second_positive = gcd-pos c b h;
       positive = some;
       lowest = lowest;
-      same = sym (reduced_alike _ _ _ _ num den) ∙ reduced_scaled (f * s) (a / f * (c / s)) (b / s * (d / f)) (mul-pos (gcd-pos a d j) (gcd-pos c b h)) some ∙ reduced_lowest (a / f * (c / s)) (b / s * (d / f)) lowest;
+      same = sym (reduced_alike _ _ _ _ num den)
+          ∙ reduced_scaled (f * s) (a / f * (c / s)) (b / s * (d / f)) (mul-pos (gcd-pos a d j) (gcd-pos c b h)) some
+          ∙ reduced_lowest (a / f * (c / s)) (b / s * (d / f)) lowest;
     }
 
 -- the parts of two fractions in lowest terms, found before they are multiplied

@@ -3,11 +3,13 @@ pub mod Callable
 pub mod CapAnswers
 pub mod Denominators
 pub mod Draining
+pub mod EqualAmounts
 pub mod Fairness
 pub mod Filling
 pub mod FractionFits
 pub mod LastRates
 pub mod Later
+pub mod LeastTime
 pub mod NoLinks
 pub mod Numerals
 pub mod Passes
@@ -20,7 +22,7 @@ pub mod Shares
 pub mod Size
 pub mod Splitting
 pub mod Subjects
-pub mod Times
+pub mod Taken
 pub mod Users
 pub mod Uses
 pub mod Wording

@@ -1,5 +1,5 @@
 //! Exact fractions of 128 bits.
-ghost use Rattle.std.specs.Prelude.{◌≡◌, ℕ, ◌*◌, ◌^◌, ◌<◌, ◌≤◌, ◌↔◌, IsTrue, IsSome, IfSome, Some};
+ghost use Rattle.std.specs.Prelude.{◌≡◌, ℕ, ◌*◌, ◌<◌, ◌≤◌, ◌↔◌, IsTrue, IsSome, IfSome, Some};
 ghost use Rattle.std.specs.Cmp.{partial_order_from_agreeing_total};
 ghost use Rattle.std.proofs.Common.{refl};
 ghost use Rattle.p2p_simulated.specs.Fraction.{IsReduced, fraction_cmp};
@@ -33,7 +33,8 @@ impl Ord for Ratio {
 
     ghost matches_partial_cmp = { λ x y. refl };
 
-    ghost matches_eq = { λ x y. fraction_cmp-Equal x.numerator x.denominator y.numerator y.denominator x.positive y.positive x.reduced y.reduced };
+    ghost matches_eq = { λ x y. fraction_cmp-Equal x.numerator x.denominator y.numerator y.denominator
+        x.positive y.positive x.reduced y.reduced };
 
     /// By value.
     fn cmp(&self, other: &Ratio) -> Ordering {
@@ -49,10 +50,12 @@ impl Ord for Ratio {
 impl PartialOrd for Ratio {
     ghost partial_cmp = { λ x y. Some (fraction_cmp x.numerator x.denominator y.numerator y.denominator) };
 
-    ghost laws = { partial_order_from_agreeing_total (λ x y. fraction_cmp x.numerator x.denominator y.numerator y.denominator)
+    ghost laws = { partial_order_from_agreeing_total
+        (λ x y. fraction_cmp x.numerator x.denominator y.numerator y.denominator)
         (fraction_total (λ x. x.numerator) (λ x. x.denominator) (λ x. x.positive))
         (λ x y. refl)
-        (λ x y. fraction_cmp-Equal x.numerator x.denominator y.numerator y.denominator x.positive y.positive x.reduced y.reduced) };
+        (λ x y. fraction_cmp-Equal x.numerator x.denominator y.numerator y.denominator
+        x.positive y.positive x.reduced y.reduced) };
 
     fn partial_cmp(&self, other: &Ratio) -> Option<Ordering> {
         Some(self.cmp(other))
@@ -70,7 +73,8 @@ struct OverCommon {
 
 impl Ratio {
     ghost use Rattle.p2p_simulated.specs.Amount.{Amount, whole, plus, minus, times, over, reduced};
-    ghost use Rattle.p2p_simulated.specs.Fits.{SumFits, DifferenceFits, ReducedFits, CommonFits, AreOverCommon};
+    ghost use Rattle.p2p_simulated.specs.Fits.{SumFits, DifferenceFits, ReducedFits};
+    ghost use Rattle.p2p_simulated.specs.Fits.{CommonFits, AreOverCommon};
     ghost use Rattle.p2p_simulated.specs.Ratio.{amount_of, IsWorth};
 
     /// The value of `num / den`, or `None` where `den` is zero.
@@ -149,7 +153,8 @@ impl Ratio {
     /// denominator does not fit in 128 bits, even if the sum in lowest terms would.
     pub fn checked_add(self, other: Ratio) -> Option<Ratio>
         ensures fits { IsSome result ↔ SumFits (amount_of self) (amount_of other) }
-        ensures value { IfSome result (λ sum. IsWorth sum (plus (amount_of self) (amount_of other))) }
+        ensures value { IfSome result (λ sum.
+            IsWorth sum (plus (amount_of self) (amount_of other))) }
     {
         let over = self.over_common(other)?;
         let sum = over.first.checked_add(over.second)?;
@@ -163,7 +168,8 @@ impl Ratio {
     /// terms would.
     pub fn checked_sub(self, other: Ratio) -> Option<Ratio>
         ensures fits { IsSome result ↔ DifferenceFits (amount_of self) (amount_of other) }
-        ensures value { IfSome result (λ rest. IsWorth rest (minus (amount_of self) (amount_of other))) }
+        ensures value { IfSome result (λ rest.
+            IsWorth rest (minus (amount_of self) (amount_of other))) }
     {
         let over = self.over_common(other)?;
         let rest = over.first.checked_sub(over.second)?;
@@ -173,7 +179,8 @@ impl Ratio {
     /// Both over their least common denominator.
     fn over_common(self, other: Ratio) -> Option<OverCommon>
         ensures fits { IsSome result ↔ CommonFits (amount_of self) (amount_of other) }
-        ensures value { IfSome result (λ over. AreOverCommon (amount_of self) (amount_of other) over.first over.second over.denominator) }
+        ensures value { IfSome result (λ over.
+            AreOverCommon (amount_of self) (amount_of other) over.first over.second over.denominator) }
     {
         if self.denominator == other.denominator {
             return Some(OverCommon {
@@ -196,7 +203,8 @@ impl Ratio {
     /// The product, or `None` exactly where it does not fit in lowest terms.
     pub fn checked_mul(self, other: Ratio) -> Option<Ratio>
         ensures fits { IsSome result ↔ ReducedFits (times (amount_of self) (amount_of other)) }
-        ensures value { IfSome result (λ product. IsWorth product (times (amount_of self) (amount_of other))) }
+        ensures value { IfSome result (λ product.
+            IsWorth product (times (amount_of self) (amount_of other))) }
     {
         self.product(other.numerator, other.denominator)
     }
@@ -204,8 +212,10 @@ impl Ratio {
     /// The quotient, or `None` exactly where `other` is zero or the quotient does not fit in lowest
     /// terms.
     pub fn checked_div(self, other: Ratio) -> Option<Ratio>
-        ensures fits { IsSome result ↔ ((0 < (amount_of other).num) × ReducedFits (over (amount_of self) (amount_of other))) }
-        ensures value { IfSome result (λ quotient. IsWorth quotient (over (amount_of self) (amount_of other))) }
+        ensures fits { IsSome result
+            ↔ ((0 < (amount_of other).num) × ReducedFits (over (amount_of self) (amount_of other))) }
+        ensures value { IfSome result (λ quotient.
+            IsWorth quotient (over (amount_of self) (amount_of other))) }
     {
         if other.numerator == 0 {
             return None;
@@ -218,8 +228,10 @@ impl Ratio {
     fn product(self, num: u128, den: u128) -> Option<Ratio>
         requires positive { 0 < den }
         requires lowest { IsReduced num den }
-        ensures fits { IsSome result ↔ ReducedFits (times (amount_of self) (record { num = num; den = den })) }
-        ensures value { IfSome result (λ product. IsWorth product (times (amount_of self) (record { num = num; den = den }))) }
+        ensures fits { IsSome result
+            ↔ ReducedFits (times (amount_of self) (record { num = num; den = den })) }
+        ensures value { IfSome result (λ product.
+            IsWorth product (times (amount_of self) (record { num = num; den = den }))) }
     {
         let first = gcd(self.numerator, den);
         let second = gcd(num, self.denominator);

@@ -1,9 +1,10 @@
 //! How long what is left takes at a rate, and what is left after a time.
-ghost use Rattle.std.specs.Prelude.{◌≡◌, ℕ, ◌+◌, ◌*◌, ◌^◌, ◌<◌, ◌≤◌, ◌↔◌, IsSome, IfSome, IsOk, IfOk, IfErr};
-ghost use Rattle.p2p_simulated.specs.Amount.{Amount, drained, Covers, IsLeastTime};
+ghost use Rattle.std.specs.Prelude.{◌≡◌, ℕ, ◌+◌, ◌<◌, ◌≤◌, ◌↔◌, IsSome, IfSome, IsOk, IfOk, IfErr};
+ghost use Rattle.p2p_simulated.specs.Amount.{Amount, drained, IsLeastTime};
 ghost use Rattle.p2p_simulated.specs.Ratio.{amount_of};
 ghost use Rattle.p2p_simulated.specs.declared.bandwidth.Rate.{Rate as AnyRate};
-ghost use Rattle.p2p_simulated.specs.Time.{SecondsFit, TimeFits, IsDuration, TakenFits, TransferFits, left_after};
+ghost use Rattle.p2p_simulated.specs.Time.{TimeFits, SecondsFit, IsDuration};
+ghost use Rattle.p2p_simulated.specs.Time.{TransferFits, TakenFits, left_after};
 
 use crate::bandwidth::Rate;
 use crate::error::Error;
@@ -53,21 +54,24 @@ fn least_time(rate: Ratio, remaining: Ratio) -> Option<u128>
 /// less than `remaining` and `checked_sub` refuses to take it off.
 pub fn transfer(rate: &Rate, elapsed: u64, remaining: Ratio) -> Result<Ratio, Error>
     ensures fits { IsOk result ↔ TransferFits rate.now elapsed (amount_of remaining) }
-    ensures value { IfOk result (λ rest. amount_of rest ≡ left_after rate.now elapsed (amount_of remaining)) }
+    ensures value { IfOk result (λ rest.
+        amount_of rest ≡ left_after rate.now elapsed (amount_of remaining)) }
     ensures refused { IfErr result (λ e. e ≡ Error.NumberTooLarge) }
 {
     match *rate {
         Rate::Unlimited => Ok(Ratio::zero()),
-        Rate::Finite(rate) if remaining.is_zero() || rate.is_zero() || elapsed == 0 => Ok(
-            remaining,
-        ),
+        Rate::Finite(rate) if remaining.is_zero() || rate.is_zero() || elapsed == 0 => {
+            Ok(remaining)
+        }
         Rate::Finite(rate) => drain(rate, elapsed, remaining).ok_or(Error::NumberTooLarge),
     }
 }
 
+/// What is left after some time at a finite rate.
 fn drain(rate: Ratio, elapsed: u64, remaining: Ratio) -> Option<Ratio>
     ensures fits { IsSome result ↔ TakenFits (amount_of rate) elapsed (amount_of remaining) }
-    ensures value { IfSome result (λ rest. amount_of rest ≡ drained (amount_of remaining) (amount_of rate) elapsed) }
+    ensures value { IfSome result (λ rest.
+        amount_of rest ≡ drained (amount_of remaining) (amount_of rate) elapsed) }
 {
     let seconds = Ratio::new(u128::from(elapsed), BILLION)?;
     let taken = rate.checked_mul(seconds)?;
@@ -87,12 +91,14 @@ pub fn draining_splits()
 /// A law of `transfer` and `duration`: at a rate above zero nothing is left exactly from the least
 /// time on. The function does nothing.
 pub fn nothing_is_left_from_the_least_time_on()
-    ensures { (left : Amount) (rate : Amount) (least : ℕ) (n : ℕ) → 0 < left.den → 0 < rate.den → IsLeastTime rate left least
-        → ((drained left rate n).num ≡ 0) ↔ (least ≤ n) }
+    ensures { (left : Amount) (rate : Amount) (least : ℕ) (n : ℕ)
+        → 0 < left.den → 0 < rate.den → IsLeastTime rate left least → ((drained left rate n).num ≡ 0) ↔ (least ≤ n) }
 {}
 
 /// A law of `duration`: at a rate above zero there is one least time. The function does nothing.
 pub fn there_is_one_least_time()
-    ensures some { (left : Amount) (rate : Amount) → 0 < left.den → 0 < rate.num → (n : ℕ) × IsLeastTime rate left n }
-    ensures one { (left : Amount) (rate : Amount) (m : ℕ) (n : ℕ) → IsLeastTime rate left m → IsLeastTime rate left n → m ≡ n }
+    ensures some { (left : Amount) (rate : Amount)
+        → 0 < left.den → 0 < rate.num → (n : ℕ) × IsLeastTime rate left n }
+    ensures one { (left : Amount) (rate : Amount) (m : ℕ) (n : ℕ)
+        → IsLeastTime rate left m → IsLeastTime rate left n → m ≡ n }
 {}

@@ -1,4 +1,4 @@
-use Rattle.p2p_simulated.proofs.Times.{left_after_twice}
+use Rattle.p2p_simulated.proofs.Draining.{left_after_twice}
 use Rattle.p2p_simulated.proofs.bandwidth.time.draining_splits.Goals as goal
 
 pub returns : goal.returns

@@ -3,7 +3,7 @@ use Rattle.std.proofs.lemmas.Bool.{eqb-true}
 use Rattle.p2p_simulated.specs.declared.bandwidth.Rate.{Rate}
 use Rattle.p2p_simulated.specs.Ratio.{amount_of}
 use Rattle.p2p_simulated.specs.Time.{left_after}
-use Rattle.p2p_simulated.proofs.Times.{all_is_left}
+use Rattle.p2p_simulated.proofs.Taken.{all_is_left}
 use Rattle.p2p_simulated.proofs.bandwidth.time.transfer.Goals.{then-is_zero, else-is_zero, then-is_zero-2, else-is_zero-2}
 use Rattle.p2p_simulated.proofs.bandwidth.time.transfer.Goals as goal
 

@@ -1,7 +1,7 @@
-use Rattle.std.proofs.Common.{◌*◌, ◌/◌, ◌^◌, ◌<◌, ◌∙◌, sym, ap, subst, refl, rules}
+use Rattle.std.proofs.Common.{◌^◌, ◌<◌, refl, rules}
 use Rattle.p2p_simulated.specs.Fits.{AreOverCommon}
 use Rattle.p2p_simulated.specs.Ratio.{amount_of}
-use Rattle.p2p_simulated.proofs.FractionFits.{over_equal, over_fits, least_common-pos}
+use Rattle.p2p_simulated.proofs.FractionFits.{over_equal, over_fits, common-pos}
 use Rattle.p2p_simulated.proofs.ratio.Ratio.over_common.Goals as goal
 
 over : (c : goal.After-result-1) → AreOverCommon (amount_of c.args.self) (amount_of c.args.other) c.args.self.numerator c.args.other.numerator c.args.self.denominator
@@ -19,5 +19,5 @@ returns-then-self-other-clause-value c = over c
 
 pub invariant_of-result-2 : goal.invariant_of-result-2
 invariant_of-result-2 c = record {
-  positive = subst (λ n. 0 < n) (ap (λ n. n * c.args.other.denominator) (sym (c.quotient-scale.ensures ∙ ap (λ n. c.args.self.denominator / n) c.gcd-common.ensures.value)) ∙ sym c.in_ok-checked_mul-3.ensures.1) (least_common-pos (amount_of c.args.self) (amount_of c.args.other) c.args.self.positive c.args.other.positive);
+  positive = common-pos c.args.self c.args.other _ _ _ c.gcd-common.ensures.value c.quotient-scale.ensures c.in_ok-checked_mul-3.ensures.1;
 }

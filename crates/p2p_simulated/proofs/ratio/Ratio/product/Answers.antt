@@ -1,10 +1,10 @@
-use Rattle.std.proofs.Common.{◌≡◌, ◌*◌, ◌/◌, ◌<◌, ◌∙◌, sym, refl, subst}
+use Rattle.std.proofs.Common.{◌*◌, ◌<◌, ◌∙◌, sym, refl, subst}
 use Rattle.std.proofs.Math.Nat.{mul-pos}
 use Rattle.p2p_simulated.specs.Amount.{times}
 use Rattle.p2p_simulated.specs.Fraction.{IsReduced}
 use Rattle.p2p_simulated.specs.Ratio.{amount_of}
 use Rattle.p2p_simulated.specs.Laws.LowestTerms.{amount_is}
-use Rattle.p2p_simulated.proofs.FractionFits.{ReducedProduct, reduced_product, fits_if_known, none_iff, worth_if_reduced}
+use Rattle.p2p_simulated.proofs.FractionFits.{reduced_product, fits_if_known, none_iff, worth_if_reduced}
 use Rattle.p2p_simulated.proofs.ratio.Ratio.product.Goals as goal
 
 pub returns-in_err-numerator-clause-fits : goal.returns-in_err-numerator-clause-fits
