@@ -23,7 +23,8 @@ the_allocation sides flows rates users f = record {
 }
 
 -- so are fair rates on the sides that answers make
-pub the_allocation_of : {P : Type 0} (cmp : P → P → Ordering) (answered : List (Answered P)) (flows : ℕ) (rates : List Rate) → length answered ≡ flows → AreFairRates (sides_of cmp answered) flows rates
+pub the_allocation_of : {P : Type 0} (cmp : P → P → Ordering) (answered : List (Answered P)) (flows : ℕ) (rates : List Rate) → length answered ≡ flows
+    → AreFairRates (sides_of cmp answered) flows rates
     → AreTheAllocation (sides_of cmp answered) flows rates
 the_allocation_of cmp answered flows rates one_each f =
     the_allocation (sides_of cmp answered) flows rates (subst (λ n. HaveUsersBelow n (sides_of cmp answered)) one_each (users_below cmp answered)) f

@@ -102,11 +102,13 @@ module _ {P : Type 0} (cmp : P → P → Ordering) (caps : Caps P) where
       ∙ both (limits cmp s x.flow) (load_is s g (place + 1) xs stands.1)
       ∙ sym (total-cons s x xs)
     where
-      both : (t : Bool) → sum_by g (places_from cmp (place + 1) s (flows_of xs)) ≡ total s xs → sum_by g (cond t (place ∷ []) []) + sum_by g (places_from cmp (place + 1) s (flows_of xs)) ≡ cond t x.parts 0 + total s xs
+      both : (t : Bool) → sum_by g (places_from cmp (place + 1) s (flows_of xs)) ≡ total s xs
+          → sum_by g (cond t (place ∷ []) []) + sum_by g (places_from cmp (place + 1) s (flows_of xs)) ≡ cond t x.parts 0 + total s xs
       both true ih = omega (arith, ih, stands.0, sum_by-cons g place [])
       both false ih = omega (arith, ih)
 
-  place_in : (s : Subject P) (place : ℕ) (xs : List (Allotted P)) (k : ℕ) (x : Allotted P) → slice_get xs k ≡ Some x → limits cmp s x.flow ≡ true → In (places_from cmp place s (flows_of xs)) (place + k)
+  place_in : (s : Subject P) (place : ℕ) (xs : List (Allotted P)) (k : ℕ) (x : Allotted P) → slice_get xs k ≡ Some x → limits cmp s x.flow ≡ true
+      → In (places_from cmp place s (flows_of xs)) (place + k)
   place_in s place [] k x at l = cc
   place_in s place (y ∷ xs) zero x at l =
       let same : y ≡ x = cc in
@@ -136,7 +138,8 @@ module _ {P : Type 0} (cmp : P → P → Ordering) (caps : Caps P) where
       here true l (inr g) = absurd g
       here false l g = absurd g
 
-      by_part : In (cond (limits cmp s y.flow) (place ∷ []) []) j ⊎ In (places_from cmp (place + 1) s (flows_of xs)) j → (In (places_from cmp (place + 1) s (flows_of xs)) j → StandsThere s (place + 1) xs j) → StandsThere s place (y ∷ xs) j
+      by_part : In (cond (limits cmp s y.flow) (place ∷ []) []) j ⊎ In (places_from cmp (place + 1) s (flows_of xs)) j
+          → (In (places_from cmp (place + 1) s (flows_of xs)) j → StandsThere s (place + 1) xs j) → StandsThere s place (y ∷ xs) j
       by_part (inl g) ih = here (limits cmp s y.flow) refl g
       by_part (inr g) ih = let r = ih g in record { k = suc r.k; x = r.x; is = omega (arith, r.is); at = r.at; limited = r.limited }
 

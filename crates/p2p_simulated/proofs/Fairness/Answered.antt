@@ -18,7 +18,8 @@ module _ {P E I L : Type 0} (egress : Calls E P) (ingress : Calls I P) (link : P
       let l = link_by before.link a.flow.origin a.flow.recipient a.link after.link c.pair in
       λ k. record { flow = a.flow; egress = e k; ingress = i k; link = l k }
 
-  all_answers : (first : States E I L) (answered : List (Answered P)) (last : States E I L) → FoldsTo (CallsFor egress ingress link) first answered last → answered ≡ map (answered_under caps) (map (λ a. a.flow) answered)
+  all_answers : (first : States E I L) (answered : List (Answered P)) (last : States E I L) → FoldsTo (CallsFor egress ingress link) first answered last
+      → answered ≡ map (answered_under caps) (map (λ a. a.flow) answered)
   all_answers first [] last c = refl
   all_answers first (a ∷ answered) last (next, one, rest) = ap₂ (λ (b : Answered P) (bs : List (Answered P)). b ∷ bs) (one_answer first next a one) (all_answers next answered last rest)
 

@@ -173,7 +173,8 @@ module _ (flags : List Bool) where
             subst (HasBottleneck (sides_in flags sides) per kept_parts) w.place (renumbered_bottleneck w.u w.own (f.held w.u w.limited));
       }
 
-      kept_rate : (j : ℕ) (r : Rate) → is_in flags (old flags j) ≡ true → place_in flags (old flags j) ≡ j → IsRateOf sides per parts (old flags j) r → IsRateOf (sides_in flags sides) per kept_parts j r
+      kept_rate : (j : ℕ) (r : Rate) → is_in flags (old flags j) ≡ true → place_in flags (old flags j) ≡ j → IsRateOf sides per parts (old flags j) r
+          → IsRateOf (sides_in flags sides) per kept_parts j r
       kept_rate j Unlimited own place none = λ limited. let w = stood_limited j limited in none (subst (IsLimited sides) (sym w.was) w.limited)
       kept_rate j (Finite ratio) own place ((side, uses), worth) =
           (subst (IsLimited (sides_in flags sides)) place (renumbered side, uses_renumbered side (old flags j) own uses), worth)

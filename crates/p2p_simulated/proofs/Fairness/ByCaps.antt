@@ -50,7 +50,8 @@ module _ {P E I L : Type 0} (cmp : P → P → Ordering) (order : IsTotalOrder c
       ∙ order_does_not_matter cmp order caps flows others a.rates b.rates by.of_peers distinct permuted (allocates_under_caps caps first flows m by a) (allocates_under_caps caps second others n by b) id
       ∙ sym (a.by_id id)
 
-  module _ (caps : Caps P) (by : AnswerByCaps cmp egress ingress link caps) (first : States E I L) (flows : List (Flow P)) (m : ℕ → Option Rate) (distinct : HaveDistinctIds flows) (a : Allocates cmp egress ingress link first flows m) where
+  module _ (caps : Caps P) (by : AnswerByCaps cmp egress ingress link caps) (first : States E I L) (flows : List (Flow P))
+      (m : ℕ → Option Rate) (distinct : HaveDistinctIds flows) (a : Allocates cmp egress ingress link first flows m) where
     abbrev fair : AreFairUnder cmp caps flows a.rates
     fair = allocates_under_caps caps first flows m by a
 
@@ -99,7 +100,8 @@ module _ {P E I L : Type 0} (cmp : P → P → Ordering) (order : IsTotalOrder c
       let flows_is : flows_of xs ≡ own = flows_of_part cmp caps mine s.all ∙ ap (filter mine) s.flows_are in
       let rates_is : rates_of xs ≡ kept (map mine flows) a.rates = rates_of_part cmp caps mine s.all ∙ ap₂ (λ (fs : List (Flow P)) (rs : List Rate). kept (map mine fs) rs) s.flows_are s.rates_are in
       let kept_fair = part_is_fair cmp order caps peers flows a.rates by.of_peers ends (fair caps by first flows m distinct a) in
-      let one : b.rates ≡ kept (map mine flows) a.rates = one_allocation (sides_under cmp caps own) (length own) (kept (map mine flows) a.rates) kept_fair b.rates (allocates_under_caps caps second own n by b) in
+      let one : b.rates ≡ kept (map mine flows) a.rates =
+      one_allocation (sides_under cmp caps own) (length own) (kept (map mine flows) a.rates) kept_fair b.rates (allocates_under_caps caps second own n by b) in
       let few : HaveDistinctIds own = λ id. omega (arith, distinct id, count_by-filter (has id) mine flows) in
       let rate : last_rate r.x.flow.id (flows_of xs) (rates_of xs) ≡ Some r.x.rate = rate_by_id xs r.x (subst HaveDistinctIds (sym flows_is) few) among in
       b.by_id f.id

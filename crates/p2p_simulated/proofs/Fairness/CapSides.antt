@@ -31,7 +31,8 @@ module _ {P : Type 0} (cmp : P → P → Ordering) (order : IsTotalOrder cmp) (c
     users : side.users ≡ map (λ b. b.place) (filter (is_same cmp a) later)
 
   -- nothing is open where no ask with a number was for it
-  fresh_from : (earlier : List (Ask P)) (a : Ask P) (cap : ℕ) → AllByCaps earlier → IsByCaps a → a.answer ≡ Some cap → is_open cmp earlier a ≡ false → (b : Ask P) → In earlier b → is_same cmp a b ≡ false
+  fresh_from : (earlier : List (Ask P)) (a : Ask P) (cap : ℕ) → AllByCaps earlier → IsByCaps a → a.answer ≡ Some cap → is_open cmp earlier a ≡ false → (b : Ask P) → In earlier b
+      → is_same cmp a b ≡ false
   fresh_from earlier a cap all by has closed b among = by_same (is_same cmp b a) refl
     where
       by_same : (t : Bool) → is_same cmp b a ≡ t → is_same cmp a b ≡ false
@@ -91,12 +92,14 @@ module _ {P : Type 0} (cmp : P → P → Ordering) (order : IsTotalOrder cmp) (c
   abbrev side_asked : List (Ask P) → Ask P → ℕ → Side
   side_asked asks a cap = record { cap = cap; users = map (λ b. b.place) (filter (is_same cmp a) asks) }
 
-  to_sides : (earlier later : List (Ask P)) (a : Ask P) (cap : ℕ) → AllByCaps earlier → AllByCaps later → In later a → a.answer ≡ Some cap → ((b : Ask P) → In earlier b → is_same cmp a b ≡ false) → In (sides_after cmp earlier later) (side_asked later a cap)
+  to_sides : (earlier later : List (Ask P)) (a : Ask P) (cap : ℕ) → AllByCaps earlier → AllByCaps later → In later a → a.answer ≡ Some cap
+      → ((b : Ask P) → In earlier b → is_same cmp a b ≡ false) → In (sides_after cmp earlier later) (side_asked later a cap)
   to_sides earlier [] a cap before all h has fresh = absurd h
   to_sides earlier (x ∷ later) a cap before all h has fresh =
       by_same (is_same cmp a x) refl h (λ g. to_sides (x ∷ earlier) later a cap (one_more earlier x before (all x (inl refl))) (λ b among. all b (inr among)) g has)
     where
-      head : is_same cmp a x ≡ true → In (cond (is_open cmp earlier x) [] (opened cmp x later x.answer) ++ sides_after cmp (x ∷ earlier) later) (record { cap = cap; users = x.place ∷ map (λ b. b.place) (filter (is_same cmp a) later) })
+      head : is_same cmp a x ≡ true
+          → In (cond (is_open cmp earlier x) [] (opened cmp x later x.answer) ++ sides_after cmp (x ∷ earlier) later) (record { cap = cap; users = x.place ∷ map (λ b. b.place) (filter (is_same cmp a) later) })
       head e =
           let number : x.answer ≡ Some cap = all x (inl refl) ∙ sym (one_cap cmp order caps of a.subject x.subject e) ∙ sym (all a h) ∙ has in
           let closed : is_open cmp earlier x ≡ false = open_from earlier x (λ b among. sym (same_congr cmp order a.subject x.subject b.subject e) ∙ fresh b among) in
@@ -150,21 +153,25 @@ module _ {P : Type 0} (cmp : P → P → Ordering) (order : IsTotalOrder cmp) (c
   one_kept true b = refl
   one_kept false b = refl
 
+  -- the places of the asks of a flow that are for a subject
+  abbrev places_for : Subject P → ℕ → Flow P → Bool → List ℕ
+  places_for s place f delivered = map (λ b. b.place) (filter (λ b. same_subject cmp s b.subject) (asks_if place f delivered))
+
   -- of the three asks of a flow at most one is for a subject
-  one_place : (place : ℕ) (f : Flow P) (s : Subject P) → map (λ (b : Ask P). b.place) (filter (λ (b : Ask P). same_subject cmp s b.subject) (asks_if place f f.delivered)) ≡ cond (limits cmp s f) (place ∷ []) []
+  one_place : (place : ℕ) (f : Flow P) (s : Subject P) → places_for s place f f.delivered ≡ cond (limits cmp s f) (place ∷ []) []
   one_place place f (sent_by p) = by_delivered f.delivered
     where
-      by_delivered : (d : Bool) → map (λ (b : Ask P). b.place) (filter (λ (b : Ask P). same_subject cmp (sent_by p) b.subject) (asks_if place f d)) ≡ cond (same_peer cmp p f.origin) (place ∷ []) []
+      by_delivered : (d : Bool) → places_for (sent_by p) place f d ≡ cond (same_peer cmp p f.origin) (place ∷ []) []
       by_delivered true = one_kept (same_peer cmp p f.origin) (sends place f)
       by_delivered false = one_kept (same_peer cmp p f.origin) (sends place f)
   one_place place f (received_by p) = by_delivered f.delivered
     where
-      by_delivered : (d : Bool) → map (λ (b : Ask P). b.place) (filter (λ (b : Ask P). same_subject cmp (received_by p) b.subject) (asks_if place f d)) ≡ cond (d && same_peer cmp p f.recipient) (place ∷ []) []
+      by_delivered : (d : Bool) → places_for (received_by p) place f d ≡ cond (d && same_peer cmp p f.recipient) (place ∷ []) []
       by_delivered true = one_kept (same_peer cmp p f.recipient) (receives place f true)
       by_delivered false = refl
   one_place place f (sent_between p q) = by_delivered f.delivered
     where
-      by_delivered : (d : Bool) → map (λ (b : Ask P). b.place) (filter (λ (b : Ask P). same_subject cmp (sent_between p q) b.subject) (asks_if place f d)) ≡ cond (same_peer cmp p f.origin && same_peer cmp q f.recipient) (place ∷ []) []
+      by_delivered : (d : Bool) → places_for (sent_between p q) place f d ≡ cond (same_peer cmp p f.origin && same_peer cmp q f.recipient) (place ∷ []) []
       by_delivered true = one_kept (same_peer cmp p f.origin && same_peer cmp q f.recipient) (links place f)
       by_delivered false = one_kept (same_peer cmp p f.origin && same_peer cmp q f.recipient) (links place f)
 
@@ -178,7 +185,8 @@ module _ {P : Type 0} (cmp : P → P → Ordering) (order : IsTotalOrder cmp) (c
 
   one_limits : (place : ℕ) (f : Flow P) (d : Bool) → f.delivered ≡ d → (a : Ask P) → In (asks_if place f d) a → limits cmp a.subject f ≡ true
   one_limits place f true is a (inl e) = subst (λ (b : Ask P). limits cmp b.subject f ≡ true) e (same_peer_itself cmp order f.origin)
-  one_limits place f true is a (inr (inl e)) = subst (λ (b : Ask P). limits cmp b.subject f ≡ true) e (and_from f.delivered (same_peer cmp f.recipient f.recipient) is (same_peer_itself cmp order f.recipient))
+  one_limits place f true is a (inr (inl e)) =
+      subst (λ (b : Ask P). limits cmp b.subject f ≡ true) e (and_from f.delivered (same_peer cmp f.recipient f.recipient) is (same_peer_itself cmp order f.recipient))
   one_limits place f true is a (inr (inr (inl e))) = subst (λ (b : Ask P). limits cmp b.subject f ≡ true) e (same_itself cmp order (sent_between f.origin f.recipient))
   one_limits place f true is a (inr (inr (inr h))) = absurd h
   one_limits place f false is a (inl e) = subst (λ (b : Ask P). limits cmp b.subject f ≡ true) e (same_peer_itself cmp order f.origin)
@@ -190,7 +198,8 @@ module _ {P : Type 0} (cmp : P → P → Ordering) (order : IsTotalOrder cmp) (c
   asker place [] a h = absurd h
   asker place (f ∷ flows) a h = by_part (in_either (asks_if place f f.delivered) (asks (place + 1) flows) a h) (λ g. asker (place + 1) flows a g)
     where
-      by_part : In (asks_if place f f.delivered) a ⊎ In (asks (place + 1) flows) a → (In (asks (place + 1) flows) a → (g : Flow P) × In flows g × (limits cmp a.subject g ≡ true)) → (g : Flow P) × In (f ∷ flows) g × (limits cmp a.subject g ≡ true)
+      by_part : In (asks_if place f f.delivered) a ⊎ In (asks (place + 1) flows) a → (In (asks (place + 1) flows) a → (g : Flow P) × In flows g × (limits cmp a.subject g ≡ true))
+          → (g : Flow P) × In (f ∷ flows) g × (limits cmp a.subject g ≡ true)
       by_part (inl g) ih = (f, inl refl, one_limits place f f.delivered refl a g)
       by_part (inr g) ih = let r : (g : Flow P) × In flows g × (limits cmp a.subject g ≡ true) = ih g in (r.0, inr r.1, r.2)
 
@@ -241,17 +250,21 @@ module _ {P : Type 0} (cmp : P → P → Ordering) (order : IsTotalOrder cmp) (c
   abbrev pub side_of_subject : List (Flow P) → Subject P → ℕ → Side
   side_of_subject flows s cap = record { cap = cap; users = places_from cmp 0 s flows }
 
-  pub listed_from_capped : (flows : List (Flow P)) (s : Subject P) (cap : ℕ) (f : Flow P) → cap_of caps s ≡ Some cap → In flows f → limits cmp s f ≡ true → Contains (sides_under cmp caps flows) (side_of_subject flows s cap)
+  pub listed_from_capped : (flows : List (Flow P)) (s : Subject P) (cap : ℕ) (f : Flow P) → cap_of caps s ≡ Some cap → In flows f → limits cmp s f ≡ true
+      → Contains (sides_under cmp caps flows) (side_of_subject flows s cap)
   listed_from_capped flows s cap f has h l =
       let r = asked 0 flows s f h l in
       let a = r.0 in
       let answered = all_by_caps 0 flows a r.1 ∙ sym (one_cap cmp order caps of s a.subject r.2) ∙ has in
       let listed = to_sides [] (asks 0 flows) a cap (λ b g. absurd g) (all_by_caps 0 flows) r.1 answered (λ b g. absurd g) in
-      let same : side_asked (asks 0 flows) a cap ≡ side_of_subject flows s cap = ap (λ (ps : List ℕ). record { cap = cap; users = ps }) (places_asked 0 flows a ∙ sym (same_places 0 s a.subject flows r.2)) in
+      let same : side_asked (asks 0 flows) a cap ≡ side_of_subject flows s cap =
+      ap (λ (ps : List ℕ). record { cap = cap; users = ps }) (places_asked 0 flows a ∙ sym (same_places 0 s a.subject flows r.2)) in
       contains_from_in (sides_under cmp caps flows) (side_of_subject flows s cap) (subst (In (sides_under cmp caps flows)) same listed)
 
 pub sides_are_of_the_caps : {P : Type 0} (cmp : P → P → Ordering) → IsTotalOrder cmp → SidesAreOfTheCaps cmp
 sides_are_of_the_caps cmp order caps flows side of = (
   capped_from_listed cmp order caps of flows side,
-  (λ s. subst (Contains (sides_under cmp caps flows)) (ap (λ (ps : List ℕ). record { cap = side.cap; users = ps }) (sym s.users)) (listed_from_capped cmp order caps of flows s.subject side.cap s.flow s.capped (in_from_contains flows s.flow s.among) s.limited)),
+  (λ s.
+      let listed = listed_from_capped cmp order caps of flows s.subject side.cap s.flow s.capped (in_from_contains flows s.flow s.among) s.limited in
+      subst (Contains (sides_under cmp caps flows)) (ap (λ (ps : List ℕ). record { cap = side.cap; users = ps }) (sym s.users)) listed),
 )

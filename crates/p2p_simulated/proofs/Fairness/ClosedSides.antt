@@ -22,7 +22,9 @@ closed_is_zero sides per parts f flow u =
 zero_is_closed : (sides : List Side) (per : ℕ) (parts : ℕ → ℕ) → IsFair sides per parts → (flow : ℕ) → IsLimited sides flow → parts flow ≡ 0 → UsesClosedSide sides flow
 zero_is_closed sides per parts f flow limited none =
     let h = f.held flow limited in
-    let nothing : load parts h.side ≡ 0 = sum_by-zero parts h.side.users (All-from_contains (λ j. parts j ≡ 0) h.side.users (λ j used. omega (arith, none, All-contains (λ j. parts j ≤ parts flow) h.side.users j h.greatest used))) in
+    let users = h.side.users in
+    let all_none = All-from_contains (λ j. parts j ≡ 0) users (λ j used. omega (arith, none, All-contains (λ j. parts j ≤ parts flow) users j h.greatest used)) in
+    let nothing : load parts h.side ≡ 0 = sum_by-zero parts users all_none in
     let product : h.side.cap * per ≡ 0 * per = omega (arith, nothing, h.full) in
     record { side = h.side; uses = h.uses; closed = eq_of_mul-eq-mul_right per f.some_part h.side.cap 0 product }
 

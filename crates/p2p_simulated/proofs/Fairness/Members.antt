@@ -98,7 +98,8 @@ pub some_or_none : {X : Type 0} (test : X → Bool) (xs : List X) → ((x : X) �
 some_or_none test [] = inr (λ x h. absurd h)
 some_or_none {X} test (y ∷ ys) = by_test (test y) refl (some_or_none test ys)
   where
-    by_test : (b : Bool) → test y ≡ b → ((x : X) × In ys x × (test x ≡ true)) ⊎ ((x : X) → In ys x → test x ≡ false) → ((x : X) × In (y ∷ ys) x × (test x ≡ true)) ⊎ ((x : X) → In (y ∷ ys) x → test x ≡ false)
+    by_test : (b : Bool) → test y ≡ b → ((x : X) × In ys x × (test x ≡ true)) ⊎ ((x : X) → In ys x → test x ≡ false)
+        → ((x : X) × In (y ∷ ys) x × (test x ≡ true)) ⊎ ((x : X) → In (y ∷ ys) x → test x ≡ false)
     by_test true is ih = inl (y, inl refl, is)
     by_test false is (inl (x, h, t)) = inl (x, inr h, t)
     by_test false is (inr none) = inr (λ x. elim [ inl e ↦ subst (λ (z : X). test z ≡ false) e is | inr h ↦ none x h ])

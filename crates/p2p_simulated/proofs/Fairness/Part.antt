@@ -33,7 +33,8 @@ module _ {P : Type 0} (cmp : P → P → Ordering) (caps : Caps P) (mine : Flow 
   rates_of_part [] = refl
   rates_of_part (x ∷ xs) = by_test (mine x.flow) (rates_of_part xs)
     where
-      by_test : (b : Bool) → rates_of (part xs) ≡ kept (map mine (flows_of xs)) (rates_of xs) → rates_of (cond b (x ∷ part xs) (part xs)) ≡ cond b (x.rate ∷ kept (map mine (flows_of xs)) (rates_of xs)) (kept (map mine (flows_of xs)) (rates_of xs))
+      by_test : (b : Bool) → rates_of (part xs) ≡ kept (map mine (flows_of xs)) (rates_of xs)
+          → rates_of (cond b (x ∷ part xs) (part xs)) ≡ cond b (x.rate ∷ kept (map mine (flows_of xs)) (rates_of xs)) (kept (map mine (flows_of xs)) (rates_of xs))
       by_test true ih = ap (λ (rs : List Rate). x.rate ∷ rs) ih
       by_test false ih = ih
 
@@ -50,7 +51,8 @@ module _ {P : Type 0} (cmp : P → P → Ordering) (caps : Caps P) (mine : Flow 
   total_same s [] all = refl
   total_same s (x ∷ xs) all = by_test (mine x.flow) (limits cmp s x.flow) refl refl (total_same s xs (λ y h. all y (inr h)))
     where
-      by_test : (b l : Bool) → mine x.flow ≡ b → limits cmp s x.flow ≡ l → total cmp caps s (part xs) ≡ total cmp caps s xs → total cmp caps s (cond b (x ∷ part xs) (part xs)) ≡ total cmp caps s (x ∷ xs)
+      by_test : (b l : Bool) → mine x.flow ≡ b → limits cmp s x.flow ≡ l → total cmp caps s (part xs) ≡ total cmp caps s xs
+          → total cmp caps s (cond b (x ∷ part xs) (part xs)) ≡ total cmp caps s (x ∷ xs)
       by_test true l own is ih = omega (arith, ih, total-cons cmp caps s x (part xs), total-cons cmp caps s x xs)
       by_test false true own is ih = let passes : mine x.flow ≡ true = all x (inl refl) is in cc
       by_test false false own is ih =
@@ -106,5 +108,6 @@ part_is_fair {P} cmp order caps peers flows rates of ends fair =
     let s = among_from cmp caps order of flows rates fair in
     let whole = under_from cmp caps order of s.per (part cmp caps mine s.all) (part_among cmp caps mine s.per s.all s.fair (together cmp order peers caps flows ends s.all s.flows_are)) in
     let flows_is : flows_of (part cmp caps mine s.all) ≡ filter mine flows = flows_of_part cmp caps mine s.all ∙ ap (filter mine) s.flows_are in
-    let rates_is : rates_of (part cmp caps mine s.all) ≡ kept (map mine flows) rates = rates_of_part cmp caps mine s.all ∙ ap₂ (λ (fs : List (Flow P)) (rs : List Rate). kept (map mine fs) rs) s.flows_are s.rates_are in
+    let rates_is : rates_of (part cmp caps mine s.all) ≡ kept (map mine flows) rates = rates_of_part cmp caps mine s.all
+    ∙ ap₂ (λ (fs : List (Flow P)) (rs : List Rate). kept (map mine fs) rs) s.flows_are s.rates_are in
     subst₂ (AreFairUnder cmp caps) flows_is rates_is whole

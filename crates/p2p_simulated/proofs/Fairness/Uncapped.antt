@@ -36,7 +36,9 @@ module _ {P : Type 0} (cmp : P → P → Ordering) (order : IsTotalOrder cmp) (c
   free_from_no_cap of f n c = by_subject c.subject c.capped c.limited
     where
       by_subject : (s : Subject P) → cap_of caps s ≡ Some c.cap → limits cmp s f ≡ true → ⊥
-      by_subject (sent_by p) e l = let same : caps.egress p ≡ caps.egress f.origin = one_cap cmp order caps of (sent_by p) (sent_by f.origin) l in let none : caps.egress f.origin ≡ None = n.origin in cc
+      by_subject (sent_by p) e l =
+          let same : caps.egress p ≡ caps.egress f.origin = one_cap cmp order caps of (sent_by p) (sent_by f.origin) l in
+          let none : caps.egress f.origin ≡ None = n.origin in cc
       by_subject (received_by p) e l =
           let both = and_parts f.delivered (same_peer cmp p f.recipient) l in
           let same : caps.ingress p ≡ caps.ingress f.recipient = one_cap cmp order caps of (received_by p) (received_by f.recipient) both.1 in
@@ -52,7 +54,8 @@ module _ {P : Type 0} (cmp : P → P → Ordering) (order : IsTotalOrder cmp) (c
 pub unlimited_where_uncapped : {P : Type 0} (cmp : P → P → Ordering) → IsTotalOrder cmp → UnlimitedWhereUncapped cmp
 unlimited_where_uncapped {P} cmp order caps flows rates of fair place f at =
     let s = among_from cmp caps order of flows rates fair in
-    let there : (x : Allotted P) × (slice_get s.all place ≡ Some x) × (x.flow ≡ f) = get_from_map (λ (x : Allotted P). x.flow) s.all place f (subst (λ (fs : List (Flow P)). slice_get fs place ≡ Some f) (sym s.flows_are) at) in
+    let there : (x : Allotted P) × (slice_get s.all place ≡ Some x) × (x.flow ≡ f) =
+    get_from_map (λ (x : Allotted P). x.flow) s.all place f (subst (λ (fs : List (Flow P)). slice_get fs place ≡ Some f) (sym s.flows_are) at) in
     let x = there.0 in
     let rate : slice_get rates place ≡ Some x.rate = subst (λ (rs : List Rate). slice_get rs place ≡ Some x.rate) s.rates_are (rate_there cmp caps s.all place x there.1) in
     let rated : IsRated cmp caps s.per x.parts f x.rate = subst (λ (g : Flow P). IsRated cmp caps s.per x.parts g x.rate) there.2 (s.fair.rated x (in_get s.all place x there.1)) in (

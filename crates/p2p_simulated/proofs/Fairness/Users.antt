@@ -39,7 +39,8 @@ module _ {P : Type 0} where
   ]
 
   module _ (cmp : P → P → Ordering) where
-    user_below : (bound : ℕ) (earlier later : List (Ask P)) → ((b : Ask P) → In later b → b.place < bound) → (side : Side) → In (sides_after cmp earlier later) side → (u : ℕ) → In side.users u → u < bound
+    user_below : (bound : ℕ) (earlier later : List (Ask P)) → ((b : Ask P) → In later b → b.place < bound) → (side : Side) → In (sides_after cmp earlier later) side → (u : ℕ) → In side.users u
+        → u < bound
     user_below bound earlier [] small side h u used = absurd h
     user_below bound earlier (a ∷ later) small side h u used = by_part (in_either (cond (is_open cmp earlier a) [] (opened cmp a later a.answer)) (sides_after cmp (a ∷ earlier) later) side h)
         (λ g. user_below bound (a ∷ earlier) later (λ b i. small b (inr i)) side g u used)
@@ -57,13 +58,19 @@ module _ {P : Type 0} where
         here false (Some cap) (inl e) = first (subst (λ (s : Side). In s.users u) (sym e) used)
         here false (Some cap) (inr g) = absurd g
 
-        by_part : In (cond (is_open cmp earlier a) [] (opened cmp a later a.answer)) side ⊎ In (sides_after cmp (a ∷ earlier) later) side → (In (sides_after cmp (a ∷ earlier) later) side → u < bound) → u < bound
+        by_part : In (cond (is_open cmp earlier a) [] (opened cmp a later a.answer)) side ⊎ In (sides_after cmp (a ∷ earlier) later) side
+            → (In (sides_after cmp (a ∷ earlier) later) side → u < bound) → u < bound
         by_part (inl g) ih = here (is_open cmp earlier a) a.answer g
         by_part (inr g) ih = ih g
 
     -- each user is a place of the list
+    asks_below : (answered : List (Answered P)) (b : Ask P) → In (asks_from 0 answered) b → b.place < length answered
+    asks_below answered b h = let i = places_between 0 answered b h in omega (arith, i.below)
+
     pub users_below : (answered : List (Answered P)) → HaveUsersBelow (length answered) (sides_of cmp answered)
     users_below answered =
-        All-from_contains (λ s. All (λ u. u < length answered) s.users) (sides_of cmp answered) (λ side listed.
-        All-from_contains (λ u. u < length answered) side.users (λ u used.
-        user_below (length answered) [] (asks_from 0 answered) (λ b h. let i = places_between 0 answered b h in omega (arith, i.below)) side (in_from_contains (sides_of cmp answered) side listed) u (in_from_contains side.users u used)))
+        let sides = sides_of cmp answered in
+        let n = length answered in
+        All-from_contains (λ s. All (λ u. u < n) s.users) sides (λ side listed.
+        All-from_contains (λ u. u < n) side.users (λ u used.
+        user_below n [] (asks_from 0 answered) (asks_below answered) side (in_from_contains sides side listed) u (in_from_contains side.users u used)))
