@@ -15,11 +15,13 @@ use Rattle.p2p_simulated.specs.Sides.{sides_of}
 abbrev pub LooksUp : {F P : Type 0} → Calls F P → F → (P → Option ℕ) → Type 0
 LooksUp {F} {P} call f cap = (peer : P) (answer : Option ℕ) (after : F) → call f peer answer after → (after ≡ f) × (answer ≡ cap peer)
 
-module _ {E I : Type 0} (egress : Calls E ℕ) (ingress : Calls I ℕ) (e : E) (i : I) (caps : Caps ℕ) (no_links : (p q : ℕ) → None ≡ caps.link p q) (egress_by : LooksUp egress e caps.egress) (ingress_by : LooksUp ingress i caps.ingress) where
+module _ {E I : Type 0} (egress : Calls E ℕ) (ingress : Calls I ℕ) (e : E) (i : I) (caps : Caps ℕ)
+    (no_links : (p q : ℕ) → None ≡ caps.link p q) (egress_by : LooksUp egress e caps.egress) (ingress_by : LooksUp ingress i caps.ingress) where
   abbrev Steady : States E I (Unit {0}) → Type 0
   Steady s = (s.egress ≡ e) × (s.ingress ≡ i)
 
-  if_delivered : (delivered : Bool) (peer : ℕ) (answer : Option ℕ) (after : I) → CalledIfDelivered ingress delivered i peer answer after → (after ≡ i) × (answer ≡ cond delivered (caps.ingress peer) None)
+  if_delivered : (delivered : Bool) (peer : ℕ) (answer : Option ℕ) (after : I) → CalledIfDelivered ingress delivered i peer answer after
+      → (after ≡ i) × (answer ≡ cond delivered (caps.ingress peer) None)
   if_delivered true peer answer after h = ingress_by peer answer after h
   if_delivered false peer answer after h = (h.1, h.0)
 
@@ -40,7 +42,8 @@ module _ {E I : Type 0} (egress : Calls E ℕ) (ingress : Calls I ℕ) (e : E) (
       ap₂ (λ (b : Answered ℕ) (bs : List (Answered ℕ)). b ∷ bs) head.1 (all_answers next answered last head.0 rest)
 
   -- so what is answered for each id are the rates under the caps
-  pub rates_under_caps : (flows : List (Flow ℕ)) (rate_of : ℕ → Option Rate) → IsAllocation nat_cmp egress ingress NoLink (record { egress = e; ingress = i; link = tt }) flows rate_of → AreRatesUnder caps flows rate_of
+  pub rates_under_caps : (flows : List (Flow ℕ)) (rate_of : ℕ → Option Rate)
+      → IsAllocation nat_cmp egress ingress NoLink (record { egress = e; ingress = i; link = tt }) flows rate_of → AreRatesUnder caps flows rate_of
   rates_under_caps flows rate_of h =
       let all : h.answered ≡ map (answered_under caps) flows = all_answers _ h.answered h.in_order.last (refl, refl) h.in_order.calls ∙ ap (map (answered_under caps)) h.in_order.flows_are in
       record { rates = h.rates; fair = subst (λ answered. AreFairRates (sides_of nat_cmp answered) (length flows) h.rates) all h.fair; by_id = h.by_id }

@@ -1,5 +1,6 @@
 -- Decimal numerals: a number is written in one way with no sign and no zero in front.
-use Rattle.std.proofs.Common.{◌≡◌, ◌↔◌, ℕ, ◌+◌, ◌*◌, ◌/◌, ◌%◌, ◌^◌, ◌<◌, ◌≤◌, List, [], ◌∷◌, ◌++◌, length, get_or, None, Some, Result, Ok, Err, codes, zero-add, sym, ap, ◌∙◌, subst, refl, arith, append_assoc, append-nil, length-append}
+use Rattle.std.proofs.Common.{◌≡◌, ◌↔◌, ℕ, ◌+◌, ◌*◌, ◌/◌, ◌%◌, ◌^◌, ◌<◌, ◌≤◌, List, [], ◌∷◌, ◌++◌, length, get_or}
+use Rattle.std.proofs.Common.{None, Some, Result, Ok, Err, codes, zero-add, sym, ap, ◌∙◌, subst, refl, arith, append_assoc, append-nil, length-append}
 use Rattle.std.specs.Fmt.{decimal}
 use Rattle.std.specs.Char.{digit_value}
 use Rattle.std.specs.Result.{result_ok}
@@ -90,4 +91,5 @@ parsed {E} word (Ok x) h sign plain n =
     let own = parse_plain (numerals_by_value (AllDigits 10) tells_digits) {E = E} 128 word (Ok x) h sign in
     let spelled : decimal x ≡ word = ap decimal own.1 ∙ decimal-digits_value word own.0.0 own.0.1 plain (omega (arith, own.0.2)) in
     ((λ e. let same : x ≡ n = cc in (sym spelled ∙ ap decimal same, omega (arith, own.0.2))), λ is. ap (result_ok {T = ℕ} {E = E}) (parse-decimal_wide 128 n word (Ok x) is.1 (omega (arith, is.1)) is.0 h))
-parsed {E} word (Err e) h sign plain n = ((λ e. absurd (cc)), λ is. ap (result_ok {T = ℕ} {E = E}) (parse-decimal_wide 128 n word (Err e) is.1 (omega (arith, is.1)) is.0 h))
+parsed {E} word (Err e) h sign plain n =
+    ((λ e. absurd (cc)), λ is. ap (result_ok {T = ℕ} {E = E}) (parse-decimal_wide 128 n word (Err e) is.1 (omega (arith, is.1)) is.0 h))

@@ -21,7 +21,9 @@ rates_text-push entries id rate =
     flat_map-append (λ entry. rate_line entry.0 entry.1) entries ((id, rate) ∷ []) ∙ ap (λ last. rates_text entries ++ last) (append-nil (rate_line id rate))
 
 -- the line of the next entry, after those so far
-pub next_rate : (before between after : Option (List ℕ)) (done : List (Bor ℕ × Bor Rate)) (id : Bor ℕ) (rate : Bor Rate) → Appends before between (rates_text (map deref_pair done)) → Appends between after (rate_line id.now rate.now)
+pub next_rate : (before between after : Option (List ℕ)) (done : List (Bor ℕ × Bor Rate)) (id : Bor ℕ) (rate : Bor Rate)
+    → Appends before between (rates_text (map deref_pair done)) → Appends between after (rate_line id.now rate.now)
     → Appends before after (rates_text (map deref_pair (done ++ (id, rate) ∷ [])))
 next_rate before between after done id rate h k =
-    subst (Appends before after) (sym (ap rates_text (map-append deref_pair done ((id, rate) ∷ [])) ∙ rates_text-push (map deref_pair done) id.now rate.now)) (Appends-append before between after _ _ h k)
+    let text = ap rates_text (map-append deref_pair done ((id, rate) ∷ [])) ∙ rates_text-push (map deref_pair done) id.now rate.now in
+    subst (Appends before after) (sym text) (Appends-append before between after _ _ h k)

@@ -1,5 +1,6 @@
 -- Lines cut into words at their spaces.
-use Rattle.std.proofs.Common.{◌≡◌, ℕ, ◌<◌, Bool, true, false, cond, eqb, List, [], ◌∷◌, ◌++◌, length, get_or, take, drop, Option, None, Some, option_to_list, sym, ap, ◌∙◌, subst, refl, eq-eqb, arith, take-append-drop}
+use Rattle.std.proofs.Common.{◌≡◌, ℕ, ◌<◌, Bool, true, false, cond, eqb, List, [], ◌∷◌, ◌++◌, length, get_or}
+use Rattle.std.proofs.Common.{take, drop, Option, None, Some, option_to_list, sym, ap, ◌∙◌, subst, refl, eq-eqb, arith, take-append-drop}
 use denote.Ref.{Bor}
 use Rattle.std.specs.Option.{option_copied, IfNone}
 use Rattle.std.specs.Str.{NoCharPasses}
@@ -35,9 +36,11 @@ next_part before after None at k =
     ap (λ b. cond b (parts_of (split_text before)) []) (sym k.0) ∙ ap (λ b. cond b (parts_of (split_text after)) []) (k.0 ∙ ap split_has_more (sym k.1))
 next_part before after (Some x) at k =
     ap (λ b. cond b (parts_of (split_text before)) []) (sym k.0)
-    ∙ parts_of-cut (split_text before) x.now (split_text after) (split_has_more after) (subst (λ c. IsSplitAtFirstMatch (FindsChar c) (split_text before) x.now (split_has_more after) (split_text after)) at k.1.1)
+    ∙ parts_of-cut (split_text before) x.now (split_text after) (split_has_more after)
+    (subst (λ c. IsSplitAtFirstMatch (FindsChar c) (split_text before) x.now (split_has_more after) (split_text after)) at k.1.1)
 
 -- where a turn gives nothing, nothing is left
-pub no_part : (before after : Split ℕ) (r : Option (Bor (List ℕ))) → split_steps FindsChar (λ a b. b ≡ a) before r after → IfNone r (cond (split_has_more before) (parts_of (split_text before)) [] ≡ [])
+pub no_part : (before after : Split ℕ) (r : Option (Bor (List ℕ))) → split_steps FindsChar (λ a b. b ≡ a) before r after
+    → IfNone r (cond (split_has_more before) (parts_of (split_text before)) [] ≡ [])
 no_part before after None k = ap (λ b. cond b (parts_of (split_text before)) []) (sym k.0)
 no_part before after (Some x) k = tt

@@ -34,8 +34,10 @@ TakesNumber before n after = Takes (λ n. number_word n ∷ []) IsNumberInRange 
 
 -- three numbers and a flag are a flow
 pub takes_flow : (w0 w1 w2 w3 w4 : List (List ℕ)) (id origin recipient : ℕ) (delivered : Bool) → TakesNumber w0 id w1 → TakesNumber w1 origin w2 → TakesNumber w2 recipient w3
-    → Takes (λ flag. flag_word flag ∷ []) (λ _. Unit {0}) w3 (Some delivered) w4 → Takes flow_words IsFlowInRange w0 (Some (record { id = id; origin = origin; recipient = recipient; delivered = delivered })) w4
-takes_flow w0 w1 w2 w3 w4 id origin recipient delivered a b c d = record { taken = (cc (a.taken.0, b.taken.0, c.taken.0, d.taken.0), (a.taken.1, b.taken.1, c.taken.1)); missed = missed }
+    → Takes (λ flag. flag_word flag ∷ []) (λ _. Unit {0}) w3 (Some delivered) w4
+    → Takes flow_words IsFlowInRange w0 (Some (record { id = id; origin = origin; recipient = recipient; delivered = delivered })) w4
+takes_flow w0 w1 w2 w3 w4 id origin recipient delivered a b c d =
+    record { taken = (cc (a.taken.0, b.taken.0, c.taken.0, d.taken.0), (a.taken.1, b.taken.1, c.taken.1)); missed = missed }
   where
     missed : (f : Flow ℕ) (rest : List (List ℕ)) → IsFlowInRange f → w0 ≡ flow_words f ++ rest → Some (record { id = id; origin = origin; recipient = recipient; delivered = delivered }) ≡ Some f
     missed f rest range said =
@@ -106,7 +108,9 @@ ascii_line : (ws : List (List ℕ)) → AreWords ws → IsAscii (join_with_byte 
 ascii_line [] are = IsAscii-nil
 ascii_line (w ∷ []) are = IsAscii-from_all w (below_128 w are.0)
 ascii_line (w ∷ v ∷ ws) are =
-    IsAscii-append w (32 ∷ join_with_byte 32 (v ∷ ws)) (IsAscii-from_all w (below_128 w are.0)) (IsAscii-append (32 ∷ []) (join_with_byte 32 (v ∷ ws)) (IsAscii-from_all (32 ∷ []) (All-cons (λ b. b < 128) 32 [] (omega arith) (All-nil (λ b. b < 128)))) (ascii_line (v ∷ ws) are.1))
+    let rest = join_with_byte 32 (v ∷ ws) in
+    let space = IsAscii-from_all (32 ∷ []) (All-cons (λ b. b < 128) 32 [] (omega arith) (All-nil (λ b. b < 128))) in
+    IsAscii-append w (32 ∷ rest) (IsAscii-from_all w (below_128 w are.0)) (IsAscii-append (32 ∷ []) rest space (ascii_line (v ∷ ws) are.1))
 
 -- what commands are written with is words
 AreWords-command : (command : Command) → IsInRange command → AreWords (command_words command)

@@ -21,6 +21,7 @@ rate_line id rate = codes "rate " ++ decimal id ++ codes " " ++ rate_word rate +
 abbrev pub rates_text : List (ℕ × Rate) → List ℕ
 rates_text entries = flat_map (λ entry. rate_line entry.0 entry.1) entries
 
+-- what is printed of an answer
 abbrev pub answer_text : Answer → List ℕ
 answer_text answers.Nothing = []
 answer_text (answers.Rates rates) = rates_text rates.entries

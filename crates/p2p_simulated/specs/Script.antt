@@ -36,15 +36,19 @@ line_of command = join_with_byte 32 (command_words command)
 
 -- ---- the ranges of the columns
 
+-- ids and peers have 64 bits
 abbrev pub IsNumberInRange : ℕ → Type 0
 IsNumberInRange n = n < 2 ^ 64
 
+-- a cap has 128 bits
 abbrev pub IsCapInRange : Option ℕ → Type 0
 IsCapInRange cap = IfSome cap (λ c. c < 2 ^ 128)
 
+-- each number of a flow
 abbrev pub IsFlowInRange : Flow ℕ → Type 0
 IsFlowInRange f = IsNumberInRange f.id × IsNumberInRange f.origin × IsNumberInRange f.recipient
 
+-- each number of a command
 abbrev pub IsInRange : Command → Type 0
 IsInRange (commands.Flow flow) = IsFlowInRange flow
 IsInRange (commands.Egress peer cap) = IsNumberInRange peer × IsCapInRange cap

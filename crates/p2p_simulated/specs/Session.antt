@@ -14,14 +14,15 @@ use Rattle.p2p_simulated.specs.PeerCaps.{answered_under}
 use Rattle.p2p_simulated.specs.Rates.{AreFairRates, last_rate}
 use Rattle.p2p_simulated.specs.Sides.{sides_of}
 
--- the cap that the egress closure answers for a peer, and the ingress closure
+-- the cap on what a peer sends
 abbrev pub egress_of : Session → ℕ → Option ℕ
 egress_of s peer = get nat_cmp s.egress peer
 
+-- the cap on what it receives
 abbrev pub ingress_of : Session → ℕ → Option ℕ
 ingress_of s peer = get nat_cmp s.ingress peer
 
--- the flows are those, and the closures answer these caps
+-- the flows are those, in order, and the caps are these
 pub record Says (s : Session) (flows : List (Flow ℕ)) (egress ingress : ℕ → Option ℕ) : Type 0 where
   pub flows_are : s.flows.items ≡ flows
   pub egress_is : (peer : ℕ) → egress_of s peer ≡ egress peer
@@ -35,7 +36,7 @@ with_cap caps peer cap p = if p == peer then cap else caps p
 abbrev pub SaysSame : Session → Session → Type 0
 SaysSame old new = Says new old.flows.items (egress_of old) (ingress_of old)
 
--- what is said after a command, where before it these flows and caps were said
+-- what is said after a command: its flow at the end, or its cap in the place of the peer's
 abbrev pub SaysAfter : Command → Session → Session → Type 0
 SaysAfter (commands.Flow flow) old new = Says new (old.flows.items ++ flow ∷ []) (egress_of old) (ingress_of old)
 SaysAfter (commands.Egress peer cap) old new = Says new old.flows.items (with_cap (egress_of old) peer cap) (ingress_of old)

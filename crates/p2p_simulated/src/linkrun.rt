@@ -59,8 +59,15 @@ impl fmt::Display for Outcome {
 
 /// Runs the script that `input` gives, and prints its answers on `output`.
 ///
-/// The script is read as a stream, and what is kept of it are its flows and its caps. What was
-/// printed is written to `output` before this returns, whatever the outcome.
+/// The script is read as a stream, and what is kept of it are its flows and its caps. What is
+/// printed is written to `output` and flushed before this returns, whatever the outcome.
+///
+/// - `Whole` where the script was read to its end.
+/// - `BadLine` where a line is not of the language.
+/// - `InputOutput` where a read, a write or the flush failed. A read that was interrupted is made
+///   again. It comes also after 2^128 - 1 lines, which no reader gives.
+/// - `NoMemory` where there is none for a line, for reading ahead or for printing. Nothing is read
+///   or printed then. A command that finds no memory is refused, and the script goes on.
 pub fn run<R: Read, W: Write>(alloc: Global, input: &mut R, output: &mut W) -> Outcome {
     let Ok(mut line) = Vec::with_capacity(alloc, line::MOST_READ) else {
         return Outcome::NoMemory;

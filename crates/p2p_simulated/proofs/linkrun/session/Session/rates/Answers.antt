@@ -14,4 +14,5 @@ allocate-requires-clause-ingress c = search (of_calls, callable_on_each)
 
 pub returns : goal.returns
 returns c =
-    rates_if_ok _ _ _ _ (caps_of c.args.self.now) (λ p q. refl) (λ peer answer after k. search rules) (λ peer answer after k. search rules) (λ rates. get nat_cmp rates) c.allocate.result _ _ c.deref.ensures.value c.allocate.ensures.fair
+    rates_if_ok _ _ _ _ (caps_of c.args.self.now) (λ p q. refl) (λ peer answer after k. search rules) (λ peer answer after k. search rules) (λ rates. get nat_cmp rates)
+    c.allocate.result _ _ c.deref.ensures.value c.allocate.ensures.fair
