@@ -9,15 +9,14 @@ use Rattle.std.proofs.lemmas.List.Folds.{list_any_at, Any-from_list_any}
 use Rattle.std.proofs.lemmas.List.Elements.{All-contains}
 use Rattle.std.proofs.lemmas.List.Sums.{get_or-le-sum_by}
 use Rattle.p2p_simulated.specs.Fair.{Side, IsFair}
-use Rattle.p2p_simulated.specs.Filling.{at_level, taken, rising, left_of}
 use Rattle.p2p_simulated.specs.FairLaws.{HaveUsersBelow}
 use Rattle.p2p_simulated.specs.Size.{HaveDistinctUsers}
 use Rattle.p2p_simulated.proofs.Denominators.{denominator_of, positive}
 use Rattle.p2p_simulated.proofs.Filling.Frozen.{none_or_some, some_is, at_some, at_none}
-use Rattle.p2p_simulated.proofs.Filling.Level.{least_is_level}
 use Rattle.p2p_simulated.proofs.Filling.Rounds.{start, end, next}
 use Rattle.p2p_simulated.proofs.Filling.States.{IsFilledTo}
 use Rattle.p2p_simulated.proofs.Filling.Sums.{All-by_contains}
+use Rattle.p2p_simulated.proofs.Size.Level.{standing, taken, rising, left_of, least_is_next}
 use Rattle.p2p_simulated.proofs.Size.Least.{IsLeastOf, least_of}
 use Rattle.p2p_simulated.proofs.Size.Users.{sum_below, AreDistinct, below_less}
 use Rattle.p2p_simulated.proofs.Size.Whole.{IsOver, cap_over, sums, rest, later, level}
@@ -117,13 +116,13 @@ nothing_over n m = let e : 0 ≡ 0 * denominator_of m = omega arith in subst (λ
 
 -- after a round what each has is whole over the next entry
 over_after : (n : ℕ) (small : n ≤ 16) (m m' : ℕ) (users : List ℕ) (level : ℕ) (frozen : ℕ → Option ℕ) (flow : ℕ)
-    → m ≤ m' → m' ≤ n → IsOver n m (at_level frozen 0 flow) → IsOver n m' level → IsOver n m' (at_level (freeze users level frozen) 0 flow)
+    → m ≤ m' → m' ≤ n → IsOver n m (standing frozen 0 flow) → IsOver n m' level → IsOver n m' (standing (freeze users level frozen) 0 flow)
 over_after n small m m' users level frozen flow le within was now =
     let after = freeze users level frozen in
     elim (none_or_some (frozen flow)) [
       | inr (parts, e) ↦
-          let same : at_level frozen 0 flow ≡ at_level after 0 flow = at_some frozen 0 flow parts e ∙ sym (at_some after 0 flow parts (freeze_kept users level frozen flow parts e)) in
-          subst (λ a. IsOver n m' a) same (later n m m' (at_level frozen 0 flow) le (omega arith) was)
+          let same : standing frozen 0 flow ≡ standing after 0 flow = at_some frozen 0 flow parts e ∙ sym (at_some after 0 flow parts (freeze_kept users level frozen flow parts e)) in
+          subst (λ a. IsOver n m' a) same (later n m m' (standing frozen 0 flow) le (omega arith) was)
       | inl e ↦ elim (none_or_some (after flow)) [
         | inl e' ↦ subst (λ a. IsOver n m' a) (sym (at_none after 0 flow e')) (nothing_over n m')
         | inr (parts, e') ↦
@@ -143,7 +142,7 @@ module _ (n : ℕ) (small : n ≤ 16) (sides : List Side) (among : HaveUsersBelo
     filled : IsFilledTo sides (denominator_of n) frozen level
     count : rising_below n frozen ≤ risers
     few : risers ≤ n
-    over : (flow : ℕ) → IsOver n (n - risers) (at_level frozen 0 flow)
+    over : (flow : ℕ) → IsOver n (n - risers) (standing frozen 0 flow)
 
   -- in a round fewer rise
   record IsNext (risers : ℕ) : Type 0 where
@@ -162,11 +161,11 @@ module _ (n : ℕ) (small : n ≤ 16) (sides : List Side) (among : HaveUsersBelo
       let apart = All-contains (λ s. AreDistinct s.users) sides side distinct least.listed in
       let in_range = All-contains (λ s. All (λ user. user < n) s.users) sides side among least.listed in
       let within : k ≤ risers = omega (arith, s.count, fewer_rise users 0 frozen n apart in_range) in
-      let left_over = rest n (n - risers) (side.cap * per) (taken frozen side) (cap_over n (n - risers) side.cap) (sums n (n - risers) (at_level frozen 0) users s.over) in
+      let left_over = rest n (n - risers) (side.cap * per) (taken frozen side) (cap_over n (n - risers) side.cap) (sums n (n - risers) (standing frozen 0) users s.over) in
       let l = level n (n - risers) k (left_of per frozen side) least.some (omega (arith, s.few)) small left_over in
       let now : ℕ = l.level in
       let after = freeze users now frozen in
-      let at = least_is_level sides per frozen s.level side now s.filled.within (record {
+      let at = least_is_next sides per frozen s.level side now s.filled.within (record {
         listed = least.listed;
         some = least.some;
         share = l.share;
@@ -200,7 +199,7 @@ module _ (n : ℕ) (small : n ≤ 16) (sides : List Side) (among : HaveUsersBelo
       }
 
   -- all are frozen
-  done : (frozen : ℕ → Option ℕ) (risers : ℕ) (s : IsFilling frozen risers) → All (λ side. rising frozen side ≡ 0) sides → IsFair sides (denominator_of n) (at_level frozen 0)
+  done : (frozen : ℕ → Option ℕ) (risers : ℕ) (s : IsFilling frozen risers) → All (λ side. rising frozen side ≡ 0) sides → IsFair sides (denominator_of n) (standing frozen 0)
   done frozen risers s none =
       end sides (denominator_of n) frozen s.level (positive n small) s.filled
       (λ flow limited. elim (none_or_some (frozen flow)) [
@@ -214,7 +213,7 @@ module _ (n : ℕ) (small : n ≤ 16) (sides : List Side) (among : HaveUsersBelo
   fill : (fuel risers : ℕ) → risers < fuel → (frozen : ℕ → Option ℕ) → IsFilling frozen risers → (parts : ℕ → ℕ) × IsFair sides (denominator_of n) parts
   fill zero risers enough frozen s = absurd (omega arith)
   fill (suc fuel) risers enough frozen s = elim (least_of (left_of (denominator_of n) frozen) (rising frozen) sides) [
-    | inl none ↦ (at_level frozen 0, done frozen risers s none)
+    | inl none ↦ (standing frozen 0, done frozen risers s none)
     | inr least ↦ let r = round frozen risers s least in fill fuel r.fewer (omega (arith, r.less)) r.after r.filling
   ]
 
