@@ -2,6 +2,10 @@
 #![tactic(auto)]
 
 #[cfg(test)]
+mod planner;
+#[cfg(test)]
+mod planner_peers;
+#[cfg(test)]
 mod ratio_tests;
 #[cfg(test)]
 mod scripts;
