@@ -7,7 +7,8 @@ use Rattle.p2p_simulated.specs.declared.bandwidth.Rate.{Rate}
 use Rattle.p2p_simulated.specs.Answers.{Answered, Calls, NoLink, States, CallsFor, CalledIfDelivered, AnswerInOrder}
 use Rattle.p2p_simulated.specs.Caps.{Caps}
 use Rattle.p2p_simulated.specs.PeerCaps.{answered_under}
-use Rattle.p2p_simulated.specs.Rates.{AreFairRates, IsAllocation}
+use Rattle.p2p_simulated.specs.Allocation.{IsAllocation}
+use Rattle.p2p_simulated.specs.Rates.{AreFairRates}
 use Rattle.p2p_simulated.specs.Session.{AreRatesUnder}
 use Rattle.p2p_simulated.specs.Sides.{sides_of}
 

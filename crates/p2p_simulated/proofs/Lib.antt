@@ -1,3 +1,4 @@
+pub mod Allocating
 pub mod Asking
 pub mod Callable
 pub mod CapAnswers

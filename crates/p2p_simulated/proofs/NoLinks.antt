@@ -5,7 +5,7 @@ use Rattle.std.specs.declared.cmp.Ordering.{Ordering}
 use Rattle.p2p_simulated.specs.declared.bandwidth.Flow.{Flow}
 use Rattle.p2p_simulated.specs.declared.bandwidth.Rate.{Rate}
 use Rattle.p2p_simulated.specs.Answers.{Answered, Calls, PairCalls, NoLink, States, CallsFor, CallableOnEachPair}
-use Rattle.p2p_simulated.specs.Rates.{IsAllocation}
+use Rattle.p2p_simulated.specs.Allocation.{IsAllocation}
 
 -- a closure that may always be called may be called on each pair of a list
 pub callable_on_each_pair : {P F : Type 0} (may : F → P → P → Type 0) (call : PairCalls F P) → ((f : F) (p q : P) → may f p q) → (f : F) (pairs : List (P × P)) → CallableOnEachPair may call f pairs
@@ -33,5 +33,10 @@ module _ {P E I L : Type 0} (egress : Calls E P) (ingress : Calls I P) (link : P
     in_order = record { flows_are = h.in_order.flows_are; last = without h.in_order.last; calls = calls_without first h.answered h.in_order.last h.in_order.calls };
     rates = h.rates;
     fair = h.fair;
+    only = h.only;
+    max_min = h.max_min;
+    zero = h.zero;
+    of_four = h.of_four;
+    of_sixteen = h.of_sixteen;
     by_id = h.by_id;
   }

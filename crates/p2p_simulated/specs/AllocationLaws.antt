@@ -7,23 +7,14 @@ use Rattle.p2p_simulated.specs.declared.bandwidth.Flow.{Flow}
 use Rattle.p2p_simulated.specs.declared.bandwidth.Rate.{Rate}
 use Rattle.p2p_simulated.specs.declared.bandwidth.Rate.TheVariants.{Unlimited}
 use Rattle.p2p_simulated.specs.Answers.{Calls, PairCalls, States}
-use Rattle.p2p_simulated.specs.FairLaws.{AreTheAllocation}
 use Rattle.p2p_simulated.specs.PeerCaps.{AnswersBy, PairAnswersBy, AreOfPeers, UsesNoCap, HaveDistinctIds, AreFairUnder, HaveBothEndsOrNone, is_of}
-use Rattle.p2p_simulated.specs.Rates.{IsAllocation}
-use Rattle.p2p_simulated.specs.Sides.{sides_of}
-use Rattle.p2p_simulated.specs.WorldMessages.{Caps}
+use Rattle.p2p_simulated.specs.Allocation.{IsAllocation}
+use Rattle.p2p_simulated.specs.Caps.{Caps}
 
 module _ {P E I L : Type 0} (cmp : P → P → Ordering) (egress : Calls E P) (ingress : Calls I P) (link : PairCalls L P) where
   -- this is what was answered for each id, by closures that began in those states
   abbrev pub Allocates : States E I L → List (Flow P) → (ℕ → Option Rate) → Type 0
   Allocates first flows rate_of = IsAllocation cmp egress ingress link first flows rate_of
-
-  -- of whatever is answered, the rates are the one allocation on the sides that the closures' answers make
-  abbrev pub AllocatesTheOne : Type 0
-  AllocatesTheOne =
-      (first : States E I L) (flows : List (Flow P)) (rate_of : ℕ → Option Rate)
-      → (a : Allocates first flows rate_of)
-      → AreTheAllocation (sides_of cmp a.answered) (length flows) a.rates
 
   -- the closures answer by these caps, which are those of the peers
   pub record AnswerByCaps (caps : Caps P) : Type 0 where

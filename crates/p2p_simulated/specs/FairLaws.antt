@@ -95,7 +95,7 @@ pub record UsesClosedSide (sides : List Side) (flow : ℕ) : Type 0 where
 
 -- a finite rate is zero exactly where the flow uses a side of cap zero
 abbrev pub AreZeroWhereClosed : List Side → List Rate → Type 0
-AreZeroWhereClosed sides rates = (flow : ℕ) (rate : Ratio) → HasRate rates flow rate → (rate.numerator ≡ 0) ↔ UsesClosedSide sides flow
+AreZeroWhereClosed sides rates = (flow : ℕ) (rate : Ratio) → HasRate rates flow rate → ((amount_of rate).num ≡ 0) ↔ UsesClosedSide sides flow
 
 -- fair rates are
 abbrev pub FairRatesAreZeroWhereClosed : Type 0

@@ -1,3 +1,4 @@
+pub mod Allocation
 pub mod AllocationLaws
 pub mod Amount
 pub mod Answer

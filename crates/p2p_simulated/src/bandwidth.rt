@@ -5,7 +5,8 @@ ghost use Rattle.std.specs.Ordering.{nat_cmp};
 ghost use Rattle.std.specs.declared.cmp.Ordering.TheVariants.{Equal};
 ghost use Rattle.std.specs.BTreeMap.{get};
 ghost use Rattle.p2p_simulated.specs.Answers.{States, NoLink, CallableOnEach, CallableOnEachPair, origins, recipients, pairs};
-ghost use Rattle.p2p_simulated.specs.Rates.{IsAllocation, last_rate};
+ghost use Rattle.p2p_simulated.specs.Allocation.{IsAllocation};
+ghost use Rattle.p2p_simulated.specs.Rates.{last_rate};
 
 mod equality;
 mod filling;

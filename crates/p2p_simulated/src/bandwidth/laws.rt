@@ -5,7 +5,7 @@
 //! `IsAllocation` of the whole answer. Where a law has a clause `plain` and a clause `linked`, the
 //! one is about `allocate` and the other about `allocate_linked`.
 ghost use Rattle.std.specs.Fn.{CalledAt, CalledAtTwo};
-ghost use Rattle.p2p_simulated.specs.AllocationLaws.{AllocatesTheOne, AllocatesUnderCaps, UnlimitedWithoutCaps, SameInEveryOrder, SameWithoutTheOthers};
+ghost use Rattle.p2p_simulated.specs.AllocationLaws.{AllocatesUnderCaps, UnlimitedWithoutCaps, SameInEveryOrder, SameWithoutTheOthers};
 ghost use Rattle.p2p_simulated.specs.Answers.{NoLink};
 ghost use Rattle.p2p_simulated.specs.FairExample.{HalfExists, HalvesAreFair, LessIsUnfair, MoreIsUnfair, NoLimitIsUnfair, LimitIsUnfair};
 ghost use Rattle.p2p_simulated.specs.FairLaws.{FairIsMaxMin, FairRatesAreMaxMin, OneAllocation, FairRatesAreZeroWhereClosed, FairnessIsOfTheSet};
@@ -50,19 +50,6 @@ pub fn fairness_is_of_the_set_of_sides()
 /// flows are fair for these flows alone.
 pub fn flows_apart_are_fair_alone()
     ensures { FlowsApartAreFair }
-{}
-
-/// What is allocated is the one max-min allocation on the sides that the closures' answers make,
-/// and a rate is zero exactly at a cap of zero.
-pub fn what_is_allocated_is_the_one_allocation<P, E, I, L>()
-where
-    P: Peer,
-    E: FnMut(&P) -> Option<u128>,
-    I: FnMut(&P) -> Option<u128>,
-    L: FnMut(&P, &P) -> Option<u128>,
-    ensures plain { AllocatesTheOne P.cmp (CalledAt E.FnMut) (CalledAt I.FnMut) (NoLink {P = P}) }
-    ensures linked { AllocatesTheOne P.cmp
-        (CalledAt E.FnMut) (CalledAt I.FnMut) (CalledAtTwo L.FnMut) }
 {}
 
 /// Closures that answer by functions of the peer, whatever they were asked before, answer for each

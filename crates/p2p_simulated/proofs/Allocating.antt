@@ -1,0 +1,43 @@
+-- What is answered is the allocation.
+use Rattle.std.proofs.Common.{◌≡◌, ℕ, ◌<◌, List, length, map, Option, All, AllPairs, subst}
+use Rattle.std.specs.declared.cmp.Ordering.{Ordering}
+use Rattle.p2p_simulated.specs.declared.bandwidth.Flow.{Flow}
+use Rattle.p2p_simulated.specs.declared.bandwidth.Rate.{Rate}
+use Rattle.p2p_simulated.specs.declared.bandwidth.sides.Side as declared_side
+use Rattle.p2p_simulated.specs.Allocation.{IsAllocation}
+use Rattle.p2p_simulated.specs.Answers.{Calls, PairCalls, States, Answered, AnswerInOrder}
+use Rattle.p2p_simulated.specs.Code.{side_of}
+use Rattle.p2p_simulated.specs.FairLaws.{HaveUsersBelow}
+use Rattle.p2p_simulated.specs.Rates.{AreFairRates, last_rate}
+use Rattle.p2p_simulated.specs.Sides.{sides_of}
+use Rattle.p2p_simulated.specs.Size.{HaveDistinctUsers}
+use Rattle.p2p_simulated.proofs.Fairness.Allocation.{the_allocation}
+use Rattle.p2p_simulated.proofs.Size.Promise.{distinct_sides, users_below_sides, twelfths, whole_of_sixteen}
+
+-- fair rates on the sides that were registered are the allocation
+pub allocated : {P E I L : Type 0} (cmp : P → P → Ordering) (egress : Calls E P) (ingress : Calls I P) (link : PairCalls L P) (first : States E I L) (flows : List (Flow P)) (rate_of : ℕ → Option Rate)
+    → (answered : List (Answered P)) (sides : List declared_side.Side) (rates : List Rate)
+    → AnswerInOrder egress ingress link first flows answered
+    → map side_of sides ≡ sides_of cmp answered
+    → All (λ side. All (λ flow. flow < length flows) side.users.items) sides
+    → All (λ side. AllPairs (λ a b. a < b) side.users.items) sides
+    → AreFairRates (map side_of sides) (length flows) rates
+    → ((id : ℕ) → rate_of id ≡ last_rate id flows rates)
+    → IsAllocation cmp egress ingress link first flows rate_of
+allocated cmp egress ingress link first flows rate_of answered sides rates in_order registered below rise filled by_id =
+    let fair : AreFairRates (sides_of cmp answered) (length flows) rates = subst (λ s. AreFairRates s (length flows) rates) registered filled in
+    let among : HaveUsersBelow (length flows) (sides_of cmp answered) = subst (HaveUsersBelow (length flows)) registered (users_below_sides (length flows) sides below) in
+    let distinct : HaveDistinctUsers (sides_of cmp answered) = subst HaveDistinctUsers registered (distinct_sides sides rise) in
+    let one = the_allocation (sides_of cmp answered) (length flows) rates among fair in
+    record {
+      answered = answered;
+      in_order = in_order;
+      rates = rates;
+      fair = fair;
+      only = one.only;
+      max_min = one.max_min;
+      zero = one.zero;
+      of_four = λ few. twelfths (sides_of cmp answered) (length flows) rates few among distinct fair;
+      of_sixteen = λ few. whole_of_sixteen (sides_of cmp answered) (length flows) rates few among distinct fair;
+      by_id = by_id;
+    }
