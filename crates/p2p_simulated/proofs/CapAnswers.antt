@@ -4,7 +4,7 @@ use Rattle.std.specs.List.{FoldsTo}
 use Rattle.std.specs.Ordering.{nat_cmp}
 use Rattle.p2p_simulated.specs.declared.bandwidth.Flow.{Flow}
 use Rattle.p2p_simulated.specs.declared.bandwidth.Rate.{Rate}
-use Rattle.p2p_simulated.specs.Answers.{Answered, Calls, NoLink, States, CallsFor, CalledIfDelivered, AnswerInOrder}
+use Rattle.p2p_simulated.specs.Answers.{Answered, Calls, NoLink, States, CallsFor, CalledIfDelivered}
 use Rattle.p2p_simulated.specs.Caps.{Caps}
 use Rattle.p2p_simulated.specs.PeerCaps.{answered_under}
 use Rattle.p2p_simulated.specs.Allocation.{IsAllocation}

@@ -1,10 +1,10 @@
 -- Lines cut into words at their spaces.
-use Rattle.std.proofs.Common.{◌≡◌, ℕ, ◌<◌, Bool, true, false, cond, eqb, List, [], ◌∷◌, ◌++◌, length, get_or}
+use Rattle.std.proofs.Common.{◌≡◌, ℕ, Bool, false, cond, eqb, List, [], ◌∷◌, ◌++◌, get_or}
 use Rattle.std.proofs.Common.{take, drop, Option, None, Some, option_to_list, sym, ap, ◌∙◌, subst, refl, eq-eqb, arith, take-append-drop}
 use denote.Ref.{Bor}
 use Rattle.std.specs.Option.{option_copied, IfNone}
 use Rattle.std.specs.Str.{NoCharPasses}
-use Rattle.std.specs.Str.Pattern.{FindsChar, HasCharAt, IsSplitAtFirstMatch}
+use Rattle.std.specs.Str.Pattern.{FindsChar, IsSplitAtFirstMatch}
 use Rattle.std.specs.Str.Iter.{split_steps, split_text, split_has_more, split_pattern}
 use Rattle.std.specs.List.{All}
 use Rattle.std.specs.declared.str.Split.{Split}

@@ -1,4 +1,4 @@
-use Rattle.std.proofs.Common.{ℕ, ◌-◌, ◌^◌, ◌≤◌}
+use Rattle.std.proofs.Common.{◌-◌, ◌^◌}
 use Rattle.p2p_simulated.proofs.linkrun.run_lines.Given as goal
 
 abbrev pub decreases-loop : goal.decreases-loop

@@ -1,7 +1,6 @@
-use Rattle.std.proofs.Common.{rules, ◌≡◌, [], ap, ◌∙◌, arith}
-use Rattle.std.proofs.lemmas.Grind.{common_steps}
+use Rattle.std.proofs.Common.{rules, ◌≡◌, ap, ◌∙◌}
 use Rattle.std.specs.Str.{IsUtf8}
-use Rattle.p2p_simulated.specs.Words.{words_left, parts_of}
+use Rattle.p2p_simulated.specs.Words.{parts_of}
 use Rattle.p2p_simulated.proofs.Wording.{says_all, says_none, says_less, says_nothing}
 use Rattle.p2p_simulated.proofs.linkrun.command.Command.parse.Goals as goal
 
