@@ -9,7 +9,7 @@ use Rattle.std.proofs.lemmas.Cmp.{tied_itself}
 use Rattle.std.proofs.lemmas.List.Elements.{All-contains, Contains-append_left, Contains-append_right}
 use Rattle.std.proofs.Math.Nat.{mul-pos, add-mul, mul-add, mul-zero, zero-add, zero-mul}
 use Rattle.p2p_simulated.specs.FairLaws.{IsAtMost}
-use Rattle.p2p_simulated.specs.Amount.{plus, Amount, billion, whole}
+use Rattle.p2p_simulated.specs.Amount.{reduced, plus, Amount, billion, whole}
 use Rattle.p2p_simulated.specs.Fair.{Side, load}
 use Rattle.std.proofs.lemmas.List.Sums.{sum_by-cons}
 use Rattle.p2p_simulated.specs.Sides.{same_peer}
@@ -25,7 +25,7 @@ use Rattle.p2p_simulated.specs.Laws.LowestTerms.{reduced_positive}
 use Rattle.p2p_simulated.proofs.World.Queue.{then_then, pair_sym, peer_like, settle_none, settle_first, find_passes}
 use Rattle.p2p_simulated.proofs.World.Rests.{ends_preceded, ends_and_then, ends_cond, find_like}
 use Rattle.p2p_simulated.proofs.World.Split.{rest_is}
-use Rattle.p2p_simulated.proofs.World.Totals.{share, at_most_itself, at_most_trans, plus_under, plus_spent, plus_shares, plus_whole, two_shares, share_grows, no_share, drained_takes}
+use Rattle.p2p_simulated.proofs.World.Totals.{share, at_most_itself, at_most_trans, plus_under, plus_spent, plus_shares, plus_whole, two_shares, share_grows, no_share, lowest_takes}
 
 -- ---- lists
 
@@ -201,7 +201,9 @@ module _ {P : Type 0} (cmp : P → P → Ordering) (order : IsTotalOrder cmp) wh
     where
       by_rate : (r : Option ℕ) → 0 < (drained_by (rate_of per r) n f.left).den
       by_rate None = omega arith
-      by_rate (Some a) = reduced_positive (f.left.num * (per * billion) - n * (a * f.left.den)) (f.left.den * (per * billion)) (mul-pos pos.0 (mul-pos some (omega arith)))
+      by_rate (Some a) =
+          let rate : Amount = reduced a per in
+          reduced_positive (f.left.num * (rate.den * billion) - n * (rate.num * f.left.den)) (f.left.den * (rate.den * billion)) (mul-pos pos.0 (mul-pos (reduced_positive a per some) (omega arith)))
 
   -- the egress cap of a peer, by whatever equal peer it is asked for
   abbrev pub HasEgress : World P → P → ℕ → Type 0
@@ -348,7 +350,7 @@ module _ {P : Type 0} (cmp : P → P → Ordering) (order : IsTotalOrder cmp) wh
     drained_one : (per n others : ℕ) (left before after : Amount) (c : Bool) (r : Option ℕ) → 0 < per → 0 < left.den → (c ≡ true → r ≡ None → ⊥) → IsAtMost before (plus after (share (others * n) (per * billion)))
         → IsAtMost (if c then plus left before else before) (plus (if c then plus (drained_by (rate_of per r) n left) after else after) (share ((part_of c r + others) * n) (per * billion)))
     drained_one per n others left before after true None some pos never ih = absurd (never refl refl)
-    drained_one per n others left before after true (Some a) some pos never ih = subst (λ k. IsAtMost (plus left before) (plus (plus (drained_by (rate_of per (Some a)) n left) after) (share k (per * billion)))) (sym (add-mul a others n)) (plus_shares left (drained_by (rate_of per (Some a)) n left) before after (a * n) (others * n) (per * billion) (drained_takes left a per n pos some) ih)
+    drained_one per n others left before after true (Some a) some pos never ih = subst (λ k. IsAtMost (plus left before) (plus (plus (drained_by (rate_of per (Some a)) n left) after) (share k (per * billion)))) (sym (add-mul a others n)) (plus_shares left (drained_by (rate_of per (Some a)) n left) before after (a * n) (others * n) (per * billion) (lowest_takes left a per n pos some) ih)
     drained_one per n others left before after false r some pos never ih = subst (λ k. IsAtMost before (plus after (share (k * n) (per * billion)))) (sym (zero-add others)) ih
 
     drained_each : (per : ℕ) (rates : Parts) (n : ℕ) (fs : List (Flight P)) → 0 < per → ArePositive fs → ((i : ℕ) → slice_get (map from_it (map (λ (f : Flight P). f.message) fs)) i ≡ Some true → slice_get rates i ≡ Some None → ⊥)

@@ -3,7 +3,7 @@ use Rattle.std.proofs.Common.{◌≡◌, ℕ, ◌+◌, ◌-◌, ◌*◌, ◌<◌
 use Rattle.std.proofs.Math.Nat.{mul-le-mul_left, mul-le-mul_right, le_of_mul-le-mul_right, mul-pos}
 use Rattle.p2p_simulated.specs.FairLaws.{IsAtMost}
 use Rattle.p2p_simulated.specs.Amount.{plus, Amount, billion, drained, reduced, whole}
-use Rattle.p2p_simulated.specs.Laws.LowestTerms.{IsScaled, reduced_scales}
+use Rattle.p2p_simulated.specs.Laws.LowestTerms.{reduced_positive, reduced_worth, IsScaled, reduced_scales}
 
 -- the sum of a and over per is more than the other side
 abbrev pub share : ℕ → ℕ → Amount
@@ -96,3 +96,15 @@ drained_takes left a d n h j =
         let three : (n * a * p) * (p * u) ≡ (n * a * p) * (f * y) = ap (λ z. (n * a * p) * z) den in
         let four : (u * p) * (l * u) ≤ (u * p) * (w + n * (a * p)) = mul-le-mul_left (u * p) le in
         omega arith
+
+-- nor at the rate in lowest terms
+pub lowest_takes : (left : Amount) (a d n : ℕ) → 0 < left.den → 0 < d → IsAtMost left (plus (drained left (reduced a d) n) (share (a * n) (d * billion)))
+lowest_takes left a d n h j =
+    let rate : Amount = reduced a d in
+    let some : 0 < rate.den = reduced_positive a d j in
+    let worth : rate.num * d ≡ a * rate.den = reduced_worth a d j in
+    let unit : 0 < rate.den * billion = mul-pos some (omega arith) in
+    share_grows left (drained left rate n) (rate.num * n) (a * n) (rate.den * billion) (d * billion) unit (scaled rate.num rate.den a d n worth) (drained_takes left rate.num rate.den n h some)
+  where
+    scaled : (x y a d n : ℕ) → x * d ≡ a * y → (x * n) * (d * billion) ≤ (a * n) * (y * billion)
+    scaled x y a d n e = let more : (n * billion) * (x * d) ≡ (n * billion) * (a * y) = ap (λ z. (n * billion) * z) e in omega arith
