@@ -31,3 +31,11 @@ pub mod PairOrder
 pub mod Obeys
 pub mod Checked
 pub mod Ranges
+pub mod Totals
+pub mod Bytes
+pub mod Course
+pub mod Restrict
+pub mod Sift
+pub mod Isolated
+pub mod IsolatedTime
+pub mod IsolatedCalls

@@ -26,8 +26,10 @@ pub mod Size
 pub mod Time
 pub mod Words
 pub mod World
+pub mod WorldBytes
 pub mod WorldCalls
 pub mod WorldEvents
+pub mod WorldIsolation
 pub mod WorldMessages
 pub mod WorldPass
 pub mod WorldPlanned

@@ -1,10 +1,10 @@
 -- Refusals of a call in its course on a planned world.
-use Rattle.std.specs.Prelude.{◌≡◌, ◌≢◌, ◌⊎◌, ⊤, ℕ, ◌*◌, ◌-◌, ◌<◌, ◌≤◌, ◌^◌, List, [], ◌∷◌, ◌++◌, length, true, false, not, Option, Some, None, MatchOption, IfSome, All, slice_get}
+use Rattle.std.specs.Prelude.{◌≡◌, ◌≢◌, ⊤, ℕ, ◌-◌, ◌<◌, ◌≤◌, List, [], ◌∷◌, ◌++◌, length, true, false, not, Option, Some, None, MatchOption, IfSome, slice_get}
 use Rattle.std.specs.List.{filter}
 use Rattle.std.specs.declared.cmp.Ordering.{Ordering}
 use Rattle.p2p_simulated.specs.declared.error.Error.{Error}
 use Rattle.p2p_simulated.specs.declared.error.Error.TheVariants.{OutOfMemory, NumberTooLarge, MomentTooLate, FlowIdsUsedUp}
-use Rattle.p2p_simulated.specs.Fair.{Side, IsFair}
+use Rattle.p2p_simulated.specs.Size.{FairRatesFit}
 use Rattle.p2p_simulated.specs.Time.{SecondsFit, TakenFits}
 use Rattle.p2p_simulated.specs.WorldMessages.{Message, Caps}
 use Rattle.p2p_simulated.specs.WorldRates.{capped_sides}
@@ -12,13 +12,6 @@ use Rattle.p2p_simulated.specs.World.{Completed, goes, meets, last_moment, front
 use Rattle.p2p_simulated.specs.WorldCalls.{Call, call_limit, call_limit_link, call_enqueue, call_advance, call_next, limited_by, linked_by}
 use Rattle.p2p_simulated.specs.WorldPlanned.{Planned, Paced, next_event, paced_flows, drained_to, next_of, may_launch, is_spent}
 use Rattle.p2p_simulated.specs.WorldEvents.{Accounts, Launches, Finishes, Settles, Wakes, launched, landed, is_late, with_queued, Obeys}
-
--- the flows have fair rates in parts, and the parts that make one, times the number of flows and any cap, are below 2^128
-pub record HaveFittingRates (sides : List Side) (flows : ℕ) : Type 0 where
-  pub per : ℕ
-  pub parts : ℕ → ℕ
-  pub fair : IsFair sides per parts
-  pub small : All (λ side. per * flows * side.cap < 2 ^ 128) sides
 
 -- what went of the message by t does not fit, or cannot be taken off what was left
 abbrev pub IsDrainTooLarge : {P : Type 0} → ℕ → Paced P → Type 0
@@ -37,7 +30,7 @@ module _ {P : Type 0} (cmp : P → P → Ordering) where
   pub data IsTooLarge (t : ℕ) (old : Planned P) : Type 0 where
     drain_too_large : (place : ℕ) (f : Paced P) → slice_get old.sending place ≡ Some f → IsDrainTooLarge t f → IsTooLarge t old
     time_too_large : {leavers : List (Message P)} {new : Planned P} (place : ℕ) (f : Paced P) → Accounts cmp t old leavers new → slice_get new.sending place ≡ Some f → IsTimeTooLarge f → IsTooLarge t old
-    rates_too_large : 16 < length (to_rate t old) → ¬ HaveFittingRates (capped_sides cmp old.caps (to_rate t old)) (length (to_rate t old)) → IsTooLarge t old
+    rates_too_large : 16 < length (to_rate t old) → ¬ FairRatesFit (capped_sides cmp old.caps (to_rate t old)) (length (to_rate t old)) → IsTooLarge t old
 
   -- ---- the accounts in a course: of which planned worlds, all at t
 

@@ -7,5 +7,6 @@
 
 pub mod events;
 pub mod instants;
+pub mod range;
 pub mod rows;
 pub mod time;

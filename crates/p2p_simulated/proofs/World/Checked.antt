@@ -1,15 +1,15 @@
 -- Fairness, ticks and replies, found by computing: for worked examples.
-use Rattle.std.proofs.Common.{map, ◌≡◌, ℕ, zero, suc, ◌+◌, ◌-◌, ◌*◌, ◌<◌, ◌≤◌, List, [], ◌∷◌, ◌++◌, length, Bool, true, false, cond, not, Option, Some, None, All, Contains, refl, sym, ap, ◌∙◌, subst, arith}
-use Rattle.std.specs.Prelude.{max, ⊤, ◌&&◌, ◌||◌, ◌==◌, nat_le, nat_lt, slice_get}
+use Rattle.std.proofs.Common.{map, ◌≡◌, ℕ, zero, suc, ◌+◌, ◌-◌, ◌*◌, ◌≤◌, List, [], ◌∷◌, ◌++◌, length, Bool, true, false, cond, not, Option, Some, None, All, Contains, refl, sym, ap, subst, arith}
+use Rattle.std.specs.Prelude.{max, ◌&&◌, ◌||◌, ◌==◌, nat_le, nat_lt}
 use Rattle.std.specs.List.{list_any, list_all, filter, AllZip}
 use Rattle.std.specs.declared.cmp.Ordering.{Ordering}
 use Rattle.std.specs.Cmp.{IsTotalOrder}
 use Rattle.std.proofs.lemmas.Bool.{leb-true, ltb-true, eqb-true}
 use Rattle.std.proofs.lemmas.List.Elements.{All-contains, All-cons, All-nil, Contains-append_left, Contains-append_right}
-use Rattle.p2p_simulated.specs.Fair.{Side, load, IsLimited, IsFair, HasBottleneck}
+use Rattle.p2p_simulated.specs.Fair.{Side, load, IsFair, HasBottleneck}
 use Rattle.p2p_simulated.specs.WorldMessages.{Message}
 use Rattle.p2p_simulated.specs.WorldRates.{capped_sides, rates_from, AreFair}
-use Rattle.p2p_simulated.specs.World.{Flight, fronts, may_start, World, Completed, Course, goes, meets, preceded, and_then, flows, instant, is_done, ready, IsQuiet, last_moment}
+use Rattle.p2p_simulated.specs.World.{Flight, fronts, may_start, World, Completed, Course, goes, meets, and_then, flows, instant, is_done, ready, IsQuiet, last_moment}
 use Rattle.p2p_simulated.specs.declared.error.Error.{Error}
 use Rattle.p2p_simulated.specs.declared.error.Error.TheVariants.{OutOfMemory, NumberTooLarge, MomentTooLate, FlowIdsUsedUp}
 use Rattle.p2p_simulated.specs.WorldTime.{drain_each, drifted, Drains, Ticks, no_tick, one_tick, tick_faults, Passes, no_time, quiet_tick, NextIs, never_comes, comes_next}

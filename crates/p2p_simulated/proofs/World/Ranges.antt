@@ -1,12 +1,12 @@
 -- Inside the range, what is computed of amounts and rates fits 128 bits.
 use Prim.Native.Nat.{◌∣◌}
-use Rattle.std.proofs.Common.{◌⊎◌, inl, inr, get_or, sum_by, length, ◌≡◌, ℕ, List, [], ◌∷◌, Bool, true, Some, zero, suc, ◌+◌, ◌-◌, ◌*◌, ◌/◌, ◌^◌, ◌<◌, ◌≤◌, refl, sym, ap, ◌∙◌, subst, arith}
+use Rattle.std.proofs.Common.{◌⊎◌, inl, inr, get_or, sum_by, length, ◌≡◌, ℕ, List, [], ◌∷◌, Some, zero, suc, ◌+◌, ◌-◌, ◌*◌, ◌/◌, ◌^◌, ◌<◌, ◌≤◌, refl, sym, ap, ◌∙◌, subst, arith}
 use Rattle.std.specs.Int.{IsGcd}
-use Rattle.std.proofs.Math.Nat.{mul-div_cancel', mul_comm, mul_assoc, mul-pos, mul-zero, mul-one, mul-sub, dvd-mul_left, dvd-mul_right, dvd-zero, one-dvd, pos_of_dvd_of_pos, eq_of_mul-eq-mul_right, eq_of_mul-eq-mul_left, le_of_mul-le-mul_right, lt_of_mul-lt-mul_right, mul-le-mul_left, mul-le-mul_right, mul-lt-mul_of_pos_left, mul-lt-mul_of_pos_right, le_of_dvd, dvd_of_mul-dvd-mul_right, mul-dvd-mul_right, one-mul, eq-one_of_dvd-one}
+use Rattle.std.proofs.Math.Nat.{mul-div_cancel', mul_comm, mul_assoc, mul-pos, mul-zero, mul-sub, dvd-mul_left, dvd-mul_right, dvd-zero, one-dvd, pos_of_dvd_of_pos, eq_of_mul-eq-mul_right, eq_of_mul-eq-mul_left, le_of_mul-le-mul_right, lt_of_mul-lt-mul_right, mul-le-mul_left, mul-le-mul_right, mul-lt-mul_of_pos_left, mul-lt-mul_of_pos_right, le_of_dvd, dvd_of_mul-dvd-mul_right, mul-dvd-mul_right, one-mul, eq-one_of_dvd-one}
 use Rattle.std.proofs.lemmas.Nat.{mul-le}
 use Rattle.std.specs.Prelude.{Option, None}
-use Rattle.std.specs.Prelude.{slice_get, Contains}
-use Rattle.p2p_simulated.specs.Amount.{Covers, Amount, billion, drained, gcd_within, reduced}
+use Rattle.std.specs.Prelude.{Contains}
+use Rattle.p2p_simulated.specs.Amount.{Covers, Amount, billion, drained, reduced}
 use Rattle.p2p_simulated.specs.Fair.{IsFair, IsLimited, load, Side}
 use Rattle.p2p_simulated.specs.Fraction.{IsReduced}
 use Rattle.std.proofs.lemmas.List.Elements.{All-contains}
@@ -17,7 +17,7 @@ use Rattle.p2p_simulated.specs.Fits.{gcd, DifferenceFits}
 use Rattle.p2p_simulated.specs.Time.{TakenFits, SecondsFit}
 use Rattle.std.proofs.lemmas.Bool.{cases_lt}
 use Rattle.p2p_simulated.specs.WorldPlanned.{Paced, left_at}
-use Rattle.p2p_simulated.specs.WorldRates.{Parts, drained_by}
+use Rattle.p2p_simulated.specs.WorldRates.{drained_by}
 use Rattle.p2p_simulated.specs.WorldStands.{IsSmallAmount, IsSmallRate, finest_parts}
 use Rattle.p2p_simulated.specs.Laws.LowestTerms.{IsScaled, reduced_scales, reduced_positive}
 
