@@ -4,8 +4,9 @@ use Rattle.std.specs.List.{FoldsTo}
 use Rattle.std.specs.declared.cmp.Ordering.{Ordering}
 use Rattle.p2p_simulated.specs.declared.bandwidth.Flow.{Flow}
 use Rattle.p2p_simulated.specs.declared.bandwidth.Rate.{Rate}
-use Rattle.p2p_simulated.specs.Answers.{Answered, Calls, PairCalls, NoLink, States, CallsFor, CallableOnEachPair}
+use Rattle.p2p_simulated.specs.Answers.{Answered, Calls, PairCalls, NoLink, States, CallsFor, AnswerInOrder, CallableOnEachPair}
 use Rattle.p2p_simulated.specs.Allocation.{IsAllocation}
+use Rattle.p2p_simulated.specs.TooLarge.{IsTooLarge}
 
 -- a closure that may always be called may be called on each pair of a list
 pub callable_on_each_pair : {P F : Type 0} (may : F → P → P → Type 0) (call : PairCalls F P) → ((f : F) (p q : P) → may f p q) → (f : F) (pairs : List (P × P)) → CallableOnEachPair may call f pairs
@@ -25,12 +26,16 @@ module _ {P E I L : Type 0} (egress : Calls E P) (ingress : Calls I P) (link : P
     calls_without calls.0 answered last calls.2,
   )
 
+  in_order_without : (first : States E I L) (flows : List (Flow P)) (answered : List (Answered P))
+      → AnswerInOrder egress ingress link first flows answered → AnswerInOrder egress ingress NoLink (without first) flows answered
+  in_order_without first flows answered h = record { flows_are = h.flows_are; last = without h.last; calls = calls_without first answered h.last h.calls }
+
   -- an allocation with such a closure is one with no closure for pairs
   pub without_links : (cmp : P → P → Ordering) (first : States E I L) (flows : List (Flow P)) (rate_of : ℕ → Option Rate)
       → IsAllocation cmp egress ingress link first flows rate_of → IsAllocation cmp egress ingress NoLink (without first) flows rate_of
   without_links cmp first flows rate_of h = record {
     answered = h.answered;
-    in_order = record { flows_are = h.in_order.flows_are; last = without h.in_order.last; calls = calls_without first h.answered h.in_order.last h.in_order.calls };
+    in_order = in_order_without first flows h.answered h.in_order;
     rates = h.rates;
     fair = h.fair;
     only = h.only;
@@ -39,4 +44,14 @@ module _ {P E I L : Type 0} (egress : Calls E P) (ingress : Calls I P) (link : P
     of_four = h.of_four;
     of_sixteen = h.of_sixteen;
     by_id = h.by_id;
+  }
+
+  -- and a refusal with it is one without
+  pub too_large_without_links : (cmp : P → P → Ordering) (first : States E I L) (flows : List (Flow P))
+      → IsTooLarge cmp egress ingress link first flows → IsTooLarge cmp egress ingress NoLink (without first) flows
+  too_large_without_links cmp first flows h = record {
+    answered = h.answered;
+    in_order = in_order_without first flows h.answered h.in_order;
+    nothing_fits = h.nothing_fits;
+    many_or_large = h.many_or_large;
   }

@@ -6,3 +6,4 @@ pub mod Whole
 pub mod Exists
 pub mod Promise
 pub mod Fitting
+pub mod Answered

@@ -24,6 +24,7 @@ pub mod Session
 pub mod Sides
 pub mod Size
 pub mod Time
+pub mod TooLarge
 pub mod Words
 pub mod World
 pub mod WorldBytes
