@@ -4,14 +4,9 @@ use Rattle.std.specs.List.{FoldsTo}
 use Rattle.std.specs.declared.cmp.Ordering.{Ordering}
 use Rattle.p2p_simulated.specs.declared.bandwidth.Flow.{Flow}
 use Rattle.p2p_simulated.specs.declared.bandwidth.Rate.{Rate}
-use Rattle.p2p_simulated.specs.Answers.{Answered, Calls, PairCalls, NoLink, States, CallsFor, AnswerInOrder, CallableOnEachPair}
+use Rattle.p2p_simulated.specs.Answers.{Answered, Calls, PairCalls, NoLink, States, CallsFor, AnswerInOrder}
 use Rattle.p2p_simulated.specs.Allocation.{IsAllocation}
 use Rattle.p2p_simulated.specs.TooLarge.{IsTooLarge}
-
--- a closure that may always be called may be called on each pair of a list
-pub callable_on_each_pair : {P F : Type 0} (may : F → P → P → Type 0) (call : PairCalls F P) → ((f : F) (p q : P) → may f p q) → (f : F) (pairs : List (P × P)) → CallableOnEachPair may call f pairs
-callable_on_each_pair may call always f [] = tt
-callable_on_each_pair may call always f ((p, q) ∷ pairs) = (always f p q, λ a g k. callable_on_each_pair may call always g pairs)
 
 module _ {P E I L : Type 0} (egress : Calls E P) (ingress : Calls I P) (link : PairCalls L P) (no_number : (l : L) (p q : P) (a : Option ℕ) (l' : L) → link l p q a l' → a ≡ None) where
   abbrev without : States E I L → States E I (Unit {0})

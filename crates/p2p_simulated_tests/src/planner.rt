@@ -3,74 +3,93 @@ use crate::planner_peers::{Backward, Marked, Numbered};
 use p2p_simulated::bandwidth::{Flow, Rate, allocate, allocate_linked};
 use p2p_simulated::error::Error;
 use p2p_simulated::ratio::Ratio;
-use std::alloc::Global;
+use std::alloc::{AllocFailed, Global};
 use std::cell::RefCell;
 use std::collections::BTreeMap;
 use std::process::Abort;
 use std::test::Fail;
 
+/// A flow from one peer to another, by their numbers, and whether it is delivered.
+#[derive(Clone, Copy, Debug)]
+struct Arrow(u64, u8, u8, bool);
+
 /// The cap of a peer, by its number.
-#[derive(Clone, Copy)]
+#[derive(Clone, Copy, Debug)]
 struct Cap(u8, u128);
 
 /// The cap of what goes from one peer to another, by their numbers.
-#[derive(Clone, Copy)]
+#[derive(Clone, Copy, Debug)]
 struct LinkCap(u8, u8, u128);
 
 /// The rate that is wanted for an id: a fraction, or `None` for no limit.
-#[derive(Clone, Copy)]
+#[derive(Clone, Copy, Debug)]
 struct Wanted(u64, Option<(u128, u128)>);
 
-fn flow<P: Numbered>(id: u64, origin: u8, recipient: u8, delivered: bool) -> Flow<P> {
-    Flow {
-        id,
-        origin: P::numbered(origin, id),
-        recipient: P::numbered(recipient, id),
-        delivered,
+/// Flows under caps that never change, and the rates that they are to have.
+#[derive(Clone, Copy, Debug)]
+struct Case<'a> {
+    flows: &'a [Arrow],
+    egress: &'a [Cap],
+    ingress: &'a [Cap],
+    links: &'a [LinkCap],
+    wanted: &'a [Wanted],
+}
+
+fn flows_of<P: Numbered>(
+    alloc: Global,
+    arrows: &[Arrow],
+) -> Result<Vec<Flow<P>>, AllocFailed<Flow<P>>> {
+    let mut flows = Vec::new(alloc);
+    for Arrow(id, origin, recipient, delivered) in arrows {
+        flows.push(Flow {
+            id: *id,
+            origin: P::numbered(*origin, *id),
+            recipient: P::numbered(*recipient, *id),
+            delivered: *delivered,
+        })?;
     }
+    Ok(flows)
 }
 
-fn cap_of<P: Numbered>(caps: &[Cap], peer: &P) -> Option<u128> {
-    caps.iter()
-        .find(|cap| cap.0 == peer.number())
-        .map(|cap| cap.1)
+fn cap_of(caps: &[Cap], peer: u8) -> Option<u128> {
+    caps.iter().find(|cap| cap.0 == peer).map(|cap| cap.1)
 }
 
-fn link_cap_of<P: Numbered>(caps: &[LinkCap], origin: &P, recipient: &P) -> Option<u128> {
+fn link_cap_of(caps: &[LinkCap], origin: u8, recipient: u8) -> Option<u128> {
     caps.iter()
-        .find(|cap| cap.0 == origin.number() && cap.1 == recipient.number())
+        .find(|cap| cap.0 == origin && cap.1 == recipient)
         .map(|cap| cap.2)
 }
 
-/// The rates under caps that never change.
 fn rates<P: Numbered>(
     alloc: Global,
     flows: &[Flow<P>],
-    egress: &[Cap],
-    ingress: &[Cap],
+    case: &Case,
 ) -> Result<BTreeMap<u64, Rate>, Error> {
+    let egress = case.egress;
+    let ingress = case.ingress;
     allocate(
         alloc,
         flows,
-        |peer| cap_of(egress, peer),
-        |peer| cap_of(ingress, peer),
+        |peer| cap_of(egress, peer.number()),
+        |peer| cap_of(ingress, peer.number()),
     )
 }
 
-/// The rates under such caps, also of links.
 fn linked_rates<P: Numbered>(
     alloc: Global,
     flows: &[Flow<P>],
-    egress: &[Cap],
-    ingress: &[Cap],
-    links: &[LinkCap],
+    case: &Case,
 ) -> Result<BTreeMap<u64, Rate>, Error> {
+    let egress = case.egress;
+    let ingress = case.ingress;
+    let links = case.links;
     allocate_linked(
         alloc,
         flows,
-        |peer| cap_of(egress, peer),
-        |peer| cap_of(ingress, peer),
-        |origin, recipient| link_cap_of(links, origin, recipient),
+        |peer| cap_of(egress, peer.number()),
+        |peer| cap_of(ingress, peer.number()),
+        |origin, recipient| link_cap_of(links, origin.number(), recipient.number()),
     )
 }
 
@@ -88,30 +107,54 @@ fn expect(rt: &impl Abort, rates: &BTreeMap<u64, Rate>, wanted: &[Wanted]) -> Re
     Ok(())
 }
 
-/// Two flows share what one peer may send, and no flows have no rates.
-fn one_cap_is_shared<P: Numbered>(rt: &(impl Abort + AllocGlobal)) -> Result<(), Fail> {
-    let flows: [Flow<P>; 2] = [flow(1, 1, 10, true), flow(2, 1, 11, true)];
-    let found = rates(rt.alloc(), &flows, &[Cap(1, 1000)], &[])?;
-    expect(
-        rt,
-        &found,
-        &[Wanted(1, Some((500, 1))), Wanted(2, Some((500, 1)))],
-    )?;
-    let none: [Flow<P>; 0] = [];
-    expect(rt, &rates(rt.alloc(), &none, &[Cap(1, 1000)], &[])?, &[])
+/// The flows have the rates, between peers of one type.
+fn holds<P: Numbered>(rt: &(impl Abort + AllocGlobal), case: &Case) -> Result<(), Fail> {
+    let flows = flows_of::<P>(rt.alloc(), case.flows)?;
+    expect(rt, &linked_rates(rt.alloc(), &flows, case)?, case.wanted)?;
+    if case.links.is_empty() {
+        expect(rt, &rates(rt.alloc(), &flows, case)?, case.wanted)?;
+    }
+    Ok(())
+}
+
+/// Between peers of each type.
+fn holds_at_each_type(rt: &(impl Abort + AllocGlobal), case: &Case) -> Result<(), Fail> {
+    holds::<u64>(rt, case)?;
+    holds::<char>(rt, case)?;
+    holds::<Backward>(rt, case)?;
+    holds::<Marked>(rt, case)
+}
+
+#[test]
+fn one_cap_is_shared(rt: HostRuntime) -> Result<(), Fail> {
+    let flows = [Arrow(1, 1, 10, true), Arrow(2, 1, 11, true)];
+    let halves = [Wanted(1, Some((500, 1))), Wanted(2, Some((500, 1)))];
+    let case = Case {
+        flows: &flows,
+        egress: &[Cap(1, 1000)],
+        ingress: &[],
+        links: &[],
+        wanted: &halves,
+    };
+    holds_at_each_type(&rt, &case)?;
+    let empty = Case {
+        flows: &[],
+        wanted: &[],
+        ..case
+    };
+    holds_at_each_type(&rt, &empty)
 }
 
 /// Three peers that each send and receive, with five caps in use.
-fn filling_goes_round_by_round<P: Numbered>(rt: &(impl Abort + AllocGlobal)) -> Result<(), Fail> {
-    let flows: [Flow<P>; 5] = [
-        flow(1, 1, 2, true),
-        flow(2, 1, 2, true),
-        flow(3, 2, 3, true),
-        flow(4, 1, 3, true),
-        flow(5, 3, 2, true),
+#[test]
+fn filling_goes_round_by_round(rt: HostRuntime) -> Result<(), Fail> {
+    let flows = [
+        Arrow(1, 1, 2, true),
+        Arrow(2, 1, 2, true),
+        Arrow(3, 2, 3, true),
+        Arrow(4, 1, 3, true),
+        Arrow(5, 3, 2, true),
     ];
-    let egress = [Cap(1, 1000000), Cap(2, 750000), Cap(3, 100000)];
-    let ingress = [Cap(1, 500000), Cap(2, 250000), Cap(3, 1000000)];
     let wanted = [
         Wanted(1, Some((250000, 3))),
         Wanted(2, Some((250000, 3))),
@@ -119,201 +162,218 @@ fn filling_goes_round_by_round<P: Numbered>(rt: &(impl Abort + AllocGlobal)) -> 
         Wanted(4, Some((500000, 1))),
         Wanted(5, Some((250000, 3))),
     ];
-    expect(rt, &rates(rt.alloc(), &flows, &egress, &ingress)?, &wanted)
+    let case = Case {
+        flows: &flows,
+        egress: &[Cap(1, 1000000), Cap(2, 750000), Cap(3, 100000)],
+        ingress: &[Cap(1, 500000), Cap(2, 250000), Cap(3, 1000000)],
+        links: &[],
+        wanted: &wanted,
+    };
+    holds_at_each_type(&rt, &case)
 }
 
 /// What a slow recipient leaves goes to the other flow, also where no cap fits 64 bits.
-fn what_is_left_is_used<P: Numbered>(rt: &(impl Abort + AllocGlobal)) -> Result<(), Fail> {
-    let flows: [Flow<P>; 2] = [flow(1, 1, 2, true), flow(2, 1, 3, true)];
-    let found = rates(
-        rt.alloc(),
-        &flows,
-        &[Cap(1, 50000)],
-        &[Cap(2, 1000), Cap(3, 500000)],
-    )?;
-    expect(
-        rt,
-        &found,
-        &[Wanted(1, Some((1000, 1))), Wanted(2, Some((49000, 1)))],
-    )?;
-    let egress = [Cap(1, 922337203685477580800000)];
-    let ingress = [
-        Cap(2, 18446744073709551616000),
-        Cap(3, 9223372036854775808000000),
-    ];
-    let wanted = [
+#[test]
+fn what_is_left_is_used(rt: HostRuntime) -> Result<(), Fail> {
+    let flows = [Arrow(1, 1, 2, true), Arrow(2, 1, 3, true)];
+    let wanted = [Wanted(1, Some((1000, 1))), Wanted(2, Some((49000, 1)))];
+    let case = Case {
+        flows: &flows,
+        egress: &[Cap(1, 50000)],
+        ingress: &[Cap(2, 1000), Cap(3, 500000)],
+        links: &[],
+        wanted: &wanted,
+    };
+    holds_at_each_type(&rt, &case)?;
+    let limited = [Wanted(1, Some((1000, 1))), Wanted(2, Some((20000, 1)))];
+    let linked = Case {
+        links: &[LinkCap(1, 3, 20000)],
+        wanted: &limited,
+        ..case
+    };
+    holds_at_each_type(&rt, &linked)?;
+    let large = [
         Wanted(1, Some((18446744073709551616000, 1))),
         Wanted(2, Some((903890459611768029184000, 1))),
     ];
-    expect(rt, &rates(rt.alloc(), &flows, &egress, &ingress)?, &wanted)
+    let wide = Case {
+        egress: &[Cap(1, 922337203685477580800000)],
+        ingress: &[
+            Cap(2, 18446744073709551616000),
+            Cap(3, 9223372036854775808000000),
+        ],
+        wanted: &large,
+        ..case
+    };
+    holds_at_each_type(&rt, &wide)
 }
 
 /// A flow that is not delivered takes nothing of what its recipient may receive.
-fn lost_flows_charge_their_origin<P: Numbered>(
-    rt: &(impl Abort + AllocGlobal),
-) -> Result<(), Fail> {
-    let flows: [Flow<P>; 2] = [flow(1, 1, 2, true), flow(2, 1, 3, false)];
-    let found = rates(rt.alloc(), &flows, &[Cap(1, 100)], &[Cap(2, 0), Cap(3, 0)])?;
-    expect(
-        rt,
-        &found,
-        &[Wanted(1, Some((0, 1))), Wanted(2, Some((100, 1)))],
-    )
+#[test]
+fn lost_flows_charge_their_origin(rt: HostRuntime) -> Result<(), Fail> {
+    let flows = [Arrow(1, 1, 2, true), Arrow(2, 1, 3, false)];
+    let wanted = [Wanted(1, Some((0, 1))), Wanted(2, Some((100, 1)))];
+    let case = Case {
+        flows: &flows,
+        egress: &[Cap(1, 100)],
+        ingress: &[Cap(2, 0), Cap(3, 0)],
+        links: &[],
+        wanted: &wanted,
+    };
+    holds_at_each_type(&rt, &case)?;
+    let linked = Case {
+        ingress: &[],
+        links: &[LinkCap(1, 2, 0)],
+        ..case
+    };
+    holds_at_each_type(&rt, &linked)
 }
 
 /// Of flows with one id the last decides, and both use what is shared.
-fn the_last_of_an_id_decides<P: Numbered>(rt: &(impl Abort + AllocGlobal)) -> Result<(), Fail> {
-    let flows: [Flow<P>; 2] = [flow(7, 1, 2, true), flow(7, 1, 3, true)];
-    let found = rates(rt.alloc(), &flows, &[Cap(1, 10)], &[Cap(2, 2)])?;
-    expect(rt, &found, &[Wanted(7, Some((8, 1)))])?;
-    let flows: [Flow<P>; 2] = [flow(7, 1, 3, true), flow(7, 2, 3, true)];
-    expect(
-        rt,
-        &rates(rt.alloc(), &flows, &[Cap(1, 5)], &[])?,
-        &[Wanted(7, None)],
-    )?;
-    let flows: [Flow<P>; 2] = [flow(7, 2, 3, true), flow(7, 1, 3, true)];
-    expect(
-        rt,
-        &rates(rt.alloc(), &flows, &[Cap(1, 5)], &[])?,
-        &[Wanted(7, Some((5, 1)))],
-    )
+#[test]
+fn the_last_of_an_id_decides(rt: HostRuntime) -> Result<(), Fail> {
+    let flows = [Arrow(7, 1, 2, true), Arrow(7, 1, 3, true)];
+    let case = Case {
+        flows: &flows,
+        egress: &[Cap(1, 10)],
+        ingress: &[Cap(2, 2)],
+        links: &[],
+        wanted: &[Wanted(7, Some((8, 1)))],
+    };
+    holds_at_each_type(&rt, &case)?;
+    let flows = [Arrow(7, 1, 3, true), Arrow(7, 2, 3, true)];
+    let last_is_free = Case {
+        flows: &flows,
+        egress: &[Cap(1, 5)],
+        ingress: &[],
+        wanted: &[Wanted(7, None)],
+        ..case
+    };
+    holds_at_each_type(&rt, &last_is_free)?;
+    let flows = [Arrow(7, 2, 3, true), Arrow(7, 1, 3, true)];
+    let last_is_held = Case {
+        flows: &flows,
+        wanted: &[Wanted(7, Some((5, 1)))],
+        ..last_is_free
+    };
+    holds_at_each_type(&rt, &last_is_held)
 }
 
-/// A cap of a link holds for the one direction, delivered or not.
-fn links_have_caps<P: Numbered>(rt: &(impl Abort + AllocGlobal)) -> Result<(), Fail> {
-    let flows: [Flow<P>; 2] = [flow(1, 1, 2, true), flow(2, 1, 3, true)];
-    let ingress = [Cap(2, 1000), Cap(3, 500000)];
-    let links = [LinkCap(1, 3, 20000)];
-    let found = linked_rates(rt.alloc(), &flows, &[Cap(1, 50000)], &ingress, &links)?;
-    expect(
-        rt,
-        &found,
-        &[Wanted(1, Some((1000, 1))), Wanted(2, Some((20000, 1)))],
-    )?;
-    let links = [LinkCap(1, 2, 0)];
-    let found = linked_rates(rt.alloc(), &flows, &[Cap(1, 100)], &[], &links)?;
-    expect(
-        rt,
-        &found,
-        &[Wanted(1, Some((0, 1))), Wanted(2, Some((100, 1)))],
-    )?;
-    let flows: [Flow<P>; 3] = [
-        flow(1, 1, 2, true),
-        flow(2, 1, 2, false),
-        flow(3, 2, 1, true),
+/// The cap of a link holds for the one direction, delivered or not.
+#[test]
+fn links_have_caps(rt: HostRuntime) -> Result<(), Fail> {
+    let flows = [
+        Arrow(1, 1, 2, true),
+        Arrow(2, 1, 2, false),
+        Arrow(3, 2, 1, true),
     ];
-    let found = linked_rates(rt.alloc(), &flows, &[], &[], &[LinkCap(1, 2, 10)])?;
     let wanted = [
         Wanted(1, Some((5, 1))),
         Wanted(2, Some((5, 1))),
         Wanted(3, None),
     ];
-    expect(rt, &found, &wanted)
+    let case = Case {
+        flows: &flows,
+        egress: &[],
+        ingress: &[],
+        links: &[LinkCap(1, 2, 10)],
+        wanted: &wanted,
+    };
+    holds_at_each_type(&rt, &case)
 }
 
-fn all_hold<P: Numbered>(rt: &(impl Abort + AllocGlobal)) -> Result<(), Fail> {
-    one_cap_is_shared::<P>(rt)?;
-    filling_goes_round_by_round::<P>(rt)?;
-    what_is_left_is_used::<P>(rt)?;
-    lost_flows_charge_their_origin::<P>(rt)?;
-    the_last_of_an_id_decides::<P>(rt)?;
-    links_have_caps::<P>(rt)
+/// What each closure answers, one call after another, and then none.
+#[derive(Clone, Copy, Debug)]
+struct Answers<'a> {
+    egress: &'a [Option<u128>],
+    ingress: &'a [Option<u128>],
+    links: &'a [Option<u128>],
 }
 
-#[test]
-fn rates_at_numbers(rt: HostRuntime) -> Result<(), Fail> {
-    all_hold::<u64>(&rt)
+fn answer_from(answers: &mut std::slice::Iter<'_, Option<u128>>) -> Option<u128> {
+    answers.next().copied().flatten()
 }
 
-#[test]
-fn rates_at_characters(rt: HostRuntime) -> Result<(), Fail> {
-    all_hold::<char>(&rt)
+/// The rates where the closures answer from lists.
+fn answered_rates(
+    alloc: Global,
+    flows: &[Flow<u64>],
+    answers: &Answers,
+) -> Result<BTreeMap<u64, Rate>, Error> {
+    let mut egress = answers.egress.iter();
+    let mut ingress = answers.ingress.iter();
+    let mut links = answers.links.iter();
+    allocate_linked(
+        alloc,
+        flows,
+        |_peer| answer_from(&mut egress),
+        |_peer| answer_from(&mut ingress),
+        |_origin, _recipient| answer_from(&mut links),
+    )
 }
 
-#[test]
-fn rates_at_peers_ordered_backward(rt: HostRuntime) -> Result<(), Fail> {
-    all_hold::<Backward>(&rt)
-}
-
-#[test]
-fn rates_at_peers_that_differ_in_a_mark(rt: HostRuntime) -> Result<(), Fail> {
-    all_hold::<Marked>(&rt)
-}
-
-/// Answers from a list, one after another, and then none.
-#[derive(Drop)]
-struct Script<'a> {
-    answers: &'a [Option<u128>],
-    next: usize,
-}
-
-impl Script<'_> {
-    fn answer(&mut self) -> Option<u128> {
-        let answer = self.answers.get(self.next).copied().flatten();
-        self.next = self.next.saturating_add(1);
-        answer
-    }
-}
-
-/// A side comes into being with the first number, and keeps it.
+/// A side comes into being with the first number that is answered for it, and keeps that cap.
 #[test]
 fn the_first_number_is_the_cap(rt: HostRuntime) -> Result<(), Fail> {
-    let lost: [Flow<u64>; 3] = [
-        flow(1, 1, 2, false),
-        flow(2, 1, 2, false),
-        flow(3, 1, 2, false),
-    ];
-    let mut falling = Script {
-        answers: &[Some(10), Some(1), None],
-        next: 0,
+    let none = Answers {
+        egress: &[],
+        ingress: &[],
+        links: &[],
     };
-    let found = allocate(rt.alloc(), &lost, |_peer| falling.answer(), |_peer| None)?;
+    let lost = [
+        Arrow(1, 1, 2, false),
+        Arrow(2, 1, 2, false),
+        Arrow(3, 1, 2, false),
+    ];
+    let lost = flows_of::<u64>(rt.alloc(), &lost)?;
+    let falling = Answers {
+        egress: &[Some(10), Some(1), None],
+        ..none
+    };
     let thirds = [
         Wanted(1, Some((10, 3))),
         Wanted(2, Some((10, 3))),
         Wanted(3, Some((10, 3))),
     ];
-    expect(&rt, &found, &thirds)?;
-    let mut late = Script {
-        answers: &[None, Some(6)],
-        next: 0,
-    };
-    let found = allocate(rt.alloc(), &lost[..2], |_peer| late.answer(), |_peer| None)?;
-    expect(&rt, &found, &[Wanted(1, None), Wanted(2, Some((6, 1)))])?;
-    let mut late = Script {
-        answers: &[None, Some(6)],
-        next: 0,
-    };
-    let found = allocate_linked(
-        rt.alloc(),
-        &lost[..2],
-        |_peer| None,
-        |_peer| None,
-        |_origin, _recipient| late.answer(),
-    )?;
-    expect(&rt, &found, &[Wanted(1, None), Wanted(2, Some((6, 1)))])?;
-    let arriving: [Flow<u64>; 3] = [
-        flow(1, 1, 9, true),
-        flow(2, 2, 9, true),
-        flow(3, 3, 9, true),
-    ];
-    let mut between = Script {
-        answers: &[None, Some(4), None],
-        next: 0,
-    };
-    let found = allocate(
-        rt.alloc(),
-        &arriving,
-        |_peer| None,
-        |_peer| between.answer(),
-    )?;
-    let wanted = [
+    expect(&rt, &answered_rates(rt.alloc(), &lost, &falling)?, &thirds)?;
+    let from_the_second = [
         Wanted(1, None),
         Wanted(2, Some((2, 1))),
         Wanted(3, Some((2, 1))),
     ];
-    expect(&rt, &found, &wanted)
+    let late = Answers {
+        egress: &[None, Some(4)],
+        ..none
+    };
+    expect(
+        &rt,
+        &answered_rates(rt.alloc(), &lost, &late)?,
+        &from_the_second,
+    )?;
+    let late_link = Answers {
+        links: &[None, Some(4), None],
+        ..none
+    };
+    expect(
+        &rt,
+        &answered_rates(rt.alloc(), &lost, &late_link)?,
+        &from_the_second,
+    )?;
+    let arriving = [
+        Arrow(1, 1, 9, true),
+        Arrow(2, 2, 9, true),
+        Arrow(3, 3, 9, true),
+    ];
+    let arriving = flows_of::<u64>(rt.alloc(), &arriving)?;
+    let between = Answers {
+        ingress: &[None, Some(4), None],
+        ..none
+    };
+    expect(
+        &rt,
+        &answered_rates(rt.alloc(), &arriving, &between)?,
+        &from_the_second,
+    )
 }
 
 /// A call of one of the closures.
@@ -324,26 +384,49 @@ enum Call {
     Link(u64, u64),
 }
 
-fn note(calls: &RefCell<Vec<Call>>, call: Call) -> Option<u128> {
+/// Puts a call down, and answers no cap.
+fn put_down(calls: &RefCell<Vec<Call>>, call: Call) -> Option<u128> {
     if let Ok(mut calls) = calls.try_borrow_mut() {
         let _ = calls.push(call);
     }
     None
 }
 
+/// The calls that `allocate` makes.
+fn calls_for(alloc: Global, flows: &[Flow<u64>]) -> Result<Vec<Call>, Error> {
+    let calls = RefCell::new(Vec::new(alloc));
+    let _rates = allocate(
+        alloc,
+        flows,
+        |peer| put_down(&calls, Call::Egress(*peer)),
+        |peer| put_down(&calls, Call::Ingress(*peer)),
+    )?;
+    Ok(calls.into_inner())
+}
+
+/// The calls that `allocate_linked` makes.
+fn linked_calls_for(alloc: Global, flows: &[Flow<u64>]) -> Result<Vec<Call>, Error> {
+    let calls = RefCell::new(Vec::new(alloc));
+    let _rates = allocate_linked(
+        alloc,
+        flows,
+        |peer| put_down(&calls, Call::Egress(*peer)),
+        |peer| put_down(&calls, Call::Ingress(*peer)),
+        |origin, recipient| put_down(&calls, Call::Link(*origin, *recipient)),
+    )?;
+    Ok(calls.into_inner())
+}
+
 /// The closures are called in the order of the flows, and within one egress before ingress before
 /// link.
 #[test]
 fn closures_are_called_in_order(rt: HostRuntime) -> Result<(), Fail> {
-    let flows: [Flow<u64>; 3] = [
-        flow(1, 1, 2, true),
-        flow(2, 1, 3, false),
-        flow(3, 4, 2, true),
+    let flows = [
+        Arrow(1, 1, 2, true),
+        Arrow(2, 1, 3, false),
+        Arrow(3, 4, 2, true),
     ];
-    let calls = RefCell::new(Vec::new(rt.alloc()));
-    let egress = |peer: &u64| note(&calls, Call::Egress(*peer));
-    let ingress = |peer: &u64| note(&calls, Call::Ingress(*peer));
-    let _rates = allocate(rt.alloc(), &flows, egress, ingress)?;
+    let flows = flows_of::<u64>(rt.alloc(), &flows)?;
     let wanted = [
         Call::Egress(1),
         Call::Ingress(2),
@@ -351,12 +434,10 @@ fn closures_are_called_in_order(rt: HostRuntime) -> Result<(), Fail> {
         Call::Egress(4),
         Call::Ingress(2),
     ];
-    assert_eq!(rt; calls.into_inner().as_slice(), wanted.as_slice());
-    let calls = RefCell::new(Vec::new(rt.alloc()));
-    let egress = |peer: &u64| note(&calls, Call::Egress(*peer));
-    let ingress = |peer: &u64| note(&calls, Call::Ingress(*peer));
-    let link = |origin: &u64, recipient: &u64| note(&calls, Call::Link(*origin, *recipient));
-    let _rates = allocate_linked(rt.alloc(), &flows, egress, ingress, link)?;
+    assert_eq!(rt;
+        calls_for(rt.alloc(), &flows)?.as_slice(),
+        wanted.as_slice()
+    );
     let wanted = [
         Call::Egress(1),
         Call::Ingress(2),
@@ -367,6 +448,9 @@ fn closures_are_called_in_order(rt: HostRuntime) -> Result<(), Fail> {
         Call::Ingress(2),
         Call::Link(4, 2),
     ];
-    assert_eq!(rt; calls.into_inner().as_slice(), wanted.as_slice());
+    assert_eq!(rt;
+        linked_calls_for(rt.alloc(), &flows)?.as_slice(),
+        wanted.as_slice()
+    );
     Ok(())
 }
