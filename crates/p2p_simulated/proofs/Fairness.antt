@@ -17,3 +17,4 @@ pub mod Users
 pub mod Order
 pub mod Allocation
 pub mod ByCaps
+pub mod Messages

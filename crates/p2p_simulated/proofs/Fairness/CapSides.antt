@@ -99,7 +99,11 @@ module _ {P : Type 0} (cmp : P → P → Ordering) (order : IsTotalOrder cmp) (c
       by_same (is_same cmp a x) refl h (λ g. to_sides (x ∷ earlier) later a cap (one_more earlier x before (all x (inl refl))) (λ b among. all b (inr among)) g has)
     where
       head : is_same cmp a x ≡ true
-          → In (cond (is_open cmp earlier x) [] (opened cmp x later x.answer) ++ sides_after cmp (x ∷ earlier) later) (record { cap = cap; users = x.place ∷ map (λ b. b.place) (filter (is_same cmp a) later) })
+          → In (cond (is_open cmp earlier x) [] (opened cmp x later x.answer) ++ sides_after cmp (x ∷ earlier) later) (record {
+            cap = cap;
+            users =
+                x.place ∷ map (λ b. b.place) (filter (is_same cmp a) later);
+          })
       head e =
           let number : x.answer ≡ Some cap = all x (inl refl) ∙ sym (one_cap cmp order caps of a.subject x.subject e) ∙ sym (all a h) ∙ has in
           let closed : is_open cmp earlier x ≡ false = open_from earlier x (λ b among. sym (same_congr cmp order a.subject x.subject b.subject e) ∙ fresh b among) in
