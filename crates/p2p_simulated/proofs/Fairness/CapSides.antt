@@ -9,7 +9,7 @@ use Rattle.std.specs.declared.cmp.Ordering.{Ordering}
 use Rattle.p2p_simulated.specs.declared.bandwidth.Flow.{Flow}
 use Rattle.p2p_simulated.specs.Fair.{Side}
 use Rattle.p2p_simulated.specs.Sides.{Subject, sent_by, received_by, sent_between, Ask, same_peer, same_subject, is_same, is_open, opened, sides_after, asks_from}
-use Rattle.p2p_simulated.specs.WorldMessages.{Caps}
+use Rattle.p2p_simulated.specs.Caps.{Caps}
 use Rattle.p2p_simulated.specs.PeerCaps.{cap_of, answered_under, AreOfPeers, limits, places_from, sides_under, IsCappedSide, SidesAreOfTheCaps}
 use Rattle.p2p_simulated.proofs.Subjects.{same_itself, same_symm, same_congr}
 use Rattle.p2p_simulated.proofs.Fairness.Members.{In, in_left, in_right, in_either, in_from_contains, contains_from_in, none_passes, any_fails}

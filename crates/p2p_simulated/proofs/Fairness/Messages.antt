@@ -17,7 +17,8 @@ use Rattle.p2p_simulated.specs.PeerCaps.{places_from as flow_places}
 use Rattle.p2p_simulated.specs.Rates.{AreFairRates}
 use Rattle.p2p_simulated.specs.Ratio.{IsWorth}
 use Rattle.p2p_simulated.specs.Sides.{Subject, sent_by, received_by, sent_between, same_peer, same_subject}
-use Rattle.p2p_simulated.specs.WorldMessages.{Message, Caps, is_delivered}
+use Rattle.p2p_simulated.specs.Caps.{Caps}
+use Rattle.p2p_simulated.specs.WorldMessages.{Message, is_delivered}
 use Rattle.p2p_simulated.specs.WorldRates.{Parts, places_from, side_of, egress_of, ingress_of, link_of, sides_for, capped_sides, is_unlimited, rates_from, AreFair}
 use Rattle.p2p_simulated.proofs.Subjects.{same_itself}
 use Rattle.p2p_simulated.proofs.Fairness.CapSides.{capped_from_listed, listed_from_capped, side_of_subject}
