@@ -1,7 +1,6 @@
 -- What is allocated is the one max-min allocation.
-use Rattle.std.proofs.Common.{◌≡◌, ℕ, List, length, sym, ap, ◌∙◌, subst}
+use Rattle.std.proofs.Common.{ℕ, List, length, subst}
 use Rattle.std.specs.declared.cmp.Ordering.{Ordering}
-use Rattle.std.proofs.lemmas.List.{length-map}
 use Rattle.p2p_simulated.specs.declared.bandwidth.Rate.{Rate}
 use Rattle.p2p_simulated.specs.AllocationLaws.{AllocatesUnderCaps}
 use Rattle.p2p_simulated.specs.Answers.{Answered, Calls, PairCalls}

@@ -9,7 +9,8 @@ use Rattle.p2p_simulated.specs.Caps.{Caps}
 -- ---- how to show it
 
 -- a closure that answers by the function and that no call changes
-pub answers_if_unchanged : {P F : Type 0} (call : Calls F P) (cap : P → Option ℕ) (f : F) → ((p : P) (a : Option ℕ) (g : F) → call f p a g → (a ≡ cap p) × (g ≡ f)) → (peers : List P) → AnswersOnEach call cap f peers
+pub answers_if_unchanged : {P F : Type 0} (call : Calls F P) (cap : P → Option ℕ) (f : F) → ((p : P) (a : Option ℕ) (g : F) → call f p a g → (a ≡ cap p) × (g ≡ f)) → (peers : List P)
+    → AnswersOnEach call cap f peers
 answers_if_unchanged call cap f h [] = tt
 answers_if_unchanged {P} {F} call cap f h (p ∷ peers) = λ a g called.
     let r = h p a g called in

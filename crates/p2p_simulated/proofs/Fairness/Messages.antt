@@ -12,14 +12,13 @@ use Rattle.p2p_simulated.specs.declared.bandwidth.Rate.{Rate}
 use Rattle.p2p_simulated.specs.declared.bandwidth.Rate.TheVariants.{Unlimited, Finite}
 use Rattle.p2p_simulated.specs.Fair.{Side}
 use Rattle.p2p_simulated.specs.FairLaws.{AreTheSameSides}
-use Rattle.p2p_simulated.specs.PeerCaps.{cap_of, AreOfPeers, limits, sides_under, AreFairUnder, UsesNoCap}
-use Rattle.p2p_simulated.specs.PeerCaps.{places_from as flow_places}
+use Rattle.p2p_simulated.specs.PeerCaps.{cap_of, AreOfPeers, limits, places_from, sides_under, AreFairUnder, UsesNoCap}
 use Rattle.p2p_simulated.specs.Rates.{AreFairRates}
 use Rattle.p2p_simulated.specs.Ratio.{IsWorth}
 use Rattle.p2p_simulated.specs.Sides.{Subject, sent_by, received_by, sent_between, same_peer, same_subject}
 use Rattle.p2p_simulated.specs.Caps.{Caps}
 use Rattle.p2p_simulated.specs.WorldMessages.{Message, is_delivered}
-use Rattle.p2p_simulated.specs.WorldRates.{Parts, places_from, side_of, egress_of, ingress_of, link_of, sides_for, capped_sides, is_unlimited, rates_from, AreFair}
+use Rattle.p2p_simulated.specs.WorldRates.{Parts, places_that_pass, side_of, egress_of, ingress_of, link_of, sides_for, capped_sides, is_unlimited, rates_from, AreFair}
 use Rattle.p2p_simulated.proofs.Subjects.{same_itself}
 use Rattle.p2p_simulated.proofs.Fairness.CapSides.{capped_from_listed, listed_from_capped, side_of_subject}
 use Rattle.p2p_simulated.proofs.Fairness.MaxMin.{rate_at}
@@ -56,13 +55,13 @@ module _ {P : Type 0} (cmp : P → P → Ordering) where
     joined place false xs ys e = e
 
     places_alike : (place : ℕ) (s : Subject P) (flows : List (Flow P)) (messages : List (Message P)) → AllZip StandsForMessage flows messages
-        → flow_places cmp place s flows ≡ places_from place (limits_message s) messages
+        → places_from cmp place s flows ≡ places_that_pass place (limits_message s) messages
     places_alike place s [] [] t = refl
     places_alike place s [] (m ∷ ms) t = absurd t
     places_alike place s (f ∷ fs) [] t = absurd t
     places_alike place s (f ∷ fs) (m ∷ ms) t =
-        joined place (limits cmp s f) (flow_places cmp (place + 1) s fs) (places_from (place + 1) (limits_message s) ms) (places_alike (place + 1) s fs ms t.1)
-        ∙ ap (λ b. cond b (place ∷ places_from (place + 1) (limits_message s) ms) (places_from (place + 1) (limits_message s) ms)) (limits_alike s f m t.0)
+        joined place (limits cmp s f) (places_from cmp (place + 1) s fs) (places_that_pass (place + 1) (limits_message s) ms) (places_alike (place + 1) s fs ms t.1)
+        ∙ ap (λ b. cond b (place ∷ places_that_pass (place + 1) (limits_message s) ms) (places_that_pass (place + 1) (limits_message s) ms)) (limits_alike s f m t.0)
 
     same_limits_message : (s t : Subject P) (m : Message P) → same_subject cmp s t ≡ true → limits_message s m ≡ limits_message t m
     same_limits_message s t m e = sym (limits_alike s (flow_of m) m (own m)) ∙ same_limits cmp order s t (flow_of m) e ∙ limits_alike t (flow_of m) m (own m)
@@ -86,21 +85,21 @@ module _ {P : Type 0} (cmp : P → P → Ordering) where
     flow_for (f ∷ fs) (n ∷ ms) m t (inl e) = (f, inl refl, subst (λ (k : Message P). StandsForMessage f k) e t.0)
     flow_for (f ∷ fs) (n ∷ ms) m t (inr h) = let r : (g : Flow P) × In fs g × StandsForMessage g m = flow_for fs ms m t.1 h in (r.0, inr r.1, r.2)
 
-    places_agree : (place : ℕ) (p q : Message P → Bool) (messages : List (Message P)) → ((m : Message P) → p m ≡ q m) → places_from place p messages ≡ places_from place q messages
+    places_agree : (place : ℕ) (p q : Message P → Bool) (messages : List (Message P)) → ((m : Message P) → p m ≡ q m) → places_that_pass place p messages ≡ places_that_pass place q messages
     places_agree place p q [] h = refl
     places_agree place p q (m ∷ ms) h = ap₂ (λ (b : Bool) (ps : List ℕ). cond b (place ∷ ps) ps) (h m) (places_agree (place + 1) p q ms h)
 
     module _ (caps : Caps P) (of : AreOfPeers cmp caps) (flows : List (Flow P)) (messages : List (Message P)) (stand : AllZip StandsForMessage flows messages) where
       -- the side of a subject
       abbrev side_at : Subject P → ℕ → Side
-      side_at s cap = record { cap = cap; users = places_from 0 (limits_message s) messages }
+      side_at s cap = record { cap = cap; users = places_that_pass 0 (limits_message s) messages }
 
-      to_side_of : (o : Option ℕ) (uses : Message P → Bool) (cap : ℕ) → o ≡ Some cap → In (side_of cmp o uses messages) (record { cap = cap; users = places_from 0 uses messages })
+      to_side_of : (o : Option ℕ) (uses : Message P → Bool) (cap : ℕ) → o ≡ Some cap → In (side_of cmp o uses messages) (record { cap = cap; users = places_that_pass 0 uses messages })
       to_side_of None uses cap e = cc
-      to_side_of (Some c) uses cap e = let same : c ≡ cap = same_Some c cap e in inl (ap (λ n. record { cap = n; users = places_from 0 uses messages }) same)
+      to_side_of (Some c) uses cap e = let same : c ≡ cap = same_Some c cap e in inl (ap (λ n. record { cap = n; users = places_that_pass 0 uses messages }) same)
 
       from_side_of : (o : Option ℕ) (uses : Message P → Bool) (side : Side) → In (side_of cmp o uses messages) side
-          → (cap : ℕ) × (o ≡ Some cap) × (side ≡ record { cap = cap; users = places_from 0 uses messages })
+          → (cap : ℕ) × (o ≡ Some cap) × (side ≡ record { cap = cap; users = places_that_pass 0 uses messages })
       from_side_of None uses side h = absurd h
       from_side_of (Some cap) uses side (inl e) = (cap, refl, sym e)
       from_side_of (Some cap) uses side (inr h) = absurd h
