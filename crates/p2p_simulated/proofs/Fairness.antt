@@ -13,7 +13,7 @@ pub mod Answered
 pub mod Uncapped
 pub mod Part
 pub mod Apart
-pub mod Users
 pub mod Order
 pub mod Allocation
-pub mod ByCaps
+pub mod ById
+pub mod Messages

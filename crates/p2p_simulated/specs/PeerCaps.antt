@@ -6,7 +6,7 @@ use Rattle.std.specs.declared.cmp.Ordering.{Ordering}
 use Rattle.p2p_simulated.specs.declared.bandwidth.Flow.{Flow}
 use Rattle.p2p_simulated.specs.declared.bandwidth.Rate.{Rate}
 use Rattle.p2p_simulated.specs.declared.bandwidth.Rate.TheVariants.{Unlimited}
-use Rattle.p2p_simulated.specs.Answers.{Answered, Calls, PairCalls, States, AnswerInOrder}
+use Rattle.p2p_simulated.specs.Answers.{Answered, Calls, PairCalls, States, AnswerInOrder, origins, recipients, pairs}
 use Rattle.p2p_simulated.specs.Fair.{Side}
 use Rattle.p2p_simulated.specs.FairPart.{kept}
 use Rattle.p2p_simulated.specs.Rates.{AreFairRates, last_rate}
@@ -30,21 +30,27 @@ answered_under caps f = record {
 
 -- ---- closures that answer by a function
 
--- whatever it was asked before, the closure answers by that function of the peer
-abbrev pub AnswersBy : {F P : Type 0} → Calls F P → (P → Option ℕ) → Type 0
-AnswersBy {F} {P} call cap = (before : F) (peer : P) (answer : Option ℕ) (after : F) → call before peer answer after → answer ≡ cap peer
+-- called on each peer of the list in turn, in whatever state the calls before left it, the closure answers by that function of the peer
+abbrev pub AnswersOnEach : {P F : Type 0} → Calls F P → (P → Option ℕ) → F → List P → Type 0
+AnswersOnEach call cap f [] = Unit {0}
+AnswersOnEach {P} {F} call cap f (p ∷ peers) = (a : Option ℕ) (g : F) → call f p a g → (a ≡ cap p) × AnswersOnEach call cap g peers
 
--- the same for ordered pairs
-abbrev pub PairAnswersBy : {F P : Type 0} → PairCalls F P → (P → P → Option ℕ) → Type 0
-PairAnswersBy {F} {P} call cap = (before : F) (p q : P) (answer : Option ℕ) (after : F) → call before p q answer after → answer ≡ cap p q
+-- the same on each ordered pair of the list
+abbrev pub AnswersOnEachPair : {P F : Type 0} → PairCalls F P → (P → P → Option ℕ) → F → List (P × P) → Type 0
+AnswersOnEachPair call cap f [] = Unit {0}
+AnswersOnEachPair {P} {F} call cap f ((p, q) ∷ pairs) = (a : Option ℕ) (g : F) → call f p q a g → (a ≡ cap p q) × AnswersOnEachPair call cap g pairs
 
--- closures that answer by the caps answer as `answered_under` says
+-- the closures, beginning in these states, answer for the flows by the caps
+pub record AnswerBy {P E I L : Type 0} (egress : Calls E P) (ingress : Calls I P) (link : PairCalls L P) (first : States E I L) (flows : List (Flow P)) (caps : Caps P) : Type 0 where
+  pub by_egress : AnswersOnEach egress caps.egress first.egress (origins flows)
+  pub by_ingress : AnswersOnEach ingress caps.ingress first.ingress (recipients flows)
+  pub by_link : AnswersOnEachPair link caps.link first.link (pairs flows)
+
+-- then their answers are these
 abbrev pub AnswersAreThoseOfTheCaps : {P E I L : Type 0} → Calls E P → Calls I P → PairCalls L P → Type 0
 AnswersAreThoseOfTheCaps {P} {E} {I} {L} egress ingress link =
     (caps : Caps P) (first : States E I L) (flows : List (Flow P)) (answered : List (Answered P))
-    → AnswersBy egress caps.egress
-    → AnswersBy ingress caps.ingress
-    → PairAnswersBy link caps.link
+    → AnswerBy egress ingress link first flows caps
     → AnswerInOrder egress ingress link first flows answered
     → answered ≡ map (answered_under caps) flows
 
@@ -97,6 +103,12 @@ module _ {P : Type 0} (cmp : P → P → Ordering) where
   abbrev pub SidesAreOfTheCaps : Type 0
   SidesAreOfTheCaps = (caps : Caps P) (flows : List (Flow P)) (side : Side) → AreOfPeers caps → Contains (sides_under caps flows) side ↔ IsCappedSide caps flows side
 
+  -- what is answered for each id: the rate of the last flow that has it, where the rates are fair under the caps
+  pub record IsFairById (caps : Caps P) (flows : List (Flow P)) (rate_of : ℕ → Option Rate) : Type 0 where
+    pub rates : List Rate
+    pub fair : AreFairUnder caps flows rates
+    pub by_id : (id : ℕ) → rate_of id ≡ last_rate id flows rates
+
   -- ---- what follows for the rates
 
   -- a flow is unlimited exactly where it uses no capped side
@@ -109,17 +121,28 @@ module _ {P : Type 0} (cmp : P → P → Ordering) where
       → slice_get flows place ≡ Some flow
       → (slice_get rates place ≡ Some Unlimited) ↔ UsesNoCap caps flow
 
-  -- with distinct ids each flow has one rate in every order of the flows
+  -- with distinct ids that is so by id
+  abbrev pub UnlimitedByIdWhereUncapped : Type 0
+  UnlimitedByIdWhereUncapped =
+      (caps : Caps P) (flows : List (Flow P)) (rate_of : ℕ → Option Rate)
+      → AreOfPeers caps
+      → HaveDistinctIds flows
+      → IsFairById caps flows rate_of
+      → (flow : Flow P)
+      → Contains flows flow
+      → (rate_of flow.id ≡ Some Unlimited) ↔ UsesNoCap caps flow
+
+  -- with distinct ids each id has the same rate in every order of the flows
   abbrev pub OrderDoesNotMatter : Type 0
   OrderDoesNotMatter =
-      (caps : Caps P) (flows others : List (Flow P)) (rates other_rates : List Rate)
+      (caps : Caps P) (flows others : List (Flow P)) (rate_of other_rate_of : ℕ → Option Rate)
       → AreOfPeers caps
       → HaveDistinctIds flows
       → IsPermutation flows others
-      → AreFairUnder caps flows rates
-      → AreFairUnder caps others other_rates
+      → IsFairById caps flows rate_of
+      → IsFairById caps others other_rate_of
       → (id : ℕ)
-      → last_rate id others other_rates ≡ last_rate id flows rates
+      → other_rate_of id ≡ rate_of id
 
   -- the list has the peer, by the order
   abbrev pub is_among : List P → P → Bool
@@ -141,3 +164,16 @@ module _ {P : Type 0} (cmp : P → P → Ordering) where
       → HaveBothEndsOrNone peers flows
       → AreFairUnder caps flows rates
       → AreFairUnder caps (filter (is_of peers) flows) (kept (map (is_of peers) flows) rates)
+
+  -- with distinct ids each of them has the same rate without the others
+  abbrev pub OthersDoNotMatter : Type 0
+  OthersDoNotMatter =
+      (caps : Caps P) (peers : List P) (flows : List (Flow P)) (rate_of own_rate_of : ℕ → Option Rate)
+      → AreOfPeers caps
+      → HaveDistinctIds flows
+      → HaveBothEndsOrNone peers flows
+      → IsFairById caps flows rate_of
+      → IsFairById caps (filter (is_of peers) flows) own_rate_of
+      → (flow : Flow P)
+      → Contains (filter (is_of peers) flows) flow
+      → own_rate_of flow.id ≡ rate_of flow.id

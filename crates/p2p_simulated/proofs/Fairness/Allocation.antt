@@ -1,17 +1,17 @@
 -- What is allocated is the one max-min allocation.
-use Rattle.std.proofs.Common.{◌≡◌, ℕ, List, length, sym, ap, ◌∙◌, subst}
+use Rattle.std.proofs.Common.{ℕ, List, length, subst}
 use Rattle.std.specs.declared.cmp.Ordering.{Ordering}
-use Rattle.std.proofs.lemmas.List.{length-map}
 use Rattle.p2p_simulated.specs.declared.bandwidth.Rate.{Rate}
+use Rattle.p2p_simulated.specs.AllocationLaws.{AllocatesUnderCaps}
 use Rattle.p2p_simulated.specs.Answers.{Answered, Calls, PairCalls}
 use Rattle.p2p_simulated.specs.Fair.{Side}
 use Rattle.p2p_simulated.specs.FairLaws.{AreTheAllocation, HaveUsersBelow}
 use Rattle.p2p_simulated.specs.Rates.{AreFairRates}
 use Rattle.p2p_simulated.specs.Sides.{sides_of}
+use Rattle.p2p_simulated.proofs.Fairness.Answered.{answers_are_those_of_the_caps}
 use Rattle.p2p_simulated.proofs.Fairness.ClosedSides.{fair_rates_are_zero_where_closed}
 use Rattle.p2p_simulated.proofs.Fairness.MaxMin.{fair_rates_are_max_min}
 use Rattle.p2p_simulated.proofs.Fairness.OneAllocation.{one_allocation}
-use Rattle.p2p_simulated.proofs.Fairness.Users.{users_below}
 
 -- fair rates are the one max-min allocation, where the sides have users among the flows
 pub the_allocation : (sides : List Side) (flows : ℕ) (rates : List Rate) → HaveUsersBelow flows sides → AreFairRates sides flows rates → AreTheAllocation sides flows rates
@@ -20,3 +20,13 @@ the_allocation sides flows rates users f = record {
   max_min = fair_rates_are_max_min sides flows rates users f;
   zero = fair_rates_are_zero_where_closed sides flows rates f;
 }
+
+-- what closures that answer by caps have allocated is fair under the caps
+pub allocates_under_caps : {P E I L : Type 0} (cmp : P → P → Ordering) (egress : Calls E P) (ingress : Calls I P) (link : PairCalls L P) → AllocatesUnderCaps cmp egress ingress link
+allocates_under_caps {P} cmp egress ingress link caps first flows rate_of by a =
+    let answered = answers_are_those_of_the_caps egress ingress link caps first flows a.answered by a.in_order in
+    record {
+      rates = a.rates;
+      fair = subst (λ (bs : List (Answered P)). AreFairRates (sides_of cmp bs) (length flows) a.rates) answered a.fair;
+      by_id = a.by_id;
+    }

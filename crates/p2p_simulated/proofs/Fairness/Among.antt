@@ -14,7 +14,7 @@ use Rattle.p2p_simulated.specs.Fair.{Side, load, Uses, IsLimited, IsFair, HasBot
 use Rattle.p2p_simulated.specs.Rates.{IsRateOf}
 use Rattle.p2p_simulated.specs.Ratio.{IsWorth}
 use Rattle.p2p_simulated.specs.Sides.{Subject}
-use Rattle.p2p_simulated.specs.WorldMessages.{Caps}
+use Rattle.p2p_simulated.specs.Caps.{Caps}
 use Rattle.p2p_simulated.specs.PeerCaps.{cap_of, AreOfPeers, limits, places_from, sides_under, AreFairUnder, IsCappedSide}
 use Rattle.p2p_simulated.proofs.Fairness.Members.{In, in_map, in_get, get_in, in_right, in_either, in_from_contains, contains_from_in, some_or_none}
 use Rattle.p2p_simulated.proofs.Fairness.Sums.{All-from_contains}

@@ -9,7 +9,7 @@ use Rattle.std.specs.declared.cmp.Ordering.{Ordering}
 use Rattle.p2p_simulated.specs.declared.bandwidth.Flow.{Flow}
 use Rattle.p2p_simulated.specs.Fair.{Side}
 use Rattle.p2p_simulated.specs.Sides.{Subject, sent_by, received_by, sent_between, Ask, same_peer, same_subject, is_same, is_open, opened, sides_after, asks_from}
-use Rattle.p2p_simulated.specs.WorldMessages.{Caps}
+use Rattle.p2p_simulated.specs.Caps.{Caps}
 use Rattle.p2p_simulated.specs.PeerCaps.{cap_of, answered_under, AreOfPeers, limits, places_from, sides_under, IsCappedSide, SidesAreOfTheCaps}
 use Rattle.p2p_simulated.proofs.Subjects.{same_itself, same_symm, same_congr}
 use Rattle.p2p_simulated.proofs.Fairness.Members.{In, in_left, in_right, in_either, in_from_contains, contains_from_in, none_passes, any_fails}
@@ -99,7 +99,11 @@ module _ {P : Type 0} (cmp : P → P → Ordering) (order : IsTotalOrder cmp) (c
       by_same (is_same cmp a x) refl h (λ g. to_sides (x ∷ earlier) later a cap (one_more earlier x before (all x (inl refl))) (λ b among. all b (inr among)) g has)
     where
       head : is_same cmp a x ≡ true
-          → In (cond (is_open cmp earlier x) [] (opened cmp x later x.answer) ++ sides_after cmp (x ∷ earlier) later) (record { cap = cap; users = x.place ∷ map (λ b. b.place) (filter (is_same cmp a) later) })
+          → In (cond (is_open cmp earlier x) [] (opened cmp x later x.answer) ++ sides_after cmp (x ∷ earlier) later) (record {
+            cap = cap;
+            users =
+                x.place ∷ map (λ b. b.place) (filter (is_same cmp a) later);
+          })
       head e =
           let number : x.answer ≡ Some cap = all x (inl refl) ∙ sym (one_cap cmp order caps of a.subject x.subject e) ∙ sym (all a h) ∙ has in
           let closed : is_open cmp earlier x ≡ false = open_from earlier x (λ b among. sym (same_congr cmp order a.subject x.subject b.subject e) ∙ fresh b among) in

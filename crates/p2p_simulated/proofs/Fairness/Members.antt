@@ -1,7 +1,7 @@
 -- Members of lists, by recursion.
-use Rattle.std.proofs.Common.{◌≡◌, ℕ, zero, suc, ◌<◌, List, [], ◌∷◌, ◌++◌, map, length, Bool, true, false, cond, Some, refl, ap, subst, arith, ◌⊎◌, inl, inr, Contains}
+use Rattle.std.proofs.Common.{◌≡◌, ℕ, zero, suc, ◌<◌, List, [], ◌∷◌, ◌++◌, map, length, Bool, true, false, cond, Some, refl, sym, ap, subst, arith, ◌⊎◌, inl, inr, Contains}
 use Rattle.std.specs.Prelude.{slice_get}
-use Rattle.std.specs.List.{filter, list_any}
+use Rattle.std.specs.List.{filter, flat_map, list_any}
 use Rattle.std.proofs.lemmas.Bool.{or_parts, or_from}
 
 abbrev pub In : {X : Type 0} → List X → X → Type 0
@@ -108,3 +108,16 @@ pub get_from_map : {X Y : Type 0} (f : X → Y) (xs : List X) (i : ℕ) (y : Y) 
 get_from_map f [] i y e = cc
 get_from_map f (x ∷ xs) zero y e = (x, refl, cc)
 get_from_map f (x ∷ xs) (suc i) y e = get_from_map f xs i y e
+
+pub in_flat_map : {X Y : Type 0} (f : X → List Y) (xs : List X) (x : X) (y : Y) → In xs x → In (f x) y → In (flat_map f xs) y
+in_flat_map f [] x y h g = absurd h
+in_flat_map {X} {Y} f (z ∷ zs) x y (inl e) g = in_left (f z) (flat_map f zs) y (subst (λ (w : X). In (f w) y) (sym e) g)
+in_flat_map f (z ∷ zs) x y (inr h) g = in_right (f z) (flat_map f zs) y (in_flat_map f zs x y h g)
+
+pub from_flat_map : {X Y : Type 0} (f : X → List Y) (xs : List X) (y : Y) → In (flat_map f xs) y → (x : X) × In xs x × In (f x) y
+from_flat_map f [] y h = absurd h
+from_flat_map {X} {Y} f (z ∷ zs) y h = by_part (in_either (f z) (flat_map f zs) y h) (λ g. from_flat_map f zs y g)
+  where
+    by_part : In (f z) y ⊎ In (flat_map f zs) y → (In (flat_map f zs) y → (x : X) × In zs x × In (f x) y) → (x : X) × In (z ∷ zs) x × In (f x) y
+    by_part (inl g) ih = (z, inl refl, g)
+    by_part (inr g) ih = let r : (x : X) × In zs x × In (f x) y = ih g in (r.0, inr r.1, r.2)

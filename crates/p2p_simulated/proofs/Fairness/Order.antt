@@ -12,8 +12,8 @@ use Rattle.p2p_simulated.specs.declared.bandwidth.Flow.{Flow}
 use Rattle.p2p_simulated.specs.declared.bandwidth.Rate.{Rate}
 use Rattle.p2p_simulated.specs.Sides.{Subject}
 use Rattle.p2p_simulated.specs.Rates.{last_rate}
-use Rattle.p2p_simulated.specs.WorldMessages.{Caps}
-use Rattle.p2p_simulated.specs.PeerCaps.{limits, sides_under, AreFairUnder, OrderDoesNotMatter}
+use Rattle.p2p_simulated.specs.Caps.{Caps}
+use Rattle.p2p_simulated.specs.PeerCaps.{AreOfPeers, limits, sides_under, AreFairUnder, HaveDistinctIds, OrderDoesNotMatter}
 use Rattle.p2p_simulated.proofs.Fairness.Members.{In, in_from_contains, contains_from_in, some_or_none}
 use Rattle.p2p_simulated.proofs.Fairness.OneAllocation.{one_allocation}
 use Rattle.p2p_simulated.proofs.Fairness.Among.{Allotted, flows_of, rates_of, total, AreFairAmong, among_from, under_from}
@@ -112,8 +112,10 @@ module _ {P : Type 0} (cmp : P → P → Ordering) (caps : Caps P) where
       back : (x : Allotted P) → In ys x → In xs x
       back x h = in_permuted ys xs x (IsPermutation-sym xs ys p) h
 
-pub order_does_not_matter : {P : Type 0} (cmp : P → P → Ordering) → IsTotalOrder cmp → OrderDoesNotMatter cmp
-order_does_not_matter {P} cmp order caps flows others rates other_rates of distinct p fair other_fair id =
+pub same_last_rate : {P : Type 0} (cmp : P → P → Ordering) → IsTotalOrder cmp → (caps : Caps P) (flows others : List (Flow P)) (rates other_rates : List Rate)
+    → AreOfPeers cmp caps → HaveDistinctIds flows → IsPermutation flows others → AreFairUnder cmp caps flows rates → AreFairUnder cmp caps others other_rates
+    → (id : ℕ) → last_rate id others other_rates ≡ last_rate id flows rates
+same_last_rate {P} cmp order caps flows others rates other_rates of distinct p fair other_fair id =
     let s = among_from cmp caps order of flows rates fair in
     let l = lift (λ (x : Allotted P). x.flow) s.all others (subst (λ (fs : List (Flow P)). IsPermutation fs others) (sym s.flows_are) p) in
     let whole = under_from cmp caps order of s.per l.all (permuted_among cmp caps s.per s.all l.all l.permuted s.fair) in
@@ -125,3 +127,7 @@ order_does_not_matter {P} cmp order caps flows others rates other_rates of disti
     ap₂ (λ (fs : List (Flow P)) (rs : List Rate). last_rate id fs rs) (sym l.are) one
     ∙ same_rate id s.all l.all l.permuted few few'
     ∙ ap₂ (λ (fs : List (Flow P)) (rs : List Rate). last_rate id fs rs) s.flows_are s.rates_are
+
+pub order_does_not_matter : {P : Type 0} (cmp : P → P → Ordering) → IsTotalOrder cmp → OrderDoesNotMatter cmp
+order_does_not_matter cmp order caps flows others m n of distinct p a b id =
+    b.by_id id ∙ same_last_rate cmp order caps flows others a.rates b.rates of distinct p a.fair b.fair id ∙ sym (a.by_id id)

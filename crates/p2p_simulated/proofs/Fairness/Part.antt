@@ -11,7 +11,7 @@ use Rattle.p2p_simulated.specs.declared.bandwidth.Flow.{Flow}
 use Rattle.p2p_simulated.specs.declared.bandwidth.Rate.{Rate}
 use Rattle.p2p_simulated.specs.FairPart.{kept}
 use Rattle.p2p_simulated.specs.Sides.{Subject, sent_by, received_by, sent_between, same_peer}
-use Rattle.p2p_simulated.specs.WorldMessages.{Caps}
+use Rattle.p2p_simulated.specs.Caps.{Caps}
 use Rattle.p2p_simulated.specs.PeerCaps.{limits, is_among, is_of, HaveBothEndsOrNone, AreFairUnder, PartIsFair}
 use Rattle.p2p_simulated.proofs.Fairness.Members.{In, in_map, from_filter, contains_from_in}
 use Rattle.p2p_simulated.proofs.Fairness.Among.{Allotted, flows_of, rates_of, total, total-cons, AreFairAmong, among_from, under_from}

@@ -9,7 +9,7 @@ use Rattle.p2p_simulated.specs.declared.bandwidth.Flow.{Flow}
 use Rattle.p2p_simulated.specs.declared.bandwidth.Rate.{Rate}
 use Rattle.p2p_simulated.specs.declared.bandwidth.Rate.TheVariants.{Unlimited, Finite}
 use Rattle.p2p_simulated.specs.Sides.{Subject, sent_by, received_by, sent_between, same_peer}
-use Rattle.p2p_simulated.specs.WorldMessages.{Caps}
+use Rattle.p2p_simulated.specs.Caps.{Caps}
 use Rattle.p2p_simulated.specs.PeerCaps.{cap_of, AreOfPeers, UsesNoCap, limits, UnlimitedWhereUncapped}
 use Rattle.p2p_simulated.proofs.Subjects.{same_itself}
 use Rattle.p2p_simulated.proofs.Fairness.Members.{in_get, get_from_map}

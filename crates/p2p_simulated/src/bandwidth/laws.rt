@@ -5,12 +5,12 @@
 //! `IsAllocation` of the whole answer. Where a law has a clause `plain` and a clause `linked`, the
 //! one is about `allocate` and the other about `allocate_linked`.
 ghost use Rattle.std.specs.Fn.{CalledAt, CalledAtTwo};
-ghost use Rattle.p2p_simulated.specs.AllocationLaws.{AllocatesUnderCaps, UnlimitedWithoutCaps, SameInEveryOrder, SameWithoutTheOthers};
+ghost use Rattle.p2p_simulated.specs.AllocationLaws.{AllocatesUnderCaps};
 ghost use Rattle.p2p_simulated.specs.Answers.{NoLink};
 ghost use Rattle.p2p_simulated.specs.FairExample.{HalfExists, HalvesAreFair, LessIsUnfair, MoreIsUnfair, NoLimitIsUnfair, LimitIsUnfair};
 ghost use Rattle.p2p_simulated.specs.FairLaws.{FairIsMaxMin, FairRatesAreMaxMin, OneAllocation, FairRatesAreZeroWhereClosed, FairnessIsOfTheSet};
 ghost use Rattle.p2p_simulated.specs.FairPart.{FlowsApartAreFair};
-ghost use Rattle.p2p_simulated.specs.PeerCaps.{AnswersAreThoseOfTheCaps, SidesAreOfTheCaps, UnlimitedWhereUncapped, OrderDoesNotMatter, PartIsFair};
+ghost use Rattle.p2p_simulated.specs.PeerCaps.{AnswersAreThoseOfTheCaps, SidesAreOfTheCaps, UnlimitedWhereUncapped, UnlimitedByIdWhereUncapped, OrderDoesNotMatter, PartIsFair, OthersDoNotMatter};
 
 use crate::peer::Peer;
 
@@ -66,14 +66,8 @@ where
         (CalledAt E.FnMut) (CalledAt I.FnMut) (CalledAtTwo L.FnMut) }
 {}
 
-/// Caps by peer make a side for each subject that has a cap and a flow to limit, and its users are
-/// all flows that it limits.
-pub fn sides_are_of_the_caps<P: Peer>()
-    ensures { SidesAreOfTheCaps P.cmp }
-{}
-
-/// Closures that answer by caps of the peers allocate rates that are fair under these caps.
-pub fn rates_are_fair_under_the_caps<P, E, I, L>()
+/// Closures that answer by caps of the peers allocate what is fair under these caps.
+pub fn what_is_allocated_is_fair_under_the_caps<P, E, I, L>()
 where
     P: Peer,
     E: FnMut(&P) -> Option<u128>,
@@ -85,46 +79,28 @@ where
         (CalledAt E.FnMut) (CalledAt I.FnMut) (CalledAtTwo L.FnMut) }
 {}
 
+/// Caps by peer make a side for each subject that has a cap and a flow to limit, and its users are
+/// all flows that it limits.
+pub fn sides_are_of_the_caps<P: Peer>()
+    ensures { SidesAreOfTheCaps P.cmp }
+{}
+
 /// Under caps by peer a flow is unlimited exactly where it uses no capped side: by place, and with
 /// distinct ids by id.
-pub fn a_flow_without_caps_is_unlimited<P, E, I, L>()
-where
-    P: Peer,
-    E: FnMut(&P) -> Option<u128>,
-    I: FnMut(&P) -> Option<u128>,
-    L: FnMut(&P, &P) -> Option<u128>,
-    ensures rates { UnlimitedWhereUncapped P.cmp }
-    ensures plain { UnlimitedWithoutCaps P.cmp
-        (CalledAt E.FnMut) (CalledAt I.FnMut) (NoLink {P = P}) }
-    ensures linked { UnlimitedWithoutCaps P.cmp
-        (CalledAt E.FnMut) (CalledAt I.FnMut) (CalledAtTwo L.FnMut) }
+pub fn a_flow_without_caps_is_unlimited<P: Peer>()
+    ensures by_place { UnlimitedWhereUncapped P.cmp }
+    ensures by_id { UnlimitedByIdWhereUncapped P.cmp }
 {}
 
 /// Under caps by peer, with distinct ids, each flow has the same rate in every order of the flows.
-pub fn the_order_of_flows_does_not_matter<P, E, I, L>()
-where
-    P: Peer,
-    E: FnMut(&P) -> Option<u128>,
-    I: FnMut(&P) -> Option<u128>,
-    L: FnMut(&P, &P) -> Option<u128>,
-    ensures rates { OrderDoesNotMatter P.cmp }
-    ensures plain { SameInEveryOrder P.cmp (CalledAt E.FnMut) (CalledAt I.FnMut) (NoLink {P = P}) }
-    ensures linked { SameInEveryOrder P.cmp
-        (CalledAt E.FnMut) (CalledAt I.FnMut) (CalledAtTwo L.FnMut) }
+pub fn the_order_of_flows_does_not_matter<P: Peer>()
+    ensures { OrderDoesNotMatter P.cmp }
 {}
 
 /// Under caps by peer, where each flow has both ends in a set of peers or neither, the fair rates
-/// of the set's flows are fair for these flows alone; and with distinct ids they are what is
-/// allocated for these flows alone.
-pub fn a_part_is_fair_alone<P, E, I, L>()
-where
-    P: Peer,
-    E: FnMut(&P) -> Option<u128>,
-    I: FnMut(&P) -> Option<u128>,
-    L: FnMut(&P, &P) -> Option<u128>,
-    ensures rates { PartIsFair P.cmp }
-    ensures plain { SameWithoutTheOthers P.cmp
-        (CalledAt E.FnMut) (CalledAt I.FnMut) (NoLink {P = P}) }
-    ensures linked { SameWithoutTheOthers P.cmp
-        (CalledAt E.FnMut) (CalledAt I.FnMut) (CalledAtTwo L.FnMut) }
+/// of the set's flows are fair for these flows alone; so with distinct ids they have the same rates
+/// without the other flows.
+pub fn a_part_is_fair_alone<P: Peer>()
+    ensures by_place { PartIsFair P.cmp }
+    ensures by_id { OthersDoNotMatter P.cmp }
 {}
