@@ -39,3 +39,5 @@ pub mod Sift
 pub mod Isolated
 pub mod IsolatedTime
 pub mod IsolatedCalls
+pub mod Wholes
+pub mod Bounded

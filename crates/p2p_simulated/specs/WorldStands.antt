@@ -4,6 +4,7 @@ use Rattle.std.specs.Prelude.{◌≡◌, ℕ, ◌+◌, ◌*◌, ◌<◌, ◌≤�
 use Rattle.std.specs.List.{filter, list_any, AllZip}
 use Rattle.std.specs.declared.cmp.Ordering.{Ordering}
 use Rattle.p2p_simulated.specs.Amount.{Amount, billion}
+use Rattle.p2p_simulated.specs.Fraction.{IsReduced}
 use Rattle.p2p_simulated.specs.WorldMessages.{Message, SameMessage, same_pair, CapsAlike, PairsAlike, OneForEachPair}
 use Rattle.p2p_simulated.specs.WorldRates.{IsLowest}
 use Rattle.p2p_simulated.specs.World.{World, Flight, Completed, Course, goes, meets, flows, is_done, IsQuiet}
@@ -79,9 +80,10 @@ module _ {P : Type 0} (cmp : P → P → Ordering) where
   abbrev pub IsNamed : List (P × P) → Message P → Type 0
   IsNamed pairs m = names_pair cmp pairs m.origin m.recipient ≡ true
 
-  -- a message in flight in the range
+  -- a message in flight in the range, what is left of it in lowest terms
   pub record IsSmallFlight (pairs : List (P × P)) (f : Paced P) : Type 0 where
     pub named : IsNamed pairs f.message
+    pub lowest : IsReduced f.left.num f.left.den
     pub left : IsSmallAmount f.left
     pub updated : f.updated < 2 ^ 56
     pub latency : f.message.latency < 2 ^ 56
