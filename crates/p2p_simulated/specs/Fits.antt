@@ -19,6 +19,7 @@ raised a b = a.num * (b.den / gcd a.den b.den)
 abbrev pub other_raised : Amount → Amount → ℕ
 other_raised a b = b.num * (a.den / gcd a.den b.den)
 
+-- the least common denominator
 abbrev pub least_common : Amount → Amount → ℕ
 least_common a b = a.den / gcd a.den b.den * b.den
 
@@ -28,17 +29,17 @@ pub record CommonFits (a b : Amount) : Type 0 where
   pub second : other_raised a b < 2 ^ 128
   pub denominator : least_common a b < 2 ^ 128
 
--- so is the sum of the numerators
+-- these fit, and so does the sum of the numerators
 pub record SumFits (a b : Amount) : Type 0 where
   pub common : CommonFits a b
   pub sum : raised a b + other_raised a b < 2 ^ 128
 
--- the second amount is no greater
+-- these fit, and the second amount is no greater
 pub record DifferenceFits (a b : Amount) : Type 0 where
   pub common : CommonFits a b
   pub no_greater : b.num * a.den ≤ a.num * b.den
 
--- these are the numerators and the denominator
+-- these numbers are the two numerators and the denominator
 pub record AreOverCommon (a b : Amount) (first second denominator : ℕ) : Type 0 where
   pub first_is : first ≡ raised a b
   pub second_is : second ≡ other_raised a b

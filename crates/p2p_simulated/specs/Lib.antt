@@ -16,6 +16,7 @@ pub mod Laws
 pub mod Lines
 pub mod Outcome
 pub mod PeerCaps
+pub mod RateValue
 pub mod Rates
 pub mod Ratio
 pub mod Registering

@@ -1,6 +1,6 @@
 //! When two rates are equal.
 ghost use Rattle.std.specs.Prelude.{◌↔◌, IsTrue};
-ghost use Rattle.p2p_simulated.specs.Time.{HaveOneValue};
+ghost use Rattle.p2p_simulated.specs.RateValue.{HaveOneValue};
 ghost use Rattle.p2p_simulated.specs.declared.bandwidth.Rate.{Rate as AnyRate};
 
 use crate::bandwidth::Rate;
