@@ -1,7 +1,7 @@
 # `rt` is the command of the Rattle kit.
 script = examples/two_flows.link
 
-.PHONY: run test clean
+.PHONY: run test bench clean
 
 # Proves the library and the program, builds the program as bin/linkrun, and runs it on a script.
 run: bin/linkrun
@@ -15,6 +15,10 @@ bin/linkrun: FORCE
 # The gate: every proof from nothing, the edits that must fail, the tests and the program.
 test:
 	rt ci
+
+# Times of one allocation, by the number of flows.
+bench: bin/linkrun
+	python3 bench/allocations.py bin/linkrun
 
 clean:
 	rm -rf bin crates/*/out
