@@ -13,3 +13,6 @@ pub mod Level
 pub mod Agreement
 pub mod Shares
 pub mod Queue
+pub mod Course
+pub mod Levels
+pub mod Steps

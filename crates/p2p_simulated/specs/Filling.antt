@@ -1,7 +1,7 @@
 -- Filling: the flows rise together, and the users of a side that is full stay where they are.
 use Rattle.std.specs.Prelude.{◌≡◌, ◌≢◌, ℕ, ◌⊎◌, ◌==◌, Bool, ◌-◌, ◌*◌, ◌<◌, ◌≤◌, ◌^◌, List, ◌++◌, All, Contains, length, sum_by, count_by, IsPermutation, Option, Some, None, IsSome, slice_index_or, unwrap_or, option_map}
 use Rattle.std.specs.BinaryHeap.{IsHeap}
-use Rattle.p2p_simulated.specs.Fair.{Side, load, IsWithinCaps}
+use Rattle.p2p_simulated.specs.Fair.{Side, load, IsWithinCaps, IsFair}
 use Rattle.p2p_simulated.specs.Ratio.{IsWorth}
 use Rattle.p2p_simulated.specs.declared.bandwidth.Rate.{Rate}
 use Rattle.p2p_simulated.specs.declared.bandwidth.Rate.TheVariants.{Unlimited, Finite}
@@ -128,6 +128,12 @@ pub record IsNext (sides : List Side) (rates : List (Option Ratio)) (open_sides 
 abbrev pub AllFilled : List Side → List (Option Ratio) → Type 0
 AllFilled sides rates = (k : ℕ) (d : Side) → k < length sides → AllFrozen rates (slice_index_or sides k d).users
 
+-- the open sides keep account of the sides, and none of the users that are not counted is frozen
+pub record IsStart (sides : List Side) (rates : List (Option Ratio)) (open_sides : List OpenSide) : Type 0 where
+  pub one_each : length open_sides ≡ length sides
+  pub accounts : (k : ℕ) (d : Side) (e : OpenSide) → k < length sides → KeepsAccount (slice_index_or sides k d) rates (slice_index_or open_sides k e)
+  pub rise : (k : ℕ) (e : OpenSide) → k < length sides → AllRise rates (slice_index_or open_sides k e).rising.items
+
 -- the users are flows, the shares are of sides, and the least is on top
 pub record IsSound (flows : ℕ) (open_sides : List OpenSide) (shares : List (Reverse Share)) : Type 0 where
   pub users : All (λ side. All (λ flow. flow < flows) side.rising.items) open_sides
@@ -141,3 +147,7 @@ whole_side open_side = record { cap = open_side.cap; users = open_side.rising.it
 -- whatever the rates are parts of, and whatever amounts within the caps they belong to, some numbers do not fit
 abbrev pub CannotFill : List Side → List (Option Ratio) → Type 0
 CannotFill sides rates = (per : ℕ) (parts : ℕ → ℕ) → AreWorth rates per parts → IsWithinCaps sides per parts → ¬ All (λ side. Fits side per) sides
+
+-- no fair allocation of the sides has all its numbers fit
+abbrev pub NoFairFits : List Side → Type 0
+NoFairFits sides = (per : ℕ) (parts : ℕ → ℕ) → IsFair sides per parts → ¬ All (λ side. Fits side per) sides

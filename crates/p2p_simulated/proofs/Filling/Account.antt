@@ -1,8 +1,8 @@
 -- How an open side keeps account of a side.
-use Rattle.std.proofs.Common.{◌≡◌, ◌≢◌, ℕ, ◌+◌, ◌-◌, ◌*◌, ◌^◌, ◌<◌, ◌≤◌, inl, inr, List, [], ◌∷◌, ◌++◌, length, get_or, map, All, Contains, sum_by, Option, Some, None, IsSome, IsNone, length-append, mul-le-mul_left, refl, sym, ap, subst, ◌∙◌, arith}
+use Rattle.std.proofs.Common.{◌≡◌, ℕ, ◌+◌, ◌-◌, ◌*◌, ◌<◌, ◌≤◌, List, [], ◌∷◌, ◌++◌, length, get_or, All, sum_by, Option, Some, IsSome, length-append, mul-le-mul_left, refl, sym, ap, subst, ◌∙◌, arith}
 use Rattle.std.specs.Prelude.{IsPermutation, swap_remove}
 use Rattle.std.proofs.lemmas.List.Elements.{All-nil, All-push, All-tail}
-use Rattle.std.proofs.lemmas.List.Sorted.{IsPermutation-refl, IsPermutation-sym, IsPermutation-pop_more, IsPermutation-swap_remove, All-permutation, sum_by-IsPermutation, length_permutation}
+use Rattle.std.proofs.lemmas.List.Sorted.{IsPermutation-refl, IsPermutation-pop_more, IsPermutation-swap_remove, All-permutation, sum_by-IsPermutation, length_permutation}
 use Rattle.std.proofs.lemmas.List.Sums.{sum_by-append, sum_by-cons, get_or-le-sum_by}
 use Rattle.p2p_simulated.specs.Amount.{Amount, AreEqual, whole, plus, minus, over}
 use Rattle.p2p_simulated.specs.Fair.{Side, load}

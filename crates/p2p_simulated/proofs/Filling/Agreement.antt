@@ -1,10 +1,9 @@
 -- Filling freezes each flow at its rate in every fair allocation.
-use Rattle.std.proofs.Common.{◌≡◌, ℕ, ◌*◌, ◌<◌, ◌≤◌, inl, inr, List, All, Contains, Option, Some, None, IsSome, refl, sym, ap, subst, arith}
-use Rattle.std.proofs.Math.Nat.{eq_of_mul-eq-mul_right}
+use Rattle.std.proofs.Common.{◌≡◌, ℕ, ◌*◌, ◌≤◌, inl, inr, List, Contains, Option, None, sym, subst, arith}
 use Rattle.std.proofs.lemmas.Bool.{cases_lt}
 use Rattle.std.proofs.lemmas.List.Elements.{All-contains}
 use Rattle.p2p_simulated.specs.Fair.{Side, load, Uses, IsLimited, IsWithinCaps, IsFair}
-use Rattle.p2p_simulated.specs.Filling.{rate_at, AreWorth, FreezesAll, AllFrozen}
+use Rattle.p2p_simulated.specs.Filling.{rate_at, AreWorth, FreezesAll}
 use Rattle.p2p_simulated.specs.Ratio.{IsWorth}
 use Rattle.p2p_simulated.specs.declared.ratio.Ratio.{Ratio}
 use Rattle.p2p_simulated.proofs.Filling.Frozen.{none_or_some, some_is}

@@ -1,5 +1,5 @@
 -- What a frozen flow has, and what one that rises.
-use Rattle.std.proofs.Common.{◌≡◌, ℕ, ◌⊎◌, inl, inr, Option, Some, None, IsSome, refl, arith, sym, ap, subst, ◌∙◌}
+use Rattle.std.proofs.Common.{◌≡◌, ℕ, List, length, ◌⊎◌, inl, inr, Option, Some, None, IsSome, refl, arith, sym, ap, subst, ◌∙◌}
 use Rattle.std.specs.Option.{ok_or}
 use Rattle.std.specs.Bool.{MatchBool}
 use Rattle.std.specs.Prelude.{Bool, true, false, OnSome, Result, Ok, Err, IfErr, IsErrAnd, unwrap_or, IfSome, IfNone, MatchOption, replicate}
@@ -101,3 +101,6 @@ match_true P Q false e h = cc
 pub match_false : (P Q : Type 0) (b : Bool) → b ≡ false → MatchBool b P Q → Q
 match_false P Q true e h = cc
 match_false P Q false e h = h
+
+pub none_rated : (rates : List (Option Ratio)) → rates ≡ replicate (length rates) None → (flow : ℕ) → rate_at rates flow ≡ None
+none_rated rates none flow = ap (λ xs. rate_at xs flow) none ∙ rate_at-replicate (length rates) flow

@@ -1,5 +1,5 @@
 -- A round: the users of a side freeze at a rate that fills it, and for which there is room on every side.
-use Rattle.std.proofs.Common.{◌≡◌, ℕ, zero, suc, ◌*◌, ◌<◌, ◌≤◌, ◌⊎◌, inl, inr, List, All, Contains, Option, Some, None, IsSome, is_none, refl, sym, ap, ◌∙◌, subst, arith}
+use Rattle.std.proofs.Common.{◌≡◌, ℕ, ◌*◌, ◌<◌, ◌≤◌, ◌⊎◌, inl, inr, List, Contains, Option, Some, None, IsSome, refl, sym, ap, ◌∙◌, subst, arith}
 use Rattle.std.specs.Prelude.{option_map, unwrap_or}
 use Rattle.std.proofs.Math.Nat.{eq_of_mul-eq-mul_right}
 use Rattle.std.proofs.lemmas.Bool.{cases_lt}
@@ -10,7 +10,6 @@ use Rattle.p2p_simulated.specs.Ratio.{IsWorth}
 use Rattle.p2p_simulated.specs.declared.ratio.Ratio.{Ratio}
 use Rattle.p2p_simulated.proofs.Filling.Frozen.{some_value, some_is}
 use Rattle.p2p_simulated.proofs.Filling.Rounds.{start, next}
-use Rattle.p2p_simulated.proofs.Filling.Scaling.{load_lower, room_lower}
 use Rattle.p2p_simulated.proofs.Filling.States.{at_level, parts_at, IsFilledTo, IsNextRound, IsFilling, FillsAt}
 use Rattle.p2p_simulated.proofs.Filling.Sums.{All-by_contains, sum_by_same, sum_by_under}
 

@@ -1,18 +1,18 @@
 -- The queue of shares, as the least is taken out and another put in.
-use Rattle.std.proofs.Common.{◌≡◌, ◌≢◌, ℕ, zero, suc, ◌+◌, ◌*◌, ◌<◌, ◌≤◌, ◌⊎◌, inl, inr, Bool, true, false, cond, eqb, List, [], ◌∷◌, length, get_or, set, All, Contains, sum_by, count_by, Option, Some, None, IsSome, IfSome, MatchOption, refl, sym, ap, ◌∙◌, subst, arith, length-set, get_or-set_other, get_or-set_same, le_of_mul-le-mul_right, mul-le-mul_right}
+use Rattle.std.proofs.Common.{◌≡◌, ◌≢◌, ℕ, ◌+◌, ◌<◌, ◌≤◌, inl, inr, Bool, true, false, cond, List, [], ◌∷◌, length, get_or, set, All, Contains, sum_by, count_by, Option, refl, sym, ap, ◌∙◌, subst, arith, length-set, get_or-set_other, get_or-set_same, le_of_mul-le-mul_right, mul-le-mul_right}
 use Rattle.std.specs.Prelude.{IsPermutation}
 use Rattle.std.specs.BinaryHeap.{IsUpperBound, IsHeap}
-use Rattle.std.specs.declared.cmp.Ordering.TheVariants.{Less, Equal, Greater}
+use Rattle.std.specs.declared.cmp.Ordering.TheVariants.{Less}
 use Rattle.std.specs.declared.cmp.Ordering.{Ordering}
 use Rattle.std.specs.declared.cmp.Reverse.{Reverse}
 use Rattle.std.specs.Cmp.{nat_cmp_is}
 use Rattle.std.specs.Ordering.{nat_cmp, ordering_then, is_lt}
-use Rattle.std.proofs.lemmas.Bool.{cases_eq, cases_lt, eqb-false, eqb-true, eq-eqb}
+use Rattle.std.proofs.lemmas.Bool.{cases_eq, cases_lt, eqb-true, eq-eqb}
 use Rattle.std.proofs.lemmas.List.Elements.{All-head, All-tail, All-cons, All-from_recursion, All-weaker, All-set, Contains-get_or}
 use Rattle.std.proofs.lemmas.List.Sums.{count_by-le-length}
 use Rattle.std.proofs.lemmas.List.Sorted.{All-permutation, sum_by_popped, sum_by_pushed}
 use Rattle.p2p_simulated.specs.Fair.{Side}
-use Rattle.p2p_simulated.specs.Filling.{rate_at, AreWorth, AllRise, AllFrozen, KeepsAccount, IsShareOf, IsUnchanged, HasRoomAt, queue_cmp, IsNoGreater, is_at, IsShare, AreShares, IsCovered, IsQueue, IsNext, IsSound, CannotFit, CannotFill, AllFilled}
+use Rattle.p2p_simulated.specs.Filling.{AllRise, KeepsAccount, IsShareOf, IsUnchanged, queue_cmp, IsNoGreater, is_at, IsShare, AreShares, IsCovered, IsQueue, IsNext, IsStart, IsSound, CannotFit, CannotFill, AllFilled}
 use Rattle.p2p_simulated.specs.declared.bandwidth.filling.open.OpenSide.{OpenSide}
 use Rattle.p2p_simulated.specs.declared.bandwidth.filling.Share.{Share}
 use Rattle.p2p_simulated.specs.declared.ratio.Ratio.{Ratio}
@@ -234,11 +234,14 @@ sound_pushed flows opens rest shares x sound inside perm order = record {
 }
 
 -- where the numbers about one side do not fit, those about all do not
-pub cannot_fill : (sides : List Side) (rates : List (Option Ratio)) (opens : List OpenSide) (shares : List (Reverse Share)) → IsQueue sides rates opens shares → (place : ℕ) (e : OpenSide) → place < length opens → CannotFit rates (get_or opens place e) → CannotFill sides rates
-cannot_fill sides rates opens shares queue place e inside cannot per parts w within fits =
+one_cannot : (sides : List Side) (rates : List (Option Ratio)) (opens : List OpenSide) → length opens ≡ length sides → ((k : ℕ) (d : Side) (e : OpenSide) → k < length sides → KeepsAccount (get_or sides k d) rates (get_or opens k e)) → (place : ℕ) (e : OpenSide) → place < length opens → CannotFit rates (get_or opens place e) → CannotFill sides rates
+one_cannot sides rates opens one_each accounts place e inside cannot per parts w within fits =
     let d : Side = record { cap = 0; users = [] } in
-    let here : place < length sides = omega (arith, queue.are.one_each) in
-    cannot (get_or sides place d) per parts (queue.are.accounts place d e here) w (within place d here) (fits place d here)
+    let here : place < length sides = omega (arith, one_each) in
+    cannot (get_or sides place d) per parts (accounts place d e here) w (within place d here) (fits place d here)
+
+pub cannot_fill : (sides : List Side) (rates : List (Option Ratio)) (opens : List OpenSide) (shares : List (Reverse Share)) → IsQueue sides rates opens shares → (place : ℕ) (e : OpenSide) → place < length opens → CannotFit rates (get_or opens place e) → CannotFill sides rates
+cannot_fill sides rates opens shares queue = one_cannot sides rates opens queue.are.one_each queue.are.accounts
 
 -- no share is left: all users are frozen
 pub all_filled : (sides : List Side) (rates : List (Option Ratio)) (opens : List OpenSide) (shares : List (Reverse Share)) → IsQueue sides rates opens shares → length shares ≡ 0 → AllFilled sides rates
@@ -246,3 +249,6 @@ all_filled sides rates opens shares queue none k d inside = elim (queue.covered 
   | inl all ↦ all
   | inr some ↦ absurd (omega (arith, some, count_by-le-length (is_at k) shares))
 ]
+
+pub cannot_start : (sides : List Side) (rates : List (Option Ratio)) (opens : List OpenSide) → IsStart sides rates opens → (place : ℕ) (e : OpenSide) → place < length opens → CannotFit rates (get_or opens place e) → CannotFill sides rates
+cannot_start sides rates opens start = one_cannot sides rates opens start.one_each start.accounts

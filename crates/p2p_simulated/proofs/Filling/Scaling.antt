@@ -1,9 +1,9 @@
 -- From one common denominator to a finer one.
-use Rattle.std.proofs.Common.{◌≡◌, ℕ, ◌*◌, ◌<◌, ◌≤◌, List, All, Contains, Option, Some, None, refl, ap, arith, le_of_mul-le-mul_right, mul-le-mul_right}
+use Rattle.std.proofs.Common.{◌≡◌, ℕ, ◌*◌, ◌<◌, ◌≤◌, List, Option, Some, None, refl, ap, arith, le_of_mul-le-mul_right, mul-le-mul_right}
 use Rattle.std.specs.Prelude.{unwrap_or, option_map}
 use Rattle.std.proofs.Math.Nat.{mul-pos}
 use Rattle.std.proofs.lemmas.List.Elements.{All-contains}
-use Rattle.p2p_simulated.specs.Fair.{Side, load, IsWithinCaps, IsFair}
+use Rattle.p2p_simulated.specs.Fair.{Side, load, IsFair}
 use Rattle.p2p_simulated.specs.Filling.{rate_at, AreWorth, HasRoomAt}
 use Rattle.p2p_simulated.specs.Ratio.{IsWorth}
 use Rattle.p2p_simulated.specs.declared.ratio.Ratio.{Ratio}

@@ -1,9 +1,8 @@
 -- The share of an open side fills the side, and as flows freeze below it there stays room.
-use Rattle.std.proofs.Common.{◌≡◌, ℕ, ◌+◌, ◌-◌, ◌*◌, ◌<◌, ◌≤◌, inl, inr, List, [], ◌∷◌, ◌++◌, length, All, Contains, sum_by, Option, Some, None, IsSome, refl, sym, ap, ◌∙◌, subst, arith}
-use Rattle.std.specs.Prelude.{option_map, unwrap_or, IsPermutation}
+use Rattle.std.proofs.Common.{◌≡◌, ℕ, ◌+◌, ◌-◌, ◌*◌, ◌≤◌, inl, inr, List, [], ◌∷◌, ◌++◌, length, All, Contains, sum_by, Option, None, IsSome, ap, ◌∙◌, subst, arith}
 use Rattle.std.proofs.Math.Nat.{mul-pos}
 use Rattle.std.proofs.lemmas.Bool.{cases_lt}
-use Rattle.std.proofs.lemmas.List.Elements.{All-append, All-contains, Contains-append_right}
+use Rattle.std.proofs.lemmas.List.Elements.{All-append, Contains-append_right}
 use Rattle.std.proofs.lemmas.List.Sorted.{All-permutation, Contains-permutation, IsPermutation-sym, sum_by-IsPermutation}
 use Rattle.std.proofs.lemmas.List.Sums.{sum_by-append, sum_by-cons}
 use Rattle.p2p_simulated.specs.Fair.{Side, load}
@@ -17,7 +16,7 @@ use Rattle.p2p_simulated.proofs.Filling.Frozen.{none_or_some, some_is, some_valu
 use Rattle.p2p_simulated.proofs.Filling.Level.{level_of_none, level_of_some}
 use Rattle.p2p_simulated.proofs.Filling.Scaling.{finer, worth_finer, one_lower}
 use Rattle.p2p_simulated.proofs.Filling.States.{at_level, parts_at, FillsAt}
-use Rattle.p2p_simulated.proofs.Filling.Sums.{All-by_contains, sum_by_same, sum_by_below, sum_by_under}
+use Rattle.p2p_simulated.proofs.Filling.Sums.{sum_by_same, sum_by_below, sum_by_under}
 
 sum_by-constant : (n : ℕ) (xs : List ℕ) → sum_by (λ _. n) xs ≡ n * length xs
 sum_by-constant n [] = omega arith

@@ -1,6 +1,6 @@
 -- The states between the rounds of filling.
 -- `frozen` says at how many parts a flow stays, and None of a flow that still rises.
-use Rattle.std.specs.Prelude.{◌≡◌, ℕ, ◌*◌, ◌<◌, ◌≤◌, List, All, Contains, Option, Some, None, IsSome, unwrap_or, option_map}
+use Rattle.std.specs.Prelude.{◌≡◌, ℕ, ◌*◌, ◌≤◌, List, All, Option, Some, None, IsSome, unwrap_or, option_map}
 use Rattle.p2p_simulated.specs.Fair.{Side, load, Uses, IsWithinCaps, HasBottleneck, IsFair}
 use Rattle.p2p_simulated.specs.Filling.{rate_at, AreWorth}
 use Rattle.p2p_simulated.specs.Ratio.{IsWorth}

@@ -1,11 +1,13 @@
 //! Filling: the flows rise together, and the users of a side that is full stay where they are.
-ghost use Rattle.std.specs.Prelude.{◌≡◌, ◌⊎◌, ◌<◌, ◌≤◌, ◌↔◌, IsTrue, IfOk, IfErr, IfSome, MatchOption, None, OnOk, OnSome, All, List, map, length, replicate};
+ghost use Rattle.std.specs.Prelude.{◌≡◌, ◌⊎◌, ◌<◌, ◌≤◌, ◌↔◌, IsTrue, IfOk, IfErr, IfSome, MatchOption, None, OnOk, OnSome, All, List, Option, map, length, replicate, vec_len};
 ghost use Rattle.p2p_simulated.specs.Code.{side_of};
 ghost use Rattle.p2p_simulated.specs.Fair.{Side as WholeSide};
-ghost use Rattle.p2p_simulated.specs.Filling.{FreezesAll, IsNoGreater, IsQueue, IsNext, IsSound, AllFilled, CannotFill, answer_of};
+ghost use Rattle.p2p_simulated.specs.Filling.{FreezesAll, IsNoGreater, IsStart, IsQueue, IsNext, IsSound, AllFilled, CannotFill, NoFairFits, answer_of, whole_side, queue_cmp};
 ghost use Rattle.p2p_simulated.specs.declared.ratio.Ratio.{Ratio as Fraction};
-ghost use Rattle.std.specs.BinaryHeap.{heap_items, heap_len};
-ghost use Rattle.p2p_simulated.specs.Rates.{AreFairRates};
+ghost use Rattle.std.specs.BinaryHeap.{heap_items, heap_len, IsHeap};
+ghost use Rattle.p2p_simulated.specs.Amount.{whole};
+ghost use Rattle.p2p_simulated.specs.Ratio.{amount_of};
+ghost use Rattle.p2p_simulated.specs.Rates.{AreFairRates, HasDifferentRates};
 
 mod open;
 
@@ -36,16 +38,25 @@ pub(crate) struct Filled {
 
 /// The sides before the first round.
 fn open_sides(alloc: Global, sides: Vec<Side>) -> Result<Vec<OpenSide>, AllocError>
+    ensures same { IfOk result (λ opened. map whole_side opened.items ≡ map side_of sides.items) }
+    ensures none_counted { IfOk result (λ opened. All (λ side. amount_of side.taken ≡ whole 0) opened.items) }
 {
-    let mut open = Vec::with_capacity(alloc, sides.len())?;
+    let mut opened = Vec::with_capacity(alloc, sides.len())?;
     for side in sides {
-        open.push(OpenSide::new(side))?;
+        opened.push(OpenSide::new(side))?;
     }
-    Ok(open)
+    Ok(opened)
 }
 
 /// The share of each side that has users.
 fn first_shares(alloc: Global, sides: &[OpenSide]) -> Result<BinaryHeap<Reverse<Share>>, Error>
+    ensures queue { IfOk result (λ shares. (whole : List WholeSide) (rates : List (Option Fraction)) → IsStart whole rates sides.now →
+        IsQueue whole rates sides.now (heap_items shares)) }
+    ensures places { IfOk result (λ shares. All (λ share. share.0.place < length sides.now) (heap_items shares)) }
+    ensures order { IfOk result (λ shares. IsHeap queue_cmp (heap_items shares)) }
+    ensures count { IfOk result (λ shares. heap_len shares ≤ length sides.now) }
+    ensures refused { IfErr result (λ e. (e ≡ Error.OutOfMemory) ⊎ ((e ≡ Error.NumberTooLarge) ×
+        ((whole : List WholeSide) (rates : List (Option Fraction)) → IsStart whole rates sides.now → CannotFill whole rates))) }
 {
     let mut shares = BinaryHeap::with_capacity(alloc, sides.len())?;
     for (place, side) in sides.iter().enumerate() {
@@ -104,6 +115,13 @@ fn next_share(
 
 /// Freezes side after side, until no user rises. Answers how often the level was raised.
 fn fill(alloc: Global, sides: &mut [OpenSide], rates: &mut [Option<Ratio>]) -> Result<u128, Error>
+    requires users { All (λ side. All (λ flow. flow < length rates.old) side.rising.items) sides.old }
+    requires none_counted { All (λ side. amount_of side.taken ≡ whole 0) sides.old }
+    requires none_frozen { rates.old ≡ replicate (length rates.old) None }
+    ensures fair { OnOk result (AreFairRates (map whole_side sides.old) (length rates.old) (map answer_of rates.new)) }
+    ensures different { IfOk result (HasDifferentRates (map answer_of rates.new)) }
+    ensures few { IfOk result (λ rounds. rounds ≤ length sides.old) }
+    ensures refused { IfErr result (λ e. (e ≡ Error.OutOfMemory) ⊎ ((e ≡ Error.NumberTooLarge) × NoFairFits (map whole_side sides.old))) }
 {
     let mut shares = first_shares(alloc, sides)?;
     let mut rounds: u128 = 0;
@@ -146,7 +164,9 @@ fn no_rates(alloc: Global, count: usize) -> Result<Vec<Option<Ratio>>, AllocErro
 pub(crate) fn fair_rates(alloc: Global, count: usize, sides: Vec<Side>) -> Result<Filled, Error>
     requires { All (λ side. All (λ flow. flow < count) side.users.items) sides.items }
     ensures fair { IfOk result (λ filled. AreFairRates (map side_of sides.items) count filled.rates.items) }
-    ensures refused { IfErr result (λ e. (e ≡ Error.OutOfMemory) ⊎ (e ≡ Error.NumberTooLarge)) }
+    ensures different { IfOk result (λ filled. HasDifferentRates filled.rates.items filled.rounds) }
+    ensures few { IfOk result (λ filled. filled.rounds ≤ vec_len sides) }
+    ensures refused { IfErr result (λ e. (e ≡ Error.OutOfMemory) ⊎ ((e ≡ Error.NumberTooLarge) × NoFairFits (map side_of sides.items))) }
 {
     let mut rates = no_rates(alloc, count)?;
     let mut sides = open_sides(alloc, sides)?;

@@ -1,16 +1,15 @@
-use Rattle.std.proofs.Common.{◌≡◌, ◌<◌, ◌∷◌, List, length, get_or, true, false, inl, inr, refl, sym, ap, arith, ◌∙◌, length-set}
+use Rattle.std.proofs.Common.{◌≡◌, ◌<◌, ◌∷◌, length, get_or, inr, arith, ◌∙◌, length-set}
 use Rattle.std.specs.BinaryHeap.{heap_items}
 use Rattle.std.proofs.lemmas.Grind.{common_steps}
 use Rattle.std.proofs.lemmas.List.{get_or_default}
 use Rattle.std.proofs.lemmas.List.Elements.{All-head, All-tail, All-cons}
 use Rattle.std.proofs.lemmas.List.Sorted.{All-permutation}
-use Rattle.p2p_simulated.specs.Fair.{Side}
 use Rattle.p2p_simulated.specs.Filling.{IsNoGreater}
 use Rattle.std.specs.declared.cmp.Reverse.{Reverse}
 use Rattle.p2p_simulated.specs.declared.bandwidth.filling.Share.{Share}
 use Rattle.p2p_simulated.specs.declared.bandwidth.filling.open.OpenSide.{OpenSide}
 use Rattle.p2p_simulated.proofs.Filling.Account.{cannot_fit_before}
-use Rattle.p2p_simulated.proofs.Filling.Frozen.{refused_by, if_err, ok_by, some_of_if, on_some_of, match_true, match_false}
+use Rattle.p2p_simulated.proofs.Filling.Frozen.{refused_by, if_err, ok_by, some_of_if, on_some_of, match_false}
 use Rattle.p2p_simulated.proofs.Filling.Queue.{place_inside, sound_popped, sound_pushed, cannot_fill, all_filled, is_next, queue_dropped, queue_pushed, no_lower, no_greater_trans}
 use Rattle.p2p_simulated.proofs.bandwidth.filling.next_share.Goals as goal
 
@@ -18,8 +17,11 @@ pub returns-in_err-ok_or-clause-refused : goal.returns-in_err-ok_or-clause-refus
 returns-in_err-ok_or-clause-refused c =
     let refused = refused_by c.count_frozen.result c.in_err-ok_or.field-0.0 _ c.in_err-ok_or.ensures.value c.count_frozen.ensures.too_large in
     let inside = place_inside (length c.args.rates.now) c.loop-least.sides (heap_items c.loop-least.shares) (heap_items c.pop.new.self) c.in-Some.field-0 c.loop-least.invariant.sound c.in-Some.ensures.permutation in
-    if_err _ _ c.from_residual.result c.from_residual.ensures.1 (λ e is. inr (is ∙ refused.0, λ whole queue.
-    cannot_fill whole c.args.rates.now c.loop-least.sides (heap_items c.loop-least.shares) (c.loop-least.invariant.queue whole queue) c.in-Some.field-0.0.place c.index-sides-least.result inside refused.1))
+    if_err _ _ c.from_residual.result c.from_residual.ensures.1 (λ e is. inr (
+      is ∙ refused.0,
+      λ whole queue.
+          cannot_fill whole c.args.rates.now c.loop-least.sides (heap_items c.loop-least.shares) (c.loop-least.invariant.queue whole queue) c.in-Some.field-0.0.place c.index-sides-least.result inside refused.1,
+    ))
 
 pub returns-then-not-branch-clause-sound : goal.returns-then-not-branch-clause-sound
 returns-then-not-branch-clause-sound c =
@@ -50,9 +52,12 @@ returns-in_err-rate-clause-refused c =
     let inside = place_inside (length c.args.rates.now) c.loop-least.sides (heap_items c.loop-least.shares) (heap_items c.pop.new.self) c.in-Some.field-0 c.loop-least.invariant.sound c.in-Some.ensures.permutation in
     let some = ok_by c.count_frozen.result c.in_ok-ok_or.field-0 _ c.in_ok-ok_or.ensures.value in
     let keeps = on_some_of c.count_frozen.result c.count_frozen.ensures.account c.in_ok-ok_or.field-0 some in
-    if_err _ _ c.from_residual-in_err-rate.result c.from_residual-in_err-rate.ensures.1 (λ e is. inr (is ∙ refused.0, λ whole queue.
-    cannot_fill whole c.args.rates.now c.loop-least.sides (heap_items c.loop-least.shares) (c.loop-least.invariant.queue whole queue) place r inside
-    (cannot_fit_before c.args.rates.now (get_or c.loop-least.sides place r) c.count_frozen.new.self keeps (refused.1 c.args.rates.now))))
+    if_err _ _ c.from_residual-in_err-rate.result c.from_residual-in_err-rate.ensures.1 (λ e is. inr (
+      is ∙ refused.0,
+      λ whole queue.
+          cannot_fill whole c.args.rates.now c.loop-least.sides (heap_items c.loop-least.shares) (c.loop-least.invariant.queue whole queue) place r inside
+          (cannot_fit_before c.args.rates.now (get_or c.loop-least.sides place r) c.count_frozen.new.self keeps (refused.1 c.args.rates.now)),
+    ))
 
 pub loop-least-preserved-in_ok-push : goal.loop-least-preserved-in_ok-push
 loop-least-preserved-in_ok-push c =

@@ -1,4 +1,4 @@
-use Rattle.std.proofs.Common.{◌≡◌, ◌≢◌, ℕ, ◌+◌, ◌<◌, Some, None, get_or, length, inl, arith, ◌∙◌, ap, refl}
+use Rattle.std.proofs.Common.{◌≡◌, ◌≢◌, ◌+◌, ◌<◌, Some, length, inl, arith, ◌∙◌, ap, refl}
 use Rattle.std.proofs.lemmas.Grind.{common_steps}
 use Rattle.p2p_simulated.specs.Filling.{rate_at}
 use Rattle.p2p_simulated.proofs.Filling.Account.{account_more, more_fits, rest_below}
@@ -11,7 +11,7 @@ returns-in_err-self-in-Some-clause-too_large c =
     let frozen : rate_at c.args.rates.now c.index.result.now ≡ Some c.in-Some.rate = grind (arith, common_steps, c.in-Some.is) in
     if_none c.from_residual.result (λ side per parts account w within fits.
     not_some c.checked_add.result c.in_err-self-in-Some.was (c.checked_add.ensures.fits.1 (
-      more_fits side c.args.rates.now c.loop-place.self (c.loop-place.invariant.account side account) c.loop-place.place c.index.result.now c.in-Some.rate per parts inside c.index.ensures frozen w within fits)))
+    more_fits side c.args.rates.now c.loop-place.self (c.loop-place.invariant.account side account) c.loop-place.place c.index.result.now c.in-Some.rate per parts inside c.index.ensures frozen w within fits)))
 
 pub loop-place-preserved-in-Some : goal.loop-place-preserved-in-Some
 loop-place-preserved-in-Some c =

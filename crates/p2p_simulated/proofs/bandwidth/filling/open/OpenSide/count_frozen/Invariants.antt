@@ -10,7 +10,7 @@ invariant-loop-place l = record {
   within : l.place ≤ length l.self.rising.items;
   changed : (length l.self.rising.items < l.before) ⊎ IsUnchanged l.initial.self l.self;
   below : (k d : ℕ) → k < length l.self.rising.items → get_or l.self.rising.items k d < length l.rates;
-  shorter : length l.self.rising.items ≤ l.before
+  shorter : length l.self.rising.items ≤ l.before;
 }
 
 abbrev pub decreases-loop-place : goal.decreases-loop-place

@@ -9,7 +9,7 @@ pub returns-in_err-left-clause-too_large : goal.returns-in_err-left-clause-too_l
 returns-in_err-left-clause-too_large c =
     if_none c.from_residual.result (λ rates side per parts account w within fits.
     not_some c.checked_sub.result c.in_err-left.was (c.checked_sub.ensures.fits.1 (
-      left_fits side rates c.args.self.now account per parts w c.from_whole.result c.from_whole.result c.from_whole.result c.from_whole.ensures within c.requires fits)))
+    left_fits side rates c.args.self.now account per parts w c.from_whole.result c.from_whole.result c.from_whole.result c.from_whole.ensures within c.requires fits)))
 
 pub returns-clause-share : goal.returns-clause-share
 returns-clause-share c =
