@@ -1,10 +1,11 @@
 -- Lists of rates: which of them are fair, and which rate is an id's.
-use Rattle.std.specs.Prelude.{◌≡◌, ℕ, ◌<◌, ◌==◌, cond, List, [], ◌∷◌, length, Option, Some, None, slice_index_or}
+use Rattle.std.specs.Prelude.{◌≡◌, ◌≢◌, ◌↔◌, ℕ, ◌<◌, ◌==◌, cond, List, [], ◌∷◌, length, AllPairs, Contains, Option, Some, None, slice_index_or}
 use Rattle.p2p_simulated.specs.declared.bandwidth.Flow.{Flow}
 use Rattle.p2p_simulated.specs.declared.bandwidth.Rate.{Rate}
 use Rattle.p2p_simulated.specs.declared.bandwidth.Rate.TheVariants.{Unlimited, Finite}
 use Rattle.p2p_simulated.specs.Fair.{Side, IsLimited, IsFair}
 use Rattle.p2p_simulated.specs.Ratio.{IsWorth}
+use Rattle.p2p_simulated.specs.declared.ratio.Ratio.{Ratio}
 
 -- the rate of a flow: unlimited where it uses no side, and else its parts over `per`
 abbrev pub IsRateOf : List Side → ℕ → (ℕ → ℕ) → ℕ → Rate → Type 0
@@ -18,6 +19,15 @@ pub record AreFairRates (sides : List Side) (flows : ℕ) (rates : List Rate) : 
   pub parts : ℕ → ℕ
   pub fair : IsFair sides per parts
   pub rated : (flow : ℕ) (d : Rate) → flow < flows → IsRateOf sides per parts flow (slice_index_or rates flow d)
+
+-- these are the finite rates of the list, each once
+pub record AreItsRates (rates : List Rate) (values : List Ratio) : Type 0 where
+  pub different : AllPairs (λ a b. a ≢ b) values
+  pub each : (ratio : Ratio) → Contains rates (Finite ratio) ↔ Contains values ratio
+
+-- the list has so many different finite rates
+abbrev pub HasDifferentRates : List Rate → ℕ → Type 0
+HasDifferentRates rates n = (values : List Ratio) × AreItsRates rates values × (length values ≡ n)
 
 abbrev pub or_else : {X : Type 0} → Option X → Option X → Option X
 or_else None other = other

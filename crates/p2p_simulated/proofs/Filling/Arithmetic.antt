@@ -43,3 +43,19 @@ room_parts ln ld parts per count rest ld_pos room worth =
 pub same_parts : (ln ld p q per : ℕ) → 0 < ld → ln * per ≡ p * ld → ln * per ≡ q * ld → p ≡ q
 same_parts ln ld p q per ld_pos first second =
     eq_of_mul-eq-mul_right ld ld_pos p q (omega (arith, first, second))
+
+-- a side is full where its rising users stand at their share of what is left
+pub fill_parts : (sn sd tn td cap users total level per rest : ℕ) → 0 < sd → 0 < td → rest + tn ≡ cap * td → sn * (td * users) ≡ rest * sd → sn * per ≡ level * sd → tn * per ≡ total * td → total + level * users ≡ cap * per
+fill_parts sn sd tn td cap users total level per rest sd_pos td_pos whole share level_worth total_worth =
+    let one : (total + level * users) * td * sd ≡ cap * per * td * sd =
+    omega (arith, ap (λ n. n * (per * sd)) whole, ap (λ n. n * per) share, ap (λ n. n * (users * td)) level_worth, ap (λ n. n * sd) total_worth) in
+    eq_of_mul-eq-mul_right td td_pos (total + level * users) (cap * per) (eq_of_mul-eq-mul_right sd sd_pos ((total + level * users) * td) (cap * per * td) one)
+
+-- of two rates over a common denominator, the one of fewer parts is no greater
+pub parts_rank : (ln ld hn hd low high per : ℕ) → 0 < ld → 0 < hd → ln * hd ≤ hn * ld → ln * per ≡ low * ld → hn * per ≡ high * hd → low ≤ high
+parts_rank ln ld hn hd low high per ld_pos hd_pos le low_worth high_worth =
+    let one : low * ld * hd ≤ high * ld * hd = omega (arith, mul-le-mul_right per le, ap (λ n. n * hd) low_worth, ap (λ n. n * ld) high_worth) in
+    le_of_mul-le-mul_right {k = ld} (le_of_mul-le-mul_right {k = hd} one hd_pos) ld_pos
+
+pub rates_rank : (ln ld hn hd per : ℕ) → 0 < per → ln * per * hd ≤ hn * per * ld → ln * hd ≤ hn * ld
+rates_rank ln ld hn hd per some le = le_of_mul-le-mul_right {k = per} (omega (arith, le)) some

@@ -1,9 +1,13 @@
 -- What a frozen flow has, and what one that rises.
-use Rattle.std.proofs.Common.{◌≡◌, ℕ, ◌⊎◌, inl, inr, Option, Some, None, IsSome, refl, arith, sym, ap, subst, ◌∙◌}
-use Rattle.std.specs.Prelude.{unwrap_or, IfSome, MatchOption, replicate}
+use Rattle.std.proofs.Common.{◌≡◌, ℕ, List, length, ◌⊎◌, inl, inr, Option, Some, None, IsSome, refl, arith, sym, ap, subst, ◌∙◌}
+use Rattle.std.specs.Option.{ok_or}
+use Rattle.std.specs.Bool.{MatchBool}
+use Rattle.std.specs.Prelude.{Bool, true, false, OnSome, Result, Ok, Err, IfErr, IsErrAnd, unwrap_or, IfSome, IfNone, MatchOption, replicate}
 use Rattle.std.proofs.lemmas.Bool.{cases_lt}
 use Rattle.std.proofs.lemmas.List.{get_or-replicate, length-replicate, get_or_past}
-use Rattle.p2p_simulated.specs.Filling.{at_level, rate_at}
+use Rattle.p2p_simulated.specs.Filling.{rate_at}
+use Rattle.p2p_simulated.proofs.Filling.States.{at_level}
+use Rattle.p2p_simulated.specs.declared.error.Error.{Error}
 use Rattle.p2p_simulated.specs.declared.ratio.Ratio.{Ratio}
 
 pub none_or_some : {X : Type 0} (o : Option X) → (o ≡ None) ⊎ ((x : X) × (o ≡ Some x))
@@ -53,3 +57,50 @@ rate_at-replicate count flow = elim (cases_lt flow count) [
   | inl inside ↦ get_or-replicate count flow None None inside
   | inr past ↦ get_or_past (replicate count None) flow None (omega (arith, length-replicate {A = Option Ratio} count None))
 ]
+
+pub if_none : {X P : Type 0} (o : Option X) → P → IfNone o P
+if_none None p = p
+if_none (Some x) p = tt
+
+-- what holds if there is no value
+pub if_none_so : {X P Q : Type 0} (o : Option X) → IfNone o P → (P → Q) → IfNone o Q
+if_none_so None p f = f p
+if_none_so (Some x) p f = tt
+
+pub not_some : {X : Type 0} (o : Option X) → o ≡ None → IsSome o → ⊥
+not_some None e s = cc
+not_some (Some x) e s = cc
+
+pub if_none_unless : {X P : Type 0} (o : Option X) → ((IsSome o → ⊥) → P) → IfNone o P
+if_none_unless None f = f (λ s. cc)
+if_none_unless (Some x) f = tt
+
+-- ---- results
+
+-- an error that stands for no value
+pub refused_by : {X P : Type 0} (o : Option X) (given error : Error) → ◌≡◌ {A = Result X Error} (Err given) (ok_or o error) → IfNone o P → (given ≡ error) × P
+refused_by None given error e p = (cc, p)
+refused_by (Some x) given error e p = cc
+
+pub if_err : {X E : Type 0} (P Q : E → Type 0) (r : Result X E) → IsErrAnd r P → ((e : E) → P e → Q e) → IfErr r Q
+if_err P Q (Ok x) h f = tt
+if_err P Q (Err e) h f = f e h
+
+pub ok_by : {X : Type 0} (o : Option X) (value : X) (error : Error) → ◌≡◌ {A = Result X Error} (Ok value) (ok_or o error) → o ≡ Some value
+ok_by None value error e = cc
+ok_by (Some x) value error e = cc
+
+pub on_some_of : {X P : Type 0} (o : Option X) → OnSome o P → (x : X) → o ≡ Some x → P
+on_some_of None h x e = cc
+on_some_of (Some y) h x e = h
+
+pub match_true : (P Q : Type 0) (b : Bool) → b ≡ true → MatchBool b P Q → P
+match_true P Q true e h = h
+match_true P Q false e h = cc
+
+pub match_false : (P Q : Type 0) (b : Bool) → b ≡ false → MatchBool b P Q → Q
+match_false P Q true e h = cc
+match_false P Q false e h = h
+
+pub none_rated : (rates : List (Option Ratio)) → rates ≡ replicate (length rates) None → (flow : ℕ) → rate_at rates flow ≡ None
+none_rated rates none flow = ap (λ xs. rate_at xs flow) none ∙ rate_at-replicate (length rates) flow

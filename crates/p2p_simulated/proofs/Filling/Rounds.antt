@@ -2,9 +2,8 @@
 use Rattle.std.proofs.Common.{◌≡◌, ℕ, ◌*◌, ◌<◌, ◌≤◌, inl, inr, List, Contains, sym, ◌∙◌, arith, Option, None, IsSome}
 use Rattle.std.proofs.lemmas.List.Elements.{All-contains}
 use Rattle.p2p_simulated.specs.Fair.{Side, load, IsLimited, IsFair}
-use Rattle.p2p_simulated.specs.Filling.{at_level}
 use Rattle.p2p_simulated.proofs.Filling.Frozen.{none_or_some, some_value, some_is, at_some, at_none, at_any}
-use Rattle.p2p_simulated.proofs.Filling.States.{IsHeld, IsFilledTo, IsNextRound}
+use Rattle.p2p_simulated.proofs.Filling.States.{at_level, IsHeld, IsFilledTo, IsNextRound}
 use Rattle.p2p_simulated.proofs.Filling.Sums.{All-by_contains, sum_by_same, sum_by-zero}
 
 -- no flow is frozen

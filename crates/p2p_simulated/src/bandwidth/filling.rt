@@ -1,100 +1,139 @@
 //! Filling: the flows rise together, and the users of a side that is full stay where they are.
-ghost use Rattle.std.specs.Prelude.{◌≡◌, ◌⊎◌, ◌<◌, IfOk, IfErr, IfSome, IfNone, MatchOption, None, OnOk, All, map, length, replicate};
+ghost use Rattle.std.specs.Prelude.{◌≡◌, ◌⊎◌, ◌<◌, ◌≤◌, ◌↔◌, IsTrue, IfOk, IfErr, IfSome, MatchOption, None, OnOk, OnSome, All, List, Option, map, length, replicate, vec_len};
 ghost use Rattle.p2p_simulated.specs.Code.{side_of};
-ghost use Rattle.p2p_simulated.specs.Filling.{rising_users, IsTaken, IsShare, IsLeast, IsLesser, NoneRises, FreezesAll, answer_of};
-ghost use Rattle.p2p_simulated.specs.Rates.{AreFairRates};
+ghost use Rattle.p2p_simulated.specs.Fair.{Side as WholeSide};
+ghost use Rattle.p2p_simulated.specs.Filling.{FreezesAll, IsNoGreater, IsStart, IsQueue, IsNext, IsSound, AllFilled, CannotFill, NoFairFits, answer_of, whole_side, queue_cmp};
+ghost use Rattle.p2p_simulated.specs.declared.ratio.Ratio.{Ratio as Fraction};
+ghost use Rattle.std.specs.BinaryHeap.{heap_items, heap_len, IsHeap};
+ghost use Rattle.p2p_simulated.specs.Amount.{whole};
+ghost use Rattle.p2p_simulated.specs.Ratio.{amount_of};
+ghost use Rattle.p2p_simulated.specs.Rates.{AreFairRates, HasDifferentRates};
+
+mod open;
 
 use crate::bandwidth::Rate;
 use crate::bandwidth::sides::Side;
 use crate::error::Error;
 use crate::ratio::Ratio;
+use open::OpenSide;
 use std::alloc::{AllocError, Global};
+use std::cmp::Reverse;
+use std::collections::BinaryHeap;
 
-/// A side, by its place, and what is left of its cap for each of its rising users.
-#[derive(Clone, Copy)]
+/// What each rising user of a side would get, as of its last reckoning. The users of a side only
+/// get more as others freeze, so this is never too much.
+#[derive(Clone, Copy, PartialEq, Eq, PartialOrd, Ord)]
 struct Share {
-    place: usize,
     rate: Ratio,
+    /// Which side it is.
+    place: usize,
 }
 
-/// How many users of the side have no rate yet.
-fn rising(side: &Side, rates: &[Option<Ratio>]) -> usize
-    requires { All (λ flow. flow < length rates.now) side.now.users.items }
-    ensures { result ≡ rising_users rates.now (side_of side.now) }
+/// The rates of the flows, and how often the common level was raised.
+#[derive(Debug, Drop)]
+pub(crate) struct Filled {
+    pub(crate) rates: Vec<Rate>,
+    pub(crate) rounds: u128,
+}
+
+/// The sides before the first round.
+fn open_sides(alloc: Global, sides: Vec<Side>) -> Result<Vec<OpenSide>, AllocError>
+    ensures same { IfOk result (λ opened. map whole_side opened.items ≡ map side_of sides.items) }
+    ensures none_counted { IfOk result (λ opened. All (λ side. amount_of side.taken ≡ whole 0) opened.items) }
 {
-    let mut count: usize = 0;
-    for user in &side.users {
-        if rates[*user].is_none() {
-            count += 1;
-        }
+    let mut opened = Vec::with_capacity(alloc, sides.len())?;
+    for side in sides {
+        opened.push(OpenSide::new(side))?;
     }
-    count
+    Ok(opened)
 }
 
-/// What the frozen users of the side have together. `None` where that does not fit.
-fn taken(side: &Side, rates: &[Option<Ratio>]) -> Option<Ratio>
-    requires { All (λ flow. flow < length rates.now) side.now.users.items }
-    ensures { IfSome result (IsTaken rates.now (side_of side.now)) }
+/// The share of each side that has users.
+fn first_shares(alloc: Global, sides: &[OpenSide]) -> Result<BinaryHeap<Reverse<Share>>, Error>
+    ensures queue { IfOk result (λ shares. (whole : List WholeSide) (rates : List (Option Fraction)) → IsStart whole rates sides.now →
+        IsQueue whole rates sides.now (heap_items shares)) }
+    ensures places { IfOk result (λ shares. All (λ share. share.0.place < length sides.now) (heap_items shares)) }
+    ensures order { IfOk result (λ shares. IsHeap queue_cmp (heap_items shares)) }
+    ensures count { IfOk result (λ shares. heap_len shares ≤ length sides.now) }
+    ensures refused { IfErr result (λ e. (e ≡ Error.OutOfMemory) ⊎ ((e ≡ Error.NumberTooLarge) ×
+        ((whole : List WholeSide) (rates : List (Option Fraction)) → IsStart whole rates sides.now → CannotFill whole rates))) }
 {
-    let mut total = Ratio::zero();
-    for user in &side.users {
-        if let Some(rate) = rates[*user] {
-            total = total.checked_add(rate)?;
-        }
-    }
-    Some(total)
-}
-
-/// What is left of the side's cap for each of its rising users. `None` where that does not fit.
-fn share_of(side: &Side, rates: &[Option<Ratio>], count: usize) -> Option<Ratio>
-    requires users { All (λ flow. flow < length rates.now) side.now.users.items }
-    requires rising { count ≡ rising_users rates.now (side_of side.now) }
-    ensures { IfSome result (IsShare rates.now (side_of side.now)) }
-{
-    let left = Ratio::from_whole(side.cap).checked_sub(taken(side, rates)?)?;
-    left.checked_div(Ratio::from_whole(count as u128))
-}
-
-/// The lesser of the least share so far, if there is one, and one more.
-fn lesser(least: Option<Share>, share: Share) -> Share
-    ensures first { IfNone least (result ≡ share) }
-    ensures lesser { IfSome least (λ best. IsLesser best share result) }
-{
-    match least {
-        Some(best) if best.rate <= share.rate => best,
-        _ => share,
-    }
-}
-
-/// The least share of all sides with rising users.
-fn least_share(sides: &[Side], rates: &[Option<Ratio>]) -> Result<Option<Share>, Error>
-    requires { All (λ side. All (λ flow. flow < length rates.now) side.users.items) sides.now }
-    ensures least { IfOk result (λ least. MatchOption least
-        (NoneRises rates.now (map side_of sides.now) (length sides.now))
-        (λ share. IsLeast rates.now (map side_of sides.now) (length sides.now) share.place share.rate)) }
-    ensures refused { IfErr result (λ e. e ≡ Error.NumberTooLarge) }
-{
-    let mut least: Option<Share> = None;
+    let mut shares = BinaryHeap::with_capacity(alloc, sides.len())?;
     for (place, side) in sides.iter().enumerate() {
-        let count = rising(side, rates);
-        if count > 0 {
-            let rate = share_of(side, rates, count).ok_or(Error::NumberTooLarge)?;
-            least = Some(lesser(least, Share { place, rate }));
+        if !side.rising.is_empty() {
+            let rate = side.share().ok_or(Error::NumberTooLarge)?;
+            shares.push(Reverse(Share { rate, place }))?;
         }
     }
-    Ok(least)
+    Ok(shares)
 }
 
-/// Freezes the rising users of the side at the rate.
-fn freeze(side: &Side, rates: &mut [Option<Ratio>], level: Ratio)
-    requires { All (λ flow. flow < length rates.old) side.now.users.items }
-    ensures { FreezesAll side.now.users.items rates.old rates.new level }
+/// Freezes the users at the rate.
+fn freeze(users: &[usize], rates: &mut [Option<Ratio>], level: Ratio)
+    requires { All (λ flow. flow < length rates.old) users.now }
+    ensures { FreezesAll users.now rates.old rates.new level }
 {
-    for user in &side.users {
+    for user in users {
         if rates[*user].is_none() {
             rates[*user] = Some(level);
         }
     }
+}
+
+/// Takes out the least share, once it is what its side has left for each rising user.
+fn next_share(
+    sides: &mut [OpenSide],
+    shares: &mut BinaryHeap<Reverse<Share>>,
+    rates: &[Option<Ratio>],
+) -> Result<Option<Share>, Error>
+    requires { IsSound (length rates.now) sides.old (heap_items shares.old) }
+    ensures sound { OnOk result (IsSound (length rates.now) sides.new (heap_items shares.new)) }
+    ensures next { IfOk result (λ next. (whole : List WholeSide) → IsQueue whole rates.now sides.old (heap_items shares.old) →
+        MatchOption next (AllFilled whole rates.now) (IsNext whole rates.now sides.new (heap_items shares.new))) }
+    ensures inside { IfOk result (λ next. IfSome next (λ share. share.place < length sides.new)) }
+    ensures fewer { IfOk result (λ next. OnSome next (heap_len shares.new < heap_len shares.old)) }
+    ensures no_lower { IfOk result (λ next. (whole : List WholeSide) (level : Fraction) → IsQueue whole rates.now sides.old (heap_items shares.old) →
+        All (λ share. IsNoGreater level share.0.rate) (heap_items shares.old) → IfSome next (λ share. IsNoGreater level share.rate)) }
+    ensures refused { IfErr result (λ e. (e ≡ Error.OutOfMemory) ⊎ ((e ≡ Error.NumberTooLarge) ×
+        ((whole : List WholeSide) → IsQueue whole rates.now sides.old (heap_items shares.old) → CannotFill whole rates.now))) }
+{
+    while let Some(Reverse(least)) = shares.pop() {
+        let side = &mut sides[least.place];
+        if !side.count_frozen(rates).ok_or(Error::NumberTooLarge)? {
+            return Ok(Some(least));
+        }
+        if !side.rising.is_empty() {
+            let rate = side.share().ok_or(Error::NumberTooLarge)?;
+            shares.push(Reverse(Share {
+                rate,
+                place: least.place,
+            }))?;
+        }
+    }
+    Ok(None)
+}
+
+/// Freezes side after side, until no user rises. Answers how often the level was raised.
+fn fill(alloc: Global, sides: &mut [OpenSide], rates: &mut [Option<Ratio>]) -> Result<u128, Error>
+    requires users { All (λ side. All (λ flow. flow < length rates.old) side.rising.items) sides.old }
+    requires none_counted { All (λ side. amount_of side.taken ≡ whole 0) sides.old }
+    requires none_frozen { rates.old ≡ replicate (length rates.old) None }
+    ensures fair { OnOk result (AreFairRates (map whole_side sides.old) (length rates.old) (map answer_of rates.new)) }
+    ensures different { IfOk result (HasDifferentRates (map answer_of rates.new)) }
+    ensures few { IfOk result (λ rounds. rounds ≤ length sides.old) }
+    ensures refused { IfErr result (λ e. (e ≡ Error.OutOfMemory) ⊎ ((e ≡ Error.NumberTooLarge) × NoFairFits (map whole_side sides.old))) }
+{
+    let mut shares = first_shares(alloc, sides)?;
+    let mut rounds: u128 = 0;
+    let mut level: Option<Ratio> = None;
+    while let Some(least) = next_share(sides, &mut shares, rates)? {
+        freeze(&sides[least.place].rising, rates, least.rate);
+        if level != Some(least.rate) {
+            level = Some(least.rate);
+            rounds += 1;
+        }
+    }
+    Ok(rounds)
 }
 
 /// What a flow is answered: the rate at which it is frozen, or that no side limits it.
@@ -114,19 +153,6 @@ fn answers(alloc: Global, rates: &[Option<Ratio>]) -> Result<Vec<Rate>, AllocErr
     rates.iter().map(|rate| answer(*rate)).collect(alloc)
 }
 
-/// Freezes side after side, until no user rises.
-fn fill(sides: &[Side], rates: &mut [Option<Ratio>]) -> Result<(), Error>
-    requires users { All (λ side. All (λ flow. flow < length rates.old) side.users.items) sides.now }
-    requires rising { rates.old ≡ replicate (length rates.old) None }
-    ensures fair { OnOk result (AreFairRates (map side_of sides.now) (length rates.old) (map answer_of rates.new)) }
-    ensures refused { IfErr result (λ e. e ≡ Error.NumberTooLarge) }
-{
-    while let Some(least) = least_share(sides, rates)? {
-        freeze(&sides[least.place], rates, least.rate);
-    }
-    Ok(())
-}
-
 /// No flow has a rate.
 fn no_rates(alloc: Global, count: usize) -> Result<Vec<Option<Ratio>>, AllocError>
     ensures { IfOk result (λ rates. rates.items ≡ replicate count None) }
@@ -135,12 +161,18 @@ fn no_rates(alloc: Global, count: usize) -> Result<Vec<Option<Ratio>>, AllocErro
 }
 
 /// The max-min fair rates of `count` flows on the sides, one for each flow.
-pub(crate) fn fair_rates(alloc: Global, count: usize, sides: &[Side]) -> Result<Vec<Rate>, Error>
-    requires { All (λ side. All (λ flow. flow < count) side.users.items) sides.now }
-    ensures fair { IfOk result (λ rates. AreFairRates (map side_of sides.now) count rates.items) }
-    ensures refused { IfErr result (λ e. (e ≡ Error.OutOfMemory) ⊎ (e ≡ Error.NumberTooLarge)) }
+pub(crate) fn fair_rates(alloc: Global, count: usize, sides: Vec<Side>) -> Result<Filled, Error>
+    requires { All (λ side. All (λ flow. flow < count) side.users.items) sides.items }
+    ensures fair { IfOk result (λ filled. AreFairRates (map side_of sides.items) count filled.rates.items) }
+    ensures different { IfOk result (λ filled. HasDifferentRates filled.rates.items filled.rounds) }
+    ensures few { IfOk result (λ filled. filled.rounds ≤ vec_len sides) }
+    ensures refused { IfErr result (λ e. (e ≡ Error.OutOfMemory) ⊎ ((e ≡ Error.NumberTooLarge) × NoFairFits (map side_of sides.items))) }
 {
     let mut rates = no_rates(alloc, count)?;
-    fill(sides, &mut rates)?;
-    Ok(answers(alloc, &rates)?)
+    let mut sides = open_sides(alloc, sides)?;
+    let rounds = fill(alloc, &mut sides, &mut rates)?;
+    Ok(Filled {
+        rates: answers(alloc, &rates)?,
+        rounds,
+    })
 }

@@ -7,8 +7,8 @@ use Rattle.p2p_simulated.proofs.bandwidth.filling.freeze.Goals.{then-is_none, el
 pub loop-user-preserved : goal.loop-user-preserved
 loop-user-preserved c =
     let i = c.loop-user.user-index in
-    let inside : i < length c.args.side.now.users.items = omega (arith, c.deref-user-items.ensures.len) in
+    let inside : i < length c.args.users.now = omega (arith, c.loop-user-test.true) in
     elim c.if-is_none.branch [
-      | then-is_none w ↦ rw (w.rates-is, c.deref-user-items.ensures.value) (next_fresh c.args.side.now.users.items i c.args.rates.now c.loop-user.rates c.args.level inside c.loop-user.invariant (grind (arith, common_steps, c.requires)) (grind (arith, common_steps, c.is_none.ensures, c.deref-user-items.ensures.value)))
-      | else-is_none w ↦ rw w.rates-is (next_frozen c.args.side.now.users.items i c.args.rates.now c.loop-user.rates c.args.level inside c.loop-user.invariant (grind (arith, common_steps, c.is_none.ensures, c.deref-user-items.ensures.value)))
+      | then-is_none w ↦ rw w.rates-is (next_fresh c.args.users.now i c.args.rates.now c.loop-user.rates c.args.level inside c.loop-user.invariant (grind (arith, common_steps, c.requires)) (grind (arith, common_steps, c.is_none.ensures)))
+      | else-is_none w ↦ rw w.rates-is (next_frozen c.args.users.now i c.args.rates.now c.loop-user.rates c.args.level inside c.loop-user.invariant (grind (arith, common_steps, c.is_none.ensures)))
     ]
