@@ -31,7 +31,7 @@ count_by-filter {X} p q (x ∷ xs) = by_test (q x) (count_by-filter p q xs)
     by_test false ih = omega (arith, ih, sum_by-cons (λ y. cond (p y) 1 0) x xs)
 
 -- where ids are distinct, the rate by the id of a flow is its own
-rate_by_id : {P : Type 0} (xs : List (Allotted P)) (x : Allotted P) → HaveDistinctIds (flows_of xs) → In xs x → last_rate x.flow.id (flows_of xs) (rates_of xs) ≡ Some x.rate
+pub rate_by_id : {P : Type 0} (xs : List (Allotted P)) (x : Allotted P) → HaveDistinctIds (flows_of xs) → In xs x → last_rate x.flow.id (flows_of xs) (rates_of xs) ≡ Some x.rate
 rate_by_id xs x distinct h = own_rate x.flow.id xs x (distinct x.flow.id) h (eq-eqb x.flow.id x.flow.id refl)
 
 module _ {P : Type 0} (cmp : P → P → Ordering) (order : IsTotalOrder cmp) where

@@ -1,5 +1,5 @@
 -- Rates that are fair for flows under the caps are the simulation's rates for the messages that these flows stand for.
-use Rattle.std.proofs.Common.{◌≡◌, ℕ, zero, suc, ◌+◌, ◌<◌, Bool, true, false, cond, not, ◌&&◌, ◌||◌, List, [], ◌∷◌, ◌++◌, Option, Some, None, Contains, length, is_none, refl, sym, ap, ap₂, ◌∙◌, subst, inl, inr, ◌⊎◌, arith}
+use Rattle.std.proofs.Common.{◌≡◌, ℕ, zero, suc, ◌+◌, ◌<◌, Bool, true, false, cond, not, ◌&&◌, ◌||◌, List, [], ◌∷◌, ◌++◌, Option, Some, None, Contains, length, is_none, refl, sym, ap, ap₂, ◌∙◌, subst, inl, inr, ◌⊎◌, arith, option_map, subst₂}
 use Rattle.std.specs.Prelude.{slice_get}
 use Rattle.std.specs.List.{AllZip}
 use Rattle.std.specs.Cmp.{IsTotalOrder}
@@ -12,14 +12,18 @@ use Rattle.p2p_simulated.specs.declared.bandwidth.Rate.{Rate}
 use Rattle.p2p_simulated.specs.declared.bandwidth.Rate.TheVariants.{Unlimited, Finite}
 use Rattle.p2p_simulated.specs.Fair.{Side}
 use Rattle.p2p_simulated.specs.FairLaws.{AreTheSameSides}
-use Rattle.p2p_simulated.specs.PeerCaps.{cap_of, AreOfPeers, limits, places_from, sides_under, AreFairUnder, UsesNoCap}
-use Rattle.p2p_simulated.specs.Rates.{AreFairRates}
-use Rattle.p2p_simulated.specs.Ratio.{IsWorth}
+use Rattle.p2p_simulated.specs.PeerCaps.{cap_of, AreOfPeers, HaveDistinctIds, IsFairById, limits, places_from, sides_under, AreFairUnder, UsesNoCap}
+use Rattle.p2p_simulated.specs.Rates.{AreFairRates, last_rate}
+use Rattle.p2p_simulated.specs.Ratio.{amount_of, IsWorth}
 use Rattle.p2p_simulated.specs.Sides.{Subject, sent_by, received_by, sent_between, same_peer, same_subject}
+use Rattle.p2p_simulated.specs.Amount.{Amount}
 use Rattle.p2p_simulated.specs.Caps.{Caps}
 use Rattle.p2p_simulated.specs.WorldMessages.{Message, is_delivered}
-use Rattle.p2p_simulated.specs.WorldRates.{Parts, places_that_pass, side_of, egress_of, ingress_of, link_of, sides_for, capped_sides, is_unlimited, rates_from, AreFair}
+use Rattle.p2p_simulated.specs.WorldRates.{Parts, places_that_pass, side_of, egress_of, ingress_of, link_of, sides_for, capped_sides, is_unlimited, rates_from, rate_of, AreFair}
 use Rattle.p2p_simulated.proofs.Subjects.{same_itself}
+use Rattle.p2p_simulated.proofs.Ratios.{worth_is_reduced}
+use Rattle.p2p_simulated.proofs.Fairness.Among.{Allotted, flows_of, rates_of, among_from}
+use Rattle.p2p_simulated.proofs.Fairness.ById.{rate_by_id}
 use Rattle.p2p_simulated.proofs.Fairness.CapSides.{capped_from_listed, listed_from_capped, side_of_subject}
 use Rattle.p2p_simulated.proofs.Fairness.MaxMin.{rate_at}
 use Rattle.p2p_simulated.proofs.Fairness.Members.{In, in_left, in_right, in_either, in_from_contains, contains_from_in, in_flat_map, from_flat_map}
@@ -292,3 +296,65 @@ module _ {P : Type 0} (cmp : P → P → Ordering) (order : IsTotalOrder cmp) (c
       matched = matched_from of_set.per of_set.parts 0 messages rates (under.one_each ∙ same_length flows messages stand) (λ i m r at is.
           let e : i ≡ 0 + i = omega arith in subst (λ k. IsInParts of_set.per (rate_of_one m (of_set.parts k)) r) e (matched_at i m r at is));
     }
+
+-- ---- rates by the ids of flows
+
+-- the amount of a rate: none without a limit
+abbrev pub amount_of_rate : Rate → Option Amount
+amount_of_rate Unlimited = None
+amount_of_rate (Finite ratio) = Some (amount_of ratio)
+
+-- the rate of the id is the simulation's
+abbrev pub HasRateOf : ℕ → Option ℕ → Option Rate → Type 0
+HasRateOf per parts rate = option_map amount_of_rate rate ≡ Some (rate_of per parts)
+
+-- what is answered for the ids of the flows are the simulation's rates for their messages
+pub record AreRatesById {P : Type 0} (cmp : P → P → Ordering) (caps : Caps P) (messages : List (Message P)) (flows : List (Flow P)) (rate_of_id : ℕ → Option Rate) : Type 0 where
+  pub per : ℕ
+  pub some_part : 0 < per
+  pub parts : Parts
+  pub fair : AreFair cmp caps messages per parts
+  pub matched : AllZip (λ part flow. HasRateOf per part (rate_of_id flow.id)) parts flows
+
+same_amount : (per : ℕ) (part : Option ℕ) (rate : Rate) → 0 < per → IsInParts per part rate → rate_of per part ≡ amount_of_rate rate
+same_amount per None Unlimited pos h = refl
+same_amount per None (Finite ratio) pos h = absurd h
+same_amount per (Some n) Unlimited pos h = absurd h
+same_amount per (Some n) (Finite ratio) pos h = ap Some (sym (worth_is_reduced ratio (record { num = n; den = per }) pos h))
+
+joined_zip : {A B C : Type 0} (R : A → B → Type 0) (S : B → C → Type 0) (T : A → C → Type 0) → ((a : A) (b : B) (c : C) → R a b → S b c → T a c)
+    → (as' : List A) (bs : List B) (cs : List C) → AllZip R as' bs → AllZip S bs cs → AllZip T as' cs
+joined_zip R S T join [] [] [] r s = tt
+joined_zip R S T join [] [] (c ∷ cs) r s = absurd s
+joined_zip R S T join [] (b ∷ bs) cs r s = absurd r
+joined_zip R S T join (a ∷ as') [] cs r s = absurd r
+joined_zip R S T join (a ∷ as') (b ∷ bs) [] r s = absurd s
+joined_zip R S T join (a ∷ as') (b ∷ bs) (c ∷ cs) r s = (join a b c r.0 s.0, joined_zip R S T join as' bs cs r.1 s.1)
+
+module _ {P : Type 0} (cmp : P → P → Ordering) (order : IsTotalOrder cmp) (caps : Caps P) (of : AreOfPeers cmp caps) where
+  zip_of : (R : Rate → Flow P → Type 0) (xs : List (Allotted P)) → ((x : Allotted P) → In xs x → R x.rate x.flow) → AllZip R (rates_of xs) (flows_of xs)
+  zip_of R [] h = tt
+  zip_of R (x ∷ xs) h = (h x (inl refl), zip_of R xs (λ y among. h y (inr among)))
+
+  -- with distinct ids each flow has its own rate
+  own_rates : (flows : List (Flow P)) (rates : List Rate) → HaveDistinctIds flows → AreFairUnder cmp caps flows rates → AllZip (λ rate flow. last_rate flow.id flows rates ≡ Some rate) rates flows
+  own_rates flows rates distinct fair =
+      let s = among_from cmp caps order of flows rates fair in
+      let own : AllZip (λ rate flow. last_rate flow.id (flows_of s.all) (rates_of s.all) ≡ Some rate) (rates_of s.all) (flows_of s.all) =
+      zip_of (λ rate flow. last_rate flow.id (flows_of s.all) (rates_of s.all) ≡ Some rate) s.all (λ x h. rate_by_id s.all x (subst HaveDistinctIds (sym s.flows_are) distinct) h) in
+      subst₂ (λ (fs : List (Flow P)) (rs : List Rate). AllZip (λ rate flow. last_rate flow.id fs rs ≡ Some rate) rs fs) s.flows_are s.rates_are own
+
+  -- with distinct ids, what is fair by id under the caps are the simulation's rates
+  pub rates_by_id_of_messages : (flows : List (Flow P)) (messages : List (Message P)) (rate_of_id : ℕ → Option Rate) → AllZip (StandsForMessage cmp) flows messages
+      → HaveDistinctIds flows → IsFairById cmp caps flows rate_of_id → AreRatesById cmp caps messages flows rate_of_id
+  rates_by_id_of_messages flows messages rate_of_id stand distinct a =
+      let r = rates_of_messages cmp order caps of flows messages a.rates stand a.fair in
+      record {
+        per = r.per;
+        some_part = r.some_part;
+        parts = r.parts;
+        fair = r.fair;
+        matched = joined_zip (IsInParts r.per) (λ rate flow. last_rate flow.id flows a.rates ≡ Some rate) (λ part flow. HasRateOf r.per part (rate_of_id flow.id))
+            (λ part rate flow is own. ap (option_map amount_of_rate) (a.by_id flow.id ∙ own) ∙ ap Some (sym (same_amount r.per part rate r.some_part is)))
+            r.parts a.rates flows r.matched (own_rates flows a.rates distinct a.fair);
+      }
