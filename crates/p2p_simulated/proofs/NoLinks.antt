@@ -1,11 +1,13 @@
 -- Where no link closure answers a number, there is none.
-use Rattle.std.proofs.Common.{◌≡◌, ℕ, List, [], ◌∷◌, Option, None, ap}
+use Rattle.std.proofs.Common.{◌≡◌, ℕ, List, [], ◌∷◌, Option, None, ap, ◌⊎◌, inl, inr, Result, Ok, Err, IfErr}
 use Rattle.std.specs.List.{FoldsTo}
 use Rattle.std.specs.declared.cmp.Ordering.{Ordering}
 use Rattle.p2p_simulated.specs.declared.bandwidth.Flow.{Flow}
 use Rattle.p2p_simulated.specs.declared.bandwidth.Rate.{Rate}
 use Rattle.p2p_simulated.specs.Answers.{Answered, Calls, PairCalls, NoLink, States, CallsFor, AnswerInOrder}
-use Rattle.p2p_simulated.specs.Allocation.{IsAllocation}
+use Rattle.p2p_simulated.specs.Allocation.{IsAllocation, IsCountedAllocation}
+use Rattle.p2p_simulated.specs.declared.error.Error.{Error}
+use Rattle.p2p_simulated.specs.declared.error.Error.TheVariants.{OutOfMemory, NumberTooLarge}
 use Rattle.p2p_simulated.specs.TooLarge.{IsTooLarge}
 
 module _ {P E I L : Type 0} (egress : Calls E P) (ingress : Calls I P) (link : PairCalls L P) (no_number : (l : L) (p q : P) (a : Option ℕ) (l' : L) → link l p q a l' → a ≡ None) where
@@ -50,3 +52,17 @@ module _ {P E I L : Type 0} (egress : Calls E P) (ingress : Calls I P) (link : P
     nothing_fits = h.nothing_fits;
     many_or_large = h.many_or_large;
   }
+
+  -- nor does the count of rounds change
+  pub counted_without_links : (cmp : P → P → Ordering) (first : States E I L) (flows : List (Flow P)) (rate_of : ℕ → Option Rate) (rounds : ℕ)
+      → IsCountedAllocation cmp egress ingress link first flows rate_of rounds → IsCountedAllocation cmp egress ingress NoLink (without first) flows rate_of rounds
+  unfolding without_links
+  counted_without_links cmp first flows rate_of rounds h = record { allocation = without_links cmp first flows rate_of h.allocation; different = h.different; few = h.few }
+
+  -- nor what a refusal says
+  pub refused_without_links : {X : Type 0} (cmp : P → P → Ordering) (first : States E I L) (flows : List (Flow P)) (result : Result X Error)
+      → IfErr result (λ e. (e ≡ OutOfMemory) ⊎ ((e ≡ NumberTooLarge) × IsTooLarge cmp egress ingress link first flows))
+      → IfErr result (λ e. (e ≡ OutOfMemory) ⊎ ((e ≡ NumberTooLarge) × IsTooLarge cmp egress ingress NoLink (without first) flows))
+  refused_without_links cmp first flows (Ok x) h = tt
+  refused_without_links cmp first flows (Err e) (inl memory) = inl memory
+  refused_without_links cmp first flows (Err e) (inr large) = inr (large.0, too_large_without_links cmp first flows large.1)

@@ -5,7 +5,7 @@ use Rattle.p2p_simulated.specs.declared.bandwidth.Flow.{Flow}
 use Rattle.p2p_simulated.specs.declared.bandwidth.Rate.{Rate}
 use Rattle.p2p_simulated.specs.Answers.{Calls, PairCalls, States, Answered, AnswerInOrder}
 use Rattle.p2p_simulated.specs.FairLaws.{IsTheOnlyFair, AreMaxMin, AreZeroWhereClosed}
-use Rattle.p2p_simulated.specs.Rates.{AreFairRates, last_rate}
+use Rattle.p2p_simulated.specs.Rates.{AreFairRates, HasDifferentRates, last_rate}
 use Rattle.p2p_simulated.specs.Sides.{sides_of}
 use Rattle.p2p_simulated.specs.Size.{AreWholeOver}
 
@@ -21,3 +21,9 @@ pub record IsAllocation {P E I L : Type 0} (cmp : P → P → Ordering) (egress 
   pub of_four : length flows ≤ 4 → AreWholeOver 12 rates
   pub of_sixteen : length flows ≤ 16 → AreWholeOver 54486432000 rates
   pub by_id : (id : ℕ) → rate_of id ≡ last_rate id flows rates
+
+-- and it took so many rounds of filling: as many as the list has different finite rates, and no more than there are sides
+pub record IsCountedAllocation {P E I L : Type 0} (cmp : P → P → Ordering) (egress : Calls E P) (ingress : Calls I P) (link : PairCalls L P) (first : States E I L) (flows : List (Flow P)) (rate_of : ℕ → Option Rate) (rounds : ℕ) : Type 0 where
+  pub allocation : IsAllocation cmp egress ingress link first flows rate_of
+  pub different : HasDifferentRates allocation.rates rounds
+  pub few : rounds ≤ length (sides_of cmp allocation.answered)

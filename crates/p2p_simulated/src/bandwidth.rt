@@ -5,8 +5,9 @@ ghost use Rattle.std.specs.Ordering.{nat_cmp};
 ghost use Rattle.std.specs.declared.cmp.Ordering.TheVariants.{Equal};
 ghost use Rattle.std.specs.BTreeMap.{get};
 ghost use Rattle.p2p_simulated.specs.Answers.{States, NoLink, CallableOnEach, CallableOnEachPair, origins, recipients, pairs};
-ghost use Rattle.p2p_simulated.specs.Allocation.{IsAllocation};
+ghost use Rattle.p2p_simulated.specs.Allocation.{IsAllocation, IsCountedAllocation};
 ghost use Rattle.p2p_simulated.specs.Rates.{last_rate};
+ghost use Rattle.p2p_simulated.specs.TooLarge.{IsTooLarge};
 
 mod equality;
 mod filling;
@@ -86,13 +87,17 @@ pub enum Rate {
 /// The map has an entry for each id that occurs. Of flows with one id the last decides, but each of
 /// them is given its share.
 ///
+/// With at most four flows each finite rate is a whole number of twelfths, with at most sixteen a
+/// whole number of 54486432000ths.
+///
 /// # Errors
 ///
-/// - `OutOfMemory` where memory for a list or for the map was refused.
-/// - `NumberTooLarge` where a fraction that is met on the way does not fit, reduced, in a numerator
-///   and a denominator of 128 bits.
-///
-/// After either, the closures may have been called for no more than the first few of the flows.
+/// - `OutOfMemory` where memory for a list or for the map was refused. The closures may then have
+///   been called for no more than the first few of the flows.
+/// - `NumberTooLarge` where rates do not fit in fractions of 128 bits. It comes only with more than
+///   16 flows or with an answered cap of 2^64 or more. And it never comes where the rates fit: where
+///   some whole number above zero makes each finite rate whole and is, times the number of flows
+///   and the greatest cap of a side, below 2^128.
 pub fn allocate<P, E, I>(
     alloc: Global,
     flows: &[Flow<P>],
@@ -107,7 +112,9 @@ where
     requires ingress { CallableOnEach (TakesAt I.FnMut) (CalledAt I.FnMut) ingress_cap (recipients flows.now) }
     ensures fair { IfOk result (λ rates. IsAllocation P.cmp (CalledAt E.FnMut) (CalledAt I.FnMut) NoLink
         (record { egress = egress_cap; ingress = ingress_cap; link = tt }) flows.now (get nat_cmp rates)) }
-    ensures refused { IfErr result (λ e. (e ≡ Error.OutOfMemory) ⊎ (e ≡ Error.NumberTooLarge)) }
+    ensures refused { IfErr result (λ e. (e ≡ Error.OutOfMemory)
+        ⊎ ((e ≡ Error.NumberTooLarge) × IsTooLarge P.cmp (CalledAt E.FnMut) (CalledAt I.FnMut) NoLink
+        (record { egress = egress_cap; ingress = ingress_cap; link = tt }) flows.now)) }
 {
     allocate_linked(
         alloc,
@@ -146,11 +153,86 @@ where
     requires link { CallableOnEachPair (TakesAtTwo L.FnMut) (CalledAtTwo L.FnMut) link_cap (pairs flows.now) }
     ensures fair { IfOk result (λ rates. IsAllocation P.cmp (CalledAt E.FnMut) (CalledAt I.FnMut) (CalledAtTwo L.FnMut)
         (record { egress = egress_cap; ingress = ingress_cap; link = link_cap }) flows.now (get nat_cmp rates)) }
-    ensures refused { IfErr result (λ e. (e ≡ Error.OutOfMemory) ⊎ (e ≡ Error.NumberTooLarge)) }
+    ensures refused { IfErr result (λ e. (e ≡ Error.OutOfMemory)
+        ⊎ ((e ≡ Error.NumberTooLarge) × IsTooLarge P.cmp (CalledAt E.FnMut) (CalledAt I.FnMut) (CalledAtTwo L.FnMut)
+        (record { egress = egress_cap; ingress = ingress_cap; link = link_cap }) flows.now)) }
+{
+    let (rates, _rounds) = allocate_linked_counted(
+        alloc,
+        flows,
+        egress_cap,
+        ingress_cap,
+        link_cap,
+    )?;
+    Ok(rates)
+}
+
+/// As [`allocate`], with the number of rounds of filling.
+///
+/// A round raises the common rate of all flows that are not yet held by a full side, until the next
+/// side is full, or by nothing where one is full from the start. So there are as many rounds as
+/// there are different finite rates, and no more than there are sides.
+///
+/// # Errors
+///
+/// As those of [`allocate`].
+pub fn allocate_counted<P, E, I>(
+    alloc: Global,
+    flows: &[Flow<P>],
+    egress_cap: E,
+    ingress_cap: I,
+) -> Result<(BTreeMap<u64, Rate>, u128), Error>
+where
+    P: Peer,
+    E: FnMut(&P) -> Option<u128>,
+    I: FnMut(&P) -> Option<u128>,
+    requires egress { CallableOnEach (TakesAt E.FnMut) (CalledAt E.FnMut) egress_cap (origins flows.now) }
+    requires ingress { CallableOnEach (TakesAt I.FnMut) (CalledAt I.FnMut) ingress_cap (recipients flows.now) }
+    ensures counted { IfOk result (λ counted. IsCountedAllocation P.cmp (CalledAt E.FnMut) (CalledAt I.FnMut) NoLink
+        (record { egress = egress_cap; ingress = ingress_cap; link = tt }) flows.now (get nat_cmp counted.0) counted.1) }
+    ensures refused { IfErr result (λ e. (e ≡ Error.OutOfMemory)
+        ⊎ ((e ≡ Error.NumberTooLarge) × IsTooLarge P.cmp (CalledAt E.FnMut) (CalledAt I.FnMut) NoLink
+        (record { egress = egress_cap; ingress = ingress_cap; link = tt }) flows.now)) }
+{
+    allocate_linked_counted(
+        alloc,
+        flows,
+        egress_cap,
+        ingress_cap,
+        |_origin, _recipient| None,
+    )
+}
+
+/// As [`allocate_linked`], with the number of rounds of filling, as [`allocate_counted`] has it.
+///
+/// # Errors
+///
+/// As those of [`allocate`].
+pub fn allocate_linked_counted<P, E, I, L>(
+    alloc: Global,
+    flows: &[Flow<P>],
+    egress_cap: E,
+    ingress_cap: I,
+    link_cap: L,
+) -> Result<(BTreeMap<u64, Rate>, u128), Error>
+where
+    P: Peer,
+    E: FnMut(&P) -> Option<u128>,
+    I: FnMut(&P) -> Option<u128>,
+    L: FnMut(&P, &P) -> Option<u128>,
+    requires egress { CallableOnEach (TakesAt E.FnMut) (CalledAt E.FnMut) egress_cap (origins flows.now) }
+    requires ingress { CallableOnEach (TakesAt I.FnMut) (CalledAt I.FnMut) ingress_cap (recipients flows.now) }
+    requires link { CallableOnEachPair (TakesAtTwo L.FnMut) (CalledAtTwo L.FnMut) link_cap (pairs flows.now) }
+    ensures counted { IfOk result (λ counted. IsCountedAllocation P.cmp (CalledAt E.FnMut) (CalledAt I.FnMut) (CalledAtTwo L.FnMut)
+        (record { egress = egress_cap; ingress = ingress_cap; link = link_cap }) flows.now (get nat_cmp counted.0) counted.1) }
+    ensures refused { IfErr result (λ e. (e ≡ Error.OutOfMemory)
+        ⊎ ((e ≡ Error.NumberTooLarge) × IsTooLarge P.cmp (CalledAt E.FnMut) (CalledAt I.FnMut) (CalledAtTwo L.FnMut)
+        (record { egress = egress_cap; ingress = ingress_cap; link = link_cap }) flows.now)) }
 {
     let registered = sides::sides(alloc, flows, egress_cap, ingress_cap, link_cap)?;
-    let rates = filling::fair_rates(alloc, flows.len(), &registered.sides)?;
-    rates_by_id(alloc, flows, &rates)
+    let filled = filling::fair_rates(alloc, flows.len(), registered.sides)?;
+    let rates = rates_by_id(alloc, flows, &filled.rates)?;
+    Ok((rates, filled.rounds))
 }
 
 /// The rates by the ids of their flows. Of flows with one id the last counts.

@@ -165,7 +165,7 @@ pub(crate) fn fair_rates(alloc: Global, count: usize, sides: Vec<Side>) -> Resul
     requires { All (λ side. All (λ flow. flow < count) side.users.items) sides.items }
     ensures fair { IfOk result (λ filled. AreFairRates (map side_of sides.items) count filled.rates.items) }
     ensures different { IfOk result (λ filled. HasDifferentRates filled.rates.items filled.rounds) }
-    ensures few { IfOk result (λ filled. filled.rounds ≤ vec_len sides) }
+    ensures few { IfOk result (λ filled. filled.rounds ≤ length sides.items) }
     ensures refused { IfErr result (λ e. (e ≡ Error.OutOfMemory) ⊎ ((e ≡ Error.NumberTooLarge) × NoFairFits (map side_of sides.items))) }
 {
     let mut rates = no_rates(alloc, count)?;

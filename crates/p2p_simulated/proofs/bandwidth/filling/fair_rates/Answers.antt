@@ -1,4 +1,6 @@
-use Rattle.std.proofs.Common.{◌≡◌, ◌<◌, All, length, map, ap, inl, inr, subst, arith, ◌∙◌}
+use Rattle.std.proofs.Common.{◌≡◌, ◌<◌, All, length, map, sym, ap, inl, inr, subst, arith, ◌∙◌}
+use Rattle.std.proofs.lemmas.List.{length-map}
+use Rattle.p2p_simulated.specs.Code.{side_of}
 use Rattle.std.proofs.lemmas.Grind.{common_steps}
 use Rattle.p2p_simulated.specs.Filling.{NoFairFits, whole_side}
 use Rattle.p2p_simulated.proofs.Filling.Course.{users_opened}
@@ -16,3 +18,8 @@ returns-in_err-rounds-clause-refused c =
       | inl memory ↦ inl (is ∙ memory)
       | inr large ↦ inr (is ∙ large.0, subst NoFairFits (ap (map whole_side) c.deref_mut.ensures.value ∙ c.in_ok-sides.ensures.same) large.1)
     ])
+
+pub returns-clause-few : goal.returns-clause-few
+returns-clause-few c =
+    let opened : length c.in_ok-sides.sides.items ≡ length c.args.sides.items = sym (length-map c.in_ok-sides.sides.items whole_side) ∙ ap length c.in_ok-sides.ensures.same ∙ length-map c.args.sides.items side_of in
+    omega (arith, opened, c.in_ok-rounds.ensures.few, c.deref_mut.ensures.value, ap length c.deref_mut.ensures.value)
