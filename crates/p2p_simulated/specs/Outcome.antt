@@ -1,5 +1,5 @@
 -- What an outcome of a script means for the program that runs it.
-use Rattle.std.specs.Prelude.{ℕ, List, [], ◌++◌, codes, decimal}
+use Rattle.std.specs.Prelude.{ℕ, ◌<◌, List, [], ◌++◌, codes, decimal}
 use Rattle.p2p_simulated.specs.declared.linkrun.Outcome.{Outcome}
 use Rattle.p2p_simulated.specs.declared.linkrun.Outcome.TheVariants.{Whole, BadLine, InputOutput, NoMemory}
 
@@ -16,3 +16,10 @@ message_of Whole = []
 message_of (BadLine number) = codes "bad line " ++ decimal number
 message_of InputOutput = codes "input or output fault"
 message_of NoMemory = codes "out of memory"
+
+-- lines are counted from 1
+abbrev pub CountsFromOne : Outcome → Type 0
+CountsFromOne Whole = Unit {0}
+CountsFromOne (BadLine number) = 0 < number
+CountsFromOne InputOutput = Unit {0}
+CountsFromOne NoMemory = Unit {0}

@@ -1,6 +1,6 @@
 //! Scripts of flows and caps, run line by line.
-ghost use Rattle.std.specs.Prelude.{◌≡◌, Some};
-ghost use Rattle.p2p_simulated.specs.Outcome.{status_of, message_of};
+ghost use Rattle.std.specs.Prelude.{◌≡◌, Some, IfOk};
+ghost use Rattle.p2p_simulated.specs.Outcome.{status_of, message_of, CountsFromOne};
 
 mod answer;
 mod command;
@@ -68,7 +68,9 @@ impl fmt::Display for Outcome {
 ///   again. It comes also after 2^128 - 1 lines, which no reader gives.
 /// - `NoMemory` where there is none for a line, for reading ahead or for printing. Nothing is read
 ///   or printed then. A command that finds no memory is refused, and the script goes on.
-pub fn run<R: Read, W: Write>(alloc: Global, input: &mut R, output: &mut W) -> Outcome {
+pub fn run<R: Read, W: Write>(alloc: Global, input: &mut R, output: &mut W) -> Outcome
+    ensures { CountsFromOne result }
+{
     let Ok(mut line) = Vec::with_capacity(alloc, line::MOST_READ) else {
         return Outcome::NoMemory;
     };
@@ -91,7 +93,9 @@ fn run_lines<B: BufRead, W: Write>(
     input: &mut B,
     output: &mut W,
     line: &mut Vec<u8>,
-) -> io::Result<Outcome> {
+) -> io::Result<Outcome>
+    ensures { IfOk result CountsFromOne }
+{
     let mut number = 0u64;
     for _ in 0..u128::MAX {
         number = number.saturating_add(1);
