@@ -116,7 +116,8 @@ over_other l d p q u n r e =
     ∙ sym (mul-sub (d * q) (l * u) (n * (r * d))) ∙ mul_comm (d * q) (l * u - n * (r * d))
 
 -- what is left less what is taken is what is left afterwards
-drained_by_difference : (left rate t rest : Ratio) (n : ℕ) → IsTaken (amount_of rate) n t → IsWorth rest (minus (amount_of left) (amount_of t)) → amount_of rest ≡ drained (amount_of left) (amount_of rate) n
+drained_by_difference : (left rate t rest : Ratio) (n : ℕ) → IsTaken (amount_of rate) n t → IsWorth rest (minus (amount_of left) (amount_of t))
+    → amount_of rest ≡ drained (amount_of left) (amount_of rate) n
 unfolding left_is
 drained_by_difference left rate t rest n is worth =
     let l = amount_of left in
@@ -130,7 +131,8 @@ all_drained left rate t n None is worth = worth
 all_drained left rate t n (Some rest) is worth = drained_by_difference left rate t rest n is worth
 
 -- where the time covers what is left, zero is left
-pub drained_to_zero : (left rate rest : Ratio) (n : ℕ) → Covers (amount_of rate) n (amount_of left) → amount_of rest ≡ whole 0 → amount_of rest ≡ drained (amount_of left) (amount_of rate) n
+pub drained_to_zero : (left rate rest : Ratio) (n : ℕ) → Covers (amount_of rate) n (amount_of left) → amount_of rest ≡ whole 0
+    → amount_of rest ≡ drained (amount_of left) (amount_of rate) n
 drained_to_zero left rate rest n covers zero_is =
     let none : left.numerator * (rate.denominator * billion) - n * (rate.numerator * left.denominator) ≡ 0 = omega arith in
     drained_if_worth left rate n rest (regroup rest.numerator rest.denominator (left.denominator * (rate.denominator * billion)) _ (ap (λ a. a.num) zero_is) none)
@@ -140,7 +142,8 @@ drained_to_zero left rate rest n covers zero_is =
 
 -- where what is taken does not take all, it can be taken off exactly where the difference fits
 pub leaves_iff : (left rate t : Ratio) (n : ℕ) → IsTaken (amount_of rate) n t → t.numerator * left.denominator < left.numerator * t.denominator
-    → DifferenceFits (amount_of left) (amount_of t) ↔ (Covers (amount_of rate) n (amount_of left) ⊎ DifferenceFits (amount_of left) (reduced (taken (amount_of rate) n).num (taken (amount_of rate) n).den))
+    → DifferenceFits (amount_of left) (amount_of t)
+    ↔ (Covers (amount_of rate) n (amount_of left) ⊎ DifferenceFits (amount_of left) (reduced (taken (amount_of rate) n).num (taken (amount_of rate) n).den))
 leaves_iff left rate t n is less = (
   λ fits. inr (subst (λ x. DifferenceFits (amount_of left) x) is.lowest fits),
   λ either. elim either [
