@@ -41,3 +41,6 @@ pub mod IsolatedTime
 pub mod IsolatedCalls
 pub mod Wholes
 pub mod Bounded
+pub mod InRange
+pub mod CallsInRange
+pub mod Agreeing

@@ -1,6 +1,6 @@
 -- Refusals of a call in its course on a planned world.
 use Rattle.std.specs.Prelude.{◌≡◌, ◌≢◌, ⊤, ℕ, ◌-◌, ◌<◌, ◌≤◌, List, [], ◌∷◌, ◌++◌, length, true, false, not, Option, Some, None, MatchOption, IfSome, slice_get}
-use Rattle.std.specs.List.{filter}
+use Rattle.std.specs.List.{filter, AllZip}
 use Rattle.std.specs.declared.cmp.Ordering.{Ordering}
 use Rattle.p2p_simulated.specs.declared.error.Error.{Error}
 use Rattle.p2p_simulated.specs.declared.error.Error.TheVariants.{OutOfMemory, NumberTooLarge, MomentTooLate, FlowIdsUsedUp}
@@ -10,6 +10,7 @@ use Rattle.p2p_simulated.specs.WorldMessages.{Message, Caps}
 use Rattle.p2p_simulated.specs.WorldRates.{capped_sides}
 use Rattle.p2p_simulated.specs.World.{Completed, goes, meets, last_moment, fronts}
 use Rattle.p2p_simulated.specs.WorldCalls.{Call, call_limit, call_limit_link, call_enqueue, call_advance, call_next, limited_by, linked_by}
+use Rattle.p2p_simulated.specs.WorldReplies.{Reply, reply_done, reply_next, reply_refused, SameCompletion}
 use Rattle.p2p_simulated.specs.WorldPlanned.{Planned, Paced, next_event, paced_flows, drained_to, next_of, may_launch, is_spent}
 use Rattle.p2p_simulated.specs.WorldEvents.{Accounts, Launches, Finishes, Settles, Wakes, launched, landed, is_late, with_queued, Obeys}
 
@@ -84,3 +85,15 @@ module _ {P : Type 0} (cmp : P → P → Ordering) where
   MayBeRefused p call NumberTooLarge = (t : ℕ) × (q : Planned P) × ComesToAccount p call t q × IsTooLarge t q
   MayBeRefused p call MomentTooLate = Obeys cmp p call (meets MomentTooLate)
   MayBeRefused p call FlowIdsUsedUp = Obeys cmp p call (meets FlowIdsUsedUp)
+
+  -- the replies are those of the event rule, call by call, at any moments; a refused call leaves the planned world as it was
+  abbrev pub Obeyed : Planned P → List (Call P) → List (Reply P) → Type 0
+  Obeyed p [] [] = ⊤
+  Obeyed p [] (reply ∷ replies) = ⊥
+  Obeyed p (call ∷ calls) [] = ⊥
+  Obeyed p (call_next ∷ calls) (reply_next t ∷ replies) = (t ≡ next_event p) × Obeyed p calls replies
+  Obeyed p (call_next ∷ calls) (reply_done cs ∷ replies) = ⊥
+  Obeyed p (call_next ∷ calls) (reply_refused why ∷ replies) = ⊥
+  Obeyed p (call ∷ calls) (reply_next t ∷ replies) = ⊥
+  Obeyed p (call ∷ calls) (reply_refused why ∷ replies) = MayBeRefused p call why × Obeyed p calls replies
+  Obeyed p (call ∷ calls) (reply_done cs ∷ replies) = (ds : List (Completed P)) × (q : Planned P) × Obeys cmp p call (goes ds q) × AllZip (SameCompletion cmp) cs ds × Obeyed q calls replies

@@ -95,8 +95,7 @@ module _ {P : Type 0} (cmp : P → P → Ordering) where
     pub latency : m.latency < 2 ^ 56
 
   -- at most sixteen pairs, one message in flight for each at its fair rate, and small numbers
-  pub record IsInRange (p : Planned P) : Type 0 where
-    pub pairs : List (P × P)
+  pub record IsInRange (pairs : List (P × P)) (p : Planned P) : Type 0 where
     pub sixteen : length pairs ≤ 16
     pub egress : (q : P) → IsSmallCap (p.caps.egress q)
     pub ingress : (q : P) → IsSmallCap (p.caps.ingress q)

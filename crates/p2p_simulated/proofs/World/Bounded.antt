@@ -30,7 +30,7 @@ each_place Q (y ∷ ys) h (suc i) x e = each_place Q ys h.1 i x e
 abbrev pub IsSlow : Option Amount → Type 0
 IsSlow rate = IfSome rate (λ r. IsSmallRate r)
 
-module _ {P : Type 0} (cmp : P → P → Ordering) (order : IsTotalOrder cmp) (pairs : List (P × P)) (sixteen : length pairs ≤ 16) where
+module _ {P : Type 0} (cmp : P → P → Ordering) (order : IsTotalOrder cmp) (pairs : List (P × P)) (sixteen : length pairs ≤ 16) (most : ℕ) (room : most < 2 ^ 64) where
   -- a message in flight in the range, with a rate in the range
   pub record IsSlowFlight (f : Paced P) : Type 0 where
     pub small : IsSmallFlight cmp pairs f
@@ -43,7 +43,7 @@ module _ {P : Type 0} (cmp : P → P → Ordering) (order : IsTotalOrder cmp) (p
     pub sending : Each IsSlowFlight p.sending
     pub waiting : Each (IsSmallMessage cmp pairs) p.waiting
     pub arrivals : (q r : P) → IfSome (p.last_arrival q r) (λ t. (t < 2 ^ 57) × (names_pair cmp pairs q r ≡ true))
-    pub ids : p.next_id + length p.waiting < 2 ^ 64
+    pub ids : p.next_id + length p.waiting ≤ most
 
   -- a message that leaves
   pub record IsLeaver (m : Message P) : Type 0 where
@@ -97,7 +97,7 @@ module _ {P : Type 0} (cmp : P → P → Ordering) (order : IsTotalOrder cmp) (p
   flows_named [] small = tt
   flows_named (f ∷ fs) small = (small.0.named, flows_named fs small.1)
 
-  few_flows : (fs : List (Paced P)) → OneForEachPair cmp (paced_flows fs) → Each (IsSmallFlight cmp pairs) fs → length (paced_flows fs) ≤ 16
+  pub few_flows : (fs : List (Paced P)) → OneForEachPair cmp (paced_flows fs) → Each (IsSmallFlight cmp pairs) fs → length (paced_flows fs) ≤ 16
   few_flows fs one small = let few : length (paced_flows fs) ≤ length pairs = few_messages cmp order (same_itself cmp order) (paced_flows fs) pairs one (flows_named fs small) in omega arith
 
   -- ---- an account
@@ -126,7 +126,7 @@ module _ {P : Type 0} (cmp : P → P → Ordering) (order : IsTotalOrder cmp) (p
   stays_flows t (f ∷ fs) [] all = absurd all
   stays_flows t (f ∷ fs) (g ∷ gs) all = rw (all.0.0, stays_flows t fs gs all.1) refl
 
-  slow_flights : (per : ℕ) (rates : Parts) (gs : List (Paced P)) → AllZip (λ rate f. f.rate ≡ rate_of per rate) rates gs → ((i a : ℕ) → slice_get rates i ≡ Some (Some a) → IsSmallRate (reduced a per)) → Each (IsSmallFlight cmp pairs) gs → Each IsSlowFlight gs
+  pub slow_flights : (per : ℕ) (rates : Parts) (gs : List (Paced P)) → AllZip (λ rate f. f.rate ≡ rate_of per rate) rates gs → ((i a : ℕ) → slice_get rates i ≡ Some (Some a) → IsSmallRate (reduced a per)) → Each (IsSmallFlight cmp pairs) gs → Each IsSlowFlight gs
   slow_flights per [] [] rated slow small = tt
   slow_flights per [] (g ∷ gs) rated slow small = absurd rated
   slow_flights per (r ∷ rs) [] rated slow small = absurd rated

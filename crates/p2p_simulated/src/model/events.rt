@@ -1,5 +1,5 @@
 //! The event rule stands for the simulation.
-ghost use Rattle.std.specs.Prelude.{◌≡◌, ℕ, ◌≤◌, List, Option, Some};
+ghost use Rattle.std.specs.Prelude.{◌≡◌, ℕ, ◌≤◌, [], List, Option, Some};
 ghost use Rattle.std.specs.List.{AllZip};
 ghost use Rattle.p2p_simulated.specs.WorldMessages.{Message, Caps, CapsAlike, SameMessage};
 ghost use Rattle.p2p_simulated.specs.WorldRates.{Parts, AreFair};
@@ -8,6 +8,9 @@ ghost use Rattle.p2p_simulated.specs.WorldTime.{NextIs};
 ghost use Rattle.p2p_simulated.specs.WorldCalls.{Call, call_advance, moment_of, Runs, IsInTurn};
 ghost use Rattle.p2p_simulated.specs.WorldPlanned.{Planned, new_planned, next_event};
 ghost use Rattle.p2p_simulated.specs.WorldEvents.{Settles, Advances, Obeys};
+ghost use Rattle.p2p_simulated.specs.WorldIsolation.{InTime};
+ghost use Rattle.p2p_simulated.specs.WorldRefusals.{Obeyed};
+ghost use Rattle.p2p_simulated.specs.WorldReplies.{Reply, Agrees};
 ghost use Rattle.p2p_simulated.specs.WorldStands.{Tallies, IsSettled, CoursesAlike, StandsFor};
 
 /// Messages that are alike up to equal peers have the same fair rates, under caps that are alike.
@@ -41,4 +44,9 @@ pub fn advancing_is_ticking<P: Ord>()
 pub fn calls_do_the_same<P: Ord>()
     ensures { (p : Planned P) (w : World P) (call : Call P) (now : ℕ) (course : Course (Completed P) (Planned P)) → StandsFor P.cmp p w → moment_of call ≡ Some now → now ≤ last_moment → IsInTurn P.cmp w call → Obeys P.cmp p call course →
         (c : Course (Completed P) (World P)) × Runs P.cmp w call now c × CoursesAlike P.cmp (λ q v. StandsFor P.cmp q v × (v.moment ≡ now)) course c }
+{}
+
+/// Replies by the event rule, from the new planned world on, agree with the simulation: every completion and every next event are its own, a fault is refused where it meets one, and a number is refused only out of the range.
+pub fn replies_agree<P: Ord>()
+    ensures { (calls : List (Call P)) (replies : List (Reply P)) → InTime calls → Obeyed P.cmp (new_planned 0) calls replies → Agrees P.cmp (new_world 0) [] calls replies }
 {}

@@ -1,5 +1,5 @@
 //! What stays within bounds: numbers in the range, the bytes of an origin, and the messages of a set of peers.
-ghost use Rattle.std.specs.Prelude.{◌≡◌, ℕ, ◌-◌, ◌<◌, ◌^◌, Bool, Contains, List, Option, Some, map};
+ghost use Rattle.std.specs.Prelude.{◌≡◌, ℕ, ◌+◌, ◌-◌, ◌<◌, ◌≤◌, ◌^◌, Bool, Contains, List, Option, Some, length, map};
 ghost use Rattle.std.specs.List.{filter};
 ghost use Rattle.p2p_simulated.specs.Amount.{Amount, drained, plus};
 ghost use Rattle.p2p_simulated.specs.Fraction.{IsReduced};
@@ -8,10 +8,16 @@ ghost use Rattle.p2p_simulated.specs.FairPart.{kept};
 ghost use Rattle.p2p_simulated.specs.Time.{TakenFits, SecondsFit};
 ghost use Rattle.p2p_simulated.specs.WorldMessages.{Message, Caps};
 ghost use Rattle.p2p_simulated.specs.WorldRates.{Parts, AreFair};
-ghost use Rattle.p2p_simulated.specs.World.{World, new_world, Completed, goes};
+ghost use Rattle.p2p_simulated.specs.World.{World, new_world, Completed, Course, goes};
 ghost use Rattle.p2p_simulated.specs.WorldTime.{IsSound};
 ghost use Rattle.p2p_simulated.specs.WorldCalls.{Call, call_advance, Runs};
-ghost use Rattle.p2p_simulated.specs.WorldStands.{IsSmallAmount, IsSmallRate};
+ghost use Rattle.p2p_simulated.specs.declared.error.Error.{Error as AnyError};
+ghost use Rattle.p2p_simulated.specs.declared.error.Error.TheVariants.{OutOfMemory};
+ghost use Rattle.p2p_simulated.specs.WorldReplies.{IsSmallCall, messages_in};
+ghost use Rattle.p2p_simulated.specs.WorldPlanned.{Planned, new_planned};
+ghost use Rattle.p2p_simulated.specs.WorldEvents.{Obeys};
+ghost use Rattle.p2p_simulated.specs.WorldRefusals.{MayBeRefused};
+ghost use Rattle.p2p_simulated.specs.WorldStands.{IsSmallAmount, IsSmallRate, IsInRange};
 ghost use Rattle.p2p_simulated.specs.WorldBytes.{bytes_from, allowance};
 ghost use Rattle.p2p_simulated.specs.WorldIsolation.{Answers, AnswersInTurn, IsSet, KeepsApart, InTime, is_kept, kept_completions, NothingElse};
 
@@ -20,6 +26,14 @@ pub fn the_range_is_kept_by_draining()
     ensures kept { (left rate : Amount) (n : ℕ) → IsSmallAmount left → IsSmallRate rate → IsSmallAmount (drained left rate n) }
     ensures drain { (left rate : Amount) (n : ℕ) → IsReduced left.num left.den → IsSmallAmount left → IsSmallRate rate → n < 2 ^ 57 → TakenFits rate n left }
     ensures time { (left rate : Amount) → IsSmallAmount left → IsSmallRate rate → 0 < rate.num → SecondsFit rate left }
+{}
+
+/// A call in the range on a planned world in the range, its own message and pair counted, goes and leaves it in the range, and may be refused for want of memory alone. A new planned world is in the range.
+pub fn calls_in_the_range_are_not_refused<P: Ord>()
+    ensures new { (pairs : List (P × P)) (id : ℕ) → length pairs ≤ 16 → id < 2 ^ 64 → IsInRange P.cmp pairs (new_planned id) }
+    ensures kept { (pairs : List (P × P)) (p : Planned P) (call : Call P) (course : Course (Completed P) (Planned P)) → IsInRange P.cmp pairs p → IsSmallCall P.cmp pairs call → p.next_id + length p.waiting + messages_in call < 2 ^ 64 → Obeys P.cmp p call course →
+        (cs : List (Completed P)) × (q : Planned P) × (course ≡ goes cs q) × IsInRange P.cmp pairs q }
+    ensures refused { (pairs : List (P × P)) (p : Planned P) (call : Call P) (why : AnyError) → IsInRange P.cmp pairs p → IsSmallCall P.cmp pairs call → p.next_id + length p.waiting + messages_in call < 2 ^ 64 → MayBeRefused P.cmp p call why → why ≡ OutOfMemory }
 {}
 
 /// In one `advance` the bytes left of an origin go down by no more than its egress cap lets go.
