@@ -44,3 +44,5 @@ pub mod Bounded
 pub mod InRange
 pub mod CallsInRange
 pub mod Agreeing
+pub mod Counting
+pub mod Onward

@@ -95,3 +95,10 @@ module _ {P : Type 0} (cmp : P → P → Ordering) where
     pub rates : Parts
     pub fair : AreFair cmp p.caps (paced_flows p.sending) per rates
     pub rated : AllZip (λ rate f. f.rate ≡ rate_of per rate) rates p.sending
+
+  -- what is planned is right: the finish is the least moment at which something in flight has nothing left, and the start the least one, from some moment on, at which a pair is ready; before any limit nothing waits
+  pub record IsPlanned (p : Planned P) : Type 0 where
+    pub finish : IsLeastMoment (SomeSpentAt p.sending) p.finish
+    pub from : ℕ
+    pub start : IsLeastMoment (λ s. (from ≤ s) × SomeReadyAt p s) p.start
+    pub none_at_first : p.limited ≡ false → p.waiting ≡ []

@@ -1,12 +1,12 @@
 //! The event rule stands for the simulation.
-ghost use Rattle.std.specs.Prelude.{◌≡◌, ℕ, ◌≤◌, [], List, Option, Some};
+ghost use Rattle.std.specs.Prelude.{◌≡◌, ℕ, ◌+◌, ◌*◌, ◌≤◌, [], List, Option, Some, length};
 ghost use Rattle.std.specs.List.{AllZip};
 ghost use Rattle.p2p_simulated.specs.WorldMessages.{Message, Caps, CapsAlike, SameMessage};
 ghost use Rattle.p2p_simulated.specs.WorldRates.{Parts, AreFair};
-ghost use Rattle.p2p_simulated.specs.World.{World, new_world, Completed, Course, last_moment, settle, IsQuiet};
+ghost use Rattle.p2p_simulated.specs.World.{World, new_world, Completed, Course, goes, last_moment, settle, IsQuiet};
 ghost use Rattle.p2p_simulated.specs.WorldTime.{NextIs};
 ghost use Rattle.p2p_simulated.specs.WorldCalls.{Call, call_advance, moment_of, Runs, IsInTurn};
-ghost use Rattle.p2p_simulated.specs.WorldPlanned.{Planned, new_planned, next_event};
+ghost use Rattle.p2p_simulated.specs.WorldPlanned.{Planned, new_planned, next_event, IsPlanned};
 ghost use Rattle.p2p_simulated.specs.WorldEvents.{Settles, Advances, Obeys};
 ghost use Rattle.p2p_simulated.specs.WorldIsolation.{InTime};
 ghost use Rattle.p2p_simulated.specs.WorldRefusals.{Obeyed};
@@ -49,4 +49,11 @@ pub fn calls_do_the_same<P: Ord>()
 /// Replies by the event rule, from the new planned world on, agree with the simulation: every completion and every next event are its own, a fault is refused where it meets one, and a number is refused only out of the range.
 pub fn replies_agree<P: Ord>()
     ensures { (calls : List (Call P)) (replies : List (Reply P)) → InTime calls → Obeyed P.cmp (new_planned 0) calls replies → Agrees P.cmp (new_world 0) [] calls replies }
+{}
+
+/// In one `advance`, at any moments, there are at most twice as many events as messages wait and once as many as are in flight. What is planned is right in a new planned world and after each call that goes.
+pub fn an_advance_has_few_events<P: Ord>()
+    ensures new { (id : ℕ) → IsPlanned P.cmp (new_planned id) }
+    ensures kept { (p q : Planned P) (call : Call P) (cs : List (Completed P)) → IsPlanned P.cmp p → Obeys P.cmp p call (goes cs q) → IsPlanned P.cmp q }
+    ensures few { (p : Planned P) (now n : ℕ) (course : Course (Completed P) (Planned P)) → IsPlanned P.cmp p → Advances P.cmp now p n course → n ≤ 2 * length p.waiting + length p.sending }
 {}

@@ -1,9 +1,9 @@
 //! How nanoseconds add up, and that the simulation has one outcome.
-ghost use Rattle.std.specs.Prelude.{◌↔◌, ◌≡◌, ℕ, ◌+◌, ◌<◌, ◌≤◌, Option, Some, IfSome};
+ghost use Rattle.std.specs.Prelude.{◌↔◌, ◌≡◌, ℕ, ◌+◌, ◌<◌, ◌≤◌, List, Option, Some, IfSome};
 ghost use Rattle.p2p_simulated.specs.WorldRates.{Parts, AreFair};
-ghost use Rattle.p2p_simulated.specs.World.{World, new_world, Completed, Course, flows, IsQuiet, EndsWith};
+ghost use Rattle.p2p_simulated.specs.World.{World, new_world, Completed, Course, goes, preceded, flows, IsQuiet, EndsWith};
 ghost use Rattle.p2p_simulated.specs.WorldTime.{ArePositive, drifted, Drains, Passes, Ticks, Continues, NextIs, IsSound};
-ghost use Rattle.p2p_simulated.specs.WorldCalls.{Call, moment_of, Runs};
+ghost use Rattle.p2p_simulated.specs.WorldCalls.{Call, call_advance, moment_of, Runs};
 
 /// Ticking quiet nanoseconds one by one is draining once for all of them.
 pub fn a_quiet_stretch_is_one_drain<P: Ord>()
@@ -35,4 +35,9 @@ pub fn a_call_has_one_course<P: Ord>()
     ensures sound { (w : World P) (call : Call P) (now : ℕ) (course : Course (Completed P) (World P)) → IsSound P.cmp w → Runs P.cmp w call now course → EndsWith (IsSound P.cmp) course }
     ensures quiet { (w : World P) (call : Call P) (now : ℕ) (course : Course (Completed P) (World P)) → IsQuiet P.cmp w.moment w → moment_of call ≡ Some now → w.moment ≤ now → Runs P.cmp w call now course →
         EndsWith (λ v. IsQuiet P.cmp now v × (v.moment ≡ now) × ((next : Option ℕ) → NextIs P.cmp v next → IfSome next (λ t. now < t))) course }
+{}
+
+/// Advancing to a moment and then on to a later one answers, together, what advancing to the later one answers, and ends in the same world.
+pub fn advancing_splits<P: Ord>()
+    ensures { (w v : World P) (a b : ℕ) (cs : List (Completed P)) (course : Course (Completed P) (World P)) → w.moment ≤ a → a ≤ b → Runs P.cmp w (call_advance a) a (goes cs v) → Runs P.cmp v (call_advance b) b course → Runs P.cmp w (call_advance b) b (preceded cs course) }
 {}
