@@ -312,3 +312,7 @@ module _ {P : Type 0} (cmp : P → P → Ordering) (order : IsTotalOrder cmp) (p
 -- all messages share one cap evenly
 abbrev pub evenly : {P : Type 0} → ℕ → World P → Shares
 evenly cap w = record { per = max 1 (length w.sending); parts = λ place. cap }
+
+-- all messages share the egress cap of the first peer evenly
+abbrev pub evenly_by_first : World ℕ → Shares
+evenly_by_first w = record { per = max 1 (length w.sending); parts = λ place. elim (w.caps.egress 1) [ None ↦ 0 | Some cap ↦ cap ] }

@@ -6,6 +6,7 @@ ghost use Rattle.std.specs.Ordering.{nat_cmp};
 ghost use Rattle.p2p_simulated.specs.World.{new_world};
 ghost use Rattle.p2p_simulated.specs.WorldCalls.{call_limit, call_limit_link, call_enqueue, call_advance, call_next};
 ghost use Rattle.p2p_simulated.specs.WorldReplies.{reply_done, reply_next, reply_refused, Agrees};
+ghost use Rattle.p2p_simulated.specs.declared.error.Error.TheVariants.{MomentTooLate, FlowIdsUsedUp};
 ghost use Rattle.p2p_simulated.specs.WorldRows.{message, dropped, arrives, is_gone, a_byte_a_nanosecond};
 
 /// Three bytes take three nanoseconds, and arrive their latency later.
@@ -42,4 +43,81 @@ pub fn a_pair_sends_one_message_at_a_time()
         ∷ call_next ∷ call_advance 2 ∷ call_next ∷ call_advance 3 ∷ call_next ∷ [])
         (reply_done [] ∷ reply_done [] ∷ reply_done [] ∷ reply_done []
         ∷ reply_next (Some 2) ∷ reply_done (arrives (message 1 2 1 0) 2 ∷ arrives (message 1 3 1 0) 2 ∷ []) ∷ reply_next (Some 3) ∷ reply_done (arrives (message 1 2 1 0) 3 ∷ []) ∷ reply_next None ∷ []) }
+{}
+
+/// Before any limit messages complete at once. One that is dropped does not let a later one arrive earlier.
+pub fn nothing_waits_before_any_limit()
+    ensures { Agrees nat_cmp (new_world 0) []
+        (call_enqueue 0 (message 1 2 1 100) ∷ call_enqueue 0 (dropped 1 2 1 0) ∷ call_enqueue 0 (message 1 2 1 50) ∷ call_next ∷ [])
+        (reply_done (arrives (message 1 2 1 100) 100 ∷ []) ∷ reply_done (is_gone (dropped 1 2 1 0) ∷ []) ∷ reply_done (arrives (message 1 2 1 50) 100 ∷ []) ∷ reply_next None ∷ []) }
+{}
+
+/// A message to oneself is delivered before any limit, and dropped after one, also after a limit of nothing.
+pub fn a_message_to_oneself_is_dropped_under_limits()
+    ensures { Agrees nat_cmp (new_world 0) []
+        (call_enqueue 0 (message 1 1 1 0) ∷ call_limit 0 1 None None ∷ call_enqueue 0 (message 1 1 1 0) ∷ call_next ∷ [])
+        (reply_done (arrives (message 1 1 1 0) 0 ∷ []) ∷ reply_done [] ∷ reply_done (is_gone (message 1 1 1 0) ∷ []) ∷ reply_next None ∷ []) }
+{}
+
+/// A link limits what goes from a peer to itself, though it is dropped.
+pub fn a_link_to_oneself_takes_time()
+    ensures { Agrees nat_cmp (new_world 0) []
+        (call_limit_link 0 1 1 a_byte_a_nanosecond ∷ call_enqueue 0 (message 1 1 1 0) ∷ call_next ∷ call_advance 1 ∷ call_next ∷ [])
+        (reply_done [] ∷ reply_done [] ∷ reply_next (Some 1) ∷ reply_done (is_gone (message 1 1 1 0) ∷ []) ∷ reply_next None ∷ []) }
+{}
+
+/// New caps hold at once: half of four bytes went, and the rest takes twice as long.
+pub fn new_caps_hold_at_once()
+    ensures { Agrees nat_cmp (new_world 0) []
+        (call_limit 0 1 a_byte_a_nanosecond None ∷ call_enqueue 0 (message 1 2 4 0) ∷ call_limit 2 1 (Some 500_000_000) None ∷ call_next ∷ call_advance 6 ∷ call_next ∷ [])
+        (reply_done [] ∷ reply_done [] ∷ reply_done [] ∷ reply_next (Some 6) ∷ reply_done (arrives (message 1 2 4 0) 6 ∷ []) ∷ reply_next None ∷ []) }
+{}
+
+/// At a cap of zero a message stays, but one without bytes goes at once.
+pub fn a_closed_peer_sends_nothing()
+    ensures { Agrees nat_cmp (new_world 0) []
+        (call_limit 0 1 (Some 0) None ∷ call_enqueue 0 (message 1 2 1 0) ∷ call_enqueue 0 (message 1 3 0 0) ∷ call_limit 2 1 a_byte_a_nanosecond None ∷ call_next ∷ call_advance 3 ∷ call_next ∷ [])
+        (reply_done [] ∷ reply_done [] ∷ reply_done (arrives (message 1 3 0 0) 0 ∷ []) ∷ reply_done [] ∷ reply_next (Some 3) ∷ reply_done (arrives (message 1 2 1 0) 3 ∷ []) ∷ reply_next None ∷ []) }
+{}
+
+/// A message that will be dropped waits for the one ahead of it, too.
+pub fn a_dropped_follower_waits()
+    ensures { Agrees nat_cmp (new_world 0) []
+        (call_limit 0 1 a_byte_a_nanosecond None ∷ call_enqueue 0 (message 1 2 1 1) ∷ call_enqueue 0 (dropped 1 2 0 0) ∷ call_next ∷ call_advance 1 ∷ call_next ∷ call_advance 2 ∷ call_next ∷ [])
+        (reply_done [] ∷ reply_done [] ∷ reply_done [] ∷ reply_next (Some 1) ∷ reply_done (arrives (message 1 2 1 1) 2 ∷ []) ∷ reply_next (Some 2) ∷ reply_done (is_gone (dropped 1 2 0 0) ∷ []) ∷ reply_next None ∷ []) }
+{}
+
+/// Completions of one instant come in order of start, not in the order of pairs.
+pub fn completions_come_in_order_of_start()
+    ensures { Agrees nat_cmp (new_world 0) []
+        (call_limit 0 1 a_byte_a_nanosecond None ∷ call_enqueue 0 (message 1 3 1 0) ∷ call_enqueue 0 (message 1 2 1 0) ∷ call_next ∷ call_advance 2 ∷ [])
+        (reply_done [] ∷ reply_done [] ∷ reply_done [] ∷ reply_next (Some 2) ∷ reply_done (arrives (message 1 3 1 0) 2 ∷ arrives (message 1 2 1 0) 2 ∷ []) ∷ []) }
+{}
+
+/// Starts of one instant come in the order of pairs, not in that of enqueue.
+pub fn starts_come_in_the_order_of_pairs()
+    ensures { Agrees nat_cmp (new_world 0) []
+        (call_enqueue 0 (message 1 3 1 2) ∷ call_enqueue 0 (message 1 2 1 2) ∷ call_limit 0 1 a_byte_a_nanosecond None ∷ call_enqueue 0 (message 1 3 0 0) ∷ call_enqueue 0 (message 1 2 0 0) ∷ call_next ∷ call_advance 2 ∷ call_next ∷ [])
+        (reply_done (arrives (message 1 3 1 2) 2 ∷ []) ∷ reply_done (arrives (message 1 2 1 2) 2 ∷ []) ∷ reply_done [] ∷ reply_done [] ∷ reply_done [] ∷ reply_next (Some 2) ∷ reply_done (arrives (message 1 2 0 0) 2 ∷ arrives (message 1 3 0 0) 2 ∷ []) ∷ reply_next None ∷ []) }
+{}
+
+/// Two origins share the ingress of a recipient.
+pub fn an_ingress_is_shared()
+    ensures { Agrees nat_cmp (new_world 0) []
+        (call_limit 0 3 None a_byte_a_nanosecond ∷ call_enqueue 0 (message 1 3 1 0) ∷ call_enqueue 0 (message 2 3 1 0) ∷ call_enqueue 0 (dropped 4 3 5 0) ∷ call_next ∷ call_advance 2 ∷ call_next ∷ [])
+        (reply_done [] ∷ reply_done [] ∷ reply_done [] ∷ reply_done (is_gone (dropped 4 3 5 0) ∷ []) ∷ reply_next (Some 2) ∷ reply_done (arrives (message 1 3 1 0) 2 ∷ arrives (message 2 3 1 0) 2 ∷ []) ∷ reply_next None ∷ []) }
+{}
+
+/// An arrival past the last moment is refused, and the world stays as it was.
+pub fn a_late_arrival_is_refused()
+    ensures { Agrees nat_cmp (new_world 0) []
+        (call_enqueue 1 (message 1 2 1 18_446_744_073_709_551_615) ∷ call_next ∷ call_enqueue 0 (message 1 2 1 18_446_744_073_709_551_615) ∷ [])
+        (reply_refused MomentTooLate ∷ reply_next None ∷ reply_done (arrives (message 1 2 1 18_446_744_073_709_551_615) 18_446_744_073_709_551_615 ∷ []) ∷ []) }
+{}
+
+/// With the flow ids used up no message starts; one that could start at once is refused.
+pub fn a_start_without_an_id_is_refused()
+    ensures { Agrees nat_cmp (new_world 18_446_744_073_709_551_614) []
+        (call_limit 0 1 a_byte_a_nanosecond None ∷ call_enqueue 0 (message 1 2 2 0) ∷ call_enqueue 0 (message 1 3 1 0) ∷ call_next ∷ call_advance 2 ∷ call_next ∷ [])
+        (reply_done [] ∷ reply_done [] ∷ reply_refused FlowIdsUsedUp ∷ reply_next (Some 2) ∷ reply_done (arrives (message 1 2 2 0) 2 ∷ []) ∷ reply_next None ∷ []) }
 {}
