@@ -46,3 +46,4 @@ pub mod CallsInRange
 pub mod Agreeing
 pub mod Counting
 pub mod Onward
+pub mod Differs

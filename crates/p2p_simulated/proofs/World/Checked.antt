@@ -20,7 +20,7 @@ use Rattle.p2p_simulated.proofs.World.Limit.{no_sides}
 
 -- ---- lists
 
-both_true : (a b : Bool) → (a && b) ≡ true → (a ≡ true) × (b ≡ true)
+pub both_true : (a b : Bool) → (a && b) ≡ true → (a ≡ true) × (b ≡ true)
 both_true true true e = (refl, refl)
 both_true true false e = cc
 both_true false b e = cc
@@ -237,7 +237,7 @@ module _ {P : Type 0} (cmp : P → P → Ordering) (order : IsTotalOrder cmp) (p
   same_all [] = tt
   same_all (c ∷ cs) = (record { origin = same_itself cmp order c.origin; recipient = same_itself cmp order c.recipient; channel = refl; bytes = refl; deliver_at = refl }, same_all cs)
 
-  runs_so : (w : World P) (call : Call P) (now : ℕ) → may_tick (now - w.moment) w ≡ true → Runs cmp w call now (course_of w call now)
+  pub runs_so : (w : World P) (call : Call P) (now : ℕ) → may_tick (now - w.moment) w ≡ true → Runs cmp w call now (course_of w call now)
   runs_so w call now e = record { ticked = ticked (now - w.moment) w; ticks = ticks_so (now - w.moment) w e; acts = refl }
 
   -- a call is accepted, or meets its fault
