@@ -47,3 +47,4 @@ pub mod Agreeing
 pub mod Counting
 pub mod Onward
 pub mod Differs
+pub mod LongRow

@@ -1,7 +1,10 @@
 -- For worked examples: peers are numbers, and a cap of a billion is one byte a nanosecond.
-use Rattle.std.specs.Prelude.{ℕ, zero, suc, List, [], ◌∷◌, true, false, Option, Some, None}
-use Rattle.p2p_simulated.specs.WorldMessages.{Message}
-use Rattle.p2p_simulated.specs.World.{Completed, completion_of}
+use Rattle.std.specs.Prelude.{ℕ, zero, suc, List, [], ◌∷◌, true, false, length, Option, Some, None}
+use Rattle.std.specs.Ordering.{nat_cmp}
+use Rattle.p2p_simulated.specs.Amount.{whole}
+use Rattle.p2p_simulated.specs.WorldMessages.{Message, no_caps}
+use Rattle.p2p_simulated.specs.World.{World, Completed, completion_of}
+use Rattle.p2p_simulated.specs.WorldCalls.{limited_by}
 
 -- so many bytes
 abbrev pub bytes : ℕ → List ℕ
@@ -27,3 +30,15 @@ is_gone m = completion_of m None
 -- one byte a nanosecond
 abbrev pub a_byte_a_nanosecond : Option ℕ
 a_byte_a_nanosecond = Some 1_000_000_000
+
+-- at moment 0, the first peer has that egress cap, and the message has just started
+abbrev pub flying : ℕ → Message ℕ → World ℕ
+flying cap m = record {
+  caps = limited_by nat_cmp no_caps 1 (Some cap) None;
+  limited = true;
+  sending = record { message = m; left = whole (length m.bytes) } ∷ [];
+  waiting = [];
+  last_arrival = λ p q. None;
+  next_id = 1;
+  moment = 0;
+}

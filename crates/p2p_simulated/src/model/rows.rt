@@ -4,10 +4,11 @@
 ghost use Rattle.std.specs.Prelude.{◌∷◌, [], Some, None};
 ghost use Rattle.std.specs.Ordering.{nat_cmp};
 ghost use Rattle.p2p_simulated.specs.World.{new_world};
+ghost use Rattle.p2p_simulated.specs.WorldTime.{NextIs};
 ghost use Rattle.p2p_simulated.specs.WorldCalls.{call_limit, call_limit_link, call_enqueue, call_advance, call_next};
 ghost use Rattle.p2p_simulated.specs.WorldReplies.{reply_done, reply_next, reply_refused, Agrees};
 ghost use Rattle.p2p_simulated.specs.declared.error.Error.TheVariants.{MomentTooLate, FlowIdsUsedUp};
-ghost use Rattle.p2p_simulated.specs.WorldRows.{message, dropped, arrives, is_gone, a_byte_a_nanosecond};
+ghost use Rattle.p2p_simulated.specs.WorldRows.{message, dropped, arrives, is_gone, a_byte_a_nanosecond, flying};
 
 /// Three bytes take three nanoseconds, and arrive their latency later.
 pub fn a_message_takes_its_time()
@@ -155,4 +156,9 @@ pub fn an_early_follower_does_not_agree()
     ensures { ¬ Agrees nat_cmp (new_world 0) []
         (call_limit 0 1 a_byte_a_nanosecond None ∷ call_enqueue 0 (message 1 2 4 3) ∷ call_enqueue 0 (message 1 2 2 1) ∷ call_advance 6 ∷ [])
         (reply_done [] ∷ reply_done [] ∷ reply_done [] ∷ reply_done (arrives (message 1 2 4 3) 7 ∷ arrives (message 1 2 2 1) 7 ∷ []) ∷ []) }
+{}
+
+/// At three bytes a second one byte takes 333333334 nanoseconds: a third of a second, rounded up.
+pub fn a_slow_message_takes_long()
+    ensures { NextIs nat_cmp (flying 3 (message 1 2 1 0)) (Some 333_333_334) }
 {}
