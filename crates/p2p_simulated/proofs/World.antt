@@ -48,3 +48,4 @@ pub mod Counting
 pub mod Onward
 pub mod Differs
 pub mod LongRow
+pub mod PairHistory

@@ -33,6 +33,7 @@ pub mod WorldCalls
 pub mod WorldEvents
 pub mod WorldIsolation
 pub mod WorldMessages
+pub mod WorldOrder
 pub mod WorldPass
 pub mod WorldPlanned
 pub mod WorldQueue

@@ -9,4 +9,5 @@ pub mod events;
 pub mod instants;
 pub mod range;
 pub mod rows;
+pub mod runs;
 pub mod time;
