@@ -19,7 +19,8 @@ agrees_none sides rates none = record {
 }
 
 -- a level within the caps is no greater than what a rising flow has in a fair allocation
-module _ (sides : List Side) (per : ℕ) (parts : ℕ → ℕ) (fair : IsFair sides per parts) (rates : List (Option Ratio)) (level : ℕ) (within : IsWithinCaps sides per (at_level (parts_at rates parts) level)) where
+module _ (sides : List Side) (per : ℕ) (parts : ℕ → ℕ) (fair : IsFair sides per parts) (rates : List (Option Ratio)) (level : ℕ)
+    (within : IsWithinCaps sides per (at_level (parts_at rates parts) level)) where
   above : (i : ℕ) → IsLimited sides i → rate_at rates i ≡ None → level ≤ parts i
   above i limited rises = elim (cases_lt (parts i) level) [
     | inr le ↦ le
@@ -29,7 +30,8 @@ module _ (sides : List Side) (per : ℕ) (parts : ℕ → ℕ) (fair : IsFair si
           | inl e ↦ omega (arith, level_of_none rates parts level j e, lt, All-contains (λ k. parts k ≤ parts i) h.side.users j h.greatest used)
           | inr (rate, e) ↦ omega (arith, level_of_some rates parts level j (some_is (rate_at rates j) rate e))
         ] in
-        let less = sum_by_under parts (at_level (parts_at rates parts) level) h.side.users i h.uses.used (All-by_contains (λ j. parts j ≤ at_level (parts_at rates parts) level j) h.side.users each) (omega (arith, level_of_none rates parts level i rises, lt)) in
+        let less = sum_by_under parts (at_level (parts_at rates parts) level) h.side.users i h.uses.used
+        (All-by_contains (λ j. parts j ≤ at_level (parts_at rates parts) level j) h.side.users each) (omega (arith, level_of_none rates parts level i rises, lt)) in
         absurd (omega (arith, less, h.full, All-contains (λ s. load (at_level (parts_at rates parts) level) s ≤ s.cap * per) sides h.side within h.uses.listed))
   ]
 
@@ -42,11 +44,13 @@ module _ (sides : List Side) (per : ℕ) (parts : ℕ → ℕ) (fair : IsFair si
           | inl e ↦ omega (arith, level_of_none rates parts level j e, above j (s, record { listed = uses.listed; used = used }) e)
           | inr (rate, e) ↦ omega (arith, level_of_some rates parts level j (some_is (rate_at rates j) rate e))
         ] in
-        let less = sum_by_under (at_level (parts_at rates parts) level) parts s.users i uses.used (All-by_contains (λ j. at_level (parts_at rates parts) level j ≤ parts j) s.users each) (omega (arith, level_of_none rates parts level i rises, lt)) in
+        let less = sum_by_under (at_level (parts_at rates parts) level) parts s.users i uses.used
+        (All-by_contains (λ j. at_level (parts_at rates parts) level j ≤ parts j) s.users each) (omega (arith, level_of_none rates parts level i rises, lt)) in
         absurd (omega (arith, less, full, All-contains (λ s. load parts s ≤ s.cap * per) sides s fair.within uses.listed))
   ]
 
-module _ (sides : List Side) (rates after : List (Option Ratio)) (rate : Ratio) (room : RoomOnAll sides rates rate) (side : Side) (listed : Contains sides side) (fills : FillsAt rates rate side) (freezes : FreezesAll side.users rates after rate) where
+module _ (sides : List Side) (rates after : List (Option Ratio)) (rate : Ratio) (room : RoomOnAll sides rates rate) (side : Side) (listed : Contains sides side)
+    (fills : FillsAt rates rate side) (freezes : FreezesAll side.users rates after rate) where
   module _ (per : ℕ) (parts : ℕ → ℕ) (fair : IsFair sides per parts) (w : AreWorth rates per parts) where
     k : ℕ
     k = rate.denominator
@@ -79,7 +83,9 @@ module _ (sides : List Side) (rates after : List (Option Ratio)) (rate : Ratio) 
     -- a flow that freezes now
     fresh : (i : ℕ) → Contains side.users i → rate_at rates i ≡ None → IsWorth rate (record { num = parts i; den = per })
     unfolding k level
-    fresh i used rises = sym (exact sides (per * k) (finer parts k) fair_there rates level within i side (record { listed = listed; used = used }) (fills.full (per * k) (finer parts k) level there worth_there) rises)
+    fresh i used rises =
+        sym (exact sides (per * k) (finer parts k) fair_there rates level within i side (record { listed = listed; used = used })
+        (fills.full (per * k) (finer parts k) level there worth_there) rises)
 
   -- the round
   pub agrees_more : AgreesWithFair sides rates → AgreesWithFair sides after

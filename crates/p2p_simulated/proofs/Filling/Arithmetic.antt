@@ -45,7 +45,8 @@ same_parts ln ld p q per ld_pos first second =
     eq_of_mul-eq-mul_right ld ld_pos p q (omega (arith, first, second))
 
 -- a side is full where its rising users stand at their share of what is left
-pub fill_parts : (sn sd tn td cap users total level per rest : ℕ) → 0 < sd → 0 < td → rest + tn ≡ cap * td → sn * (td * users) ≡ rest * sd → sn * per ≡ level * sd → tn * per ≡ total * td → total + level * users ≡ cap * per
+pub fill_parts : (sn sd tn td cap users total level per rest : ℕ) → 0 < sd → 0 < td → rest + tn ≡ cap * td → sn * (td * users) ≡ rest * sd → sn * per ≡ level * sd
+    → tn * per ≡ total * td → total + level * users ≡ cap * per
 fill_parts sn sd tn td cap users total level per rest sd_pos td_pos whole share level_worth total_worth =
     let one : (total + level * users) * td * sd ≡ cap * per * td * sd =
     omega (arith, ap (λ n. n * (per * sd)) whole, ap (λ n. n * per) share, ap (λ n. n * (users * td)) level_worth, ap (λ n. n * sd) total_worth) in

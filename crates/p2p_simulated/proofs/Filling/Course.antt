@@ -30,7 +30,8 @@ use Rattle.p2p_simulated.proofs.Filling.Sums.{counted}
 
 -- ---- before the first round
 
-pub start_of : (opens : List OpenSide) (rates : List (Option Ratio)) → All (λ side. amount_of side.taken ≡ whole 0) opens → ((flow : ℕ) → rate_at rates flow ≡ None) → IsStart (map whole_side opens) rates opens
+pub start_of : (opens : List OpenSide) (rates : List (Option Ratio)) → All (λ side. amount_of side.taken ≡ whole 0) opens → ((flow : ℕ) → rate_at rates flow ≡ None)
+    → IsStart (map whole_side opens) rates opens
 start_of opens rates none_counted none = record {
   one_each = sym (length-map opens whole_side);
   accounts = λ k d e inside.
@@ -52,7 +53,9 @@ module _ (sides : List Side) (rates : List (Option Ratio)) (opens : List OpenSid
   }
 
   -- one more
-  pub first_more : (shares later : List (Reverse Share)) (i : ℕ) (rate : Ratio) (e : OpenSide) → i < length sides → AreShares sides rates opens shares → count_by (is_at i) shares ≡ 0 → ((d : OpenSide) → 0 < length (get_or opens i d).rising.items) → ((d : OpenSide) → IsShareOf (get_or opens i d) rate) → IsPermutation ((record { 0 = record { rate = rate; place = i } }) ∷ shares) later → AreShares sides rates opens later
+  pub first_more : (shares later : List (Reverse Share)) (i : ℕ) (rate : Ratio) (e : OpenSide) → i < length sides → AreShares sides rates opens shares → count_by (is_at i) shares ≡ 0
+      → ((d : OpenSide) → 0 < length (get_or opens i d).rising.items) → ((d : OpenSide) → IsShareOf (get_or opens i d) rate)
+      → IsPermutation ((record { 0 = record { rate = rate; place = i } }) ∷ shares) later → AreShares sides rates opens later
   first_more shares later i rate e inside are none some exact perm =
       let x : Reverse Share = record { 0 = record { rate = rate; place = i } } in
       record {
@@ -72,7 +75,9 @@ module _ (sides : List Side) (rates : List (Option Ratio)) (opens : List OpenSid
   first_without i e inside none d = all_counted (get_or sides i d) rates (get_or opens i e) (start.accounts i d e inside) none
 
 -- the sides before this one and this one
-pub covered_more : (sides : List Side) (rates : List (Option Ratio)) (shares later : List (Reverse Share)) (i : ℕ) → ((k : ℕ) → 0 < count_by (is_at k) shares → 0 < count_by (is_at k) later) → ((k : ℕ) → k < i → IsCovered sides rates shares k) → IsCovered sides rates later i → (k : ℕ) → k < i + 1 → IsCovered sides rates later k
+pub covered_more : (sides : List Side) (rates : List (Option Ratio)) (shares later : List (Reverse Share)) (i : ℕ)
+    → ((k : ℕ) → 0 < count_by (is_at k) shares → 0 < count_by (is_at k) later) → ((k : ℕ) → k < i → IsCovered sides rates shares k) → IsCovered sides rates later i → (k : ℕ)
+    → k < i + 1 → IsCovered sides rates later k
 covered_more sides rates shares later i more before here k inside d = elim (cases_eq k i) [
   | inl same ↦ subst (λ j. IsCovered sides rates later j) (sym same) here d
   | inr other ↦ elim (before k (omega arith) d) [ inl all ↦ inl all | inr some ↦ inr (more k some) ]
@@ -89,7 +94,8 @@ none_yet shares i below = elim (cases_lt 0 (count_by (is_at i) shares)) [
 
 -- ---- a round
 
-module _ (sides : List Side) (rates after : List (Option Ratio)) (opens : List OpenSide) (shares : List (Reverse Share)) (next : Share) (is_next : IsNext sides rates opens shares next) (e : OpenSide) (freezes : FreezesAll (get_or opens next.place e).rising.items rates after next.rate) where
+module _ (sides : List Side) (rates after : List (Option Ratio)) (opens : List OpenSide) (shares : List (Reverse Share)) (next : Share) (is_next : IsNext sides rates opens shares next)
+    (e : OpenSide) (freezes : FreezesAll (get_or opens next.place e).rising.items rates after next.rate) where
   abbrev none : Side
   none = record { cap = 0; users = [] }
 
@@ -194,7 +200,8 @@ module _ (sides : List Side) (rates : List (Option Ratio)) (filling : IsFilling 
   abbrev parts : ℕ → ℕ
   parts flow = parts_of per (rate_at rates flow)
 
-  rate_of_one : (level : ℕ) → IsFilledTo sides per (parts_at rates parts) level → (flow : ℕ) (o : Option Ratio) → rate_at rates flow ≡ o → IsRateOf sides per (at_level (parts_at rates parts) 0) flow (answer_of o)
+  rate_of_one : (level : ℕ) → IsFilledTo sides per (parts_at rates parts) level → (flow : ℕ) (o : Option Ratio) → rate_at rates flow ≡ o
+      → IsRateOf sides per (at_level (parts_at rates parts) 0) flow (answer_of o)
   rate_of_one level filled flow None e = λ limited. let v = some_value (rate_at rates flow) (limited_frozen flow limited) in let e' = v.1 in cc
   rate_of_one level filled flow (Some rate) e =
       let has : parts_at rates parts flow ≡ Some (parts flow) = ap (option_map (λ _. parts flow)) e in
@@ -224,7 +231,8 @@ pub no_fair_fits : (sides : List Side) (rates : List (Option Ratio)) → AgreesW
 no_fair_fits sides rates agrees cannot per parts fair = cannot per parts (agrees.agrees per parts fair) fair.within
 
 -- the open sides have the users of the sides
-pub users_opened : (opens : List OpenSide) (sides : List declared.Side) (P : ℕ → Type 0) → map whole_side opens ≡ map side_of sides → All (λ side. All P side.users.items) sides → All (λ side. All P side.rising.items) opens
+pub users_opened : (opens : List OpenSide) (sides : List declared.Side) (P : ℕ → Type 0) → map whole_side opens ≡ map side_of sides → All (λ side. All P side.users.items) sides
+    → All (λ side. All P side.rising.items) opens
 users_opened opens sides P same all k d inside =
     let mapped : All (λ side. All P side.users) (map whole_side opens) = subst (All (λ (side : Side). All P side.users)) (sym same) (All-map (λ (side : Side). All P side.users) side_of sides all) in
     let at : get_or (map whole_side opens) k (whole_side d) ≡ whole_side (get_or opens k d) = get_or-map whole_side opens k d (whole_side d) inside in

@@ -44,20 +44,23 @@ raised_most n b q lcm parts per some worth common small =
     le_of_mul-le-mul_right {k = per} (omega (arith, ap (λ m. m * q) worth, ap (λ m. parts * m) common, mul-le-mul_left parts small)) some
 
 -- two ratios over a common denominator
-pub common_fits : (a b : Ratio) (first second per : ℕ) → 0 < per → IsWorth a (record { num = first; den = per }) → IsWorth b (record { num = second; den = per }) → first < 2 ^ 128 → second < 2 ^ 128 → per < 2 ^ 128
+pub common_fits : (a b : Ratio) (first second per : ℕ) → 0 < per → IsWorth a (record { num = first; den = per }) → IsWorth b (record { num = second; den = per }) → first < 2 ^ 128
+    → second < 2 ^ 128 → per < 2 ^ 128
     → CommonFits (amount_of a) (amount_of b) × (raised (amount_of a) (amount_of b) ≤ first) × (other_raised (amount_of a) (amount_of b) ≤ second)
 common_fits a b first second per some a_worth b_worth first_fits second_fits per_fits =
     let g = gcd a.denominator b.denominator in
     let k = common_parts a.denominator b.denominator a.positive b.positive in
     let p = a.denominator / g in let q = b.denominator / g in
-    let small : p * b.denominator ≤ per = le_of_dvd some (least_common_divides a.denominator b.denominator per a.positive b.positive some (denominator_divides a first per some a_worth) (denominator_divides b second per some b_worth)) in
+    let small : p * b.denominator ≤ per = le_of_dvd some (least_common_divides a.denominator b.denominator per a.positive b.positive some (denominator_divides a first per some a_worth)
+    (denominator_divides b second per some b_worth)) in
     let left : a.denominator * q ≡ p * b.denominator = omega (arith, ap (λ n. n * q) k.first, ap (λ n. p * n) k.second) in
     let right : b.denominator * p ≡ p * b.denominator = omega arith in
     let first_most : a.numerator * q ≤ first = raised_most a.numerator a.denominator q (p * b.denominator) first per some a_worth left small in
     let second_most : b.numerator * p ≤ second = raised_most b.numerator b.denominator p (p * b.denominator) second per some b_worth right small in
     (record { first = omega (arith, first_most, first_fits); second = omega (arith, second_most, second_fits); denominator = omega (arith, small, per_fits) }, first_most, second_most)
 
-pub sum_fits : (a b : Ratio) (first second per : ℕ) → 0 < per → IsWorth a (record { num = first; den = per }) → IsWorth b (record { num = second; den = per }) → first + second < 2 ^ 128 → per < 2 ^ 128 → SumFits (amount_of a) (amount_of b)
+pub sum_fits : (a b : Ratio) (first second per : ℕ) → 0 < per → IsWorth a (record { num = first; den = per }) → IsWorth b (record { num = second; den = per })
+    → first + second < 2 ^ 128 → per < 2 ^ 128 → SumFits (amount_of a) (amount_of b)
 sum_fits a b first second per some a_worth b_worth sum per_fits =
     let c = common_fits a b first second per some a_worth b_worth (omega (arith, sum)) (omega (arith, sum)) per_fits in
     record { common = c.0; sum = omega (arith, c.1, c.2, sum) }
@@ -66,7 +69,8 @@ less_over : (tn td wn wd total cap per : ℕ) → 0 < per → tn * per ≡ total
 less_over tn td wn wd total cap per some t_worth w_worth le =
     le_of_mul-le-mul_right {k = per} (omega (arith, ap (λ n. n * wd) t_worth, ap (λ n. n * td) w_worth, mul-le-mul_left (td * wd) le)) some
 
-pub difference_fits : (a b : Ratio) (first second per : ℕ) → 0 < per → IsWorth a (record { num = first; den = per }) → IsWorth b (record { num = second; den = per }) → second ≤ first → first < 2 ^ 128 → per < 2 ^ 128 → DifferenceFits (amount_of a) (amount_of b)
+pub difference_fits : (a b : Ratio) (first second per : ℕ) → 0 < per → IsWorth a (record { num = first; den = per }) → IsWorth b (record { num = second; den = per }) → second ≤ first
+    → first < 2 ^ 128 → per < 2 ^ 128 → DifferenceFits (amount_of a) (amount_of b)
 difference_fits a b first second per some a_worth b_worth le first_fits per_fits =
     let c = common_fits a b first second per some a_worth b_worth first_fits (omega (arith, le, first_fits)) per_fits in
     record { common = c.0; no_greater = less_over b.numerator b.denominator a.numerator a.denominator second first per some b_worth a_worth le }
@@ -79,14 +83,16 @@ over_count : (rn rd cn cd users left per : ℕ) → cn ≡ users → cd ≡ 1 �
 over_count rn rd cn cd users left per cn_is cd_is worth = rw (cn_is, cd_is) (omega (arith, ap (λ n. n * users) worth))
 
 -- a ratio divided by a count
-pub quotient_fits : (rest count : Ratio) (left users per : ℕ) → 0 < per → 0 < users → IsWorth rest (record { num = left; den = per }) → amount_of count ≡ whole users → left < 2 ^ 128 → per * users < 2 ^ 128 → ReducedFits (over (amount_of rest) (amount_of count))
+pub quotient_fits : (rest count : Ratio) (left users per : ℕ) → 0 < per → 0 < users → IsWorth rest (record { num = left; den = per }) → amount_of count ≡ whole users → left < 2 ^ 128
+    → per * users < 2 ^ 128 → ReducedFits (over (amount_of rest) (amount_of count))
 quotient_fits rest count left users per some any worth is_count left_fits per_fits =
     let cn : count.numerator ≡ users = ap (λ a. a.num) is_count in
     let cd : count.denominator ≡ 1 = ap (λ a. a.den) is_count in
     let n = rest.numerator * count.denominator in let d = rest.denominator * count.numerator in
     let d_pos : 0 < d = mul-pos rest.positive (omega (arith, cn, any)) in
     let all_pos : 0 < per * users = mul-pos some any in
-    let same : reduced n d ≡ reduced left (per * users) = reduced_same n d left (per * users) d_pos all_pos (over_count rest.numerator rest.denominator count.numerator count.denominator users left per cn cd worth) in
+    let same : reduced n d ≡ reduced left (per * users) = reduced_same n d left (per * users) d_pos all_pos
+    (over_count rest.numerator rest.denominator count.numerator count.denominator users left per cn cd worth) in
     let s = reduced_scales left (per * users) all_pos in
     let num : (reduced left (per * users)).num ≤ left = factor_most left s.factor _ s.positive s.num in
     let den : (reduced left (per * users)).den ≤ per * users = factor_most (per * users) s.factor _ s.positive s.den in

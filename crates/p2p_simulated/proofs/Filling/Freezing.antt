@@ -16,7 +16,8 @@ freezes_none rates level = record {
 }
 
 -- a user that was frozen before
-push_frozen : (users : List ℕ) (user : ℕ) (before after : List (Option Ratio)) (level : Ratio) → IsSome (rate_at after user) → FreezesAll users before after level → FreezesAll (users ++ user ∷ []) before after level
+push_frozen : (users : List ℕ) (user : ℕ) (before after : List (Option Ratio)) (level : Ratio) → IsSome (rate_at after user) → FreezesAll users before after level
+    → FreezesAll (users ++ user ∷ []) before after level
 push_frozen users user before after level some f = record {
   kept = f.kept;
   fresh = λ i rate e e'. let g = f.fresh i rate e e' in (g.0, Contains-append_left users (user ∷ []) i g.1);
@@ -24,7 +25,8 @@ push_frozen users user before after level some f = record {
 }
 
 -- a user that freezes now
-push_fresh : (users : List ℕ) (user : ℕ) (before mid : List (Option Ratio)) (level : Ratio) → user < length mid → rate_at mid user ≡ None → FreezesAll users before mid level → FreezesAll (users ++ user ∷ []) before (set mid user (Some level)) level
+push_fresh : (users : List ℕ) (user : ℕ) (before mid : List (Option Ratio)) (level : Ratio) → user < length mid → rate_at mid user ≡ None → FreezesAll users before mid level
+    → FreezesAll (users ++ user ∷ []) before (set mid user (Some level)) level
 push_fresh users user before mid level inside none f =
     let after = set mid user (Some level) in
     let here : rate_at after user ≡ Some level = get_or-set_same mid user (Some level) None inside in

@@ -51,7 +51,8 @@ RoomOnAll sides rates rate = (side : Side) → Contains sides side → AllFrozen
 
 module _ (sides : List Side) (rates : List (Option Ratio)) (rate : Ratio) (room : RoomOnAll sides rates rate) where
   -- the level of the rate is within the caps, if some level is
-  pub within_there : (per : ℕ) (parts : ℕ → ℕ) (level before : ℕ) → AreWorth rates per parts → IsWorth rate (record { num = level; den = per }) → IsWithinCaps sides per (at_level (parts_at rates parts) before) → IsWithinCaps sides per (at_level (parts_at rates parts) level)
+  pub within_there : (per : ℕ) (parts : ℕ → ℕ) (level before : ℕ) → AreWorth rates per parts → IsWorth rate (record { num = level; den = per })
+      → IsWithinCaps sides per (at_level (parts_at rates parts) before) → IsWithinCaps sides per (at_level (parts_at rates parts) level)
   within_there per parts level before w worth was =
       All-by_contains (λ s. load (at_level (parts_at rates parts) level) s ≤ s.cap * per) sides (λ s c. elim (room s c) [
         | inr has ↦ has.room per parts level w worth
@@ -63,7 +64,8 @@ module _ (sides : List Side) (rates : List (Option Ratio)) (rate : Ratio) (room 
         )
       ])
 
-  module _ (after : List (Option Ratio)) (side : Side) (listed : Contains sides side) (fills : FillsAt rates rate side) (user : ℕ) (used : Contains side.users user) (rises : rate_at rates user ≡ None) (freezes : FreezesAll side.users rates after rate) where
+  module _ (after : List (Option Ratio)) (side : Side) (listed : Contains sides side) (fills : FillsAt rates rate side) (user : ℕ) (used : Contains side.users user)
+      (rises : rate_at rates user ≡ None) (freezes : FreezesAll side.users rates after rate) where
     pub before_worth : (per : ℕ) (parts : ℕ → ℕ) → AreWorth after per parts → AreWorth rates per parts
     before_worth per parts w = record { some_part = w.some_part; worth = λ i r e. w.worth i r (freezes.kept i r e) }
 
@@ -74,7 +76,8 @@ module _ (sides : List Side) (rates : List (Option Ratio)) (rate : Ratio) (room 
         let is = (freezes.fresh user now.0 rises now.1).0 in
         subst (λ r. IsWorth r (record { num = parts user; den = per })) is (w.worth user now.0 now.1)
 
-    raised : (per : ℕ) (parts : ℕ → ℕ) (level before : ℕ) → AreWorth rates per parts → IsWorth rate (record { num = level; den = per }) → IsFilledTo sides per (parts_at rates parts) before → before ≤ level
+    raised : (per : ℕ) (parts : ℕ → ℕ) (level before : ℕ) → AreWorth rates per parts → IsWorth rate (record { num = level; den = per })
+        → IsFilledTo sides per (parts_at rates parts) before → before ≤ level
     raised per parts level before w worth was = elim (cases_lt level before) [
       | inr le ↦ le
       | inl lt ↦

@@ -60,7 +60,8 @@ lower_then a b c le lt = lower_unless a c (no_greater_trans a b c le (omega (ari
 not_same : (a b : Ratio) → IsLower a b → a ≡ b → ⊥
 not_same a b lt e = let self : IsLower b b = subst (λ r. IsLower r b) e lt in absurd (omega (arith, self))
 
-module _ (rates after : List (Option Ratio)) (level : Option Ratio) (rounds : ℕ) (was : HasLevels rates level rounds) (users : List ℕ) (rate : Ratio) (freezes : FreezesAll users rates after rate) where
+module _ (rates after : List (Option Ratio)) (level : Option Ratio) (rounds : ℕ) (was : HasLevels rates level rounds) (users : List ℕ) (rate : Ratio)
+    (freezes : FreezesAll users rates after rate) where
   -- every rate is an earlier one or the new one
   each_or : (flow : ℕ) (r : Ratio) → rate_at after flow ≡ Some r → Contains was.values r ⊎ (rate ≡ r)
   each_or flow r e = elim (none_or_some (rate_at rates flow)) [
@@ -74,7 +75,8 @@ module _ (rates after : List (Option Ratio)) (level : Option Ratio) (rounds : �
   -- the level is the last one again
   pub levels_same : level ≡ Some rate → HasLevels after level rounds
   levels_same same =
-      let last : Contains was.values rate × All (λ value. IsNoGreater value rate) was.values = subst (λ o. MatchOption o (was.values ≡ []) (λ top. Contains was.values top × All (λ value. IsNoGreater value top) was.values)) same was.last in
+      let last : Contains was.values rate × All (λ value. IsNoGreater value rate) was.values =
+      subst (λ o. MatchOption o (was.values ≡ []) (λ top. Contains was.values top × All (λ value. IsNoGreater value top) was.values)) same was.last in
       record {
         values = was.values;
         count = was.count;
@@ -89,7 +91,8 @@ module _ (rates after : List (Option Ratio)) (level : Option Ratio) (rounds : �
       let none : was.values ≡ [] = subst (λ o. MatchOption o (was.values ≡ []) (λ top. Contains was.values top × All (λ value. IsNoGreater value top) was.values)) e was.last in
       subst (All (λ value. IsLower value rate)) (sym none) (All-nil (λ value. IsLower value rate))
   all_lower (Some top) e no_lower other =
-      let last : Contains was.values top × All (λ value. IsNoGreater value top) was.values = subst (λ o. MatchOption o (was.values ≡ []) (λ top. Contains was.values top × All (λ value. IsNoGreater value top) was.values)) e was.last in
+      let last : Contains was.values top × All (λ value. IsNoGreater value top) was.values =
+      subst (λ o. MatchOption o (was.values ≡ []) (λ top. Contains was.values top × All (λ value. IsNoGreater value top) was.values)) e was.last in
       let lt : IsLower top rate = lower_unless top rate no_lower (λ same. other (e ∙ ap Some same)) in
       All-weaker (λ value. IsNoGreater value top) (λ value. IsLower value rate) (λ value le. lower_then value top rate le lt) was.values last.1
 
@@ -111,7 +114,11 @@ module _ (rates after : List (Option Ratio)) (level : Option Ratio) (rounds : �
           | inl before ↦ reached_still r before
           | inr same ↦ (user, now.1 ∙ ap Some (is ∙ same))
         ];
-        last = (Contains-push was.values rate, All-push (λ value. IsNoGreater value rate) was.values rate (All-weaker (λ value. IsLower value rate) (λ value. IsNoGreater value rate) (λ value lt. omega (arith, lt)) was.values lower) (omega arith));
+        last = (
+          Contains-push was.values rate,
+          All-push (λ value. IsNoGreater value rate) was.values rate
+              (All-weaker (λ value. IsLower value rate) (λ value. IsNoGreater value rate) (λ value lt. omega (arith, lt)) was.values lower) (omega arith),
+        );
       }
 
 finite_is : (o : Option Ratio) (ratio : Ratio) → answer_of o ≡ Finite ratio → o ≡ Some ratio
@@ -155,7 +162,8 @@ itself rate = ap (λ b. b && (rate.denominator == rate.denominator)) (eq-eqb rat
 
 pub other_level : (level : Option Ratio) (rate : Ratio) → option_eq (λ a b. (a.numerator == b.numerator) && (a.denominator == b.denominator)) level (Some rate) ≡ false → level ≡ Some rate → ⊥
 other_level level rate e same =
-    let differs : option_eq (λ (a : Ratio) (b : Ratio). (a.numerator == b.numerator) && (a.denominator == b.denominator)) (Some rate) (Some rate) ≡ false = subst (λ o. option_eq (λ (a : Ratio) (b : Ratio). (a.numerator == b.numerator) && (a.denominator == b.denominator)) o (Some rate) ≡ false) same e in
+    let differs : option_eq (λ (a : Ratio) (b : Ratio). (a.numerator == b.numerator) && (a.denominator == b.denominator)) (Some rate) (Some rate) ≡ false =
+    subst (λ o. option_eq (λ (a : Ratio) (b : Ratio). (a.numerator == b.numerator) && (a.denominator == b.denominator)) o (Some rate) ≡ false) same e in
     let equals = itself rate in
     cc
 

@@ -98,7 +98,9 @@ share_unchanged old new rate same is = record {
 }
 
 -- the open side of the least share has counted the users that froze
-module _ (sides : List Side) (rates : List (Option Ratio)) (opens : List OpenSide) (shares : List (Reverse Share)) (queue : IsQueue sides rates opens shares) (x : Reverse Share) (rest : List (Reverse Share)) (perm : IsPermutation shares (x ∷ rest)) (old new : OpenSide) (read : (d : OpenSide) → get_or opens x.0.place d ≡ old) (keeps : (side : Side) → KeepsAccount side rates old → KeepsAccount side rates new) where
+module _ (sides : List Side) (rates : List (Option Ratio)) (opens : List OpenSide) (shares : List (Reverse Share)) (queue : IsQueue sides rates opens shares) (x : Reverse Share)
+    (rest : List (Reverse Share)) (perm : IsPermutation shares (x ∷ rest)) (old new : OpenSide) (read : (d : OpenSide) → get_or opens x.0.place d ≡ old) (keeps : (side : Side)
+    → KeepsAccount side rates old → KeepsAccount side rates new) where
   all_shares : All (IsShare sides rates opens) (x ∷ rest)
   all_shares = All-permutation (IsShare sides rates opens) shares (x ∷ rest) perm queue.are.each
 
@@ -167,7 +169,8 @@ module _ (sides : List Side) (rates : List (Option Ratio)) (opens : List OpenSid
     least = least_first x rest upper;
   }
 
-  covered_after : (later : List (Reverse Share)) → ((k : ℕ) → 0 < count_by (is_at k) rest → 0 < count_by (is_at k) later) → IsCovered sides rates later x.0.place → (k : ℕ) → k < length sides → IsCovered sides rates later k
+  covered_after : (later : List (Reverse Share)) → ((k : ℕ) → 0 < count_by (is_at k) rest → 0 < count_by (is_at k) later) → IsCovered sides rates later x.0.place → (k : ℕ)
+      → k < length sides → IsCovered sides rates later k
   covered_after later more here k inside d = elim (cases_eq k x.0.place) [
     | inl same ↦ subst (λ j. IsCovered sides rates later j) (sym same) here d
     | inr other ↦ elim (covered_rest k inside other d) [ inl all ↦ inl all | inr some ↦ inr (more k some) ]
@@ -190,7 +193,8 @@ module _ (sides : List Side) (rates : List (Option Ratio)) (opens : List OpenSid
         let side = get_or sides x.0.place (record { cap = 0; users = [] }) in
         let account = account_there (record { cap = 0; users = [] }) in
         let user = get_or new.rising.items 0 0 in
-        fills_above rates rate x.0.rate side user (uncounted_used side rates new account user (Contains-get_or new.rising.items 0 0 some)) (rise 0 0 some) (fills_at side rates new account rise rate exact) (first.room (record { cap = 0; users = [] }))
+        fills_above rates rate x.0.rate side user (uncounted_used side rates new account user (Contains-get_or new.rising.items 0 0 some)) (rise 0 0 some)
+        (fills_at side rates new account rise rate exact) (first.room (record { cap = 0; users = [] }))
 
     -- the side has a share again
     pub queue_pushed : (later : List (Reverse Share)) → IsPermutation (again ∷ rest) later → IsQueue sides rates now later
@@ -211,11 +215,13 @@ module _ (sides : List Side) (rates : List (Option Ratio)) (opens : List OpenSid
 
 -- ---- what the code sees
 
-pub place_inside : (flows : ℕ) (opens : List OpenSide) (shares rest : List (Reverse Share)) (x : Reverse Share) → IsSound flows opens shares → IsPermutation shares (x ∷ rest) → x.0.place < length opens
+pub place_inside : (flows : ℕ) (opens : List OpenSide) (shares rest : List (Reverse Share)) (x : Reverse Share) → IsSound flows opens shares → IsPermutation shares (x ∷ rest)
+    → x.0.place < length opens
 place_inside flows opens shares rest x sound perm =
     All-head (λ e. e.0.place < length opens) x rest (All-permutation (λ e. e.0.place < length opens) shares (x ∷ rest) perm sound.places)
 
-pub sound_popped : (flows : ℕ) (opens : List OpenSide) (shares rest : List (Reverse Share)) (x : Reverse Share) (new : OpenSide) → IsSound flows opens shares → IsPermutation shares (x ∷ rest) → IsHeap queue_cmp rest → All (λ flow. flow < flows) new.rising.items → IsSound flows (set opens x.0.place new) rest
+pub sound_popped : (flows : ℕ) (opens : List OpenSide) (shares rest : List (Reverse Share)) (x : Reverse Share) (new : OpenSide) → IsSound flows opens shares
+    → IsPermutation shares (x ∷ rest) → IsHeap queue_cmp rest → All (λ flow. flow < flows) new.rising.items → IsSound flows (set opens x.0.place new) rest
 sound_popped flows opens shares rest x new sound perm order users = record {
   users = All-set (λ side. All (λ flow. flow < flows) side.rising.items) opens x.0.place new users sound.users;
   places = λ k d inside. omega (
@@ -226,7 +232,8 @@ sound_popped flows opens shares rest x new sound perm order users = record {
   order = order;
 }
 
-pub sound_pushed : (flows : ℕ) (opens : List OpenSide) (rest shares : List (Reverse Share)) (x : Reverse Share) → IsSound flows opens rest → x.0.place < length opens → IsPermutation (x ∷ rest) shares → IsHeap queue_cmp shares → IsSound flows opens shares
+pub sound_pushed : (flows : ℕ) (opens : List OpenSide) (rest shares : List (Reverse Share)) (x : Reverse Share) → IsSound flows opens rest → x.0.place < length opens
+    → IsPermutation (x ∷ rest) shares → IsHeap queue_cmp shares → IsSound flows opens shares
 sound_pushed flows opens rest shares x sound inside perm order = record {
   users = sound.users;
   places = All-permutation (λ e. e.0.place < length opens) (x ∷ rest) shares perm (All-cons (λ e. e.0.place < length opens) x rest inside sound.places);
@@ -234,21 +241,26 @@ sound_pushed flows opens rest shares x sound inside perm order = record {
 }
 
 -- where the numbers about one side do not fit, those about all do not
-one_cannot : (sides : List Side) (rates : List (Option Ratio)) (opens : List OpenSide) → length opens ≡ length sides → ((k : ℕ) (d : Side) (e : OpenSide) → k < length sides → KeepsAccount (get_or sides k d) rates (get_or opens k e)) → (place : ℕ) (e : OpenSide) → place < length opens → CannotFit rates (get_or opens place e) → CannotFill sides rates
+one_cannot : (sides : List Side) (rates : List (Option Ratio)) (opens : List OpenSide) → length opens ≡ length sides
+    → ((k : ℕ) (d : Side) (e : OpenSide) → k < length sides → KeepsAccount (get_or sides k d) rates (get_or opens k e)) → (place : ℕ) (e : OpenSide) → place < length opens
+    → CannotFit rates (get_or opens place e) → CannotFill sides rates
 one_cannot sides rates opens one_each accounts place e inside cannot per parts w within fits =
     let d : Side = record { cap = 0; users = [] } in
     let here : place < length sides = omega (arith, one_each) in
     cannot (get_or sides place d) per parts (accounts place d e here) w (within place d here) (fits place d here)
 
-pub cannot_fill : (sides : List Side) (rates : List (Option Ratio)) (opens : List OpenSide) (shares : List (Reverse Share)) → IsQueue sides rates opens shares → (place : ℕ) (e : OpenSide) → place < length opens → CannotFit rates (get_or opens place e) → CannotFill sides rates
+pub cannot_fill : (sides : List Side) (rates : List (Option Ratio)) (opens : List OpenSide) (shares : List (Reverse Share)) → IsQueue sides rates opens shares
+    → (place : ℕ) (e : OpenSide) → place < length opens → CannotFit rates (get_or opens place e) → CannotFill sides rates
 cannot_fill sides rates opens shares queue = one_cannot sides rates opens queue.are.one_each queue.are.accounts
 
 -- no share is left: all users are frozen
-pub all_filled : (sides : List Side) (rates : List (Option Ratio)) (opens : List OpenSide) (shares : List (Reverse Share)) → IsQueue sides rates opens shares → length shares ≡ 0 → AllFilled sides rates
+pub all_filled : (sides : List Side) (rates : List (Option Ratio)) (opens : List OpenSide) (shares : List (Reverse Share)) → IsQueue sides rates opens shares → length shares ≡ 0
+    → AllFilled sides rates
 all_filled sides rates opens shares queue none k d inside = elim (queue.covered k inside d) [
   | inl all ↦ all
   | inr some ↦ absurd (omega (arith, some, count_by-le-length (is_at k) shares))
 ]
 
-pub cannot_start : (sides : List Side) (rates : List (Option Ratio)) (opens : List OpenSide) → IsStart sides rates opens → (place : ℕ) (e : OpenSide) → place < length opens → CannotFit rates (get_or opens place e) → CannotFill sides rates
+pub cannot_start : (sides : List Side) (rates : List (Option Ratio)) (opens : List OpenSide) → IsStart sides rates opens → (place : ℕ) (e : OpenSide) → place < length opens
+    → CannotFit rates (get_or opens place e) → CannotFill sides rates
 cannot_start sides rates opens start = one_cannot sides rates opens start.one_each start.accounts

@@ -16,7 +16,8 @@ start sides per frozen none = record {
 }
 
 -- every limited flow is frozen
-pub end : (sides : List Side) (per : ℕ) (frozen : ℕ → Option ℕ) (level : ℕ) → 0 < per → IsFilledTo sides per frozen level → ((flow : ℕ) → IsLimited sides flow → IsSome (frozen flow)) → IsFair sides per (at_level frozen 0)
+pub end : (sides : List Side) (per : ℕ) (frozen : ℕ → Option ℕ) (level : ℕ) → 0 < per → IsFilledTo sides per frozen level → ((flow : ℕ) → IsLimited sides flow → IsSome (frozen flow))
+    → IsFair sides per (at_level frozen 0)
 end sides per frozen level some filled all = record {
   some_part = some;
   within = All-by_contains (λ s. load (at_level frozen 0) s ≤ s.cap * per) sides (λ s c.
@@ -26,7 +27,8 @@ end sides per frozen level some filled all = record {
   held = λ i limited. (filled.held i (all i limited)).bottleneck;
 }
 
-module _ (sides : List Side) (per : ℕ) (frozen : ℕ → Option ℕ) (level : ℕ) (after : ℕ → Option ℕ) (next_level : ℕ) (filled : IsFilledTo sides per frozen level) (round : IsNextRound sides per frozen level after next_level) where
+module _ (sides : List Side) (per : ℕ) (frozen : ℕ → Option ℕ) (level : ℕ) (after : ℕ → Option ℕ) (next_level : ℕ) (filled : IsFilledTo sides per frozen level)
+    (round : IsNextRound sides per frozen level after next_level) where
   -- at the next level nothing moves
   same_at : (j : ℕ) → at_level after next_level j ≡ at_level frozen next_level j
   same_at j = elim (none_or_some (frozen j)) [

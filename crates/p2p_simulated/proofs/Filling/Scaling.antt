@@ -44,9 +44,11 @@ one_finer None parts level k = refl
 one_finer (Some rate) parts level k = refl
 
 -- what a side carries at a level, over a finer denominator
-pub load_finer : (rates : List (Option Ratio)) (parts : ℕ → ℕ) (level k : ℕ) (side : Side) → load (at_level (parts_at rates (finer parts k)) (level * k)) side ≡ load (at_level (parts_at rates parts) level) side * k
+pub load_finer : (rates : List (Option Ratio)) (parts : ℕ → ℕ) (level k : ℕ) (side : Side)
+    → load (at_level (parts_at rates (finer parts k)) (level * k)) side ≡ load (at_level (parts_at rates parts) level) side * k
 load_finer rates parts level k side =
-    let same = sum_by_same (at_level (parts_at rates (finer parts k)) (level * k)) (λ i. at_level (parts_at rates parts) level i * k) side.users (λ j d inside. one_finer (rate_at rates _) (parts _) level k) in
+    let same = sum_by_same (at_level (parts_at rates (finer parts k)) (level * k)) (λ i. at_level (parts_at rates parts) level i * k) side.users
+    (λ j d inside. one_finer (rate_at rates _) (parts _) level k) in
     omega (arith, same, sum_by-scale (at_level (parts_at rates parts) level) k side.users)
 
 pub one_lower : (o : Option Ratio) (parts lower level : ℕ) → lower ≤ level → unwrap_or (option_map (λ _. parts) o) lower ≤ unwrap_or (option_map (λ _. parts) o) level
@@ -54,7 +56,8 @@ one_lower None parts lower level le = le
 one_lower (Some rate) parts lower level le = omega arith
 
 -- a lower level carries no more
-pub load_lower : (rates : List (Option Ratio)) (parts : ℕ → ℕ) (lower level : ℕ) (side : Side) → lower ≤ level → load (at_level (parts_at rates parts) lower) side ≤ load (at_level (parts_at rates parts) level) side
+pub load_lower : (rates : List (Option Ratio)) (parts : ℕ → ℕ) (lower level : ℕ) (side : Side) → lower ≤ level
+    → load (at_level (parts_at rates parts) lower) side ≤ load (at_level (parts_at rates parts) level) side
 load_lower rates parts lower level side le =
     sum_by_below (at_level (parts_at rates parts) lower) (at_level (parts_at rates parts) level) side.users (λ k d inside. one_lower (rate_at rates _) (parts _) lower level le)
 
@@ -63,7 +66,8 @@ lower_parts ln ld hn hd low per ld_pos le worth =
     le_of_mul-le-mul_right {k = ld} (omega (arith, mul-le-mul_right per le, ap (λ n. n * hd) worth)) ld_pos
 
 -- where there is room at a rate, there is room at a lower one
-pub room_lower : (rates : List (Option Ratio)) (side : Side) (rate lower : Ratio) → lower.numerator * rate.denominator ≤ rate.numerator * lower.denominator → HasRoomAt rates rate side → HasRoomAt rates lower side
+pub room_lower : (rates : List (Option Ratio)) (side : Side) (rate lower : Ratio) → lower.numerator * rate.denominator ≤ rate.numerator * lower.denominator → HasRoomAt rates rate side
+    → HasRoomAt rates lower side
 room_lower rates side rate lower le has = record {
   room = λ per parts level w worth.
       let k = rate.denominator in

@@ -24,12 +24,21 @@ sum_by-constant n (x ∷ xs) = omega (arith, sum_by-cons (λ _. n) x xs, sum_by-
 
 module _ (side : Side) (rates : List (Option Ratio)) (open_side : OpenSide) (account : KeepsAccount side rates open_side) where
   -- what a side carries where the users that are not counted rise
-  load_there : AllRise rates open_side.rising.items → (parts : ℕ → ℕ) (level : ℕ) → load (at_level (parts_at rates parts) level) side ≡ sum_by parts account.counted + level * length open_side.rising.items
+  load_there : AllRise rates open_side.rising.items → (parts : ℕ → ℕ) (level : ℕ)
+      → load (at_level (parts_at rates parts) level) side ≡ sum_by parts account.counted + level * length open_side.rising.items
   load_there rise parts level =
       let f = at_level (parts_at rates parts) level in
       let counted = sum_by_same f parts account.counted (λ k d inside. level_of_some rates parts level _ (account.frozen k d inside)) in
       let others = sum_by_same f (λ _. level) open_side.rising.items (λ k d inside. level_of_none rates parts level _ (rise k d inside)) in
-      omega (arith, sum_by-IsPermutation f side.users (account.counted ++ open_side.rising.items) account.parted, sum_by-append f account.counted open_side.rising.items, counted, others, sum_by-constant level open_side.rising.items)
+      omega (
+        arith,
+        sum_by-IsPermutation f side.users (account.counted ++ open_side.rising.items) account.parted,
+        sum_by-append f account.counted
+            open_side.rising.items,
+        counted,
+        others,
+        sum_by-constant level open_side.rising.items,
+      )
 
   -- the share fills the side
   pub fills_at : AllRise rates open_side.rising.items → (share : Ratio) → IsShareOf open_side share → FillsAt rates share side
@@ -37,17 +46,20 @@ module _ (side : Side) (rates : List (Option Ratio)) (open_side : OpenSide) (acc
     full = λ per parts level w worth.
         let t = open_side.taken in
         let rest : open_side.cap * t.denominator - t.numerator + t.numerator ≡ side.cap * t.denominator = omega (arith, is.within, ap (λ n. n * t.denominator) account.cap) in
-        load_there rise parts level ∙ fill_parts share.numerator share.denominator t.numerator t.denominator side.cap (length open_side.rising.items) (sum_by parts account.counted) level per (open_side.cap * t.denominator - t.numerator) share.positive t.positive rest is.worth worth (account.taken per parts w);
+        load_there rise parts level ∙ fill_parts share.numerator share.denominator t.numerator t.denominator side.cap (length open_side.rising.items) (sum_by parts account.counted)
+        level per (open_side.cap * t.denominator - t.numerator) share.positive t.positive rest is.worth worth (account.taken per parts w);
   }
 
   pub uncounted_used : (flow : ℕ) → Contains open_side.rising.items flow → Contains side.users flow
   uncounted_used flow c =
-      Contains-permutation (account.counted ++ open_side.rising.items) side.users flow (IsPermutation-sym side.users (account.counted ++ open_side.rising.items) account.parted) (Contains-append_right account.counted open_side.rising.items flow c)
+      Contains-permutation (account.counted ++ open_side.rising.items) side.users flow (IsPermutation-sym side.users (account.counted ++ open_side.rising.items) account.parted)
+      (Contains-append_right account.counted open_side.rising.items flow c)
 
   -- what holds of the counted and of the other users
   users_all : (P : ℕ → Type 0) → All P account.counted → All P open_side.rising.items → All P side.users
   users_all P counted others =
-      All-permutation P (account.counted ++ open_side.rising.items) side.users (IsPermutation-sym side.users (account.counted ++ open_side.rising.items) account.parted) (All-append P account.counted open_side.rising.items counted others)
+      All-permutation P (account.counted ++ open_side.rising.items) side.users (IsPermutation-sym side.users (account.counted ++ open_side.rising.items) account.parted)
+      (All-append P account.counted open_side.rising.items counted others)
 
   -- where none is left all users are frozen
   pub all_counted : length open_side.rising.items ≡ 0 → AllFrozen rates side.users
@@ -79,7 +91,8 @@ pub room_of_fills : (rates : List (Option Ratio)) (rate : Ratio) (side : Side) �
 room_of_fills rates rate side fills = record { room = λ per parts level w worth. omega (arith, fills.full per parts level w worth) }
 
 -- as flows freeze at a rate that is no higher, there stays room
-pub room_after : (rates after : List (Option Ratio)) (rate level : Ratio) (side : Side) (users : List ℕ) → FreezesAll users rates after level → level.numerator * rate.denominator ≤ rate.numerator * level.denominator → HasRoomAt rates rate side → HasRoomAt after rate side
+pub room_after : (rates after : List (Option Ratio)) (rate level : Ratio) (side : Side) (users : List ℕ) → FreezesAll users rates after level
+    → level.numerator * rate.denominator ≤ rate.numerator * level.denominator → HasRoomAt rates rate side → HasRoomAt after rate side
 room_after rates after rate level side users freezes le has = record {
   room = λ per parts l w worth.
       let w' : AreWorth rates per parts = record { some_part = w.some_part; worth = λ i r e. w.worth i r (freezes.kept i r e) } in
@@ -104,7 +117,8 @@ over_other : (n d p q : ℕ) → n * (p * (q * d)) ≡ n * p * q * d
 over_other n d p q = omega arith
 
 -- a rate that fills a side is no lower than one for which there is room
-pub fills_above : (rates : List (Option Ratio)) (high low : Ratio) (side : Side) (user : ℕ) → Contains side.users user → rate_at rates user ≡ None → FillsAt rates high side → HasRoomAt rates low side → low.numerator * high.denominator ≤ high.numerator * low.denominator
+pub fills_above : (rates : List (Option Ratio)) (high low : Ratio) (side : Side) (user : ℕ) → Contains side.users user → rate_at rates user ≡ None → FillsAt rates high side
+    → HasRoomAt rates low side → low.numerator * high.denominator ≤ high.numerator * low.denominator
 fills_above rates high low side user used rises fills has =
     let p = product rates in
     let k = high.denominator * low.denominator in
@@ -119,6 +133,7 @@ fills_above rates high low side user used rises fills has =
       | inl lt ↦
           let f = at_level (parts_at rates parts) top in
           let g = at_level (parts_at rates parts) bottom in
-          let less = sum_by_under f g side.users user used (λ j d inside. one_lower (rate_at rates _) (parts _) top bottom (omega arith)) (omega (arith, level_of_none rates parts top user rises, level_of_none rates parts bottom user rises)) in
+          let less = sum_by_under f g side.users user used (λ j d inside. one_lower (rate_at rates _) (parts _) top bottom (omega arith))
+          (omega (arith, level_of_none rates parts top user rises, level_of_none rates parts bottom user rises)) in
           absurd (omega (arith, less, full, room))
     ]

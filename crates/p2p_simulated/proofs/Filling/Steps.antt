@@ -22,7 +22,8 @@ pub record IsCourse (sides : List Side) (rates : List (Option Ratio)) (opens : L
   pub no_lower : IfSome level (λ last. All (λ share. IsNoGreater last share.0.rate) shares)
 
 -- before the first round
-pub course_none : (sides : List Side) (rates : List (Option Ratio)) (opens : List OpenSide) (shares : List (Reverse Share)) → ((flow : ℕ) → rate_at rates flow ≡ None) → IsQueue sides rates opens shares → IsCourse sides rates opens shares None 0
+pub course_none : (sides : List Side) (rates : List (Option Ratio)) (opens : List OpenSide) (shares : List (Reverse Share)) → ((flow : ℕ) → rate_at rates flow ≡ None)
+    → IsQueue sides rates opens shares → IsCourse sides rates opens shares None 0
 course_none sides rates opens shares none queue = record {
   queue = queue;
   filling = filling_none sides rates none;
@@ -31,7 +32,9 @@ course_none sides rates opens shares none queue = record {
   no_lower = tt;
 }
 
-module _ (sides : List Side) (rates after : List (Option Ratio)) (old opens : List OpenSide) (earlier shares : List (Reverse Share)) (level : Option Ratio) (rounds : ℕ) (was : IsCourse sides rates old earlier level rounds) (next : Share) (is_next : IsNext sides rates opens shares next) (e : OpenSide) (freezes : FreezesAll (get_or opens next.place e).rising.items rates after next.rate) where
+module _ (sides : List Side) (rates after : List (Option Ratio)) (old opens : List OpenSide) (earlier shares : List (Reverse Share)) (level : Option Ratio) (rounds : ℕ)
+    (was : IsCourse sides rates old earlier level rounds) (next : Share) (is_next : IsNext sides rates opens shares next) (e : OpenSide)
+    (freezes : FreezesAll (get_or opens next.place e).rising.items rates after next.rate) where
   abbrev users : List ℕ
   users = (get_or opens next.place e).rising.items
 
@@ -57,6 +60,7 @@ module _ (sides : List Side) (rates after : List (Option Ratio)) (old opens : Li
       }
 
 -- the next share is no lower than the last level
-pub no_lower_next : (level : Option Ratio) (shares : List (Reverse Share)) (next : Share) → IfSome level (λ last. All (λ share. IsNoGreater last share.0.rate) shares) → ((last : Ratio) → All (λ share. IsNoGreater last share.0.rate) shares → IsNoGreater last next.rate) → IfSome level (λ last. IsNoGreater last next.rate)
+pub no_lower_next : (level : Option Ratio) (shares : List (Reverse Share)) (next : Share) → IfSome level (λ last. All (λ share. IsNoGreater last share.0.rate) shares)
+    → ((last : Ratio) → All (λ share. IsNoGreater last share.0.rate) shares → IsNoGreater last next.rate) → IfSome level (λ last. IsNoGreater last next.rate)
 no_lower_next None shares next was then = tt
 no_lower_next (Some last) shares next was then = then last was

@@ -10,7 +10,8 @@ use Rattle.p2p_simulated.proofs.bandwidth.filling.fair_rates.Goals as goal
 pub fill-requires-clause-users : goal.fill-requires-clause-users
 fill-requires-clause-users c =
     let len : c.args.count ≡ length c.deref_mut-2.result.now = grind (arith, common_steps, c.in_ok-rates.ensures, c.deref_mut-2.ensures.value) in
-    users_opened c.deref_mut.result.now c.args.sides.items (λ flow. flow < length c.deref_mut-2.result.now) (ap (map whole_side) c.deref_mut.ensures.value ∙ c.in_ok-sides.ensures.same) (subst (λ n. All (λ side. All (λ flow. flow < n) side.users.items) c.args.sides.items) len c.requires)
+    users_opened c.deref_mut.result.now c.args.sides.items (λ flow. flow < length c.deref_mut-2.result.now) (ap (map whole_side) c.deref_mut.ensures.value ∙ c.in_ok-sides.ensures.same)
+    (subst (λ n. All (λ side. All (λ flow. flow < n) side.users.items) c.args.sides.items) len c.requires)
 
 pub returns-in_err-rounds-clause-refused : goal.returns-in_err-rounds-clause-refused
 returns-in_err-rounds-clause-refused c =
@@ -21,5 +22,6 @@ returns-in_err-rounds-clause-refused c =
 
 pub returns-clause-few : goal.returns-clause-few
 returns-clause-few c =
-    let opened : length c.in_ok-sides.sides.items ≡ length c.args.sides.items = sym (length-map c.in_ok-sides.sides.items whole_side) ∙ ap length c.in_ok-sides.ensures.same ∙ length-map c.args.sides.items side_of in
+    let opened : length c.in_ok-sides.sides.items ≡ length c.args.sides.items = sym (length-map c.in_ok-sides.sides.items whole_side) ∙ ap length c.in_ok-sides.ensures.same ∙
+    length-map c.args.sides.items side_of in
     omega (arith, opened, c.in_ok-rounds.ensures.few, c.deref_mut.ensures.value, ap length c.deref_mut.ensures.value)

@@ -41,9 +41,12 @@ loop-place-preserved c =
           let some : 0 < length e.rising.items = grind (arith, common_steps, c.is_empty.ensures, w.if-not-is_empty.true) in
           let exact : IsShareOf e rate = some_of_if (IsShareOf e) w.share.result w.share.ensures.share rate w.in_ok-rate.ensures.ok_part in
           rw w.shares-is (record {
-            are = λ whole rates start. first_more whole rates sides start shares later i rate e (omega (arith, start.one_each, c.loop-place-test.true)) (inv.are whole rates start) (none_yet shares i inv.places) (λ d. subst (λ o. 0 < length o.rising.items) (there d) some) (λ d. subst (λ o. IsShareOf o rate) (there d) exact) perm;
+            are = λ whole rates start. first_more whole rates sides start shares later i rate e (omega (arith, start.one_each, c.loop-place-test.true)) (inv.are whole rates start)
+                (none_yet shares i inv.places) (λ d. subst (λ o. 0 < length o.rising.items) (there d) some) (λ d. subst (λ o. IsShareOf o rate) (there d) exact) perm;
             covered = λ whole rates start. covered_more whole rates shares later i (pushed_more x shares later perm) (inv.covered whole rates start) (λ d. inr (pushed_own x shares later perm));
-            places = All-permutation (λ share. share.0.place < i + 1) (x ∷ shares) later perm (All-cons (λ share. share.0.place < i + 1) x shares (omega arith) (All-weaker (λ share. share.0.place < i) (λ share. share.0.place < i + 1) (λ share less. omega (arith, less)) shares inv.places));
+            places = All-permutation (λ share. share.0.place < i + 1) (x ∷ shares) later perm
+                (All-cons (λ share. share.0.place < i + 1) x shares (omega arith)
+                (All-weaker (λ share. share.0.place < i) (λ share. share.0.place < i + 1) (λ share less. omega (arith, less)) shares inv.places));
             order = w.in_ok-push.ensures.heap_order inv.order;
             count = omega (arith, w.in_ok-push.ensures.len, inv.count);
           })
@@ -51,7 +54,9 @@ loop-place-preserved c =
           let none : length e.rising.items ≡ 0 = grind (arith, common_steps, c.is_empty.ensures, w.if-not-is_empty.false) in
           rw w.shares-is (record {
             are = inv.are;
-            covered = λ whole rates start. covered_more whole rates shares shares i (λ k some. some) (inv.covered whole rates start) (λ d. inl (first_without whole rates sides start i e (omega (arith, start.one_each, c.loop-place-test.true)) (subst (λ o. length o.rising.items ≡ 0) c.index-sides-place.is none) d));
+            covered = λ whole rates start. covered_more whole rates shares shares i (λ k some. some) (inv.covered whole rates start)
+                (λ d. inl (first_without whole rates sides start i e (omega (arith, start.one_each, c.loop-place-test.true))
+                (subst (λ o. length o.rising.items ≡ 0) c.index-sides-place.is none) d));
             places = All-weaker (λ share. share.0.place < i) (λ share. share.0.place < i + 1) (λ share less. omega (arith, less)) shares inv.places;
             order = inv.order;
             count = omega (arith, inv.count);

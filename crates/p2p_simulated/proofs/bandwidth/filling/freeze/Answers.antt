@@ -9,6 +9,7 @@ loop-user-preserved c =
     let i = c.loop-user.user-index in
     let inside : i < length c.args.users.now = omega (arith, c.loop-user-test.true) in
     elim c.if-is_none.branch [
-      | then-is_none w ↦ rw w.rates-is (next_fresh c.args.users.now i c.args.rates.now c.loop-user.rates c.args.level inside c.loop-user.invariant (grind (arith, common_steps, c.requires)) (grind (arith, common_steps, c.is_none.ensures)))
+      | then-is_none w ↦ rw w.rates-is (next_fresh c.args.users.now i c.args.rates.now c.loop-user.rates c.args.level inside c.loop-user.invariant
+          (grind (arith, common_steps, c.requires)) (grind (arith, common_steps, c.is_none.ensures)))
       | else-is_none w ↦ rw w.rates-is (next_frozen c.args.users.now i c.args.rates.now c.loop-user.rates c.args.level inside c.loop-user.invariant (grind (arith, common_steps, c.is_none.ensures)))
     ]

@@ -16,17 +16,20 @@ use Rattle.p2p_simulated.proofs.bandwidth.filling.next_share.Goals as goal
 pub returns-in_err-ok_or-clause-refused : goal.returns-in_err-ok_or-clause-refused
 returns-in_err-ok_or-clause-refused c =
     let refused = refused_by c.count_frozen.result c.in_err-ok_or.field-0.0 _ c.in_err-ok_or.ensures.value c.count_frozen.ensures.too_large in
-    let inside = place_inside (length c.args.rates.now) c.loop-least.sides (heap_items c.loop-least.shares) (heap_items c.pop.new.self) c.in-Some.field-0 c.loop-least.invariant.sound c.in-Some.ensures.permutation in
+    let inside = place_inside (length c.args.rates.now) c.loop-least.sides (heap_items c.loop-least.shares) (heap_items c.pop.new.self) c.in-Some.field-0 c.loop-least.invariant.sound
+    c.in-Some.ensures.permutation in
     if_err _ _ c.from_residual.result c.from_residual.ensures.1 (λ e is. inr (
       is ∙ refused.0,
       λ whole queue.
-          cannot_fill whole c.args.rates.now c.loop-least.sides (heap_items c.loop-least.shares) (c.loop-least.invariant.queue whole queue) c.in-Some.field-0.0.place c.index-sides-least.result inside refused.1,
+          cannot_fill whole c.args.rates.now c.loop-least.sides (heap_items c.loop-least.shares) (c.loop-least.invariant.queue whole queue) c.in-Some.field-0.0.place
+          c.index-sides-least.result inside refused.1,
     ))
 
 pub returns-then-not-branch-clause-sound : goal.returns-then-not-branch-clause-sound
 returns-then-not-branch-clause-sound c =
     let some = ok_by c.count_frozen.result c.in_ok-ok_or.field-0 _ c.in_ok-ok_or.ensures.value in
-    sound_popped (length c.args.rates.now) c.loop-least.sides (heap_items c.loop-least.shares) (heap_items c.pop.new.self) c.in-Some.field-0 c.count_frozen.new.self c.loop-least.invariant.sound c.in-Some.ensures.permutation
+    sound_popped (length c.args.rates.now) c.loop-least.sides (heap_items c.loop-least.shares) (heap_items c.pop.new.self) c.in-Some.field-0 c.count_frozen.new.self
+    c.loop-least.invariant.sound c.in-Some.ensures.permutation
     (c.in-Some.ensures.heap_order c.loop-least.invariant.sound.order).0 (on_some_of c.count_frozen.result c.count_frozen.ensures.users c.in_ok-ok_or.field-0 some)
 
 pub returns-then-not-branch-clause-next : goal.returns-then-not-branch-clause-next
@@ -34,10 +37,12 @@ returns-then-not-branch-clause-next c whole queue =
     let r = c.index-sides-least.result in
     let place = c.in-Some.field-0.0.place in
     let old = get_or c.loop-least.sides place r in
-    let inside = place_inside (length c.args.rates.now) c.loop-least.sides (heap_items c.loop-least.shares) (heap_items c.pop.new.self) c.in-Some.field-0 c.loop-least.invariant.sound c.in-Some.ensures.permutation in
+    let inside = place_inside (length c.args.rates.now) c.loop-least.sides (heap_items c.loop-least.shares) (heap_items c.pop.new.self) c.in-Some.field-0 c.loop-least.invariant.sound
+    c.in-Some.ensures.permutation in
     let some = ok_by c.count_frozen.result c.in_ok-ok_or.field-0 _ c.in_ok-ok_or.ensures.value in
     let same = match_false _ _ c.in_ok-ok_or.field-0 c.if-not-branch.true (some_of_if _ c.count_frozen.result c.count_frozen.ensures.changed c.in_ok-ok_or.field-0 some) in
-    is_next whole c.args.rates.now c.loop-least.sides (heap_items c.loop-least.shares) (c.loop-least.invariant.queue whole queue) c.in-Some.field-0 (heap_items c.pop.new.self) c.in-Some.ensures.permutation old c.count_frozen.new.self
+    is_next whole c.args.rates.now c.loop-least.sides (heap_items c.loop-least.shares) (c.loop-least.invariant.queue whole queue) c.in-Some.field-0 (heap_items c.pop.new.self)
+    c.in-Some.ensures.permutation old c.count_frozen.new.self
     (λ d. get_or_default c.loop-least.sides place d r inside)
     (on_some_of c.count_frozen.result c.count_frozen.ensures.account c.in_ok-ok_or.field-0 some)
     same
@@ -49,7 +54,8 @@ returns-in_err-rate-clause-refused c =
     let r = c.index-sides-least.result in
     let place = c.in-Some.field-0.0.place in
     let refused = refused_by c.share.result c.in_err-rate.field-0.0 _ c.in_err-rate.ensures.value c.share.ensures.too_large in
-    let inside = place_inside (length c.args.rates.now) c.loop-least.sides (heap_items c.loop-least.shares) (heap_items c.pop.new.self) c.in-Some.field-0 c.loop-least.invariant.sound c.in-Some.ensures.permutation in
+    let inside = place_inside (length c.args.rates.now) c.loop-least.sides (heap_items c.loop-least.shares) (heap_items c.pop.new.self) c.in-Some.field-0 c.loop-least.invariant.sound
+    c.in-Some.ensures.permutation in
     let some = ok_by c.count_frozen.result c.in_ok-ok_or.field-0 _ c.in_ok-ok_or.ensures.value in
     let keeps = on_some_of c.count_frozen.result c.count_frozen.ensures.account c.in_ok-ok_or.field-0 some in
     if_err _ _ c.from_residual-in_err-rate.result c.from_residual-in_err-rate.ensures.1 (λ e is. inr (
@@ -81,14 +87,17 @@ loop-least-preserved-in_ok-push c =
     let read = λ (d : OpenSide). get_or_default c.loop-least.sides place d r inside in
     let popped = sound_popped (length rates) c.loop-least.sides shares rest x new sound perm (c.in-Some.ensures.heap_order sound.order).0 users in
     record {
-      sound = sound_pushed (length rates) _ rest (heap_items c.push.new.self) _ popped (omega (arith, inside, length-set c.loop-least.sides place new)) c.in_ok-push.ensures.permutation (c.in_ok-push.ensures.heap_order popped.order);
-      queue = λ whole queue. queue_pushed whole rates c.loop-least.sides shares (c.loop-least.invariant.queue whole queue) x rest perm old new read keeps rise any c.in_ok-rate.rate exact (heap_items c.push.new.self) c.in_ok-push.ensures.permutation;
+      sound = sound_pushed (length rates) _ rest (heap_items c.push.new.self) _ popped (omega (arith, inside, length-set c.loop-least.sides place new)) c.in_ok-push.ensures.permutation
+          (c.in_ok-push.ensures.heap_order popped.order);
+      queue = λ whole queue. queue_pushed whole rates c.loop-least.sides shares (c.loop-least.invariant.queue whole queue) x rest perm old new read keeps rise any c.in_ok-rate.rate
+          exact (heap_items c.push.new.self) c.in_ok-push.ensures.permutation;
       no_lower = λ whole level queue all.
           let before = All-permutation (λ e. IsNoGreater level e.0.rate) shares (x ∷ rest) perm (c.loop-least.invariant.no_lower whole level queue all) in
           let higher = no_lower whole rates c.loop-least.sides shares (c.loop-least.invariant.queue whole queue) x rest perm old new read keeps rise any c.in_ok-rate.rate exact in
           let again : Reverse Share = record { 0 = record { rate = c.in_ok-rate.rate; place = place } } in
           All-permutation (λ e. IsNoGreater level e.0.rate) (again ∷ rest) (heap_items c.push.new.self) c.in_ok-push.ensures.permutation
-          (All-cons (λ e. IsNoGreater level e.0.rate) again rest (no_greater_trans level x.0.rate c.in_ok-rate.rate (All-head (λ e. IsNoGreater level e.0.rate) x rest before) higher) (All-tail (λ e. IsNoGreater level e.0.rate) x rest before));
+          (All-cons (λ e. IsNoGreater level e.0.rate) again rest (no_greater_trans level x.0.rate c.in_ok-rate.rate (All-head (λ e. IsNoGreater level e.0.rate) x rest before) higher)
+          (All-tail (λ e. IsNoGreater level e.0.rate) x rest before));
       fewer = omega (arith, c.loop-least.invariant.fewer, c.in-Some.ensures.len, c.in_ok-push.ensures.len);
     }
 

@@ -9,7 +9,8 @@ abbrev pub invariant-loop-least : goal.invariant-loop-least
 invariant-loop-least l = record {
   sound : IsSound (length l.rates) l.sides (heap_items l.shares);
   queue : (whole : List Side) → IsQueue whole l.rates l.initial.sides (heap_items l.initial.shares) → IsQueue whole l.rates l.sides (heap_items l.shares);
-  no_lower : (whole : List Side) (level : Ratio) → IsQueue whole l.rates l.initial.sides (heap_items l.initial.shares) → All (λ share. IsNoGreater level share.0.rate) (heap_items l.initial.shares) → All (λ share. IsNoGreater level share.0.rate) (heap_items l.shares);
+  no_lower : (whole : List Side) (level : Ratio) → IsQueue whole l.rates l.initial.sides (heap_items l.initial.shares)
+      → All (λ share. IsNoGreater level share.0.rate) (heap_items l.initial.shares) → All (λ share. IsNoGreater level share.0.rate) (heap_items l.shares);
   fewer : heap_len l.shares ≤ heap_len l.initial.shares;
 }
 
