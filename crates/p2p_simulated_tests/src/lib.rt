@@ -4,7 +4,19 @@
 #[cfg(test)]
 mod planner;
 #[cfg(test)]
+mod planner_counted;
+#[cfg(test)]
+mod planner_judge;
+#[cfg(test)]
+mod planner_lists;
+#[cfg(test)]
+mod planner_network;
+#[cfg(test)]
 mod planner_peers;
+#[cfg(test)]
+mod planner_plain;
+#[cfg(test)]
+mod planner_sizes;
 #[cfg(test)]
 mod ratio_tests;
 #[cfg(test)]
