@@ -1,5 +1,5 @@
 -- Closures that look caps up, and stay as they are.
-use Rattle.std.proofs.Common.{◌≡◌, ℕ, Bool, true, false, cond, List, [], ◌∷◌, Option, None, Result, Ok, Err, IfOk, map, refl, ap, ap₂, ◌∙◌, subst, length}
+use Rattle.std.proofs.Common.{◌≡◌, ℕ, Bool, true, false, cond, List, [], ◌∷◌, Option, None, Result, Ok, Err, IfOk, IfErr, ◌⊎◌, ◌<◌, inl, inr, map, refl, ap, ap₂, ◌∙◌, subst, length}
 use Rattle.std.specs.List.{FoldsTo}
 use Rattle.std.specs.Ordering.{nat_cmp}
 use Rattle.p2p_simulated.specs.declared.bandwidth.Flow.{Flow}
@@ -9,7 +9,11 @@ use Rattle.p2p_simulated.specs.Caps.{Caps}
 use Rattle.p2p_simulated.specs.PeerCaps.{answered_under}
 use Rattle.p2p_simulated.specs.Allocation.{IsAllocation}
 use Rattle.p2p_simulated.specs.Rates.{AreFairRates}
-use Rattle.p2p_simulated.specs.Session.{AreRatesUnder}
+use Rattle.p2p_simulated.specs.Session.{AreRatesUnder, AreTooLargeUnder, MayRefuseRates}
+use Rattle.p2p_simulated.specs.Size.{FairRatesFit}
+use Rattle.p2p_simulated.specs.TooLarge.{HasLargeAnswer, IsTooLarge}
+use Rattle.p2p_simulated.specs.declared.error.Error.{Error}
+use Rattle.p2p_simulated.specs.declared.error.Error.TheVariants.{OutOfMemory, NumberTooLarge}
 use Rattle.p2p_simulated.specs.Sides.{sides_of}
 
 -- from its one state, the closure answers by that function of the peer, and stays in it
@@ -54,3 +58,25 @@ module _ {E I : Type 0} (egress : Calls E ℕ) (ingress : Calls I ℕ) (e : E) (
       → IfOk answer (λ x. IsAllocation nat_cmp egress ingress NoLink (record { egress = e; ingress = i; link = tt }) listed (rate_of x)) → IfOk answer (λ x. AreRatesUnder caps flows (rate_of x))
   rates_if_ok rate_of (Err r) listed flows same h = tt
   rates_if_ok rate_of (Ok x) listed flows same h = subst (λ fs. AreRatesUnder caps fs (rate_of x)) same (rates_under_caps listed (rate_of x) h)
+
+  -- flows that are too large by the answers are so under the caps
+  too_large_under_caps : (flows : List (Flow ℕ))
+      → IsTooLarge nat_cmp egress ingress NoLink (record { egress = e; ingress = i; link = tt }) flows → AreTooLargeUnder caps flows
+  too_large_under_caps flows h =
+      let all : h.answered ≡ map (answered_under caps) flows = all_answers _ h.answered h.in_order.last (refl, refl) h.in_order.calls ∙ ap (map (answered_under caps)) h.in_order.flows_are in
+      record {
+        nothing_fits = subst (λ answered. ¬ FairRatesFit (sides_of nat_cmp answered) (length flows)) all h.nothing_fits;
+        many_or_large = subst (λ answered. (16 < length flows) ⊎ HasLargeAnswer answered) all h.many_or_large;
+      }
+
+  may_refuse : (flows : List (Flow ℕ)) (why : Error)
+      → (why ≡ OutOfMemory) ⊎ ((why ≡ NumberTooLarge) × IsTooLarge nat_cmp egress ingress NoLink (record { egress = e; ingress = i; link = tt }) flows) → MayRefuseRates caps flows why
+  may_refuse flows why (inl memory) = inl memory
+  may_refuse flows why (inr (size, large)) = inr (size, too_large_under_caps flows large)
+
+  -- the same of what a call refused
+  pub refused_if_err : {X : Type 0} (answer : Result X Error) (listed flows : List (Flow ℕ)) → listed ≡ flows
+      → IfErr answer (λ why. (why ≡ OutOfMemory) ⊎ ((why ≡ NumberTooLarge) × IsTooLarge nat_cmp egress ingress NoLink (record { egress = e; ingress = i; link = tt }) listed))
+      → IfErr answer (MayRefuseRates caps flows)
+  refused_if_err (Ok x) listed flows same h = tt
+  refused_if_err (Err why) listed flows same h = subst (λ fs. MayRefuseRates caps fs why) same (may_refuse listed why h)

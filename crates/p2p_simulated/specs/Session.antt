@@ -1,9 +1,11 @@
 -- What a script has said so far.
-use Rattle.std.specs.Prelude.{◌≡◌, ℕ, ◌==◌, List, [], ◌∷◌, ◌++◌, Option, None, length, map, if◌then◌else◌}
+use Rattle.std.specs.Prelude.{◌≡◌, ◌⊎◌, ℕ, ◌<◌, ◌==◌, List, [], ◌∷◌, ◌++◌, Option, None, length, map, if◌then◌else◌}
 use Rattle.std.specs.Ordering.{nat_cmp}
 use Rattle.std.specs.BTreeMap.{get}
 use Rattle.p2p_simulated.specs.declared.bandwidth.Flow.{Flow}
 use Rattle.p2p_simulated.specs.declared.bandwidth.Rate.{Rate}
+use Rattle.p2p_simulated.specs.declared.error.Error.{Error}
+use Rattle.p2p_simulated.specs.declared.error.Error.TheVariants.{OutOfMemory, NumberTooLarge}
 use Rattle.p2p_simulated.specs.declared.linkrun.answer.Answer.{Answer}
 use Rattle.p2p_simulated.specs.declared.linkrun.answer.Answer.TheVariants as answers
 use Rattle.p2p_simulated.specs.declared.linkrun.command.Command.{Command}
@@ -13,6 +15,8 @@ use Rattle.p2p_simulated.specs.Caps.{Caps}
 use Rattle.p2p_simulated.specs.PeerCaps.{answered_under}
 use Rattle.p2p_simulated.specs.Rates.{AreFairRates, last_rate}
 use Rattle.p2p_simulated.specs.Sides.{sides_of}
+use Rattle.p2p_simulated.specs.Size.{FairRatesFit}
+use Rattle.p2p_simulated.specs.TooLarge.{HasLargeAnswer}
 
 -- the cap on what a peer sends
 abbrev pub egress_of : Session → ℕ → Option ℕ
@@ -62,3 +66,21 @@ AnswersTo commands.Rates s answers.Nothing = ⊥
 AnswersTo (commands.Flow flow) s answer = answer ≡ answers.Nothing
 AnswersTo (commands.Egress peer cap) s answer = answer ≡ answers.Nothing
 AnswersTo (commands.Ingress peer cap) s answer = answer ≡ answers.Nothing
+
+-- ---- when a command is refused
+
+-- no fair rates of the flows under the caps fit; so there are more than sixteen flows, or a flow has a cap of 2^64 or more
+pub record AreTooLargeUnder (caps : Caps ℕ) (flows : List (Flow ℕ)) : Type 0 where
+  pub nothing_fits : ¬ FairRatesFit (sides_of nat_cmp (map (answered_under caps) flows)) (length flows)
+  pub many_or_large : (16 < length flows) ⊎ HasLargeAnswer (map (answered_under caps) flows)
+
+-- rates are refused for want of memory, or for a number where they are too large
+abbrev pub MayRefuseRates : Caps ℕ → List (Flow ℕ) → Error → Type 0
+MayRefuseRates caps flows why = (why ≡ OutOfMemory) ⊎ ((why ≡ NumberTooLarge) × AreTooLargeUnder caps flows)
+
+-- a command for the rates is refused so, and any other only for want of memory
+abbrev pub MayRefuse : Command → Session → Error → Type 0
+MayRefuse commands.Rates s why = MayRefuseRates (caps_of s) s.flows.items why
+MayRefuse (commands.Flow flow) s why = why ≡ OutOfMemory
+MayRefuse (commands.Egress peer cap) s why = why ≡ OutOfMemory
+MayRefuse (commands.Ingress peer cap) s why = why ≡ OutOfMemory

@@ -1,8 +1,8 @@
 //! What a script has said so far.
-ghost use Rattle.std.specs.Prelude.{◌≡◌, ℕ, [], None, IfOk, OnOk, OnErr};
+ghost use Rattle.std.specs.Prelude.{◌≡◌, ℕ, [], None, IfOk, IfErr, OnOk, OnErr};
 ghost use Rattle.std.specs.Ordering.{nat_cmp};
 ghost use Rattle.std.specs.BTreeMap.{get, IsUnchanged};
-ghost use Rattle.p2p_simulated.specs.Session.{Says, SaysSame, SaysAfter, AnswersTo, AreRatesUnder, caps_of, with_cap};
+ghost use Rattle.p2p_simulated.specs.Session.{Says, SaysSame, SaysAfter, AnswersTo, AreRatesUnder, MayRefuse, MayRefuseRates, caps_of, with_cap};
 
 use crate::bandwidth;
 use crate::bandwidth::{Flow, Rate};
@@ -38,7 +38,8 @@ impl Session {
     pub(crate) fn perform(&mut self, command: Command) -> Result<Answer, Error>
         ensures answer { IfOk result (AnswersTo command self.old) }
         ensures done { OnOk result (SaysAfter command self.old self.new) }
-        ensures refused { OnErr result (SaysSame self.old self.new) }
+        ensures kept { OnErr result (SaysSame self.old self.new) }
+        ensures refused { IfErr result (MayRefuse command self.old) }
     {
         match command {
             Command::Flow(flow) => self.flows.push(flow)?,
@@ -51,7 +52,8 @@ impl Session {
 
     /// The rates of the flows, by id.
     fn rates(&self) -> Result<BTreeMap<u64, Rate>, Error>
-        ensures { IfOk result (λ rates. AreRatesUnder (caps_of self.now) self.now.flows.items (get nat_cmp rates)) }
+        ensures fair { IfOk result (λ rates. AreRatesUnder (caps_of self.now) self.now.flows.items (get nat_cmp rates)) }
+        ensures refused { IfErr result (MayRefuseRates (caps_of self.now) self.now.flows.items) }
     {
         bandwidth::allocate(
             self.alloc,
@@ -65,7 +67,8 @@ impl Session {
 /// Sets a peer's cap, or removes it.
 fn set_cap(caps: &mut BTreeMap<u64, u128>, peer: u64, cap: Option<u128>) -> Result<(), Error>
     ensures set { OnOk result ((p : ℕ) → get nat_cmp caps.new p ≡ with_cap (get nat_cmp caps.old) peer cap p) }
-    ensures refused { OnErr result (IsUnchanged caps.old caps.new) }
+    ensures kept { OnErr result (IsUnchanged caps.old caps.new) }
+    ensures refused { IfErr result (λ e. e ≡ Error.OutOfMemory) }
 {
     match cap {
         Some(cap) => {
