@@ -6,7 +6,7 @@ use Rattle.std.proofs.lemmas.List.Sorted.{IsPermutation-refl, IsPermutation-pop_
 use Rattle.std.proofs.lemmas.List.Sums.{sum_by-append, sum_by-cons, get_or-le-sum_by}
 use Rattle.p2p_simulated.specs.Amount.{Amount, AreEqual, whole, plus, minus, over}
 use Rattle.p2p_simulated.specs.Fair.{Side, load}
-use Rattle.p2p_simulated.specs.Filling.{rate_at, AreWorth, KeepsAccount, IsUnchanged, IsShareOf, Fits, CannotFit}
+use Rattle.p2p_simulated.specs.Filling.{rate_at, AreWorth, KeepsAccount, IsShareOf, Fits, CannotFit}
 use Rattle.p2p_simulated.specs.Fits.{SumFits, DifferenceFits, ReducedFits}
 use Rattle.p2p_simulated.specs.Ratio.{amount_of, IsWorth}
 use Rattle.p2p_simulated.specs.declared.bandwidth.filling.open.OpenSide.{OpenSide}
@@ -28,16 +28,6 @@ account_start side rates open_side cap taken users = record {
   parted = subst (λ xs. IsPermutation side.users xs) users (IsPermutation-refl side.users);
   frozen = All-nil (λ i. IsSome (rate_at rates i));
   taken = λ per parts w. let zero = is_worth open_side.taken (whole 0) taken in omega (arith, ap (λ n. n * per) zero);
-}
-
--- an unchanged open side keeps the same account
-pub account_unchanged : (side : Side) (rates : List (Option Ratio)) (old new : OpenSide) → IsUnchanged old new → KeepsAccount side rates old → KeepsAccount side rates new
-account_unchanged side rates old new same account = record {
-  cap = same.cap ∙ account.cap;
-  counted = account.counted;
-  parted = subst (λ xs. IsPermutation side.users (account.counted ++ xs)) (sym same.rising) account.parted;
-  frozen = account.frozen;
-  taken = λ per parts w. subst (λ r. IsWorth r (record { num = sum_by parts account.counted; den = per })) (sym same.taken) (account.taken per parts w);
 }
 
 module _ (side : Side) (rates : List (Option Ratio)) (old : OpenSide) (account : KeepsAccount side rates old) where

@@ -24,21 +24,6 @@ div_parts qn qd sn sd cn cd count rest per sd_pos cd_pos quotient is_count is_re
     omega (arith, ap (λ n. n * per) quotient, ap (λ n. n * (qn * per * sd)) is_count, ap (λ n. n * (cd * qd)) is_rest) in
     eq_of_mul-eq-mul_right sd sd_pos (qn * (per * count)) (rest * qd) (eq_of_mul-eq-mul_right cd cd_pos (qn * (per * count) * sd) (rest * qd * sd) one)
 
--- a lower level leaves room where a higher one does
-pub lower_room : (bn bd hn hd users rest : ℕ) → 0 < hd → bn * hd ≤ hn * bd → hn * users ≤ rest * hd → bn * users ≤ rest * bd
-lower_room bn bd hn hd users rest hd_pos lower room =
-    le_of_mul-le-mul_right {k = hd} (omega (arith, mul-le-mul_right users lower, mul-le-mul_right bd room)) hd_pos
-
--- the parts of a level that is a share
-pub level_parts : (ln ld parts per count rest : ℕ) → 0 < ld → ln * (per * count) ≡ rest * ld → ln * per ≡ parts * ld → parts * count ≡ rest
-level_parts ln ld parts per count rest ld_pos share worth =
-    eq_of_mul-eq-mul_right ld ld_pos (parts * count) rest (omega (arith, share, ap (λ n. n * count) worth))
-
--- the parts of a level that leaves room
-pub room_parts : (ln ld parts per count rest : ℕ) → 0 < ld → ln * (per * count) ≤ rest * ld → ln * per ≡ parts * ld → parts * count ≤ rest
-room_parts ln ld parts per count rest ld_pos room worth =
-    le_of_mul-le-mul_right {k = ld} (omega (arith, room, ap (λ n. n * count) worth)) ld_pos
-
 -- a rate has one number of parts
 pub same_parts : (ln ld p q per : ℕ) → 0 < ld → ln * per ≡ p * ld → ln * per ≡ q * ld → p ≡ q
 same_parts ln ld p q per ld_pos first second =

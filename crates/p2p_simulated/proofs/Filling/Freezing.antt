@@ -2,18 +2,10 @@
 use Rattle.std.proofs.Common.{◌≡◌, ◌≢◌, ℕ, ◌+◌, ◌<◌, inl, inr, List, [], ◌∷◌, ◌++◌, length, get_or, set, take, Contains, Option, Some, None, IsSome, sym, ap, ◌∙◌, subst, get_or-set_other, get_or-set_same}
 use Rattle.std.proofs.lemmas.Bool.{cases_eq}
 use Rattle.std.proofs.lemmas.List.{take_more}
-use Rattle.std.proofs.lemmas.List.Elements.{All-nil, All-push, All-weaker, Contains-push, Contains-append_left}
+use Rattle.std.proofs.lemmas.List.Elements.{All-push, All-weaker, Contains-push, Contains-append_left}
 use Rattle.p2p_simulated.specs.Filling.{rate_at, FreezesAll}
 use Rattle.p2p_simulated.specs.declared.ratio.Ratio.{Ratio}
 use Rattle.p2p_simulated.proofs.Filling.Frozen.{some_is, some_value}
-
--- before the first user
-pub freezes_none : (rates : List (Option Ratio)) (level : Ratio) → FreezesAll [] rates rates level
-freezes_none rates level = record {
-  kept = λ i rate e. e;
-  fresh = λ i rate e e'. cc;
-  all = All-nil (λ i. IsSome (rate_at rates i));
-}
 
 -- a user that was frozen before
 push_frozen : (users : List ℕ) (user : ℕ) (before after : List (Option Ratio)) (level : Ratio) → IsSome (rate_at after user) → FreezesAll users before after level

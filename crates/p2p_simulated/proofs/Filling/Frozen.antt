@@ -33,10 +33,6 @@ module _ (frozen : ℕ → Option ℕ) (level : ℕ) where
 pub at_any : (frozen : ℕ → Option ℕ) (level other i : ℕ) → IsSome (frozen i) → at_level frozen level i ≡ at_level frozen other i
 at_any frozen level other i h = let v = some_value (frozen i) h in at_some frozen level i v.0 v.1 ∙ sym (at_some frozen other i v.0 v.1)
 
-pub none_unless : {X : Type 0} (o : Option X) → ((x : X) → o ≡ Some x → ⊥) → o ≡ None
-none_unless None h = refl
-none_unless (Some x) h = absurd (h x refl)
-
 -- what holds of the value, if there is one
 pub if_some : {X : Type 0} (P Q : X → Type 0) (o : Option X) → IfSome o P → ((x : X) → P x → Q x) → IfSome o Q
 if_some P Q None h f = tt
@@ -61,11 +57,6 @@ rate_at-replicate count flow = elim (cases_lt flow count) [
 pub if_none : {X P : Type 0} (o : Option X) → P → IfNone o P
 if_none None p = p
 if_none (Some x) p = tt
-
--- what holds if there is no value
-pub if_none_so : {X P Q : Type 0} (o : Option X) → IfNone o P → (P → Q) → IfNone o Q
-if_none_so None p f = f p
-if_none_so (Some x) p f = tt
 
 pub not_some : {X : Type 0} (o : Option X) → o ≡ None → IsSome o → ⊥
 not_some None e s = cc
@@ -93,10 +84,6 @@ ok_by (Some x) value error e = cc
 pub on_some_of : {X P : Type 0} (o : Option X) → OnSome o P → (x : X) → o ≡ Some x → P
 on_some_of None h x e = cc
 on_some_of (Some y) h x e = h
-
-pub match_true : (P Q : Type 0) (b : Bool) → b ≡ true → MatchBool b P Q → P
-match_true P Q true e h = h
-match_true P Q false e h = cc
 
 pub match_false : (P Q : Type 0) (b : Bool) → b ≡ false → MatchBool b P Q → Q
 match_false P Q true e h = cc

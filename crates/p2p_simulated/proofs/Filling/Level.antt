@@ -1,13 +1,13 @@
 -- A round: the users of a side freeze at a rate that fills it, and for which there is room on every side.
 use Rattle.std.proofs.Common.{◌≡◌, ℕ, ◌*◌, ◌<◌, ◌≤◌, ◌⊎◌, inl, inr, List, Contains, Option, Some, None, IsSome, refl, sym, ap, ◌∙◌, subst, arith}
 use Rattle.std.specs.Prelude.{option_map, unwrap_or}
-use Rattle.std.proofs.Math.Nat.{eq_of_mul-eq-mul_right}
 use Rattle.std.proofs.lemmas.Bool.{cases_lt}
 use Rattle.std.proofs.lemmas.List.Elements.{All-contains}
 use Rattle.p2p_simulated.specs.Fair.{Side, load, IsWithinCaps}
 use Rattle.p2p_simulated.specs.Filling.{rate_at, AreWorth, FreezesAll, AllFrozen, HasRoomAt}
 use Rattle.p2p_simulated.specs.Ratio.{IsWorth}
 use Rattle.p2p_simulated.specs.declared.ratio.Ratio.{Ratio}
+use Rattle.p2p_simulated.proofs.Filling.Arithmetic.{same_parts}
 use Rattle.p2p_simulated.proofs.Filling.Frozen.{some_value, some_is}
 use Rattle.p2p_simulated.proofs.Filling.Rounds.{start, next}
 use Rattle.p2p_simulated.proofs.Filling.States.{at_level, parts_at, IsFilledTo, IsNextRound, IsFilling, FillsAt}
@@ -41,9 +41,6 @@ load_frozen rates parts level side all =
 one_level : (o : Option Ratio) (parts lower level : ℕ) → lower < level → unwrap_or (option_map (λ _. parts) o) lower ≤ unwrap_or (option_map (λ _. parts) o) level
 one_level None parts lower level lt = omega arith
 one_level (Some rate) parts lower level lt = omega arith
-
-same_parts : (ln ld p q per : ℕ) → 0 < ld → ln * per ≡ p * ld → ln * per ≡ q * ld → p ≡ q
-same_parts ln ld p q per ld_pos first second = eq_of_mul-eq-mul_right ld ld_pos p q (omega (arith, first, second))
 
 -- the sides have room at the rate, each, or none of its users rises
 abbrev pub RoomOnAll : List Side → List (Option Ratio) → Ratio → Type 0
