@@ -1,6 +1,8 @@
 //! Rates of flows, against values worked out by hand.
 use crate::planner_peers::{Backward, Marked, Numbered};
-use p2p_simulated::bandwidth::{Flow, Rate, allocate, allocate_linked};
+use p2p_simulated::bandwidth::{
+    Flow, Rate, allocate, allocate_counted, allocate_linked, allocate_linked_counted,
+};
 use p2p_simulated::error::Error;
 use p2p_simulated::ratio::Ratio;
 use std::alloc::{AllocFailed, Global};
@@ -25,7 +27,7 @@ struct LinkCap(u8, u8, u128);
 #[derive(Clone, Copy, Debug)]
 struct Wanted(u64, Option<(u128, u128)>);
 
-/// Flows under caps that never change, and the rates that they are to have.
+/// Flows under caps that never change, the rates that they are to have, and the rounds of filling.
 #[derive(Clone, Copy, Debug)]
 struct Case<'a> {
     flows: &'a [Arrow],
@@ -33,6 +35,7 @@ struct Case<'a> {
     ingress: &'a [Cap],
     links: &'a [LinkCap],
     wanted: &'a [Wanted],
+    rounds: u128,
 }
 
 fn flows_of<P: Numbered>(
@@ -93,6 +96,38 @@ fn linked_rates<P: Numbered>(
     )
 }
 
+fn counted_rates<P: Numbered>(
+    alloc: Global,
+    flows: &[Flow<P>],
+    case: &Case,
+) -> Result<(BTreeMap<u64, Rate>, u128), Error> {
+    let egress = case.egress;
+    let ingress = case.ingress;
+    allocate_counted(
+        alloc,
+        flows,
+        |peer| cap_of(egress, peer.number()),
+        |peer| cap_of(ingress, peer.number()),
+    )
+}
+
+fn linked_counted_rates<P: Numbered>(
+    alloc: Global,
+    flows: &[Flow<P>],
+    case: &Case,
+) -> Result<(BTreeMap<u64, Rate>, u128), Error> {
+    let egress = case.egress;
+    let ingress = case.ingress;
+    let links = case.links;
+    allocate_linked_counted(
+        alloc,
+        flows,
+        |peer| cap_of(egress, peer.number()),
+        |peer| cap_of(ingress, peer.number()),
+        |origin, recipient| link_cap_of(links, origin.number(), recipient.number()),
+    )
+}
+
 fn expect(rt: &impl Abort, rates: &BTreeMap<u64, Rate>, wanted: &[Wanted]) -> Result<(), Fail> {
     assert_eq!(rt; rates.len(), wanted.len());
     for Wanted(id, rate) in wanted {
@@ -111,8 +146,14 @@ fn expect(rt: &impl Abort, rates: &BTreeMap<u64, Rate>, wanted: &[Wanted]) -> Re
 fn holds<P: Numbered>(rt: &(impl Abort + AllocGlobal), case: &Case) -> Result<(), Fail> {
     let flows = flows_of::<P>(rt.alloc(), case.flows)?;
     expect(rt, &linked_rates(rt.alloc(), &flows, case)?, case.wanted)?;
+    let (found, rounds) = linked_counted_rates(rt.alloc(), &flows, case)?;
+    expect(rt, &found, case.wanted)?;
+    assert_eq!(rt; rounds, case.rounds);
     if case.links.is_empty() {
         expect(rt, &rates(rt.alloc(), &flows, case)?, case.wanted)?;
+        let (found, rounds) = counted_rates(rt.alloc(), &flows, case)?;
+        expect(rt, &found, case.wanted)?;
+        assert_eq!(rt; rounds, case.rounds);
     }
     Ok(())
 }
@@ -135,11 +176,13 @@ fn one_cap_is_shared(rt: HostRuntime) -> Result<(), Fail> {
         ingress: &[],
         links: &[],
         wanted: &halves,
+        rounds: 1,
     };
     holds_at_each_type(&rt, &case)?;
     let empty = Case {
         flows: &[],
         wanted: &[],
+        rounds: 0,
         ..case
     };
     holds_at_each_type(&rt, &empty)
@@ -168,8 +211,46 @@ fn filling_goes_round_by_round(rt: HostRuntime) -> Result<(), Fail> {
         ingress: &[Cap(1, 500000), Cap(2, 250000), Cap(3, 1000000)],
         links: &[],
         wanted: &wanted,
+        rounds: 2,
     };
     holds_at_each_type(&rt, &case)
+}
+
+/// Halves and quarters, and the same rates whatever the order of the flows.
+#[test]
+fn the_order_of_the_flows_plays_no_part(rt: HostRuntime) -> Result<(), Fail> {
+    let flows = [
+        Arrow(1, 1, 2, true),
+        Arrow(2, 3, 2, true),
+        Arrow(3, 3, 4, true),
+        Arrow(4, 3, 5, true),
+    ];
+    let backward = [
+        Arrow(4, 3, 5, true),
+        Arrow(3, 3, 4, true),
+        Arrow(2, 3, 2, true),
+        Arrow(1, 1, 2, true),
+    ];
+    let wanted = [
+        Wanted(1, Some((1, 2))),
+        Wanted(2, Some((1, 2))),
+        Wanted(3, Some((5, 4))),
+        Wanted(4, Some((5, 4))),
+    ];
+    let case = Case {
+        flows: &flows,
+        egress: &[Cap(3, 3)],
+        ingress: &[Cap(2, 1)],
+        links: &[],
+        wanted: &wanted,
+        rounds: 2,
+    };
+    holds_at_each_type(&rt, &case)?;
+    let turned = Case {
+        flows: &backward,
+        ..case
+    };
+    holds_at_each_type(&rt, &turned)
 }
 
 /// What a slow recipient leaves goes to the other flow, also where no cap fits 64 bits.
@@ -183,6 +264,7 @@ fn what_is_left_is_used(rt: HostRuntime) -> Result<(), Fail> {
         ingress: &[Cap(2, 1000), Cap(3, 500000)],
         links: &[],
         wanted: &wanted,
+        rounds: 2,
     };
     holds_at_each_type(&rt, &case)?;
     let limited = [Wanted(1, Some((1000, 1))), Wanted(2, Some((20000, 1)))];
@@ -219,6 +301,7 @@ fn lost_flows_charge_their_origin(rt: HostRuntime) -> Result<(), Fail> {
         ingress: &[Cap(2, 0), Cap(3, 0)],
         links: &[],
         wanted: &wanted,
+        rounds: 2,
     };
     holds_at_each_type(&rt, &case)?;
     let linked = Case {
@@ -239,6 +322,7 @@ fn the_last_of_an_id_decides(rt: HostRuntime) -> Result<(), Fail> {
         ingress: &[Cap(2, 2)],
         links: &[],
         wanted: &[Wanted(7, Some((8, 1)))],
+        rounds: 2,
     };
     holds_at_each_type(&rt, &case)?;
     let flows = [Arrow(7, 1, 3, true), Arrow(7, 2, 3, true)];
@@ -247,6 +331,7 @@ fn the_last_of_an_id_decides(rt: HostRuntime) -> Result<(), Fail> {
         egress: &[Cap(1, 5)],
         ingress: &[],
         wanted: &[Wanted(7, None)],
+        rounds: 1,
         ..case
     };
     holds_at_each_type(&rt, &last_is_free)?;
@@ -278,6 +363,7 @@ fn links_have_caps(rt: HostRuntime) -> Result<(), Fail> {
         ingress: &[],
         links: &[LinkCap(1, 2, 10)],
         wanted: &wanted,
+        rounds: 1,
     };
     holds_at_each_type(&rt, &case)
 }
