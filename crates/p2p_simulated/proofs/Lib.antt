@@ -24,7 +24,5 @@ pub mod Size
 pub mod Splitting
 pub mod Subjects
 pub mod Taken
-pub mod Users
-pub mod Uses
 pub mod Wording
 pub mod World

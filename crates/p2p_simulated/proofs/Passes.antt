@@ -3,16 +3,14 @@ use Rattle.std.proofs.Common.{subst, suc, ◌≡◌, ℕ, ◌+◌, ◌<◌, Bool
 use Rattle.std.proofs.Math.Seq.{take-suc}
 use Rattle.std.proofs.lemmas.List.{append-nil, map-append}
 use Rattle.std.proofs.lemmas.Fn.{FoldsTo-push}
-use Rattle.std.specs.Cmp.{IsTotalOrder}
 use Rattle.std.specs.List.{FoldsTo}
 use Rattle.std.specs.declared.cmp.Ordering.{Ordering}
 use Rattle.p2p_simulated.specs.declared.bandwidth.Flow.{Flow}
 use Rattle.p2p_simulated.specs.declared.bandwidth.sides.Registry.{Registry}
-use Rattle.p2p_simulated.specs.declared.bandwidth.sides.Uses.{Uses}
 use Rattle.p2p_simulated.specs.Answers.{Answered, Calls, PairCalls, CalledIfDelivered, States, CallsFor, CallableOnEach, CallableOnEachPair, origins, recipients, pairs}
 use Rattle.p2p_simulated.specs.Sides.{asks_of_one, asks_from}
-use Rattle.p2p_simulated.specs.Registering.{IsRegistryOf, AreUses}
-use Rattle.p2p_simulated.proofs.Asking.{Asked, all_asked, all_used}
+use Rattle.p2p_simulated.specs.Registering.{IsRegistryOf}
+use Rattle.p2p_simulated.proofs.Asking.{Asked, all_asked}
 
 -- what one flow more asks for stands at the end
 asks_from-push : {P : Type 0} (n m : ℕ) (answered : List (Answered P)) (a : Answered P) → m ≡ n + length answered
@@ -23,24 +21,23 @@ asks_from-push n m (b ∷ answered) a e =
 
 module _ {P E I L : Type 0} (cmp : P → P → Ordering) (egress : Calls E P) (ingress : Calls I P) (link : PairCalls L P) where
   -- what the pass over the first n flows has done
-  pub record Passed (first : States E I L) (flows : List (Flow P)) (n : ℕ) (now : States E I L) (registry : Registry P) (uses : List Uses) : Type 0 where
+  pub record Passed (first : States E I L) (flows : List (Flow P)) (n : ℕ) (now : States E I L) (registry : Registry P) : Type 0 where
     pub answered : List (Answered P)
     pub count : length answered ≡ n
     pub flows_are : map (λ a. a.flow) answered ≡ take n flows
     pub calls : FoldsTo (CallsFor egress ingress link) first answered now
     pub registered : IsRegistryOf cmp (asks_from 0 answered) registry
-    pub used : AreUses registry.sides.items n uses
 
-  pub passed : IsTotalOrder cmp → (n : ℕ) (a : Answered P) (u : Uses) (old new : Registry P) → Asked cmp n a u old new
-      → (first : States E I L) (flows : List (Flow P)) (before after : States E I L) (uses : List Uses)
-      → Passed first flows n before old uses
+  pub passed : (n : ℕ) (a : Answered P) (old new : Registry P) → Asked cmp n a old new
+      → (first : States E I L) (flows : List (Flow P)) (before after : States E I L)
+      → Passed first flows n before old
       → n < length flows
       → a.flow ≡ get_or flows n a.flow
       → CallsFor egress ingress link before a after
-      → Passed first flows (n + 1) after new (uses ++ u ∷ [])
-  passed o n a u old new asked first flows before after uses p below is calls =
+      → Passed first flows (n + 1) after new
+  passed n a old new asked first flows before after p below is calls =
       let registered : IsRegistryOf cmp (asks_from 0 (p.answered ++ a ∷ [])) new =
-      subst (λ asks. IsRegistryOf cmp asks new) (sym (asks_from-push 0 n p.answered a (omega (arith, p.count)))) (all_asked cmp n a u old new asked (asks_from 0 p.answered) p.registered) in
+      subst (λ asks. IsRegistryOf cmp asks new) (sym (asks_from-push 0 n p.answered a (omega (arith, p.count)))) (all_asked cmp n a old new asked (asks_from 0 p.answered) p.registered) in
       record {
         answered = p.answered ++ a ∷ [];
         count = omega (arith, length-append p.answered (a ∷ []), p.count);
@@ -48,7 +45,6 @@ module _ {P E I L : Type 0} (cmp : P → P → Ordering) (egress : Calls E P) (i
             ∙ ap (λ g. take n flows ++ g ∷ []) is ∙ sym (take-suc flows n a.flow below) ∙ ap (λ k. take k flows) (sym (add-one n));
         calls = FoldsTo-push (CallsFor egress ingress link) first p.answered before a after p.calls calls;
         registered = registered;
-        used = all_used cmp n a u old new asked o uses (asks_from 0 (p.answered ++ a ∷ [])) registered p.used;
       }
 
 pub called : {P I : Type 0} (call : Calls I P) (i : I) (p : P) (answer : Option ℕ) (j : I) (b : Bool)

@@ -16,7 +16,7 @@ use Rattle.p2p_simulated.specs.Registering.{subject_of, subjects_after, number_o
 use Rattle.p2p_simulated.specs.declared.bandwidth.sides.Registry.{Registry}
 use Rattle.p2p_simulated.specs.declared.bandwidth.sides.Side as declared_side
 use Rattle.p2p_simulated.specs.declared.bandwidth.sides.Subject as declared
-use Rattle.p2p_simulated.proofs.Subjects.{same_symm, same_congr, same_itself}
+use Rattle.p2p_simulated.proofs.Subjects.{same_symm, same_congr}
 use Rattle.p2p_simulated.proofs.Shares.{Share, limit_of, shares_after, opened_share, is_side_of, with_user, limits_are, subjects_are, shares_push}
 
 -- a list has an element that passes exactly where it has a place of one
@@ -278,18 +278,6 @@ finds_sides cmp o asks registry h s n e = let within = in_range cmp o asks regis
 -- the numbers, when a subject that had none gets one
 module _ {P : Type 0} (cmp : P → P → Ordering) (o : IsTotalOrder cmp) (old new : BTreeMap (declared.Subject P) ℕ) (s : declared.Subject P) (n : ℕ)
     (none : number_of cmp old s ≡ None) (are : (q : declared.Subject P) → number_of cmp new q ≡ cond (same_subject cmp (subject_of s) (subject_of q)) (Some n) (number_of cmp old q)) where
-  pub it_is_found : Some n ≡ number_of cmp new s
-  it_is_found = sym (are s ∙ ap (λ b. cond b (Some n) (number_of cmp old s)) (same_itself cmp o (subject_of s)))
-
-  pub others_are_found : (q : declared.Subject P) (m : ℕ) → number_of cmp old q ≡ Some m → number_of cmp new q ≡ Some m
-  others_are_found q m e = by (same_subject cmp (subject_of s) (subject_of q)) refl
-    where
-      by : (b : Bool) → same_subject cmp (subject_of s) (subject_of q) ≡ b → number_of cmp new q ≡ Some m
-      by true same =
-          let as_q : number_of cmp old s ≡ number_of cmp old q = lookup_agrees _ _ old.entries (λ k. same_congr cmp o (subject_of s) (subject_of q) (subject_of k) same) in
-          let some : None ≡ Some m = sym none ∙ as_q ∙ e in cc some
-      by false apart = are q ∙ ap (λ b. cond b (Some n) (number_of cmp old q)) apart ∙ e
-
   -- it is the number of the side that is new
   pub finds_more : (sides sides' : ℕ) → n ≡ sides → sides' ≡ sides + 1 → ((q : declared.Subject P) (m : ℕ) → number_of cmp old q ≡ Some m → m < sides) → (q : declared.Subject P) (m : ℕ) → number_of cmp new q ≡ Some m → m < sides'
   finds_more sides sides' last more finds q m e = by (same_subject cmp (subject_of s) (subject_of q)) refl
@@ -297,14 +285,6 @@ module _ {P : Type 0} (cmp : P → P → Ordering) (o : IsTotalOrder cmp) (old n
       by : (b : Bool) → same_subject cmp (subject_of s) (subject_of q) ≡ b → m < sides'
       by true same = let it : n ≡ m = same_Some n m (sym (are q ∙ ap (λ b. cond b (Some n) (number_of cmp old q)) same) ∙ e) in omega arith
       by false apart = let it : m < sides = finds q m (sym (are q ∙ ap (λ b. cond b (Some n) (number_of cmp old q)) apart) ∙ e) in omega arith
-
--- a side has one subject
-pub one_subject : {P : Type 0} (cmp : P → P → Ordering) (o : IsTotalOrder cmp) (asks : List (Ask P)) (registry : Registry P) → IsRegistryOf cmp asks registry
-    → (s t : declared.Subject P) (n : ℕ) → number_of cmp registry.numbers s ≡ Some n → number_of cmp registry.numbers t ≡ Some n → same_subject cmp (subject_of s) (subject_of t) ≡ true
-one_subject cmp o asks registry h s t n e f =
-    let at = get_or (subjects_after cmp [] asks) n (subject_of s) in
-    same_congr cmp o (subject_of s) at (subject_of t) (((h.numbers_are s n).0 e).same (subject_of s))
-    ∙ same_symm cmp o at (subject_of t) ∙ ((h.numbers_are t n).0 f).same (subject_of s)
 
 -- the numbers by an order of the subjects are those by the subjects
 pub by_subject : {P : Type 0} (cmp : P → P → Ordering) (s : declared.Subject P) (n : ℕ) (old new : BTreeMap (declared.Subject P) ℕ) (compare : declared.Subject P → Ordering)

@@ -229,8 +229,8 @@ where
         ⊎ ((e ≡ Error.NumberTooLarge) × IsTooLarge P.cmp (CalledAt E.FnMut) (CalledAt I.FnMut) (CalledAtTwo L.FnMut)
         (record { egress = egress_cap; ingress = ingress_cap; link = link_cap }) flows.now)) }
 {
-    let registered = sides::sides(alloc, flows, egress_cap, ingress_cap, link_cap)?;
-    let filled = filling::fair_rates(alloc, flows.len(), registered.sides)?;
+    let sides = sides::sides(alloc, flows, egress_cap, ingress_cap, link_cap)?;
+    let filled = filling::fair_rates(alloc, flows.len(), sides)?;
     let rates = rates_by_id(alloc, flows, &filled.rates)?;
     Ok((rates, filled.rounds))
 }

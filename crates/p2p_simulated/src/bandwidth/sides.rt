@@ -4,7 +4,7 @@ ghost use Rattle.std.specs.Fn.{CalledAt, TakesAt, CalledAtTwo, TakesAtTwo};
 ghost use Rattle.p2p_simulated.specs.Answers.{Answered, States, AnswerInOrder, CallableOnEach, CallableOnEachPair, origins, recipients, pairs};
 ghost use Rattle.p2p_simulated.specs.Sides.{Ask, sides_of};
 ghost use Rattle.p2p_simulated.specs.Code.{side_of};
-ghost use Rattle.p2p_simulated.specs.Registering.{FindsSides, Registers, AreUses};
+ghost use Rattle.p2p_simulated.specs.Registering.{FindsSides, Registers};
 
 use crate::bandwidth::Flow;
 use crate::error::Error;
@@ -18,21 +18,6 @@ use std::collections::BTreeMap;
 pub(crate) struct Side {
     pub(crate) cap: u128,
     pub(crate) users: Vec<usize>,
-}
-
-/// The sides that one flow uses, each by its number, its place among the sides.
-#[derive(Clone, Copy, Debug)]
-pub(crate) struct Uses {
-    pub(crate) egress: Option<usize>,
-    pub(crate) ingress: Option<usize>,
-    pub(crate) link: Option<usize>,
-}
-
-/// The sides of some flows, in the order in which they come into being, and what each flow uses.
-#[derive(Debug, Drop)]
-pub(crate) struct Registered {
-    pub(crate) sides: Vec<Side>,
-    pub(crate) uses: Vec<Uses>,
 }
 
 /// What a side limits: all that one peer sends, all that one peer receives, or all that goes from
@@ -53,41 +38,41 @@ struct Registry<'a, P: Ord> {
 }
 
 /// Registers that the flow at `place` asks for the side of `subject`, and that its closure gave
-/// this answer. Answers the number of the side, if there is one now.
+/// this answer.
 fn register<'a, P: Peer>(
     alloc: Global,
     registry: &mut Registry<'a, P>,
     place: usize,
     subject: Subject<'a, P>,
     answer: Option<u128>,
-) -> Result<Option<usize>, Error>
+) -> Result<(), Error>
     requires { FindsSides P.cmp registry.old }
-    ensures registers { IfOk result (Registers P.cmp place subject.entry answer registry.old registry.new) }
+    ensures registers { OnOk result (Registers P.cmp place subject.entry answer registry.old registry.new) }
     ensures refused { IfErr result (λ e. e ≡ Error.OutOfMemory) }
 {
     if let Some(number) = registry.numbers.get(&subject).copied() {
         registry.sides[number].users.push(place)?;
-        return Ok(Some(number));
+        return Ok(());
     }
     let Some(cap) = answer else {
-        return Ok(None);
+        return Ok(());
     };
     let mut users = Vec::new(alloc);
     users.push(place)?;
     let number = registry.sides.len();
     registry.sides.push(Side { cap, users })?;
     registry.numbers.insert(subject, number)?;
-    Ok(Some(number))
+    Ok(())
 }
 
-/// The sides of the flows, and which of them each flow uses.
+/// The sides of the flows, in the order in which they come into being.
 pub(crate) fn sides<P, E, I, L>(
     alloc: Global,
     flows: &[Flow<P>],
     mut egress_cap: E,
     mut ingress_cap: I,
     mut link_cap: L,
-) -> Result<Registered, Error>
+) -> Result<Vec<Side>, Error>
 where
     P: Peer,
     E: FnMut(&P) -> Option<u128>,
@@ -96,41 +81,29 @@ where
     requires egress { CallableOnEach (TakesAt E.FnMut) (CalledAt E.FnMut) egress_cap (origins flows.now) }
     requires ingress { CallableOnEach (TakesAt I.FnMut) (CalledAt I.FnMut) ingress_cap (recipients flows.now) }
     requires link { CallableOnEachPair (TakesAtTwo L.FnMut) (CalledAtTwo L.FnMut) link_cap (pairs flows.now) }
-    ensures sides { IfOk result (λ registered. (answered : List (Answered P))
+    ensures sides { IfOk result (λ sides. (answered : List (Answered P))
         × AnswerInOrder (CalledAt E.FnMut) (CalledAt I.FnMut) (CalledAtTwo L.FnMut) (record { egress = egress_cap; ingress = ingress_cap; link = link_cap }) flows.now answered
-        × (map side_of registered.sides.items ≡ sides_of P.cmp answered)) }
-    ensures uses { IfOk result (λ registered. AreUses registered.sides.items (length flows.now) registered.uses.items) }
-    ensures users_are_flows { IfOk result (λ registered. All (λ side. All (λ flow. flow < length flows.now) side.users.items) registered.sides.items) }
-    ensures users_rise { IfOk result (λ registered. All (λ side. AllPairs (λ a b. a < b) side.users.items) registered.sides.items) }
+        × (map side_of sides.items ≡ sides_of P.cmp answered)) }
+    ensures users_are_flows { IfOk result (λ sides. All (λ side. All (λ flow. flow < length flows.now) side.users.items) sides.items) }
+    ensures users_rise { IfOk result (λ sides. All (λ side. AllPairs (λ a b. a < b) side.users.items) sides.items) }
     ensures refused { IfErr result (λ e. e ≡ Error.OutOfMemory) }
 {
     let mut registry = Registry {
         sides: Vec::new(alloc),
         numbers: BTreeMap::new(alloc),
     };
-    let mut uses = Vec::new(alloc);
     for (place, flow) in flows.iter().enumerate() {
         let answer = egress_cap(&flow.origin);
         let subject = Subject::SentBy(&flow.origin);
-        let egress = register(alloc, &mut registry, place, subject, answer)?;
-        let ingress = if flow.delivered {
+        register(alloc, &mut registry, place, subject, answer)?;
+        if flow.delivered {
             let answer = ingress_cap(&flow.recipient);
             let subject = Subject::ReceivedBy(&flow.recipient);
-            register(alloc, &mut registry, place, subject, answer)?
-        } else {
-            None
-        };
+            register(alloc, &mut registry, place, subject, answer)?;
+        }
         let answer = link_cap(&flow.origin, &flow.recipient);
         let subject = Subject::SentBetween(&flow.origin, &flow.recipient);
-        let link = register(alloc, &mut registry, place, subject, answer)?;
-        uses.push(Uses {
-            egress,
-            ingress,
-            link,
-        })?;
+        register(alloc, &mut registry, place, subject, answer)?;
     }
-    Ok(Registered {
-        sides: registry.sides,
-        uses,
-    })
+    Ok(registry.sides)
 }

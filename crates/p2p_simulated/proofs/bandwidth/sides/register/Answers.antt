@@ -1,9 +1,8 @@
-use Rattle.std.proofs.Common.{rules, sym, ◌∙◌, ◌≡◌, refl, ap, arith, cond, length, vec_len, Some, None, ◌++◌, ◌∷◌, []}
+use Rattle.std.proofs.Common.{rules, sym, ◌∙◌, ◌≡◌, refl, ap, cond, length, vec_len, Some, None, ◌++◌, ◌∷◌, []}
 use Rattle.p2p_simulated.specs.Registering.{subject_of, number_of}
 use Rattle.p2p_simulated.specs.Sides.{same_subject}
 use Rattle.p2p_simulated.specs.declared.bandwidth.sides.Subject.{Subject}
-use Rattle.p2p_simulated.proofs.Registry.{got, by_subject, found, absent, opens, it_is_found, others_are_found, finds_more}
-use Rattle.p2p_simulated.proofs.Users.{none_added, one_added, side_added}
+use Rattle.p2p_simulated.proofs.Registry.{got, by_subject, found, absent, opens, finds_more}
 use Rattle.p2p_simulated.proofs.bandwidth.sides.register.Goals as goal
 
 pub index_mut-requires : goal.index_mut-requires
@@ -19,10 +18,7 @@ returns-in-Some g c =
       registers = record {
         asked = λ asks h. found g.P.Ord.cmp g.met.P.Ord.total asks old.sides.items (number_of g.P.Ord.cmp old.numbers) h c.args.subject c.args.place c.args.answer c.in-Some.number
             c.index_mut.result.now _ _ is c.index_mut.ensures.value refl refl c.in_ok-push.ensures.items;
-        used = one_added old.sides.items _ c.in-Some.number c.index_mut.result.now _ c.args.place (omega (arith, within, old.sides.ok.0)) c.index_mut.ensures.value refl c.in_ok-push.ensures.items;
         finds = c.requires;
-        number_is = sym is;
-        others_stay = λ other n e. e;
       };
       refused = tt;
     }
@@ -35,10 +31,7 @@ returns-in_default-answer g c =
     record {
       registers = record {
         asked = λ asks h. absent g.P.Ord.cmp g.met.P.Ord.total asks old.sides.items (number_of g.P.Ord.cmp old.numbers) h c.args.subject c.args.place c.args.answer c.in_default-answer.is none;
-        used = none_added old.sides.items c.args.place;
         finds = c.requires;
-        number_is = sym none;
-        others_stay = λ other n e. e;
       };
       refused = tt;
     }
@@ -59,10 +52,7 @@ returns g c =
       registers = record {
         asked = λ asks h. opens cmp g.met.P.Ord.total asks old.sides.items (number_of cmp old.numbers) h c.args.subject c.args.place c.args.answer c.in-Some-answer.cap _ _ _
             c.in-Some-answer.is none c.in_ok-push-3.ensures.items refl users n last numbers;
-        used = side_added old.sides.items _ n _ c.args.place last c.in_ok-push-3.ensures.items users;
         finds = finds_more cmp g.met.P.Ord.total old.numbers new c.args.subject n none numbers (vec_len old.sides) (vec_len c.push-3.new.self) c.len-number.ensures c.in_ok-push-3.ensures.len c.requires;
-        number_is = it_is_found cmp g.met.P.Ord.total old.numbers new c.args.subject n none numbers;
-        others_stay = others_are_found cmp g.met.P.Ord.total old.numbers new c.args.subject n none numbers;
       };
       refused = tt;
     }
