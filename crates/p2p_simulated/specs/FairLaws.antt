@@ -101,14 +101,6 @@ AreZeroWhereClosed sides rates = (flow : ℕ) (rate : Ratio) → HasRate rates f
 abbrev pub FairRatesAreZeroWhereClosed : Type 0
 FairRatesAreZeroWhereClosed = (sides : List Side) (flows : ℕ) (rates : List Rate) → AreFairRates sides flows rates → AreZeroWhereClosed sides rates
 
--- ---- all of it
-
--- these rates are the one max-min allocation
-pub record AreTheAllocation (sides : List Side) (flows : ℕ) (rates : List Rate) : Type 0 where
-  pub only : IsTheOnlyFair sides flows rates
-  pub max_min : AreMaxMin sides rates
-  pub zero : AreZeroWhereClosed sides rates
-
 -- ---- the set of sides
 
 -- each list contains the sides of the other, in whatever order and how often

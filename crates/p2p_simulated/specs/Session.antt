@@ -3,7 +3,6 @@ use Rattle.std.specs.Prelude.{◌≡◌, ◌⊎◌, ℕ, ◌<◌, ◌==◌, List
 use Rattle.std.specs.Ordering.{nat_cmp}
 use Rattle.std.specs.BTreeMap.{get}
 use Rattle.p2p_simulated.specs.declared.bandwidth.Flow.{Flow}
-use Rattle.p2p_simulated.specs.declared.bandwidth.Rate.{Rate}
 use Rattle.p2p_simulated.specs.declared.error.Error.{Error}
 use Rattle.p2p_simulated.specs.declared.error.Error.TheVariants.{OutOfMemory, NumberTooLarge}
 use Rattle.p2p_simulated.specs.declared.linkrun.answer.Answer.{Answer}
@@ -12,9 +11,7 @@ use Rattle.p2p_simulated.specs.declared.linkrun.command.Command.{Command}
 use Rattle.p2p_simulated.specs.declared.linkrun.command.Command.TheVariants as commands
 use Rattle.p2p_simulated.specs.declared.linkrun.session.Session.{Session}
 use Rattle.p2p_simulated.specs.Caps.{Caps}
-use Rattle.p2p_simulated.specs.PeerCaps.{answered_under}
-use Rattle.p2p_simulated.specs.Rates.{AreFairRates, last_rate}
-use Rattle.p2p_simulated.specs.Sides.{sides_of}
+use Rattle.p2p_simulated.specs.PeerCaps.{answered_under, sides_under, IsFairById}
 use Rattle.p2p_simulated.specs.Size.{FairRatesFit}
 use Rattle.p2p_simulated.specs.TooLarge.{HasLargeAnswer}
 
@@ -51,17 +48,11 @@ SaysAfter commands.Rates old new = SaysSame old new
 abbrev pub caps_of : Session → Caps ℕ
 caps_of s = record { egress = egress_of s; ingress = ingress_of s; link = λ p q. None }
 
--- the rates are fair under the caps, and each id has that of the last flow that has it
-pub record AreRatesUnder (caps : Caps ℕ) (flows : List (Flow ℕ)) (rate_of : ℕ → Option Rate) : Type 0 where
-  pub rates : List Rate
-  pub fair : AreFairRates (sides_of nat_cmp (map (answered_under caps) flows)) (length flows) rates
-  pub by_id : (id : ℕ) → rate_of id ≡ last_rate id flows rates
-
 -- ---- what a command answers
 
 -- a command for the rates answers those of the flows under the caps, and any other says nothing
 abbrev pub AnswersTo : Command → Session → Answer → Type 0
-AnswersTo commands.Rates s (answers.Rates rates) = AreRatesUnder (caps_of s) s.flows.items (get nat_cmp rates)
+AnswersTo commands.Rates s (answers.Rates rates) = IsFairById nat_cmp (caps_of s) s.flows.items (get nat_cmp rates)
 AnswersTo commands.Rates s answers.Nothing = ⊥
 AnswersTo (commands.Flow flow) s answer = answer ≡ answers.Nothing
 AnswersTo (commands.Egress peer cap) s answer = answer ≡ answers.Nothing
@@ -71,7 +62,7 @@ AnswersTo (commands.Ingress peer cap) s answer = answer ≡ answers.Nothing
 
 -- no fair rates of the flows under the caps fit; so there are more than sixteen flows, or a flow has a cap of 2^64 or more
 pub record AreTooLargeUnder (caps : Caps ℕ) (flows : List (Flow ℕ)) : Type 0 where
-  pub nothing_fits : ¬ FairRatesFit (sides_of nat_cmp (map (answered_under caps) flows)) (length flows)
+  pub nothing_fits : ¬ FairRatesFit (sides_under nat_cmp caps flows) (length flows)
   pub many_or_large : (16 < length flows) ⊎ HasLargeAnswer (map (answered_under caps) flows)
 
 -- rates are refused for want of memory, or for a number where they are too large

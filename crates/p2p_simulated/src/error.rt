@@ -10,7 +10,8 @@ pub enum Error {
     /// No memory was left for a list, a map or a clone.
     #[error("out of memory")]
     OutOfMemory,
-    /// A fraction would not fit, reduced, in a numerator and a denominator of 128 bits.
+    /// A fraction, or a number on the way to it, does not fit in 128 bits. Each call says exactly
+    /// when.
     #[error("number too large")]
     NumberTooLarge,
     /// An arrival would lie past the last moment, 18446744073709551615 nanoseconds.

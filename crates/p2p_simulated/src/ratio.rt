@@ -103,12 +103,14 @@ impl Ratio {
         }
     }
 
+    /// Nothing: 0/1.
     pub fn zero() -> Ratio
         ensures { amount_of result ≡ whole 0 }
     {
         Ratio::from_whole(0)
     }
 
+    /// The whole number `n`: n/1.
     pub fn from_whole(n: u128) -> Ratio
         ensures { amount_of result ≡ whole n }
     {
@@ -118,13 +120,14 @@ impl Ratio {
         }
     }
 
+    /// The numerator in lowest terms.
     pub fn numerator(self) -> u128
         ensures { result ≡ (amount_of self).num }
     {
         self.numerator
     }
 
-    /// Above zero, and with no divisor in common with the numerator but 1.
+    /// The denominator in lowest terms: above zero, and with no divisor in common with the numerator but 1.
     pub fn denominator(self) -> u128
         ensures value { result ≡ (amount_of self).den }
         ensures positive { 0 < result }
@@ -133,6 +136,7 @@ impl Ratio {
         self.denominator
     }
 
+    /// Whether the value is zero.
     pub fn is_zero(self) -> bool
         ensures { IsTrue result ↔ ((amount_of self).num ≡ 0) }
     {

@@ -5,13 +5,19 @@ use Rattle.p2p_simulated.specs.declared.bandwidth.Rate.{Rate}
 use Rattle.p2p_simulated.specs.AllocationLaws.{AllocatesUnderCaps}
 use Rattle.p2p_simulated.specs.Answers.{Answered, Calls, PairCalls}
 use Rattle.p2p_simulated.specs.Fair.{Side}
-use Rattle.p2p_simulated.specs.FairLaws.{AreTheAllocation, HaveUsersBelow}
+use Rattle.p2p_simulated.specs.FairLaws.{HaveUsersBelow, IsTheOnlyFair, AreMaxMin, AreZeroWhereClosed}
 use Rattle.p2p_simulated.specs.Rates.{AreFairRates}
 use Rattle.p2p_simulated.specs.Sides.{sides_of}
 use Rattle.p2p_simulated.proofs.Fairness.Answered.{answers_are_those_of_the_caps}
 use Rattle.p2p_simulated.proofs.Fairness.ClosedSides.{fair_rates_are_zero_where_closed}
 use Rattle.p2p_simulated.proofs.Fairness.MaxMin.{fair_rates_are_max_min}
 use Rattle.p2p_simulated.proofs.Fairness.OneAllocation.{one_allocation}
+
+-- these rates are the one max-min allocation
+pub record AreTheAllocation (sides : List Side) (flows : ℕ) (rates : List Rate) : Type 0 where
+  pub only : IsTheOnlyFair sides flows rates
+  pub max_min : AreMaxMin sides rates
+  pub zero : AreZeroWhereClosed sides rates
 
 -- fair rates are the one max-min allocation, where the sides have users among the flows
 pub the_allocation : (sides : List Side) (flows : ℕ) (rates : List Rate) → HaveUsersBelow flows sides → AreFairRates sides flows rates → AreTheAllocation sides flows rates

@@ -2,7 +2,8 @@
 ghost use Rattle.std.specs.Prelude.{◌≡◌, ℕ, [], None, IfOk, IfErr, OnOk, OnErr};
 ghost use Rattle.std.specs.Ordering.{nat_cmp};
 ghost use Rattle.std.specs.BTreeMap.{get, IsUnchanged};
-ghost use Rattle.p2p_simulated.specs.Session.{Says, SaysSame, SaysAfter, AnswersTo, AreRatesUnder, MayRefuse, MayRefuseRates, caps_of, with_cap};
+ghost use Rattle.p2p_simulated.specs.PeerCaps.{IsFairById};
+ghost use Rattle.p2p_simulated.specs.Session.{Says, SaysSame, SaysAfter, AnswersTo, MayRefuse, MayRefuseRates, caps_of, with_cap};
 
 use crate::bandwidth;
 use crate::bandwidth::{Flow, Rate};
@@ -52,7 +53,7 @@ impl Session {
 
     /// The rates of the flows, by id.
     fn rates(&self) -> Result<BTreeMap<u64, Rate>, Error>
-        ensures fair { IfOk result (λ rates. AreRatesUnder (caps_of self.now) self.now.flows.items (get nat_cmp rates)) }
+        ensures fair { IfOk result (λ rates. IsFairById nat_cmp (caps_of self.now) self.now.flows.items (get nat_cmp rates)) }
         ensures refused { IfErr result (MayRefuseRates (caps_of self.now) self.now.flows.items) }
     {
         bandwidth::allocate(
