@@ -1,5 +1,10 @@
 //! Filling: the flows rise together, and the users of a side that is full stay where they are.
-ghost use Rattle.std.specs.Prelude.{◌≡◌, ◌⊎◌, ◌<◌, ◌≤◌, ◌↔◌, IsTrue, IfOk, IfErr, IfSome, MatchOption, None, OnOk, OnSome, All, List, Option, map, length, replicate, vec_len};
+//!
+//! A side with rising users has a share: what the frozen ones leave of its cap, for each of the
+//! others. The users of the side with the least share freeze at it. A heap holds the shares. They
+//! only grow as flows freeze, so one that was reckoned before is never too much, and only the one
+//! on top is reckoned anew, if a user of its side froze since.
+ghost use Rattle.std.specs.Prelude.{◌≡◌, ◌⊎◌, ◌<◌, ◌≤◌, IfOk, IfErr, IfSome, MatchOption, None, OnOk, OnSome, All, List, Option, map, length, replicate};
 ghost use Rattle.p2p_simulated.specs.Code.{side_of};
 ghost use Rattle.p2p_simulated.specs.Fair.{Side as WholeSide};
 ghost use Rattle.p2p_simulated.specs.Filling.{FreezesAll, IsNoGreater, IsStart, IsQueue, IsNext, IsSound, AllFilled, CannotFill, NoFairFits, answer_of, whole_side, queue_cmp};
@@ -20,8 +25,7 @@ use std::alloc::{AllocError, Global};
 use std::cmp::Reverse;
 use std::collections::BinaryHeap;
 
-/// What each rising user of a side would get, as of its last reckoning. The users of a side only
-/// get more as others freeze, so this is never too much.
+/// What each rising user of a side would get, as of its last reckoning.
 #[derive(Clone, Copy, PartialEq, Eq, PartialOrd, Ord)]
 struct Share {
     rate: Ratio,
@@ -29,7 +33,7 @@ struct Share {
     place: usize,
 }
 
-/// The rates of the flows, and how often the common level was raised.
+/// The rates of the flows, in bytes a second, and how often the common level was raised.
 #[derive(Debug, Drop)]
 pub(crate) struct Filled {
     pub(crate) rates: Vec<Rate>,
@@ -68,7 +72,7 @@ fn first_shares(alloc: Global, sides: &[OpenSide]) -> Result<BinaryHeap<Reverse<
     Ok(shares)
 }
 
-/// Freezes the users at the rate.
+/// Freezes those of the users that rise at the rate.
 fn freeze(users: &[usize], rates: &mut [Option<Ratio>], level: Ratio)
     requires { All (λ flow. flow < length rates.old) users.now }
     ensures { FreezesAll users.now rates.old rates.new level }
@@ -161,6 +165,8 @@ fn no_rates(alloc: Global, count: usize) -> Result<Vec<Option<Ratio>>, AllocErro
 }
 
 /// The max-min fair rates of `count` flows on the sides, one for each flow.
+///
+/// The rounds are the different finite rates. `NumberTooLarge` comes only where no fair rates fit.
 pub(crate) fn fair_rates(alloc: Global, count: usize, sides: Vec<Side>) -> Result<Filled, Error>
     requires { All (λ side. All (λ flow. flow < count) side.users.items) sides.items }
     ensures fair { IfOk result (λ filled. AreFairRates (map side_of sides.items) count filled.rates.items) }
