@@ -44,6 +44,7 @@ pub mod Bounded
 pub mod InRange
 pub mod CallsInRange
 pub mod Agreeing
+pub mod Computed
 pub mod Counting
 pub mod Onward
 pub mod Differs

@@ -9,5 +9,6 @@ pub mod events;
 pub mod instants;
 pub mod range;
 pub mod rows;
+pub mod rule;
 pub mod runs;
 pub mod time;

@@ -1,6 +1,6 @@
 -- Replies by the event rule agree with the simulation, and in the range they are refused for memory alone.
-use Rattle.std.proofs.Common.{◌≡◌, ℕ, zero, suc, ◌+◌, ◌<◌, ◌≤◌, ◌^◌, List, [], ◌∷◌, ◌++◌, length, Option, Some, None, true, false, All, sum_by, refl, sym, ap, ◌∙◌, subst, arith}
-use Rattle.std.specs.Prelude.{⊤, IfSome, slice_get}
+use Rattle.std.proofs.Common.{◌≡◌, ℕ, ◌+◌, ◌<◌, ◌≤◌, ◌^◌, List, [], ◌∷◌, ◌++◌, length, Option, Some, true, All, sum_by, refl, sym, ◌∙◌, subst, arith}
+use Rattle.std.specs.Prelude.{slice_get}
 use Rattle.std.specs.List.{AllZip}
 use Rattle.std.specs.declared.cmp.Ordering.{Ordering}
 use Rattle.std.specs.Cmp.{IsTotalOrder}
@@ -10,12 +10,12 @@ use Rattle.p2p_simulated.specs.declared.error.Error.{Error}
 use Rattle.p2p_simulated.specs.declared.error.Error.TheVariants.{OutOfMemory, NumberTooLarge, MomentTooLate, FlowIdsUsedUp}
 use Rattle.p2p_simulated.specs.Amount.{reduced}
 use Rattle.p2p_simulated.specs.Sides.{same_peer}
-use Rattle.p2p_simulated.specs.WorldMessages.{Message, no_caps}
+use Rattle.p2p_simulated.specs.WorldMessages.{no_caps}
 use Rattle.p2p_simulated.specs.World.{World, new_world, Completed, Course, goes, meets, last_moment}
 use Rattle.p2p_simulated.specs.WorldTime.{NextIs}
 use Rattle.p2p_simulated.specs.WorldCalls.{Call, call_limit, call_limit_link, call_enqueue, call_advance, call_next, moment_of, Runs, IsInTurn}
 use Rattle.p2p_simulated.specs.WorldReplies.{Reply, reply_done, reply_next, reply_refused, IsSmallCall, AreInRange, messages_in, SameCompletion, Faults, MayRefuse, Agrees}
-use Rattle.p2p_simulated.specs.WorldPlanned.{Planned, Paced, new_planned, next_event, paced_flows, IsRated}
+use Rattle.p2p_simulated.specs.WorldPlanned.{Planned, Paced, new_planned, paced_flows}
 use Rattle.p2p_simulated.specs.WorldEvents.{Obeys}
 use Rattle.p2p_simulated.specs.WorldRefusals.{MayBeRefused, Obeyed}
 use Rattle.p2p_simulated.specs.WorldIsolation.{InTime}
@@ -27,7 +27,7 @@ use Rattle.p2p_simulated.proofs.World.Next.{next_is_planned}
 use Rattle.p2p_simulated.proofs.World.Obeys.{obeys_alike}
 use Rattle.p2p_simulated.proofs.World.Bytes.{Each}
 use Rattle.p2p_simulated.proofs.World.Wholes.{AreSmall, fair_rates_small}
-use Rattle.p2p_simulated.proofs.World.Bounded.{IsSlowFlight, IsBounded, slow_flights, few_flows}
+use Rattle.p2p_simulated.proofs.World.Bounded.{IsSlowFlight, slow_flights, few_flows}
 use Rattle.p2p_simulated.proofs.World.InRange.{Holds, GoesWell}
 use Rattle.p2p_simulated.proofs.World.CallsInRange.{obeys_well, refused_for_memory}
 

@@ -1,21 +1,21 @@
 -- In the range an account leaves a planned world bounded, and none of its numbers is too large.
-use Rattle.std.proofs.Common.{◌≡◌, ℕ, zero, suc, ◌+◌, ◌-◌, ◌*◌, ◌<◌, ◌≤◌, ◌^◌, List, [], ◌∷◌, ◌++◌, map, length, Bool, true, false, cond, not, Option, Some, None, refl, sym, ap, ◌∙◌, subst, arith}
-use Rattle.std.specs.Prelude.{⊤, ◌&&◌, ◌||◌, IfSome, MatchOption, slice_get}
-use Rattle.std.specs.List.{list_any, find, filter, AllZip}
+use Rattle.std.proofs.Common.{◌≡◌, ℕ, zero, suc, ◌+◌, ◌-◌, ◌*◌, ◌<◌, ◌≤◌, ◌^◌, List, [], ◌∷◌, length, Bool, true, false, cond, not, Option, Some, None, refl, sym, ap, subst, arith}
+use Rattle.std.specs.Prelude.{◌||◌, IfSome, MatchOption, slice_get}
+use Rattle.std.specs.List.{list_any, filter, AllZip}
 use Rattle.std.specs.declared.cmp.Ordering.{Ordering}
 use Rattle.std.specs.Cmp.{IsTotalOrder}
-use Rattle.std.proofs.Math.Nat.{mul-pos, one-dvd}
-use Rattle.p2p_simulated.specs.Amount.{Amount, whole, drained, reduced, billion}
+use Rattle.std.proofs.Math.Nat.{mul-pos}
+use Rattle.p2p_simulated.specs.Amount.{Amount, reduced, billion}
 use Rattle.p2p_simulated.specs.Fraction.{IsReduced}
 use Rattle.p2p_simulated.specs.Laws.LowestTerms.{reduced_IsReduced, whole_IsReduced}
 use Rattle.p2p_simulated.specs.Time.{TakenFits, SecondsFit}
 use Rattle.p2p_simulated.specs.WorldMessages.{Message, OneForEachPair, same_pair}
-use Rattle.p2p_simulated.specs.WorldRates.{Parts, rate_of, drained_by, AreFair}
+use Rattle.p2p_simulated.specs.WorldRates.{Parts, rate_of, drained_by}
 use Rattle.p2p_simulated.specs.WorldReplies.{names_pair}
-use Rattle.p2p_simulated.specs.WorldPlanned.{Planned, Paced, IsLeastMoment, paced_flows, left_at, drained_to, is_spent, IsRated}
+use Rattle.p2p_simulated.specs.WorldPlanned.{Planned, Paced, paced_flows, left_at, drained_to, is_spent, IsRated}
 use Rattle.p2p_simulated.specs.WorldEvents.{Accounts}
-use Rattle.p2p_simulated.specs.WorldRefusals.{IsDrainTooLarge, IsTimeTooLarge, to_rate, IsTooLarge, drain_too_large, time_too_large, rates_too_large}
-use Rattle.p2p_simulated.specs.WorldStands.{IsSmallAmount, IsSmallRate, IsNamed, IsSmallFlight, IsSmallMessage, finest_parts}
+use Rattle.p2p_simulated.specs.WorldRefusals.{IsTooLarge, drain_too_large, time_too_large, rates_too_large}
+use Rattle.p2p_simulated.specs.WorldStands.{IsSmallAmount, IsSmallRate, IsNamed, IsSmallFlight, IsSmallMessage}
 use Rattle.p2p_simulated.proofs.World.Bytes.{Each, each_filter}
 use Rattle.p2p_simulated.proofs.World.Alike.{same_itself}
 use Rattle.p2p_simulated.proofs.World.Ranges.{left_at_is_small, taken_fits, seconds_fit}

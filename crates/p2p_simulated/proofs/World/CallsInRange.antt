@@ -1,11 +1,9 @@
 -- Calls in the range are refused for memory alone, and leave the planned world in the range.
-use Rattle.std.proofs.Common.{◌≡◌, ◌≢◌, ℕ, zero, suc, ◌+◌, ◌-◌, ◌<◌, ◌≤◌, ◌^◌, List, [], ◌∷◌, ◌++◌, length, Bool, true, false, cond, not, max, Option, Some, None, All, refl, sym, ap, ◌∙◌, subst, arith}
-use Rattle.std.specs.Prelude.{⊤, ◌&&◌, ◌||◌, IfSome, nat_lt, if◌then◌else◌}
-use Rattle.std.specs.List.{list_any, find, filter}
+use Rattle.std.proofs.Common.{◌≡◌, ℕ, ◌+◌, ◌<◌, ◌≤◌, ◌^◌, List, [], ◌∷◌, length, Bool, true, false, cond, Option, Some, None, refl, sym, subst, arith}
+use Rattle.std.specs.Prelude.{◌&&◌, IfSome, nat_lt, if◌then◌else◌}
 use Rattle.std.specs.declared.cmp.Ordering.{Ordering}
 use Rattle.std.specs.Cmp.{IsTotalOrder}
 use Rattle.std.proofs.lemmas.Bool.{ltb-true, and_parts}
-use Rattle.std.proofs.lemmas.List.Elements.{All-cons, All-nil, All-head, All-tail}
 use Rattle.p2p_simulated.specs.declared.error.Error.{Error}
 use Rattle.p2p_simulated.specs.declared.error.Error.TheVariants.{OutOfMemory, NumberTooLarge, MomentTooLate, FlowIdsUsedUp}
 use Rattle.p2p_simulated.specs.Sides.{same_peer}
@@ -15,15 +13,15 @@ use Rattle.std.specs.List.{AllZip}
 use Rattle.p2p_simulated.specs.World.{Completed, Course, goes, meets, last_moment, raised, later_of, completion_of}
 use Rattle.p2p_simulated.specs.WorldCalls.{Call, call_limit, call_limit_link, call_enqueue, call_advance, call_next, limited_by, linked_by}
 use Rattle.p2p_simulated.specs.WorldReplies.{IsSmallCap, IsSmallCall, messages_in, names_pair}
-use Rattle.p2p_simulated.specs.WorldPlanned.{Planned, Paced, paced_flows, queued, IsRated, next_of}
-use Rattle.p2p_simulated.specs.WorldEvents.{Launches, Finishes, Recaps, none_sending, some_sending, Enqueues, at_once, no_launch, launches, Looks, completed_at_once, with_queued, Obeys}
+use Rattle.p2p_simulated.specs.WorldPlanned.{Planned, Paced, paced_flows, queued}
+use Rattle.p2p_simulated.specs.WorldEvents.{Recaps, none_sending, some_sending, Enqueues, at_once, no_launch, launches, completed_at_once, with_queued, Obeys}
 use Rattle.p2p_simulated.specs.WorldRefusals.{RecapAccounts, recap_accounts, EnqueueAccounts, launched_account, finished_accounts, ComesToAccount, MayBeRefused}
-use Rattle.p2p_simulated.specs.WorldStands.{IsSmallMessage, IsSmallFlight, IsInRange}
+use Rattle.p2p_simulated.specs.WorldStands.{IsSmallMessage}
 use Rattle.p2p_simulated.proofs.World.Bytes.{Each}
 use Rattle.p2p_simulated.proofs.World.Limit.{no_sides}
 use Rattle.p2p_simulated.proofs.World.Alike.{same_itself}
 use Rattle.p2p_simulated.proofs.World.Wholes.{AreSmall}
-use Rattle.p2p_simulated.proofs.World.Bounded.{IsSlowFlight, IsBounded, IsLeaver, nothing_too_large}
+use Rattle.p2p_simulated.proofs.World.Bounded.{IsBounded, IsLeaver, nothing_too_large}
 use Rattle.p2p_simulated.proofs.World.InRange.{Holds, GoesWell, LaunchesWell, launches_well, launch_account_bounded, finishes_well, finish_account_bounded, settles_well, settle_account_bounded, advances_well, advance_account_bounded, looked_holds, named_alike}
 
 module _ {P : Type 0} (cmp : P → P → Ordering) (order : IsTotalOrder cmp) (pairs : List (P × P)) (sixteen : length pairs ≤ 16) (most : ℕ) (room : most < 2 ^ 64) where

@@ -82,6 +82,13 @@ module _ (per : ℕ) (parts : ℕ → ℕ) where
         held = λ flow limited. All-contains (λ u. HasBottleneck sides per parts u) limited.0.users flow (All-contains (λ (side : Side). All (λ u. HasBottleneck sides per parts u) side.users) sides limited.0 held limited.1.listed) limited.1.used;
       }
 
+-- ---- completions
+
+module _ {P : Type 0} (cmp : P → P → Ordering) (order : IsTotalOrder cmp) where
+  pub same_all : (cs : List (Completed P)) → AllZip (SameCompletion cmp) cs cs
+  same_all [] = tt
+  same_all (c ∷ cs) = (record { origin = same_itself cmp order c.origin; recipient = same_itself cmp order c.recipient; channel = refl; bytes = refl; deliver_at = refl }, same_all cs)
+
 -- ---- time
 
 -- so many parts are a byte a second, and the message at each place gets its own
@@ -233,10 +240,6 @@ module _ {P : Type 0} (cmp : P → P → Ordering) (order : IsTotalOrder cmp) (p
   may_answer n w (call_advance now ∷ calls) = may_tick (now - w.moment) w && may_reply (course_of w (call_advance now) now) w (λ v. may_answer n v calls)
   may_answer n w (call_next ∷ calls) = may_seek n w && may_answer n w calls
 
-  same_all : (cs : List (Completed P)) → AllZip (SameCompletion cmp) cs cs
-  same_all [] = tt
-  same_all (c ∷ cs) = (record { origin = same_itself cmp order c.origin; recipient = same_itself cmp order c.recipient; channel = refl; bytes = refl; deliver_at = refl }, same_all cs)
-
   pub runs_so : (w : World P) (call : Call P) (now : ℕ) → may_tick (now - w.moment) w ≡ true → Runs cmp w call now (course_of w call now)
   runs_so w call now e = record { ticked = ticked (now - w.moment) w; ticks = ticks_so (now - w.moment) w e; acts = refl }
 
@@ -246,7 +249,7 @@ module _ {P : Type 0} (cmp : P → P → Ordering) (order : IsTotalOrder cmp) (p
 
   accepts : (w : World P) (accepted : List (Call P)) (call : Call P) (calls : List (Call P)) (now : ℕ) (cs : List (Completed P)) (v : World P) (replies : List (Reply P)) → moment_of call ≡ Some now → may_tick (now - w.moment) w ≡ true → course_of w call now ≡ goes cs v
       → Agrees cmp v (accepted ++ call ∷ []) calls replies → Accepted w accepted call calls cs replies
-  accepts w accepted call calls now cs v replies at ticks is rest = (now, cs, v, at, subst (λ (c : Course (Completed P) (World P)). Runs cmp w call now c) is (runs_so w call now ticks), same_all cs, rest)
+  accepts w accepted call calls now cs v replies at ticks is rest = (now, cs, v, at, subst (λ (c : Course (Completed P) (World P)). Runs cmp w call now c) is (runs_so w call now ticks), same_all cmp order cs, rest)
 
   faults : (w : World P) (call : Call P) (now : ℕ) (fault : Error) → moment_of call ≡ Some now → may_tick (now - w.moment) w ≡ true → course_of w call now ≡ meets fault → Faults cmp w call fault
   faults w call now fault at ticks is = (now, at, subst (λ (c : Course (Completed P) (World P)). Runs cmp w call now c) is (runs_so w call now ticks))

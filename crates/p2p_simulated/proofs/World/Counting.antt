@@ -1,21 +1,20 @@
 -- Each event takes a message out or starts one, so there are at most twice the waiting ones and once those in flight.
-use Rattle.std.proofs.Common.{◌≡◌, ◌≢◌, ℕ, zero, suc, ◌+◌, ◌-◌, ◌*◌, ◌<◌, ◌≤◌, List, [], ◌∷◌, ◌++◌, map, length, Bool, true, false, cond, not, Option, Some, None, refl, sym, ap, ◌∙◌, subst, arith, ◌⊎◌, inl, inr}
-use Rattle.std.specs.Prelude.{⊤, ◌&&◌, ◌||◌, ◌==◌, nat_lt, MatchOption, IfSome, slice_get, if◌then◌else◌}
-use Rattle.std.specs.List.{list_any, find, filter, AllZip}
+use Rattle.std.proofs.Common.{◌≡◌, ◌≢◌, ℕ, zero, suc, ◌+◌, ◌-◌, ◌*◌, ◌<◌, ◌≤◌, List, [], ◌∷◌, ◌++◌, length, Bool, true, false, cond, not, Option, Some, None, refl, sym, ap, ◌∙◌, subst, arith, inl, inr}
+use Rattle.std.specs.Prelude.{⊤, ◌&&◌, ◌==◌, nat_lt, slice_get, if◌then◌else◌}
+use Rattle.std.specs.List.{find, filter, AllZip}
 use Rattle.std.specs.declared.cmp.Ordering.{Ordering}
 use Rattle.std.specs.Cmp.{IsTotalOrder}
 use Rattle.std.proofs.lemmas.Bool.{eq-eqb}
-use Rattle.p2p_simulated.specs.declared.error.Error.{Error}
 use Rattle.p2p_simulated.specs.declared.error.Error.TheVariants.{MomentTooLate}
-use Rattle.p2p_simulated.specs.WorldMessages.{Message, Caps, same_pair, pair_before}
+use Rattle.p2p_simulated.specs.WorldMessages.{Message, Caps, same_pair}
 use Rattle.p2p_simulated.specs.World.{Completed, Course, goes, meets, last_moment, preceded, without_first, fronts, raised, later_of, completion_of}
 use Rattle.p2p_simulated.specs.WorldCalls.{Call, call_limit, call_limit_link, call_enqueue, call_advance, call_next}
-use Rattle.p2p_simulated.specs.WorldPlanned.{Planned, Paced, IsLeastMoment, next_event, paced_flows, left_at, IsSpentAt, SomeSpentAt, drained_to, next_of, queued, may_launch, SomeReadyAt, is_spent, IsPlanned, new_planned}
-use Rattle.p2p_simulated.specs.WorldEvents.{Accounts, Looks, Launches, nothing_waits, too_early, no_id, starts, Finishes, all_completed, late, stopped, completes, WakesEach, all_started, no_start, no_finish, starts_one, Wakes, Settles, settling, Recaps, none_sending, some_sending, Enqueues, at_once, no_launch, launches, completed_at_once, Advances, no_more, at_finish, at_start, finish_stops, start_stops, launched, landed, completed, Obeys}
+use Rattle.p2p_simulated.specs.WorldPlanned.{Planned, Paced, IsLeastMoment, next_event, paced_flows, left_at, IsSpentAt, SomeSpentAt, drained_to, next_of, may_launch, SomeReadyAt, is_spent, IsPlanned, new_planned}
+use Rattle.p2p_simulated.specs.WorldEvents.{Accounts, Looks, Launches, nothing_waits, too_early, no_id, starts, Finishes, all_completed, late, stopped, completes, WakesEach, all_started, no_start, no_finish, starts_one, Wakes, Settles, settling, Recaps, none_sending, some_sending, Enqueues, at_once, no_launch, launches, Advances, no_more, at_finish, at_start, finish_stops, start_stops, launched, completed, Obeys}
 use Rattle.p2p_simulated.proofs.Fairness.Members.{In, in_filter}
 use Rattle.p2p_simulated.proofs.World.Rests.{find_like, length_without}
 use Rattle.p2p_simulated.proofs.World.Queue.{find_passes, pair_sym}
-use Rattle.p2p_simulated.proofs.World.Bytes.{Each, each_filter, fronts_are_first, pair_itself}
+use Rattle.p2p_simulated.proofs.World.Bytes.{Each, each_filter, fronts_are_first}
 use Rattle.p2p_simulated.proofs.World.Advance.{earlier_start}
 
 -- what there is to do: each waiting message starts and completes, each in flight completes
@@ -231,7 +230,7 @@ module _ {P : Type 0} (cmp : P → P → Ordering) (order : IsTotalOrder cmp) wh
       let one : 0 < length (filter (is_spent cmp p) (drained_to t p.sending)) = spent_leaves t p p.sending some.0 some.1 some.2 some.4 in
       (omega arith, leaves_more (to_do mid) (to_do p - 1) c (omega arith) (finish_counts finishes))
 
-  first_in_fronts : (m : Message P) (ws : List (Message P)) → find (same_pair cmp m) ws ≡ Some m → In (fronts cmp ws) m
+  pub first_in_fronts : (m : Message P) (ws : List (Message P)) → find (same_pair cmp m) ws ≡ Some m → In (fronts cmp ws) m
   first_in_fronts m [] e = cc
   first_in_fronts m (x ∷ ws) e = by_test (same_pair cmp m x) refl e (first_in_fronts m ws)
     where

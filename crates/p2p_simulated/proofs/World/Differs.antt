@@ -1,16 +1,14 @@
 -- Replies that do not agree with the simulation, found by computing: for worked examples.
-use Rattle.std.proofs.Common.{◌≡◌, ℕ, zero, suc, ◌+◌, ◌-◌, ◌<◌, ◌≤◌, List, [], ◌∷◌, ◌++◌, Bool, true, false, cond, not, Option, Some, None, refl, sym, ap, ◌∙◌, subst, arith}
-use Rattle.std.specs.Prelude.{⊤, ◌&&◌, ◌||◌, ◌==◌, nat_le, nat_lt, IfSome}
+use Rattle.std.proofs.Common.{◌≡◌, ℕ, ◌-◌, ◌<◌, ◌≤◌, List, [], ◌∷◌, ◌++◌, Bool, true, false, not, Option, Some, None, refl, sym, ◌∙◌, subst}
+use Rattle.std.specs.Prelude.{◌&&◌, ◌||◌, ◌==◌, nat_le, nat_lt, IfSome}
 use Rattle.std.specs.List.{AllZip}
 use Rattle.std.specs.declared.cmp.Ordering.{Ordering}
 use Rattle.std.specs.Cmp.{IsTotalOrder}
 use Rattle.std.proofs.lemmas.Bool.{leb-true, ltb-true, eq-eqb}
-use Rattle.p2p_simulated.specs.declared.error.Error.{Error}
 use Rattle.p2p_simulated.specs.Sides.{same_peer}
-use Rattle.p2p_simulated.specs.WorldMessages.{Message}
 use Rattle.p2p_simulated.specs.World.{World, new_world, Completed, Course, goes, meets, EndsWith}
-use Rattle.p2p_simulated.specs.WorldTime.{NextIs, IsSound}
-use Rattle.p2p_simulated.specs.WorldCalls.{Call, call_limit, call_limit_link, call_enqueue, call_advance, call_next, moment_of, Runs, IsInTurn, IsBeforeNext}
+use Rattle.p2p_simulated.specs.WorldTime.{IsSound}
+use Rattle.p2p_simulated.specs.WorldCalls.{Call, call_limit, call_limit_link, call_enqueue, call_advance, call_next, moment_of, Runs, IsBeforeNext}
 use Rattle.p2p_simulated.specs.WorldReplies.{Reply, reply_done, reply_next, reply_refused, SameCompletion, Agrees}
 use Rattle.p2p_simulated.proofs.World.OneNext.{next_is_one}
 use Rattle.p2p_simulated.proofs.World.OneRun.{runs_are_one}

@@ -1,23 +1,22 @@
 -- In the range no call meets a fault or a number that is too large, and it leaves the planned world in the range.
-use Rattle.std.proofs.Common.{◌*◌, ◌≡◌, ◌≢◌, ℕ, zero, suc, ◌+◌, ◌-◌, ◌<◌, ◌≤◌, ◌^◌, List, [], ◌∷◌, ◌++◌, length, Bool, true, false, cond, not, max, Option, Some, None, refl, sym, ap, ◌∙◌, subst, arith}
-use Rattle.std.specs.Prelude.{⊤, ◌&&◌, ◌||◌, IfSome, nat_lt, if◌then◌else◌}
-use Rattle.std.specs.List.{list_any, find, filter}
+use Rattle.std.proofs.Common.{◌*◌, ◌≡◌, ℕ, ◌+◌, ◌<◌, ◌≤◌, ◌^◌, List, [], ◌∷◌, ◌++◌, length, Bool, true, false, cond, not, Option, Some, None, refl, sym, ◌∙◌, subst, arith}
+use Rattle.std.specs.Prelude.{◌&&◌, ◌||◌, IfSome, nat_lt, if◌then◌else◌}
+use Rattle.std.specs.List.{list_any, find}
 use Rattle.std.specs.declared.cmp.Ordering.{Ordering}
 use Rattle.std.specs.Cmp.{IsTotalOrder}
 use Rattle.std.proofs.lemmas.Bool.{ltb-true, and_parts}
 use Rattle.std.proofs.lemmas.List.{map-append}
 use Rattle.std.proofs.Math.Nat.{one-dvd}
-use Rattle.p2p_simulated.specs.declared.error.Error.{Error}
 use Rattle.p2p_simulated.specs.Amount.{whole}
 use Rattle.p2p_simulated.specs.Laws.LowestTerms.{whole_IsReduced}
 use Rattle.p2p_simulated.specs.Sides.{same_peer}
-use Rattle.p2p_simulated.specs.WorldMessages.{Message, Caps, OneForEachPair, same_pair, is_delivered, pair_before}
-use Rattle.p2p_simulated.specs.World.{Completed, Course, goes, meets, last_moment, preceded, without_first, raised, later_of, fronts, is_in_order}
+use Rattle.p2p_simulated.specs.WorldMessages.{Message, OneForEachPair, same_pair, is_delivered}
+use Rattle.p2p_simulated.specs.World.{Completed, Course, goes, meets, last_moment, preceded, without_first, later_of, is_in_order}
 use Rattle.p2p_simulated.specs.WorldReplies.{names_pair}
-use Rattle.p2p_simulated.specs.WorldPlanned.{Planned, Paced, next_event, paced_flows, next_of, queued, may_launch, IsRated}
-use Rattle.p2p_simulated.specs.WorldEvents.{Accounts, Looks, Launches, nothing_waits, too_early, no_id, starts, Finishes, all_completed, late, stopped, completes, WakesEach, all_started, no_start, no_finish, starts_one, Settles, settling, Advances, no_more, at_finish, at_start, finish_stops, start_stops, launched, landed, arrival, completed, is_late}
+use Rattle.p2p_simulated.specs.WorldPlanned.{Planned, Paced, paced_flows, next_of, may_launch, IsRated}
+use Rattle.p2p_simulated.specs.WorldEvents.{Looks, Launches, nothing_waits, too_early, no_id, starts, Finishes, all_completed, late, stopped, completes, WakesEach, all_started, no_start, no_finish, starts_one, Settles, settling, Advances, no_more, at_finish, at_start, finish_stops, start_stops, launched, landed, arrival, completed, is_late}
 use Rattle.p2p_simulated.specs.WorldRefusals.{LaunchAccounts, launch_accounts, FinishAccounts, first_accounts, later_accounts, WakeAccounts, start_accounts, finish_accounts, rest_accounts, SettleAccounts, own_account, leavers_account, AdvanceAccounts, in_the_end, at_the_finish, at_the_start, after_a_finish, after_a_start}
-use Rattle.p2p_simulated.specs.WorldStands.{IsSmallMessage, IsSmallFlight, finest_parts}
+use Rattle.p2p_simulated.specs.WorldStands.{IsSmallMessage, finest_parts}
 use Rattle.p2p_simulated.proofs.World.Bytes.{Each}
 use Rattle.p2p_simulated.proofs.World.Sift.{each_find, each_without, each_joined}
 use Rattle.p2p_simulated.proofs.World.Rests.{find_like, length_without}

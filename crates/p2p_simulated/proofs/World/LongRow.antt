@@ -1,14 +1,12 @@
 -- An example of many nanoseconds: at three bytes a second, one byte takes 333333334 of them.
-use Rattle.std.proofs.Common.{◌≡◌, ℕ, ◌+◌, ◌<◌, ◌≤◌, [], ◌∷◌, Bool, true, false, Some, None, refl, arith, lit≤}
+use Rattle.std.proofs.Common.{◌≡◌, ℕ, ◌+◌, ◌<◌, ◌≤◌, [], ◌∷◌, Bool, true, false, Some, refl, arith, lit≤}
 use Rattle.std.specs.Prelude.{◌==◌, ◌||◌}
 use Rattle.std.specs.Ordering.{nat_cmp}
 use Rattle.std.proofs.lemmas.Bool.{eqb-true}
 use Rattle.p2p_simulated.specs.Amount.{Amount, Covers, drained, whole, reduced, gcd_within}
-use Rattle.p2p_simulated.specs.WorldMessages.{no_caps}
 use Rattle.p2p_simulated.specs.WorldRates.{AreFair, capped_sides}
 use Rattle.p2p_simulated.specs.World.{World, IsQuiet, flows}
 use Rattle.p2p_simulated.specs.WorldTime.{NextIs, comes_next, drifted}
-use Rattle.p2p_simulated.specs.WorldCalls.{limited_by}
 use Rattle.p2p_simulated.specs.WorldRows.{message, flying}
 use Rattle.p2p_simulated.proofs.Draining.{spent_if_covers, covers_if_spent}
 use Rattle.p2p_simulated.proofs.World.Checked.{fair_if_so}

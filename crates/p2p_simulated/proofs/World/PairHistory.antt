@@ -1,5 +1,5 @@
 -- The messages of a pair complete in the order in which they were enqueued, and are delivered in it.
-use Rattle.std.proofs.Common.{◌≡◌, ℕ, zero, suc, ◌+◌, ◌-◌, ◌<◌, ◌≤◌, List, [], ◌∷◌, ◌++◌, map, length, Bool, true, false, cond, not, max, Option, Some, None, refl, sym, ap, ◌∙◌, subst, arith, append_assoc, append-nil}
+use Rattle.std.proofs.Common.{◌≡◌, ℕ, zero, suc, ◌+◌, ◌-◌, ◌≤◌, List, [], ◌∷◌, ◌++◌, map, length, Bool, true, false, cond, not, max, Option, Some, None, refl, sym, ap, ◌∙◌, subst, arith, append_assoc, append-nil}
 use Rattle.std.specs.Prelude.{⊤, ◌&&◌, ◌||◌, IfSome, nat_lt, nat_le, if◌then◌else◌}
 use Rattle.std.specs.List.{list_any, find, filter, AllZip}
 use Rattle.std.specs.declared.cmp.Ordering.{Ordering}
@@ -7,24 +7,22 @@ use Rattle.std.specs.Cmp.{IsTotalOrder}
 use Rattle.std.proofs.lemmas.List.Elements.{filter-append}
 use Rattle.std.proofs.lemmas.List.{map-append}
 use Rattle.std.proofs.lemmas.Bool.{leb-true, le-leb}
-use Rattle.p2p_simulated.specs.declared.error.Error.{Error}
 use Rattle.p2p_simulated.specs.declared.error.Error.TheVariants.{MomentTooLate, FlowIdsUsedUp}
 use Rattle.p2p_simulated.specs.Amount.{whole}
 use Rattle.p2p_simulated.specs.Sides.{same_peer}
 use Rattle.p2p_simulated.specs.WorldMessages.{Message, Caps, PairsAlike, same_pair, is_delivered}
-use Rattle.p2p_simulated.specs.World.{World, Flight, Completed, completion_of, Course, goes, meets, last_moment, without_first, preceded, and_then, is_in_order, later_of, new_world, flows, is_idle, first_waiting, may_start, start, start_next, is_done, raised, complete, settle_within, settle, least_pair, ready, turn, wake_within, wake, instant, fronts, EndsWith}
+use Rattle.p2p_simulated.specs.World.{World, Flight, Completed, completion_of, Course, goes, meets, last_moment, without_first, preceded, and_then, is_in_order, later_of, new_world, flows, first_waiting, may_start, start, start_next, is_done, raised, complete, settle_within, settle, least_pair, ready, turn, wake_within, wake, instant, fronts, EndsWith}
 use Rattle.p2p_simulated.specs.WorldTime.{IsSound, Drains, Ticks, no_tick, one_tick, tick_faults}
 use Rattle.p2p_simulated.specs.WorldCalls.{Call, call_limit, call_limit_link, call_enqueue, call_advance, call_next, recap, join, complete_at_once, act, moment_of, Runs, limited_by, linked_by}
 use Rattle.p2p_simulated.specs.WorldOrder.{enqueued, answered, IsCompletionOf, NoneBefore, NeverGoDown, completes_pair, IsInPairOrder}
 use Rattle.p2p_simulated.specs.WorldIsolation.{Answers, no_calls, call_answers}
 use Rattle.p2p_simulated.proofs.World.Queue.{pair_like, pair_sym, both_parts, find_passes, settle_none, settle_first}
 use Rattle.p2p_simulated.proofs.World.Rests.{find_like}
-use Rattle.p2p_simulated.proofs.World.Bytes.{Each, pair_itself, wake_none, ready_is_first, each_least, each_filter, fronts_are_first}
-use Rattle.p2p_simulated.proofs.World.Pass.{wake_first}
+use Rattle.p2p_simulated.proofs.World.Bytes.{Each, wake_none, each_least, each_filter, fronts_are_first}
 use Rattle.p2p_simulated.proofs.World.Stretch.{flows_drained}
 use Rattle.p2p_simulated.proofs.World.Split.{rest_is}
 use Rattle.p2p_simulated.proofs.World.Sound.{raised_peerwise, ticks_keep_sound, call_keeps_sound, new_world_sound}
-use Rattle.p2p_simulated.proofs.World.Calm.{ticks_end_at, ends_at, IsAt}
+use Rattle.p2p_simulated.proofs.World.Calm.{ends_at}
 
 -- ---- lists
 

@@ -1,14 +1,13 @@
 -- The fair rates of at most sixteen messages are in the range, where the caps are.
 use Prim.Native.Nat.{◌∣◌}
-use Rattle.std.proofs.Common.{◌≡◌, ℕ, zero, suc, ◌+◌, ◌*◌, ◌/◌, ◌<◌, ◌≤◌, ◌^◌, List, [], ◌∷◌, map, length, Bool, true, false, cond, Option, Some, None, All, Contains, refl, sym, ap, ◌∙◌, subst, arith, ◌⊎◌, inl, inr}
-use Rattle.std.specs.Prelude.{⊤, ◌≢◌, ◌&&◌, ◌||◌, IfSome, slice_get, if◌then◌else◌}
+use Rattle.std.proofs.Common.{◌≡◌, ℕ, zero, suc, ◌+◌, ◌*◌, ◌<◌, ◌≤◌, ◌^◌, List, [], ◌∷◌, length, Bool, true, false, cond, Option, Some, None, All, Contains, refl, sym, ap, ◌∙◌, subst, arith}
+use Rattle.std.specs.Prelude.{◌≢◌, ◌&&◌, ◌||◌, slice_get, if◌then◌else◌}
 use Rattle.std.specs.List.{list_any, find, AllPairs}
 use Rattle.std.specs.declared.cmp.Ordering.{Ordering}
 use Rattle.std.specs.Cmp.{IsTotalOrder}
-use Rattle.std.proofs.Math.Nat.{mul-pos, mul_comm, mul_assoc, mul-div_cancel', dvd-mul_left, dvd_of_mul-dvd-mul_right, le_of_mul-le-mul_right, mul-le-mul_right}
+use Rattle.std.proofs.Math.Nat.{mul_comm, mul_assoc, dvd-mul_left, dvd_of_mul-dvd-mul_right, le_of_mul-le-mul_right}
 use Rattle.std.proofs.lemmas.List.Kept.{AllPairs-cons}
-use Rattle.std.proofs.lemmas.List.Elements.{All-nil}
-use Rattle.p2p_simulated.specs.Amount.{Amount, reduced}
+use Rattle.p2p_simulated.specs.Amount.{reduced}
 use Rattle.p2p_simulated.specs.Laws.LowestTerms.{IsScaled, reduced_scales, reduced_positive}
 use Rattle.p2p_simulated.specs.Fair.{Side, IsLimited, IsFair}
 use Rattle.p2p_simulated.specs.FairLaws.{HaveUsersBelow}
@@ -28,7 +27,7 @@ use Rattle.p2p_simulated.proofs.World.Bytes.{Each}
 use Rattle.p2p_simulated.proofs.World.Rated.{below_length, limited_at}
 use Rattle.p2p_simulated.proofs.World.Ranges.{fair_is_small}
 use Rattle.p2p_simulated.proofs.World.Restrict.{Kind, at_egress, at_ingress, at_link, cap_at, side_at, from_sides, passes_at, passes_here}
-use Rattle.p2p_simulated.proofs.World.Queue.{both_parts, pair_like, pair_sym, peer_like, peer_sym}
+use Rattle.p2p_simulated.proofs.World.Queue.{both_parts, peer_like}
 use Rattle.p2p_simulated.proofs.World.Rests.{length_without}
 
 -- ---- places
