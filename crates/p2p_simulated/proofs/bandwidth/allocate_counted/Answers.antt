@@ -1,4 +1,4 @@
-use Rattle.std.proofs.Common.{rules, of_calls, inl, inr}
+use Rattle.std.proofs.Common.{rules, of_calls}
 use Rattle.std.proofs.lemmas.Result.{IfOk-weaker}
 use Rattle.p2p_simulated.proofs.Callable.{callable_on_each_pair}
 use Rattle.p2p_simulated.proofs.NoLinks.{counted_without_links, refused_without_links}
