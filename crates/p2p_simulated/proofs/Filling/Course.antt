@@ -1,9 +1,9 @@
 -- The course of filling: the queue before the first round, a round, and the end.
-use Rattle.std.proofs.Common.{◌≡◌, ℕ, ◌+◌, ◌<◌, ◌⊎◌, inl, inr, List, [], ◌∷◌, length, get_or, map, All, Contains, count_by, Option, Some, None, IsSome, refl, sym, ap, ◌∙◌, subst, arith}
+use Rattle.std.proofs.Common.{◌≡◌, ℕ, ◌+◌, ◌<◌, ◌⊎◌, inl, inr, List, [], ◌∷◌, ◌++◌, length, get_or, map, All, Contains, count_by, Option, Some, None, IsSome, refl, sym, ap, ◌∙◌, subst, arith}
 use Rattle.std.specs.Prelude.{IsPermutation, option_map, unwrap_or}
 use Rattle.std.specs.declared.cmp.Reverse.{Reverse}
 use Rattle.std.proofs.lemmas.Bool.{cases_eq, cases_lt, eqb-true}
-use Rattle.std.proofs.lemmas.List.{get_or-map, get_or_default, length-map}
+use Rattle.std.proofs.lemmas.List.{get_or-map, get_or_default, length-map, map_push}
 use Rattle.std.proofs.lemmas.List.Elements.{All-nil, All-cons, All-map, All-contains, Contains-get_or}
 use Rattle.std.proofs.lemmas.List.Sorted.{All-permutation}
 use Rattle.p2p_simulated.specs.Amount.{whole}
@@ -229,6 +229,15 @@ module _ (sides : List Side) (rates : List (Option Ratio)) (filling : IsFilling 
 -- where the numbers do not fit, they do not for any fair allocation
 pub no_fair_fits : (sides : List Side) (rates : List (Option Ratio)) → AgreesWithFair sides rates → CannotFill sides rates → NoFairFits sides
 no_fair_fits sides rates agrees cannot per parts fair = cannot per parts (agrees.agrees per parts fair) fair.within
+
+abbrev pub side_with : ℕ → List ℕ → Side
+side_with cap users = record { cap = cap; users = users }
+
+-- one more side is opened
+pub opened_more : (opens later : List OpenSide) (sides : List declared.Side) (side : declared.Side) (open_side : OpenSide) → later ≡ opens ++ open_side ∷ [] → whole_side open_side ≡ side_of side
+    → map whole_side opens ≡ map side_of sides → map whole_side later ≡ map side_of (sides ++ side ∷ [])
+opened_more opens later sides side open_side is same was =
+    ap (map whole_side) is ∙ map_push whole_side opens open_side ∙ ap (λ xs. xs ++ whole_side open_side ∷ []) was ∙ ap (λ s. map side_of sides ++ s ∷ []) same ∙ sym (map_push side_of sides side)
 
 -- the open sides have the users of the sides
 pub users_opened : (opens : List OpenSide) (sides : List declared.Side) (P : ℕ → Type 0) → map whole_side opens ≡ map side_of sides → All (λ side. All P side.users.items) sides
