@@ -1,5 +1,5 @@
 //! Filling: the flows rise together, and the users of a side that is full stay where they are.
-ghost use Rattle.std.specs.Prelude.{◌≡◌, ◌⊎◌, ◌<◌, ◌≤◌, ◌↔◌, IsTrue, IfOk, IfErr, IfSome, MatchOption, None, OnOk, OnSome, All, List, Option, map, length, replicate, vec_len};
+ghost use Rattle.std.specs.Prelude.{◌≡◌, ◌⊎◌, ◌<◌, ◌≤◌, IfOk, IfErr, IfSome, MatchOption, None, OnOk, OnSome, All, List, Option, map, length, replicate};
 ghost use Rattle.p2p_simulated.specs.Code.{side_of};
 ghost use Rattle.p2p_simulated.specs.Fair.{Side as WholeSide};
 ghost use Rattle.p2p_simulated.specs.Filling.{FreezesAll, IsNoGreater, IsStart, IsQueue, IsNext, IsSound, AllFilled, CannotFill, NoFairFits, answer_of, whole_side, queue_cmp};

@@ -1,5 +1,5 @@
 //! A side while the flows rise.
-ghost use Rattle.std.specs.Prelude.{◌≡◌, ◌<◌, ◌↔◌, IsTrue, IfSome, IfNone, OnSome, All, List, Option, length};
+ghost use Rattle.std.specs.Prelude.{◌≡◌, ◌<◌, IfSome, IfNone, OnSome, All, List, Option, length};
 ghost use Rattle.std.specs.Bool.{MatchBool};
 ghost use Rattle.p2p_simulated.specs.Amount.{whole};
 ghost use Rattle.p2p_simulated.specs.Fair.{Side as WholeSide};
