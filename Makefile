@@ -1,5 +1,5 @@
 # `rt` is the command of the Rattle kit.
-script = examples/two_flows.link
+script = examples/left_over.link
 
 .PHONY: run test bench clean
 

@@ -4,7 +4,7 @@ use Rattle.std.specs.List.{flat_map}
 use Rattle.p2p_simulated.specs.declared.bandwidth.Rate.{Rate}
 use Rattle.p2p_simulated.specs.declared.bandwidth.Rate.TheVariants.{Unlimited, Finite}
 use Rattle.p2p_simulated.specs.declared.error.Error.{Error}
-use Rattle.p2p_simulated.specs.declared.error.Error.TheVariants.{OutOfMemory, NumberTooLarge, MomentTooLate, FlowIdsUsedUp}
+use Rattle.p2p_simulated.specs.Refusal.{refusal_number, refusal_text}
 use Rattle.p2p_simulated.specs.declared.linkrun.answer.Answer.{Answer}
 use Rattle.p2p_simulated.specs.declared.linkrun.answer.Answer.TheVariants as answers
 
@@ -26,9 +26,6 @@ abbrev pub answer_text : Answer → List ℕ
 answer_text answers.Nothing = []
 answer_text (answers.Rates rates) = rates_text rates.entries
 
--- the number of a refusal
-abbrev pub refusal_number : Error → ℕ
-refusal_number OutOfMemory = 1
-refusal_number NumberTooLarge = 2
-refusal_number MomentTooLate = 3
-refusal_number FlowIdsUsedUp = 4
+-- the line of a refusal: its number, and its text
+abbrev pub refusal_line : Error → List ℕ
+refusal_line why = codes "refused " ++ decimal (refusal_number why) ++ codes " " ++ refusal_text why ++ 10 ∷ []

@@ -19,6 +19,7 @@ pub mod PeerCaps
 pub mod RateValue
 pub mod Rates
 pub mod Ratio
+pub mod Refusal
 pub mod Registering
 pub mod Script
 pub mod Session

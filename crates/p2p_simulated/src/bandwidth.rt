@@ -1,10 +1,10 @@
 //! Who sends how fast.
-ghost use Rattle.std.specs.Prelude.{◌≡◌, ◌⊎◌, ℕ, IfOk, IfErr, length};
+ghost use Rattle.std.specs.Prelude.{◌≡◌, ◌⊎◌, ℕ, IfOk, IfErr};
 ghost use Rattle.std.specs.Fn.{CalledAt, TakesAt, CalledAtTwo, TakesAtTwo};
 ghost use Rattle.std.specs.Ordering.{nat_cmp};
 ghost use Rattle.std.specs.declared.cmp.Ordering.TheVariants.{Equal};
 ghost use Rattle.std.specs.BTreeMap.{get};
-ghost use Rattle.p2p_simulated.specs.Answers.{States, NoLink, CallableOnEach, CallableOnEachPair, origins, recipients, pairs};
+ghost use Rattle.p2p_simulated.specs.Answers.{NoLink, CallableOnEach, CallableOnEachPair, origins, recipients, pairs};
 ghost use Rattle.p2p_simulated.specs.Allocation.{IsAllocation, IsCountedAllocation};
 ghost use Rattle.p2p_simulated.specs.Rates.{last_rate};
 ghost use Rattle.p2p_simulated.specs.TooLarge.{IsTooLarge};

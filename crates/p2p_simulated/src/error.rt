@@ -1,25 +1,37 @@
 //! Why a call was refused.
-ghost use Rattle.std.specs.Prelude.{◌≡◌};
+ghost use Rattle.std.specs.Prelude.{◌≡◌, Some};
+ghost use Rattle.p2p_simulated.specs.Refusal.{refusal_text};
 ghost use Rattle.p2p_simulated.specs.declared.error.Error.TheVariants.{OutOfMemory};
 
 use std::alloc::{AllocError, AllocFailed};
+use std::fmt;
 
 /// Why a call was refused. What a call leaves after a refusal is said at the call.
 #[derive(Debug, Clone, Copy, PartialEq, Eq, thiserror::Error)]
 pub enum Error {
     /// No memory was left for a list, a map or a clone.
-    #[error("out of memory")]
     OutOfMemory,
     /// A fraction, or a number on the way to it, does not fit in 128 bits. Each call says exactly
     /// when.
-    #[error("number too large")]
     NumberTooLarge,
     /// An arrival would lie past the last moment, 18446744073709551615 nanoseconds.
-    #[error("moment too late")]
     MomentTooLate,
     /// A message would start and no flow id is left for it.
-    #[error("flow ids used up")]
     FlowIdsUsedUp,
+}
+
+/// What a program says of the refusal, without a byte at its end.
+impl fmt::Display for Error {
+    ghost output = { λ error. Some (refusal_text error) };
+
+    fn fmt<W: fmt::Write>(&self, f: &mut fmt::Formatter<W>) -> fmt::Result {
+        match self {
+            Error::OutOfMemory => write!(f, "out of memory"),
+            Error::NumberTooLarge => write!(f, "number too large"),
+            Error::MomentTooLate => write!(f, "moment too late"),
+            Error::FlowIdsUsedUp => write!(f, "flow ids used up"),
+        }
+    }
 }
 
 impl From<AllocError> for Error {

@@ -72,7 +72,7 @@ struct OverCommon {
 }
 
 impl Ratio {
-    ghost use Rattle.p2p_simulated.specs.Amount.{Amount, whole, plus, minus, times, over, reduced};
+    ghost use Rattle.p2p_simulated.specs.Amount.{whole, plus, minus, times, over, reduced};
     ghost use Rattle.p2p_simulated.specs.Fits.{SumFits, DifferenceFits, ReducedFits};
     ghost use Rattle.p2p_simulated.specs.Fits.{CommonFits, AreOverCommon};
     ghost use Rattle.p2p_simulated.specs.Ratio.{amount_of, IsWorth};

@@ -1,8 +1,8 @@
 //! What limits flows: the sides that the caps make.
-ghost use Rattle.std.specs.Prelude.{◌≡◌, ◌⊎◌, ◌<◌, ◌++◌, [], ◌∷◌, ℕ, List, Some, IfOk, IfErr, OnOk, map, All, AllPairs, length, vec_len};
+ghost use Rattle.std.specs.Prelude.{◌≡◌, ◌<◌, List, Some, IfOk, IfErr, map, All, AllPairs, length};
 ghost use Rattle.std.specs.Fn.{CalledAt, TakesAt, CalledAtTwo, TakesAtTwo};
-ghost use Rattle.p2p_simulated.specs.Answers.{Answered, States, AnswerInOrder, CallableOnEach, CallableOnEachPair, origins, recipients, pairs};
-ghost use Rattle.p2p_simulated.specs.Sides.{Ask, sides_of};
+ghost use Rattle.p2p_simulated.specs.Answers.{Answered, AnswerInOrder, CallableOnEach, CallableOnEachPair, origins, recipients, pairs};
+ghost use Rattle.p2p_simulated.specs.Sides.{sides_of};
 ghost use Rattle.p2p_simulated.specs.Code.{side_of};
 ghost use Rattle.p2p_simulated.specs.Registering.{FindsSides, Registers};
 

@@ -1,7 +1,8 @@
 //! What a script prints.
-ghost use Rattle.std.specs.Prelude.{◌≡◌, IfOk, OnOk};
+ghost use Rattle.std.specs.Prelude.{◌≡◌, IfOk, IfErr, OnOk};
 ghost use Rattle.std.specs.Io.KnownBytes.{Appends};
-ghost use Rattle.p2p_simulated.specs.Answer.{rate_line, rates_text, answer_text, refusal_number};
+ghost use Rattle.p2p_simulated.specs.Answer.{rate_line, rates_text, answer_text, refusal_line};
+ghost use Rattle.p2p_simulated.specs.Refusal.{refusal_number};
 
 use crate::bandwidth::Rate;
 use crate::error::Error;
@@ -19,7 +20,8 @@ pub(crate) enum Answer {
 
 /// Prints what a command answered, or why it was refused, a line each.
 pub(crate) fn print<W: Write>(output: &mut W, answer: Result<Answer, Error>) -> io::Result<()>
-    ensures { IfOk answer (λ a. OnOk result (Appends (W.contents output.old) (W.contents output.new) (answer_text a))) }
+    ensures answered { IfOk answer (λ a. OnOk result (Appends (W.contents output.old) (W.contents output.new) (answer_text a))) }
+    ensures refused { IfErr answer (λ e. OnOk result (Appends (W.contents output.old) (W.contents output.new) (refusal_line e))) }
 {
     match answer {
         Ok(Answer::Nothing) => Ok(()),

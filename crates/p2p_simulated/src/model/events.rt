@@ -1,5 +1,5 @@
 //! The event rule stands for the simulation.
-ghost use Rattle.std.specs.Prelude.{◌≡◌, ℕ, ◌+◌, ◌*◌, ◌≤◌, [], List, Option, Some, length};
+ghost use Rattle.std.specs.Prelude.{◌≡◌, ℕ, ◌+◌, ◌*◌, ◌≤◌, [], List, Some, length};
 ghost use Rattle.std.specs.List.{AllZip};
 ghost use Rattle.p2p_simulated.specs.WorldMessages.{Message, Caps, CapsAlike, SameMessage};
 ghost use Rattle.p2p_simulated.specs.WorldRates.{Parts, AreFair};
