@@ -295,7 +295,9 @@ module _ {P : Type 0} (cmp : P → P → Ordering) (order : IsTotalOrder cmp) wh
 
   not_after : (now : ℕ) (p : Planned P) (course : Course (Completed P) (Planned P)) → IfSome (next_event p) (λ t. now < t) → (t : ℕ) (v : World P) → t ≤ now → p.start ≡ Some t
       → WakesAlike t now v course
-  not_after now p course before t v le now_is = let after : IfSome (Some t) (λ e. now < e) = subst (λ (o : Option ℕ). IfSome o (λ e. now < e)) now_is (both_before p.finish p.start now before).1 in absurd (omega arith)
+  not_after now p course before t v le now_is =
+      let after : IfSome (Some t) (λ e. now < e) = subst (λ (o : Option ℕ). IfSome o (λ e. now < e)) now_is (both_before p.finish p.start now before).1 in
+      absurd (omega arith)
 
   wake_at : (e now : ℕ) (p : Planned P) (course : Course (Completed P) (Planned P)) → p.finish ≢ Some e → next_event p ≡ Some e
       → ((v : World P) → Follows cmp e p v → list_any (is_done cmp v) v.sending ≡ false → WakesAlike e now v course)

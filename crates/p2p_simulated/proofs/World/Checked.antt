@@ -27,7 +27,9 @@ both_true false b e = cc
 
 all_found : {X : Type 0} (test : X → Bool) (Q : X → Type 0) → ((x : X) → test x ≡ true → Q x) → (xs : List X) → list_all test xs ≡ true → All Q xs
 all_found test Q gives [] e = All-nil Q
-all_found test Q gives (x ∷ xs) e = let parts : (test x ≡ true) × (list_all test xs ≡ true) = both_true (test x) (list_all test xs) e in All-cons Q x xs (gives x parts.0) (all_found test Q gives xs parts.1)
+all_found test Q gives (x ∷ xs) e =
+    let parts : (test x ≡ true) × (list_all test xs ≡ true) = both_true (test x) (list_all test xs) e in
+    All-cons Q x xs (gives x parts.0) (all_found test Q gives xs parts.1)
 
 one_found : {X : Type 0} (test : X → Bool) (xs : List X) → list_any test xs ≡ true → (x : X) × Contains xs x × (test x ≡ true)
 one_found test [] e = cc
@@ -175,7 +177,10 @@ module _ {P : Type 0} (cmp : P → P → Ordering) (order : IsTotalOrder cmp) (p
   loud_if_not w e quiet = by_tests (list_any (is_done cmp w) w.sending) (ready cmp w.moment w) quiet.none_done quiet.none_ready e
     where
       by_tests : (a : Bool) (ms : List (Message P)) → a ≡ false → ms ≡ [] → (not a && is_empty ms) ≡ false → ⊥
-      by_tests a ms f g e = let h : (not false && is_empty {X = Message P} []) ≡ false = subst (λ (b : Bool). (not b && is_empty {X = Message P} []) ≡ false) f (subst (λ (xs : List (Message P)). (not a && is_empty xs) ≡ false) g e) in cc
+      by_tests a ms f g e =
+          let h : (not false && is_empty {X = Message P} []) ≡ false
+              = subst (λ (b : Bool). (not b && is_empty {X = Message P} []) ≡ false) f (subst (λ (xs : List (Message P)). (not a && is_empty xs) ≡ false) g e) in
+          cc
 
   -- an empty world rests for any time
   calm : (n : ℕ) (w : World P) → w.sending ≡ [] → w.waiting ≡ [] → (v : World P) × Passes cmp n w v
@@ -194,7 +199,9 @@ module _ {P : Type 0} (cmp : P → P → Ordering) (order : IsTotalOrder cmp) (p
     where
       by_end : (n : ℕ) → last_moment - w.moment ≡ n → v.moment ≡ w.moment + 1 → NextIs cmp w None
       by_end zero is on = never_comes (subst (λ (k : ℕ). Passes cmp k w w) (sym is) no_time)
-      by_end (suc n) is on = let count : last_moment - v.moment ≡ n = omega arith in never_comes (subst (λ (k : ℕ). Passes cmp k w x) (sym is) (quiet_tick d q (subst (λ (k : ℕ). Passes cmp k v x) count p)))
+      by_end (suc n) is on =
+          let count : last_moment - v.moment ≡ n = omega arith in
+          never_comes (subst (λ (k : ℕ). Passes cmp k w x) (sym is) (quiet_tick d q (subst (λ (k : ℕ). Passes cmp k v x) count p)))
   step_next w v o d q (comes_next p drains loud le) = comes_next (quiet_tick d q p) drains loud le
 
   pub next_so : (n : ℕ) (w : World P) → may_seek n w ≡ true → NextIs cmp w (seek n w)

@@ -128,7 +128,9 @@ module _ {P : Type 0} (cmp : P → P → Ordering) (order : IsTotalOrder cmp) (p
   spent_if_so s (f ∷ fs) e = by_test (is_spent_at s f) refl e (spent_if_so s fs)
     where
       by_test : (b : Bool) → is_spent_at s f ≡ b → (b || list_any (is_spent_at s) fs) ≡ true → (list_any (is_spent_at s) fs ≡ true → SomeSpentAt fs s) → SomeSpentAt (f ∷ fs) s
-      by_test true is e ih = let two : (nat_le f.updated s ≡ true) × (((left_at s f).num == 0) ≡ true) = both_true (nat_le f.updated s) ((left_at s f).num == 0) is in (0, f, refl, leb-true f.updated s two.0, eqb-true (left_at s f).num 0 two.1)
+      by_test true is e ih =
+          let two : (nat_le f.updated s ≡ true) × (((left_at s f).num == 0) ≡ true) = both_true (nat_le f.updated s) ((left_at s f).num == 0) is in
+          (0, f, refl, leb-true f.updated s two.0, eqb-true (left_at s f).num 0 two.1)
       by_test false is e ih = let rest : SomeSpentAt fs s = ih e in (suc rest.0, rest.1, rest.2, rest.3, rest.4)
 
   so_if_spent : (s : ℕ) (fs : List (Paced P)) (i : ℕ) (f : Paced P) → slice_get fs i ≡ Some f → f.updated ≤ s → (left_at s f).num ≡ 0 → list_any (is_spent_at s) fs ≡ true

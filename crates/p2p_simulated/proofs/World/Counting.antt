@@ -83,8 +83,14 @@ module _ {P : Type 0} (cmp : P → P → Ordering) (order : IsTotalOrder cmp) wh
 
   launch_counts : {t : ℕ} {p : Planned P} {o : Option (Message P)} {c : Course (Message P) (Planned P)} → Launches cmp t p o c
       → (k : Message P) (ms : List (Message P)) (q : Planned P) → next_of cmp p k ≡ o → c ≡ goes ms q → to_do q + length ms ≤ to_do p
-  launch_counts {p = p} nothing_waits k ms q is e = let none : [] ≡ ms = cc in let same : p ≡ q = cc in subst (λ (z : Planned P). to_do z + length ms ≤ to_do p) same (subst (λ (ns : List (Message P)). to_do p + length ns ≤ to_do p) none (omega arith))
-  launch_counts {p = p} (too_early may) k ms q is e = let none : [] ≡ ms = cc in let same : p ≡ q = cc in subst (λ (z : Planned P). to_do z + length ms ≤ to_do p) same (subst (λ (ns : List (Message P)). to_do p + length ns ≤ to_do p) none (omega arith))
+  launch_counts {p = p} nothing_waits k ms q is e =
+      let none : [] ≡ ms = cc in
+      let same : p ≡ q = cc in
+      subst (λ (z : Planned P). to_do z + length ms ≤ to_do p) same (subst (λ (ns : List (Message P)). to_do p + length ns ≤ to_do p) none (omega arith))
+  launch_counts {p = p} (too_early may) k ms q is e =
+      let none : [] ≡ ms = cc in
+      let same : p ≡ q = cc in
+      subst (λ (z : Planned P). to_do z + length ms ≤ to_do p) same (subst (λ (ns : List (Message P)). to_do p + length ns ≤ to_do p) none (omega arith))
   launch_counts (no_id may last) k ms q is e = cc
   launch_counts {t = t} {p = p} (starts {m = m} {leavers = leavers} {new = new} may below account) k ms q is e =
       let counts : to_do new + length leavers ≡ to_do (launched cmp t p m) = account_counts t (launched cmp t p m) new leavers account in
@@ -97,7 +103,10 @@ module _ {P : Type 0} (cmp : P → P → Ordering) (order : IsTotalOrder cmp) wh
   launch_less : {t : ℕ} {p : Planned P} {o : Option (Message P)} {c : Course (Message P) (Planned P)} → Launches cmp t p o c
       → (k m : Message P) (ms : List (Message P)) (q : Planned P) → next_of cmp p k ≡ o → o ≡ Some m → may_launch cmp t p m ≡ true → c ≡ goes ms q → to_do q + length ms < to_do p
   launch_less nothing_waits k m ms q is some may e = cc
-  launch_less {t = t} {p = p} (too_early {m = x} early) k m ms q is some may e = let same : x ≡ m = cc in let on : may_launch cmp t p x ≡ true = subst (λ (y : Message P). may_launch cmp t p y ≡ true) (sym same) may in cc
+  launch_less {t = t} {p = p} (too_early {m = x} early) k m ms q is some may e =
+      let same : x ≡ m = cc in
+      let on : may_launch cmp t p x ≡ true = subst (λ (y : Message P). may_launch cmp t p y ≡ true) (sym same) may in
+      cc
   launch_less (no_id first last) k m ms q is some may e = cc
   launch_less {t = t} {p = p} (starts {m = x} {leavers = leavers} {new = new} first below account) k m ms q is some may e =
       let counts : to_do new + length leavers ≡ to_do (launched cmp t p x) = account_counts t (launched cmp t p x) new leavers account in
@@ -292,7 +301,9 @@ module _ {P : Type 0} (cmp : P → P → Ordering) (order : IsTotalOrder cmp) wh
   advance_right : {now n : ℕ} {p : Planned P} {c : Course (Completed P) (Planned P)} → Advances cmp now p n c → IsPlanned cmp p → Right c
   unfolding Right
   advance_right {p = p} (no_more before wakes) h = wake_right wakes (partly p h)
-  advance_right {p = p} (at_finish {q = q} {cs = cs} {rest = rest} is next due event more) h = let after : IsPlanned cmp q = settle_right event h.none_at_first in right_after cs rest (advance_right more after)
+  advance_right {p = p} (at_finish {q = q} {cs = cs} {rest = rest} is next due event more) h =
+      let after : IsPlanned cmp q = settle_right event h.none_at_first in
+      right_after cs rest (advance_right more after)
   advance_right {p = p} (at_start {q = q} {cs = cs} {rest = rest} is next due event more) h =
       let after : IsPlanned cmp q = wake_right event (record { finish = h.finish; none_at_first = h.none_at_first }) in
       right_after cs rest (advance_right more after)
@@ -316,7 +327,10 @@ module _ {P : Type 0} (cmp : P → P → Ordering) (order : IsTotalOrder cmp) wh
       after = record p { last_arrival = raised cmp p.last_arrival m at }
 
       none_ready : (q : Planned P) → q.waiting ≡ [] → (s : ℕ) → SomeReadyAt cmp q s → ⊥
-      none_ready q empty s some = let none : find (same_pair cmp some.0) q.waiting ≡ None = ap (find (same_pair cmp some.0)) empty in let there : find (same_pair cmp some.0) q.waiting ≡ Some some.0 = some.1 in cc
+      none_ready q empty s some =
+          let none : find (same_pair cmp some.0) q.waiting ≡ None = ap (find (same_pair cmp some.0)) empty in
+          let there : find (same_pair cmp some.0) q.waiting ≡ Some some.0 = some.1 in
+          cc
 
       still : (o : Option ℕ) → IsLeastMoment (λ s. (h.from ≤ s) × SomeReadyAt cmp p s) o → IsLeastMoment (λ s. (h.from ≤ s) × SomeReadyAt cmp after s) o
       still None least = λ s within some. none_ready after (h.none_at_first free) s some.1

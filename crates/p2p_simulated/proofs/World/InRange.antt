@@ -220,7 +220,9 @@ module _ {P : Type 0} (cmp : P → P → Ordering) (order : IsTotalOrder cmp) (p
 
   pub advance_account_bounded : {now t : ℕ} {p q : Planned P} → AdvanceAccounts cmp now p t q → now < 2 ^ 56 → Holds p → (t < 2 ^ 56) × Bounded q
   advance_account_bounded (in_the_end before accounts) early h = (early, wake_account_bounded accounts early h)
-  advance_account_bounded {p = p} (at_the_finish {t = t} is next due accounts) early h = let soon : t < 2 ^ 56 = omega arith in (soon, settle_account_bounded accounts soon (unplanned p None p.start h).0)
+  advance_account_bounded {p = p} (at_the_finish {t = t} is next due accounts) early h =
+      let soon : t < 2 ^ 56 = omega arith in
+      (soon, settle_account_bounded accounts soon (unplanned p None p.start h).0)
   advance_account_bounded {p = p} (at_the_start {t = t} is next due accounts) early h = let soon : t < 2 ^ 56 = omega arith in (soon, wake_account_bounded accounts soon (unplanned p p.finish None h))
   advance_account_bounded {p = p} (after_a_finish {q = q} is next due event accounts) early h =
       let after : Holds q = settles_well event (omega arith) (unplanned p None p.start h).0 in

@@ -188,7 +188,9 @@ module _ {P : Type 0} (cmp : P → P → Ordering) (order : IsTotalOrder cmp) (k
   -- ---- a start
 
   last_of : (w : World P) (m : Message P) → PairsAlike cmp w.last_arrival w.last_arrival → same_pair cmp k m ≡ true → w.last_arrival m.origin m.recipient ≡ last w
-  last_of w m alike own = let parts = both_parts cmp order (same_peer cmp k.origin m.origin) (same_peer cmp k.recipient m.recipient) own in sym (alike k.origin m.origin k.recipient m.recipient parts.0 parts.1)
+  last_of w m alike own =
+      let parts = both_parts cmp order (same_peer cmp k.origin m.origin) (same_peer cmp k.recipient m.recipient) own in
+      sym (alike k.origin m.origin k.recipient m.recipient parts.0 parts.1)
 
   first_of_waits : (w : World P) (m : Message P) → same_pair cmp k m ≡ true → find (same_pair cmp m) w.waiting ≡ Some m
       → waits w ≡ m ∷ filter (same_pair cmp k) (without_first (same_pair cmp m) w.waiting)

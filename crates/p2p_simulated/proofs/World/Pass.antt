@@ -183,7 +183,10 @@ module _ {P : Type 0} (cmp : P → P → Ordering) (order : IsTotalOrder cmp) wh
 
   empty_alike : (rs : List (Message P)) → FindsAlike [] rs → rs ≡ []
   empty_alike [] same = refl
-  empty_alike (r ∷ rs) same = let e : None ≡ cond (same_pair cmp r r) (Some r) (find (same_pair cmp r) rs) = same r in let f : None ≡ Some r = e ∙ ap (λ (b : Bool). cond b (Some r) (find (same_pair cmp r) rs)) (pair_itself cmp order r) in cc
+  empty_alike (r ∷ rs) same =
+      let e : None ≡ cond (same_pair cmp r r) (Some r) (find (same_pair cmp r) rs) = same r in
+      let f : None ≡ Some r = e ∙ ap (λ (b : Bool). cond b (Some r) (find (same_pair cmp r) rs)) (pair_itself cmp order r) in
+      cc
 
   -- going once through any list, in the order of pairs, of those that are ready
   pub wake_within_is_pass : (n t : ℕ) (ms : List (Message P)) (w : World P) → list_any (is_done cmp w) w.sending ≡ false → WaitAtMost n w → IsByPair cmp ms

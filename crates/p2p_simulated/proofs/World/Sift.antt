@@ -182,11 +182,17 @@ module _ {P : Type 0} (cmp : P → P → Ordering) (order : IsTotalOrder cmp) wh
     where
       by_test : (n : Message P) (b : Bool) → pair_before cmp n m ≡ b → Some (cond b n m) ≡ Some x → Each (λ k. pair_before cmp k n ≡ false) ms → Each (λ k. pair_before cmp k x ≡ false) (m ∷ ms)
       by_test n true is s g = let same : n ≡ x = cc in subst (λ (z : Message P). Each (λ k. pair_before cmp k z ≡ false) (m ∷ ms)) same (not_before_back m n is, g)
-      by_test n false is s g = let same : m ≡ x = cc in subst (λ (z : Message P). Each (λ k. pair_before cmp k z ≡ false) (m ∷ ms)) same (not_before_itself m, each_map (λ k. pair_before cmp k n ≡ false) (λ k. pair_before cmp k m ≡ false) ms (λ k h. not_below k m n is h) g)
+      by_test n false is s g =
+          let same : m ≡ x = cc in
+          subst (λ (z : Message P). Each (λ k. pair_before cmp k z ≡ false) (m ∷ ms)) same (not_before_itself m, each_map (λ k. pair_before cmp k n ≡ false) (λ k. pair_before cmp k m ≡ false) ms (λ k h. not_below k m n is h) g)
 
       by_rest : (o : Option (Message P)) → least_pair cmp ms ≡ o → ((y : Message P) → least_pair cmp ms ≡ Some y → Each (λ k. pair_before cmp k y ≡ false) ms)
           → Each (λ k. pair_before cmp k x ≡ false) (m ∷ ms)
-      by_rest None is ih = let s : Some m ≡ Some x = sym (least_is m ms None is) ∙ e in let same : m ≡ x = cc in let none : ms ≡ [] = least_none ms is in subst (λ (z : Message P). Each (λ k. pair_before cmp k z ≡ false) (m ∷ ms)) same (not_before_itself m, subst (λ (ks : List (Message P)). Each (λ k. pair_before cmp k m ≡ false) ks) (sym none) tt)
+      by_rest None is ih =
+          let s : Some m ≡ Some x = sym (least_is m ms None is) ∙ e in
+          let same : m ≡ x = cc in
+          let none : ms ≡ [] = least_none ms is in
+          subst (λ (z : Message P). Each (λ k. pair_before cmp k z ≡ false) (m ∷ ms)) same (not_before_itself m, subst (λ (ks : List (Message P)). Each (λ k. pair_before cmp k m ≡ false) ks) (sym none) tt)
       by_rest (Some n) is ih = by_test n (pair_before cmp n m) refl (sym (least_is m ms (Some n) is) ∙ e) (ih n is)
 
   pub least_kept : (mine : Message P → Bool) (ms : List (Message P)) (x : Message P) → least_pair cmp ms ≡ Some x → mine x ≡ true → least_pair cmp (filter mine ms) ≡ Some x
