@@ -96,8 +96,7 @@ module _ {P : Type 0} (cmp : P → P → Ordering) (order : IsTotalOrder cmp) wh
       let low : IsLowest n.left = subst IsLowest (sym stayed.0.1) all.0.lowest in
       let no_time : t - n.updated ≡ 0 = omega arith in
       let left : left_at t n ≡ n.left
-          = ap (λ (r : Option Amount). drained_by r (t - n.updated) n.left) rated.0 ∙ ap (λ (k : ℕ). drained n.left rate k) no_time ∙ drained_none n.left rate low positive in
-      (
+      = ap (λ (r : Option Amount). drained_by r (t - n.updated) n.left) rated.0 ∙ ap (λ (k : ℕ). drained n.left rate k) no_time ∙ drained_none n.left rate low positive in (
         record {
           message = subst (λ (m : Message P). SameMessage cmp m g.message) (sym stayed.0.0) all.0.message;
           updated = omega arith;

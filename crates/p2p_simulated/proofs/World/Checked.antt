@@ -179,7 +179,7 @@ module _ {P : Type 0} (cmp : P → P → Ordering) (order : IsTotalOrder cmp) (p
       by_tests : (a : Bool) (ms : List (Message P)) → a ≡ false → ms ≡ [] → (not a && is_empty ms) ≡ false → ⊥
       by_tests a ms f g e =
           let h : (not false && is_empty {X = Message P} []) ≡ false
-              = subst (λ (b : Bool). (not b && is_empty {X = Message P} []) ≡ false) f (subst (λ (xs : List (Message P)). (not a && is_empty xs) ≡ false) g e) in
+          = subst (λ (b : Bool). (not b && is_empty {X = Message P} []) ≡ false) f (subst (λ (xs : List (Message P)). (not a && is_empty xs) ≡ false) g e) in
           cc
 
   -- an empty world rests for any time
