@@ -32,14 +32,19 @@ module _ {P : Type 0} (cmp : P → P → Ordering) where
 
   -- the message is in flight from t on, under the next flow id
   abbrev pub launched : ℕ → Planned P → Message P → Planned P
-  launched t p m = record p { sending = p.sending ++ record { message = m; left = whole (length m.bytes); rate = Some (whole 0); updated = t } ∷ []; waiting = without_first (same_pair cmp m) p.waiting; next_id = p.next_id + 1 }
+  launched t p m = record p {
+    sending = p.sending ++ record { message = m; left = whole (length m.bytes); rate = Some (whole 0); updated = t } ∷ [];
+    waiting = without_first (same_pair cmp m) p.waiting;
+    next_id = p.next_id + 1;
+  }
 
   -- the first message that waits for a pair starts at t if it may, and an account follows; what is done then comes out
   pub data Launches (t : ℕ) (old : Planned P) : Option (Message P) → Course (Message P) (Planned P) → Type 0 where
     nothing_waits : Launches t old None (goes [] old)
     too_early : {m : Message P} → may_launch cmp t old m ≡ false → Launches t old (Some m) (goes [] old)
     no_id : {m : Message P} → may_launch cmp t old m ≡ true → last_moment ≤ old.next_id → Launches t old (Some m) (meets FlowIdsUsedUp)
-    starts : {m : Message P} {leavers : List (Message P)} {new : Planned P} → may_launch cmp t old m ≡ true → old.next_id < last_moment → Accounts t (launched t old m) leavers new → Launches t old (Some m) (goes leavers new)
+    starts : {m : Message P} {leavers : List (Message P)} {new : Planned P} → may_launch cmp t old m ≡ true → old.next_id < last_moment → Accounts t (launched t old m) leavers new
+        → Launches t old (Some m) (goes leavers new)
 
   -- when a message that is finished at t arrives, or counts as arrived if it is dropped
   abbrev pub arrival : ℕ → Message P → ℕ
@@ -59,16 +64,20 @@ module _ {P : Type 0} (cmp : P → P → Ordering) where
   pub data Finishes (t : ℕ) : List (Message P) → Planned P → Course (Completed P) (Planned P) → Type 0 where
     all_completed : {p q : Planned P} → Looks t p q → Finishes t [] p (goes [] q)
     late : {m : Message P} {ms : List (Message P)} {p : Planned P} → is_late t m ≡ true → Finishes t (m ∷ ms) p (meets MomentTooLate)
-    stopped : {m : Message P} {ms : List (Message P)} {p : Planned P} {fault : Error} → is_late t m ≡ false → Launches t (landed t p m) (next_of cmp p m) (meets fault) → Finishes t (m ∷ ms) p (meets fault)
-    completes : {m : Message P} {ms more : List (Message P)} {p q : Planned P} {rest : Course (Completed P) (Planned P)} → is_late t m ≡ false → Launches t (landed t p m) (next_of cmp p m) (goes more q) → Finishes t (ms ++ more) q rest
+    stopped : {m : Message P} {ms : List (Message P)} {p : Planned P} {fault : Error} → is_late t m ≡ false → Launches t (landed t p m) (next_of cmp p m) (meets fault)
+        → Finishes t (m ∷ ms) p (meets fault)
+    completes : {m : Message P} {ms more : List (Message P)} {p q : Planned P} {rest : Course (Completed P) (Planned P)} → is_late t m ≡ false
+        → Launches t (landed t p m) (next_of cmp p m) (goes more q) → Finishes t (ms ++ more) q rest
         → Finishes t (m ∷ ms) p (preceded (completed t m ∷ []) rest)
 
   -- those pairs start, each with its finishes; at last the start is planned
   pub data WakesEach (t : ℕ) : List (Message P) → Planned P → Course (Completed P) (Planned P) → Type 0 where
     all_started : {p q : Planned P} → Looks t p q → WakesEach t [] p (goes [] q)
     no_start : {m : Message P} {ms : List (Message P)} {p : Planned P} {fault : Error} → Launches t p (next_of cmp p m) (meets fault) → WakesEach t (m ∷ ms) p (meets fault)
-    no_finish : {m : Message P} {ms more : List (Message P)} {p q : Planned P} {fault : Error} → Launches t p (next_of cmp p m) (goes more q) → Finishes t more q (meets fault) → WakesEach t (m ∷ ms) p (meets fault)
-    starts_one : {m : Message P} {ms more : List (Message P)} {p q r : Planned P} {cs : List (Completed P)} {rest : Course (Completed P) (Planned P)} → Launches t p (next_of cmp p m) (goes more q) → Finishes t more q (goes cs r) → WakesEach t ms r rest
+    no_finish : {m : Message P} {ms more : List (Message P)} {p q : Planned P} {fault : Error} → Launches t p (next_of cmp p m) (goes more q) → Finishes t more q (meets fault)
+        → WakesEach t (m ∷ ms) p (meets fault)
+    starts_one : {m : Message P} {ms more : List (Message P)} {p q r : Planned P} {cs : List (Completed P)} {rest : Course (Completed P) (Planned P)}
+        → Launches t p (next_of cmp p m) (goes more q) → Finishes t more q (goes cs r) → WakesEach t ms r rest
         → WakesEach t (m ∷ ms) p (preceded cs rest)
 
   -- the pairs that are found ready at t start, in the order of pairs
@@ -102,14 +111,17 @@ module _ {P : Type 0} (cmp : P → P → Ordering) where
   pub data Enqueues (now : ℕ) (m : Message P) (old : Planned P) : Course (Completed P) (Planned P) → Type 0 where
     at_once : old.limited ≡ false → Enqueues now m old (completed_at_once now old m)
     no_launch : {fault : Error} → old.limited ≡ true → Launches now (with_queued old m) (next_of cmp (with_queued old m) m) (meets fault) → Enqueues now m old (meets fault)
-    launches : {leavers : List (Message P)} {mid : Planned P} {course : Course (Completed P) (Planned P)} → old.limited ≡ true → Launches now (with_queued old m) (next_of cmp (with_queued old m) m) (goes leavers mid) → Finishes now leavers mid course → Enqueues now m old course
+    launches : {leavers : List (Message P)} {mid : Planned P} {course : Course (Completed P) (Planned P)} → old.limited ≡ true
+        → Launches now (with_queued old m) (next_of cmp (with_queued old m) m) (goes leavers mid) → Finishes now leavers mid course → Enqueues now m old course
 
   -- the events up to now, the finish before the start at one moment, and how many they are; a wake at now ends them
   pub data Advances (now : ℕ) : Planned P → ℕ → Course (Completed P) (Planned P) → Type 0 where
     no_more : {p : Planned P} {course : Course (Completed P) (Planned P)} → IfSome (next_event p) (λ t. now < t) → Wakes now p course → Advances now p 0 course
-    at_finish : {p q : Planned P} {t n : ℕ} {cs : List (Completed P)} {rest : Course (Completed P) (Planned P)} → p.finish ≡ Some t → next_event p ≡ Some t → t ≤ now → Settles t (record p { finish = None }) (goes cs q) → Advances now q n rest
+    at_finish : {p q : Planned P} {t n : ℕ} {cs : List (Completed P)} {rest : Course (Completed P) (Planned P)} → p.finish ≡ Some t → next_event p ≡ Some t → t ≤ now
+        → Settles t (record p { finish = None }) (goes cs q) → Advances now q n rest
         → Advances now p (n + 1) (preceded cs rest)
-    at_start : {p q : Planned P} {t n : ℕ} {cs : List (Completed P)} {rest : Course (Completed P) (Planned P)} → p.finish ≢ Some t → next_event p ≡ Some t → t ≤ now → Wakes t (record p { start = None }) (goes cs q) → Advances now q n rest
+    at_start : {p q : Planned P} {t n : ℕ} {cs : List (Completed P)} {rest : Course (Completed P) (Planned P)} → p.finish ≢ Some t → next_event p ≡ Some t → t ≤ now
+        → Wakes t (record p { start = None }) (goes cs q) → Advances now q n rest
         → Advances now p (n + 1) (preceded cs rest)
     finish_stops : {p : Planned P} {t : ℕ} {fault : Error} → p.finish ≡ Some t → next_event p ≡ Some t → t ≤ now → Settles t (record p { finish = None }) (meets fault) → Advances now p 1 (meets fault)
     start_stops : {p : Planned P} {t : ℕ} {fault : Error} → p.finish ≢ Some t → next_event p ≡ Some t → t ≤ now → Wakes t (record p { start = None }) (meets fault) → Advances now p 1 (meets fault)

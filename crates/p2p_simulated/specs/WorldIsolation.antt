@@ -52,12 +52,14 @@ module _ {P : Type 0} (cmp : P → P → Ordering) where
   -- calls that are made one after another, with the completions that each answers
   pub data Answers : World P → List (Call P) → List (List (Completed P)) → Type 0 where
     no_calls : {w : World P} → Answers w [] []
-    call_answers : {w u : World P} {call : Call P} {now : ℕ} {calls : List (Call P)} {cs : List (Completed P)} {css : List (List (Completed P))} → moment_of call ≡ Some now → w.moment ≤ now → Runs cmp w call now (goes cs u) → Answers u calls css → Answers w (call ∷ calls) (cs ∷ css)
+    call_answers : {w u : World P} {call : Call P} {now : ℕ} {calls : List (Call P)} {cs : List (Completed P)} {css : List (List (Completed P))} → moment_of call ≡ Some now
+        → w.moment ≤ now → Runs cmp w call now (goes cs u) → Answers u calls css → Answers w (call ∷ calls) (cs ∷ css)
 
   -- and each comes in its turn
   pub data AnswersInTurn : World P → List (Call P) → List (List (Completed P)) → Type 0 where
     no_calls_in_turn : {w : World P} → AnswersInTurn w [] []
-    answers_in_turn : {w u : World P} {call : Call P} {now : ℕ} {calls : List (Call P)} {cs : List (Completed P)} {css : List (List (Completed P))} → moment_of call ≡ Some now → IsInTurn cmp w call → Runs cmp w call now (goes cs u) → AnswersInTurn u calls css
+    answers_in_turn : {w u : World P} {call : Call P} {now : ℕ} {calls : List (Call P)} {cs : List (Completed P)} {css : List (List (Completed P))} → moment_of call ≡ Some now
+        → IsInTurn cmp w call → Runs cmp w call now (goes cs u) → AnswersInTurn u calls css
         → AnswersInTurn w (call ∷ calls) (cs ∷ css)
 
   -- a set of peers, equal peers together

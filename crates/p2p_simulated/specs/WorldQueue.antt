@@ -43,10 +43,15 @@ module _ {P : Type 0} (cmp : P → P → Ordering) where
   -- the first that waits for a pair starts if it may: if it is done at once it joins the queue's end
   unfoldable pub launch_then : (List (Flight P) → World P → Course (Completed P) (World P)) → ℕ → List (Flight P) → World P → Option (Message P) → Course (Completed P) (World P)
   launch_then next t queue w None = next queue w
-  launch_then next t queue w (Some m) = cond (may_start cmp t w m) (cond (nat_le last_moment w.next_id) (meets FlowIdsUsedUp) (cond (is_done cmp w (flight m)) (next (queue ++ flight m ∷ []) (taken w m)) (next queue (joined w m)))) (next queue w)
+  launch_then next t queue w (Some m) =
+      cond (may_start cmp t w m)
+      (cond (nat_le last_moment w.next_id) (meets FlowIdsUsedUp) (cond (is_done cmp w (flight m)) (next (queue ++ flight m ∷ []) (taken w m)) (next queue (joined w m))))
+      (next queue w)
 
   -- the first of the queue completes, and its pair's next starts; so many complete at most
   unfoldable pub finish_within : ℕ → ℕ → List (Flight P) → World P → Course (Completed P) (World P)
   finish_within zero t queue w = goes [] w
   finish_within (suc n) t [] w = goes [] w
-  finish_within (suc n) t (f ∷ queue) w = cond (is_past t f.message) (meets MomentTooLate) (preceded (completion t f.message ∷ []) (launch_then (finish_within n t) t queue (arrived t w f.message) (first_waiting cmp (arrived t w f.message) f.message)))
+  finish_within (suc n) t (f ∷ queue) w =
+      cond (is_past t f.message) (meets MomentTooLate)
+      (preceded (completion t f.message ∷ []) (launch_then (finish_within n t) t queue (arrived t w f.message) (first_waiting cmp (arrived t w f.message) f.message)))

@@ -30,7 +30,8 @@ module _ {P : Type 0} (cmp : P → P → Ordering) where
   -- a number of an account at t does not fit: a drain, a time, or a rate of more than sixteen messages
   pub data IsTooLarge (t : ℕ) (old : Planned P) : Type 0 where
     drain_too_large : (place : ℕ) (f : Paced P) → slice_get old.sending place ≡ Some f → IsDrainTooLarge t f → IsTooLarge t old
-    time_too_large : {leavers : List (Message P)} {new : Planned P} (place : ℕ) (f : Paced P) → Accounts cmp t old leavers new → slice_get new.sending place ≡ Some f → IsTimeTooLarge f → IsTooLarge t old
+    time_too_large : {leavers : List (Message P)} {new : Planned P} (place : ℕ) (f : Paced P) → Accounts cmp t old leavers new → slice_get new.sending place ≡ Some f
+        → IsTimeTooLarge f → IsTooLarge t old
     rates_too_large : 16 < length (to_rate t old) → ¬ FairRatesFit (capped_sides cmp old.caps (to_rate t old)) (length (to_rate t old)) → IsTooLarge t old
 
   -- ---- the accounts in a course: of which planned worlds, all at t
@@ -42,13 +43,15 @@ module _ {P : Type 0} (cmp : P → P → Ordering) where
   -- those of the finishes of a queue
   pub data FinishAccounts (t : ℕ) : List (Message P) → Planned P → Planned P → Type 0 where
     first_accounts : {m : Message P} {ms : List (Message P)} {p q : Planned P} → is_late cmp t m ≡ false → LaunchAccounts t (landed cmp t p m) (next_of cmp p m) q → FinishAccounts t (m ∷ ms) p q
-    later_accounts : {m : Message P} {ms more : List (Message P)} {p q r : Planned P} → is_late cmp t m ≡ false → Launches cmp t (landed cmp t p m) (next_of cmp p m) (goes more q) → FinishAccounts t (ms ++ more) q r → FinishAccounts t (m ∷ ms) p r
+    later_accounts : {m : Message P} {ms more : List (Message P)} {p q r : Planned P} → is_late cmp t m ≡ false → Launches cmp t (landed cmp t p m) (next_of cmp p m) (goes more q)
+        → FinishAccounts t (ms ++ more) q r → FinishAccounts t (m ∷ ms) p r
 
   -- those of the starts of pairs, each with its finishes
   pub data WakeAccounts (t : ℕ) : List (Message P) → Planned P → Planned P → Type 0 where
     start_accounts : {m : Message P} {ms : List (Message P)} {p q : Planned P} → LaunchAccounts t p (next_of cmp p m) q → WakeAccounts t (m ∷ ms) p q
     finish_accounts : {m : Message P} {ms more : List (Message P)} {p q r : Planned P} → Launches cmp t p (next_of cmp p m) (goes more q) → FinishAccounts t more q r → WakeAccounts t (m ∷ ms) p r
-    rest_accounts : {m : Message P} {ms more : List (Message P)} {p q r s : Planned P} {cs : List (Completed P)} → Launches cmp t p (next_of cmp p m) (goes more q) → Finishes cmp t more q (goes cs r) → WakeAccounts t ms r s → WakeAccounts t (m ∷ ms) p s
+    rest_accounts : {m : Message P} {ms more : List (Message P)} {p q r s : Planned P} {cs : List (Completed P)} → Launches cmp t p (next_of cmp p m) (goes more q)
+        → Finishes cmp t more q (goes cs r) → WakeAccounts t ms r s → WakeAccounts t (m ∷ ms) p s
 
   -- an account, and those of the finishes of what left
   pub data SettleAccounts (t : ℕ) (old : Planned P) : Planned P → Type 0 where
@@ -62,14 +65,18 @@ module _ {P : Type 0} (cmp : P → P → Ordering) where
 
   pub data EnqueueAccounts (now : ℕ) (m : Message P) (old : Planned P) : Planned P → Type 0 where
     launched_account : {q : Planned P} → old.limited ≡ true → LaunchAccounts now (with_queued cmp old m) (next_of cmp (with_queued cmp old m) m) q → EnqueueAccounts now m old q
-    finished_accounts : {leavers : List (Message P)} {mid q : Planned P} → old.limited ≡ true → Launches cmp now (with_queued cmp old m) (next_of cmp (with_queued cmp old m) m) (goes leavers mid) → FinishAccounts now leavers mid q → EnqueueAccounts now m old q
+    finished_accounts : {leavers : List (Message P)} {mid q : Planned P} → old.limited ≡ true
+        → Launches cmp now (with_queued cmp old m) (next_of cmp (with_queued cmp old m) m) (goes leavers mid) → FinishAccounts now leavers mid q → EnqueueAccounts now m old q
 
   pub data AdvanceAccounts (now : ℕ) : Planned P → ℕ → Planned P → Type 0 where
     in_the_end : {p q : Planned P} → IfSome (next_event p) (λ t. now < t) → WakeAccounts now (filter (may_launch cmp now p) (fronts cmp p.waiting)) p q → AdvanceAccounts now p now q
     at_the_finish : {p q : Planned P} {t : ℕ} → p.finish ≡ Some t → next_event p ≡ Some t → t ≤ now → SettleAccounts t (record p { finish = None }) q → AdvanceAccounts now p t q
-    at_the_start : {p q : Planned P} {t : ℕ} → p.finish ≢ Some t → next_event p ≡ Some t → t ≤ now → WakeAccounts t (filter (may_launch cmp t p) (fronts cmp p.waiting)) (record p { start = None }) q → AdvanceAccounts now p t q
-    after_a_finish : {p q r : Planned P} {t s : ℕ} {cs : List (Completed P)} → p.finish ≡ Some t → next_event p ≡ Some t → t ≤ now → Settles cmp t (record p { finish = None }) (goes cs q) → AdvanceAccounts now q s r → AdvanceAccounts now p s r
-    after_a_start : {p q r : Planned P} {t s : ℕ} {cs : List (Completed P)} → p.finish ≢ Some t → next_event p ≡ Some t → t ≤ now → Wakes cmp t (record p { start = None }) (goes cs q) → AdvanceAccounts now q s r → AdvanceAccounts now p s r
+    at_the_start : {p q : Planned P} {t : ℕ} → p.finish ≢ Some t → next_event p ≡ Some t → t ≤ now
+        → WakeAccounts t (filter (may_launch cmp t p) (fronts cmp p.waiting)) (record p { start = None }) q → AdvanceAccounts now p t q
+    after_a_finish : {p q r : Planned P} {t s : ℕ} {cs : List (Completed P)} → p.finish ≡ Some t → next_event p ≡ Some t → t ≤ now
+        → Settles cmp t (record p { finish = None }) (goes cs q) → AdvanceAccounts now q s r → AdvanceAccounts now p s r
+    after_a_start : {p q r : Planned P} {t s : ℕ} {cs : List (Completed P)} → p.finish ≢ Some t → next_event p ≡ Some t → t ≤ now
+        → Wakes cmp t (record p { start = None }) (goes cs q) → AdvanceAccounts now q s r → AdvanceAccounts now p s r
 
   -- the call comes to an account of the planned world q at t
   abbrev pub ComesToAccount : Planned P → Call P → ℕ → Planned P → Type 0

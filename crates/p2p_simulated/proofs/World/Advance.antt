@@ -45,8 +45,10 @@ module _ {P : Type 0} (cmp : P → P → Ordering) (order : IsTotalOrder cmp) wh
   }
 
   -- a wake in the planned world is a wake in the world
-  pub wake_alike : {t : ℕ} {p : Planned P} {course : Course (Completed P) (Planned P)} → Wakes cmp t p course → (w : World P) → Follows cmp t p w → list_any (is_done cmp w) w.sending ≡ false → CoursesAlike cmp (IsWoken cmp order t) course (wake cmp t w)
-  wake_alike {t = t} {p = p} wakes w follows none_done = wakes_alike cmp order wakes (length w.waiting) w follows (each_none (is_done cmp w) w.sending none_done) (picks_ready cmp order t p w follows.tallies) (omega arith)
+  pub wake_alike : {t : ℕ} {p : Planned P} {course : Course (Completed P) (Planned P)} → Wakes cmp t p course → (w : World P) → Follows cmp t p w
+      → list_any (is_done cmp w) w.sending ≡ false → CoursesAlike cmp (IsWoken cmp order t) course (wake cmp t w)
+  wake_alike {t = t} {p = p} wakes w follows none_done =
+      wakes_alike cmp order wakes (length w.waiting) w follows (each_none (is_done cmp w) w.sending none_done) (picks_ready cmp order t p w follows.tallies) (omega arith)
 
   pub woken_stands : (t : ℕ) (p : Planned P) (w : World P) → t ≤ last_moment → IsWoken cmp order t p w → StandsFor cmp p w
   woken_stands t p w within woken = settled_stands cmp order t p w within woken.0 (none_ready_back cmp order t p w woken.0.follows.tallies woken.1)
@@ -69,14 +71,16 @@ module _ {P : Type 0} (cmp : P → P → Ordering) (order : IsTotalOrder cmp) wh
   WakesAlike t now v course = (c : Course (Completed P) (World P)) × OnFrom t now (wake cmp t v) c × CoursesAlike cmp (StandsNow now) course c
 
   -- ticks, then a wake, and then the rest
-  joined_ticks : (a t now : ℕ) (w : World P) (ds : List (Completed P)) (x c : Course (Completed P) (World P)) → Ticks cmp a w (preceded ds x) → OnFrom t now x c → Ticks cmp (now - t + a) w (preceded ds c)
+  joined_ticks : (a t now : ℕ) (w : World P) (ds : List (Completed P)) (x c : Course (Completed P) (World P)) → Ticks cmp a w (preceded ds x) → OnFrom t now x c
+      → Ticks cmp (now - t + a) w (preceded ds c)
   joined_ticks a t now w ds (goes es u) c ticks on =
       let more : Ticks cmp (now - t + a) w (preceded (ds ++ es) on.0) = ticks_on cmp ticks (now - t) u (ds ++ es) on.0 refl on.1 in
       subst (λ (d : Course (Completed P) (World P)). Ticks cmp (now - t + a) w d) (sym (preceded_append cmp ds es on.0) ∙ ap (preceded ds) (sym on.2)) more
   joined_ticks a t now w ds (meets fault) c ticks on = subst (λ (d : Course (Completed P) (World P)). Ticks cmp (now - t + a) w (preceded ds d)) (sym on) (ticks_stop cmp ticks (now - t) fault refl)
 
   -- the tick to the next event, and the whole way there
-  to_event : (p : Planned P) (w : World P) (stands : StandsFor cmp p w) (e k : ℕ) → w.moment + suc k ≡ e → e ≤ last_moment → next_event p ≡ Some e → Ticks cmp (suc k) w (instant cmp (later cmp order p w stands (suc k)))
+  to_event : (p : Planned P) (w : World P) (stands : StandsFor cmp p w) (e k : ℕ) → w.moment + suc k ≡ e → e ≤ last_moment → next_event p ≡ Some e
+      → Ticks cmp (suc k) w (instant cmp (later cmp order p w stands (suc k)))
   to_event p w stands e k at within next =
       let before : IfSome (next_event p) (λ t. w.moment + k < t) = subst (λ (o : Option ℕ). IfSome o (λ t. w.moment + k < t)) (sym next) (omega arith) in
       let way : (v : World P) × Passes cmp k w v × Drains cmp v (later cmp order p w stands (suc k)) = passes_before cmp order p w stands k (omega arith) before in
@@ -144,7 +148,8 @@ module _ {P : Type 0} (cmp : P → P → Ordering) (order : IsTotalOrder cmp) wh
   preceded_none (goes cs v) = refl
   preceded_none (meets fault) = refl
 
-  course_map : (R S : Planned P → World P → Type 0) (x : Course (Completed P) (Planned P)) (c : Course (Completed P) (World P)) → ((q : Planned P) (v : World P) → R q v → S q v) → CoursesAlike cmp R x c → CoursesAlike cmp S x c
+  course_map : (R S : Planned P → World P → Type 0) (x : Course (Completed P) (Planned P)) (c : Course (Completed P) (World P)) → ((q : Planned P) (v : World P) → R q v → S q v)
+      → CoursesAlike cmp R x c → CoursesAlike cmp S x c
   course_map R S (goes cs q) (goes ds v) f h = (h.0, f q v h.1)
   course_map R S (goes cs q) (meets g) f h = absurd h
   course_map R S (meets x) (goes ds v) f h = absurd h
@@ -160,7 +165,8 @@ module _ {P : Type 0} (cmp : P → P → Ordering) (order : IsTotalOrder cmp) wh
       by_order (inr le) (inr ge) = inl (let same : s ≡ t = omega arith in ap Some same)
 
   -- where nothing may start at once, the settled world is at rest
-  at_rest : (t now : ℕ) (p : Planned P) (v : World P) (course : Course (Completed P) (Planned P)) → FromRest now p course → t ≤ now → now ≤ last_moment → IsSettled cmp t p v → p.start ≢ Some t → WakesAlike t now v course
+  at_rest : (t now : ℕ) (p : Planned P) (v : World P) (course : Course (Completed P) (Planned P)) → FromRest now p course → t ≤ now → now ≤ last_moment → IsSettled cmp t p v
+      → p.start ≢ Some t → WakesAlike t now v course
   at_rest t now p v course rest le within settled not_now =
       let never : ¬ SomeReadyAt cmp p t = λ some. not_now (start_is cmp order p t p.start settled.start (omega arith) some) in
       let moment : v.moment ≡ t = settled.follows.tallies.moment in
@@ -169,7 +175,8 @@ module _ {P : Type 0} (cmp : P → P → Ordering) (order : IsTotalOrder cmp) wh
       (way.0, subst (λ (x : Course (Completed P) (World P)). OnFrom t now x way.0) (sym sleeps) (way.0, subst (λ (s : ℕ). Ticks cmp (now - s) v way.0) moment way.1, preceded_none way.0), way.2)
 
   -- a wake, and then the rest
-  wake_on : (t now : ℕ) (p q : Planned P) (v : World P) (cs : List (Completed P)) (course : Course (Completed P) (Planned P)) → Wakes cmp t (record p { start = None }) (goes cs q) → FromRest now q course → Follows cmp t p v → list_any (is_done cmp v) v.sending ≡ false → t ≤ now → now ≤ last_moment
+  wake_on : (t now : ℕ) (p q : Planned P) (v : World P) (cs : List (Completed P)) (course : Course (Completed P) (Planned P)) → Wakes cmp t (record p { start = None }) (goes cs q)
+      → FromRest now q course → Follows cmp t p v → list_any (is_done cmp v) v.sending ≡ false → t ≤ now → now ≤ last_moment
       → WakesAlike t now v (preceded cs course)
   wake_on t now p q v cs course wakes rest follows none_done le within = by_course (wake cmp t v) refl (wake_alike wakes v (unstarted t p v None follows) none_done)
     where
@@ -180,7 +187,8 @@ module _ {P : Type 0} (cmp : P → P → Ordering) (order : IsTotalOrder cmp) wh
           let way : TicksAlike now u course = rest u (woken_stands t q u (omega arith) h.1) (omega arith) in
           (preceded ds way.0, subst (λ (x : Course (Completed P) (World P)). OnFrom t now x (preceded ds way.0)) (sym e) (way.0, subst (λ (s : ℕ). Ticks cmp (now - s) u way.0) moment way.1, refl), preceded_by cmp order (StandsNow now) cs ds course way.0 h.0 way.2)
 
-  wake_stops : (t now : ℕ) (p : Planned P) (v : World P) (fault : Error) → Wakes cmp t (record p { start = None }) (meets fault) → Follows cmp t p v → list_any (is_done cmp v) v.sending ≡ false → WakesAlike t now v (meets fault)
+  wake_stops : (t now : ℕ) (p : Planned P) (v : World P) (fault : Error) → Wakes cmp t (record p { start = None }) (meets fault) → Follows cmp t p v
+      → list_any (is_done cmp v) v.sending ≡ false → WakesAlike t now v (meets fault)
   wake_stops t now p v fault wakes follows none_done = by_course (wake cmp t v) refl (wake_alike wakes v (unstarted t p v None follows) none_done)
     where
       by_course : (c : Course (Completed P) (World P)) → wake cmp t v ≡ c → CoursesAlike cmp (IsWoken cmp order t) (meets fault) c → WakesAlike t now v (meets fault)
@@ -196,45 +204,55 @@ module _ {P : Type 0} (cmp : P → P → Ordering) (order : IsTotalOrder cmp) wh
       let steps : (k : ℕ) × (w.moment + suc k ≡ e) = gap w.moment e after.1 in
       let u : World P = later cmp order p w stands (suc steps.0) in
       let follows : Follows cmp e p u = subst (λ (s : ℕ). Follows cmp s p u) steps.1 (follows_later cmp order p w stands (suc steps.0)) in
-      let none_done : list_any (is_done cmp u) u.sending ≡ false = none_done_before cmp order p w stands (suc steps.0) (omega (arith, steps.1, after.0)) (subst (λ (s : ℕ). IfSome p.finish (λ f. s < f)) (sym steps.1) first.1) in
+      let none_done : list_any (is_done cmp u) u.sending ≡ false
+      = none_done_before cmp order p w stands (suc steps.0) (omega (arith, steps.1, after.0)) (subst (λ (s : ℕ). IfSome p.finish (λ f. s < f)) (sym steps.1) first.1) in
       let way : WakesAlike e now u course = wakes u follows none_done in
       let instant_u : instant cmp u ≡ preceded [] (wake cmp e u) =
       instant_is cmp order u u [] (settle_quiet cmp order (length u.sending + length u.waiting) u.moment u none_done) ∙ ap (λ (s : ℕ). preceded [] (wake cmp s u)) steps.1 in
-      let ticks : Ticks cmp (now - e + suc steps.0) w (preceded [] way.0) = joined_ticks (suc steps.0) e now w [] (wake cmp e u) way.0 (subst (λ (c : Course (Completed P) (World P)). Ticks cmp (suc steps.0) w c) instant_u (to_event p w stands e steps.0 steps.1 after.0 next)) way.1 in
+      let ticks : Ticks cmp (now - e + suc steps.0) w (preceded [] way.0)
+      = joined_ticks (suc steps.0) e now w [] (wake cmp e u) way.0
+      (subst (λ (c : Course (Completed P) (World P)). Ticks cmp (suc steps.0) w c) instant_u (to_event p w stands e steps.0 steps.1 after.0 next)) way.1 in
       let count : now - e + suc steps.0 ≡ now - w.moment = omega (arith, steps.1, after.1) in
       (way.0, subst (λ (k : ℕ). Ticks cmp k w way.0) count (subst (λ (c : Course (Completed P) (World P)). Ticks cmp (now - e + suc steps.0) w c) (sym (preceded_none way.0)) ticks), way.2)
 
   -- the tick to a planned finish is a settling, and the wake that follows
-  finish_ticks : (e now : ℕ) (p q : Planned P) (w : World P) (stands : StandsFor cmp p w) (cs : List (Completed P)) (course : Course (Completed P) (Planned P)) → p.finish ≡ Some e → next_event p ≡ Some e → e ≤ now
+  finish_ticks : (e now : ℕ) (p q : Planned P) (w : World P) (stands : StandsFor cmp p w) (cs : List (Completed P)) (course : Course (Completed P) (Planned P)) → p.finish ≡ Some e
+      → next_event p ≡ Some e → e ≤ now
       → Settles cmp e (record p { finish = None }) (goes cs q) → FromSettled now q course → TicksAlike now w (preceded cs course)
   finish_ticks e now p q w stands cs course finish next le event rest =
       let after : w.moment < e = finish_is_later cmp order p w stands e finish in
       let within : e ≤ last_moment = (spent_at_finish cmp order p w stands e finish).0 in
       let steps : (k : ℕ) × (w.moment + suc k ≡ e) = gap w.moment e after in
-      let follows : Follows cmp e p (later cmp order p w stands (suc steps.0)) = subst (λ (s : ℕ). Follows cmp s p (later cmp order p w stands (suc steps.0))) steps.1 (follows_later cmp order p w stands (suc steps.0)) in
+      let follows : Follows cmp e p (later cmp order p w stands (suc steps.0))
+      = subst (λ (s : ℕ). Follows cmp s p (later cmp order p w stands (suc steps.0))) steps.1 (follows_later cmp order p w stands (suc steps.0)) in
       by_course steps.0 steps.1 after (to_event p w stands e steps.0 steps.1 within next) (settle cmp e (later cmp order p w stands (suc steps.0))) refl
       (settles_alike cmp order event (later cmp order p w stands (suc steps.0)) (unplanned e p (later cmp order p w stands (suc steps.0)) None p.start follows.tallies))
     where
-      by_course : (k : ℕ) → w.moment + suc k ≡ e → w.moment < e → Ticks cmp (suc k) w (instant cmp (later cmp order p w stands (suc k))) → (c : Course (Completed P) (World P)) → settle cmp e (later cmp order p w stands (suc k)) ≡ c → CoursesAlike cmp (IsSettled cmp e) (goes cs q) c → TicksAlike now w (preceded cs course)
+      by_course : (k : ℕ) → w.moment + suc k ≡ e → w.moment < e → Ticks cmp (suc k) w (instant cmp (later cmp order p w stands (suc k))) → (c : Course (Completed P) (World P))
+          → settle cmp e (later cmp order p w stands (suc k)) ≡ c → CoursesAlike cmp (IsSettled cmp e) (goes cs q) c → TicksAlike now w (preceded cs course)
       by_course k at after ticks (meets g) is h = absurd h
       by_course k at after ticks (goes ds v) is h =
           let way : WakesAlike e now v course = rest e v le h.1 in
           let instant_u : instant cmp (later cmp order p w stands (suc k)) ≡ preceded ds (wake cmp e v) =
           instant_is cmp order (later cmp order p w stands (suc k)) v ds (ap (λ (s : ℕ). settle cmp s (later cmp order p w stands (suc k))) at ∙ is) ∙ ap (λ (s : ℕ). preceded ds (wake cmp s v)) h.1.follows.tallies.moment in
-          let on : Ticks cmp (now - e + suc k) w (preceded ds way.0) = joined_ticks (suc k) e now w ds (wake cmp e v) way.0 (subst (λ (c : Course (Completed P) (World P)). Ticks cmp (suc k) w c) instant_u ticks) way.1 in
+          let on : Ticks cmp (now - e + suc k) w (preceded ds way.0)
+          = joined_ticks (suc k) e now w ds (wake cmp e v) way.0 (subst (λ (c : Course (Completed P) (World P)). Ticks cmp (suc k) w c) instant_u ticks) way.1 in
           let count : now - e + suc k ≡ now - w.moment = omega arith in
           (preceded ds way.0, subst (λ (n : ℕ). Ticks cmp n w (preceded ds way.0)) count on, preceded_by cmp order (StandsNow now) cs ds course way.0 h.0 way.2)
 
-  finish_faults : (e now : ℕ) (p : Planned P) (w : World P) (stands : StandsFor cmp p w) (fault : Error) → p.finish ≡ Some e → next_event p ≡ Some e → e ≤ now → Settles cmp e (record p { finish = None }) (meets fault) → TicksAlike now w (meets fault)
+  finish_faults : (e now : ℕ) (p : Planned P) (w : World P) (stands : StandsFor cmp p w) (fault : Error) → p.finish ≡ Some e → next_event p ≡ Some e → e ≤ now
+      → Settles cmp e (record p { finish = None }) (meets fault) → TicksAlike now w (meets fault)
   finish_faults e now p w stands fault finish next le event =
       let after : w.moment < e = finish_is_later cmp order p w stands e finish in
       let within : e ≤ last_moment = (spent_at_finish cmp order p w stands e finish).0 in
       let steps : (k : ℕ) × (w.moment + suc k ≡ e) = gap w.moment e after in
-      let follows : Follows cmp e p (later cmp order p w stands (suc steps.0)) = subst (λ (s : ℕ). Follows cmp s p (later cmp order p w stands (suc steps.0))) steps.1 (follows_later cmp order p w stands (suc steps.0)) in
+      let follows : Follows cmp e p (later cmp order p w stands (suc steps.0))
+      = subst (λ (s : ℕ). Follows cmp s p (later cmp order p w stands (suc steps.0))) steps.1 (follows_later cmp order p w stands (suc steps.0)) in
       by_course steps.0 steps.1 after (to_event p w stands e steps.0 steps.1 within next) (settle cmp e (later cmp order p w stands (suc steps.0))) refl
       (settles_alike cmp order event (later cmp order p w stands (suc steps.0)) (unplanned e p (later cmp order p w stands (suc steps.0)) None p.start follows.tallies))
     where
-      by_course : (k : ℕ) → w.moment + suc k ≡ e → w.moment < e → Ticks cmp (suc k) w (instant cmp (later cmp order p w stands (suc k))) → (c : Course (Completed P) (World P)) → settle cmp e (later cmp order p w stands (suc k)) ≡ c → CoursesAlike cmp (IsSettled cmp e) (meets fault) c → TicksAlike now w (meets fault)
+      by_course : (k : ℕ) → w.moment + suc k ≡ e → w.moment < e → Ticks cmp (suc k) w (instant cmp (later cmp order p w stands (suc k))) → (c : Course (Completed P) (World P))
+          → settle cmp e (later cmp order p w stands (suc k)) ≡ c → CoursesAlike cmp (IsSettled cmp e) (meets fault) c → TicksAlike now w (meets fault)
       by_course k at after ticks (goes ds v) is h = absurd h
       by_course k at after ticks (meets g) is h =
           let instant_u : instant cmp (later cmp order p w stands (suc k)) ≡ meets g =
@@ -244,7 +262,8 @@ module _ {P : Type 0} (cmp : P → P → Ordering) (order : IsTotalOrder cmp) wh
           (meets g, subst (λ (n : ℕ). Ticks cmp n w (meets g)) count on, h)
 
   -- with no event up to now, the world drifts there
-  drifts_to : (now : ℕ) (p : Planned P) (w : World P) (stands : StandsFor cmp p w) (course : Course (Completed P) (Planned P)) → IfSome (next_event p) (λ t. now < t) → Wakes cmp now p course → w.moment ≤ now → now ≤ last_moment → TicksAlike now w course
+  drifts_to : (now : ℕ) (p : Planned P) (w : World P) (stands : StandsFor cmp p w) (course : Course (Completed P) (Planned P)) → IfSome (next_event p) (λ t. now < t)
+      → Wakes cmp now p course → w.moment ≤ now → now ≤ last_moment → TicksAlike now w course
   drifts_to now p w stands course before wakes le within = by_count (now - w.moment) refl
     where
       ends : (v : World P) → Follows cmp now p v → list_any (is_done cmp v) v.sending ≡ false → ready cmp now v ≡ [] → Ticks cmp (now - w.moment) w (goes [] v) → TicksAlike now w course
@@ -274,10 +293,14 @@ module _ {P : Type 0} (cmp : P → P → Ordering) (order : IsTotalOrder cmp) wh
       by_start t v le is (inl now_is) = at_once t v le is now_is
       by_start t v le is (inr not_now) = at_rest t now p v course rest le within is not_now
 
-  not_after : (now : ℕ) (p : Planned P) (course : Course (Completed P) (Planned P)) → IfSome (next_event p) (λ t. now < t) → (t : ℕ) (v : World P) → t ≤ now → p.start ≡ Some t → WakesAlike t now v course
-  not_after now p course before t v le now_is = let after : IfSome (Some t) (λ e. now < e) = subst (λ (o : Option ℕ). IfSome o (λ e. now < e)) now_is (both_before p.finish p.start now before).1 in absurd (omega arith)
+  not_after : (now : ℕ) (p : Planned P) (course : Course (Completed P) (Planned P)) → IfSome (next_event p) (λ t. now < t) → (t : ℕ) (v : World P) → t ≤ now → p.start ≡ Some t
+      → WakesAlike t now v course
+  not_after now p course before t v le now_is =
+      let after : IfSome (Some t) (λ e. now < e) = subst (λ (o : Option ℕ). IfSome o (λ e. now < e)) now_is (both_before p.finish p.start now before).1 in
+      absurd (omega arith)
 
-  wake_at : (e now : ℕ) (p : Planned P) (course : Course (Completed P) (Planned P)) → p.finish ≢ Some e → next_event p ≡ Some e → ((v : World P) → Follows cmp e p v → list_any (is_done cmp v) v.sending ≡ false → WakesAlike e now v course)
+  wake_at : (e now : ℕ) (p : Planned P) (course : Course (Completed P) (Planned P)) → p.finish ≢ Some e → next_event p ≡ Some e
+      → ((v : World P) → Follows cmp e p v → list_any (is_done cmp v) v.sending ≡ false → WakesAlike e now v course)
       → (t : ℕ) (v : World P) → IsSettled cmp t p v → p.start ≡ Some t → WakesAlike t now v course
   wake_at e now p course not_finish next wakes t v is now_is =
       let first : p.start ≡ Some e = (earlier_start p.finish p.start e next not_finish).0 in

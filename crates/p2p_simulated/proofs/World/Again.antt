@@ -22,7 +22,8 @@ use Rattle.p2p_simulated.proofs.World.Rated.{all_rated}
 
 -- ---- lists
 
-pub filter_alike : {X Y : Type 0} (R : X → Y → Type 0) (f : X → Bool) (g : Y → Bool) → ((x : X) (y : Y) → R x y → f x ≡ g y) → (xs : List X) (ys : List Y) → AllZip R xs ys → AllZip R (filter f xs) (filter g ys)
+pub filter_alike : {X Y : Type 0} (R : X → Y → Type 0) (f : X → Bool) (g : Y → Bool) → ((x : X) (y : Y) → R x y → f x ≡ g y) → (xs : List X) (ys : List Y) → AllZip R xs ys
+    → AllZip R (filter f xs) (filter g ys)
 filter_alike R f g same [] [] all = tt
 filter_alike R f g same [] (y ∷ ys) all = absurd all
 filter_alike R f g same (x ∷ xs) [] all = absurd all
@@ -66,7 +67,8 @@ module _ {P : Type 0} (cmp : P → P → Ordering) (order : IsTotalOrder cmp) wh
   drawn t [] [] all = tt
   drawn t [] (g ∷ gs) all = absurd all
   drawn t (f ∷ fs) [] all = absurd all
-  drawn t (f ∷ fs) (g ∷ gs) all = (record { message = all.0.message; lowest = drained_by_lowest f.rate (t - f.updated) f.left all.0.rate all.0.lowest.positive; left = all.0.left }, drawn t fs gs all.1)
+  drawn t (f ∷ fs) (g ∷ gs) all =
+      (record { message = all.0.message; lowest = drained_by_lowest f.rate (t - f.updated) f.left all.0.rate all.0.lowest.positive; left = all.0.left }, drawn t fs gs all.1)
 
   spent_alike : (p : Planned P) (w : World P) → CapsAlike cmp p.caps w.caps → (n : Paced P) (g : Flight P) → IsDrawn n g → is_spent cmp p n ≡ is_done cmp w g
   spent_alike p w caps n g same = rw (same.left, unlimited_alike cmp order p.caps w.caps caps n.message g.message same.message) refl
@@ -78,7 +80,8 @@ module _ {P : Type 0} (cmp : P → P → Ordering) (order : IsTotalOrder cmp) wh
   drawn_messages (f ∷ fs) (g ∷ gs) all = (all.0.message, drawn_messages fs gs all.1)
 
   -- draining again for no time changes nothing
-  rated_flights : (t per : ℕ) (rates : Parts) (ss ns : List (Paced P)) (gs : List (Flight P)) → 0 < per → AllZip IsDrawn ss gs → AllZip (λ f g. (g.message ≡ f.message) × (g.left ≡ f.left) × (g.updated ≡ t)) ss ns
+  rated_flights : (t per : ℕ) (rates : Parts) (ss ns : List (Paced P)) (gs : List (Flight P)) → 0 < per → AllZip IsDrawn ss gs
+      → AllZip (λ f g. (g.message ≡ f.message) × (g.left ≡ f.left) × (g.updated ≡ t)) ss ns
       → AllZip (λ rate f. f.rate ≡ rate_of per rate) rates ns → ((i : ℕ) → slice_get rates i ≡ Some None → ⊥) → AllZip (IsSameFlight cmp t) ns gs
   rated_flights t per rates [] [] [] some all stayed rated none = tt
   rated_flights t per rates [] [] (g ∷ gs) some all stayed rated none = absurd all
@@ -92,7 +95,8 @@ module _ {P : Type 0} (cmp : P → P → Ordering) (order : IsTotalOrder cmp) wh
       let positive : 0 < rate.den = reduced_positive a per some in
       let low : IsLowest n.left = subst IsLowest (sym stayed.0.1) all.0.lowest in
       let no_time : t - n.updated ≡ 0 = omega arith in
-      let left : left_at t n ≡ n.left = ap (λ (r : Option Amount). drained_by r (t - n.updated) n.left) rated.0 ∙ ap (λ (k : ℕ). drained n.left rate k) no_time ∙ drained_none n.left rate low positive in (
+      let left : left_at t n ≡ n.left
+      = ap (λ (r : Option Amount). drained_by r (t - n.updated) n.left) rated.0 ∙ ap (λ (k : ℕ). drained n.left rate k) no_time ∙ drained_none n.left rate low positive in (
         record {
           message = subst (λ (m : Message P). SameMessage cmp m g.message) (sym stayed.0.0) all.0.message;
           updated = omega arith;
@@ -121,12 +125,15 @@ module _ {P : Type 0} (cmp : P → P → Ordering) (order : IsTotalOrder cmp) wh
   one_filter test [] one = tt
   one_filter test (f ∷ fs) one = by_test (test f) (any_filter cmp order (same_pair cmp f.message) test fs one.0) (one_filter test fs one.1)
     where
-      by_test : (b : Bool) → list_any (same_pair cmp f.message) (map (λ (f : Flight P). f.message) (filter test fs)) ≡ false → OneForEachPair cmp (map (λ (f : Flight P). f.message) (filter test fs)) → OneForEachPair cmp (map (λ (f : Flight P). f.message) (cond b (f ∷ filter test fs) (filter test fs)))
+      by_test : (b : Bool) → list_any (same_pair cmp f.message) (map (λ (f : Flight P). f.message) (filter test fs)) ≡ false
+          → OneForEachPair cmp (map (λ (f : Flight P). f.message) (filter test fs))
+          → OneForEachPair cmp (map (λ (f : Flight P). f.message) (cond b (f ∷ filter test fs) (filter test fs)))
       by_test true h ih = (h, ih)
       by_test false h ih = ih
 
   -- an account at t takes out what is done in the world at t, and leaves the rest as it is there
-  pub leavers_alike : (t : ℕ) (old new : Planned P) (leavers : List (Message P)) (w : World P) → Tallies cmp t old w → Accounts cmp t old leavers new → AllZip (SameMessage cmp) leavers (map (λ (g : Flight P). g.message) (leaving cmp w))
+  pub leavers_alike : (t : ℕ) (old new : Planned P) (leavers : List (Message P)) (w : World P) → Tallies cmp t old w → Accounts cmp t old leavers new
+      → AllZip (SameMessage cmp) leavers (map (λ (g : Flight P). g.message) (leaving cmp w))
   unfolding leaving
   leavers_alike t old new leavers w same account =
       subst (λ (ms : List (Message P)). AllZip (SameMessage cmp) ms (map (λ (g : Flight P). g.message) (filter (is_done cmp w) w.sending))) (sym account.left)

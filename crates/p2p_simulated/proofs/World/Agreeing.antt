@@ -53,7 +53,8 @@ module _ {P : Type 0} (cmp : P → P → Ordering) (order : IsTotalOrder cmp) wh
   -- ---- the range of a planned world
 
   -- as the range says it, and as the proofs use it
-  pub holds_in_range : (pairs : List (P × P)) (p : Planned P) (most : ℕ) (room : most < 2 ^ 64) (range : IsInRange cmp pairs p) → p.next_id + length p.waiting ≤ most → Holds cmp order pairs range.sixteen most room p
+  pub holds_in_range : (pairs : List (P × P)) (p : Planned P) (most : ℕ) (room : most < 2 ^ 64) (range : IsInRange cmp pairs p) → p.next_id + length p.waiting ≤ most
+      → Holds cmp order pairs range.sixteen most room p
   holds_in_range pairs p most room range fits =
       let small : Each (IsSmallFlight cmp pairs) p.sending = each_of_all (IsSmallFlight cmp pairs) p.sending range.sending in
       let caps : AreSmall cmp order (same_itself cmp order) p.caps = record { egress = range.egress; ingress = range.ingress; link = range.link } in
@@ -70,7 +71,8 @@ module _ {P : Type 0} (cmp : P → P → Ordering) (order : IsTotalOrder cmp) wh
         range.rated,
       )
 
-  small_flights : (pairs : List (P × P)) (sixteen : length pairs ≤ 16) (most : ℕ) (room : most < 2 ^ 64) (fs : List (Paced P)) → Each (IsSlowFlight cmp order pairs sixteen most room) fs → Each (IsSmallFlight cmp pairs) fs
+  small_flights : (pairs : List (P × P)) (sixteen : length pairs ≤ 16) (most : ℕ) (room : most < 2 ^ 64) (fs : List (Paced P))
+      → Each (IsSlowFlight cmp order pairs sixteen most room) fs → Each (IsSmallFlight cmp pairs) fs
   small_flights pairs sixteen most room [] slow = tt
   small_flights pairs sixteen most room (f ∷ fs) slow = (slow.0.small, small_flights pairs sixteen most room fs slow.1)
 
@@ -88,7 +90,8 @@ module _ {P : Type 0} (cmp : P → P → Ordering) (order : IsTotalOrder cmp) wh
     ids = let fits : p.next_id + length p.waiting ≤ most = h.0.ids in omega arith;
   }
 
-  more_room : (pairs : List (P × P)) (sixteen : length pairs ≤ 16) (most more : ℕ) (room : most < 2 ^ 64) (wide : more < 2 ^ 64) (p : Planned P) → most ≤ more → Holds cmp order pairs sixteen most room p → Holds cmp order pairs sixteen more wide p
+  more_room : (pairs : List (P × P)) (sixteen : length pairs ≤ 16) (most more : ℕ) (room : most < 2 ^ 64) (wide : more < 2 ^ 64) (p : Planned P) → most ≤ more
+      → Holds cmp order pairs sixteen most room p → Holds cmp order pairs sixteen more wide p
   more_room pairs sixteen most more room wide p le h =
       let fits : p.next_id + length p.waiting ≤ most = h.0.ids in (
         record { caps = h.0.caps; one_each = h.0.one_each; sending = each_slow p.sending h.0.sending; waiting = h.0.waiting; arrivals = h.0.arrivals; ids = omega arith },
@@ -100,16 +103,19 @@ module _ {P : Type 0} (cmp : P → P → Ordering) (order : IsTotalOrder cmp) wh
       each_slow (f ∷ fs) slow = (record { small = slow.0.small; rate = slow.0.rate }, each_slow fs slow.1)
 
   -- a call in the range leads from the range to the range
-  pub obeys_in_range : (pairs : List (P × P)) (p : Planned P) (call : Call P) (c : Course (Completed P) (Planned P)) → IsInRange cmp pairs p → IsSmallCall cmp pairs call → p.next_id + length p.waiting + messages_in call < 2 ^ 64 → Obeys cmp p call c
+  pub obeys_in_range : (pairs : List (P × P)) (p : Planned P) (call : Call P) (c : Course (Completed P) (Planned P)) → IsInRange cmp pairs p → IsSmallCall cmp pairs call
+      → p.next_id + length p.waiting + messages_in call < 2 ^ 64 → Obeys cmp p call c
       → (cs : List (Completed P)) × (q : Planned P) × (c ≡ goes cs q) × IsInRange cmp pairs q
   obeys_in_range pairs p call c range small room obeys =
       by_course c (obeys_well cmp order pairs range.sixteen (p.next_id + length p.waiting + messages_in call) room p call c small (omega arith) (holds_in_range pairs p (p.next_id + length p.waiting + messages_in call) room range (omega arith)) obeys)
     where
-      by_course : (c : Course (Completed P) (Planned P)) → GoesWell cmp order pairs range.sixteen (p.next_id + length p.waiting + messages_in call) room c → (cs : List (Completed P)) × (q : Planned P) × (c ≡ goes cs q) × IsInRange cmp pairs q
+      by_course : (c : Course (Completed P) (Planned P)) → GoesWell cmp order pairs range.sixteen (p.next_id + length p.waiting + messages_in call) room c
+          → (cs : List (Completed P)) × (q : Planned P) × (c ≡ goes cs q) × IsInRange cmp pairs q
       by_course (goes cs q) h = (cs, q, refl, range_of_holds pairs range.sixteen (p.next_id + length p.waiting + messages_in call) room q h)
       by_course (meets fault) h = absurd h
 
-  pub refused_in_range : (pairs : List (P × P)) (p : Planned P) (call : Call P) (why : Error) → IsInRange cmp pairs p → IsSmallCall cmp pairs call → p.next_id + length p.waiting + messages_in call < 2 ^ 64 → MayBeRefused cmp p call why → why ≡ OutOfMemory
+  pub refused_in_range : (pairs : List (P × P)) (p : Planned P) (call : Call P) (why : Error) → IsInRange cmp pairs p → IsSmallCall cmp pairs call
+      → p.next_id + length p.waiting + messages_in call < 2 ^ 64 → MayBeRefused cmp p call why → why ≡ OutOfMemory
   refused_in_range pairs p call why range small room may =
       refused_for_memory cmp order pairs range.sixteen (p.next_id + length p.waiting + messages_in call) room p call why small (omega arith) (holds_in_range pairs p (p.next_id + length p.waiting + messages_in call) room range (omega arith)) may
 
@@ -117,7 +123,9 @@ module _ {P : Type 0} (cmp : P → P → Ordering) (order : IsTotalOrder cmp) wh
 
   -- a planned world that such calls lead to is in the range, where they are
   abbrev Reached : List (Call P) → Planned P → Type 0
-  Reached accepted p = (pairs : List (P × P)) (sixteen : length pairs ≤ 16) (room : sum_by messages_in accepted < 2 ^ 64) → All (IsSmallCall cmp pairs) accepted → Holds cmp order pairs sixteen (sum_by messages_in accepted) room p
+  Reached accepted p =
+      (pairs : List (P × P)) (sixteen : length pairs ≤ 16) (room : sum_by messages_in accepted < 2 ^ 64) → All (IsSmallCall cmp pairs) accepted → Holds cmp order pairs sixteen
+      (sum_by messages_in accepted) room p
 
   reached_next : (accepted : List (Call P)) (call : Call P) (p q : Planned P) (cs : List (Completed P)) → Reached accepted p → Obeys cmp p call (goes cs q) → Reached (accepted ++ call ∷ []) q
   reached_next accepted call p q cs reached obeys pairs sixteen room small =
@@ -162,21 +170,24 @@ module _ {P : Type 0} (cmp : P → P → Ordering) (order : IsTotalOrder cmp) wh
   abbrev Led : Planned P → World P → Call P → ℕ → List (Completed P) → Planned P → Type 0
   Led p w call now ds q = (es : List (Completed P)) × (v : World P) × Runs cmp w call now (goes es v) × AllZip (SameCompletion cmp) ds es × StandsFor cmp q v
 
-  leads : (p : Planned P) (w : World P) (call : Call P) (now : ℕ) (ds : List (Completed P)) (q : Planned P) → StandsFor cmp p w → moment_of call ≡ Some now → now ≤ last_moment → IsInTurn cmp w call → Obeys cmp p call (goes ds q) → Led p w call now ds q
+  leads : (p : Planned P) (w : World P) (call : Call P) (now : ℕ) (ds : List (Completed P)) (q : Planned P) → StandsFor cmp p w → moment_of call ≡ Some now → now ≤ last_moment
+      → IsInTurn cmp w call → Obeys cmp p call (goes ds q) → Led p w call now ds q
   leads p w call now ds q stands at within turn obeys = let f = obeys_alike cmp order p w call now (goes ds q) stands at within turn obeys in by_course f.0 f.1 f.2
     where
       by_course : (c : Course (Completed P) (World P)) → Runs cmp w call now c → CoursesAlike cmp (λ r v. StandsFor cmp r v × (v.moment ≡ now)) (goes ds q) c → Led p w call now ds q
       by_course (goes es v) runs alike = (es, v, runs, alike.0, alike.1.0)
       by_course (meets fault) runs alike = absurd alike
 
-  meets_too : (p : Planned P) (w : World P) (call : Call P) (now : ℕ) (fault : Error) → StandsFor cmp p w → moment_of call ≡ Some now → now ≤ last_moment → IsInTurn cmp w call → Obeys cmp p call (meets fault) → Faults cmp w call fault
+  meets_too : (p : Planned P) (w : World P) (call : Call P) (now : ℕ) (fault : Error) → StandsFor cmp p w → moment_of call ≡ Some now → now ≤ last_moment → IsInTurn cmp w call
+      → Obeys cmp p call (meets fault) → Faults cmp w call fault
   meets_too p w call now fault stands at within turn obeys = let f = obeys_alike cmp order p w call now (meets fault) stands at within turn obeys in by_course f.0 f.1 f.2
     where
       by_course : (c : Course (Completed P) (World P)) → Runs cmp w call now c → CoursesAlike cmp (λ r v. StandsFor cmp r v × (v.moment ≡ now)) (meets fault) c → Faults cmp w call fault
       by_course (goes es v) runs alike = absurd alike
       by_course (meets other) runs alike = (now, at, subst (λ (e : Error). Runs cmp w call now (meets e)) (sym alike) runs)
 
-  refuses : (p : Planned P) (w : World P) (accepted : List (Call P)) (call : Call P) (now : ℕ) (why : Error) → StandsFor cmp p w → Reached accepted p → moment_of call ≡ Some now → now ≤ last_moment → IsInTurn cmp w call → MayBeRefused cmp p call why → MayRefuse cmp w (accepted ++ call ∷ []) call why
+  refuses : (p : Planned P) (w : World P) (accepted : List (Call P)) (call : Call P) (now : ℕ) (why : Error) → StandsFor cmp p w → Reached accepted p → moment_of call ≡ Some now
+      → now ≤ last_moment → IsInTurn cmp w call → MayBeRefused cmp p call why → MayRefuse cmp w (accepted ++ call ∷ []) call why
   refuses p w accepted call now OutOfMemory stands reached at within turn may = tt
   refuses p w accepted call now NumberTooLarge stands reached at within turn may = not_in_range accepted call p reached may
   refuses p w accepted call now MomentTooLate stands reached at within turn may = meets_too p w call now MomentTooLate stands at within turn may
@@ -188,12 +199,16 @@ module _ {P : Type 0} (cmp : P → P → Ordering) (order : IsTotalOrder cmp) wh
     pub reached : Reached accepted p
 
   Follow : List (Call P) → Type 0
-  Follow calls = (replies : List (Reply P)) (accepted : List (Call P)) (p : Planned P) (w : World P) → IsFollowed accepted p w → InTime calls → Obeyed cmp p calls replies → Agrees cmp w accepted calls replies
+  Follow calls =
+      (replies : List (Reply P)) (accepted : List (Call P)) (p : Planned P) (w : World P) → IsFollowed accepted p w → InTime calls → Obeyed cmp p calls replies → Agrees cmp w accepted calls replies
 
   abbrev Accepted : World P → List (Call P) → Call P → List (Call P) → List (Completed P) → List (Reply P) → Type 0
-  Accepted w accepted call calls cs replies = (now : ℕ) × (ds : List (Completed P)) × (v : World P) × (moment_of call ≡ Some now) × Runs cmp w call now (goes ds v) × AllZip (SameCompletion cmp) cs ds × Agrees cmp v (accepted ++ call ∷ []) calls replies
+  Accepted w accepted call calls cs replies =
+      (now : ℕ) × (ds : List (Completed P)) × (v : World P) × (moment_of call ≡ Some now) × Runs cmp w call now (goes ds v) × AllZip (SameCompletion cmp) cs ds × Agrees cmp v
+      (accepted ++ call ∷ []) calls replies
 
-  accepts : (call : Call P) (calls : List (Call P)) (now : ℕ) (cs : List (Completed P)) (replies : List (Reply P)) (accepted : List (Call P)) (p : Planned P) (w : World P) → Follow calls → IsFollowed accepted p w → moment_of call ≡ Some now → now ≤ last_moment → InTime calls → IsInTurn cmp w call
+  accepts : (call : Call P) (calls : List (Call P)) (now : ℕ) (cs : List (Completed P)) (replies : List (Reply P)) (accepted : List (Call P)) (p : Planned P) (w : World P)
+      → Follow calls → IsFollowed accepted p w → moment_of call ≡ Some now → now ≤ last_moment → InTime calls → IsInTurn cmp w call
       → (ds : List (Completed P)) × (q : Planned P) × Obeys cmp p call (goes ds q) × AllZip (SameCompletion cmp) cs ds × Obeyed cmp q calls replies → Accepted w accepted call calls cs replies
   unfolding Follow
   accepts call calls now cs replies accepted p w ih f at within in_time turn (ds, q, obeys, same, rest) =
@@ -206,21 +221,31 @@ module _ {P : Type 0} (cmp : P → P → Ordering) (order : IsTotalOrder cmp) wh
   follows [] [] accepted p w f in_time obeyed = tt
   follows [] (reply ∷ replies) accepted p w f in_time obeyed = obeyed
   follows (call ∷ calls) [] accepted p w f in_time obeyed = obeyed
-  follows (call_next ∷ calls) (reply_next t ∷ replies) accepted p w f in_time obeyed = (subst (λ (o : Option ℕ). NextIs cmp w o) (sym obeyed.0) (next_is_planned cmp order p w f.stands), follows calls replies accepted p w f in_time.1 obeyed.1)
+  follows (call_next ∷ calls) (reply_next t ∷ replies) accepted p w f in_time obeyed =
+      (subst (λ (o : Option ℕ). NextIs cmp w o) (sym obeyed.0) (next_is_planned cmp order p w f.stands), follows calls replies accepted p w f in_time.1 obeyed.1)
   follows (call_next ∷ calls) (reply_done cs ∷ replies) accepted p w f in_time obeyed = obeyed
   follows (call_next ∷ calls) (reply_refused why ∷ replies) accepted p w f in_time obeyed = obeyed
   follows (call_limit now peer egress ingress ∷ calls) (reply_next t ∷ replies) accepted p w f in_time obeyed = obeyed
-  follows (call_limit now peer egress ingress ∷ calls) (reply_done cs ∷ replies) accepted p w f in_time obeyed = λ turn. accepts (call_limit now peer egress ingress) calls now cs replies accepted p w (follows calls) f refl (in_time.0 now refl) in_time.1 turn obeyed
-  follows (call_limit now peer egress ingress ∷ calls) (reply_refused why ∷ replies) accepted p w f in_time obeyed = λ turn. (refuses p w accepted (call_limit now peer egress ingress) now why f.stands f.reached refl (in_time.0 now refl) turn obeyed.0, follows calls replies accepted p w f in_time.1 obeyed.1)
+  follows (call_limit now peer egress ingress ∷ calls) (reply_done cs ∷ replies) accepted p w f in_time obeyed =
+      λ turn. accepts (call_limit now peer egress ingress) calls now cs replies accepted p w (follows calls) f refl (in_time.0 now refl) in_time.1 turn obeyed
+  follows (call_limit now peer egress ingress ∷ calls) (reply_refused why ∷ replies) accepted p w f in_time obeyed =
+      λ turn. (refuses p w accepted (call_limit now peer egress ingress) now why f.stands f.reached refl (in_time.0 now refl) turn obeyed.0, follows calls replies accepted p w f in_time.1 obeyed.1)
   follows (call_limit_link now origin recipient cap ∷ calls) (reply_next t ∷ replies) accepted p w f in_time obeyed = obeyed
-  follows (call_limit_link now origin recipient cap ∷ calls) (reply_done cs ∷ replies) accepted p w f in_time obeyed = λ turn. accepts (call_limit_link now origin recipient cap) calls now cs replies accepted p w (follows calls) f refl (in_time.0 now refl) in_time.1 turn obeyed
-  follows (call_limit_link now origin recipient cap ∷ calls) (reply_refused why ∷ replies) accepted p w f in_time obeyed = λ turn. (refuses p w accepted (call_limit_link now origin recipient cap) now why f.stands f.reached refl (in_time.0 now refl) turn obeyed.0, follows calls replies accepted p w f in_time.1 obeyed.1)
+  follows (call_limit_link now origin recipient cap ∷ calls) (reply_done cs ∷ replies) accepted p w f in_time obeyed =
+      λ turn. accepts (call_limit_link now origin recipient cap) calls now cs replies accepted p w (follows calls) f refl (in_time.0 now refl) in_time.1 turn obeyed
+  follows (call_limit_link now origin recipient cap ∷ calls) (reply_refused why ∷ replies) accepted p w f in_time obeyed =
+      λ turn.
+      (refuses p w accepted (call_limit_link now origin recipient cap) now why f.stands f.reached refl (in_time.0 now refl) turn obeyed.0, follows calls replies accepted p w f in_time.1 obeyed.1)
   follows (call_enqueue now m ∷ calls) (reply_next t ∷ replies) accepted p w f in_time obeyed = obeyed
-  follows (call_enqueue now m ∷ calls) (reply_done cs ∷ replies) accepted p w f in_time obeyed = λ turn. accepts (call_enqueue now m) calls now cs replies accepted p w (follows calls) f refl (in_time.0 now refl) in_time.1 turn obeyed
-  follows (call_enqueue now m ∷ calls) (reply_refused why ∷ replies) accepted p w f in_time obeyed = λ turn. (refuses p w accepted (call_enqueue now m) now why f.stands f.reached refl (in_time.0 now refl) turn obeyed.0, follows calls replies accepted p w f in_time.1 obeyed.1)
+  follows (call_enqueue now m ∷ calls) (reply_done cs ∷ replies) accepted p w f in_time obeyed =
+      λ turn. accepts (call_enqueue now m) calls now cs replies accepted p w (follows calls) f refl (in_time.0 now refl) in_time.1 turn obeyed
+  follows (call_enqueue now m ∷ calls) (reply_refused why ∷ replies) accepted p w f in_time obeyed =
+      λ turn. (refuses p w accepted (call_enqueue now m) now why f.stands f.reached refl (in_time.0 now refl) turn obeyed.0, follows calls replies accepted p w f in_time.1 obeyed.1)
   follows (call_advance now ∷ calls) (reply_next t ∷ replies) accepted p w f in_time obeyed = obeyed
-  follows (call_advance now ∷ calls) (reply_done cs ∷ replies) accepted p w f in_time obeyed = λ turn. accepts (call_advance now) calls now cs replies accepted p w (follows calls) f refl (in_time.0 now refl) in_time.1 turn obeyed
-  follows (call_advance now ∷ calls) (reply_refused why ∷ replies) accepted p w f in_time obeyed = λ turn. (refuses p w accepted (call_advance now) now why f.stands f.reached refl (in_time.0 now refl) turn obeyed.0, follows calls replies accepted p w f in_time.1 obeyed.1)
+  follows (call_advance now ∷ calls) (reply_done cs ∷ replies) accepted p w f in_time obeyed =
+      λ turn. accepts (call_advance now) calls now cs replies accepted p w (follows calls) f refl (in_time.0 now refl) in_time.1 turn obeyed
+  follows (call_advance now ∷ calls) (reply_refused why ∷ replies) accepted p w f in_time obeyed =
+      λ turn. (refuses p w accepted (call_advance now) now why f.stands f.reached refl (in_time.0 now refl) turn obeyed.0, follows calls replies accepted p w f in_time.1 obeyed.1)
 
   -- the new planned world is in the range
   new_reached : Reached [] (new_planned 0)

@@ -36,7 +36,8 @@ module _ {P : Type 0} (cmp : P → P → Ordering) (order : IsTotalOrder cmp) wh
   map_alike R f g same (x ∷ xs) [] h = absurd h
   map_alike R f g same (x ∷ xs) (y ∷ ys) h = rw (same x y h.0, map_alike R f g same xs ys h.1) refl
 
-  pub any_alike : {X Y : Type 0} (R : X → Y → Type 0) (f : X → Bool) (g : Y → Bool) → ((x : X) (y : Y) → R x y → f x ≡ g y) → (xs : List X) (ys : List Y) → AllZip R xs ys → list_any f xs ≡ list_any g ys
+  pub any_alike : {X Y : Type 0} (R : X → Y → Type 0) (f : X → Bool) (g : Y → Bool) → ((x : X) (y : Y) → R x y → f x ≡ g y) → (xs : List X) (ys : List Y) → AllZip R xs ys
+      → list_any f xs ≡ list_any g ys
   any_alike R f g same [] [] h = refl
   any_alike R f g same [] (y ∷ ys) h = absurd h
   any_alike R f g same (x ∷ xs) [] h = absurd h
@@ -52,7 +53,8 @@ module _ {P : Type 0} (cmp : P → P → Ordering) (order : IsTotalOrder cmp) wh
   if_alike a b x y z e f = rw (e, f) refl
 
   -- the same places pass tests that answer alike
-  pub places_alike : {X Y : Type 0} (R : X → Y → Type 0) (f : X → Bool) (g : Y → Bool) → ((x : X) (y : Y) → R x y → f x ≡ g y) → (place : ℕ) (xs : List X) (ys : List Y) → AllZip R xs ys → places_that_pass place f xs ≡ places_that_pass place g ys
+  pub places_alike : {X Y : Type 0} (R : X → Y → Type 0) (f : X → Bool) (g : Y → Bool) → ((x : X) (y : Y) → R x y → f x ≡ g y) → (place : ℕ) (xs : List X) (ys : List Y)
+      → AllZip R xs ys → places_that_pass place f xs ≡ places_that_pass place g ys
   places_alike R f g same place [] [] h = refl
   places_alike R f g same place [] (y ∷ ys) h = absurd h
   places_alike R f g same place (x ∷ xs) [] h = absurd h
@@ -60,7 +62,8 @@ module _ {P : Type 0} (cmp : P → P → Ordering) (order : IsTotalOrder cmp) wh
 
   module _ (caps others : Caps P) (same : CapsAlike cmp caps others) where
     egress_alike : (m n : Message P) (ms ns : List (Message P)) → SameMessage cmp m n → AllZip (SameMessage cmp) ms ns → egress_of cmp caps ms m ≡ egress_of cmp others ns n
-    egress_alike m n ms ns e all = side_alike (caps.egress m.origin) (others.egress n.origin) (λ k. same_peer cmp m.origin k.origin) (λ k. same_peer cmp n.origin k.origin) ms ns (same.egress m.origin n.origin e.origin)
+    egress_alike m n ms ns e all =
+        side_alike (caps.egress m.origin) (others.egress n.origin) (λ k. same_peer cmp m.origin k.origin) (λ k. same_peer cmp n.origin k.origin) ms ns (same.egress m.origin n.origin e.origin)
         (places_alike (SameMessage cmp) (λ k. same_peer cmp m.origin k.origin) (λ k. same_peer cmp n.origin k.origin) (λ k l f. peers_alike m.origin n.origin k.origin l.origin e.origin f.origin) 0 ms ns all)
 
     ingress_alike : (m n : Message P) (ms ns : List (Message P)) → SameMessage cmp m n → AllZip (SameMessage cmp) ms ns → ingress_of cmp caps ms m ≡ ingress_of cmp others ns n
@@ -71,14 +74,17 @@ module _ {P : Type 0} (cmp : P → P → Ordering) (order : IsTotalOrder cmp) wh
         (λ k l f. both_alike cmp order (is_delivered cmp k) (is_delivered cmp l) (same_peer cmp m.recipient k.recipient) (same_peer cmp n.recipient l.recipient) (delivered_alike k l f) (peers_alike m.recipient n.recipient k.recipient l.recipient e.recipient f.recipient)) 0 ms ns all)
 
     link_alike : (m n : Message P) (ms ns : List (Message P)) → SameMessage cmp m n → AllZip (SameMessage cmp) ms ns → link_of cmp caps ms m ≡ link_of cmp others ns n
-    link_alike m n ms ns e all = side_alike (caps.link m.origin m.recipient) (others.link n.origin n.recipient) (same_pair cmp m) (same_pair cmp n) ms ns (same.link m.origin n.origin m.recipient n.recipient e.origin e.recipient)
+    link_alike m n ms ns e all =
+        side_alike (caps.link m.origin m.recipient) (others.link n.origin n.recipient) (same_pair cmp m) (same_pair cmp n) ms ns
+        (same.link m.origin n.origin m.recipient n.recipient e.origin e.recipient)
         (places_alike (SameMessage cmp) (same_pair cmp m) (same_pair cmp n) (λ k l f. pairs_alike m n k l e f) 0 ms ns all)
 
     sides_for_alike : (ms ns ks ls : List (Message P)) → AllZip (SameMessage cmp) ms ns → AllZip (SameMessage cmp) ks ls → flat_map (sides_for cmp caps ms) ks ≡ flat_map (sides_for cmp others ns) ls
     sides_for_alike ms ns [] [] all some = refl
     sides_for_alike ms ns [] (l ∷ ls) all some = absurd some
     sides_for_alike ms ns (k ∷ ks) [] all some = absurd some
-    sides_for_alike ms ns (k ∷ ks) (l ∷ ls) all some = rw (egress_alike k l ms ns some.0 all, ingress_alike k l ms ns some.0 all, link_alike k l ms ns some.0 all, sides_for_alike ms ns ks ls all some.1) refl
+    sides_for_alike ms ns (k ∷ ks) (l ∷ ls) all some =
+        rw (egress_alike k l ms ns some.0 all, ingress_alike k l ms ns some.0 all, link_alike k l ms ns some.0 all, sides_for_alike ms ns ks ls all some.1) refl
 
     -- the same sides
     pub sides_alike : (ms ns : List (Message P)) → AllZip (SameMessage cmp) ms ns → capped_sides cmp caps ms ≡ capped_sides cmp others ns

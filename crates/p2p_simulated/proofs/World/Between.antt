@@ -66,7 +66,8 @@ module _ {P : Type 0} (cmp : P → P → Ordering) (order : IsTotalOrder cmp) wh
   messages_alike t (f ∷ fs) [] all = absurd all
   messages_alike t (f ∷ fs) (g ∷ gs) all = (all.0.message, messages_alike t fs gs all.1)
 
-  drained_on : (t k per : ℕ) (rates : Parts) (fs : List (Paced P)) (gs : List (Flight P)) → AllZip (λ rate f. f.rate ≡ rate_of per rate) rates fs → AllZip (IsSameFlight cmp t) fs gs → AllZip (IsSameFlight cmp (t + k)) fs (drain_each per rates k gs)
+  drained_on : (t k per : ℕ) (rates : Parts) (fs : List (Paced P)) (gs : List (Flight P)) → AllZip (λ rate f. f.rate ≡ rate_of per rate) rates fs
+      → AllZip (IsSameFlight cmp t) fs gs → AllZip (IsSameFlight cmp (t + k)) fs (drain_each per rates k gs)
   drained_on t k per [] [] [] rated all = tt
   drained_on t k per [] [] (g ∷ gs) rated all = absurd all
   drained_on t k per [] (f ∷ fs) gs rated all = absurd rated
@@ -90,14 +91,17 @@ module _ {P : Type 0} (cmp : P → P → Ordering) (order : IsTotalOrder cmp) wh
 
   -- ---- nothing is done before the planned finish
 
-  unlimited_none : (a : Flight P → Bool) (u : Message P → Bool) (gs : List (Flight P)) → list_any (λ (g : Flight P). a g || u g.message) gs ≡ false → list_any u (map (λ (g : Flight P). g.message) gs) ≡ false
+  unlimited_none : (a : Flight P → Bool) (u : Message P → Bool) (gs : List (Flight P)) → list_any (λ (g : Flight P). a g || u g.message) gs ≡ false
+      → list_any u (map (λ (g : Flight P). g.message) gs) ≡ false
   unlimited_none a u [] e = refl
   unlimited_none a u (g ∷ gs) e =
-      let parts : ((a g || u g.message) ≡ false) × (list_any (λ (g : Flight P). a g || u g.message) gs ≡ false) = or_parts (a g || u g.message) (list_any (λ (g : Flight P). a g || u g.message) gs) e in
+      let parts : ((a g || u g.message) ≡ false) × (list_any (λ (g : Flight P). a g || u g.message) gs ≡ false)
+      = or_parts (a g || u g.message) (list_any (λ (g : Flight P). a g || u g.message) gs) e in
       let head : (a g ≡ false) × (u g.message ≡ false) = or_parts (a g) (u g.message) parts.0 in
       or_from (u g.message) (list_any u (map (λ (g : Flight P). g.message) gs)) head.1 (unlimited_none a u gs parts.1)
 
-  none_done_at : (u : Message P → Bool) (t : ℕ) (fs : List (Paced P)) (gs : List (Flight P)) → AllZip (IsSameFlight cmp t) fs gs → ((i : ℕ) (f : Paced P) → slice_get fs i ≡ Some f → f.updated ≤ t → ((left_at t f).num ≡ 0) → ⊥)
+  none_done_at : (u : Message P → Bool) (t : ℕ) (fs : List (Paced P)) (gs : List (Flight P)) → AllZip (IsSameFlight cmp t) fs gs
+      → ((i : ℕ) (f : Paced P) → slice_get fs i ≡ Some f → f.updated ≤ t → ((left_at t f).num ≡ 0) → ⊥)
       → list_any u (map (λ (g : Flight P). g.message) gs) ≡ false → list_any (λ (g : Flight P). (g.left.num == 0) || u g.message) gs ≡ false
   none_done_at u t [] [] all none e = refl
   none_done_at u t [] (g ∷ gs) all none e = absurd all
@@ -115,7 +119,8 @@ module _ {P : Type 0} (cmp : P → P → Ordering) (order : IsTotalOrder cmp) wh
   or_true false b e = e
 
   -- what was spent at s is done at t
-  pub done_at : (u : Message P → Bool) (s t : ℕ) (fs : List (Paced P)) (gs : List (Flight P)) (i : ℕ) (f : Paced P) → s ≤ t → AllZip (IsSameFlight cmp t) fs gs → slice_get fs i ≡ Some f → IsSpentAt s f
+  pub done_at : (u : Message P → Bool) (s t : ℕ) (fs : List (Paced P)) (gs : List (Flight P)) (i : ℕ) (f : Paced P) → s ≤ t → AllZip (IsSameFlight cmp t) fs gs
+      → slice_get fs i ≡ Some f → IsSpentAt s f
       → list_any (λ (g : Flight P). (g.left.num == 0) || u g.message) gs ≡ true
   done_at u s t [] gs i f le all at spent = cc
   done_at u s t (x ∷ fs) [] i f le all at spent = absurd all
@@ -125,7 +130,8 @@ module _ {P : Type 0} (cmp : P → P → Ordering) (order : IsTotalOrder cmp) wh
       let spent_now : IsSpentAt t x = spent_later x.rate (s - x.updated) (t - x.updated) x.left all.0.rate all.0.lowest.positive (omega arith) spent_x in
       let none : g.left.num ≡ 0 = ap (λ (a : Amount). a.num) all.0.left ∙ spent_now in
       rw (eq-eqb g.left.num 0 none) refl
-  done_at u s t (x ∷ fs) (g ∷ gs) (suc i) f le all at spent = or_true ((g.left.num == 0) || u g.message) (list_any (λ (g : Flight P). (g.left.num == 0) || u g.message) gs) (done_at u s t fs gs i f le all.1 at spent)
+  done_at u s t (x ∷ fs) (g ∷ gs) (suc i) f le all at spent =
+      or_true ((g.left.num == 0) || u g.message) (list_any (λ (g : Flight P). (g.left.num == 0) || u g.message) gs) (done_at u s t fs gs i f le all.1 at spent)
 
   -- ---- nothing is ready before the planned start
 
@@ -170,11 +176,13 @@ module _ {P : Type 0} (cmp : P → P → Ordering) (order : IsTotalOrder cmp) wh
       find_like m x ms (find_passes (same_pair cmp m) x ms found) ∙ found
 
   -- a pair may start in the planned world where it may in the world
-  pub may_alike : (t : ℕ) (p : Planned P) (w : World P) (m n : Message P) → PairsAlike cmp p.last_arrival w.last_arrival → AllZip (SameMessage cmp) (paced_flows p.sending) (flows w) → SameMessage cmp m n → may_launch cmp t p m ≡ may_start cmp t w n
+  pub may_alike : (t : ℕ) (p : Planned P) (w : World P) (m n : Message P) → PairsAlike cmp p.last_arrival w.last_arrival
+      → AllZip (SameMessage cmp) (paced_flows p.sending) (flows w) → SameMessage cmp m n → may_launch cmp t p m ≡ may_start cmp t w n
   may_alike t p w m n last all same =
       rw (any_alike cmp order (SameMessage cmp) (same_pair cmp m) (same_pair cmp n) (λ k l e. pairs_alike cmp order m n k l same e) (paced_flows p.sending) (flows w) all, last m.origin n.origin m.recipient n.recipient same.origin same.recipient, same.latency) refl
 
-  first_alike : (xs : List (Message P)) (y : Message P) (ys : List (Message P)) → AllZip (SameMessage cmp) xs (y ∷ ys) → (x : Message P) × (rest : List (Message P)) × (xs ≡ x ∷ rest) × SameMessage cmp x y
+  first_alike : (xs : List (Message P)) (y : Message P) (ys : List (Message P)) → AllZip (SameMessage cmp) xs (y ∷ ys)
+      → (x : Message P) × (rest : List (Message P)) × (xs ≡ x ∷ rest) × SameMessage cmp x y
   first_alike [] y ys all = absurd all
   first_alike (x ∷ xs) y ys all = (x, xs, refl, all.0)
 
@@ -185,7 +193,8 @@ module _ {P : Type 0} (cmp : P → P → Ordering) (order : IsTotalOrder cmp) wh
     where
       not_ready : (m : Message P) (rest : List (Message P)) → filter (same_pair cmp m) w.waiting ≡ m ∷ rest → may_start cmp t w m ≡ false
       not_ready m rest e =
-          let first : (x : Message P) × (xs : List (Message P)) × (filter (same_pair cmp m) p.waiting ≡ x ∷ xs) × SameMessage cmp x m = first_alike (filter (same_pair cmp m) p.waiting) m rest (subst (λ (ms : List (Message P)). AllZip (SameMessage cmp) (filter (same_pair cmp m) p.waiting) ms) e (same.waiting m)) in
+          let first : (x : Message P) × (xs : List (Message P)) × (filter (same_pair cmp m) p.waiting ≡ x ∷ xs) × SameMessage cmp x m
+          = first_alike (filter (same_pair cmp m) p.waiting) m rest (subst (λ (ms : List (Message P)). AllZip (SameMessage cmp) (filter (same_pair cmp m) p.waiting) ms) e (same.waiting m)) in
           let alike : may_launch cmp t p first.0 ≡ may_start cmp t w m = may_alike t p w first.0 m same.last_arrival (messages_alike t p.sending w.sending same.sending) first.3 in
           by_test (may_start cmp t w m) first.0 alike (own_first m first.0 first.1 p.waiting first.2)
         where
@@ -258,7 +267,9 @@ module _ {P : Type 0} (cmp : P → P → Ordering) (order : IsTotalOrder cmp) wh
     first_drain = record { per = stands.follows.rated.per; rates = stands.follows.rated.rates; fair = rates_fair; world = refl }
 
     pub passes_to : (n : ℕ) → w.moment + suc n ≤ last_moment → IfSome (next_event p) (λ e. w.moment + suc n < e) → Passes cmp (suc n) w (later (suc n))
-    passes_to n within before = stretch cmp w stands.follows.rated.per stands.follows.rated.rates rates_fair all_positive n (λ k h j. quiet_before k (omega arith) (before_still (next_event p) (w.moment + k) (w.moment + suc n) (omega arith) before))
+    passes_to n within before =
+        stretch cmp w stands.follows.rated.per stands.follows.rated.rates rates_fair all_positive n
+        (λ k h j. quiet_before k (omega arith) (before_still (next_event p) (w.moment + k) (w.moment + suc n) (omega arith) before))
 
     -- every nanosecond before the next event passes, and the one after them drains the world once for all
     pub passes_before : (n : ℕ) → w.moment + n ≤ last_moment → IfSome (next_event p) (λ e. w.moment + n < e) → (v : World P) × Passes cmp n w v × Drains cmp v (later (suc n))
@@ -277,7 +288,8 @@ module _ {P : Type 0} (cmp : P → P → Ordering) (order : IsTotalOrder cmp) wh
       where
         by_count : (n : ℕ) → last_moment - w.moment ≡ n → NextIs cmp w None
         by_count zero is = never_comes (subst (λ (k : ℕ). Passes cmp k w w) (sym is) no_time)
-        by_count (suc n) is = never_comes (subst (λ (k : ℕ). Passes cmp k w (later (suc n))) (sym is) (passes_to n (omega arith) (subst (λ (o : Option ℕ). IfSome o (λ e. w.moment + suc n < e)) (sym e) tt)))
+        by_count (suc n) is =
+            never_comes (subst (λ (k : ℕ). Passes cmp k w (later (suc n))) (sym is) (passes_to n (omega arith) (subst (λ (o : Option ℕ). IfSome o (λ e. w.moment + suc n < e)) (sym e) tt)))
 
     pub spent_at_finish : (e : ℕ) → p.finish ≡ Some e → (e ≤ last_moment) × SomeSpentAt p.sending e
     spent_at_finish e is = let least : IsLeastMoment (SomeSpentAt p.sending) (Some e) = subst (λ (o : Option ℕ). IsLeastMoment (SomeSpentAt p.sending) o) is stands.follows.finish in (least.0, least.1)
@@ -295,7 +307,8 @@ module _ {P : Type 0} (cmp : P → P → Ordering) (order : IsTotalOrder cmp) wh
     pub busy_at_finish : (e k : ℕ) → p.finish ≡ Some e → w.moment + k ≡ e → ¬ IsQuiet cmp (w.moment + k) (later k)
     busy_at_finish e k is at quiet =
         let spent : SomeSpentAt p.sending e = (spent_at_finish e is).1 in
-        let done : list_any (is_done cmp (later k)) (later k).sending ≡ true = done_at (is_unlimited cmp w.caps) e (w.moment + k) p.sending (later k).sending spent.0 spent.1 (omega arith) (flights_later k) spent.2 spent.4 in
+        let done : list_any (is_done cmp (later k)) (later k).sending ≡ true
+        = done_at (is_unlimited cmp w.caps) e (w.moment + k) p.sending (later k).sending spent.0 spent.1 (omega arith) (flights_later k) spent.2 spent.4 in
         let none : list_any (is_done cmp (later k)) (later k).sending ≡ false = quiet.none_done in
         cc
 

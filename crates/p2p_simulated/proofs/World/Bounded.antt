@@ -80,7 +80,9 @@ module _ {P : Type 0} (cmp : P → P → Ordering) (order : IsTotalOrder cmp) (p
   any_fewer test p [] e = refl
   any_fewer test p (f ∷ fs) e = by_test (p f) (test f.message) refl e (any_fewer test p fs)
     where
-      by_test : (b c : Bool) → test f.message ≡ c → (test f.message || list_any test (paced_flows fs)) ≡ false → (list_any test (paced_flows fs) ≡ false → list_any test (paced_flows (filter p fs)) ≡ false) → list_any test (paced_flows (cond b (f ∷ filter p fs) (filter p fs))) ≡ false
+      by_test : (b c : Bool) → test f.message ≡ c → (test f.message || list_any test (paced_flows fs)) ≡ false
+          → (list_any test (paced_flows fs) ≡ false → list_any test (paced_flows (filter p fs)) ≡ false)
+          → list_any test (paced_flows (cond b (f ∷ filter p fs) (filter p fs))) ≡ false
       by_test b true is e ih = let on : (true || list_any test (paced_flows fs)) ≡ false = subst (λ (c : Bool). (c || list_any test (paced_flows fs)) ≡ false) is e in cc
       by_test true false is e ih = rw is (ih (subst (λ (c : Bool). (c || list_any test (paced_flows fs)) ≡ false) is e))
       by_test false false is e ih = ih (subst (λ (c : Bool). (c || list_any test (paced_flows fs)) ≡ false) is e)
@@ -89,7 +91,8 @@ module _ {P : Type 0} (cmp : P → P → Ordering) (order : IsTotalOrder cmp) (p
   one_fewer p [] one = tt
   one_fewer p (f ∷ fs) one = by_test (p f) (any_fewer (same_pair cmp f.message) p fs one.0) (one_fewer p fs one.1)
     where
-      by_test : (b : Bool) → list_any (same_pair cmp f.message) (paced_flows (filter p fs)) ≡ false → OneForEachPair cmp (paced_flows (filter p fs)) → OneForEachPair cmp (paced_flows (cond b (f ∷ filter p fs) (filter p fs)))
+      by_test : (b : Bool) → list_any (same_pair cmp f.message) (paced_flows (filter p fs)) ≡ false → OneForEachPair cmp (paced_flows (filter p fs))
+          → OneForEachPair cmp (paced_flows (cond b (f ∷ filter p fs) (filter p fs)))
       by_test true e ih = (e, ih)
       by_test false e ih = ih
 
@@ -126,7 +129,8 @@ module _ {P : Type 0} (cmp : P → P → Ordering) (order : IsTotalOrder cmp) (p
   stays_flows t (f ∷ fs) [] all = absurd all
   stays_flows t (f ∷ fs) (g ∷ gs) all = rw (all.0.0, stays_flows t fs gs all.1) refl
 
-  pub slow_flights : (per : ℕ) (rates : Parts) (gs : List (Paced P)) → AllZip (λ rate f. f.rate ≡ rate_of per rate) rates gs → ((i a : ℕ) → slice_get rates i ≡ Some (Some a) → IsSmallRate (reduced a per)) → Each (IsSmallFlight cmp pairs) gs → Each IsSlowFlight gs
+  pub slow_flights : (per : ℕ) (rates : Parts) (gs : List (Paced P)) → AllZip (λ rate f. f.rate ≡ rate_of per rate) rates gs
+      → ((i a : ℕ) → slice_get rates i ≡ Some (Some a) → IsSmallRate (reduced a per)) → Each (IsSmallFlight cmp pairs) gs → Each IsSlowFlight gs
   slow_flights per [] [] rated slow small = tt
   slow_flights per [] (g ∷ gs) rated slow small = absurd rated
   slow_flights per (r ∷ rs) [] rated slow small = absurd rated
@@ -144,7 +148,8 @@ module _ {P : Type 0} (cmp : P → P → Ordering) (order : IsTotalOrder cmp) (p
 
   rest_small : (t : ℕ) (p : Planned P) → t < 2 ^ 56 → IsBounded p → Each (IsSmallFlight cmp pairs) (rest t p)
   unfolding rest
-  rest_small t p early h = each_filter (IsSmallFlight cmp pairs) (IsSmallFlight cmp pairs) (λ f. not (is_spent cmp p f)) (drained_to t p.sending) (λ f is small. small) (drained_small t p.sending early h.sending)
+  rest_small t p early h =
+      each_filter (IsSmallFlight cmp pairs) (IsSmallFlight cmp pairs) (λ f. not (is_spent cmp p f)) (drained_to t p.sending) (λ f is small. small) (drained_small t p.sending early h.sending)
 
   rest_one : (t : ℕ) (p : Planned P) → IsBounded p → OneForEachPair cmp (paced_flows (rest t p))
   unfolding rest

@@ -115,7 +115,8 @@ module _ {P : Type 0} (cmp : P → P → Ordering) (order : IsTotalOrder cmp) wh
   pub wake_none : (n t : ℕ) (w : World P) → least_pair cmp (ready cmp t w) ≡ None → wake_within cmp (suc n) t w ≡ goes [] w
   wake_none n t w e = rw (e, wake_within) refl
 
-  pub wake_first : (n t : ℕ) (w : World P) (m : Message P) → least_pair cmp (ready cmp t w) ≡ Some m → wake_within cmp (suc n) t w ≡ and_then (start cmp w m) (λ v. and_then (settle cmp t v) (wake_within cmp n t))
+  pub wake_first : (n t : ℕ) (w : World P) (m : Message P) → least_pair cmp (ready cmp t w) ≡ Some m
+      → wake_within cmp (suc n) t w ≡ and_then (start cmp w m) (λ v. and_then (settle cmp t v) (wake_within cmp n t))
   wake_first n t w m e = rw (e, wake_within) (then_then (start cmp w m) (settle cmp t) (wake_within cmp n t))
 
   pub ready_is_first : (t : ℕ) (w : World P) (m : Message P) → least_pair cmp (ready cmp t w) ≡ Some m → find (same_pair cmp m) w.waiting ≡ Some m
@@ -134,11 +135,13 @@ module _ {P : Type 0} (cmp : P → P → Ordering) (order : IsTotalOrder cmp) wh
       gone true h = plus_spent f.left (left_from cmp p fs) (left_from cmp p fs) n (h refl) (at_most_itself (plus (left_from cmp p fs) (whole n)))
       gone false h = at_most_itself (plus (left_from cmp p fs) (whole n))
 
-      kept : (c : Bool) (other : Amount) → IsAtMost (plus (left_from cmp p fs) (whole n)) (plus other (whole n)) → IsAtMost (plus (if c then plus f.left (left_from cmp p fs) else (left_from cmp p fs)) (whole n)) (plus (if c then plus f.left other else other) (whole n))
+      kept : (c : Bool) (other : Amount) → IsAtMost (plus (left_from cmp p fs) (whole n)) (plus other (whole n))
+          → IsAtMost (plus (if c then plus f.left (left_from cmp p fs) else (left_from cmp p fs)) (whole n)) (plus (if c then plus f.left other else other) (whole n))
       kept true other h = plus_under f.left (left_from cmp p fs) other n n h
       kept false other h = h
 
-      by_test : (b : Bool) → test f ≡ b → IsAtMost (plus (left_from cmp p fs) (whole n)) (plus (left_from cmp p (without_first test fs)) (whole n)) → IsAtMost (plus (left_from cmp p (f ∷ fs)) (whole n)) (plus (left_from cmp p (cond b fs (f ∷ without_first test fs))) (whole n))
+      by_test : (b : Bool) → test f ≡ b → IsAtMost (plus (left_from cmp p fs) (whole n)) (plus (left_from cmp p (without_first test fs)) (whole n))
+          → IsAtMost (plus (left_from cmp p (f ∷ fs)) (whole n)) (plus (left_from cmp p (cond b fs (f ∷ without_first test fs))) (whole n))
       by_test true is ih = gone (same_peer cmp p f.message.origin) (spent f is)
       by_test false is ih = kept (same_peer cmp p f.message.origin) (left_from cmp p (without_first test fs)) ih
 
@@ -165,7 +168,8 @@ module _ {P : Type 0} (cmp : P → P → Ordering) (order : IsTotalOrder cmp) wh
   taken_from p m [] e = cc
   taken_from p m (x ∷ xs) e = by_test (same_pair cmp m x) e (taken_from p m xs)
     where
-      by_test : (b : Bool) → cond b (Some x) (find (same_pair cmp m) xs) ≡ Some m → (find (same_pair cmp m) xs ≡ Some m → waiting_from cmp p xs ≡ gain p m + waiting_from cmp p (without_first (same_pair cmp m) xs))
+      by_test : (b : Bool) → cond b (Some x) (find (same_pair cmp m) xs) ≡ Some m
+          → (find (same_pair cmp m) xs ≡ Some m → waiting_from cmp p xs ≡ gain p m + waiting_from cmp p (without_first (same_pair cmp m) xs))
           → gain p x + waiting_from cmp p xs ≡ gain p m + waiting_from cmp p (cond b xs (x ∷ without_first (same_pair cmp m) xs))
       by_test true is ih = let same : x ≡ m = cc in ap (λ (y : Message P). gain p y + waiting_from cmp p xs) same
       by_test false is ih = let h : waiting_from cmp p xs ≡ gain p m + waiting_from cmp p (without_first (same_pair cmp m) xs) = ih is in omega arith
@@ -210,17 +214,22 @@ module _ {P : Type 0} (cmp : P → P → Ordering) (order : IsTotalOrder cmp) wh
   HasEgress w p cap = (q : P) → same_peer cmp p q ≡ true → w.caps.egress q ≡ Some cap
 
   -- where those that pass are limited, what they get together is the load of their places
-  total_is_load : (caps : Caps P) (parts : ℕ → ℕ) (test : Message P → Bool) (place : ℕ) (ms : List (Message P)) → ((m : Message P) → test m ≡ true → is_unlimited cmp caps m ≡ false) → total (map test ms) (rates_from cmp caps parts place ms) ≡ sum_by parts (places_that_pass place test ms)
+  total_is_load : (caps : Caps P) (parts : ℕ → ℕ) (test : Message P → Bool) (place : ℕ) (ms : List (Message P))
+      → ((m : Message P) → test m ≡ true → is_unlimited cmp caps m ≡ false)
+      → total (map test ms) (rates_from cmp caps parts place ms) ≡ sum_by parts (places_that_pass place test ms)
   total_is_load caps parts test place [] limited = refl
   total_is_load caps parts test place (m ∷ ms) limited = by_test (test m) refl (is_unlimited cmp caps m) refl (total_is_load caps parts test (place + 1) ms limited)
     where
-      by_test : (b : Bool) → test m ≡ b → (u : Bool) → is_unlimited cmp caps m ≡ u → total (map test ms) (rates_from cmp caps parts (place + 1) ms) ≡ sum_by parts (places_that_pass (place + 1) test ms)
+      by_test : (b : Bool) → test m ≡ b → (u : Bool) → is_unlimited cmp caps m ≡ u
+          → total (map test ms) (rates_from cmp caps parts (place + 1) ms) ≡ sum_by parts (places_that_pass (place + 1) test ms)
           → part_of b (if u then None else Some (parts place)) + total (map test ms) (rates_from cmp caps parts (place + 1) ms) ≡ sum_by parts (cond b (place ∷ places_that_pass (place + 1) test ms) (places_that_pass (place + 1) test ms))
       by_test true is true free ih = let bound : is_unlimited cmp caps m ≡ false = limited m is in cc
       by_test true is false free ih = omega (arith, ih, sum_by-cons parts place (places_that_pass (place + 1) test ms))
       by_test false is u free ih = omega (arith, ih)
 
-  passing_limited : (caps : Caps P) (parts : ℕ → ℕ) (test : Message P → Bool) (place : ℕ) (ms : List (Message P)) → ((m : Message P) → test m ≡ true → is_unlimited cmp caps m ≡ false) → (i : ℕ) → slice_get (map test ms) i ≡ Some true → slice_get (rates_from cmp caps parts place ms) i ≡ Some None → ⊥
+  passing_limited : (caps : Caps P) (parts : ℕ → ℕ) (test : Message P → Bool) (place : ℕ) (ms : List (Message P))
+      → ((m : Message P) → test m ≡ true → is_unlimited cmp caps m ≡ false) → (i : ℕ) → slice_get (map test ms) i ≡ Some true
+      → slice_get (rates_from cmp caps parts place ms) i ≡ Some None → ⊥
   passing_limited caps parts test place [] limited i at is = cc
   passing_limited caps parts test place (m ∷ ms) limited zero at is = by_test (is_unlimited cmp caps m) (limited m (let here : test m ≡ true = cc in here)) is
     where
@@ -255,7 +264,8 @@ module _ {P : Type 0} (cmp : P → P → Ordering) (order : IsTotalOrder cmp) wh
     ends_more w v f (goes cs u) g = follows_trans w v u f g
     ends_more w v f (meets fault) g = tt
 
-    follows_then : (w : World P) (c : Course (Completed P) (World P)) (k : World P → Course (Completed P) (World P)) → EndsWith (Follows w) c → ((v : World P) → Holds v → EndsWith (Follows v) (k v)) → EndsWith (Follows w) (and_then c k)
+    follows_then : (w : World P) (c : Course (Completed P) (World P)) (k : World P → Course (Completed P) (World P)) → EndsWith (Follows w) c
+        → ((v : World P) → Holds v → EndsWith (Follows v) (k v)) → EndsWith (Follows w) (and_then c k)
     follows_then w c k h next = ends_and_then (Follows w) (Follows w) c k h (λ v f. ends_more w v f (k v) (next v f.holds))
 
     start_follows : (w : World P) (m : Message P) → Holds w → find (same_pair cmp m) w.waiting ≡ Some m → EndsWith (Follows w) (start cmp w m)
@@ -292,22 +302,28 @@ module _ {P : Type 0} (cmp : P → P → Ordering) (order : IsTotalOrder cmp) wh
     settle_within_follows zero t w h = follows_itself w h
     settle_within_follows (suc n) t w h = by_first (find (is_done cmp w) w.sending) refl (settle_within_follows n t)
       where
-        by_first : (o : Option (Flight P)) → find (is_done cmp w) w.sending ≡ o → ((v : World P) → Holds v → EndsWith (Follows v) (settle_within cmp n t v)) → EndsWith (Follows w) (settle_within cmp (suc n) t w)
+        by_first : (o : Option (Flight P)) → find (is_done cmp w) w.sending ≡ o → ((v : World P) → Holds v → EndsWith (Follows v) (settle_within cmp n t v))
+            → EndsWith (Follows w) (settle_within cmp (suc n) t w)
         by_first None e ih = subst (λ (c : Course (Completed P) (World P)). EndsWith (Follows w) c) (sym (settle_none cmp order n t w e)) (follows_itself w h)
-        by_first (Some f) e ih = subst (λ (c : Course (Completed P) (World P)). EndsWith (Follows w) c) (sym (settle_first cmp order n t w f e)) (follows_then w (complete cmp t w f.message) (settle_within cmp n t) (complete_follows t w f h) ih)
+        by_first (Some f) e ih =
+            subst (λ (c : Course (Completed P) (World P)). EndsWith (Follows w) c) (sym (settle_first cmp order n t w f e))
+            (follows_then w (complete cmp t w f.message) (settle_within cmp n t) (complete_follows t w f h) ih)
 
     wake_within_follows : (n t : ℕ) (w : World P) → Holds w → EndsWith (Follows w) (wake_within cmp n t w)
     wake_within_follows zero t w h = follows_itself w h
     wake_within_follows (suc n) t w h = by_least (least_pair cmp (ready cmp t w)) refl (wake_within_follows n t)
       where
-        by_least : (o : Option (Message P)) → least_pair cmp (ready cmp t w) ≡ o → ((v : World P) → Holds v → EndsWith (Follows v) (wake_within cmp n t v)) → EndsWith (Follows w) (wake_within cmp (suc n) t w)
+        by_least : (o : Option (Message P)) → least_pair cmp (ready cmp t w) ≡ o → ((v : World P) → Holds v → EndsWith (Follows v) (wake_within cmp n t v))
+            → EndsWith (Follows w) (wake_within cmp (suc n) t w)
         by_least None e ih = subst (λ (c : Course (Completed P) (World P)). EndsWith (Follows w) c) (sym (wake_none n t w e)) (follows_itself w h)
         by_least (Some m) e ih = subst (λ (c : Course (Completed P) (World P)). EndsWith (Follows w) c) (sym (wake_first n t w m e))
             (follows_then w (start cmp w m) (λ v. and_then (settle cmp t v) (wake_within cmp n t)) (start_follows w m h (ready_is_first t w m e))
             (λ v g. follows_then v (settle cmp t v) (wake_within cmp n t) (settle_within_follows (length v.sending + length v.waiting) t v g) ih))
 
     pub instant_follows : (w : World P) → Holds w → EndsWith (Follows w) (instant cmp w)
-    instant_follows w h = follows_then w (settle cmp w.moment w) (λ v. wake cmp v.moment v) (settle_within_follows (length w.sending + length w.waiting) w.moment w h) (λ v g. wake_within_follows (length v.waiting) v.moment v g)
+    instant_follows w h =
+        follows_then w (settle cmp w.moment w) (λ v. wake cmp v.moment v) (settle_within_follows (length w.sending + length w.waiting) w.moment w h)
+        (λ v g. wake_within_follows (length v.waiting) v.moment v g)
 
     -- ---- a nanosecond
 
@@ -342,25 +358,32 @@ module _ {P : Type 0} (cmp : P → P → Ordering) (order : IsTotalOrder cmp) wh
             let from : same_peer cmp p m.origin ≡ true = find_passes from_it m (flows w) e in
             let side : Side = record { cap = cap; users = places_that_pass 0 (λ (n : Message P). same_peer cmp m.origin n.origin) (flows w) } in
             let users : side.users ≡ places_that_pass 0 from_it (flows w) = same_users m.origin 0 (flows w) from in
-            let has : Contains (capped_sides cmp w.caps (flows w)) side = find_in_flat_map from_it (sides_for cmp w.caps (flows w)) m side (flows w) e (rw (h.egress m.origin from) (0, omega arith, refl)) in
-            let load_is : total (map from_it (flows w)) rates ≡ sum_by fair.parts side.users = ap (total (map from_it (flows w))) fair.rated ∙ total_is_load w.caps fair.parts from_it 0 (flows w) (own_limited w h) ∙ ap (sum_by fair.parts) (sym users) in
+            let has : Contains (capped_sides cmp w.caps (flows w)) side
+            = find_in_flat_map from_it (sides_for cmp w.caps (flows w)) m side (flows w) e (rw (h.egress m.origin from) (0, omega arith, refl)) in
+            let load_is : total (map from_it (flows w)) rates ≡ sum_by fair.parts side.users
+            = ap (total (map from_it (flows w))) fair.rated ∙ total_is_load w.caps fair.parts from_it 0 (flows w) (own_limited w h) ∙ ap (sum_by fair.parts) (sym users) in
             let fits : sum_by fair.parts side.users ≤ cap * per = All-contains (λ s. load fair.parts s ≤ s.cap * per) (capped_sides cmp w.caps (flows w)) side fair.fair.within has in
             record { within = omega (arith, load_is, fits); limited = limits }
 
-    drained_one : (per n others : ℕ) (left before after : Amount) (c : Bool) (r : Option ℕ) → 0 < per → 0 < left.den → (c ≡ true → r ≡ None → ⊥) → IsAtMost before (plus after (share (others * n) (per * billion)))
+    drained_one : (per n others : ℕ) (left before after : Amount) (c : Bool) (r : Option ℕ) → 0 < per → 0 < left.den → (c ≡ true → r ≡ None → ⊥)
+        → IsAtMost before (plus after (share (others * n) (per * billion)))
         → IsAtMost (if c then plus left before else before) (plus (if c then plus (drained_by (rate_of per r) n left) after else after) (share ((part_of c r + others) * n) (per * billion)))
     drained_one per n others left before after true None some pos never ih = absurd (never refl refl)
-    drained_one per n others left before after true (Some a) some pos never ih = subst (λ k. IsAtMost (plus left before) (plus (plus (drained_by (rate_of per (Some a)) n left) after) (share k (per * billion)))) (sym (add-mul a others n)) (plus_shares left (drained_by (rate_of per (Some a)) n left) before after (a * n) (others * n) (per * billion) (lowest_takes left a per n pos some) ih)
+    drained_one per n others left before after true (Some a) some pos never ih =
+        subst (λ k. IsAtMost (plus left before) (plus (plus (drained_by (rate_of per (Some a)) n left) after) (share k (per * billion)))) (sym (add-mul a others n))
+        (plus_shares left (drained_by (rate_of per (Some a)) n left) before after (a * n) (others * n) (per * billion) (lowest_takes left a per n pos some) ih)
     drained_one per n others left before after false r some pos never ih = subst (λ k. IsAtMost before (plus after (share (k * n) (per * billion)))) (sym (zero-add others)) ih
 
-    drained_each : (per : ℕ) (rates : Parts) (n : ℕ) (fs : List (Flight P)) → 0 < per → ArePositive fs → ((i : ℕ) → slice_get (map from_it (map (λ (f : Flight P). f.message) fs)) i ≡ Some true → slice_get rates i ≡ Some None → ⊥)
+    drained_each : (per : ℕ) (rates : Parts) (n : ℕ) (fs : List (Flight P)) → 0 < per → ArePositive fs
+        → ((i : ℕ) → slice_get (map from_it (map (λ (f : Flight P). f.message) fs)) i ≡ Some true → slice_get rates i ≡ Some None → ⊥)
         → IsAtMost (left_from cmp p fs) (plus (left_from cmp p (drain_each per rates n fs)) (share (total (map from_it (map (λ (f : Flight P). f.message) fs)) rates * n) (per * billion)))
     drained_each per rates n [] some pos limited = nothing_drained rates
       where
         nothing_drained : (rates : Parts) → IsAtMost (whole 0) (plus (left_from cmp p (drain_each {P = P} per rates n [])) (share (0 * n) (per * billion)))
         nothing_drained [] = omega arith
         nothing_drained (r ∷ rs) = omega arith
-    drained_each per [] n (f ∷ fs) some pos limited = subst (λ k. IsAtMost (left_from cmp p (f ∷ fs)) (plus (left_from cmp p (f ∷ fs)) (share k (per * billion)))) (sym (zero-mul n)) (no_share (left_from cmp p (f ∷ fs)) (per * billion))
+    drained_each per [] n (f ∷ fs) some pos limited =
+        subst (λ k. IsAtMost (left_from cmp p (f ∷ fs)) (plus (left_from cmp p (f ∷ fs)) (share k (per * billion)))) (sym (zero-mul n)) (no_share (left_from cmp p (f ∷ fs)) (per * billion))
     drained_each per (r ∷ rs) n (f ∷ fs) some pos limited =
         drained_one per n (total (map from_it (map (λ (g : Flight P). g.message) fs)) rs) f.left (left_from cmp p fs) (left_from cmp p (drain_each per rs n fs)) (same_peer cmp p f.message.origin) r some pos.0
         (λ is none. limited 0 (ap Some is) (ap Some none)) (drained_each per rs n fs some pos.1 (λ i. limited (suc i)))
@@ -388,7 +411,9 @@ module _ {P : Type 0} (cmp : P → P → Ordering) (order : IsTotalOrder cmp) wh
         subst (λ (z : World P). Loses 1 w z) (sym d.world) end
 
     loses_none : (w v : World P) → Follows w v → Loses 0 w v
-    loses_none w v f = record { holds = f.holds; bytes = subst (λ k. IsAtMost (bytes_from cmp p w) (plus (bytes_from cmp p v) (share k billion))) (sym (mul-zero cap)) (none_more (bytes_from cmp p w) (bytes_from cmp p v) f.bytes) }
+    loses_none w v f =
+        record
+        { holds = f.holds; bytes = subst (λ k. IsAtMost (bytes_from cmp p w) (plus (bytes_from cmp p v) (share k billion))) (sym (mul-zero cap)) (none_more (bytes_from cmp p w) (bytes_from cmp p v) f.bytes) }
       where
         none_more : (a b : Amount) → IsAtMost a b → IsAtMost a (plus b (share 0 billion))
         none_more a b h = omega arith

@@ -46,7 +46,8 @@ module _ {P : Type 0} (cmp : P → P → Ordering) (order : IsTotalOrder cmp) (p
       by_test true = own
       by_test false = all q
 
-  link_small : (links : P → P → Option ℕ) (origin recipient : P) (cap : Option ℕ) → ((q r : P) → IsSmallCap (links q r)) → IsSmallCap cap → (q r : P) → IsSmallCap (with_link cmp links origin recipient cap q r)
+  link_small : (links : P → P → Option ℕ) (origin recipient : P) (cap : Option ℕ) → ((q r : P) → IsSmallCap (links q r)) → IsSmallCap cap → (q r : P)
+      → IsSmallCap (with_link cmp links origin recipient cap q r)
   link_small links origin recipient cap all own q r = by_test (same_peer cmp origin q && same_peer cmp recipient r)
     where
       by_test : (b : Bool) → IsSmallCap (if b then cap else links q r)
@@ -123,12 +124,15 @@ module _ {P : Type 0} (cmp : P → P → Ordering) (order : IsTotalOrder cmp) (p
           by_wanted true = later_soon (p.last_arrival m.origin m.recipient) (now + m.latency) (names_pair cmp pairs m.origin m.recipient ≡ true) (h.0.arrivals m.origin m.recipient) arrives
           by_wanted false = omega arith
 
-      by_pair : (q r : P) (a b : Bool) → same_peer cmp m.origin q ≡ a → same_peer cmp m.recipient r ≡ b → IfSome (cond (a && b) (Some (later_of (p.last_arrival q r) at)) (p.last_arrival q r)) (λ s. (s < 2 ^ 57) × (names_pair cmp pairs q r ≡ true))
-      by_pair q r true true e f = (later_soon (p.last_arrival q r) at (names_pair cmp pairs q r ≡ true) (h.0.arrivals q r) soon, named_alike cmp order pairs sixteen most room m pairs q r e f small.named)
+      by_pair : (q r : P) (a b : Bool) → same_peer cmp m.origin q ≡ a → same_peer cmp m.recipient r ≡ b
+          → IfSome (cond (a && b) (Some (later_of (p.last_arrival q r) at)) (p.last_arrival q r)) (λ s. (s < 2 ^ 57) × (names_pair cmp pairs q r ≡ true))
+      by_pair q r true true e f =
+          (later_soon (p.last_arrival q r) at (names_pair cmp pairs q r ≡ true) (h.0.arrivals q r) soon, named_alike cmp order pairs sixteen most room m pairs q r e f small.named)
       by_pair q r true false e f = h.0.arrivals q r
       by_pair q r false b e f = h.0.arrivals q r
 
-      by_late : (b : Bool) → (m.should_deliver && nat_lt last_moment (now + m.latency)) ≡ b → Well (cond b (meets MomentTooLate) (goes (completion_of m (if m.should_deliver then Some at else None) ∷ []) (record p { last_arrival = raised cmp p.last_arrival m at })))
+      by_late : (b : Bool) → (m.should_deliver && nat_lt last_moment (now + m.latency)) ≡ b
+          → Well (cond b (meets MomentTooLate) (goes (completion_of m (if m.should_deliver then Some at else None) ∷ []) (record p { last_arrival = raised cmp p.last_arrival m at })))
       by_late true is =
           let past : last_moment < now + m.latency = ltb-true last_moment (now + m.latency) (and_parts m.should_deliver (nat_lt last_moment (now + m.latency)) is).1 in
           absurd (omega (arith, arrives))
@@ -137,7 +141,8 @@ module _ {P : Type 0} (cmp : P → P → Ordering) (order : IsTotalOrder cmp) (p
         record { per = h.1.per; rates = h.1.rates; fair = h.1.fair; rated = h.1.rated },
       )
 
-  enqueues_well : {now : ℕ} {m : Message P} {p : Planned P} {c : Course (Completed P) (Planned P)} → Enqueues cmp now m p c → now < 2 ^ 56 → IsSmallMessage cmp pairs m → p.next_id + length p.waiting + 1 ≤ most → Held p → Well c
+  enqueues_well : {now : ℕ} {m : Message P} {p : Planned P} {c : Course (Completed P) (Planned P)} → Enqueues cmp now m p c → now < 2 ^ 56 → IsSmallMessage cmp pairs m
+      → p.next_id + length p.waiting + 1 ≤ most → Held p → Well c
   unfolding LaunchesWell
   enqueues_well {now = now} {m = m} {p = p} (at_once free) early small fits h = at_once_well now p m early small h
   enqueues_well {m = m} {p = p} (no_launch limits launch) early small fits h = launches_well cmp order pairs sixteen most room launch m refl early (queued_holds p m small fits h)
@@ -145,9 +150,11 @@ module _ {P : Type 0} (cmp : P → P → Ordering) (order : IsTotalOrder cmp) (p
       let next : Each (IsLeaver cmp order pairs sixteen most room) leavers × Held mid = launches_well cmp order pairs sixteen most room launch m refl early (queued_holds p m small fits h) in
       finishes_well cmp order pairs sixteen most room finishes early next.0 next.1
 
-  enqueue_account_bounded : {now : ℕ} {m : Message P} {p q : Planned P} → EnqueueAccounts cmp now m p q → now < 2 ^ 56 → IsSmallMessage cmp pairs m → p.next_id + length p.waiting + 1 ≤ most → Held p → Bounded q
+  enqueue_account_bounded : {now : ℕ} {m : Message P} {p q : Planned P} → EnqueueAccounts cmp now m p q → now < 2 ^ 56 → IsSmallMessage cmp pairs m
+      → p.next_id + length p.waiting + 1 ≤ most → Held p → Bounded q
   unfolding LaunchesWell
-  enqueue_account_bounded {m = m} {p = p} (launched_account limits account) early small fits h = launch_account_bounded cmp order pairs sixteen most room account m refl early (queued_holds p m small fits h).0
+  enqueue_account_bounded {m = m} {p = p} (launched_account limits account) early small fits h =
+      launch_account_bounded cmp order pairs sixteen most room account m refl early (queued_holds p m small fits h).0
   enqueue_account_bounded {m = m} {p = p} (finished_accounts {leavers = leavers} {mid = mid} limits launch accounts) early small fits h =
       let next : Each (IsLeaver cmp order pairs sixteen most room) leavers × Held mid = launches_well cmp order pairs sixteen most room launch m refl early (queued_holds p m small fits h) in
       finish_account_bounded cmp order pairs sixteen most room accounts early next.0 next.1
@@ -155,28 +162,35 @@ module _ {P : Type 0} (cmp : P → P → Ordering) (order : IsTotalOrder cmp) (p
   -- ---- any call
 
   limits_small : (p : Planned P) (peer : P) (egress ingress : Option ℕ) → Bounded p → IsSmallCap egress → IsSmallCap ingress → SmallCaps (limited_by cmp p.caps peer egress ingress)
-  limits_small p peer egress ingress h e i = record { egress = cap_small p.caps.egress peer egress h.caps.egress e; ingress = cap_small p.caps.ingress peer ingress h.caps.ingress i; link = h.caps.link }
+  limits_small p peer egress ingress h e i =
+      record { egress = cap_small p.caps.egress peer egress h.caps.egress e; ingress = cap_small p.caps.ingress peer ingress h.caps.ingress i; link = h.caps.link }
 
   links_small : (p : Planned P) (origin recipient : P) (cap : Option ℕ) → Bounded p → IsSmallCap cap → SmallCaps (linked_by cmp p.caps origin recipient cap)
   links_small p origin recipient cap h c = record { egress = h.caps.egress; ingress = h.caps.ingress; link = link_small p.caps.link origin recipient cap h.caps.link c }
 
   -- a call in the range goes, and leaves the planned world in the range
-  pub obeys_well : (p : Planned P) (call : Call P) (c : Course (Completed P) (Planned P)) → IsSmallCall cmp pairs call → p.next_id + length p.waiting + messages_in call ≤ most → Held p → Obeys cmp p call c → Well c
+  pub obeys_well : (p : Planned P) (call : Call P) (c : Course (Completed P) (Planned P)) → IsSmallCall cmp pairs call → p.next_id + length p.waiting + messages_in call ≤ most
+      → Held p → Obeys cmp p call c → Well c
   obeys_well p (call_limit now peer egress ingress) c small fits h obeys = recaps_well obeys small.0 (limits_small p peer egress ingress h.0 small.1 small.2) h
   obeys_well p (call_limit_link now origin recipient cap) c small fits h obeys = recaps_well obeys small.0 (links_small p origin recipient cap h.0 small.1) h
   obeys_well p (call_enqueue now m) c small fits h obeys = enqueues_well obeys small.0 (record { named = small.3; bytes = small.2; latency = small.1 }) fits h
   obeys_well p (call_advance now) c small fits h obeys = advances_well cmp order pairs sixteen most room obeys.1 small h
   obeys_well p call_next c small fits h obeys = subst Well (sym obeys) h
 
-  account_of_call : (p : Planned P) (call : Call P) (t : ℕ) (q : Planned P) → IsSmallCall cmp pairs call → p.next_id + length p.waiting + messages_in call ≤ most → Held p → ComesToAccount cmp p call t q → (t < 2 ^ 56) × Bounded q
-  account_of_call p (call_limit now peer egress ingress) t q small fits h (same, accounts) = (subst (λ (n : ℕ). n < 2 ^ 56) (sym same) small.0, recap_account_bounded accounts small.0 (limits_small p peer egress ingress h.0 small.1 small.2) h)
-  account_of_call p (call_limit_link now origin recipient cap) t q small fits h (same, accounts) = (subst (λ (n : ℕ). n < 2 ^ 56) (sym same) small.0, recap_account_bounded accounts small.0 (links_small p origin recipient cap h.0 small.1) h)
-  account_of_call p (call_enqueue now m) t q small fits h (same, accounts) = (subst (λ (n : ℕ). n < 2 ^ 56) (sym same) small.0, enqueue_account_bounded accounts small.0 (record { named = small.3; bytes = small.2; latency = small.1 }) fits h)
+  account_of_call : (p : Planned P) (call : Call P) (t : ℕ) (q : Planned P) → IsSmallCall cmp pairs call → p.next_id + length p.waiting + messages_in call ≤ most → Held p
+      → ComesToAccount cmp p call t q → (t < 2 ^ 56) × Bounded q
+  account_of_call p (call_limit now peer egress ingress) t q small fits h (same, accounts) =
+      (subst (λ (n : ℕ). n < 2 ^ 56) (sym same) small.0, recap_account_bounded accounts small.0 (limits_small p peer egress ingress h.0 small.1 small.2) h)
+  account_of_call p (call_limit_link now origin recipient cap) t q small fits h (same, accounts) =
+      (subst (λ (n : ℕ). n < 2 ^ 56) (sym same) small.0, recap_account_bounded accounts small.0 (links_small p origin recipient cap h.0 small.1) h)
+  account_of_call p (call_enqueue now m) t q small fits h (same, accounts) =
+      (subst (λ (n : ℕ). n < 2 ^ 56) (sym same) small.0, enqueue_account_bounded accounts small.0 (record { named = small.3; bytes = small.2; latency = small.1 }) fits h)
   account_of_call p (call_advance now) t q small fits h accounts = advance_account_bounded cmp order pairs sixteen most room accounts small h
   account_of_call p call_next t q small fits h accounts = absurd accounts
 
   -- and is refused for want of memory alone
-  pub refused_for_memory : (p : Planned P) (call : Call P) (why : Error) → IsSmallCall cmp pairs call → p.next_id + length p.waiting + messages_in call ≤ most → Held p → MayBeRefused cmp p call why → why ≡ OutOfMemory
+  pub refused_for_memory : (p : Planned P) (call : Call P) (why : Error) → IsSmallCall cmp pairs call → p.next_id + length p.waiting + messages_in call ≤ most → Held p
+      → MayBeRefused cmp p call why → why ≡ OutOfMemory
   refused_for_memory p call OutOfMemory small fits h may = refl
   refused_for_memory p call NumberTooLarge small fits h (t, q, comes, large) =
       let at : (t < 2 ^ 56) × Bounded q = account_of_call p call t q small fits h comes in

@@ -43,10 +43,15 @@ module _ {P : Type 0} (cmp : P → P → Ordering) (order : IsTotalOrder cmp) wh
 
   -- what one pair's change leaves alone outlasts settling
   pub settle_outlasts : (Q : World P → Type 0) → ((m : Message P) (v u : World P) → IsButFor cmp m v u → Q v → Q u) → (t : ℕ) (w : World P) → Q w → EndsWith Q (settle cmp t w)
-  settle_outlasts Q kept t w h = settle_keeps cmp order Q t (λ v f e k. ends_more cmp order (Leaves cmp order t f.message v) Q (complete cmp t v f.message) (λ u l. kept f.message v u l.others k) (complete_leaves cmp order t v f e)) (length w.sending + length w.waiting) w h
+  settle_outlasts Q kept t w h =
+      settle_keeps cmp order Q t
+      (λ v f e k. ends_more cmp order (Leaves cmp order t f.message v) Q (complete cmp t v f.message) (λ u l. kept f.message v u l.others k) (complete_leaves cmp order t v f e))
+      (length w.sending + length w.waiting) w h
 
   pub turn_outlasts : (Q : World P → Type 0) → ((m : Message P) (v u : World P) → IsButFor cmp m v u → Q v → Q u) → (t : ℕ) (w : World P) (m : Message P) → Q w → EndsWith Q (turn cmp t w m)
-  turn_outlasts Q kept t w m h = ends_and_then Q Q (start cmp w m) (settle cmp t) (ends_more cmp order (Leaves cmp order t m w) Q (start cmp w m) (λ u l. kept m w u l.others h) (start_leaves cmp order t w m)) (λ v k. settle_outlasts Q kept t v k)
+  turn_outlasts Q kept t w m h =
+      ends_and_then Q Q (start cmp w m) (settle cmp t)
+      (ends_more cmp order (Leaves cmp order t m w) Q (start cmp w m) (λ u l. kept m w u l.others h) (start_leaves cmp order t w m)) (λ v k. settle_outlasts Q kept t v k)
 
   at_kept : (s : ℕ) (m : Message P) (v u : World P) → IsButFor cmp m v u → IsAt s v → IsAt s u
   at_kept s m v u a h = a.moment ∙ h
@@ -55,13 +60,15 @@ module _ {P : Type 0} (cmp : P → P → Ordering) (order : IsTotalOrder cmp) wh
   settle_stays t s w h = settle_outlasts (IsAt s) (at_kept s) t w h
 
   -- what a property of worlds needs to outlast waking
-  pub wake_keeps : (Q : World P → Type 0) (t : ℕ) → ((w : World P) (m : Message P) → least_pair cmp (ready cmp t w) ≡ Some m → Q w → EndsWith Q (turn cmp t w m)) → (n : ℕ) (w : World P) → Q w → EndsWith Q (wake_within cmp n t w)
+  pub wake_keeps : (Q : World P → Type 0) (t : ℕ) → ((w : World P) (m : Message P) → least_pair cmp (ready cmp t w) ≡ Some m → Q w → EndsWith Q (turn cmp t w m))
+      → (n : ℕ) (w : World P) → Q w → EndsWith Q (wake_within cmp n t w)
   wake_keeps Q t step zero w h = h
   wake_keeps Q t step (suc n) w h = by_least (least_pair cmp (ready cmp t w)) refl (wake_keeps Q t step n)
     where
       by_least : (o : Option (Message P)) → least_pair cmp (ready cmp t w) ≡ o → ((v : World P) → Q v → EndsWith Q (wake_within cmp n t v)) → EndsWith Q (wake_within cmp (suc n) t w)
       by_least None e ih = rw (e, wake_within) h
-      by_least (Some m) e ih = subst (λ (c : Course (Completed P) (World P)). EndsWith Q c) (sym (wake_first cmp order n t w m e)) (ends_and_then Q Q (turn cmp t w m) (wake_within cmp n t) (step w m e h) ih)
+      by_least (Some m) e ih =
+          subst (λ (c : Course (Completed P) (World P)). EndsWith Q c) (sym (wake_first cmp order n t w m e)) (ends_and_then Q Q (turn cmp t w m) (wake_within cmp n t) (step w m e h) ih)
 
   pub wake_outlasts : (Q : World P → Type 0) → ((m : Message P) (v u : World P) → IsButFor cmp m v u → Q v → Q u) → (t : ℕ) (w : World P) → Q w → EndsWith Q (wake cmp t w)
   wake_outlasts Q kept t w h = wake_keeps Q t (λ v m e k. turn_outlasts Q kept t v m k) (length w.waiting) w h
@@ -133,7 +140,10 @@ module _ {P : Type 0} (cmp : P → P → Ordering) (order : IsTotalOrder cmp) wh
   stays_unready t m w v e l = ready_without cmp order t m w v l ∙ ap (filter (λ n. not (same_pair cmp m n))) e
 
   settle_unready : (t : ℕ) (w : World P) → NoneReady t w → EndsWith (NoneReady t) (settle cmp t w)
-  settle_unready t w h = settle_keeps cmp order (NoneReady t) t (λ v f e k. ends_more cmp order (Leaves cmp order t f.message v) (NoneReady t) (complete cmp t v f.message) (λ u l. stays_unready t f.message v u k l) (complete_leaves cmp order t v f e)) (length w.sending + length w.waiting) w h
+  settle_unready t w h =
+      settle_keeps cmp order (NoneReady t) t
+      (λ v f e k. ends_more cmp order (Leaves cmp order t f.message v) (NoneReady t) (complete cmp t v f.message) (λ u l. stays_unready t f.message v u k l) (complete_leaves cmp order t v f e))
+      (length w.sending + length w.waiting) w h
 
   -- settling a world in which none may start ends in quiet
   settle_ends_quiet : (t : ℕ) (w : World P) → NoneReady t w → EndsWith (IsQuiet cmp t) (settle cmp t w)
@@ -157,7 +167,8 @@ module _ {P : Type 0} (cmp : P → P → Ordering) (order : IsTotalOrder cmp) wh
   abbrev pub QuietAt : ℕ → World P → Type 0
   QuietAt t v = IsQuiet cmp t v × IsAt t v
 
-  enqueue_ends_quiet : (t : ℕ) (w : World P) (m : Message P) → NoneReady t w → IsAt t w → EndsWith (QuietAt t) (and_then (start_next cmp t (queued w m) (first_waiting cmp (queued w m) m)) (settle cmp t))
+  enqueue_ends_quiet : (t : ℕ) (w : World P) (m : Message P) → NoneReady t w → IsAt t w
+      → EndsWith (QuietAt t) (and_then (start_next cmp t (queued w m) (first_waiting cmp (queued w m) m)) (settle cmp t))
   enqueue_ends_quiet t w m unready at =
       ends_and_then (λ (v : World P). NoneReady t v × IsAt t v) (QuietAt t) (start_next cmp t (queued w m) (first_waiting cmp (queued w m) m)) (settle cmp t)
       (ends_more cmp order (Leaves cmp order t m (queued w m)) (λ (v : World P). NoneReady t v × IsAt t v) (start_next cmp t (queued w m) (first_waiting cmp (queued w m) m))
@@ -166,9 +177,12 @@ module _ {P : Type 0} (cmp : P → P → Ordering) (order : IsTotalOrder cmp) wh
 
   -- an arrival makes none ready
   arrival_unready : (t : ℕ) (w : World P) (m : Message P) (at : ℕ) → NoneReady t w → NoneReady t (record w { last_arrival = raised cmp w.last_arrival m at })
-  arrival_unready t w m at unready = filter_none (may_start cmp t (record w { last_arrival = raised cmp w.last_arrival m at })) (may_start cmp t w) (fronts cmp w.waiting) (λ x e. may_before x e) unready
+  arrival_unready t w m at unready =
+      filter_none (may_start cmp t (record w { last_arrival = raised cmp w.last_arrival m at })) (may_start cmp t w) (fronts cmp w.waiting) (λ x e. may_before x e) unready
     where
-      by_pair_of : (x : Message P) (a b : Bool) → (a && is_in_order (cond b (Some (later_of (w.last_arrival x.origin x.recipient) at)) (w.last_arrival x.origin x.recipient)) (t + x.latency)) ≡ true → (a && is_in_order (w.last_arrival x.origin x.recipient) (t + x.latency)) ≡ true
+      by_pair_of : (x : Message P) (a b : Bool)
+          → (a && is_in_order (cond b (Some (later_of (w.last_arrival x.origin x.recipient) at)) (w.last_arrival x.origin x.recipient)) (t + x.latency)) ≡ true
+          → (a && is_in_order (w.last_arrival x.origin x.recipient) (t + x.latency)) ≡ true
       by_pair_of x true true e = later_in_order (w.last_arrival x.origin x.recipient) at (t + x.latency) e
       by_pair_of x true false e = e
       by_pair_of x false b e = e
@@ -213,7 +227,8 @@ module _ {P : Type 0} (cmp : P → P → Ordering) (order : IsTotalOrder cmp) wh
       omega arith
 
   -- a call on a quiet world ends in a quiet world, at the call's moment
-  pub call_ends_quiet : (w : World P) (call : Call P) (now : ℕ) (course : Course (Completed P) (World P)) → IsQuietNow w → moment_of call ≡ Some now → w.moment ≤ now → Runs cmp w call now course → EndsWith (QuietAt now) course
+  pub call_ends_quiet : (w : World P) (call : Call P) (now : ℕ) (course : Course (Completed P) (World P)) → IsQuietNow w → moment_of call ≡ Some now → w.moment ≤ now
+      → Runs cmp w call now course → EndsWith (QuietAt now) course
   call_ends_quiet w call now course q e h runs =
       let count : w.moment + (now - w.moment) ≡ now = omega arith in
       subst (EndsWith (QuietAt now)) (sym runs.acts)

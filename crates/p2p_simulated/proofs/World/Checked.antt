@@ -27,7 +27,9 @@ both_true false b e = cc
 
 all_found : {X : Type 0} (test : X → Bool) (Q : X → Type 0) → ((x : X) → test x ≡ true → Q x) → (xs : List X) → list_all test xs ≡ true → All Q xs
 all_found test Q gives [] e = All-nil Q
-all_found test Q gives (x ∷ xs) e = let parts : (test x ≡ true) × (list_all test xs ≡ true) = both_true (test x) (list_all test xs) e in All-cons Q x xs (gives x parts.0) (all_found test Q gives xs parts.1)
+all_found test Q gives (x ∷ xs) e =
+    let parts : (test x ≡ true) × (list_all test xs ≡ true) = both_true (test x) (list_all test xs) e in
+    All-cons Q x xs (gives x parts.0) (all_found test Q gives xs parts.1)
 
 one_found : {X : Type 0} (test : X → Bool) (xs : List X) → list_any test xs ≡ true → (x : X) × Contains xs x × (test x ≡ true)
 one_found test [] e = cc
@@ -59,7 +61,8 @@ module _ (per : ℕ) (parts : ℕ → ℕ) where
       let side : Side = found.0 in
       let all : ((list_any (λ user. user == flow) side.users && (load parts side == side.cap * per)) ≡ true) × (list_all (λ other. nat_le (parts other) (parts flow)) side.users ≡ true) =
       both_true (list_any (λ user. user == flow) side.users && (load parts side == side.cap * per)) (list_all (λ other. nat_le (parts other) (parts flow)) side.users) found.2 in
-      let two : (list_any (λ user. user == flow) side.users ≡ true) × ((load parts side == side.cap * per) ≡ true) = both_true (list_any (λ user. user == flow) side.users) (load parts side == side.cap * per) all.0 in
+      let two : (list_any (λ user. user == flow) side.users ≡ true) × ((load parts side == side.cap * per) ≡ true)
+      = both_true (list_any (λ user. user == flow) side.users) (load parts side == side.cap * per) all.0 in
       let user : (u : ℕ) × Contains side.users u × ((u == flow) ≡ true) = one_found (λ u. u == flow) side.users two.0 in
       let same : user.0 ≡ flow = eqb-true user.0 flow user.2 in
       record {
@@ -132,7 +135,8 @@ module _ {P : Type 0} (cmp : P → P → Ordering) (order : IsTotalOrder cmp) (p
       let two : (is_planned w ≡ true) × (goes_on (instant cmp (drifts w)) (may_tick n) ≡ true) = both_true (is_planned w) (goes_on (instant cmp (drifts w)) (may_tick n)) e in
       by_instant (instant cmp (drifts w)) refl two.1 (drains w two.0) (ticks_so n)
     where
-      by_instant : (c : Course (Completed P) (World P)) → instant cmp (drifts w) ≡ c → goes_on c (may_tick n) ≡ true → Drains cmp w (drifts w) → ((u : World P) → may_tick n u ≡ true → Ticks cmp n u (ticked n u)) → Ticks cmp (suc n) w (and_then c (ticked n))
+      by_instant : (c : Course (Completed P) (World P)) → instant cmp (drifts w) ≡ c → goes_on c (may_tick n) ≡ true → Drains cmp w (drifts w)
+          → ((u : World P) → may_tick n u ≡ true → Ticks cmp n u (ticked n u)) → Ticks cmp (suc n) w (and_then c (ticked n))
       by_instant (goes cs u) is e d ih = one_tick d is (ih u e)
       by_instant (meets fault) is e d ih = tick_faults d is
 
@@ -165,14 +169,18 @@ module _ {P : Type 0} (cmp : P → P → Ordering) (order : IsTotalOrder cmp) (p
 
   quiet_if_so : (w : World P) → is_quiet w ≡ true → IsQuiet cmp w.moment w
   quiet_if_so w e =
-      let two : (not (list_any (is_done cmp w) w.sending) ≡ true) × (is_empty (ready cmp w.moment w) ≡ true) = both_true (not (list_any (is_done cmp w) w.sending)) (is_empty (ready cmp w.moment w)) e in
+      let two : (not (list_any (is_done cmp w) w.sending) ≡ true) × (is_empty (ready cmp w.moment w) ≡ true)
+      = both_true (not (list_any (is_done cmp w) w.sending)) (is_empty (ready cmp w.moment w)) e in
       record { none_done = not_true (list_any (is_done cmp w) w.sending) two.0; none_ready = empty_is (ready cmp w.moment w) two.1 }
 
   loud_if_not : (w : World P) → is_quiet w ≡ false → ¬ IsQuiet cmp w.moment w
   loud_if_not w e quiet = by_tests (list_any (is_done cmp w) w.sending) (ready cmp w.moment w) quiet.none_done quiet.none_ready e
     where
       by_tests : (a : Bool) (ms : List (Message P)) → a ≡ false → ms ≡ [] → (not a && is_empty ms) ≡ false → ⊥
-      by_tests a ms f g e = let h : (not false && is_empty {X = Message P} []) ≡ false = subst (λ (b : Bool). (not b && is_empty {X = Message P} []) ≡ false) f (subst (λ (xs : List (Message P)). (not a && is_empty xs) ≡ false) g e) in cc
+      by_tests a ms f g e =
+          let h : (not false && is_empty {X = Message P} []) ≡ false
+          = subst (λ (b : Bool). (not b && is_empty {X = Message P} []) ≡ false) f (subst (λ (xs : List (Message P)). (not a && is_empty xs) ≡ false) g e) in
+          cc
 
   -- an empty world rests for any time
   calm : (n : ℕ) (w : World P) → w.sending ≡ [] → w.waiting ≡ [] → (v : World P) × Passes cmp n w v
@@ -191,7 +199,9 @@ module _ {P : Type 0} (cmp : P → P → Ordering) (order : IsTotalOrder cmp) (p
     where
       by_end : (n : ℕ) → last_moment - w.moment ≡ n → v.moment ≡ w.moment + 1 → NextIs cmp w None
       by_end zero is on = never_comes (subst (λ (k : ℕ). Passes cmp k w w) (sym is) no_time)
-      by_end (suc n) is on = let count : last_moment - v.moment ≡ n = omega arith in never_comes (subst (λ (k : ℕ). Passes cmp k w x) (sym is) (quiet_tick d q (subst (λ (k : ℕ). Passes cmp k v x) count p)))
+      by_end (suc n) is on =
+          let count : last_moment - v.moment ≡ n = omega arith in
+          never_comes (subst (λ (k : ℕ). Passes cmp k w x) (sym is) (quiet_tick d q (subst (λ (k : ℕ). Passes cmp k v x) count p)))
   step_next w v o d q (comes_next p drains loud le) = comes_next (quiet_tick d q p) drains loud le
 
   pub next_so : (n : ℕ) (w : World P) → may_seek n w ≡ true → NextIs cmp w (seek n w)
@@ -199,10 +209,12 @@ module _ {P : Type 0} (cmp : P → P → Ordering) (order : IsTotalOrder cmp) (p
       let two : (is_empty w.sending ≡ true) × (is_empty w.waiting ≡ true) = both_true (is_empty w.sending) (is_empty w.waiting) e in
       never_comes (calm (last_moment - w.moment) w (empty_is w.sending two.0) (empty_is w.waiting two.1)).1
   next_so (suc n) w e =
-      let two : (is_planned w ≡ true) × (cond (is_quiet (drifts w)) (may_seek n (drifts w)) (nat_le (drifts w).moment last_moment) ≡ true) = both_true (is_planned w) (cond (is_quiet (drifts w)) (may_seek n (drifts w)) (nat_le (drifts w).moment last_moment)) e in
+      let two : (is_planned w ≡ true) × (cond (is_quiet (drifts w)) (may_seek n (drifts w)) (nat_le (drifts w).moment last_moment) ≡ true)
+      = both_true (is_planned w) (cond (is_quiet (drifts w)) (may_seek n (drifts w)) (nat_le (drifts w).moment last_moment)) e in
       by_quiet (is_quiet (drifts w)) refl two.1 (drains w two.0) (next_so n)
     where
-      by_quiet : (b : Bool) → is_quiet (drifts w) ≡ b → cond b (may_seek n (drifts w)) (nat_le (drifts w).moment last_moment) ≡ true → Drains cmp w (drifts w) → ((u : World P) → may_seek n u ≡ true → NextIs cmp u (seek n u)) → NextIs cmp w (cond b (seek n (drifts w)) (Some (drifts w).moment))
+      by_quiet : (b : Bool) → is_quiet (drifts w) ≡ b → cond b (may_seek n (drifts w)) (nat_le (drifts w).moment last_moment) ≡ true → Drains cmp w (drifts w)
+          → ((u : World P) → may_seek n u ≡ true → NextIs cmp u (seek n u)) → NextIs cmp w (cond b (seek n (drifts w)) (Some (drifts w).moment))
       by_quiet true is e d ih = step_next w (drifts w) (seek n (drifts w)) d (quiet_if_so (drifts w) is) (ih (drifts w) e)
       by_quiet false is e d ih = comes_next no_time d (loud_if_not (drifts w) is) (leb-true (drifts w).moment last_moment e)
 
@@ -235,7 +247,8 @@ module _ {P : Type 0} (cmp : P → P → Ordering) (order : IsTotalOrder cmp) (p
   abbrev pub may_answer : ℕ → World P → List (Call P) → Bool
   may_answer n w [] = true
   may_answer n w (call_limit now peer egress ingress ∷ calls) = may_tick (now - w.moment) w && may_reply (course_of w (call_limit now peer egress ingress) now) w (λ v. may_answer n v calls)
-  may_answer n w (call_limit_link now origin recipient cap ∷ calls) = may_tick (now - w.moment) w && may_reply (course_of w (call_limit_link now origin recipient cap) now) w (λ v. may_answer n v calls)
+  may_answer n w (call_limit_link now origin recipient cap ∷ calls) =
+      may_tick (now - w.moment) w && may_reply (course_of w (call_limit_link now origin recipient cap) now) w (λ v. may_answer n v calls)
   may_answer n w (call_enqueue now m ∷ calls) = may_tick (now - w.moment) w && may_reply (course_of w (call_enqueue now m) now) w (λ v. may_answer n v calls)
   may_answer n w (call_advance now ∷ calls) = may_tick (now - w.moment) w && may_reply (course_of w (call_advance now) now) w (λ v. may_answer n v calls)
   may_answer n w (call_next ∷ calls) = may_seek n w && may_answer n w calls
@@ -245,11 +258,15 @@ module _ {P : Type 0} (cmp : P → P → Ordering) (order : IsTotalOrder cmp) (p
 
   -- a call is accepted, or meets its fault
   abbrev Accepted : World P → List (Call P) → Call P → List (Call P) → List (Completed P) → List (Reply P) → Type 0
-  Accepted w accepted call calls cs replies = (now : ℕ) × (ds : List (Completed P)) × (v : World P) × (moment_of call ≡ Some now) × Runs cmp w call now (goes ds v) × AllZip (SameCompletion cmp) cs ds × Agrees cmp v (accepted ++ call ∷ []) calls replies
+  Accepted w accepted call calls cs replies =
+      (now : ℕ) × (ds : List (Completed P)) × (v : World P) × (moment_of call ≡ Some now) × Runs cmp w call now (goes ds v) × AllZip (SameCompletion cmp) cs ds × Agrees cmp v
+      (accepted ++ call ∷ []) calls replies
 
-  accepts : (w : World P) (accepted : List (Call P)) (call : Call P) (calls : List (Call P)) (now : ℕ) (cs : List (Completed P)) (v : World P) (replies : List (Reply P)) → moment_of call ≡ Some now → may_tick (now - w.moment) w ≡ true → course_of w call now ≡ goes cs v
+  accepts : (w : World P) (accepted : List (Call P)) (call : Call P) (calls : List (Call P)) (now : ℕ) (cs : List (Completed P)) (v : World P) (replies : List (Reply P))
+      → moment_of call ≡ Some now → may_tick (now - w.moment) w ≡ true → course_of w call now ≡ goes cs v
       → Agrees cmp v (accepted ++ call ∷ []) calls replies → Accepted w accepted call calls cs replies
-  accepts w accepted call calls now cs v replies at ticks is rest = (now, cs, v, at, subst (λ (c : Course (Completed P) (World P)). Runs cmp w call now c) is (runs_so w call now ticks), same_all cmp order cs, rest)
+  accepts w accepted call calls now cs v replies at ticks is rest =
+      (now, cs, v, at, subst (λ (c : Course (Completed P) (World P)). Runs cmp w call now c) is (runs_so w call now ticks), same_all cmp order cs, rest)
 
   faults : (w : World P) (call : Call P) (now : ℕ) (fault : Error) → moment_of call ≡ Some now → may_tick (now - w.moment) w ≡ true → course_of w call now ≡ meets fault → Faults cmp w call fault
   faults w call now fault at ticks is = (now, at, subst (λ (c : Course (Completed P) (World P)). Runs cmp w call now c) is (runs_so w call now ticks))
@@ -260,37 +277,45 @@ module _ {P : Type 0} (cmp : P → P → Ordering) (order : IsTotalOrder cmp) (p
   Replied w accepted call calls (reply_done cs ∷ replies) = IsInTurn cmp w call → Accepted w accepted call calls cs replies
   Replied w accepted call calls (reply_refused why ∷ replies) = IsInTurn cmp w call → MayRefuse cmp w (accepted ++ call ∷ []) call why × Agrees cmp w accepted calls replies
 
-  limit_agrees : (w : World P) (accepted : List (Call P)) (now : ℕ) (peer : P) (egress ingress : Option ℕ) (calls : List (Call P)) (replies : List (Reply P)) → Replied w accepted (call_limit now peer egress ingress) calls replies → Agrees cmp w accepted (call_limit now peer egress ingress ∷ calls) replies
+  limit_agrees : (w : World P) (accepted : List (Call P)) (now : ℕ) (peer : P) (egress ingress : Option ℕ) (calls : List (Call P)) (replies : List (Reply P))
+      → Replied w accepted (call_limit now peer egress ingress) calls replies → Agrees cmp w accepted (call_limit now peer egress ingress ∷ calls) replies
   limit_agrees w accepted now peer egress ingress calls [] h = h
   limit_agrees w accepted now peer egress ingress calls (reply_next t ∷ replies) h = h
   limit_agrees w accepted now peer egress ingress calls (reply_done cs ∷ replies) h = h
   limit_agrees w accepted now peer egress ingress calls (reply_refused why ∷ replies) h = h
 
-  link_agrees : (w : World P) (accepted : List (Call P)) (now : ℕ) (origin recipient : P) (cap : Option ℕ) (calls : List (Call P)) (replies : List (Reply P)) → Replied w accepted (call_limit_link now origin recipient cap) calls replies → Agrees cmp w accepted (call_limit_link now origin recipient cap ∷ calls) replies
+  link_agrees : (w : World P) (accepted : List (Call P)) (now : ℕ) (origin recipient : P) (cap : Option ℕ) (calls : List (Call P)) (replies : List (Reply P))
+      → Replied w accepted (call_limit_link now origin recipient cap) calls replies → Agrees cmp w accepted (call_limit_link now origin recipient cap ∷ calls) replies
   link_agrees w accepted now origin recipient cap calls [] h = h
   link_agrees w accepted now origin recipient cap calls (reply_next t ∷ replies) h = h
   link_agrees w accepted now origin recipient cap calls (reply_done cs ∷ replies) h = h
   link_agrees w accepted now origin recipient cap calls (reply_refused why ∷ replies) h = h
 
-  enqueue_agrees : (w : World P) (accepted : List (Call P)) (now : ℕ) (m : Message P) (calls : List (Call P)) (replies : List (Reply P)) → Replied w accepted (call_enqueue now m) calls replies → Agrees cmp w accepted (call_enqueue now m ∷ calls) replies
+  enqueue_agrees : (w : World P) (accepted : List (Call P)) (now : ℕ) (m : Message P) (calls : List (Call P)) (replies : List (Reply P))
+      → Replied w accepted (call_enqueue now m) calls replies → Agrees cmp w accepted (call_enqueue now m ∷ calls) replies
   enqueue_agrees w accepted now m calls [] h = h
   enqueue_agrees w accepted now m calls (reply_next t ∷ replies) h = h
   enqueue_agrees w accepted now m calls (reply_done cs ∷ replies) h = h
   enqueue_agrees w accepted now m calls (reply_refused why ∷ replies) h = h
 
-  advance_agrees : (w : World P) (accepted : List (Call P)) (now : ℕ) (calls : List (Call P)) (replies : List (Reply P)) → Replied w accepted (call_advance now) calls replies → Agrees cmp w accepted (call_advance now ∷ calls) replies
+  advance_agrees : (w : World P) (accepted : List (Call P)) (now : ℕ) (calls : List (Call P)) (replies : List (Reply P)) → Replied w accepted (call_advance now) calls replies
+      → Agrees cmp w accepted (call_advance now ∷ calls) replies
   advance_agrees w accepted now calls [] h = h
   advance_agrees w accepted now calls (reply_next t ∷ replies) h = h
   advance_agrees w accepted now calls (reply_done cs ∷ replies) h = h
   advance_agrees w accepted now calls (reply_refused why ∷ replies) h = h
 
   module _ (n : ℕ) (calls : List (Call P)) (ih : (v : World P) (accepted : List (Call P)) → may_answer n v calls ≡ true → Agrees cmp v accepted calls (answers n v calls)) where
-    reply_agrees : (w : World P) (accepted : List (Call P)) (call : Call P) (now : ℕ) → moment_of call ≡ Some now → (may_tick (now - w.moment) w && may_reply (course_of w call now) w (λ v. may_answer n v calls)) ≡ true → Replied w accepted call calls (replied (course_of w call now) w (λ v. answers n v calls))
+    reply_agrees : (w : World P) (accepted : List (Call P)) (call : Call P) (now : ℕ) → moment_of call ≡ Some now
+        → (may_tick (now - w.moment) w && may_reply (course_of w call now) w (λ v. may_answer n v calls)) ≡ true
+        → Replied w accepted call calls (replied (course_of w call now) w (λ v. answers n v calls))
     reply_agrees w accepted call now at e =
-        let two : (may_tick (now - w.moment) w ≡ true) × (may_reply (course_of w call now) w (λ v. may_answer n v calls) ≡ true) = both_true (may_tick (now - w.moment) w) (may_reply (course_of w call now) w (λ v. may_answer n v calls)) e in
+        let two : (may_tick (now - w.moment) w ≡ true) × (may_reply (course_of w call now) w (λ v. may_answer n v calls) ≡ true)
+        = both_true (may_tick (now - w.moment) w) (may_reply (course_of w call now) w (λ v. may_answer n v calls)) e in
         by_course (course_of w call now) refl two.0 two.1
       where
-        by_course : (c : Course (Completed P) (World P)) → course_of w call now ≡ c → may_tick (now - w.moment) w ≡ true → may_reply c w (λ v. may_answer n v calls) ≡ true → Replied w accepted call calls (replied c w (λ v. answers n v calls))
+        by_course : (c : Course (Completed P) (World P)) → course_of w call now ≡ c → may_tick (now - w.moment) w ≡ true → may_reply c w (λ v. may_answer n v calls) ≡ true
+            → Replied w accepted call calls (replied c w (λ v. answers n v calls))
         by_course (goes cs v) is ticks e = λ turn. accepts w accepted call calls now cs v (answers n v calls) at ticks is (ih v (accepted ++ call ∷ []) e)
         by_course (meets OutOfMemory) is ticks e = cc
         by_course (meets NumberTooLarge) is ticks e = cc

@@ -76,11 +76,13 @@ module _ (Q : ℕ → Type 0) (test : ℕ → Bool) (yes : (t : ℕ) → test t 
           by_order le (inl lt) = omega arith
           by_order le (inr ge) = let same : s ≡ from = omega arith in let there : test from ≡ true = ap test (sym same) ∙ no s q in cc
 
-      by_test : (b : Bool) → test from ≡ b → from ≤ last_moment → cond b (Some (Some from)) (seek test n (from + 1)) ≡ Some o → (((s : ℕ) → Q s → from + 1 ≤ s) → seek test n (from + 1) ≡ Some o → IsLeastMoment Q o) → IsLeastMoment Q o
+      by_test : (b : Bool) → test from ≡ b → from ≤ last_moment → cond b (Some (Some from)) (seek test n (from + 1)) ≡ Some o
+          → (((s : ℕ) → Q s → from + 1 ≤ s) → seek test n (from + 1) ≡ Some o → IsLeastMoment Q o) → IsLeastMoment Q o
       by_test true is le e ih = subst (IsLeastMoment Q) (the_same e) (le, yes from is, least)
       by_test false is le e ih = ih (later is) e
 
-      by_end : (b : Bool) → nat_lt last_moment from ≡ b → cond b (Some None) (cond (test from) (Some (Some from)) (seek test n (from + 1))) ≡ Some o → (((s : ℕ) → Q s → from + 1 ≤ s) → seek test n (from + 1) ≡ Some o → IsLeastMoment Q o) → IsLeastMoment Q o
+      by_end : (b : Bool) → nat_lt last_moment from ≡ b → cond b (Some None) (cond (test from) (Some (Some from)) (seek test n (from + 1))) ≡ Some o
+          → (((s : ℕ) → Q s → from + 1 ≤ s) → seek test n (from + 1) ≡ Some o → IsLeastMoment Q o) → IsLeastMoment Q o
       by_end true is e ih = subst (IsLeastMoment Q) (the_same e) (λ t le q. let past : last_moment < from = ltb-true last_moment from is in let first : from ≤ t = least t q in omega arith)
       by_end false is e ih = by_test (test from) refl (ltb-false last_moment from is) e ih
 
@@ -100,7 +102,9 @@ module _ {P : Type 0} (cmp : P → P → Ordering) (order : IsTotalOrder cmp) (p
   -- what is in flight, from t on at the shares of their places
   abbrev pub paced : Caps P → Shares → ℕ → ℕ → List (Paced P) → List (Paced P)
   paced caps shares t place [] = []
-  paced caps shares t place (f ∷ fs) = record { message = f.message; left = f.left; rate = rate_of shares.per (if is_unlimited cmp caps f.message then None else Some (shares.parts place)); updated = t } ∷ paced caps shares t (place + 1) fs
+  paced caps shares t place (f ∷ fs) =
+      record { message = f.message; left = f.left; rate = rate_of shares.per (if is_unlimited cmp caps f.message then None else Some (shares.parts place)); updated = t } ∷ paced
+      caps shares t (place + 1) fs
 
   abbrev pub staying : ℕ → Planned P → List (Paced P)
   staying t p = filter (λ f. not (is_spent cmp p f)) (drained_to t p.sending)
@@ -115,14 +119,18 @@ module _ {P : Type 0} (cmp : P → P → Ordering) (order : IsTotalOrder cmp) (p
   rated_at t p = paced p.caps (shares_of t p) t 0 (staying t p)
 
   abbrev pub account : ℕ → Planned P → Option (Planned P)
-  account t p = given (is_fair (shares_of t p).per (shares_of t p).parts (capped_sides cmp p.caps (paced_flows (rated_at t p)))) (bind (finish_from t (rated_at t p)) (λ o. Some (record p { sending = rated_at t p; finish = o })))
+  account t p =
+      given (is_fair (shares_of t p).per (shares_of t p).parts (capped_sides cmp p.caps (paced_flows (rated_at t p))))
+      (bind (finish_from t (rated_at t p)) (λ o. Some (record p { sending = rated_at t p; finish = o })))
 
   spent_if_so : (s : ℕ) (fs : List (Paced P)) → list_any (is_spent_at s) fs ≡ true → SomeSpentAt fs s
   spent_if_so s [] e = cc
   spent_if_so s (f ∷ fs) e = by_test (is_spent_at s f) refl e (spent_if_so s fs)
     where
       by_test : (b : Bool) → is_spent_at s f ≡ b → (b || list_any (is_spent_at s) fs) ≡ true → (list_any (is_spent_at s) fs ≡ true → SomeSpentAt fs s) → SomeSpentAt (f ∷ fs) s
-      by_test true is e ih = let two : (nat_le f.updated s ≡ true) × (((left_at s f).num == 0) ≡ true) = both_true (nat_le f.updated s) ((left_at s f).num == 0) is in (0, f, refl, leb-true f.updated s two.0, eqb-true (left_at s f).num 0 two.1)
+      by_test true is e ih =
+          let two : (nat_le f.updated s ≡ true) × (((left_at s f).num == 0) ≡ true) = both_true (nat_le f.updated s) ((left_at s f).num == 0) is in
+          (0, f, refl, leb-true f.updated s two.0, eqb-true (left_at s f).num 0 two.1)
       by_test false is e ih = let rest : SomeSpentAt fs s = ih e in (suc rest.0, rest.1, rest.2, rest.3, rest.4)
 
   so_if_spent : (s : ℕ) (fs : List (Paced P)) (i : ℕ) (f : Paced P) → slice_get fs i ≡ Some f → f.updated ≤ s → (left_at s f).num ≡ 0 → list_any (is_spent_at s) fs ≡ true
@@ -147,7 +155,8 @@ module _ {P : Type 0} (cmp : P → P → Ordering) (order : IsTotalOrder cmp) (p
   stayed_so caps shares t place [] = tt
   stayed_so caps shares t place (f ∷ fs) = ((refl, refl, refl), stayed_so caps shares t (place + 1) fs)
 
-  rated_so : (caps : Caps P) (shares : Shares) (t place : ℕ) (fs : List (Paced P)) → AllZip (λ rate f. f.rate ≡ rate_of shares.per rate) (rates_from cmp caps shares.parts place (paced_flows (paced caps shares t place fs))) (paced caps shares t place fs)
+  rated_so : (caps : Caps P) (shares : Shares) (t place : ℕ) (fs : List (Paced P))
+      → AllZip (λ rate f. f.rate ≡ rate_of shares.per rate) (rates_from cmp caps shares.parts place (paced_flows (paced caps shares t place fs))) (paced caps shares t place fs)
   rated_so caps shares t place [] = tt
   rated_so caps shares t place (f ∷ fs) = (refl, rated_so caps shares t (place + 1) fs)
 
@@ -155,8 +164,10 @@ module _ {P : Type 0} (cmp : P → P → Ordering) (order : IsTotalOrder cmp) (p
   account_so t p q e =
       let sending : List (Paced P) = rated_at t p in
       let shares : Shares = shares_of t p in
-      let two : (is_fair shares.per shares.parts (capped_sides cmp p.caps (paced_flows sending)) ≡ true) × (bind (finish_from t sending) (λ o. Some (record p { sending = sending; finish = o })) ≡ Some q) = given_so (is_fair shares.per shares.parts (capped_sides cmp p.caps (paced_flows sending))) (bind (finish_from t sending) (λ o. Some (record p { sending = sending; finish = o }))) q e in
-      let found : (o : Option ℕ) × (finish_from t sending ≡ Some o) × (Some (record p { sending = sending; finish = o }) ≡ Some q) = bound (finish_from t sending) (λ o. Some (record p { sending = sending; finish = o })) q two.1 in
+      let two : (is_fair shares.per shares.parts (capped_sides cmp p.caps (paced_flows sending)) ≡ true) × (bind (finish_from t sending) (λ o. Some (record p { sending = sending; finish = o })) ≡ Some q)
+      = given_so (is_fair shares.per shares.parts (capped_sides cmp p.caps (paced_flows sending))) (bind (finish_from t sending) (λ o. Some (record p { sending = sending; finish = o }))) q e in
+      let found : (o : Option ℕ) × (finish_from t sending ≡ Some o) × (Some (record p { sending = sending; finish = o }) ≡ Some q)
+      = bound (finish_from t sending) (λ o. Some (record p { sending = sending; finish = o })) q two.1 in
       let same : record p { sending = sending; finish = found.0 } ≡ q = the_same found.2 in
       subst (Accounts cmp t p (leavers_of t p)) same record {
         per = shares.per;
@@ -165,7 +176,8 @@ module _ {P : Type 0} (cmp : P → P → Ordering) (order : IsTotalOrder cmp) (p
         stayed = stayed_so p.caps shares t 0 (staying t p);
         fair = record { parts = shares.parts; fair = fair_if_so shares.per shares.parts (capped_sides cmp p.caps (paced_flows sending)) two.0; rated = refl };
         rated = rated_so p.caps shares t 0 (staying t p);
-        finish = sought_so (SomeSpentAt sending) (λ s. list_any (is_spent_at s) sending) (λ s h. spent_if_so s sending h) (λ s h. so_if_spent s sending h.0 h.1 h.2 h.3 h.4) (is_none_of sending) n t found.0
+        finish =
+            sought_so (SomeSpentAt sending) (λ s. list_any (is_spent_at s) sending) (λ s h. spent_if_so s sending h) (λ s h. so_if_spent s sending h.0 h.1 h.2 h.3 h.4) (is_none_of sending) n t found.0
             (λ h s some. no_flight sending s h some) (λ s some. let at : some.1.updated ≡ t = updated_at p.caps shares t 0 (staying t p) some.0 some.1 some.2 in let le : some.1.updated ≤ s = some.3 in omega arith) found.1;
         same = refl;
       }
@@ -215,9 +227,11 @@ module _ {P : Type 0} (cmp : P → P → Ordering) (order : IsTotalOrder cmp) (p
 
   never_ready : (p : Planned P) (s : ℕ) → all_busy p ≡ true → SomeReadyAt cmp p s → ⊥
   never_ready p s e some =
-      let busy : list_any (same_pair cmp some.0) (paced_flows p.sending) ≡ true = found_all (same_pair cmp some.0) (λ m. list_any (same_pair cmp m) (paced_flows p.sending)) p.waiting some.0 some.1 e in
+      let busy : list_any (same_pair cmp some.0) (paced_flows p.sending) ≡ true
+      = found_all (same_pair cmp some.0) (λ m. list_any (same_pair cmp m) (paced_flows p.sending)) p.waiting some.0 some.1 e in
       let may : may_launch cmp s p some.0 ≡ true = some.2 in
-      let parts : (not (list_any (same_pair cmp some.0) (paced_flows p.sending)) ≡ true) × (is_in_order (p.last_arrival some.0.origin some.0.recipient) (s + some.0.latency) ≡ true) = both_true (not (list_any (same_pair cmp some.0) (paced_flows p.sending))) (is_in_order (p.last_arrival some.0.origin some.0.recipient) (s + some.0.latency)) may in
+      let parts : (not (list_any (same_pair cmp some.0) (paced_flows p.sending)) ≡ true) × (is_in_order (p.last_arrival some.0.origin some.0.recipient) (s + some.0.latency) ≡ true)
+      = both_true (not (list_any (same_pair cmp some.0) (paced_flows p.sending))) (is_in_order (p.last_arrival some.0.origin some.0.recipient) (s + some.0.latency)) may in
       not_both (list_any (same_pair cmp some.0) (paced_flows p.sending)) busy parts.0
     where
       not_both : (b : Bool) → b ≡ true → not b ≡ true → ⊥
@@ -226,7 +240,8 @@ module _ {P : Type 0} (cmp : P → P → Ordering) (order : IsTotalOrder cmp) (p
 
   look_so : (t : ℕ) (p q : Planned P) → look t p ≡ Some q → Looks cmp t p q
   look_so t p q e =
-      let found : (o : Option ℕ) × (sought (all_busy p) (is_ready_at t p) n t ≡ Some o) × (Some (record p { start = o }) ≡ Some q) = bound (sought (all_busy p) (is_ready_at t p) n t) (λ o. Some (record p { start = o })) q e in
+      let found : (o : Option ℕ) × (sought (all_busy p) (is_ready_at t p) n t ≡ Some o) × (Some (record p { start = o }) ≡ Some q)
+      = bound (sought (all_busy p) (is_ready_at t p) n t) (λ o. Some (record p { start = o })) q e in
       let same : record p { start = found.0 } ≡ q = the_same found.2 in
       subst (Looks cmp t p) same record {
         start = sought_so (λ s. (t ≤ s) × SomeReadyAt cmp p s) (is_ready_at t p) (ready_if_so t p) (so_if_ready t p) (all_busy p) n t found.0 (λ h s some. never_ready p s h some.1) (λ s some. some.0) found.1;
@@ -237,15 +252,21 @@ module _ {P : Type 0} (cmp : P → P → Ordering) (order : IsTotalOrder cmp) (p
 
   abbrev pub launch : ℕ → Planned P → Option (Message P) → Option (Course (Message P) (Planned P))
   launch t p None = Some (goes [] p)
-  launch t p (Some m) = cond (may_launch cmp t p m) (cond (nat_lt p.next_id last_moment) (bind (account t (launched cmp t p m)) (λ q. Some (goes (leavers_of t (launched cmp t p m)) q))) (Some (meets FlowIdsUsedUp))) (Some (goes [] p))
+  launch t p (Some m) =
+      cond (may_launch cmp t p m)
+      (cond (nat_lt p.next_id last_moment) (bind (account t (launched cmp t p m)) (λ q. Some (goes (leavers_of t (launched cmp t p m)) q))) (Some (meets FlowIdsUsedUp)))
+      (Some (goes [] p))
 
   launch_so : (t : ℕ) (p : Planned P) (o : Option (Message P)) (c : Course (Message P) (Planned P)) → launch t p o ≡ Some c → Launches cmp t p o c
   launch_so t p None c e = subst (Launches cmp t p None) (the_same e) nothing_waits
   launch_so t p (Some m) c e = by_test (may_launch cmp t p m) (nat_lt p.next_id last_moment) refl refl e
     where
-      by_test : (b d : Bool) → may_launch cmp t p m ≡ b → nat_lt p.next_id last_moment ≡ d → cond b (cond d (bind (account t (launched cmp t p m)) (λ q. Some (goes (leavers_of t (launched cmp t p m)) q))) (Some (meets FlowIdsUsedUp))) (Some (goes [] p)) ≡ Some c → Launches cmp t p (Some m) c
+      by_test : (b d : Bool) → may_launch cmp t p m ≡ b → nat_lt p.next_id last_moment ≡ d
+          → cond b (cond d (bind (account t (launched cmp t p m)) (λ q. Some (goes (leavers_of t (launched cmp t p m)) q))) (Some (meets FlowIdsUsedUp))) (Some (goes [] p)) ≡ Some c
+          → Launches cmp t p (Some m) c
       by_test true true may below e =
-          let found : (q : Planned P) × (account t (launched cmp t p m) ≡ Some q) × (Some (goes (leavers_of t (launched cmp t p m)) q) ≡ Some c) = bound (account t (launched cmp t p m)) (λ q. Some (goes (leavers_of t (launched cmp t p m)) q)) c e in
+          let found : (q : Planned P) × (account t (launched cmp t p m) ≡ Some q) × (Some (goes (leavers_of t (launched cmp t p m)) q) ≡ Some c)
+          = bound (account t (launched cmp t p m)) (λ q. Some (goes (leavers_of t (launched cmp t p m)) q)) c e in
           subst (Launches cmp t p (Some m)) (the_same found.2) (starts may (ltb-true p.next_id last_moment below) (account_so t (launched cmp t p m) found.0 found.1))
       by_test true false may below e = subst (Launches cmp t p (Some m)) (the_same e) (no_id may (ltb-false p.next_id last_moment below))
       by_test false d may below e = subst (Launches cmp t p (Some m)) (the_same e) (too_early may)
@@ -267,13 +288,18 @@ module _ {P : Type 0} (cmp : P → P → Ordering) (order : IsTotalOrder cmp) (p
       subst (Finishes cmp t [] p) (the_same found.2) (all_completed (look_so t p found.0 found.1))
   finish_all_so t (suc k) (m ∷ ms) p c e = by_late (is_late cmp t m) refl e (finish_all_so t k)
     where
-      by_launch : (l : Course (Message P) (Planned P)) → is_late cmp t m ≡ false → Launches cmp t (landed cmp t p m) (next_of cmp p m) l → followed l (λ more q. bind (finish_all t k (ms ++ more) q) (λ rest. Some (preceded (completed cmp t m ∷ []) rest))) ≡ Some c → AreFinishes t k → Finishes cmp t (m ∷ ms) p c
+      by_launch : (l : Course (Message P) (Planned P)) → is_late cmp t m ≡ false → Launches cmp t (landed cmp t p m) (next_of cmp p m) l
+          → followed l (λ more q. bind (finish_all t k (ms ++ more) q) (λ rest. Some (preceded (completed cmp t m ∷ []) rest))) ≡ Some c → AreFinishes t k
+          → Finishes cmp t (m ∷ ms) p c
       by_launch (meets fault) is l e ih = subst (Finishes cmp t (m ∷ ms) p) (the_same e) (stopped is l)
       by_launch (goes more q) is l e ih =
-          let found : (rest : Course (Completed P) (Planned P)) × (finish_all t k (ms ++ more) q ≡ Some rest) × (Some (preceded (completed cmp t m ∷ []) rest) ≡ Some c) = bound (finish_all t k (ms ++ more) q) (λ rest. Some (preceded (completed cmp t m ∷ []) rest)) c e in
+          let found : (rest : Course (Completed P) (Planned P)) × (finish_all t k (ms ++ more) q ≡ Some rest) × (Some (preceded (completed cmp t m ∷ []) rest) ≡ Some c)
+          = bound (finish_all t k (ms ++ more) q) (λ rest. Some (preceded (completed cmp t m ∷ []) rest)) c e in
           subst (Finishes cmp t (m ∷ ms) p) (the_same found.2) (completes is l (ih (ms ++ more) q found.0 found.1))
 
-      by_late : (b : Bool) → is_late cmp t m ≡ b → cond b (Some (meets MomentTooLate)) (bind (launch t (landed cmp t p m) (next_of cmp p m)) (λ c. followed c (λ more q. bind (finish_all t k (ms ++ more) q) (λ rest. Some (preceded (completed cmp t m ∷ []) rest))))) ≡ Some c → AreFinishes t k → Finishes cmp t (m ∷ ms) p c
+      by_late : (b : Bool) → is_late cmp t m ≡ b
+          → cond b (Some (meets MomentTooLate)) (bind (launch t (landed cmp t p m) (next_of cmp p m)) (λ c. followed c (λ more q. bind (finish_all t k (ms ++ more) q) (λ rest. Some (preceded (completed cmp t m ∷ []) rest))))) ≡ Some c
+          → AreFinishes t k → Finishes cmp t (m ∷ ms) p c
       by_late true is e ih = subst (Finishes cmp t (m ∷ ms) p) (the_same e) (late is)
       by_late false is e ih =
           let found : (l : Course (Message P) (Planned P)) × (launch t (landed cmp t p m) (next_of cmp p m) ≡ Some l) × (followed l (λ more q. bind (finish_all t k (ms ++ more) q) (λ rest. Some (preceded (completed cmp t m ∷ []) rest))) ≡ Some c)
@@ -283,7 +309,8 @@ module _ {P : Type 0} (cmp : P → P → Ordering) (order : IsTotalOrder cmp) (p
   -- those pairs start
   abbrev pub wake_each : ℕ → List (Message P) → Planned P → Option (Course (Completed P) (Planned P))
   wake_each t [] p = bind (look t p) (λ q. Some (goes [] q))
-  wake_each t (m ∷ ms) p = bind (launch t p (next_of cmp p m)) (λ c. followed c (λ more q. bind (finish_all t n more q) (λ d. followed d (λ cs r. bind (wake_each t ms r) (λ rest. Some (preceded cs rest))))))
+  wake_each t (m ∷ ms) p =
+      bind (launch t p (next_of cmp p m)) (λ c. followed c (λ more q. bind (finish_all t n more q) (λ d. followed d (λ cs r. bind (wake_each t ms r) (λ rest. Some (preceded cs rest))))))
 
   abbrev AreWakes : ℕ → List (Message P) → Type 0
   AreWakes t ms = (q : Planned P) (c : Course (Completed P) (Planned P)) → wake_each t ms q ≡ Some c → WakesEach cmp t ms q c
@@ -297,16 +324,21 @@ module _ {P : Type 0} (cmp : P → P → Ordering) (order : IsTotalOrder cmp) (p
       = bound (launch t p (next_of cmp p m)) (λ l. followed l (λ more q. bind (finish_all t n more q) (λ d. followed d (λ cs r. bind (wake_each t ms r) (λ rest. Some (preceded cs rest)))))) c e in
       by_launch found.0 (launch_so t p (next_of cmp p m) found.0 found.1) found.2 (wake_each_so t ms)
     where
-      by_finish : (more : List (Message P)) (q : Planned P) (d : Course (Completed P) (Planned P)) → Launches cmp t p (next_of cmp p m) (goes more q) → Finishes cmp t more q d → followed d (λ cs r. bind (wake_each t ms r) (λ rest. Some (preceded cs rest))) ≡ Some c → AreWakes t ms → WakesEach cmp t (m ∷ ms) p c
+      by_finish : (more : List (Message P)) (q : Planned P) (d : Course (Completed P) (Planned P)) → Launches cmp t p (next_of cmp p m) (goes more q) → Finishes cmp t more q d
+          → followed d (λ cs r. bind (wake_each t ms r) (λ rest. Some (preceded cs rest))) ≡ Some c → AreWakes t ms → WakesEach cmp t (m ∷ ms) p c
       by_finish more q (meets fault) l f e ih = subst (WakesEach cmp t (m ∷ ms) p) (the_same e) (no_finish l f)
       by_finish more q (goes cs r) l f e ih =
-          let found : (rest : Course (Completed P) (Planned P)) × (wake_each t ms r ≡ Some rest) × (Some (preceded cs rest) ≡ Some c) = bound (wake_each t ms r) (λ rest. Some (preceded cs rest)) c e in
+          let found : (rest : Course (Completed P) (Planned P)) × (wake_each t ms r ≡ Some rest) × (Some (preceded cs rest) ≡ Some c)
+          = bound (wake_each t ms r) (λ rest. Some (preceded cs rest)) c e in
           subst (WakesEach cmp t (m ∷ ms) p) (the_same found.2) (starts_one l f (ih r found.0 found.1))
 
-      by_launch : (l : Course (Message P) (Planned P)) → Launches cmp t p (next_of cmp p m) l → followed l (λ more q. bind (finish_all t n more q) (λ d. followed d (λ cs r. bind (wake_each t ms r) (λ rest. Some (preceded cs rest))))) ≡ Some c → AreWakes t ms → WakesEach cmp t (m ∷ ms) p c
+      by_launch : (l : Course (Message P) (Planned P)) → Launches cmp t p (next_of cmp p m) l
+          → followed l (λ more q. bind (finish_all t n more q) (λ d. followed d (λ cs r. bind (wake_each t ms r) (λ rest. Some (preceded cs rest))))) ≡ Some c → AreWakes t ms
+          → WakesEach cmp t (m ∷ ms) p c
       by_launch (meets fault) l e ih = subst (WakesEach cmp t (m ∷ ms) p) (the_same e) (no_start l)
       by_launch (goes more q) l e ih =
-          let found : (d : Course (Completed P) (Planned P)) × (finish_all t n more q ≡ Some d) × (followed d (λ cs r. bind (wake_each t ms r) (λ rest. Some (preceded cs rest))) ≡ Some c) = bound (finish_all t n more q) (λ d. followed d (λ cs r. bind (wake_each t ms r) (λ rest. Some (preceded cs rest)))) c e in
+          let found : (d : Course (Completed P) (Planned P)) × (finish_all t n more q ≡ Some d) × (followed d (λ cs r. bind (wake_each t ms r) (λ rest. Some (preceded cs rest))) ≡ Some c)
+          = bound (finish_all t n more q) (λ d. followed d (λ cs r. bind (wake_each t ms r) (λ rest. Some (preceded cs rest)))) c e in
           by_finish more q found.0 l (finish_all_so t n more q found.0 found.1) found.2 ih
 
   abbrev pub wake_at : ℕ → Planned P → Option (Course (Completed P) (Planned P))
@@ -328,9 +360,12 @@ module _ {P : Type 0} (cmp : P → P → Ordering) (order : IsTotalOrder cmp) (p
   recap_at_so : (now : ℕ) (caps : Caps P) (p : Planned P) (c : Course (Completed P) (Planned P)) → recap_at now caps p ≡ Some c → Recaps cmp now caps p c
   recap_at_so now caps p c e = by_sending p.sending refl e
     where
-      by_sending : (fs : List (Paced P)) → p.sending ≡ fs → (if is_none_of fs then bind (look now (record p { caps = caps; limited = true })) (λ q. Some (goes [] q)) else settle_at now (record p { caps = caps; limited = true })) ≡ Some c → Recaps cmp now caps p c
+      by_sending : (fs : List (Paced P)) → p.sending ≡ fs
+          → (if is_none_of fs then bind (look now (record p { caps = caps; limited = true })) (λ q. Some (goes [] q)) else settle_at now (record p { caps = caps; limited = true })) ≡ Some c
+          → Recaps cmp now caps p c
       by_sending [] is e =
-          let found : (q : Planned P) × (look now (record p { caps = caps; limited = true }) ≡ Some q) × (Some (goes [] q) ≡ Some c) = bound (look now (record p { caps = caps; limited = true })) (λ q. Some (goes [] q)) c e in
+          let found : (q : Planned P) × (look now (record p { caps = caps; limited = true }) ≡ Some q) × (Some (goes [] q) ≡ Some c)
+          = bound (look now (record p { caps = caps; limited = true })) (λ q. Some (goes [] q)) c e in
           subst (Recaps cmp now caps p) (the_same found.2) (none_sending is (look_so now (record p { caps = caps; limited = true }) found.0 found.1))
       by_sending (f ∷ fs) is e = some_sending (λ none. not_none (sym is ∙ none)) (settle_at_so now (record p { caps = caps; limited = true }) c e)
         where
@@ -338,18 +373,24 @@ module _ {P : Type 0} (cmp : P → P → Ordering) (order : IsTotalOrder cmp) (p
           not_none h = cc
 
   abbrev pub enqueue_at : ℕ → Message P → Planned P → Option (Course (Completed P) (Planned P))
-  enqueue_at now m p = cond p.limited (bind (launch now (with_queued cmp p m) (next_of cmp (with_queued cmp p m) m)) (λ c. followed c (λ leavers mid. finish_all now n leavers mid))) (Some (completed_at_once cmp now p m))
+  enqueue_at now m p =
+      cond p.limited (bind (launch now (with_queued cmp p m) (next_of cmp (with_queued cmp p m) m)) (λ c. followed c (λ leavers mid. finish_all now n leavers mid)))
+      (Some (completed_at_once cmp now p m))
 
   enqueue_at_so : (now : ℕ) (m : Message P) (p : Planned P) (c : Course (Completed P) (Planned P)) → enqueue_at now m p ≡ Some c → Enqueues cmp now m p c
   enqueue_at_so now m p c e = by_limited p.limited refl e
     where
-      by_launch : (l : Course (Message P) (Planned P)) → p.limited ≡ true → Launches cmp now (with_queued cmp p m) (next_of cmp (with_queued cmp p m) m) l → followed l (λ leavers mid. finish_all now n leavers mid) ≡ Some c → Enqueues cmp now m p c
+      by_launch : (l : Course (Message P) (Planned P)) → p.limited ≡ true → Launches cmp now (with_queued cmp p m) (next_of cmp (with_queued cmp p m) m) l
+          → followed l (λ leavers mid. finish_all now n leavers mid) ≡ Some c → Enqueues cmp now m p c
       by_launch (meets fault) is l e = subst (Enqueues cmp now m p) (the_same e) (no_launch is l)
       by_launch (goes leavers mid) is l e = launches is l (finish_all_so now n leavers mid c e)
 
-      by_limited : (b : Bool) → p.limited ≡ b → cond b (bind (launch now (with_queued cmp p m) (next_of cmp (with_queued cmp p m) m)) (λ c. followed c (λ leavers mid. finish_all now n leavers mid))) (Some (completed_at_once cmp now p m)) ≡ Some c → Enqueues cmp now m p c
+      by_limited : (b : Bool) → p.limited ≡ b
+          → cond b (bind (launch now (with_queued cmp p m) (next_of cmp (with_queued cmp p m) m)) (λ c. followed c (λ leavers mid. finish_all now n leavers mid))) (Some (completed_at_once cmp now p m)) ≡ Some c
+          → Enqueues cmp now m p c
       by_limited true is e =
-          let found : (l : Course (Message P) (Planned P)) × (launch now (with_queued cmp p m) (next_of cmp (with_queued cmp p m) m) ≡ Some l) × (followed l (λ leavers mid. finish_all now n leavers mid) ≡ Some c) = bound (launch now (with_queued cmp p m) (next_of cmp (with_queued cmp p m) m)) (λ l. followed l (λ leavers mid. finish_all now n leavers mid)) c e in
+          let found : (l : Course (Message P) (Planned P)) × (launch now (with_queued cmp p m) (next_of cmp (with_queued cmp p m) m) ≡ Some l) × (followed l (λ leavers mid. finish_all now n leavers mid) ≡ Some c)
+          = bound (launch now (with_queued cmp p m) (next_of cmp (with_queued cmp p m) m)) (λ l. followed l (λ leavers mid. finish_all now n leavers mid)) c e in
           by_launch found.0 is (launch_so now (with_queued cmp p m) (next_of cmp (with_queued cmp p m) m) found.0 found.1) found.2
       by_limited false is e = subst (Enqueues cmp now m p) (the_same e) (at_once is)
 
@@ -368,7 +409,8 @@ module _ {P : Type 0} (cmp : P → P → Ordering) (order : IsTotalOrder cmp) (p
 
   abbrev pub advance_at : ℕ → ℕ → Planned P → Option (Course (Completed P) (Planned P))
   advance_at now zero p = None
-  advance_at now (suc k) p = cond (is_past now (next_event p)) (wake_at now p) (bind (event_of p (next_event p)) (λ c. followed c (λ cs q. bind (advance_at now k q) (λ rest. Some (preceded cs rest)))))
+  advance_at now (suc k) p =
+      cond (is_past now (next_event p)) (wake_at now p) (bind (event_of p (next_event p)) (λ c. followed c (λ cs q. bind (advance_at now k q) (λ rest. Some (preceded cs rest)))))
 
   abbrev Advanced : ℕ → Planned P → Course (Completed P) (Planned P) → Type 0
   Advanced now p c = (m : ℕ) × Advances cmp now p m c
@@ -388,27 +430,38 @@ module _ {P : Type 0} (cmp : P → P → Ordering) (order : IsTotalOrder cmp) (p
   advance_at_so now zero p c e = cc
   advance_at_so now (suc k) p c e = by_next (next_event p) refl e (advance_at_so now k)
     where
-      at_event : (t : ℕ) (b : Bool) (d : Course (Completed P) (Planned P)) → next_event p ≡ Some t → t ≤ now → is_moment t p.finish ≡ b → cond b (settle_at t (record p { finish = None })) (wake_at t (record p { start = None })) ≡ Some d
+      at_event : (t : ℕ) (b : Bool) (d : Course (Completed P) (Planned P)) → next_event p ≡ Some t → t ≤ now → is_moment t p.finish ≡ b
+          → cond b (settle_at t (record p { finish = None })) (wake_at t (record p { start = None })) ≡ Some d
           → followed d (λ cs q. bind (advance_at now k q) (λ rest. Some (preceded cs rest))) ≡ Some c → AreAdvanced now k → Advanced now p c
-      at_event t true (meets fault) is due finish e more ih = subst (Advanced now p) (the_same more) (1, finish_stops (is_at t p.finish finish) is due (settle_at_so t (record p { finish = None }) (meets fault) e))
-      at_event t false (meets fault) is due finish e more ih = subst (Advanced now p) (the_same more) (1, start_stops (is_not_at t p.finish finish) is due (wake_each_so t (filter (may_launch cmp t p) (fronts cmp p.waiting)) (record p { start = None }) (meets fault) e))
+      at_event t true (meets fault) is due finish e more ih =
+          subst (Advanced now p) (the_same more) (1, finish_stops (is_at t p.finish finish) is due (settle_at_so t (record p { finish = None }) (meets fault) e))
+      at_event t false (meets fault) is due finish e more ih =
+          subst (Advanced now p) (the_same more)
+          (1, start_stops (is_not_at t p.finish finish) is due (wake_each_so t (filter (may_launch cmp t p) (fronts cmp p.waiting)) (record p { start = None }) (meets fault) e))
       at_event t true (goes cs q) is due finish e more ih =
-          let found : (rest : Course (Completed P) (Planned P)) × (advance_at now k q ≡ Some rest) × (Some (preceded cs rest) ≡ Some c) = bound (advance_at now k q) (λ rest. Some (preceded cs rest)) c more in
+          let found : (rest : Course (Completed P) (Planned P)) × (advance_at now k q ≡ Some rest) × (Some (preceded cs rest) ≡ Some c)
+          = bound (advance_at now k q) (λ rest. Some (preceded cs rest)) c more in
           let rest : Advanced now q found.0 = ih q found.0 found.1 in
           subst (Advanced now p) (the_same found.2) (rest.0 + 1, at_finish (is_at t p.finish finish) is due (settle_at_so t (record p { finish = None }) (goes cs q) e) rest.1)
       at_event t false (goes cs q) is due finish e more ih =
-          let found : (rest : Course (Completed P) (Planned P)) × (advance_at now k q ≡ Some rest) × (Some (preceded cs rest) ≡ Some c) = bound (advance_at now k q) (λ rest. Some (preceded cs rest)) c more in
+          let found : (rest : Course (Completed P) (Planned P)) × (advance_at now k q ≡ Some rest) × (Some (preceded cs rest) ≡ Some c)
+          = bound (advance_at now k q) (λ rest. Some (preceded cs rest)) c more in
           let rest : Advanced now q found.0 = ih q found.0 found.1 in
           subst (Advanced now p) (the_same found.2) (rest.0 + 1, at_start (is_not_at t p.finish finish) is due (wake_each_so t (filter (may_launch cmp t p) (fronts cmp p.waiting)) (record p { start = None }) (goes cs q) e) rest.1)
 
-      by_past : (t : ℕ) (b : Bool) → next_event p ≡ Some t → nat_lt now t ≡ b → cond b (wake_at now p) (bind (event_of p (Some t)) (λ d. followed d (λ cs q. bind (advance_at now k q) (λ rest. Some (preceded cs rest))))) ≡ Some c → AreAdvanced now k → Advanced now p c
-      by_past t true is past e ih = (0, no_more (subst (λ (o : Option ℕ). IfSome o (λ s. now < s)) (sym is) (ltb-true now t past)) (wake_each_so now (filter (may_launch cmp now p) (fronts cmp p.waiting)) p c e))
+      by_past : (t : ℕ) (b : Bool) → next_event p ≡ Some t → nat_lt now t ≡ b
+          → cond b (wake_at now p) (bind (event_of p (Some t)) (λ d. followed d (λ cs q. bind (advance_at now k q) (λ rest. Some (preceded cs rest))))) ≡ Some c → AreAdvanced now k
+          → Advanced now p c
+      by_past t true is past e ih =
+          (0, no_more (subst (λ (o : Option ℕ). IfSome o (λ s. now < s)) (sym is) (ltb-true now t past)) (wake_each_so now (filter (may_launch cmp now p) (fronts cmp p.waiting)) p c e))
       by_past t false is past e ih =
           let found : (d : Course (Completed P) (Planned P)) × (event_of p (Some t) ≡ Some d) × (followed d (λ cs q. bind (advance_at now k q) (λ rest. Some (preceded cs rest))) ≡ Some c)
           = bound (event_of p (Some t)) (λ d. followed d (λ cs q. bind (advance_at now k q) (λ rest. Some (preceded cs rest)))) c e in
           at_event t (is_moment t p.finish) found.0 is (ltb-false now t past) refl found.1 found.2 ih
 
-      by_next : (o : Option ℕ) → next_event p ≡ o → cond (is_past now o) (wake_at now p) (bind (event_of p o) (λ d. followed d (λ cs q. bind (advance_at now k q) (λ rest. Some (preceded cs rest))))) ≡ Some c → AreAdvanced now k → Advanced now p c
+      by_next : (o : Option ℕ) → next_event p ≡ o
+          → cond (is_past now o) (wake_at now p) (bind (event_of p o) (λ d. followed d (λ cs q. bind (advance_at now k q) (λ rest. Some (preceded cs rest))))) ≡ Some c
+          → AreAdvanced now k → Advanced now p c
       by_next None is e ih = (0, no_more (subst (λ (o : Option ℕ). IfSome o (λ s. now < s)) (sym is) tt) (wake_each_so now (filter (may_launch cmp now p) (fronts cmp p.waiting)) p c e))
       by_next (Some t) is e ih = by_past t (nat_lt now t) is refl e ih
 
@@ -451,19 +504,22 @@ module _ {P : Type 0} (cmp : P → P → Ordering) (order : IsTotalOrder cmp) (p
   Replied p call calls (reply_refused why ∷ replies) = MayBeRefused cmp p call why × Obeyed cmp p calls replies
   Replied p call calls (reply_done cs ∷ replies) = (ds : List (Completed P)) × (q : Planned P) × Obeys cmp p call (goes ds q) × AllZip (SameCompletion cmp) cs ds × Obeyed cmp q calls replies
 
-  limit_obeyed : (p : Planned P) (now : ℕ) (peer : P) (egress ingress : Option ℕ) (calls : List (Call P)) (replies : List (Reply P)) → Replied p (call_limit now peer egress ingress) calls replies → Obeyed cmp p (call_limit now peer egress ingress ∷ calls) replies
+  limit_obeyed : (p : Planned P) (now : ℕ) (peer : P) (egress ingress : Option ℕ) (calls : List (Call P)) (replies : List (Reply P))
+      → Replied p (call_limit now peer egress ingress) calls replies → Obeyed cmp p (call_limit now peer egress ingress ∷ calls) replies
   limit_obeyed p now peer egress ingress calls [] h = h
   limit_obeyed p now peer egress ingress calls (reply_next t ∷ replies) h = h
   limit_obeyed p now peer egress ingress calls (reply_done cs ∷ replies) h = h
   limit_obeyed p now peer egress ingress calls (reply_refused why ∷ replies) h = h
 
-  link_obeyed : (p : Planned P) (now : ℕ) (origin recipient : P) (cap : Option ℕ) (calls : List (Call P)) (replies : List (Reply P)) → Replied p (call_limit_link now origin recipient cap) calls replies → Obeyed cmp p (call_limit_link now origin recipient cap ∷ calls) replies
+  link_obeyed : (p : Planned P) (now : ℕ) (origin recipient : P) (cap : Option ℕ) (calls : List (Call P)) (replies : List (Reply P))
+      → Replied p (call_limit_link now origin recipient cap) calls replies → Obeyed cmp p (call_limit_link now origin recipient cap ∷ calls) replies
   link_obeyed p now origin recipient cap calls [] h = h
   link_obeyed p now origin recipient cap calls (reply_next t ∷ replies) h = h
   link_obeyed p now origin recipient cap calls (reply_done cs ∷ replies) h = h
   link_obeyed p now origin recipient cap calls (reply_refused why ∷ replies) h = h
 
-  enqueue_obeyed : (p : Planned P) (now : ℕ) (m : Message P) (calls : List (Call P)) (replies : List (Reply P)) → Replied p (call_enqueue now m) calls replies → Obeyed cmp p (call_enqueue now m ∷ calls) replies
+  enqueue_obeyed : (p : Planned P) (now : ℕ) (m : Message P) (calls : List (Call P)) (replies : List (Reply P)) → Replied p (call_enqueue now m) calls replies
+      → Obeyed cmp p (call_enqueue now m ∷ calls) replies
   enqueue_obeyed p now m calls [] h = h
   enqueue_obeyed p now m calls (reply_next t ∷ replies) h = h
   enqueue_obeyed p now m calls (reply_done cs ∷ replies) h = h
@@ -475,33 +531,41 @@ module _ {P : Type 0} (cmp : P → P → Ordering) (order : IsTotalOrder cmp) (p
   advance_obeyed p now calls (reply_done cs ∷ replies) h = h
   advance_obeyed p now calls (reply_refused why ∷ replies) h = h
 
-  replied_so : (p : Planned P) (call : Call P) (calls : List (Call P)) (replies : List (Reply P)) → ((q : Planned P) (others : List (Reply P)) → replies_by_rule q calls ≡ Some others → Obeyed cmp q calls others)
+  replied_so : (p : Planned P) (call : Call P) (calls : List (Call P)) (replies : List (Reply P))
+      → ((q : Planned P) (others : List (Reply P)) → replies_by_rule q calls ≡ Some others → Obeyed cmp q calls others)
       → bind (obeys_at p call) (λ c. replied_to c p (λ q. replies_by_rule q calls)) ≡ Some replies → Replied p call calls replies
   replied_so p call calls replies ih e =
-      let found : (c : Course (Completed P) (Planned P)) × (obeys_at p call ≡ Some c) × (replied_to c p (λ q. replies_by_rule q calls) ≡ Some replies) = bound (obeys_at p call) (λ c. replied_to c p (λ q. replies_by_rule q calls)) replies e in
+      let found : (c : Course (Completed P) (Planned P)) × (obeys_at p call ≡ Some c) × (replied_to c p (λ q. replies_by_rule q calls) ≡ Some replies)
+      = bound (obeys_at p call) (λ c. replied_to c p (λ q. replies_by_rule q calls)) replies e in
       by_course found.0 (obeys_at_so p call found.0 found.1) found.2
     where
       by_course : (c : Course (Completed P) (Planned P)) → Obeys cmp p call c → replied_to c p (λ q. replies_by_rule q calls) ≡ Some replies → Replied p call calls replies
       by_course (goes cs q) obeys e =
-          let found : (others : List (Reply P)) × (replies_by_rule q calls ≡ Some others) × (Some (reply_done cs ∷ others) ≡ Some replies) = bound (replies_by_rule q calls) (λ others. Some (reply_done cs ∷ others)) replies e in
+          let found : (others : List (Reply P)) × (replies_by_rule q calls ≡ Some others) × (Some (reply_done cs ∷ others) ≡ Some replies)
+          = bound (replies_by_rule q calls) (λ others. Some (reply_done cs ∷ others)) replies e in
           subst (Replied p call calls) (the_same found.2) (cs, q, obeys, same_all cmp order cs, ih q found.0 found.1)
       by_course (meets OutOfMemory) obeys e = cc
       by_course (meets NumberTooLarge) obeys e = cc
       by_course (meets MomentTooLate) obeys e =
-          let found : (others : List (Reply P)) × (replies_by_rule p calls ≡ Some others) × (Some (reply_refused MomentTooLate ∷ others) ≡ Some replies) = bound (replies_by_rule p calls) (λ others. Some (reply_refused MomentTooLate ∷ others)) replies e in
+          let found : (others : List (Reply P)) × (replies_by_rule p calls ≡ Some others) × (Some (reply_refused MomentTooLate ∷ others) ≡ Some replies)
+          = bound (replies_by_rule p calls) (λ others. Some (reply_refused MomentTooLate ∷ others)) replies e in
           subst (Replied p call calls) (the_same found.2) (obeys, ih p found.0 found.1)
       by_course (meets FlowIdsUsedUp) obeys e =
-          let found : (others : List (Reply P)) × (replies_by_rule p calls ≡ Some others) × (Some (reply_refused FlowIdsUsedUp ∷ others) ≡ Some replies) = bound (replies_by_rule p calls) (λ others. Some (reply_refused FlowIdsUsedUp ∷ others)) replies e in
+          let found : (others : List (Reply P)) × (replies_by_rule p calls ≡ Some others) × (Some (reply_refused FlowIdsUsedUp ∷ others) ≡ Some replies)
+          = bound (replies_by_rule p calls) (λ others. Some (reply_refused FlowIdsUsedUp ∷ others)) replies e in
           subst (Replied p call calls) (the_same found.2) (obeys, ih p found.0 found.1)
 
   pub obeyed_so : (p : Planned P) (calls : List (Call P)) (replies : List (Reply P)) → replies_by_rule p calls ≡ Some replies → Obeyed cmp p calls replies
   obeyed_so p [] replies e = subst (Obeyed cmp p []) (the_same e) tt
-  obeyed_so p (call_limit now peer egress ingress ∷ calls) replies e = limit_obeyed p now peer egress ingress calls replies (replied_so p (call_limit now peer egress ingress) calls replies (λ q others h. obeyed_so q calls others h) e)
-  obeyed_so p (call_limit_link now origin recipient cap ∷ calls) replies e = link_obeyed p now origin recipient cap calls replies (replied_so p (call_limit_link now origin recipient cap) calls replies (λ q others h. obeyed_so q calls others h) e)
+  obeyed_so p (call_limit now peer egress ingress ∷ calls) replies e =
+      limit_obeyed p now peer egress ingress calls replies (replied_so p (call_limit now peer egress ingress) calls replies (λ q others h. obeyed_so q calls others h) e)
+  obeyed_so p (call_limit_link now origin recipient cap ∷ calls) replies e =
+      link_obeyed p now origin recipient cap calls replies (replied_so p (call_limit_link now origin recipient cap) calls replies (λ q others h. obeyed_so q calls others h) e)
   obeyed_so p (call_enqueue now m ∷ calls) replies e = enqueue_obeyed p now m calls replies (replied_so p (call_enqueue now m) calls replies (λ q others h. obeyed_so q calls others h) e)
   obeyed_so p (call_advance now ∷ calls) replies e = advance_obeyed p now calls replies (replied_so p (call_advance now) calls replies (λ q others h. obeyed_so q calls others h) e)
   obeyed_so p (call_next ∷ calls) replies e =
-      let found : (others : List (Reply P)) × (replies_by_rule p calls ≡ Some others) × (Some (reply_next (next_event p) ∷ others) ≡ Some replies) = bound (replies_by_rule p calls) (λ others. Some (reply_next (next_event p) ∷ others)) replies e in
+      let found : (others : List (Reply P)) × (replies_by_rule p calls ≡ Some others) × (Some (reply_next (next_event p) ∷ others) ≡ Some replies)
+      = bound (replies_by_rule p calls) (λ others. Some (reply_next (next_event p) ∷ others)) replies e in
       subst (Obeyed cmp p (call_next ∷ calls)) (the_same found.2) (refl, obeyed_so p calls found.0 found.1)
 
 -- all messages share one cap evenly

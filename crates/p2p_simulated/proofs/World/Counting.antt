@@ -25,7 +25,8 @@ split_length : {X : Type 0} (test : X → Bool) (xs : List X) → length (filter
 split_length test [] = refl
 split_length {X} test (x ∷ xs) = by_test (test x) (split_length test xs)
   where
-    by_test : (b : Bool) → length (filter test xs) + length (filter (λ y. not (test y)) xs) ≡ length xs → length (cond b (x ∷ filter test xs) (filter test xs)) + length (cond (not b) (x ∷ filter (λ y. not (test y)) xs) (filter (λ y. not (test y)) xs)) ≡ length (x ∷ xs)
+    by_test : (b : Bool) → length (filter test xs) + length (filter (λ y. not (test y)) xs) ≡ length xs
+        → length (cond b (x ∷ filter test xs) (filter test xs)) + length (cond (not b) (x ∷ filter (λ y. not (test y)) xs) (filter (λ y. not (test y)) xs)) ≡ length (x ∷ xs)
     by_test true ih = omega (arith, ih)
     by_test false ih = omega (arith, ih)
 
@@ -54,8 +55,10 @@ module _ {P : Type 0} (cmp : P → P → Ordering) (order : IsTotalOrder cmp) wh
   account_counts t old new leavers account =
       let all : List (Paced P) = drained_to t old.sending in
       let out : length leavers ≡ length (filter (is_spent cmp old) all) = ap (λ (ms : List (Message P)). length ms) account.left ∙ map_length (filter (is_spent cmp old) all) in
-      let stay : length (filter (λ (f : Paced P). not (is_spent cmp old f)) all) ≡ length new.sending = zip_length (λ (f g : Paced P). (g.message ≡ f.message) × (g.left ≡ f.left) × (g.updated ≡ t)) (filter (λ (f : Paced P). not (is_spent cmp old f)) all) new.sending account.stayed in
-      let both : length (filter (is_spent cmp old) all) + length (filter (λ (f : Paced P). not (is_spent cmp old f)) all) ≡ length old.sending = split_length (is_spent cmp old) all ∙ drained_length t old.sending in
+      let stay : length (filter (λ (f : Paced P). not (is_spent cmp old f)) all) ≡ length new.sending
+      = zip_length (λ (f g : Paced P). (g.message ≡ f.message) × (g.left ≡ f.left) × (g.updated ≡ t)) (filter (λ (f : Paced P). not (is_spent cmp old f)) all) new.sending account.stayed in
+      let both : length (filter (is_spent cmp old) all) + length (filter (λ (f : Paced P). not (is_spent cmp old f)) all) ≡ length old.sending
+      = split_length (is_spent cmp old) all ∙ drained_length t old.sending in
       let same : length new.waiting ≡ length old.waiting = ap (λ (q : Planned P). length q.waiting) account.same in
       omega arith
 
@@ -78,9 +81,16 @@ module _ {P : Type 0} (cmp : P → P → Ordering) (order : IsTotalOrder cmp) wh
     pub no_more : to_do q + length ms ≤ to_do p
     pub less : may ≡ true → to_do q + length ms < to_do p
 
-  launch_counts : {t : ℕ} {p : Planned P} {o : Option (Message P)} {c : Course (Message P) (Planned P)} → Launches cmp t p o c → (k : Message P) (ms : List (Message P)) (q : Planned P) → next_of cmp p k ≡ o → c ≡ goes ms q → to_do q + length ms ≤ to_do p
-  launch_counts {p = p} nothing_waits k ms q is e = let none : [] ≡ ms = cc in let same : p ≡ q = cc in subst (λ (z : Planned P). to_do z + length ms ≤ to_do p) same (subst (λ (ns : List (Message P)). to_do p + length ns ≤ to_do p) none (omega arith))
-  launch_counts {p = p} (too_early may) k ms q is e = let none : [] ≡ ms = cc in let same : p ≡ q = cc in subst (λ (z : Planned P). to_do z + length ms ≤ to_do p) same (subst (λ (ns : List (Message P)). to_do p + length ns ≤ to_do p) none (omega arith))
+  launch_counts : {t : ℕ} {p : Planned P} {o : Option (Message P)} {c : Course (Message P) (Planned P)} → Launches cmp t p o c
+      → (k : Message P) (ms : List (Message P)) (q : Planned P) → next_of cmp p k ≡ o → c ≡ goes ms q → to_do q + length ms ≤ to_do p
+  launch_counts {p = p} nothing_waits k ms q is e =
+      let none : [] ≡ ms = cc in
+      let same : p ≡ q = cc in
+      subst (λ (z : Planned P). to_do z + length ms ≤ to_do p) same (subst (λ (ns : List (Message P)). to_do p + length ns ≤ to_do p) none (omega arith))
+  launch_counts {p = p} (too_early may) k ms q is e =
+      let none : [] ≡ ms = cc in
+      let same : p ≡ q = cc in
+      subst (λ (z : Planned P). to_do z + length ms ≤ to_do p) same (subst (λ (ns : List (Message P)). to_do p + length ns ≤ to_do p) none (omega arith))
   launch_counts (no_id may last) k ms q is e = cc
   launch_counts {t = t} {p = p} (starts {m = m} {leavers = leavers} {new = new} may below account) k ms q is e =
       let counts : to_do new + length leavers ≡ to_do (launched cmp t p m) = account_counts t (launched cmp t p m) new leavers account in
@@ -90,9 +100,13 @@ module _ {P : Type 0} (cmp : P → P → Ordering) (order : IsTotalOrder cmp) wh
       subst (λ (z : Planned P). to_do z + length ms ≤ to_do p) same (subst (λ (ns : List (Message P)). to_do new + length ns ≤ to_do p) out (omega arith))
 
   -- one that may start does
-  launch_less : {t : ℕ} {p : Planned P} {o : Option (Message P)} {c : Course (Message P) (Planned P)} → Launches cmp t p o c → (k m : Message P) (ms : List (Message P)) (q : Planned P) → next_of cmp p k ≡ o → o ≡ Some m → may_launch cmp t p m ≡ true → c ≡ goes ms q → to_do q + length ms < to_do p
+  launch_less : {t : ℕ} {p : Planned P} {o : Option (Message P)} {c : Course (Message P) (Planned P)} → Launches cmp t p o c
+      → (k m : Message P) (ms : List (Message P)) (q : Planned P) → next_of cmp p k ≡ o → o ≡ Some m → may_launch cmp t p m ≡ true → c ≡ goes ms q → to_do q + length ms < to_do p
   launch_less nothing_waits k m ms q is some may e = cc
-  launch_less {t = t} {p = p} (too_early {m = x} early) k m ms q is some may e = let same : x ≡ m = cc in let on : may_launch cmp t p x ≡ true = subst (λ (y : Message P). may_launch cmp t p y ≡ true) (sym same) may in cc
+  launch_less {t = t} {p = p} (too_early {m = x} early) k m ms q is some may e =
+      let same : x ≡ m = cc in
+      let on : may_launch cmp t p x ≡ true = subst (λ (y : Message P). may_launch cmp t p y ≡ true) (sym same) may in
+      cc
   launch_less (no_id first last) k m ms q is some may e = cc
   launch_less {t = t} {p = p} (starts {m = x} {leavers = leavers} {new = new} first below account) k m ms q is some may e =
       let counts : to_do new + length leavers ≡ to_do (launched cmp t p x) = account_counts t (launched cmp t p x) new leavers account in
@@ -132,7 +146,8 @@ module _ {P : Type 0} (cmp : P → P → Ordering) (order : IsTotalOrder cmp) wh
       leaves_after (to_do p) cs rest (leaves_more (to_do r) (to_do p) rest (omega arith) (wake_counts wakes))
 
   -- a wake that finds a pair ready starts it
-  wake_less : {t : ℕ} {ms : List (Message P)} {p : Planned P} {c : Course (Completed P) (Planned P)} → WakesEach cmp t ms p c → (m : Message P) (ns : List (Message P)) → ms ≡ m ∷ ns → next_of cmp p m ≡ Some m → may_launch cmp t p m ≡ true → 0 < to_do p × Leaves (to_do p - 1) c
+  wake_less : {t : ℕ} {ms : List (Message P)} {p : Planned P} {c : Course (Completed P) (Planned P)} → WakesEach cmp t ms p c → (m : Message P) (ns : List (Message P))
+      → ms ≡ m ∷ ns → next_of cmp p m ≡ Some m → may_launch cmp t p m ≡ true → 0 < to_do p × Leaves (to_do p - 1) c
   wake_less (all_started looks) m ns e found may = cc
   wake_less {p = p} (no_start {m = x} launch) m ns e found may = (waits_some p m found, tt)
     where
@@ -166,7 +181,8 @@ module _ {P : Type 0} (cmp : P → P → Ordering) (order : IsTotalOrder cmp) wh
   looked_right : (t : ℕ) (p q : Planned P) → IsPartlyPlanned p → Looks cmp t p q → IsPlanned cmp q
   looked_right t p q h looks = subst (IsPlanned cmp) (sym looks.same) (record { finish = h.finish; from = t; start = looks.start; none_at_first = h.none_at_first })
 
-  launch_right : {t : ℕ} {p : Planned P} {o : Option (Message P)} {c : Course (Message P) (Planned P)} → Launches cmp t p o c → (k : Message P) (ms : List (Message P)) (q : Planned P) → next_of cmp p k ≡ o → c ≡ goes ms q → IsPartlyPlanned p → IsPartlyPlanned q
+  launch_right : {t : ℕ} {p : Planned P} {o : Option (Message P)} {c : Course (Message P) (Planned P)} → Launches cmp t p o c
+      → (k : Message P) (ms : List (Message P)) (q : Planned P) → next_of cmp p k ≡ o → c ≡ goes ms q → IsPartlyPlanned p → IsPartlyPlanned q
   launch_right {p = p} nothing_waits k ms q is e h = let same : p ≡ q = cc in subst IsPartlyPlanned same h
   launch_right {p = p} (too_early may) k ms q is e h = let same : p ≡ q = cc in subst IsPartlyPlanned same h
   launch_right (no_id may last) k ms q is e h = cc
@@ -219,14 +235,16 @@ module _ {P : Type 0} (cmp : P → P → Ordering) (order : IsTotalOrder cmp) wh
       rw zero_left (omega arith)
   spent_leaves t p (g ∷ gs) (suc i) f at spent = by_test (is_spent cmp p (record g { left = left_at t g; updated = t })) (spent_leaves t p gs i f at spent)
     where
-      by_test : (b : Bool) → 0 < length (filter (is_spent cmp p) (drained_to t gs)) → 0 < length (cond b (record g { left = left_at t g; updated = t } ∷ filter (is_spent cmp p) (drained_to t gs)) (filter (is_spent cmp p) (drained_to t gs)))
+      by_test : (b : Bool) → 0 < length (filter (is_spent cmp p) (drained_to t gs))
+          → 0 < length (cond b (record g { left = left_at t g; updated = t } ∷ filter (is_spent cmp p) (drained_to t gs)) (filter (is_spent cmp p) (drained_to t gs)))
       by_test true h = omega arith
       by_test false h = h
 
   settle_less : {t : ℕ} {p : Planned P} {c : Course (Completed P) (Planned P)} → Settles cmp t p c → SomeSpentAt p.sending t → 0 < to_do p × Leaves (to_do p - 1) c
   settle_less {t = t} {p = p} {c = c} (settling {leavers = leavers} {mid = mid} account finishes) some =
       let counts : to_do mid + length leavers ≡ to_do p = account_counts t p mid leavers account in
-      let out : length leavers ≡ length (filter (is_spent cmp p) (drained_to t p.sending)) = ap (λ (ms : List (Message P)). length ms) account.left ∙ map_length (filter (is_spent cmp p) (drained_to t p.sending)) in
+      let out : length leavers ≡ length (filter (is_spent cmp p) (drained_to t p.sending))
+      = ap (λ (ms : List (Message P)). length ms) account.left ∙ map_length (filter (is_spent cmp p) (drained_to t p.sending)) in
       let one : 0 < length (filter (is_spent cmp p) (drained_to t p.sending)) = spent_leaves t p p.sending some.0 some.1 some.2 some.4 in
       (omega arith, leaves_more (to_do mid) (to_do p - 1) c (omega arith) (finish_counts finishes))
 
@@ -243,7 +261,8 @@ module _ {P : Type 0} (cmp : P → P → Ordering) (order : IsTotalOrder cmp) wh
       by_list (filter (may_launch cmp t p) (fronts cmp p.waiting)) (in_filter (may_launch cmp t p) (fronts cmp p.waiting) some.0 (first_in_fronts some.0 p.waiting some.1) some.2)
       (each_filter (λ (m : Message P). find (same_pair cmp m) p.waiting ≡ Some m) (λ (m : Message P). (find (same_pair cmp m) p.waiting ≡ Some m) × (may_launch cmp t p m ≡ true)) (may_launch cmp t p) (fronts cmp p.waiting) (λ m may found. (found, may)) (fronts_are_first cmp order p.waiting)) wakes
     where
-      by_list : (ms : List (Message P)) → In ms some.0 → Each (λ (m : Message P). (find (same_pair cmp m) p.waiting ≡ Some m) × (may_launch cmp t p m ≡ true)) ms → WakesEach cmp t ms p c → 0 < to_do p × Leaves (to_do p - 1) c
+      by_list : (ms : List (Message P)) → In ms some.0 → Each (λ (m : Message P). (find (same_pair cmp m) p.waiting ≡ Some m) × (may_launch cmp t p m ≡ true)) ms
+          → WakesEach cmp t ms p c → 0 < to_do p × Leaves (to_do p - 1) c
       by_list [] has all wakes = absurd has
       by_list (m ∷ ms) has all wakes = wake_less wakes m ms refl all.0.0 all.0.1
 
@@ -282,7 +301,9 @@ module _ {P : Type 0} (cmp : P → P → Ordering) (order : IsTotalOrder cmp) wh
   advance_right : {now n : ℕ} {p : Planned P} {c : Course (Completed P) (Planned P)} → Advances cmp now p n c → IsPlanned cmp p → Right c
   unfolding Right
   advance_right {p = p} (no_more before wakes) h = wake_right wakes (partly p h)
-  advance_right {p = p} (at_finish {q = q} {cs = cs} {rest = rest} is next due event more) h = let after : IsPlanned cmp q = settle_right event h.none_at_first in right_after cs rest (advance_right more after)
+  advance_right {p = p} (at_finish {q = q} {cs = cs} {rest = rest} is next due event more) h =
+      let after : IsPlanned cmp q = settle_right event h.none_at_first in
+      right_after cs rest (advance_right more after)
   advance_right {p = p} (at_start {q = q} {cs = cs} {rest = rest} is next due event more) h =
       let after : IsPlanned cmp q = wake_right event (record { finish = h.finish; none_at_first = h.none_at_first }) in
       right_after cs rest (advance_right more after)
@@ -291,7 +312,8 @@ module _ {P : Type 0} (cmp : P → P → Ordering) (order : IsTotalOrder cmp) wh
 
   recap_right : {now : ℕ} {caps : Caps P} {p : Planned P} {c : Course (Completed P) (Planned P)} → Recaps cmp now caps p c → IsPlanned cmp p → Right c
   unfolding Right
-  recap_right {now = now} {caps = caps} {p = p} (none_sending {new = new} empty looks) h = looked_right now (record p { caps = caps; limited = true }) new (record { finish = h.finish; none_at_first = λ free. cc }) looks
+  recap_right {now = now} {caps = caps} {p = p} (none_sending {new = new} empty looks) h =
+      looked_right now (record p { caps = caps; limited = true }) new (record { finish = h.finish; none_at_first = λ free. cc }) looks
   recap_right (some_sending some event) h = settle_right event (λ free. cc)
 
   enqueue_right : {now : ℕ} {m : Message P} {p : Planned P} {c : Course (Completed P) (Planned P)} → Enqueues cmp now m p c → IsPlanned cmp p → Right c
@@ -305,7 +327,10 @@ module _ {P : Type 0} (cmp : P → P → Ordering) (order : IsTotalOrder cmp) wh
       after = record p { last_arrival = raised cmp p.last_arrival m at }
 
       none_ready : (q : Planned P) → q.waiting ≡ [] → (s : ℕ) → SomeReadyAt cmp q s → ⊥
-      none_ready q empty s some = let none : find (same_pair cmp some.0) q.waiting ≡ None = ap (find (same_pair cmp some.0)) empty in let there : find (same_pair cmp some.0) q.waiting ≡ Some some.0 = some.1 in cc
+      none_ready q empty s some =
+          let none : find (same_pair cmp some.0) q.waiting ≡ None = ap (find (same_pair cmp some.0)) empty in
+          let there : find (same_pair cmp some.0) q.waiting ≡ Some some.0 = some.1 in
+          cc
 
       still : (o : Option ℕ) → IsLeastMoment (λ s. (h.from ≤ s) × SomeReadyAt cmp p s) o → IsLeastMoment (λ s. (h.from ≤ s) × SomeReadyAt cmp after s) o
       still None least = λ s within some. none_ready after (h.none_at_first free) s some.1
@@ -315,13 +340,15 @@ module _ {P : Type 0} (cmp : P → P → Ordering) (order : IsTotalOrder cmp) wh
       by_late true = tt
       by_late false = record { finish = h.finish; from = h.from; start = still p.start h.start; none_at_first = h.none_at_first }
   enqueue_right (no_launch limits launch) h = tt
-  enqueue_right {m = m} {p = p} (launches {leavers = leavers} {mid = mid} limits launch finishes) h = finish_right finishes (launch_right launch m leavers mid refl refl (record { finish = h.finish; none_at_first = λ free. both limits free }))
+  enqueue_right {m = m} {p = p} (launches {leavers = leavers} {mid = mid} limits launch finishes) h =
+      finish_right finishes (launch_right launch m leavers mid refl refl (record { finish = h.finish; none_at_first = λ free. both limits free }))
     where
       both : {A : Type 0} → p.limited ≡ true → p.limited ≡ false → A
       both on off = cc
 
   -- what is planned is right after each call
-  pub obeys_right : (p : Planned P) (call : Call P) (c : Course (Completed P) (Planned P)) → IsPlanned cmp p → Obeys cmp p call c → (cs : List (Completed P)) (q : Planned P) → c ≡ goes cs q → IsPlanned cmp q
+  pub obeys_right : (p : Planned P) (call : Call P) (c : Course (Completed P) (Planned P)) → IsPlanned cmp p → Obeys cmp p call c → (cs : List (Completed P)) (q : Planned P)
+      → c ≡ goes cs q → IsPlanned cmp q
   unfolding Right
   obeys_right p call c h obeys cs q e = subst Right e (by_call call obeys)
     where

@@ -40,7 +40,9 @@ module _ {P : Type 0} (cmp : P → P → Ordering) (order : IsTotalOrder cmp) wh
       where
         by_first : (o : Option (Flight P)) → find (is_done cmp w) w.sending ≡ o → ((v : World P) → Q v → EndsWith Q (settle_within cmp n t v)) → EndsWith Q (settle_within cmp (suc n) t w)
         by_first None e ih = subst (λ (c : Course (Completed P) (World P)). EndsWith Q c) (sym (settle_none cmp order n t w e)) h
-        by_first (Some f) e ih = subst (λ (c : Course (Completed P) (World P)). EndsWith Q c) (sym (settle_first cmp order n t w f e)) (ends_and_then Q Q (complete cmp t w f.message) (settle_within cmp n t) (complete_keeps t w f.message h) ih)
+        by_first (Some f) e ih =
+            subst (λ (c : Course (Completed P) (World P)). EndsWith Q c) (sym (settle_first cmp order n t w f e))
+            (ends_and_then Q Q (complete cmp t w f.message) (settle_within cmp n t) (complete_keeps t w f.message h) ih)
 
     pub settle_keeps : (t : ℕ) (w : World P) → Q w → EndsWith Q (settle cmp t w)
     settle_keeps t w h = settle_within_keeps (length w.sending + length w.waiting) t w h
@@ -78,18 +80,21 @@ module _ {P : Type 0} (cmp : P → P → Ordering) (order : IsTotalOrder cmp) wh
       ends_any (goes cs u) = tt
       ends_any (meets fault) = tt
 
-      by_least : (o : Option (Message P)) → least_pair cmp (ready cmp t w) ≡ o → ((v : World P) → NoneDone cmp order v → EndsWith (NoneDone cmp order) (wake_within cmp n t v)) → EndsWith (NoneDone cmp order) (wake_within cmp (suc n) t w)
+      by_least : (o : Option (Message P)) → least_pair cmp (ready cmp t w) ≡ o → ((v : World P) → NoneDone cmp order v → EndsWith (NoneDone cmp order) (wake_within cmp n t v))
+          → EndsWith (NoneDone cmp order) (wake_within cmp (suc n) t w)
       by_least None e ih = subst (λ (c : Course (Completed P) (World P)). EndsWith (NoneDone cmp order) c) (sym (wake_none cmp order n t w e)) h
       by_least (Some m) e ih = subst (λ (c : Course (Completed P) (World P)). EndsWith (NoneDone cmp order) c) (sym (wake_first cmp order n t w m e))
           (ends_and_then (λ v. ⊤) (NoneDone cmp order) (start cmp w m) (λ v. and_then (settle cmp t v) (wake_within cmp n t)) (ends_any (start cmp w m))
           (λ v g. ends_and_then (NoneDone cmp order) (NoneDone cmp order) (settle cmp t v) (wake_within cmp n t) (settle_rests cmp order t v) ih))
 
   pub instant_rests : (w : World P) → EndsWith (NoneDone cmp order) (instant cmp w)
-  instant_rests w = ends_and_then (NoneDone cmp order) (NoneDone cmp order) (settle cmp w.moment w) (λ v. wake cmp v.moment v) (settle_rests cmp order w.moment w) (λ v g. wake_rests (length v.waiting) v.moment v g)
+  instant_rests w =
+      ends_and_then (NoneDone cmp order) (NoneDone cmp order) (settle cmp w.moment w) (λ v. wake cmp v.moment v) (settle_rests cmp order w.moment w) (λ v g. wake_rests (length v.waiting) v.moment v g)
 
   -- ---- ticks
 
-  pub ticks_end : {n : ℕ} {w : World P} {course : Course (Completed P) (World P)} → Ticks cmp n w course → (cs : List (Completed P)) (v : World P) → course ≡ goes cs v → NoneDone cmp order w → (v.moment ≡ w.moment + n) × NoneDone cmp order v
+  pub ticks_end : {n : ℕ} {w : World P} {course : Course (Completed P) (World P)} → Ticks cmp n w course → (cs : List (Completed P)) (v : World P) → course ≡ goes cs v
+      → NoneDone cmp order w → (v.moment ≡ w.moment + n) × NoneDone cmp order v
   ticks_end {w = w} no_tick cs v e h = let same : w ≡ v = cc in subst (λ (z : World P). (z.moment ≡ w.moment + 0) × NoneDone cmp order z) same (omega arith, h)
   ticks_end {w = w} (one_tick {n = n} {v = z} {u = u} {cs = ds} {rest = rest} d i t) cs v e h =
       let r : (es : List (Completed P)) × (rest ≡ goes es v) × (ds ++ es ≡ cs) = rest_is cmp ds rest cs v e in
@@ -151,7 +156,8 @@ module _ {P : Type 0} (cmp : P → P → Ordering) (order : IsTotalOrder cmp) wh
       by_rest q empty here at {es} join (inl no_more) = inl (sym join ∙ ap (λ (xs : List (Completed P)). xs ++ es) empty ∙ no_more)
       by_rest q empty here at join (inr (t, below, next)) = inr (t, omega arith, next_later w z (Some t) t d q refl (subst (λ (y : World P). NextIs cmp y (Some t)) here next))
 
-      by_quiet : IsQuiet cmp z.moment z ⊎ (¬ IsQuiet cmp z.moment z) → z.moment ≡ w.moment + 1 → {es : List (Completed P)} → ds ++ es ≡ cs → (u.moment + n ≤ last_moment → (es ≡ []) ⊎ ((t : ℕ) × (t ≤ u.moment + n) × NextIs cmp u (Some t)))
+      by_quiet : IsQuiet cmp z.moment z ⊎ (¬ IsQuiet cmp z.moment z) → z.moment ≡ w.moment + 1 → {es : List (Completed P)} → ds ++ es ≡ cs
+          → (u.moment + n ≤ last_moment → (es ≡ []) ⊎ ((t : ℕ) × (t ≤ u.moment + n) × NextIs cmp u (Some t)))
           → (cs ≡ []) ⊎ ((t : ℕ) × (t ≤ w.moment + suc n) × NextIs cmp w (Some t))
       by_quiet (inr loud) at join ih = inr (z.moment, omega arith, comes_next no_time d loud (omega arith))
       by_quiet (inl q) at {es} join ih =

@@ -58,7 +58,8 @@ module _ {P : Type 0} (cmp : P → P → Ordering) (order : IsTotalOrder cmp) (p
   differ n w (call_next ∷ calls) (reply_done cs ∷ replies) = true
   differ n w (call_next ∷ calls) (reply_refused why ∷ replies) = true
   differ n w (call_limit now peer egress ingress ∷ calls) (reply ∷ replies) = before_next n w now && differ_at w (call_limit now peer egress ingress) now reply (λ v. differ n v calls replies)
-  differ n w (call_limit_link now origin recipient cap ∷ calls) (reply ∷ replies) = before_next n w now && differ_at w (call_limit_link now origin recipient cap) now reply (λ v. differ n v calls replies)
+  differ n w (call_limit_link now origin recipient cap ∷ calls) (reply ∷ replies) =
+      before_next n w now && differ_at w (call_limit_link now origin recipient cap) now reply (λ v. differ n v calls replies)
   differ n w (call_enqueue now m ∷ calls) (reply ∷ replies) = before_next n w now && differ_at w (call_enqueue now m) now reply (λ v. differ n v calls replies)
   differ n w (call_advance now ∷ calls) (reply ∷ replies) = nat_le w.moment now && differ_at w (call_advance now) now reply (λ v. differ n v calls replies)
 
@@ -83,7 +84,8 @@ module _ {P : Type 0} (cmp : P → P → Ordering) (order : IsTotalOrder cmp) (p
 
   in_turn : (n : ℕ) (w : World P) (now : ℕ) → IsSound cmp w → before_next n w now ≡ true → (w.moment ≤ now) × IsBeforeNext cmp now w
   in_turn n w now sound e =
-      let two : ((nat_le w.moment now && may_seek cmp order plan n w) ≡ true) × (is_later (seek cmp order plan n w) now ≡ true) = both_true (nat_le w.moment now && may_seek cmp order plan n w) (is_later (seek cmp order plan n w) now) e in
+      let two : ((nat_le w.moment now && may_seek cmp order plan n w) ≡ true) × (is_later (seek cmp order plan n w) now ≡ true)
+      = both_true (nat_le w.moment now && may_seek cmp order plan n w) (is_later (seek cmp order plan n w) now) e in
       let one : (nat_le w.moment now ≡ true) × (may_seek cmp order plan n w ≡ true) = both_true (nat_le w.moment now) (may_seek cmp order plan n w) two.0 in
       (leb-true w.moment now one.0, λ next is. by_next next (next_is_one cmp order w next (seek cmp order plan n w) sound.positive is (next_so cmp order plan n w one.1)) two.1)
     where
@@ -95,16 +97,21 @@ module _ {P : Type 0} (cmp : P → P → Ordering) (order : IsTotalOrder cmp) (p
   Disagrees n calls replies = (w : World P) (accepted : List (Call P)) → IsSound cmp w → differ n w calls replies ≡ true → ¬ Agrees cmp w accepted calls replies
 
   abbrev Accepted : World P → List (Call P) → Call P → List (Call P) → List (Completed P) → List (Reply P) → Type 0
-  Accepted w accepted call calls cs replies = (now : ℕ) × (ds : List (Completed P)) × (v : World P) × (moment_of call ≡ Some now) × Runs cmp w call now (goes ds v) × AllZip (SameCompletion cmp) cs ds × Agrees cmp v (accepted ++ call ∷ []) calls replies
+  Accepted w accepted call calls cs replies =
+      (now : ℕ) × (ds : List (Completed P)) × (v : World P) × (moment_of call ≡ Some now) × Runs cmp w call now (goes ds v) × AllZip (SameCompletion cmp) cs ds × Agrees cmp v
+      (accepted ++ call ∷ []) calls replies
 
-  not_done : (n : ℕ) (w : World P) (accepted : List (Call P)) (call : Call P) (calls : List (Call P)) (now : ℕ) (cs : List (Completed P)) (replies : List (Reply P)) → Disagrees n calls replies → IsSound cmp w → moment_of call ≡ Some now
+  not_done : (n : ℕ) (w : World P) (accepted : List (Call P)) (call : Call P) (calls : List (Call P)) (now : ℕ) (cs : List (Completed P)) (replies : List (Reply P))
+      → Disagrees n calls replies → IsSound cmp w → moment_of call ≡ Some now
       → differ_at w call now (reply_done cs) (λ v. differ n v calls replies) ≡ true → ¬ Accepted w accepted call calls cs replies
   not_done n w accepted call calls now cs replies ih sound at e (now_too, ds, v, at_too, runs, same, rest) =
-      let two : (may_tick cmp order plan (now - w.moment) w ≡ true) × (differ_done (course_of cmp order plan w call now) cs (λ u. differ n u calls replies) ≡ true) = both_true (may_tick cmp order plan (now - w.moment) w) (differ_done (course_of cmp order plan w call now) cs (λ u. differ n u calls replies)) e in
+      let two : (may_tick cmp order plan (now - w.moment) w ≡ true) × (differ_done (course_of cmp order plan w call now) cs (λ u. differ n u calls replies) ≡ true)
+      = both_true (may_tick cmp order plan (now - w.moment) w) (differ_done (course_of cmp order plan w call now) cs (λ u. differ n u calls replies)) e in
       let here : Some now_too ≡ Some now = sym at_too ∙ at in
       let it : now_too ≡ now = cc in
       let runs_here : Runs cmp w call now (goes ds v) = subst (λ (t : ℕ). Runs cmp w call t (goes ds v)) it runs in
-      let one : course_of cmp order plan w call now ≡ goes ds v = runs_are_one cmp order w call now (course_of cmp order plan w call now) (goes ds v) sound (runs_so cmp order plan w call now two.0) runs_here in
+      let one : course_of cmp order plan w call now ≡ goes ds v
+      = runs_are_one cmp order w call now (course_of cmp order plan w call now) (goes ds v) sound (runs_so cmp order plan w call now two.0) runs_here in
       let left : (not (same_each cs ds) || differ n v calls replies) ≡ true = subst (λ (c : Course (Completed P) (World P)). differ_done c cs (λ u. differ n u calls replies) ≡ true) one two.1 in
       let sound_v : EndsWith (IsSound cmp) (goes ds v) = call_keeps_sound cmp order w call now (goes ds v) sound runs_here in
       either (same_each cs ds) (differ n v calls replies) left (each_shown cs ds same) (λ d. ih v (accepted ++ call ∷ []) sound_v d rest)
@@ -115,7 +122,8 @@ module _ {P : Type 0} (cmp : P → P → Ordering) (order : IsTotalOrder cmp) (p
   disagree n [] (reply ∷ replies) w accepted sound e agrees = agrees
   disagree n (call ∷ calls) [] w accepted sound e agrees = agrees
   disagree n (call_next ∷ calls) (reply_next t ∷ replies) w accepted sound e agrees =
-      let two : (may_seek cmp order plan n w ≡ true) × ((not (same_moment (seek cmp order plan n w) t) || differ n w calls replies) ≡ true) = both_true (may_seek cmp order plan n w) (not (same_moment (seek cmp order plan n w) t) || differ n w calls replies) e in
+      let two : (may_seek cmp order plan n w ≡ true) × ((not (same_moment (seek cmp order plan n w) t) || differ n w calls replies) ≡ true)
+      = both_true (may_seek cmp order plan n w) (not (same_moment (seek cmp order plan n w) t) || differ n w calls replies) e in
       let same : seek cmp order plan n w ≡ t = next_is_one cmp order w (seek cmp order plan n w) t sound.positive (next_so cmp order plan n w two.0) agrees.0 in
       either (same_moment (seek cmp order plan n w) t) (differ n w calls replies) two.1 (moment_shown (seek cmp order plan n w) t same) (λ d. disagree n calls replies w accepted sound d agrees.1)
   disagree n (call_next ∷ calls) (reply_done cs ∷ replies) w accepted sound e agrees = agrees

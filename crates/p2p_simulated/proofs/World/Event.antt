@@ -37,7 +37,8 @@ module _ {P : Type 0} (cmp : P → P → Ordering) (order : IsTotalOrder cmp) wh
   instant_is w v cs e = ap (λ (c : Course (Completed P) (World P)). and_then c (λ u. wake cmp u.moment u)) e
 
   pub instant_quiet : (w : World P) → IsQuiet cmp w.moment w → instant cmp w ≡ goes [] w
-  instant_quiet w quiet = instant_is w w [] (settle_quiet (length w.sending + length w.waiting) w.moment w quiet.none_done) ∙ ap (preceded []) (wake_quiet (length w.waiting) w.moment w quiet.none_ready)
+  instant_quiet w quiet =
+      instant_is w w [] (settle_quiet (length w.sending + length w.waiting) w.moment w quiet.none_done) ∙ ap (preceded []) (wake_quiet (length w.waiting) w.moment w quiet.none_ready)
 
   -- ---- quiet ticks, and then one
 
@@ -104,4 +105,5 @@ module _ {P : Type 0} (cmp : P → P → Ordering) (order : IsTotalOrder cmp) wh
   nothing_now t p w within settled later some = later (start_is p t p.start settled.start within some)
 
   pub settled_wakes : (t : ℕ) (p : Planned P) (w : World P) → IsSettled cmp t p w → ¬ SomeReadyAt cmp p t → wake cmp w.moment w ≡ goes [] w
-  settled_wakes t p w settled not_now = wake_quiet (length w.waiting) w.moment w (ap (λ (s : ℕ). ready cmp s w) settled.follows.tallies.moment ∙ none_ready_at cmp order t p w settled.follows.tallies not_now)
+  settled_wakes t p w settled not_now =
+      wake_quiet (length w.waiting) w.moment w (ap (λ (s : ℕ). ready cmp s w) settled.follows.tallies.moment ∙ none_ready_at cmp order t p w settled.follows.tallies not_now)

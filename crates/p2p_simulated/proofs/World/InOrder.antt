@@ -143,7 +143,8 @@ module _ {P : Type 0} (cmp : P → P → Ordering) (order : IsTotalOrder cmp) wh
       none_if [] e = refl
       none_if (z ∷ zs) e = cc
 
-      by_rest : (o : Option (Message P)) → least_pair cmp xs ≡ o → Some (elim o [ None ↦ x | Some n ↦ if pair_before cmp n x then n else x ]) ≡ Some y → ((z : Message P) → least_pair cmp xs ≡ Some z → Each (λ v. pair_before cmp v z ≡ false) xs)
+      by_rest : (o : Option (Message P)) → least_pair cmp xs ≡ o → Some (elim o [ None ↦ x | Some n ↦ if pair_before cmp n x then n else x ]) ≡ Some y
+          → ((z : Message P) → least_pair cmp xs ≡ Some z → Each (λ v. pair_before cmp v z ≡ false) xs)
           → (pair_before cmp x y ≡ false) × Each (λ z. pair_before cmp z y ≡ false) xs
       by_rest None is e ih =
           let same : x ≡ y = cc in
@@ -210,7 +211,8 @@ module _ {P : Type 0} (cmp : P → P → Ordering) (order : IsTotalOrder cmp) wh
       by_place (inl same) = same
       by_place (inr rest) =
           let later : (n : Message P) × (pair_before cmp m n ≡ true) × SameMessage cmp n y = some_each (λ n. pair_before cmp m n ≡ true) (λ n. SameMessage cmp n y) ms sorted.0 rest in
-          let there : (z : Message P) × (pair_before cmp z y ≡ false) × SameMessage cmp m z = some_each (λ z. pair_before cmp z y ≡ false) (λ z. SameMessage cmp m z) (x ∷ xs) (least_before (x ∷ xs) y least) has.0 in
+          let there : (z : Message P) × (pair_before cmp z y ≡ false) × SameMessage cmp m z
+          = some_each (λ z. pair_before cmp z y ≡ false) (λ z. SameMessage cmp m z) (x ∷ xs) (least_before (x ∷ xs) y least) has.0 in
           let same : pair_before cmp m later.0 ≡ pair_before cmp there.0 y = before_alike m there.0 later.0 y there.2 later.2 in
           absurd (differ (sym later.1 ∙ same ∙ there.1))
         where
@@ -224,7 +226,9 @@ module _ {P : Type 0} (cmp : P → P → Ordering) (order : IsTotalOrder cmp) wh
       own_pair = same_is m m ∙ ap is_eq (tied_itself pair_total m)
 
       among_rest : Each (IsAmong ms) (filter (apart cmp order y) (x ∷ xs))
-      among_rest = each_map (λ z. IsAmong (m ∷ ms) z × (apart cmp order y z ≡ true)) (IsAmong ms) (filter (apart cmp order y) (x ∷ xs)) (λ z k. by_head z k.0 k.1) (each_filtered (IsAmong (m ∷ ms)) (apart cmp order y) (x ∷ xs) among)
+      among_rest =
+          each_map (λ z. IsAmong (m ∷ ms) z × (apart cmp order y z ≡ true)) (IsAmong ms) (filter (apart cmp order y) (x ∷ xs)) (λ z k. by_head z k.0 k.1)
+          (each_filtered (IsAmong (m ∷ ms)) (apart cmp order y) (x ∷ xs) among)
         where
           by_head : (z : Message P) → SameMessage cmp m z ⊎ IsAmong ms z → apart cmp order y z ≡ true → IsAmong ms z
           by_head z (inl same) off =
@@ -234,7 +238,9 @@ module _ {P : Type 0} (cmp : P → P → Ordering) (order : IsTotalOrder cmp) wh
           by_head z (inr rest) off = rest
 
       has_rest : Each (HasIn (filter (apart cmp order y) (x ∷ xs))) ms
-      has_rest = each_map (λ n. HasIn (x ∷ xs) n × (pair_before cmp m n ≡ true)) (HasIn (filter (apart cmp order y) (x ∷ xs))) ms (λ n k. stays n k.0 k.1) (each_both (HasIn (x ∷ xs)) (λ n. pair_before cmp m n ≡ true) ms has.1 sorted.0)
+      has_rest =
+          each_map (λ n. HasIn (x ∷ xs) n × (pair_before cmp m n ≡ true)) (HasIn (filter (apart cmp order y) (x ∷ xs))) ms (λ n k. stays n k.0 k.1)
+          (each_both (HasIn (x ∷ xs)) (λ n. pair_before cmp m n ≡ true) ms has.1 sorted.0)
         where
           each_both : (Q R : Message P → Type 0) (ns : List (Message P)) → Each Q ns → Each R ns → Each (λ n. Q n × R n) ns
           each_both Q R [] f g = tt
@@ -250,7 +256,8 @@ module _ {P : Type 0} (cmp : P → P → Ordering) (order : IsTotalOrder cmp) wh
   in_fronts Q x [] e q = cc
   in_fronts Q x (z ∷ ws) e q = by_test (same_pair cmp x z) refl e (in_fronts (λ n. Q n × (not (same_pair cmp z n) ≡ true)) x ws)
     where
-      by_test : (b : Bool) → same_pair cmp x z ≡ b → cond b (Some z) (find (same_pair cmp x) ws) ≡ Some x → (find (same_pair cmp x) ws ≡ Some x → Q x × (not (same_pair cmp z x) ≡ true) → Somewhere (λ n. Q n × (not (same_pair cmp z n) ≡ true)) (fronts cmp ws))
+      by_test : (b : Bool) → same_pair cmp x z ≡ b → cond b (Some z) (find (same_pair cmp x) ws) ≡ Some x
+          → (find (same_pair cmp x) ws ≡ Some x → Q x × (not (same_pair cmp z x) ≡ true) → Somewhere (λ n. Q n × (not (same_pair cmp z n) ≡ true)) (fronts cmp ws))
           → Somewhere Q (z ∷ filter (λ n. not (same_pair cmp z n)) (fronts cmp ws))
       by_test true is e ih = let same : x ≡ z = cc in inl (subst Q same q)
       by_test false is e ih = inr (some_filtered Q (λ n. not (same_pair cmp z n)) (fronts cmp ws) (ih e (q, not_of (same_pair cmp z x) (pair_sym cmp order z x ∙ is))))
@@ -268,19 +275,26 @@ module _ {P : Type 0} (cmp : P → P → Ordering) (order : IsTotalOrder cmp) wh
 
   pub in_ready : (t : ℕ) (p : Planned P) (w : World P) (m : Message P) → Tallies cmp t p w → next_of cmp p m ≡ Some m → may_launch cmp t p m ≡ true → HasIn (ready cmp t w) m
   in_ready t p w m same next may =
-      let there : (y : Message P) × (find (same_pair cmp m) w.waiting ≡ Some y) × SameMessage cmp m y = alike_some (find (same_pair cmp m) w.waiting) m (subst (λ (o : Option (Message P)). OptionsAlike (SameMessage cmp) o (find (same_pair cmp m) w.waiting)) next (next_alike cmp order t p w m m same (message_itself cmp order m))) in
+      let there : (y : Message P) × (find (same_pair cmp m) w.waiting ≡ Some y) × SameMessage cmp m y
+      = alike_some (find (same_pair cmp m) w.waiting) m
+      (subst (λ (o : Option (Message P)). OptionsAlike (SameMessage cmp) o (find (same_pair cmp m) w.waiting)) next (next_alike cmp order t p w m m same (message_itself cmp order m)))
+      in
       let may_too : may_start cmp t w there.0 ≡ true = sym (may_alike cmp order t p w m there.0 same.last_arrival (messages_alike cmp order t p.sending w.sending same.sending) there.2) ∙ may in
       some_filtered (λ y. SameMessage cmp m y) (may_start cmp t w) (fronts cmp w.waiting) (in_fronts (λ y. SameMessage cmp m y × (may_start cmp t w y ≡ true)) there.0 w.waiting (found_own m there.0 w.waiting there.1) (there.2, may_too))
 
-  in_launching : (t : ℕ) (p : Planned P) (w : World P) (y : Message P) → Tallies cmp t p w → find (same_pair cmp y) w.waiting ≡ Some y → may_start cmp t w y ≡ true → IsAmong (filter (may_launch cmp t p) (fronts cmp p.waiting)) y
+  in_launching : (t : ℕ) (p : Planned P) (w : World P) (y : Message P) → Tallies cmp t p w → find (same_pair cmp y) w.waiting ≡ Some y → may_start cmp t w y ≡ true
+      → IsAmong (filter (may_launch cmp t p) (fronts cmp p.waiting)) y
   in_launching t p w y same next may =
-      let there : (x : Message P) × (next_of cmp p y ≡ Some x) × SameMessage cmp x y = alike_some_back (next_of cmp p y) y (subst (λ (o : Option (Message P)). OptionsAlike (SameMessage cmp) (next_of cmp p y) o) next (next_alike cmp order t p w y y same (message_itself cmp order y))) in
+      let there : (x : Message P) × (next_of cmp p y ≡ Some x) × SameMessage cmp x y
+      = alike_some_back (next_of cmp p y) y
+      (subst (λ (o : Option (Message P)). OptionsAlike (SameMessage cmp) (next_of cmp p y) o) next (next_alike cmp order t p w y y same (message_itself cmp order y))) in
       let may_too : may_launch cmp t p there.0 ≡ true = may_alike cmp order t p w there.0 y same.last_arrival (messages_alike cmp order t p.sending w.sending same.sending) there.2 ∙ may in
       some_filtered (λ x. SameMessage cmp x y) (may_launch cmp t p) (fronts cmp p.waiting) (in_fronts (λ x. SameMessage cmp x y × (may_launch cmp t p x ≡ true)) there.0 p.waiting (found_own y there.0 p.waiting there.1) (there.2, may_too))
 
   -- the pairs that the planned world finds ready are those that the world picks, in this order
   pub picks_ready : (t : ℕ) (p : Planned P) (w : World P) → Tallies cmp t p w → Picks cmp order (ready cmp t w) (filter (may_launch cmp t p) (fronts cmp p.waiting))
-  picks_ready t p w same = picks_from (filter (may_launch cmp t p) (fronts cmp p.waiting)) (ready cmp t w) (sorted_filter (may_launch cmp t p) (fronts cmp p.waiting) (fronts_sorted p.waiting same.pair_order))
+  picks_ready t p w same =
+      picks_from (filter (may_launch cmp t p) (fronts cmp p.waiting)) (ready cmp t w) (sorted_filter (may_launch cmp t p) (fronts cmp p.waiting) (fronts_sorted p.waiting same.pair_order))
       (each_map (λ y. IsFront cmp order w.waiting y × (may_start cmp t w y ≡ true)) (IsAmong (filter (may_launch cmp t p) (fronts cmp p.waiting))) (ready cmp t w) (λ y k. in_launching t p w y same (first_found cmp order (same_pair cmp y) y k.0.0 w.waiting k.0.1) k.1) (each_filtered (IsFront cmp order w.waiting) (may_start cmp t w) (fronts cmp w.waiting) (fronts_first cmp order w.waiting)))
       (each_map (λ m. IsFront cmp order p.waiting m × (may_launch cmp t p m ≡ true)) (HasIn (ready cmp t w)) (filter (may_launch cmp t p) (fronts cmp p.waiting)) (λ m k. in_ready t p w m same (first_found cmp order (same_pair cmp m) m k.0.0 p.waiting k.0.1) k.1) (each_filtered (IsFront cmp order p.waiting) (may_launch cmp t p) (fronts cmp p.waiting) (fronts_first cmp order p.waiting)))
 

@@ -46,9 +46,11 @@ module _ {P : Type 0} (cmp : P → P → Ordering) (order : IsTotalOrder cmp) (p
 
   -- ---- a launch
 
-  pub named_alike : (m : Message P) (ps : List (P × P)) (p q : P) → same_peer cmp m.origin p ≡ true → same_peer cmp m.recipient q ≡ true → names_pair cmp ps m.origin m.recipient ≡ true → names_pair cmp ps p q ≡ true
+  pub named_alike : (m : Message P) (ps : List (P × P)) (p q : P) → same_peer cmp m.origin p ≡ true → same_peer cmp m.recipient q ≡ true
+      → names_pair cmp ps m.origin m.recipient ≡ true → names_pair cmp ps p q ≡ true
   named_alike m [] p q e f h = h
-  named_alike m (pair ∷ ps) p q e f h = rw (← peer_right pair.0 m.origin p e, ← peer_right pair.1 m.recipient q f) (by_test (same_peer cmp pair.0 m.origin && same_peer cmp pair.1 m.recipient) h (named_alike m ps p q e f))
+  named_alike m (pair ∷ ps) p q e f h =
+      rw (← peer_right pair.0 m.origin p e, ← peer_right pair.1 m.recipient q f) (by_test (same_peer cmp pair.0 m.origin && same_peer cmp pair.1 m.recipient) h (named_alike m ps p q e f))
     where
       peer_right : (r a b : P) → same_peer cmp a b ≡ true → same_peer cmp r a ≡ same_peer cmp r b
       peer_right r a b same = peer_sym cmp order r a ∙ sym (peer_like cmp order a b r same) ∙ peer_sym cmp order b r
@@ -91,7 +93,8 @@ module _ {P : Type 0} (cmp : P → P → Ordering) (order : IsTotalOrder cmp) (p
       let ids : p.next_id + length p.waiting ≤ most = h.ids in
       absurd (omega arith)
 
-  pub launches_well : {t : ℕ} {p : Planned P} {o : Option (Message P)} {c : Course (Message P) (Planned P)} → Launches cmp t p o c → (k : Message P) → next_of cmp p k ≡ o → t < 2 ^ 56 → Holds p → LaunchesWell c
+  pub launches_well : {t : ℕ} {p : Planned P} {o : Option (Message P)} {c : Course (Message P) (Planned P)} → Launches cmp t p o c → (k : Message P) → next_of cmp p k ≡ o
+      → t < 2 ^ 56 → Holds p → LaunchesWell c
   unfolding LaunchesWell
   launches_well nothing_waits k is early h = (tt, h)
   launches_well (too_early e) k is early h = (tt, h)
@@ -122,7 +125,8 @@ module _ {P : Type 0} (cmp : P → P → Ordering) (order : IsTotalOrder cmp) (p
       later_soon None at Q h k = k
       later_soon (Some last) at Q h k = let l : last < 2 ^ 57 = h.0 in omega arith
 
-      by_pair : (q r : P) (a b : Bool) → same_peer cmp m.origin q ≡ a → same_peer cmp m.recipient r ≡ b → IfSome (cond (a && b) (Some (later_of (p.last_arrival q r) (arrival cmp t m))) (p.last_arrival q r)) (λ s. (s < 2 ^ 57) × (names_pair cmp pairs q r ≡ true))
+      by_pair : (q r : P) (a b : Bool) → same_peer cmp m.origin q ≡ a → same_peer cmp m.recipient r ≡ b
+          → IfSome (cond (a && b) (Some (later_of (p.last_arrival q r) (arrival cmp t m))) (p.last_arrival q r)) (λ s. (s < 2 ^ 57) × (names_pair cmp pairs q r ≡ true))
       by_pair q r true true e f = (later_soon (p.last_arrival q r) (arrival cmp t m) (names_pair cmp pairs q r ≡ true) (h.0.arrivals q r) soon, named_alike m pairs q r e f leaver.named)
       by_pair q r true false e f = h.0.arrivals q r
       by_pair q r false b e f = h.0.arrivals q r
@@ -216,7 +220,9 @@ module _ {P : Type 0} (cmp : P → P → Ordering) (order : IsTotalOrder cmp) (p
 
   pub advance_account_bounded : {now t : ℕ} {p q : Planned P} → AdvanceAccounts cmp now p t q → now < 2 ^ 56 → Holds p → (t < 2 ^ 56) × Bounded q
   advance_account_bounded (in_the_end before accounts) early h = (early, wake_account_bounded accounts early h)
-  advance_account_bounded {p = p} (at_the_finish {t = t} is next due accounts) early h = let soon : t < 2 ^ 56 = omega arith in (soon, settle_account_bounded accounts soon (unplanned p None p.start h).0)
+  advance_account_bounded {p = p} (at_the_finish {t = t} is next due accounts) early h =
+      let soon : t < 2 ^ 56 = omega arith in
+      (soon, settle_account_bounded accounts soon (unplanned p None p.start h).0)
   advance_account_bounded {p = p} (at_the_start {t = t} is next due accounts) early h = let soon : t < 2 ^ 56 = omega arith in (soon, wake_account_bounded accounts soon (unplanned p p.finish None h))
   advance_account_bounded {p = p} (after_a_finish {q = q} is next due event accounts) early h =
       let after : Holds q = settles_well event (omega arith) (unplanned p None p.start h).0 in

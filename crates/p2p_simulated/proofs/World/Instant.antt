@@ -41,7 +41,8 @@ all_without : {X : Type 0} (test : X → Bool) (xs : List X) → find test xs �
 all_without test [] e = refl
 all_without {X} test (x ∷ xs) e = by_test (test x) e (all_without test xs)
   where
-    by_test : (b : Bool) → cond b (Some x) (find test xs) ≡ None → (find test xs ≡ None → filter (λ x. not (test x)) xs ≡ xs) → cond (not b) (x ∷ filter (λ x. not (test x)) xs) (filter (λ x. not (test x)) xs) ≡ x ∷ xs
+    by_test : (b : Bool) → cond b (Some x) (find test xs) ≡ None → (find test xs ≡ None → filter (λ x. not (test x)) xs ≡ xs)
+        → cond (not b) (x ∷ filter (λ x. not (test x)) xs) (filter (λ x. not (test x)) xs) ≡ x ∷ xs
     by_test true e ih = cc
     by_test false e ih = ap (λ (q : List X). x ∷ q) (ih e)
 
@@ -61,7 +62,8 @@ module _ {P : Type 0} (cmp : P → P → Ordering) (order : IsTotalOrder cmp) wh
   completed_alike : (t : ℕ) (m n : Message P) → SameMessage cmp m n → SameCompletion cmp (completed cmp t m) (completion cmp t n)
   completed_alike t m n e = record { origin = e.origin; recipient = e.recipient; channel = e.channel; bytes = e.bytes; deliver_at = rw (delivered_alike cmp order m n e, e.latency) refl }
 
-  pub raised_alike : (last last' : P → P → Option ℕ) (m n : Message P) (at at' : ℕ) → PairsAlike cmp last last' → SameMessage cmp m n → at ≡ at' → PairsAlike cmp (raised cmp last m at) (raised cmp last' n at')
+  pub raised_alike : (last last' : P → P → Option ℕ) (m n : Message P) (at at' : ℕ) → PairsAlike cmp last last' → SameMessage cmp m n → at ≡ at'
+      → PairsAlike cmp (raised cmp last m at) (raised cmp last' n at')
   raised_alike last last' m n at at' same e f p q r s pq rs =
       rw (peers_alike cmp order m.origin n.origin p q e.origin pq, peers_alike cmp order m.recipient n.recipient r s e.recipient rs, same p q r s pq rs, f) refl
 
@@ -92,7 +94,8 @@ module _ {P : Type 0} (cmp : P → P → Ordering) (order : IsTotalOrder cmp) wh
   none_of test [] h = refl
   none_of test (x ∷ xs) h = or_from (test x) (list_any test xs) h.0 (none_of test xs h.1)
 
-  preceded_alike : (t : ℕ) (c d : Completed P) (x : Course (Completed P) (Planned P)) (y : Course (Completed P) (World P)) → SameCompletion cmp c d → CourseAlike t x y → CourseAlike t (preceded (c ∷ []) x) (preceded (d ∷ []) y)
+  preceded_alike : (t : ℕ) (c d : Completed P) (x : Course (Completed P) (Planned P)) (y : Course (Completed P) (World P)) → SameCompletion cmp c d → CourseAlike t x y
+      → CourseAlike t (preceded (c ∷ []) x) (preceded (d ∷ []) y)
   preceded_alike t c d (goes cs q) (goes ds v) e h = ((e, h.0), h.1)
   preceded_alike t c d (goes cs q) (meets g) e h = absurd h
   preceded_alike t c d (meets f) (goes ds v) e h = absurd h
@@ -137,11 +140,13 @@ module _ {P : Type 0} (cmp : P → P → Ordering) (order : IsTotalOrder cmp) wh
   first_lands n t f fs w e = rw e refl
 
   abbrev pub WhenFollowed : ℕ → List (Message P) → Planned P → Course (Completed P) (Planned P) → Type 0
-  WhenFollowed t ms p course = (n : ℕ) (fs : List (Flight P)) (w : World P) → Follows cmp t p w → NoneDone cmp order w → AllZip (SameMessage cmp) ms (map (λ (g : Flight P). g.message) fs) → length fs + length w.waiting ≤ n
+  WhenFollowed t ms p course =
+      (n : ℕ) (fs : List (Flight P)) (w : World P) → Follows cmp t p w → NoneDone cmp order w → AllZip (SameMessage cmp) ms (map (λ (g : Flight P). g.message) fs) → length fs + length w.waiting ≤ n
       → CourseAlike t course (finish_within cmp n t fs w)
 
   pub finishes_alike : {t : ℕ} {ms : List (Message P)} {p : Planned P} {course : Course (Completed P) (Planned P)} → Finishes cmp t ms p course → WhenFollowed t ms p course
-  finishes_alike {t = t} {p = p} (all_completed {q = q} looks) n [] w follows none all fuel = subst (λ (c : Course (Completed P) (World P)). CourseAlike t (goes [] q) c) (sym (no_queue n t w)) (tt, looked t p q w follows none looks)
+  finishes_alike {t = t} {p = p} (all_completed {q = q} looks) n [] w follows none all fuel =
+      subst (λ (c : Course (Completed P) (World P)). CourseAlike t (goes [] q) c) (sym (no_queue n t w)) (tt, looked t p q w follows none looks)
   finishes_alike (all_completed looks) n (f ∷ fs) w follows none all fuel = absurd all
   finishes_alike (late too) n [] w follows none all fuel = absurd all
   finishes_alike (late too) zero (f ∷ fs) w follows none all fuel = absurd (omega arith)

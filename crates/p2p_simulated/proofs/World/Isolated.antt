@@ -52,7 +52,8 @@ module _ {P : Type 0} (cmp : P → P → Ordering) (order : IsTotalOrder cmp) (i
   preceded_none (meets fault) = refl
 
   pub part_preceded : (cs : List (Completed P)) (c d : Course (Completed P) (World P)) → IsPartOf c d → IsPartOf (preceded cs c) (preceded (filter in_done cs) d)
-  part_preceded cs (goes ds u) d (last, id, is, e) = (last, id, is, ap (preceded (filter in_done cs)) e ∙ goes_alike (filter in_done cs ++ filter in_done ds) (filter in_done (cs ++ ds)) (part last id u) (part last id u) (sym (filter-append in_done cs ds)) refl)
+  part_preceded cs (goes ds u) d (last, id, is, e) =
+      (last, id, is, ap (preceded (filter in_done cs)) e ∙ goes_alike (filter in_done cs ++ filter in_done ds) (filter in_done (cs ++ ds)) (part last id u) (part last id u) (sym (filter-append in_done cs ds)) refl)
   part_preceded cs (meets fault) d h = tt
 
   pub part_then : (R S : World P → Type 0) (c d : Course (Completed P) (World P)) (k l : World P → Course (Completed P) (World P)) → IsPartOf c d → EndsWith R c → EndsWith S d
@@ -85,7 +86,8 @@ module _ {P : Type 0} (cmp : P → P → Ordering) (order : IsTotalOrder cmp) (i
     waiting = each_without T (same_pair cmp m) w.waiting is.waiting;
   }
 
-  start_mine : (w : World P) (m : Message P) (last : P → P → Option ℕ) (id : ℕ) → IsPart last id w → find (same_pair cmp m) w.waiting ≡ Some m → mine m ≡ true → IsPartOf (start cmp w m) (start cmp (part last id w) m)
+  start_mine : (w : World P) (m : Message P) (last : P → P → Option ℕ) (id : ℕ) → IsPart last id w → find (same_pair cmp m) w.waiting ≡ Some m → mine m ≡ true
+      → IsPartOf (start cmp w m) (start cmp (part last id w) m)
   start_mine w m last id is first own = by_id (nat_le last_moment w.next_id) refl
     where
       by_id : (b : Bool) → nat_le last_moment w.next_id ≡ b → IsPartOf (cond b (meets FlowIdsUsedUp) (goes [] (started w m))) (start cmp (part last id w) m)
@@ -95,10 +97,12 @@ module _ {P : Type 0} (cmp : P → P → Ordering) (order : IsTotalOrder cmp) (i
           let least : id ≤ w.next_id = is.ids in
           let low : nat_le last_moment id ≡ false = lt-leb last_moment id (omega arith) in
           let sending : filter in_flight w.sending ++ flight m ∷ [] ≡ filter in_flight (w.sending ++ flight m ∷ []) = sym (joined_part w.sending m true own) in
-          let waiting : without_first (same_pair cmp m) (filter mine w.waiting) ≡ filter mine (without_first (same_pair cmp m) w.waiting) = sym (first_kept mine (same_pair cmp m) w.waiting m first own).1 in
+          let waiting : without_first (same_pair cmp m) (filter mine w.waiting) ≡ filter mine (without_first (same_pair cmp m) w.waiting)
+          = sym (first_kept mine (same_pair cmp m) w.waiting m first own).1 in
           (last, id + 1, started_is last id (id + 1) w m is first (omega arith), (rw low (goes_alike [] [] _ _ refl (part_alike w last (id + 1) _ _ _ _ sending waiting))))
 
-  pub start_other : (w : World P) (m : Message P) (last : P → P → Option ℕ) (id : ℕ) → IsPart last id w → find (same_pair cmp m) w.waiting ≡ Some m → mine m ≡ false → IsPartOf (start cmp w m) (goes [] (part last id w))
+  pub start_other : (w : World P) (m : Message P) (last : P → P → Option ℕ) (id : ℕ) → IsPart last id w → find (same_pair cmp m) w.waiting ≡ Some m → mine m ≡ false
+      → IsPartOf (start cmp w m) (goes [] (part last id w))
   start_other w m last id is first off = by_id (nat_le last_moment w.next_id)
     where
       by_id : (b : Bool) → IsPartOf (cond b (meets FlowIdsUsedUp) (goes [] (started w m))) (goes [] (part last id w))
@@ -116,7 +120,8 @@ module _ {P : Type 0} (cmp : P → P → Ordering) (order : IsTotalOrder cmp) (i
       let same : last m.origin m.recipient ≡ w.last_arrival m.origin m.recipient = is.arrivals m own in
       rw (idle, same) refl
 
-  pub start_next_mine : (t : ℕ) (w : World P) (m : Message P) (o : Option (Message P)) (last : P → P → Option ℕ) (id : ℕ) → IsPart last id w → mine m ≡ true → find (same_pair cmp m) w.waiting ≡ o → IsPartOf (start_next cmp t w o) (start_next cmp t (part last id w) o)
+  pub start_next_mine : (t : ℕ) (w : World P) (m : Message P) (o : Option (Message P)) (last : P → P → Option ℕ) (id : ℕ) → IsPart last id w → mine m ≡ true
+      → find (same_pair cmp m) w.waiting ≡ o → IsPartOf (start_next cmp t w o) (start_next cmp t (part last id w) o)
   start_next_mine t w m None last id is own e = (last, id, is, refl)
   start_next_mine t w m (Some x) last id is own e =
       let same : same_pair cmp m x ≡ true = find_passes (same_pair cmp m) x w.waiting e in
@@ -128,7 +133,8 @@ module _ {P : Type 0} (cmp : P → P → Ordering) (order : IsTotalOrder cmp) (i
       by_may true h = h
       by_may false h = (last, id, is, refl)
 
-  pub start_next_other : (t : ℕ) (w : World P) (m : Message P) (o : Option (Message P)) (last : P → P → Option ℕ) (id : ℕ) → IsPart last id w → mine m ≡ false → find (same_pair cmp m) w.waiting ≡ o → IsPartOf (start_next cmp t w o) (goes [] (part last id w))
+  pub start_next_other : (t : ℕ) (w : World P) (m : Message P) (o : Option (Message P)) (last : P → P → Option ℕ) (id : ℕ) → IsPart last id w → mine m ≡ false
+      → find (same_pair cmp m) w.waiting ≡ o → IsPartOf (start_next cmp t w o) (goes [] (part last id w))
   start_next_other t w m None last id is off e = (last, id, is, refl)
   start_next_other t w m (Some x) last id is off e =
       let same : same_pair cmp m x ≡ true = find_passes (same_pair cmp m) x w.waiting e in
@@ -149,7 +155,8 @@ module _ {P : Type 0} (cmp : P → P → Ordering) (order : IsTotalOrder cmp) (i
   abbrev landed : ℕ → World P → Message P → World P
   landed t w m = record w { sending = without_first (is_done cmp w) w.sending; last_arrival = raised cmp w.last_arrival m (moment_for t m) }
 
-  pub raised_same : (m n : Message P) (at : ℕ) (last : P → P → Option ℕ) (w : World P) (id : ℕ) → IsPart last id w → mine n ≡ true → raised cmp last m at n.origin n.recipient ≡ raised cmp w.last_arrival m at n.origin n.recipient
+  pub raised_same : (m n : Message P) (at : ℕ) (last : P → P → Option ℕ) (w : World P) (id : ℕ) → IsPart last id w → mine n ≡ true
+      → raised cmp last m at n.origin n.recipient ≡ raised cmp w.last_arrival m at n.origin n.recipient
   raised_same m n at last w id is own = let same : last n.origin n.recipient ≡ w.last_arrival n.origin n.recipient = is.arrivals n own in rw same refl
 
   pub raised_other : (m n : Message P) (at : ℕ) (last : P → P → Option ℕ) → mine m ≡ false → mine n ≡ true → raised cmp last m at n.origin n.recipient ≡ last n.origin n.recipient
@@ -159,7 +166,8 @@ module _ {P : Type 0} (cmp : P → P → Ordering) (order : IsTotalOrder cmp) (i
       by_pair true e = let same : mine m ≡ mine n = alike m n e in cc
       by_pair false e = refl
 
-  complete_mine : (t : ℕ) (w : World P) (f : Flight P) (last : P → P → Option ℕ) (id : ℕ) → IsPart last id w → find (is_done cmp w) w.sending ≡ Some f → mine f.message ≡ true → IsPartOf (complete cmp t w f.message) (complete cmp t (part last id w) f.message)
+  complete_mine : (t : ℕ) (w : World P) (f : Flight P) (last : P → P → Option ℕ) (id : ℕ) → IsPart last id w → find (is_done cmp w) w.sending ≡ Some f → mine f.message ≡ true
+      → IsPartOf (complete cmp t w f.message) (complete cmp t (part last id w) f.message)
   complete_mine t w f last id is first own = by_late (is_delivered cmp f.message && nat_lt last_moment (moment_for t f.message)) inner
     where
       inner : IsPartOf (start_next cmp t (landed t w f.message) (first_waiting cmp (landed t w f.message) f.message)) (start_next cmp t (landed t (part last id w) f.message) (first_waiting cmp (landed t (part last id w) f.message) f.message))
@@ -174,12 +182,16 @@ module _ {P : Type 0} (cmp : P → P → Ordering) (order : IsTotalOrder cmp) (i
           } in
           let next : Option (Message P) = find (same_pair cmp f.message) w.waiting in
           let same_next : find (same_pair cmp f.message) (filter mine w.waiting) ≡ next = find_kept mine (same_pair cmp f.message) w.waiting (λ n s. sym (alike f.message n s) ∙ own) in
-          let same_landed : landed t (part last id w) f.message ≡ part higher id (landed t w f.message) = part_alike w higher id _ _ (filter mine w.waiting) (filter mine w.waiting) (sym (first_kept in_flight (is_done cmp w) w.sending f first own).1) refl in
-          let base : IsPartOf (start_next cmp t (landed t w f.message) next) (start_next cmp t (part higher id (landed t w f.message)) next) = start_next_mine t (landed t w f.message) f.message next higher id still own refl in
-          let one : IsPartOf (start_next cmp t (landed t w f.message) next) (start_next cmp t (landed t (part last id w) f.message) next) = subst (λ (z : World P). IsPartOf (start_next cmp t (landed t w f.message) next) (start_next cmp t z next)) (sym same_landed) base in
+          let same_landed : landed t (part last id w) f.message ≡ part higher id (landed t w f.message)
+          = part_alike w higher id _ _ (filter mine w.waiting) (filter mine w.waiting) (sym (first_kept in_flight (is_done cmp w) w.sending f first own).1) refl in
+          let base : IsPartOf (start_next cmp t (landed t w f.message) next) (start_next cmp t (part higher id (landed t w f.message)) next)
+          = start_next_mine t (landed t w f.message) f.message next higher id still own refl in
+          let one : IsPartOf (start_next cmp t (landed t w f.message) next) (start_next cmp t (landed t (part last id w) f.message) next)
+          = subst (λ (z : World P). IsPartOf (start_next cmp t (landed t w f.message) next) (start_next cmp t z next)) (sym same_landed) base in
           subst (λ (o : Option (Message P)). IsPartOf (start_next cmp t (landed t w f.message) next) (start_next cmp t (landed t (part last id w) f.message) o)) (sym same_next) one
 
-      by_late : (b : Bool) → IsPartOf (start_next cmp t (landed t w f.message) (first_waiting cmp (landed t w f.message) f.message)) (start_next cmp t (landed t (part last id w) f.message) (first_waiting cmp (landed t (part last id w) f.message) f.message))
+      by_late : (b : Bool)
+          → IsPartOf (start_next cmp t (landed t w f.message) (first_waiting cmp (landed t w f.message) f.message)) (start_next cmp t (landed t (part last id w) f.message) (first_waiting cmp (landed t (part last id w) f.message) f.message))
           → IsPartOf (cond b (meets MomentTooLate) (preceded (completion t f.message ∷ []) (start_next cmp t (landed t w f.message) (first_waiting cmp (landed t w f.message) f.message))))
           (cond b (meets MomentTooLate) (preceded (completion t f.message ∷ []) (start_next cmp t (landed t (part last id w) f.message) (first_waiting cmp (landed t (part last id w) f.message) f.message))))
       by_late true h = tt
@@ -190,10 +202,12 @@ module _ {P : Type 0} (cmp : P → P → Ordering) (order : IsTotalOrder cmp) (i
           let small : Course (Completed P) (World P) = start_next cmp t (landed t (part last id w) f.message) (first_waiting cmp (landed t (part last id w) f.message) f.message) in
           subst (λ (cs : List (Completed P)). IsPartOf (preceded (c ∷ []) big) (preceded cs small)) alone (part_preceded (c ∷ []) big small h)
 
-  complete_other : (t : ℕ) (w : World P) (f : Flight P) (last : P → P → Option ℕ) (id : ℕ) → IsPart last id w → find (is_done cmp w) w.sending ≡ Some f → mine f.message ≡ false → IsPartOf (complete cmp t w f.message) (goes [] (part last id w))
+  complete_other : (t : ℕ) (w : World P) (f : Flight P) (last : P → P → Option ℕ) (id : ℕ) → IsPart last id w → find (is_done cmp w) w.sending ≡ Some f → mine f.message ≡ false
+      → IsPartOf (complete cmp t w f.message) (goes [] (part last id w))
   complete_other t w f last id is first off = by_late (is_delivered cmp f.message && nat_lt last_moment (moment_for t f.message))
     where
-      by_late : (b : Bool) → IsPartOf (cond b (meets MomentTooLate) (preceded (completion t f.message ∷ []) (start_next cmp t (landed t w f.message) (first_waiting cmp (landed t w f.message) f.message)))) (goes [] (part last id w))
+      by_late : (b : Bool)
+          → IsPartOf (cond b (meets MomentTooLate) (preceded (completion t f.message ∷ []) (start_next cmp t (landed t w f.message) (first_waiting cmp (landed t w f.message) f.message)))) (goes [] (part last id w))
       by_late true = tt
       by_late false =
           let c : Completed P = completion t f.message in
@@ -203,10 +217,12 @@ module _ {P : Type 0} (cmp : P → P → Ordering) (order : IsTotalOrder cmp) (i
             sending = each_without (λ (g : Flight P). T g.message) (is_done cmp w) w.sending is.sending;
             waiting = is.waiting;
           } in
-          let same : part last id (landed t w f.message) ≡ part last id w = part_alike w last id _ _ (filter mine w.waiting) (filter mine w.waiting) (first_dropped in_flight (is_done cmp w) w.sending f first off) refl in
+          let same : part last id (landed t w f.message) ≡ part last id w
+          = part_alike w last id _ _ (filter mine w.waiting) (filter mine w.waiting) (first_dropped in_flight (is_done cmp w) w.sending f first off) refl in
           let nothing : filter in_done (c ∷ []) ≡ [] = rw off refl in
           let big : Course (Completed P) (World P) = start_next cmp t (landed t w f.message) (first_waiting cmp (landed t w f.message) f.message) in
-          let base : IsPartOf big (goes [] (part last id (landed t w f.message))) = start_next_other t (landed t w f.message) f.message (first_waiting cmp (landed t w f.message) f.message) last id still off refl in
+          let base : IsPartOf big (goes [] (part last id (landed t w f.message)))
+          = start_next_other t (landed t w f.message) f.message (first_waiting cmp (landed t w f.message) f.message) last id still off refl in
           let one : IsPartOf big (goes [] (part last id w)) = subst (λ (z : World P). IsPartOf big (goes [] z)) same base in
           subst (λ (cs : List (Completed P)). IsPartOf (preceded (c ∷ []) big) (preceded cs (goes [] (part last id w)))) nothing (part_preceded (c ∷ []) big (goes [] (part last id w)) one)
 
@@ -228,7 +244,8 @@ module _ {P : Type 0} (cmp : P → P → Ordering) (order : IsTotalOrder cmp) (i
       by_test true h = omega arith
       by_test false h = omega arith
 
-  pub settle_part : (n k t : ℕ) (w : World P) (last : P → P → Option ℕ) (id : ℕ) → IsPart last id w → HasAtMost cmp order n w → HasAtMost cmp order k (part last id w) → IsPartOf (settle_within cmp n t w) (settle_within cmp k t (part last id w))
+  pub settle_part : (n k t : ℕ) (w : World P) (last : P → P → Option ℕ) (id : ℕ) → IsPart last id w → HasAtMost cmp order n w → HasAtMost cmp order k (part last id w)
+      → IsPartOf (settle_within cmp n t w) (settle_within cmp k t (part last id w))
   settle_part zero k t w last id is most few =
       let none : find (is_done cmp w) w.sending ≡ None = find_in_none (is_done cmp w) w.sending (omega arith) in
       (last, id, is, settle_nothing k t (part last id w) (none_kept in_flight (is_done cmp w) w.sending none))
@@ -302,9 +319,12 @@ module _ {P : Type 0} (cmp : P → P → Ordering) (order : IsTotalOrder cmp) (i
   settle_waits zero k t w h = h
   settle_waits (suc n) k t w h = by_first (find (is_done cmp w) w.sending) refl (λ v g. settle_waits n k t v g)
     where
-      by_first : (o : Option (Flight P)) → find (is_done cmp w) w.sending ≡ o → ((v : World P) → WaitsAtMost k v → EndsWith (WaitsAtMost k) (settle_within cmp n t v)) → EndsWith (WaitsAtMost k) (settle_within cmp (suc n) t w)
+      by_first : (o : Option (Flight P)) → find (is_done cmp w) w.sending ≡ o → ((v : World P) → WaitsAtMost k v → EndsWith (WaitsAtMost k) (settle_within cmp n t v))
+          → EndsWith (WaitsAtMost k) (settle_within cmp (suc n) t w)
       by_first None e ih = subst (λ (c : Course (Completed P) (World P)). EndsWith (WaitsAtMost k) c) (sym (settle_none cmp order n t w e)) h
-      by_first (Some f) e ih = subst (λ (c : Course (Completed P) (World P)). EndsWith (WaitsAtMost k) c) (sym (settle_first cmp order n t w f e)) (ends_and_then (WaitsAtMost k) (WaitsAtMost k) (complete cmp t w f.message) (settle_within cmp n t) (complete_waits k t w f.message h) ih)
+      by_first (Some f) e ih =
+          subst (λ (c : Course (Completed P) (World P)). EndsWith (WaitsAtMost k) c) (sym (settle_first cmp order n t w f e))
+          (ends_and_then (WaitsAtMost k) (WaitsAtMost k) (complete cmp t w f.message) (settle_within cmp n t) (complete_waits k t w f.message h) ih)
 
   ends_both : (Q R : World P → Type 0) (c : Course (Completed P) (World P)) → EndsWith Q c → EndsWith R c → EndsWith (λ v. Q v × R v) c
   ends_both Q R (goes cs u) q r = (q, r)
@@ -326,7 +346,9 @@ module _ {P : Type 0} (cmp : P → P → Ordering) (order : IsTotalOrder cmp) (i
   no_element (x ∷ xs) h = absurd (omega arith)
 
   abbrev Goes : ℕ → ℕ → Type 0
-  Goes n t = (k : ℕ) (w : World P) (last : P → P → Option ℕ) (id : ℕ) → IsPart last id w → NoneDone cmp order w → WaitsAtMost n w → WaitsAtMost k (part last id w) → IsPartOf (wake_within cmp n t w) (wake_within cmp k t (part last id w))
+  Goes n t =
+      (k : ℕ) (w : World P) (last : P → P → Option ℕ) (id : ℕ) → IsPart last id w → NoneDone cmp order w → WaitsAtMost n w → WaitsAtMost k (part last id w) → IsPartOf
+      (wake_within cmp n t w) (wake_within cmp k t (part last id w))
 
   settle_and_wake : (n k t : ℕ) (u : World P) (last : P → P → Option ℕ) (id : ℕ) → IsPart last id u → WaitsAtMost n u → WaitsAtMost k (part last id u) → Goes n t
       → IsPartOf (and_then (settle cmp t u) (wake_within cmp n t)) (and_then (settle cmp t (part last id u)) (wake_within cmp k t))

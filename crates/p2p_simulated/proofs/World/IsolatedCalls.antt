@@ -67,7 +67,9 @@ module _ {P : Type 0} (cmp : P → P → Ordering) (order : IsTotalOrder cmp) (i
   ends_any (meets fault) = tt
 
   settle_in_part : (t : ℕ) (w : World P) (last : P → P → Option ℕ) (id : ℕ) → Within last id w → Of (settle cmp t w) (settle cmp t (Small last id w))
-  settle_in_part t w last id is = settle_part cmp order inside alike Whole (length w.sending + length w.waiting) (length (filter (λ (f : Flight P). mine f.message) w.sending) + length (filter mine w.waiting)) t w last id is (omega arith) (omega arith)
+  settle_in_part t w last id is =
+      settle_part cmp order inside alike Whole (length w.sending + length w.waiting) (length (filter (λ (f : Flight P). mine f.message) w.sending) + length (filter mine w.waiting))
+      t w last id is (omega arith) (omega arith)
 
   abbrev queued : World P → Message P → World P
   queued w m = record w { waiting = w.waiting ++ m ∷ [] }
@@ -86,14 +88,17 @@ module _ {P : Type 0} (cmp : P → P → Ordering) (order : IsTotalOrder cmp) (i
 
   -- ---- a message of the set is enqueued
 
-  enqueue_mine : (now : ℕ) (w : World P) (m : Message P) (last : P → P → Option ℕ) (id : ℕ) → Within last id w → Whole m → mine m ≡ true → Of (act cmp w (call_enqueue now m)) (act cmp (Small last id w) (call_enqueue now m))
+  enqueue_mine : (now : ℕ) (w : World P) (m : Message P) (last : P → P → Option ℕ) (id : ℕ) → Within last id w → Whole m → mine m ≡ true
+      → Of (act cmp w (call_enqueue now m)) (act cmp (Small last id w) (call_enqueue now m))
   enqueue_mine now w m last id is whole own = by_mode w.limited
     where
       within : Within last id (queued w m)
       within = queued_within w m last id is whole
 
       same_world : queued (Small last id w) m ≡ Small last id (queued w m)
-      same_world = part_alike cmp order inside alike Whole w last id (filter (λ (f : Flight P). mine f.message) w.sending) (filter (λ (f : Flight P). mine f.message) w.sending) _ _ refl (sym (queued_filter w.waiting m true own))
+      same_world =
+          part_alike cmp order inside alike Whole w last id (filter (λ (f : Flight P). mine f.message) w.sending) (filter (λ (f : Flight P). mine f.message) w.sending) _ _ refl
+          (sym (queued_filter w.waiting m true own))
 
       same_next : first_waiting cmp (Small last id (queued w m)) m ≡ first_waiting cmp (queued w m) m
       same_next = find_kept mine (same_pair cmp m) (w.waiting ++ m ∷ []) (λ n s. sym (alike m n s) ∙ own)
@@ -117,7 +122,8 @@ module _ {P : Type 0} (cmp : P → P → Ordering) (order : IsTotalOrder cmp) (i
         waiting = is.waiting;
       }
 
-      by_late : (b : Bool) → Of (cond b (meets MomentTooLate) (goes (once m (once_at (w.last_arrival m.origin m.recipient) now m) ∷ []) (record w { last_arrival = raised cmp w.last_arrival m (once_at (w.last_arrival m.origin m.recipient) now m) })))
+      by_late : (b : Bool)
+          → Of (cond b (meets MomentTooLate) (goes (once m (once_at (w.last_arrival m.origin m.recipient) now m) ∷ []) (record w { last_arrival = raised cmp w.last_arrival m (once_at (w.last_arrival m.origin m.recipient) now m) })))
           (cond b (meets MomentTooLate) (goes (once m (once_at (last m.origin m.recipient) now m) ∷ []) (record (Small last id w) { last_arrival = raised cmp last m (once_at (last m.origin m.recipient) now m) })))
       by_late true = tt
       by_late false =
@@ -130,20 +136,27 @@ module _ {P : Type 0} (cmp : P → P → Ordering) (order : IsTotalOrder cmp) (i
 
       by_mode : (b : Bool) → Of (cond b (and_then (start_next cmp now (queued w m) (first_waiting cmp (queued w m) m)) (settle cmp now)) (complete_at_once cmp now w m))
           (cond b (and_then (start_next cmp now (queued (Small last id w) m) (first_waiting cmp (queued (Small last id w) m) m)) (settle cmp now)) (complete_at_once cmp now (Small last id w) m))
-      by_mode true = part_then cmp order inside alike Whole Any Any (start_next cmp now (queued w m) (first_waiting cmp (queued w m) m)) (start_next cmp now (queued (Small last id w) m) (first_waiting cmp (queued (Small last id w) m) m)) (settle cmp now) (settle cmp now) starting
+      by_mode true =
+          part_then cmp order inside alike Whole Any Any (start_next cmp now (queued w m) (first_waiting cmp (queued w m) m))
+          (start_next cmp now (queued (Small last id w) m) (first_waiting cmp (queued (Small last id w) m) m)) (settle cmp now) (settle cmp now) starting
           (ends_any (start_next cmp now (queued w m) (first_waiting cmp (queued w m) m))) (ends_any (start_next cmp now (queued (Small last id w) m) (first_waiting cmp (queued (Small last id w) m) m))) (λ u l i part_u r s. settle_in_part now u l i part_u)
       by_mode false = at_once
 
   -- ---- a message of others is enqueued
 
-  enqueue_other : (now : ℕ) (w : World P) (m : Message P) (last : P → P → Option ℕ) (id : ℕ) → Within last id w → NoneDone cmp order w → Whole m → mine m ≡ false → Of (act cmp w (call_enqueue now m)) (goes [] (Small last id w))
+  enqueue_other : (now : ℕ) (w : World P) (m : Message P) (last : P → P → Option ℕ) (id : ℕ) → Within last id w → NoneDone cmp order w → Whole m → mine m ≡ false
+      → Of (act cmp w (call_enqueue now m)) (goes [] (Small last id w))
   enqueue_other now w m last id is rests whole off = by_mode w.limited
     where
       same_world : Small last id (queued w m) ≡ Small last id w
-      same_world = part_alike cmp order inside alike Whole w last id (filter (λ (f : Flight P). mine f.message) w.sending) (filter (λ (f : Flight P). mine f.message) w.sending) _ _ refl (queued_filter w.waiting m false off ∙ append-nil (filter mine w.waiting))
+      same_world =
+          part_alike cmp order inside alike Whole w last id (filter (λ (f : Flight P). mine f.message) w.sending) (filter (λ (f : Flight P). mine f.message) w.sending) _ _ refl
+          (queued_filter w.waiting m false off ∙ append-nil (filter mine w.waiting))
 
       starting : Of (start_next cmp now (queued w m) (first_waiting cmp (queued w m) m)) (goes [] (Small last id w))
-      starting = subst (λ (z : World P). Of (start_next cmp now (queued w m) (first_waiting cmp (queued w m) m)) (goes [] z)) same_world (start_next_other cmp order inside alike Whole now (queued w m) m (first_waiting cmp (queued w m) m) last id (queued_within w m last id is whole) off refl)
+      starting =
+          subst (λ (z : World P). Of (start_next cmp now (queued w m) (first_waiting cmp (queued w m) m)) (goes [] z)) same_world
+          (start_next_other cmp order inside alike Whole now (queued w m) m (first_waiting cmp (queued w m) m) last id (queued_within w m last id is whole) off refl)
 
       raised_within : Within last id (record w { last_arrival = raised cmp w.last_arrival m (once_at (w.last_arrival m.origin m.recipient) now m) })
       raised_within = record {
@@ -153,7 +166,8 @@ module _ {P : Type 0} (cmp : P → P → Ordering) (order : IsTotalOrder cmp) (i
         waiting = is.waiting;
       }
 
-      by_late : (b : Bool) → Of (cond b (meets MomentTooLate) (goes (once m (once_at (w.last_arrival m.origin m.recipient) now m) ∷ []) (record w { last_arrival = raised cmp w.last_arrival m (once_at (w.last_arrival m.origin m.recipient) now m) }))) (goes [] (Small last id w))
+      by_late : (b : Bool)
+          → Of (cond b (meets MomentTooLate) (goes (once m (once_at (w.last_arrival m.origin m.recipient) now m) ∷ []) (record w { last_arrival = raised cmp w.last_arrival m (once_at (w.last_arrival m.origin m.recipient) now m) }))) (goes [] (Small last id w))
       by_late true = tt
       by_late false =
           let nothing : [] ≡ filter (λ (c : Completed P). inside c.origin) (once m (once_at (w.last_arrival m.origin m.recipient) now m) ∷ []) = rw off refl in
@@ -163,7 +177,10 @@ module _ {P : Type 0} (cmp : P → P → Ordering) (order : IsTotalOrder cmp) (i
       at_once = by_late (m.should_deliver && nat_lt last_moment (now + m.latency))
 
       still : and_then (goes [] (Small last id w)) (settle cmp now) ≡ goes [] (Small last id w)
-      still = preceded_none cmp order inside alike Whole (settle cmp now (Small last id w)) ∙ settle_nothing cmp order inside alike Whole (length (Small last id w).sending + length (Small last id w).waiting) now (Small last id w) (none_kept (λ (f : Flight P). mine f.message) (is_done cmp w) w.sending rests)
+      still =
+          preceded_none cmp order inside alike Whole (settle cmp now (Small last id w)) ∙ settle_nothing cmp order inside alike Whole
+          (length (Small last id w).sending + length (Small last id w).waiting) now (Small last id w)
+          (none_kept (λ (f : Flight P). mine f.message) (is_done cmp w) w.sending rests)
 
       by_mode : (b : Bool) → Of (cond b (and_then (start_next cmp now (queued w m) (first_waiting cmp (queued w m) m)) (settle cmp now)) (complete_at_once cmp now w m)) (goes [] (Small last id w))
       by_mode true = subst (λ (c : Course (Completed P) (World P)). Of (and_then (start_next cmp now (queued w m) (first_waiting cmp (queued w m) m)) (settle cmp now)) c) still
@@ -173,7 +190,8 @@ module _ {P : Type 0} (cmp : P → P → Ordering) (order : IsTotalOrder cmp) (i
 
   -- ---- a call
 
-  act_kept : (w : World P) (call : Call P) (last : P → P → Option ℕ) (id : ℕ) → Within last id w → IsApart inside call → is_kept inside call ≡ true → Of (act cmp w call) (act cmp (Small last id w) call)
+  act_kept : (w : World P) (call : Call P) (last : P → P → Option ℕ) (id : ℕ) → Within last id w → IsApart inside call → is_kept inside call ≡ true
+      → Of (act cmp w call) (act cmp (Small last id w) call)
   act_kept w (call_limit now peer egress ingress) last id is whole own =
       settle_in_part now (record w { caps = limited_by cmp w.caps peer egress ingress; limited = true }) last id (record { arrivals = is.arrivals; ids = is.ids; sending = is.sending; waiting = is.waiting })
   act_kept w (call_limit_link now origin recipient link) last id is whole own =
@@ -182,7 +200,8 @@ module _ {P : Type 0} (cmp : P → P → Ordering) (order : IsTotalOrder cmp) (i
   act_kept w (call_advance now) last id is whole own = (last, id, is, refl)
   act_kept w call_next last id is whole own = (last, id, is, refl)
 
-  act_other : (w : World P) (call : Call P) (last : P → P → Option ℕ) (id : ℕ) → Within last id w → NoneDone cmp order w → IsApart inside call → is_kept inside call ≡ false → Of (act cmp w call) (goes [] (Small last id w))
+  act_other : (w : World P) (call : Call P) (last : P → P → Option ℕ) (id : ℕ) → Within last id w → NoneDone cmp order w → IsApart inside call → is_kept inside call ≡ false
+      → Of (act cmp w call) (goes [] (Small last id w))
   act_other w (call_limit now peer egress ingress) last id is rests whole off = cc
   act_other w (call_limit_link now origin recipient link) last id is rests whole off = cc
   act_other w (call_enqueue now m) last id is rests whole off = enqueue_other now w m last id is rests whole off
@@ -237,11 +256,13 @@ module _ {P : Type 0} (cmp : P → P → Ordering) (order : IsTotalOrder cmp) (i
     pub ticks : Ticks cmp count s (goes [] (Small last id w))
     pub at : w.moment ≡ s.moment + count
 
-  pub isolated : {w : World P} {calls : List (Call P)} {css : List (List (Completed P))} → AnswersInTurn cmp w calls css → (s : World P) (last : P → P → Option ℕ) (id : ℕ) → Behind s w last id → KeepsApart inside calls → InTime calls
+  pub isolated : {w : World P} {calls : List (Call P)} {css : List (List (Completed P))} → AnswersInTurn cmp w calls css → (s : World P) (last : P → P → Option ℕ) (id : ℕ)
+      → Behind s w last id → KeepsApart inside calls → InTime calls
       → Answers cmp s (filter (is_kept inside) calls) (kept_completions inside calls css) × NothingElse inside calls css
   isolated no_calls_in_turn s last id b apart in_time = (no_calls, tt)
   isolated {w = w} (answers_in_turn {u = u} {call = call} {now = now} {calls = calls} {cs = cs} {css = css} is_now turn runs more) s last id b apart in_time =
-      let sp : (ds : List (Completed P)) × (v : World P) × (es : List (Completed P)) × (runs.ticked ≡ goes ds v) × (act cmp v call ≡ goes es u) × (ds ++ es ≡ cs) = split_course runs.ticked (λ v. act cmp v call) cs u (sym runs.acts) in
+      let sp : (ds : List (Completed P)) × (v : World P) × (es : List (Completed P)) × (runs.ticked ≡ goes ds v) × (act cmp v call ≡ goes es u) × (ds ++ es ≡ cs)
+      = split_course runs.ticked (λ v. act cmp v call) cs u (sym runs.acts) in
       by_call (is_kept inside call) refl sp.0 sp.1 sp.2 sp.3 sp.4 sp.5 (λ t l i c. isolated more t l i c apart.1 in_time.1)
     where
       by_call : (k : Bool) → is_kept inside call ≡ k → (ds : List (Completed P)) (v : World P) (es : List (Completed P)) → runs.ticked ≡ goes ds v → act cmp v call ≡ goes es u → ds ++ es ≡ cs
@@ -253,12 +274,16 @@ module _ {P : Type 0} (cmp : P → P → Ordering) (order : IsTotalOrder cmp) (i
           let ends : (v.moment ≡ w.moment + (now - w.moment)) × NoneDone cmp order v = ticks_end cmp order runs.ticks ds v ticked b.rests in
           let small : (l : P → P → Option ℕ) × (i : ℕ) × Within l i v × Ticks cmp (now - w.moment) (Small last id w) (goes (filter (λ (c : Completed P). inside c.origin) ds) (Small l i v)) =
           ticks_part cmp order inside alike Whole shares runs.ticks ds v last id ticked b.within in
-          let all : Ticks cmp ((now - w.moment) + b.count) s (goes (filter (λ (c : Completed P). inside c.origin) ds) (Small small.0 small.1 v)) = ticks_on cmp b.ticks (now - w.moment) (Small last id w) [] (goes (filter (λ (c : Completed P). inside c.origin) ds) (Small small.0 small.1 v)) refl small.3 in
+          let all : Ticks cmp ((now - w.moment) + b.count) s (goes (filter (λ (c : Completed P). inside c.origin) ds) (Small small.0 small.1 v))
+          = ticks_on cmp b.ticks (now - w.moment) (Small last id w) [] (goes (filter (λ (c : Completed P). inside c.origin) ds) (Small small.0 small.1 v)) refl small.3 in
           let behind : w.moment ≡ s.moment + b.count = b.at in
           let count : (now - w.moment) + b.count ≡ now - s.moment = omega arith in
-          let counted : Ticks cmp (now - s.moment) s (goes (filter (λ (c : Completed P). inside c.origin) ds) (Small small.0 small.1 v)) = subst (λ n. Ticks cmp n s (goes (filter (λ (c : Completed P). inside c.origin) ds) (Small small.0 small.1 v))) count all in
-          let act_small : Of (goes es u) (act cmp (Small small.0 small.1 v) call) = subst (λ (c : Course (Completed P) (World P)). Of c (act cmp (Small small.0 small.1 v) call)) acted (act_kept v call small.0 small.1 small.2 apart.0 kept) in
-          let both : filter (λ (c : Completed P). inside c.origin) ds ++ filter (λ (c : Completed P). inside c.origin) es ≡ filter (λ (c : Completed P). inside c.origin) cs = sym (filter-append (λ (c : Completed P). inside c.origin) ds es) ∙ ap (filter (λ (c : Completed P). inside c.origin)) join in
+          let counted : Ticks cmp (now - s.moment) s (goes (filter (λ (c : Completed P). inside c.origin) ds) (Small small.0 small.1 v))
+          = subst (λ n. Ticks cmp n s (goes (filter (λ (c : Completed P). inside c.origin) ds) (Small small.0 small.1 v))) count all in
+          let act_small : Of (goes es u) (act cmp (Small small.0 small.1 v) call)
+          = subst (λ (c : Course (Completed P) (World P)). Of c (act cmp (Small small.0 small.1 v) call)) acted (act_kept v call small.0 small.1 small.2 apart.0 kept) in
+          let both : filter (λ (c : Completed P). inside c.origin) ds ++ filter (λ (c : Completed P). inside c.origin) es ≡ filter (λ (c : Completed P). inside c.origin) cs
+          = sym (filter-append (λ (c : Completed P). inside c.origin) ds es) ∙ ap (filter (λ (c : Completed P). inside c.origin)) join in
           let run : Runs cmp s call now (goes (filter (λ (c : Completed P). inside c.origin) cs) (Small act_small.0 act_small.1 u)) = record {
             ticked = goes (filter (λ (c : Completed P). inside c.origin) ds) (Small small.0 small.1 v);
             ticks = counted;
@@ -266,7 +291,8 @@ module _ {P : Type 0} (cmp : P → P → Ordering) (order : IsTotalOrder cmp) (i
           } in
           let rests : NoneDone cmp order u = subst (λ (c : Course (Completed P) (World P)). EndsWith (NoneDone cmp order) c) acted (act_rests v call ends.1) in
           let next : Behind (Small act_small.0 act_small.1 u) u act_small.0 act_small.1 = record { within = act_small.2; rests = rests; count = 0; ticks = no_tick; at = omega arith } in
-          let others : Answers cmp (Small act_small.0 act_small.1 u) (filter (is_kept inside) calls) (kept_completions inside calls css) × NothingElse inside calls css = ih (Small act_small.0 act_small.1 u) act_small.0 act_small.1 next in
+          let others : Answers cmp (Small act_small.0 act_small.1 u) (filter (is_kept inside) calls) (kept_completions inside calls css) × NothingElse inside calls css
+          = ih (Small act_small.0 act_small.1 u) act_small.0 act_small.1 next in
           (call_answers is_now (omega arith) run others.0, (tt, others.1))
       by_call false dropped ds v es ticked acted join ih =
           let later : w.moment ≤ now = turn_later w call now is_now turn in
@@ -275,12 +301,15 @@ module _ {P : Type 0} (cmp : P → P → Ordering) (order : IsTotalOrder cmp) (i
           let empty : ds ≡ [] = no_event later (first_event cmp order runs.ticks ds v ticked (omega arith)) in
           let small : (l : P → P → Option ℕ) × (i : ℕ) × Within l i v × Ticks cmp (now - w.moment) (Small last id w) (goes (filter (λ (c : Completed P). inside c.origin) ds) (Small l i v)) =
           ticks_part cmp order inside alike Whole shares runs.ticks ds v last id ticked b.within in
-          let all : Ticks cmp ((now - w.moment) + b.count) s (goes (filter (λ (c : Completed P). inside c.origin) ds) (Small small.0 small.1 v)) = ticks_on cmp b.ticks (now - w.moment) (Small last id w) [] (goes (filter (λ (c : Completed P). inside c.origin) ds) (Small small.0 small.1 v)) refl small.3 in
-          let act_small : Of (goes es u) (goes [] (Small small.0 small.1 v)) = subst (λ (c : Course (Completed P) (World P)). Of c (goes [] (Small small.0 small.1 v))) acted (act_other v call small.0 small.1 small.2 ends.1 apart.0 dropped) in
+          let all : Ticks cmp ((now - w.moment) + b.count) s (goes (filter (λ (c : Completed P). inside c.origin) ds) (Small small.0 small.1 v))
+          = ticks_on cmp b.ticks (now - w.moment) (Small last id w) [] (goes (filter (λ (c : Completed P). inside c.origin) ds) (Small small.0 small.1 v)) refl small.3 in
+          let act_small : Of (goes es u) (goes [] (Small small.0 small.1 v))
+          = subst (λ (c : Course (Completed P) (World P)). Of c (goes [] (Small small.0 small.1 v))) acted (act_other v call small.0 small.1 small.2 ends.1 apart.0 dropped) in
           let same : goes [] (Small small.0 small.1 v) ≡ goes (filter (λ (c : Completed P). inside c.origin) es) (Small act_small.0 act_small.1 u) = act_small.3 in
           let world_same : Small small.0 small.1 v ≡ Small act_small.0 act_small.1 u = cc in
           let none_of_it : filter (λ (c : Completed P). inside c.origin) es ≡ [] = cc in
-          let quiet : filter (λ (c : Completed P). inside c.origin) cs ≡ [] = ap (filter (λ (c : Completed P). inside c.origin)) (sym join ∙ ap (λ (xs : List (Completed P)). xs ++ es) empty) ∙ none_of_it in
+          let quiet : filter (λ (c : Completed P). inside c.origin) cs ≡ []
+          = ap (filter (λ (c : Completed P). inside c.origin)) (sym join ∙ ap (λ (xs : List (Completed P)). xs ++ es) empty) ∙ none_of_it in
           let waited : Ticks cmp ((now - w.moment) + b.count) s (goes [] (Small act_small.0 act_small.1 u)) =
           subst (λ (z : World P). Ticks cmp ((now - w.moment) + b.count) s (goes [] z)) world_same (subst (λ (xs : List (Completed P)). Ticks cmp ((now - w.moment) + b.count) s (goes (filter (λ (c : Completed P). inside c.origin) xs) (Small small.0 small.1 v))) empty all) in
           let rests : NoneDone cmp order u = subst (λ (c : Course (Completed P) (World P)). EndsWith (NoneDone cmp order) c) acted (act_rests v call ends.1) in
@@ -298,7 +327,8 @@ module _ {P : Type 0} (cmp : P → P → Ordering) (order : IsTotalOrder cmp) (i
   -- the fair rates of the set's flows are fair for these alone
   pub fair_alone : (caps : Caps P) (ms : List (Message P)) (per : ℕ) (rates : Parts) → ((m : Message P) → Contains ms m → inside m.origin ≡ inside m.recipient) → AreFair cmp caps ms per rates
       → AreFair cmp caps (filter (λ (m : Message P). inside m.origin) ms) per (kept (map (λ (m : Message P). inside m.origin) ms) rates)
-  fair_alone caps ms per rates whole fair = fair_part cmp caps mine ms per rates (λ k m n has_m has_n uses. by_kind k m n (whole m (contains_from_in ms m has_m)) (whole n (contains_from_in ms n has_n)) uses) fair
+  fair_alone caps ms per rates whole fair =
+      fair_part cmp caps mine ms per rates (λ k m n has_m has_n uses. by_kind k m n (whole m (contains_from_in ms m has_m)) (whole n (contains_from_in ms n has_n)) uses) fair
     where
       by_kind : (k : Kind) (m n : Message P) → Whole m → Whole n → uses_at cmp caps k m n ≡ true → mine m ≡ mine n
       by_kind at_egress m n a b uses = together m.origin n.origin uses

@@ -36,7 +36,8 @@ module _ {P : Type 0} (cmp : P → P → Ordering) (order : IsTotalOrder cmp) (i
   map_kept [] = refl
   map_kept (f ∷ fs) = by_test (mine f.message) (map_kept fs)
     where
-      by_test : (b : Bool) → messages (filter flying fs) ≡ filter mine (messages fs) → messages (cond b (f ∷ filter flying fs) (filter flying fs)) ≡ cond b (f.message ∷ filter mine (messages fs)) (filter mine (messages fs))
+      by_test : (b : Bool) → messages (filter flying fs) ≡ filter mine (messages fs)
+          → messages (cond b (f ∷ filter flying fs) (filter flying fs)) ≡ cond b (f.message ∷ filter mine (messages fs)) (filter mine (messages fs))
       by_test true ih = ap (λ (ms : List (Message P)). f.message ∷ ms) ih
       by_test false ih = ih
 
@@ -53,7 +54,8 @@ module _ {P : Type 0} (cmp : P → P → Ordering) (order : IsTotalOrder cmp) (i
   each_drained per [] n (f ∷ fs) e = e
   each_drained per (r ∷ rs) n (f ∷ fs) e = (e.0, each_drained per rs n fs e.1)
 
-  drain_kept : (per : ℕ) (rates : Parts) (n : ℕ) (fs : List (Flight P)) → length rates ≡ length fs → filter flying (drain_each per rates n fs) ≡ drain_each per (kept (map mine (messages fs)) rates) n (filter flying fs)
+  drain_kept : (per : ℕ) (rates : Parts) (n : ℕ) (fs : List (Flight P)) → length rates ≡ length fs
+      → filter flying (drain_each per rates n fs) ≡ drain_each per (kept (map mine (messages fs)) rates) n (filter flying fs)
   drain_kept per [] n [] e = refl
   drain_kept per (r ∷ rs) n [] e = absurd (omega arith)
   drain_kept per [] n (f ∷ fs) e = absurd (omega arith)
@@ -73,7 +75,8 @@ module _ {P : Type 0} (cmp : P → P → Ordering) (order : IsTotalOrder cmp) (i
   drain_part w v last id is d =
       let u : World P = record w { sending = drain_each d.per d.rates 1 w.sending; moment = w.moment + 1 } in
       let as_many : length d.rates ≡ length w.sending = one_each cmp w.caps (flows w) d.per d.rates d.fair ∙ length_messages w.sending in
-      let fair : AreFair cmp w.caps (filter mine (flows w)) d.per (kept (map mine (flows w)) d.rates) = fair_part cmp w.caps mine (flows w) d.per d.rates (shares w (each_message w.sending is.sending)) d.fair in
+      let fair : AreFair cmp w.caps (filter mine (flows w)) d.per (kept (map mine (flows w)) d.rates)
+      = fair_part cmp w.caps mine (flows w) d.per d.rates (shares w (each_message w.sending is.sending)) d.fair in
       let drains : Drains cmp (Small last id w) (Small last id u) = record {
         per = d.per;
         rates = kept (map mine (flows w)) d.rates;
@@ -88,7 +91,8 @@ module _ {P : Type 0} (cmp : P → P → Ordering) (order : IsTotalOrder cmp) (i
       length_messages (f ∷ fs) = ap suc (length_messages fs)
 
   -- and so are any number of them: the set's completions are the same, and the part is of the world that they lead to
-  pub ticks_part : {n : ℕ} {w : World P} {course : Course (Completed P) (World P)} → Ticks cmp n w course → (cs : List (Completed P)) (v : World P) (last : P → P → Option ℕ) (id : ℕ) → course ≡ goes cs v → Within last id w
+  pub ticks_part : {n : ℕ} {w : World P} {course : Course (Completed P) (World P)} → Ticks cmp n w course
+      → (cs : List (Completed P)) (v : World P) (last : P → P → Option ℕ) (id : ℕ) → course ≡ goes cs v → Within last id w
       → (l : P → P → Option ℕ) × (i : ℕ) × Within l i v × Ticks cmp n (Small last id w) (goes (filter (λ (c : Completed P). inside c.origin) cs) (Small l i v))
   ticks_part {w = w} no_tick cs v last id e is =
       let same : w ≡ v = cc in
@@ -103,8 +107,10 @@ module _ {P : Type 0} (cmp : P → P → Ordering) (order : IsTotalOrder cmp) (i
       let r : (es : List (Completed P)) × (rest ≡ goes es v) × (ds ++ es ≡ cs) = rest_is cmp ds rest cs v e in
       let drained : Within last id z × Drains cmp (Small last id w) (Small last id z) = drain_part w z last id is d in
       let now : IsPartOf cmp order inside alike T (instant cmp z) (instant cmp (Small last id z)) = instant_part cmp order inside alike T z last id drained.0 in
-      let landed : IsPartOf cmp order inside alike T (goes ds u) (instant cmp (Small last id z)) = subst (λ (c : Course (Completed P) (World P)). IsPartOf cmp order inside alike T c (instant cmp (Small last id z))) i now in
-      let later : (l : P → P → Option ℕ) × (j : ℕ) × Within l j v × Ticks cmp n (Small landed.0 landed.1 u) (goes (filter (λ (c : Completed P). inside c.origin) r.0) (Small l j v)) = ticks_part t r.0 v landed.0 landed.1 r.1 landed.2 in
+      let landed : IsPartOf cmp order inside alike T (goes ds u) (instant cmp (Small last id z))
+      = subst (λ (c : Course (Completed P) (World P)). IsPartOf cmp order inside alike T c (instant cmp (Small last id z))) i now in
+      let later : (l : P → P → Option ℕ) × (j : ℕ) × Within l j v × Ticks cmp n (Small landed.0 landed.1 u) (goes (filter (λ (c : Completed P). inside c.origin) r.0) (Small l j v))
+      = ticks_part t r.0 v landed.0 landed.1 r.1 landed.2 in
       let both : filter (λ (c : Completed P). inside c.origin) ds ++ filter (λ (c : Completed P). inside c.origin) r.0 ≡ filter (λ (c : Completed P). inside c.origin) cs =
       sym (filter-append (λ (c : Completed P). inside c.origin) ds r.0) ∙ ap (filter (λ (c : Completed P). inside c.origin)) r.2 in
       (later.0, later.1, later.2, subst (λ (es : List (Completed P)). Ticks cmp (suc n) (Small last id w) (goes es (Small later.0 later.1 v))) both (one_tick drained.1 landed.3 later.3))

@@ -81,15 +81,18 @@ module _ {P : Type 0} (cmp : P → P → Ordering) (order : IsTotalOrder cmp) wh
   pair_order_without test [] h = tt
   pair_order_without test (m ∷ ms) h = by_test (test m) (any_but_first (λ n. pair_before cmp n m) test ms h.0) (pair_order_without test ms h.1)
     where
-      by_test : (b : Bool) → list_any (λ n. pair_before cmp n m) (without_first test ms) ≡ false → AreInPairOrder cmp (without_first test ms) → AreInPairOrder cmp (cond b ms (m ∷ without_first test ms))
+      by_test : (b : Bool) → list_any (λ n. pair_before cmp n m) (without_first test ms) ≡ false → AreInPairOrder cmp (without_first test ms)
+          → AreInPairOrder cmp (cond b ms (m ∷ without_first test ms))
       by_test true k ih = h.1
       by_test false k ih = (k, ih)
 
   -- the first message of a pair leaves the waiting ones of that pair alone shorter
-  pub waits_without : (m x : Message P) (ws : List (Message P)) → filter (same_pair cmp m) (without_first (same_pair cmp x) ws) ≡ cond (same_pair cmp m x) (rest_of (filter (same_pair cmp m) ws)) (filter (same_pair cmp m) ws)
+  pub waits_without : (m x : Message P) (ws : List (Message P))
+      → filter (same_pair cmp m) (without_first (same_pair cmp x) ws) ≡ cond (same_pair cmp m x) (rest_of (filter (same_pair cmp m) ws)) (filter (same_pair cmp m) ws)
   waits_without m x ws = by_pair (same_pair cmp m x) refl ws
     where
-      by_pair : (b : Bool) → same_pair cmp m x ≡ b → (ws : List (Message P)) → filter (same_pair cmp m) (without_first (same_pair cmp x) ws) ≡ cond b (rest_of (filter (same_pair cmp m) ws)) (filter (same_pair cmp m) ws)
+      by_pair : (b : Bool) → same_pair cmp m x ≡ b → (ws : List (Message P))
+          → filter (same_pair cmp m) (without_first (same_pair cmp x) ws) ≡ cond b (rest_of (filter (same_pair cmp m) ws)) (filter (same_pair cmp m) ws)
       by_pair true e [] = refl
       by_pair false e [] = refl
       by_pair true e (y ∷ ws) = by_test (same_pair cmp x y) (same_pair cmp m y) (pair_like cmp order m x y e) refl (by_pair true e ws)
@@ -121,14 +124,16 @@ module _ {P : Type 0} (cmp : P → P → Ordering) (order : IsTotalOrder cmp) wh
       (subst (λ (ks : List (Message P)). AllZip (SameMessage cmp) (cond (same_pair cmp m x) (rest_of (filter (same_pair cmp m) ms)) (filter (same_pair cmp m) ms)) ks) (sym (waits_without m y ns))
       (by_test (same_pair cmp m x) (same_pair cmp m y) (pairs_alike cmp order m m x y (message_itself cmp order m) same)))
     where
-      by_test : (a b : Bool) → a ≡ b → AllZip (SameMessage cmp) (cond a (rest_of (filter (same_pair cmp m) ms)) (filter (same_pair cmp m) ms)) (cond b (rest_of (filter (same_pair cmp m) ns)) (filter (same_pair cmp m) ns))
+      by_test : (a b : Bool) → a ≡ b
+          → AllZip (SameMessage cmp) (cond a (rest_of (filter (same_pair cmp m) ms)) (filter (same_pair cmp m) ms)) (cond b (rest_of (filter (same_pair cmp m) ns)) (filter (same_pair cmp m) ns))
       by_test true true e = rests_alike (SameMessage cmp) (filter (same_pair cmp m) ms) (filter (same_pair cmp m) ns) all
       by_test true false e = cc
       by_test false true e = cc
       by_test false false e = all
 
   -- the pair's next is the same in both worlds
-  pub next_alike : (t : ℕ) (p : Planned P) (w : World P) (m n : Message P) → Tallies cmp t p w → SameMessage cmp m n → OptionsAlike (SameMessage cmp) (next_of cmp p m) (find (same_pair cmp n) w.waiting)
+  pub next_alike : (t : ℕ) (p : Planned P) (w : World P) (m n : Message P) → Tallies cmp t p w → SameMessage cmp m n
+      → OptionsAlike (SameMessage cmp) (next_of cmp p m) (find (same_pair cmp n) w.waiting)
   next_alike t p w m n same alike =
       let pair : same_pair cmp m n ≡ true = rw (alike.origin, alike.recipient) refl in
       let there : find (same_pair cmp n) w.waiting ≡ head_of (filter (same_pair cmp m) w.waiting) = find_like cmp order m n w.waiting pair ∙ head_found (same_pair cmp m) w.waiting in
@@ -152,11 +157,13 @@ module _ {P : Type 0} (cmp : P → P → Ordering) (order : IsTotalOrder cmp) wh
   -- before any limit nothing waits
   pub waits_limited : (t : ℕ) (p : Planned P) (w : World P) (y : Message P) → Tallies cmp t p w → find (same_pair cmp y) w.waiting ≡ Some y → p.limited ≡ false → ⊥
   waits_limited t p w y same own free =
-      let empty : AllZip (SameMessage cmp) [] (filter (same_pair cmp y) w.waiting) = subst (λ (ms : List (Message P)). AllZip (SameMessage cmp) (filter (same_pair cmp y) ms) (filter (same_pair cmp y) w.waiting)) (same.empty_at_first free).1 (same.waiting y) in
+      let empty : AllZip (SameMessage cmp) [] (filter (same_pair cmp y) w.waiting)
+      = subst (λ (ms : List (Message P)). AllZip (SameMessage cmp) (filter (same_pair cmp y) ms) (filter (same_pair cmp y) w.waiting)) (same.empty_at_first free).1 (same.waiting y) in
       let none : find (same_pair cmp y) w.waiting ≡ None = find_none (same_pair cmp y) w.waiting (none_matched (SameMessage cmp) (filter (same_pair cmp y) w.waiting) empty) in
       cc
 
-  pub launched_tallies : (t : ℕ) (p : Planned P) (w : World P) (x y : Message P) → Tallies cmp t p w → SameMessage cmp x y → find (same_pair cmp y) w.waiting ≡ Some y → list_any (same_pair cmp y) (flows w) ≡ false → Tallies cmp t (launched cmp t p x) (joined cmp w y)
+  pub launched_tallies : (t : ℕ) (p : Planned P) (w : World P) (x y : Message P) → Tallies cmp t p w → SameMessage cmp x y → find (same_pair cmp y) w.waiting ≡ Some y
+      → list_any (same_pair cmp y) (flows w) ≡ false → Tallies cmp t (launched cmp t p x) (joined cmp w y)
   launched_tallies t p w x y same alike own idle = record {
     moment = same.moment;
     caps = same.caps;
@@ -175,7 +182,9 @@ module _ {P : Type 0} (cmp : P → P → Ordering) (order : IsTotalOrder cmp) wh
 
   pub staying_none : (w : World P) → NoneDone (staying cmp w)
   unfolding staying
-  staying_none w = each_map (λ g. not (is_done cmp w g) ≡ true) (λ g. is_done cmp w g ≡ false) (filter (λ g. not (is_done cmp w g)) w.sending) (λ g. no (is_done cmp w g)) (each_passes (λ g. not (is_done cmp w g)) w.sending)
+  staying_none w =
+      each_map (λ g. not (is_done cmp w g) ≡ true) (λ g. is_done cmp w g ≡ false) (filter (λ g. not (is_done cmp w g)) w.sending) (λ g. no (is_done cmp w g))
+      (each_passes (λ g. not (is_done cmp w g)) w.sending)
     where
       no : (b : Bool) → not b ≡ true → b ≡ false
       no true e = cc
@@ -232,15 +241,18 @@ module _ {P : Type 0} (cmp : P → P → Ordering) (order : IsTotalOrder cmp) wh
   unfolding launch_then
   starts_none next t fs w = ap (λ (q : List (Flight P)). next q w) (sym (append-nil fs))
 
-  starts_not : (next : List (Flight P) → World P → Course (Completed P) (World P)) (t : ℕ) (fs : List (Flight P)) (w : World P) (y : Message P) → may_start cmp t w y ≡ false → launch_then cmp next t fs w (Some y) ≡ next (fs ++ []) w
+  starts_not : (next : List (Flight P) → World P → Course (Completed P) (World P)) (t : ℕ) (fs : List (Flight P)) (w : World P) (y : Message P) → may_start cmp t w y ≡ false
+      → launch_then cmp next t fs w (Some y) ≡ next (fs ++ []) w
   unfolding launch_then
   starts_not next t fs w y e = rw e (ap (λ (q : List (Flight P)). next q w) (sym (append-nil fs)))
 
-  starts_fault : (next : List (Flight P) → World P → Course (Completed P) (World P)) (t : ℕ) (fs : List (Flight P)) (w : World P) (y : Message P) → may_start cmp t w y ≡ true → (nat_le last_moment w.next_id) ≡ true → launch_then cmp next t fs w (Some y) ≡ meets FlowIdsUsedUp
+  starts_fault : (next : List (Flight P) → World P → Course (Completed P) (World P)) (t : ℕ) (fs : List (Flight P)) (w : World P) (y : Message P) → may_start cmp t w y ≡ true
+      → (nat_le last_moment w.next_id) ≡ true → launch_then cmp next t fs w (Some y) ≡ meets FlowIdsUsedUp
   unfolding launch_then
   starts_fault next t fs w y e f = rw (e, f) refl
 
-  starts_so : (next : List (Flight P) → World P → Course (Completed P) (World P)) (t : ℕ) (fs : List (Flight P)) (w : World P) (y : Message P) → may_start cmp t w y ≡ true → (nat_le last_moment w.next_id) ≡ false
+  starts_so : (next : List (Flight P) → World P → Course (Completed P) (World P)) (t : ℕ) (fs : List (Flight P)) (w : World P) (y : Message P) → may_start cmp t w y ≡ true
+      → (nat_le last_moment w.next_id) ≡ false
       → launch_then cmp next t fs w (Some y) ≡ next (fs ++ joining w y) (started w y)
   unfolding launch_then
   starts_so next t fs w y e f = rw (e, f) (by_test (is_done cmp w (flight cmp y)))
@@ -254,7 +266,8 @@ module _ {P : Type 0} (cmp : P → P → Ordering) (order : IsTotalOrder cmp) wh
       let fewer : length (without_first (same_pair cmp y) w.waiting) + 1 ≡ length w.waiting = length_without (same_pair cmp y) y w.waiting e in
       by_test (is_done cmp w (flight cmp y)) fewer
     where
-      by_test : (b : Bool) → length (without_first (same_pair cmp y) w.waiting) + 1 ≡ length w.waiting → length (cond b (flight cmp y ∷ []) []) + length (cond b (taken cmp w y) (joined cmp w y)).waiting ≤ length w.waiting
+      by_test : (b : Bool) → length (without_first (same_pair cmp y) w.waiting) + 1 ≡ length w.waiting
+          → length (cond b (flight cmp y ∷ []) []) + length (cond b (taken cmp w y) (joined cmp w y)).waiting ≤ length w.waiting
       by_test true h = omega arith
       by_test false h = omega arith
 
@@ -263,22 +276,27 @@ module _ {P : Type 0} (cmp : P → P → Ordering) (order : IsTotalOrder cmp) wh
   idle_from false b e = refl
 
   -- a launch in the one world is a launch in the other
-  pub launch_alike : {t : ℕ} {p : Planned P} {o : Option (Message P)} {course : Course (Message P) (Planned P)} → Launches cmp t p o course → (w : World P) (fs : List (Flight P)) (m : Message P) (r : Option (Message P)) → Follows cmp t p w → NoneDone w
+  pub launch_alike : {t : ℕ} {p : Planned P} {o : Option (Message P)} {course : Course (Message P) (Planned P)} → Launches cmp t p o course
+      → (w : World P) (fs : List (Flight P)) (m : Message P) (r : Option (Message P)) → Follows cmp t p w → NoneDone w
       → find (same_pair cmp m) w.waiting ≡ r → OptionsAlike (SameMessage cmp) o r → LaunchAlike t w fs r course
-  launch_alike {t = t} {p = p} nothing_waits w fs m None follows none is alike = record { more = []; world = w; launches = λ next. starts_none next t fs w; follows = follows; none = none; leaves = tt; fewer = omega arith }
+  launch_alike {t = t} {p = p} nothing_waits w fs m None follows none is alike =
+      record { more = []; world = w; launches = λ next. starts_none next t fs w; follows = follows; none = none; leaves = tt; fewer = omega arith }
   launch_alike nothing_waits w fs m (Some y) follows none is alike = absurd alike
   launch_alike (too_early early) w fs m None follows none is alike = absurd alike
   launch_alike {t = t} {p = p} (too_early {m = x} early) w fs m (Some y) follows none is alike =
-      let not_yet : may_start cmp t w y ≡ false = sym (may_alike cmp order t p w x y follows.tallies.last_arrival (messages_alike cmp order t p.sending w.sending follows.tallies.sending) alike) ∙ early in
+      let not_yet : may_start cmp t w y ≡ false
+      = sym (may_alike cmp order t p w x y follows.tallies.last_arrival (messages_alike cmp order t p.sending w.sending follows.tallies.sending) alike) ∙ early in
       record { more = []; world = w; launches = λ next. starts_not next t fs w y not_yet; follows = follows; none = none; leaves = tt; fewer = omega arith }
   launch_alike (no_id may last) w fs m None follows none is alike = absurd alike
   launch_alike {t = t} {p = p} (no_id {m = x} may last) w fs m (Some y) follows none is alike =
-      let may_too : may_start cmp t w y ≡ true = sym (may_alike cmp order t p w x y follows.tallies.last_arrival (messages_alike cmp order t p.sending w.sending follows.tallies.sending) alike) ∙ may in
+      let may_too : may_start cmp t w y ≡ true
+      = sym (may_alike cmp order t p w x y follows.tallies.last_arrival (messages_alike cmp order t p.sending w.sending follows.tallies.sending) alike) ∙ may in
       let ids : last_moment ≤ w.next_id = subst (λ (n : ℕ). last_moment ≤ n) follows.tallies.next_id last in
       λ next. starts_fault next t fs w y may_too (le-leb last_moment w.next_id ids)
   launch_alike (starts may below account) w fs m None follows none is alike = absurd alike
   launch_alike {t = t} {p = p} (starts {m = x} {leavers = leavers} {new = new} may below account) w fs m (Some y) follows none is alike =
-      let may_too : may_start cmp t w y ≡ true = sym (may_alike cmp order t p w x y follows.tallies.last_arrival (messages_alike cmp order t p.sending w.sending follows.tallies.sending) alike) ∙ may in
+      let may_too : may_start cmp t w y ≡ true
+      = sym (may_alike cmp order t p w x y follows.tallies.last_arrival (messages_alike cmp order t p.sending w.sending follows.tallies.sending) alike) ∙ may in
       let idle : list_any (same_pair cmp y) (flows w) ≡ false = idle_from (list_any (same_pair cmp y) (flows w)) (is_in_order (w.last_arrival y.origin y.recipient) (t + y.latency)) may_too in
       let own : find (same_pair cmp y) w.waiting ≡ Some y = find_like cmp order m y w.waiting (find_passes (same_pair cmp m) y w.waiting is) ∙ is in
       let tallies : Tallies cmp t (launched cmp t p x) (joined cmp w y) = launched_tallies t p w x y follows.tallies alike own idle in
@@ -296,11 +314,13 @@ module _ {P : Type 0} (cmp : P → P → Ordering) (order : IsTotalOrder cmp) wh
       by_id true e same lt = let is : last_moment ≤ w.next_id = leb-true last_moment w.next_id e in absurd (omega arith)
       by_id false e same lt = refl
 
-  pub start_alike : {t : ℕ} {p : Planned P} {o : Option (Message P)} {course : Course (Message P) (Planned P)} → Launches cmp t p o course → (w : World P) (y : Message P) → Follows cmp t p w → NoneDone w
+  pub start_alike : {t : ℕ} {p : Planned P} {o : Option (Message P)} {course : Course (Message P) (Planned P)} → Launches cmp t p o course → (w : World P) (y : Message P)
+      → Follows cmp t p w → NoneDone w
       → may_start cmp t w y ≡ true → find (same_pair cmp y) w.waiting ≡ Some y → OptionsAlike (SameMessage cmp) o (Some y) → StartAlike t w y course
   start_alike nothing_waits w y follows none may own alike = absurd alike
   start_alike {t = t} {p = p} (too_early {m = x} early) w y follows none may own alike =
-      let same : may_launch cmp t p x ≡ may_start cmp t w y = may_alike cmp order t p w x y follows.tallies.last_arrival (messages_alike cmp order t p.sending w.sending follows.tallies.sending) alike in
+      let same : may_launch cmp t p x ≡ may_start cmp t w y
+      = may_alike cmp order t p w x y follows.tallies.last_arrival (messages_alike cmp order t p.sending w.sending follows.tallies.sending) alike in
       cc
   start_alike {t = t} {p = p} (no_id {m = x} launches last) w y follows none may own alike =
       let ids : last_moment ≤ w.next_id = subst (λ (n : ℕ). last_moment ≤ n) follows.tallies.next_id last in

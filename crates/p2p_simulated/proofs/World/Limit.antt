@@ -119,7 +119,8 @@ module _ {P : Type 0} (cmp : P → P → Ordering) (order : IsTotalOrder cmp) wh
           }
 
   -- a settling in which nothing was ready leaves a world at rest
-  pub settled_rests : (now : ℕ) (x : Course (Completed P) (Planned P)) (c : Course (Completed P) (World P)) → now ≤ last_moment → CoursesAlike cmp (IsSettled cmp now) x c → EndsWith (λ v. ready cmp now v ≡ []) c → CoursesAlike cmp (λ q v. StandsFor cmp q v × (v.moment ≡ now)) x c
+  pub settled_rests : (now : ℕ) (x : Course (Completed P) (Planned P)) (c : Course (Completed P) (World P)) → now ≤ last_moment → CoursesAlike cmp (IsSettled cmp now) x c
+      → EndsWith (λ v. ready cmp now v ≡ []) c → CoursesAlike cmp (λ q v. StandsFor cmp q v × (v.moment ≡ now)) x c
   settled_rests now (goes cs q) (goes ds v) within h idle = (h.0, (woken_stands cmp order now q v within (h.1, idle), h.1.follows.tallies.moment))
   settled_rests now (goes cs q) (meets g) within h idle = absurd h
   settled_rests now (meets f) (goes ds v) within h idle = absurd h
@@ -135,7 +136,8 @@ module _ {P : Type 0} (cmp : P → P → Ordering) (order : IsTotalOrder cmp) wh
   no_caps_before (meets fault) = refl
 
   -- new caps do in the planned world what they do in the world
-  recaps_there : (p : Planned P) (now : ℕ) (u : World P) (caps others : Caps P) (course : Course (Completed P) (Planned P)) → CapsAlike cmp caps others → now ≤ last_moment → Follows cmp now p u → ready cmp now u ≡ [] → Recaps cmp now caps p course
+  recaps_there : (p : Planned P) (now : ℕ) (u : World P) (caps others : Caps P) (course : Course (Completed P) (Planned P)) → CapsAlike cmp caps others → now ≤ last_moment
+      → Follows cmp now p u → ready cmp now u ≡ [] → Recaps cmp now caps p course
       → CoursesAlike cmp (λ q v. StandsFor cmp q v × (v.moment ≡ now)) course (recap cmp now u others)
   recaps_there p now u caps others course alike within follows none_ready recaps = by_case recaps
     where
@@ -168,7 +170,8 @@ module _ {P : Type 0} (cmp : P → P → Ordering) (order : IsTotalOrder cmp) wh
           settled_rests now (goes [] new) (settle cmp now x) within (subst (λ (c : Course (Completed P) (World P)). CoursesAlike cmp (IsSettled cmp now) (goes [] new) c) (sym same) (tt, settled)) rests
 
   -- and so does a call that sets caps
-  recapping : (p : Planned P) (w : World P) (now : ℕ) (call : Call P) (new : Caps P → Caps P) (course : Course (Completed P) (Planned P)) → ((u : World P) → act cmp u call ≡ recap cmp now u (new u.caps)) → ((c d : Caps P) → CapsAlike cmp c d → CapsAlike cmp (new c) (new d))
+  recapping : (p : Planned P) (w : World P) (now : ℕ) (call : Call P) (new : Caps P → Caps P) (course : Course (Completed P) (Planned P))
+      → ((u : World P) → act cmp u call ≡ recap cmp now u (new u.caps)) → ((c d : Caps P) → CapsAlike cmp c d → CapsAlike cmp (new c) (new d))
       → StandsFor cmp p w → w.moment ≤ now → now ≤ last_moment → IfSome (next_event p) (λ t. now < t) → Recaps cmp now (new p.caps) p course
       → (c : Course (Completed P) (World P)) × Runs cmp w call now c × CoursesAlike cmp (λ q v. StandsFor cmp q v × (v.moment ≡ now)) course c
   recapping p w now call new course acts alike stands le within before recaps =
@@ -178,12 +181,14 @@ module _ {P : Type 0} (cmp : P → P → Ordering) (order : IsTotalOrder cmp) wh
         recaps_there p now there.world (new p.caps) (new there.world.caps) course (alike p.caps there.world.caps there.follows.tallies.caps) within there.follows there.none_ready recaps,
       )
 
-  pub limits_alike : (p : Planned P) (w : World P) (now : ℕ) (peer : P) (egress ingress : Option ℕ) (course : Course (Completed P) (Planned P)) → StandsFor cmp p w → w.moment ≤ now → now ≤ last_moment → IfSome (next_event p) (λ t. now < t)
+  pub limits_alike : (p : Planned P) (w : World P) (now : ℕ) (peer : P) (egress ingress : Option ℕ) (course : Course (Completed P) (Planned P)) → StandsFor cmp p w → w.moment ≤ now
+      → now ≤ last_moment → IfSome (next_event p) (λ t. now < t)
       → Recaps cmp now (limited_by cmp p.caps peer egress ingress) p course → (c : Course (Completed P) (World P)) × Runs cmp w (call_limit now peer egress ingress) now c × CoursesAlike cmp (λ q v. StandsFor cmp q v × (v.moment ≡ now)) course c
   limits_alike p w now peer egress ingress course = recapping p w now (call_limit now peer egress ingress) (λ caps. limited_by cmp caps peer egress ingress) course (λ u. refl)
       (λ c d same. record { egress = cap_alike c.egress d.egress peer egress same.egress; ingress = cap_alike c.ingress d.ingress peer ingress same.ingress; link = same.link })
 
-  pub links_alike : (p : Planned P) (w : World P) (now : ℕ) (origin recipient : P) (cap : Option ℕ) (course : Course (Completed P) (Planned P)) → StandsFor cmp p w → w.moment ≤ now → now ≤ last_moment → IfSome (next_event p) (λ t. now < t)
+  pub links_alike : (p : Planned P) (w : World P) (now : ℕ) (origin recipient : P) (cap : Option ℕ) (course : Course (Completed P) (Planned P)) → StandsFor cmp p w → w.moment ≤ now
+      → now ≤ last_moment → IfSome (next_event p) (λ t. now < t)
       → Recaps cmp now (linked_by cmp p.caps origin recipient cap) p course → (c : Course (Completed P) (World P)) × Runs cmp w (call_limit_link now origin recipient cap) now c × CoursesAlike cmp (λ q v. StandsFor cmp q v × (v.moment ≡ now)) course c
   links_alike p w now origin recipient cap course = recapping p w now (call_limit_link now origin recipient cap) (λ caps. linked_by cmp caps origin recipient cap) course (λ u. refl)
       (λ c d same. record { egress = same.egress; ingress = same.ingress; link = link_alike c.link d.link origin recipient cap same.link })

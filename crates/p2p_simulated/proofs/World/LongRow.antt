@@ -48,4 +48,6 @@ not_quiet q = let e : (((drained (whole 1) (reduced 3 1) 333333334).num == 0) ||
 
 -- the next event is its finish
 pub slow_next : NextIs nat_cmp (flying 3 (message 1 2 1 0)) (Some 333333334)
-slow_next = comes_next (stretch nat_cmp slow 1 (Some 3 ∷ []) fair (omega arith, tt) 333333332 (λ k h j. quiet k h j)) (drifts_on nat_cmp slow 1 (Some 3 ∷ []) 333333333 fair (omega arith, tt)) not_quiet (lit≤ tt)
+slow_next =
+    comes_next (stretch nat_cmp slow 1 (Some 3 ∷ []) fair (omega arith, tt) 333333332 (λ k h j. quiet k h j))
+    (drifts_on nat_cmp slow 1 (Some 3 ∷ []) 333333333 fair (omega arith, tt)) not_quiet (lit≤ tt)

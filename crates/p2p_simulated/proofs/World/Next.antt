@@ -28,7 +28,8 @@ module _ {P : Type 0} (cmp : P → P → Ordering) (order : IsTotalOrder cmp) wh
       busy : (k : ℕ) → w.moment + suc k ≡ e → SomeReadyAt cmp p e → ¬ IsQuiet cmp (w.moment + suc k) (later cmp order p w stands (suc k))
       busy k at some quiet =
           let there : SomeReadyAt cmp p (w.moment + suc k) = subst (λ (t : ℕ). SomeReadyAt cmp p t) (sym at) some in
-          let has : HasIn cmp order (ready cmp (w.moment + suc k) (later cmp order p w stands (suc k))) there.0 = in_ready cmp order (w.moment + suc k) p (later cmp order p w stands (suc k)) there.0 (follows_later cmp order p w stands (suc k)).tallies there.1 there.2 in
+          let has : HasIn cmp order (ready cmp (w.moment + suc k) (later cmp order p w stands (suc k))) there.0
+          = in_ready cmp order (w.moment + suc k) p (later cmp order p w stands (suc k)) there.0 (follows_later cmp order p w stands (suc k)).tallies there.1 there.2 in
           subst (λ (ms : List (Message P)). HasIn cmp order ms there.0) quiet.none_ready has
 
   -- the next event is what is planned
@@ -51,5 +52,6 @@ module _ {P : Type 0} (cmp : P → P → Ordering) (order : IsTotalOrder cmp) wh
   pub advance_runs : (p : Planned P) (w : World P) (now n : ℕ) (course : Course (Completed P) (Planned P)) → StandsFor cmp p w → w.moment ≤ now → now ≤ last_moment → Advances cmp now p n course
       → (c : Course (Completed P) (World P)) × Runs cmp w (call_advance now) now c × CoursesAlike cmp (λ q v. StandsFor cmp q v × (v.moment ≡ now)) course c
   advance_runs p w now n course stands le within events =
-      let way : (c : Course (Completed P) (World P)) × Ticks cmp (now - w.moment) w c × CoursesAlike cmp (λ q v. StandsFor cmp q v × (v.moment ≡ now)) course c = (advances_alike cmp order events within).0 w stands le in
+      let way : (c : Course (Completed P) (World P)) × Ticks cmp (now - w.moment) w c × CoursesAlike cmp (λ q v. StandsFor cmp q v × (v.moment ≡ now)) course c
+      = (advances_alike cmp order events within).0 w stands le in
       (way.0, record { ticked = way.0; ticks = way.1; acts = ended way.0 }, way.2)

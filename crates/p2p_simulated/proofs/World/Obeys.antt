@@ -22,13 +22,17 @@ module _ {P : Type 0} (cmp : P → P → Ordering) (order : IsTotalOrder cmp) wh
   before_planned : (p : Planned P) (w : World P) (now : ℕ) → StandsFor cmp p w → IsBeforeNext cmp now w → IfSome (next_event p) (λ t. now < t)
   before_planned p w now stands before = before (next_event p) (next_is_planned cmp order p w stands)
 
-  any_enqueue : {now : ℕ} {m : Message P} {p : Planned P} {course : Course (Completed P) (Planned P)} → Enqueues cmp now m p course → (w : World P) → StandsFor cmp p w → w.moment ≤ now → now ≤ last_moment → IfSome (next_event p) (λ t. now < t)
+  any_enqueue : {now : ℕ} {m : Message P} {p : Planned P} {course : Course (Completed P) (Planned P)} → Enqueues cmp now m p course → (w : World P) → StandsFor cmp p w
+      → w.moment ≤ now → now ≤ last_moment → IfSome (next_event p) (λ t. now < t)
       → Follows p w (call_enqueue now m) now course
   any_enqueue {now = now} {m = m} {p = p} (at_once free) w stands le within before = at_once_alike cmp order p w now m stands free le within before
-  any_enqueue {now = now} {m = m} {p = p} {course = course} (no_launch limits launch) w stands le within before = enqueues_alike cmp order p w now m course stands limits le within before (no_launch limits launch)
-  any_enqueue {now = now} {m = m} {p = p} {course = course} (launches limits launch finishes) w stands le within before = enqueues_alike cmp order p w now m course stands limits le within before (launches limits launch finishes)
+  any_enqueue {now = now} {m = m} {p = p} {course = course} (no_launch limits launch) w stands le within before =
+      enqueues_alike cmp order p w now m course stands limits le within before (no_launch limits launch)
+  any_enqueue {now = now} {m = m} {p = p} {course = course} (launches limits launch finishes) w stands le within before =
+      enqueues_alike cmp order p w now m course stands limits le within before (launches limits launch finishes)
 
-  pub obeys_alike : (p : Planned P) (w : World P) (call : Call P) (now : ℕ) (course : Course (Completed P) (Planned P)) → StandsFor cmp p w → moment_of call ≡ Some now → now ≤ last_moment → IsInTurn cmp w call → Obeys cmp p call course → Follows p w call now course
+  pub obeys_alike : (p : Planned P) (w : World P) (call : Call P) (now : ℕ) (course : Course (Completed P) (Planned P)) → StandsFor cmp p w → moment_of call ≡ Some now
+      → now ≤ last_moment → IsInTurn cmp w call → Obeys cmp p call course → Follows p w call now course
   obeys_alike p w (call_limit t peer egress ingress) now course stands is within turn obeys =
       let same : t ≡ now = cc in
       subst (λ (s : ℕ). Follows p w (call_limit t peer egress ingress) s course) same (limits_alike cmp order p w t peer egress ingress course stands turn.0 (subst (λ (s : ℕ). s ≤ last_moment) (sym same) within) (before_planned p w t stands turn.1) obeys)

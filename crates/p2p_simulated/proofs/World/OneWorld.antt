@@ -10,7 +10,8 @@ use Rattle.p2p_simulated.specs.Laws.LowestTerms.{reduced_same}
 use Rattle.p2p_simulated.proofs.World.Rated.{Match, one_each, rates_match}
 
 module _ {P : Type 0} (cmp : P → P → Ordering) where
-  at_same : (x y : Option ℕ) (d e n : ℕ) (left : Amount) → 0 < left.den → 0 < d → 0 < e → ((a : ℕ) → x ≡ Some a → (b : ℕ) × (y ≡ Some b) × (a * e ≡ b * d)) → ((b : ℕ) → y ≡ Some b → (a : ℕ) × (x ≡ Some a) × (b * d ≡ a * e))
+  at_same : (x y : Option ℕ) (d e n : ℕ) (left : Amount) → 0 < left.den → 0 < d → 0 < e → ((a : ℕ) → x ≡ Some a → (b : ℕ) × (y ≡ Some b) × (a * e ≡ b * d))
+      → ((b : ℕ) → y ≡ Some b → (a : ℕ) × (x ≡ Some a) × (b * d ≡ a * e))
       → drained_by (rate_of d x) n left ≡ drained_by (rate_of e y) n left
   at_same None None d e n left h i j to from = refl
   at_same None (Some b) d e n left h i j to from = let g : (a : ℕ) × (None ≡ Some a) × (b * d ≡ a * e) = from b refl in cc
@@ -20,7 +21,8 @@ module _ {P : Type 0} (cmp : P → P → Ordering) where
       let same : g.0 ≡ b = cc in
       ap (λ (rate : Amount). drained left rate n) (reduced_same a d b e i j (g.2 ∙ ap (λ c. c * d) same))
 
-  drain_same : (xs ys : Parts) (d e n : ℕ) (fs : List (Flight P)) → ArePositive fs → 0 < d → 0 < e → length xs ≡ length ys → Match xs ys d e → Match ys xs e d → drain_each d xs n fs ≡ drain_each e ys n fs
+  drain_same : (xs ys : Parts) (d e n : ℕ) (fs : List (Flight P)) → ArePositive fs → 0 < d → 0 < e → length xs ≡ length ys → Match xs ys d e → Match ys xs e d
+      → drain_each d xs n fs ≡ drain_each e ys n fs
   drain_same xs ys d e n [] pos i j same to from = nothing xs ys
     where
       nothing : (xs ys : Parts) → drain_each {P = P} d xs n [] ≡ drain_each e ys n []

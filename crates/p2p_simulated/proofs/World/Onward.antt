@@ -17,7 +17,8 @@ module _ {P : Type 0} (cmp : P → P → Ordering) (order : IsTotalOrder cmp) wh
   ticks_of : (w : World P) (now : ℕ) (c : Course (Completed P) (World P)) → Runs cmp w (call_advance now) now c → Ticks cmp (now - w.moment) w c
   ticks_of w now c runs = subst (λ (d : Course (Completed P) (World P)). Ticks cmp (now - w.moment) w d) (sym (runs.acts ∙ nothing_more runs.ticked)) runs.ticks
 
-  pub advance_splits : (w v : World P) (a b : ℕ) (cs : List (Completed P)) (course : Course (Completed P) (World P)) → w.moment ≤ a → a ≤ b → Runs cmp w (call_advance a) a (goes cs v) → Runs cmp v (call_advance b) b course → Runs cmp w (call_advance b) b (preceded cs course)
+  pub advance_splits : (w v : World P) (a b : ℕ) (cs : List (Completed P)) (course : Course (Completed P) (World P)) → w.moment ≤ a → a ≤ b
+      → Runs cmp w (call_advance a) a (goes cs v) → Runs cmp v (call_advance b) b course → Runs cmp w (call_advance b) b (preceded cs course)
   advance_splits w v a b cs course after later first second =
       let first_ticks : Ticks cmp (a - w.moment) w (goes cs v) = ticks_of w a (goes cs v) first in
       let at : v.moment ≡ w.moment + (a - w.moment) = ends_at cmp order (IsAt cmp order (w.moment + (a - w.moment))) (goes cs v) cs v refl (ticks_end_at cmp order first_ticks) in

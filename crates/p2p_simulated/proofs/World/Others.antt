@@ -60,7 +60,8 @@ pub filter_twice : {X : Type 0} (p q : X → Bool) (xs : List X) → filter p (f
 filter_twice p q [] = refl
 filter_twice {X} p q (x ∷ xs) = by_tests (p x) (q x) refl refl (filter_twice p q xs)
   where
-    by_tests : (a b : Bool) → p x ≡ a → q x ≡ b → filter p (filter q xs) ≡ filter q (filter p xs) → filter p (cond b (x ∷ filter q xs) (filter q xs)) ≡ filter q (cond a (x ∷ filter p xs) (filter p xs))
+    by_tests : (a b : Bool) → p x ≡ a → q x ≡ b → filter p (filter q xs) ≡ filter q (filter p xs)
+        → filter p (cond b (x ∷ filter q xs) (filter q xs)) ≡ filter q (cond a (x ∷ filter p xs) (filter p xs))
     by_tests true true e f ih = rw (e, f, ih) refl
     by_tests true false e f ih = rw (f, ih) refl
     by_tests false true e f ih = rw (e, ih) refl
@@ -81,7 +82,8 @@ pub filter_kept : {X : Type 0} (test keep : X → Bool) (xs : List X) → ((x : 
 filter_kept test keep [] h = refl
 filter_kept {X} test keep (x ∷ xs) h = by_tests (test x) (keep x) refl refl (filter_kept test keep xs h)
   where
-    by_tests : (a b : Bool) → test x ≡ a → keep x ≡ b → filter test (filter keep xs) ≡ filter test xs → filter test (cond b (x ∷ filter keep xs) (filter keep xs)) ≡ cond a (x ∷ filter test xs) (filter test xs)
+    by_tests : (a b : Bool) → test x ≡ a → keep x ≡ b → filter test (filter keep xs) ≡ filter test xs
+        → filter test (cond b (x ∷ filter keep xs) (filter keep xs)) ≡ cond a (x ∷ filter test xs) (filter test xs)
     by_tests true true e f ih = rw (e, ih) refl
     by_tests true false e f ih = let g : keep x ≡ true = h x e in cc
     by_tests false true e f ih = rw (e, ih) refl
@@ -91,7 +93,8 @@ pub filter_kept_each : {X : Type 0} (test keep : X → Bool) (xs : List X) → E
 filter_kept_each test keep [] h = refl
 filter_kept_each {X} test keep (x ∷ xs) h = by_tests (test x) (keep x) refl refl (filter_kept_each test keep xs h.1)
   where
-    by_tests : (a b : Bool) → test x ≡ a → keep x ≡ b → filter test (filter keep xs) ≡ filter test xs → filter test (cond b (x ∷ filter keep xs) (filter keep xs)) ≡ cond a (x ∷ filter test xs) (filter test xs)
+    by_tests : (a b : Bool) → test x ≡ a → keep x ≡ b → filter test (filter keep xs) ≡ filter test xs
+        → filter test (cond b (x ∷ filter keep xs) (filter keep xs)) ≡ cond a (x ∷ filter test xs) (filter test xs)
     by_tests true true e f ih = rw (e, ih) refl
     by_tests true false e f ih = let g : keep x ≡ true = h.0 e in cc
     by_tests false true e f ih = rw (e, ih) refl
@@ -102,7 +105,8 @@ pub found_fails : {X : Type 0} (test keep : X → Bool) (f : X) (xs : List X) �
 found_fails test keep f [] e h = cc
 found_fails {X} test keep f (x ∷ xs) e h = by_tests (test x) (keep x) refl refl e h (found_fails test keep f xs)
   where
-    by_tests : (a b : Bool) → test x ≡ a → keep x ≡ b → cond a (Some x) (find test xs) ≡ Some f → list_any test (cond b (x ∷ filter keep xs) (filter keep xs)) ≡ false → (find test xs ≡ Some f → list_any test (filter keep xs) ≡ false → keep f ≡ false) → keep f ≡ false
+    by_tests : (a b : Bool) → test x ≡ a → keep x ≡ b → cond a (Some x) (find test xs) ≡ Some f → list_any test (cond b (x ∷ filter keep xs) (filter keep xs)) ≡ false
+        → (find test xs ≡ Some f → list_any test (filter keep xs) ≡ false → keep f ≡ false) → keep f ≡ false
     by_tests true true is k e h ih = let h2 : (test x || list_any test (filter keep xs)) ≡ false = h in let h3 : (true || list_any test (filter keep xs)) ≡ false = rw is at h2 in cc
     by_tests true false is k e h ih = let same : x ≡ f = cc in ap keep (sym same) ∙ k
     by_tests false true is k e h ih = let h2 : (test x || list_any test (filter keep xs)) ≡ false = h in let h3 : list_any test (filter keep xs) ≡ false = rw is at h2 in ih e h3
@@ -112,7 +116,8 @@ pub any_none : {X : Type 0} (test keep : X → Bool) (xs : List X) → list_any 
 any_none test keep [] h = refl
 any_none {X} test keep (x ∷ xs) h = by_tests (test x) (keep x) refl h (any_none test keep xs)
   where
-    by_tests : (a b : Bool) → test x ≡ a → (a || list_any test xs) ≡ false → (list_any test xs ≡ false → list_any test (filter keep xs) ≡ false) → list_any test (cond b (x ∷ filter keep xs) (filter keep xs)) ≡ false
+    by_tests : (a b : Bool) → test x ≡ a → (a || list_any test xs) ≡ false → (list_any test xs ≡ false → list_any test (filter keep xs) ≡ false)
+        → list_any test (cond b (x ∷ filter keep xs) (filter keep xs)) ≡ false
     by_tests true b is h ih = cc
     by_tests false true is h ih = rw is (ih h)
     by_tests false false is h ih = ih h
@@ -170,9 +175,11 @@ module _ {P : Type 0} (cmp : P → P → Ordering) (order : IsTotalOrder cmp) wh
   }
 
   pub not_alike : (m n : Message P) → same_pair cmp m n ≡ true → (xs : List (Message P)) → filter (λ k. not (same_pair cmp n k)) xs ≡ filter (λ k. not (same_pair cmp m k)) xs
-  not_alike m n e xs = filter_alike (λ k. not (same_pair cmp n k)) (λ k. not (same_pair cmp m k)) xs (each_of (λ k. not (same_pair cmp n k) ≡ not (same_pair cmp m k)) (λ k. ap not (pair_like cmp order m n k e)) xs)
+  not_alike m n e xs =
+      filter_alike (λ k. not (same_pair cmp n k)) (λ k. not (same_pair cmp m k)) xs (each_of (λ k. not (same_pair cmp n k) ≡ not (same_pair cmp m k)) (λ k. ap not (pair_like cmp order m n k e)) xs)
 
-  not_alike_flights : (m n : Message P) → same_pair cmp m n ≡ true → (fs : List (Flight P)) → filter (λ (f : Flight P). not (same_pair cmp n f.message)) fs ≡ filter (λ (f : Flight P). not (same_pair cmp m f.message)) fs
+  not_alike_flights : (m n : Message P) → same_pair cmp m n ≡ true → (fs : List (Flight P))
+      → filter (λ (f : Flight P). not (same_pair cmp n f.message)) fs ≡ filter (λ (f : Flight P). not (same_pair cmp m f.message)) fs
   not_alike_flights m n e fs = filter_alike (λ (f : Flight P). not (same_pair cmp n f.message)) (λ (f : Flight P). not (same_pair cmp m f.message)) fs
       (each_of (λ (f : Flight P). not (same_pair cmp n f.message) ≡ not (same_pair cmp m f.message)) (λ f. ap not (pair_like cmp order m n f.message e)) fs)
 
@@ -282,7 +289,8 @@ module _ {P : Type 0} (cmp : P → P → Ordering) (order : IsTotalOrder cmp) wh
       by_test true is = ends_more (Leaves t x w) (Leaves t m w) (start cmp w x) (λ u l. leaves_like t m x w w u same (but_for_none m w) l) (start_leaves t w x)
       by_test false is = record { others = but_for_none m w; rests = λ y at. let one : x ≡ y = cc in subst (λ (z : Message P). may_start cmp t w z ≡ false) one is }
 
-  landed_but_for : (w : World P) (f : Flight P) (at : ℕ) → find (is_done cmp w) w.sending ≡ Some f → IsButFor cmp f.message w (record w { sending = without_first (is_done cmp w) w.sending; last_arrival = raised cmp w.last_arrival f.message at })
+  landed_but_for : (w : World P) (f : Flight P) (at : ℕ) → find (is_done cmp w) w.sending ≡ Some f
+      → IsButFor cmp f.message w (record w { sending = without_first (is_done cmp w) w.sending; last_arrival = raised cmp w.last_arrival f.message at })
   landed_but_for w f at e = record {
     caps = refl;
     limited = refl;
@@ -308,7 +316,8 @@ module _ {P : Type 0} (cmp : P → P → Ordering) (order : IsTotalOrder cmp) wh
   done_alike w v f e = ap (λ (caps : Caps P). (f.left.num == 0) || is_unlimited cmp caps f.message) e
 
   -- where only a pair has changed since nothing was done, what is done is of that pair
-  done_of_pair : (m : Message P) (w v : World P) (f : Flight P) → IsButFor cmp m w v → list_any (is_done cmp w) w.sending ≡ false → find (is_done cmp v) v.sending ≡ Some f → same_pair cmp m f.message ≡ true
+  done_of_pair : (m : Message P) (w v : World P) (f : Flight P) → IsButFor cmp m w v → list_any (is_done cmp w) w.sending ≡ false → find (is_done cmp v) v.sending ≡ Some f
+      → same_pair cmp m f.message ≡ true
   done_of_pair m w v f a quiet e =
       let apart : not (same_pair cmp m f.message) ≡ false = found_fails (is_done cmp v) (λ (g : Flight P). not (same_pair cmp m g.message)) f v.sending e
       (ap (list_any (is_done cmp v)) a.sending ∙ any_alike (is_done cmp v) (is_done cmp w) (filter (λ (g : Flight P). not (same_pair cmp m g.message)) w.sending) (λ g. done_alike w v g a.caps) ∙ any_none (is_done cmp w) (λ (g : Flight P). not (same_pair cmp m g.message)) w.sending quiet) in
@@ -323,7 +332,8 @@ module _ {P : Type 0} (cmp : P → P → Ordering) (order : IsTotalOrder cmp) wh
   settle_within_leaves zero t m w v quiet l = l
   settle_within_leaves (suc n) t m w v quiet l = by_first (find (is_done cmp v) v.sending) refl (λ u. settle_within_leaves n t m w u quiet)
     where
-      by_first : (o : Option (Flight P)) → find (is_done cmp v) v.sending ≡ o → ((u : World P) → Leaves t m w u → EndsWith (Leaves t m w) (settle_within cmp n t u)) → EndsWith (Leaves t m w) (settle_within cmp (suc n) t v)
+      by_first : (o : Option (Flight P)) → find (is_done cmp v) v.sending ≡ o → ((u : World P) → Leaves t m w u → EndsWith (Leaves t m w) (settle_within cmp n t u))
+          → EndsWith (Leaves t m w) (settle_within cmp (suc n) t v)
       by_first None e ih = subst (λ (c : Course (Completed P) (World P)). EndsWith (Leaves t m w) c) (sym (settle_none cmp order n t v e)) l
       by_first (Some f) e ih =
           let same : same_pair cmp m f.message ≡ true = done_of_pair m w v f l.others quiet e in
@@ -333,7 +343,8 @@ module _ {P : Type 0} (cmp : P → P → Ordering) (order : IsTotalOrder cmp) wh
 
   -- a start and its settling change one pair alone, which then may not start
   pub start_settles : (t : ℕ) (w : World P) (m : Message P) → list_any (is_done cmp w) w.sending ≡ false → EndsWith (Leaves t m w) (turn cmp t w m)
-  start_settles t w m quiet = ends_and_then (Leaves t m w) (Leaves t m w) (start cmp w m) (settle cmp t) (start_leaves t w m) (λ v l. settle_within_leaves (length v.sending + length v.waiting) t m w v quiet l)
+  start_settles t w m quiet =
+      ends_and_then (Leaves t m w) (Leaves t m w) (start cmp w m) (settle cmp t) (start_leaves t w m) (λ v l. settle_within_leaves (length v.sending + length v.waiting) t m w v quiet l)
 
   -- ---- the pairs that are ready
 
@@ -361,8 +372,10 @@ module _ {P : Type 0} (cmp : P → P → Ordering) (order : IsTotalOrder cmp) wh
       by_pair : (b : Bool) → same_pair cmp m x ≡ b → filter (λ n. not (same_pair cmp m n)) (fronts cmp xs) ≡ fronts cmp (filter (λ n. not (same_pair cmp m n)) xs)
           → cond (not b) (x ∷ filter (λ n. not (same_pair cmp m n)) (filter (λ n. not (same_pair cmp x n)) (fronts cmp xs))) (filter (λ n. not (same_pair cmp m n)) (filter (λ n. not (same_pair cmp x n)) (fronts cmp xs)))
           ≡ fronts cmp (cond (not b) (x ∷ filter (λ n. not (same_pair cmp m n)) xs) (filter (λ n. not (same_pair cmp m n)) xs))
-      by_pair true e ih = ap (filter (λ n. not (same_pair cmp m n))) (not_alike m x e (fronts cmp xs)) ∙ filter_kept (λ n. not (same_pair cmp m n)) (λ n. not (same_pair cmp m n)) (fronts cmp xs) (λ n h. h) ∙ ih
-      by_pair false e ih = ap (λ (ns : List (Message P)). x ∷ ns) (filter_twice (λ n. not (same_pair cmp m n)) (λ n. not (same_pair cmp x n)) (fronts cmp xs) ∙ ap (filter (λ n. not (same_pair cmp x n))) ih)
+      by_pair true e ih =
+          ap (filter (λ n. not (same_pair cmp m n))) (not_alike m x e (fronts cmp xs)) ∙ filter_kept (λ n. not (same_pair cmp m n)) (λ n. not (same_pair cmp m n)) (fronts cmp xs) (λ n h. h) ∙ ih
+      by_pair false e ih =
+          ap (λ (ns : List (Message P)). x ∷ ns) (filter_twice (λ n. not (same_pair cmp m n)) (λ n. not (same_pair cmp x n)) (fronts cmp xs) ∙ ap (filter (λ n. not (same_pair cmp x n))) ih)
 
   -- a pair that changed alone and may not start any more: the others are ready as before
   pub ready_without : (t : ℕ) (m : Message P) (w v : World P) → Leaves t m w v → ready cmp t v ≡ filter (λ n. not (same_pair cmp m n)) (ready cmp t w)

@@ -130,7 +130,8 @@ module _ {P : Type 0} (cmp : P → P → Ordering) (order : IsTotalOrder cmp) (y
 
   pub only_arrived : (t : ℕ) (w : World P) (m : Message P) → same_pair cmp y m ≡ true → OnlyPair w (arrived cmp t w m)
   only_arrived t w m e =
-      let parts : (same_peer cmp y.origin m.origin ≡ true) × (same_peer cmp y.recipient m.recipient ≡ true) = both_parts cmp order (same_peer cmp y.origin m.origin) (same_peer cmp y.recipient m.recipient) e in
+      let parts : (same_peer cmp y.origin m.origin ≡ true) × (same_peer cmp y.recipient m.recipient ≡ true)
+      = both_parts cmp order (same_peer cmp y.origin m.origin) (same_peer cmp y.recipient m.recipient) e in
       record {
         last = λ p q off. rw (both_alike cmp order (same_peer cmp m.origin p) (same_peer cmp y.origin p) (same_peer cmp m.recipient q) (same_peer cmp y.recipient q) (peer_like cmp order y.origin m.origin p parts.0) (peer_like cmp order y.recipient m.recipient q parts.1) ∙ off) refl;
         busy = λ m e. refl;
@@ -173,7 +174,8 @@ module _ {P : Type 0} (cmp : P → P → Ordering) (order : IsTotalOrder cmp) (y
   pub after_on : (t : ℕ) (w v : World P) (c : Course (Completed P) (World P)) → OnlyPair w v → EndsWith (IsAfter t v) c → EndsWith (IsAfter t w) c
   after_on t w v c f h = ends_so (IsAfter t v) (IsAfter t w) c (λ u g. (only_both w v u f g.0, g.1)) h
 
-  pub finish_only : (n t : ℕ) (fs : List (Flight P)) (w : World P) → Each (λ f. same_pair cmp y f.message ≡ true) fs → length fs + length w.waiting ≤ n → (fs ≡ [] → IsRested t w) → EndsWith (IsAfter t w) (finish_within cmp n t fs w)
+  pub finish_only : (n t : ℕ) (fs : List (Flight P)) (w : World P) → Each (λ f. same_pair cmp y f.message ≡ true) fs → length fs + length w.waiting ≤ n → (fs ≡ [] → IsRested t w)
+      → EndsWith (IsAfter t w) (finish_within cmp n t fs w)
   unfolding finish_within launch_then IsRested
   finish_only zero t [] w own fuel rested = (only_itself w, rested refl)
   finish_only zero t (f ∷ fs) w own fuel rested = absurd (omega arith)
@@ -195,15 +197,19 @@ module _ {P : Type 0} (cmp : P → P → Ordering) (order : IsTotalOrder cmp) (y
           fewer : length (without_first (same_pair cmp x) w.waiting) + 1 ≡ length w.waiting
           fewer = length_without (same_pair cmp x) x w.waiting (find_like cmp order y x w.waiting pair ∙ is)
 
-          by_done : (b : Bool) → length (without_first (same_pair cmp x) w.waiting) + 1 ≡ length w.waiting → EndsWith (IsAfter t (arrived cmp t w f.message)) (cond b (finish_within cmp n t (fs ++ flight cmp x ∷ []) (taken cmp (arrived cmp t w f.message) x)) (finish_within cmp n t fs (joined cmp (arrived cmp t w f.message) x)))
+          by_done : (b : Bool) → length (without_first (same_pair cmp x) w.waiting) + 1 ≡ length w.waiting
+              → EndsWith (IsAfter t (arrived cmp t w f.message)) (cond b (finish_within cmp n t (fs ++ flight cmp x ∷ []) (taken cmp (arrived cmp t w f.message) x)) (finish_within cmp n t fs (joined cmp (arrived cmp t w f.message) x)))
           by_done true less =
               let many : length (fs ++ flight cmp x ∷ []) ≡ length fs + 1 = length-append fs (flight cmp x ∷ []) in
               after_on t (arrived cmp t w f.message) (taken cmp (arrived cmp t w f.message) x) _ (only_taken (arrived cmp t w f.message) x pair) (ih (fs ++ flight cmp x ∷ []) (taken cmp (arrived cmp t w f.message) x) (each_more (λ g. same_pair cmp y g.message ≡ true) fs (flight cmp x) own.1 pair) (omega arith) (λ e. absurd (no_nil fs (flight cmp x) e)))
-          by_done false less = after_on t (arrived cmp t w f.message) (joined cmp (arrived cmp t w f.message) x) _ (only_joined (arrived cmp t w f.message) x pair) (ih fs (joined cmp (arrived cmp t w f.message) x) own.1 (omega arith) (λ e. rested_joined t (arrived cmp t w f.message) x pair))
+          by_done false less =
+              after_on t (arrived cmp t w f.message) (joined cmp (arrived cmp t w f.message) x) _ (only_joined (arrived cmp t w f.message) x pair)
+              (ih fs (joined cmp (arrived cmp t w f.message) x) own.1 (omega arith) (λ e. rested_joined t (arrived cmp t w f.message) x pair))
 
           by_may : (b : Bool) → may_start cmp t (arrived cmp t w f.message) x ≡ b
               → EndsWith (IsAfter t (arrived cmp t w f.message)) (cond b (cond (nat_le last_moment w.next_id) (meets FlowIdsUsedUp) (cond (is_done cmp (arrived cmp t w f.message) (flight cmp x)) (finish_within cmp n t (fs ++ flight cmp x ∷ []) (taken cmp (arrived cmp t w f.message) x)) (finish_within cmp n t fs (joined cmp (arrived cmp t w f.message) x)))) (finish_within cmp n t fs (arrived cmp t w f.message)))
-          by_may true e = ends_cond (IsAfter t (arrived cmp t w f.message)) (nat_le last_moment w.next_id) (meets FlowIdsUsedUp) _ tt (by_done (is_done cmp (arrived cmp t w f.message) (flight cmp x)) fewer)
+          by_may true e =
+              ends_cond (IsAfter t (arrived cmp t w f.message)) (nat_le last_moment w.next_id) (meets FlowIdsUsedUp) _ tt (by_done (is_done cmp (arrived cmp t w f.message) (flight cmp x)) fewer)
           by_may false e = ih fs (arrived cmp t w f.message) own.1 (omega arith) (λ k z found. let same : x ≡ z = cc in subst (λ (m : Message P). may_start cmp t (arrived cmp t w f.message) m ≡ false) same e)
 
   -- ---- who is ready afterwards

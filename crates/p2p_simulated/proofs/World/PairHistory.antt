@@ -32,7 +32,8 @@ held None = []
 held (Some x) = x ∷ []
 
 -- an element that passes, taken out of those of which one passes
-taken_out : {X Y : Type 0} (p : Y → Bool) (f : X → Y) (test : X → Bool) (x : X) (y : Y) (xs : List X) → find test xs ≡ Some x → p (f x) ≡ true → filter p (map f xs) ≡ y ∷ [] → (f x ≡ y) × (filter p (map f (without_first test xs)) ≡ [])
+taken_out : {X Y : Type 0} (p : Y → Bool) (f : X → Y) (test : X → Bool) (x : X) (y : Y) (xs : List X) → find test xs ≡ Some x → p (f x) ≡ true → filter p (map f xs) ≡ y ∷ []
+    → (f x ≡ y) × (filter p (map f (without_first test xs)) ≡ [])
 taken_out p f test x y [] e own one = cc
 taken_out {X} {Y} p f test x y (z ∷ zs) e own one = by_test (test z) refl (p (f z)) refl e one (taken_out p f test x y zs)
   where
@@ -77,7 +78,8 @@ not_taken : {X Y : Type 0} (p : Y → Bool) (f : X → Y) (test : X → Bool) (x
 not_taken p f test x [] e off = refl
 not_taken {X} {Y} p f test x (z ∷ zs) e off = by_test (test z) e (not_taken p f test x zs)
   where
-    by_test : (b : Bool) → cond b (Some z) (find test zs) ≡ Some x → (find test zs ≡ Some x → p (f x) ≡ false → filter p (map f (without_first test zs)) ≡ filter p (map f zs)) → filter p (map f (cond b zs (z ∷ without_first test zs))) ≡ filter p (map f (z ∷ zs))
+    by_test : (b : Bool) → cond b (Some z) (find test zs) ≡ Some x → (find test zs ≡ Some x → p (f x) ≡ false → filter p (map f (without_first test zs)) ≡ filter p (map f zs))
+        → filter p (map f (cond b zs (z ∷ without_first test zs))) ≡ filter p (map f (z ∷ zs))
     by_test true e ih = let same : z ≡ x = cc in let out : p (f z) ≡ false = ap (λ w. p (f w)) same ∙ off in rw out refl
     by_test false e ih = ap (λ ys. cond (p (f z)) (f z ∷ ys) ys) (ih e off)
 
@@ -170,7 +172,8 @@ module _ {P : Type 0} (cmp : P → P → Ordering) (order : IsTotalOrder cmp) (k
   reaches_it None at = omega arith
   reaches_it (Some last) at = omega arith
 
-  told_push : (cs : List (Completed P)) (ds : List (Message P)) (c : Completed P) (m : Message P) → AllZip IsCompletionOf cs ds → IsCompletionOf c m → AllZip IsCompletionOf (cs ++ c ∷ []) (ds ++ m ∷ [])
+  told_push : (cs : List (Completed P)) (ds : List (Message P)) (c : Completed P) (m : Message P) → AllZip IsCompletionOf cs ds → IsCompletionOf c m
+      → AllZip IsCompletionOf (cs ++ c ∷ []) (ds ++ m ∷ [])
   told_push [] [] c m all own = (own, tt)
   told_push [] (d ∷ ds) c m all own = absurd all
   told_push (c ∷ cs) [] d m all own = absurd all
@@ -185,16 +188,20 @@ module _ {P : Type 0} (cmp : P → P → Ordering) (order : IsTotalOrder cmp) (k
   -- ---- a start
 
   last_of : (w : World P) (m : Message P) → PairsAlike cmp w.last_arrival w.last_arrival → same_pair cmp k m ≡ true → w.last_arrival m.origin m.recipient ≡ last w
-  last_of w m alike own = let parts = both_parts cmp order (same_peer cmp k.origin m.origin) (same_peer cmp k.recipient m.recipient) own in sym (alike k.origin m.origin k.recipient m.recipient parts.0 parts.1)
+  last_of w m alike own =
+      let parts = both_parts cmp order (same_peer cmp k.origin m.origin) (same_peer cmp k.recipient m.recipient) own in
+      sym (alike k.origin m.origin k.recipient m.recipient parts.0 parts.1)
 
-  first_of_waits : (w : World P) (m : Message P) → same_pair cmp k m ≡ true → find (same_pair cmp m) w.waiting ≡ Some m → waits w ≡ m ∷ filter (same_pair cmp k) (without_first (same_pair cmp m) w.waiting)
+  first_of_waits : (w : World P) (m : Message P) → same_pair cmp k m ≡ true → find (same_pair cmp m) w.waiting ≡ Some m
+      → waits w ≡ m ∷ filter (same_pair cmp k) (without_first (same_pair cmp m) w.waiting)
   first_of_waits w m own found = by_list w.waiting (sym (find_like cmp order k m w.waiting own) ∙ found)
     where
       by_list : (ws : List (Message P)) → find (same_pair cmp k) ws ≡ Some m → filter (same_pair cmp k) ws ≡ m ∷ filter (same_pair cmp k) (without_first (same_pair cmp m) ws)
       by_list [] e = cc
       by_list (x ∷ ws) e = by_test (same_pair cmp k x) refl (same_pair cmp m x) refl e (by_list ws)
         where
-          by_test : (b : Bool) → same_pair cmp k x ≡ b → (c : Bool) → same_pair cmp m x ≡ c → cond b (Some x) (find (same_pair cmp k) ws) ≡ Some m → (find (same_pair cmp k) ws ≡ Some m → filter (same_pair cmp k) ws ≡ m ∷ filter (same_pair cmp k) (without_first (same_pair cmp m) ws))
+          by_test : (b : Bool) → same_pair cmp k x ≡ b → (c : Bool) → same_pair cmp m x ≡ c → cond b (Some x) (find (same_pair cmp k) ws) ≡ Some m
+              → (find (same_pair cmp k) ws ≡ Some m → filter (same_pair cmp k) ws ≡ m ∷ filter (same_pair cmp k) (without_first (same_pair cmp m) ws))
               → cond b (x ∷ filter (same_pair cmp k) ws) (filter (same_pair cmp k) ws) ≡ m ∷ filter (same_pair cmp k) (cond c ws (x ∷ without_first (same_pair cmp m) ws))
           by_test true is true at e ih = let same : x ≡ m = cc in ap (λ (y : Message P). y ∷ filter (same_pair cmp k) ws) same
           by_test true is false at e ih = let on : same_pair cmp m x ≡ true = pair_like cmp order k m x own ∙ is in cc
@@ -205,7 +212,8 @@ module _ {P : Type 0} (cmp : P → P → Ordering) (order : IsTotalOrder cmp) (k
   waits_without [] m off = refl
   waits_without (x ∷ ws) m off = by_test (same_pair cmp m x) refl (waits_without ws m off)
     where
-      by_test : (b : Bool) → same_pair cmp m x ≡ b → filter (same_pair cmp k) (without_first (same_pair cmp m) ws) ≡ filter (same_pair cmp k) ws → filter (same_pair cmp k) (cond b ws (x ∷ without_first (same_pair cmp m) ws)) ≡ filter (same_pair cmp k) (x ∷ ws)
+      by_test : (b : Bool) → same_pair cmp m x ≡ b → filter (same_pair cmp k) (without_first (same_pair cmp m) ws) ≡ filter (same_pair cmp k) ws
+          → filter (same_pair cmp k) (cond b ws (x ∷ without_first (same_pair cmp m) ws)) ≡ filter (same_pair cmp k) (x ∷ ws)
       by_test true is ih = let out : same_pair cmp k x ≡ false = pair_sym cmp order k x ∙ pair_like cmp order m x k is ∙ pair_sym cmp order m k ∙ off in rw out refl
       by_test false is ih = ap (λ (ms : List (Message P)). cond (same_pair cmp k x) (x ∷ ms) ms) ih
 
@@ -214,9 +222,12 @@ module _ {P : Type 0} (cmp : P → P → Ordering) (order : IsTotalOrder cmp) (k
 
   flies_more : (w : World P) (m : Message P) → flies (joined w m) ≡ flies w ++ filter (same_pair cmp k) (m ∷ [])
   unfolding joined
-  flies_more w m = ap (filter (same_pair cmp k)) (map-append (λ (f : Flight P). f.message) w.sending (record { message = m; left = whole (length m.bytes) } ∷ [])) ∙ filter-append (same_pair cmp k) (flows w) (m ∷ [])
+  flies_more w m =
+      ap (filter (same_pair cmp k)) (map-append (λ (f : Flight P). f.message) w.sending (record { message = m; left = whole (length m.bytes) } ∷ [])) ∙ filter-append
+      (same_pair cmp k) (flows w) (m ∷ [])
 
-  start_history : (messages : List (Message P)) (t : ℕ) (cs : List (Completed P)) (w : World P) (m : Message P) → find (same_pair cmp m) w.waiting ≡ Some m → may_start cmp t w m ≡ true → IsHistory messages t cs w → IsHistory messages t cs (joined w m)
+  start_history : (messages : List (Message P)) (t : ℕ) (cs : List (Completed P)) (w : World P) (m : Message P) → find (same_pair cmp m) w.waiting ≡ Some m
+      → may_start cmp t w m ≡ true → IsHistory messages t cs w → IsHistory messages t cs (joined w m)
   unfolding joined
   start_history messages t cs w m found may h = by_pair (same_pair cmp k m) refl
     where
@@ -231,7 +242,8 @@ module _ {P : Type 0} (cmp : P → P → Ordering) (order : IsTotalOrder cmp) (k
       like_any [] own e = refl
       like_any (n ∷ ns) own e = rw (← pair_like cmp order k m n own) (by_head (same_pair cmp m n) e (like_any ns own))
         where
-          by_head : (b : Bool) → (b || list_any (same_pair cmp m) ns) ≡ false → (list_any (same_pair cmp m) ns ≡ false → list_any (same_pair cmp k) ns ≡ false) → (b || list_any (same_pair cmp k) ns) ≡ false
+          by_head : (b : Bool) → (b || list_any (same_pair cmp m) ns) ≡ false → (list_any (same_pair cmp m) ns ≡ false → list_any (same_pair cmp k) ns ≡ false)
+              → (b || list_any (same_pair cmp k) ns) ≡ false
           by_head true e ih = cc
           by_head false e ih = ih e
 
@@ -279,7 +291,8 @@ module _ {P : Type 0} (cmp : P → P → Ordering) (order : IsTotalOrder cmp) (k
     goes_preceded cs ds (goes es u) h = subst (λ (xs : List (Completed P)). IsHistory messages t xs u) (append_assoc cs ds es) h
     goes_preceded cs ds (meets fault) h = tt
 
-    goes_then : (cs : List (Completed P)) (c : Course (Completed P) (World P)) (next : World P → Course (Completed P) (World P)) → Goes cs c → ((ds : List (Completed P)) (u : World P) → IsHistory messages t ds u → Goes ds (next u)) → Goes cs (and_then c next)
+    goes_then : (cs : List (Completed P)) (c : Course (Completed P) (World P)) (next : World P → Course (Completed P) (World P)) → Goes cs c
+        → ((ds : List (Completed P)) (u : World P) → IsHistory messages t ds u → Goes ds (next u)) → Goes cs (and_then c next)
     unfolding Goes
     goes_then cs (goes ds u) next h on = goes_preceded cs ds (next u) (on (cs ++ ds) u h)
     goes_then cs (meets fault) next h on = tt
@@ -315,7 +328,8 @@ module _ {P : Type 0} (cmp : P → P → Ordering) (order : IsTotalOrder cmp) (k
     land : World P → Message P → World P
     land w m = record w { sending = without_first (is_done cmp w) w.sending; last_arrival = raised cmp w.last_arrival m (moment_for m) }
 
-    land_history : (cs : List (Completed P)) (w : World P) (f : Flight P) → find (is_done cmp w) w.sending ≡ Some f → IsHistory messages t cs w → IsHistory messages t (cs ++ answer f.message ∷ []) (land w f.message)
+    land_history : (cs : List (Completed P)) (w : World P) (f : Flight P) → find (is_done cmp w) w.sending ≡ Some f → IsHistory messages t cs w
+        → IsHistory messages t (cs ++ answer f.message ∷ []) (land w f.message)
     unfolding land
     land_history cs w f found h = by_pair (same_pair cmp k f.message) refl
       where
@@ -334,24 +348,31 @@ module _ {P : Type 0} (cmp : P → P → Ordering) (order : IsTotalOrder cmp) (k
         other_last : same_pair cmp k f.message ≡ false → last (land w f.message) ≡ last w
         other_last off = let out : (same_peer cmp f.message.origin k.origin && same_peer cmp f.message.recipient k.recipient) ≡ false = pair_sym cmp order f.message k ∙ off in rw out refl
 
-        by_flying : same_pair cmp k f.message ≡ true → (o : Option (Message P)) → h.flying ≡ o → flies w ≡ held o → filter (same_pair cmp k) messages ≡ h.done ++ (held o ++ waits w) → IfSome o (λ n. is_in_order (last w) (t + n.latency) ≡ true) → IsHistory messages t (cs ++ answer f.message ∷ []) (land w f.message)
+        by_flying : same_pair cmp k f.message ≡ true → (o : Option (Message P)) → h.flying ≡ o → flies w ≡ held o
+            → filter (same_pair cmp k) messages ≡ h.done ++ (held o ++ waits w) → IfSome o (λ n. is_in_order (last w) (t + n.latency) ≡ true)
+            → IsHistory messages t (cs ++ answer f.message ∷ []) (land w f.message)
         by_flying own None is none queue order_is = absurd (in_none w.sending found none)
           where
             in_none : (fs : List (Flight P)) → find (is_done cmp w) fs ≡ Some f → filter (same_pair cmp k) (map (λ (g : Flight P). g.message) fs) ≡ [] → ⊥
             in_none [] e none = cc
             in_none (g ∷ fs) e none = by_test (is_done cmp w g) (same_pair cmp k g.message) refl e none (in_none fs)
               where
-                by_test : (b c : Bool) → same_pair cmp k g.message ≡ c → cond b (Some g) (find (is_done cmp w) fs) ≡ Some f → cond c (g.message ∷ filter (same_pair cmp k) (map (λ (g : Flight P). g.message) fs)) (filter (same_pair cmp k) (map (λ (g : Flight P). g.message) fs)) ≡ []
+                by_test : (b c : Bool) → same_pair cmp k g.message ≡ c → cond b (Some g) (find (is_done cmp w) fs) ≡ Some f
+                    → cond c (g.message ∷ filter (same_pair cmp k) (map (λ (g : Flight P). g.message) fs)) (filter (same_pair cmp k) (map (λ (g : Flight P). g.message) fs)) ≡ []
                     → (find (is_done cmp w) fs ≡ Some f → filter (same_pair cmp k) (map (λ (g : Flight P). g.message) fs) ≡ [] → ⊥) → ⊥
                 by_test b true is e none ih = cc
                 by_test true false is e none ih = let same : g ≡ f = cc in let out : same_pair cmp k f.message ≡ false = ap (λ (x : Flight P). same_pair cmp k x.message) (sym same) ∙ is in cc
                 by_test false false is e none ih = ih e none
         by_flying own (Some n) is one queue order_is =
-            let taken : (f.message ≡ n) × (filter (same_pair cmp k) (map (λ (g : Flight P). g.message) (without_first (is_done cmp w) w.sending)) ≡ []) = taken_out (same_pair cmp k) (λ (g : Flight P). g.message) (is_done cmp w) f n w.sending found own one in
+            let taken : (f.message ≡ n) × (filter (same_pair cmp k) (map (λ (g : Flight P). g.message) (without_first (is_done cmp w) w.sending)) ≡ [])
+            = taken_out (same_pair cmp k) (λ (g : Flight P). g.message) (is_done cmp w) f n w.sending found own one in
             let c : Completed P = answer f.message in
             let of_pair : completes_pair cmp k c ≡ true = own in
             let list_is : told_of_k (cs ++ c ∷ []) ≡ told_of_k cs ++ c ∷ [] = told_more cs c of_pair in
-            let is_of : IsCompletionOf c n = ((if is_delivered cmp f.message then Some (moment_for f.message) else None), ap (λ (x : Message P). completion_of x (if is_delivered cmp f.message then Some (moment_for f.message) else None)) taken.0) in
+            let is_of : IsCompletionOf c n
+            =
+            ((if is_delivered cmp f.message then Some (moment_for f.message) else None), ap (λ (x : Message P). completion_of x (if is_delivered cmp f.message then Some (moment_for f.message) else None)) taken.0)
+            in
             let in_order_here : is_in_order (last w) (t + f.message.latency) ≡ true = subst (λ (x : Message P). is_in_order (last w) (t + x.latency) ≡ true) (sym taken.0) order_is in
             record {
               done = h.done ++ n ∷ [];
@@ -404,7 +425,9 @@ module _ {P : Type 0} (cmp : P → P → Ordering) (order : IsTotalOrder cmp) (k
       where
         by_late : (b : Bool) → Goes cs (cond b (meets MomentTooLate) (preceded (answer f.message ∷ []) (start_next cmp t (land w f.message) (first_waiting cmp (land w f.message) f.message))))
         by_late true = tt
-        by_late false = goes_preceded cs (answer f.message ∷ []) (start_next cmp t (land w f.message) (first_waiting cmp (land w f.message) f.message)) (next_goes (cs ++ answer f.message ∷ []) (land w f.message) f.message (first_waiting cmp (land w f.message) f.message) refl (land_history cs w f found h))
+        by_late false =
+            goes_preceded cs (answer f.message ∷ []) (start_next cmp t (land w f.message) (first_waiting cmp (land w f.message) f.message))
+            (next_goes (cs ++ answer f.message ∷ []) (land w f.message) f.message (first_waiting cmp (land w f.message) f.message) refl (land_history cs w f found h))
 
     -- ---- an instant
 
@@ -412,7 +435,8 @@ module _ {P : Type 0} (cmp : P → P → Ordering) (order : IsTotalOrder cmp) (k
     settle_within_goes zero cs w h = stays cs w h
     settle_within_goes (suc n) cs w h = by_first (find (is_done cmp w) w.sending) refl (λ ds u g. settle_within_goes n ds u g)
       where
-        by_first : (o : Option (Flight P)) → find (is_done cmp w) w.sending ≡ o → ((ds : List (Completed P)) (u : World P) → IsHistory messages t ds u → Goes ds (settle_within cmp n t u)) → Goes cs (settle_within cmp (suc n) t w)
+        by_first : (o : Option (Flight P)) → find (is_done cmp w) w.sending ≡ o
+            → ((ds : List (Completed P)) (u : World P) → IsHistory messages t ds u → Goes ds (settle_within cmp n t u)) → Goes cs (settle_within cmp (suc n) t w)
         by_first None e ih = subst (Goes cs) (sym (settle_none cmp order n t w e)) (stays cs w h)
         by_first (Some f) e ih = subst (Goes cs) (sym (settle_first cmp order n t w f e)) (goes_then cs (complete cmp t w f.message) (settle_within cmp n t) (complete_goes cs w f e h) ih)
 
@@ -431,12 +455,15 @@ module _ {P : Type 0} (cmp : P → P → Ordering) (order : IsTotalOrder cmp) (k
     wake_within_goes zero cs w h = stays cs w h
     wake_within_goes (suc n) cs w h = by_least (least_pair cmp (ready cmp t w)) refl (λ ds u g. wake_within_goes n ds u g)
       where
-        by_least : (o : Option (Message P)) → least_pair cmp (ready cmp t w) ≡ o → ((ds : List (Completed P)) (u : World P) → IsHistory messages t ds u → Goes ds (wake_within cmp n t u)) → Goes cs (wake_within cmp (suc n) t w)
+        by_least : (o : Option (Message P)) → least_pair cmp (ready cmp t w) ≡ o
+            → ((ds : List (Completed P)) (u : World P) → IsHistory messages t ds u → Goes ds (wake_within cmp n t u)) → Goes cs (wake_within cmp (suc n) t w)
         by_least None e ih = subst (Goes cs) (sym (wake_none cmp order n t w e)) (stays cs w h)
         by_least (Some m) e ih = subst (Goes cs) (sym (rw (e, wake_within) refl)) (goes_then cs (turn cmp t w m) (wake_within cmp n t) (turn_goes cs w m e h) ih)
 
     instant_goes : (cs : List (Completed P)) (w : World P) → IsHistory messages t cs w → Goes cs (instant cmp w)
-    instant_goes cs w h = goes_then cs (settle cmp w.moment w) (λ v. wake cmp v.moment v) (subst (λ (s : ℕ). Goes cs (settle cmp s w)) (sym h.now) (settle_goes cs w h)) (λ ds u g. subst (λ (s : ℕ). Goes ds (wake cmp s u)) (sym g.now) (wake_within_goes (length u.waiting) ds u g))
+    instant_goes cs w h =
+        goes_then cs (settle cmp w.moment w) (λ v. wake cmp v.moment v) (subst (λ (s : ℕ). Goes cs (settle cmp s w)) (sym h.now) (settle_goes cs w h))
+        (λ ds u g. subst (λ (s : ℕ). Goes ds (wake cmp s u)) (sym g.now) (wake_within_goes (length u.waiting) ds u g))
 
   -- ---- time
 
@@ -462,7 +489,8 @@ module _ {P : Type 0} (cmp : P → P → Ordering) (order : IsTotalOrder cmp) (k
       later None e = tt
       later (Some m) e = no_less (last w) (t + m.latency) (suc t + m.latency) (omega arith) e
 
-  ticks_history : {n : ℕ} {w : World P} {c : Course (Completed P) (World P)} → Ticks cmp n w c → (messages : List (Message P)) (t : ℕ) (cs ds : List (Completed P)) (v : World P) → c ≡ goes ds v → IsHistory messages t cs w → IsHistory messages (t + n) (cs ++ ds) v
+  ticks_history : {n : ℕ} {w : World P} {c : Course (Completed P) (World P)} → Ticks cmp n w c → (messages : List (Message P)) (t : ℕ) (cs ds : List (Completed P)) (v : World P)
+      → c ≡ goes ds v → IsHistory messages t cs w → IsHistory messages (t + n) (cs ++ ds) v
   unfolding Goes
   ticks_history {w = w} no_tick messages t cs ds v e h =
       let none : [] ≡ ds = cc in
@@ -486,7 +514,8 @@ module _ {P : Type 0} (cmp : P → P → Ordering) (order : IsTotalOrder cmp) (k
   added call = enqueued (call ∷ [])
 
   -- with a message more that waits
-  queued_history : (messages : List (Message P)) (t : ℕ) (cs : List (Completed P)) (w : World P) (m : Message P) → IsHistory messages t cs w → IsHistory (messages ++ m ∷ []) t cs (record w { waiting = w.waiting ++ m ∷ [] })
+  queued_history : (messages : List (Message P)) (t : ℕ) (cs : List (Completed P)) (w : World P) (m : Message P) → IsHistory messages t cs w
+      → IsHistory (messages ++ m ∷ []) t cs (record w { waiting = w.waiting ++ m ∷ [] })
   queued_history messages t cs w m h = record {
     done = h.done;
     flying = h.flying;
@@ -506,11 +535,15 @@ module _ {P : Type 0} (cmp : P → P → Ordering) (order : IsTotalOrder cmp) (k
   none_more : (messages : List (Message P)) (t : ℕ) (cs : List (Completed P)) (w : World P) → IsHistory messages t cs w → IsHistory (messages ++ []) t cs w
   none_more messages t cs w h = subst (λ (ms : List (Message P)). IsHistory ms t cs w) (sym (append-nil messages)) h
 
-  recapped_history : (messages : List (Message P)) (t : ℕ) (cs : List (Completed P)) (w : World P) (caps : Caps P) → IsHistory messages t cs w → IsHistory messages t cs (record w { caps = caps; limited = true })
-  recapped_history messages t cs w caps h = record { done = h.done; flying = h.flying; told = h.told; in_flight = h.in_flight; queue = h.queue; deliveries = h.deliveries; not_past = h.not_past; in_order = h.in_order; alike = h.alike; now = h.now }
+  recapped_history : (messages : List (Message P)) (t : ℕ) (cs : List (Completed P)) (w : World P) (caps : Caps P) → IsHistory messages t cs w
+      → IsHistory messages t cs (record w { caps = caps; limited = true })
+  recapped_history messages t cs w caps h =
+      record
+      { done = h.done; flying = h.flying; told = h.told; in_flight = h.in_flight; queue = h.queue; deliveries = h.deliveries; not_past = h.not_past; in_order = h.in_order; alike = h.alike; now = h.now }
 
   -- before any limit a message completes at once, with none ahead of it
-  at_once_goes : (messages : List (Message P)) (t : ℕ) (cs : List (Completed P)) (w : World P) (m : Message P) → w.sending ≡ [] → w.waiting ≡ [] → IsHistory messages t cs w → Goes (messages ++ m ∷ []) t cs (complete_at_once cmp t w m)
+  at_once_goes : (messages : List (Message P)) (t : ℕ) (cs : List (Completed P)) (w : World P) (m : Message P) → w.sending ≡ [] → w.waiting ≡ [] → IsHistory messages t cs w
+      → Goes (messages ++ m ∷ []) t cs (complete_at_once cmp t w m)
   unfolding Goes
   at_once_goes messages t cs w m sends none_waits h = by_late (m.should_deliver && nat_lt last_moment (t + m.latency))
     where
@@ -538,7 +571,8 @@ module _ {P : Type 0} (cmp : P → P → Ordering) (order : IsTotalOrder cmp) (k
       other_last : same_pair cmp k m ≡ false → last after ≡ last w
       other_last off = let out : (same_peer cmp m.origin k.origin && same_peer cmp m.recipient k.recipient) ≡ false = pair_sym cmp order m k ∙ off in rw out refl
 
-      grows : same_pair cmp k m ≡ true → (b : Bool) → IfSome (if b then Some (if b then later_of (w.last_arrival m.origin m.recipient) (t + m.latency) else t) else None) (λ s. is_in_order (last w) s ≡ true)
+      grows : same_pair cmp k m ≡ true → (b : Bool)
+          → IfSome (if b then Some (if b then later_of (w.last_arrival m.origin m.recipient) (t + m.latency) else t) else None) (λ s. is_in_order (last w) s ≡ true)
       grows own true = subst (λ (l : Option ℕ). is_in_order (last w) (later_of l (t + m.latency)) ≡ true) (sym (last_of w m h.alike own)) (not_before (last w))
         where
           not_before : (l : Option ℕ) → is_in_order l (later_of l (t + m.latency)) ≡ true
@@ -546,7 +580,8 @@ module _ {P : Type 0} (cmp : P → P → Ordering) (order : IsTotalOrder cmp) (k
           not_before (Some last) = le-leb last (max last (t + m.latency)) (omega arith)
       grows own false = tt
 
-      reached : (b : Bool) → IfSome (if b then Some (if b then later_of (w.last_arrival m.origin m.recipient) (t + m.latency) else t) else None) (NotPast (Some (later_of (last w) (if b then later_of (w.last_arrival m.origin m.recipient) (t + m.latency) else t))))
+      reached : (b : Bool)
+          → IfSome (if b then Some (if b then later_of (w.last_arrival m.origin m.recipient) (t + m.latency) else t) else None) (NotPast (Some (later_of (last w) (if b then later_of (w.last_arrival m.origin m.recipient) (t + m.latency) else t))))
       reached true = reaches_it (last w) (later_of (w.last_arrival m.origin m.recipient) (t + m.latency))
       reached false = tt
 
@@ -586,7 +621,8 @@ module _ {P : Type 0} (cmp : P → P → Ordering) (order : IsTotalOrder cmp) (k
       by_late true = tt
       by_late false = by_pair (same_pair cmp k m) refl
 
-  act_goes : (messages : List (Message P)) (t : ℕ) (cs : List (Completed P)) (w : World P) (call : Call P) → moment_of call ≡ Some t → (w.limited ≡ false → (w.sending ≡ []) × (w.waiting ≡ [])) → IsHistory messages t cs w → Goes (messages ++ added call) t cs (act cmp w call)
+  act_goes : (messages : List (Message P)) (t : ℕ) (cs : List (Completed P)) (w : World P) (call : Call P) → moment_of call ≡ Some t
+      → (w.limited ≡ false → (w.sending ≡ []) × (w.waiting ≡ [])) → IsHistory messages t cs w → Goes (messages ++ added call) t cs (act cmp w call)
   act_goes messages t cs w (call_limit s peer egress ingress) e empty h =
       let same : t ≡ s = cc in
       subst (λ (n : ℕ). Goes (messages ++ []) t cs (recap cmp n w (limited_by cmp w.caps peer egress ingress))) same (settle_goes (messages ++ []) t cs (record w { caps = limited_by cmp w.caps peer egress ingress; limited = true }) (none_more messages t cs _ (recapped_history messages t cs w (limited_by cmp w.caps peer egress ingress) h)))
@@ -599,7 +635,10 @@ module _ {P : Type 0} (cmp : P → P → Ordering) (order : IsTotalOrder cmp) (k
       waiting = record w { waiting = w.waiting ++ m ∷ [] }
 
       joins : Goes (messages ++ m ∷ []) t cs (join cmp t w m)
-      joins = goes_then (messages ++ m ∷ []) t cs (start_next cmp t waiting (first_waiting cmp waiting m)) (settle cmp t) (next_goes (messages ++ m ∷ []) t cs waiting m (first_waiting cmp waiting m) refl (queued_history messages t cs w m h)) (λ ds u g. settle_goes (messages ++ m ∷ []) t ds u g)
+      joins =
+          goes_then (messages ++ m ∷ []) t cs (start_next cmp t waiting (first_waiting cmp waiting m)) (settle cmp t)
+          (next_goes (messages ++ m ∷ []) t cs waiting m (first_waiting cmp waiting m) refl (queued_history messages t cs w m h))
+          (λ ds u g. settle_goes (messages ++ m ∷ []) t ds u g)
 
       by_mode : (b : Bool) → w.limited ≡ b → Goes (messages ++ m ∷ []) t cs (cond b (join cmp t w m) (complete_at_once cmp t w m))
       by_mode true is = joins
@@ -607,7 +646,8 @@ module _ {P : Type 0} (cmp : P → P → Ordering) (order : IsTotalOrder cmp) (k
   act_goes messages t cs w (call_advance s) e empty h = stays (messages ++ []) t cs w (none_more messages t cs w h)
   act_goes messages t cs w call_next e empty h = cc
 
-  run_history : (messages : List (Message P)) (cs ds : List (Completed P)) (w u : World P) (call : Call P) (now : ℕ) → moment_of call ≡ Some now → w.moment ≤ now → Runs cmp w call now (goes ds u) → IsSound cmp w → IsHistory messages w.moment cs w → IsHistory (messages ++ added call) now (cs ++ ds) u
+  run_history : (messages : List (Message P)) (cs ds : List (Completed P)) (w u : World P) (call : Call P) (now : ℕ) → moment_of call ≡ Some now → w.moment ≤ now
+      → Runs cmp w call now (goes ds u) → IsSound cmp w → IsHistory messages w.moment cs w → IsHistory (messages ++ added call) now (cs ++ ds) u
   unfolding Goes
   run_history messages cs ds w u call now at after runs sound h = by_ticked runs.ticked refl
     where
@@ -618,7 +658,8 @@ module _ {P : Type 0} (cmp : P → P → Ordering) (order : IsTotalOrder cmp) (k
           let there : IsHistory messages now (cs ++ es) v = subst (λ (s : ℕ). IsHistory messages s (cs ++ es) v) count (ticks_history runs.ticks messages w.moment cs es v is h) in
           let sound_v : IsSound cmp v = ends_at cmp order (IsSound cmp) runs.ticked es v is (ticks_keep_sound cmp order runs.ticks sound) in
           let acts : goes ds u ≡ preceded es (act cmp v call) = runs.acts ∙ ap (λ (c : Course (Completed P) (World P)). and_then c (λ x. act cmp x call)) is in
-          let all : Goes (messages ++ added call) now cs (preceded es (act cmp v call)) = goes_preceded (messages ++ added call) now cs es (act cmp v call) (act_goes messages now (cs ++ es) v call at sound_v.empty_at_first there) in
+          let all : Goes (messages ++ added call) now cs (preceded es (act cmp v call))
+          = goes_preceded (messages ++ added call) now cs es (act cmp v call) (act_goes messages now (cs ++ es) v call at sound_v.empty_at_first there) in
           subst (Goes (messages ++ added call) now cs) (sym acts) all
 
   enqueued_split : (call : Call P) (calls : List (Call P)) → added call ++ enqueued calls ≡ enqueued (call ∷ calls)
@@ -631,7 +672,8 @@ module _ {P : Type 0} (cmp : P → P → Ordering) (order : IsTotalOrder cmp) (k
   ends_in_order : (messages : List (Message P)) (t : ℕ) (cs : List (Completed P)) (w : World P) → IsHistory messages t cs w → IsInPairOrder cmp k messages cs
   ends_in_order messages t cs w h = record { done = h.done; rest = held h.flying ++ waits w; messages_are = h.queue; completions_are = h.told; deliveries = h.deliveries }
 
-  answers_in_order : {w : World P} {calls : List (Call P)} {css : List (List (Completed P))} → Answers cmp w calls css → (messages : List (Message P)) (cs : List (Completed P)) → IsSound cmp w → IsHistory messages w.moment cs w → IsInPairOrder cmp k (messages ++ enqueued calls) (cs ++ answered css)
+  answers_in_order : {w : World P} {calls : List (Call P)} {css : List (List (Completed P))} → Answers cmp w calls css → (messages : List (Message P)) (cs : List (Completed P))
+      → IsSound cmp w → IsHistory messages w.moment cs w → IsInPairOrder cmp k (messages ++ enqueued calls) (cs ++ answered css)
   answers_in_order {w = w} no_calls messages cs sound h =
       subst (λ (ms : List (Message P)). IsInPairOrder cmp k ms (cs ++ [])) (sym (append-nil messages)) (subst (IsInPairOrder cmp k messages) (sym (append-nil cs)) (ends_in_order messages w.moment cs w h))
   answers_in_order {w = w} (call_answers {u = u} {call = call} {now = now} {calls = calls} {cs = ds} {css = css} at after runs more) messages cs sound h =

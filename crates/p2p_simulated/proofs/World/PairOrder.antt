@@ -91,9 +91,11 @@ module _ {P : Type 0} (cmp : P → P → Ordering) (order : IsTotalOrder cmp) wh
       by_test n true before least =
           let apart : same_pair cmp n m ≡ false = apart_if_before n m before in
           (rw apart least.0, (not_before_back n m before, least.1))
-      by_test n false before least = (itself.1, (not_before_itself m, each_more (λ (k : Message P). pair_before cmp k n ≡ false) (λ (k : Message P). pair_before cmp k m ≡ false) (λ k h. not_before_on k n m h before) ms least.1))
+      by_test n false before least =
+          (itself.1, (not_before_itself m, each_more (λ (k : Message P). pair_before cmp k n ≡ false) (λ (k : Message P). pair_before cmp k m ≡ false) (λ k h. not_before_on k n m h before) ms least.1))
 
-      by_rest : (o : Option (Message P)) → least_pair cmp ms ≡ o → Some (elim o [ None ↦ m | Some n ↦ cond (pair_before cmp n m) n m ]) ≡ Some l → ((n : Message P) → least_pair cmp ms ≡ Some n → IsLeast n ms) → IsLeast l (m ∷ ms)
+      by_rest : (o : Option (Message P)) → least_pair cmp ms ≡ o → Some (elim o [ None ↦ m | Some n ↦ cond (pair_before cmp n m) n m ]) ≡ Some l
+          → ((n : Message P) → least_pair cmp ms ≡ Some n → IsLeast n ms) → IsLeast l (m ∷ ms)
       by_rest None is at ih =
           let same : m ≡ l = cc in
           let empty : ms ≡ [] = least_none ms is in
@@ -120,17 +122,20 @@ module _ {P : Type 0} (cmp : P → P → Ordering) (order : IsTotalOrder cmp) wh
   find_nowhere p [] h = refl
   find_nowhere p (m ∷ ms) h = rw (h.0) (find_nowhere p ms h.1)
 
-  find_inserted : (k m : Message P) (ns : List (Message P)) → find (same_pair cmp m) ns ≡ None → find (same_pair cmp k) (insert_by_pair cmp m ns) ≡ cond (same_pair cmp k m) (Some m) (find (same_pair cmp k) ns)
+  find_inserted : (k m : Message P) (ns : List (Message P)) → find (same_pair cmp m) ns ≡ None
+      → find (same_pair cmp k) (insert_by_pair cmp m ns) ≡ cond (same_pair cmp k m) (Some m) (find (same_pair cmp k) ns)
   find_inserted k m [] h = refl
   find_inserted k m (n ∷ ns) h = by_order (pair_before cmp n m) (same_pair cmp m n) refl h (find_inserted k m ns)
     where
-      exchanged : (a b : Bool) → same_pair cmp k m ≡ a → same_pair cmp k n ≡ b → same_pair cmp m n ≡ false → cond b (Some n) (cond a (Some m) (find (same_pair cmp k) ns)) ≡ cond a (Some m) (cond b (Some n) (find (same_pair cmp k) ns))
+      exchanged : (a b : Bool) → same_pair cmp k m ≡ a → same_pair cmp k n ≡ b → same_pair cmp m n ≡ false
+          → cond b (Some n) (cond a (Some m) (find (same_pair cmp k) ns)) ≡ cond a (Some m) (cond b (Some n) (find (same_pair cmp k) ns))
       exchanged true true e f apart = let both : same_pair cmp m n ≡ true = pair_like cmp order k m n e ∙ f in cc
       exchanged true false e f apart = refl
       exchanged false true e f apart = refl
       exchanged false false e f apart = refl
 
-      by_order : (a b : Bool) → same_pair cmp m n ≡ b → cond b (Some n) (find (same_pair cmp m) ns) ≡ None → (find (same_pair cmp m) ns ≡ None → find (same_pair cmp k) (insert_by_pair cmp m ns) ≡ cond (same_pair cmp k m) (Some m) (find (same_pair cmp k) ns))
+      by_order : (a b : Bool) → same_pair cmp m n ≡ b → cond b (Some n) (find (same_pair cmp m) ns) ≡ None
+          → (find (same_pair cmp m) ns ≡ None → find (same_pair cmp k) (insert_by_pair cmp m ns) ≡ cond (same_pair cmp k m) (Some m) (find (same_pair cmp k) ns))
           → find (same_pair cmp k) (cond a (n ∷ insert_by_pair cmp m ns) (m ∷ n ∷ ns)) ≡ cond (same_pair cmp k m) (Some m) (cond (same_pair cmp k n) (Some n) (find (same_pair cmp k) ns))
       by_order a true is none ih = cc
       by_order true false is none ih = ap (λ (o : Option (Message P)). cond (same_pair cmp k n) (Some n) o) (ih none) ∙ exchanged (same_pair cmp k m) (same_pair cmp k n) refl refl is
@@ -158,7 +163,8 @@ module _ {P : Type 0} (cmp : P → P → Ordering) (order : IsTotalOrder cmp) wh
   inserted_by_pair m [] none h = (tt, tt)
   inserted_by_pair m (n ∷ ns) none h = by_order (pair_before cmp n m) (same_pair cmp m n) refl refl none (λ e. inserted_by_pair m ns e h.1)
     where
-      by_order : (a b : Bool) → pair_before cmp n m ≡ a → same_pair cmp m n ≡ b → cond b (Some n) (find (same_pair cmp m) ns) ≡ None → (find (same_pair cmp m) ns ≡ None → IsByPair cmp (insert_by_pair cmp m ns)) → IsByPair cmp (cond a (n ∷ insert_by_pair cmp m ns) (m ∷ n ∷ ns))
+      by_order : (a b : Bool) → pair_before cmp n m ≡ a → same_pair cmp m n ≡ b → cond b (Some n) (find (same_pair cmp m) ns) ≡ None
+          → (find (same_pair cmp m) ns ≡ None → IsByPair cmp (insert_by_pair cmp m ns)) → IsByPair cmp (cond a (n ∷ insert_by_pair cmp m ns) (m ∷ n ∷ ns))
       by_order a true before is e ih = cc
       by_order true false before is e ih = (before_inserted n m ns before h.0, ih e)
       by_order false false before is e ih = let first : pair_before cmp m n ≡ true = before_if_not m n before is in ((first, before_all m n ns first h.0), h)

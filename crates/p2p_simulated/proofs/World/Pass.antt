@@ -69,13 +69,16 @@ module _ {P : Type 0} (cmp : P → P → Ordering) (order : IsTotalOrder cmp) wh
       (ends_preceded (WaitAtMost n) (completion_of m (if is_delivered cmp m then Some at else None) ∷ []) (start_next cmp t landed (first_waiting cmp landed m)) (next_waits n t landed (first_waiting cmp landed m) h))
 
   -- what a property of worlds needs to outlast settling
-  pub settle_keeps : (Q : World P → Type 0) (t : ℕ) → ((w : World P) (f : Flight P) → find (is_done cmp w) w.sending ≡ Some f → Q w → EndsWith Q (complete cmp t w f.message)) → (n : ℕ) (w : World P) → Q w → EndsWith Q (settle_within cmp n t w)
+  pub settle_keeps : (Q : World P → Type 0) (t : ℕ) → ((w : World P) (f : Flight P) → find (is_done cmp w) w.sending ≡ Some f → Q w → EndsWith Q (complete cmp t w f.message))
+      → (n : ℕ) (w : World P) → Q w → EndsWith Q (settle_within cmp n t w)
   settle_keeps Q t step zero w h = h
   settle_keeps Q t step (suc n) w h = by_first (find (is_done cmp w) w.sending) refl (settle_keeps Q t step n)
     where
       by_first : (o : Option (Flight P)) → find (is_done cmp w) w.sending ≡ o → ((v : World P) → Q v → EndsWith Q (settle_within cmp n t v)) → EndsWith Q (settle_within cmp (suc n) t w)
       by_first None e ih = subst (λ (c : Course (Completed P) (World P)). EndsWith Q c) (sym (settle_none cmp order n t w e)) h
-      by_first (Some f) e ih = subst (λ (c : Course (Completed P) (World P)). EndsWith Q c) (sym (settle_first cmp order n t w f e)) (ends_and_then Q Q (complete cmp t w f.message) (settle_within cmp n t) (step w f e h) ih)
+      by_first (Some f) e ih =
+          subst (λ (c : Course (Completed P) (World P)). EndsWith Q c) (sym (settle_first cmp order n t w f e))
+          (ends_and_then Q Q (complete cmp t w f.message) (settle_within cmp n t) (step w f e h) ih)
 
   settle_waits : (n t : ℕ) (w : World P) → WaitAtMost n w → EndsWith (WaitAtMost n) (settle cmp t w)
   settle_waits n t w h = settle_keeps (WaitAtMost n) t (λ v f e k. complete_waits n t v f.message k) (length w.sending + length w.waiting) w h
@@ -86,7 +89,8 @@ module _ {P : Type 0} (cmp : P → P → Ordering) (order : IsTotalOrder cmp) wh
   turn_waits n t w m x e h = ends_and_then (WaitAtMost n) (WaitAtMost n) (start cmp w m) (settle cmp t) (start_takes n w m x e h) (λ v k. settle_waits n t v k)
 
   pub turn_rests : (t : ℕ) (w : World P) (m : Message P) → EndsWith (NoneDone cmp order) (turn cmp t w m)
-  turn_rests t w m = ends_and_then (λ (v : World P). ⊤) (NoneDone cmp order) (start cmp w m) (settle cmp t) (ends_any (λ (v : World P). ⊤) (start cmp w m) (λ v. tt)) (λ v h. settle_rests cmp order t v)
+  turn_rests t w m =
+      ends_and_then (λ (v : World P). ⊤) (NoneDone cmp order) (start cmp w m) (settle cmp t) (ends_any (λ (v : World P). ⊤) (start cmp w m) (λ v. tt)) (λ v h. settle_rests cmp order t v)
 
   -- ---- one step of waking
 
@@ -114,7 +118,8 @@ module _ {P : Type 0} (cmp : P → P → Ordering) (order : IsTotalOrder cmp) wh
   wake_within_ends zero t w none h = (none, ready_in_none t w (none_long w.waiting h))
   wake_within_ends (suc n) t w none h = by_least (least_pair cmp (ready cmp t w)) refl (wake_within_ends n t)
     where
-      by_least : (o : Option (Message P)) → least_pair cmp (ready cmp t w) ≡ o → ((v : World P) → NoneDone cmp order v → WaitAtMost n v → EndsWith (NothingLeft t) (wake_within cmp n t v)) → EndsWith (NothingLeft t) (wake_within cmp (suc n) t w)
+      by_least : (o : Option (Message P)) → least_pair cmp (ready cmp t w) ≡ o
+          → ((v : World P) → NoneDone cmp order v → WaitAtMost n v → EndsWith (NothingLeft t) (wake_within cmp n t v)) → EndsWith (NothingLeft t) (wake_within cmp (suc n) t w)
       by_least None e ih =
           let empty : ready cmp t w ≡ [] = least_none cmp order (ready cmp t w) e in
           subst (λ (c : Course (Completed P) (World P)). EndsWith (NothingLeft t) c) (sym (wake_none (suc n) t w empty)) (none, empty)
@@ -178,10 +183,14 @@ module _ {P : Type 0} (cmp : P → P → Ordering) (order : IsTotalOrder cmp) wh
 
   empty_alike : (rs : List (Message P)) → FindsAlike [] rs → rs ≡ []
   empty_alike [] same = refl
-  empty_alike (r ∷ rs) same = let e : None ≡ cond (same_pair cmp r r) (Some r) (find (same_pair cmp r) rs) = same r in let f : None ≡ Some r = e ∙ ap (λ (b : Bool). cond b (Some r) (find (same_pair cmp r) rs)) (pair_itself cmp order r) in cc
+  empty_alike (r ∷ rs) same =
+      let e : None ≡ cond (same_pair cmp r r) (Some r) (find (same_pair cmp r) rs) = same r in
+      let f : None ≡ Some r = e ∙ ap (λ (b : Bool). cond b (Some r) (find (same_pair cmp r) rs)) (pair_itself cmp order r) in
+      cc
 
   -- going once through any list, in the order of pairs, of those that are ready
-  pub wake_within_is_pass : (n t : ℕ) (ms : List (Message P)) (w : World P) → list_any (is_done cmp w) w.sending ≡ false → WaitAtMost n w → IsByPair cmp ms → FindsAlike ms (ready cmp t w) → wake_within cmp n t w ≡ wake_each cmp t ms w
+  pub wake_within_is_pass : (n t : ℕ) (ms : List (Message P)) (w : World P) → list_any (is_done cmp w) w.sending ≡ false → WaitAtMost n w → IsByPair cmp ms
+      → FindsAlike ms (ready cmp t w) → wake_within cmp n t w ≡ wake_each cmp t ms w
   wake_within_is_pass n t [] w none h by same = wake_none n t w (empty_alike (ready cmp t w) same)
   wake_within_is_pass zero t (m ∷ ms) w none h by same =
       let e : least_pair cmp (ready cmp t w) ≡ Some m = least_first m ms (ready cmp t w) by same in
@@ -215,7 +224,8 @@ module _ {P : Type 0} (cmp : P → P → Ordering) (order : IsTotalOrder cmp) wh
 
   pub one_in_fronts : (xs : List (Message P)) → OneForEachPair cmp (fronts cmp xs)
   one_in_fronts [] = tt
-  one_in_fronts (x ∷ xs) = (any_from_find (same_pair cmp x) (filter (λ n. not (same_pair cmp x n)) (fronts cmp xs)) (find_without x x (fronts cmp xs) (pair_itself cmp order x)), one_in_filter (λ n. not (same_pair cmp x n)) (fronts cmp xs) (one_in_fronts xs))
+  one_in_fronts (x ∷ xs) =
+      (any_from_find (same_pair cmp x) (filter (λ n. not (same_pair cmp x n)) (fronts cmp xs)) (find_without x x (fronts cmp xs) (pair_itself cmp order x)), one_in_filter (λ n. not (same_pair cmp x n)) (fronts cmp xs) (one_in_fronts xs))
 
   -- waking goes once through those that are ready, in the order of pairs, with as many steps as wait or more
   pub wake_more_is_pass : (n t : ℕ) (w : World P) → list_any (is_done cmp w) w.sending ≡ false → WaitAtMost n w → wake_within cmp n t w ≡ wake_each cmp t (by_pair cmp (ready cmp t w)) w

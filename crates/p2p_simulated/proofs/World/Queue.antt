@@ -58,7 +58,8 @@ pub filter_without : {X : Type 0} (test : X → Bool) (xs : List X) → filter (
 filter_without test [] = refl
 filter_without {X} test (x ∷ xs) = by_test (test x) (filter_without test xs) refl
   where
-    by_test : (b : Bool) → filter (λ y. not (test y)) (without_first test xs) ≡ filter (λ y. not (test y)) xs → test x ≡ b → filter (λ y. not (test y)) (cond b xs (x ∷ without_first test xs)) ≡ cond (not b) (x ∷ filter (λ y. not (test y)) xs) (filter (λ y. not (test y)) xs)
+    by_test : (b : Bool) → filter (λ y. not (test y)) (without_first test xs) ≡ filter (λ y. not (test y)) xs → test x ≡ b
+        → filter (λ y. not (test y)) (cond b xs (x ∷ without_first test xs)) ≡ cond (not b) (x ∷ filter (λ y. not (test y)) xs) (filter (λ y. not (test y)) xs)
     by_test true ih e = refl
     by_test false ih e = rw (e, ih) refl
 
@@ -121,7 +122,9 @@ module _ {P : Type 0} (cmp : P → P → Ordering) (order : IsTotalOrder cmp) wh
       both_alike (same_peer cmp n.origin k.origin) (same_peer cmp m.origin k.origin) (same_peer cmp n.recipient k.recipient) (same_peer cmp m.recipient k.recipient) (peer_like m.origin n.origin k.origin parts.0) (peer_like m.recipient n.recipient k.recipient parts.1)
 
   pub pair_sym : (m n : Message P) → same_pair cmp m n ≡ same_pair cmp n m
-  pair_sym m n = both_alike (same_peer cmp m.origin n.origin) (same_peer cmp n.origin m.origin) (same_peer cmp m.recipient n.recipient) (same_peer cmp n.recipient m.recipient) (peer_sym m.origin n.origin) (peer_sym m.recipient n.recipient)
+  pair_sym m n =
+      both_alike (same_peer cmp m.origin n.origin) (same_peer cmp n.origin m.origin) (same_peer cmp m.recipient n.recipient) (same_peer cmp n.recipient m.recipient)
+      (peer_sym m.origin n.origin) (peer_sym m.recipient n.recipient)
 
   pub any_like : (m n : Message P) (ks : List (Message P)) → same_pair cmp m n ≡ true → list_any (same_pair cmp n) ks ≡ list_any (same_pair cmp m) ks
   any_like m n [] e = refl
@@ -138,7 +141,8 @@ module _ {P : Type 0} (cmp : P → P → Ordering) (order : IsTotalOrder cmp) wh
       let parts : (p f.message ≡ false) × (list_any p (messages fs) ≡ false) = or_parts (p f.message) (list_any p (messages fs)) e in
       by_test (test f) parts.0 parts.1 (any_without p test fs parts.1)
     where
-      by_test : (b : Bool) → p f.message ≡ false → list_any p (messages fs) ≡ false → list_any p (messages (without_first test fs)) ≡ false → list_any p (messages (cond b fs (f ∷ without_first test fs))) ≡ false
+      by_test : (b : Bool) → p f.message ≡ false → list_any p (messages fs) ≡ false → list_any p (messages (without_first test fs)) ≡ false
+          → list_any p (messages (cond b fs (f ∷ without_first test fs))) ≡ false
       by_test true h j ih = j
       by_test false h j ih = or_from (p f.message) (list_any p (messages (without_first test fs))) h ih
 
@@ -156,7 +160,8 @@ module _ {P : Type 0} (cmp : P → P → Ordering) (order : IsTotalOrder cmp) wh
   one_without test [] one = tt
   one_without test (f ∷ fs) one = by_test (test f) (any_without (same_pair cmp f.message) test fs one.0) (one_without test fs one.1)
     where
-      by_test : (b : Bool) → list_any (same_pair cmp f.message) (messages (without_first test fs)) ≡ false → OneForEachPair cmp (messages (without_first test fs)) → OneForEachPair cmp (messages (cond b fs (f ∷ without_first test fs)))
+      by_test : (b : Bool) → list_any (same_pair cmp f.message) (messages (without_first test fs)) ≡ false → OneForEachPair cmp (messages (without_first test fs))
+          → OneForEachPair cmp (messages (cond b fs (f ∷ without_first test fs)))
       by_test true h ih = one.1
       by_test false h ih = (h, ih)
 
@@ -171,11 +176,13 @@ module _ {P : Type 0} (cmp : P → P → Ordering) (order : IsTotalOrder cmp) wh
       by_test true e h ih = let same : g ≡ f = cc in subst (λ (x : Flight P). p x.message ≡ false) same h
       by_test false e h ih = ih e
 
-  pub pair_is_idle : (test : Flight P → Bool) (f : Flight P) (fs : List (Flight P)) → find test fs ≡ Some f → OneForEachPair cmp (messages fs) → list_any (same_pair cmp f.message) (messages (without_first test fs)) ≡ false
+  pub pair_is_idle : (test : Flight P → Bool) (f : Flight P) (fs : List (Flight P)) → find test fs ≡ Some f → OneForEachPair cmp (messages fs)
+      → list_any (same_pair cmp f.message) (messages (without_first test fs)) ≡ false
   pair_is_idle test f [] e one = cc
   pair_is_idle test f (g ∷ gs) e one = by_test (test g) e (λ is. pair_is_idle test f gs is one.1) (λ is. found_apart (same_pair cmp g.message) test f gs is one.0)
     where
-      by_test : (b : Bool) → cond b (Some g) (find test gs) ≡ Some f → (find test gs ≡ Some f → list_any (same_pair cmp f.message) (messages (without_first test gs)) ≡ false) → (find test gs ≡ Some f → same_pair cmp g.message f.message ≡ false) → list_any (same_pair cmp f.message) (messages (cond b gs (g ∷ without_first test gs))) ≡ false
+      by_test : (b : Bool) → cond b (Some g) (find test gs) ≡ Some f → (find test gs ≡ Some f → list_any (same_pair cmp f.message) (messages (without_first test gs)) ≡ false)
+          → (find test gs ≡ Some f → same_pair cmp g.message f.message ≡ false) → list_any (same_pair cmp f.message) (messages (cond b gs (g ∷ without_first test gs))) ≡ false
       by_test true e ih apart = let same : g ≡ f = cc in subst (λ (x : Flight P). list_any (same_pair cmp x.message) (messages gs) ≡ false) same one.0
       by_test false e ih apart = or_from (same_pair cmp f.message g.message) (list_any (same_pair cmp f.message) (messages (without_first test gs))) (pair_sym f.message g.message ∙ apart e) (ih e)
 
@@ -207,7 +214,8 @@ module _ {P : Type 0} (cmp : P → P → Ordering) (order : IsTotalOrder cmp) wh
 
   -- a message starts in the one world and in the other
   module _ (n t : ℕ) (ih : (w : World P) → OneForEachPair cmp (messages w.sending) → over_state (staying cmp) (settle_within cmp n t w) ≡ finish_within cmp n t (leaving cmp w) (staying cmp w)) where
-    starting : (w : World P) (fs : List (Flight P)) (v : World P) (m : Message P) → OneForEachPair cmp (messages w.sending) → list_any (same_pair cmp m) (messages w.sending) ≡ false → leaving cmp w ≡ fs → staying cmp w ≡ v
+    starting : (w : World P) (fs : List (Flight P)) (v : World P) (m : Message P) → OneForEachPair cmp (messages w.sending)
+        → list_any (same_pair cmp m) (messages w.sending) ≡ false → leaving cmp w ≡ fs → staying cmp w ≡ v
         → over_state (staying cmp) (and_then (start cmp w m) (settle_within cmp n t)) ≡ cond (nat_le last_moment v.next_id) (meets FlowIdsUsedUp) (cond (is_done cmp v (flight cmp m)) (finish_within cmp n t (fs ++ flight cmp m ∷ []) (taken cmp v m)) (finish_within cmp n t fs (joined cmp v m)))
     unfolding leaving staying over_state
     starting w fs v m one idle e f =
@@ -230,7 +238,8 @@ module _ {P : Type 0} (cmp : P → P → Ordering) (order : IsTotalOrder cmp) wh
             ∙ done_or_not (is_done cmp w (flight cmp m)) n t fs (staying cmp w) m
 
     -- the pair's next starts if it may, in the one world and in the other
-    next_alike : (w : World P) (fs : List (Flight P)) (v : World P) (m : Message P) (o : Option (Message P)) → OneForEachPair cmp (messages w.sending) → list_any (same_pair cmp m) (messages w.sending) ≡ false → leaving cmp w ≡ fs → staying cmp w ≡ v → find (same_pair cmp m) w.waiting ≡ o
+    next_alike : (w : World P) (fs : List (Flight P)) (v : World P) (m : Message P) (o : Option (Message P)) → OneForEachPair cmp (messages w.sending)
+        → list_any (same_pair cmp m) (messages w.sending) ≡ false → leaving cmp w ≡ fs → staying cmp w ≡ v → find (same_pair cmp m) w.waiting ≡ o
         → over_state (staying cmp) (and_then (start_next cmp t w o) (settle_within cmp n t)) ≡ launch_then cmp (finish_within cmp n t) t fs v o
     unfolding launch_then staying
     next_alike w fs v m None one idle e f is = nothing_first (settle_within cmp n t) w ∙ ih w one ∙ finish_alike n t (leaving cmp w) fs (staying cmp w) v e f
@@ -242,7 +251,8 @@ module _ {P : Type 0} (cmp : P → P → Ordering) (order : IsTotalOrder cmp) wh
         let in_v : may_start cmp t v x ≡ order_is = subst (λ (u : World P). may_start cmp t u x ≡ order_is) f (idle_still w x idle_in_w) in
         rw (in_w, in_v) (by_order order_is idle_in_w)
       where
-        idle_still : (w : World P) (x : Message P) → list_any (same_pair cmp x) (messages w.sending) ≡ false → may_start cmp t (staying cmp w) x ≡ is_in_order (w.last_arrival x.origin x.recipient) (t + x.latency)
+        idle_still : (w : World P) (x : Message P) → list_any (same_pair cmp x) (messages w.sending) ≡ false
+            → may_start cmp t (staying cmp w) x ≡ is_in_order (w.last_arrival x.origin x.recipient) (t + x.latency)
         idle_still w x h = ap (λ b. not b && is_in_order (w.last_arrival x.origin x.recipient) (t + x.latency)) (any_filter (same_pair cmp x) (λ g. not (is_done cmp w g)) w.sending h)
 
         by_order : (b : Bool) → list_any (same_pair cmp x) (messages w.sending) ≡ false → over_state (staying cmp) (and_then (cond b (start cmp w x) (goes [] w)) (settle_within cmp n t))
@@ -274,11 +284,13 @@ module _ {P : Type 0} (cmp : P → P → Ordering) (order : IsTotalOrder cmp) wh
   settles_as_queue zero t w one = refl
   settles_as_queue (suc n) t w one = by_queue (leaving cmp w) refl (settles_as_queue n t)
     where
-      by_queue : (q : List (Flight P)) → leaving cmp w ≡ q → ((u : World P) → OneForEachPair cmp (messages u.sending) → over_state (staying cmp) (settle_within cmp n t u) ≡ finish_within cmp n t (leaving cmp u) (staying cmp u))
+      by_queue : (q : List (Flight P)) → leaving cmp w ≡ q
+          → ((u : World P) → OneForEachPair cmp (messages u.sending) → over_state (staying cmp) (settle_within cmp n t u) ≡ finish_within cmp n t (leaving cmp u) (staying cmp u))
           → over_state (staying cmp) (settle_within cmp (suc n) t w) ≡ finish_within cmp (suc n) t q (staying cmp w)
       by_queue [] e ih = ap (over_state (staying cmp)) (settle_none n t w (find_none (is_done cmp w) w.sending (as_filter w [] e)))
       by_queue (f ∷ fs) e ih =
-          let first : (find (is_done cmp w) w.sending ≡ Some f) × (filter (is_done cmp w) (without_first (is_done cmp w) w.sending) ≡ fs) = leaving_without (is_done cmp w) f fs w.sending (as_filter w (f ∷ fs) e) in
+          let first : (find (is_done cmp w) w.sending ≡ Some f) × (filter (is_done cmp w) (without_first (is_done cmp w) w.sending) ≡ fs)
+          = leaving_without (is_done cmp w) f fs w.sending (as_filter w (f ∷ fs) e) in
           ap (over_state (staying cmp)) (settle_first n t w f first.0) ∙ (late_or_not (is_past cmp t f.message) (completion cmp t f.message) _ _ (settle_within cmp n t)
           (next_alike n t ih (record (arrived cmp t w f.message) { sending = without_first (is_done cmp w) w.sending }) fs (arrived cmp t (staying cmp w) f.message) f.message (find (same_pair cmp f.message) w.waiting)
           (one_without (is_done cmp w) w.sending one) (pair_is_idle (is_done cmp w) f w.sending first.0 one) (as_leaving (record (arrived cmp t w f.message) { sending = without_first (is_done cmp w) w.sending }) fs first.1) (landed_alike t w f.message) refl))

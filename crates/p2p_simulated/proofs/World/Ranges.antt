@@ -127,7 +127,10 @@ lcm_divides b d g m h gcd over_b over_d =
     let d_is : (d / g) * g ≡ d = mul_comm (d / g) g ∙ mul-div_cancel' g gcd.1 in
     let k : ℕ = m / b in
     let m_is : b * k ≡ m = mul-div_cancel' b over_b in
-    let low : IsReduced (b / g) (d / g) = (λ j u v. eq-one_of_dvd-one (dvd_of_mul-dvd-mul_right j some (subst (λ z. j * g ∣ z) (sym (one-mul g)) (gcd.2 (j * g) (subst (λ z. j * g ∣ z) b_is (mul-dvd-mul_right j u g)) (subst (λ z. j * g ∣ z) d_is (mul-dvd-mul_right j v g)))))) in
+    let low : IsReduced (b / g) (d / g)
+    =
+    (λ j u v. eq-one_of_dvd-one (dvd_of_mul-dvd-mul_right j some (subst (λ z. j * g ∣ z) (sym (one-mul g)) (gcd.2 (j * g) (subst (λ z. j * g ∣ z) b_is (mul-dvd-mul_right j u g)) (subst (λ z. j * g ∣ z) d_is (mul-dvd-mul_right j v g))))))
+    in
     let apart : (d / g) * g ∣ ((b / g) * k) * g = subst (λ z. z ∣ ((b / g) * k) * g) (sym d_is) (subst (λ z. d ∣ z) (sym m_is ∙ ap (λ z. z * k) (sym b_is) ∙ regroup (b / g) g k) over_d) in
     let over : d / g ∣ k = divides_any (b / g) (d / g) k low (dvd_of_mul-dvd-mul_right (d / g) some apart) in
     let j : ℕ = k / (d / g) in
@@ -187,7 +190,8 @@ pub quotient_fits : (a b r q x y : ℕ) → SmallLeft a b → SmallRate r q → 
 quotient_fits a b r q x y left rate some low e =
     let k : (k : ℕ) × (finest_parts * r ≡ q * k) × (k ≤ finest_parts * 2 ^ 32) = parts_of_rate r q rate in
     let j : (j : ℕ) × (finest_parts * billion * a ≡ b * j) × (j < finest_parts * billion * 2 ^ 32) × (0 < b) = parts_of_left a b left in
-    let same : x * (billion * k.0) ≡ j.0 * y = eq_of_mul-eq-mul_left (b * q) (mul-pos j.3 rate.positive) (x * (billion * k.0)) (j.0 * y) (over_parts finest_parts billion a b r q x y k.0 j.0 e k.1 j.1) in
+    let same : x * (billion * k.0) ≡ j.0 * y
+    = eq_of_mul-eq-mul_left (b * q) (mul-pos j.3 rate.positive) (x * (billion * k.0)) (j.0 * y) (over_parts finest_parts billion a b r q x y k.0 j.0 e k.1 j.1) in
     let positive : 0 < k.0 = some_parts finest_parts r q k.0 k.1 (omega arith) some in
     let least : (x ≤ j.0) × (y ≤ billion * k.0) = reduced_is_least j.0 (billion * k.0) x y (omega arith) low same in
     let h : k.0 ≤ finest_parts * 2 ^ 32 = k.2 in
@@ -226,7 +230,8 @@ left_is_small a b r q n x y left rate some e =
     let k : (k : ℕ) × (finest_parts * r ≡ q * k) × (k ≤ finest_parts * 2 ^ 32) = parts_of_rate r q rate in
     let j : (j : ℕ) × (finest_parts * billion * a ≡ b * j) × (j < finest_parts * billion * 2 ^ 32) × (0 < b) = parts_of_left a b left in
     let unit : 0 < b * (q * billion) = mul-pos j.3 (mul-pos rate.positive (omega arith)) in
-    let same : finest_parts * billion * x ≡ (j.0 - n * k.0) * y = eq_of_mul-eq-mul_left (b * (q * billion)) unit (finest_parts * billion * x) ((j.0 - n * k.0) * y) (over_parts finest_parts billion a b r q n x y k.0 j.0 e k.1 j.1) in
+    let same : finest_parts * billion * x ≡ (j.0 - n * k.0) * y
+    = eq_of_mul-eq-mul_left (b * (q * billion)) unit (finest_parts * billion * x) ((j.0 - n * k.0) * y) (over_parts finest_parts billion a b r q n x y k.0 j.0 e k.1 j.1) in
     record {
       below = lt_of_mul-lt-mul_right (b * (q * billion)) {m = x} {n = 2 ^ 32 * y} (under a b (q * billion) (n * (r * b)) x y (2 ^ 32) e left.below some (mul-pos rate.positive (omega arith)));
       whole = subst (λ z. y ∣ z) (sym same) (dvd-mul_left y (j.0 - n * k.0));
@@ -276,7 +281,8 @@ sum_covers f (x ∷ xs) zero d below = omega (arith, sum_by-cons f x xs)
 sum_covers f (x ∷ xs) (suc k) d below = let rest : f (get_or xs k d) ≤ sum_by f xs = sum_covers f xs k d (omega arith) in omega (arith, sum_by-cons f x xs)
 
 -- a fair rate that is whole in the finest parts is in the range, where the caps are
-pub fair_is_small : (sides : List Side) (per : ℕ) (parts : ℕ → ℕ) (flow : ℕ) → IsFair sides per parts → ((side : Side) → Contains sides side → side.cap < 2 ^ 32) → IsLimited sides flow → per ∣ finest_parts * parts flow → SmallRate (parts flow) per
+pub fair_is_small : (sides : List Side) (per : ℕ) (parts : ℕ → ℕ) (flow : ℕ) → IsFair sides per parts → ((side : Side) → Contains sides side → side.cap < 2 ^ 32)
+    → IsLimited sides flow → per ∣ finest_parts * parts flow → SmallRate (parts flow) per
 fair_is_small sides per parts flow fair caps limited whole =
     let used : Contains limited.0.users flow = limited.1.used in
     let under : parts (get_or limited.0.users used.0 flow) ≤ load parts limited.0 = sum_covers parts limited.0.users used.0 flow used.1 in
@@ -287,7 +293,8 @@ fair_is_small sides per parts flow fair caps limited whole =
     record { positive = fair.some_part; at_most = omega arith; whole = whole }
 
 -- and so is what is left of a message in flight, at any moment
-pub left_at_is_small : {P : Type 0} (t : ℕ) (f : Paced P) → SmallLeft f.left.num f.left.den → ((rate : Amount) → f.rate ≡ Some rate → SmallRate rate.num rate.den) → SmallLeft (left_at t f).num (left_at t f).den
+pub left_at_is_small : {P : Type 0} (t : ℕ) (f : Paced P) → SmallLeft f.left.num f.left.den → ((rate : Amount) → f.rate ≡ Some rate → SmallRate rate.num rate.den)
+    → SmallLeft (left_at t f).num (left_at t f).den
 left_at_is_small {P} t f small slow = by_rate f.rate refl
   where
     by_rate : (o : Option Amount) → f.rate ≡ o → SmallLeft (drained_by o (t - f.updated) f.left).num (drained_by o (t - f.updated) f.left).den
@@ -309,13 +316,15 @@ taken_fits left rate n low small slow short =
     let fits : Fits t.num t.den × (t.den ∣ finest_parts * billion * t.num) = elapsed_fits rate.num rate.den n t.num t.den slow short lowest worth in
     record { fits = record { numerator = fits.0.num; denominator = fits.0.den }; leaves = by_order (cases_lt (n * (rate.num * left.den)) (left.num * (rate.den * billion))) t lowest worth fits.1 }
   where
-    by_order : (n * (rate.num * left.den) < left.num * (rate.den * billion)) ⊎ (left.num * (rate.den * billion) ≤ n * (rate.num * left.den)) → (t : Amount) → IsReduced t.num t.den → t.num * (rate.den * billion) ≡ rate.num * n * t.den → t.den ∣ finest_parts * billion * t.num
+    by_order : (n * (rate.num * left.den) < left.num * (rate.den * billion)) ⊎ (left.num * (rate.den * billion) ≤ n * (rate.num * left.den)) → (t : Amount) → IsReduced t.num t.den
+        → t.num * (rate.den * billion) ≡ rate.num * n * t.den → t.den ∣ finest_parts * billion * t.num
         → Covers rate n left ⊎ DifferenceFits left t
     by_order (inr covers) t lowest worth whole = inl covers
     by_order (inl more) t lowest worth whole =
         let some : 0 < left.den = let h : left.num < 2 ^ 32 * left.den = small.below in omega arith in
         let no_more : t.num * left.den ≤ left.num * t.den = less left.num left.den rate.num (rate.den * billion) n t.num t.den worth more (mul-pos slow.positive (omega arith)) in
-        let within : SubtractsWithin left.num left.den t.num t.den (gcd left.den t.den) = subtracts_within left.num left.den t.num t.den (gcd left.den t.den) small low lowest whole no_more (gcd-IsGcd left.den t.den) in
+        let within : SubtractsWithin left.num left.den t.num t.den (gcd left.den t.den)
+        = subtracts_within left.num left.den t.num t.den (gcd left.den t.den) small low lowest whole no_more (gcd-IsGcd left.den t.den) in
         inr (record { common = record { first = within.left; second = within.right; denominator = within.den }; no_greater = no_more })
       where
         less : (a b r q n x y : ℕ) → x * q ≡ r * n * y → n * (r * b) < a * q → 0 < q → x * b ≤ a * y
@@ -327,10 +336,14 @@ seconds_fit left rate small slow some =
     let some_left : 0 < left.den = let h : left.num < 2 ^ 32 * left.den = small.below in omega arith in
     let unit : 0 < left.den * rate.num = mul-pos some_left some in
     let s : Amount = reduced (left.num * rate.den) (left.den * rate.num) in
-    let in_seconds : Fits s.num s.den = quotient_fits left.num left.den rate.num rate.den s.num s.den small slow some (reduced_IsReduced (left.num * rate.den) (left.den * rate.num) unit) (crossed_amounts (left.num * rate.den) (left.den * rate.num) unit) in
+    let in_seconds : Fits s.num s.den
+    = quotient_fits left.num left.den rate.num rate.den s.num s.den small slow some (reduced_IsReduced (left.num * rate.den) (left.den * rate.num) unit)
+    (crossed_amounts (left.num * rate.den) (left.den * rate.num) unit) in
     let one : left.den * rate.num * 1 ≡ left.den * rate.num = omega arith in
     let unit_one : 0 < left.den * rate.num * 1 = omega arith in
     let m : Amount = reduced (left.num * rate.den * billion) (left.den * rate.num * 1) in
     let worth : m.num * (left.den * rate.num * 1) ≡ left.num * rate.den * billion * m.den = crossed_amounts (left.num * rate.den * billion) (left.den * rate.num * 1) unit_one in
-    let in_nanoseconds : Fits m.num m.den = time_fits left.num left.den rate.num rate.den m.num m.den small slow some (reduced_IsReduced (left.num * rate.den * billion) (left.den * rate.num * 1) unit_one) (sym (ap (λ z. m.num * z) one) ∙ worth) in
+    let in_nanoseconds : Fits m.num m.den
+    = time_fits left.num left.den rate.num rate.den m.num m.den small slow some (reduced_IsReduced (left.num * rate.den * billion) (left.den * rate.num * 1) unit_one)
+    (sym (ap (λ z. m.num * z) one) ∙ worth) in
     record { in_seconds = record { numerator = in_seconds.num; denominator = in_seconds.den }; in_nanoseconds = record { numerator = in_nanoseconds.num; denominator = in_nanoseconds.den } }

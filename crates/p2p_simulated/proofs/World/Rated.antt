@@ -26,7 +26,8 @@ place_in place test [] i x at e = cc
 place_in place test (y ∷ ys) zero x at e = let same : y ≡ x = cc in rw (same, e) (0, omega arith, omega arith)
 place_in {X} place test (y ∷ ys) (suc i) x at e = by_test (test y) (subst (λ (n : ℕ). Contains (places_that_pass (place + 1) test ys) n) (omega arith) (place_in (place + 1) test ys i x at e))
   where
-    by_test : (b : Bool) → Contains (places_that_pass (place + 1) test ys) (place + suc i) → Contains (cond b (place ∷ places_that_pass (place + 1) test ys) (places_that_pass (place + 1) test ys)) (place + suc i)
+    by_test : (b : Bool) → Contains (places_that_pass (place + 1) test ys) (place + suc i)
+        → Contains (cond b (place ∷ places_that_pass (place + 1) test ys) (places_that_pass (place + 1) test ys)) (place + suc i)
     by_test true has = in_cons place (place + suc i) (places_that_pass (place + 1) test ys) has
     by_test false has = has
 
@@ -53,7 +54,8 @@ module _ {P : Type 0} (cmp : P → P → Ordering) where
   one_each caps ms per rates fair = ap length fair.rated ∙ rates_length caps fair.parts 0 ms
 
   -- where each message uses a capped side, none is without a rate
-  rates_limited : (caps : Caps P) (parts : ℕ → ℕ) (place : ℕ) (ms : List (Message P)) → ((i : ℕ) (m : Message P) → slice_get ms i ≡ Some m → is_unlimited cmp caps m ≡ false) → (i : ℕ) → slice_get (rates_from cmp caps parts place ms) i ≡ Some None → ⊥
+  rates_limited : (caps : Caps P) (parts : ℕ → ℕ) (place : ℕ) (ms : List (Message P)) → ((i : ℕ) (m : Message P) → slice_get ms i ≡ Some m → is_unlimited cmp caps m ≡ false)
+      → (i : ℕ) → slice_get (rates_from cmp caps parts place ms) i ≡ Some None → ⊥
   rates_limited caps parts place [] limited i is = cc
   rates_limited caps parts place (m ∷ ms) limited zero is = by_test (is_unlimited cmp caps m) (limited 0 m refl) is
     where
@@ -62,15 +64,19 @@ module _ {P : Type 0} (cmp : P → P → Ordering) where
       by_test false e is = cc
   rates_limited caps parts place (m ∷ ms) limited (suc i) is = rates_limited caps parts (place + 1) ms (λ k. limited (suc k)) i is
 
-  pub all_rated : (caps : Caps P) (ms : List (Message P)) (per : ℕ) (rates : Parts) → AreFair cmp caps ms per rates → ((i : ℕ) (m : Message P) → slice_get ms i ≡ Some m → is_unlimited cmp caps m ≡ false) → (i : ℕ) → slice_get rates i ≡ Some None → ⊥
+  pub all_rated : (caps : Caps P) (ms : List (Message P)) (per : ℕ) (rates : Parts) → AreFair cmp caps ms per rates
+      → ((i : ℕ) (m : Message P) → slice_get ms i ≡ Some m → is_unlimited cmp caps m ≡ false) → (i : ℕ) → slice_get rates i ≡ Some None → ⊥
   all_rated caps ms per rates fair limited i is = rates_limited caps fair.parts 0 ms limited i (subst (λ (rs : Parts). slice_get rs i ≡ Some None) fair.rated is)
 
   -- rates of one list agree where those of the limited messages do
-  match_from : (caps : Caps P) (a b : ℕ → ℕ) (d e place : ℕ) (ms : List (Message P)) → ((i : ℕ) (m : Message P) → slice_get ms i ≡ Some m → is_unlimited cmp caps m ≡ false → a (place + i) * e ≡ b (place + i) * d) → Match (rates_from cmp caps a place ms) (rates_from cmp caps b place ms) d e
+  match_from : (caps : Caps P) (a b : ℕ → ℕ) (d e place : ℕ) (ms : List (Message P))
+      → ((i : ℕ) (m : Message P) → slice_get ms i ≡ Some m → is_unlimited cmp caps m ≡ false → a (place + i) * e ≡ b (place + i) * d)
+      → Match (rates_from cmp caps a place ms) (rates_from cmp caps b place ms) d e
   match_from caps a b d e place [] same i x is = cc
   match_from caps a b d e place (m ∷ ms) same zero x is = by_test (is_unlimited cmp caps m) refl is
     where
-      by_test : (u : Bool) → is_unlimited cmp caps m ≡ u → Some (if u then None else Some (a place)) ≡ Some (Some x) → (y : ℕ) × (Some (if u then None else Some (b place)) ≡ Some (Some y)) × (x * e ≡ y * d)
+      by_test : (u : Bool) → is_unlimited cmp caps m ≡ u → Some (if u then None else Some (a place)) ≡ Some (Some x)
+          → (y : ℕ) × (Some (if u then None else Some (b place)) ≡ Some (Some y)) × (x * e ≡ y * d)
       by_test true h is = cc
       by_test false h is = let this : a place ≡ x = cc in (b place, refl, ap (λ n. n * e) (sym this) ∙ subst (λ (n : ℕ). a n * e ≡ b n * d) (omega arith) (same 0 m refl h))
   match_from caps a b d e place (m ∷ ms) same (suc i) x is =
@@ -97,7 +103,8 @@ module _ {P : Type 0} (cmp : P → P → Ordering) where
     has_side : (caps : Caps P) (ms : List (Message P)) (i : ℕ) (m : Message P) → slice_get ms i ≡ Some m → is_unlimited cmp caps m ≡ false → HasSide caps ms i m
     has_side caps ms i m at e = by_caps (caps.egress m.origin) (is_delivered cmp m) (caps.ingress m.recipient) (caps.link m.origin m.recipient) refl refl refl refl e
       where
-        by_caps : (c : Option ℕ) (d : Bool) (k l : Option ℕ) → caps.egress m.origin ≡ c → is_delivered cmp m ≡ d → caps.ingress m.recipient ≡ k → caps.link m.origin m.recipient ≡ l → (is_none c && (not d || is_none k) && is_none l) ≡ false
+        by_caps : (c : Option ℕ) (d : Bool) (k l : Option ℕ) → caps.egress m.origin ≡ c → is_delivered cmp m ≡ d → caps.ingress m.recipient ≡ k → caps.link m.origin m.recipient ≡ l
+            → (is_none c && (not d || is_none k) && is_none l) ≡ false
             → HasSide caps ms i m
         by_caps (Some c) d k l out del into between e =
             let side : Side = record { cap = c; users = places_that_pass 0 (by_egress m) ms } in
@@ -120,5 +127,8 @@ module _ {P : Type 0} (cmp : P → P → Ordering) where
     -- the fair rates are one
     pub rates_match : (caps : Caps P) (ms : List (Message P)) (d e : ℕ) (xs ys : Parts) → AreFair cmp caps ms d xs → AreFair cmp caps ms e ys → Match xs ys d e
     rates_match caps ms d e xs ys f g =
-        let made : Match (rates_from cmp caps f.parts 0 ms) (rates_from cmp caps g.parts 0 ms) d e = match_from caps f.parts g.parts d e 0 ms (λ i m at h. subst (λ (n : ℕ). f.parts n * e ≡ g.parts n * d) (omega arith) (same_amounts (capped_sides cmp caps ms) d e f.parts g.parts f.fair g.fair i (limited_at caps ms i m at h))) in
+        let made : Match (rates_from cmp caps f.parts 0 ms) (rates_from cmp caps g.parts 0 ms) d e
+        = match_from caps f.parts g.parts d e 0 ms
+        (λ i m at h. subst (λ (n : ℕ). f.parts n * e ≡ g.parts n * d) (omega arith) (same_amounts (capped_sides cmp caps ms) d e f.parts g.parts f.fair g.fair i (limited_at caps ms i m at h)))
+        in
         subst (λ (rs : Parts). Match rs ys d e) (sym f.rated) (subst (λ (rs : Parts). Match (rates_from cmp caps f.parts 0 ms) rs d e) (sym g.rated) made)

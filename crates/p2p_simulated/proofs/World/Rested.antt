@@ -39,7 +39,8 @@ module _ {P : Type 0} (cmp : P → P → Ordering) (order : IsTotalOrder cmp) (y
   IsHeld t fs w = (list_any (same_pair cmp y) (map (λ (f : Flight P). f.message) fs) ≡ true) ⊎ IsRested cmp order y t w
 
   -- what is of another pair alone does not matter
-  pub rested_other : (z : Message P) (t : ℕ) (w v : World P) → same_pair cmp y z ≡ false → OnlyPair cmp order z w v → find (same_pair cmp y) v.waiting ≡ find (same_pair cmp y) w.waiting → IsRested cmp order y t w → IsRested cmp order y t v
+  pub rested_other : (z : Message P) (t : ℕ) (w v : World P) → same_pair cmp y z ≡ false → OnlyPair cmp order z w v
+      → find (same_pair cmp y) v.waiting ≡ find (same_pair cmp y) w.waiting → IsRested cmp order y t w → IsRested cmp order y t v
   unfolding IsRested
   rested_other z t w v off only same rested x found =
       let own : same_pair cmp y x ≡ true = find_passes (same_pair cmp y) x v.waiting found in
@@ -49,7 +50,8 @@ module _ {P : Type 0} (cmp : P → P → Ordering) (order : IsTotalOrder cmp) (y
   pub find_without : (x : Message P) (ws : List (Message P)) → same_pair cmp y x ≡ false → find (same_pair cmp y) (without_first (same_pair cmp x) ws) ≡ find (same_pair cmp y) ws
   find_without x ws off = head_found (same_pair cmp y) (without_first (same_pair cmp x) ws) ∙ ap head_of (rw off at (waits_without cmp order y x ws)) ∙ sym (head_found (same_pair cmp y) ws)
 
-  any_end : (fs : List (Flight P)) (x : Message P) → list_any (same_pair cmp y) (map (λ (f : Flight P). f.message) (fs ++ flight cmp x ∷ [])) ≡ (list_any (same_pair cmp y) (map (λ (f : Flight P). f.message) fs) || (same_pair cmp y x || false))
+  any_end : (fs : List (Flight P)) (x : Message P)
+      → list_any (same_pair cmp y) (map (λ (f : Flight P). f.message) (fs ++ flight cmp x ∷ [])) ≡ (list_any (same_pair cmp y) (map (λ (f : Flight P). f.message) fs) || (same_pair cmp y x || false))
   any_end fs x = ap (list_any (same_pair cmp y)) (map-append (λ (f : Flight P). f.message) fs (flight cmp x ∷ [])) ∙ list_any-append (same_pair cmp y) (map (λ (f : Flight P). f.message) fs) (x ∷ [])
 
   WhenHeld : ℕ → ℕ → Type 0
@@ -76,7 +78,8 @@ module _ {P : Type 0} (cmp : P → P → Ordering) (order : IsTotalOrder cmp) (y
       y_x = pair_sym cmp order y x ∙ pair_like cmp order z x y pair ∙ pair_sym cmp order z y
 
       held_taken : (same_pair cmp y z ≡ true) ⊎ ((same_pair cmp y z ≡ false) × IsHeld t fs w) → IsHeld t (fs ++ flight cmp x ∷ []) (taken cmp w x)
-      held_taken (inl own) = inl (any_end fs x ∙ or_right (list_any (same_pair cmp y) (map (λ (f : Flight P). f.message) fs)) (same_pair cmp y x || false) (or_left (same_pair cmp y x) false (y_x ∙ own)))
+      held_taken (inl own) =
+          inl (any_end fs x ∙ or_right (list_any (same_pair cmp y) (map (λ (f : Flight P). f.message) fs)) (same_pair cmp y x || false) (or_left (same_pair cmp y x) false (y_x ∙ own)))
       held_taken (inr (off, inl among)) = inl (any_end fs x ∙ or_left (list_any (same_pair cmp y) (map (λ (f : Flight P). f.message) fs)) (same_pair cmp y x || false) among)
       held_taken (inr (off, inr rested)) = inr (rested_other x t w (taken cmp w x) (y_x ∙ off) (only_taken cmp order x w x (own_pair cmp order x)) (find_without x w.waiting (y_x ∙ off)) rested)
 
@@ -85,7 +88,8 @@ module _ {P : Type 0} (cmp : P → P → Ordering) (order : IsTotalOrder cmp) (y
       held_joined (inr (off, inl among)) = inl among
       held_joined (inr (off, inr rested)) = inr (rested_other x t w (joined cmp w x) (y_x ∙ off) (only_joined cmp order x w x (own_pair cmp order x)) (find_without x w.waiting (y_x ∙ off)) rested)
 
-      by_done : (b : Bool) → length (without_first (same_pair cmp x) w.waiting) + 1 ≡ length w.waiting → length (fs ++ flight cmp x ∷ []) ≡ length fs + 1 → (same_pair cmp y z ≡ true) ⊎ ((same_pair cmp y z ≡ false) × IsHeld t fs w)
+      by_done : (b : Bool) → length (without_first (same_pair cmp x) w.waiting) + 1 ≡ length w.waiting → length (fs ++ flight cmp x ∷ []) ≡ length fs + 1
+          → (same_pair cmp y z ≡ true) ⊎ ((same_pair cmp y z ≡ false) × IsHeld t fs w)
           → EndsWith (IsRested cmp order y t) (cond b (finish_within cmp n t (fs ++ flight cmp x ∷ []) (taken cmp w x)) (finish_within cmp n t fs (joined cmp w x)))
       by_done true less more h = ih (fs ++ flight cmp x ∷ []) (taken cmp w x) (omega arith) (held_taken h)
       by_done false less more h = ih fs (joined cmp w x) (omega arith) (held_joined h)
@@ -127,13 +131,16 @@ module _ {P : Type 0} (cmp : P → P → Ordering) (order : IsTotalOrder cmp) wh
 
       by_test : (b : Bool) → may_start cmp t w x ≡ b → b ≡ false
       by_test false e = refl
-      by_test true e = absurd (subst (λ (ms : List (Message P)). Somewhere (λ m. ⊤) ms) none (some_filtered (λ m. ⊤) (may_start cmp t w) (fronts cmp w.waiting) (in_fronts cmp order (λ m. ⊤ × (may_start cmp t w m ≡ true)) x w.waiting own (tt, e))))
+      by_test true e =
+          absurd
+          (subst (λ (ms : List (Message P)). Somewhere (λ m. ⊤) ms) none (some_filtered (λ m. ⊤) (may_start cmp t w) (fronts cmp w.waiting) (in_fronts cmp order (λ m. ⊤ × (may_start cmp t w m ≡ true)) x w.waiting own (tt, e))))
 
   held_first : (t : ℕ) (w : World P) (y : Message P) → ready cmp t w ≡ [] → IsHeld cmp order y t (leaving cmp w) (staying cmp w)
   unfolding leaving staying IsRested
   held_first t w y none = by_test (list_any (same_pair cmp y) (map (λ (f : Flight P). f.message) (filter (is_done cmp w) w.sending))) refl (all_rested t w y none)
     where
-      by_test : (b : Bool) → list_any (same_pair cmp y) (map (λ (f : Flight P). f.message) (filter (is_done cmp w) w.sending)) ≡ b → IsRested cmp order y t w → IsHeld cmp order y t (filter (is_done cmp w) w.sending) (record w { sending = filter (λ f. not (is_done cmp w f)) w.sending })
+      by_test : (b : Bool) → list_any (same_pair cmp y) (map (λ (f : Flight P). f.message) (filter (is_done cmp w) w.sending)) ≡ b → IsRested cmp order y t w
+          → IsHeld cmp order y t (filter (is_done cmp w) w.sending) (record w { sending = filter (λ f. not (is_done cmp w f)) w.sending })
       by_test true e rested = inl e
       by_test false e rested = inr (λ x found.
           let own : same_pair cmp y x ≡ true = find_passes (same_pair cmp y) x w.waiting found in
@@ -145,10 +152,14 @@ module _ {P : Type 0} (cmp : P → P → Ordering) (order : IsTotalOrder cmp) wh
 
   pub none_then : (t : ℕ) (c : Course (Completed P) (World P)) → ((y : Message P) → EndsWith (IsRested cmp order y t) c) → EndsWith (λ v. ready cmp t v ≡ []) c
   unfolding IsRested
-  none_then t (goes cs v) all = filter_none (may_start cmp t v) (fronts cmp v.waiting) (each_map (IsFront cmp order v.waiting) (λ m. may_start cmp t v m ≡ false) (fronts cmp v.waiting) (λ m front. all m m (first_found cmp order (same_pair cmp m) m front.0 v.waiting front.1)) (fronts_first cmp order v.waiting))
+  none_then t (goes cs v) all =
+      filter_none (may_start cmp t v) (fronts cmp v.waiting)
+      (each_map (IsFront cmp order v.waiting) (λ m. may_start cmp t v m ≡ false) (fronts cmp v.waiting) (λ m front. all m m (first_found cmp order (same_pair cmp m) m front.0 v.waiting front.1)) (fronts_first cmp order v.waiting))
   none_then t (meets fault) all = tt
 
   -- settling makes no pair ready
-  pub settle_keeps_rest : (t : ℕ) (w : World P) → OneForEachPair cmp (flows w) → ready cmp t w ≡ [] → length (leaving cmp w) + length (staying cmp w).waiting ≤ length w.sending + length w.waiting → EndsWith (λ v. ready cmp t v ≡ []) (settle cmp t w)
-  settle_keeps_rest t w one none fuel = none_then t (settle cmp t w) (λ y. subst (λ (c : Course (Completed P) (World P)). EndsWith (IsRested cmp order y t) c) (sym (settle_is_finish cmp order t w one))
+  pub settle_keeps_rest : (t : ℕ) (w : World P) → OneForEachPair cmp (flows w) → ready cmp t w ≡ []
+      → length (leaving cmp w) + length (staying cmp w).waiting ≤ length w.sending + length w.waiting → EndsWith (λ v. ready cmp t v ≡ []) (settle cmp t w)
+  settle_keeps_rest t w one none fuel =
+      none_then t (settle cmp t w) (λ y. subst (λ (c : Course (Completed P) (World P)). EndsWith (IsRested cmp order y t) c) (sym (settle_is_finish cmp order t w one))
       (finish_rests cmp order y (length w.sending + length w.waiting) t (leaving cmp w) (staying cmp w) fuel (held_first t w y none)))

@@ -38,11 +38,13 @@ from_flat_map {X} {A} f (y ∷ ys) a h = by_part (in_either (f y) (flat_map f ys
 -- ---- places
 
 -- what stands at a place of those that pass
-pub passes_at : {X : Type 0} (place : ℕ) (test : X → Bool) (xs : List X) (i : ℕ) → In (places_that_pass place test xs) i → (k : ℕ) × (place + k ≡ i) × (x : X) × (slice_get xs k ≡ Some x) × (test x ≡ true)
+pub passes_at : {X : Type 0} (place : ℕ) (test : X → Bool) (xs : List X) (i : ℕ) → In (places_that_pass place test xs) i
+    → (k : ℕ) × (place + k ≡ i) × (x : X) × (slice_get xs k ≡ Some x) × (test x ≡ true)
 passes_at place test [] i h = absurd h
 passes_at {X} place test (x ∷ xs) i h = by_test (test x) refl h (passes_at (place + 1) test xs i)
   where
-    by_test : (b : Bool) → test x ≡ b → In (cond b (place ∷ places_that_pass (place + 1) test xs) (places_that_pass (place + 1) test xs)) i → (In (places_that_pass (place + 1) test xs) i → (k : ℕ) × (place + 1 + k ≡ i) × (y : X) × (slice_get xs k ≡ Some y) × (test y ≡ true))
+    by_test : (b : Bool) → test x ≡ b → In (cond b (place ∷ places_that_pass (place + 1) test xs) (places_that_pass (place + 1) test xs)) i
+        → (In (places_that_pass (place + 1) test xs) i → (k : ℕ) × (place + 1 + k ≡ i) × (y : X) × (slice_get xs k ≡ Some y) × (test y ≡ true))
         → (k : ℕ) × (place + k ≡ i) × (y : X) × (slice_get (x ∷ xs) k ≡ Some y) × (test y ≡ true)
     by_test true is (inl e) ih = (0, omega (arith, e), x, refl, is)
     by_test true is (inr g) ih = let r = ih g in (suc r.0, omega (arith, r.1), r.2, r.3, r.4)
@@ -62,7 +64,8 @@ pub stood_at : {X : Type 0} (mine : X → Bool) (xs : List X) (i : ℕ) (x : X) 
 stood_at mine [] i x e = cc
 stood_at {X} mine (y ∷ ys) i x e = by_test (mine y) refl i e (λ k. stood_at mine ys k x)
   where
-    by_test : (b : Bool) → mine y ≡ b → (i : ℕ) → slice_get (cond b (y ∷ filter mine ys) (filter mine ys)) i ≡ Some x → ((k : ℕ) → slice_get (filter mine ys) k ≡ Some x → (slice_get ys (stood (map mine ys) k) ≡ Some x) × (mine x ≡ true))
+    by_test : (b : Bool) → mine y ≡ b → (i : ℕ) → slice_get (cond b (y ∷ filter mine ys) (filter mine ys)) i ≡ Some x
+        → ((k : ℕ) → slice_get (filter mine ys) k ≡ Some x → (slice_get ys (stood (map mine ys) k) ≡ Some x) × (mine x ≡ true))
         → (slice_get (y ∷ ys) (stood (b ∷ map mine ys) i) ≡ Some x) × (mine x ≡ true)
     by_test true is zero e ih = let same : y ≡ x = cc in (e, subst (λ (z : X). mine z ≡ true) same is)
     by_test true is (suc k) e ih = ih k e
@@ -83,7 +86,8 @@ sum_shifted {X} f g p q test (x ∷ xs) same = by_test (test x) (sum_shifted f g
     by_test false ih = ih
 
 -- a side whose users are all kept has the same load
-kept_load : {X : Type 0} (mine uses : X → Bool) (f : ℕ → ℕ) (xs : List X) → ((x : X) → In xs x → uses x ≡ true → mine x ≡ true) → sum_by (λ i. f (stood (map mine xs) i)) (places_that_pass 0 uses (filter mine xs)) ≡ sum_by f (places_that_pass 0 uses xs)
+kept_load : {X : Type 0} (mine uses : X → Bool) (f : ℕ → ℕ) (xs : List X) → ((x : X) → In xs x → uses x ≡ true → mine x ≡ true)
+    → sum_by (λ i. f (stood (map mine xs) i)) (places_that_pass 0 uses (filter mine xs)) ≡ sum_by f (places_that_pass 0 uses xs)
 kept_load mine uses f [] all = refl
 kept_load {X} mine uses f (x ∷ xs) all = by_test (mine x) refl (uses x) refl (kept_load mine uses (λ i. f (suc i)) xs (λ y h. all y (inr h)))
   where
@@ -96,9 +100,11 @@ kept_load {X} mine uses f (x ∷ xs) all = by_test (mine x) refl (uses x) refl (
         at_next : (i : ℕ) → f (suc (stood (map mine xs) (0 + i))) ≡ f (stood (true ∷ map mine xs) (1 + i))
         at_next i = let a : 0 + i ≡ i = omega arith in let b : 1 + i ≡ suc i = omega arith in rw (a, b) refl
 
-    by_test : (b : Bool) → mine x ≡ b → (u : Bool) → uses x ≡ u → sum_by (λ i. f (suc (stood (map mine xs) i))) (places_that_pass 0 uses (filter mine xs)) ≡ sum_by (λ i. f (suc i)) (places_that_pass 0 uses xs)
+    by_test : (b : Bool) → mine x ≡ b → (u : Bool) → uses x ≡ u
+        → sum_by (λ i. f (suc (stood (map mine xs) i))) (places_that_pass 0 uses (filter mine xs)) ≡ sum_by (λ i. f (suc i)) (places_that_pass 0 uses xs)
         → sum_by (λ i. f (stood (b ∷ map mine xs) i)) (places_that_pass 0 uses (cond b (x ∷ filter mine xs) (filter mine xs))) ≡ sum_by f (cond u (0 ∷ places_that_pass (0 + 1) uses xs) (places_that_pass (0 + 1) uses xs))
-    by_test true is true used ih = rw used (omega (arith, ih, next, later, sum_by-cons (λ i. f (stood (true ∷ map mine xs) i)) 0 (places_that_pass 1 uses (filter mine xs)), sum_by-cons f 0 (places_that_pass 1 uses xs)))
+    by_test true is true used ih =
+        rw used (omega (arith, ih, next, later, sum_by-cons (λ i. f (stood (true ∷ map mine xs) i)) 0 (places_that_pass 1 uses (filter mine xs)), sum_by-cons f 0 (places_that_pass 1 uses xs)))
     by_test true is false used ih = rw used (sym later ∙ ih ∙ next)
     by_test false is true used ih = let own : mine x ≡ true = all x (inl refl) used in cc
     by_test false is false used ih = ih ∙ next
@@ -145,7 +151,8 @@ module _ {P : Type 0} (cmp : P → P → Ordering) (caps : Caps P) where
   abbrev pub side_at : Kind → List (Message P) → Message P → ℕ → Side
   side_at k ms m cap = record { cap = cap; users = places_that_pass 0 (uses_at k m) ms }
 
-  from_side_of : (o : Option ℕ) (uses : Message P → Bool) (ms : List (Message P)) (s : Side) → In (side_of cmp o uses ms) s → (c : ℕ) × (o ≡ Some c) × (s ≡ record { cap = c; users = places_that_pass 0 uses ms })
+  from_side_of : (o : Option ℕ) (uses : Message P → Bool) (ms : List (Message P)) (s : Side) → In (side_of cmp o uses ms) s
+      → (c : ℕ) × (o ≡ Some c) × (s ≡ record { cap = c; users = places_that_pass 0 uses ms })
   from_side_of None uses ms s h = absurd h
   from_side_of (Some c) uses ms s (inl e) = (c, refl, sym e)
   from_side_of (Some c) uses ms s (inr h) = absurd h
@@ -176,7 +183,8 @@ module _ {P : Type 0} (cmp : P → P → Ordering) (caps : Caps P) where
       in_left (egress_of cmp caps ms m ++ ingress_of cmp caps ms m) (link_of cmp caps ms m) (side_at at_egress ms m c) (in_left (egress_of cmp caps ms m) (ingress_of cmp caps ms m) (side_at at_egress ms m c) (to_side_of (cap_at at_egress m) (uses_at at_egress m) ms c e))
   to_sides_for at_ingress ms m c e =
       in_left (egress_of cmp caps ms m ++ ingress_of cmp caps ms m) (link_of cmp caps ms m) (side_at at_ingress ms m c) (in_right (egress_of cmp caps ms m) (ingress_of cmp caps ms m) (side_at at_ingress ms m c) (to_side_of (cap_at at_ingress m) (uses_at at_ingress m) ms c e))
-  to_sides_for at_link ms m c e = in_right (egress_of cmp caps ms m ++ ingress_of cmp caps ms m) (link_of cmp caps ms m) (side_at at_link ms m c) (to_side_of (cap_at at_link m) (uses_at at_link m) ms c e)
+  to_sides_for at_link ms m c e =
+      in_right (egress_of cmp caps ms m ++ ingress_of cmp caps ms m) (link_of cmp caps ms m) (side_at at_link ms m c) (to_side_of (cap_at at_link m) (uses_at at_link m) ms c e)
 
   -- what brings a side to the messages, and which side
   pub from_sides : (ms : List (Message P)) (s : Side) → Contains (capped_sides cmp caps ms) s → (m : Message P) × In ms m × Brings ms m s
@@ -209,11 +217,13 @@ module _ {P : Type 0} (cmp : P → P → Ordering) (caps : Caps P) where
 
     part_within : (s : Side) → Of s → load own_parts s ≤ s.cap * per
     part_within s (m, has, own, (k, c, is, e)) =
-        let fits : load parts (side_at k ms m c) ≤ c * per = All-contains (λ side. load parts side ≤ side.cap * per) (capped_sides cmp caps ms) (side_at k ms m c) fair.within (to_sides k ms m c has is) in
+        let fits : load parts (side_at k ms m c) ≤ c * per
+        = All-contains (λ side. load parts side ≤ side.cap * per) (capped_sides cmp caps ms) (side_at k ms m c) fair.within (to_sides k ms m c has is) in
         subst (λ (z : Side). load own_parts z ≤ z.cap * per) (sym e) (subst (λ n. n ≤ c * per) (sym (same_load k m c has own)) fits)
 
     -- the bottleneck of a message in the whole list is one in the part
-    part_bottleneck : (i : ℕ) (x : Message P) → slice_get (filter mine ms) i ≡ Some x → HasBottleneck (capped_sides cmp caps ms) per parts (stood (map mine ms) i) → HasBottleneck (capped_sides cmp caps (filter mine ms)) per own_parts i
+    part_bottleneck : (i : ℕ) (x : Message P) → slice_get (filter mine ms) i ≡ Some x → HasBottleneck (capped_sides cmp caps ms) per parts (stood (map mine ms) i)
+        → HasBottleneck (capped_sides cmp caps (filter mine ms)) per own_parts i
     part_bottleneck i x here b = by_side (from_sides ms b.side b.uses.listed)
       where
         stands : (slice_get ms (stood (map mine ms) i) ≡ Some x) × (mine x ≡ true)
@@ -228,7 +238,8 @@ module _ {P : Type 0} (cmp : P → P → Ordering) (caps : Caps P) where
             let uses_x : uses_at k m x ≡ true = subst (λ (z : Message P). uses_at k m z ≡ true) it there.2 in
             let own_m : mine m ≡ true = apart k m x has (in_get ms (stood (map mine ms) i) x stands.0) uses_x ∙ stands.1 in
             let filled : load parts (side_at k ms m c) ≡ c * per = subst (λ (z : Side). load parts z ≡ z.cap * per) e b.full in
-            let most : All (λ other. parts other ≤ parts (stood (map mine ms) i)) (places_that_pass 0 (uses_at k m) ms) = subst (λ (z : Side). All (λ other. parts other ≤ parts (stood (map mine ms) i)) z.users) e b.greatest in
+            let most : All (λ other. parts other ≤ parts (stood (map mine ms) i)) (places_that_pass 0 (uses_at k m) ms)
+            = subst (λ (z : Side). All (λ other. parts other ≤ parts (stood (map mine ms) i)) z.users) e b.greatest in
             record {
               side = side_at k (filter mine ms) m c;
               uses = record { listed = to_sides k (filter mine ms) m c (in_filter mine ms m has own_m) is; used = place_here (uses_at k m) (filter mine ms) i x here uses_x };
@@ -236,7 +247,8 @@ module _ {P : Type 0} (cmp : P → P → Ordering) (caps : Caps P) where
               greatest = All-from_contains (λ other. own_parts other ≤ own_parts i) (places_that_pass 0 (uses_at k m) (filter mine ms)) (λ other has_other. greatest k m other has_other most);
             }
           where
-            greatest : (k : Kind) (m : Message P) (other : ℕ) → Contains (places_that_pass 0 (uses_at k m) (filter mine ms)) other → All (λ o. parts o ≤ parts (stood (map mine ms) i)) (places_that_pass 0 (uses_at k m) ms) → own_parts other ≤ own_parts i
+            greatest : (k : Kind) (m : Message P) (other : ℕ) → Contains (places_that_pass 0 (uses_at k m) (filter mine ms)) other
+                → All (λ o. parts o ≤ parts (stood (map mine ms) i)) (places_that_pass 0 (uses_at k m) ms) → own_parts other ≤ own_parts i
             greatest k m other has_other most =
                 let at = passes_here (uses_at k m) (filter mine ms) other (in_from_contains (places_that_pass 0 (uses_at k m) (filter mine ms)) other has_other) in
                 All-contains (λ o. parts o ≤ parts (stood (map mine ms) i)) (places_that_pass 0 (uses_at k m) ms) (stood (map mine ms) other) most (place_here (uses_at k m) ms (stood (map mine ms) other) at.0 (stood_at mine ms other at.0 at.1).0 at.2)
@@ -259,7 +271,8 @@ module _ {P : Type 0} (cmp : P → P → Ordering) (caps : Caps P) where
     }
 
   -- the fair rates of messages that share no side with the others are fair for them alone
-  pub fair_part : (mine : Message P → Bool) (ms : List (Message P)) (per : ℕ) (rates : Parts) → SharesNoSide mine ms → AreFair cmp caps ms per rates → AreFair cmp caps (filter mine ms) per (kept (map mine ms) rates)
+  pub fair_part : (mine : Message P → Bool) (ms : List (Message P)) (per : ℕ) (rates : Parts) → SharesNoSide mine ms → AreFair cmp caps ms per rates
+      → AreFair cmp caps (filter mine ms) per (kept (map mine ms) rates)
   fair_part mine ms per rates apart fair = record {
     parts = λ i. fair.parts (stood (map mine ms) i);
     fair = part_is_fair mine ms per fair.parts apart fair.fair;

@@ -26,7 +26,8 @@ pub length_without : {X : Type 0} (test : X → Bool) (x : X) (xs : List X) → 
 length_without test x [] e = cc
 length_without {X} test x (y ∷ ys) e = by_test (test y) e (length_without test x ys)
   where
-    by_test : (b : Bool) → cond b (Some y) (find test ys) ≡ Some x → (find test ys ≡ Some x → length (without_first test ys) + 1 ≡ length ys) → length (cond b ys (y ∷ without_first test ys)) + 1 ≡ suc (length ys)
+    by_test : (b : Bool) → cond b (Some y) (find test ys) ≡ Some x → (find test ys ≡ Some x → length (without_first test ys) + 1 ≡ length ys)
+        → length (cond b ys (y ∷ without_first test ys)) + 1 ≡ suc (length ys)
     by_test true e ih = omega arith
     by_test false e ih = let h : length (without_first test ys) + 1 ≡ length ys = ih e in omega arith
 
@@ -47,7 +48,8 @@ module _ {P : Type 0} (cmp : P → P → Ordering) (order : IsTotalOrder cmp) wh
   next_has t n w m (Some x) e h =
       let same : same_pair cmp m x ≡ true = find_passes (same_pair cmp m) x w.waiting e in
       let fewer : length (without_first (same_pair cmp x) w.waiting) + 1 ≡ length w.waiting = length_without (same_pair cmp x) x w.waiting (find_like m x w.waiting same ∙ e) in
-      let joined : length (w.sending ++ record { message = x; left = whole (length x.bytes) } ∷ []) ≡ length w.sending + 1 = length-append w.sending (record { message = x; left = whole (length x.bytes) } ∷ []) in
+      let joined : length (w.sending ++ record { message = x; left = whole (length x.bytes) } ∷ []) ≡ length w.sending + 1
+      = length-append w.sending (record { message = x; left = whole (length x.bytes) } ∷ []) in
       ends_cond (HasAtMost n) (may_start cmp t w x) (start cmp w x) (goes [] w) (ends_cond (HasAtMost n) (nat_le last_moment w.next_id) (meets FlowIdsUsedUp) _ tt (omega arith)) h
 
   pub complete_has : (t n : ℕ) (w : World P) (f : Flight P) → find (is_done cmp w) w.sending ≡ Some f → HasAtMost (suc n) w → EndsWith (HasAtMost n) (complete cmp t w f.message)
@@ -65,7 +67,8 @@ module _ {P : Type 0} (cmp : P → P → Ordering) (order : IsTotalOrder cmp) wh
   settle_within_rests zero t w h = find_in_none (is_done cmp w) w.sending (omega arith)
   settle_within_rests (suc n) t w h = by_first (find (is_done cmp w) w.sending) refl (settle_within_rests n t)
     where
-      by_first : (o : Option (Flight P)) → find (is_done cmp w) w.sending ≡ o → ((v : World P) → HasAtMost n v → EndsWith NoneDone (settle_within cmp n t v)) → EndsWith NoneDone (settle_within cmp (suc n) t w)
+      by_first : (o : Option (Flight P)) → find (is_done cmp w) w.sending ≡ o → ((v : World P) → HasAtMost n v → EndsWith NoneDone (settle_within cmp n t v))
+          → EndsWith NoneDone (settle_within cmp (suc n) t w)
       by_first None e ih = subst (λ (c : Course (Completed P) (World P)). EndsWith NoneDone c) (sym (settle_none cmp order n t w e)) e
       by_first (Some f) e ih = subst (λ (c : Course (Completed P) (World P)). EndsWith NoneDone c) (sym (settle_first cmp order n t w f e))
           (ends_and_then (HasAtMost n) NoneDone (complete cmp t w f.message) (settle_within cmp n t) (complete_has t n w f e h) ih)

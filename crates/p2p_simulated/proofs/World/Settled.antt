@@ -16,7 +16,8 @@ none_taken : {X : Type 0} (p : X → Bool) (xs : List X) → find p xs ≡ None 
 none_taken p [] e = refl
 none_taken {X} p (x ∷ xs) e = by_test (p x) e (none_taken p xs)
   where
-    by_test : (b : Bool) → cond b (Some x) (find p xs) ≡ None → (find p xs ≡ None → filter (λ y. not (p y)) xs ≡ xs) → cond (not b) (x ∷ filter (λ y. not (p y)) xs) (filter (λ y. not (p y)) xs) ≡ x ∷ xs
+    by_test : (b : Bool) → cond b (Some x) (find p xs) ≡ None → (find p xs ≡ None → filter (λ y. not (p y)) xs ≡ xs)
+        → cond (not b) (x ∷ filter (λ y. not (p y)) xs) (filter (λ y. not (p y)) xs) ≡ x ∷ xs
     by_test true e ih = cc
     by_test false e ih = ap (λ ys. x ∷ ys) (ih e)
 
@@ -40,7 +41,9 @@ module _ {P : Type 0} (cmp : P → P → Ordering) (order : IsTotalOrder cmp) wh
   settle_enough (suc n) zero t w h k = settle_nothing cmp order (suc n) t w (find_in_none (is_done cmp w) w.sending (omega arith))
   settle_enough (suc n) (suc m) t w h k = by_first (find (is_done cmp w) w.sending) refl (settle_enough n m t)
     where
-      by_first : (o : Option (Flight P)) → find (is_done cmp w) w.sending ≡ o → ((v : World P) → HasAtMost cmp order n v → HasAtMost cmp order m v → settle_within cmp n t v ≡ settle_within cmp m t v) → settle_within cmp (suc n) t w ≡ settle_within cmp (suc m) t w
+      by_first : (o : Option (Flight P)) → find (is_done cmp w) w.sending ≡ o
+          → ((v : World P) → HasAtMost cmp order n v → HasAtMost cmp order m v → settle_within cmp n t v ≡ settle_within cmp m t v)
+          → settle_within cmp (suc n) t w ≡ settle_within cmp (suc m) t w
       by_first None e ih = settle_nothing cmp order (suc n) t w e ∙ sym (settle_nothing cmp order (suc m) t w e)
       by_first (Some f) e ih =
           settle_first cmp order n t w f e

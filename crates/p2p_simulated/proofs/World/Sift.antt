@@ -38,7 +38,8 @@ each_joined Q (y ∷ ys) x e q = (e.0, each_joined Q ys x e.1 q)
 
 -- ---- the first that passes, in the list and in what a filter leaves
 
-pub first_kept : {X : Type 0} (p q : X → Bool) (xs : List X) (x : X) → find q xs ≡ Some x → p x ≡ true → (find q (filter p xs) ≡ Some x) × (filter p (without_first q xs) ≡ without_first q (filter p xs))
+pub first_kept : {X : Type 0} (p q : X → Bool) (xs : List X) (x : X) → find q xs ≡ Some x → p x ≡ true
+    → (find q (filter p xs) ≡ Some x) × (filter p (without_first q xs) ≡ without_first q (filter p xs))
 first_kept p q [] x e h = cc
 first_kept {X} p q (y ∷ ys) x e h = by_test (q y) refl e (λ g. first_kept p q ys x g h)
   where
@@ -90,7 +91,8 @@ pub any_kept : {X Y : Type 0} (f : X → Y) (p : X → Bool) (q : Y → Bool) (x
 any_kept f p q [] h = refl
 any_kept {X} {Y} f p q (y ∷ ys) h = by_test (p y) (q (f y)) refl refl (any_kept f p q ys h)
   where
-    by_test : (b c : Bool) → p y ≡ b → q (f y) ≡ c → list_any q (map f (filter p ys)) ≡ list_any q (map f ys) → list_any q (map f (cond b (y ∷ filter p ys) (filter p ys))) ≡ (c || list_any q (map f ys))
+    by_test : (b c : Bool) → p y ≡ b → q (f y) ≡ c → list_any q (map f (filter p ys)) ≡ list_any q (map f ys)
+        → list_any q (map f (cond b (y ∷ filter p ys) (filter p ys))) ≡ (c || list_any q (map f ys))
     by_test true c is at ih = rw (at, ih) refl
     by_test false false is at ih = ih
     by_test false true is at ih = let k : p y ≡ true = h y at in cc
@@ -153,7 +155,8 @@ module _ {P : Type 0} (cmp : P → P → Ordering) (order : IsTotalOrder cmp) wh
 
   -- ---- fronts and least pairs
 
-  pub fronts_kept : (mine : Message P → Bool) (alike : (m n : Message P) → same_pair cmp m n ≡ true → mine m ≡ mine n) (ms : List (Message P)) → fronts cmp (filter mine ms) ≡ filter mine (fronts cmp ms)
+  pub fronts_kept : (mine : Message P → Bool) (alike : (m n : Message P) → same_pair cmp m n ≡ true → mine m ≡ mine n) (ms : List (Message P))
+      → fronts cmp (filter mine ms) ≡ filter mine (fronts cmp ms)
   fronts_kept mine alike [] = refl
   fronts_kept mine alike (m ∷ ms) = by_test (mine m) refl (fronts_kept mine alike ms)
     where
@@ -161,11 +164,15 @@ module _ {P : Type 0} (cmp : P → P → Ordering) (order : IsTotalOrder cmp) wh
       by_pair n true is off own = let same : mine m ≡ mine n = alike m n is in cc
       by_pair n false is off own = refl
 
-      by_test : (b : Bool) → mine m ≡ b → fronts cmp (filter mine ms) ≡ filter mine (fronts cmp ms) → fronts cmp (cond b (m ∷ filter mine ms) (filter mine ms)) ≡ filter mine (m ∷ filter (λ n. not (same_pair cmp m n)) (fronts cmp ms))
-      by_test true is ih = ap (λ (ns : List (Message P)). m ∷ filter (λ n. not (same_pair cmp m n)) ns) ih ∙ ap (λ (ns : List (Message P)). m ∷ ns) (filter_swap mine (λ n. not (same_pair cmp m n)) (λ n. not (same_pair cmp m n)) (fronts cmp ms) (λ n own. refl)) ∙ (rw is refl)
+      by_test : (b : Bool) → mine m ≡ b → fronts cmp (filter mine ms) ≡ filter mine (fronts cmp ms)
+          → fronts cmp (cond b (m ∷ filter mine ms) (filter mine ms)) ≡ filter mine (m ∷ filter (λ n. not (same_pair cmp m n)) (fronts cmp ms))
+      by_test true is ih =
+          ap (λ (ns : List (Message P)). m ∷ filter (λ n. not (same_pair cmp m n)) ns) ih ∙ ap (λ (ns : List (Message P)). m ∷ ns)
+          (filter_swap mine (λ n. not (same_pair cmp m n)) (λ n. not (same_pair cmp m n)) (fronts cmp ms) (λ n own. refl)) ∙ (rw is refl)
       by_test false is ih = ih ∙ sym (filter_absorb mine (λ n. not (same_pair cmp m n)) (fronts cmp ms) (λ n own. by_pair n (same_pair cmp m n) refl is own)) ∙ (rw is refl)
 
-  least_is : (m : Message P) (ms : List (Message P)) (o : Option (Message P)) → least_pair cmp ms ≡ o → least_pair cmp (m ∷ ms) ≡ Some (elim o [ None ↦ m | Some n ↦ if pair_before cmp n m then n else m ])
+  least_is : (m : Message P) (ms : List (Message P)) (o : Option (Message P)) → least_pair cmp ms ≡ o
+      → least_pair cmp (m ∷ ms) ≡ Some (elim o [ None ↦ m | Some n ↦ if pair_before cmp n m then n else m ])
   least_is m ms o e = rw e refl
 
   -- no pair of the list comes before the least
@@ -175,10 +182,17 @@ module _ {P : Type 0} (cmp : P → P → Ordering) (order : IsTotalOrder cmp) wh
     where
       by_test : (n : Message P) (b : Bool) → pair_before cmp n m ≡ b → Some (cond b n m) ≡ Some x → Each (λ k. pair_before cmp k n ≡ false) ms → Each (λ k. pair_before cmp k x ≡ false) (m ∷ ms)
       by_test n true is s g = let same : n ≡ x = cc in subst (λ (z : Message P). Each (λ k. pair_before cmp k z ≡ false) (m ∷ ms)) same (not_before_back m n is, g)
-      by_test n false is s g = let same : m ≡ x = cc in subst (λ (z : Message P). Each (λ k. pair_before cmp k z ≡ false) (m ∷ ms)) same (not_before_itself m, each_map (λ k. pair_before cmp k n ≡ false) (λ k. pair_before cmp k m ≡ false) ms (λ k h. not_below k m n is h) g)
+      by_test n false is s g =
+          let same : m ≡ x = cc in
+          subst (λ (z : Message P). Each (λ k. pair_before cmp k z ≡ false) (m ∷ ms)) same (not_before_itself m, each_map (λ k. pair_before cmp k n ≡ false) (λ k. pair_before cmp k m ≡ false) ms (λ k h. not_below k m n is h) g)
 
-      by_rest : (o : Option (Message P)) → least_pair cmp ms ≡ o → ((y : Message P) → least_pair cmp ms ≡ Some y → Each (λ k. pair_before cmp k y ≡ false) ms) → Each (λ k. pair_before cmp k x ≡ false) (m ∷ ms)
-      by_rest None is ih = let s : Some m ≡ Some x = sym (least_is m ms None is) ∙ e in let same : m ≡ x = cc in let none : ms ≡ [] = least_none ms is in subst (λ (z : Message P). Each (λ k. pair_before cmp k z ≡ false) (m ∷ ms)) same (not_before_itself m, subst (λ (ks : List (Message P)). Each (λ k. pair_before cmp k m ≡ false) ks) (sym none) tt)
+      by_rest : (o : Option (Message P)) → least_pair cmp ms ≡ o → ((y : Message P) → least_pair cmp ms ≡ Some y → Each (λ k. pair_before cmp k y ≡ false) ms)
+          → Each (λ k. pair_before cmp k x ≡ false) (m ∷ ms)
+      by_rest None is ih =
+          let s : Some m ≡ Some x = sym (least_is m ms None is) ∙ e in
+          let same : m ≡ x = cc in
+          let none : ms ≡ [] = least_none ms is in
+          subst (λ (z : Message P). Each (λ k. pair_before cmp k z ≡ false) (m ∷ ms)) same (not_before_itself m, subst (λ (ks : List (Message P)). Each (λ k. pair_before cmp k m ≡ false) ks) (sym none) tt)
       by_rest (Some n) is ih = by_test n (pair_before cmp n m) refl (sym (least_is m ms (Some n) is) ∙ e) (ih n is)
 
   pub least_kept : (mine : Message P → Bool) (ms : List (Message P)) (x : Message P) → least_pair cmp ms ≡ Some x → mine x ≡ true → least_pair cmp (filter mine ms) ≡ Some x
@@ -189,11 +203,13 @@ module _ {P : Type 0} (cmp : P → P → Ordering) (order : IsTotalOrder cmp) wh
       keeps true n h g = least_is m (filter mine ms) (Some n) g ∙ (rw h refl)
       keeps false n h g = g
 
-      first : (o : Option (Message P)) → least_pair cmp (filter mine ms) ≡ o → ((n : Message P) → least_pair cmp (filter mine ms) ≡ Some n → pair_before cmp n m ≡ false) → least_pair cmp (m ∷ filter mine ms) ≡ Some m
+      first : (o : Option (Message P)) → least_pair cmp (filter mine ms) ≡ o → ((n : Message P) → least_pair cmp (filter mine ms) ≡ Some n → pair_before cmp n m ≡ false)
+          → least_pair cmp (m ∷ filter mine ms) ≡ Some m
       first None is h = least_is m (filter mine ms) None is
       first (Some n) is h = least_is m (filter mine ms) (Some n) is ∙ (let k : pair_before cmp n m ≡ false = h n is in rw k refl)
 
-      by_test : (n : Message P) (b : Bool) → pair_before cmp n m ≡ b → Some (cond b n m) ≡ Some x → (mine n ≡ true → least_pair cmp (filter mine ms) ≡ Some n) → Each (λ k. pair_before cmp k x ≡ false) ms → least_pair cmp (filter mine (m ∷ ms)) ≡ Some x
+      by_test : (n : Message P) (b : Bool) → pair_before cmp n m ≡ b → Some (cond b n m) ≡ Some x → (mine n ≡ true → least_pair cmp (filter mine ms) ≡ Some n)
+          → Each (λ k. pair_before cmp k x ≡ false) ms → least_pair cmp (filter mine (m ∷ ms)) ≡ Some x
       by_test n true is s ih below = let same : n ≡ x = cc in keeps (mine m) n is (ih (ap mine same ∙ own)) ∙ ap Some same
       by_test n false is s ih below =
           let same : m ≡ x = cc in
@@ -202,7 +218,8 @@ module _ {P : Type 0} (cmp : P → P → Ordering) (order : IsTotalOrder cmp) wh
           let rest : Each (λ k. pair_before cmp k m ≡ false) (filter mine ms) = each_filter (λ k. pair_before cmp k m ≡ false) (λ k. pair_before cmp k m ≡ false) mine ms (λ k t h. h) low in
           rw here (first (least_pair cmp (filter mine ms)) refl (λ k g. each_least cmp order (λ j. pair_before cmp j m ≡ false) (filter mine ms) k rest g) ∙ ap Some same)
 
-      by_rest : (o : Option (Message P)) → least_pair cmp ms ≡ o → ((y : Message P) → least_pair cmp ms ≡ Some y → mine y ≡ true → least_pair cmp (filter mine ms) ≡ Some y) → Each (λ k. pair_before cmp k x ≡ false) (m ∷ ms) → least_pair cmp (filter mine (m ∷ ms)) ≡ Some x
+      by_rest : (o : Option (Message P)) → least_pair cmp ms ≡ o → ((y : Message P) → least_pair cmp ms ≡ Some y → mine y ≡ true → least_pair cmp (filter mine ms) ≡ Some y)
+          → Each (λ k. pair_before cmp k x ≡ false) (m ∷ ms) → least_pair cmp (filter mine (m ∷ ms)) ≡ Some x
       by_rest None is ih below =
           let s : Some m ≡ Some x = sym (least_is m ms None is) ∙ e in
           let same : m ≡ x = cc in

@@ -104,7 +104,8 @@ module _ {P : Type 0} (cmp : P → P → Ordering) (order : IsTotalOrder cmp) wh
 
   pub ticks_fit : {n : ℕ} {w : World P} {c : Course (Completed P) (World P)} → Ticks cmp n w c → IsFit w → EndsWith IsFit c
   ticks_fit no_tick fit = fit
-  ticks_fit (one_tick {w = w} {v = v} {u = u} {cs = cs} {rest = rest} d i t) fit = ends_preceded IsFit cs rest (ticks_fit t (ends_at cmp order IsFit (instant cmp v) cs u i (instant_fit v (drains_fit w v d fit))))
+  ticks_fit (one_tick {w = w} {v = v} {u = u} {cs = cs} {rest = rest} d i t) fit =
+      ends_preceded IsFit cs rest (ticks_fit t (ends_at cmp order IsFit (instant cmp v) cs u i (instant_fit v (drains_fit w v d fit))))
   ticks_fit (tick_faults d i) fit = tt
 
   recap_fit : (t : ℕ) (w : World P) (caps : Caps P) → IsFit w → EndsWith IsFit (recap cmp t w caps)
@@ -153,7 +154,8 @@ module _ {P : Type 0} (cmp : P → P → Ordering) (order : IsTotalOrder cmp) wh
 
   ticks_empty : {n : ℕ} {w : World P} {c : Course (Completed P) (World P)} → Ticks cmp n w c → IsEmptyAtFirst w → EndsWith IsEmptyAtFirst c
   ticks_empty no_tick h = h
-  ticks_empty (one_tick {w = w} {v = v} {u = u} {cs = cs} {rest = rest} d i t) h = ends_preceded IsEmptyAtFirst cs rest (ticks_empty t (ends_at cmp order IsEmptyAtFirst (instant cmp v) cs u i (instant_empty v (drains_empty w v d h))))
+  ticks_empty (one_tick {w = w} {v = v} {u = u} {cs = cs} {rest = rest} d i t) h =
+      ends_preceded IsEmptyAtFirst cs rest (ticks_empty t (ends_at cmp order IsEmptyAtFirst (instant cmp v) cs u i (instant_empty v (drains_empty w v d h))))
   ticks_empty (tick_faults d i) h = tt
 
   recap_empty : (t : ℕ) (w : World P) (caps : Caps P) → EndsWith IsEmptyAtFirst (recap cmp t w caps)
@@ -188,8 +190,11 @@ module _ {P : Type 0} (cmp : P → P → Ordering) (order : IsTotalOrder cmp) wh
   peer_alike : (p q r : P) → same_peer cmp q r ≡ true → same_peer cmp p q ≡ same_peer cmp p r
   peer_alike p q r e = peer_sym cmp order p q ∙ sym (peer_like cmp order q r p e) ∙ peer_sym cmp order r p
 
-  pub raised_peerwise : (last : P → P → Option ℕ) (m : Message P) (at : ℕ) → ((p q r s : P) → same_peer cmp p q ≡ true → same_peer cmp r s ≡ true → last p r ≡ last q s) → (p q r s : P) → same_peer cmp p q ≡ true → same_peer cmp r s ≡ true → raised cmp last m at p r ≡ raised cmp last m at q s
-  raised_peerwise last m at h p q r s e f = by_tests (same_peer cmp m.origin p) (same_peer cmp m.origin q) (same_peer cmp m.recipient r) (same_peer cmp m.recipient s) (last p r) (last q s) (peer_alike m.origin p q e) (peer_alike m.recipient r s f) (h p q r s e f)
+  pub raised_peerwise : (last : P → P → Option ℕ) (m : Message P) (at : ℕ) → ((p q r s : P) → same_peer cmp p q ≡ true → same_peer cmp r s ≡ true → last p r ≡ last q s)
+      → (p q r s : P) → same_peer cmp p q ≡ true → same_peer cmp r s ≡ true → raised cmp last m at p r ≡ raised cmp last m at q s
+  raised_peerwise last m at h p q r s e f =
+      by_tests (same_peer cmp m.origin p) (same_peer cmp m.origin q) (same_peer cmp m.recipient r) (same_peer cmp m.recipient s) (last p r) (last q s) (peer_alike m.origin p q e)
+      (peer_alike m.recipient r s f) (h p q r s e f)
     where
       by_tests : (a b c d : Bool) (x y : Option ℕ) → a ≡ b → c ≡ d → x ≡ y → cond (a && c) (Some (later_of x at)) x ≡ cond (b && d) (Some (later_of y at)) y
       by_tests a b c d x y e f g = rw (e, f, g) refl
@@ -219,23 +224,28 @@ module _ {P : Type 0} (cmp : P → P → Ordering) (order : IsTotalOrder cmp) wh
   turn_peerwise t w m h = ends_and_then (IsPeerwise) (IsPeerwise) (start cmp w m) (settle cmp t) (start_peerwise w m h) (λ v k. settle_peerwise t v k)
 
   instant_peerwise : (w : World P) → IsPeerwise w → EndsWith (IsPeerwise) (instant cmp w)
-  instant_peerwise w h = ends_and_then (IsPeerwise) (IsPeerwise) (settle cmp w.moment w) (λ v. wake cmp v.moment v) (settle_peerwise w.moment w h) (λ v k. wake_keeps cmp order (IsPeerwise) v.moment (λ u m e j. turn_peerwise v.moment u m j) (length v.waiting) v k)
+  instant_peerwise w h =
+      ends_and_then (IsPeerwise) (IsPeerwise) (settle cmp w.moment w) (λ v. wake cmp v.moment v) (settle_peerwise w.moment w h)
+      (λ v k. wake_keeps cmp order (IsPeerwise) v.moment (λ u m e j. turn_peerwise v.moment u m j) (length v.waiting) v k)
 
   drains_peerwise : (w v : World P) → Drains cmp w v → IsPeerwise w → IsPeerwise v
   drains_peerwise w v d h = subst (IsPeerwise) (sym d.world) (record { caps = h.caps; last_arrival = h.last_arrival })
 
   ticks_peerwise : {n : ℕ} {w : World P} {c : Course (Completed P) (World P)} → Ticks cmp n w c → IsPeerwise w → EndsWith (IsPeerwise) c
   ticks_peerwise no_tick h = h
-  ticks_peerwise (one_tick {w = w} {v = v} {u = u} {cs = cs} {rest = rest} d i t) h = ends_preceded (IsPeerwise) cs rest (ticks_peerwise t (ends_at cmp order (IsPeerwise) (instant cmp v) cs u i (instant_peerwise v (drains_peerwise w v d h))))
+  ticks_peerwise (one_tick {w = w} {v = v} {u = u} {cs = cs} {rest = rest} d i t) h =
+      ends_preceded (IsPeerwise) cs rest (ticks_peerwise t (ends_at cmp order (IsPeerwise) (instant cmp v) cs u i (instant_peerwise v (drains_peerwise w v d h))))
   ticks_peerwise (tick_faults d i) h = tt
 
-  cap_peerwise : (caps : P → Option ℕ) (peer : P) (cap : Option ℕ) → ((p q : P) → same_peer cmp p q ≡ true → caps p ≡ caps q) → (p q : P) → same_peer cmp p q ≡ true → with_cap cmp caps peer cap p ≡ with_cap cmp caps peer cap q
+  cap_peerwise : (caps : P → Option ℕ) (peer : P) (cap : Option ℕ) → ((p q : P) → same_peer cmp p q ≡ true → caps p ≡ caps q) → (p q : P) → same_peer cmp p q ≡ true
+      → with_cap cmp caps peer cap p ≡ with_cap cmp caps peer cap q
   cap_peerwise caps peer cap h p q e = by_tests (same_peer cmp peer p) (same_peer cmp peer q) (caps p) (caps q) (peer_alike peer p q e) (h p q e)
     where
       by_tests : (a b : Bool) (x y : Option ℕ) → a ≡ b → x ≡ y → cond a cap x ≡ cond b cap y
       by_tests a b x y e f = rw (e, f) refl
 
-  link_peerwise : (links : P → P → Option ℕ) (origin recipient : P) (cap : Option ℕ) → PairsAlike cmp links links → PairsAlike cmp (with_link cmp links origin recipient cap) (with_link cmp links origin recipient cap)
+  link_peerwise : (links : P → P → Option ℕ) (origin recipient : P) (cap : Option ℕ) → PairsAlike cmp links links
+      → PairsAlike cmp (with_link cmp links origin recipient cap) (with_link cmp links origin recipient cap)
   link_peerwise links origin recipient cap h p q r s e f = rw (peer_alike origin p q e, peer_alike recipient r s f, h p q r s e f) refl
 
   recap_peerwise : (t : ℕ) (w : World P) (caps : Caps P) → CapsAlike cmp caps caps → IsPeerwise w → EndsWith IsPeerwise (recap cmp t w caps)
@@ -303,4 +313,5 @@ module _ {P : Type 0} (cmp : P → P → Ordering) (order : IsTotalOrder cmp) wh
 
   -- an accepted call leads from a sound world to a sound one
   pub call_keeps_sound : (w : World P) (call : Call P) (now : ℕ) (course : Course (Completed P) (World P)) → IsSound cmp w → Runs cmp w call now course → EndsWith (IsSound cmp) course
-  call_keeps_sound w call now course sound runs = subst (EndsWith (IsSound cmp)) (sym runs.acts) (ends_and_then (IsSound cmp) (IsSound cmp) runs.ticked (λ v. act cmp v call) (ticks_keep_sound runs.ticks sound) (λ v k. act_keeps_sound call v k))
+  call_keeps_sound w call now course sound runs =
+      subst (EndsWith (IsSound cmp)) (sym runs.acts) (ends_and_then (IsSound cmp) (IsSound cmp) runs.ticked (λ v. act cmp v call) (ticks_keep_sound runs.ticks sound) (λ v k. act_keeps_sound call v k))

@@ -14,11 +14,13 @@ module _ {P : Type 0} (cmp : P → P → Ordering) where
   preceded_none (goes xs s) = refl
   preceded_none (meets f) = refl
 
-  pub rest_is : (ds : List (Completed P)) (rest : Course (Completed P) (World P)) (cs : List (Completed P)) (v : World P) → preceded ds rest ≡ goes cs v → (es : List (Completed P)) × (rest ≡ goes es v) × (ds ++ es ≡ cs)
+  pub rest_is : (ds : List (Completed P)) (rest : Course (Completed P) (World P)) (cs : List (Completed P)) (v : World P) → preceded ds rest ≡ goes cs v
+      → (es : List (Completed P)) × (rest ≡ goes es v) × (ds ++ es ≡ cs)
   rest_is ds (goes es u) cs v e = (es, cc, cc)
   rest_is ds (meets f) cs v e = cc
 
-  pub ticks_on : {a : ℕ} {w : World P} {course : Course (Completed P) (World P)} → Ticks cmp a w course → (b : ℕ) (v : World P) (cs : List (Completed P)) (c : Course (Completed P) (World P)) → course ≡ goes cs v → Ticks cmp b v c → Ticks cmp (b + a) w (preceded cs c)
+  pub ticks_on : {a : ℕ} {w : World P} {course : Course (Completed P) (World P)} → Ticks cmp a w course
+      → (b : ℕ) (v : World P) (cs : List (Completed P)) (c : Course (Completed P) (World P)) → course ≡ goes cs v → Ticks cmp b v c → Ticks cmp (b + a) w (preceded cs c)
   ticks_on {w = w} no_tick b v cs c e more =
       let same : v ≡ w = cc in
       let empty : [] ≡ cs = cc in
@@ -52,7 +54,8 @@ module _ {P : Type 0} (cmp : P → P → Ordering) where
   continued cs (meets fault) rest b e = ap (preceded cs) e
 
   -- ticking for both is ticking for a while and then for another
-  pub ticks_apart : {k : ℕ} {w : World P} {course : Course (Completed P) (World P)} → Ticks cmp k w course → (a b : ℕ) → k ≡ a + b → (first : Course (Completed P) (World P)) × Ticks cmp a w first × Continues cmp b first course
+  pub ticks_apart : {k : ℕ} {w : World P} {course : Course (Completed P) (World P)} → Ticks cmp k w course → (a b : ℕ) → k ≡ a + b
+      → (first : Course (Completed P) (World P)) × Ticks cmp a w first × Continues cmp b first course
   ticks_apart {k = k} {w = w} {course = course} t zero b e = let count : k ≡ b = omega arith in (goes [] w, no_tick, (course, subst (λ (n : ℕ). Ticks cmp n w course) count t, preceded_none course))
   ticks_apart no_tick (suc a) b e = absurd (omega arith)
   ticks_apart (one_tick {n = n} {u = u} {cs = cs} {rest = rest} d i t) (suc a) b e =

@@ -9,7 +9,8 @@ use Rattle.p2p_simulated.specs.WorldTime.{ArePositive, Drains, Passes, drain_eac
 use Rattle.p2p_simulated.proofs.Draining.{drained_twice}
 
 module _ {P : Type 0} (cmp : P → P → Ordering) where
-  pub drained_at_twice : (per : ℕ) (rate : Option ℕ) (a b : ℕ) (left : Amount) → 0 < per → 0 < left.den → drained_by (rate_of per rate) b (drained_by (rate_of per rate) a left) ≡ drained_by (rate_of per rate) (a + b) left
+  pub drained_at_twice : (per : ℕ) (rate : Option ℕ) (a b : ℕ) (left : Amount) → 0 < per → 0 < left.den
+      → drained_by (rate_of per rate) b (drained_by (rate_of per rate) a left) ≡ drained_by (rate_of per rate) (a + b) left
   drained_at_twice per None a b left h j = refl
   drained_at_twice per (Some r) a b left h j = drained_twice left (reduced r per) a b j (reduced_positive r per h)
 

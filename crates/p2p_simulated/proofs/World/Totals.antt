@@ -58,7 +58,8 @@ plus_whole x y n t d h = over x.num x.den y.num y.den n t d h
 
 -- what goes in one time and then in another
 pub two_shares : (x y z : Amount) (a b d : ℕ) → 0 < y.den → 0 < d → IsAtMost x (plus y (share a d)) → IsAtMost y (plus z (share b d)) → IsAtMost x (plus z (share (a + b) d))
-two_shares x y z a b d some unit h k = le_of_mul-le-mul_right {m = x.num * (z.den * d)} {n = (z.num * d + (a + b) * z.den) * x.den} {k = y.den * d} (over x.num x.den y.num y.den z.num z.den a b d h k) (mul-pos some unit)
+two_shares x y z a b d some unit h k =
+    le_of_mul-le-mul_right {m = x.num * (z.den * d)} {n = (z.num * d + (a + b) * z.den) * x.den} {k = y.den * d} (over x.num x.den y.num y.den z.num z.den a b d h k) (mul-pos some unit)
   where
     over : (x p y q z r a b d : ℕ) → x * (q * d) ≤ (y * d + a * q) * p → y * (r * d) ≤ (z * d + b * r) * q → (x * (r * d)) * (q * d) ≤ ((z * d + (a + b) * r) * p) * (q * d)
     over x p y q z r a b d h k =

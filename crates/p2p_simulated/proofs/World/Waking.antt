@@ -58,7 +58,8 @@ module _ {P : Type 0} (cmp : P → P → Ordering) (order : IsTotalOrder cmp) wh
   abbrev pub IsRound : ℕ → Message P → World P → World P → Type 0
   IsRound t y w v = IsAfter cmp order y t w v × (length v.waiting + 1 ≤ length w.waiting)
 
-  round_after : (t : ℕ) (w : World P) (y : Message P) → NoneDone cmp order w → OneForEachPair cmp (flows (joined cmp w y)) → find (same_pair cmp y) w.waiting ≡ Some y → EndsWith (IsRound t y w) (settle cmp t (joined cmp w y))
+  round_after : (t : ℕ) (w : World P) (y : Message P) → NoneDone cmp order w → OneForEachPair cmp (flows (joined cmp w y)) → find (same_pair cmp y) w.waiting ≡ Some y
+      → EndsWith (IsRound t y w) (settle cmp t (joined cmp w y))
   round_after t w y none one found =
       subst (λ (c : Course (Completed P) (World P)). EndsWith (IsRound t y w) c) (sym (round_is t w y none one))
       (ends_so (IsAfter cmp order y t (started cmp order w y)) (IsRound t y w) _ (λ v after. both v after (length_without (same_pair cmp y) y w.waiting found))
@@ -97,7 +98,8 @@ module _ {P : Type 0} (cmp : P → P → Ordering) (order : IsTotalOrder cmp) wh
   least_each Q [] y h e = cc
   least_each Q (x ∷ xs) y h e = by_rest (least_pair cmp xs) refl e (least_each Q xs)
     where
-      by_rest : (o : Option (Message P)) → least_pair cmp xs ≡ o → Some (elim o [ None ↦ x | Some n ↦ if pair_before cmp n x then n else x ]) ≡ Some y → ((z : Message P) → Each Q xs → least_pair cmp xs ≡ Some z → Q z) → Q y
+      by_rest : (o : Option (Message P)) → least_pair cmp xs ≡ o → Some (elim o [ None ↦ x | Some n ↦ if pair_before cmp n x then n else x ]) ≡ Some y
+          → ((z : Message P) → Each Q xs → least_pair cmp xs ≡ Some z → Q z) → Q y
       by_rest None is e ih = let same : x ≡ y = cc in subst Q same h.0
       by_rest (Some n) is e ih = by_test (pair_before cmp n x) e
         where
@@ -105,18 +107,21 @@ module _ {P : Type 0} (cmp : P → P → Ordering) (order : IsTotalOrder cmp) wh
           by_test true e = let same : n ≡ y = cc in subst Q same (ih n h.1 is)
           by_test false e = let same : x ≡ y = cc in subst Q same h.0
 
-  wake_some : (n t : ℕ) (w : World P) (y : Message P) → least_pair cmp (ready cmp t w) ≡ Some y → wake_within cmp (suc n) t w ≡ and_then (start cmp w y) (λ v. and_then (settle cmp t v) (wake_within cmp n t))
+  wake_some : (n t : ℕ) (w : World P) (y : Message P) → least_pair cmp (ready cmp t w) ≡ Some y
+      → wake_within cmp (suc n) t w ≡ and_then (start cmp w y) (λ v. and_then (settle cmp t v) (wake_within cmp n t))
   wake_some n t w y e = rw (e, wake_within) (then_then (start cmp w y) (settle cmp t) (wake_within cmp n t))
 
   preceded_none : (c : Course (Completed P) (World P)) → preceded [] c ≡ c
   preceded_none (goes cs v) = refl
   preceded_none (meets fault) = refl
 
-  wake_round : (n t : ℕ) (w : World P) (y : Message P) (c : Course (Completed P) (World P)) → least_pair cmp (ready cmp t w) ≡ Some y → start cmp w y ≡ goes [] (joined cmp w y) → settle cmp t (joined cmp w y) ≡ c → wake_within cmp (suc n) t w ≡ and_then c (wake_within cmp n t)
+  wake_round : (n t : ℕ) (w : World P) (y : Message P) (c : Course (Completed P) (World P)) → least_pair cmp (ready cmp t w) ≡ Some y → start cmp w y ≡ goes [] (joined cmp w y)
+      → settle cmp t (joined cmp w y) ≡ c → wake_within cmp (suc n) t w ≡ and_then c (wake_within cmp n t)
   wake_round n t w y c least starts e =
       wake_some n t w y least ∙ ap (λ (d : Course (Completed P) (World P)). and_then d (λ v. and_then (settle cmp t v) (wake_within cmp n t))) starts ∙ preceded_none (and_then (settle cmp t (joined cmp w y)) (wake_within cmp n t)) ∙ ap (λ (d : Course (Completed P) (World P)). and_then d (wake_within cmp n t)) e
 
-  pub preceded_by : (R : Planned P → World P → Type 0) (cs ds : List (Completed P)) (x : Course (Completed P) (Planned P)) (c : Course (Completed P) (World P)) → AllZip (SameCompletion cmp) cs ds → CoursesAlike cmp R x c → CoursesAlike cmp R (preceded cs x) (preceded ds c)
+  pub preceded_by : (R : Planned P → World P → Type 0) (cs ds : List (Completed P)) (x : Course (Completed P) (Planned P)) (c : Course (Completed P) (World P))
+      → AllZip (SameCompletion cmp) cs ds → CoursesAlike cmp R x c → CoursesAlike cmp R (preceded cs x) (preceded ds c)
   preceded_by R cs ds (goes es q) (goes fs v) all h = (zips_joined (SameCompletion cmp) cs ds es fs all h.0, h.1)
   preceded_by R cs ds (goes es q) (meets g) all h = absurd h
   preceded_by R cs ds (meets f) (goes fs v) all h = absurd h
@@ -134,18 +139,23 @@ module _ {P : Type 0} (cmp : P → P → Ordering) (order : IsTotalOrder cmp) wh
 
   next_is : (t : ℕ) (w : World P) (y : Message P) → least_pair cmp (ready cmp t w) ≡ Some y → IsNext t w y
   next_is t w y least =
-      let known : IsFront cmp order w.waiting y × (may_start cmp t w y ≡ true) = least_each (λ m. IsFront cmp order w.waiting m × (may_start cmp t w m ≡ true)) (ready cmp t w) y (each_filtered (IsFront cmp order w.waiting) (may_start cmp t w) (fronts cmp w.waiting) (fronts_first cmp order w.waiting)) least in
+      let known : IsFront cmp order w.waiting y × (may_start cmp t w y ≡ true)
+      = least_each (λ m. IsFront cmp order w.waiting m × (may_start cmp t w m ≡ true)) (ready cmp t w) y
+      (each_filtered (IsFront cmp order w.waiting) (may_start cmp t w) (fronts cmp w.waiting) (fronts_first cmp order w.waiting)) least in
       record { found = first_found cmp order (same_pair cmp y) y known.0.0 w.waiting known.0.1; may = known.1 }
 
   abbrev WhenPicked : ℕ → List (Message P) → Planned P → Course (Completed P) (Planned P) → Type 0
-  WhenPicked t ms p course = (n : ℕ) (w : World P) → Follows cmp t p w → NoneDone cmp order w → Picks (ready cmp t w) ms → length w.waiting ≤ n → CoursesAlike cmp (IsWoken t) course (wake_within cmp n t w)
+  WhenPicked t ms p course =
+      (n : ℕ) (w : World P) → Follows cmp t p w → NoneDone cmp order w → Picks (ready cmp t w) ms → length w.waiting ≤ n → CoursesAlike cmp (IsWoken t) course (wake_within cmp n t w)
 
   -- the pair that is launched is the one that starts
-  launch_starts : {t : ℕ} {m : Message P} {p : Planned P} {course : Course (Message P) (Planned P)} → Launches cmp t p (next_of cmp p m) course → (w : World P) (y : Message P) → Follows cmp t p w → NoneDone cmp order w → IsNext t w y → SameMessage cmp m y → StartAlike cmp order t w y course
+  launch_starts : {t : ℕ} {m : Message P} {p : Planned P} {course : Course (Message P) (Planned P)} → Launches cmp t p (next_of cmp p m) course → (w : World P) (y : Message P)
+      → Follows cmp t p w → NoneDone cmp order w → IsNext t w y → SameMessage cmp m y → StartAlike cmp order t w y course
   launch_starts {t = t} {m = m} {p = p} launch w y follows none next same =
       start_alike cmp order launch w y follows none next.may next.found (subst (λ (o : Option (Message P)). OptionsAlike (SameMessage cmp) (next_of cmp p m) o) next.found (next_alike cmp order t p w m y follows.tallies same))
 
-  pub round_alike : {t : ℕ} {more : List (Message P)} {q : Planned P} {course : Course (Completed P) (Planned P)} → Finishes cmp t more q course → (w : World P) (y : Message P) → NoneDone cmp order w → StartsSo cmp order t w y more q → CourseAlike cmp order t course (settle cmp t (joined cmp w y))
+  pub round_alike : {t : ℕ} {more : List (Message P)} {q : Planned P} {course : Course (Completed P) (Planned P)} → Finishes cmp t more q course → (w : World P) (y : Message P)
+      → NoneDone cmp order w → StartsSo cmp order t w y more q → CourseAlike cmp order t course (settle cmp t (joined cmp w y))
   round_alike {t = t} {course = course} finish w y none so =
       subst (λ (c : Course (Completed P) (World P)). CourseAlike cmp order t course c) (sym (round_is t w y none so.one_each))
       (finishes_alike cmp order finish (length (joined cmp w y).sending + length (joined cmp w y).waiting) (joining cmp order w y) (started cmp order w y) so.follows so.none so.leaves (round_fuel w y))
@@ -165,7 +175,8 @@ module _ {P : Type 0} (cmp : P → P → Ordering) (order : IsTotalOrder cmp) wh
       let so : StartsSo cmp order t w picks.0 more q = launch_starts launch w picks.0 follows none (next_is t w picks.0 picks.1) picks.2 in
       by_course so.starts (settle cmp t (joined cmp w picks.0)) refl (round_alike finish w picks.0 none so)
     where
-      by_course : start cmp w picks.0 ≡ goes [] (joined cmp w picks.0) → (c : Course (Completed P) (World P)) → settle cmp t (joined cmp w picks.0) ≡ c → CourseAlike cmp order t (meets fault) c → CoursesAlike cmp (IsWoken t) (meets fault) (wake_within cmp (suc n) t w)
+      by_course : start cmp w picks.0 ≡ goes [] (joined cmp w picks.0) → (c : Course (Completed P) (World P)) → settle cmp t (joined cmp w picks.0) ≡ c
+          → CourseAlike cmp order t (meets fault) c → CoursesAlike cmp (IsWoken t) (meets fault) (wake_within cmp (suc n) t w)
       by_course starts (goes ds v) e h = absurd h
       by_course starts (meets g) e h = subst (λ (c : Course (Completed P) (World P)). CoursesAlike cmp (IsWoken t) (meets fault) c) (sym (wake_round n t w picks.0 (meets g) picks.1 starts e)) h
   wakes_alike {t = t} (starts_one launch finish wakes) zero w follows none picks fuel = absurd (no_fuel t w picks.0 (next_is t w picks.0 picks.1) fuel)
@@ -174,7 +185,8 @@ module _ {P : Type 0} (cmp : P → P → Ordering) (order : IsTotalOrder cmp) wh
       let so : StartsSo cmp order t w picks.0 more q = launch_starts launch w picks.0 follows none next picks.2 in
       by_course so.starts (settle cmp t (joined cmp w picks.0)) refl (round_alike finish w picks.0 none so) (round_after t w picks.0 none so.one_each next.found) (wakes_alike wakes n)
     where
-      by_course : start cmp w picks.0 ≡ goes [] (joined cmp w picks.0) → (c : Course (Completed P) (World P)) → settle cmp t (joined cmp w picks.0) ≡ c → CourseAlike cmp order t (goes cs r) c → EndsWith (IsRound t picks.0 w) c
+      by_course : start cmp w picks.0 ≡ goes [] (joined cmp w picks.0) → (c : Course (Completed P) (World P)) → settle cmp t (joined cmp w picks.0) ≡ c
+          → CourseAlike cmp order t (goes cs r) c → EndsWith (IsRound t picks.0 w) c
           → ((v : World P) → Follows cmp t r v → NoneDone cmp order v → Picks (ready cmp t v) ms → length v.waiting ≤ n → CoursesAlike cmp (IsWoken t) rest (wake_within cmp n t v))
           → CoursesAlike cmp (IsWoken t) (preceded cs rest) (wake_within cmp (suc n) t w)
       by_course starts (meets g) e h after ih = absurd h

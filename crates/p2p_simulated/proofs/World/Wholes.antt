@@ -42,7 +42,8 @@ places_apart {X} place test (x ∷ xs) = by_test (test x) (places_apart (place +
     later : All (λ other. place ≢ other) (places_that_pass (place + 1) test xs)
     later = All-from_contains (λ other. place ≢ other) (places_that_pass (place + 1) test xs) (λ other has same. let at = passes_at (place + 1) test xs other (in_from_contains (places_that_pass (place + 1) test xs) other has) in absurd (omega (arith, at.1, same)))
 
-    by_test : (b : Bool) → AllPairs (λ user other. user ≢ other) (places_that_pass (place + 1) test xs) → AllPairs (λ user other. user ≢ other) (cond b (place ∷ places_that_pass (place + 1) test xs) (places_that_pass (place + 1) test xs))
+    by_test : (b : Bool) → AllPairs (λ user other. user ≢ other) (places_that_pass (place + 1) test xs)
+        → AllPairs (λ user other. user ≢ other) (cond b (place ∷ places_that_pass (place + 1) test xs) (places_that_pass (place + 1) test xs))
     by_test true ih = AllPairs-cons (λ user other. user ≢ other) place (places_that_pass (place + 1) test xs) later ih
     by_test false ih = ih
 
@@ -111,7 +112,8 @@ module _ {P : Type 0} (cmp : P → P → Ordering) (order : IsTotalOrder cmp) (i
 
   -- ---- rates
 
-  fair_is_whole : (caps : Caps P) (ms : List (Message P)) (per : ℕ) (parts : ℕ → ℕ) (flow : ℕ) → length ms ≤ 16 → IsFair (capped_sides cmp caps ms) per parts → IsLimited (capped_sides cmp caps ms) flow → per ∣ finest_parts * parts flow
+  fair_is_whole : (caps : Caps P) (ms : List (Message P)) (per : ℕ) (parts : ℕ → ℕ) (flow : ℕ) → length ms ≤ 16 → IsFair (capped_sides cmp caps ms) per parts
+      → IsLimited (capped_sides cmp caps ms) flow → per ∣ finest_parts * parts flow
   fair_is_whole caps ms per parts flow few fair limited =
       let best = fair_parts 16 (omega arith) (capped_sides cmp caps ms) (users_below caps ms 16 few) (users_distinct caps ms) in
       let same : parts flow * denominator_of 16 ≡ best.0 flow * per = same_amounts (capped_sides cmp caps ms) per (denominator_of 16) parts best.0 fair best.1 flow limited in
@@ -119,22 +121,26 @@ module _ {P : Type 0} (cmp : P → P → Ordering) (order : IsTotalOrder cmp) (i
       subst (λ z. per ∣ z) (sym finest) (dvd-mul_left per (best.0 flow))
 
   -- the message with a rate, and its parts
-  rated_message : (caps : Caps P) (parts : ℕ → ℕ) (place : ℕ) (ms : List (Message P)) (i a : ℕ) → slice_get (rates_from cmp caps parts place ms) i ≡ Some (Some a) → (m : Message P) × (slice_get ms i ≡ Some m) × (is_unlimited cmp caps m ≡ false) × (parts (place + i) ≡ a)
+  rated_message : (caps : Caps P) (parts : ℕ → ℕ) (place : ℕ) (ms : List (Message P)) (i a : ℕ) → slice_get (rates_from cmp caps parts place ms) i ≡ Some (Some a)
+      → (m : Message P) × (slice_get ms i ≡ Some m) × (is_unlimited cmp caps m ≡ false) × (parts (place + i) ≡ a)
   rated_message caps parts place [] i a e = cc
   rated_message caps parts place (m ∷ ms) zero a e = by_test (is_unlimited cmp caps m) refl e
     where
-      by_test : (b : Bool) → is_unlimited cmp caps m ≡ b → Some (if b then None else Some (parts place)) ≡ Some (Some a) → (n : Message P) × (slice_get (m ∷ ms) zero ≡ Some n) × (is_unlimited cmp caps n ≡ false) × (parts (place + zero) ≡ a)
+      by_test : (b : Bool) → is_unlimited cmp caps m ≡ b → Some (if b then None else Some (parts place)) ≡ Some (Some a)
+          → (n : Message P) × (slice_get (m ∷ ms) zero ≡ Some n) × (is_unlimited cmp caps n ≡ false) × (parts (place + zero) ≡ a)
       by_test true is e = cc
       by_test false is e = let same : parts place ≡ a = cc in (m, refl, is, ap parts (omega arith) ∙ same)
   rated_message caps parts place (m ∷ ms) (suc i) a e = let r = rated_message caps parts (place + 1) ms i a e in (r.0, r.1, r.2, ap parts (omega arith) ∙ r.3)
 
   -- the fair rates of at most sixteen messages are in the range
-  pub fair_rates_small : (caps : Caps P) (ms : List (Message P)) (per : ℕ) (rates : Parts) → AreSmall caps → length ms ≤ 16 → AreFair cmp caps ms per rates → (i a : ℕ) → slice_get rates i ≡ Some (Some a) → IsSmallRate (reduced a per)
+  pub fair_rates_small : (caps : Caps P) (ms : List (Message P)) (per : ℕ) (rates : Parts) → AreSmall caps → length ms ≤ 16 → AreFair cmp caps ms per rates → (i a : ℕ)
+      → slice_get rates i ≡ Some (Some a) → IsSmallRate (reduced a per)
   fair_rates_small caps ms per rates small few fair i a at =
       let r = rated_message caps fair.parts 0 ms i a (subst (λ (rs : Parts). slice_get rs i ≡ Some (Some a)) fair.rated at) in
       let limited : IsLimited (capped_sides cmp caps ms) i = limited_at cmp itself caps ms i r.0 r.1 r.2 in
       let own : fair.parts i ≡ a = ap fair.parts (omega arith) ∙ r.3 in
-      let slow : IsSmallRate (record { num = fair.parts i; den = per }) = fair_is_small (capped_sides cmp caps ms) per fair.parts i fair.fair (side_small caps ms small) limited (fair_is_whole caps ms per fair.parts i few fair.fair limited) in
+      let slow : IsSmallRate (record { num = fair.parts i; den = per })
+      = fair_is_small (capped_sides cmp caps ms) per fair.parts i fair.fair (side_small caps ms small) limited (fair_is_whole caps ms per fair.parts i few fair.fair limited) in
       subst (λ (n : ℕ). IsSmallRate (reduced n per)) own (lowest_is_small (fair.parts i) per slow)
 
   -- ---- at most one message for each named pair
@@ -154,7 +160,8 @@ module _ {P : Type 0} (cmp : P → P → Ordering) (order : IsTotalOrder cmp) (i
   names_without [] m n apart e = e
   names_without (pair ∷ pairs) m n apart e = by_test (is_of m pair) refl (is_of n pair) refl (names_without pairs m n apart)
     where
-      by_test : (b : Bool) → is_of m pair ≡ b → (c : Bool) → is_of n pair ≡ c → (list_any (is_of n) pairs ≡ true → list_any (is_of n) (without_first (is_of m) pairs) ≡ true) → list_any (is_of n) (cond b pairs (pair ∷ without_first (is_of m) pairs)) ≡ true
+      by_test : (b : Bool) → is_of m pair ≡ b → (c : Bool) → is_of n pair ≡ c → (list_any (is_of n) pairs ≡ true → list_any (is_of n) (without_first (is_of m) pairs) ≡ true)
+          → list_any (is_of n) (cond b pairs (pair ∷ without_first (is_of m) pairs)) ≡ true
       by_test true is true at ih = let same : same_pair cmp m n ≡ true = of_both m n pair is at in cc
       by_test true is false at ih = let rest : (false || list_any (is_of n) pairs) ≡ true = subst (λ (b : Bool). (b || list_any (is_of n) pairs) ≡ true) at e in rest
       by_test false is true at ih = rw at refl
@@ -164,15 +171,19 @@ module _ {P : Type 0} (cmp : P → P → Ordering) (order : IsTotalOrder cmp) (i
   found_pair m [] e = cc
   found_pair m (pair ∷ pairs) e = by_test (is_of m pair) e (found_pair m pairs)
     where
-      by_test : (b : Bool) → (b || list_any (is_of m) pairs) ≡ true → (list_any (is_of m) pairs ≡ true → (q : P × P) × (find (is_of m) pairs ≡ Some q)) → (q : P × P) × (cond b (Some pair) (find (is_of m) pairs) ≡ Some q)
+      by_test : (b : Bool) → (b || list_any (is_of m) pairs) ≡ true → (list_any (is_of m) pairs ≡ true → (q : P × P) × (find (is_of m) pairs ≡ Some q))
+          → (q : P × P) × (cond b (Some pair) (find (is_of m) pairs) ≡ Some q)
       by_test true e ih = (pair, refl)
       by_test false e ih = ih e
 
-  each_still : (m : Message P) (pairs : List (P × P)) (ms : List (Message P)) → list_any (same_pair cmp m) ms ≡ false → Each (λ n. names_pair cmp pairs n.origin n.recipient ≡ true) ms → Each (λ n. names_pair cmp (without_first (is_of m) pairs) n.origin n.recipient ≡ true) ms
+  each_still : (m : Message P) (pairs : List (P × P)) (ms : List (Message P)) → list_any (same_pair cmp m) ms ≡ false
+      → Each (λ n. names_pair cmp pairs n.origin n.recipient ≡ true) ms → Each (λ n. names_pair cmp (without_first (is_of m) pairs) n.origin n.recipient ≡ true) ms
   each_still m pairs [] none named = tt
   each_still m pairs (n ∷ ns) none named = by_test (same_pair cmp m n) refl none (λ e. each_still m pairs ns e named.1)
     where
-      by_test : (b : Bool) → same_pair cmp m n ≡ b → (b || list_any (same_pair cmp m) ns) ≡ false → (list_any (same_pair cmp m) ns ≡ false → Each (λ k. names_pair cmp (without_first (is_of m) pairs) k.origin k.recipient ≡ true) ns) → Each (λ k. names_pair cmp (without_first (is_of m) pairs) k.origin k.recipient ≡ true) (n ∷ ns)
+      by_test : (b : Bool) → same_pair cmp m n ≡ b → (b || list_any (same_pair cmp m) ns) ≡ false
+          → (list_any (same_pair cmp m) ns ≡ false → Each (λ k. names_pair cmp (without_first (is_of m) pairs) k.origin k.recipient ≡ true) ns)
+          → Each (λ k. names_pair cmp (without_first (is_of m) pairs) k.origin k.recipient ≡ true) (n ∷ ns)
       by_test true is e ih = cc
       by_test false is e ih = (names_without pairs m n is named.0, ih e)
 

@@ -15,7 +15,8 @@ ghost use Rattle.p2p_simulated.specs.WorldStands.{Tallies, IsSettled, CoursesAli
 
 /// Messages that are alike up to equal peers have the same fair rates, under caps that are alike.
 pub fn alike_messages_have_the_same_rates<P: Ord>()
-    ensures { (caps others : Caps P) (ms ns : List (Message P)) (per : ℕ) (rates : Parts) → CapsAlike P.cmp caps others → AllZip (SameMessage P.cmp) ms ns → AreFair P.cmp caps ms per rates → AreFair P.cmp others ns per rates }
+    ensures { (caps others : Caps P) (ms ns : List (Message P)) (per : ℕ) (rates : Parts) → CapsAlike P.cmp caps others → AllZip (SameMessage P.cmp) ms ns →
+        AreFair P.cmp caps ms per rates → AreFair P.cmp others ns per rates }
 {}
 
 /// The empty planned world stands for the new world.
@@ -31,18 +32,21 @@ pub fn next_is_planned<P: Ord>()
 
 /// An account and its finishes are a settling of the world.
 pub fn settling_is_finishing<P: Ord>()
-    ensures { (t : ℕ) (p : Planned P) (w : World P) (course : Course (Completed P) (Planned P)) → Tallies P.cmp t p w → Settles P.cmp t p course → CoursesAlike P.cmp (IsSettled P.cmp t) course (settle P.cmp t w) }
+    ensures { (t : ℕ) (p : Planned P) (w : World P) (course : Course (Completed P) (Planned P)) → Tallies P.cmp t p w → Settles P.cmp t p course →
+        CoursesAlike P.cmp (IsSettled P.cmp t) course (settle P.cmp t w) }
 {}
 
 /// Advancing event by event answers what ticking nanosecond by nanosecond answers, with any number of events.
 pub fn advancing_is_ticking<P: Ord>()
-    ensures { (p : Planned P) (w : World P) (now n : ℕ) (course : Course (Completed P) (Planned P)) → StandsFor P.cmp p w → w.moment ≤ now → now ≤ last_moment → Advances P.cmp now p n course →
+    ensures { (p : Planned P) (w : World P) (now n : ℕ) (course : Course (Completed P) (Planned P)) → StandsFor P.cmp p w → w.moment ≤ now → now ≤ last_moment →
+        Advances P.cmp now p n course →
         (c : Course (Completed P) (World P)) × Runs P.cmp w (call_advance now) now c × CoursesAlike P.cmp (λ q v. StandsFor P.cmp q v × (v.moment ≡ now)) course c }
 {}
 
 /// A call in its turn does in the planned world what it does in the world: the same completions in the same order and worlds that stand for one another, or the same fault.
 pub fn calls_do_the_same<P: Ord>()
-    ensures { (p : Planned P) (w : World P) (call : Call P) (now : ℕ) (course : Course (Completed P) (Planned P)) → StandsFor P.cmp p w → moment_of call ≡ Some now → now ≤ last_moment → IsInTurn P.cmp w call → Obeys P.cmp p call course →
+    ensures { (p : Planned P) (w : World P) (call : Call P) (now : ℕ) (course : Course (Completed P) (Planned P)) → StandsFor P.cmp p w → moment_of call ≡ Some now →
+        now ≤ last_moment → IsInTurn P.cmp w call → Obeys P.cmp p call course →
         (c : Course (Completed P) (World P)) × Runs P.cmp w call now c × CoursesAlike P.cmp (λ q v. StandsFor P.cmp q v × (v.moment ≡ now)) course c }
 {}
 
@@ -55,5 +59,6 @@ pub fn replies_agree<P: Ord>()
 pub fn an_advance_has_few_events<P: Ord>()
     ensures new { (id : ℕ) → IsPlanned P.cmp (new_planned id) }
     ensures kept { (p q : Planned P) (call : Call P) (cs : List (Completed P)) → IsPlanned P.cmp p → Obeys P.cmp p call (goes cs q) → IsPlanned P.cmp q }
-    ensures few { (p : Planned P) (now n : ℕ) (course : Course (Completed P) (Planned P)) → IsPlanned P.cmp p → Advances P.cmp now p n course → n ≤ 2 * length p.waiting + length p.sending }
+    ensures few { (p : Planned P) (now n : ℕ) (course : Course (Completed P) (Planned P)) → IsPlanned P.cmp p → Advances P.cmp now p n course →
+        n ≤ 2 * length p.waiting + length p.sending }
 {}

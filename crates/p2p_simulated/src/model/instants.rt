@@ -22,18 +22,21 @@ pub fn more_steps_change_nothing<P: Ord>()
 
 /// With at most one message in flight for each pair, settling is finishing a queue whose leavers join its end.
 pub fn settling_is_a_queue<P: Ord>()
-    ensures { (t : ℕ) (w : World P) → OneForEachPair P.cmp (flows w) → settle P.cmp t w ≡ finish_within P.cmp (length w.sending + length w.waiting) t (leaving P.cmp w) (staying P.cmp w) }
+    ensures { (t : ℕ) (w : World P) → OneForEachPair P.cmp (flows w) →
+        settle P.cmp t w ≡ finish_within P.cmp (length w.sending + length w.waiting) t (leaving P.cmp w) (staying P.cmp w) }
 {}
 
 /// A message that starts, and what completes then, changes nothing for any other pair.
 pub fn a_turn_keeps_other_pairs<P: Ord>()
-    ensures { (t : ℕ) (w : World P) (m k : Message P) → list_any (is_done P.cmp w) w.sending ≡ false → same_pair P.cmp m k ≡ false → EndsWith (IsUnchangedFor P.cmp k w) (turn P.cmp t w m) }
+    ensures { (t : ℕ) (w : World P) (m k : Message P) → list_any (is_done P.cmp w) w.sending ≡ false → same_pair P.cmp m k ≡ false →
+        EndsWith (IsUnchangedFor P.cmp k w) (turn P.cmp t w m) }
 {}
 
 /// After its turn a pair may not start again at that moment, and the others are ready as before.
 pub fn a_turn_rests_its_pair<P: Ord>()
     ensures may_not { (t : ℕ) (w : World P) (m : Message P) → list_any (is_done P.cmp w) w.sending ≡ false → EndsWith (MayNotStart P.cmp t m) (turn P.cmp t w m) }
-    ensures others { (t : ℕ) (w : World P) (m : Message P) → list_any (is_done P.cmp w) w.sending ≡ false → EndsWith (λ v. ready P.cmp t v ≡ filter (λ n. not (same_pair P.cmp m n)) (ready P.cmp t w)) (turn P.cmp t w m) }
+    ensures others { (t : ℕ) (w : World P) (m : Message P) → list_any (is_done P.cmp w) w.sending ≡ false →
+        EndsWith (λ v. ready P.cmp t v ≡ filter (λ n. not (same_pair P.cmp m n)) (ready P.cmp t w)) (turn P.cmp t w m) }
 {}
 
 /// Waking goes once through the pairs that are ready, in the order of pairs.

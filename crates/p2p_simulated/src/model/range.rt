@@ -23,7 +23,9 @@ pub fn the_range_is_kept_by_draining()
 /// A call in the range on a planned world in the range, its own message and pair counted, goes and leaves it in the range, and may be refused for want of memory alone. A new planned world is in the range.
 pub fn calls_in_the_range_are_not_refused<P: Ord>()
     ensures new { (pairs : List (P × P)) (id : ℕ) → length pairs ≤ 16 → id < 2 ^ 64 → IsInRange P.cmp pairs (new_planned id) }
-    ensures kept { (pairs : List (P × P)) (p : Planned P) (call : Call P) (course : Course (Completed P) (Planned P)) → IsInRange P.cmp pairs p → IsSmallCall P.cmp pairs call → p.next_id + length p.waiting + messages_in call < 2 ^ 64 → Obeys P.cmp p call course →
+    ensures kept { (pairs : List (P × P)) (p : Planned P) (call : Call P) (course : Course (Completed P) (Planned P)) → IsInRange P.cmp pairs p →
+        IsSmallCall P.cmp pairs call → p.next_id + length p.waiting + messages_in call < 2 ^ 64 → Obeys P.cmp p call course →
         (cs : List (Completed P)) × (q : Planned P) × (course ≡ goes cs q) × IsInRange P.cmp pairs q }
-    ensures refused { (pairs : List (P × P)) (p : Planned P) (call : Call P) (why : AnyError) → IsInRange P.cmp pairs p → IsSmallCall P.cmp pairs call → p.next_id + length p.waiting + messages_in call < 2 ^ 64 → MayBeRefused P.cmp p call why → why ≡ OutOfMemory }
+    ensures refused { (pairs : List (P × P)) (p : Planned P) (call : Call P) (why : AnyError) → IsInRange P.cmp pairs p → IsSmallCall P.cmp pairs call →
+        p.next_id + length p.waiting + messages_in call < 2 ^ 64 → MayBeRefused P.cmp p call why → why ≡ OutOfMemory }
 {}

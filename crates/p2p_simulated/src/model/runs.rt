@@ -15,7 +15,8 @@ ghost use Rattle.p2p_simulated.specs.WorldIsolation.{Answers, AnswersInTurn, IsS
 
 /// The completions of a pair come in the order of its `enqueue` calls, and its delivery moments never go down.
 pub fn a_pair_keeps_its_order<P: Ord>()
-    ensures { (k : Message P) (id : ℕ) (calls : List (Call P)) (css : List (List (Completed P))) → Answers P.cmp (new_world id) calls css → IsInPairOrder P.cmp k (enqueued calls) (answered css) }
+    ensures { (k : Message P) (id : ℕ) (calls : List (Call P)) (css : List (List (Completed P))) → Answers P.cmp (new_world id) calls css →
+        IsInPairOrder P.cmp k (enqueued calls) (answered css) }
 {}
 
 /// In one `advance` the bytes left of an origin go down by no more than its egress cap lets go.
@@ -26,12 +27,14 @@ pub fn an_origin_keeps_to_its_cap<P: Ord>()
 
 /// For a set of peers of which each message has both ends or neither, the fair rates of its messages are fair for these alone.
 pub fn a_set_is_fair_alone<P: Ord>()
-    ensures { (inside : P → Bool) (caps : Caps P) (ms : List (Message P)) (per : ℕ) (rates : Parts) → IsSet P.cmp inside → ((m : Message P) → Contains ms m → inside m.origin ≡ inside m.recipient) →
+    ensures { (inside : P → Bool) (caps : Caps P) (ms : List (Message P)) (per : ℕ) (rates : Parts) → IsSet P.cmp inside →
+        ((m : Message P) → Contains ms m → inside m.origin ≡ inside m.recipient) →
         AreFair P.cmp caps ms per rates → AreFair P.cmp caps (filter (λ m. inside m.origin) ms) per (kept (map (λ m. inside m.origin) ms) rates) }
 {}
 
 /// Where each message that is enqueued has both ends in a set of peers or neither, the completions of the set's messages are those of the calls without the messages of others.
 pub fn a_set_is_isolated<P: Ord>()
-    ensures { (inside : P → Bool) (id : ℕ) (calls : List (Call P)) (css : List (List (Completed P))) → IsSet P.cmp inside → KeepsApart inside calls → InTime calls → AnswersInTurn P.cmp (new_world id) calls css →
+    ensures { (inside : P → Bool) (id : ℕ) (calls : List (Call P)) (css : List (List (Completed P))) → IsSet P.cmp inside → KeepsApart inside calls → InTime calls →
+        AnswersInTurn P.cmp (new_world id) calls css →
         Answers P.cmp (new_world id) (filter (is_kept inside) calls) (kept_completions inside calls css) × NothingElse inside calls css }
 {}

@@ -13,7 +13,8 @@ pub fn a_quiet_stretch_is_one_drain<P: Ord>()
 
 /// Ticking for both is ticking for a while and then for another.
 pub fn ticking_splits<P: Ord>()
-    ensures { (a b : ℕ) (w : World P) (course : Course (Completed P) (World P)) → Ticks P.cmp (a + b) w course ↔ ((first : Course (Completed P) (World P)) × Ticks P.cmp a w first × Continues P.cmp b first course) }
+    ensures { (a b : ℕ) (w : World P) (course : Course (Completed P) (World P)) →
+        Ticks P.cmp (a + b) w course ↔ ((first : Course (Completed P) (World P)) × Ticks P.cmp a w first × Continues P.cmp b first course) }
 {}
 
 /// A nanosecond, and so any number of them, has one outcome, whatever parts the fair rates are given in.
@@ -32,12 +33,15 @@ pub fn there_is_one_next_event<P: Ord>()
 pub fn a_call_has_one_course<P: Ord>()
     ensures new { (id : ℕ) → IsSound P.cmp (new_world id) }
     ensures one { (w : World P) (call : Call P) (now : ℕ) (c d : Course (Completed P) (World P)) → IsSound P.cmp w → Runs P.cmp w call now c → Runs P.cmp w call now d → c ≡ d }
-    ensures sound { (w : World P) (call : Call P) (now : ℕ) (course : Course (Completed P) (World P)) → IsSound P.cmp w → Runs P.cmp w call now course → EndsWith (IsSound P.cmp) course }
-    ensures quiet { (w : World P) (call : Call P) (now : ℕ) (course : Course (Completed P) (World P)) → IsQuiet P.cmp w.moment w → moment_of call ≡ Some now → w.moment ≤ now → Runs P.cmp w call now course →
+    ensures sound { (w : World P) (call : Call P) (now : ℕ) (course : Course (Completed P) (World P)) → IsSound P.cmp w → Runs P.cmp w call now course →
+        EndsWith (IsSound P.cmp) course }
+    ensures quiet { (w : World P) (call : Call P) (now : ℕ) (course : Course (Completed P) (World P)) → IsQuiet P.cmp w.moment w → moment_of call ≡ Some now →
+        w.moment ≤ now → Runs P.cmp w call now course →
         EndsWith (λ v. IsQuiet P.cmp now v × (v.moment ≡ now) × ((next : Option ℕ) → NextIs P.cmp v next → IfSome next (λ t. now < t))) course }
 {}
 
 /// Advancing to a moment and then on to a later one answers, together, what advancing to the later one answers, and ends in the same world.
 pub fn advancing_splits<P: Ord>()
-    ensures { (w v : World P) (a b : ℕ) (cs : List (Completed P)) (course : Course (Completed P) (World P)) → w.moment ≤ a → a ≤ b → Runs P.cmp w (call_advance a) a (goes cs v) → Runs P.cmp v (call_advance b) b course → Runs P.cmp w (call_advance b) b (preceded cs course) }
+    ensures { (w v : World P) (a b : ℕ) (cs : List (Completed P)) (course : Course (Completed P) (World P)) → w.moment ≤ a → a ≤ b →
+        Runs P.cmp w (call_advance a) a (goes cs v) → Runs P.cmp v (call_advance b) b course → Runs P.cmp w (call_advance b) b (preceded cs course) }
 {}
