@@ -1,5 +1,5 @@
 //! What limits flows: the sides that the caps make.
-ghost use Rattle.std.specs.Prelude.{◌≡◌, ◌<◌, List, Some, IfOk, IfErr, map, All, AllPairs, length};
+ghost use Rattle.std.specs.Prelude.{◌≡◌, OnOk, ◌<◌, List, Some, IfOk, IfErr, map, All, AllPairs, length};
 ghost use Rattle.std.specs.Fn.{CalledAt, TakesAt, CalledAtTwo, TakesAtTwo};
 ghost use Rattle.p2p_simulated.specs.Answers.{Answered, AnswerInOrder, CallableOnEach, CallableOnEachPair, origins, recipients, pairs};
 ghost use Rattle.p2p_simulated.specs.Sides.{sides_of};
