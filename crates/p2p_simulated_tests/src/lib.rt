@@ -4,8 +4,6 @@
 #[cfg(test)]
 mod planner;
 #[cfg(test)]
-mod planner_counted;
-#[cfg(test)]
 mod planner_judge;
 #[cfg(test)]
 mod planner_lists;

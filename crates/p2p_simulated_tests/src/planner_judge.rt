@@ -193,3 +193,53 @@ fn a_plain_planner_agrees(rt: HostRuntime) -> Result<(), Fail> {
     assert!(rt; agreed > 200, "{agreed} of 300");
     Ok(())
 }
+
+/// The planner answers the same rates for the flows in the other order, where no two have one id.
+fn expect_turned(rt: &(impl Abort + AllocGlobal), network: &Network) -> Result<(), Fail> {
+    let mut backward = Vec::new(rt.alloc());
+    for flow in network.flows.iter().rev() {
+        backward.push(flow.clone()?)?;
+    }
+    let turned = Network {
+        flows: &backward,
+        ..*network
+    };
+    let planned = plan_linked(rt.alloc(), network)?;
+    let other = plan_linked(rt.alloc(), &turned)?;
+    assert_eq!(rt; planned.rounds, other.rounds);
+    for flow in network.flows {
+        assert_eq!(rt;
+            planned.rates.get(&flow.id).copied(),
+            other.rates.get(&flow.id).copied()
+        );
+    }
+    Ok(())
+}
+
+#[test]
+fn the_order_of_flows_plays_no_part(rt: HostRuntime) -> Result<(), Fail> {
+    let three_peers = Network {
+        flows: &[
+            sent(1, 1, 2),
+            sent(2, 1, 2),
+            sent(3, 2, 3),
+            sent(4, 1, 3),
+            sent(5, 3, 2),
+        ],
+        caps: &[
+            Cap(Side::Egress(1), 1000000),
+            Cap(Side::Egress(2), 750000),
+            Cap(Side::Egress(3), 100000),
+            Cap(Side::Ingress(1), 500000),
+            Cap(Side::Ingress(2), 250000),
+            Cap(Side::Ingress(3), 1000000),
+        ],
+    };
+    expect_turned(&rt, &three_peers)?;
+    let mut chance = Chance(3);
+    for _number in 0..100_u64 {
+        let list = next_list(rt.alloc(), &mut chance, &SMALL)?;
+        expect_turned(&rt, &list.network())?;
+    }
+    Ok(())
+}

@@ -1,4 +1,4 @@
-//! Which rates fit in fractions of 128 bits, and which do not.
+//! Many flows: which rates fit in fractions of 128 bits, and which do not.
 use crate::planner_network::{Cap, Network, Planned, Side, expect_rate, plan, plan_linked, sent};
 use p2p_simulated::bandwidth::Flow;
 use p2p_simulated::error::Error;
@@ -74,7 +74,7 @@ fn expect_groups(rt: &impl Abort, planned: &Planned, chain: &[Group]) -> Result<
     Ok(())
 }
 
-/// The flows of a chain are answered, by both calls.
+/// The flows of a chain are answered, by both calls, with a round for each side.
 fn is_answered(rt: &(impl Abort + AllocGlobal), chain: &[Group]) -> Result<(), Fail> {
     let flows = flows_of(rt.alloc(), chain)?;
     let caps = caps_of(rt.alloc(), chain)?;
@@ -84,6 +84,7 @@ fn is_answered(rt: &(impl Abort + AllocGlobal), chain: &[Group]) -> Result<(), F
     };
     let planned = plan(rt.alloc(), &network)?;
     assert_eq!(rt; planned.rates.len(), flows.len());
+    assert_eq!(rt; planned.rounds, chain.len() as u128);
     expect_groups(rt, &planned, chain)?;
     expect_groups(rt, &plan_linked(rt.alloc(), &network)?, chain)
 }
@@ -124,6 +125,7 @@ fn sixteen_flows_are_answered(rt: HostRuntime) -> Result<(), Fail> {
 #[test]
 fn more_flows_are_answered(rt: HostRuntime) -> Result<(), Fail> {
     is_answered(&rt, &[Group(18, 306, 17, 1)])?;
+    is_answered(&rt, &[Group(100, 1000000, 10000, 1)])?;
     is_answered(&rt, &[Group(1024, 1024000, 1000, 1)])?;
     let chain = [
         Group(11, WORD, 18446744073709551615, 11),
