@@ -11,16 +11,18 @@ use Rattle.p2p_simulated.specs.declared.error.Error.TheVariants.{OutOfMemory, Nu
 use Rattle.p2p_simulated.specs.Amount.{Amount}
 use Rattle.p2p_simulated.specs.WorldMessages.{Message, Caps, same_pair}
 use Rattle.p2p_simulated.specs.WorldRates.{capped_sides, rates_from, rate_of, is_unlimited}
-use Rattle.p2p_simulated.specs.World.{is_in_order, Completed, Course, goes, meets, last_moment, preceded, fronts, is_in_order}
-use Rattle.p2p_simulated.specs.WorldCalls.{Call, call_limit, call_limit_link, call_enqueue, call_advance, call_next, limited_by, linked_by}
-use Rattle.p2p_simulated.specs.WorldReplies.{Reply, reply_done, reply_next, reply_refused, SameCompletion}
-use Rattle.p2p_simulated.specs.WorldPlanned.{Planned, Paced, IsLeastMoment, next_event, paced_flows, left_at, SomeSpentAt, drained_to, next_of, may_launch, SomeReadyAt, is_spent}
+use Rattle.p2p_simulated.specs.World.{new_world, is_in_order, Completed, Course, goes, meets, last_moment, preceded, fronts, is_in_order}
+use Rattle.p2p_simulated.specs.WorldCalls.{moment_of, Call, call_limit, call_limit_link, call_enqueue, call_advance, call_next, limited_by, linked_by}
+use Rattle.p2p_simulated.specs.WorldReplies.{Agrees, Reply, reply_done, reply_next, reply_refused, SameCompletion}
+use Rattle.p2p_simulated.specs.WorldPlanned.{new_planned, Planned, Paced, IsLeastMoment, next_event, paced_flows, left_at, SomeSpentAt, drained_to, next_of, may_launch, SomeReadyAt, is_spent}
 use Rattle.p2p_simulated.specs.WorldEvents.{Accounts, Looks, launched, Launches, nothing_waits, too_early, no_id, starts, landed, completed, is_late, Finishes, all_completed, late, stopped, completes, WakesEach, all_started, no_start, no_finish, starts_one, Settles, settling, Recaps, none_sending, some_sending, completed_at_once, with_queued, Enqueues, at_once, no_launch, launches, Advances, no_more, at_finish, at_start, finish_stops, start_stops, Obeys}
 use Rattle.p2p_simulated.specs.WorldRefusals.{MayBeRefused, Obeyed}
 use Rattle.p2p_simulated.proofs.Fairness.Members.{In}
 use Rattle.p2p_simulated.proofs.World.Bytes.{Each, fronts_are_first}
 use Rattle.p2p_simulated.proofs.World.Counting.{first_in_fronts}
 use Rattle.p2p_simulated.proofs.World.Lowest.{spent_later}
+use Rattle.p2p_simulated.proofs.World.Agreeing.{obeyed_agree}
+use Rattle.p2p_simulated.specs.WorldIsolation.{InTime}
 use Rattle.p2p_simulated.proofs.World.Checked.{same_all, Shares, both_true, is_fair, fair_if_so}
 
 -- ---- options
@@ -620,6 +622,29 @@ module _ {P : Type 0} (cmp : P → P → Ordering) (order : IsTotalOrder cmp) (p
       let found : (others : List (Reply P)) × (replies_by_rule p calls ≡ Some others) × (Some (reply_next (next_event p) ∷ others) ≡ Some replies)
       = bound (replies_by_rule p calls) (λ others. Some (reply_next (next_event p) ∷ others)) replies e in
       subst (Obeyed cmp p (call_next ∷ calls)) (the_same found.2) (refl, obeyed_so p calls found.0 found.1)
+
+-- ---- the simulation
+
+abbrev pub are_in_time : {P : Type 0} → List (Call P) → Bool
+are_in_time [] = true
+are_in_time (call ∷ calls) = elim (moment_of call) [ None ↦ true | Some now ↦ nat_le now last_moment ] && are_in_time calls
+
+in_time_so : {P : Type 0} (calls : List (Call P)) → are_in_time calls ≡ true → InTime calls
+in_time_so [] e = tt
+in_time_so (call ∷ calls) e =
+    let two : (elim (moment_of call) [ None ↦ true | Some now ↦ nat_le now last_moment ] ≡ true) × (are_in_time calls ≡ true) = both_true (elim (moment_of call) [ None ↦ true | Some now ↦ nat_le now last_moment ]) (are_in_time calls) e in
+    (by_moment (moment_of call) two.0, in_time_so calls two.1)
+  where
+    by_moment : (o : Option ℕ) → elim o [ None ↦ true | Some now ↦ nat_le now last_moment ] ≡ true → (now : ℕ) → o ≡ Some now → now ≤ last_moment
+    by_moment None e now is = cc
+    by_moment (Some t) e now is = let le : t ≤ last_moment = leb-true t last_moment e in let same : t ≡ now = the_same is in omega arith
+
+-- what the event rule replies agrees with the simulation
+pub agrees_by_rule : {P : Type 0} (cmp : P → P → Ordering) (order : IsTotalOrder cmp) (plan : Caps P → List (Message P) → Shares) (hint : ℕ → List (Message P) → ℕ) (n : ℕ) (calls : List (Call P)) (replies : List (Reply P))
+    → are_in_time calls ≡ true → replies_by_rule cmp order plan hint n (new_planned 0) calls ≡ Some replies → Agrees cmp (new_world 0) [] calls replies
+agrees_by_rule cmp order plan hint n calls replies times e = obeyed_agree cmp order calls replies (in_time_so calls times) (obeyed_so cmp order plan hint n (new_planned 0) calls replies e)
+
+-- ---- plans
 
 -- all messages share one cap evenly
 abbrev pub shared : {P : Type 0} → ℕ → Caps P → List (Message P) → Shares
