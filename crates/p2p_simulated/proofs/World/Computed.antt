@@ -1,5 +1,5 @@
 -- The event rule, found by computing: for worked examples.
-use Rattle.std.proofs.Common.{◌≡◌, ◌≢◌, ℕ, zero, suc, ◌+◌, ◌<◌, ◌≤◌, List, [], ◌∷◌, ◌++◌, Bool, true, false, cond, not, Option, Some, None, refl, sym, ap, subst, arith, ◌∙◌, inl, inr, ◌⊎◌, length}
+use Rattle.std.proofs.Common.{◌-◌, ◌≡◌, ◌≢◌, ℕ, zero, suc, ◌+◌, ◌<◌, ◌≤◌, List, [], ◌∷◌, ◌++◌, Bool, true, false, cond, not, Option, Some, None, refl, sym, ap, subst, arith, ◌∙◌, inl, inr, ◌⊎◌, length}
 use Rattle.std.specs.Prelude.{max, ◌&&◌, ◌||◌, ◌==◌, nat_le, nat_lt, if◌then◌else◌, slice_get, IfSome}
 use Rattle.std.specs.List.{find, list_any, list_all, filter, AllZip}
 use Rattle.std.specs.declared.cmp.Ordering.{Ordering}
@@ -8,17 +8,21 @@ use Rattle.std.proofs.lemmas.Bool.{leb-true, le-leb, ltb-true, ltb-false, eqb-tr
 use Rattle.std.proofs.lemmas.Option.{same_Some}
 use Rattle.std.proofs.Math.Bool.{or-true}
 use Rattle.p2p_simulated.specs.declared.error.Error.TheVariants.{OutOfMemory, NumberTooLarge, MomentTooLate, FlowIdsUsedUp}
+use Rattle.p2p_simulated.specs.Amount.{Amount}
 use Rattle.p2p_simulated.specs.WorldMessages.{Message, Caps, same_pair}
 use Rattle.p2p_simulated.specs.WorldRates.{capped_sides, rates_from, rate_of, is_unlimited}
-use Rattle.p2p_simulated.specs.World.{is_in_order, Completed, Course, goes, meets, last_moment, preceded, fronts, is_in_order}
-use Rattle.p2p_simulated.specs.WorldCalls.{Call, call_limit, call_limit_link, call_enqueue, call_advance, call_next, limited_by, linked_by}
-use Rattle.p2p_simulated.specs.WorldReplies.{Reply, reply_done, reply_next, reply_refused, SameCompletion}
-use Rattle.p2p_simulated.specs.WorldPlanned.{Planned, Paced, IsLeastMoment, next_event, paced_flows, left_at, SomeSpentAt, drained_to, next_of, may_launch, SomeReadyAt, is_spent}
+use Rattle.p2p_simulated.specs.World.{new_world, is_in_order, Completed, Course, goes, meets, last_moment, preceded, fronts, is_in_order}
+use Rattle.p2p_simulated.specs.WorldCalls.{moment_of, Call, call_limit, call_limit_link, call_enqueue, call_advance, call_next, limited_by, linked_by}
+use Rattle.p2p_simulated.specs.WorldReplies.{Agrees, Reply, reply_done, reply_next, reply_refused, SameCompletion}
+use Rattle.p2p_simulated.specs.WorldPlanned.{new_planned, Planned, Paced, IsLeastMoment, next_event, paced_flows, left_at, SomeSpentAt, drained_to, next_of, may_launch, SomeReadyAt, is_spent}
 use Rattle.p2p_simulated.specs.WorldEvents.{Accounts, Looks, launched, Launches, nothing_waits, too_early, no_id, starts, landed, completed, is_late, Finishes, all_completed, late, stopped, completes, WakesEach, all_started, no_start, no_finish, starts_one, Settles, settling, Recaps, none_sending, some_sending, completed_at_once, with_queued, Enqueues, at_once, no_launch, launches, Advances, no_more, at_finish, at_start, finish_stops, start_stops, Obeys}
 use Rattle.p2p_simulated.specs.WorldRefusals.{MayBeRefused, Obeyed}
 use Rattle.p2p_simulated.proofs.Fairness.Members.{In}
 use Rattle.p2p_simulated.proofs.World.Bytes.{Each, fronts_are_first}
 use Rattle.p2p_simulated.proofs.World.Counting.{first_in_fronts}
+use Rattle.p2p_simulated.proofs.World.Lowest.{spent_later}
+use Rattle.p2p_simulated.proofs.World.Agreeing.{obeyed_agree}
+use Rattle.p2p_simulated.specs.WorldIsolation.{InTime}
 use Rattle.p2p_simulated.proofs.World.Checked.{same_all, Shares, both_true, is_fair, fair_if_so}
 
 -- ---- options
@@ -90,21 +94,28 @@ module _ (Q : ℕ → Type 0) (test : ℕ → Bool) (yes : (t : ℕ) → test t 
   sought_so true n from o none least e = let same : None ≡ o = the_same e in subst (IsLeastMoment Q) same (λ t le q. none refl t q)
   sought_so false n from o none least e = seek_so n from o least e
 
-module _ {P : Type 0} (cmp : P → P → Ordering) (order : IsTotalOrder cmp) (plan : Caps P → List (Message P) → Shares) (n : ℕ) where
+module _ {P : Type 0} (cmp : P → P → Ordering) (order : IsTotalOrder cmp) (plan : Caps P → List (Message P) → Shares) (hint : ℕ → List (Message P) → ℕ) (n : ℕ) where
   -- ---- accounts
 
   abbrev pub is_spent_at : ℕ → Paced P → Bool
   is_spent_at s f = nat_le f.updated s && ((left_at s f).num == 0)
 
+  abbrev pub is_positive : Paced P → Bool
+  is_positive f = nat_lt 0 f.left.den && elim f.rate [ None ↦ true | Some r ↦ nat_lt 0 r.den ]
+
+  -- nothing is spent from t on before that moment
+  abbrev pub may_skip : ℕ → ℕ → List (Paced P) → Bool
+  may_skip t from sending = (from == t) || (list_all is_positive sending && not (list_any (is_spent_at (from - 1)) sending))
+
   abbrev pub finish_from : ℕ → List (Paced P) → Option (Option ℕ)
-  finish_from t sending = sought (is_none_of sending) (λ s. list_any (is_spent_at s) sending) n t
+  finish_from t sending = given (may_skip t (hint t (paced_flows sending)) sending) (sought (is_none_of sending) (λ s. list_any (is_spent_at s) sending) n (hint t (paced_flows sending)))
 
   -- what is in flight, from t on at the shares of their places
   abbrev pub paced : Caps P → Shares → ℕ → ℕ → List (Paced P) → List (Paced P)
   paced caps shares t place [] = []
   paced caps shares t place (f ∷ fs) =
-      record { message = f.message; left = f.left; rate = rate_of shares.per (if is_unlimited cmp caps f.message then None else Some (shares.parts place)); updated = t } ∷ paced
-      caps shares t (place + 1) fs
+      record { message = f.message; left = f.left; rate = rate_of shares.per (if is_unlimited cmp caps f.message then None else Some (shares.parts place)); updated = t }
+      ∷ paced caps shares t (place + 1) fs
 
   abbrev pub staying : ℕ → Planned P → List (Paced P)
   staying t p = filter (λ f. not (is_spent cmp p f)) (drained_to t p.sending)
@@ -147,6 +158,46 @@ module _ {P : Type 0} (cmp : P → P → Ordering) (order : IsTotalOrder cmp) (p
   updated_at caps shares t place (g ∷ gs) zero f at = sym (ap (λ (x : Paced P). x.updated) (the_same at))
   updated_at caps shares t place (g ∷ gs) (suc i) f at = updated_at caps shares t (place + 1) gs i f at
 
+  positive_rate : (o : Option Amount) → elim o [ None ↦ true | Some r ↦ nat_lt 0 r.den ] ≡ true → IfSome o (λ r. 0 < r.den)
+  positive_rate None e = tt
+  positive_rate (Some r) e = ltb-true 0 r.den e
+
+  positive_at : (fs : List (Paced P)) (i : ℕ) (f : Paced P) → list_all is_positive fs ≡ true → slice_get fs i ≡ Some f → (0 < f.left.den) × IfSome f.rate (λ r. 0 < r.den)
+  positive_at [] i f e at = cc
+  positive_at (g ∷ gs) i f e at = let two : (is_positive g ≡ true) × (list_all is_positive gs ≡ true) = both_true (is_positive g) (list_all is_positive gs) e in by_place i at two.0 (λ j h. positive_at gs j f two.1 h)
+    where
+      by_place : (i : ℕ) → slice_get (g ∷ gs) i ≡ Some f → is_positive g ≡ true → ((j : ℕ) → slice_get gs j ≡ Some f → (0 < f.left.den) × IfSome f.rate (λ r. 0 < r.den)) → (0 < f.left.den) × IfSome f.rate (λ r. 0 < r.den)
+      by_place zero at here rest =
+          let same : g ≡ f = the_same at in
+          let test : is_positive f ≡ true = ap is_positive (sym same) ∙ here in
+          let two : (nat_lt 0 f.left.den ≡ true) × (elim f.rate [ None ↦ true | Some r ↦ nat_lt 0 r.den ] ≡ true) = both_true (nat_lt 0 f.left.den) (elim f.rate [ None ↦ true | Some r ↦ nat_lt 0 r.den ]) test in
+          (ltb-true 0 f.left.den two.0, positive_rate f.rate two.1)
+      by_place (suc j) at here rest = rest j at
+
+  skip_so : (t from : ℕ) (sending : List (Paced P)) → may_skip t from sending ≡ true → (s : ℕ) → SomeSpentAt sending s → t ≤ s → from ≤ s
+  skip_so t from sending e s some le = by_test (from == t) refl e
+    where
+      spent_before : s < from → list_all is_positive sending ≡ true → list_any (is_spent_at (from - 1)) sending ≡ true
+      spent_before lt all =
+          let positive : (0 < some.1.left.den) × IfSome some.1.rate (λ r. 0 < r.den) = positive_at sending some.0 some.1 all some.2 in
+          let updated : some.1.updated ≤ s = some.3 in
+          let on : (left_at (from - 1) some.1).num ≡ 0 = spent_later some.1.rate (s - some.1.updated) (from - 1 - some.1.updated) some.1.left positive.1 positive.0 (omega arith) some.4 in
+          so_if_spent (from - 1) sending some.0 some.1 some.2 (omega arith) on
+
+      not_both : (b : Bool) → b ≡ true → not b ≡ true → ⊥
+      not_both true is e = cc
+      not_both false is e = cc
+
+      by_order : s < from ⊎ from ≤ s → list_all is_positive sending ≡ true → not (list_any (is_spent_at (from - 1)) sending) ≡ true → from ≤ s
+      by_order (inl lt) all none = absurd (not_both (list_any (is_spent_at (from - 1)) sending) (spent_before lt all) none)
+      by_order (inr ge) all none = ge
+
+      by_test : (b : Bool) → (from == t) ≡ b → (b || (list_all is_positive sending && not (list_any (is_spent_at (from - 1)) sending))) ≡ true → from ≤ s
+      by_test true is e = let same : from ≡ t = eqb-true from t is in omega arith
+      by_test false is e =
+          let two : (list_all is_positive sending ≡ true) × (not (list_any (is_spent_at (from - 1)) sending) ≡ true) = both_true (list_all is_positive sending) (not (list_any (is_spent_at (from - 1)) sending)) e in
+          by_order (cases_lt s from) two.0 two.1
+
   no_flight : (fs : List (Paced P)) (s : ℕ) → is_none_of fs ≡ true → SomeSpentAt fs s → ⊥
   no_flight [] s e some = let at : slice_get [] some.0 ≡ Some some.1 = some.2 in cc
   no_flight (f ∷ fs) s e some = cc
@@ -168,6 +219,10 @@ module _ {P : Type 0} (cmp : P → P → Ordering) (order : IsTotalOrder cmp) (p
       = given_so (is_fair shares.per shares.parts (capped_sides cmp p.caps (paced_flows sending))) (bind (finish_from t sending) (λ o. Some (record p { sending = sending; finish = o }))) q e in
       let found : (o : Option ℕ) × (finish_from t sending ≡ Some o) × (Some (record p { sending = sending; finish = o }) ≡ Some q)
       = bound (finish_from t sending) (λ o. Some (record p { sending = sending; finish = o })) q two.1 in
+      let from : ℕ = hint t (paced_flows sending) in
+      let skip : (may_skip t from sending ≡ true) × (sought (is_none_of sending) (λ s. list_any (is_spent_at s) sending) n from ≡ Some found.0)
+          = given_so (may_skip t from sending) (sought (is_none_of sending) (λ s. list_any (is_spent_at s) sending) n from) found.0 found.1 in
+      let starts_at : (s : ℕ) → SomeSpentAt sending s → t ≤ s = λ s some. let at : some.1.updated ≡ t = updated_at p.caps shares t 0 (staying t p) some.0 some.1 some.2 in let le : some.1.updated ≤ s = some.3 in omega arith in
       let same : record p { sending = sending; finish = found.0 } ≡ q = the_same found.2 in
       subst (Accounts cmp t p (leavers_of t p)) same record {
         per = shares.per;
@@ -177,8 +232,8 @@ module _ {P : Type 0} (cmp : P → P → Ordering) (order : IsTotalOrder cmp) (p
         fair = record { parts = shares.parts; fair = fair_if_so shares.per shares.parts (capped_sides cmp p.caps (paced_flows sending)) two.0; rated = refl };
         rated = rated_so p.caps shares t 0 (staying t p);
         finish =
-            sought_so (SomeSpentAt sending) (λ s. list_any (is_spent_at s) sending) (λ s h. spent_if_so s sending h) (λ s h. so_if_spent s sending h.0 h.1 h.2 h.3 h.4) (is_none_of sending) n t found.0
-            (λ h s some. no_flight sending s h some) (λ s some. let at : some.1.updated ≡ t = updated_at p.caps shares t 0 (staying t p) some.0 some.1 some.2 in let le : some.1.updated ≤ s = some.3 in omega arith) found.1;
+            sought_so (SomeSpentAt sending) (λ s. list_any (is_spent_at s) sending) (λ s h. spent_if_so s sending h) (λ s h. so_if_spent s sending h.0 h.1 h.2 h.3 h.4) (is_none_of sending) n from found.0
+            (λ h s some. no_flight sending s h some) (λ s some. skip_so t from sending skip.0 s some (starts_at s some)) skip.1;
         same = refl;
       }
 
@@ -568,6 +623,33 @@ module _ {P : Type 0} (cmp : P → P → Ordering) (order : IsTotalOrder cmp) (p
       = bound (replies_by_rule p calls) (λ others. Some (reply_next (next_event p) ∷ others)) replies e in
       subst (Obeyed cmp p (call_next ∷ calls)) (the_same found.2) (refl, obeyed_so p calls found.0 found.1)
 
+-- ---- the simulation
+
+abbrev pub are_in_time : {P : Type 0} → List (Call P) → Bool
+are_in_time [] = true
+are_in_time (call ∷ calls) = elim (moment_of call) [ None ↦ true | Some now ↦ nat_le now last_moment ] && are_in_time calls
+
+in_time_so : {P : Type 0} (calls : List (Call P)) → are_in_time calls ≡ true → InTime calls
+in_time_so [] e = tt
+in_time_so (call ∷ calls) e =
+    let two : (elim (moment_of call) [ None ↦ true | Some now ↦ nat_le now last_moment ] ≡ true) × (are_in_time calls ≡ true) = both_true (elim (moment_of call) [ None ↦ true | Some now ↦ nat_le now last_moment ]) (are_in_time calls) e in
+    (by_moment (moment_of call) two.0, in_time_so calls two.1)
+  where
+    by_moment : (o : Option ℕ) → elim o [ None ↦ true | Some now ↦ nat_le now last_moment ] ≡ true → (now : ℕ) → o ≡ Some now → now ≤ last_moment
+    by_moment None e now is = cc
+    by_moment (Some t) e now is = let le : t ≤ last_moment = leb-true t last_moment e in let same : t ≡ now = the_same is in omega arith
+
+-- what the event rule replies agrees with the simulation
+pub agrees_by_rule : {P : Type 0} (cmp : P → P → Ordering) (order : IsTotalOrder cmp) (plan : Caps P → List (Message P) → Shares) (hint : ℕ → List (Message P) → ℕ) (n : ℕ) (calls : List (Call P)) (replies : List (Reply P))
+    → are_in_time calls ≡ true → replies_by_rule cmp order plan hint n (new_planned 0) calls ≡ Some replies → Agrees cmp (new_world 0) [] calls replies
+agrees_by_rule cmp order plan hint n calls replies times e = obeyed_agree cmp order calls replies (in_time_so calls times) (obeyed_so cmp order plan hint n (new_planned 0) calls replies e)
+
+-- ---- plans
+
 -- all messages share one cap evenly
 abbrev pub shared : {P : Type 0} → ℕ → Caps P → List (Message P) → Shares
 shared cap caps ms = record { per = max 1 (length ms); parts = λ place. cap }
+
+-- without a hint
+abbrev pub no_hint : {P : Type 0} → ℕ → List (Message P) → ℕ
+no_hint t ms = t

@@ -123,6 +123,24 @@ pub fn a_start_without_an_id_is_refused()
         (reply_done [] ∷ reply_done [] ∷ reply_refused FlowIdsUsedUp ∷ reply_next (Some 2) ∷ reply_done (arrives (message 1 2 2 0) 2 ∷ []) ∷ reply_next None ∷ []) }
 {}
 
+/// A link of one byte a nanosecond leaves nine of ten to the other message of its origin: fair rates are not even ones.
+pub fn a_link_leaves_the_rest_to_others()
+    ensures { Agrees nat_cmp (new_world 0) []
+        (call_limit 0 1 (Some 10_000_000_000) None ∷ call_limit_link 0 1 2 a_byte_a_nanosecond ∷ call_enqueue 0 (message 1 2 10 0) ∷ call_enqueue 0 (message 1 3 9 0)
+        ∷ call_next ∷ call_advance 1 ∷ call_next ∷ call_advance 10 ∷ call_next ∷ [])
+        (reply_done [] ∷ reply_done [] ∷ reply_done [] ∷ reply_done []
+        ∷ reply_next (Some 1) ∷ reply_done (arrives (message 1 3 9 0) 1 ∷ []) ∷ reply_next (Some 10) ∷ reply_done (arrives (message 1 2 10 0) 10 ∷ []) ∷ reply_next None ∷ []) }
+{}
+
+/// One byte and two bytes share seven bytes a second: the first takes two sevenths of a second, and the other is done at three sevenths, each rounded up to a nanosecond.
+pub fn moments_are_rounded_up()
+    ensures { Agrees nat_cmp (new_world 0) []
+        (call_limit 0 1 (Some 7) None ∷ call_enqueue 0 (message 1 2 1 0) ∷ call_enqueue 0 (message 1 3 2 0)
+        ∷ call_next ∷ call_advance 285_714_286 ∷ call_next ∷ call_advance 428_571_429 ∷ call_next ∷ [])
+        (reply_done [] ∷ reply_done [] ∷ reply_done []
+        ∷ reply_next (Some 285_714_286) ∷ reply_done (arrives (message 1 2 1 0) 285_714_286 ∷ []) ∷ reply_next (Some 428_571_429) ∷ reply_done (arrives (message 1 3 2 0) 428_571_429 ∷ []) ∷ reply_next None ∷ []) }
+{}
+
 /// A reply with a wrong arrival does not agree.
 pub fn a_wrong_arrival_does_not_agree()
     ensures { ¬ Agrees nat_cmp (new_world 0) []

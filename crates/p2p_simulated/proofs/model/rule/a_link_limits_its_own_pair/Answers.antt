@@ -6,9 +6,9 @@ use Rattle.p2p_simulated.specs.WorldPlanned.{new_planned}
 use Rattle.p2p_simulated.specs.WorldCalls.{call_limit_link, call_enqueue, call_advance, call_next}
 use Rattle.p2p_simulated.specs.WorldReplies.{reply_done, reply_next}
 use Rattle.p2p_simulated.specs.WorldRows.{message, arrives, a_byte_a_nanosecond}
-use Rattle.p2p_simulated.proofs.World.Computed.{obeyed_so, shared}
+use Rattle.p2p_simulated.proofs.World.Computed.{no_hint, obeyed_so, shared}
 use Rattle.p2p_simulated.proofs.model.rule.a_link_limits_its_own_pair.Goals as goal
 
 pub returns : goal.returns
 unfolding reduced gcd_within
-returns c = obeyed_so nat_cmp nat_cmp_total (shared 1_000_000_000) 20 (new_planned 0) (call_limit_link 0 1 2 a_byte_a_nanosecond ∷ call_enqueue 0 (message 1 2 2 0) ∷ call_enqueue 0 (message 1 3 2 0) ∷ call_next ∷ call_advance 2 ∷ call_next ∷ []) (reply_done [] ∷ reply_done [] ∷ reply_done (arrives (message 1 3 2 0) 0 ∷ []) ∷ reply_next (Some 2) ∷ reply_done (arrives (message 1 2 2 0) 2 ∷ []) ∷ reply_next None ∷ []) refl
+returns c = obeyed_so nat_cmp nat_cmp_total (shared 1_000_000_000) no_hint 20 (new_planned 0) (call_limit_link 0 1 2 a_byte_a_nanosecond ∷ call_enqueue 0 (message 1 2 2 0) ∷ call_enqueue 0 (message 1 3 2 0) ∷ call_next ∷ call_advance 2 ∷ call_next ∷ []) (reply_done [] ∷ reply_done [] ∷ reply_done (arrives (message 1 3 2 0) 0 ∷ []) ∷ reply_next (Some 2) ∷ reply_done (arrives (message 1 2 2 0) 2 ∷ []) ∷ reply_next None ∷ []) refl
