@@ -1,7 +1,7 @@
 # `rt` is the command of the Rattle kit.
 script = examples/left_over.link
 
-.PHONY: run test bench clean
+.PHONY: run test examples bench clean
 
 # Proves the library and the program, builds the program as bin/linkrun, and runs it on a script.
 run: bin/linkrun
@@ -15,6 +15,12 @@ bin/linkrun: FORCE
 # The gate: every proof from nothing, the edits that must fail, the tests and the program.
 test:
 	rt ci
+
+# Runs each example and compares what it prints.
+examples: bin/linkrun
+	@for script in examples/*.link; do \
+		./bin/linkrun < $$script 2>/dev/null | cmp - $${script%.link}.out && echo $$script || exit 1; \
+	done
 
 # Times of one allocation, by the number of flows.
 bench: bin/linkrun
