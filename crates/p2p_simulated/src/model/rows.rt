@@ -123,6 +123,36 @@ pub fn a_start_without_an_id_is_refused()
         (reply_done [] ∷ reply_done [] ∷ reply_refused FlowIdsUsedUp ∷ reply_next (Some 2) ∷ reply_done (arrives (message 1 2 2 0) 2 ∷ []) ∷ reply_next None ∷ []) }
 {}
 
+/// In the order of its pair a dropped message counts when it is gone, whatever its latency: the next one follows at once.
+pub fn a_dropped_message_counts_when_it_is_gone()
+    ensures { Agrees nat_cmp (new_world 0) []
+        (call_limit 0 1 a_byte_a_nanosecond None ∷ call_enqueue 0 (dropped 1 2 1 5) ∷ call_enqueue 0 (message 1 2 1 0) ∷ call_next ∷ call_advance 1 ∷ call_next ∷ call_advance 2 ∷ call_next ∷ [])
+        (reply_done [] ∷ reply_done [] ∷ reply_done [] ∷ reply_next (Some 1) ∷ reply_done (is_gone (dropped 1 2 1 5) ∷ []) ∷ reply_next (Some 2) ∷ reply_done (arrives (message 1 2 1 0) 2 ∷ []) ∷ reply_next None ∷ []) }
+{}
+
+/// A dropped message takes nothing of the ingress of its recipient, though it takes its time at its origin.
+pub fn a_dropped_message_takes_no_ingress()
+    ensures { Agrees nat_cmp (new_world 0) []
+        (call_limit 0 3 None a_byte_a_nanosecond ∷ call_limit 0 4 a_byte_a_nanosecond None ∷ call_enqueue 0 (dropped 4 3 2 0) ∷ call_enqueue 0 (message 1 3 2 0) ∷ call_next ∷ call_advance 2 ∷ call_next ∷ [])
+        (reply_done [] ∷ reply_done [] ∷ reply_done [] ∷ reply_done [] ∷ reply_next (Some 2) ∷ reply_done (is_gone (dropped 4 3 2 0) ∷ arrives (message 1 3 2 0) 2 ∷ []) ∷ reply_next None ∷ []) }
+{}
+
+/// A link limits one direction: what goes the other way goes at once.
+pub fn a_link_has_one_direction()
+    ensures { Agrees nat_cmp (new_world 0) []
+        (call_limit_link 0 1 2 a_byte_a_nanosecond ∷ call_enqueue 0 (message 2 1 1 0) ∷ call_enqueue 0 (message 1 2 1 0) ∷ call_next ∷ call_advance 1 ∷ call_next ∷ [])
+        (reply_done [] ∷ reply_done (arrives (message 2 1 1 0) 0 ∷ []) ∷ reply_done [] ∷ reply_next (Some 1) ∷ reply_done (arrives (message 1 2 1 0) 1 ∷ []) ∷ reply_next None ∷ []) }
+{}
+
+/// Where caps are lifted all completes at once. What starts then and is done comes after all that was done before it.
+pub fn lifted_caps_complete_all()
+    ensures { Agrees nat_cmp (new_world 0) []
+        (call_limit 0 1 a_byte_a_nanosecond None ∷ call_enqueue 0 (message 1 2 3 0) ∷ call_enqueue 0 (message 1 2 0 0) ∷ call_enqueue 0 (message 1 2 2 0) ∷ call_enqueue 0 (message 1 3 3 0) ∷ call_enqueue 0 (message 1 3 1 0)
+        ∷ call_limit 0 1 None None ∷ call_next ∷ [])
+        (reply_done [] ∷ reply_done [] ∷ reply_done [] ∷ reply_done [] ∷ reply_done [] ∷ reply_done []
+        ∷ reply_done (arrives (message 1 2 3 0) 0 ∷ arrives (message 1 3 3 0) 0 ∷ arrives (message 1 2 0 0) 0 ∷ arrives (message 1 3 1 0) 0 ∷ arrives (message 1 2 2 0) 0 ∷ []) ∷ reply_next None ∷ []) }
+{}
+
 /// A link of one byte a nanosecond leaves nine of ten to the other message of its origin: fair rates are not even ones.
 pub fn a_link_leaves_the_rest_to_others()
     ensures { Agrees nat_cmp (new_world 0) []
