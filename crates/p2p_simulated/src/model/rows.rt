@@ -116,6 +116,14 @@ pub fn a_late_arrival_is_refused()
         (reply_refused MomentTooLate ∷ reply_next None ∷ reply_done (arrives (message 1 2 1 18_446_744_073_709_551_615) 18_446_744_073_709_551_615 ∷ []) ∷ []) }
 {}
 
+/// A message that finishes at the last moment arrives then. One that finishes later never does.
+pub fn a_message_may_arrive_at_the_last_moment()
+    ensures { Agrees nat_cmp (new_world 0) []
+        (call_limit 0 1 a_byte_a_nanosecond None ∷ call_enqueue 18_446_744_073_709_551_614 (message 1 2 1 0) ∷ call_next ∷ call_advance 18_446_744_073_709_551_615
+        ∷ call_enqueue 18_446_744_073_709_551_615 (message 1 2 1 0) ∷ call_next ∷ [])
+        (reply_done [] ∷ reply_done [] ∷ reply_next (Some 18_446_744_073_709_551_615) ∷ reply_done (arrives (message 1 2 1 0) 18_446_744_073_709_551_615 ∷ []) ∷ reply_done [] ∷ reply_next None ∷ []) }
+{}
+
 /// With the flow ids used up no message starts; one that could start at once is refused.
 pub fn a_start_without_an_id_is_refused()
     ensures { Agrees nat_cmp (new_world 18_446_744_073_709_551_614) []

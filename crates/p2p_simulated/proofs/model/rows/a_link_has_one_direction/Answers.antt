@@ -2,15 +2,12 @@ use Rattle.std.proofs.Common.{[], ◌∷◌, Some, None, refl}
 use Rattle.std.specs.Ordering.{nat_cmp}
 use Rattle.std.proofs.lemmas.Cmp.{nat_cmp_total}
 use Rattle.p2p_simulated.specs.Amount.{reduced, gcd_within}
+use Rattle.p2p_simulated.specs.World.{new_world}
 use Rattle.p2p_simulated.specs.WorldCalls.{call_limit_link, call_enqueue, call_advance, call_next}
-use Rattle.p2p_simulated.specs.WorldReplies.{reply_done, reply_next}
-use Rattle.p2p_simulated.specs.WorldRows.{message, arrives, a_byte_a_nanosecond}
-use Rattle.p2p_simulated.proofs.World.Computed.{agrees_by_rule, no_hint, shared}
+use Rattle.p2p_simulated.specs.WorldRows.{message, a_byte_a_nanosecond}
+use Rattle.p2p_simulated.proofs.World.Checked.{answers_agree, evenly}
 use Rattle.p2p_simulated.proofs.model.rows.a_link_has_one_direction.Goals as goal
 
 pub returns : goal.returns
 unfolding reduced gcd_within
-returns c = agrees_by_rule nat_cmp nat_cmp_total (shared 1_000_000_000) no_hint 20
-    (call_limit_link 0 1 2 a_byte_a_nanosecond ∷ call_enqueue 0 (message 2 1 1 0) ∷ call_enqueue 0 (message 1 2 1 0) ∷ call_next ∷ call_advance 1 ∷ call_next ∷ [])
-    (reply_done [] ∷ reply_done (arrives (message 2 1 1 0) 0 ∷ []) ∷ reply_done [] ∷ reply_next (Some 1) ∷ reply_done (arrives (message 1 2 1 0) 1 ∷ []) ∷ reply_next None ∷ [])
-    refl refl
+returns c = answers_agree nat_cmp nat_cmp_total (evenly 1_000_000_000) 20 (call_limit_link 0 1 2 a_byte_a_nanosecond ∷ call_enqueue 0 (message 2 1 1 0) ∷ call_enqueue 0 (message 1 2 1 0) ∷ call_next ∷ call_advance 1 ∷ call_next ∷ []) (new_world 0) [] refl
