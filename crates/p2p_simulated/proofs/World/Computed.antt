@@ -164,13 +164,17 @@ module _ {P : Type 0} (cmp : P → P → Ordering) (order : IsTotalOrder cmp) (p
 
   positive_at : (fs : List (Paced P)) (i : ℕ) (f : Paced P) → list_all is_positive fs ≡ true → slice_get fs i ≡ Some f → (0 < f.left.den) × IfSome f.rate (λ r. 0 < r.den)
   positive_at [] i f e at = cc
-  positive_at (g ∷ gs) i f e at = let two : (is_positive g ≡ true) × (list_all is_positive gs ≡ true) = both_true (is_positive g) (list_all is_positive gs) e in by_place i at two.0 (λ j h. positive_at gs j f two.1 h)
+  positive_at (g ∷ gs) i f e at =
+      let two : (is_positive g ≡ true) × (list_all is_positive gs ≡ true) = both_true (is_positive g) (list_all is_positive gs) e in
+      by_place i at two.0 (λ j h. positive_at gs j f two.1 h)
     where
-      by_place : (i : ℕ) → slice_get (g ∷ gs) i ≡ Some f → is_positive g ≡ true → ((j : ℕ) → slice_get gs j ≡ Some f → (0 < f.left.den) × IfSome f.rate (λ r. 0 < r.den)) → (0 < f.left.den) × IfSome f.rate (λ r. 0 < r.den)
+      by_place : (i : ℕ) → slice_get (g ∷ gs) i ≡ Some f → is_positive g ≡ true → ((j : ℕ) → slice_get gs j ≡ Some f → (0 < f.left.den) × IfSome f.rate (λ r. 0 < r.den))
+          → (0 < f.left.den) × IfSome f.rate (λ r. 0 < r.den)
       by_place zero at here rest =
           let same : g ≡ f = the_same at in
           let test : is_positive f ≡ true = ap is_positive (sym same) ∙ here in
-          let two : (nat_lt 0 f.left.den ≡ true) × (elim f.rate [ None ↦ true | Some r ↦ nat_lt 0 r.den ] ≡ true) = both_true (nat_lt 0 f.left.den) (elim f.rate [ None ↦ true | Some r ↦ nat_lt 0 r.den ]) test in
+          let two : (nat_lt 0 f.left.den ≡ true) × (elim f.rate [ None ↦ true | Some r ↦ nat_lt 0 r.den ] ≡ true)
+          = both_true (nat_lt 0 f.left.den) (elim f.rate [ None ↦ true | Some r ↦ nat_lt 0 r.den ]) test in
           (ltb-true 0 f.left.den two.0, positive_rate f.rate two.1)
       by_place (suc j) at here rest = rest j at
 
@@ -195,7 +199,8 @@ module _ {P : Type 0} (cmp : P → P → Ordering) (order : IsTotalOrder cmp) (p
       by_test : (b : Bool) → (from == t) ≡ b → (b || (list_all is_positive sending && not (list_any (is_spent_at (from - 1)) sending))) ≡ true → from ≤ s
       by_test true is e = let same : from ≡ t = eqb-true from t is in omega arith
       by_test false is e =
-          let two : (list_all is_positive sending ≡ true) × (not (list_any (is_spent_at (from - 1)) sending) ≡ true) = both_true (list_all is_positive sending) (not (list_any (is_spent_at (from - 1)) sending)) e in
+          let two : (list_all is_positive sending ≡ true) × (not (list_any (is_spent_at (from - 1)) sending) ≡ true)
+          = both_true (list_all is_positive sending) (not (list_any (is_spent_at (from - 1)) sending)) e in
           by_order (cases_lt s from) two.0 two.1
 
   no_flight : (fs : List (Paced P)) (s : ℕ) → is_none_of fs ≡ true → SomeSpentAt fs s → ⊥
@@ -221,8 +226,10 @@ module _ {P : Type 0} (cmp : P → P → Ordering) (order : IsTotalOrder cmp) (p
       = bound (finish_from t sending) (λ o. Some (record p { sending = sending; finish = o })) q two.1 in
       let from : ℕ = hint t (paced_flows sending) in
       let skip : (may_skip t from sending ≡ true) × (sought (is_none_of sending) (λ s. list_any (is_spent_at s) sending) n from ≡ Some found.0)
-          = given_so (may_skip t from sending) (sought (is_none_of sending) (λ s. list_any (is_spent_at s) sending) n from) found.0 found.1 in
-      let starts_at : (s : ℕ) → SomeSpentAt sending s → t ≤ s = λ s some. let at : some.1.updated ≡ t = updated_at p.caps shares t 0 (staying t p) some.0 some.1 some.2 in let le : some.1.updated ≤ s = some.3 in omega arith in
+      = given_so (may_skip t from sending) (sought (is_none_of sending) (λ s. list_any (is_spent_at s) sending) n from) found.0 found.1 in
+      let starts_at : (s : ℕ) → SomeSpentAt sending s → t ≤ s = λ s some. let at : some.1.updated ≡ t = updated_at p.caps shares t 0 (staying t p) some.0 some.1 some.2 in
+      let le : some.1.updated ≤ s = some.3 in
+      omega arith in
       let same : record p { sending = sending; finish = found.0 } ≡ q = the_same found.2 in
       subst (Accounts cmp t p (leavers_of t p)) same record {
         per = shares.per;
@@ -632,7 +639,8 @@ are_in_time (call ∷ calls) = elim (moment_of call) [ None ↦ true | Some now 
 in_time_so : {P : Type 0} (calls : List (Call P)) → are_in_time calls ≡ true → InTime calls
 in_time_so [] e = tt
 in_time_so (call ∷ calls) e =
-    let two : (elim (moment_of call) [ None ↦ true | Some now ↦ nat_le now last_moment ] ≡ true) × (are_in_time calls ≡ true) = both_true (elim (moment_of call) [ None ↦ true | Some now ↦ nat_le now last_moment ]) (are_in_time calls) e in
+    let two : (elim (moment_of call) [ None ↦ true | Some now ↦ nat_le now last_moment ] ≡ true) × (are_in_time calls ≡ true)
+    = both_true (elim (moment_of call) [ None ↦ true | Some now ↦ nat_le now last_moment ]) (are_in_time calls) e in
     (by_moment (moment_of call) two.0, in_time_so calls two.1)
   where
     by_moment : (o : Option ℕ) → elim o [ None ↦ true | Some now ↦ nat_le now last_moment ] ≡ true → (now : ℕ) → o ≡ Some now → now ≤ last_moment

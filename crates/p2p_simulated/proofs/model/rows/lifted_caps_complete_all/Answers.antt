@@ -1,4 +1,4 @@
-use Rattle.std.proofs.Common.{[], ◌∷◌, Some, None, refl}
+use Rattle.std.proofs.Common.{[], ◌∷◌, None, refl}
 use Rattle.std.specs.Ordering.{nat_cmp}
 use Rattle.std.proofs.lemmas.Cmp.{nat_cmp_total}
 use Rattle.p2p_simulated.specs.Amount.{reduced, gcd_within}
