@@ -8,3 +8,13 @@ pub mod Laws
 pub mod Rates
 pub mod Ratio
 pub mod Sides
+pub mod World
+pub mod WorldCalls
+pub mod WorldEvents
+pub mod WorldMessages
+pub mod WorldPass
+pub mod WorldPlanned
+pub mod WorldRates
+pub mod WorldReplies
+pub mod WorldStands
+pub mod WorldTime

@@ -1,0 +1,107 @@
+-- When a planned world stands for a world of the simulation, and when it is in range.
+use Prim.Native.Nat.{◌∣◌}
+use Rattle.std.specs.Prelude.{◌≡◌, ⊤, ℕ, ◌+◌, ◌*◌, ◌<◌, ◌≤◌, ◌^◌, List, [], length, Bool, true, false, Option, IfSome, All}
+use Rattle.std.specs.List.{filter, list_any, AllZip}
+use Rattle.std.specs.declared.cmp.Ordering.{Ordering}
+use Rattle.p2p_simulated.specs.Amount.{Amount, billion}
+use Rattle.p2p_simulated.specs.WorldMessages.{Message, SameMessage, same_pair, CapsAlike, PairsAlike, OneForEachPair}
+use Rattle.p2p_simulated.specs.WorldRates.{IsLowest}
+use Rattle.p2p_simulated.specs.World.{World, Flight, Completed, Course, goes, meets, flows, is_done, IsQuiet}
+use Rattle.p2p_simulated.specs.WorldReplies.{SameCompletion, names_pair, IsSmallCap}
+use Rattle.p2p_simulated.specs.WorldPlanned.{Planned, Paced, IsLeastMoment, paced_flows, left_at, SomeSpentAt, SomeReadyAt, AreInPairOrder, IsRated}
+
+-- each fair rate of up to sixteen flows is a whole number of such parts of a byte a second
+abbrev pub finest_parts : ℕ
+finest_parts = 54_486_432_000
+
+-- an amount left in the range: below 2^32, and a whole number of the finest parts, each of a nanosecond
+pub record IsSmallAmount (left : Amount) : Type 0 where
+  pub below : left.num < 2 ^ 32 * left.den
+  pub whole : left.den ∣ finest_parts * billion * left.num
+
+-- a rate in the range: at most 2^32, and a whole number of the finest parts
+pub record IsSmallRate (rate : Amount) : Type 0 where
+  pub positive : 0 < rate.den
+  pub at_most : rate.num ≤ 2 ^ 32 * rate.den
+  pub whole : rate.den ∣ finest_parts * rate.num
+
+module _ {P : Type 0} (cmp : P → P → Ordering) where
+  -- ---- the planned world and the world
+
+  -- a message in flight, as it is planned and as it is at t
+  pub record IsSameFlight (t : ℕ) (f : Paced P) (g : Flight P) : Type 0 where
+    pub message : SameMessage cmp f.message g.message
+    pub updated : f.updated ≤ t
+    pub lowest : IsLowest f.left
+    pub rate : IfSome f.rate (λ r. 0 < r.den)
+    pub left : g.left ≡ left_at t f
+
+  -- the two worlds are the same at t, but for what is planned; equal peers have equal entries
+  pub record Tallies (t : ℕ) (p : Planned P) (w : World P) : Type 0 where
+    pub moment : w.moment ≡ t
+    pub caps : CapsAlike cmp p.caps w.caps
+    pub limited : p.limited ≡ w.limited
+    pub last_arrival : PairsAlike cmp p.last_arrival w.last_arrival
+    pub next_id : p.next_id ≡ w.next_id
+    pub waiting : (m : Message P) → AllZip (SameMessage cmp) (filter (same_pair cmp m) p.waiting) (filter (same_pair cmp m) w.waiting)
+    pub pair_order : AreInPairOrder cmp p.waiting
+    pub sending : AllZip (IsSameFlight t) p.sending w.sending
+    pub one_each : OneForEachPair cmp (flows w)
+    pub empty_at_first : p.limited ≡ false → (p.sending ≡ []) × (p.waiting ≡ [])
+
+  -- and the rates and the finish are planned
+  pub record Follows (t : ℕ) (p : Planned P) (w : World P) : Type 0 where
+    pub tallies : Tallies t p w
+    pub rated : IsRated cmp p
+    pub finish : IsLeastMoment (SomeSpentAt p.sending) p.finish
+
+  -- after a settling at t: nothing is done, and the start is planned from t on
+  pub record IsSettled (t : ℕ) (p : Planned P) (w : World P) : Type 0 where
+    pub follows : Follows t p w
+    pub none_done : list_any (is_done cmp w) w.sending ≡ false
+    pub start : IsLeastMoment (λ s. (t ≤ s) × SomeReadyAt cmp p s) p.start
+
+  -- between events: the same at the world's moment, nothing is done and nothing may start, and the next finish and start are planned
+  pub record StandsFor (p : Planned P) (w : World P) : Type 0 where
+    pub follows : Follows w.moment p w
+    pub quiet : IsQuiet cmp w.moment w
+    pub start : IsLeastMoment (SomeReadyAt cmp p) p.start
+
+  -- the same completions, element by element, and worlds that correspond; or the same fault
+  abbrev pub CoursesAlike : (Planned P → World P → Type 0) → Course (Completed P) (Planned P) → Course (Completed P) (World P) → Type 0
+  CoursesAlike R (goes cs p) (goes ds w) = AllZip (SameCompletion cmp) cs ds × R p w
+  CoursesAlike R (goes cs p) (meets fault) = ⊥
+  CoursesAlike R (meets fault) (goes ds w) = ⊥
+  CoursesAlike R (meets fault) (meets other) = fault ≡ other
+
+  -- ---- the range of a planned world
+
+  abbrev pub IsNamed : List (P × P) → Message P → Type 0
+  IsNamed pairs m = names_pair cmp pairs m.origin m.recipient ≡ true
+
+  -- a message in flight in the range
+  pub record IsSmallFlight (pairs : List (P × P)) (f : Paced P) : Type 0 where
+    pub named : IsNamed pairs f.message
+    pub left : IsSmallAmount f.left
+    pub updated : f.updated < 2 ^ 56
+    pub latency : f.message.latency < 2 ^ 56
+
+  -- a waiting message in the range
+  pub record IsSmallMessage (pairs : List (P × P)) (m : Message P) : Type 0 where
+    pub named : IsNamed pairs m
+    pub bytes : length m.bytes < 2 ^ 32
+    pub latency : m.latency < 2 ^ 56
+
+  -- at most sixteen pairs, one message in flight for each at its fair rate, and small numbers
+  pub record IsInRange (p : Planned P) : Type 0 where
+    pub pairs : List (P × P)
+    pub sixteen : length pairs ≤ 16
+    pub egress : (q : P) → IsSmallCap (p.caps.egress q)
+    pub ingress : (q : P) → IsSmallCap (p.caps.ingress q)
+    pub link : (q r : P) → IsSmallCap (p.caps.link q r)
+    pub one_each : OneForEachPair cmp (paced_flows p.sending)
+    pub rated : IsRated cmp p
+    pub sending : All (IsSmallFlight pairs) p.sending
+    pub waiting : All (IsSmallMessage pairs) p.waiting
+    pub arrivals : (q r : P) → IfSome (p.last_arrival q r) (λ t. (t < 2 ^ 57) × (names_pair cmp pairs q r ≡ true))
+    pub ids : p.next_id + length p.waiting < 2 ^ 64
