@@ -18,3 +18,5 @@ pub mod WorldRates
 pub mod WorldReplies
 pub mod WorldStands
 pub mod WorldTime
+pub mod Pairs
+pub mod State

@@ -1,0 +1,117 @@
+//! What is in flight, accounted for at a moment.
+use super::flights::{Flights, Progress};
+use super::message::Message;
+use super::pairs::Pairs;
+use super::peers::Peers;
+use super::working::Working;
+use crate::bandwidth::{Flow, Rate, allocate_linked, duration, transfer};
+use crate::error::Error;
+use crate::peer::Peer;
+use std::alloc::Global;
+use std::collections::{BTreeMap, VecDeque};
+
+impl Progress {
+    /// Drains to that moment at the rate since the last update.
+    fn drain(&mut self, now: u64) -> Result<(), Error> {
+        let elapsed = now.saturating_sub(self.updated);
+        self.left = transfer(&self.rate, elapsed, self.left)?;
+        self.updated = now;
+        Ok(())
+    }
+
+    /// The rate from now on, and the moment at which nothing is left then.
+    fn set_rate(&mut self, rate: Rate, now: u64) -> Result<Option<u64>, Error> {
+        self.rate = rate;
+        match duration(&rate, &self.left)? {
+            None => Ok(None),
+            Some(time) => Ok(now.checked_add(time)),
+        }
+    }
+}
+
+/// Whether the flow uses no capped side.
+fn is_unlimited<P: Peer>(flow: &Flow<P>, peers: &Peers<P>, pairs: &Pairs<P>) -> bool {
+    peers.egress(&flow.origin).is_none()
+        && (!flow.delivered || peers.ingress(&flow.recipient).is_none())
+        && pairs.cap(&flow.origin, &flow.recipient).is_none()
+}
+
+/// The earlier of two moments, where there are any.
+fn earlier(first: Option<u64>, second: Option<u64>) -> Option<u64> {
+    match (first, second) {
+        (Some(first), Some(second)) => Some(first.min(second)),
+        (Some(first), None) => Some(first),
+        (None, second) => second,
+    }
+}
+
+impl<P: Peer> Flights<P> {
+    /// All drain to that moment.
+    fn drain(&mut self, now: u64) -> Result<(), Error> {
+        for progress in self.progress.iter_mut() {
+            progress.drain(now)?;
+        }
+        Ok(())
+    }
+
+    /// Takes those that are done, in order of start: nothing is left of them, or they use no
+    /// capped side.
+    fn take_done(
+        &mut self,
+        alloc: Global,
+        peers: &Peers<P>,
+        pairs: &Pairs<P>,
+    ) -> Result<VecDeque<Message<P>>, Error> {
+        let mut done = VecDeque::new(alloc);
+        let mut at = 0;
+        while at < self.flows.len() {
+            if self.progress[at].left.is_zero() || is_unlimited(&self.flows[at], peers, pairs) {
+                done.push_back(self.remove(at))?;
+            } else {
+                at += 1;
+            }
+        }
+        Ok(done)
+    }
+
+    /// Gives each the rate of its flow's id from now on. Answers the first moment at which nothing
+    /// is left of one.
+    fn set_rates(
+        &mut self,
+        by_id: &BTreeMap<u64, Rate>,
+        now: u64,
+    ) -> Result<Option<u64>, Error> {
+        let mut finish = None;
+        for (flow, progress) in self.flows.iter().zip(self.progress.iter_mut()) {
+            let rate = match by_id.get(&flow.id) {
+                Some(rate) => *rate,
+                None => Rate::Unlimited,
+            };
+            finish = earlier(finish, progress.set_rate(rate, now)?);
+        }
+        Ok(finish)
+    }
+}
+
+impl<P: Peer> Working<P> {
+    /// All that is in flight drains to that moment. What is done leaves, in order of start, and the
+    /// rest gets its fair rates. The finish is planned anew.
+    pub(crate) fn account(&mut self, now: u64) -> Result<VecDeque<Message<P>>, Error> {
+        self.flights.drain(now)?;
+        let done = self.flights.take_done(self.alloc, &self.peers, &self.pairs)?;
+        let by_id = self.rates()?;
+        self.finish = self.flights.set_rates(&by_id, now)?;
+        Ok(done)
+    }
+
+    /// The fair rate of each flow in flight, by its id.
+    fn rates(&self) -> Result<BTreeMap<u64, Rate>, Error> {
+        allocate_linked(
+            self.alloc,
+            &self.flights.flows,
+            |peer| self.peers.egress(peer),
+            |peer| self.peers.ingress(peer),
+            |origin, recipient| self.pairs.cap(origin, recipient),
+        )
+    }
+}

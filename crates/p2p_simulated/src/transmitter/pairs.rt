@@ -1,0 +1,165 @@
+//! What is known of each ordered pair of peers.
+ghost use Rattle.std.specs.Prelude.{◌≡◌, ℕ, ◌<◌, length, true, Option, Some, IfOk, IfErr, slice_get};
+ghost use Rattle.p2p_simulated.specs.Pairs.{are_ascending, is_before_all};
+
+use super::message::Message;
+use crate::error::Error;
+use crate::peer::Peer;
+use std::alloc::Global;
+use std::collections::VecDeque;
+
+/// What is known of one ordered pair of peers.
+#[derive(Drop)]
+pub(crate) struct Pair<P> {
+    pub(crate) origin: P,
+    pub(crate) recipient: P,
+    /// The cap on what goes from the one to the other, in bytes a second.
+    pub(crate) cap: Option<u128>,
+    /// No later message of the pair arrives before this moment.
+    pub(crate) last_arrival: Option<u64>,
+    /// The messages that wait, in order of `enqueue`.
+    pub(crate) waiting: VecDeque<Message<P>>,
+}
+
+/// The ordered pairs that calls have named, in the order of pairs: by origin, then by recipient.
+#[derive(Drop)]
+pub(crate) struct Pairs<P: Peer> {
+    entries: Vec<Pair<P>>,
+    ghost ascending: { are_ascending P.cmp entries.items ≡ true },
+}
+
+impl<P: Peer> Pairs<P> {
+    pub(crate) fn new(alloc: Global) -> Self {
+        Pairs {
+            entries: Vec::new(alloc),
+        }
+    }
+
+    /// Where the pair stands, or where it would.
+    fn search(&self, origin: &P, recipient: &P) -> Result<usize, usize> {
+        self.entries.binary_search_by(|pair| {
+            pair.origin
+                .cmp(origin)
+                .then_with(|| pair.recipient.cmp(recipient))
+        })
+    }
+
+    /// Where the pair stands, if need be from now on.
+    fn place(&mut self, alloc: Global, origin: &P, recipient: &P) -> Result<usize, Error> {
+        match self.search(origin, recipient) {
+            Ok(at) => Ok(at),
+            Err(at) => {
+                let pair = Pair {
+                    origin: origin.clone_peer().ok_or(Error::OutOfMemory)?,
+                    recipient: recipient.clone_peer().ok_or(Error::OutOfMemory)?,
+                    cap: None,
+                    last_arrival: None,
+                    waiting: VecDeque::new(alloc),
+                };
+                self.entries.insert(at, pair)?;
+                Ok(at)
+            }
+        }
+    }
+
+    /// The cap on what goes from the one to the other.
+    pub(crate) fn cap(&self, origin: &P, recipient: &P) -> Option<u128> {
+        match self.search(origin, recipient) {
+            Ok(at) => self.entries[at].cap,
+            Err(_) => None,
+        }
+    }
+
+    /// The moment before which no later message of the pair arrives, if there is one.
+    pub(crate) fn last_arrival(&self, origin: &P, recipient: &P) -> Option<u64> {
+        match self.search(origin, recipient) {
+            Ok(at) => self.entries[at].last_arrival,
+            Err(_) => None,
+        }
+    }
+
+    /// The first message that waits for the pair.
+    pub(crate) fn first(&self, origin: &P, recipient: &P) -> Option<&Message<P>> {
+        match self.search(origin, recipient) {
+            Ok(at) => self.entries[at].waiting.front(),
+            Err(_) => None,
+        }
+    }
+
+    /// Takes the first message that waits for the pair.
+    pub(crate) fn take_first(&mut self, origin: &P, recipient: &P) -> Option<Message<P>> {
+        match self.search(origin, recipient) {
+            Ok(at) => self.entries[at].waiting.pop_front(),
+            Err(_) => None,
+        }
+    }
+
+    /// Sets the cap of the pair.
+    pub(crate) fn set_cap(
+        &mut self,
+        alloc: Global,
+        origin: &P,
+        recipient: &P,
+        cap: Option<u128>,
+    ) -> Result<(), Error> {
+        let at = self.place(alloc, origin, recipient)?;
+        self.entries[at].cap = cap;
+        Ok(())
+    }
+
+    /// From now on no message of the pair arrives before that moment.
+    pub(crate) fn raise(
+        &mut self,
+        alloc: Global,
+        origin: &P,
+        recipient: &P,
+        moment: u64,
+    ) -> Result<(), Error> {
+        let at = self.place(alloc, origin, recipient)?;
+        let pair = &mut self.entries[at];
+        let later = match pair.last_arrival {
+            None => moment,
+            Some(last) => last.max(moment),
+        };
+        pair.last_arrival = Some(later);
+        Ok(())
+    }
+
+    /// The message joins those that wait for its pair, as the last one.
+    pub(crate) fn push(&mut self, alloc: Global, message: Message<P>) -> Result<(), Error> {
+        let at = self.place(alloc, &message.origin, &message.recipient)?;
+        self.entries[at].waiting.push_back(message)?;
+        Ok(())
+    }
+
+    /// What is known of each pair, in the order of pairs.
+    pub(crate) fn all(&self) -> &[Pair<P>] {
+        &self.entries
+    }
+
+    /// The same pairs, the peers cloned.
+    pub(crate) fn copy(&self, alloc: Global) -> Result<Pairs<P>, Error> {
+        let mut entries = Vec::with_capacity(alloc, self.entries.len())?;
+        for pair in &self.entries {
+            entries.push(pair.copy(alloc)?)?;
+        }
+        Ok(Pairs { entries })
+    }
+}
+
+impl<P: Peer> Pair<P> {
+    /// The same, the peers cloned.
+    fn copy(&self, alloc: Global) -> Result<Pair<P>, Error> {
+        let mut waiting = VecDeque::with_capacity(alloc, self.waiting.len())?;
+        for message in &self.waiting {
+            waiting.push_back(message.copy()?)?;
+        }
+        Ok(Pair {
+            origin: self.origin.clone_peer().ok_or(Error::OutOfMemory)?,
+            recipient: self.recipient.clone_peer().ok_or(Error::OutOfMemory)?,
+            cap: self.cap,
+            last_arrival: self.last_arrival,
+            waiting,
+        })
+    }
+}

@@ -1,0 +1,87 @@
+//! The state that a call works on.
+use super::flights::Flights;
+use super::pairs::Pairs;
+use super::peers::Peers;
+use crate::error::Error;
+use crate::peer::Peer;
+use std::alloc::Global;
+
+/// All that is kept between calls.
+#[derive(Drop)]
+pub(crate) struct Working<P: Peer> {
+    pub(crate) alloc: Global,
+    pub(crate) peers: Peers<P>,
+    pub(crate) pairs: Pairs<P>,
+    pub(crate) flights: Flights<P>,
+    /// Whether a limit has come.
+    pub(crate) limited: bool,
+    /// The id of the next flow.
+    pub(crate) next_id: u64,
+    /// The moment at which a message in flight finishes next.
+    pub(crate) finish: Option<u64>,
+    /// The moment at which a waiting message starts next.
+    pub(crate) start: Option<u64>,
+}
+
+impl<P: Peer> Working<P> {
+    pub(crate) fn new(alloc: Global, first: u64) -> Self {
+        Working {
+            alloc,
+            peers: Peers::new(alloc),
+            pairs: Pairs::new(alloc),
+            flights: Flights::new(alloc),
+            limited: false,
+            next_id: first,
+            finish: None,
+            start: None,
+        }
+    }
+
+    /// The same state, the peers cloned.
+    pub(crate) fn copy(&self) -> Result<Working<P>, Error> {
+        Ok(Working {
+            alloc: self.alloc,
+            peers: self.peers.copy(self.alloc)?,
+            pairs: self.pairs.copy(self.alloc)?,
+            flights: self.flights.copy(self.alloc)?,
+            limited: self.limited,
+            next_id: self.next_id,
+            finish: self.finish,
+            start: self.start,
+        })
+    }
+
+    /// Sets the caps of a peer.
+    pub(crate) fn limit_peer(
+        &mut self,
+        peer: &P,
+        egress: Option<usize>,
+        ingress: Option<usize>,
+    ) -> Result<(), Error> {
+        let egress = egress.map(|cap| cap as u128);
+        let ingress = ingress.map(|cap| cap as u128);
+        self.limited = true;
+        self.peers.set(peer, egress, ingress)
+    }
+
+    /// Sets the cap of an ordered pair.
+    pub(crate) fn limit_pair(
+        &mut self,
+        origin: &P,
+        recipient: &P,
+        cap: Option<usize>,
+    ) -> Result<(), Error> {
+        let cap = cap.map(|cap| cap as u128);
+        self.limited = true;
+        self.pairs.set_cap(self.alloc, origin, recipient, cap)
+    }
+
+    /// The earlier of the planned finish and the planned start.
+    pub(crate) fn next_event(&self) -> Option<u64> {
+        match (self.finish, self.start) {
+            (Some(finish), Some(start)) => Some(finish.min(start)),
+            (Some(finish), None) => Some(finish),
+            (None, start) => start,
+        }
+    }
+}
