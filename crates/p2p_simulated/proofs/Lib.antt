@@ -1,2 +1,5 @@
 pub mod FractionFits
 pub mod Ratios
+pub mod Sorted
+pub mod Pairs
+pub mod Peers

@@ -19,4 +19,6 @@ pub mod WorldReplies
 pub mod WorldStands
 pub mod WorldTime
 pub mod Pairs
+pub mod Peers
+pub mod Sorted
 pub mod State

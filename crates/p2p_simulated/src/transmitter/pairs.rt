@@ -1,6 +1,7 @@
 //! What is known of each ordered pair of peers.
-ghost use Rattle.std.specs.Prelude.{◌≡◌, ℕ, ◌<◌, length, true, Option, Some, IfOk, IfErr, slice_get};
-ghost use Rattle.p2p_simulated.specs.Pairs.{are_ascending, is_before_all};
+ghost use Rattle.std.specs.Prelude.{◌≡◌, true, map, IfOk, IfErr};
+ghost use Rattle.p2p_simulated.specs.Sorted.{are_ascending, IsPlace, IsGap};
+ghost use Rattle.p2p_simulated.specs.Pairs.{pair_cmp};
 
 use super::message::Message;
 use crate::error::Error;
@@ -25,7 +26,7 @@ pub(crate) struct Pair<P> {
 #[derive(Drop)]
 pub(crate) struct Pairs<P: Peer> {
     entries: Vec<Pair<P>>,
-    ghost ascending: { are_ascending P.cmp entries.items ≡ true },
+    pub ghost ascending: { are_ascending (pair_cmp P.cmp) (map (λ pair. (pair.origin, pair.recipient)) entries.items) ≡ true },
 }
 
 impl<P: Peer> Pairs<P> {
@@ -36,7 +37,10 @@ impl<P: Peer> Pairs<P> {
     }
 
     /// Where the pair stands, or where it would.
-    fn search(&self, origin: &P, recipient: &P) -> Result<usize, usize> {
+    fn search(&self, origin: &P, recipient: &P) -> Result<usize, usize>
+        ensures found { IfOk result (IsPlace (pair_cmp P.cmp) (λ pair. (pair.origin, pair.recipient)) self.now.entries.items (origin.now, recipient.now)) }
+        ensures absent { IfErr result (IsGap (pair_cmp P.cmp) (λ pair. (pair.origin, pair.recipient)) self.now.entries.items (origin.now, recipient.now)) }
+    {
         self.entries.binary_search_by(|pair| {
             pair.origin
                 .cmp(origin)

@@ -1,4 +1,7 @@
 //! The caps of each peer.
+ghost use Rattle.std.specs.Prelude.{◌≡◌, true, map, IfOk, IfErr};
+ghost use Rattle.p2p_simulated.specs.Sorted.{are_ascending, IsPlace, IsGap};
+
 use crate::error::Error;
 use crate::peer::Peer;
 use std::alloc::Global;
@@ -15,22 +18,34 @@ pub(crate) struct PeerCaps<P> {
 #[derive(Drop)]
 pub(crate) struct Peers<P: Peer> {
     entries: Vec<PeerCaps<P>>,
+    pub ghost ascending: { are_ascending P.cmp (map (λ entry. entry.peer) entries.items) ≡ true },
 }
 
 impl<P: Peer> Peers<P> {
-    pub(crate) fn new(alloc: Global) -> Self {
+    ghost use Rattle.std.specs.Prelude.{[], OnOk};
+    ghost use Rattle.p2p_simulated.specs.WorldMessages.{with_cap, AnswerAlike};
+    ghost use Rattle.p2p_simulated.specs.Peers.{egress_of, ingress_of};
+
+    pub(crate) fn new(alloc: Global) -> Self
+        ensures { result.entries.items ≡ [] }
+    {
         Peers {
             entries: Vec::new(alloc),
         }
     }
 
     /// Where the peer stands, or where it would.
-    fn search(&self, peer: &P) -> Result<usize, usize> {
+    fn search(&self, peer: &P) -> Result<usize, usize>
+        ensures found { IfOk result (IsPlace P.cmp (λ entry. entry.peer) self.now.entries.items peer.now) }
+        ensures absent { IfErr result (IsGap P.cmp (λ entry. entry.peer) self.now.entries.items peer.now) }
+    {
         self.entries.binary_search_by(|entry| entry.peer.cmp(peer))
     }
 
     /// The cap on all that the peer sends.
-    pub(crate) fn egress(&self, peer: &P) -> Option<u128> {
+    pub(crate) fn egress(&self, peer: &P) -> Option<u128>
+        ensures { result ≡ egress_of P.cmp self.now.entries.items peer.now }
+    {
         match self.search(peer) {
             Ok(at) => self.entries[at].egress,
             Err(_) => None,
@@ -38,7 +53,9 @@ impl<P: Peer> Peers<P> {
     }
 
     /// The cap on all that the peer receives.
-    pub(crate) fn ingress(&self, peer: &P) -> Option<u128> {
+    pub(crate) fn ingress(&self, peer: &P) -> Option<u128>
+        ensures { result ≡ ingress_of P.cmp self.now.entries.items peer.now }
+    {
         match self.search(peer) {
             Ok(at) => self.entries[at].ingress,
             Err(_) => None,
@@ -51,7 +68,11 @@ impl<P: Peer> Peers<P> {
         peer: &P,
         egress: Option<u128>,
         ingress: Option<u128>,
-    ) -> Result<(), Error> {
+    ) -> Result<(), Error>
+        ensures egress { OnOk result (egress_of P.cmp self.new.entries.items ≡ with_cap P.cmp (egress_of P.cmp self.old.entries.items) peer.now egress) }
+        ensures ingress { OnOk result (ingress_of P.cmp self.new.entries.items ≡ with_cap P.cmp (ingress_of P.cmp self.old.entries.items) peer.now ingress) }
+        ensures refused { IfErr result (λ e. e ≡ Error.OutOfMemory) }
+    {
         match self.search(peer) {
             Ok(at) => {
                 let entry = &mut self.entries[at];
@@ -74,7 +95,11 @@ impl<P: Peer> Peers<P> {
     }
 
     /// The same caps, the peers cloned.
-    pub(crate) fn copy(&self, alloc: Global) -> Result<Peers<P>, Error> {
+    pub(crate) fn copy(&self, alloc: Global) -> Result<Peers<P>, Error>
+        ensures egress { IfOk result (λ copy. AnswerAlike P.cmp (egress_of P.cmp self.now.entries.items) (egress_of P.cmp copy.entries.items)) }
+        ensures ingress { IfOk result (λ copy. AnswerAlike P.cmp (ingress_of P.cmp self.now.entries.items) (ingress_of P.cmp copy.entries.items)) }
+        ensures refused { IfErr result (λ e. e ≡ Error.OutOfMemory) }
+    {
         let mut entries = Vec::with_capacity(alloc, self.entries.len())?;
         for entry in &self.entries {
             entries.push(PeerCaps {

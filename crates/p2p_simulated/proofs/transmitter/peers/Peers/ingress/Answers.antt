@@ -1,0 +1,9 @@
+use Rattle.std.proofs.Common.{None, ap, ◌∙◌, sym}
+use Rattle.p2p_simulated.proofs.Sorted.{value_there, at_gap}
+use Rattle.p2p_simulated.proofs.transmitter.peers.Peers.ingress.Goals as goal
+
+pub returns-in-Ok : goal.returns-in-Ok
+returns-in-Ok g c = ap (λ entry. entry.ingress) c.index.ensures ∙ value_there g.P.Ord.cmp g.met.P.Ord.total (λ entry. entry.peer) (λ entry. entry.ingress) None _ _ _ c.in-Ok.ensures.found c.index.result.now
+
+pub returns-in-Err : goal.returns-in-Err
+returns-in-Err g c = sym (at_gap g.P.Ord.cmp g.met.P.Ord.total (λ entry. entry.peer) (λ entry. entry.ingress) None _ _ _ c.in-Err.ensures.absent)
