@@ -3,3 +3,4 @@ pub mod Ratios
 pub mod Sorted
 pub mod Pairs
 pub mod Peers
+pub mod Copies

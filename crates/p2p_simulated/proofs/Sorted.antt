@@ -27,17 +27,17 @@ and_right false b h = cc
 pub and_both : (a b : Bool) → a ≡ true → b ≡ true → (a && b) ≡ true
 and_both a b h k = rw (h, k) refl
 
-is_lt_less : (o : Ordering) → is_lt o ≡ true → o ≡ Less
+pub is_lt_less : (o : Ordering) → is_lt o ≡ true → o ≡ Less
 is_lt_less Less h = refl
 is_lt_less Equal h = cc
 is_lt_less Greater h = cc
 
-is_eq_equal : (o : Ordering) → is_eq o ≡ true → o ≡ Equal
+pub is_eq_equal : (o : Ordering) → is_eq o ≡ true → o ≡ Equal
 is_eq_equal Less h = cc
 is_eq_equal Equal h = refl
 is_eq_equal Greater h = cc
 
-is_gt_greater : (o : Ordering) → is_gt o ≡ true → o ≡ Greater
+pub is_gt_greater : (o : Ordering) → is_gt o ≡ true → o ≡ Greater
 is_gt_greater Less h = cc
 is_gt_greater Equal h = cc
 is_gt_greater Greater h = refl

@@ -21,4 +21,4 @@ pub mod WorldTime
 pub mod Pairs
 pub mod Peers
 pub mod Sorted
-pub mod State
+pub mod Message

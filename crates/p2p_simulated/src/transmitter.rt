@@ -69,7 +69,7 @@ impl<P: Peer> State<P> {
         egress: Option<usize>,
         ingress: Option<usize>,
     ) -> Result<Vec<Completion<P>>, Error> {
-        let mut working = self.kept.copy()?;
+        let mut working = self.kept.clone()?;
         working.limit_peer(peer, egress, ingress)?;
         let completions = working.recap(now)?;
         self.kept = working;
@@ -84,7 +84,7 @@ impl<P: Peer> State<P> {
         recipient: &P,
         cap: Option<usize>,
     ) -> Result<Vec<Completion<P>>, Error> {
-        let mut working = self.kept.copy()?;
+        let mut working = self.kept.clone()?;
         working.limit_pair(origin, recipient, cap)?;
         let completions = working.recap(now)?;
         self.kept = working;
@@ -102,7 +102,7 @@ impl<P: Peer> State<P> {
         latency: u64,
         should_deliver: bool,
     ) -> Result<Vec<Completion<P>>, Error> {
-        let mut working = self.kept.copy()?;
+        let mut working = self.kept.clone()?;
         let message = Message {
             origin,
             recipient,
@@ -123,7 +123,7 @@ impl<P: Peer> State<P> {
 
     /// As `advance`, with the number of events.
     pub fn advance_counted(&mut self, now: u64) -> Result<(Vec<Completion<P>>, u128), Error> {
-        let mut working = self.kept.copy()?;
+        let mut working = self.kept.clone()?;
         let (completions, events) = working.advance(now)?;
         self.kept = working;
         Ok((completions, events))

@@ -1,11 +1,13 @@
 //! The messages in flight.
+ghost use Rattle.std.specs.Prelude.{◌≡◌};
+
 use super::message::Message;
 use crate::bandwidth::{Flow, Rate};
 use crate::error::Error;
 use crate::peer::Peer;
 use crate::ratio::Ratio;
 use bytes::Bytes;
-use std::alloc::Global;
+use std::alloc::{AllocError, Global};
 
 /// What is known of a message in flight beside its flow.
 #[derive(Drop)]
@@ -83,28 +85,28 @@ impl<P: Peer> Flights<P> {
             should_deliver: progress.should_deliver,
         }
     }
+}
 
-    /// The same messages, the peers cloned.
-    pub(crate) fn copy(&self, alloc: Global) -> Result<Flights<P>, Error> {
-        let mut flows = Vec::with_capacity(alloc, self.flows.len())?;
+impl<P: Peer> Clone for Flights<P> {
+    fn clone(&self) -> Result<Flights<P>, AllocError> {
+        let mut flows = Vec::with_capacity(*self.flows.allocator(), self.flows.len())?;
         for flow in &self.flows {
             flows.push(Flow {
                 id: flow.id,
-                origin: flow.origin.clone_peer().ok_or(Error::OutOfMemory)?,
-                recipient: flow.recipient.clone_peer().ok_or(Error::OutOfMemory)?,
+                origin: flow.origin.clone_peer().ok_or(AllocError)?,
+                recipient: flow.recipient.clone_peer().ok_or(AllocError)?,
                 delivered: flow.delivered,
             })?;
         }
-        let mut progress = Vec::with_capacity(alloc, self.progress.len())?;
-        for one in &self.progress {
-            progress.push(one.copy()?)?;
-        }
+        let progress = self.progress.clone()?;
         Ok(Flights { flows, progress })
     }
 }
 
-impl Progress {
-    fn copy(&self) -> Result<Progress, Error> {
+impl Clone for Progress {
+    ghost is_clone = { λ progress copy. copy ≡ progress };
+
+    fn clone(&self) -> Result<Progress, AllocError> {
         Ok(Progress {
             channel: self.channel,
             bytes: self.bytes.slice(..)?,

@@ -1,9 +1,9 @@
 //! A message that waits or is in flight.
-ghost use Rattle.std.specs.Prelude.{◌≡◌, IfOk};
+ghost use Rattle.std.specs.Prelude.{◌≡◌};
 
-use crate::error::Error;
 use crate::peer::Peer;
 use bytes::Bytes;
+use std::alloc::AllocError;
 
 /// What one peer sends to another.
 #[derive(Drop)]
@@ -18,8 +18,8 @@ pub(crate) struct Message<P> {
 }
 
 impl<P: Peer> Message<P> {
-    ghost use Rattle.p2p_simulated.specs.WorldMessages.{is_delivered, SameMessage};
-    ghost use Rattle.p2p_simulated.specs.State.{message_of};
+    ghost use Rattle.p2p_simulated.specs.WorldMessages.{is_delivered};
+    ghost use Rattle.p2p_simulated.specs.Message.{message_of};
 
     /// Whether it arrives, under limits: a message to oneself does not.
     pub(crate) fn is_delivered(&self) -> bool
@@ -27,15 +27,19 @@ impl<P: Peer> Message<P> {
     {
         self.should_deliver && self.origin.cmp(&self.recipient).is_ne()
     }
+}
+
+impl<P: Peer> Clone for Message<P> {
+    ghost use Rattle.p2p_simulated.specs.WorldMessages.{SameMessage};
+    ghost use Rattle.p2p_simulated.specs.Message.{message_of};
+
+    ghost is_clone = { λ message copy. SameMessage P.cmp (message_of message) (message_of copy) };
 
     /// The same message, its peers cloned. It shares the bytes.
-    pub(crate) fn copy(&self) -> Result<Message<P>, Error>
-        ensures same { IfOk result (λ copy. SameMessage P.cmp (message_of self.now) (message_of copy)) }
-        ensures refused { result ≡ result }
-    {
+    fn clone(&self) -> Result<Message<P>, AllocError> {
         Ok(Message {
-            origin: self.origin.clone_peer().ok_or(Error::OutOfMemory)?,
-            recipient: self.recipient.clone_peer().ok_or(Error::OutOfMemory)?,
+            origin: self.origin.clone_peer().ok_or(AllocError)?,
+            recipient: self.recipient.clone_peer().ok_or(AllocError)?,
             channel: self.channel,
             bytes: self.bytes.slice(..)?,
             latency: self.latency,

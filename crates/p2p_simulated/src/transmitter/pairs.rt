@@ -6,7 +6,7 @@ ghost use Rattle.p2p_simulated.specs.Pairs.{pair_cmp};
 use super::message::Message;
 use crate::error::Error;
 use crate::peer::Peer;
-use std::alloc::Global;
+use std::alloc::{AllocError, Global};
 use std::collections::VecDeque;
 
 /// What is known of one ordered pair of peers.
@@ -140,30 +140,32 @@ impl<P: Peer> Pairs<P> {
     pub(crate) fn all(&self) -> &[Pair<P>] {
         &self.entries
     }
+}
 
-    /// The same pairs, the peers cloned.
-    pub(crate) fn copy(&self, alloc: Global) -> Result<Pairs<P>, Error> {
-        let mut entries = Vec::with_capacity(alloc, self.entries.len())?;
-        for pair in &self.entries {
-            entries.push(pair.copy(alloc)?)?;
-        }
-        Ok(Pairs { entries })
+impl<P: Peer> Clone for Pair<P> {
+    ghost use Rattle.p2p_simulated.specs.Pairs.{IsSamePair};
+
+    ghost is_clone = { λ pair copy. IsSamePair P.cmp pair copy };
+
+    fn clone(&self) -> Result<Pair<P>, AllocError> {
+        Ok(Pair {
+            origin: self.origin.clone_peer().ok_or(AllocError)?,
+            recipient: self.recipient.clone_peer().ok_or(AllocError)?,
+            cap: self.cap,
+            last_arrival: self.last_arrival,
+            waiting: self.waiting.clone()?,
+        })
     }
 }
 
-impl<P: Peer> Pair<P> {
-    /// The same, the peers cloned.
-    fn copy(&self, alloc: Global) -> Result<Pair<P>, Error> {
-        let mut waiting = VecDeque::with_capacity(alloc, self.waiting.len())?;
-        for message in &self.waiting {
-            waiting.push_back(message.copy()?)?;
-        }
-        Ok(Pair {
-            origin: self.origin.clone_peer().ok_or(Error::OutOfMemory)?,
-            recipient: self.recipient.clone_peer().ok_or(Error::OutOfMemory)?,
-            cap: self.cap,
-            last_arrival: self.last_arrival,
-            waiting,
-        })
+impl<P: Peer> Clone for Pairs<P> {
+    ghost use Rattle.std.specs.List.{AllZip};
+    ghost use Rattle.p2p_simulated.specs.Pairs.{IsSamePair};
+
+    ghost is_clone = { λ pairs copy. AllZip (IsSamePair P.cmp) pairs.entries.items copy.entries.items };
+
+    fn clone(&self) -> Result<Pairs<P>, AllocError> {
+        let entries = self.entries.clone()?;
+        Ok(Pairs { entries })
     }
 }

@@ -4,7 +4,7 @@ ghost use Rattle.p2p_simulated.specs.Sorted.{are_ascending, IsPlace, IsGap};
 
 use crate::error::Error;
 use crate::peer::Peer;
-use std::alloc::Global;
+use std::alloc::{AllocError, Global};
 
 /// The caps of one peer, in bytes a second.
 #[derive(Drop)]
@@ -23,7 +23,7 @@ pub(crate) struct Peers<P: Peer> {
 
 impl<P: Peer> Peers<P> {
     ghost use Rattle.std.specs.Prelude.{[], OnOk};
-    ghost use Rattle.p2p_simulated.specs.WorldMessages.{with_cap, AnswerAlike};
+    ghost use Rattle.p2p_simulated.specs.WorldMessages.{with_cap};
     ghost use Rattle.p2p_simulated.specs.Peers.{egress_of, ingress_of};
 
     pub(crate) fn new(alloc: Global) -> Self
@@ -93,21 +93,30 @@ impl<P: Peer> Peers<P> {
         }
         Ok(())
     }
+}
 
-    /// The same caps, the peers cloned.
-    pub(crate) fn copy(&self, alloc: Global) -> Result<Peers<P>, Error>
-        ensures egress { IfOk result (λ copy. AnswerAlike P.cmp (egress_of P.cmp self.now.entries.items) (egress_of P.cmp copy.entries.items)) }
-        ensures ingress { IfOk result (λ copy. AnswerAlike P.cmp (ingress_of P.cmp self.now.entries.items) (ingress_of P.cmp copy.entries.items)) }
-        ensures refused { IfErr result (λ e. e ≡ Error.OutOfMemory) }
-    {
-        let mut entries = Vec::with_capacity(alloc, self.entries.len())?;
-        for entry in &self.entries {
-            entries.push(PeerCaps {
-                peer: entry.peer.clone_peer().ok_or(Error::OutOfMemory)?,
-                egress: entry.egress,
-                ingress: entry.ingress,
-            })?;
-        }
+impl<P: Peer> Clone for PeerCaps<P> {
+    ghost use Rattle.p2p_simulated.specs.Peers.{IsSameEntry};
+
+    ghost is_clone = { λ caps copy. IsSameEntry P.cmp caps copy };
+
+    fn clone(&self) -> Result<PeerCaps<P>, AllocError> {
+        Ok(PeerCaps {
+            peer: self.peer.clone_peer().ok_or(AllocError)?,
+            egress: self.egress,
+            ingress: self.ingress,
+        })
+    }
+}
+
+impl<P: Peer> Clone for Peers<P> {
+    ghost use Rattle.std.specs.List.{AllZip};
+    ghost use Rattle.p2p_simulated.specs.Peers.{IsSameEntry};
+
+    ghost is_clone = { λ peers copy. AllZip (IsSameEntry P.cmp) peers.entries.items copy.entries.items };
+
+    fn clone(&self) -> Result<Peers<P>, AllocError> {
+        let entries = self.entries.clone()?;
         Ok(Peers { entries })
     }
 }

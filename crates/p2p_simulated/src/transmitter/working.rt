@@ -4,7 +4,7 @@ use super::pairs::Pairs;
 use super::peers::Peers;
 use crate::error::Error;
 use crate::peer::Peer;
-use std::alloc::Global;
+use std::alloc::{AllocError, Global};
 
 /// All that is kept between calls.
 #[derive(Drop)]
@@ -35,20 +35,6 @@ impl<P: Peer> Working<P> {
             finish: None,
             start: None,
         }
-    }
-
-    /// The same state, the peers cloned.
-    pub(crate) fn copy(&self) -> Result<Working<P>, Error> {
-        Ok(Working {
-            alloc: self.alloc,
-            peers: self.peers.copy(self.alloc)?,
-            pairs: self.pairs.copy(self.alloc)?,
-            flights: self.flights.copy(self.alloc)?,
-            limited: self.limited,
-            next_id: self.next_id,
-            finish: self.finish,
-            start: self.start,
-        })
     }
 
     /// Sets the caps of a peer.
@@ -83,5 +69,21 @@ impl<P: Peer> Working<P> {
             (Some(finish), None) => Some(finish),
             (None, start) => start,
         }
+    }
+}
+
+impl<P: Peer> Clone for Working<P> {
+    /// The same state, the peers cloned.
+    fn clone(&self) -> Result<Working<P>, AllocError> {
+        Ok(Working {
+            alloc: self.alloc,
+            peers: self.peers.clone()?,
+            pairs: self.pairs.clone()?,
+            flights: self.flights.clone()?,
+            limited: self.limited,
+            next_id: self.next_id,
+            finish: self.finish,
+            start: self.start,
+        })
     }
 }

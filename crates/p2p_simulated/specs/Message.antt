@@ -1,5 +1,4 @@
--- How a scheduler is read as a planned world.
-use Rattle.std.specs.Prelude.{List, map}
+-- How a message in the code is read.
 use Rattle.p2p_simulated.specs.WorldMessages.{Message}
 use Rattle.p2p_simulated.specs.declared.transmitter.message.Message as code
 
