@@ -4,3 +4,5 @@ pub mod Sorted
 pub mod Pairs
 pub mod Peers
 pub mod Copies
+pub mod Waiting
+pub mod Entries

@@ -1,12 +1,13 @@
 -- What is known of ordered pairs of peers, as a list in the order of pairs.
-use Rattle.std.specs.Prelude.{◌≡◌, ℕ, Bool, ◌&&◌, List, [], ◌∷◌, ◌++◌, map, Option, None}
-use Rattle.std.specs.List.{AllZip, list_all}
+use Rattle.std.specs.Prelude.{◌≡◌, ℕ, Bool, ◌&&◌, cond, List, [], ◌∷◌, ◌++◌, map, Option, Some, None}
+use Rattle.std.specs.List.{AllZip, list_all, find}
 use Rattle.std.specs.declared.cmp.Ordering.{Ordering}
 use Rattle.std.specs.declared.cmp.Ordering.TheVariants.{Equal}
 use Rattle.std.specs.Ordering.{ordering_then}
 use Rattle.p2p_simulated.specs.declared.transmitter.pairs.Pair.{Pair}
 use Rattle.p2p_simulated.specs.Sides.{same_peer}
 use Rattle.p2p_simulated.specs.WorldMessages.{Message, SameMessage}
+use Rattle.p2p_simulated.specs.World.{later_of}
 use Rattle.p2p_simulated.specs.Sorted.{value_at}
 use Rattle.p2p_simulated.specs.Message.{message_of}
 
@@ -44,3 +45,11 @@ module _ {P : Type 0} (cmp : P → P → Ordering) where
     pub cap : b.cap ≡ a.cap
     pub last_arrival : b.last_arrival ≡ a.last_arrival
     pub waiting : AllZip (λ m n. SameMessage cmp (message_of m) (message_of n)) a.waiting.items b.waiting.items
+
+  -- the first waiting message of a pair
+  abbrev pub first_of : List (Message P) → P → P → Option (Message P)
+  first_of waiting origin recipient = find (λ m. same_peer cmp origin m.origin && same_peer cmp recipient m.recipient) waiting
+
+  -- the last arrivals, of which that of one pair is no earlier than that moment
+  abbrev pub raised_at : (P → P → Option ℕ) → P → P → ℕ → P → P → Option ℕ
+  raised_at last origin recipient at p q = cond (same_peer cmp origin p && same_peer cmp recipient q) (Some (later_of (last p q) at)) (last p q)

@@ -1,7 +1,7 @@
 //! What is known of each ordered pair of peers.
-ghost use Rattle.std.specs.Prelude.{◌≡◌, true, map, IfOk, IfErr};
+ghost use Rattle.std.specs.Prelude.{◌≡◌, true, ◌&&◌, map, IfOk, IfErr};
 ghost use Rattle.p2p_simulated.specs.Sorted.{are_ascending, IsPlace, IsGap};
-ghost use Rattle.p2p_simulated.specs.Pairs.{pair_cmp};
+ghost use Rattle.p2p_simulated.specs.Pairs.{pair_cmp, key_of, are_own};
 
 use super::message::Message;
 use crate::error::Error;
@@ -26,11 +26,22 @@ pub(crate) struct Pair<P> {
 #[derive(Drop)]
 pub(crate) struct Pairs<P: Peer> {
     entries: Vec<Pair<P>>,
-    pub ghost ascending: { are_ascending (pair_cmp P.cmp) (map (λ pair. (pair.origin, pair.recipient)) entries.items) ≡ true },
+    pub ghost ascending: { are_ascending (pair_cmp P.cmp) (map key_of entries.items) ≡ true },
+    pub ghost own: { are_own P.cmp entries.items ≡ true },
 }
 
 impl<P: Peer> Pairs<P> {
-    pub(crate) fn new(alloc: Global) -> Self {
+    ghost use Rattle.std.specs.Prelude.{[], OnOk, option_map};
+    ghost use Rattle.p2p_simulated.specs.Sides.{same_peer};
+    ghost use Rattle.p2p_simulated.specs.WorldMessages.{with_link};
+    ghost use Rattle.p2p_simulated.specs.World.{without_first};
+    ghost use Rattle.p2p_simulated.specs.WorldPlanned.{queued};
+    ghost use Rattle.p2p_simulated.specs.Message.{message_of};
+    ghost use Rattle.p2p_simulated.specs.Pairs.{link_of, arrival_of, waiting_of, first_of, raised_at};
+
+    pub(crate) fn new(alloc: Global) -> Self
+        ensures { result.entries.items ≡ [] }
+    {
         Pairs {
             entries: Vec::new(alloc),
         }
@@ -38,8 +49,8 @@ impl<P: Peer> Pairs<P> {
 
     /// Where the pair stands, or where it would.
     fn search(&self, origin: &P, recipient: &P) -> Result<usize, usize>
-        ensures found { IfOk result (IsPlace (pair_cmp P.cmp) (λ pair. (pair.origin, pair.recipient)) self.now.entries.items (origin.now, recipient.now)) }
-        ensures absent { IfErr result (IsGap (pair_cmp P.cmp) (λ pair. (pair.origin, pair.recipient)) self.now.entries.items (origin.now, recipient.now)) }
+        ensures found { IfOk result (IsPlace (pair_cmp P.cmp) key_of self.now.entries.items (origin.now, recipient.now)) }
+        ensures absent { IfErr result (IsGap (pair_cmp P.cmp) key_of self.now.entries.items (origin.now, recipient.now)) }
     {
         self.entries.binary_search_by(|pair| {
             pair.origin
@@ -49,7 +60,13 @@ impl<P: Peer> Pairs<P> {
     }
 
     /// Where the pair stands, if need be from now on.
-    fn place(&mut self, alloc: Global, origin: &P, recipient: &P) -> Result<usize, Error> {
+    fn place(&mut self, alloc: Global, origin: &P, recipient: &P) -> Result<usize, Error>
+        ensures found { IfOk result (IsPlace (pair_cmp P.cmp) key_of self.new.entries.items (origin.now, recipient.now)) }
+        ensures link { OnOk result (link_of P.cmp self.new.entries.items ≡ link_of P.cmp self.old.entries.items) }
+        ensures arrival { OnOk result (arrival_of P.cmp self.new.entries.items ≡ arrival_of P.cmp self.old.entries.items) }
+        ensures waiting { OnOk result (waiting_of self.new.entries.items ≡ waiting_of self.old.entries.items) }
+        ensures refused { IfErr result (λ e. e ≡ Error.OutOfMemory) }
+    {
         match self.search(origin, recipient) {
             Ok(at) => Ok(at),
             Err(at) => {
@@ -67,7 +84,9 @@ impl<P: Peer> Pairs<P> {
     }
 
     /// The cap on what goes from the one to the other.
-    pub(crate) fn cap(&self, origin: &P, recipient: &P) -> Option<u128> {
+    pub(crate) fn cap(&self, origin: &P, recipient: &P) -> Option<u128>
+        ensures { result ≡ link_of P.cmp self.now.entries.items origin.now recipient.now }
+    {
         match self.search(origin, recipient) {
             Ok(at) => self.entries[at].cap,
             Err(_) => None,
@@ -75,7 +94,9 @@ impl<P: Peer> Pairs<P> {
     }
 
     /// The moment before which no later message of the pair arrives, if there is one.
-    pub(crate) fn last_arrival(&self, origin: &P, recipient: &P) -> Option<u64> {
+    pub(crate) fn last_arrival(&self, origin: &P, recipient: &P) -> Option<u64>
+        ensures { result ≡ arrival_of P.cmp self.now.entries.items origin.now recipient.now }
+    {
         match self.search(origin, recipient) {
             Ok(at) => self.entries[at].last_arrival,
             Err(_) => None,
@@ -83,7 +104,9 @@ impl<P: Peer> Pairs<P> {
     }
 
     /// The first message that waits for the pair.
-    pub(crate) fn first(&self, origin: &P, recipient: &P) -> Option<&Message<P>> {
+    pub(crate) fn first(&self, origin: &P, recipient: &P) -> Option<&Message<P>>
+        ensures { option_map (λ m. message_of m.now) result ≡ first_of P.cmp (waiting_of self.now.entries.items) origin.now recipient.now }
+    {
         match self.search(origin, recipient) {
             Ok(at) => self.entries[at].waiting.front(),
             Err(_) => None,
@@ -91,7 +114,12 @@ impl<P: Peer> Pairs<P> {
     }
 
     /// Takes the first message that waits for the pair.
-    pub(crate) fn take_first(&mut self, origin: &P, recipient: &P) -> Option<Message<P>> {
+    pub(crate) fn take_first(&mut self, origin: &P, recipient: &P) -> Option<Message<P>>
+        ensures taken { option_map message_of result ≡ first_of P.cmp (waiting_of self.old.entries.items) origin.now recipient.now }
+        ensures waiting { waiting_of self.new.entries.items ≡ without_first (λ m. same_peer P.cmp origin.now m.origin && same_peer P.cmp recipient.now m.recipient) (waiting_of self.old.entries.items) }
+        ensures link { link_of P.cmp self.new.entries.items ≡ link_of P.cmp self.old.entries.items }
+        ensures arrival { arrival_of P.cmp self.new.entries.items ≡ arrival_of P.cmp self.old.entries.items }
+    {
         match self.search(origin, recipient) {
             Ok(at) => self.entries[at].waiting.pop_front(),
             Err(_) => None,
@@ -105,7 +133,12 @@ impl<P: Peer> Pairs<P> {
         origin: &P,
         recipient: &P,
         cap: Option<u128>,
-    ) -> Result<(), Error> {
+    ) -> Result<(), Error>
+        ensures link { OnOk result (link_of P.cmp self.new.entries.items ≡ with_link P.cmp (link_of P.cmp self.old.entries.items) origin.now recipient.now cap) }
+        ensures arrival { OnOk result (arrival_of P.cmp self.new.entries.items ≡ arrival_of P.cmp self.old.entries.items) }
+        ensures waiting { OnOk result (waiting_of self.new.entries.items ≡ waiting_of self.old.entries.items) }
+        ensures refused { IfErr result (λ e. e ≡ Error.OutOfMemory) }
+    {
         let at = self.place(alloc, origin, recipient)?;
         self.entries[at].cap = cap;
         Ok(())
@@ -118,7 +151,12 @@ impl<P: Peer> Pairs<P> {
         origin: &P,
         recipient: &P,
         moment: u64,
-    ) -> Result<(), Error> {
+    ) -> Result<(), Error>
+        ensures arrival { OnOk result (arrival_of P.cmp self.new.entries.items ≡ raised_at P.cmp (arrival_of P.cmp self.old.entries.items) origin.now recipient.now moment) }
+        ensures link { OnOk result (link_of P.cmp self.new.entries.items ≡ link_of P.cmp self.old.entries.items) }
+        ensures waiting { OnOk result (waiting_of self.new.entries.items ≡ waiting_of self.old.entries.items) }
+        ensures refused { IfErr result (λ e. e ≡ Error.OutOfMemory) }
+    {
         let at = self.place(alloc, origin, recipient)?;
         let pair = &mut self.entries[at];
         let later = match pair.last_arrival {
@@ -130,14 +168,21 @@ impl<P: Peer> Pairs<P> {
     }
 
     /// The message joins those that wait for its pair, as the last one.
-    pub(crate) fn push(&mut self, alloc: Global, message: Message<P>) -> Result<(), Error> {
+    pub(crate) fn push(&mut self, alloc: Global, message: Message<P>) -> Result<(), Error>
+        ensures waiting { OnOk result (waiting_of self.new.entries.items ≡ queued P.cmp (message_of message) (waiting_of self.old.entries.items)) }
+        ensures link { OnOk result (link_of P.cmp self.new.entries.items ≡ link_of P.cmp self.old.entries.items) }
+        ensures arrival { OnOk result (arrival_of P.cmp self.new.entries.items ≡ arrival_of P.cmp self.old.entries.items) }
+        ensures refused { IfErr result (λ e. e ≡ Error.OutOfMemory) }
+    {
         let at = self.place(alloc, &message.origin, &message.recipient)?;
         self.entries[at].waiting.push_back(message)?;
         Ok(())
     }
 
     /// What is known of each pair, in the order of pairs.
-    pub(crate) fn all(&self) -> &[Pair<P>] {
+    pub(crate) fn all(&self) -> &[Pair<P>]
+        ensures { result.now ≡ self.now.entries.items }
+    {
         &self.entries
     }
 }
