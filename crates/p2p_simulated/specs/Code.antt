@@ -1,5 +1,4 @@
 -- How the values of the code are read.
-use Rattle.std.specs.Prelude.{List, map}
 use Rattle.p2p_simulated.specs.Fair.{Side}
 use Rattle.p2p_simulated.specs.declared.bandwidth.sides.Side as declared
 

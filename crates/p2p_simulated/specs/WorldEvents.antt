@@ -9,7 +9,7 @@ use Rattle.p2p_simulated.specs.WorldMessages.{Message, Caps, same_pair, is_deliv
 use Rattle.p2p_simulated.specs.WorldRates.{Parts, rate_of, AreFair}
 use Rattle.p2p_simulated.specs.World.{Completed, completion_of, Course, goes, meets, last_moment, preceded, raised, later_of, without_first, fronts}
 use Rattle.p2p_simulated.specs.WorldCalls.{Call, call_limit, call_limit_link, call_enqueue, call_advance, call_next, limited_by, linked_by}
-use Rattle.p2p_simulated.specs.WorldPlanned.{Planned, Paced, IsLeastMoment, next_event, paced_flows, SomeSpentAt, drained_to, next_of, queued, may_launch, SomeReadyAt, is_spent}
+use Rattle.p2p_simulated.specs.WorldPlanned.{Planned, IsLeastMoment, next_event, paced_flows, SomeSpentAt, drained_to, next_of, queued, may_launch, SomeReadyAt, is_spent}
 
 module _ {P : Type 0} (cmp : P → P → Ordering) where
   -- ---- the steps

@@ -1,11 +1,11 @@
 -- The planned world: what is kept between events, and what is planned.
-use Rattle.std.specs.Prelude.{⊤, ◌≡◌, ℕ, ◌+◌, ◌-◌, ◌≤◌, min, List, [], ◌∷◌, ◌++◌, length, map, Bool, true, false, not, ◌&&◌, ◌||◌, if◌then◌else◌, Option, Some, None, ◌==◌, MatchOption, slice_get}
+use Rattle.std.specs.Prelude.{⊤, ◌≡◌, ℕ, ◌+◌, ◌-◌, ◌≤◌, min, List, [], ◌∷◌, map, Bool, true, false, not, ◌&&◌, ◌||◌, if◌then◌else◌, Option, Some, None, ◌==◌, MatchOption, slice_get}
 use Rattle.std.specs.List.{find, list_any, AllZip}
 use Rattle.std.specs.declared.cmp.Ordering.{Ordering}
-use Rattle.p2p_simulated.specs.Amount.{Amount, whole}
+use Rattle.p2p_simulated.specs.Amount.{Amount}
 use Rattle.p2p_simulated.specs.WorldMessages.{Message, Caps, no_caps, same_pair, pair_before}
 use Rattle.p2p_simulated.specs.WorldRates.{Parts, rate_of, drained_by, is_unlimited, AreFair}
-use Rattle.p2p_simulated.specs.World.{last_moment, is_in_order, without_first}
+use Rattle.p2p_simulated.specs.World.{last_moment, is_in_order}
 
 -- a message in flight, with what was left of it at a moment, and the rate that it has had since; none is without limit
 pub record Paced (P : Type 0) : Type 0 where
@@ -49,9 +49,13 @@ paced_flows sending = map (λ f. f.message) sending
 abbrev pub left_at : {P : Type 0} → ℕ → Paced P → Amount
 left_at t f = drained_by f.rate (t - f.updated) f.left
 
+-- nothing is left of it at t
+abbrev pub IsSpentAt : {P : Type 0} → ℕ → Paced P → Type 0
+IsSpentAt t f = (left_at t f).num ≡ 0
+
 -- at t nothing is left of some message in flight
 abbrev pub SomeSpentAt : {P : Type 0} → List (Paced P) → ℕ → Type 0
-SomeSpentAt {P} sending t = (i : ℕ) × (f : Paced P) × (slice_get sending i ≡ Some f) × (f.updated ≤ t) × ((left_at t f).num ≡ 0)
+SomeSpentAt {P} sending t = (i : ℕ) × (f : Paced P) × (slice_get sending i ≡ Some f) × (f.updated ≤ t) × IsSpentAt t f
 
 -- the messages in flight after they have drained to t, which becomes their update
 abbrev pub drained_to : {P : Type 0} → ℕ → List (Paced P) → List (Paced P)

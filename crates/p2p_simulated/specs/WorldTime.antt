@@ -1,5 +1,5 @@
 -- How time goes by in the simulation, nanosecond by nanosecond, and when its next event comes.
-use Rattle.std.specs.Prelude.{⊤, ◌≡◌, ℕ, zero, suc, ◌+◌, ◌-◌, ◌<◌, ◌≤◌, List, [], ◌∷◌, Bool, false, Option, Some, None}
+use Rattle.std.specs.Prelude.{⊤, ◌≡◌, ℕ, zero, suc, ◌+◌, ◌-◌, ◌<◌, ◌≤◌, List, [], ◌∷◌, false, Option, Some, None}
 use Rattle.std.specs.declared.cmp.Ordering.{Ordering}
 use Rattle.p2p_simulated.specs.declared.error.Error.{Error}
 use Rattle.p2p_simulated.specs.WorldMessages.{CapsAlike, PairsAlike, OneForEachPair}
@@ -34,6 +34,11 @@ module _ {P : Type 0} (cmp : P → P → Ordering) where
     no_tick : {w : World P} → Ticks zero w (goes [] w)
     one_tick : {n : ℕ} {w v u : World P} {cs : List (Completed P)} {rest : Course (Completed P) (World P)} → Drains w v → instant cmp v ≡ goes cs u → Ticks n u rest → Ticks (suc n) w (preceded cs rest)
     tick_faults : {n : ℕ} {w v : World P} {fault : Error} → Drains w v → instant cmp v ≡ meets fault → Ticks (suc n) w (meets fault)
+
+  -- a course and then n more nanoseconds, if it goes
+  abbrev pub Continues : ℕ → Course (Completed P) (World P) → Course (Completed P) (World P) → Type 0
+  Continues n (goes cs v) course = (rest : Course (Completed P) (World P)) × Ticks n v rest × (course ≡ preceded cs rest)
+  Continues n (meets fault) course = course ≡ meets fault
 
   -- n nanoseconds go by in which nothing completes or starts
   pub data Passes : ℕ → World P → World P → Type 0 where

@@ -1,40 +1,97 @@
 //! Who sends how fast.
-ghost use Rattle.std.specs.Prelude.{◌≡◌, ◌⊎◌, ℕ, List, IfOk, IfErr, length};
+ghost use Rattle.std.specs.Prelude.{◌≡◌, ◌⊎◌, ℕ, IfOk, IfErr, length};
 ghost use Rattle.std.specs.Fn.{CalledAt, TakesAt, CalledAtTwo, TakesAtTwo};
 ghost use Rattle.std.specs.Ordering.{nat_cmp};
+ghost use Rattle.std.specs.declared.cmp.Ordering.TheVariants.{Equal};
 ghost use Rattle.std.specs.BTreeMap.{get};
-ghost use Rattle.p2p_simulated.specs.Answers.{Answered, States, AnswerInOrder, NoLink, CallableOnEach, CallableOnEachPair, origins, recipients, pairs};
-ghost use Rattle.p2p_simulated.specs.Sides.{sides_of};
-ghost use Rattle.p2p_simulated.specs.Rates.{AreFairRates, last_rate};
+ghost use Rattle.p2p_simulated.specs.Answers.{States, NoLink, CallableOnEach, CallableOnEachPair, origins, recipients, pairs};
+ghost use Rattle.p2p_simulated.specs.Rates.{IsAllocation, last_rate};
 
+mod equality;
 mod filling;
+pub mod laws;
 mod sides;
+mod time;
 
 use crate::error::Error;
 use crate::peer::Peer;
 use crate::ratio::Ratio;
+pub use equality::rates_are_equal_by_value;
 use std::alloc::Global;
 use std::collections::BTreeMap;
+pub use time::{
+    draining_splits, duration, nothing_is_left_from_the_least_time_on, there_is_one_least_time,
+    transfer,
+};
 
-/// Something that goes from one peer to another.
+/// Something that goes from one peer to another, as a message while it is sent.
 #[derive(Debug, Drop)]
 pub struct Flow<P> {
+    /// The name under which its rate is answered. Several flows may have one name.
     pub id: u64,
+    /// Who sends.
     pub origin: P,
+    /// Who is to receive. It may be the origin.
     pub recipient: P,
-    /// Whether it arrives. A flow that does not charges its origin alone.
+    /// Whether it arrives. A flow that does not, as a message that will be lost, takes nothing of
+    /// what its recipient may receive.
     pub delivered: bool,
 }
 
-/// How fast a flow may send, in bytes a second.
+impl<P: Peer> Flow<P> {
+    /// The same flow, with a clone of each peer. Refused only where memory was refused for one.
+    pub fn clone(&self) -> Result<Flow<P>, Error>
+        ensures id { IfOk result (λ copy. copy.id ≡ self.now.id) }
+        ensures origin { IfOk result (λ copy. P.cmp copy.origin self.now.origin ≡ Equal) }
+        ensures recipient { IfOk result (λ copy. P.cmp copy.recipient self.now.recipient ≡ Equal) }
+        ensures delivered { IfOk result (λ copy. copy.delivered ≡ self.now.delivered) }
+        ensures refused { IfErr result (λ e. e ≡ Error.OutOfMemory) }
+    {
+        Ok(Flow {
+            id: self.id,
+            origin: self.origin.clone_peer().ok_or(Error::OutOfMemory)?,
+            recipient: self.recipient.clone_peer().ok_or(Error::OutOfMemory)?,
+            delivered: self.delivered,
+        })
+    }
+}
+
+/// How fast a flow may send.
 #[derive(Clone, Copy, Debug, PartialEq, Eq)]
 pub enum Rate {
-    /// No side limits the flow.
+    /// No cap holds for the flow.
     Unlimited,
+    /// So many bytes a second.
     Finite(Ratio),
 }
 
 /// The max-min fair rate of each flow, by its id.
+///
+/// The caps are in bytes a second, and `None` stands for no cap. `egress_cap` says how much a peer
+/// may send in all, `ingress_cap` how much it may receive. Both are called flow by flow in the
+/// order of the list: `egress_cap` once for each flow, with its origin, and then `ingress_cap`
+/// once with its recipient, if the flow is delivered. So they may be called several times with one
+/// peer, and in any state that their earlier calls left.
+///
+/// The first number that is answered for a peer is its cap for good. It holds for the flow for
+/// which it was answered and for each later flow of that peer, whatever is answered then. Flows
+/// before that one are not held by it.
+///
+/// A flow for which no cap holds is `Unlimited`. The rates of the others are max-min fair: the
+/// flows under a cap have no more than it together, and each flow is under a cap that is used up
+/// and that leaves none of its flows more than this one has. A flow under a cap of zero has rate
+/// zero.
+///
+/// The map has an entry for each id that occurs. Of flows with one id the last decides, but each of
+/// them is given its share.
+///
+/// # Errors
+///
+/// - `OutOfMemory` where memory for a list or for the map was refused.
+/// - `NumberTooLarge` where a fraction that is met on the way does not fit, reduced, in a numerator
+///   and a denominator of 128 bits.
+///
+/// After either, the closures may have been called for no more than the first few of the flows.
 pub fn allocate<P, E, I>(
     alloc: Global,
     flows: &[Flow<P>],
@@ -47,16 +104,30 @@ where
     I: FnMut(&P) -> Option<u128>,
     requires egress { CallableOnEach (TakesAt E.FnMut) (CalledAt E.FnMut) egress_cap (origins flows.now) }
     requires ingress { CallableOnEach (TakesAt I.FnMut) (CalledAt I.FnMut) ingress_cap (recipients flows.now) }
-    ensures fair { IfOk result (λ by_id. (answered : List (Answered P)) × (rates : List Rate)
-        × AnswerInOrder (CalledAt E.FnMut) (CalledAt I.FnMut) NoLink (record { egress = egress_cap; ingress = ingress_cap; link = tt }) flows.now answered
-        × AreFairRates (sides_of P.cmp answered) (length flows.now) rates
-        × ((id : ℕ) → get nat_cmp by_id id ≡ last_rate id flows.now rates)) }
+    ensures fair { IfOk result (λ rates. IsAllocation P.cmp (CalledAt E.FnMut) (CalledAt I.FnMut) NoLink
+        (record { egress = egress_cap; ingress = ingress_cap; link = tt }) flows.now (get nat_cmp rates)) }
     ensures refused { IfErr result (λ e. (e ≡ Error.OutOfMemory) ⊎ (e ≡ Error.NumberTooLarge)) }
 {
-    Err(Error::OutOfMemory)
+    allocate_linked(
+        alloc,
+        flows,
+        egress_cap,
+        ingress_cap,
+        |_origin, _recipient| None,
+    )
 }
 
-/// As `allocate`, with a cap for each ordered pair.
+/// The max-min fair rate of each flow, by its id, where also links have caps.
+///
+/// As [`allocate`], with a third closure. `link_cap` says how much may go from one peer to another,
+/// in bytes a second. It is called once for each flow, after the other closures, with the origin
+/// and the recipient, also for a flow that is not delivered. The first number that is answered for
+/// an ordered pair is the cap of all that goes from the one to the other, delivered or not, from
+/// that flow on. The two directions between two peers are two links.
+///
+/// # Errors
+///
+/// As those of [`allocate`].
 pub fn allocate_linked<P, E, I, L>(
     alloc: Global,
     flows: &[Flow<P>],
@@ -72,19 +143,27 @@ where
     requires egress { CallableOnEach (TakesAt E.FnMut) (CalledAt E.FnMut) egress_cap (origins flows.now) }
     requires ingress { CallableOnEach (TakesAt I.FnMut) (CalledAt I.FnMut) ingress_cap (recipients flows.now) }
     requires link { CallableOnEachPair (TakesAtTwo L.FnMut) (CalledAtTwo L.FnMut) link_cap (pairs flows.now) }
-    ensures fair { IfOk result (λ by_id. (answered : List (Answered P)) × (rates : List Rate)
-        × AnswerInOrder (CalledAt E.FnMut) (CalledAt I.FnMut) (CalledAtTwo L.FnMut) (record { egress = egress_cap; ingress = ingress_cap; link = link_cap }) flows.now answered
-        × AreFairRates (sides_of P.cmp answered) (length flows.now) rates
-        × ((id : ℕ) → get nat_cmp by_id id ≡ last_rate id flows.now rates)) }
+    ensures fair { IfOk result (λ rates. IsAllocation P.cmp (CalledAt E.FnMut) (CalledAt I.FnMut) (CalledAtTwo L.FnMut)
+        (record { egress = egress_cap; ingress = ingress_cap; link = link_cap }) flows.now (get nat_cmp rates)) }
     ensures refused { IfErr result (λ e. (e ≡ Error.OutOfMemory) ⊎ (e ≡ Error.NumberTooLarge)) }
 {
-    Err(Error::OutOfMemory)
+    let registered = sides::sides(alloc, flows, egress_cap, ingress_cap, link_cap)?;
+    let rates = filling::fair_rates(alloc, flows.len(), &registered.sides)?;
+    rates_by_id(alloc, flows, &rates)
 }
 
-pub fn duration(rate: &Rate, remaining: &Ratio) -> Result<Option<u64>, Error> {
-    Err(Error::NumberTooLarge)
-}
-
-pub fn transfer(rate: &Rate, elapsed: u64, remaining: Ratio) -> Result<Ratio, Error> {
-    Err(Error::NumberTooLarge)
+/// The rates by the ids of their flows. Of flows with one id the last counts.
+fn rates_by_id<P>(
+    alloc: Global,
+    flows: &[Flow<P>],
+    rates: &[Rate],
+) -> Result<BTreeMap<u64, Rate>, Error>
+    ensures by_id { IfOk result (λ by_id. (id : ℕ) → get nat_cmp by_id id ≡ last_rate id flows.now rates.now) }
+    ensures refused { IfErr result (λ e. e ≡ Error.OutOfMemory) }
+{
+    let mut by_id = BTreeMap::new(alloc);
+    for (flow, rate) in flows.iter().zip(rates) {
+        by_id.insert(flow.id, *rate)?;
+    }
+    Ok(by_id)
 }

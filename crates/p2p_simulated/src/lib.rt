@@ -3,6 +3,7 @@
 
 pub mod bandwidth;
 pub mod error;
+pub mod linkrun;
 pub mod model;
 pub mod peer;
 pub mod ratio;

@@ -1,1 +1,11 @@
-//! Laws about the definitions of the simulation and of the event rule. Each function does nothing: its contract is the law.
+//! Laws about the definitions of the simulation and of the event rule.
+//!
+//! The definitions stand in `specs/`: `World` and `WorldTime` are the simulation, which goes
+//! nanosecond by nanosecond; `WorldPlanned` and `WorldEvents` are the event rule, which goes from
+//! event to event; `WorldStands` says when a state of the one stands for a state of the other.
+//! Each function here does nothing: its contract is a law.
+
+pub mod events;
+pub mod instants;
+pub mod rows;
+pub mod time;

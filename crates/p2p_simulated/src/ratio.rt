@@ -8,7 +8,9 @@ ghost use Rattle.p2p_simulated.specs.Laws.FractionOrder.{fraction_total, fractio
 mod laws;
 mod numbers;
 
-pub use laws::{comparisons_are_by_value, each_value_has_one_fraction};
+pub use laws::{
+    comparisons_are_by_value, each_value_has_one_fraction, hashes_read_the_whole_value,
+};
 use numbers::{gcd, order, quotient};
 use std::cmp::Ordering;
 
@@ -196,12 +198,7 @@ impl Ratio {
         ensures fits { IsSome result ↔ ReducedFits (times (amount_of self) (amount_of other)) }
         ensures value { IfSome result (λ product. IsWorth product (times (amount_of self) (amount_of other))) }
     {
-        Ratio::product(
-            self.numerator,
-            self.denominator,
-            other.numerator,
-            other.denominator,
-        )
+        self.product(other.numerator, other.denominator)
     }
 
     /// The quotient, or `None` exactly where `other` is zero or the quotient does not fit in lowest
@@ -213,28 +210,21 @@ impl Ratio {
         if other.numerator == 0 {
             return None;
         }
-        Ratio::product(
-            self.numerator,
-            self.denominator,
-            other.denominator,
-            other.numerator,
-        )
+        self.product(other.denominator, other.numerator)
     }
 
-    /// `a / b` times `c / d`, both in lowest terms: each numerator and the other denominator are
-    /// reduced before they are multiplied.
-    fn product(a: u128, b: u128, c: u128, d: u128) -> Option<Ratio>
-        requires first_positive { 0 < b }
-        requires second_positive { 0 < d }
-        requires first_lowest { IsReduced a b }
-        requires second_lowest { IsReduced c d }
-        ensures fits { IsSome result ↔ ReducedFits (record { num = a * c; den = b * d }) }
-        ensures value { IfSome result (λ product. amount_of product ≡ reduced (a * c) (b * d)) }
+    /// The product with `num / den`, which is in lowest terms: each numerator and the other
+    /// denominator are reduced before they are multiplied.
+    fn product(self, num: u128, den: u128) -> Option<Ratio>
+        requires positive { 0 < den }
+        requires lowest { IsReduced num den }
+        ensures fits { IsSome result ↔ ReducedFits (times (amount_of self) (record { num = num; den = den })) }
+        ensures value { IfSome result (λ product. IsWorth product (times (amount_of self) (record { num = num; den = den }))) }
     {
-        let first = gcd(a, d);
-        let second = gcd(c, b);
-        let numerator = quotient(a, first).checked_mul(quotient(c, second))?;
-        let denominator = quotient(b, second).checked_mul(quotient(d, first))?;
+        let first = gcd(self.numerator, den);
+        let second = gcd(num, self.denominator);
+        let numerator = quotient(self.numerator, first).checked_mul(quotient(num, second))?;
+        let denominator = quotient(self.denominator, second).checked_mul(quotient(den, first))?;
         Some(Ratio {
             numerator,
             denominator,

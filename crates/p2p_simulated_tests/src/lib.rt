@@ -1,2 +1,7 @@
 //! Tests of the library through its public surface.
 #![tactic(auto)]
+
+#[cfg(test)]
+mod ratio_tests;
+#[cfg(test)]
+mod scripts;

@@ -1,14 +1,16 @@
 //! What limits flows: the sides that the caps make.
-ghost use Rattle.std.specs.Prelude.{◌≡◌, ◌⊎◌, List, IfOk, IfErr, map, All, length, ◌<◌};
+ghost use Rattle.std.specs.Prelude.{◌≡◌, ◌⊎◌, ◌<◌, ◌++◌, [], ◌∷◌, ℕ, List, Some, IfOk, IfErr, OnOk, map, All, AllPairs, length, vec_len};
 ghost use Rattle.std.specs.Fn.{CalledAt, TakesAt, CalledAtTwo, TakesAtTwo};
 ghost use Rattle.p2p_simulated.specs.Answers.{Answered, States, AnswerInOrder, CallableOnEach, CallableOnEachPair, origins, recipients, pairs};
-ghost use Rattle.p2p_simulated.specs.Sides.{sides_of};
+ghost use Rattle.p2p_simulated.specs.Sides.{Ask, sides_of};
 ghost use Rattle.p2p_simulated.specs.Code.{side_of};
+ghost use Rattle.p2p_simulated.specs.Registering.{FindsSides, Registers, AreUses};
 
 use crate::bandwidth::Flow;
 use crate::error::Error;
 use crate::peer::Peer;
 use std::alloc::Global;
+use std::collections::BTreeMap;
 
 /// What limits some flows together: its cap in bytes a second, and the places of those flows in
 /// the list, in its order.
@@ -18,14 +20,74 @@ pub(crate) struct Side {
     pub(crate) users: Vec<usize>,
 }
 
-/// The sides of the flows, in the order in which they come into being.
+/// The sides that one flow uses, each by its number, its place among the sides.
+#[derive(Clone, Copy, Debug)]
+pub(crate) struct Uses {
+    pub(crate) egress: Option<usize>,
+    pub(crate) ingress: Option<usize>,
+    pub(crate) link: Option<usize>,
+}
+
+/// The sides of some flows, in the order in which they come into being, and what each flow uses.
+#[derive(Debug, Drop)]
+pub(crate) struct Registered {
+    pub(crate) sides: Vec<Side>,
+    pub(crate) uses: Vec<Uses>,
+}
+
+/// What a side limits: all that one peer sends, all that one peer receives, or all that goes from
+/// one peer to another.
+#[derive(Clone, Copy, PartialEq, Eq, PartialOrd, Ord)]
+enum Subject<'a, P> {
+    SentBy(&'a P),
+    ReceivedBy(&'a P),
+    SentBetween(&'a P, &'a P),
+}
+
+/// The sides that have come into being, and the number of each, its place among them, by its
+/// subject.
+#[derive(Drop)]
+struct Registry<'a, P: Ord> {
+    sides: Vec<Side>,
+    numbers: BTreeMap<Subject<'a, P>, usize>,
+}
+
+/// Registers that the flow at `place` asks for the side of `subject`, and that its closure gave
+/// this answer. Answers the number of the side, if there is one now.
+fn register<'a, P: Peer>(
+    alloc: Global,
+    registry: &mut Registry<'a, P>,
+    place: usize,
+    subject: Subject<'a, P>,
+    answer: Option<u128>,
+) -> Result<Option<usize>, Error>
+    requires { FindsSides P.cmp registry.old }
+    ensures registers { IfOk result (Registers P.cmp place subject.entry answer registry.old registry.new) }
+    ensures refused { IfErr result (λ e. e ≡ Error.OutOfMemory) }
+{
+    if let Some(number) = registry.numbers.get(&subject).copied() {
+        registry.sides[number].users.push(place)?;
+        return Ok(Some(number));
+    }
+    let Some(cap) = answer else {
+        return Ok(None);
+    };
+    let mut users = Vec::new(alloc);
+    users.push(place)?;
+    let number = registry.sides.len();
+    registry.sides.push(Side { cap, users })?;
+    registry.numbers.insert(subject, number)?;
+    Ok(Some(number))
+}
+
+/// The sides of the flows, and which of them each flow uses.
 pub(crate) fn sides<P, E, I, L>(
     alloc: Global,
     flows: &[Flow<P>],
-    egress_cap: E,
-    ingress_cap: I,
-    link_cap: L,
-) -> Result<Vec<Side>, Error>
+    mut egress_cap: E,
+    mut ingress_cap: I,
+    mut link_cap: L,
+) -> Result<Registered, Error>
 where
     P: Peer,
     E: FnMut(&P) -> Option<u128>,
@@ -34,10 +96,41 @@ where
     requires egress { CallableOnEach (TakesAt E.FnMut) (CalledAt E.FnMut) egress_cap (origins flows.now) }
     requires ingress { CallableOnEach (TakesAt I.FnMut) (CalledAt I.FnMut) ingress_cap (recipients flows.now) }
     requires link { CallableOnEachPair (TakesAtTwo L.FnMut) (CalledAtTwo L.FnMut) link_cap (pairs flows.now) }
-    ensures sides { IfOk result (λ sides. (answered : List (Answered P))
+    ensures sides { IfOk result (λ registered. (answered : List (Answered P))
         × AnswerInOrder (CalledAt E.FnMut) (CalledAt I.FnMut) (CalledAtTwo L.FnMut) (record { egress = egress_cap; ingress = ingress_cap; link = link_cap }) flows.now answered
-        × (map side_of sides.items ≡ sides_of P.cmp answered)) }
+        × (map side_of registered.sides.items ≡ sides_of P.cmp answered)) }
+    ensures uses { IfOk result (λ registered. AreUses registered.sides.items (length flows.now) registered.uses.items) }
+    ensures users_are_flows { IfOk result (λ registered. All (λ side. All (λ flow. flow < length flows.now) side.users.items) registered.sides.items) }
+    ensures users_rise { IfOk result (λ registered. All (λ side. AllPairs (λ a b. a < b) side.users.items) registered.sides.items) }
     ensures refused { IfErr result (λ e. e ≡ Error.OutOfMemory) }
 {
-    Err(Error::OutOfMemory)
+    let mut registry = Registry {
+        sides: Vec::new(alloc),
+        numbers: BTreeMap::new(alloc),
+    };
+    let mut uses = Vec::new(alloc);
+    for (place, flow) in flows.iter().enumerate() {
+        let answer = egress_cap(&flow.origin);
+        let subject = Subject::SentBy(&flow.origin);
+        let egress = register(alloc, &mut registry, place, subject, answer)?;
+        let ingress = if flow.delivered {
+            let answer = ingress_cap(&flow.recipient);
+            let subject = Subject::ReceivedBy(&flow.recipient);
+            register(alloc, &mut registry, place, subject, answer)?
+        } else {
+            None
+        };
+        let answer = link_cap(&flow.origin, &flow.recipient);
+        let subject = Subject::SentBetween(&flow.origin, &flow.recipient);
+        let link = register(alloc, &mut registry, place, subject, answer)?;
+        uses.push(Uses {
+            egress,
+            ingress,
+            link,
+        })?;
+    }
+    Ok(Registered {
+        sides: registry.sides,
+        uses,
+    })
 }

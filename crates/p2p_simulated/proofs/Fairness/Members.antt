@@ -1,0 +1,109 @@
+-- Members of lists, by recursion.
+use Rattle.std.proofs.Common.{◌≡◌, ℕ, zero, suc, ◌<◌, List, [], ◌∷◌, ◌++◌, map, length, Bool, true, false, cond, Some, refl, ap, subst, arith, ◌⊎◌, inl, inr, Contains}
+use Rattle.std.specs.Prelude.{slice_get}
+use Rattle.std.specs.List.{filter, list_any}
+use Rattle.std.proofs.lemmas.Bool.{or_parts, or_from}
+
+abbrev pub In : {X : Type 0} → List X → X → Type 0
+In [] x = ⊥
+In (y ∷ ys) x = (y ≡ x) ⊎ In ys x
+
+pub in_from_contains : {X : Type 0} (xs : List X) (x : X) → Contains xs x → In xs x
+in_from_contains [] x (k, below, e) = absurd (omega arith)
+in_from_contains (y ∷ ys) x (zero, below, e) = inl e
+in_from_contains (y ∷ ys) x (suc k, below, e) = inr (in_from_contains ys x (k, omega arith, e))
+
+pub contains_from_in : {X : Type 0} (xs : List X) (x : X) → In xs x → Contains xs x
+contains_from_in [] x h = absurd h
+contains_from_in (y ∷ ys) x (inl e) = (0, omega arith, e)
+contains_from_in (y ∷ ys) x (inr h) = let c : Contains ys x = contains_from_in ys x h in let below : c.0 < length ys = c.1 in (suc c.0, omega arith, c.2)
+
+pub in_left : {X : Type 0} (xs ys : List X) (x : X) → In xs x → In (xs ++ ys) x
+in_left [] ys x h = absurd h
+in_left (y ∷ xs) ys x (inl e) = inl e
+in_left (y ∷ xs) ys x (inr h) = inr (in_left xs ys x h)
+
+pub in_right : {X : Type 0} (xs ys : List X) (x : X) → In ys x → In (xs ++ ys) x
+in_right [] ys x h = h
+in_right (y ∷ xs) ys x h = inr (in_right xs ys x h)
+
+pub in_either : {X : Type 0} (xs ys : List X) (x : X) → In (xs ++ ys) x → In xs x ⊎ In ys x
+in_either [] ys x h = inr h
+in_either (y ∷ xs) ys x (inl e) = inl (inl e)
+in_either {X} (y ∷ xs) ys x (inr h) = further (in_either xs ys x h)
+  where
+    further : In xs x ⊎ In ys x → In (y ∷ xs) x ⊎ In ys x
+    further (inl g) = inl (inr g)
+    further (inr g) = inr g
+
+pub in_filter : {X : Type 0} (test : X → Bool) (xs : List X) (x : X) → In xs x → test x ≡ true → In (filter test xs) x
+in_filter test [] x h t = absurd h
+in_filter {X} test (y ∷ ys) x h t = by_test (test y) refl h (λ g. in_filter test ys x g t)
+  where
+    by_test : (b : Bool) → test y ≡ b → (y ≡ x) ⊎ In ys x → (In ys x → In (filter test ys) x) → In (cond b (y ∷ filter test ys) (filter test ys)) x
+    by_test true is (inl e) ih = inl e
+    by_test true is (inr g) ih = inr (ih g)
+    by_test false is (inl e) ih = let u : test y ≡ test x = ap test e in cc
+    by_test false is (inr g) ih = ih g
+
+pub from_filter : {X : Type 0} (test : X → Bool) (xs : List X) (x : X) → In (filter test xs) x → In xs x × (test x ≡ true)
+from_filter test [] x h = absurd h
+from_filter {X} test (y ∷ ys) x h = by_test (test y) refl h (λ g. from_filter test ys x g)
+  where
+    by_test : (b : Bool) → test y ≡ b → In (cond b (y ∷ filter test ys) (filter test ys)) x → (In (filter test ys) x → In ys x × (test x ≡ true)) → In (y ∷ ys) x × (test x ≡ true)
+    by_test true is (inl e) ih = (inl e, subst (λ (z : X). test z ≡ true) e is)
+    by_test true is (inr g) ih = let r : In ys x × (test x ≡ true) = ih g in (inr r.0, r.1)
+    by_test false is g ih = let r : In ys x × (test x ≡ true) = ih g in (inr r.0, r.1)
+
+pub in_map : {X Y : Type 0} (f : X → Y) (xs : List X) (x : X) → In xs x → In (map f xs) (f x)
+in_map f [] x h = absurd h
+in_map f (y ∷ ys) x (inl e) = inl (ap f e)
+in_map f (y ∷ ys) x (inr h) = inr (in_map f ys x h)
+
+pub from_map : {X Y : Type 0} (f : X → Y) (xs : List X) (y : Y) → In (map f xs) y → (x : X) × In xs x × (f x ≡ y)
+from_map f [] y h = absurd h
+from_map f (x ∷ xs) y (inl e) = (x, inl refl, e)
+from_map {X} {Y} f (x ∷ xs) y (inr h) = let r : (z : X) × In xs z × (f z ≡ y) = from_map f xs y h in (r.0, inr r.1, r.2)
+
+pub in_get : {X : Type 0} (xs : List X) (i : ℕ) (x : X) → slice_get xs i ≡ Some x → In xs x
+in_get [] i x e = cc
+in_get (y ∷ ys) zero x e = inl cc
+in_get (y ∷ ys) (suc i) x e = inr (in_get ys i x e)
+
+-- where a member stands
+pub get_in : {X : Type 0} (xs : List X) (x : X) → In xs x → (i : ℕ) × (slice_get xs i ≡ Some x)
+get_in [] x h = absurd h
+get_in (y ∷ ys) x (inl e) = (0, ap Some e)
+get_in {X} (y ∷ ys) x (inr h) = let r : (i : ℕ) × (slice_get ys i ≡ Some x) = get_in ys x h in (suc r.0, r.1)
+
+-- what no member passes
+pub none_passes : {X : Type 0} (test : X → Bool) (xs : List X) → list_any test xs ≡ false → (x : X) → In xs x → test x ≡ false
+none_passes test [] e x h = absurd h
+none_passes {X} test (y ∷ ys) e x (inl same) = subst (λ (z : X). test z ≡ false) same (or_parts (test y) (list_any test ys) e).0
+none_passes test (y ∷ ys) e x (inr h) = none_passes test ys (or_parts (test y) (list_any test ys) e).1 x h
+
+pub any_fails : {X : Type 0} (test : X → Bool) (xs : List X) → ((x : X) → In xs x → test x ≡ false) → list_any test xs ≡ false
+any_fails test [] h = refl
+any_fails test (y ∷ ys) h = or_from (test y) (list_any test ys) (h y (inl refl)) (any_fails test ys (λ x g. h x (inr g)))
+
+pub any_passes : {X : Type 0} (test : X → Bool) (xs : List X) (x : X) → In xs x → test x ≡ true → list_any test xs ≡ true
+any_passes test xs x h t = by_any (list_any test xs) refl
+  where
+    by_any : (b : Bool) → list_any test xs ≡ b → list_any test xs ≡ true
+    by_any true e = e
+    by_any false e = let off : test x ≡ false = none_passes test xs e x h in cc
+
+-- some member passes, or none does
+pub some_or_none : {X : Type 0} (test : X → Bool) (xs : List X) → ((x : X) × In xs x × (test x ≡ true)) ⊎ ((x : X) → In xs x → test x ≡ false)
+some_or_none test [] = inr (λ x h. absurd h)
+some_or_none {X} test (y ∷ ys) = by_test (test y) refl (some_or_none test ys)
+  where
+    by_test : (b : Bool) → test y ≡ b → ((x : X) × In ys x × (test x ≡ true)) ⊎ ((x : X) → In ys x → test x ≡ false) → ((x : X) × In (y ∷ ys) x × (test x ≡ true)) ⊎ ((x : X) → In (y ∷ ys) x → test x ≡ false)
+    by_test true is ih = inl (y, inl refl, is)
+    by_test false is (inl (x, h, t)) = inl (x, inr h, t)
+    by_test false is (inr none) = inr (λ x. elim [ inl e ↦ subst (λ (z : X). test z ≡ false) e is | inr h ↦ none x h ])
+
+pub get_from_map : {X Y : Type 0} (f : X → Y) (xs : List X) (i : ℕ) (y : Y) → slice_get (map f xs) i ≡ Some y → (x : X) × (slice_get xs i ≡ Some x) × (f x ≡ y)
+get_from_map f [] i y e = cc
+get_from_map f (x ∷ xs) zero y e = (x, refl, cc)
+get_from_map f (x ∷ xs) (suc i) y e = get_from_map f xs i y e
