@@ -4,4 +4,6 @@
 #[cfg(test)]
 mod ratio_tests;
 #[cfg(test)]
+mod scheduler;
+#[cfg(test)]
 mod scripts;

@@ -172,11 +172,22 @@ impl<P: Peer> Working<P> {
 
     /// The planned finish or start that comes first, if it is due; the finish on a tie.
     fn due(&self, now: u64) -> Option<Event> {
-        match (self.finish, self.start) {
-            (Some(finish), Some(start)) if finish <= start && finish <= now => Some(Event::Finish(finish)),
-            (Some(finish), None) if finish <= now => Some(Event::Finish(finish)),
-            (_, Some(start)) if start <= now => Some(Event::Start(start)),
-            _ => None,
+        let event = match (self.finish, self.start) {
+            (Some(finish), Some(start)) => {
+                if finish <= start {
+                    Event::Finish(finish)
+                } else {
+                    Event::Start(start)
+                }
+            }
+            (Some(finish), None) => Event::Finish(finish),
+            (None, Some(start)) => Event::Start(start),
+            (None, None) => return None,
+        };
+        if event.moment() <= now {
+            Some(event)
+        } else {
+            None
         }
     }
 
@@ -204,9 +215,19 @@ impl<P: Peer> Working<P> {
 }
 
 /// What happens next.
+#[derive(Drop)]
 enum Event {
     /// A message in flight finishes.
     Finish(u64),
     /// A waiting message starts.
     Start(u64),
+}
+
+impl Event {
+    fn moment(&self) -> u64 {
+        match self {
+            Event::Finish(moment) => *moment,
+            Event::Start(moment) => *moment,
+        }
+    }
 }
