@@ -1,5 +1,5 @@
 -- What is known of pairs after the entry of one of them has changed.
-use Rattle.std.proofs.Common.{◌≡◌, ℕ, true, cond, if◌then◌else◌, ◌&&◌, List, [], ◌∷◌, ◌++◌, map, get_or, set, drop, Option, Some, None, refl, sym, ◌∙◌, ap}
+use Rattle.std.proofs.Common.{◌≡◌, ℕ, Bool, true, cond, if◌then◌else◌, ◌&&◌, List, [], ◌∷◌, ◌++◌, map, get_or, set, drop, Option, Some, None, refl, sym, ◌∙◌, ap}
 use Rattle.std.specs.List.{insert, list_all}
 use Rattle.std.specs.declared.cmp.Ordering.{Ordering}
 use Rattle.std.specs.declared.cmp.Ordering.TheVariants.{Equal}
@@ -13,7 +13,7 @@ use Rattle.p2p_simulated.specs.World.{later_of, without_first}
 use Rattle.p2p_simulated.specs.WorldPlanned.{queued}
 use Rattle.p2p_simulated.specs.Sorted.{are_ascending, value_at, IsPlace, IsGap}
 use Rattle.p2p_simulated.specs.Pairs.{pair_cmp, key_of, messages_of, waiting_of, are_own, link_of, arrival_of, raised_at}
-use Rattle.p2p_simulated.proofs.Sorted.{by_bool, is_eq_equal, read_place, ascending_set_at, ascending_insert_at, value_set_at, value_kept, value_added_none, value_there, value_respects, at_place}
+use Rattle.p2p_simulated.proofs.Sorted.{by_bool, and_both, and_right, list_all-append, insert_gap, is_eq_equal, read_place, ascending_set_at, ascending_insert_at, value_set_at, value_kept, value_added_none, value_there, value_respects, at_place}
 use Rattle.p2p_simulated.proofs.Pairs.{pair_total, is_eq-then}
 use Rattle.p2p_simulated.proofs.Waiting.{own_set, own_at_place, same_at_place, without_at_place, queued_at_place, waiting_insert, own_insert}
 
@@ -79,3 +79,23 @@ module _ {P : Type 0} (cmp : P → P → Ordering) (total : IsTotalOrder cmp) wh
       pub own_kept : messages_of e ≡ messages_of f → are_own cmp (set es at e) ≡ true
       own_kept h = own_set cmp total es (o, r) at p own e (ap (λ k. list_all (λ (n : Message P). same_peer cmp k.0 n.origin && same_peer cmp k.1 n.recipient) (messages_of e)) key_is
           ∙ ap (list_all (λ (n : Message P). same_peer cmp p.entry.origin n.origin && same_peer cmp p.entry.recipient n.recipient)) (h ∙ ap messages_of entry_is) ∙ own_at_place cmp total es (o, r) at p own)
+
+      pub own_taken : messages_of e ≡ drop 1 (messages_of f) → are_own cmp (set es at e) ≡ true
+      own_taken h = own_set cmp total es (o, r) at p own e (ap (λ k. list_all (λ (n : Message P). same_peer cmp k.0 n.origin && same_peer cmp k.1 n.recipient) (messages_of e)) key_is
+          ∙ ap (list_all (λ (n : Message P). same_peer cmp p.entry.origin n.origin && same_peer cmp p.entry.recipient n.recipient)) (h ∙ ap (λ pair. drop 1 (messages_of pair)) entry_is)
+          ∙ all_but_first _ (messages_of p.entry) (own_at_place cmp total es (o, r) at p own))
+        where
+          all_but_first : {X : Type 0} (t : X → Bool) (xs : List X) → list_all t xs ≡ true → list_all t (drop 1 xs) ≡ true
+          all_but_first t [] h = refl
+          all_but_first t (x ∷ xs) h = and_right (t x) _ h
+
+      pub own_queued : (m : Message P) → m.origin ≡ o → m.recipient ≡ r → messages_of e ≡ messages_of f ++ m ∷ [] → are_own cmp (set es at e) ≡ true
+      own_queued m same_origin same_recipient h = own_set cmp total es (o, r) at p own e (ap (λ k. list_all (λ (n : Message P). same_peer cmp k.0 n.origin && same_peer cmp k.1 n.recipient) (messages_of e)) key_is
+          ∙ ap (list_all (λ (n : Message P). same_peer cmp p.entry.origin n.origin && same_peer cmp p.entry.recipient n.recipient)) (h ∙ ap (λ pair. messages_of pair ++ m ∷ []) entry_is)
+          ∙ list_all-append (λ (n : Message P). same_peer cmp p.entry.origin n.origin && same_peer cmp p.entry.recipient n.recipient) (messages_of p.entry) (m ∷ []) (own_at_place cmp total es (o, r) at p own)
+            (and_both _ true (ap (λ v. same_peer cmp p.entry.origin v && same_peer cmp p.entry.recipient m.recipient) same_origin ∙ ap (λ v. same_peer cmp p.entry.origin o && same_peer cmp p.entry.recipient v) same_recipient
+              ∙ sym (is_eq-then (cmp p.entry.origin o) (cmp p.entry.recipient r)) ∙ p.same) refl))
+
+  -- the place of a key that is added
+  pub placed : (es : List (Pair P)) (k : P × P) (at : ℕ) (e : Pair P) → IsGap (pair_cmp cmp) key_of es k at → is_eq (pair_cmp cmp (key_of e) k) ≡ true → IsPlace (pair_cmp cmp) key_of (insert es at e) k at
+  placed es k at e g same = record { before = g.before; entry = e; after = g.after; split = insert_gap (pair_cmp cmp) (pair_total cmp total) key_of es k at g e; is_at = g.is_at; below = g.below; same = same; above = g.above }

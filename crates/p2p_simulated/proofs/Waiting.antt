@@ -1,6 +1,9 @@
 -- What waits, pair by pair: the first message of a pair, and the list after a message joins it or leaves it.
-use Rattle.std.proofs.Common.{◌≡◌, ℕ, zero, suc, Bool, true, false, cond, not, if◌then◌else◌, ◌&&◌, List, [], ◌∷◌, ◌++◌, length, map, get_or, set, drop, slice_get, Option, Some, None, refl, sym, ◌∙◌, ap, subst, arith, append_assoc}
+use Rattle.std.proofs.Common.{◌≡◌, ℕ, zero, suc, ◌<◌, Bool, true, false, cond, not, if◌then◌else◌, ◌&&◌, List, [], ◌∷◌, ◌++◌, length, map, get_or, set, drop, slice_get, Option, Some, None, refl, sym, ◌∙◌, ap, subst, arith, append_assoc}
 use Rattle.std.specs.List.{list_all, find, insert}
+use Rattle.std.specs.Slice.{IsItemAt}
+use Rattle.std.specs.Option.{option_map, option_to_list, IsSome}
+use Rattle.std.specs.Borrow.{Bor}
 use Rattle.std.specs.declared.cmp.Ordering.{Ordering}
 use Rattle.std.specs.declared.cmp.Ordering.TheVariants.{Less, Equal, Greater}
 use Rattle.std.specs.Ordering.{is_lt, is_eq, is_gt, ordering_then, ordering_reverse}
@@ -206,3 +209,27 @@ module _ {P : Type 0} (cmp : P → P → Ordering) (total : IsTotalOrder cmp) wh
     pub own_insert : (e : Pair P) → messages_of e ≡ [] → are_own cmp (insert es at e) ≡ true
     own_insert e none = ap (are_own cmp) (insert_gap (pair_cmp cmp) (pair_total cmp total) key_of es k at g e)
         ∙ list_all-append _ g.before (e ∷ g.after) (list_all-left _ g.before g.after own_cut) (and_both _ _ (ap (list_all _) none) (list_all-right _ g.before g.after own_cut))
+
+-- ---- the first of a queue
+
+-- what is read of the first element, if there is one
+pub front_is : {X Y : Type 0} (f : X → Y) (xs : List X) (r : Option (Bor X)) → IsItemAt xs 0 r → option_map (λ b. f b.now) r ≡ slice_get (map f xs) 0
+front_is f [] None h = refl
+front_is f [] (Some b) h = cc h.0
+front_is f (x ∷ xs) None h = cc (h.2 (omega arith))
+front_is f (x ∷ xs) (Some b) h = ap (λ y. Some (f y)) h.1
+
+-- what is taken is the first element, if there is one
+pub popped_is : {X Y : Type 0} (f : X → Y) (xs ys : List X) (r : Option X) → xs ≡ option_to_list r ++ ys → (0 < length xs → IsSome r) → option_map f r ≡ slice_get (map f xs) 0
+popped_is f [] ys None h some = refl
+popped_is f [] ys (Some x) h some = cc h
+popped_is f (x ∷ xs) ys None h some = cc (some (omega arith))
+popped_is f (x ∷ xs) ys (Some y) h some = ap (λ l. slice_get (map f l) 0) (sym h)
+
+pub drop-map : {X Y : Type 0} (f : X → Y) (xs : List X) → map f (drop 1 xs) ≡ drop 1 (map f xs)
+drop-map f [] = refl
+drop-map f (x ∷ xs) = refl
+
+pub map-push : {X Y : Type 0} (f : X → Y) (xs : List X) (x : X) → map f (xs ++ x ∷ []) ≡ map f xs ++ f x ∷ []
+map-push f [] x = refl
+map-push f (y ∷ xs) x = ap (λ l. f y ∷ l) (map-push f xs x)

@@ -1,6 +1,7 @@
 //! What is known of each ordered pair of peers.
 ghost use Rattle.std.specs.Prelude.{◌≡◌, true, ◌&&◌, map, IfOk, IfErr};
 ghost use Rattle.p2p_simulated.specs.Sorted.{are_ascending, IsPlace, IsGap};
+ghost use Rattle.p2p_simulated.specs.World.{later_of as latest};
 ghost use Rattle.p2p_simulated.specs.Pairs.{pair_cmp, key_of, are_own};
 
 use super::message::Message;
@@ -28,6 +29,16 @@ pub(crate) struct Pairs<P: Peer> {
     entries: Vec<Pair<P>>,
     pub ghost ascending: { are_ascending (pair_cmp P.cmp) (map key_of entries.items) ≡ true },
     pub ghost own: { are_own P.cmp entries.items ≡ true },
+}
+
+/// The later of the last arrival, if there is one, and that moment.
+pub(crate) fn later_of(last: Option<u64>, moment: u64) -> u64
+    ensures { result ≡ latest last moment }
+{
+    match last {
+        None => moment,
+        Some(last) => last.max(moment),
+    }
 }
 
 impl<P: Peer> Pairs<P> {
@@ -159,11 +170,7 @@ impl<P: Peer> Pairs<P> {
     {
         let at = self.place(alloc, origin, recipient)?;
         let pair = &mut self.entries[at];
-        let later = match pair.last_arrival {
-            None => moment,
-            Some(last) => last.max(moment),
-        };
-        pair.last_arrival = Some(later);
+        pair.last_arrival = Some(later_of(pair.last_arrival, moment));
         Ok(())
     }
 
