@@ -31,3 +31,4 @@ pub mod Uses
 pub mod Waiting
 pub mod Wording
 pub mod World
+pub mod Flying

@@ -1,46 +1,23 @@
 //! When each message arrives: a scheduler of messages over capped peers.
 mod account;
+mod completion;
+mod event;
 mod events;
 mod flights;
 mod look;
 mod message;
 mod pairs;
 mod peers;
+mod progress;
 mod working;
 
 use crate::error::Error;
 use crate::peer::Peer;
 use bytes::Bytes;
+pub use completion::Completion;
 use message::Message;
 use std::alloc::Global;
 use working::Working;
-
-/// What became of a message.
-#[derive(Drop)]
-pub struct Completion<P> {
-    pub origin: P,
-    pub recipient: P,
-    pub channel: u64,
-    pub message: Bytes,
-    /// The moment at which it arrives, in nanoseconds since the start, or `None` for a dropped
-    /// message.
-    pub deliver_at: Option<u64>,
-}
-
-impl<P: Peer> Completion<P> {
-    /// The same completion, its peers cloned. It shares the bytes.
-    ///
-    /// Its only error is `OutOfMemory`.
-    pub fn clone(&self) -> Result<Completion<P>, Error> {
-        Ok(Completion {
-            origin: self.origin.clone_peer().ok_or(Error::OutOfMemory)?,
-            recipient: self.recipient.clone_peer().ok_or(Error::OutOfMemory)?,
-            channel: self.channel,
-            message: self.message.slice(..)?,
-            deliver_at: self.deliver_at,
-        })
-    }
-}
 
 /// A scheduler: the caps of peers and links, the messages that wait, and those in flight.
 #[derive(Drop)]

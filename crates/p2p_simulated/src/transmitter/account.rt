@@ -1,8 +1,12 @@
 //! What is in flight, accounted for at a moment.
-use super::flights::{Flights, Progress};
+ghost use Rattle.std.specs.Prelude.{◌≡◌, IfOk, IfErr};
+ghost use Rattle.p2p_simulated.specs.WorldEvents.{Accounts};
+ghost use Rattle.p2p_simulated.specs.Refusing.{IsRefusedAt};
+use super::flights::Flights;
 use super::message::Message;
 use super::pairs::Pairs;
 use super::peers::Peers;
+use super::progress::Progress;
 use super::working::Working;
 use crate::bandwidth::{Flow, Rate, allocate_linked, duration, transfer};
 use crate::error::Error;
@@ -94,9 +98,14 @@ impl<P: Peer> Flights<P> {
 }
 
 impl<P: Peer> Working<P> {
+    ghost use Rattle.p2p_simulated.specs.Working.{planned, messages};
+
     /// All that is in flight drains to that moment. What is done leaves, in order of start, and the
     /// rest gets its fair rates. The finish is planned anew.
-    pub(crate) fn account(&mut self, now: u64) -> Result<VecDeque<Message<P>>, Error> {
+    pub(crate) fn account(&mut self, now: u64) -> Result<VecDeque<Message<P>>, Error>
+        ensures accounts { IfOk result (λ leavers. Accounts P.cmp now (planned P.cmp self.old) (messages leavers.items) (planned P.cmp self.new)) }
+        ensures refused { IfErr result (IsRefusedAt P.cmp now (λ fault. ⊥) (λ q. q ≡ planned P.cmp self.old)) }
+    {
         self.flights.drain(now)?;
         let done = self.flights.take_done(self.alloc, &self.peers, &self.pairs)?;
         let by_id = self.rates()?;

@@ -1,5 +1,16 @@
 //! The event rule: what calls do, at any moments.
-use super::Completion;
+ghost use Rattle.std.specs.Prelude.{◌≡◌, ℕ, List, [], ◌∷◌, ◌++◌, map, true, false, IfOk, IfErr, IsTrue, ◌&&◌, is_some};
+ghost use Rattle.p2p_simulated.specs.World.{Completed, goes, meets};
+ghost use Rattle.p2p_simulated.specs.WorldMessages.{Message as AnyMessage};
+ghost use Rattle.p2p_simulated.specs.WorldPlanned.{next_of, next_event as next_of_planned};
+ghost use Rattle.p2p_simulated.specs.WorldEvents.{Launches, Finishes, Settles, Wakes, Recaps, Enqueues, Advances, landed, completed, is_late, completed_at_once};
+ghost use Rattle.p2p_simulated.specs.WorldRefusals.{LaunchAccounts, FinishAccounts, SettleAccounts, WakeAccounts, RecapAccounts, EnqueueAccounts, AdvanceAccounts};
+ghost use Rattle.p2p_simulated.specs.Refusing.{IsRefusedBy, IsRefusedAt};
+ghost use Rattle.p2p_simulated.specs.Message.{message_of};
+ghost use Rattle.p2p_simulated.specs.Pairs.{first_of};
+ghost use Rattle.p2p_simulated.specs.Events.{IsDue};
+use super::completion::Completion;
+use super::event::Event;
 use super::look::{Key, ready_moment};
 use super::message::Message;
 use super::working::Working;
@@ -8,9 +19,13 @@ use crate::peer::Peer;
 use std::collections::VecDeque;
 
 impl<P: Peer> Working<P> {
+    ghost use Rattle.p2p_simulated.specs.Working.{planned, completed_of, messages, may_launch_first, ready_messages};
+
     /// Whether the first waiting message of the pair may start: the pair is idle, and the message
     /// arrives no earlier than the pair's last one.
-    fn may_launch(&self, origin: &P, recipient: &P, now: u64) -> bool {
+    fn may_launch(&self, origin: &P, recipient: &P, now: u64) -> bool
+        ensures { result ≡ may_launch_first P.cmp now (planned P.cmp self.now) (first_of P.cmp (planned P.cmp self.now).waiting origin.now recipient.now) }
+    {
         match self.pairs.first(origin, recipient) {
             None => false,
             Some(front) => {
@@ -28,7 +43,10 @@ impl<P: Peer> Working<P> {
         origin: &P,
         recipient: &P,
         now: u64,
-    ) -> Result<VecDeque<Message<P>>, Error> {
+    ) -> Result<VecDeque<Message<P>>, Error>
+        ensures launches { IfOk result (λ leavers. Launches P.cmp now (planned P.cmp self.old) (first_of P.cmp (planned P.cmp self.old).waiting origin.now recipient.now) (goes (messages leavers.items) (planned P.cmp self.new))) }
+        ensures refused { IfErr result (IsRefusedAt P.cmp now (λ e. Launches P.cmp now (planned P.cmp self.old) (first_of P.cmp (planned P.cmp self.old).waiting origin.now recipient.now) (meets e)) (LaunchAccounts P.cmp now (planned P.cmp self.old) (first_of P.cmp (planned P.cmp self.old).waiting origin.now recipient.now))) }
+    {
         if !self.may_launch(origin, recipient, now) {
             return Ok(VecDeque::new(self.alloc));
         }
@@ -51,7 +69,12 @@ impl<P: Peer> Working<P> {
         message: Message<P>,
         now: u64,
         completions: &mut Vec<Completion<P>>,
-    ) -> Result<VecDeque<Message<P>>, Error> {
+    ) -> Result<VecDeque<Message<P>>, Error>
+        ensures in_time { IfOk result (λ more. is_late P.cmp now (message_of message) ≡ false) }
+        ensures completion { IfOk result (λ more. map completed_of completions.new.items ≡ map completed_of completions.old.items ++ completed P.cmp now (message_of message) ∷ []) }
+        ensures launches { IfOk result (λ more. Launches P.cmp now (landed P.cmp now (planned P.cmp self.old) (message_of message)) (next_of P.cmp (planned P.cmp self.old) (message_of message)) (goes (messages more.items) (planned P.cmp self.new))) }
+        ensures refused { IfErr result (λ e. (ms : List (AnyMessage P)) → IsRefusedAt P.cmp now (λ fault. Finishes P.cmp now (message_of message ∷ ms) (planned P.cmp self.old) (meets fault)) (FinishAccounts P.cmp now (message_of message ∷ ms) (planned P.cmp self.old)) e) }
+    {
         let delivered = message.is_delivered();
         let arrival = if delivered {
             now.checked_add(message.latency)
@@ -80,7 +103,11 @@ impl<P: Peer> Working<P> {
         mut queue: VecDeque<Message<P>>,
         now: u64,
         completions: &mut Vec<Completion<P>>,
-    ) -> Result<(), Error> {
+    ) -> Result<(), Error>
+        ensures finishes { IfOk result (λ done. (cs : List (Completed P)) × (map completed_of completions.new.items ≡ map completed_of completions.old.items ++ cs)
+            × Finishes P.cmp now (messages queue.items) (planned P.cmp self.old) (goes cs (planned P.cmp self.new))) }
+        ensures refused { IfErr result (IsRefusedAt P.cmp now (λ fault. Finishes P.cmp now (messages queue.items) (planned P.cmp self.old) (meets fault)) (FinishAccounts P.cmp now (messages queue.items) (planned P.cmp self.old))) }
+    {
         while let Some(message) = queue.pop_front() {
             let mut more = self.complete(message, now, completions)?;
             queue.append(&mut more)?;
@@ -90,13 +117,21 @@ impl<P: Peer> Working<P> {
     }
 
     /// An account, and the finishes of what left.
-    fn settle(&mut self, now: u64, completions: &mut Vec<Completion<P>>) -> Result<(), Error> {
+    fn settle(&mut self, now: u64, completions: &mut Vec<Completion<P>>) -> Result<(), Error>
+        ensures settles { IfOk result (λ done. (cs : List (Completed P)) × (map completed_of completions.new.items ≡ map completed_of completions.old.items ++ cs)
+            × Settles P.cmp now (planned P.cmp self.old) (goes cs (planned P.cmp self.new))) }
+        ensures refused { IfErr result (IsRefusedAt P.cmp now (λ fault. Settles P.cmp now (planned P.cmp self.old) (meets fault)) (SettleAccounts P.cmp now (planned P.cmp self.old))) }
+    {
         let queue = self.account(now)?;
         self.finish(queue, now, completions)
     }
 
     /// The pairs that are ready start, in the order of pairs, each with its finishes.
-    fn wake(&mut self, now: u64, completions: &mut Vec<Completion<P>>) -> Result<(), Error> {
+    fn wake(&mut self, now: u64, completions: &mut Vec<Completion<P>>) -> Result<(), Error>
+        ensures wakes { IfOk result (λ done. (cs : List (Completed P)) × (map completed_of completions.new.items ≡ map completed_of completions.old.items ++ cs)
+            × Wakes P.cmp now (planned P.cmp self.old) (goes cs (planned P.cmp self.new))) }
+        ensures refused { IfErr result (IsRefusedAt P.cmp now (λ fault. Wakes P.cmp now (planned P.cmp self.old) (meets fault)) (WakeAccounts P.cmp now (ready_messages P.cmp now (planned P.cmp self.old)) (planned P.cmp self.old))) }
+    {
         for pair in self.ready(now)? {
             let queue = self.launch(&pair.origin, &pair.recipient, now)?;
             self.finish(queue, now, completions)?;
@@ -106,7 +141,11 @@ impl<P: Peer> Working<P> {
     }
 
     /// What is done under new caps completes.
-    pub(crate) fn recap(&mut self, now: u64) -> Result<Vec<Completion<P>>, Error> {
+    pub(crate) fn recap(&mut self, now: u64) -> Result<Vec<Completion<P>>, Error>
+        requires { (planned P.cmp self.old).limited ≡ true }
+        ensures recaps { IfOk result (λ completions. Recaps P.cmp now (planned P.cmp self.old).caps (planned P.cmp self.old) (goes (map completed_of completions.items) (planned P.cmp self.new))) }
+        ensures refused { IfErr result (IsRefusedAt P.cmp now (λ fault. Recaps P.cmp now (planned P.cmp self.old).caps (planned P.cmp self.old) (meets fault)) (RecapAccounts P.cmp now (planned P.cmp self.old).caps (planned P.cmp self.old))) }
+    {
         let mut completions = Vec::new(self.alloc);
         if self.flights.is_empty() {
             self.look(now);
@@ -121,7 +160,10 @@ impl<P: Peer> Working<P> {
         &mut self,
         now: u64,
         message: Message<P>,
-    ) -> Result<Vec<Completion<P>>, Error> {
+    ) -> Result<Vec<Completion<P>>, Error>
+        ensures enqueues { IfOk result (λ completions. Enqueues P.cmp now (message_of message) (planned P.cmp self.old) (goes (map completed_of completions.items) (planned P.cmp self.new))) }
+        ensures refused { IfErr result (IsRefusedAt P.cmp now (λ fault. Enqueues P.cmp now (message_of message) (planned P.cmp self.old) (meets fault)) (EnqueueAccounts P.cmp now (message_of message) (planned P.cmp self.old))) }
+    {
         let mut completions = Vec::new(self.alloc);
         if !self.limited {
             self.complete_at_once(now, message, &mut completions)?;
@@ -141,7 +183,11 @@ impl<P: Peer> Working<P> {
         now: u64,
         message: Message<P>,
         completions: &mut Vec<Completion<P>>,
-    ) -> Result<(), Error> {
+    ) -> Result<(), Error>
+        ensures completes { IfOk result (λ done. (c : Completed P) × (map completed_of completions.new.items ≡ map completed_of completions.old.items ++ c ∷ [])
+            × (completed_at_once P.cmp now (planned P.cmp self.old) (message_of message) ≡ goes (c ∷ []) (planned P.cmp self.new))) }
+        ensures refused { IfErr result (IsRefusedAt P.cmp now (λ fault. completed_at_once P.cmp now (planned P.cmp self.old) (message_of message) ≡ meets fault) (λ q. ⊥)) }
+    {
         let arrival = if message.should_deliver {
             let earliest = now
                 .checked_add(message.latency)
@@ -171,7 +217,9 @@ impl<P: Peer> Working<P> {
     }
 
     /// The planned finish or start that comes first, if it is due; the finish on a tie.
-    fn due(&self, now: u64) -> Option<Event> {
+    fn due(&self, now: u64) -> Option<Event>
+        ensures { IsDue now (planned P.cmp self.now) result }
+    {
         let event = match (self.finish, self.start) {
             (Some(finish), Some(start)) => {
                 if finish <= start {
@@ -193,7 +241,10 @@ impl<P: Peer> Working<P> {
 
     /// All events up to `now` happen, and what is ready then starts. Answers the number of events,
     /// too.
-    pub(crate) fn advance(&mut self, now: u64) -> Result<(Vec<Completion<P>>, u128), Error> {
+    pub(crate) fn advance(&mut self, now: u64) -> Result<(Vec<Completion<P>>, u128), Error>
+        ensures advances { IfOk result (λ answer. Advances P.cmp now (planned P.cmp self.old) answer.1 (goes (map completed_of answer.0.items) (planned P.cmp self.new))) }
+        ensures refused { IfErr result (IsRefusedBy P.cmp (λ fault. (n : ℕ) × Advances P.cmp now (planned P.cmp self.old) n (meets fault)) (λ t q. AdvanceAccounts P.cmp now (planned P.cmp self.old) t q)) }
+    {
         let mut completions = Vec::new(self.alloc);
         let mut events = 0u128;
         while let Some(event) = self.due(now) {
@@ -211,23 +262,5 @@ impl<P: Peer> Working<P> {
         }
         self.wake(now, &mut completions)?;
         Ok((completions, events))
-    }
-}
-
-/// What happens next.
-#[derive(Drop)]
-enum Event {
-    /// A message in flight finishes.
-    Finish(u64),
-    /// A waiting message starts.
-    Start(u64),
-}
-
-impl Event {
-    fn moment(&self) -> u64 {
-        match self {
-            Event::Finish(moment) => *moment,
-            Event::Start(moment) => *moment,
-        }
     }
 }

@@ -1,4 +1,6 @@
 //! The state that a call works on.
+ghost use Rattle.std.specs.Prelude.{◌≡◌};
+
 use super::flights::Flights;
 use super::pairs::Pairs;
 use super::peers::Peers;
@@ -62,8 +64,13 @@ impl<P: Peer> Working<P> {
         self.pairs.set_cap(self.alloc, origin, recipient, cap)
     }
 
+    ghost use Rattle.p2p_simulated.specs.Working.{planned};
+    ghost use Rattle.p2p_simulated.specs.WorldPlanned.{next_event as next_of_planned};
+
     /// The earlier of the planned finish and the planned start.
-    pub(crate) fn next_event(&self) -> Option<u64> {
+    pub(crate) fn next_event(&self) -> Option<u64>
+        ensures { result ≡ next_of_planned (planned P.cmp self.now) }
+    {
         match (self.finish, self.start) {
             (Some(finish), Some(start)) => Some(finish.min(start)),
             (Some(finish), None) => Some(finish),

@@ -1,0 +1,15 @@
+-- Events that are due.
+use Rattle.std.specs.Prelude.{◌≡◌, ◌≢◌, ℕ, ◌<◌, ◌≤◌, Option, Some, None, IfSome}
+use Rattle.p2p_simulated.specs.declared.transmitter.event.Event.{Event}
+use Rattle.p2p_simulated.specs.declared.transmitter.event.Event.TheVariants.{Finish, Start}
+use Rattle.p2p_simulated.specs.WorldPlanned.{Planned, next_event}
+
+abbrev pub moment_of : Event → ℕ
+moment_of (Finish moment) = moment
+moment_of (Start moment) = moment
+
+-- what is due at `now` on a planned world
+abbrev pub IsDue : {P : Type 0} → ℕ → Planned P → Option Event → Type 0
+IsDue now p None = IfSome (next_event p) (λ t. now < t)
+IsDue now p (Some (Finish t)) = (p.finish ≡ Some t) × (next_event p ≡ Some t) × (t ≤ now)
+IsDue now p (Some (Start t)) = (p.finish ≢ Some t) × (next_event p ≡ Some t) × (t ≤ now)
