@@ -1,15 +1,18 @@
 -- The messages in flight: a list of flows and a list of the rest, place by place.
-use Rattle.std.proofs.Common.{◌≡◌, ℕ, zero, suc, ◌+◌, ◌<◌, ◌≤◌, Bool, true, false, not, if◌then◌else◌, ◌&&◌, ◌||◌, List, [], ◌∷◌, ◌++◌, length, map, get_or, take, drop, nat_lt, refl, sym, ◌∙◌, ap, subst, arith}
-use Rattle.std.specs.List.{list_all, list_any, remove}
+use Rattle.std.proofs.Common.{◌≡◌, ℕ, zero, suc, ◌+◌, ◌<◌, ◌≤◌, Bool, true, false, not, if◌then◌else◌, ◌&&◌, ◌||◌, List, [], ◌∷◌, ◌++◌, length, map, get_or, take, drop, nat_lt, refl, sym, ◌∙◌, ap, subst, arith, append_assoc}
+use Rattle.std.specs.List.{list_all, list_any, remove, filter}
 use Rattle.std.specs.declared.cmp.Ordering.{Ordering}
 use Rattle.std.specs.declared.cmp.Ordering.TheVariants.{Less}
 use Rattle.std.specs.Ordering.{is_lt, nat_cmp}
 use Rattle.p2p_simulated.specs.declared.bandwidth.Flow.{Flow}
 use Rattle.p2p_simulated.specs.declared.transmitter.progress.Progress.{Progress}
+use Rattle.std.specs.Bool.{◌==◌}
+use Rattle.std.proofs.lemmas.Bool.Decides.{nat_tests}
+use Rattle.p2p_simulated.specs.Ratio.{amount_of}
 use Rattle.p2p_simulated.specs.Sides.{same_peer}
 use Rattle.p2p_simulated.specs.WorldMessages.{Message, is_delivered, same_pair}
 use Rattle.p2p_simulated.specs.WorldPlanned.{Paced, paced_flows}
-use Rattle.std.proofs.lemmas.List.{length-append}
+use Rattle.std.proofs.lemmas.List.{length-append, append-nil}
 use Rattle.p2p_simulated.specs.Sorted.{are_ascending}
 use Rattle.p2p_simulated.specs.Flights.{message_in, paced_of, sending_of, are_marked}
 use Rattle.p2p_simulated.proofs.Sorted.{and_left, and_right, and_both, list_all-append, list_all-left, list_all-right, list_all-mono, list_all-map, take-seam, drop-seam, get_or-seam, by_bool}
@@ -166,3 +169,98 @@ pub record AreLawful {P : Type 0} (cmp : P → P → Ordering) (fs : List (Flow 
 
 pub lawful_with : {P : Type 0} (cmp : P → P → Ordering) (fs : List (Flow P)) (ss : List Progress) (f : Flow P) (s : Progress) → IsWith cmp fs ss f s → AreLawful cmp (fs ++ f ∷ []) (ss ++ s ∷ [])
 lawful_with cmp fs ss f s w = record { parallel = w.parallel; marked = w.marked; apart = w.apart }
+
+-- ---- those that are done leave
+
+module _ {P : Type 0} (spent : Paced P → Bool) where
+  -- so far, up to a place: some have left, and the rest is to be looked at
+  pub record HaveLeft (old now : List (Paced P)) (left : List (Message P)) (at : ℕ) : Type 0 where
+    pub before : List (Paced P)
+    pub rest : List (Paced P)
+    pub split : now ≡ before ++ rest
+    pub is_at : at ≡ length before
+    pub leavers : left ++ paced_flows (filter spent rest) ≡ paced_flows (filter spent old)
+    pub stay : before ++ filter (λ f. not (spent f)) rest ≡ filter (λ f. not (spent f)) old
+
+  pub none_left : (old : List (Paced P)) → HaveLeft old old [] 0
+  none_left old = record { before = []; rest = old; split = refl; is_at = refl; leavers = refl; stay = refl }
+
+  filter_yes : {X : Type 0} (t : X → Bool) (x : X) (xs : List X) → t x ≡ true → filter t (x ∷ xs) ≡ x ∷ filter t xs
+  filter_yes t x xs h = rw h refl
+
+  filter_no : {X : Type 0} (t : X → Bool) (x : X) (xs : List X) → t x ≡ false → filter t (x ∷ xs) ≡ filter t xs
+  filter_no t x xs h = rw h refl
+
+  module _ (old now : List (Paced P)) (left : List (Message P)) (at : ℕ) (h : HaveLeft old now left at) where
+    pub step_leaves : (m : Message P) (t : Bool) → at < length now → t ≡ true → ((d : Paced P) → t ≡ spent (get_or now at d)) → ((d : Paced P) → m ≡ (get_or now at d).message) → HaveLeft old (remove now at) (left ++ m ∷ []) at
+    step_leaves m t lt holds test is = by_rest h.rest h.split h.leavers h.stay
+      where
+        by_rest : (rest : List (Paced P)) → now ≡ h.before ++ rest → left ++ paced_flows (filter spent rest) ≡ paced_flows (filter spent old) → h.before ++ filter (λ f. not (spent f)) rest ≡ filter (λ f. not (spent f)) old
+            → HaveLeft old (remove now at) (left ++ m ∷ []) at
+        by_rest [] split leavers stay = absurd (omega (arith, h.is_at, ap length split, length-append h.before []))
+        by_rest (f ∷ tail) split leavers stay =
+            let here : get_or now at f ≡ f = ap (λ l. get_or l at f) split ∙ ap (λ n. get_or (h.before ++ f ∷ tail) n f) h.is_at ∙ get_or-seam h.before tail f f in
+            let passes : spent f ≡ true = ap spent (sym here) ∙ sym (test f) ∙ holds in
+            record {
+              before = h.before; rest = tail; is_at = h.is_at;
+              split = ap (λ l. remove l at) split ∙ ap (remove (h.before ++ f ∷ tail)) h.is_at ∙ remove-seam h.before tail f;
+              leavers = append_assoc left (m ∷ []) (paced_flows (filter spent tail)) ∙ ap (λ x. left ++ x ∷ paced_flows (filter spent tail)) (is f ∙ ap (λ g. g.message) here) ∙ ap (λ l. left ++ paced_flows l) (sym (filter_yes spent f tail passes)) ∙ leavers;
+              stay = ap (λ l. h.before ++ l) (sym (filter_no (λ g. not (spent g)) f tail (ap not passes))) ∙ stay;
+            }
+
+    pub step_stays : (t : Bool) → at < length now → t ≡ false → ((d : Paced P) → t ≡ spent (get_or now at d)) → HaveLeft old now left (at + 1)
+    step_stays t lt fails_here test = by_rest h.rest h.split h.leavers h.stay
+      where
+        by_rest : (rest : List (Paced P)) → now ≡ h.before ++ rest → left ++ paced_flows (filter spent rest) ≡ paced_flows (filter spent old) → h.before ++ filter (λ f. not (spent f)) rest ≡ filter (λ f. not (spent f)) old
+            → HaveLeft old now left (at + 1)
+        by_rest [] split leavers stay = absurd (omega (arith, h.is_at, ap length split, length-append h.before []))
+        by_rest (f ∷ tail) split leavers stay =
+            let here : get_or now at f ≡ f = ap (λ l. get_or l at f) split ∙ ap (λ n. get_or (h.before ++ f ∷ tail) n f) h.is_at ∙ get_or-seam h.before tail f f in
+            let fails : spent f ≡ false = ap spent (sym here) ∙ sym (test f) ∙ fails_here in
+            record {
+              before = h.before ++ f ∷ []; rest = tail;
+              split = split ∙ sym (append_assoc h.before (f ∷ []) tail);
+              is_at = ap (λ n. n + 1) h.is_at ∙ sym (length-append h.before (f ∷ []));
+              leavers = ap (λ l. left ++ paced_flows l) (sym (filter_no spent f tail fails)) ∙ leavers;
+              stay = append_assoc h.before (f ∷ []) (filter (λ g. not (spent g)) tail) ∙ ap (λ l. h.before ++ l) (sym (filter_yes (λ g. not (spent g)) f tail (ap not fails))) ∙ stay;
+            }
+
+    pub all_looked_at : length now ≤ at → record { leavers : left ≡ paced_flows (filter spent old); stay : now ≡ filter (λ f. not (spent f)) old }
+    all_looked_at le = by_rest h.rest h.split h.leavers h.stay
+      where
+        by_rest : (rest : List (Paced P)) → now ≡ h.before ++ rest → left ++ paced_flows (filter spent rest) ≡ paced_flows (filter spent old) → h.before ++ filter (λ f. not (spent f)) rest ≡ filter (λ f. not (spent f)) old
+            → record { leavers : left ≡ paced_flows (filter spent old); stay : now ≡ filter (λ f. not (spent f)) old }
+        by_rest [] split leavers stay = record { leavers = sym (append-nil left) ∙ leavers; stay = split ∙ stay }
+        by_rest (f ∷ tail) split leavers stay = absurd (omega (arith, h.is_at, ap length split, length-append h.before (f ∷ tail)))
+
+-- the mark of a flow is that of its message
+pub mark_at : {P : Type 0} (cmp : P → P → Ordering) (fs : List (Flow P)) (ss : List Progress) (at : ℕ) (f : Flow P) (s : Progress) → length fs ≡ length ss → are_marked cmp fs ss ≡ true → at < length fs → f ≡ get_or fs at f → s ≡ get_or ss at s
+    → f.delivered ≡ is_delivered cmp (message_in f s)
+mark_at cmp [] ss at f s same marked lt f_is s_is = absurd (omega arith)
+mark_at cmp (g ∷ fs) [] at f s same marked lt f_is s_is = absurd (omega arith)
+mark_at cmp (g ∷ fs) (t ∷ ss) zero f s same marked lt f_is s_is =
+    let first : (if is_delivered cmp (message_in g t) then g.delivered else not g.delivered) ≡ true = and_left _ _ marked in
+    ap (λ x. x.delivered) f_is ∙ unmark g.delivered (is_delivered cmp (message_in g t)) first ∙ sym (ap (λ x. is_delivered cmp (message_in x s)) f_is ∙ ap (λ y. is_delivered cmp (message_in g y)) s_is)
+  where
+    unmark : (a b : Bool) → (if b then a else not a) ≡ true → a ≡ b
+    unmark true true h = refl
+    unmark true false h = sym h
+    unmark false true h = h
+    unmark false false h = refl
+mark_at cmp (g ∷ fs) (t ∷ ss) (suc at) f s same marked lt f_is s_is = mark_at cmp fs ss at f s (omega arith) (and_right _ _ marked) (omega arith) f_is s_is
+
+pub left_at_place : {P : Type 0} (fs : List (Flow P)) (ss : List Progress) (at : ℕ) (s : Progress) (d : Paced P) → length fs ≡ length ss → at < length fs → s ≡ get_or ss at s → (get_or (sending_of fs ss) at d).left ≡ amount_of s.left
+left_at_place [] ss at s d same lt is = absurd (omega arith)
+left_at_place (g ∷ fs) [] at s d same lt is = absurd (omega arith)
+left_at_place (g ∷ fs) (t ∷ ss) zero s d same lt is = ap (λ x. amount_of x.left) (sym is)
+left_at_place (g ∷ fs) (t ∷ ss) (suc at) s d same lt is = left_at_place fs ss at s d (omega arith) (omega arith) is
+
+pub nothing_is_done : (n : ℕ) (b : Bool) → n ≡ 0 → ((n == 0) || b) ≡ true
+nothing_is_done n b h = rw h refl
+
+pub something_is_not : (n : ℕ) (b : Bool) → (n ≡ 0 → ⊥) → ((n == 0) || b) ≡ b
+something_is_not zero b h = absurd (h refl)
+something_is_not (suc n) b h = rw (differs n) refl
+  where
+    differs : (n : ℕ) → (suc n == 0) ≡ false
+    differs n = grind (arith, nat_tests)

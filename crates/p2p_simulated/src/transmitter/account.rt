@@ -1,5 +1,11 @@
 //! What is in flight, accounted for at a moment.
-ghost use Rattle.std.specs.Prelude.{◌≡◌, IfOk, IfErr};
+ghost use Rattle.std.specs.Prelude.{◌≡◌, ◌<◌, ◌&&◌, ◌||◌, Bool, true, not, is_none, map, length, slice_index_or, IfOk, IfErr, OnOk};
+ghost use Rattle.std.specs.List.{filter, list_all};
+ghost use Rattle.p2p_simulated.specs.declared.bandwidth.Flow.{Flow as AnyFlow};
+ghost use Rattle.p2p_simulated.specs.WorldPlanned.{Paced, paced_flows};
+ghost use Rattle.p2p_simulated.specs.Message.{message_of};
+ghost use Rattle.p2p_simulated.specs.Peers.{egress_of, ingress_of};
+ghost use Rattle.p2p_simulated.specs.Pairs.{link_of};
 ghost use Rattle.p2p_simulated.specs.WorldEvents.{Accounts};
 ghost use Rattle.p2p_simulated.specs.Refusing.{IsRefusedAt};
 use super::flights::Flights;
@@ -34,7 +40,11 @@ impl Progress {
 }
 
 /// Whether the flow uses no capped side.
-fn is_unlimited<P: Peer>(flow: &Flow<P>, peers: &Peers<P>, pairs: &Pairs<P>) -> bool {
+fn is_unlimited<P: Peer>(flow: &Flow<P>, peers: &Peers<P>, pairs: &Pairs<P>) -> bool
+    ensures { result ≡ (is_none (egress_of P.cmp peers.now.entries.items flow.now.origin)
+        && (not flow.now.delivered || is_none (ingress_of P.cmp peers.now.entries.items flow.now.recipient))
+        && is_none (link_of P.cmp pairs.now.entries.items flow.now.origin flow.now.recipient)) }
+{
     peers.egress(&flow.origin).is_none()
         && (!flow.delivered || peers.ingress(&flow.recipient).is_none())
         && pairs.cap(&flow.origin, &flow.recipient).is_none()
@@ -50,6 +60,9 @@ fn earlier(first: Option<u64>, second: Option<u64>) -> Option<u64> {
 }
 
 impl<P: Peer> Flights<P> {
+    ghost use Rattle.p2p_simulated.specs.Flights.{sending_of};
+    ghost use Rattle.p2p_simulated.specs.Working.{caps_of, is_done_under};
+
     /// All drain to that moment.
     fn drain(&mut self, now: u64) -> Result<(), Error> {
         for progress in self.progress.iter_mut() {
@@ -58,18 +71,33 @@ impl<P: Peer> Flights<P> {
         Ok(())
     }
 
-    /// Takes those that are done, in order of start: nothing is left of them, or they use no
-    /// capped side.
+    /// Whether the message at that place is done: nothing is left of it, or it uses no capped side.
+    fn is_done(&self, at: usize, peers: &Peers<P>, pairs: &Pairs<P>) -> bool
+        requires { at < length self.now.flows.items }
+        ensures { (d : Paced P) → result ≡ is_done_under P.cmp (caps_of P.cmp peers.now.entries.items pairs.now.entries.items)
+            (slice_index_or (sending_of self.now.flows.items self.now.progress.items) at d) }
+    {
+        self.progress[at].left.is_zero() || is_unlimited(&self.flows[at], peers, pairs)
+    }
+
+    /// Takes those that are done, in order of start.
     fn take_done(
         &mut self,
         alloc: Global,
         peers: &Peers<P>,
         pairs: &Pairs<P>,
-    ) -> Result<VecDeque<Message<P>>, Error> {
+    ) -> Result<VecDeque<Message<P>>, Error>
+        ensures done { IfOk result (λ done. map message_of done.items ≡ paced_flows (filter (is_done_under P.cmp (caps_of P.cmp peers.now.entries.items pairs.now.entries.items))
+            (sending_of self.old.flows.items self.old.progress.items))) }
+        ensures rest { OnOk result (sending_of self.new.flows.items self.new.progress.items ≡ filter (λ f. not (is_done_under P.cmp (caps_of P.cmp peers.now.entries.items pairs.now.entries.items) f))
+            (sending_of self.old.flows.items self.old.progress.items)) }
+        ensures others { OnOk result ((test : AnyFlow P → Bool) → list_all test self.old.flows.items ≡ true → list_all test self.new.flows.items ≡ true) }
+        ensures refused { IfErr result (λ e. e ≡ Error.OutOfMemory) }
+    {
         let mut done = VecDeque::new(alloc);
         let mut at = 0;
         while at < self.flows.len() {
-            if self.progress[at].left.is_zero() || is_unlimited(&self.flows[at], peers, pairs) {
+            if self.is_done(at, peers, pairs) {
                 done.push_back(self.remove(at))?;
             } else {
                 at += 1;
