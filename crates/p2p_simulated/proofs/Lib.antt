@@ -32,3 +32,7 @@ pub mod Waiting
 pub mod Wording
 pub mod World
 pub mod Flying
+pub mod Finishing
+pub mod InSystem
+pub mod Refusals
+pub mod Starting

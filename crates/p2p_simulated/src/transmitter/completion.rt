@@ -2,6 +2,7 @@
 ghost use Rattle.std.specs.Prelude.{◌≡◌, IfOk, IfErr};
 ghost use Rattle.std.specs.declared.cmp.Ordering.TheVariants.{Equal};
 
+use super::message::Message;
 use crate::error::Error;
 use crate::peer::Peer;
 use bytes::Bytes;
@@ -19,6 +20,23 @@ pub struct Completion<P> {
 }
 
 impl<P: Peer> Completion<P> {
+    ghost use Rattle.p2p_simulated.specs.World.{completion_of};
+    ghost use Rattle.p2p_simulated.specs.Message.{message_of};
+    ghost use Rattle.p2p_simulated.specs.Working.{completed_of};
+
+    /// The completion of a message.
+    pub(crate) fn of(message: Message<P>, deliver_at: Option<u64>) -> Completion<P>
+        ensures { completed_of result ≡ completion_of (message_of message) deliver_at }
+    {
+        Completion {
+            origin: message.origin,
+            recipient: message.recipient,
+            channel: message.channel,
+            message: message.bytes,
+            deliver_at,
+        }
+    }
+
     /// The same completion, its peers cloned. It shares the bytes.
     ///
     /// Its only error is `OutOfMemory`.

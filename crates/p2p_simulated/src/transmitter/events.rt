@@ -13,6 +13,7 @@ use super::completion::Completion;
 use super::event::Event;
 use super::look::{Key, ready_moment};
 use super::message::Message;
+use super::pairs::later_of;
 use super::working::Working;
 use crate::error::Error;
 use crate::peer::Peer;
@@ -75,24 +76,12 @@ impl<P: Peer> Working<P> {
         ensures launches { IfOk result (λ more. Launches P.cmp now (landed P.cmp now (planned P.cmp self.old) (message_of message)) (next_of P.cmp (planned P.cmp self.old) (message_of message)) (goes (messages more.items) (planned P.cmp self.new))) }
         ensures refused { IfErr result (λ e. (ms : List (AnyMessage P)) → IsRefusedAt P.cmp now (λ fault. Finishes P.cmp now (message_of message ∷ ms) (planned P.cmp self.old) (meets fault)) (FinishAccounts P.cmp now (message_of message ∷ ms) (planned P.cmp self.old)) e) }
     {
-        let delivered = message.is_delivered();
-        let arrival = if delivered {
-            now.checked_add(message.latency)
-                .ok_or(Error::MomentTooLate)?
-        } else {
-            now
-        };
+        let arrival = message.arrival(now)?;
+        let deliver_at = message.is_delivered().then_some(arrival);
         self.pairs
             .raise(self.alloc, &message.origin, &message.recipient, arrival)?;
         let more = self.launch(&message.origin, &message.recipient, now)?;
-        let deliver_at = if delivered { Some(arrival) } else { None };
-        completions.push(Completion {
-            origin: message.origin,
-            recipient: message.recipient,
-            channel: message.channel,
-            message: message.bytes,
-            deliver_at,
-        })?;
+        completions.push(Completion::of(message, deliver_at))?;
         Ok(more)
     }
 
@@ -132,7 +121,8 @@ impl<P: Peer> Working<P> {
             × Wakes P.cmp now (planned P.cmp self.old) (goes cs (planned P.cmp self.new))) }
         ensures refused { IfErr result (IsRefusedAt P.cmp now (λ fault. Wakes P.cmp now (planned P.cmp self.old) (meets fault)) (WakeAccounts P.cmp now (ready_messages P.cmp now (planned P.cmp self.old)) (planned P.cmp self.old))) }
     {
-        for pair in self.ready(now)? {
+        let ready = self.ready(now)?;
+        for pair in &ready {
             let queue = self.launch(&pair.origin, &pair.recipient, now)?;
             self.finish(queue, now, completions)?;
         }
@@ -192,27 +182,17 @@ impl<P: Peer> Working<P> {
             let earliest = now
                 .checked_add(message.latency)
                 .ok_or(Error::MomentTooLate)?;
-            match self.pairs.last_arrival(&message.origin, &message.recipient) {
-                None => earliest,
-                Some(last) => last.max(earliest),
-            }
+            let last = self
+                .pairs
+                .last_arrival(&message.origin, &message.recipient);
+            later_of(last, earliest)
         } else {
             now
         };
         self.pairs
             .raise(self.alloc, &message.origin, &message.recipient, arrival)?;
-        let deliver_at = if message.should_deliver {
-            Some(arrival)
-        } else {
-            None
-        };
-        completions.push(Completion {
-            origin: message.origin,
-            recipient: message.recipient,
-            channel: message.channel,
-            message: message.bytes,
-            deliver_at,
-        })?;
+        let deliver_at = message.should_deliver.then_some(arrival);
+        completions.push(Completion::of(message, deliver_at))?;
         Ok(())
     }
 

@@ -1,6 +1,7 @@
 //! A message that waits or is in flight.
-ghost use Rattle.std.specs.Prelude.{◌≡◌};
+ghost use Rattle.std.specs.Prelude.{◌≡◌, true, false, IfOk, IfErr};
 
+use crate::error::Error;
 use crate::peer::Peer;
 use bytes::Bytes;
 use std::alloc::AllocError;
@@ -19,6 +20,7 @@ pub(crate) struct Message<P> {
 
 impl<P: Peer> Message<P> {
     ghost use Rattle.p2p_simulated.specs.WorldMessages.{is_delivered};
+    ghost use Rattle.p2p_simulated.specs.WorldEvents.{is_late, arrival};
     ghost use Rattle.p2p_simulated.specs.Message.{message_of};
 
     /// Whether it arrives, under limits: a message to oneself does not.
@@ -26,6 +28,19 @@ impl<P: Peer> Message<P> {
         ensures { result ≡ is_delivered P.cmp (message_of self.now) }
     {
         self.should_deliver && self.origin.cmp(&self.recipient).is_ne()
+    }
+
+    /// The moment at which it arrives if it is done at `now`, or `now` if it does not arrive.
+    pub(crate) fn arrival(&self, now: u64) -> Result<u64, Error>
+        ensures in_time { IfOk result (λ moment. is_late P.cmp now (message_of self.now) ≡ false) }
+        ensures moment { IfOk result (λ moment. moment ≡ arrival P.cmp now (message_of self.now)) }
+        ensures refused { IfErr result (λ e. (e ≡ Error.MomentTooLate) × (is_late P.cmp now (message_of self.now) ≡ true)) }
+    {
+        if self.is_delivered() {
+            now.checked_add(self.latency).ok_or(Error::MomentTooLate)
+        } else {
+            Ok(now)
+        }
     }
 }
 
