@@ -67,8 +67,8 @@ module _ {P : Type 0} (cmp : P → P → Ordering) where
     -- nor does a launch
     pub launch_keeps : {t : ℕ} {old : Planned P} {first : Option (Message P)} {course : Course (Message P) (Planned P)} → Launches cmp t old first course → (f : Message P → Bool) (leavers : List (Message P)) (new : Planned P) → first ≡ find f old.waiting → course ≡ goes leavers new
         → length leavers + in_system new ≡ in_system old
-    launch_keeps nothing_waits f leavers new found is = sym (ap counted is)
-    launch_keeps (too_early e) f leavers new found is = sym (ap counted is)
+    launch_keeps {old = old} nothing_waits f leavers new found is = let e : 0 + in_system old ≡ length leavers + in_system new = ap counted is in omega (arith, e)
+    launch_keeps {old = old} (too_early early) f leavers new found is = let e : 0 + in_system old ≡ length leavers + in_system new = ap counted is in omega (arith, e)
     launch_keeps (no_id e used) f leavers new found is = cc
     launch_keeps {t = t} {old = old} (starts {m = m} {leavers = ls} {new = q} may id a) f leavers new found is =
         let same : length ls + in_system q ≡ length leavers + in_system new = ap counted is in
