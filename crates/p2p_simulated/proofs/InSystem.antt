@@ -6,6 +6,11 @@ use Rattle.std.specs.declared.cmp.Ordering.{Ordering}
 use Rattle.std.specs.Cmp.{IsTotalOrder}
 use Rattle.std.proofs.lemmas.Cmp.{tied_itself}
 use Rattle.std.proofs.lemmas.List.Filters.{length-filter_both}
+use Rattle.std.specs.Prelude.{◌==◌, ◌≢◌}
+use Rattle.std.proofs.lemmas.Bool.{eqb-true, eq-eqb}
+use Rattle.p2p_simulated.specs.declared.bandwidth.Flow.{Flow}
+use Rattle.p2p_simulated.specs.declared.transmitter.progress.Progress.{Progress}
+use Rattle.p2p_simulated.specs.Flights.{sending_of}
 use Rattle.p2p_simulated.specs.Amount.{whole}
 use Rattle.p2p_simulated.specs.Sides.{same_peer}
 use Rattle.p2p_simulated.specs.WorldMessages.{Message, same_pair}
@@ -77,3 +82,14 @@ module _ {P : Type 0} (cmp : P → P → Ordering) where
         let more : length (launched cmp t old m).sending ≡ length old.sending + 1 = length-append old.sending (record { message = m; left = whole (length m.bytes); rate = Some (whole 0); updated = t } ∷ []) in
         let waits : length q.waiting ≡ length (without_first (same_pair cmp m) old.waiting) = ap length (accounts_waiting t (launched cmp t old m) q ls a) in
         omega (arith, same, one, kept, more, waits)
+
+-- ---- whether something is in flight
+
+pub none_flies : {P : Type 0} (fs : List (Flow P)) (ss : List Progress) → (length fs == 0) ≡ true → sending_of fs ss ≡ []
+none_flies [] ss none = refl
+none_flies (f ∷ fs) ss none = let zero_long : length (f ∷ fs) ≡ 0 = eqb-true (length (f ∷ fs)) 0 none in absurd (omega arith)
+
+pub some_fly : {P : Type 0} (fs : List (Flow P)) (ss : List Progress) → length fs ≡ length ss → (length fs == 0) ≡ false → sending_of fs ss ≢ []
+some_fly [] ss long some = cc (eq-eqb 0 0 refl)
+some_fly (f ∷ fs) [] long some = absurd (omega arith)
+some_fly (f ∷ fs) (s ∷ ss) long some = λ none. cc

@@ -35,4 +35,5 @@ pub mod Flying
 pub mod Finishing
 pub mod InSystem
 pub mod Refusals
+pub mod Settling
 pub mod Starting

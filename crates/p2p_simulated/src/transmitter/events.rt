@@ -1,13 +1,13 @@
 //! The event rule: what calls do, at any moments.
-ghost use Rattle.std.specs.Prelude.{◌≡◌, ℕ, List, [], ◌∷◌, ◌++◌, map, true, false, IfOk, IfErr, IsTrue, ◌&&◌, is_some};
-ghost use Rattle.p2p_simulated.specs.World.{Completed, goes, meets};
+ghost use Rattle.std.specs.Prelude.{◌≡◌, ℕ, ◌+◌, nat_lt, if◌then◌else◌, List, [], ◌∷◌, ◌++◌, map, true, false, IfOk, IfErr, IsTrue, ◌&&◌, is_some};
+ghost use Rattle.p2p_simulated.specs.World.{Completed, goes, meets, last_moment, later_of as latest};
 ghost use Rattle.p2p_simulated.specs.WorldMessages.{Message as AnyMessage};
 ghost use Rattle.p2p_simulated.specs.WorldPlanned.{next_of, next_event as next_of_planned};
 ghost use Rattle.p2p_simulated.specs.WorldEvents.{Launches, Finishes, Settles, Wakes, Recaps, Enqueues, Advances, landed, completed, is_late, completed_at_once};
 ghost use Rattle.p2p_simulated.specs.WorldRefusals.{LaunchAccounts, FinishAccounts, SettleAccounts, WakeAccounts, RecapAccounts, EnqueueAccounts, AdvanceAccounts};
 ghost use Rattle.p2p_simulated.specs.Refusing.{IsRefusedBy, IsRefusedAt};
 ghost use Rattle.p2p_simulated.specs.Message.{message_of};
-ghost use Rattle.p2p_simulated.specs.Pairs.{first_of};
+ghost use Rattle.p2p_simulated.specs.Pairs.{first_of, arrival_of};
 ghost use Rattle.p2p_simulated.specs.Events.{IsDue};
 use super::completion::Completion;
 use super::event::Event;
@@ -166,6 +166,26 @@ impl<P: Peer> Working<P> {
         Ok(completions)
     }
 
+    /// The moment at which a message arrives that completes at once: no earlier than its pair's
+    /// last one; or `now`, if it is to be dropped.
+    fn arrival_at_once(&self, message: &Message<P>, now: u64) -> Result<u64, Error>
+        ensures in_time { IfOk result (λ moment. (message.now.should_deliver && nat_lt last_moment (now + message.now.latency)) ≡ false) }
+        ensures moment { IfOk result (λ moment. moment ≡ (if message.now.should_deliver
+            then latest (arrival_of P.cmp self.now.pairs.entries.items message.now.origin message.now.recipient) (now + message.now.latency) else now)) }
+        ensures refused { IfErr result (λ e. (e ≡ Error.MomentTooLate) × ((message.now.should_deliver && nat_lt last_moment (now + message.now.latency)) ≡ true)) }
+    {
+        if !message.should_deliver {
+            return Ok(now);
+        }
+        let earliest = now
+            .checked_add(message.latency)
+            .ok_or(Error::MomentTooLate)?;
+        let last = self
+            .pairs
+            .last_arrival(&message.origin, &message.recipient);
+        Ok(later_of(last, earliest))
+    }
+
     /// Before any limit a message completes at once, and arrives no earlier than its pair's last
     /// one.
     fn complete_at_once(
@@ -178,17 +198,7 @@ impl<P: Peer> Working<P> {
             × (completed_at_once P.cmp now (planned P.cmp self.old) (message_of message) ≡ goes (c ∷ []) (planned P.cmp self.new))) }
         ensures refused { IfErr result (IsRefusedAt P.cmp now (λ fault. completed_at_once P.cmp now (planned P.cmp self.old) (message_of message) ≡ meets fault) (λ q. ⊥)) }
     {
-        let arrival = if message.should_deliver {
-            let earliest = now
-                .checked_add(message.latency)
-                .ok_or(Error::MomentTooLate)?;
-            let last = self
-                .pairs
-                .last_arrival(&message.origin, &message.recipient);
-            later_of(last, earliest)
-        } else {
-            now
-        };
+        let arrival = self.arrival_at_once(&message, now)?;
         self.pairs
             .raise(self.alloc, &message.origin, &message.recipient, arrival)?;
         let deliver_at = message.should_deliver.then_some(arrival);
