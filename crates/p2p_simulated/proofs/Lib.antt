@@ -34,6 +34,7 @@ pub mod World
 pub mod Flying
 pub mod Finishing
 pub mod InSystem
+pub mod Readying
 pub mod Refusals
 pub mod Settling
 pub mod Starting

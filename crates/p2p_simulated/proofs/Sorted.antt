@@ -172,7 +172,7 @@ module _ {K : Type 0} (cmp : K → K → Ordering) (total : IsTotalOrder cmp) wh
     map-append f (x ∷ xs) ys = ap (λ l. f x ∷ l) (map-append f xs ys)
 
     -- an entry of the key in an ascending list is its place
-    place : (es before after : List E) (here : E) (k : K) (at : ℕ) → es ≡ before ++ here ∷ after → at ≡ length before → are_ascending cmp (map key es) ≡ true → cmp (key here) k ≡ Equal → IsPlace cmp key es k at
+    pub place : (es before after : List E) (here : E) (k : K) (at : ℕ) → es ≡ before ++ here ∷ after → at ≡ length before → are_ascending cmp (map key es) ≡ true → cmp (key here) k ≡ Equal → IsPlace cmp key es k at
     place es before after here k at split is_at ascending same =
         let keys : are_ascending cmp (map key before ++ key here ∷ map key after) ≡ true = rw (sym (map-append key before (here ∷ after)) ∙ ap (map key) (sym split)) ascending in
         let parts = ascending_split (map key before) (map key after) (key here) keys in

@@ -25,7 +25,7 @@ use Rattle.p2p_simulated.specs.WorldPlanned.{Planned, Paced, paced_flows, may_la
 use Rattle.p2p_simulated.specs.WorldEvents.{Launches, nothing_waits, too_early, no_id, starts, Accounts, launched}
 use Rattle.p2p_simulated.specs.WorldRefusals.{LaunchAccounts, launch_accounts}
 use Rattle.p2p_simulated.specs.Working.{may_launch_first}
-use Rattle.p2p_simulated.proofs.Sorted.{by_bool, and_left, and_right, and_both, is_eq_equal, list_all-mono}
+use Rattle.p2p_simulated.proofs.Sorted.{by_bool, and_left, and_right, and_both, is_eq_equal, list_all-mono, value_respects}
 use Rattle.p2p_simulated.proofs.Pairs.{pair_total, is_eq-then}
 use Rattle.p2p_simulated.proofs.World.Queue.{find_passes, any_like, pair_like}
 
@@ -38,18 +38,10 @@ pub in_order_from : (last : Option ℕ) (latency t : ℕ) → is_in_order last (
 in_order_from None latency t = sym (le-leb 0 t (omega arith))
 in_order_from (Some last) latency t = same_test last (t + latency) (last - latency) t (λ h. omega arith) (λ h. omega arith)
 
--- an entry's value is the same for equal keys
-pub value_same : {E K V : Type 0} (cmp : K → K → Ordering) → IsTotalOrder cmp → (key : E → K) (says : E → V) (none : V) (es : List E) (p q : K) → cmp p q ≡ Equal → value_at cmp key says none es p ≡ value_at cmp key says none es q
-value_same {E} cmp order key says none [] p q e = refl
-value_same {E} cmp order key says none (x ∷ es) p q e = rw (alike x, value_same cmp order key says none es p q e) refl
-  where
-    alike : (x : E) → is_eq (cmp (key x) p) ≡ is_eq (cmp (key x) q)
-    alike x = ap is_eq (alike_right order p q (key x) e)
-
 -- the last arrivals of equal pairs are the same
 pub arrival_alike : {P : Type 0} (cmp : P → P → Ordering) → IsTotalOrder cmp → (es : List (Pair P)) → PairsAlike cmp (arrival_of cmp es) (arrival_of cmp es)
 arrival_alike {P} cmp order es p q r s same_p same_r =
-    value_same (pair_cmp cmp) (pair_total cmp order) key_of (λ (pair : Pair P). pair.last_arrival) None es (p, r) (q, s) (is_eq_equal _ (is_eq-then (cmp p q) (cmp r s) ∙ and_both _ _ same_p same_r))
+    value_respects (pair_cmp cmp) (pair_total cmp order) key_of (λ (pair : Pair P). pair.last_arrival) None es (p, r) (q, s) (is_eq_equal _ (is_eq-then (cmp p q) (cmp r s) ∙ and_both _ _ same_p same_r))
 
 module _ {P : Type 0} (cmp : P → P → Ordering) (order : IsTotalOrder cmp) where
   -- what is asked of a pair's message is asked of the pair

@@ -97,7 +97,7 @@ module _ {P : Type 0} (cmp : P → P → Ordering) (total : IsTotalOrder cmp) wh
   lesser : (k : P × P) (n : Message P) → is_lt (pair_cmp cmp (n.origin, n.recipient) k) ≡ true → not (same_peer cmp k.0 n.origin && same_peer cmp k.1 n.recipient) ≡ true
   lesser k n h = rw (tested k n, is_lt_less _ h) refl
 
-  greater : (k : P × P) (n : Message P) → is_gt (pair_cmp cmp (n.origin, n.recipient) k) ≡ true → not (same_peer cmp k.0 n.origin && same_peer cmp k.1 n.recipient) ≡ true
+  pub greater : (k : P × P) (n : Message P) → is_gt (pair_cmp cmp (n.origin, n.recipient) k) ≡ true → not (same_peer cmp k.0 n.origin && same_peer cmp k.1 n.recipient) ≡ true
   greater k n h = rw (tested k n, is_gt_greater _ h) refl
 
   equal : (k : P × P) (n : Message P) → is_eq (pair_cmp cmp (n.origin, n.recipient) k) ≡ true → (same_peer cmp k.0 n.origin && same_peer cmp k.1 n.recipient) ≡ true

@@ -31,6 +31,7 @@ pub mod Session
 pub mod Sides
 pub mod Size
 pub mod Sorted
+pub mod Starts
 pub mod Time
 pub mod Words
 pub mod Working

@@ -159,7 +159,7 @@ impl<P: Peer> Working<P> {
             self.complete_at_once(now, message, &mut completions)?;
             return Ok(completions);
         }
-        let pair = Key::of(&message)?;
+        let pair = Key::new(&message.origin, &message.recipient)?;
         self.pairs.push(self.alloc, message)?;
         let queue = self.launch(&pair.origin, &pair.recipient, now)?;
         self.finish(queue, now, &mut completions)?;

@@ -1,11 +1,12 @@
 //! Which pairs are ready, and when the next one is.
-ghost use Rattle.std.specs.Prelude.{◌≡◌, ◌-◌, ℕ, true, IfOk, IfErr, option_map, map};
+ghost use Rattle.std.specs.Prelude.{◌≡◌, ◌≤◌, true, IfOk, IfErr, IfSome};
 ghost use Rattle.std.specs.List.{AllZip};
 ghost use Rattle.p2p_simulated.specs.Sides.{same_peer};
 ghost use Rattle.p2p_simulated.specs.WorldEvents.{Looks};
-ghost use Rattle.p2p_simulated.specs.Message.{message_of};
+ghost use Rattle.p2p_simulated.specs.World.{last_moment};
+ghost use Rattle.p2p_simulated.specs.Starts.{start_at, is_moment};
 ghost use Rattle.p2p_simulated.specs.Moments.{first_moment};
-use super::message::Message;
+use super::event::earlier;
 use super::pairs::Pair;
 use super::working::Working;
 use crate::error::Error;
@@ -19,15 +20,15 @@ pub(crate) struct Key<P> {
 }
 
 impl<P: Peer> Key<P> {
-    /// The pair of a message, the peers cloned.
-    pub(crate) fn of(message: &Message<P>) -> Result<Key<P>, Error>
-        ensures origin { IfOk result (λ key. same_peer P.cmp message.now.origin key.origin ≡ true) }
-        ensures recipient { IfOk result (λ key. same_peer P.cmp message.now.recipient key.recipient ≡ true) }
+    /// The pair of two peers, which are cloned.
+    pub(crate) fn new(origin: &P, recipient: &P) -> Result<Key<P>, Error>
+        ensures origin { IfOk result (λ key. same_peer P.cmp origin.now key.origin ≡ true) }
+        ensures recipient { IfOk result (λ key. same_peer P.cmp recipient.now key.recipient ≡ true) }
         ensures refused { IfErr result (λ e. e ≡ Error.OutOfMemory) }
     {
         Ok(Key {
-            origin: message.origin.clone_peer().ok_or(Error::OutOfMemory)?,
-            recipient: message.recipient.clone_peer().ok_or(Error::OutOfMemory)?,
+            origin: origin.clone_peer().ok_or(Error::OutOfMemory)?,
+            recipient: recipient.clone_peer().ok_or(Error::OutOfMemory)?,
         })
     }
 }
@@ -47,27 +48,36 @@ impl<P: Peer> Working<P> {
     ghost use Rattle.p2p_simulated.specs.Working.{planned, ready_messages};
     ghost use Rattle.p2p_simulated.specs.Keys.{IsKeyOf};
 
-    /// The first waiting message of the pair, if nothing of it is in flight.
-    fn idle_front<'a>(&self, pair: &'a Pair<P>) -> Option<&'a Message<P>> {
+    /// The first moment from `now` on at which the pair's first waiting message may start, if one
+    /// waits and none is in flight.
+    fn start_of(&self, pair: &Pair<P>, now: u64) -> Option<u64>
+        ensures start { result ≡ start_at P.cmp now (planned P.cmp self.now) pair.now }
+        ensures moment { IfSome result (λ moment. moment ≤ last_moment) }
+    {
         if self.flights.has_pair(&pair.origin, &pair.recipient) {
             return None;
         }
-        pair.waiting.front()
+        let front = pair.waiting.front()?;
+        Some(now.max(ready_moment(pair.last_arrival, front.latency)))
+    }
+
+    /// Whether the pair's first waiting message may start now.
+    fn is_ready(&self, pair: &Pair<P>, now: u64) -> bool
+        ensures { result ≡ is_moment now (start_at P.cmp now (planned P.cmp self.now) pair.now) }
+    {
+        match self.start_of(pair, now) {
+            Some(moment) => moment == now,
+            None => false,
+        }
     }
 
     /// Plans the start anew: the least moment from `now` on at which an idle pair is ready.
     pub(crate) fn look(&mut self, now: u64)
         ensures { Looks P.cmp now (planned P.cmp self.old) (planned P.cmp self.new) }
     {
-        let mut start: Option<u64> = None;
+        let mut start = None;
         for pair in self.pairs.all() {
-            if let Some(front) = self.idle_front(pair) {
-                let ready = now.max(ready_moment(pair.last_arrival, front.latency));
-                start = match start {
-                    None => Some(ready),
-                    Some(earliest) => Some(earliest.min(ready)),
-                };
-            }
+            start = earlier(start, self.start_of(pair, now));
         }
         self.start = start;
     }
@@ -79,10 +89,8 @@ impl<P: Peer> Working<P> {
     {
         let mut ready = Vec::new(self.alloc);
         for pair in self.pairs.all() {
-            if let Some(front) = self.idle_front(pair)
-                && ready_moment(pair.last_arrival, front.latency) <= now
-            {
-                ready.push(Key::of(front)?)?;
+            if self.is_ready(pair, now) {
+                ready.push(Key::new(&pair.origin, &pair.recipient)?)?;
             }
         }
         Ok(ready)
