@@ -66,7 +66,7 @@ module _ {P : Type 0} (cmp : P → P → Ordering) where
   accounts_waiting t old new leavers a = ap (λ (q : Planned P). q.waiting) a.same
 
   module _ (order : IsTotalOrder cmp) where
-    same_itself : (m : Message P) → same_pair cmp m m ≡ true
+    pub same_itself : (m : Message P) → same_pair cmp m m ≡ true
     same_itself m = and_both (same_peer cmp m.origin m.origin) (same_peer cmp m.recipient m.recipient) (ap is_eq (tied_itself order m.origin)) (ap is_eq (tied_itself order m.recipient))
 
     -- nor does a launch

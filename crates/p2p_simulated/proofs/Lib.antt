@@ -34,6 +34,8 @@ pub mod World
 pub mod Flying
 pub mod Finishing
 pub mod InSystem
+pub mod Advancing
+pub mod Lightening
 pub mod Readying
 pub mod Refusals
 pub mod Settling

@@ -8,7 +8,7 @@ ghost use Rattle.p2p_simulated.specs.WorldRefusals.{LaunchAccounts, FinishAccoun
 ghost use Rattle.p2p_simulated.specs.Refusing.{IsRefusedBy, IsRefusedAt};
 ghost use Rattle.p2p_simulated.specs.Message.{message_of};
 ghost use Rattle.p2p_simulated.specs.Pairs.{first_of, arrival_of};
-ghost use Rattle.p2p_simulated.specs.Events.{IsDue};
+ghost use Rattle.p2p_simulated.specs.Events.{IsDue, Happens, HappenAccounts, moment_of};
 use super::completion::Completion;
 use super::event::Event;
 use super::look::{Key, ready_moment};
@@ -229,6 +229,28 @@ impl<P: Peer> Working<P> {
         }
     }
 
+    /// An event happens, and is planned no more.
+    fn happen(
+        &mut self,
+        event: Event,
+        completions: &mut Vec<Completion<P>>,
+    ) -> Result<(), Error>
+        ensures happens { IfOk result (λ done. (cs : List (Completed P)) × (map completed_of completions.new.items ≡ map completed_of completions.old.items ++ cs)
+            × Happens P.cmp event (planned P.cmp self.old) (goes cs (planned P.cmp self.new))) }
+        ensures refused { IfErr result (IsRefusedAt P.cmp (moment_of event) (λ fault. Happens P.cmp event (planned P.cmp self.old) (meets fault)) (HappenAccounts P.cmp event (planned P.cmp self.old))) }
+    {
+        match event {
+            Event::Finish(moment) => {
+                self.finish = None;
+                self.settle(moment, completions)
+            }
+            Event::Start(moment) => {
+                self.start = None;
+                self.wake(moment, completions)
+            }
+        }
+    }
+
     /// All events up to `now` happen, and what is ready then starts. Answers the number of events,
     /// too.
     pub(crate) fn advance(&mut self, now: u64) -> Result<(Vec<Completion<P>>, u128), Error>
@@ -238,16 +260,7 @@ impl<P: Peer> Working<P> {
         let mut completions = Vec::new(self.alloc);
         let mut events = 0u128;
         while let Some(event) = self.due(now) {
-            match event {
-                Event::Finish(moment) => {
-                    self.finish = None;
-                    self.settle(moment, &mut completions)?;
-                }
-                Event::Start(moment) => {
-                    self.start = None;
-                    self.wake(moment, &mut completions)?;
-                }
-            }
+            self.happen(event, &mut completions)?;
             events += 1;
         }
         self.wake(now, &mut completions)?;
