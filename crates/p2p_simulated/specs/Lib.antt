@@ -26,6 +26,7 @@ pub mod Rates
 pub mod Ratio
 pub mod Refusing
 pub mod Registering
+pub mod SamePlanned
 pub mod Script
 pub mod Session
 pub mod Sides

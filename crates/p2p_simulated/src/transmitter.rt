@@ -1,4 +1,11 @@
 //! When each message arrives: a scheduler of messages over capped peers.
+ghost use Rattle.std.specs.Prelude.{◌≡◌, ℕ, map, Some, IfOk, IfErr, OnErr};
+ghost use Rattle.p2p_simulated.specs.World.{goes};
+ghost use Rattle.p2p_simulated.specs.WorldCalls.{call_limit, call_limit_link, call_enqueue, call_advance};
+ghost use Rattle.p2p_simulated.specs.WorldPlanned.{Planned, new_planned, next_event as next_planned};
+ghost use Rattle.p2p_simulated.specs.WorldEvents.{Advances};
+ghost use Rattle.p2p_simulated.specs.SamePlanned.{IsSamePlanned, ObeysOnSame, IsRefused};
+
 mod account;
 mod completion;
 mod event;
@@ -26,26 +33,43 @@ pub struct State<P: Peer> {
 }
 
 impl<P: Peer> State<P> {
+    ghost use Rattle.p2p_simulated.specs.Working.{planned, completed_of};
+
     /// A scheduler without limits, in which nothing was sent. Flow ids begin at 0.
-    pub fn new(alloc: Global) -> Self {
+    pub fn new(alloc: Global) -> Self
+        ensures { planned P.cmp result.kept ≡ new_planned 0 }
+    {
         State::with_first_id(alloc, 0)
     }
 
     /// As `new`, with flow ids from `first`.
-    pub fn with_first_id(alloc: Global, first: u64) -> Self {
+    pub fn with_first_id(alloc: Global, first: u64) -> Self
+        ensures { planned P.cmp result.kept ≡ new_planned first }
+    {
         State {
             kept: Working::new(alloc, first),
         }
     }
 
-    /// Sets the caps of a peer, in bytes a second.
+    /// Sets the caps of a peer, in bytes a second, on all that it sends and on all that it receives;
+    /// none is no cap. From now on messages share the capped sides. Answers what completes at once.
+    /// The moment `now` is in nanoseconds since the start.
+    ///
+    /// Refused, the scheduler stays as it was: with `OutOfMemory` where memory was refused, with
+    /// `NumberTooLarge` where an amount, a time or a rate on the way does not fit, with
+    /// `MomentTooLate` where a delivered message would arrive past the last moment, and with
+    /// `FlowIdsUsedUp` where a message would start and no flow id is left.
     pub fn limit(
         &mut self,
         now: u64,
         peer: &P,
         egress: Option<usize>,
         ingress: Option<usize>,
-    ) -> Result<Vec<Completion<P>>, Error> {
+    ) -> Result<Vec<Completion<P>>, Error>
+        ensures obeys { IfOk result (λ completions. ObeysOnSame P.cmp (planned P.cmp self.old.kept) (call_limit now peer.now egress ingress) (goes (map completed_of completions.items) (planned P.cmp self.new.kept))) }
+        ensures refused { IfErr result (IsRefused P.cmp (planned P.cmp self.old.kept) (call_limit now peer.now egress ingress)) }
+        ensures unchanged { OnErr result (self.new ≡ self.old) }
+    {
         let mut working = self.kept.clone()?;
         working.limit_peer(peer, egress, ingress)?;
         let completions = working.recap(now)?;
@@ -53,14 +77,24 @@ impl<P: Peer> State<P> {
         Ok(completions)
     }
 
-    /// Sets the cap of an ordered pair of peers, in bytes a second.
+    /// Sets the cap of an ordered pair of peers, in bytes a second, on all that the one sends to the
+    /// other; none is no cap. Answers what completes at once.
+    ///
+    /// Refused, the scheduler stays as it was: with `OutOfMemory` where memory was refused, with
+    /// `NumberTooLarge` where an amount, a time or a rate on the way does not fit, with
+    /// `MomentTooLate` where a delivered message would arrive past the last moment, and with
+    /// `FlowIdsUsedUp` where a message would start and no flow id is left.
     pub fn limit_link(
         &mut self,
         now: u64,
         origin: &P,
         recipient: &P,
         cap: Option<usize>,
-    ) -> Result<Vec<Completion<P>>, Error> {
+    ) -> Result<Vec<Completion<P>>, Error>
+        ensures obeys { IfOk result (λ completions. ObeysOnSame P.cmp (planned P.cmp self.old.kept) (call_limit_link now origin.now recipient.now cap) (goes (map completed_of completions.items) (planned P.cmp self.new.kept))) }
+        ensures refused { IfErr result (IsRefused P.cmp (planned P.cmp self.old.kept) (call_limit_link now origin.now recipient.now cap)) }
+        ensures unchanged { OnErr result (self.new ≡ self.old) }
+    {
         let mut working = self.kept.clone()?;
         working.limit_pair(origin, recipient, cap)?;
         let completions = working.recap(now)?;
@@ -68,7 +102,14 @@ impl<P: Peer> State<P> {
         Ok(completions)
     }
 
-    /// Sends a message.
+    /// Sends a message, of that latency in nanoseconds. Before any limit it completes at once. Under
+    /// limits it waits behind the others of its pair, and starts once the pair is idle and it arrives
+    /// no earlier than the pair's last one. Answers what completes at once.
+    ///
+    /// Refused, the scheduler stays as it was: with `OutOfMemory` where memory was refused, with
+    /// `NumberTooLarge` where an amount, a time or a rate on the way does not fit, with
+    /// `MomentTooLate` where a delivered message would arrive past the last moment, and with
+    /// `FlowIdsUsedUp` where a message would start and no flow id is left.
     pub fn enqueue(
         &mut self,
         now: u64,
@@ -78,7 +119,11 @@ impl<P: Peer> State<P> {
         message: Bytes,
         latency: u64,
         should_deliver: bool,
-    ) -> Result<Vec<Completion<P>>, Error> {
+    ) -> Result<Vec<Completion<P>>, Error>
+        ensures obeys { IfOk result (λ completions. ObeysOnSame P.cmp (planned P.cmp self.old.kept) (call_enqueue now (record { origin = origin; recipient = recipient; channel = channel; bytes = message; latency = latency; should_deliver = should_deliver })) (goes (map completed_of completions.items) (planned P.cmp self.new.kept))) }
+        ensures refused { IfErr result (IsRefused P.cmp (planned P.cmp self.old.kept) (call_enqueue now (record { origin = origin; recipient = recipient; channel = channel; bytes = message; latency = latency; should_deliver = should_deliver }))) }
+        ensures unchanged { OnErr result (self.new ≡ self.old) }
+    {
         let mut working = self.kept.clone()?;
         let message = Message {
             origin,
@@ -93,21 +138,38 @@ impl<P: Peer> State<P> {
         Ok(completions)
     }
 
-    /// Handles all events up to `now`.
-    pub fn advance(&mut self, now: u64) -> Result<Vec<Completion<P>>, Error> {
+    /// Handles all events up to `now`, in nanoseconds since the start, each at its moment, and starts
+    /// what is ready then. Answers what completes, in order.
+    ///
+    /// Refused, the scheduler stays as it was: with `OutOfMemory` where memory was refused, with
+    /// `NumberTooLarge` where an amount, a time or a rate on the way does not fit, with
+    /// `MomentTooLate` where a delivered message would arrive past the last moment, and with
+    /// `FlowIdsUsedUp` where a message would start and no flow id is left.
+    pub fn advance(&mut self, now: u64) -> Result<Vec<Completion<P>>, Error>
+        ensures obeys { IfOk result (λ completions. ObeysOnSame P.cmp (planned P.cmp self.old.kept) (call_advance now) (goes (map completed_of completions.items) (planned P.cmp self.new.kept))) }
+        ensures refused { IfErr result (IsRefused P.cmp (planned P.cmp self.old.kept) (call_advance now)) }
+        ensures unchanged { OnErr result (self.new ≡ self.old) }
+    {
         Ok(self.advance_counted(now)?.0)
     }
 
-    /// As `advance`, with the number of events.
-    pub fn advance_counted(&mut self, now: u64) -> Result<(Vec<Completion<P>>, u128), Error> {
+    /// As `advance`, with the number of events: finishes and starts, each of one moment.
+    pub fn advance_counted(&mut self, now: u64) -> Result<(Vec<Completion<P>>, u128), Error>
+        ensures advances { IfOk result (λ answer. (p : Planned P) × IsSamePlanned P.cmp (planned P.cmp self.old.kept) p × Advances P.cmp now p answer.1 (goes (map completed_of answer.0.items) (planned P.cmp self.new.kept))) }
+        ensures refused { IfErr result (IsRefused P.cmp (planned P.cmp self.old.kept) (call_advance now)) }
+        ensures unchanged { OnErr result (self.new ≡ self.old) }
+    {
         let mut working = self.kept.clone()?;
         let (completions, events) = working.advance(now)?;
         self.kept = working;
         Ok((completions, events))
     }
 
-    /// The moment of the next event.
-    pub fn next(&self) -> Option<u64> {
+    /// The moment of the next event, in nanoseconds since the start: of the next finish or start
+    /// that is planned, whichever comes first. It takes no memory and is never refused.
+    pub fn next(&self) -> Option<u64>
+        ensures { result ≡ next_planned (planned P.cmp self.now.kept) }
+    {
         self.kept.next_event()
     }
 }

@@ -1,5 +1,5 @@
 //! The state that a call works on.
-ghost use Rattle.std.specs.Prelude.{◌≡◌, true, nat_lt};
+ghost use Rattle.std.specs.Prelude.{◌≡◌, true, nat_lt, OnOk, IfErr};
 ghost use Rattle.std.specs.List.{list_all};
 
 use super::flights::Flights;
@@ -28,7 +28,13 @@ pub(crate) struct Working<P: Peer> {
 }
 
 impl<P: Peer> Working<P> {
-    pub(crate) fn new(alloc: Global, first: u64) -> Self {
+    ghost use Rattle.p2p_simulated.specs.WorldCalls.{limited_by, linked_by};
+    ghost use Rattle.p2p_simulated.specs.WorldPlanned.{new_planned, next_event as next_of_planned};
+    ghost use Rattle.p2p_simulated.specs.Working.{planned};
+
+    pub(crate) fn new(alloc: Global, first: u64) -> Self
+        ensures { planned P.cmp result ≡ new_planned first }
+    {
         Working {
             alloc,
             peers: Peers::new(alloc),
@@ -47,7 +53,10 @@ impl<P: Peer> Working<P> {
         peer: &P,
         egress: Option<usize>,
         ingress: Option<usize>,
-    ) -> Result<(), Error> {
+    ) -> Result<(), Error>
+        ensures limited { OnOk result (planned P.cmp self.new ≡ record (planned P.cmp self.old) { caps = limited_by P.cmp (planned P.cmp self.old).caps peer.now egress ingress; limited = true }) }
+        ensures refused { IfErr result (λ e. e ≡ Error.OutOfMemory) }
+    {
         let egress = egress.map(|cap| cap as u128);
         let ingress = ingress.map(|cap| cap as u128);
         self.limited = true;
@@ -60,14 +69,14 @@ impl<P: Peer> Working<P> {
         origin: &P,
         recipient: &P,
         cap: Option<usize>,
-    ) -> Result<(), Error> {
+    ) -> Result<(), Error>
+        ensures limited { OnOk result (planned P.cmp self.new ≡ record (planned P.cmp self.old) { caps = linked_by P.cmp (planned P.cmp self.old).caps origin.now recipient.now cap; limited = true }) }
+        ensures refused { IfErr result (λ e. e ≡ Error.OutOfMemory) }
+    {
         let cap = cap.map(|cap| cap as u128);
         self.limited = true;
         self.pairs.set_cap(self.alloc, origin, recipient, cap)
     }
-
-    ghost use Rattle.p2p_simulated.specs.Working.{planned};
-    ghost use Rattle.p2p_simulated.specs.WorldPlanned.{next_event as next_of_planned};
 
     /// The earlier of the planned finish and the planned start.
     pub(crate) fn next_event(&self) -> Option<u64>
@@ -82,6 +91,11 @@ impl<P: Peer> Working<P> {
 }
 
 impl<P: Peer> Clone for Working<P> {
+    ghost use Rattle.p2p_simulated.specs.Working.{planned};
+    ghost use Rattle.p2p_simulated.specs.SamePlanned.{IsSamePlanned};
+
+    ghost is_clone = { λ working copy. IsSamePlanned P.cmp (planned P.cmp working) (planned P.cmp copy) };
+
     /// The same state, the peers cloned.
     fn clone(&self) -> Result<Working<P>, AllocError> {
         Ok(Working {
