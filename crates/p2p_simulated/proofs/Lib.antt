@@ -1,5 +1,6 @@
 pub mod Asking
 pub mod Callable
+pub mod Calling
 pub mod CapAnswers
 pub mod Copies
 pub mod Denominators

@@ -1,5 +1,5 @@
 -- What an account and its finishes make of a call's parts.
-use Rattle.std.proofs.Common.{◌≡◌, ◌≢◌, ℕ, ◌+◌, List, [], ◌∷◌, ◌++◌, Bool, true, false, cond, ◌&&◌, if◌then◌else◌, Option, Some, None, Result, Ok, Err, IfOk, IfErr, refl, sym, ap, ◌∙◌, subst}
+use Rattle.std.proofs.Common.{◌≡◌, ◌≢◌, ℕ, ◌+◌, List, [], ◌∷◌, ◌++◌, Bool, true, false, cond, ◌&&◌, if◌then◌else◌, Option, Some, None, Result, Ok, Err, IfOk, IfErr, OnOk, refl, sym, ap, ◌∙◌, subst}
 use Rattle.std.specs.Prelude.{nat_lt}
 use Rattle.std.specs.Bool.{then_some}
 use Rattle.std.specs.declared.cmp.Ordering.{Ordering}
@@ -18,6 +18,11 @@ use Rattle.p2p_simulated.specs.WorldRefusals.{LaunchAccounts, FinishAccounts, Se
 use Rattle.p2p_simulated.specs.Refusing.{IsRefusedAt}
 use Rattle.p2p_simulated.proofs.Refusals.{refused_more}
 use Rattle.p2p_simulated.proofs.Finishing.{first_of_key, then_some_is}
+
+-- two facts of an answer make a third
+pub on_ok_both : {X E A B C : Type 0} (r : Result X E) → (A → B → C) → OnOk r A → OnOk r B → OnOk r C
+on_ok_both (Ok x) f a b = f a b
+on_ok_both (Err e) f a b = tt
 
 module _ {P : Type 0} (cmp : P → P → Ordering) where
   -- ---- settling

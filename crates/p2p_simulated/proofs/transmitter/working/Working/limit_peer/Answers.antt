@@ -1,0 +1,20 @@
+use Rattle.std.proofs.Common.{◌≡◌, true, ap, ◌∙◌, rules}
+use Rattle.p2p_simulated.specs.WorldMessages.{with_cap}
+use Rattle.p2p_simulated.specs.Peers.{egress_of, ingress_of}
+use Rattle.p2p_simulated.specs.Pairs.{link_of, arrival_of, waiting_of}
+use Rattle.p2p_simulated.specs.Flights.{sending_of}
+use Rattle.p2p_simulated.proofs.Settling.{on_ok_both}
+use Rattle.p2p_simulated.proofs.transmitter.working.Working.limit_peer.Goals as goal
+
+pub returns-clause-limited : goal.returns-clause-limited
+returns-clause-limited g c =
+    let out : c.map-egress.result ≡ c.args.egress = search rules in
+    let into : c.map-ingress.result ≡ c.args.ingress = search rules in
+    on_ok_both c.set.result (λ e f. λ i. record {
+        caps = record {
+          egress = (e ∙ ap (with_cap g.P.Ord.cmp (egress_of g.P.Ord.cmp c.args.self.now.peers.entries.items) c.args.peer.now) out) i;
+          ingress = (f ∙ ap (with_cap g.P.Ord.cmp (ingress_of g.P.Ord.cmp c.args.self.now.peers.entries.items) c.args.peer.now) into) i;
+          link = link_of g.P.Ord.cmp c.args.self.now.pairs.entries.items };
+        limited = true; sending = sending_of c.args.self.now.flights.flows.items c.args.self.now.flights.progress.items; waiting = waiting_of c.args.self.now.pairs.entries.items;
+        last_arrival = arrival_of g.P.Ord.cmp c.args.self.now.pairs.entries.items; next_id = c.args.self.now.next_id; finish = c.args.self.now.finish; start = c.args.self.now.start })
+      c.set.ensures.egress c.set.ensures.ingress
