@@ -40,10 +40,10 @@ module _ {P : Type 0} (cmp : P → P → Ordering) where
       → AdvancesSo now p next after (events + 1)
   advances_step now p here next out after cs events event so due h is = record {
     advances = λ n course more.
-      let count : (n + 1) + events ≡ n + (events + 1) = omega arith in
-      subst (λ (k : ℕ). Advances cmp now p k (preceded after course)) count
+        let count : (n + 1) + events ≡ n + (events + 1) = omega arith in
+        subst (λ (k : ℕ). Advances cmp now p k (preceded after course)) count
         (subst (Advances cmp now p ((n + 1) + events)) (preceded_both out cs course ∙ ap (λ (l : List (Completed P)). preceded l course) (sym is))
-          (so.advances (n + 1) (preceded cs course) (one_event now n event here next cs course due h more)));
+        (so.advances (n + 1) (preceded cs course) (one_event now n event here next cs course due h more)));
     accounts = λ t q more. so.accounts t q (after_event now t event here next q cs due h more);
   }
 

@@ -49,8 +49,8 @@ module _ {P : Type 0} (cmp : P → P → Ordering) where
       → IsRefusedAt cmp t (λ fault. Finishes cmp t (m ∷ ms) p (meets fault)) (FinishAccounts cmp t (m ∷ ms) p) e
   refused_launch t m ms p mid in_time is e refused =
       refused_more cmp t (λ fault. Launches cmp t (landed cmp t p m) (next_of cmp p m) (meets fault)) (λ fault. Finishes cmp t (m ∷ ms) p (meets fault)) (LaunchAccounts cmp t (landed cmp t p m) (next_of cmp p m)) (FinishAccounts cmp t (m ∷ ms) p)
-        (λ fault h. stopped in_time h) (λ q h. first_accounts in_time h) e
-        (subst (λ (q : Planned P). IsRefusedAt cmp t (λ fault. Launches cmp t q (first_of cmp q.waiting m.origin m.recipient) (meets fault)) (LaunchAccounts cmp t q (first_of cmp q.waiting m.origin m.recipient)) e) is refused)
+      (λ fault h. stopped in_time h) (λ q h. first_accounts in_time h) e
+      (subst (λ (q : Planned P). IsRefusedAt cmp t (λ fault. Launches cmp t q (first_of cmp q.waiting m.origin m.recipient) (meets fault)) (LaunchAccounts cmp t q (first_of cmp q.waiting m.origin m.recipient)) e) is refused)
 
   pub launches_landed : (t : ℕ) (m : Message P) (p mid : Planned P) (course : Course (Message P) (Planned P)) → mid ≡ landed cmp t p m → Launches cmp t mid (first_of cmp mid.waiting m.origin m.recipient) course
       → Launches cmp t (landed cmp t p m) (next_of cmp p m) course
@@ -133,14 +133,14 @@ module _ {P : Type 0} (cmp : P → P → Ordering) where
       → IsRefusedAt cmp t (λ fault. Launches cmp t now (next_of cmp now m) (meets fault)) (LaunchAccounts cmp t now (next_of cmp now m)) e → IsRefusedAt cmp t (λ fault. WakesEach cmp t ms p (meets fault)) (WakeAccounts cmp t ms p) e
   wakes_launch_refused t ms p before m rest now after so e refused =
       refused_more cmp t (λ fault. Launches cmp t now (next_of cmp now m) (meets fault)) (λ fault. WakesEach cmp t ms p (meets fault)) (LaunchAccounts cmp t now (next_of cmp now m)) (WakeAccounts cmp t ms p)
-        (λ fault h. so.wakes (meets fault) (no_start h)) (λ q h. so.accounts q (start_accounts h)) e refused
+      (λ fault h. so.wakes (meets fault) (no_start h)) (λ q h. so.accounts q (start_accounts h)) e refused
 
   pub wakes_finish_refused : (t : ℕ) (ms : List (Message P)) (p : Planned P) (before : List (Completed P)) (m : Message P) (rest more : List (Message P)) (now next : Planned P) (after : List (Completed P)) → WakesSo t ms p before (m ∷ rest) now after
       → Launches cmp t now (next_of cmp now m) (goes more next) → (e : Error)
       → IsRefusedAt cmp t (λ fault. Finishes cmp t more next (meets fault)) (FinishAccounts cmp t more next) e → IsRefusedAt cmp t (λ fault. WakesEach cmp t ms p (meets fault)) (WakeAccounts cmp t ms p) e
   wakes_finish_refused t ms p before m rest more now next after so launch e refused =
       refused_more cmp t (λ fault. Finishes cmp t more next (meets fault)) (λ fault. WakesEach cmp t ms p (meets fault)) (FinishAccounts cmp t more next) (WakeAccounts cmp t ms p)
-        (λ fault h. so.wakes (meets fault) (no_finish launch h)) (λ q h. so.accounts q (finish_accounts launch h)) e refused
+      (λ fault h. so.wakes (meets fault) (no_finish launch h)) (λ q h. so.accounts q (finish_accounts launch h)) e refused
 
   -- the messages whose pairs are still to start, and their keys
   pub record WakesAt (t : ℕ) (ms : List (Message P)) (p : Planned P) (before : List (Completed P)) (keys : List (Key P)) (at : ℕ) (now : Planned P) (after : List (Completed P)) : Type 0 where
@@ -162,6 +162,7 @@ module _ {P : Type 0} (cmp : P → P → Ordering) where
     where
       cut : drop at keys ≡ key ∷ drop (at + 1) keys
       cut = let next : at + 1 ≡ suc at = omega arith in drop-cons keys at key lt ∙ ap (λ k. k ∷ drop (suc at) keys) (sym is) ∙ ap (λ n. key ∷ drop n keys) (sym next)
+
       by_rest : (rest : List (Message P)) → AllZip (IsKeyOf cmp) (key ∷ drop (at + 1) keys) rest → WakesSo t ms p before rest now after → NextAt t ms p before keys at now after key
       by_rest [] zip so = absurd zip
       by_rest (m ∷ rest) zip so = record { message = m; rest = rest; is_key = zip.0; are_keys = zip.1; so = so }

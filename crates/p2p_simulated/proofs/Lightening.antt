@@ -56,12 +56,15 @@ spent_leaves {P} cmp p t (f ∷ fs) h = by_first ((left_at t f).num == 0) refl h
   where
     g : Paced P
     g = record f { left = left_at t f; updated = t }
+
     more : (b : Bool) → 1 ≤ length (filter (is_spent cmp p) (drained_to t fs)) → 1 ≤ length (cond b (g ∷ filter (is_spent cmp p) (drained_to t fs)) (filter (is_spent cmp p) (drained_to t fs)))
     more true le = omega arith
     more false le = le
+
     one : (b : Bool) → b ≡ true → 1 ≤ length (cond b (g ∷ filter (is_spent cmp p) (drained_to t fs)) (filter (is_spent cmp p) (drained_to t fs)))
     one true is = omega arith
     one false is = cc
+
     by_first : (b : Bool) → ((left_at t f).num == 0) ≡ b → (b || list_any (λ f. (left_at t f).num == 0) fs) ≡ true → (list_any (λ f. (left_at t f).num == 0) fs ≡ true → 1 ≤ length (filter (is_spent cmp p) (drained_to t fs)))
         → 1 ≤ length (filter (is_spent cmp p) (drained_to t (f ∷ fs)))
     by_first true is h ih = one (is_spent cmp p g) (any_first ((left_at t f).num == 0) _ is)
@@ -225,12 +228,12 @@ module _ {P : Type 0} (cmp : P → P → Ordering) where
         let no_finish : lack (spent_at q.sending q.finish) ≡ 0 = ap lack (h.finish (accounts_fit t (record p { finish = None }) mid leavers a)) in
         let no_start : lack (ready_at q q.start) ≡ 0 = ap lack h.start in
         by_bool (spent_at p.sending p.finish)
-          (λ fits.
-            let some : list_any (λ (f : Paced P). (left_at t f).num == 0) p.sending ≡ true = ap (spent_at p.sending) (sym is) ∙ fits in
-            let leave : 1 ≤ length (filter (is_spent cmp (record p { finish = None })) (drained_to t p.sending)) = spent_leaves cmp (record p { finish = None }) t p.sending some in
-            let left : length leavers ≡ length (filter (is_spent cmp (record p { finish = None })) (drained_to t p.sending)) = ap length a.left ∙ length-map (λ (f : Paced P). f.message) (filter (is_spent cmp (record p { finish = None })) (drained_to t p.sending)) in
-            omega (arith, kept, waits, no_finish, no_start, leave, left, h.weighs))
-          (λ fits. let one : lack (spent_at p.sending p.finish) ≡ 1 = ap lack fits in omega (arith, kept, waits, no_finish, no_start, one, h.weighs))
+        (λ fits.
+        let some : list_any (λ (f : Paced P). (left_at t f).num == 0) p.sending ≡ true = ap (spent_at p.sending) (sym is) ∙ fits in
+        let leave : 1 ≤ length (filter (is_spent cmp (record p { finish = None })) (drained_to t p.sending)) = spent_leaves cmp (record p { finish = None }) t p.sending some in
+        let left : length leavers ≡ length (filter (is_spent cmp (record p { finish = None })) (drained_to t p.sending)) = ap length a.left ∙ length-map (λ (f : Paced P). f.message) (filter (is_spent cmp (record p { finish = None })) (drained_to t p.sending)) in
+        omega (arith, kept, waits, no_finish, no_start, leave, left, h.weighs))
+        (λ fits. let one : lack (spent_at p.sending p.finish) ≡ 1 = ap lack fits in omega (arith, kept, waits, no_finish, no_start, one, h.weighs))
 
     woken : (t : ℕ) (p : Planned P) (course : Course (Completed P) (Planned P)) → p.start ≡ Some t → LightensIn (record p { start = None }) course
         → (list_any (may_launch cmp t p) (fronts cmp p.waiting) ≡ true → LighterIn (record p { start = None }) course) → EventsIn p course
@@ -239,8 +242,8 @@ module _ {P : Type 0} (cmp : P → P → Ordering) where
         let no_start : lack (ready_at q q.start) ≡ 0 = ap lack h.start in
         let finish : lack (spent_at q.sending q.finish) ≤ lack (spent_at p.sending p.finish) = no_worse (spent_at p.sending p.finish) (spent_at q.sending q.finish) h.finish in
         by_bool (ready_at p p.start)
-          (λ fits. let less : weight q + 1 ≤ weight (record p { start = None }) = lighter (ap (ready_at p) (sym is) ∙ fits) in omega (arith, no_start, finish, less))
-          (λ fits. let one : lack (ready_at p p.start) ≡ 1 = ap lack fits in omega (arith, no_start, finish, one, h.weighs))
+        (λ fits. let less : weight q + 1 ≤ weight (record p { start = None }) = lighter (ap (ready_at p) (sym is) ∙ fits) in omega (arith, no_start, finish, less))
+        (λ fits. let one : lack (ready_at p p.start) ≡ 1 = ap lack fits in omega (arith, no_start, finish, one, h.weighs))
       where
         no_worse : (a b : Bool) → (a ≡ true → b ≡ true) → lack b ≤ lack a
         no_worse true b h = let is : b ≡ true = h refl in rw is (omega arith)

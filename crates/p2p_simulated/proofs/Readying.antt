@@ -90,7 +90,7 @@ module _ {P : Type 0} (cmp : P → P → Ordering) (order : IsTotalOrder cmp) wh
   fronts_group k (m ∷ ms) rest group apart =
       let of_k : same_pair cmp k m ≡ true = and_left (same_pair cmp k m) _ group in
       let others : filter (λ n. not (same_pair cmp m n)) (fronts cmp rest) ≡ fronts cmp rest =
-          all_pass (λ n. not (same_pair cmp m n)) (fronts cmp rest) (all_fronts (λ n. not (same_pair cmp m n)) rest (list_all-mono (λ n. not (same_pair cmp k n)) (λ n. not (same_pair cmp m n)) (λ n h. ap not (pair_like cmp order k m n of_k) ∙ h) rest apart)) in
+      all_pass (λ n. not (same_pair cmp m n)) (fronts cmp rest) (all_fronts (λ n. not (same_pair cmp m n)) rest (list_all-mono (λ n. not (same_pair cmp k n)) (λ n. not (same_pair cmp m n)) (λ n h. ap not (pair_like cmp order k m n of_k) ∙ h) rest apart)) in
       ap (λ l. m ∷ filter (λ n. not (same_pair cmp m n)) l) (fronts_group k ms rest (and_right (same_pair cmp k m) _ group) apart) ∙ by_next ms (and_right (same_pair cmp k m) _ group) of_k others
     where
       by_next : (ns : List (Message P)) → list_all (same_pair cmp k) ns ≡ true → same_pair cmp k m ≡ true → filter (λ n. not (same_pair cmp m n)) (fronts cmp rest) ≡ fronts cmp rest
@@ -201,6 +201,7 @@ module _ {P : Type 0} (cmp : P → P → Ordering) where
       where
         on : IsFrontOf es m → IsFrontOf (e ∷ es) m
         on r = record { before = e ∷ r.before; entry = r.entry; after = r.after; split = ap (λ l. e ∷ l) r.split; front = r.front }
+
         by_group : (ns : List (Message P)) → messages_of e ≡ ns → list_all (λ (n : Message P). same_peer cmp e.origin n.origin && same_peer cmp e.recipient n.recipient) ns ≡ true
             → find (same_pair cmp m) (ns ++ waiting_of es) ≡ Some m → (find (same_pair cmp m) (waiting_of es) ≡ Some m → IsFrontOf es m) → IsFrontOf (e ∷ es) m
         by_group [] is group f ih = on (ih f)
@@ -208,8 +209,8 @@ module _ {P : Type 0} (cmp : P → P → Ordering) where
             let k : Message P = record m { origin = e.origin; recipient = e.recipient } in
             let of_e : same_pair cmp k n ≡ true = and_left (same_pair cmp k n) _ group in
             by_bool (same_pair cmp m n)
-              (λ h. let here : n ≡ m = some_same (ap (λ b. cond b (Some n) (find (same_pair cmp m) (ns ++ waiting_of es))) (sym h) ∙ f) in record { before = []; entry = e; after = es; split = refl; front = ap (λ l. slice_get l 0) is ∙ ap Some here })
-              (λ h. on (ih (sym (skip_group m e (n ∷ ns) (waiting_of es) group (pair_sym cmp order m k ∙ sym (pair_like cmp order k n m of_e) ∙ pair_sym cmp order n m ∙ h)) ∙ f)))
+            (λ h. let here : n ≡ m = some_same (ap (λ b. cond b (Some n) (find (same_pair cmp m) (ns ++ waiting_of es))) (sym h) ∙ f) in record { before = []; entry = e; after = es; split = refl; front = ap (λ l. slice_get l 0) is ∙ ap Some here })
+            (λ h. on (ih (sym (skip_group m e (n ∷ ns) (waiting_of es) group (pair_sym cmp order m k ∙ sym (pair_like cmp order k n m of_e) ∙ pair_sym cmp order n m ∙ h)) ∙ f)))
           where
             some_same : {x y : Message P} → Some x ≡ Some y → x ≡ y
             some_same s = cc
@@ -276,6 +277,7 @@ module _ {P : Type 0} (cmp : P → P → Ordering) where
         where
           none_some : (r : ℕ) → None ≡ Some r → ⊥
           none_some r e = cc
+
           none_ready : (s : ℕ) → s ≤ last_moment → ¬ ((t ≤ s) × SomeReadyAt cmp p s)
           none_ready s le ready =
               let b : StartsBy t s = starts_by t s ready.0 ready.1 in
@@ -285,8 +287,10 @@ module _ {P : Type 0} (cmp : P → P → Ordering) where
         where
           found : (t ≤ r) × SomeReadyAt cmp p r
           found = let s : StartsAt t p es r = least_is t p es r (sym is) in ready_so t r s.entry (entry_is s.before s.after s.entry s.split) s.is
+
           of_some : {a b : ℕ} → Some a ≡ Some b → a ≡ b
           of_some e = cc
+
           lower : (s : ℕ) → (t ≤ s) × SomeReadyAt cmp p s → r ≤ s
           lower s ready =
               let b : StartsBy t s = starts_by t s ready.0 ready.1 in
@@ -305,8 +309,8 @@ module _ {P : Type 0} (cmp : P → P → Ordering) where
               let moment = first_moment e.last_arrival m.latency in
               ap (is_moment t) (starts_from t p e m h front)
               ∙ by_bool (nat_le moment t)
-                  (λ k. let low : moment ≤ t = leb-true moment t k in let same : max t moment ≡ t = omega arith in eq-eqb (max t moment) t same ∙ sym k)
-                  (λ k. let high : t < moment = leb-false moment t k in by_bool (max t moment == t) (λ j. let same : max t moment ≡ t = eqb-true (max t moment) t j in absurd (omega arith)) (λ j. j ∙ sym k))
+              (λ k. let low : moment ≤ t = leb-true moment t k in let same : max t moment ≡ t = omega arith in eq-eqb (max t moment) t same ∙ sym k)
+              (λ k. let high : t < moment = leb-false moment t k in by_bool (max t moment == t) (λ j. let same : max t moment ≡ t = eqb-true (max t moment) t j in absurd (omega arith)) (λ j. j ∙ sym k))
               ∙ ap (λ (b : Bool). not b && nat_le moment t) (sym h)
 
       nothing_starts : (t : ℕ) (e : Pair P) → messages_of e ≡ [] → start_at cmp t p e ≡ None

@@ -103,8 +103,8 @@ module _ {P : Type 0} (cmp : P → P → Ordering) where
         → IsRefusedAt cmp t (λ fault. Enqueues cmp t m p (meets fault)) (EnqueueAccounts cmp t m p) e
     enqueue_launch_refused t m p mid key limited same is =
         refused_more cmp t (λ fault. Launches cmp t mid (first_of cmp mid.waiting key.origin key.recipient) (meets fault)) (λ fault. Enqueues cmp t m p (meets fault)) (LaunchAccounts cmp t mid (first_of cmp mid.waiting key.origin key.recipient)) (EnqueueAccounts cmp t m p)
-          (λ fault h. no_launch limited (of_message (λ q first. Launches cmp t q first (meets fault)) mid (with_queued cmp p m) key m same is h))
-          (λ q h. launched_account limited (of_message (λ r first. LaunchAccounts cmp t r first q) mid (with_queued cmp p m) key m same is h))
+        (λ fault h. no_launch limited (of_message (λ q first. Launches cmp t q first (meets fault)) mid (with_queued cmp p m) key m same is h))
+        (λ q h. launched_account limited (of_message (λ r first. LaunchAccounts cmp t r first q) mid (with_queued cmp p m) key m same is h))
 
     pub enqueue_finish_refused : (t : ℕ) (m : Message P) (p mid next : Planned P) (key : Key P) (leavers : List (Message P)) → p.limited ≡ true → mid ≡ with_queued cmp p m → IsKeyOf cmp key m
         → Launches cmp t mid (first_of cmp mid.waiting key.origin key.recipient) (goes leavers next) → (e : Error)
@@ -112,10 +112,10 @@ module _ {P : Type 0} (cmp : P → P → Ordering) where
     enqueue_finish_refused t m p mid next key leavers limited same is launch =
         let there = of_message (λ q first. Launches cmp t q first (goes leavers next)) mid (with_queued cmp p m) key m same is launch in
         refused_more cmp t (λ fault. Finishes cmp t leavers next (meets fault)) (λ fault. Enqueues cmp t m p (meets fault)) (FinishAccounts cmp t leavers next) (EnqueueAccounts cmp t m p)
-          (λ fault h. launches limited there h) (λ q h. finished_accounts limited there h)
+        (λ fault h. launches limited there h) (λ q h. finished_accounts limited there h)
 
     pub enqueues_launched : (t : ℕ) (m : Message P) (p mid next new : Planned P) (key : Key P) (leavers : List (Message P)) (cs out : List (Completed P)) → p.limited ≡ true → mid ≡ with_queued cmp p m → IsKeyOf cmp key m
         → Launches cmp t mid (first_of cmp mid.waiting key.origin key.recipient) (goes leavers next) → Finishes cmp t leavers next (goes cs new) → out ≡ [] ++ cs → Enqueues cmp t m p (goes out new)
     enqueues_launched t m p mid next new key leavers cs out limited same is launch finishes out_is =
         subst (λ (l : List (Completed P)). Enqueues cmp t m p (goes l new)) (sym out_is)
-          (launches limited (of_message (λ q first. Launches cmp t q first (goes leavers next)) mid (with_queued cmp p m) key m same is launch) finishes)
+        (launches limited (of_message (λ q first. Launches cmp t q first (goes leavers next)) mid (with_queued cmp p m) key m same is launch) finishes)

@@ -56,7 +56,7 @@ module _ {P : Type 0} (cmp : P → P → Ordering) (order : IsTotalOrder cmp) wh
       let parts : (same_peer cmp o m.origin ≡ true) × (same_peer cmp r m.recipient ≡ true) = (and_left (same_peer cmp o m.origin) _ same, and_right (same_peer cmp o m.origin) _ same) in
       let sends : busy ≡ list_any (same_pair cmp m) (paced_flows p.sending) = busy_is ∙ sym (any_like cmp order (record m { origin = o; recipient = r }) m (paced_flows p.sending) same) in
       let moment : ready ≡ is_in_order (p.last_arrival m.origin m.recipient) (t + m.latency) =
-          ready_is ∙ ap (λ (last : Option ℕ). nat_le (first_moment last m.latency) t) (alike o m.origin r m.recipient parts.0 parts.1) ∙ sym (in_order_from (p.last_arrival m.origin m.recipient) m.latency t) in
+      ready_is ∙ ap (λ (last : Option ℕ). nat_le (first_moment last m.latency) t) (alike o m.origin r m.recipient parts.0 parts.1) ∙ sym (in_order_from (p.last_arrival m.origin m.recipient) m.latency t) in
       ap (λ (b : Bool). not b && ready) sends ∙ ap (λ (b : Bool). not (list_any (same_pair cmp m) (paced_flows p.sending)) && b) moment ∙ ap (may_launch_first cmp t p) (sym found)
 
   -- ---- the launch of a pair
@@ -72,9 +72,10 @@ module _ {P : Type 0} (cmp : P → P → Ordering) (order : IsTotalOrder cmp) wh
   -- the planned world once the first waiting message of a pair is taken and in flight
   abbrev pub pushed : ℕ → Planned P → P → P → Message P → Planned P
   pushed t p o r m = record p {
-      sending = p.sending ++ record { message = m; left = whole (length m.bytes); rate = Some (whole 0); updated = t } ∷ [];
-      waiting = without_first (λ (n : Message P). same_peer cmp o n.origin && same_peer cmp r n.recipient) p.waiting;
-      next_id = p.next_id + 1 }
+    sending = p.sending ++ record { message = m; left = whole (length m.bytes); rate = Some (whole 0); updated = t } ∷ [];
+    waiting = without_first (λ (n : Message P). same_peer cmp o n.origin && same_peer cmp r n.recipient) p.waiting;
+    next_id = p.next_id + 1;
+  }
 
   pub pushed_is : (t : ℕ) (p : Planned P) (o r : P) (m : Message P) → first_of cmp p.waiting o r ≡ Some m → pushed t p o r m ≡ launched cmp t p m
   pushed_is t p o r m found i =
@@ -93,12 +94,11 @@ module _ {P : Type 0} (cmp : P → P → Ordering) (order : IsTotalOrder cmp) wh
   launch_comes t p mid o r m may id found is =
       let may_m : may_launch cmp t p m ≡ true = ap (may_launch_first cmp t p) (sym found) ∙ may in
       subst (λ (first : Option (Message P)). LaunchAccounts cmp t p first mid) (sym found)
-        (subst (λ (q : Planned P). LaunchAccounts cmp t p (Some m) q) (sym (is ∙ pushed_is t p o r m found)) (launch_accounts may_m id))
+      (subst (λ (q : Planned P). LaunchAccounts cmp t p (Some m) q) (sym (is ∙ pushed_is t p o r m found)) (launch_accounts may_m id))
 
   pub may_not : (t : ℕ) (p : Planned P) (first : Option (Message P)) → may_launch_first cmp t p first ≡ true → first ≡ None → ⊥
   may_not t p None may none = cc
   may_not t p (Some m) may none = cc
-
 
 -- ---- what is answered
 

@@ -8,6 +8,7 @@ ghost use Rattle.p2p_simulated.specs.Peers.{egress_of, ingress_of};
 ghost use Rattle.p2p_simulated.specs.Pairs.{link_of};
 ghost use Rattle.p2p_simulated.specs.WorldEvents.{Accounts};
 ghost use Rattle.p2p_simulated.specs.Refusing.{IsRefusedAt};
+
 use super::flights::Flights;
 use super::message::Message;
 use super::pairs::Pairs;
@@ -108,11 +109,7 @@ impl<P: Peer> Flights<P> {
 
     /// Gives each the rate of its flow's id from now on. Answers the first moment at which nothing
     /// is left of one.
-    fn set_rates(
-        &mut self,
-        by_id: &BTreeMap<u64, Rate>,
-        now: u64,
-    ) -> Result<Option<u64>, Error> {
+    fn set_rates(&mut self, by_id: &BTreeMap<u64, Rate>, now: u64) -> Result<Option<u64>, Error> {
         let mut finish = None;
         for (flow, progress) in self.flows.iter().zip(self.progress.iter_mut()) {
             let rate = match by_id.get(&flow.id) {
@@ -135,7 +132,9 @@ impl<P: Peer> Working<P> {
         ensures refused { IfErr result (IsRefusedAt P.cmp now (λ fault. ⊥) (λ q. q ≡ planned P.cmp self.old)) }
     {
         self.flights.drain(now)?;
-        let done = self.flights.take_done(self.alloc, &self.peers, &self.pairs)?;
+        let done = self
+            .flights
+            .take_done(self.alloc, &self.peers, &self.pairs)?;
         let by_id = self.rates()?;
         self.finish = self.flights.set_rates(&by_id, now)?;
         Ok(done)

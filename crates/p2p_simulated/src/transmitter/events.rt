@@ -9,6 +9,7 @@ ghost use Rattle.p2p_simulated.specs.Refusing.{IsRefusedBy, IsRefusedAt};
 ghost use Rattle.p2p_simulated.specs.Message.{message_of};
 ghost use Rattle.p2p_simulated.specs.Pairs.{first_of, arrival_of};
 ghost use Rattle.p2p_simulated.specs.Events.{IsDue, Happens, HappenAccounts, moment_of};
+
 use super::completion::Completion;
 use super::event::Event;
 use super::look::{Key, ready_moment};
@@ -180,9 +181,7 @@ impl<P: Peer> Working<P> {
         let earliest = now
             .checked_add(message.latency)
             .ok_or(Error::MomentTooLate)?;
-        let last = self
-            .pairs
-            .last_arrival(&message.origin, &message.recipient);
+        let last = self.pairs.last_arrival(&message.origin, &message.recipient);
         Ok(later_of(last, earliest))
     }
 
@@ -230,11 +229,7 @@ impl<P: Peer> Working<P> {
     }
 
     /// An event happens, and is planned no more.
-    fn happen(
-        &mut self,
-        event: Event,
-        completions: &mut Vec<Completion<P>>,
-    ) -> Result<(), Error>
+    fn happen(&mut self, event: Event, completions: &mut Vec<Completion<P>>) -> Result<(), Error>
         ensures happens { IfOk result (λ done. (cs : List (Completed P)) × (map completed_of completions.new.items ≡ map completed_of completions.old.items ++ cs)
             × Happens P.cmp event (planned P.cmp self.old) (goes cs (planned P.cmp self.new))) }
         ensures refused { IfErr result (IsRefusedAt P.cmp (moment_of event) (λ fault. Happens P.cmp event (planned P.cmp self.old) (meets fault)) (HappenAccounts P.cmp event (planned P.cmp self.old))) }

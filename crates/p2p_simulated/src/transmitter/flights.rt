@@ -52,9 +52,8 @@ impl<P: Peer> Flights<P> {
     pub(crate) fn has_pair(&self, origin: &P, recipient: &P) -> bool
         ensures { result ≡ list_any (λ flow. same_peer P.cmp origin.now flow.origin && same_peer P.cmp recipient.now flow.recipient) self.now.flows.items }
     {
-        self.flows
-            .iter()
-            .any(|flow| origin.cmp(&flow.origin).is_eq() && recipient.cmp(&flow.recipient).is_eq())
+        self.flows.iter().any(|flow| origin.cmp(&flow.origin).is_eq()
+            && recipient.cmp(&flow.recipient).is_eq())
     }
 
     /// The message is in flight from now on, under an id above those of the others.

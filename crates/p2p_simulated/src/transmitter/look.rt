@@ -6,6 +6,7 @@ ghost use Rattle.p2p_simulated.specs.WorldEvents.{Looks};
 ghost use Rattle.p2p_simulated.specs.World.{last_moment};
 ghost use Rattle.p2p_simulated.specs.Starts.{start_at, is_moment};
 ghost use Rattle.p2p_simulated.specs.Moments.{first_moment};
+
 use super::event::earlier;
 use super::pairs::Pair;
 use super::working::Working;

@@ -13,7 +13,9 @@ returns-in_err-completions-clause-refused g c =
 
 pub returns-clause-obeys : goal.returns-clause-obeys
 returns-clause-obeys g c =
-    let q = planned g.P.Ord.cmp c.in_ok-working.working in
-    (q, c.in_ok-working.ensures.cases,
-     recaps_on g.P.Ord.cmp c.args.now (linked_by g.P.Ord.cmp q.caps c.args.origin.now c.args.recipient.now c.args.cap) q (planned g.P.Ord.cmp c.limit_pair.new.self)
-       (goes (map completed_of c.in_ok-completions.completions.items) (planned g.P.Ord.cmp c.recap.new.self)) c.in_ok-limit_pair.ensures.limited c.in_ok-completions.ensures.recaps)
+    let q = planned g.P.Ord.cmp c.in_ok-working.working in (
+      q,
+      c.in_ok-working.ensures.cases,
+      recaps_on g.P.Ord.cmp c.args.now (linked_by g.P.Ord.cmp q.caps c.args.origin.now c.args.recipient.now c.args.cap) q (planned g.P.Ord.cmp c.limit_pair.new.self)
+          (goes (map completed_of c.in_ok-completions.completions.items) (planned g.P.Ord.cmp c.recap.new.self)) c.in_ok-limit_pair.ensures.limited c.in_ok-completions.ensures.recaps,
+    )

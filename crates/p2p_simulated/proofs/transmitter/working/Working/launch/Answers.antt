@@ -15,7 +15,7 @@ pub returns-then-not-may_launch-clause-launches : goal.returns-then-not-may_laun
 returns-then-not-may_launch-clause-launches g c =
     let p : Planned g.row.P.Denot = planned g.P.Ord.cmp c.args.self.now in
     subst (λ (items : List (code.Message g.row.P.Denot)). Launches g.P.Ord.cmp c.args.now p (first_of g.P.Ord.cmp p.waiting c.args.origin.now c.args.recipient.now) (goes (messages items) p)) (sym c.new.ensures.items)
-        (not_started g.P.Ord.cmp g.met.P.Ord.total c.args.now p _ (sym c.may_launch.ensures ∙ c.if-not-may_launch.true))
+    (not_started g.P.Ord.cmp g.met.P.Ord.total c.args.now p _ (sym c.may_launch.ensures ∙ c.if-not-may_launch.true))
 
 pub returns-then-self-clause-refused : goal.returns-then-self-clause-refused
 returns-then-self-clause-refused g c = no_more_ids g.P.Ord.cmp g.met.P.Ord.total c.args.now (planned g.P.Ord.cmp c.args.self.now) _ (sym c.may_launch.ensures ∙ c.if-not-may_launch.false) (omega arith)
@@ -26,19 +26,31 @@ invariant_of-self-2 g c = record { below = c.push.ensures.flow (λ flow. nat_lt 
 pub returns-clause-launches : goal.returns-clause-launches
 returns-clause-launches g c =
     launched_so g.P.Ord.cmp g.met.P.Ord.total c.args.now (planned g.P.Ord.cmp c.args.self.now) _ c.args.origin.now c.args.recipient.now (message_of c.in-Some.message)
-        (sym c.may_launch.ensures ∙ c.if-not-may_launch.false) (omega arith) (sym c.in-Some.ensures.taken)
-        (λ i. record {
-            caps = record { egress = egress_of g.P.Ord.cmp c.args.self.now.peers.entries.items; ingress = ingress_of g.P.Ord.cmp c.args.self.now.peers.entries.items; link = c.in-Some.ensures.link i };
-            limited = c.args.self.now.limited; sending = c.in_ok-push.ensures.sending i; waiting = c.in-Some.ensures.waiting i; last_arrival = c.in-Some.ensures.arrival i;
-            next_id = c.args.self.now.next_id + 1; finish = c.args.self.now.finish; start = c.args.self.now.start })
-        (λ leavers. messages leavers.items) c.account.result (planned g.P.Ord.cmp c.account.new.self) c.account.ensures.accounts
+    (sym c.may_launch.ensures ∙ c.if-not-may_launch.false) (omega arith) (sym c.in-Some.ensures.taken)
+    (λ i. record {
+      caps = record { egress = egress_of g.P.Ord.cmp c.args.self.now.peers.entries.items; ingress = ingress_of g.P.Ord.cmp c.args.self.now.peers.entries.items; link = c.in-Some.ensures.link i };
+      limited = c.args.self.now.limited;
+      sending = c.in_ok-push.ensures.sending i;
+      waiting = c.in-Some.ensures.waiting i;
+      last_arrival = c.in-Some.ensures.arrival i;
+      next_id = c.args.self.now.next_id + 1;
+      finish = c.args.self.now.finish;
+      start = c.args.self.now.start;
+    })
+    (λ leavers. messages leavers.items) c.account.result (planned g.P.Ord.cmp c.account.new.self) c.account.ensures.accounts
 
 pub returns-clause-refused : goal.returns-clause-refused
 returns-clause-refused g c =
     launch_refused g.P.Ord.cmp g.met.P.Ord.total c.args.now (planned g.P.Ord.cmp c.args.self.now) _ c.args.origin.now c.args.recipient.now (message_of c.in-Some.message)
-        (sym c.may_launch.ensures ∙ c.if-not-may_launch.false) (omega arith) (sym c.in-Some.ensures.taken)
-        (λ i. record {
-            caps = record { egress = egress_of g.P.Ord.cmp c.args.self.now.peers.entries.items; ingress = ingress_of g.P.Ord.cmp c.args.self.now.peers.entries.items; link = c.in-Some.ensures.link i };
-            limited = c.args.self.now.limited; sending = c.in_ok-push.ensures.sending i; waiting = c.in-Some.ensures.waiting i; last_arrival = c.in-Some.ensures.arrival i;
-            next_id = c.args.self.now.next_id + 1; finish = c.args.self.now.finish; start = c.args.self.now.start })
-        c.account.result c.account.ensures.refused
+    (sym c.may_launch.ensures ∙ c.if-not-may_launch.false) (omega arith) (sym c.in-Some.ensures.taken)
+    (λ i. record {
+      caps = record { egress = egress_of g.P.Ord.cmp c.args.self.now.peers.entries.items; ingress = ingress_of g.P.Ord.cmp c.args.self.now.peers.entries.items; link = c.in-Some.ensures.link i };
+      limited = c.args.self.now.limited;
+      sending = c.in_ok-push.ensures.sending i;
+      waiting = c.in-Some.ensures.waiting i;
+      last_arrival = c.in-Some.ensures.arrival i;
+      next_id = c.args.self.now.next_id + 1;
+      finish = c.args.self.now.finish;
+      start = c.args.self.now.start;
+    })
+    c.account.result c.account.ensures.refused

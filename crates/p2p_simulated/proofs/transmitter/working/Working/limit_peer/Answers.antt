@@ -11,10 +11,17 @@ returns-clause-limited g c =
     let out : c.map-egress.result ≡ c.args.egress = search rules in
     let into : c.map-ingress.result ≡ c.args.ingress = search rules in
     on_ok_both c.set.result (λ e f. λ i. record {
-        caps = record {
-          egress = (e ∙ ap (with_cap g.P.Ord.cmp (egress_of g.P.Ord.cmp c.args.self.now.peers.entries.items) c.args.peer.now) out) i;
-          ingress = (f ∙ ap (with_cap g.P.Ord.cmp (ingress_of g.P.Ord.cmp c.args.self.now.peers.entries.items) c.args.peer.now) into) i;
-          link = link_of g.P.Ord.cmp c.args.self.now.pairs.entries.items };
-        limited = true; sending = sending_of c.args.self.now.flights.flows.items c.args.self.now.flights.progress.items; waiting = waiting_of c.args.self.now.pairs.entries.items;
-        last_arrival = arrival_of g.P.Ord.cmp c.args.self.now.pairs.entries.items; next_id = c.args.self.now.next_id; finish = c.args.self.now.finish; start = c.args.self.now.start })
-      c.set.ensures.egress c.set.ensures.ingress
+      caps = record {
+        egress = (e ∙ ap (with_cap g.P.Ord.cmp (egress_of g.P.Ord.cmp c.args.self.now.peers.entries.items) c.args.peer.now) out) i;
+        ingress = (f ∙ ap (with_cap g.P.Ord.cmp (ingress_of g.P.Ord.cmp c.args.self.now.peers.entries.items) c.args.peer.now) into) i;
+        link = link_of g.P.Ord.cmp c.args.self.now.pairs.entries.items;
+      };
+      limited = true;
+      sending = sending_of c.args.self.now.flights.flows.items c.args.self.now.flights.progress.items;
+      waiting = waiting_of c.args.self.now.pairs.entries.items;
+      last_arrival = arrival_of g.P.Ord.cmp c.args.self.now.pairs.entries.items;
+      next_id = c.args.self.now.next_id;
+      finish = c.args.self.now.finish;
+      start = c.args.self.now.start;
+    })
+    c.set.ensures.egress c.set.ensures.ingress
