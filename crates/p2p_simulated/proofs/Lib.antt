@@ -32,3 +32,5 @@ pub mod Waiting
 pub mod Wording
 pub mod World
 pub mod Flying
+pub mod InPlace
+pub mod Progressing

@@ -1,6 +1,7 @@
 //! When each message arrives: a scheduler of messages over capped peers.
 mod account;
 mod completion;
+mod drain;
 mod event;
 mod events;
 mod flights;

@@ -1,43 +1,25 @@
 //! What is in flight, accounted for at a moment.
-ghost use Rattle.std.specs.Prelude.{◌≡◌, ◌<◌, ◌&&◌, ◌||◌, Bool, true, not, is_none, map, length, slice_index_or, IfOk, IfErr, OnOk};
+ghost use Rattle.std.specs.Prelude.{◌≡◌, ℕ, Some, slice_get, ◌<◌, ◌&&◌, ◌||◌, Bool, true, not, is_none, map, length, slice_index_or, IfOk, IfErr, OnOk};
 ghost use Rattle.std.specs.List.{filter, list_all};
 ghost use Rattle.p2p_simulated.specs.declared.bandwidth.Flow.{Flow as AnyFlow};
-ghost use Rattle.p2p_simulated.specs.WorldPlanned.{Paced, paced_flows};
+ghost use Rattle.p2p_simulated.specs.WorldPlanned.{Paced, paced_flows, drained_to};
+ghost use Rattle.p2p_simulated.specs.WorldRefusals.{IsDrainTooLarge};
 ghost use Rattle.p2p_simulated.specs.Message.{message_of};
 ghost use Rattle.p2p_simulated.specs.Peers.{egress_of, ingress_of};
 ghost use Rattle.p2p_simulated.specs.Pairs.{link_of};
 ghost use Rattle.p2p_simulated.specs.WorldEvents.{Accounts};
 ghost use Rattle.p2p_simulated.specs.Refusing.{IsRefusedAt};
+use super::drain::drain_all;
 use super::flights::Flights;
 use super::message::Message;
 use super::pairs::Pairs;
 use super::peers::Peers;
-use super::progress::Progress;
 use super::working::Working;
-use crate::bandwidth::{Flow, Rate, allocate_linked, duration, transfer};
+use crate::bandwidth::{Flow, Rate, allocate_linked};
 use crate::error::Error;
 use crate::peer::Peer;
 use std::alloc::Global;
 use std::collections::{BTreeMap, VecDeque};
-
-impl Progress {
-    /// Drains to that moment at the rate since the last update.
-    fn drain(&mut self, now: u64) -> Result<(), Error> {
-        let elapsed = now.saturating_sub(self.updated);
-        self.left = transfer(&self.rate, elapsed, self.left)?;
-        self.updated = now;
-        Ok(())
-    }
-
-    /// The rate from now on, and the moment at which nothing is left then.
-    fn set_rate(&mut self, rate: Rate, now: u64) -> Result<Option<u64>, Error> {
-        self.rate = rate;
-        match duration(&rate, &self.left)? {
-            None => Ok(None),
-            Some(time) => Ok(now.checked_add(time)),
-        }
-    }
-}
 
 /// Whether the flow uses no capped side.
 fn is_unlimited<P: Peer>(flow: &Flow<P>, peers: &Peers<P>, pairs: &Pairs<P>) -> bool
@@ -64,11 +46,13 @@ impl<P: Peer> Flights<P> {
     ghost use Rattle.p2p_simulated.specs.Working.{caps_of, is_done_under};
 
     /// All drain to that moment.
-    fn drain(&mut self, now: u64) -> Result<(), Error> {
-        for progress in self.progress.iter_mut() {
-            progress.drain(now)?;
-        }
-        Ok(())
+    fn drain(&mut self, now: u64) -> Result<(), Error>
+        ensures sending { OnOk result (sending_of self.new.flows.items self.new.progress.items ≡ drained_to now (sending_of self.old.flows.items self.old.progress.items)) }
+        ensures flows { self.new.flows.items ≡ self.old.flows.items }
+        ensures refused { IfErr result (λ e. (e ≡ Error.NumberTooLarge) × ((place : ℕ) × (f : Paced P)
+            × (slice_get (sending_of self.old.flows.items self.old.progress.items) place ≡ Some f) × IsDrainTooLarge now f)) }
+    {
+        drain_all(&mut self.progress, now)
     }
 
     /// Whether the message at that place is done: nothing is left of it, or it uses no capped side.
