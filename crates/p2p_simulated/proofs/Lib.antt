@@ -34,3 +34,4 @@ pub mod World
 pub mod Flying
 pub mod InPlace
 pub mod Progressing
+pub mod CapCalls

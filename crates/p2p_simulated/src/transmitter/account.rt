@@ -110,7 +110,10 @@ impl<P: Peer> Flights<P> {
 }
 
 impl<P: Peer> Working<P> {
-    ghost use Rattle.p2p_simulated.specs.Working.{planned, messages};
+    ghost use Rattle.std.specs.Prelude.{◌⊎◌};
+    ghost use Rattle.std.specs.Ordering.{nat_cmp};
+    ghost use Rattle.std.specs.BTreeMap.{get};
+    ghost use Rattle.p2p_simulated.specs.Working.{planned, messages, caps_of, AreRatesOf};
 
     /// All that is in flight drains to that moment. What is done leaves, in order of start, and the
     /// rest gets its fair rates. The finish is planned anew.
@@ -126,7 +129,10 @@ impl<P: Peer> Working<P> {
     }
 
     /// The fair rate of each flow in flight, by its id.
-    fn rates(&self) -> Result<BTreeMap<u64, Rate>, Error> {
+    fn rates(&self) -> Result<BTreeMap<u64, Rate>, Error>
+        ensures fair { IfOk result (λ by_id. AreRatesOf P.cmp (caps_of P.cmp self.now.peers.entries.items self.now.pairs.entries.items) self.now.flights.flows.items (get nat_cmp by_id)) }
+        ensures refused { IfErr result (λ e. (e ≡ Error.OutOfMemory) ⊎ (e ≡ Error.NumberTooLarge)) }
+    {
         allocate_linked(
             self.alloc,
             &self.flights.flows,
