@@ -2,8 +2,8 @@
 ghost use Rattle.std.specs.Prelude.{◌≡◌, ℕ, Some, slice_get, ◌<◌, ◌&&◌, ◌||◌, Bool, true, not, is_none, map, length, slice_index_or, IfOk, IfErr, OnOk};
 ghost use Rattle.std.specs.List.{filter, list_all};
 ghost use Rattle.p2p_simulated.specs.declared.bandwidth.Flow.{Flow as AnyFlow};
-ghost use Rattle.p2p_simulated.specs.WorldPlanned.{Paced, paced_flows, drained_to};
-ghost use Rattle.p2p_simulated.specs.WorldRefusals.{IsDrainTooLarge};
+ghost use Rattle.p2p_simulated.specs.WorldPlanned.{Paced, paced_flows, drained_to, IsLeastMoment, SomeSpentAt};
+ghost use Rattle.p2p_simulated.specs.WorldRefusals.{IsDrainTooLarge, IsTimeTooLarge};
 ghost use Rattle.p2p_simulated.specs.Message.{message_of};
 ghost use Rattle.p2p_simulated.specs.Peers.{egress_of, ingress_of};
 ghost use Rattle.p2p_simulated.specs.Pairs.{link_of};
@@ -42,7 +42,9 @@ fn earlier(first: Option<u64>, second: Option<u64>) -> Option<u64> {
 }
 
 impl<P: Peer> Flights<P> {
-    ghost use Rattle.p2p_simulated.specs.Flights.{sending_of};
+    ghost use Rattle.std.specs.Ordering.{nat_cmp};
+    ghost use Rattle.std.specs.BTreeMap.{get};
+    ghost use Rattle.p2p_simulated.specs.Flights.{sending_of, rated_by};
     ghost use Rattle.p2p_simulated.specs.Working.{caps_of, is_done_under};
 
     /// All drain to that moment.
@@ -96,7 +98,14 @@ impl<P: Peer> Flights<P> {
         &mut self,
         by_id: &BTreeMap<u64, Rate>,
         now: u64,
-    ) -> Result<Option<u64>, Error> {
+    ) -> Result<Option<u64>, Error>
+        ensures flows { self.new.flows.items ≡ self.old.flows.items }
+        ensures sending { OnOk result (sending_of self.new.flows.items self.new.progress.items
+            ≡ rated_by now (get nat_cmp by_id.now) self.old.flows.items self.old.progress.items) }
+        ensures finish { IfOk result (IsLeastMoment (λ s. SomeSpentAt (sending_of self.new.flows.items self.new.progress.items) s)) }
+        ensures refused { IfErr result (λ e. (e ≡ Error.NumberTooLarge) × ((place : ℕ) × (f : Paced P)
+            × (slice_get (rated_by now (get nat_cmp by_id.now) self.old.flows.items self.old.progress.items) place ≡ Some f) × IsTimeTooLarge f)) }
+    {
         let mut finish = None;
         for (flow, progress) in self.flows.iter().zip(self.progress.iter_mut()) {
             let rate = match by_id.get(&flow.id) {

@@ -1,5 +1,5 @@
 //! What is known of a message in flight beside its flow.
-ghost use Rattle.std.specs.Prelude.{◌≡◌, ◌-◌, ◌<◌, ℕ, Some, slice_get, IfOk, IfErr, OnOk, OnErr};
+ghost use Rattle.std.specs.Prelude.{◌≡◌, ◌-◌, ◌<◌, ◌≤◌, ℕ, Some, slice_get, IfOk, IfErr, OnOk, OnErr};
 ghost use Rattle.std.specs.List.{AllZip};
 
 use crate::bandwidth::{Rate, duration, transfer};
@@ -40,7 +40,8 @@ impl Clone for Progress {
 
 impl Progress {
     ghost use Rattle.p2p_simulated.specs.Ratio.{amount_of};
-    ghost use Rattle.p2p_simulated.specs.Time.{TransferFits, left_after};
+    ghost use Rattle.p2p_simulated.specs.Time.{TransferFits, TimeFits, left_after};
+    ghost use Rattle.p2p_simulated.specs.WorldPlanned.{IsLeastMoment};
 
     /// Drains to that moment at the rate since the last update.
     pub(crate) fn drain(&mut self, now: u64) -> Result<(), Error>
@@ -55,9 +56,15 @@ impl Progress {
         Ok(())
     }
 
-    /// The rate from now on, and the moment at which nothing is left then.
-    pub(crate) fn set_rate(&mut self, rate: Rate, now: u64) -> Result<Option<u64>, Error> {
+    /// That moment is the update, and that the rate from then on. Answers the first moment at which
+    /// nothing is left then.
+    pub(crate) fn set_rate(&mut self, rate: Rate, now: u64) -> Result<Option<u64>, Error>
+        ensures after { self.new ≡ record self.old { rate = rate; updated = now } }
+        ensures finish { IfOk result (IsLeastMoment (λ s. (now ≤ s) × ((left_after rate (s - now) (amount_of self.old.left)).num ≡ 0))) }
+        ensures refused { IfErr result (λ e. (e ≡ Error.NumberTooLarge) × ¬ TimeFits rate (amount_of self.old.left)) }
+    {
         self.rate = rate;
+        self.updated = now;
         match duration(&rate, &self.left)? {
             None => Ok(None),
             Some(time) => Ok(now.checked_add(time)),

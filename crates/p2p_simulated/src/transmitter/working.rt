@@ -1,5 +1,6 @@
 //! The state that a call works on.
-ghost use Rattle.std.specs.Prelude.{◌≡◌};
+ghost use Rattle.std.specs.Prelude.{◌≡◌, true, nat_lt};
+ghost use Rattle.std.specs.List.{list_all};
 
 use super::flights::Flights;
 use super::pairs::Pairs;
@@ -23,6 +24,7 @@ pub(crate) struct Working<P: Peer> {
     pub(crate) finish: Option<u64>,
     /// The moment at which a waiting message starts next.
     pub(crate) start: Option<u64>,
+    pub ghost fresh: { list_all (λ flow. nat_lt flow.id next_id) flights.flows.items ≡ true },
 }
 
 impl<P: Peer> Working<P> {
