@@ -35,3 +35,4 @@ pub mod Flying
 pub mod InPlace
 pub mod Progressing
 pub mod CapCalls
+pub mod Launching

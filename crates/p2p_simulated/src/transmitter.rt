@@ -10,6 +10,7 @@ mod message;
 mod pairs;
 mod peers;
 mod progress;
+mod rate;
 mod working;
 
 use crate::error::Error;

@@ -1,5 +1,5 @@
 //! What is in flight, accounted for at a moment.
-ghost use Rattle.std.specs.Prelude.{◌≡◌, ℕ, Some, slice_get, ◌<◌, ◌&&◌, ◌||◌, Bool, true, not, is_none, map, length, slice_index_or, IfOk, IfErr, OnOk};
+ghost use Rattle.std.specs.Prelude.{◌≡◌, ◌≢◌, ℕ, All, Some, slice_get, ◌<◌, ◌&&◌, ◌||◌, Bool, true, not, is_none, map, length, slice_index_or, IfOk, IfErr, OnOk};
 ghost use Rattle.std.specs.List.{filter, list_all};
 ghost use Rattle.p2p_simulated.specs.declared.bandwidth.Flow.{Flow as AnyFlow};
 ghost use Rattle.p2p_simulated.specs.WorldPlanned.{Paced, paced_flows, drained_to, IsLeastMoment, SomeSpentAt};
@@ -10,6 +10,7 @@ ghost use Rattle.p2p_simulated.specs.Pairs.{link_of};
 ghost use Rattle.p2p_simulated.specs.WorldEvents.{Accounts};
 ghost use Rattle.p2p_simulated.specs.Refusing.{IsRefusedAt};
 use super::drain::drain_all;
+use super::rate::rate_all;
 use super::flights::Flights;
 use super::message::Message;
 use super::pairs::Pairs;
@@ -30,15 +31,6 @@ fn is_unlimited<P: Peer>(flow: &Flow<P>, peers: &Peers<P>, pairs: &Pairs<P>) -> 
     peers.egress(&flow.origin).is_none()
         && (!flow.delivered || peers.ingress(&flow.recipient).is_none())
         && pairs.cap(&flow.origin, &flow.recipient).is_none()
-}
-
-/// The earlier of two moments, where there are any.
-fn earlier(first: Option<u64>, second: Option<u64>) -> Option<u64> {
-    match (first, second) {
-        (Some(first), Some(second)) => Some(first.min(second)),
-        (Some(first), None) => Some(first),
-        (None, second) => second,
-    }
 }
 
 impl<P: Peer> Flights<P> {
@@ -99,6 +91,7 @@ impl<P: Peer> Flights<P> {
         by_id: &BTreeMap<u64, Rate>,
         now: u64,
     ) -> Result<Option<u64>, Error>
+        requires { All (λ f. f.left.num ≢ 0) (sending_of self.old.flows.items self.old.progress.items) }
         ensures flows { self.new.flows.items ≡ self.old.flows.items }
         ensures sending { OnOk result (sending_of self.new.flows.items self.new.progress.items
             ≡ rated_by now (get nat_cmp by_id.now) self.old.flows.items self.old.progress.items) }
@@ -106,15 +99,7 @@ impl<P: Peer> Flights<P> {
         ensures refused { IfErr result (λ e. (e ≡ Error.NumberTooLarge) × ((place : ℕ) × (f : Paced P)
             × (slice_get (rated_by now (get nat_cmp by_id.now) self.old.flows.items self.old.progress.items) place ≡ Some f) × IsTimeTooLarge f)) }
     {
-        let mut finish = None;
-        for (flow, progress) in self.flows.iter().zip(self.progress.iter_mut()) {
-            let rate = match by_id.get(&flow.id) {
-                Some(rate) => *rate,
-                None => Rate::Unlimited,
-            };
-            finish = earlier(finish, progress.set_rate(rate, now)?);
-        }
-        Ok(finish)
+        rate_all(&self.flows, &mut self.progress, by_id, now)
     }
 }
 

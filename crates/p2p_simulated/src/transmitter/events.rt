@@ -29,8 +29,8 @@ impl<P: Peer> Working<P> {
         match self.pairs.first(origin, recipient) {
             None => false,
             Some(front) => {
-                let last = self.pairs.last_arrival(origin, recipient);
-                !self.flights.has_pair(origin, recipient)
+                let last = self.pairs.last_arrival(&front.origin, &front.recipient);
+                !self.flights.has_pair(&front.origin, &front.recipient)
                     && ready_moment(last, front.latency) <= now
             }
         }

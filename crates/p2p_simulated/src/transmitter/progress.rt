@@ -1,5 +1,5 @@
 //! What is known of a message in flight beside its flow.
-ghost use Rattle.std.specs.Prelude.{◌≡◌, ◌-◌, ◌<◌, ◌≤◌, ℕ, Some, slice_get, IfOk, IfErr, OnOk, OnErr};
+ghost use Rattle.std.specs.Prelude.{◌≡◌, ◌≢◌, ◌-◌, ◌<◌, ◌≤◌, ℕ, Some, slice_get, IfOk, IfErr, OnOk, OnErr};
 ghost use Rattle.std.specs.List.{AllZip};
 
 use crate::bandwidth::{Rate, duration, transfer};
@@ -59,6 +59,7 @@ impl Progress {
     /// That moment is the update, and that the rate from then on. Answers the first moment at which
     /// nothing is left then.
     pub(crate) fn set_rate(&mut self, rate: Rate, now: u64) -> Result<Option<u64>, Error>
+        requires { (amount_of self.old.left).num ≢ 0 }
         ensures after { self.new ≡ record self.old { rate = rate; updated = now } }
         ensures finish { IfOk result (IsLeastMoment (λ s. (now ≤ s) × ((left_after rate (s - now) (amount_of self.old.left)).num ≡ 0))) }
         ensures refused { IfErr result (λ e. (e ≡ Error.NumberTooLarge) × ¬ TimeFits rate (amount_of self.old.left)) }
