@@ -69,7 +69,7 @@ impl<P: Peer> Flights<P> {
             (sending_of self.old.flows.items self.old.progress.items))) }
         ensures rest { OnOk result (sending_of self.new.flows.items self.new.progress.items ≡ filter (λ f. not (is_done_under P.cmp (caps_of P.cmp peers.now.entries.items pairs.now.entries.items) f))
             (sending_of self.old.flows.items self.old.progress.items)) }
-        ensures others { OnOk result ((test : AnyFlow P → Bool) → list_all test self.old.flows.items ≡ true → list_all test self.new.flows.items ≡ true) }
+        ensures others { (test : AnyFlow P → Bool) → list_all test self.old.flows.items ≡ true → list_all test self.new.flows.items ≡ true }
         ensures refused { IfErr result (λ e. e ≡ Error.OutOfMemory) }
     {
         let mut done = VecDeque::new(alloc);

@@ -62,8 +62,8 @@ impl<P: Peer> Flights<P> {
         requires { list_all (λ flow. nat_lt flow.id id) self.old.flows.items ≡ true }
         ensures sending { OnOk result (sending_of self.new.flows.items self.new.progress.items ≡ sending_of self.old.flows.items self.old.progress.items
             ++ record { message = message_of message; left = whole (length message.bytes); rate = Some (whole 0); updated = now } ∷ []) }
-        ensures flow { OnOk result ((test : AnyFlow P → Bool) → list_all test self.old.flows.items ≡ true
-            → ((flow : AnyFlow P) → flow.id ≡ id → test flow ≡ true) → list_all test self.new.flows.items ≡ true) }
+        ensures flow { (test : AnyFlow P → Bool) → list_all test self.old.flows.items ≡ true
+            → ((flow : AnyFlow P) → flow.id ≡ id → test flow ≡ true) → list_all test self.new.flows.items ≡ true }
         ensures refused { IfErr result (λ e. e ≡ Error.OutOfMemory) }
     {
         let delivered = message.is_delivered();
