@@ -36,3 +36,4 @@ pub mod InPlace
 pub mod Progressing
 pub mod CapCalls
 pub mod Launching
+pub mod Finishing

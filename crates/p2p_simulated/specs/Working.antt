@@ -6,13 +6,12 @@ use Rattle.p2p_simulated.specs.declared.bandwidth.Flow.{Flow}
 use Rattle.p2p_simulated.specs.declared.bandwidth.Rate.{Rate}
 use Rattle.p2p_simulated.specs.PeerCaps.{AreFairUnder}
 use Rattle.p2p_simulated.specs.Rates.{last_rate}
-use Rattle.p2p_simulated.specs.declared.transmitter.completion.Completion.{Completion}
 use Rattle.p2p_simulated.specs.declared.transmitter.message.Message as code
 use Rattle.p2p_simulated.specs.declared.transmitter.peers.PeerCaps.{PeerCaps}
 use Rattle.p2p_simulated.specs.declared.transmitter.pairs.Pair.{Pair}
 use Rattle.p2p_simulated.specs.declared.transmitter.working.Working.{Working}
 use Rattle.p2p_simulated.specs.Caps.{Caps}
-use Rattle.p2p_simulated.specs.World.{Completed, fronts}
+use Rattle.p2p_simulated.specs.World.{fronts}
 use Rattle.p2p_simulated.specs.WorldMessages.{Message}
 use Rattle.p2p_simulated.specs.WorldPlanned.{Planned, Paced, may_launch}
 use Rattle.p2p_simulated.specs.WorldRates.{is_unlimited}
@@ -40,10 +39,6 @@ planned cmp w = record {
   finish = w.finish;
   start = w.start;
 }
-
--- a completion as it is answered
-abbrev pub completed_of : {P : Type 0} → Completion P → Completed P
-completed_of c = record { origin = c.origin; recipient = c.recipient; channel = c.channel; bytes = c.message; deliver_at = c.deliver_at }
 
 abbrev pub messages : {P : Type 0} → List (code.Message P) → List (Message P)
 messages ms = map message_of ms

@@ -6,7 +6,7 @@ ghost use Rattle.p2p_simulated.specs.WorldPlanned.{next_of, next_event as next_o
 ghost use Rattle.p2p_simulated.specs.WorldEvents.{Launches, Finishes, Settles, Wakes, Recaps, Enqueues, Advances, landed, completed, is_late, completed_at_once};
 ghost use Rattle.p2p_simulated.specs.WorldRefusals.{LaunchAccounts, FinishAccounts, SettleAccounts, WakeAccounts, RecapAccounts, EnqueueAccounts, AdvanceAccounts};
 ghost use Rattle.p2p_simulated.specs.Refusing.{IsRefusedBy, IsRefusedAt};
-ghost use Rattle.p2p_simulated.specs.Message.{message_of};
+ghost use Rattle.p2p_simulated.specs.Message.{message_of, completed_of};
 ghost use Rattle.p2p_simulated.specs.Pairs.{first_of};
 ghost use Rattle.p2p_simulated.specs.Events.{IsDue};
 use super::completion::Completion;
@@ -19,7 +19,7 @@ use crate::peer::Peer;
 use std::collections::VecDeque;
 
 impl<P: Peer> Working<P> {
-    ghost use Rattle.p2p_simulated.specs.Working.{planned, completed_of, messages, may_launch_first, ready_messages};
+    ghost use Rattle.p2p_simulated.specs.Working.{planned, messages, may_launch_first, ready_messages};
 
     /// Whether the first waiting message of the pair may start: the pair is idle, and the message
     /// arrives no earlier than the pair's last one.
@@ -75,24 +75,11 @@ impl<P: Peer> Working<P> {
         ensures launches { IfOk result (λ more. Launches P.cmp now (landed P.cmp now (planned P.cmp self.old) (message_of message)) (next_of P.cmp (planned P.cmp self.old) (message_of message)) (goes (messages more.items) (planned P.cmp self.new))) }
         ensures refused { IfErr result (λ e. (ms : List (AnyMessage P)) → IsRefusedAt P.cmp now (λ fault. Finishes P.cmp now (message_of message ∷ ms) (planned P.cmp self.old) (meets fault)) (FinishAccounts P.cmp now (message_of message ∷ ms) (planned P.cmp self.old)) e) }
     {
-        let delivered = message.is_delivered();
-        let arrival = if delivered {
-            now.checked_add(message.latency)
-                .ok_or(Error::MomentTooLate)?
-        } else {
-            now
-        };
+        let arrival = message.arrival(now)?;
         self.pairs
             .raise(self.alloc, &message.origin, &message.recipient, arrival)?;
         let more = self.launch(&message.origin, &message.recipient, now)?;
-        let deliver_at = if delivered { Some(arrival) } else { None };
-        completions.push(Completion {
-            origin: message.origin,
-            recipient: message.recipient,
-            channel: message.channel,
-            message: message.bytes,
-            deliver_at,
-        })?;
+        completions.push(message.completed(arrival))?;
         Ok(more)
     }
 

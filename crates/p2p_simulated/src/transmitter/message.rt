@@ -1,6 +1,8 @@
 //! A message that waits or is in flight.
 ghost use Rattle.std.specs.Prelude.{◌≡◌};
 
+use super::completion::Completion;
+use crate::error::Error;
 use crate::peer::Peer;
 use bytes::Bytes;
 use std::alloc::AllocError;
@@ -26,6 +28,45 @@ impl<P: Peer> Message<P> {
         ensures { result ≡ is_delivered P.cmp (message_of self.now) }
     {
         self.should_deliver && self.origin.cmp(&self.recipient).is_ne()
+    }
+}
+
+impl<P: Peer> Message<P> {
+    ghost use Rattle.std.specs.Prelude.{true, false, Some, None, if◌then◌else◌, IfOk, IfErr};
+    ghost use Rattle.p2p_simulated.specs.World.{completion_of};
+    ghost use Rattle.p2p_simulated.specs.WorldMessages.{is_delivered};
+    ghost use Rattle.p2p_simulated.specs.WorldEvents.{arrival, is_late};
+    ghost use Rattle.p2p_simulated.specs.Message.{message_of, completed_of};
+
+    /// When it arrives if it is finished at that moment, or that moment if it does not arrive.
+    pub(crate) fn arrival(&self, now: u64) -> Result<u64, Error>
+        ensures in_time { IfOk result (λ at. is_late P.cmp now (message_of self.now) ≡ false) }
+        ensures arrival { IfOk result (λ at. at ≡ arrival P.cmp now (message_of self.now)) }
+        ensures late { IfErr result (λ e. is_late P.cmp now (message_of self.now) ≡ true) }
+        ensures refused { IfErr result (λ e. e ≡ Error.MomentTooLate) }
+    {
+        if !self.is_delivered() {
+            return Ok(now);
+        }
+        now.checked_add(self.latency).ok_or(Error::MomentTooLate)
+    }
+
+    /// Its completion, if it arrives then.
+    pub(crate) fn completed(self, arrival: u64) -> Completion<P>
+        ensures { completed_of result ≡ completion_of (message_of self) (if is_delivered P.cmp (message_of self) then Some arrival else None) }
+    {
+        let deliver_at = if self.is_delivered() {
+            Some(arrival)
+        } else {
+            None
+        };
+        Completion {
+            origin: self.origin,
+            recipient: self.recipient,
+            channel: self.channel,
+            message: self.bytes,
+            deliver_at,
+        }
     }
 }
 
