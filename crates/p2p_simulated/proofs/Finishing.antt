@@ -1,5 +1,6 @@
 -- The completion of messages that are done, and what follows.
-use Rattle.std.proofs.Common.{◌≡◌, ℕ, ◌+◌, Bool, true, false, List, [], ◌∷◌, ◌++◌, Option, Some, None, refl, sym, ◌∙◌, ap, subst, append_assoc}
+use Rattle.std.proofs.Common.{◌≡◌, ℕ, ◌+◌, ◌<◌, Bool, true, false, List, [], ◌∷◌, ◌++◌, length, map, Option, Some, None, refl, sym, ◌∙◌, ap, subst, append_assoc, arith}
+use Rattle.std.specs.Option.{IsSome}
 use Rattle.std.proofs.lemmas.List.{append-nil}
 use Rattle.std.specs.declared.cmp.Ordering.{Ordering}
 use Rattle.p2p_simulated.specs.declared.error.Error.{Error}
@@ -7,7 +8,7 @@ use Rattle.p2p_simulated.specs.declared.error.Error.TheVariants.{OutOfMemory, Nu
 use Rattle.p2p_simulated.specs.WorldMessages.{Message}
 use Rattle.p2p_simulated.specs.World.{Completed, Course, goes, meets, preceded}
 use Rattle.p2p_simulated.specs.WorldPlanned.{Planned, next_of}
-use Rattle.p2p_simulated.specs.WorldEvents.{Launches, Finishes, completes, late, stopped, arrival, landed, completed, is_late}
+use Rattle.p2p_simulated.specs.WorldEvents.{Looks, Launches, Finishes, all_completed, completes, late, stopped, arrival, landed, completed, is_late}
 use Rattle.p2p_simulated.specs.WorldRefusals.{LaunchAccounts, FinishAccounts, first_accounts, later_accounts}
 use Rattle.p2p_simulated.specs.Refusing.{IsRefusedAt}
 use Rattle.p2p_simulated.specs.Pairs.{first_of, raised_at}
@@ -70,3 +71,19 @@ module _ {P : Type 0} (cmp : P → P → Ordering) (t : ℕ) where
   refused_on_the_way queue old done rest now h NumberTooLarge (s, q, (at, comes), too) = (s, q, (at, h.accounts q comes), too)
   refused_on_the_way queue old done rest now h MomentTooLate r = h.course (meets MomentTooLate) r
   refused_on_the_way queue old done rest now h FlowIdsUsedUp r = h.course (meets FlowIdsUsedUp) r
+
+-- ---- queues
+
+pub map-append : {X Y : Type 0} (f : X → Y) (xs ys : List X) → map f (xs ++ ys) ≡ map f xs ++ map f ys
+map-append f [] ys = refl
+map-append f (x ∷ xs) ys = ap (λ l. f x ∷ l) (map-append f xs ys)
+
+pub popped_none : {X : Type 0} (xs : List X) (r : Option X) → (0 < length xs → IsSome r) → ((x : X) → r ≡ Some x → ⊥) → xs ≡ []
+popped_none [] r some none = refl
+popped_none (x ∷ xs) None some none = cc (some (omega arith))
+popped_none (x ∷ xs) (Some y) some none = absurd (none y refl)
+
+-- with an empty queue all has finished
+pub all_have_finished : {P : Type 0} (cmp : P → P → Ordering) (t : ℕ) (queue rest : List (Message P)) (old now next : Planned P) (done : List (Completed P)) → HasFinished cmp t queue old done rest now → rest ≡ [] → Looks cmp t now next → Finishes cmp t queue old (goes done next)
+all_have_finished cmp t queue rest old now next done h none looks =
+    subst (λ l. Finishes cmp t queue old (goes l next)) (append-nil done) (h.course (goes [] next) (subst (λ l. Finishes cmp t l now (goes [] next)) (sym none) (all_completed looks)))

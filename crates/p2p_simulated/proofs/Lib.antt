@@ -37,3 +37,4 @@ pub mod Progressing
 pub mod CapCalls
 pub mod Launching
 pub mod Finishing
+pub mod Counting
