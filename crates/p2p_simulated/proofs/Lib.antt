@@ -38,3 +38,4 @@ pub mod CapCalls
 pub mod Launching
 pub mod Finishing
 pub mod Counting
+pub mod Settling
