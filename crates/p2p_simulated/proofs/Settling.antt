@@ -1,5 +1,5 @@
 -- Accounts, launches and what finishes after them, put together.
-use Rattle.std.proofs.Common.{◌≡◌, ℕ, true, List, Option, refl, sym, ◌∙◌, ap, subst}
+use Rattle.std.proofs.Common.{◌≡◌, ℕ, true, false, List, Option, refl, sym, ◌∙◌, ap, subst}
 use Rattle.std.specs.List.{find}
 use Rattle.std.specs.declared.cmp.Ordering.{Ordering}
 use Rattle.std.specs.Ordering.{is_eq}
@@ -12,7 +12,7 @@ use Rattle.p2p_simulated.specs.Sides.{same_peer}
 use Rattle.p2p_simulated.specs.WorldMessages.{Message, same_pair}
 use Rattle.p2p_simulated.specs.World.{Completed, Course, goes, meets}
 use Rattle.p2p_simulated.specs.WorldPlanned.{Planned, next_of}
-use Rattle.p2p_simulated.specs.WorldEvents.{Accounts, Launches, Finishes, Settles, settling, Enqueues, no_launch, launches, with_queued}
+use Rattle.p2p_simulated.specs.WorldEvents.{Accounts, Launches, Finishes, Settles, settling, Enqueues, at_once, no_launch, launches, with_queued, completed_at_once}
 use Rattle.p2p_simulated.specs.WorldRefusals.{LaunchAccounts, FinishAccounts, SettleAccounts, own_account, leavers_account, EnqueueAccounts, launched_account, finished_accounts}
 use Rattle.p2p_simulated.specs.Refusing.{IsRefusedAt}
 use Rattle.p2p_simulated.specs.Pairs.{first_of}
@@ -29,6 +29,18 @@ module _ {P : Type 0} (cmp : P → P → Ordering) (t : ℕ) where
   refused_in_settle p mid leavers a NumberTooLarge (s, q, (at, comes), too) = (s, q, (at, leavers_account a comes), too)
   refused_in_settle p mid leavers a MomentTooLate h = settling a h
   refused_in_settle p mid leavers a FlowIdsUsedUp h = settling a h
+
+-- ---- a message before any limit
+
+module _ {P : Type 0} (cmp : P → P → Ordering) (t : ℕ) (p : Planned P) (m : Message P) (limitless : p.limited ≡ false) where
+  pub enqueued_at_once : (course : Course (Completed P) (Planned P)) → completed_at_once cmp t p m ≡ course → Enqueues cmp t m p course
+  enqueued_at_once course is = subst (Enqueues cmp t m p) is (at_once limitless)
+
+  pub refused_at_once : (e : Error) → IsRefusedAt cmp t (λ fault. completed_at_once cmp t p m ≡ meets fault) (λ q. ⊥) e → IsRefusedAt cmp t (λ fault. Enqueues cmp t m p (meets fault)) (EnqueueAccounts cmp t m p) e
+  refused_at_once OutOfMemory h = h
+  refused_at_once NumberTooLarge (s, q, (at, comes), too) = absurd comes
+  refused_at_once MomentTooLate h = enqueued_at_once (meets MomentTooLate) h
+  refused_at_once FlowIdsUsedUp h = enqueued_at_once (meets FlowIdsUsedUp) h
 
 -- ---- a message that joins those that wait
 
