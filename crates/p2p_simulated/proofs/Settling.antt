@@ -1,5 +1,6 @@
 -- Accounts, launches and what finishes after them, put together.
-use Rattle.std.proofs.Common.{◌≡◌, ℕ, true, false, List, Option, refl, sym, ◌∙◌, ap, subst}
+use Rattle.std.proofs.Common.{◌≡◌, ℕ, ◌+◌, true, false, ◌&&◌, if◌then◌else◌, List, [], ◌∷◌, Option, Some, None, refl, sym, ◌∙◌, ap, subst}
+use Rattle.std.specs.Bool.{nat_lt}
 use Rattle.std.specs.List.{find}
 use Rattle.std.specs.declared.cmp.Ordering.{Ordering}
 use Rattle.std.specs.Ordering.{is_eq}
@@ -10,14 +11,14 @@ use Rattle.p2p_simulated.specs.declared.error.Error.TheVariants.{OutOfMemory, Nu
 use Rattle.p2p_simulated.specs.Caps.{Caps}
 use Rattle.p2p_simulated.specs.Sides.{same_peer}
 use Rattle.p2p_simulated.specs.WorldMessages.{Message, same_pair}
-use Rattle.p2p_simulated.specs.World.{Completed, Course, goes, meets}
+use Rattle.p2p_simulated.specs.World.{Completed, Course, goes, meets, last_moment, later_of, completion_of}
 use Rattle.p2p_simulated.specs.WorldPlanned.{Planned, next_of}
 use Rattle.p2p_simulated.specs.WorldEvents.{Accounts, Launches, Finishes, Settles, settling, Enqueues, at_once, no_launch, launches, with_queued, completed_at_once}
 use Rattle.p2p_simulated.specs.WorldRefusals.{LaunchAccounts, FinishAccounts, SettleAccounts, own_account, leavers_account, EnqueueAccounts, launched_account, finished_accounts}
 use Rattle.p2p_simulated.specs.Refusing.{IsRefusedAt}
-use Rattle.p2p_simulated.specs.Pairs.{first_of}
+use Rattle.p2p_simulated.specs.Pairs.{first_of, raised_at}
 use Rattle.p2p_simulated.proofs.Sorted.{and_both, is_eq_equal}
-use Rattle.p2p_simulated.proofs.Launching.{same_test}
+use Rattle.p2p_simulated.proofs.Launching.{planned_path, same_test}
 
 module _ {P : Type 0} (cmp : P → P → Ordering) (t : ℕ) where
   pub its_own_account : (p q : Planned P) → q ≡ p → SettleAccounts cmp t p q
@@ -41,6 +42,18 @@ module _ {P : Type 0} (cmp : P → P → Ordering) (t : ℕ) (p : Planned P) (m 
   refused_at_once NumberTooLarge (s, q, (at, comes), too) = absurd comes
   refused_at_once MomentTooLate h = enqueued_at_once (meets MomentTooLate) h
   refused_at_once FlowIdsUsedUp h = enqueued_at_once (meets FlowIdsUsedUp) h
+
+module _ {P : Type 0} (cmp : P → P → Ordering) (t : ℕ) (p : Planned P) (m : Message P) where
+  -- what is known after the completion
+  pub at_once_is : (mid : Planned P) (at : ℕ) → (m.should_deliver && nat_lt last_moment (t + m.latency)) ≡ false → at ≡ (if m.should_deliver then later_of (p.last_arrival m.origin m.recipient) (t + m.latency) else t)
+      → mid.caps ≡ p.caps → mid.last_arrival ≡ raised_at cmp p.last_arrival m.origin m.recipient at → mid.limited ≡ p.limited → mid.sending ≡ p.sending → mid.waiting ≡ p.waiting → mid.next_id ≡ p.next_id → mid.finish ≡ p.finish → mid.start ≡ p.start
+      → completed_at_once cmp t p m ≡ goes (completion_of m (if m.should_deliver then Some at else None) ∷ []) mid
+  at_once_is mid at in_time at_is caps last limited sending waiting id finish start = rw in_time
+      (ap (λ a. goes (completion_of m (if m.should_deliver then Some a else None) ∷ []) (record p { last_arrival = raised_at cmp p.last_arrival m.origin m.recipient a })) (sym at_is)
+      ∙ ap (goes (completion_of m (if m.should_deliver then Some at else None) ∷ [])) (sym (planned_path mid (record p { last_arrival = raised_at cmp p.last_arrival m.origin m.recipient at }) caps limited sending waiting last id finish start)))
+
+  pub at_once_too_late : (m.should_deliver && nat_lt last_moment (t + m.latency)) ≡ true → completed_at_once cmp t p m ≡ meets MomentTooLate
+  at_once_too_late late = rw late refl
 
 -- ---- a message that joins those that wait
 

@@ -175,31 +175,13 @@ impl<P: Peer> Working<P> {
             × (completed_at_once P.cmp now (planned P.cmp self.old) (message_of message) ≡ goes (c ∷ []) (planned P.cmp self.new))) }
         ensures refused { IfErr result (IsRefusedAt P.cmp now (λ fault. completed_at_once P.cmp now (planned P.cmp self.old) (message_of message) ≡ meets fault) (λ q. ⊥)) }
     {
-        let arrival = if message.should_deliver {
-            let earliest = now
-                .checked_add(message.latency)
-                .ok_or(Error::MomentTooLate)?;
-            match self.pairs.last_arrival(&message.origin, &message.recipient) {
-                None => earliest,
-                Some(last) => last.max(earliest),
-            }
-        } else {
-            now
-        };
+        let last = self
+            .pairs
+            .last_arrival(&message.origin, &message.recipient);
+        let arrival = message.arrival_at_once(last, now)?;
         self.pairs
             .raise(self.alloc, &message.origin, &message.recipient, arrival)?;
-        let deliver_at = if message.should_deliver {
-            Some(arrival)
-        } else {
-            None
-        };
-        completions.push(Completion {
-            origin: message.origin,
-            recipient: message.recipient,
-            channel: message.channel,
-            message: message.bytes,
-            deliver_at,
-        })?;
+        completions.push(message.completed_at_once(arrival))?;
         Ok(())
     }
 

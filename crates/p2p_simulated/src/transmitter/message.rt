@@ -2,6 +2,7 @@
 ghost use Rattle.std.specs.Prelude.{◌≡◌};
 
 use super::completion::Completion;
+use super::pairs::later_of;
 use crate::error::Error;
 use crate::peer::Peer;
 use bytes::Bytes;
@@ -56,6 +57,49 @@ impl<P: Peer> Message<P> {
         ensures { completed_of result ≡ completion_of (message_of self) (if is_delivered P.cmp (message_of self) then Some arrival else None) }
     {
         let deliver_at = if self.is_delivered() {
+            Some(arrival)
+        } else {
+            None
+        };
+        Completion {
+            origin: self.origin,
+            recipient: self.recipient,
+            channel: self.channel,
+            message: self.bytes,
+            deliver_at,
+        }
+    }
+}
+
+/// Before any limit.
+impl<P: Peer> Message<P> {
+    ghost use Rattle.std.specs.Prelude.{true, false, ◌&&◌, ◌+◌, Some, None, if◌then◌else◌, IfOk, IfErr};
+    ghost use Rattle.std.specs.Bool.{nat_lt};
+    ghost use Rattle.p2p_simulated.specs.World.{completion_of, last_moment, later_of as latest};
+    ghost use Rattle.p2p_simulated.specs.Message.{message_of, completed_of};
+
+    /// When it arrives if its pair's last arrival is that one, or that moment if it does not
+    /// arrive.
+    pub(crate) fn arrival_at_once(&self, last: Option<u64>, now: u64) -> Result<u64, Error>
+        ensures in_time { IfOk result (λ at. (self.now.should_deliver && nat_lt last_moment (now + self.now.latency)) ≡ false) }
+        ensures arrival { IfOk result (λ at. at ≡ (if self.now.should_deliver then latest last (now + self.now.latency) else now)) }
+        ensures late { IfErr result (λ e. (self.now.should_deliver && nat_lt last_moment (now + self.now.latency)) ≡ true) }
+        ensures refused { IfErr result (λ e. e ≡ Error.MomentTooLate) }
+    {
+        if !self.should_deliver {
+            return Ok(now);
+        }
+        let earliest = now
+            .checked_add(self.latency)
+            .ok_or(Error::MomentTooLate)?;
+        Ok(later_of(last, earliest))
+    }
+
+    /// Its completion, if it arrives then.
+    pub(crate) fn completed_at_once(self, arrival: u64) -> Completion<P>
+        ensures { completed_of result ≡ completion_of (message_of self) (if self.should_deliver then Some arrival else None) }
+    {
+        let deliver_at = if self.should_deliver {
             Some(arrival)
         } else {
             None
