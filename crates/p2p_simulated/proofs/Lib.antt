@@ -32,6 +32,7 @@ pub mod Waiting
 pub mod Wording
 pub mod World
 pub mod Flying
+pub mod Grounded
 pub mod InPlace
 pub mod Progressing
 pub mod CapCalls

@@ -1,5 +1,5 @@
 -- Accounts, launches and what finishes after them, put together.
-use Rattle.std.proofs.Common.{◌≡◌, ℕ, ◌+◌, true, false, ◌&&◌, if◌then◌else◌, List, [], ◌∷◌, Option, Some, None, refl, sym, ◌∙◌, ap, subst}
+use Rattle.std.proofs.Common.{◌≡◌, ◌≢◌, ℕ, ◌+◌, true, false, ◌&&◌, if◌then◌else◌, List, [], ◌∷◌, Option, Some, None, refl, sym, ◌∙◌, ap, subst}
 use Rattle.std.specs.Bool.{nat_lt}
 use Rattle.std.specs.List.{find}
 use Rattle.std.specs.declared.cmp.Ordering.{Ordering}
@@ -13,8 +13,8 @@ use Rattle.p2p_simulated.specs.Sides.{same_peer}
 use Rattle.p2p_simulated.specs.WorldMessages.{Message, same_pair}
 use Rattle.p2p_simulated.specs.World.{Completed, Course, goes, meets, last_moment, later_of, completion_of}
 use Rattle.p2p_simulated.specs.WorldPlanned.{Planned, next_of}
-use Rattle.p2p_simulated.specs.WorldEvents.{Accounts, Launches, Finishes, Settles, settling, Enqueues, at_once, no_launch, launches, with_queued, completed_at_once}
-use Rattle.p2p_simulated.specs.WorldRefusals.{LaunchAccounts, FinishAccounts, SettleAccounts, own_account, leavers_account, EnqueueAccounts, launched_account, finished_accounts}
+use Rattle.p2p_simulated.specs.WorldEvents.{Accounts, Launches, Finishes, Settles, settling, Looks, Recaps, none_sending, some_sending, Enqueues, at_once, no_launch, launches, with_queued, completed_at_once}
+use Rattle.p2p_simulated.specs.WorldRefusals.{LaunchAccounts, FinishAccounts, SettleAccounts, own_account, leavers_account, RecapAccounts, recap_accounts, EnqueueAccounts, launched_account, finished_accounts}
 use Rattle.p2p_simulated.specs.Refusing.{IsRefusedAt}
 use Rattle.p2p_simulated.specs.Pairs.{first_of, raised_at}
 use Rattle.p2p_simulated.proofs.Sorted.{and_both, is_eq_equal}
@@ -87,3 +87,22 @@ module _ {P : Type 0} (cmp : P → P → Ordering) (total : IsTotalOrder cmp) (t
     refused_as_it_finishes NumberTooLarge (s, q, (at, comes), too) = (s, q, (at, finished_accounts limited (queued_launch (goes leavers next) h) comes), too)
     refused_as_it_finishes MomentTooLate r = enqueued (meets MomentTooLate) r
     refused_as_it_finishes FlowIdsUsedUp r = enqueued (meets FlowIdsUsedUp) r
+
+-- ---- new caps
+
+module _ {P : Type 0} (cmp : P → P → Ordering) (t : ℕ) (p : Planned P) (limited : p.limited ≡ true) where
+  -- the caps are in place already
+  capped_is : ◌≡◌ {A = Planned P} p (record p { caps = p.caps; limited = true })
+  capped_is i = record p { limited = limited i }
+
+  pub none_recapped : p.sending ≡ [] → (q : Planned P) → Looks cmp t p q → Recaps cmp t p.caps p (goes [] q)
+  none_recapped empty q h = none_sending empty (subst (λ w. Looks cmp t w q) capped_is h)
+
+  pub recapped : p.sending ≢ [] → (course : Course (Completed P) (Planned P)) → Settles cmp t p course → Recaps cmp t p.caps p course
+  recapped some course h = some_sending some (subst (λ w. Settles cmp t w course) capped_is h)
+
+  pub refused_in_recap : p.sending ≢ [] → (e : Error) → IsRefusedAt cmp t (λ fault. Settles cmp t p (meets fault)) (SettleAccounts cmp t p) e → IsRefusedAt cmp t (λ fault. Recaps cmp t p.caps p (meets fault)) (RecapAccounts cmp t p.caps p) e
+  refused_in_recap some OutOfMemory h = h
+  refused_in_recap some NumberTooLarge (s, q, (at, comes), too) = (s, q, (at, recap_accounts some (subst (λ w. SettleAccounts cmp t w q) capped_is comes)), too)
+  refused_in_recap some MomentTooLate h = recapped some (meets MomentTooLate) h
+  refused_in_recap some FlowIdsUsedUp h = recapped some (meets FlowIdsUsedUp) h

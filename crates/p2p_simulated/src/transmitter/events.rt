@@ -136,9 +136,9 @@ impl<P: Peer> Working<P> {
         let mut completions = Vec::new(self.alloc);
         if self.flights.is_empty() {
             self.look(now);
-        } else {
-            self.settle(now, &mut completions)?;
+            return Ok(completions);
         }
+        self.settle(now, &mut completions)?;
         Ok(completions)
     }
 
