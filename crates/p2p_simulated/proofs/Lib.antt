@@ -2,6 +2,7 @@ pub mod Asking
 pub mod Callable
 pub mod CapAnswers
 pub mod Copies
+pub mod CopiedPairs
 pub mod Denominators
 pub mod Draining
 pub mod Entries
