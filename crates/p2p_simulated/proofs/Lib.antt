@@ -3,6 +3,7 @@ pub mod Callable
 pub mod Calling
 pub mod CapAnswers
 pub mod Copies
+pub mod CopiedPairs
 pub mod Denominators
 pub mod Draining
 pub mod Entries
@@ -41,3 +42,7 @@ pub mod Readying
 pub mod Refusals
 pub mod Settling
 pub mod Starting
+pub mod Grounded
+pub mod InPlace
+pub mod Progressing
+pub mod CapCalls

@@ -1,5 +1,5 @@
 -- How the messages in flight are read.
-use Rattle.std.specs.Prelude.{◌≡◌, ℕ, Bool, true, not, ◌&&◌, if◌then◌else◌, List, [], ◌∷◌, Option, Some, None}
+use Rattle.std.specs.Prelude.{◌≡◌, ℕ, Bool, true, not, ◌&&◌, if◌then◌else◌, List, [], ◌∷◌, Option, Some, None, unwrap_or}
 use Rattle.std.specs.declared.cmp.Ordering.{Ordering}
 use Rattle.p2p_simulated.specs.declared.bandwidth.Flow.{Flow}
 use Rattle.p2p_simulated.specs.declared.bandwidth.Rate.{Rate}
@@ -33,3 +33,9 @@ abbrev pub are_marked : {P : Type 0} → (P → P → Ordering) → List (Flow P
 are_marked cmp [] ss = true
 are_marked cmp (flow ∷ flows) [] = true
 are_marked cmp (flow ∷ flows) (s ∷ ss) = (if is_delivered cmp (message_in flow s) then flow.delivered else not flow.delivered) && are_marked cmp flows ss
+
+-- the messages in flight with the rate of each flow's id from a moment on; an id that has none stands for no limit
+abbrev pub rated_by : {P : Type 0} → ℕ → (ℕ → Option Rate) → List (Flow P) → List Progress → List (Paced P)
+rated_by now rate_of [] ss = []
+rated_by now rate_of (flow ∷ flows) [] = []
+rated_by now rate_of (flow ∷ flows) (s ∷ ss) = record (paced_of flow s) { rate = amount_of_rate (unwrap_or (rate_of flow.id) Unlimited); updated = now } ∷ rated_by now rate_of flows ss

@@ -22,6 +22,7 @@ pub mod Outcome
 pub mod Pairs
 pub mod PeerCaps
 pub mod Peers
+pub mod Progress
 pub mod Rates
 pub mod Ratio
 pub mod Refusing

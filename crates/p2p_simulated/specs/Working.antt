@@ -1,14 +1,17 @@
 -- How a scheduler is read as a planned world.
-use Rattle.std.specs.Prelude.{ℕ, Bool, false, ◌==◌, ◌||◌, List, map, Option, Some, None}
+use Rattle.std.specs.Prelude.{◌≡◌, ℕ, Bool, false, ◌==◌, ◌||◌, List, map, Option, Some, None}
 use Rattle.std.specs.List.{filter}
 use Rattle.std.specs.declared.cmp.Ordering.{Ordering}
-use Rattle.p2p_simulated.specs.declared.transmitter.completion.Completion.{Completion}
+use Rattle.p2p_simulated.specs.declared.bandwidth.Flow.{Flow}
+use Rattle.p2p_simulated.specs.declared.bandwidth.Rate.{Rate}
+use Rattle.p2p_simulated.specs.PeerCaps.{AreFairUnder}
+use Rattle.p2p_simulated.specs.Rates.{last_rate}
 use Rattle.p2p_simulated.specs.declared.transmitter.message.Message as code
 use Rattle.p2p_simulated.specs.declared.transmitter.peers.PeerCaps.{PeerCaps}
 use Rattle.p2p_simulated.specs.declared.transmitter.pairs.Pair.{Pair}
 use Rattle.p2p_simulated.specs.declared.transmitter.working.Working.{Working}
 use Rattle.p2p_simulated.specs.Caps.{Caps}
-use Rattle.p2p_simulated.specs.World.{Completed, fronts}
+use Rattle.p2p_simulated.specs.World.{fronts}
 use Rattle.p2p_simulated.specs.WorldMessages.{Message}
 use Rattle.p2p_simulated.specs.WorldPlanned.{Planned, Paced, may_launch}
 use Rattle.p2p_simulated.specs.WorldRates.{is_unlimited}
@@ -37,10 +40,6 @@ planned cmp w = record {
   start = w.start;
 }
 
--- a completion as it is answered
-abbrev pub completed_of : {P : Type 0} → Completion P → Completed P
-completed_of c = record { origin = c.origin; recipient = c.recipient; channel = c.channel; bytes = c.message; deliver_at = c.deliver_at }
-
 abbrev pub messages : {P : Type 0} → List (code.Message P) → List (Message P)
 messages ms = map message_of ms
 
@@ -52,3 +51,9 @@ may_launch_first cmp t p (Some m) = may_launch cmp t p m
 -- the first waiting messages of the pairs that are ready, in the order of pairs
 abbrev pub ready_messages : {P : Type 0} → (P → P → Ordering) → ℕ → Planned P → List (Message P)
 ready_messages cmp t p = filter (may_launch cmp t p) (fronts cmp p.waiting)
+
+-- the rates are fair for the flows under the caps, and each id has that of the last flow that has it
+pub record AreRatesOf {P : Type 0} (cmp : P → P → Ordering) (caps : Caps P) (flows : List (Flow P)) (rate_of : ℕ → Option Rate) : Type 0 where
+  pub rates : List Rate
+  pub fair : AreFairUnder cmp caps flows rates
+  pub by_id : (id : ℕ) → rate_of id ≡ last_rate id flows rates

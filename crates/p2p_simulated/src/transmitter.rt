@@ -8,6 +8,7 @@ ghost use Rattle.p2p_simulated.specs.SamePlanned.{IsSamePlanned, ObeysOnSame, Is
 
 mod account;
 mod completion;
+mod drain;
 mod event;
 mod events;
 mod flights;
@@ -16,6 +17,7 @@ mod message;
 mod pairs;
 mod peers;
 mod progress;
+mod rate;
 mod working;
 
 use crate::error::Error;
@@ -33,7 +35,8 @@ pub struct State<P: Peer> {
 }
 
 impl<P: Peer> State<P> {
-    ghost use Rattle.p2p_simulated.specs.Working.{planned, completed_of};
+    ghost use Rattle.p2p_simulated.specs.Working.{planned};
+    ghost use Rattle.p2p_simulated.specs.Message.{completed_of};
 
     /// A scheduler without limits, in which nothing was sent. Flow ids begin at 0.
     pub fn new(alloc: Global) -> Self

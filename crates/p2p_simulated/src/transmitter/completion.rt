@@ -21,8 +21,7 @@ pub struct Completion<P> {
 
 impl<P: Peer> Completion<P> {
     ghost use Rattle.p2p_simulated.specs.World.{completion_of};
-    ghost use Rattle.p2p_simulated.specs.Message.{message_of};
-    ghost use Rattle.p2p_simulated.specs.Working.{completed_of};
+    ghost use Rattle.p2p_simulated.specs.Message.{message_of, completed_of};
 
     /// The completion of a message.
     pub(crate) fn of(message: Message<P>, deliver_at: Option<u64>) -> Completion<P>

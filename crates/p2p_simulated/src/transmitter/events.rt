@@ -6,7 +6,7 @@ ghost use Rattle.p2p_simulated.specs.WorldPlanned.{next_of, next_event as next_o
 ghost use Rattle.p2p_simulated.specs.WorldEvents.{Launches, Finishes, Settles, Wakes, Recaps, Enqueues, Advances, landed, completed, is_late, completed_at_once};
 ghost use Rattle.p2p_simulated.specs.WorldRefusals.{LaunchAccounts, FinishAccounts, SettleAccounts, WakeAccounts, RecapAccounts, EnqueueAccounts, AdvanceAccounts};
 ghost use Rattle.p2p_simulated.specs.Refusing.{IsRefusedBy, IsRefusedAt};
-ghost use Rattle.p2p_simulated.specs.Message.{message_of};
+ghost use Rattle.p2p_simulated.specs.Message.{message_of, completed_of};
 ghost use Rattle.p2p_simulated.specs.Pairs.{first_of, arrival_of};
 ghost use Rattle.p2p_simulated.specs.Events.{IsDue, Happens, HappenAccounts, moment_of};
 
@@ -21,7 +21,7 @@ use crate::peer::Peer;
 use std::collections::VecDeque;
 
 impl<P: Peer> Working<P> {
-    ghost use Rattle.p2p_simulated.specs.Working.{planned, completed_of, messages, may_launch_first, ready_messages};
+    ghost use Rattle.p2p_simulated.specs.Working.{planned, messages, may_launch_first, ready_messages};
 
     /// Whether the first waiting message of the pair may start: the pair is idle, and the message
     /// arrives no earlier than the pair's last one.

@@ -24,7 +24,7 @@ pub(crate) struct Working<P: Peer> {
     pub(crate) finish: Option<u64>,
     /// The moment at which a waiting message starts next.
     pub(crate) start: Option<u64>,
-    pub ghost below: { list_all (λ flow. nat_lt flow.id next_id) flights.flows.items ≡ true },
+    pub ghost fresh: { list_all (λ flow. nat_lt flow.id next_id) flights.flows.items ≡ true },
 }
 
 impl<P: Peer> Working<P> {

@@ -1,7 +1,8 @@
 use Rattle.std.proofs.lemmas.Result.{err_from_is_err_and}
 use Rattle.p2p_simulated.specs.World.{goes}
 use Rattle.p2p_simulated.specs.WorldCalls.{limited_by, linked_by}
-use Rattle.p2p_simulated.specs.Working.{planned, completed_of}
+use Rattle.p2p_simulated.specs.Working.{planned}
+use Rattle.p2p_simulated.specs.Message.{completed_of}
 use Rattle.p2p_simulated.proofs.Calling.{advance_refused}
 use Rattle.p2p_simulated.proofs.transmitter.State.advance_counted.Goals as goal
 

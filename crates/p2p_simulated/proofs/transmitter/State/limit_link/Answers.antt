@@ -2,7 +2,8 @@ use Rattle.std.proofs.Common.{map}
 use Rattle.std.proofs.lemmas.Result.{err_from_is_err_and}
 use Rattle.p2p_simulated.specs.World.{goes}
 use Rattle.p2p_simulated.specs.WorldCalls.{limited_by, linked_by}
-use Rattle.p2p_simulated.specs.Working.{planned, completed_of}
+use Rattle.p2p_simulated.specs.Working.{planned}
+use Rattle.p2p_simulated.specs.Message.{completed_of}
 use Rattle.p2p_simulated.proofs.Calling.{link_refused, recaps_on}
 use Rattle.p2p_simulated.proofs.transmitter.State.limit_link.Goals as goal
 

@@ -1,5 +1,6 @@
 use Rattle.std.proofs.Common.{◌+◌, ◌≤◌, map}
-use Rattle.p2p_simulated.specs.Working.{planned, completed_of}
+use Rattle.p2p_simulated.specs.Working.{planned}
+use Rattle.p2p_simulated.specs.Message.{completed_of}
 use Rattle.p2p_simulated.proofs.Advancing.{AdvancesSo}
 use Rattle.p2p_simulated.proofs.Lightening.{events_left}
 use Rattle.p2p_simulated.proofs.transmitter.working.Working.advance.Given as goal

@@ -4,11 +4,11 @@ use Rattle.p2p_simulated.specs.World.{completion_of, goes}
 use Rattle.p2p_simulated.specs.WorldPlanned.{Planned}
 use Rattle.p2p_simulated.specs.WorldEvents.{landed, arrival}
 use Rattle.p2p_simulated.specs.WorldRefusals.{FinishAccounts}
-use Rattle.p2p_simulated.specs.Message.{message_of}
+use Rattle.p2p_simulated.specs.Message.{message_of, completed_of}
 use Rattle.p2p_simulated.specs.Pairs.{arrival_of, raised_at}
 use Rattle.p2p_simulated.specs.Peers.{egress_of, ingress_of}
 use Rattle.p2p_simulated.specs.Flights.{sending_of}
-use Rattle.p2p_simulated.specs.Working.{planned, completed_of, messages}
+use Rattle.p2p_simulated.specs.Working.{planned, messages}
 use Rattle.p2p_simulated.proofs.Waiting.{map-push}
 use Rattle.p2p_simulated.proofs.Finishing.{refused_late, refused_launch, launches_landed, then_some_is}
 use Rattle.p2p_simulated.proofs.transmitter.working.Working.complete.Goals as goal

@@ -1,10 +1,10 @@
 use Rattle.std.proofs.Common.{◌≡◌, [], ◌∷◌, ◌++◌, map, refl, sym, ap, ◌∙◌}
 use Rattle.std.proofs.lemmas.Result.{err_from_is_err_and}
 use Rattle.p2p_simulated.specs.World.{completion_of}
-use Rattle.p2p_simulated.specs.Message.{message_of}
+use Rattle.p2p_simulated.specs.Message.{message_of, completed_of}
 use Rattle.p2p_simulated.specs.Peers.{egress_of, ingress_of}
 use Rattle.p2p_simulated.specs.Flights.{sending_of}
-use Rattle.p2p_simulated.specs.Working.{planned, completed_of}
+use Rattle.p2p_simulated.specs.Working.{planned}
 use Rattle.p2p_simulated.proofs.Waiting.{map-push}
 use Rattle.p2p_simulated.proofs.Settling.{completes_so, too_late_refused}
 use Rattle.p2p_simulated.proofs.transmitter.working.Working.complete_at_once.Goals as goal

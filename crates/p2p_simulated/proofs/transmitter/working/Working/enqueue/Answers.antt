@@ -1,9 +1,9 @@
 use Rattle.std.proofs.Common.{◌≡◌, [], ◌∷◌, ◌++◌, map, refl, sym, ap, ◌∙◌}
 use Rattle.std.proofs.lemmas.Result.{err_from_is_err_and}
-use Rattle.p2p_simulated.specs.Message.{message_of}
+use Rattle.p2p_simulated.specs.Message.{message_of, completed_of}
 use Rattle.p2p_simulated.specs.Peers.{egress_of, ingress_of}
 use Rattle.p2p_simulated.specs.Flights.{sending_of}
-use Rattle.p2p_simulated.specs.Working.{planned, completed_of, messages}
+use Rattle.p2p_simulated.specs.Working.{planned, messages}
 use Rattle.p2p_simulated.proofs.Settling.{at_once_refused, enqueues_at_once, enqueue_launch_refused, enqueue_finish_refused, enqueues_launched}
 use Rattle.p2p_simulated.proofs.transmitter.working.Working.enqueue.Goals as goal
 

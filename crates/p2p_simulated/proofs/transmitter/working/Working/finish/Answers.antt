@@ -4,8 +4,8 @@ use Rattle.p2p_simulated.specs.declared.transmitter.message.Message as code
 use Rattle.p2p_simulated.specs.WorldMessages.{Message, same_pair}
 use Rattle.p2p_simulated.specs.WorldPlanned.{Planned}
 use Rattle.p2p_simulated.specs.WorldEvents.{landed}
-use Rattle.p2p_simulated.specs.Message.{message_of}
-use Rattle.p2p_simulated.specs.Working.{planned, completed_of, messages}
+use Rattle.p2p_simulated.specs.Message.{message_of, completed_of}
+use Rattle.p2p_simulated.specs.Working.{planned, messages}
 use Rattle.p2p_simulated.proofs.Finishing.{FinishesSo, FinishesWith, finishes_start, finishes_step, finishes_end, finishes_refused, map-joined}
 use Rattle.p2p_simulated.proofs.InSystem.{in_system, launch_keeps, length-map}
 use Rattle.p2p_simulated.proofs.transmitter.working.Working.finish.Goals as goal

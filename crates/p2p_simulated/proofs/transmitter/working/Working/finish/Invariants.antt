@@ -1,5 +1,6 @@
 use Rattle.std.proofs.Common.{◌+◌, map, length}
-use Rattle.p2p_simulated.specs.Working.{planned, completed_of, messages}
+use Rattle.p2p_simulated.specs.Working.{planned, messages}
+use Rattle.p2p_simulated.specs.Message.{completed_of}
 use Rattle.p2p_simulated.proofs.Finishing.{FinishesSo}
 use Rattle.p2p_simulated.proofs.InSystem.{in_system}
 use Rattle.p2p_simulated.proofs.transmitter.working.Working.finish.Given as goal

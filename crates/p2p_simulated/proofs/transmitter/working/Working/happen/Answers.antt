@@ -3,7 +3,8 @@ use Rattle.p2p_simulated.specs.declared.transmitter.event.Event.{Event}
 use Rattle.p2p_simulated.specs.World.{Completed, goes, meets}
 use Rattle.p2p_simulated.specs.Events.{Happens, HappenAccounts, moment_of}
 use Rattle.p2p_simulated.specs.Refusing.{IsRefusedAt}
-use Rattle.p2p_simulated.specs.Working.{planned, completed_of}
+use Rattle.p2p_simulated.specs.Working.{planned}
+use Rattle.p2p_simulated.specs.Message.{completed_of}
 use Rattle.p2p_simulated.proofs.transmitter.working.Working.happen.Goals as goal
 
 pub returns-in-Finish-clause-happens : goal.returns-in-Finish-clause-happens

@@ -21,7 +21,7 @@ pub returns-then-self-clause-refused : goal.returns-then-self-clause-refused
 returns-then-self-clause-refused g c = no_more_ids g.P.Ord.cmp g.met.P.Ord.total c.args.now (planned g.P.Ord.cmp c.args.self.now) _ (sym c.may_launch.ensures ∙ c.if-not-may_launch.false) (omega arith)
 
 pub invariant_of-self-2 : goal.invariant_of-self-2
-invariant_of-self-2 g c = record { below = c.push.ensures.flow (λ flow. nat_lt flow.id (c.args.self.now.next_id + 1)) (ids_later c.args.self.now.flights.flows.items c.args.self.now.next_id c.args.self.now.below) (λ flow is. id_below flow.id c.args.self.now.next_id is) }
+invariant_of-self-2 g c = record { fresh = c.push.ensures.flow (λ flow. nat_lt flow.id (c.args.self.now.next_id + 1)) (ids_later c.args.self.now.flights.flows.items c.args.self.now.next_id c.args.self.now.fresh) (λ flow is. id_below flow.id c.args.self.now.next_id is) }
 
 pub returns-clause-launches : goal.returns-clause-launches
 returns-clause-launches g c =

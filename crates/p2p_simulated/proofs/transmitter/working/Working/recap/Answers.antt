@@ -3,7 +3,8 @@ use Rattle.std.proofs.lemmas.Result.{err_from_is_err_and}
 use Rattle.p2p_simulated.specs.World.{goes}
 use Rattle.p2p_simulated.specs.WorldPlanned.{Planned}
 use Rattle.p2p_simulated.specs.WorldEvents.{Recaps}
-use Rattle.p2p_simulated.specs.Working.{planned, completed_of}
+use Rattle.p2p_simulated.specs.Working.{planned}
+use Rattle.p2p_simulated.specs.Message.{completed_of}
 use Rattle.p2p_simulated.proofs.Settling.{recap_refused, recaps_settled, recaps_looked}
 use Rattle.p2p_simulated.proofs.InSystem.{none_flies, some_fly}
 use Rattle.p2p_simulated.proofs.transmitter.working.Working.recap.Goals as goal

@@ -1,6 +1,7 @@
 use Rattle.std.proofs.Common.{map}
 use Rattle.std.proofs.lemmas.Result.{err_from_is_err_and}
-use Rattle.p2p_simulated.specs.Working.{planned, completed_of, messages}
+use Rattle.p2p_simulated.specs.Working.{planned, messages}
+use Rattle.p2p_simulated.specs.Message.{completed_of}
 use Rattle.p2p_simulated.proofs.Settling.{settle_account_refused, settle_finish_refused, settles_so}
 use Rattle.p2p_simulated.proofs.transmitter.working.Working.settle.Goals as goal
 

@@ -9,7 +9,8 @@ use Rattle.p2p_simulated.specs.WorldPlanned.{Planned}
 use Rattle.p2p_simulated.specs.WorldEvents.{Launches}
 use Rattle.p2p_simulated.specs.WorldRefusals.{LaunchAccounts}
 use Rattle.p2p_simulated.specs.Refusing.{IsRefusedAt}
-use Rattle.p2p_simulated.specs.Working.{planned, completed_of, messages, ready_messages}
+use Rattle.p2p_simulated.specs.Working.{planned, messages, ready_messages}
+use Rattle.p2p_simulated.specs.Message.{completed_of}
 use Rattle.p2p_simulated.proofs.Finishing.{wakes_start, wakes_step, wakes_end, wakes_launch_refused, wakes_finish_refused, next_at, none_at}
 use Rattle.p2p_simulated.proofs.Settling.{of_message}
 use Rattle.p2p_simulated.proofs.transmitter.working.Working.wake.Goals as goal

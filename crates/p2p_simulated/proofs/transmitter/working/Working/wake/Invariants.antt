@@ -1,5 +1,6 @@
 use Rattle.std.proofs.Common.{map}
-use Rattle.p2p_simulated.specs.Working.{planned, completed_of, ready_messages}
+use Rattle.p2p_simulated.specs.Working.{planned, ready_messages}
+use Rattle.p2p_simulated.specs.Message.{completed_of}
 use Rattle.p2p_simulated.proofs.Finishing.{WakesAt}
 use Rattle.p2p_simulated.proofs.transmitter.working.Working.wake.Given as goal
 
