@@ -7,3 +7,5 @@ pub mod linkrun;
 pub mod model;
 pub mod peer;
 pub mod ratio;
+pub mod replay;
+pub mod transmitter;

@@ -7,8 +7,12 @@
 
 pub mod events;
 pub mod instants;
+pub mod orderly;
 pub mod range;
+pub mod replies;
 pub mod rows;
 pub mod rule;
 pub mod runs;
+pub mod same;
+pub mod simulated;
 pub mod time;

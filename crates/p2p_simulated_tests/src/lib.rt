@@ -18,4 +18,6 @@ mod planner_sizes;
 #[cfg(test)]
 mod ratio_tests;
 #[cfg(test)]
+mod scheduler;
+#[cfg(test)]
 mod scripts;

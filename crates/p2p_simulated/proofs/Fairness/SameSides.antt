@@ -23,7 +23,7 @@ module _ (xs ys : List Side) (same : AreTheSameSides xs ys) where
     greatest = h.greatest;
   }
 
-  still_fair : (per : ℕ) (parts : ℕ → ℕ) → IsFair xs per parts → IsFair ys per parts
+  pub still_fair : (per : ℕ) (parts : ℕ → ℕ) → IsFair xs per parts → IsFair ys per parts
   still_fair per parts f = record {
     some_part = f.some_part;
     within = All-from_contains (λ s. load parts s ≤ s.cap * per) ys (λ s listed.

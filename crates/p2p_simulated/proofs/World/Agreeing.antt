@@ -90,7 +90,7 @@ module _ {P : Type 0} (cmp : P → P → Ordering) (order : IsTotalOrder cmp) wh
     ids = let fits : p.next_id + length p.waiting ≤ most = h.0.ids in omega arith;
   }
 
-  more_room : (pairs : List (P × P)) (sixteen : length pairs ≤ 16) (most more : ℕ) (room : most < 2 ^ 64) (wide : more < 2 ^ 64) (p : Planned P) → most ≤ more
+  pub more_room : (pairs : List (P × P)) (sixteen : length pairs ≤ 16) (most more : ℕ) (room : most < 2 ^ 64) (wide : more < 2 ^ 64) (p : Planned P) → most ≤ more
       → Holds cmp order pairs sixteen most room p → Holds cmp order pairs sixteen more wide p
   more_room pairs sixteen most more room wide p le h =
       let fits : p.next_id + length p.waiting ≤ most = h.0.ids in (
@@ -122,7 +122,7 @@ module _ {P : Type 0} (cmp : P → P → Ordering) (order : IsTotalOrder cmp) wh
   -- ---- the fold over a list of calls
 
   -- a planned world that such calls lead to is in the range, where they are
-  abbrev Reached : List (Call P) → Planned P → Type 0
+  abbrev pub Reached : List (Call P) → Planned P → Type 0
   Reached accepted p =
       (pairs : List (P × P)) (sixteen : length pairs ≤ 16) (room : sum_by messages_in accepted < 2 ^ 64) → All (IsSmallCall cmp pairs) accepted → Holds cmp order pairs sixteen
       (sum_by messages_in accepted) room p
@@ -148,7 +148,7 @@ module _ {P : Type 0} (cmp : P → P → Ordering) (order : IsTotalOrder cmp) wh
       refused_for_memory cmp order range.pairs range.sixteen (sum_by messages_in (accepted ++ call ∷ [])) room p call NumberTooLarge apart.1 (omega arith) (more_room range.pairs range.sixteen (sum_by messages_in accepted) (sum_by messages_in (accepted ++ call ∷ [])) before_room room p (omega arith) before) may in
       cc
 
-  same_trans : (c d e : Completed P) → SameCompletion cmp c d → SameCompletion cmp d e → SameCompletion cmp c e
+  pub same_trans : (c d e : Completed P) → SameCompletion cmp c d → SameCompletion cmp d e → SameCompletion cmp c e
   same_trans c d e f g = record {
     origin = peer_left c.origin d.origin e.origin f.origin ∙ g.origin;
     recipient = peer_left c.recipient d.recipient e.recipient f.recipient ∙ g.recipient;
@@ -160,7 +160,7 @@ module _ {P : Type 0} (cmp : P → P → Ordering) (order : IsTotalOrder cmp) wh
       peer_left : (p q r : P) → same_peer cmp p q ≡ true → same_peer cmp p r ≡ same_peer cmp q r
       peer_left p q r same = sym (peer_like cmp order p q r same)
 
-  all_trans : (cs ds es : List (Completed P)) → AllZip (SameCompletion cmp) cs ds → AllZip (SameCompletion cmp) ds es → AllZip (SameCompletion cmp) cs es
+  pub all_trans : (cs ds es : List (Completed P)) → AllZip (SameCompletion cmp) cs ds → AllZip (SameCompletion cmp) ds es → AllZip (SameCompletion cmp) cs es
   all_trans [] [] es f g = g
   all_trans [] (d ∷ ds) es f g = absurd f
   all_trans (c ∷ cs) [] es f g = absurd f
@@ -248,7 +248,7 @@ module _ {P : Type 0} (cmp : P → P → Ordering) (order : IsTotalOrder cmp) wh
       λ turn. (refuses p w accepted (call_advance now) now why f.stands f.reached refl (in_time.0 now refl) turn obeyed.0, follows calls replies accepted p w f in_time.1 obeyed.1)
 
   -- the new planned world is in the range
-  new_reached : Reached [] (new_planned 0)
+  pub new_reached : Reached [] (new_planned 0)
   new_reached pairs sixteen room small = (
     record { caps = record { egress = λ q. tt; ingress = λ q. tt; link = λ q r. tt }; one_each = tt; sending = tt; waiting = tt; arrivals = λ q r. tt; ids = omega arith },
     record { per = 1; rates = []; fair = no_sides cmp no_caps; rated = tt },

@@ -21,7 +21,7 @@ use Rattle.p2p_simulated.proofs.World.Advance.{earlier_start}
 abbrev pub to_do : {P : Type 0} → Planned P → ℕ
 to_do p = 2 * length p.waiting + length p.sending
 
-split_length : {X : Type 0} (test : X → Bool) (xs : List X) → length (filter test xs) + length (filter (λ x. not (test x)) xs) ≡ length xs
+pub split_length : {X : Type 0} (test : X → Bool) (xs : List X) → length (filter test xs) + length (filter (λ x. not (test x)) xs) ≡ length xs
 split_length test [] = refl
 split_length {X} test (x ∷ xs) = by_test (test x) (split_length test xs)
   where
@@ -30,7 +30,7 @@ split_length {X} test (x ∷ xs) = by_test (test x) (split_length test xs)
     by_test true ih = omega (arith, ih)
     by_test false ih = omega (arith, ih)
 
-zip_length : {X Y : Type 0} (R : X → Y → Type 0) (xs : List X) (ys : List Y) → AllZip R xs ys → length xs ≡ length ys
+pub zip_length : {X Y : Type 0} (R : X → Y → Type 0) (xs : List X) (ys : List Y) → AllZip R xs ys → length xs ≡ length ys
 zip_length R [] [] all = refl
 zip_length R [] (y ∷ ys) all = absurd all
 zip_length R (x ∷ xs) [] all = absurd all
@@ -43,7 +43,7 @@ some_in (y ∷ ys) x has = omega arith
 module _ {P : Type 0} (cmp : P → P → Ordering) (order : IsTotalOrder cmp) where
   -- ---- what each step leaves to do
 
-  map_length : (fs : List (Paced P)) → length (paced_flows fs) ≡ length fs
+  pub map_length : (fs : List (Paced P)) → length (paced_flows fs) ≡ length fs
   map_length [] = refl
   map_length (f ∷ fs) = ap suc (map_length fs)
 

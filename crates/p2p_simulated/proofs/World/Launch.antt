@@ -77,7 +77,7 @@ any_but_first {X} p test (x ∷ xs) e =
 module _ {P : Type 0} (cmp : P → P → Ordering) (order : IsTotalOrder cmp) where
   -- ---- what waits
 
-  pair_order_without : (test : Message P → Bool) (ms : List (Message P)) → AreInPairOrder cmp ms → AreInPairOrder cmp (without_first test ms)
+  pub pair_order_without : (test : Message P → Bool) (ms : List (Message P)) → AreInPairOrder cmp ms → AreInPairOrder cmp (without_first test ms)
   pair_order_without test [] h = tt
   pair_order_without test (m ∷ ms) h = by_test (test m) (any_but_first (λ n. pair_before cmp n m) test ms h.0) (pair_order_without test ms h.1)
     where

@@ -10,11 +10,11 @@ use Rattle.p2p_simulated.proofs.World.Calm.{IsAt, ends_at, ticks_end_at}
 
 module _ {P : Type 0} (cmp : P → P → Ordering) (order : IsTotalOrder cmp) where
   -- an advance does no more than tick
-  nothing_more : (c : Course (Completed P) (World P)) → and_then c (λ u. goes [] u) ≡ c
+  pub nothing_more : (c : Course (Completed P) (World P)) → and_then c (λ u. goes [] u) ≡ c
   nothing_more (goes cs u) = ap (λ (xs : List (Completed P)). goes xs u) (append-nil cs)
   nothing_more (meets fault) = refl
 
-  ticks_of : (w : World P) (now : ℕ) (c : Course (Completed P) (World P)) → Runs cmp w (call_advance now) now c → Ticks cmp (now - w.moment) w c
+  pub ticks_of : (w : World P) (now : ℕ) (c : Course (Completed P) (World P)) → Runs cmp w (call_advance now) now c → Ticks cmp (now - w.moment) w c
   ticks_of w now c runs = subst (λ (d : Course (Completed P) (World P)). Ticks cmp (now - w.moment) w d) (sym (runs.acts ∙ nothing_more runs.ticked)) runs.ticks
 
   pub advance_splits : (w v : World P) (a b : ℕ) (cs : List (Completed P)) (course : Course (Completed P) (World P)) → w.moment ≤ a → a ≤ b

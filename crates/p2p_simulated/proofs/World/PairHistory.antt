@@ -83,7 +83,7 @@ not_taken {X} {Y} p f test x (z ∷ zs) e off = by_test (test z) e (not_taken p 
     by_test true e ih = let same : z ≡ x = cc in let out : p (f z) ≡ false = ap (λ w. p (f w)) same ∙ off in rw out refl
     by_test false e ih = ap (λ ys. cond (p (f z)) (f z ∷ ys) ys) (ih e off)
 
-filter_nothing : {X : Type 0} (p : X → Bool) (xs : List X) → list_any p xs ≡ false → filter p xs ≡ []
+pub filter_nothing : {X : Type 0} (p : X → Bool) (xs : List X) → list_any p xs ≡ false → filter p xs ≡ []
 filter_nothing p [] e = refl
 filter_nothing p (x ∷ xs) e = by_test (p x) e (filter_nothing p xs)
   where

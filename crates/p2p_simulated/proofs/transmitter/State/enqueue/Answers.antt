@@ -1,0 +1,28 @@
+use Rattle.std.proofs.Common.{map}
+use Rattle.std.proofs.lemmas.Result.{err_from_is_err_and}
+use Rattle.p2p_simulated.specs.WorldCalls.{call_enqueue}
+use Rattle.p2p_simulated.specs.Working.{planned}
+use Rattle.p2p_simulated.specs.Message.{completed_of}
+use Rattle.p2p_simulated.proofs.Calling.{enqueue_refused, goes_on}
+use Rattle.p2p_simulated.proofs.World.SameIsPlanned.{planned_on}
+use Rattle.p2p_simulated.proofs.Accounting.{looked_up, arrivals_looked_up}
+use Rattle.p2p_simulated.proofs.transmitter.State.enqueue.Goals as goal
+
+pub returns-in_err-completions-clause-refused : goal.returns-in_err-completions-clause-refused
+returns-in_err-completions-clause-refused g c =
+    let p = err_from_is_err_and c.from_residual-in_err-completions.result c.from_residual-in_err-completions.ensures.1 in
+    rw (p.1, p.2) (enqueue_refused g.P.Ord.cmp g.met.P.Ord.total c.args.now (record { origin = c.args.origin; recipient = c.args.recipient; channel = c.args.channel; bytes = c.args.message; latency = c.args.latency; should_deliver = c.args.should_deliver }) (planned g.P.Ord.cmp c.args.self.now.kept) (planned g.P.Ord.cmp c.in_ok-working.working) c.in_ok-working.ensures.cases _ c.in_err-completions.ensures.refused)
+
+pub returns-clause-goes : goal.returns-clause-goes
+returns-clause-goes g c = goes_on g.P.Ord.cmp g.met.P.Ord.total (planned g.P.Ord.cmp c.args.self.now.kept) (planned g.P.Ord.cmp c.in_ok-working.working) (planned g.P.Ord.cmp c.enqueue.new.self)
+    (call_enqueue c.args.now (record { origin = c.args.origin; recipient = c.args.recipient; channel = c.args.channel; bytes = c.args.message; latency = c.args.latency; should_deliver = c.args.should_deliver }))
+    (map completed_of c.in_ok-completions.completions.items) c.in_ok-working.ensures.cases c.in_ok-completions.ensures.enqueues
+
+pub invariant_of-self : goal.invariant_of-self
+invariant_of-self g c = record {
+  caps = looked_up g.P.Ord.cmp g.met.P.Ord.total c.enqueue.new.self.peers.entries.items c.enqueue.new.self.pairs.entries.items;
+  arrivals = arrivals_looked_up g.P.Ord.cmp g.met.P.Ord.total c.enqueue.new.self.pairs.entries.items;
+  right = planned_on g.P.Ord.cmp g.met.P.Ord.total (planned g.P.Ord.cmp c.args.self.now.kept) (planned g.P.Ord.cmp c.in_ok-working.working) (planned g.P.Ord.cmp c.enqueue.new.self)
+      (call_enqueue c.args.now (record { origin = c.args.origin; recipient = c.args.recipient; channel = c.args.channel; bytes = c.args.message; latency = c.args.latency; should_deliver = c.args.should_deliver }))
+      (map completed_of c.in_ok-completions.completions.items) c.in_ok-working.ensures.cases c.args.self.now.right c.in_ok-completions.ensures.enqueues;
+}

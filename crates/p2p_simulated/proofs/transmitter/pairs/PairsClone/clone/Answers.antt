@@ -1,0 +1,13 @@
+use Rattle.p2p_simulated.specs.Pairs.{IsSamePair, pair_cmp, key_of}
+use Rattle.p2p_simulated.proofs.Pairs.{pair_total}
+use Rattle.p2p_simulated.proofs.Copies.{ascending_alike, zip_weaker}
+use Rattle.p2p_simulated.proofs.CopiedPairs.{own_alike}
+use Rattle.p2p_simulated.proofs.transmitter.pairs.PairsClone.clone.Goals as goal
+
+pub invariant_of-result : goal.invariant_of-result
+invariant_of-result g c =
+    record {
+      ascending = ascending_alike (pair_cmp g.P.Ord.cmp) (pair_total g.P.Ord.cmp g.met.P.Ord.total) key_of c.args.self.now.entries.items c.in_ok-entries.entries.items
+          (zip_weaker (IsSamePair g.P.Ord.cmp) _ (λ x y s. s.same) c.args.self.now.entries.items c.in_ok-entries.entries.items c.in_ok-entries.ensures.cases.0) c.args.self.now.ascending;
+      own = own_alike g.P.Ord.cmp g.met.P.Ord.total c.args.self.now.entries.items c.in_ok-entries.entries.items c.in_ok-entries.ensures.cases.0 c.args.self.now.own;
+    }

@@ -1,0 +1,23 @@
+use Rattle.std.proofs.Common.{◌≡◌, ◌++◌, List, map, IfOk, IfErr, sym, subst}
+use Rattle.p2p_simulated.specs.declared.transmitter.event.Event.{Event}
+use Rattle.p2p_simulated.specs.World.{Completed, goes, meets}
+use Rattle.p2p_simulated.specs.Events.{Happens, HappenAccounts, moment_of}
+use Rattle.p2p_simulated.specs.Refusing.{IsRefusedAt}
+use Rattle.p2p_simulated.specs.Working.{planned}
+use Rattle.p2p_simulated.specs.Message.{completed_of}
+use Rattle.p2p_simulated.proofs.transmitter.working.Working.happen.Goals as goal
+
+pub returns-in-Finish-clause-happens : goal.returns-in-Finish-clause-happens
+returns-in-Finish-clause-happens g c =
+    subst (λ (event : Event). IfOk c.settle.result (λ done. (cs : List (Completed g.row.P.Denot)) × (map completed_of c.settle.new.completions.items ≡ map completed_of c.args.completions.now.items ++ cs)
+    × Happens g.P.Ord.cmp event (planned g.P.Ord.cmp c.args.self.now) (goes cs (planned g.P.Ord.cmp c.settle.new.self)))) (sym c.in-Finish.is) c.settle.ensures.settles
+
+pub returns-in-Finish-clause-refused : goal.returns-in-Finish-clause-refused
+returns-in-Finish-clause-refused g c =
+    subst (λ (event : Event). IfErr c.settle.result (IsRefusedAt g.P.Ord.cmp (moment_of event) (λ fault. Happens g.P.Ord.cmp event (planned g.P.Ord.cmp c.args.self.now) (meets fault)) (HappenAccounts g.P.Ord.cmp event (planned g.P.Ord.cmp c.args.self.now))))
+    (sym c.in-Finish.is) c.settle.ensures.refused
+
+pub returns-in-Start-clause-refused : goal.returns-in-Start-clause-refused
+returns-in-Start-clause-refused g c =
+    subst (λ (event : Event). IfErr c.wake.result (IsRefusedAt g.P.Ord.cmp (moment_of event) (λ fault. Happens g.P.Ord.cmp event (planned g.P.Ord.cmp c.args.self.now) (meets fault)) (HappenAccounts g.P.Ord.cmp event (planned g.P.Ord.cmp c.args.self.now))))
+    (sym c.in-Start.is) c.wake.ensures.refused

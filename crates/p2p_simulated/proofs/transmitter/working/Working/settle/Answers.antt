@@ -1,0 +1,20 @@
+use Rattle.std.proofs.Common.{map}
+use Rattle.std.proofs.lemmas.Result.{err_from_is_err_and}
+use Rattle.p2p_simulated.specs.Working.{planned, messages}
+use Rattle.p2p_simulated.specs.Message.{completed_of}
+use Rattle.p2p_simulated.proofs.Settling.{settle_account_refused, settle_finish_refused, settles_so}
+use Rattle.p2p_simulated.proofs.transmitter.working.Working.settle.Goals as goal
+
+pub returns-in_err-queue-clause-refused : goal.returns-in_err-queue-clause-refused
+returns-in_err-queue-clause-refused g c =
+    let p = err_from_is_err_and c.from_residual.result c.from_residual.ensures.1 in
+    rw (p.1, p.2) (settle_account_refused g.P.Ord.cmp c.args.now (planned g.P.Ord.cmp c.args.self.now) _ c.in_err-queue.ensures.refused)
+
+pub returns-clause-settles : goal.returns-clause-settles
+returns-clause-settles g c =
+    settles_so g.P.Ord.cmp c.args.now (planned g.P.Ord.cmp c.args.self.now) (planned g.P.Ord.cmp c.account.new.self) (planned g.P.Ord.cmp c.finish.new.self) (messages c.in_ok-queue.queue.items)
+    (map completed_of c.args.completions.now.items) (map completed_of c.finish.new.completions.items) c.in_ok-queue.ensures.accounts c.finish.result c.finish.ensures.finishes
+
+pub returns-clause-refused : goal.returns-clause-refused
+returns-clause-refused g c =
+    settle_finish_refused g.P.Ord.cmp c.args.now (planned g.P.Ord.cmp c.args.self.now) (planned g.P.Ord.cmp c.account.new.self) (messages c.in_ok-queue.queue.items) c.in_ok-queue.ensures.accounts c.finish.result c.finish.ensures.refused

@@ -1,0 +1,31 @@
+-- Events that are due.
+use Rattle.std.specs.Prelude.{◌≡◌, ◌≢◌, ℕ, ◌<◌, ◌≤◌, Option, Some, None, IfSome}
+use Rattle.std.specs.List.{filter}
+use Rattle.std.specs.declared.cmp.Ordering.{Ordering}
+use Rattle.p2p_simulated.specs.World.{Completed, Course, fronts}
+use Rattle.p2p_simulated.specs.WorldEvents.{Settles, Wakes}
+use Rattle.p2p_simulated.specs.WorldRefusals.{SettleAccounts, WakeAccounts}
+use Rattle.p2p_simulated.specs.declared.transmitter.event.Event.{Event}
+use Rattle.p2p_simulated.specs.declared.transmitter.event.Event.TheVariants.{Finish, Start}
+use Rattle.p2p_simulated.specs.WorldPlanned.{Planned, next_event, may_launch}
+
+abbrev pub moment_of : Event → ℕ
+moment_of (Finish moment) = moment
+moment_of (Start moment) = moment
+
+-- what is due at `now` on a planned world
+abbrev pub IsDue : {P : Type 0} → ℕ → Planned P → Option Event → Type 0
+IsDue now p None = IfSome (next_event p) (λ t. now < t)
+IsDue now p (Some (Finish t)) = (p.finish ≡ Some t) × (next_event p ≡ Some t) × (t ≤ now)
+IsDue now p (Some (Start t)) = (p.finish ≢ Some t) × (next_event p ≡ Some t) × (t ≤ now)
+
+module _ {P : Type 0} (cmp : P → P → Ordering) where
+  -- the course of an event, which is planned no more
+  abbrev pub Happens : Event → Planned P → Course (Completed P) (Planned P) → Type 0
+  Happens (Finish t) p course = Settles cmp t (record p { finish = None }) course
+  Happens (Start t) p course = Wakes cmp t (record p { start = None }) course
+
+  -- the accounts in an event
+  abbrev pub HappenAccounts : Event → Planned P → Planned P → Type 0
+  HappenAccounts (Finish t) p q = SettleAccounts cmp t (record p { finish = None }) q
+  HappenAccounts (Start t) p q = WakeAccounts cmp t (filter (may_launch cmp t p) (fronts cmp p.waiting)) (record p { start = None }) q

@@ -1,0 +1,12 @@
+-- How a message and a completion in the code are read.
+use Rattle.p2p_simulated.specs.WorldMessages.{Message}
+use Rattle.p2p_simulated.specs.World.{Completed}
+use Rattle.p2p_simulated.specs.declared.transmitter.completion.Completion.{Completion}
+use Rattle.p2p_simulated.specs.declared.transmitter.message.Message as code
+
+abbrev pub message_of : {P : Type 0} → code.Message P → Message P
+message_of m = record { origin = m.origin; recipient = m.recipient; channel = m.channel; bytes = m.bytes; latency = m.latency; should_deliver = m.should_deliver }
+
+-- a completion as it is answered
+abbrev pub completed_of : {P : Type 0} → Completion P → Completed P
+completed_of c = record { origin = c.origin; recipient = c.recipient; channel = c.channel; bytes = c.message; deliver_at = c.deliver_at }

@@ -1,0 +1,88 @@
+-- What a call does, told by the simulation.
+use Rattle.std.specs.Prelude.{◌≡◌, ⊤, ℕ, ◌+◌, ◌-◌, ◌<◌, ◌≤◌, ◌^◌, List, ◌++◌, length, Option, Some, IfSome}
+use Rattle.std.specs.List.{AllZip}
+use Rattle.std.specs.declared.cmp.Ordering.{Ordering}
+use Rattle.p2p_simulated.specs.declared.error.Error.{Error}
+use Rattle.p2p_simulated.specs.declared.error.Error.TheVariants.{OutOfMemory, NumberTooLarge, MomentTooLate, FlowIdsUsedUp}
+use Rattle.p2p_simulated.specs.Amount.{plus}
+use Rattle.p2p_simulated.specs.FairLaws.{IsAtMost}
+use Rattle.p2p_simulated.specs.World.{World, Completed, goes}
+use Rattle.p2p_simulated.specs.WorldTime.{NextIs}
+use Rattle.p2p_simulated.specs.WorldCalls.{Call, call_advance, moment_of, Runs, IsInTurn}
+use Rattle.p2p_simulated.specs.WorldReplies.{IsSmallCall, messages_in, SameCompletion, Faults}
+use Rattle.p2p_simulated.specs.WorldPlanned.{Planned, next_event}
+use Rattle.p2p_simulated.specs.WorldStands.{StandsFor, IsInRange}
+use Rattle.p2p_simulated.specs.WorldBytes.{bytes_from, allowance}
+
+module _ {P : Type 0} (cmp : P → P → Ordering) where
+  -- the planned world p stands for the world w of the simulation, and there the call comes at that moment, in its turn
+  pub record IsCalled (p : Planned P) (call : Call P) (now : ℕ) (w : World P) : Type 0 where
+    pub stands : StandsFor cmp p w
+    pub moment : moment_of call ≡ Some now
+    pub turn : IsInTurn cmp w call
+
+  -- the call runs from w to its moment with the same completions, and meets no fault; q stands for the world that it leads to, and the next event comes after its moment
+  pub record IsRun (w : World P) (call : Call P) (now : ℕ) (completions : List (Completed P)) (q : Planned P) : Type 0 where
+    pub answers : List (Completed P)
+    pub after : World P
+    pub runs : Runs cmp w call now (goes answers after)
+    pub same : AllZip (SameCompletion cmp) completions answers
+    pub stands : StandsFor cmp q after
+    pub moment : after.moment ≡ now
+    pub next : IfSome (next_event q) (λ t. now < t)
+    pub no_fault : (fault : Error) → ¬ Faults cmp w call fault
+
+  -- in each world that p stands for, a call in its turn does what it did to p: it has these completions, and leads to a world that q stands for
+  abbrev pub IsSimulated : Planned P → Call P → List (Completed P) → Planned P → Type 0
+  IsSimulated p call completions q = (w : World P) (now : ℕ) → IsCalled p call now w → IsRun w call now completions q
+
+  -- in each world that p stands for, that is the moment of the next event, or none ever comes
+  abbrev pub IsNextInSimulation : Planned P → Option ℕ → Type 0
+  IsNextInSimulation p next = (w : World P) → StandsFor cmp p w → NextIs cmp w next
+
+  -- p is in the range of these pairs, and so is the call, with its message
+  pub record IsCallInRange (pairs : List (P × P)) (p : Planned P) (call : Call P) : Type 0 where
+    pub planned : IsInRange cmp pairs p
+    pub small : IsSmallCall cmp pairs call
+    pub messages : p.next_id + length p.waiting + messages_in call < 2 ^ 64
+
+  -- a call in the range leads to a planned world in the range
+  abbrev pub KeepsRange : Planned P → Call P → Planned P → Type 0
+  KeepsRange p call q = (pairs : List (P × P)) → IsCallInRange pairs p call → IsInRange cmp pairs q
+
+  -- in each world that p stands for, a call in its turn meets that fault
+  abbrev pub MeetsFault : Planned P → Call P → Error → Type 0
+  MeetsFault p call fault = (w : World P) (now : ℕ) → IsCalled p call now w → Faults cmp w call fault
+
+  -- why a call is refused: memory; a number of a call that is not in the range; or a fault that the simulation meets
+  abbrev pub HasCause : Planned P → Call P → Error → Type 0
+  HasCause p call OutOfMemory = ⊤
+  HasCause p call NumberTooLarge = (pairs : List (P × P)) → ¬ IsCallInRange pairs p call
+  HasCause p call MomentTooLate = MeetsFault p call MomentTooLate
+  HasCause p call FlowIdsUsedUp = MeetsFault p call FlowIdsUsedUp
+
+  -- a refusal has a cause, and in the range it is for memory alone
+  pub record IsRefusedInSimulation (p : Planned P) (call : Call P) (why : Error) : Type 0 where
+    pub cause : HasCause p call why
+    pub in_range : (pairs : List (P × P)) → IsCallInRange pairs p call → why ≡ OutOfMemory
+
+  -- time goes on from w to the first moment, and from there to the second; both together have the same completions, and q stands for the world at the end
+  pub record RunsInTwo (w : World P) (first second : ℕ) (completions : List (Completed P)) (q : Planned P) : Type 0 where
+    pub first_answers : List (Completed P)
+    pub between : World P
+    pub runs_first : Runs cmp w (call_advance first) first (goes first_answers between)
+    pub second_answers : List (Completed P)
+    pub after : World P
+    pub runs_second : Runs cmp between (call_advance second) second (goes second_answers after)
+    pub same : AllZip (SameCompletion cmp) completions (first_answers ++ second_answers)
+    pub stands : StandsFor cmp q after
+
+  -- to advance is to advance to any moment on the way, and then on
+  abbrev pub IsSplitAnywhere : Planned P → ℕ → List (Completed P) → Planned P → Type 0
+  IsSplitAnywhere p now completions q = (w : World P) (between : ℕ) → StandsFor cmp p w → w.moment ≤ between → between ≤ now → RunsInTwo w between now completions q
+
+  -- from a world that p stands for to one that q stands for, the bytes that an origin still has to send go down by no more than its egress cap lets go in the time between
+  abbrev pub KeepsToCaps : Planned P → ℕ → Planned P → Type 0
+  KeepsToCaps p now q =
+      (w v : World P) (origin : P) (cap : ℕ) → StandsFor cmp p w → StandsFor cmp q v → w.moment ≤ now → v.moment ≡ now → p.caps.egress origin ≡ Some cap →
+      IsAtMost (bytes_from cmp origin w) (plus (bytes_from cmp origin v) (allowance cap (now - w.moment)))

@@ -1,0 +1,57 @@
+-- How a scheduler is read as a planned world.
+use Rattle.std.specs.Prelude.{ℕ, ◌<◌, Bool, false, ◌==◌, ◌||◌, List, length, map, Option, Some, None}
+use Rattle.std.specs.List.{filter}
+use Rattle.std.specs.declared.cmp.Ordering.{Ordering}
+use Rattle.p2p_simulated.specs.declared.bandwidth.Flow.{Flow}
+use Rattle.p2p_simulated.specs.PeerCaps.{sides_under}
+use Rattle.p2p_simulated.specs.Size.{FairRatesFit}
+use Rattle.p2p_simulated.specs.declared.transmitter.message.Message as code
+use Rattle.p2p_simulated.specs.declared.transmitter.peers.PeerCaps.{PeerCaps}
+use Rattle.p2p_simulated.specs.declared.transmitter.pairs.Pair.{Pair}
+use Rattle.p2p_simulated.specs.declared.transmitter.working.Working.{Working}
+use Rattle.p2p_simulated.specs.Caps.{Caps}
+use Rattle.p2p_simulated.specs.World.{fronts}
+use Rattle.p2p_simulated.specs.WorldMessages.{Message}
+use Rattle.p2p_simulated.specs.WorldPlanned.{Planned, Paced, may_launch}
+use Rattle.p2p_simulated.specs.WorldRates.{is_unlimited}
+use Rattle.p2p_simulated.specs.Message.{message_of}
+use Rattle.p2p_simulated.specs.Peers.{egress_of, ingress_of}
+use Rattle.p2p_simulated.specs.Pairs.{link_of, arrival_of, waiting_of}
+use Rattle.p2p_simulated.specs.Flights.{sending_of}
+
+-- the caps of peers and of ordered pairs
+abbrev pub caps_of : {P : Type 0} → (P → P → Ordering) → List (PeerCaps P) → List (Pair P) → Caps P
+caps_of cmp peers pairs = record { egress = egress_of cmp peers; ingress = ingress_of cmp peers; link = link_of cmp pairs }
+
+-- whether a message in flight is done under the caps: nothing is left of it, or it uses no capped side
+abbrev pub is_done_under : {P : Type 0} → (P → P → Ordering) → Caps P → Paced P → Bool
+is_done_under cmp caps f = (f.left.num == 0) || is_unlimited cmp caps f.message
+
+abbrev pub planned : {P : Type 0} {a : _} {b : _} {c : _} → (P → P → Ordering) → Working P a b c → Planned P
+planned cmp w = record {
+  caps = caps_of cmp w.peers.entries.items w.pairs.entries.items;
+  limited = w.limited;
+  sending = sending_of w.flights.flows.items w.flights.progress.items;
+  waiting = waiting_of w.pairs.entries.items;
+  last_arrival = arrival_of cmp w.pairs.entries.items;
+  next_id = w.next_id;
+  finish = w.finish;
+  start = w.start;
+}
+
+abbrev pub messages : {P : Type 0} → List (code.Message P) → List (Message P)
+messages ms = map message_of ms
+
+-- whether a pair's first waiting message, if there is one, may start
+abbrev pub may_launch_first : {P : Type 0} → (P → P → Ordering) → ℕ → Planned P → Option (Message P) → Bool
+may_launch_first cmp t p None = false
+may_launch_first cmp t p (Some m) = may_launch cmp t p m
+
+-- the first waiting messages of the pairs that are ready, in the order of pairs
+abbrev pub ready_messages : {P : Type 0} → (P → P → Ordering) → ℕ → Planned P → List (Message P)
+ready_messages cmp t p = filter (may_launch cmp t p) (fronts cmp p.waiting)
+
+-- there are more than sixteen flows, and no fair rates fit on the sides that the caps make for them
+pub record AreTooMany {P : Type 0} (cmp : P → P → Ordering) (caps : Caps P) (flows : List (Flow P)) : Type 0 where
+  pub many : 16 < length flows
+  pub nothing_fits : ¬ FairRatesFit (sides_under cmp caps flows) (length flows)

@@ -1,0 +1,33 @@
+//! What a call that goes by the event rule, or is refused by it, does in the simulation.
+ghost use Rattle.std.specs.Prelude.{◌≡◌, ℕ, ◌≤◌, List, Some};
+ghost use Rattle.p2p_simulated.specs.declared.error.Error.{Error as AnyError};
+ghost use Rattle.p2p_simulated.specs.World.{Completed, last_moment};
+ghost use Rattle.p2p_simulated.specs.WorldCalls.{Call, call_advance, moment_of};
+ghost use Rattle.p2p_simulated.specs.WorldPlanned.{Planned, next_event};
+ghost use Rattle.p2p_simulated.specs.WorldRefusals.{MayBeRefused};
+ghost use Rattle.p2p_simulated.specs.SamePlanned.{Goes};
+ghost use Rattle.p2p_simulated.specs.Simulated.{IsSimulated, IsNextInSimulation, KeepsRange, IsRefusedInSimulation, IsSplitAnywhere, KeepsToCaps};
+
+/// A call that goes by the event rule runs in the simulation with the same completions and without a fault, and leaves the next event later than its moment. In the range it stays in the range. The next event is that of the simulation.
+pub fn calls_that_go_are_simulated<P: Ord>()
+    ensures calls { (p q : Planned P) (call : Call P) (completions : List (Completed P)) → ((now : ℕ) → moment_of call ≡ Some now → now ≤ last_moment) →
+        Goes P.cmp p call completions q → IsSimulated P.cmp p call completions q }
+    ensures range { (p q : Planned P) (call : Call P) (completions : List (Completed P)) → Goes P.cmp p call completions q → KeepsRange P.cmp p call q }
+    ensures next { (p : Planned P) → IsNextInSimulation P.cmp p (next_event p) }
+{}
+
+/// A call that the event rule refuses is refused for memory, for a number of a call that is not in the range, or for a fault that the simulation meets. In the range it is refused for memory alone.
+pub fn refusals_are_simulated<P: Ord>()
+    ensures { (p : Planned P) (call : Call P) (why : AnyError) → ((now : ℕ) → moment_of call ≡ Some now → now ≤ last_moment) → MayBeRefused P.cmp p call why →
+        IsRefusedInSimulation P.cmp p call why }
+{}
+
+/// An advance may be split at any moment on the way.
+pub fn an_advance_is_split_anywhere<P: Ord>()
+    ensures { (p q : Planned P) (now : ℕ) (completions : List (Completed P)) → now ≤ last_moment → Goes P.cmp p (call_advance now) completions q → IsSplitAnywhere P.cmp p now completions q }
+{}
+
+/// In an advance the bytes that an origin still has to send go down by no more than its egress cap lets go.
+pub fn an_advance_keeps_to_caps<P: Ord>()
+    ensures { (p q : Planned P) (now : ℕ) (completions : List (Completed P)) → now ≤ last_moment → Goes P.cmp p (call_advance now) completions q → KeepsToCaps P.cmp p now q }
+{}
