@@ -6,6 +6,7 @@ pub mod Callable
 pub mod Calling
 pub mod CapAnswers
 pub mod CapCalls
+pub mod Columns
 pub mod CopiedFlights
 pub mod CopiedPairs
 pub mod CopiedWorking
@@ -26,6 +27,7 @@ pub mod LastRates
 pub mod Later
 pub mod LeastTime
 pub mod Lightening
+pub mod LinkCaps
 pub mod NoLinks
 pub mod Numerals
 pub mod Pairs
@@ -34,6 +36,7 @@ pub mod Peers
 pub mod Places
 pub mod Printing
 pub mod Progressing
+pub mod Promises
 pub mod Rating
 pub mod Ratios
 pub mod Reading

@@ -13,10 +13,13 @@ use Rattle.std.proofs.lemmas.Str.{IsUtf8-from_ascii, IsAscii-append}
 use Rattle.std.proofs.lemmas.Str.Ascii.{IsAscii-from_all, IsAscii-nil}
 use Rattle.std.proofs.lemmas.Str.Parse.{digit_from_value}
 use Rattle.p2p_simulated.specs.declared.bandwidth.Flow.{Flow}
+use Rattle.p2p_simulated.specs.declared.linkrun.command.Call.{Call}
+use Rattle.p2p_simulated.specs.declared.linkrun.command.Call.TheVariants as calls
 use Rattle.p2p_simulated.specs.declared.linkrun.command.Command.{Command}
 use Rattle.p2p_simulated.specs.declared.linkrun.command.Command.TheVariants as commands
-use Rattle.p2p_simulated.specs.Script.{Takes, number_word, cap_word, flag_word, flow_words, command_words, line_of, IsNumberInRange, IsCapInRange, IsFlowInRange, IsInRange}
+use Rattle.p2p_simulated.specs.Script.{Takes, number_word, cap_word, flag_word, flow_words, call_words, command_words, line_of, IsNumberInRange, IsCapInRange, IsSmallCapInRange, IsFlowInRange, IsCallInRange, IsInRange}
 use Rattle.p2p_simulated.specs.Words.{parts_of}
+use Rattle.p2p_simulated.proofs.Columns.{wider}
 use Rattle.p2p_simulated.proofs.Numerals.{no_dash, digits_of_number}
 
 -- ---- words of values
@@ -112,24 +115,51 @@ ascii_line (w ∷ v ∷ ws) are =
     let space = IsAscii-from_all (32 ∷ []) (All-cons (λ b. b < 128) 32 [] (omega arith) (All-nil (λ b. b < 128))) in
     IsAscii-append w (32 ∷ rest) (IsAscii-from_all w (below_128 w are.0)) (IsAscii-append (32 ∷ []) rest space (ascii_line (v ∷ ws) are.1))
 
+IsWord-small : (n : ℕ) → IsNumberInRange n → IsWord (number_word n)
+IsWord-small n small = IsWord-number n (omega (arith, small))
+
+IsWord-small_cap : (cap : Option ℕ) → IsSmallCapInRange cap → IsWord (cap_word cap)
+IsWord-small_cap cap range = IsWord-cap cap (wider cap range)
+
+-- what calls are written with is words
+AreWords-call : (call : Call) → IsCallInRange call → AreWords (call_words call)
+AreWords-call (calls.Limit now peer egress ingress) range = (refl, (IsWord-small now range.0, (IsWord-small peer range.1, (IsWord-small_cap egress range.2, (IsWord-small_cap ingress range.3, tt)))))
+AreWords-call (calls.LimitLink now origin recipient cap) range = (refl, (IsWord-small now range.0, (IsWord-small origin range.1, (IsWord-small recipient range.2, (IsWord-small_cap cap range.3, tt)))))
+AreWords-call (calls.Enqueue p) range =
+    (refl, (IsWord-small p.now range.0, (IsWord-small p.origin range.1, (IsWord-small p.recipient range.2, (IsWord-small p.channel range.3, (IsWord-number p.length (omega (arith, range.4)), (IsWord-small p.latency range.5, (IsWord-flag p.should_deliver, tt))))))))
+AreWords-call (calls.Advance now) range = (refl, (IsWord-small now range, tt))
+AreWords-call calls.Next range = (refl, tt)
+
 -- what commands are written with is words
 AreWords-command : (command : Command) → IsInRange command → AreWords (command_words command)
 AreWords-command (commands.Flow f) range =
     (refl, (IsWord-number f.id (omega (arith, range.0)), (IsWord-number f.origin (omega (arith, range.1)), (IsWord-number f.recipient (omega (arith, range.2)), (IsWord-flag f.delivered, tt)))))
 AreWords-command (commands.Egress peer cap) range = (refl, (IsWord-number peer (omega (arith, range.0)), (IsWord-cap cap range.1, tt)))
 AreWords-command (commands.Ingress peer cap) range = (refl, (IsWord-number peer (omega (arith, range.0)), (IsWord-cap cap range.1, tt)))
+AreWords-command (commands.Link origin recipient cap) range = (refl, (IsWord-small origin range.0, (IsWord-small recipient range.1, (IsWord-cap cap range.2, tt))))
 AreWords-command commands.Rates range = (refl, tt)
+AreWords-command (commands.Schedule call) range = AreWords-call call range
 
 -- the line of a command is text
 pub IsUtf8-line_of : (command : Command) → IsInRange command → IsUtf8 (line_of command)
 IsUtf8-line_of command range = IsUtf8-from_ascii (line_of command) (ascii_line (command_words command) (AreWords-command command range))
+
+-- the parts of the line of a call are its words
+parts_of-call : (call : Call) → IsCallInRange call → parts_of (join_with_byte 32 (call_words call)) ≡ call_words call
+parts_of-call (calls.Limit now peer egress ingress) range = parts_of-join _ _ (AreWords-call (calls.Limit now peer egress ingress) range)
+parts_of-call (calls.LimitLink now origin recipient cap) range = parts_of-join _ _ (AreWords-call (calls.LimitLink now origin recipient cap) range)
+parts_of-call (calls.Enqueue parcel) range = parts_of-join _ _ (AreWords-call (calls.Enqueue parcel) range)
+parts_of-call (calls.Advance now) range = parts_of-join _ _ (AreWords-call (calls.Advance now) range)
+parts_of-call calls.Next range = parts_of-join _ _ (AreWords-call calls.Next range)
 
 -- the parts of the line of a command are its words
 parts_of-line_of : (command : Command) → IsInRange command → parts_of (line_of command) ≡ command_words command
 parts_of-line_of (commands.Flow f) range = parts_of-join _ _ (AreWords-command (commands.Flow f) range)
 parts_of-line_of (commands.Egress peer cap) range = parts_of-join _ _ (AreWords-command (commands.Egress peer cap) range)
 parts_of-line_of (commands.Ingress peer cap) range = parts_of-join _ _ (AreWords-command (commands.Ingress peer cap) range)
+parts_of-line_of (commands.Link origin recipient cap) range = parts_of-join _ _ (AreWords-command (commands.Link origin recipient cap) range)
 parts_of-line_of commands.Rates range = parts_of-join _ _ (AreWords-command commands.Rates range)
+parts_of-line_of (commands.Schedule call) range = parts_of-call call range
 
 -- ---- what a line says
 

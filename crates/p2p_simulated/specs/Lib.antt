@@ -35,6 +35,7 @@ pub mod Registering
 pub mod Replay
 pub mod ReplayLaws
 pub mod SamePlanned
+pub mod Schedule
 pub mod Script
 pub mod Session
 pub mod Sides

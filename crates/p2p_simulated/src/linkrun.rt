@@ -5,6 +5,7 @@ ghost use Rattle.p2p_simulated.specs.Outcome.{status_of, message_of, CountsFromO
 mod answer;
 mod command;
 mod line;
+mod schedule;
 mod session;
 mod word;
 

@@ -1,11 +1,16 @@
 //! When each message arrives: a scheduler of messages over capped peers.
-ghost use Rattle.std.specs.Prelude.{◌≡◌, ◌+◌, ◌*◌, ◌≤◌, length, map, IfOk, IfErr, OnErr};
+ghost use Rattle.std.specs.Prelude.{◌≡◌, ◌+◌, ◌*◌, ◌≤◌, List, [], ◌∷◌, length, map, IfOk, IfErr, OnErr};
+ghost use Rattle.p2p_simulated.specs.World.{new_world};
 ghost use Rattle.p2p_simulated.specs.WorldCalls.{call_limit, call_limit_link, call_enqueue, call_advance};
-ghost use Rattle.p2p_simulated.specs.WorldPlanned.{IsPlanned, new_planned, next_event as next_planned};
+ghost use Rattle.p2p_simulated.specs.WorldPlanned.{IsPlanned, IsRated, new_planned, next_event as next_planned};
+ghost use Rattle.p2p_simulated.specs.WorldStands.{StandsFor, IsInRange};
 ghost use Rattle.p2p_simulated.specs.WorldRefusals.{MayBeRefused};
 ghost use Rattle.p2p_simulated.specs.SamePlanned.{Goes, GoesCounted};
 ghost use Rattle.p2p_simulated.specs.WorldMessages.{CapsAlike, PairsAlike};
 ghost use Rattle.p2p_simulated.specs.Working.{planned};
+ghost use Rattle.p2p_simulated.specs.Orderly.{IsOrderly};
+ghost use Rattle.p2p_simulated.specs.Conserved.{IsConserved};
+ghost use Rattle.p2p_simulated.specs.Simulated.{IsSimulated, IsNextInSimulation, KeepsRange, IsRefusedInSimulation, IsSplitAnywhere, KeepsToCaps};
 
 mod account;
 mod completion;
@@ -29,42 +34,110 @@ use message::Message;
 use std::alloc::Global;
 use working::Working;
 
-/// A scheduler: the caps of peers and links, the messages that wait, and those in flight.
+/// A scheduler of messages between capped peers: it tells when each completes and arrives.
+///
+/// It has no clock. Each call but `next` says its moment, in nanoseconds since the start, and
+/// answers what completes, in order.
+///
+/// Before any limit a message completes as it is enqueued. After the first `limit` or `limit_link`,
+/// at most one message of each ordered pair of peers is in flight, and the others of the pair wait
+/// behind it. The messages in flight share the caps max-min fairly, as `bandwidth::allocate` tells.
+/// A message completes once nothing is left of it, at once where no cap holds for it, and arrives
+/// its latency later. The next one of its pair starts once it can no longer overtake it. A message
+/// that is to be dropped takes its part of what its origin may send, nothing of what its recipient
+/// may receive, and does not arrive. Under limits the same holds of one from a peer to itself.
+///
+/// # An example
+///
+/// Peer 1 may send 1000 bytes a second. So a `message` of 500 bytes to peer 2 takes half a second,
+/// and with a latency of one millisecond it arrives one millisecond later:
+///
+/// ```
+/// let mut state = State::new(alloc);
+/// state.limit(0, &1u64, Some(1000), None)?;
+/// state.enqueue(0, 1, 2, 7, message, 1_000_000, true)?;
+/// let next = state.next(); // Some(500_000_000)
+/// let done = state.advance(500_000_000)?; // one completion, with deliver_at: Some(501_000_000)
+/// ```
+///
+/// # What is promised
+///
+/// The *simulation* (`model`) goes nanosecond by nanosecond: all that is in flight drains at its
+/// fair rate, what is done completes, and what may start starts. Where moments never go back, and
+/// caps change and messages are sent only before the next event, each call does what it does in the
+/// simulation (clause `simulated`). So let time go on to a moment by `advance` first, and then
+/// change caps and send messages. Elsewhere a call still goes by the event rule, from one planned
+/// moment to the next, which speaks of any moments (clause `goes`).
+///
+/// A message is neither lost nor doubled (`conserved`), and after each call those in flight have
+/// their max-min fair rates under the caps now (`rated`). A call that is refused leaves the
+/// scheduler as it was (`unchanged`).
+///
+/// The *range* is: messages between at most sixteen ordered pairs of peers, the first flow id and
+/// the number of messages together below 2^64, caps in bytes a second and lengths in bytes below
+/// 2^32, moments and latencies below 2^56. There a call is refused for memory alone (`cause`), and
+/// leaves the scheduler in the range (`in_range`).
 #[derive(Drop)]
 pub struct State<P: Peer> {
     kept: Working<P>,
     pub ghost caps: { CapsAlike P.cmp (planned P.cmp kept).caps (planned P.cmp kept).caps },
     pub ghost arrivals: { PairsAlike P.cmp (planned P.cmp kept).last_arrival (planned P.cmp kept).last_arrival },
+    // Here and in the clauses `∥ A ∥₁` reads: there is an `A`.
     pub ghost right: { ∥ IsPlanned P.cmp (planned P.cmp kept) ∥₁ },
+    pub ghost orderly: { ∥ IsOrderly P.cmp (planned P.cmp kept) ∥₁ },
 }
 
 impl<P: Peer> State<P> {
     ghost use Rattle.p2p_simulated.specs.Message.{completed_of};
 
-    /// A scheduler without limits, in which nothing was sent. Flow ids begin at 0.
+    /// A scheduler at the start, moment 0, without limits and with nothing sent. Flow ids begin
+    /// at 0.
+    ///
+    /// It stands for the new world of the simulation, and is in the range of any list of at most
+    /// sixteen ordered pairs.
     pub fn new(alloc: Global) -> Self
-        ensures { planned P.cmp result.kept ≡ new_planned 0 }
+        ensures planned { planned P.cmp result.kept ≡ new_planned 0 }
+        ensures stands { StandsFor P.cmp (planned P.cmp result.kept) (new_world 0) }
+        ensures in_range { (pairs : List (P × P)) → length pairs ≤ 16 → IsInRange P.cmp pairs (planned P.cmp result.kept) }
     {
         State::with_first_id(alloc, 0)
     }
 
-    /// As `new`, with flow ids from `first`.
+    /// As `new`, with flow ids from `first`. Each message that starts to be sent under limits takes
+    /// the next id, and the last id that is given is 18446744073709551614.
     pub fn with_first_id(alloc: Global, first: u64) -> Self
-        ensures { planned P.cmp result.kept ≡ new_planned first }
+        ensures planned { planned P.cmp result.kept ≡ new_planned first }
+        ensures stands { StandsFor P.cmp (planned P.cmp result.kept) (new_world first) }
+        ensures in_range { (pairs : List (P × P)) → length pairs ≤ 16 → IsInRange P.cmp pairs (planned P.cmp result.kept) }
     {
         State {
             kept: Working::new(alloc, first),
         }
     }
 
-    /// Sets the caps of a peer, in bytes a second, on all that it sends and on all that it receives;
-    /// none is no cap. From now on messages share the capped sides. Answers what completes at once.
-    /// The moment `now` is in nanoseconds since the start.
+    /// Sets the caps of a peer from `now` on, and answers what completes at that moment.
     ///
-    /// Refused, the scheduler stays as it was: with `OutOfMemory` where memory was refused, with
-    /// `NumberTooLarge` where an amount, a time or a rate on the way does not fit, with
-    /// `MomentTooLate` where a delivered message would arrive past the last moment, and with
-    /// `FlowIdsUsedUp` where a message would start and no flow id is left.
+    /// `egress` is the cap on all that the peer sends and `ingress` that on all that it receives,
+    /// both in bytes a second; `None` is no cap. `now` is in nanoseconds since the start. The
+    /// messages in flight go on at the fair rates under the new caps, and those for which no cap
+    /// holds any more complete. The first limit ends the time in which messages complete as they
+    /// are enqueued, also where it sets no cap.
+    ///
+    /// Where moments never go back, and caps change and messages are sent only before the next
+    /// event, it does what the simulation does: the same messages complete in the same order, to
+    /// arrive at the same moments.
+    ///
+    /// # Errors
+    ///
+    /// The scheduler then stays as it was.
+    ///
+    /// - `OutOfMemory` where memory was refused, for a list or for the clone of a peer.
+    /// - `NumberTooLarge` where what is left of a message, the time that it takes or, with more
+    ///   than sixteen in flight, a fair rate does not fit in fractions of 128 bits. In the range
+    ///   (see `State`) it never comes.
+    /// - `MomentTooLate` where a message completes and would arrive past the last moment,
+    ///   18446744073709551615.
+    /// - `FlowIdsUsedUp` where a message would start and no flow id is left.
     pub fn limit(
         &mut self,
         now: u64,
@@ -73,7 +146,12 @@ impl<P: Peer> State<P> {
         ingress: Option<usize>,
     ) -> Result<Vec<Completion<P>>, Error>
         ensures goes { IfOk result (λ completions. Goes P.cmp (planned P.cmp self.old.kept) (call_limit now peer.now egress ingress) (map completed_of completions.items) (planned P.cmp self.new.kept)) }
+        ensures simulated { IfOk result (λ completions. IsSimulated P.cmp (planned P.cmp self.old.kept) (call_limit now peer.now egress ingress) (map completed_of completions.items) (planned P.cmp self.new.kept)) }
+        ensures in_range { IfOk result (λ completions. KeepsRange P.cmp (planned P.cmp self.old.kept) (call_limit now peer.now egress ingress) (planned P.cmp self.new.kept)) }
+        ensures conserved { IfOk result (λ completions. ∥ IsConserved P.cmp (planned P.cmp self.old.kept) [] (map completed_of completions.items) (planned P.cmp self.new.kept) ∥₁) }
+        ensures rated { IfOk result (λ completions. ∥ IsRated P.cmp (planned P.cmp self.new.kept) ∥₁) }
         ensures refused { IfErr result (MayBeRefused P.cmp (planned P.cmp self.old.kept) (call_limit now peer.now egress ingress)) }
+        ensures cause { IfErr result (IsRefusedInSimulation P.cmp (planned P.cmp self.old.kept) (call_limit now peer.now egress ingress)) }
         ensures unchanged { OnErr result (self.new ≡ self.old) }
     {
         let mut working = self.kept.clone()?;
@@ -83,13 +161,28 @@ impl<P: Peer> State<P> {
         Ok(completions)
     }
 
-    /// Sets the cap of an ordered pair of peers, in bytes a second, on all that the one sends to the
-    /// other; none is no cap. Answers what completes at once.
+    /// Sets the cap of an ordered pair of peers from `now` on, and answers what completes at that
+    /// moment.
     ///
-    /// Refused, the scheduler stays as it was: with `OutOfMemory` where memory was refused, with
-    /// `NumberTooLarge` where an amount, a time or a rate on the way does not fit, with
-    /// `MomentTooLate` where a delivered message would arrive past the last moment, and with
-    /// `FlowIdsUsedUp` where a message would start and no flow id is left.
+    /// `cap` is on all that `origin` sends to `recipient`, in bytes a second, beside the caps of
+    /// the two peers; `None` is no cap. `now` is in nanoseconds since the start. All else is as
+    /// with `limit`.
+    ///
+    /// Where moments never go back, and caps change and messages are sent only before the next
+    /// event, it does what the simulation does: the same messages complete in the same order, to
+    /// arrive at the same moments.
+    ///
+    /// # Errors
+    ///
+    /// The scheduler then stays as it was.
+    ///
+    /// - `OutOfMemory` where memory was refused, for a list or for the clone of a peer.
+    /// - `NumberTooLarge` where what is left of a message, the time that it takes or, with more
+    ///   than sixteen in flight, a fair rate does not fit in fractions of 128 bits. In the range
+    ///   (see `State`) it never comes.
+    /// - `MomentTooLate` where a message completes and would arrive past the last moment,
+    ///   18446744073709551615.
+    /// - `FlowIdsUsedUp` where a message would start and no flow id is left.
     pub fn limit_link(
         &mut self,
         now: u64,
@@ -98,7 +191,12 @@ impl<P: Peer> State<P> {
         cap: Option<usize>,
     ) -> Result<Vec<Completion<P>>, Error>
         ensures goes { IfOk result (λ completions. Goes P.cmp (planned P.cmp self.old.kept) (call_limit_link now origin.now recipient.now cap) (map completed_of completions.items) (planned P.cmp self.new.kept)) }
+        ensures simulated { IfOk result (λ completions. IsSimulated P.cmp (planned P.cmp self.old.kept) (call_limit_link now origin.now recipient.now cap) (map completed_of completions.items) (planned P.cmp self.new.kept)) }
+        ensures in_range { IfOk result (λ completions. KeepsRange P.cmp (planned P.cmp self.old.kept) (call_limit_link now origin.now recipient.now cap) (planned P.cmp self.new.kept)) }
+        ensures conserved { IfOk result (λ completions. ∥ IsConserved P.cmp (planned P.cmp self.old.kept) [] (map completed_of completions.items) (planned P.cmp self.new.kept) ∥₁) }
+        ensures rated { IfOk result (λ completions. ∥ IsRated P.cmp (planned P.cmp self.new.kept) ∥₁) }
         ensures refused { IfErr result (MayBeRefused P.cmp (planned P.cmp self.old.kept) (call_limit_link now origin.now recipient.now cap)) }
+        ensures cause { IfErr result (IsRefusedInSimulation P.cmp (planned P.cmp self.old.kept) (call_limit_link now origin.now recipient.now cap)) }
         ensures unchanged { OnErr result (self.new ≡ self.old) }
     {
         let mut working = self.kept.clone()?;
@@ -108,14 +206,34 @@ impl<P: Peer> State<P> {
         Ok(completions)
     }
 
-    /// Sends a message, of that latency in nanoseconds. Before any limit it completes at once. Under
-    /// limits it waits behind the others of its pair, and starts once the pair is idle and it arrives
-    /// no earlier than the pair's last one. Answers what completes at once.
+    /// Sends a message at `now`, and answers what completes at that moment.
     ///
-    /// Refused, the scheduler stays as it was: with `OutOfMemory` where memory was refused, with
-    /// `NumberTooLarge` where an amount, a time or a rate on the way does not fit, with
-    /// `MomentTooLate` where a delivered message would arrive past the last moment, and with
-    /// `FlowIdsUsedUp` where a message would start and no flow id is left.
+    /// `now` is in nanoseconds since the start, and `latency` in nanoseconds. `channel` and the
+    /// bytes come back with the completion. The message is to be dropped where `should_deliver` is
+    /// false.
+    ///
+    /// Before any limit it completes at once, and arrives its latency later, or with the last one
+    /// of its pair where that arrives after it. Under limits it waits behind the others of its
+    /// pair. It starts once none of them is in flight and, were it done at once, it would arrive no
+    /// earlier than the last one that completed.
+    ///
+    /// Where moments never go back, and caps change and messages are sent only before the next
+    /// event, it does what the simulation does: the same messages complete in the same order, to
+    /// arrive at the same moments.
+    ///
+    /// # Errors
+    ///
+    /// The scheduler then stays as it was.
+    ///
+    /// - `OutOfMemory` where memory was refused, for a list or for the clone of a peer.
+    /// - `NumberTooLarge` where what is left of a message, the time that it takes or, with more
+    ///   than sixteen in flight, a fair rate does not fit in fractions of 128 bits. In the range
+    ///   (see `State`) it never comes.
+    /// - `MomentTooLate` where a message completes and would arrive past the last moment,
+    ///   18446744073709551615.
+    /// - `FlowIdsUsedUp` where a message would start and no flow id is left.
+    ///
+    /// Before any limit only `OutOfMemory` and `MomentTooLate` come.
     pub fn enqueue(
         &mut self,
         now: u64,
@@ -127,7 +245,12 @@ impl<P: Peer> State<P> {
         should_deliver: bool,
     ) -> Result<Vec<Completion<P>>, Error>
         ensures goes { IfOk result (λ completions. Goes P.cmp (planned P.cmp self.old.kept) (call_enqueue now (record { origin = origin; recipient = recipient; channel = channel; bytes = message; latency = latency; should_deliver = should_deliver })) (map completed_of completions.items) (planned P.cmp self.new.kept)) }
+        ensures simulated { IfOk result (λ completions. IsSimulated P.cmp (planned P.cmp self.old.kept) (call_enqueue now (record { origin = origin; recipient = recipient; channel = channel; bytes = message; latency = latency; should_deliver = should_deliver })) (map completed_of completions.items) (planned P.cmp self.new.kept)) }
+        ensures in_range { IfOk result (λ completions. KeepsRange P.cmp (planned P.cmp self.old.kept) (call_enqueue now (record { origin = origin; recipient = recipient; channel = channel; bytes = message; latency = latency; should_deliver = should_deliver })) (planned P.cmp self.new.kept)) }
+        ensures conserved { IfOk result (λ completions. ∥ IsConserved P.cmp (planned P.cmp self.old.kept) ((record { origin = origin; recipient = recipient; channel = channel; bytes = message; latency = latency; should_deliver = should_deliver }) ∷ []) (map completed_of completions.items) (planned P.cmp self.new.kept) ∥₁) }
+        ensures rated { IfOk result (λ completions. ∥ IsRated P.cmp (planned P.cmp self.new.kept) ∥₁) }
         ensures refused { IfErr result (MayBeRefused P.cmp (planned P.cmp self.old.kept) (call_enqueue now (record { origin = origin; recipient = recipient; channel = channel; bytes = message; latency = latency; should_deliver = should_deliver }))) }
+        ensures cause { IfErr result (IsRefusedInSimulation P.cmp (planned P.cmp self.old.kept) (call_enqueue now (record { origin = origin; recipient = recipient; channel = channel; bytes = message; latency = latency; should_deliver = should_deliver }))) }
         ensures unchanged { OnErr result (self.new ≡ self.old) }
     {
         let mut working = self.kept.clone()?;
@@ -144,27 +267,64 @@ impl<P: Peer> State<P> {
         Ok(completions)
     }
 
-    /// Handles all events up to `now`, in nanoseconds since the start, each at its moment, and starts
-    /// what is ready then. Answers what completes, in order.
+    /// Lets time go on to `now`, in nanoseconds since the start, and answers what completes up to
+    /// that moment and at it, in order.
     ///
-    /// Refused, the scheduler stays as it was: with `OutOfMemory` where memory was refused, with
-    /// `NumberTooLarge` where an amount, a time or a rate on the way does not fit, with
-    /// `MomentTooLate` where a delivered message would arrive past the last moment, and with
-    /// `FlowIdsUsedUp` where a message would start and no flow id is left.
+    /// Each event on the way is handled at its own moment: messages finish, and others start.
+    ///
+    /// Where moments never go back, and caps change and messages are sent only before the next
+    /// event, it does what the simulation does: the same messages complete in the same order, to
+    /// arrive at the same moments. There an advance to any moment on the way, and then on,
+    /// completes the same (clause `split`), and an origin sends no more than its egress cap lets go
+    /// in the time between (`within_caps`).
+    ///
+    /// # Errors
+    ///
+    /// The scheduler then stays as it was.
+    ///
+    /// - `OutOfMemory` where memory was refused, for a list or for the clone of a peer.
+    /// - `NumberTooLarge` where what is left of a message, the time that it takes or, with more
+    ///   than sixteen in flight, a fair rate does not fit in fractions of 128 bits. In the range
+    ///   (see `State`) it never comes.
+    /// - `MomentTooLate` where a message completes and would arrive past the last moment,
+    ///   18446744073709551615.
+    /// - `FlowIdsUsedUp` where a message would start and no flow id is left.
     pub fn advance(&mut self, now: u64) -> Result<Vec<Completion<P>>, Error>
         ensures goes { IfOk result (λ completions. Goes P.cmp (planned P.cmp self.old.kept) (call_advance now) (map completed_of completions.items) (planned P.cmp self.new.kept)) }
+        ensures simulated { IfOk result (λ completions. IsSimulated P.cmp (planned P.cmp self.old.kept) (call_advance now) (map completed_of completions.items) (planned P.cmp self.new.kept)) }
+        ensures in_range { IfOk result (λ completions. KeepsRange P.cmp (planned P.cmp self.old.kept) (call_advance now) (planned P.cmp self.new.kept)) }
+        ensures conserved { IfOk result (λ completions. ∥ IsConserved P.cmp (planned P.cmp self.old.kept) [] (map completed_of completions.items) (planned P.cmp self.new.kept) ∥₁) }
+        ensures rated { IfOk result (λ completions. ∥ IsRated P.cmp (planned P.cmp self.new.kept) ∥₁) }
+        ensures split { IfOk result (λ completions. IsSplitAnywhere P.cmp (planned P.cmp self.old.kept) now (map completed_of completions.items) (planned P.cmp self.new.kept)) }
+        ensures within_caps { IfOk result (λ completions. KeepsToCaps P.cmp (planned P.cmp self.old.kept) now (planned P.cmp self.new.kept)) }
         ensures refused { IfErr result (MayBeRefused P.cmp (planned P.cmp self.old.kept) (call_advance now)) }
+        ensures cause { IfErr result (IsRefusedInSimulation P.cmp (planned P.cmp self.old.kept) (call_advance now)) }
         ensures unchanged { OnErr result (self.new ≡ self.old) }
     {
         Ok(self.advance_counted(now)?.0)
     }
 
-    /// As `advance`, with the number of events: finishes and starts, each of one moment. There are at
-    /// most twice as many as messages wait and once as many as are in flight.
+    /// As `advance`, with the number of events that it handled: finishes and starts, each of one
+    /// moment. There are at most twice as many as messages waited and once as many as were in
+    /// flight.
+    ///
+    /// Where moments never go back, and caps change and messages are sent only before the next
+    /// event, it does what the simulation does, as `advance`.
+    ///
+    /// # Errors
+    ///
+    /// Those of `advance`, and the scheduler then stays as it was.
     pub fn advance_counted(&mut self, now: u64) -> Result<(Vec<Completion<P>>, u128), Error>
         ensures advances { IfOk result (λ answer. GoesCounted P.cmp now (planned P.cmp self.old.kept) answer.1 (map completed_of answer.0.items) (planned P.cmp self.new.kept)) }
         ensures few { IfOk result (λ answer. answer.1 ≤ 2 * length (planned P.cmp self.old.kept).waiting + length (planned P.cmp self.old.kept).sending) }
+        ensures simulated { IfOk result (λ answer. IsSimulated P.cmp (planned P.cmp self.old.kept) (call_advance now) (map completed_of answer.0.items) (planned P.cmp self.new.kept)) }
+        ensures in_range { IfOk result (λ answer. KeepsRange P.cmp (planned P.cmp self.old.kept) (call_advance now) (planned P.cmp self.new.kept)) }
+        ensures conserved { IfOk result (λ answer. ∥ IsConserved P.cmp (planned P.cmp self.old.kept) [] (map completed_of answer.0.items) (planned P.cmp self.new.kept) ∥₁) }
+        ensures rated { IfOk result (λ answer. ∥ IsRated P.cmp (planned P.cmp self.new.kept) ∥₁) }
+        ensures split { IfOk result (λ answer. IsSplitAnywhere P.cmp (planned P.cmp self.old.kept) now (map completed_of answer.0.items) (planned P.cmp self.new.kept)) }
+        ensures within_caps { IfOk result (λ answer. KeepsToCaps P.cmp (planned P.cmp self.old.kept) now (planned P.cmp self.new.kept)) }
         ensures refused { IfErr result (MayBeRefused P.cmp (planned P.cmp self.old.kept) (call_advance now)) }
+        ensures cause { IfErr result (IsRefusedInSimulation P.cmp (planned P.cmp self.old.kept) (call_advance now)) }
         ensures unchanged { OnErr result (self.new ≡ self.old) }
     {
         let mut working = self.kept.clone()?;
@@ -173,10 +333,15 @@ impl<P: Peer> State<P> {
         Ok((completions, events))
     }
 
-    /// The moment of the next event, in nanoseconds since the start: of the next finish or start
-    /// that is planned, whichever comes first. It takes no memory and is never refused.
+    /// The moment of the next event, in nanoseconds since the start: the next at which a message
+    /// finishes or starts, unless a cap changes or a message is sent before. `None` where none
+    /// comes up to the last moment, 18446744073709551615.
+    ///
+    /// It takes no memory, changes nothing and is never refused. Where moments never went back, and
+    /// caps changed and messages were sent only before the next event, it is the simulation's.
     pub fn next(&self) -> Option<u64>
-        ensures { result ≡ next_planned (planned P.cmp self.now.kept) }
+        ensures planned { result ≡ next_planned (planned P.cmp self.now.kept) }
+        ensures simulated { IsNextInSimulation P.cmp (planned P.cmp self.now.kept) result }
     {
         self.kept.next_event()
     }

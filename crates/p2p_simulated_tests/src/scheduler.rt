@@ -1,6 +1,11 @@
 //! The scheduler through its public calls.
 mod ends;
+mod lists;
+mod long;
+mod numbers;
+mod peers;
 mod rows;
+mod starts;
 mod vectors;
 mod wide;
 
@@ -96,6 +101,13 @@ fn begin_from(alloc: Global, first: u64) -> Play {
     }
 }
 
+/// A scheduler with a cap on what peer 1 sends.
+fn capped(rt: &impl Abort, alloc: Global, egress: usize) -> Play {
+    let mut p = begin(alloc);
+    p.limits(rt, 0, 1, Some(egress), None);
+    p
+}
+
 fn contents(alloc: Global, place: usize, length: usize) -> Result<Bytes, AllocError> {
     let bytes = vec![in alloc; (place % 256) as u8; length]?;
     Ok(Bytes::from_vec(bytes)?)
@@ -139,25 +151,35 @@ impl Play {
         self.state.advance(now)
     }
 
+    /// Sends a message, and compares what is answered.
+    fn sends(&mut self, rt: &impl Abort, parcel: Parcel, wanted: &[Wanted]) {
+        let answer = self.send(parcel);
+        self.expect(rt, answer, wanted);
+    }
+
+    /// Sets the caps of a peer, at which nothing completes.
+    fn limits(
+        &mut self,
+        rt: &impl Abort,
+        now: u64,
+        peer: u64,
+        egress: Option<usize>,
+        ingress: Option<usize>,
+    ) {
+        let answer = self.limit(now, peer, egress, ingress);
+        self.expect(rt, answer, &[]);
+    }
+
+    /// Advances, and compares what is answered.
+    fn advances(&mut self, rt: &impl Abort, now: u64, wanted: &[Wanted]) {
+        let answer = self.advance(now);
+        self.expect(rt, answer, wanted);
+    }
+
     /// Compares an answer, each completion in every field.
     fn expect(&self, rt: &impl Abort, answer: Answer, wanted: &[Wanted]) {
         let completions = answer.expect(rt, "a call is refused");
-        assert_eq!(rt; completions.len(), wanted.len());
-        for (completion, (place, deliver_at)) in completions.iter().zip(wanted) {
-            let sent = self.sent.get(*place).expect(rt, "nothing was sent there");
-            assert_eq!(rt; completion.origin, sent.origin);
-            assert_eq!(rt; completion.recipient, sent.recipient);
-            assert_eq!(rt; completion.channel, *place as u64);
-            let length = completion.message.len();
-            assert_eq!(rt; length, sent.length);
-            let whole = completion
-                .message
-                .as_slice()
-                .iter()
-                .all(|byte| *byte == (*place % 256) as u8);
-            assert!(rt; whole, "another message's bytes");
-            assert_eq!(rt; completion.deliver_at, *deliver_at);
-        }
+        expect_completions(rt, &self.sent, &completions, wanted);
     }
 
     fn expect_next(&self, rt: &impl Abort, next: Option<u64>) {
@@ -183,6 +205,31 @@ impl Play {
             .expect(rt, "an advance is refused");
         assert_eq!(rt; counted, events);
         self.expect(rt, Ok(completions), wanted);
+    }
+}
+
+/// Compares completions of messages that were sent, each in every field.
+fn expect_completions(
+    rt: &impl Abort,
+    sent: &[Sent],
+    completions: &[Completion<u64>],
+    wanted: &[Wanted],
+) {
+    assert_eq!(rt; completions.len(), wanted.len());
+    for (completion, (place, deliver_at)) in completions.iter().zip(wanted) {
+        let sent = sent.get(*place).expect(rt, "nothing was sent there");
+        assert_eq!(rt; completion.origin, sent.origin);
+        assert_eq!(rt; completion.recipient, sent.recipient);
+        assert_eq!(rt; completion.channel, *place as u64);
+        let length = completion.message.len();
+        assert_eq!(rt; length, sent.length);
+        let whole = completion
+            .message
+            .as_slice()
+            .iter()
+            .all(|byte| *byte == (*place % 256) as u8);
+        assert!(rt; whole, "another message's bytes");
+        assert_eq!(rt; completion.deliver_at, *deliver_at);
     }
 }
 

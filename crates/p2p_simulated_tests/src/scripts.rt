@@ -1,4 +1,6 @@
 //! Scripts, what they print, and how they end.
+mod schedules;
+
 use p2p_simulated::linkrun::{Outcome, run};
 use std::io;
 use std::io::{ErrorKind, Read, Write};
@@ -104,6 +106,17 @@ fn lines_of_the_language(rt: HostRuntime) {
         "ingress 0 0\n",
         "ingress 18446744073709551615 340282366920938463463374607431768211455\n",
         "ingress 1 -",
+        "link 0 0 0\n",
+        "link 18446744073709551615 18446744073709551615 340282366920938463463374607431768211455\n",
+        "link 1 2 -",
+        "limit 0 0 0 0\n",
+        "limit 0 1 - -\n",
+        "limit 18446744073709551615 18446744073709551615 18446744073709551615 18446744073709551615\n",
+        "limitlink 0 0 0 0\n",
+        "limitlink 0 1 1 -\n",
+        "limitlink 18446744073709551615 18446744073709551615 18446744073709551615 18446744073709551615",
+        "advance 0\n",
+        "advance 18446744073709551615",
     ] {
         expect_silence(&rt, script, Outcome::Whole);
     }
@@ -125,12 +138,23 @@ fn lines_out_of_the_language(rt: HostRuntime) {
         "Rates",
         "rate",
         "ratess",
-        "limit 0 1 1 -",
-        "enqueue 0 1 2 0 1 0 1",
-        "advance 0",
-        "next",
-        "link 1 2 3",
-        "limitlink 0 1 2 3",
+        "link",
+        "link 1 2",
+        "link 1 2 3 4",
+        "limit",
+        "limit 0 1 1",
+        "limit 0 1 1 1 1",
+        "limitlink 0 1 2",
+        "limitlink 0 1 2 3 4",
+        "enqueue 0 1 2 0 1 0",
+        "enqueue 0 1 2 0 1 0 1 1",
+        "advance",
+        "advance 0 0",
+        "next 0",
+        "Next",
+        "nexts",
+        "limits 0 1 1 -",
+        "stop",
         // Spaces.
         " ",
         "  ",
@@ -172,6 +196,18 @@ fn lines_out_of_the_language(rt: HostRuntime) {
         "egress - 1",
         "ingress 007 1",
         "ingress 1 09",
+        "link 1 2 03",
+        "limit 00 1 1 1",
+        "limit 0 1 +1 1",
+        "limit 0 1 1 --",
+        "limit - 1 1 1",
+        "limitlink 0 1 2 03",
+        "enqueue 0 1 2 0 01 0 1",
+        "enqueue 0 1 2 0 - 0 1",
+        "enqueue 0 1 2 0 1 - 1",
+        "enqueue 0 1 2 0 1 0 01",
+        "advance 07",
+        "advance -",
         // Numbers just past their ranges.
         "flow 18446744073709551616 1 2 1",
         "flow 1 18446744073709551616 2 1",
@@ -182,6 +218,25 @@ fn lines_out_of_the_language(rt: HostRuntime) {
         "ingress 18446744073709551616 1",
         "ingress 1 340282366920938463463374607431768211456",
         "egress 1 1000000000000000000000000000000000000000",
+        "link 18446744073709551616 2 1",
+        "link 1 18446744073709551616 1",
+        "link 1 2 340282366920938463463374607431768211456",
+        "limit 18446744073709551616 1 1 1",
+        "limit 0 18446744073709551616 1 1",
+        "limit 0 1 18446744073709551616 1",
+        "limit 0 1 1 18446744073709551616",
+        "limitlink 18446744073709551616 1 2 1",
+        "limitlink 0 18446744073709551616 2 1",
+        "limitlink 0 1 18446744073709551616 1",
+        "limitlink 0 1 2 18446744073709551616",
+        "enqueue 18446744073709551616 1 2 0 1 0 1",
+        "enqueue 0 18446744073709551616 2 0 1 0 1",
+        "enqueue 0 1 18446744073709551616 0 1 0 1",
+        "enqueue 0 1 2 18446744073709551616 1 0 1",
+        "enqueue 0 1 2 0 67108865 0 1",
+        "enqueue 0 1 2 0 1 18446744073709551616 1",
+        "enqueue 0 1 2 0 1 0 2",
+        "advance 18446744073709551616",
     ] {
         expect_silence(&rt, line, Outcome::BadLine(1));
     }
@@ -189,11 +244,11 @@ fn lines_out_of_the_language(rt: HostRuntime) {
 
 #[test]
 fn a_bad_line_ends_the_run(rt: HostRuntime) {
-    expect_silence(&rt, "flow 1 1 2 1\nnext\n", Outcome::BadLine(2));
+    expect_silence(&rt, "flow 1 1 2 1\nstop\n", Outcome::BadLine(2));
     expect_silence(&rt, "flow 3 1 2 2\n", Outcome::BadLine(1));
     expect_silence(
         &rt,
-        "\n\nflow 1 1 2 1\n\nnext\nrates\n",
+        "\n\nflow 1 1 2 1\n\nstop\nrates\n",
         Outcome::BadLine(5),
     );
     expect_silence(
@@ -257,7 +312,7 @@ fn lines_are_counted(rt: HostRuntime) {
         let mut input = Long {
             byte: b'\n',
             times,
-            rest: b"next",
+            rest: b"stop",
         };
         let mut printed = Vec::new(rt.alloc());
         assert_eq!(rt; run(rt.alloc(), &mut input, &mut printed), outcome);
@@ -303,7 +358,7 @@ fn broken(rt: &impl AllocGlobal, script: &[u8], has_end: bool, output: &mut Vec<
 
 #[test]
 fn failing_reads_are_faults(rt: HostRuntime) {
-    for script in ["", "flow 1 1 2 1\n", "flow 1 1 2 1", "\n\nnext"] {
+    for script in ["", "flow 1 1 2 1\n", "flow 1 1 2 1", "\n\nstop"] {
         let mut printed = Vec::new(rt.alloc());
         assert_eq!(rt;
             broken(&rt, script.as_bytes(), false, &mut printed),
@@ -316,8 +371,8 @@ fn failing_reads_are_faults(rt: HostRuntime) {
         ("", Outcome::Whole),
         ("flow 1 1 2 1\n", Outcome::Whole),
         ("flow 1 1 2 1", Outcome::Whole),
-        ("\n\nnext", Outcome::BadLine(3)),
-        ("\nnext\n", Outcome::BadLine(2)),
+        ("\n\nstop", Outcome::BadLine(3)),
+        ("\nstop\n", Outcome::BadLine(2)),
     ] {
         let mut printed = Vec::new(rt.alloc());
         assert_eq!(rt;
@@ -389,13 +444,13 @@ fn outcome_into(rt: &impl AllocGlobal, script: &str, room: usize, can_flush: boo
 
 #[test]
 fn failing_writes_are_faults(rt: HostRuntime) {
-    let script = "flow 5 1 2 1\nrates\nnext\n";
+    let script = "flow 5 1 2 1\nrates\nstop\n";
     assert_eq!(rt; outcome_into(&rt, script, 17, true), Outcome::BadLine(3));
     assert_eq!(rt; outcome_into(&rt, script, 16, true), Outcome::InputOutput);
     assert_eq!(rt; outcome_into(&rt, script, 0, true), Outcome::InputOutput);
     assert_eq!(rt; outcome_into(&rt, script, 17, false), Outcome::InputOutput);
-    assert_eq!(rt; outcome_into(&rt, "next", 0, true), Outcome::BadLine(1));
-    assert_eq!(rt; outcome_into(&rt, "next", 0, false), Outcome::InputOutput);
+    assert_eq!(rt; outcome_into(&rt, "stop", 0, true), Outcome::BadLine(1));
+    assert_eq!(rt; outcome_into(&rt, "stop", 0, false), Outcome::InputOutput);
     assert_eq!(rt; outcome_into(&rt, "", 0, true), Outcome::Whole);
     assert_eq!(rt; outcome_into(&rt, "", 0, false), Outcome::InputOutput);
 }

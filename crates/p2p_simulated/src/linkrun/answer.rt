@@ -1,11 +1,12 @@
 //! What a script prints.
-ghost use Rattle.std.specs.Prelude.{◌≡◌, IfOk, IfErr, OnOk};
+ghost use Rattle.std.specs.Prelude.{◌≡◌, [], ◌∷◌, ◌++◌, IfOk, IfErr, OnOk};
 ghost use Rattle.std.specs.Io.KnownBytes.{Appends};
-ghost use Rattle.p2p_simulated.specs.Answer.{rate_line, rates_text, answer_text, refusal_line};
+ghost use Rattle.p2p_simulated.specs.Answer.{rate_line, rates_text, moment_word, done_line, done_text, next_line, answer_text, refusal_line};
 ghost use Rattle.p2p_simulated.specs.Refusal.{refusal_number};
 
 use crate::bandwidth::Rate;
 use crate::error::Error;
+use crate::transmitter::Completion;
 use std::collections::BTreeMap;
 use std::io;
 use std::io::Write;
@@ -16,6 +17,10 @@ pub(crate) enum Answer {
     Nothing,
     /// Rates in bytes a second, by the ids of the flows.
     Rates(BTreeMap<u64, Rate>),
+    /// What became of messages, in order.
+    Done(Vec<Completion<u64>>),
+    /// The moment of the scheduler's next event, in nanoseconds since the start.
+    Next(Option<u64>),
 }
 
 /// Prints what a command answered, or why it was refused, a line each.
@@ -26,6 +31,8 @@ pub(crate) fn print<W: Write>(output: &mut W, answer: Result<Answer, Error>) -> 
     match answer {
         Ok(Answer::Nothing) => Ok(()),
         Ok(Answer::Rates(rates)) => print_rates(output, &rates),
+        Ok(Answer::Done(completions)) => print_completions(output, &completions),
+        Ok(Answer::Next(moment)) => print_next(output, moment),
         Err(error) => {
             let number = number_of(error);
             writeln!(output, "refused {number} {error}")
@@ -54,6 +61,46 @@ fn print_rate<W: Write>(output: &mut W, id: u64, rate: Rate) -> io::Result<()>
             let denominator = ratio.denominator();
             writeln!(output, "rate {id} {numerator}/{denominator}")
         }
+    }
+}
+
+/// Prints what became of messages, a line each.
+fn print_completions<W: Write>(output: &mut W, completions: &[Completion<u64>]) -> io::Result<()>
+    ensures { OnOk result (Appends (W.contents output.old) (W.contents output.new) (done_text completions.now)) }
+{
+    for completion in completions {
+        print_completion(output, completion)?;
+    }
+    Ok(())
+}
+
+/// Prints what became of a message.
+fn print_completion<W: Write>(output: &mut W, completion: &Completion<u64>) -> io::Result<()>
+    ensures { OnOk result (Appends (W.contents output.old) (W.contents output.new) (done_line completion.now)) }
+{
+    let origin = completion.origin;
+    let recipient = completion.recipient;
+    let channel = completion.channel;
+    let length = completion.message.len();
+    write!(output, "done {origin} {recipient} {channel} {length} ")?;
+    print_moment(output, completion.deliver_at)
+}
+
+/// Prints the moment of the next event.
+fn print_next<W: Write>(output: &mut W, moment: Option<u64>) -> io::Result<()>
+    ensures { OnOk result (Appends (W.contents output.old) (W.contents output.new) (next_line moment)) }
+{
+    write!(output, "next ")?;
+    print_moment(output, moment)
+}
+
+/// Prints a moment at the end of a line, or that there is none.
+fn print_moment<W: Write>(output: &mut W, moment: Option<u64>) -> io::Result<()>
+    ensures { OnOk result (Appends (W.contents output.old) (W.contents output.new) (moment_word moment ++ 10 ∷ [])) }
+{
+    match moment {
+        Some(moment) => writeln!(output, "{moment}"),
+        None => writeln!(output, "-"),
     }
 }
 

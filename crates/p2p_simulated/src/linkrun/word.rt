@@ -2,9 +2,12 @@
 ghost use Rattle.std.specs.Prelude.{◌≡◌, ◌↔◌, ℕ, ◌^◌, ◌<◌, ◌++◌, [], ◌∷◌, Some, IfNone, option_to_list};
 ghost use Rattle.std.specs.Option.{option_copied};
 ghost use Rattle.std.specs.Str.Iter.{split_pattern};
-ghost use Rattle.p2p_simulated.specs.Script.{Takes, number_word, cap_word, flag_word, IsNumberInRange, IsCapInRange};
+ghost use Rattle.p2p_simulated.specs.Script.{Takes, number_word, cap_word, flag_word, IsNumberInRange, IsCapInRange, IsSmallCapInRange, IsLengthInRange};
 
 use std::str::Split;
+
+/// The most bytes that a message has.
+const MOST_LENGTH: usize = 67_108_864;
 
 /// The words of a line that are not taken yet. They stand with one space between each two.
 #[derive(Drop)]
@@ -49,6 +52,27 @@ impl<'a> Words<'a> {
             return Some(None);
         }
         Some(Some(number(word)?))
+    }
+
+    /// Takes the next word, a cap in bytes a second of 64 bits or `-` for none.
+    pub(crate) fn small_cap(&mut self) -> Option<Option<usize>>
+        ensures { Takes (λ cap. cap_word cap ∷ []) IsSmallCapInRange (words_left self.old) result (words_left self.new) }
+    {
+        match self.cap()? {
+            None => Some(None),
+            Some(cap) => Some(Some(usize::try_from(cap).ok()?)),
+        }
+    }
+
+    /// Takes the next word, the length of a message.
+    pub(crate) fn length(&mut self) -> Option<usize>
+        ensures { Takes (λ n. number_word n ∷ []) IsLengthInRange (words_left self.old) result (words_left self.new) }
+    {
+        let length = usize::try_from(number(self.next()?)?).ok()?;
+        if length > MOST_LENGTH {
+            return None;
+        }
+        Some(length)
     }
 
     /// Takes the next word, `0` or `1`.

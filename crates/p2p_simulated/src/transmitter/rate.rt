@@ -8,25 +8,15 @@ ghost use Rattle.p2p_simulated.specs.declared.bandwidth.Flow.{Flow as AnyFlow};
 ghost use Rattle.p2p_simulated.specs.declared.transmitter.progress.Progress.{Progress as AnyProgress};
 ghost use Rattle.p2p_simulated.specs.Ratio.{amount_of};
 ghost use Rattle.p2p_simulated.specs.Time.{TimeFits};
-ghost use Rattle.p2p_simulated.specs.WorldPlanned.{IsLeastMoment, SomeSpentAt, earlier as earlier_of};
+ghost use Rattle.p2p_simulated.specs.WorldPlanned.{IsLeastMoment, SomeSpentAt};
 ghost use Rattle.p2p_simulated.specs.Flights.{sending_of, rated_by};
 ghost use Rattle.p2p_simulated.specs.Progress.{IsSameSent};
 
+use super::event::earlier;
 use super::progress::Progress;
 use crate::bandwidth::{Flow, Rate};
 use crate::error::Error;
 use std::collections::BTreeMap;
-
-/// The earlier of two moments, where there are any.
-fn earlier(first: Option<u64>, second: Option<u64>) -> Option<u64>
-    ensures { result ≡ earlier_of first second }
-{
-    match (first, second) {
-        (Some(first), Some(second)) => Some(first.min(second)),
-        (Some(first), None) => Some(first),
-        (None, second) => second,
-    }
-}
 
 /// The rate of an id, no limit where it has none.
 fn rate_of(by_id: &BTreeMap<u64, Rate>, id: u64) -> Rate

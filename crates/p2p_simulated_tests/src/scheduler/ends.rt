@@ -117,3 +117,34 @@ fn of_two_faults_the_first_is_answered(rt: HostRuntime) {
         p.expect_next(&rt, Some(LAST));
     }
 }
+
+#[test]
+fn each_start_takes_an_id(rt: HostRuntime) {
+    let mut p = begin_from(rt.alloc(), LAST - 3);
+    p.sends(&rt, from_to(1, 2), &[(0, Some(0))]);
+    p.limits(&rt, 0, 1, Some(1000), None);
+    for place in 1..4usize {
+        p.sends(&rt, from_to(1, 2).of(0), &[(place, Some(0))]);
+    }
+    let answer = p.send(from_to(1, 2).of(0));
+    expect_refused(&rt, answer, Error::FlowIdsUsedUp);
+    p.expect_next(&rt, None);
+}
+
+#[test]
+fn a_refusal_takes_back_the_events_before_it(rt: HostRuntime) {
+    let (first, second) = (SECOND / 10, SECOND / 5);
+    let mut p = begin_from(rt.alloc(), LAST - 2);
+    p.limits(&rt, 0, 1, Some(1000), None);
+    for _ in 0..3 {
+        p.sends(&rt, from_to(1, 2).of(100), &[]);
+    }
+    let answer = p.advance(second);
+    expect_refused(&rt, answer, Error::FlowIdsUsedUp);
+    p.expect_next(&rt, Some(first));
+    p.advances(&rt, first, &[(0, Some(first))]);
+    p.expect_next(&rt, Some(second));
+    let answer = p.advance(second);
+    expect_refused(&rt, answer, Error::FlowIdsUsedUp);
+    p.expect_next(&rt, Some(second));
+}

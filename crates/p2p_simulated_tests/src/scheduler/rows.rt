@@ -229,22 +229,6 @@ fn a_moment_that_goes_back_counts_as_no_time(rt: HostRuntime) {
 }
 
 #[test]
-fn a_long_queue_empties_in_one_call(rt: HostRuntime) {
-    let mut p = begin(rt.alloc());
-    let answer = p.limit(0, 1, Some(1000), None);
-    p.expect(&rt, answer, &[]);
-    let mut wanted = Vec::new(rt.alloc());
-    for place in 0..2001usize {
-        let answer = p.send(from_to(1, 2).of(100));
-        p.expect(&rt, answer, &[]);
-        wanted.push((place, Some(0))).expect(&rt, "no room");
-    }
-    let answer = p.limit(0, 1, None, None);
-    p.expect(&rt, answer, &wanted);
-    p.expect_next(&rt, None);
-}
-
-#[test]
 fn a_start_without_an_id_is_refused(rt: HostRuntime) {
     let mut p = begin_from(rt.alloc(), u64::MAX - 1);
     let answer = p.limit(0, 1, Some(1000), None);

@@ -1,16 +1,6 @@
 //! Schedules of a few messages, walked from event to event.
-use super::{MILLI, Play, SECOND, begin, expect_refused, from_to};
+use super::{MILLI, SECOND, begin, capped, expect_refused, from_to};
 use p2p_simulated::error::Error;
-use std::alloc::Global;
-use std::process::Abort;
-
-/// A scheduler with a cap on what peer 1 sends.
-fn capped(rt: &impl Abort, alloc: Global, egress: usize) -> Play {
-    let mut p = begin(alloc);
-    let answer = p.limit(0, 1, Some(egress), None);
-    p.expect(rt, answer, &[]);
-    p
-}
 
 #[test]
 fn later_messages_wait_for_earlier_arrivals(rt: HostRuntime) {

@@ -19,7 +19,7 @@ use Rattle.p2p_simulated.proofs.replay.replay.Goals as goal
 
 pub loop-call-init : goal.loop-call-init
 loop-call-init g c = begins g.P.Ord.cmp g.met.P.Ord.total (new_planned 0) (planned g.P.Ord.cmp c.new-state.result.kept) (map call_of c.args.calls.now) (map reply_of c.in_ok-replies.replies.items) (vec_len c.in_ok-replies.replies) (vec_capacity c.in_ok-replies.replies)
-    (ap (map reply_of) c.in_ok-replies.ensures.items) c.in_ok-replies.ensures.len (subst (λ n. n ≤ vec_capacity c.in_ok-replies.replies) (sym (length-map c.args.calls.now call_of)) c.in_ok-replies.ensures.capacity) c.new-state.ensures
+    (ap (map reply_of) c.in_ok-replies.ensures.items) c.in_ok-replies.ensures.len (subst (λ n. n ≤ vec_capacity c.in_ok-replies.replies) (sym (length-map c.args.calls.now call_of)) c.in_ok-replies.ensures.capacity) c.new-state.ensures.planned
 
 pub unwrap-requires : goal.unwrap-requires
 unwrap-requires g c = c.push.ensures.succeeds (has_room g.P.Ord.cmp g.met.P.Ord.total (new_planned 0) (map call_of c.args.calls.now) c.loop-call.call-index (map reply_of c.loop-call.replies.items) (vec_len c.loop-call.replies) (vec_capacity c.loop-call.replies) (planned g.P.Ord.cmp c.loop-call.state.kept)

@@ -1,0 +1,76 @@
+-- What a scheduler promises of a call, from what it keeps.
+use Rattle.std.proofs.Common.{◌≡◌, ℕ, ◌<◌, ◌≤◌, ◌^◌, List, [], ◌∷◌, length, Option, Some, refl, sym, subst}
+use Rattle.std.specs.declared.cmp.Ordering.{Ordering}
+use Rattle.std.specs.Cmp.{IsTotalOrder}
+use Rattle.std.proofs.Math.Logic.{∥∥₁_map}
+use Rattle.p2p_simulated.specs.declared.error.Error.{Error}
+use Rattle.p2p_simulated.specs.World.{Completed, goes, new_world}
+use Rattle.p2p_simulated.specs.WorldCalls.{Call, call_advance, moment_of}
+use Rattle.p2p_simulated.specs.WorldOrder.{enqueued}
+use Rattle.p2p_simulated.specs.WorldPlanned.{Planned, IsRated, new_planned, next_event}
+use Rattle.p2p_simulated.specs.WorldEvents.{Obeys}
+use Rattle.p2p_simulated.specs.WorldRefusals.{MayBeRefused}
+use Rattle.p2p_simulated.specs.WorldStands.{StandsFor, IsInRange}
+use Rattle.p2p_simulated.specs.SamePlanned.{IsSamePlanned, Goes}
+use Rattle.p2p_simulated.specs.Orderly.{IsOrderly}
+use Rattle.p2p_simulated.specs.Conserved.{IsConserved}
+use Rattle.p2p_simulated.specs.Simulated.{IsSimulated, IsNextInSimulation, KeepsRange, IsRefusedInSimulation, IsSplitAnywhere, KeepsToCaps}
+use Rattle.p2p_simulated.proofs.World.Agreeing.{new_in_range}
+use Rattle.p2p_simulated.proofs.World.BytesStand.{advance_keeps_to_caps}
+use Rattle.p2p_simulated.proofs.World.ConservedAlike.{goes_conserved}
+use Rattle.p2p_simulated.proofs.World.Limit.{new_stands}
+use Rattle.p2p_simulated.proofs.World.Orderly.{new_orderly, obeys_orderly}
+use Rattle.p2p_simulated.proofs.World.OrderlyAlike.{orderly_same, goes_orderly}
+use Rattle.p2p_simulated.proofs.World.Simulated.{moment_in_time, calls_simulated, call_keeps_range, refusals_simulated, next_in_simulation}
+use Rattle.p2p_simulated.proofs.World.SplitAnywhere.{advance_split_anywhere}
+
+module _ {P : Type 0} (cmp : P → P → Ordering) (order : IsTotalOrder cmp) where
+  -- ---- a new scheduler
+
+  pub new_one_stands : (p : Planned P) (id : ℕ) → p ≡ new_planned id → StandsFor cmp p (new_world id)
+  new_one_stands p id is = subst (λ (q : Planned P). StandsFor cmp q (new_world id)) (sym is) (new_stands cmp order id)
+
+  pub new_one_in_range : (p : Planned P) (id : ℕ) → p ≡ new_planned id → id < 2 ^ 64 → (pairs : List (P × P)) → length pairs ≤ 16 → IsInRange cmp pairs p
+  new_one_in_range p id is fits pairs sixteen = subst (IsInRange cmp pairs) (sym is) (new_in_range cmp order pairs id sixteen fits)
+
+  pub new_one_orderly : (p : Planned P) (id : ℕ) → p ≡ new_planned id → ∥ IsOrderly cmp p ∥₁
+  new_one_orderly p id is = ∣ subst (IsOrderly cmp) (sym is) (new_orderly cmp order id) ∣₁
+
+  -- ---- a call that goes
+
+  -- a call on the copy leaves what is planned in order
+  pub orderly_on : (p q r : Planned P) (call : Call P) (cs : List (Completed P)) → IsSamePlanned cmp p q → ∥ IsOrderly cmp p ∥₁ → Obeys cmp q call (goes cs r) → ∥ IsOrderly cmp r ∥₁
+  orderly_on p q r call cs same orderly obeys = ∥∥₁_map orderly (λ h. obeys_orderly cmp order q r call cs obeys (orderly_same cmp order p q same h))
+
+  -- what is promised of a call that goes from p to q
+  pub record Promised (p : Planned P) (call : Call P) (cs : List (Completed P)) (q : Planned P) : Type 0 where
+    pub simulated : IsSimulated cmp p call cs q
+    pub in_range : KeepsRange cmp p call q
+    pub conserved : ∥ IsConserved cmp p (enqueued (call ∷ [])) cs q ∥₁
+    pub rated : ∥ IsRated cmp q ∥₁
+
+  pub promised_if : (p q : Planned P) (call : Call P) (now : ℕ) (cs : List (Completed P)) → moment_of call ≡ Some now → now < 2 ^ 64 → ∥ IsOrderly cmp p ∥₁ → Goes cmp p call cs q → Promised p call cs q
+  promised_if p q call now cs at fits orderly went = record {
+    simulated = calls_simulated cmp order p q call cs (moment_in_time cmp order call now at fits) went;
+    in_range = call_keeps_range cmp order p q call cs went;
+    conserved = ∥∥₁_map orderly (goes_conserved cmp order p q call cs went);
+    rated = ∥∥₁_map orderly (λ h. (goes_orderly cmp order p q call cs went h).rated);
+  }
+
+  -- ---- an advance
+
+  pub split_on : (p q : Planned P) (now : ℕ) (cs : List (Completed P)) → now < 2 ^ 64 → Goes cmp p (call_advance now) cs q → IsSplitAnywhere cmp p now cs q
+  split_on p q now cs fits went = advance_split_anywhere cmp order p q now cs (moment_in_time cmp order (call_advance now) now refl fits now refl) went
+
+  pub within_caps_on : (p q : Planned P) (now : ℕ) (cs : List (Completed P)) → now < 2 ^ 64 → Goes cmp p (call_advance now) cs q → KeepsToCaps cmp p now q
+  within_caps_on p q now cs fits went = advance_keeps_to_caps cmp order p q now cs (moment_in_time cmp order (call_advance now) now refl fits now refl) went
+
+  -- ---- a call that is refused
+
+  pub cause_of : (p : Planned P) (call : Call P) (now : ℕ) (why : Error) → moment_of call ≡ Some now → now < 2 ^ 64 → MayBeRefused cmp p call why → IsRefusedInSimulation cmp p call why
+  cause_of p call now why at fits may = refusals_simulated cmp order p call why (moment_in_time cmp order call now at fits) may
+
+  -- ---- the next event
+
+  pub next_simulated : (p : Planned P) (next : Option ℕ) → next ≡ next_event p → IsNextInSimulation cmp p next
+  next_simulated p next is = subst (IsNextInSimulation cmp p) (sym is) (next_in_simulation cmp order p)
