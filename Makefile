@@ -18,13 +18,14 @@ test:
 
 # Runs each example and compares what it prints.
 examples: bin/linkrun
-	@for script in examples/*.link; do \
+	@for script in examples/*.link examples/generated/*.link; do \
 		./bin/linkrun < $$script 2>/dev/null | cmp - $${script%.link}.out && echo $$script || exit 1; \
 	done
 
-# Times of one allocation, by the number of flows.
+# Times of one allocation, by the number of flows, and of one message, by the kind of work.
 bench: bin/linkrun
 	python3 bench/allocations.py bin/linkrun
+	python3 bench/schedules.py bin/linkrun
 
 clean:
 	rm -rf bin crates/*/out

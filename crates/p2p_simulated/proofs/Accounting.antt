@@ -181,11 +181,11 @@ module _ {P : Type 0} where
 
 module _ {P : Type 0} (cmp : P → P → Ordering) where
   -- something is left of what stays
-  pub some_left : (p : Planned P) (fs : List (Paced P)) → All (λ f. f.left.num ≢ 0) (filter (λ f. not (is_spent cmp p f)) fs)
-  some_left p fs k d lt none = passes (get_or (filter (λ f. not (is_spent cmp p f)) fs) k d) none (filter_passes (λ f. not (is_spent cmp p f)) fs k d lt)
+  pub some_left : (p : Planned P) (fs : List (Paced P)) → All (λ f. f.left.num ≢ 0) (filter (λ f. not (is_spent cmp p.caps f)) fs)
+  some_left p fs k d lt none = passes (get_or (filter (λ f. not (is_spent cmp p.caps f)) fs) k d) none (filter_passes (λ f. not (is_spent cmp p.caps f)) fs k d lt)
     where
-      passes : (f : Paced P) → f.left.num ≡ 0 → not (is_spent cmp p f) ≡ true → ⊥
-      passes f none stays = let spent : is_spent cmp p f ≡ true = nothing_is_done f.left.num _ none in cc
+      passes : (f : Paced P) → f.left.num ≡ 0 → not (is_spent cmp p.caps f) ≡ true → ⊥
+      passes f none stays = let spent : is_spent cmp p.caps f ≡ true = nothing_is_done f.left.num _ none in cc
 
   -- each flow stands for its message
   pub flows_stand : IsTotalOrder cmp → (fs : List (Flow P)) (ss : List Progress) → length fs ≡ length ss → are_marked cmp fs ss ≡ true → AllZip (StandsForMessage cmp) fs (paced_flows (sending_of fs ss))
@@ -219,9 +219,9 @@ module _ {P : Type 0} (cmp : P → P → Ordering) (now : ℕ) (old : Planned P)
 
 module _ {P : Type 0} (cmp : P → P → Ordering) (order : IsTotalOrder cmp) (now : ℕ) (old : Planned P) (of : AreOfPeers cmp old.caps) (fs : List (Flow P)) (ss : List Progress)
     (parallel : length fs ≡ length ss) (marked : are_marked cmp fs ss ≡ true) (apart : are_ascending nat_cmp (map (λ (flow : Flow P). flow.id) fs) ≡ true)
-    (rest : sending_of fs ss ≡ filter (λ f. not (is_spent cmp old f)) (drained_to now old.sending)) where
+    (rest : sending_of fs ss ≡ filter (λ f. not (is_spent cmp old.caps f)) (drained_to now old.sending)) where
   -- with fair rates by id, and a finish, this is an account
-  pub accounts_so : (leavers : List (Message P)) (by_id : ℕ → Option Rate) (finish : Option ℕ) → leavers ≡ paced_flows (filter (is_spent cmp old) (drained_to now old.sending))
+  pub accounts_so : (leavers : List (Message P)) (by_id : ℕ → Option Rate) (finish : Option ℕ) → leavers ≡ paced_flows (filter (is_spent cmp old.caps) (drained_to now old.sending))
       → IsFairById cmp old.caps fs by_id → IsLeastMoment (λ s. SomeSpentAt (rated_by now by_id fs ss) s) finish
       → Accounts cmp now old leavers (record old { sending = rated_by now by_id fs ss; finish = finish })
   accounts_so leavers by_id finish left fair least =
@@ -259,4 +259,4 @@ module _ {P : Type 0} (cmp : P → P → Ordering) (order : IsTotalOrder cmp) (n
       → (e ≡ NumberTooLarge) × ((place : ℕ) × (f : Paced P) × (slice_get (rated_by now by_id fs ss) place ≡ Some f) × IsTimeTooLarge f) → IsRefusedAt cmp now (λ fault. ⊥) (λ q. q ≡ old) e
   time_refused by_id fair e (is, (place, f, there, large)) =
       let finish = finish_of (rated_by now by_id fs ss) in
-      too_large cmp now old e is (time_too_large place f (accounts_so (paced_flows (filter (is_spent cmp old) (drained_to now old.sending))) by_id finish.0 refl fair finish.1) there large)
+      too_large cmp now old e is (time_too_large place f (accounts_so (paced_flows (filter (is_spent cmp old.caps) (drained_to now old.sending))) by_id finish.0 refl fair finish.1) there large)

@@ -1,5 +1,5 @@
 -- The events of an advance, one after another.
-use Rattle.std.proofs.Common.{◌≡◌, ℕ, ◌+◌, ◌<◌, List, [], ◌++◌, Some, IfSome, sym, ap, ◌∙◌, subst, arith}
+use Rattle.std.proofs.Common.{◌≡◌, ℕ, ◌+◌, ◌<◌, List, ◌++◌, Some, IfSome, sym, ap, ◌∙◌, subst, arith}
 use Rattle.std.specs.declared.cmp.Ordering.{Ordering}
 use Rattle.p2p_simulated.specs.declared.error.Error.{Error}
 use Rattle.p2p_simulated.specs.declared.error.Error.TheVariants.{OutOfMemory, NumberTooLarge, MomentTooLate, FlowIdsUsedUp}
@@ -13,19 +13,12 @@ use Rattle.p2p_simulated.specs.Events.{IsDue, Happens, HappenAccounts, moment_of
 use Rattle.p2p_simulated.specs.Refusing.{IsRefusedAt, IsRefusedBy}
 use Rattle.p2p_simulated.specs.Working.{ready_messages}
 use Rattle.p2p_simulated.proofs.Finishing.{preceded_both}
-use Rattle.p2p_simulated.proofs.World.Queue.{preceded_none}
 
 module _ {P : Type 0} (cmp : P → P → Ordering) where
   -- so far so many events happened, and this came out
   pub record AdvancesSo (now : ℕ) (p : Planned P) (here : Planned P) (out : List (Completed P)) (events : ℕ) : Type 0 where
     pub advances : (n : ℕ) (course : Course (Completed P) (Planned P)) → Advances cmp now here n course → Advances cmp now p (n + events) (preceded out course)
     pub accounts : (t : ℕ) (q : Planned P) → AdvanceAccounts cmp now here t q → AdvanceAccounts cmp now p t q
-
-  pub advances_start : (now : ℕ) (p : Planned P) → AdvancesSo now p p [] 0
-  advances_start now p = record {
-    advances = λ n course h. let same : n ≡ n + 0 = omega arith in subst (λ (k : ℕ). Advances cmp now p k (preceded [] course)) same (subst (Advances cmp now p n) (sym (preceded_none course)) h);
-    accounts = λ t q h. h;
-  }
 
   one_event : (now n : ℕ) (event : Event) (p q : Planned P) (cs : List (Completed P)) (rest : Course (Completed P) (Planned P)) → IsDue now p (Some event) → Happens cmp event p (goes cs q) → Advances cmp now q n rest → Advances cmp now p (n + 1) (preceded cs rest)
   one_event now n (Finish t) p q cs rest due h more = at_finish due.0 due.1 due.2 h more
@@ -58,9 +51,6 @@ module _ {P : Type 0} (cmp : P → P → Ordering) where
   own_accounts : (now : ℕ) (event : Event) (p q : Planned P) → IsDue now p (Some event) → HappenAccounts cmp event p q → AdvanceAccounts cmp now p (moment_of event) q
   own_accounts now (Finish t) p q due h = at_the_finish due.0 due.1 due.2 h
   own_accounts now (Start t) p q due h = at_the_start due.0 due.1 due.2 h
-
-  abbrev RefusedIn : ℕ → Planned P → Error → Type 0
-  RefusedIn now p e = IsRefusedBy cmp (λ fault. (n : ℕ) × Advances cmp now p n (meets fault)) (λ t q. AdvanceAccounts cmp now p t q) e
 
   pub event_refused : (now : ℕ) (p here : Planned P) (out : List (Completed P)) (events : ℕ) (event : Event) → AdvancesSo now p here out events → IsDue now here (Some event) → (e : Error)
       → IsRefusedAt cmp (moment_of event) (λ fault. Happens cmp event here (meets fault)) (HappenAccounts cmp event here) e → IsRefusedBy cmp (λ fault. (n : ℕ) × Advances cmp now p n (meets fault)) (λ t q. AdvanceAccounts cmp now p t q) e

@@ -1,7 +1,7 @@
 -- A common denominator of the max-min fair rates of so many flows, where the caps are whole numbers.
 use Prim.Native.Nat.{◌∣◌}
-use Rattle.std.proofs.Common.{◌≡◌, ℕ, ◌+◌, ◌-◌, ◌*◌, ◌/◌, ◌%◌, ◌<◌, ◌≤◌, Bool, true, ◌||◌, eqb, ltb, List, [], ◌∷◌, get_or, inl, inr, refl, ap, subst, arith}
-use Rattle.std.proofs.Math.Nat.{dvd_refl, dvd_trans, dvd_of_mod-eq-zero, mul-div_cancel', le_of_dvd, dvd-mul_left}
+use Rattle.std.proofs.Common.{◌≡◌, ℕ, ◌+◌, ◌-◌, ◌*◌, ◌%◌, ◌<◌, ◌≤◌, Bool, true, ◌||◌, eqb, ltb, List, [], ◌∷◌, get_or, inl, inr, refl, subst, arith}
+use Rattle.std.proofs.Math.Nat.{dvd_refl, dvd_trans, dvd_of_mod-eq-zero, le_of_dvd, dvd-mul_left}
 use Rattle.std.proofs.lemmas.Bool.{agree_below, agree_below_at, cases_lt, or_cases, eqb-true, ltb-true}
 
 abbrev pub denominators : List ℕ
@@ -66,40 +66,9 @@ pub positive : (m : ℕ) → m ≤ 16 → 0 < denominator_of m
 positive m small =
     ltb-true 0 (denominator_of m) (agree_below_at (λ m. ltb 0 (denominator_of m)) (λ m. true) 17 m refl (omega arith))
 
-pub of_four : denominator_of 4 ≡ 12
-of_four = refl
-
 pub of_sixteen : denominator_of 16 ≡ 54486432000
 of_sixteen = refl
 
 -- the last entry is the greatest
 pub at_most : (m : ℕ) → m ≤ 16 → denominator_of m ≤ 54486432000
 at_most m small = le_of_dvd (positive 16 (omega arith)) (divides_later m 16 small (omega arith))
-
--- p / q is a whole number of parts, `per` of which make one
-abbrev pub IsPartsOver : ℕ → ℕ → ℕ → Type 0
-IsPartsOver per p q = (parts : ℕ) × (parts * q ≡ p * per)
-
-level_over : (p q rest k per next z : ℕ) → k * per * z ≡ next → p * (k * per) ≡ q * rest → rest * z * q ≡ p * next
-level_over p q rest k per next z e level =
-    let scaled : p * (k * per) * z ≡ q * rest * z = ap (λ n. n * z) level in
-    let entry : p * (k * per * z) ≡ p * next = ap (λ n. p * n) e in
-    omega (arith, scaled, entry)
-
--- where k flows share `rest` parts over the entry at m, what each gets is over the entry at m + k
-pub level : (m k rest p q : ℕ) → 0 < k → m + k ≤ 16 → p * (k * denominator_of m) ≡ q * rest → IsPartsOver (denominator_of (m + k)) p q
-level m k rest p q some small share =
-    let z = denominator_of (m + k) / (k * denominator_of m) in
-    (rest * z, level_over p q rest k (denominator_of m) (denominator_of (m + k)) z (mul-div_cancel' (k * denominator_of m) (divides m k some small)) share)
-
-earlier_over : (p q per next z parts : ℕ) → per * z ≡ next → parts * q ≡ p * per → parts * z * q ≡ p * next
-earlier_over p q per next z parts e over =
-    let scaled : parts * q * z ≡ p * per * z = ap (λ n. n * z) over in
-    let entry : p * (per * z) ≡ p * next = ap (λ n. p * n) e in
-    omega (arith, scaled, entry)
-
--- what is over an entry is over each later one
-pub earlier : (m n p q : ℕ) → m ≤ n → n ≤ 16 → IsPartsOver (denominator_of m) p q → IsPartsOver (denominator_of n) p q
-earlier m n p q le small (parts, over) =
-    let z = denominator_of n / denominator_of m in
-    (parts * z, earlier_over p q (denominator_of m) (denominator_of n) z parts (mul-div_cancel' (denominator_of m) (divides_later m n le small)) over)

@@ -12,9 +12,9 @@ use Rattle.p2p_simulated.specs.Keys.{IsKeyOf}
 use Rattle.p2p_simulated.specs.Sides.{same_peer}
 use Rattle.p2p_simulated.specs.Pairs.{first_of}
 use Rattle.p2p_simulated.specs.WorldMessages.{Message, same_pair}
-use Rattle.p2p_simulated.specs.World.{Completed, Course, goes, meets, preceded}
+use Rattle.p2p_simulated.specs.World.{Completed, Course, goes, meets, preceded, is_late, completed}
 use Rattle.p2p_simulated.specs.WorldPlanned.{Planned, next_of}
-use Rattle.p2p_simulated.specs.WorldEvents.{Looks, Launches, Finishes, all_completed, late, stopped, completes, landed, completed, is_late, WakesEach, all_started, no_start, no_finish, starts_one}
+use Rattle.p2p_simulated.specs.WorldEvents.{Looks, Launches, Finishes, all_completed, late, stopped, completes, landed, WakesEach, all_started, no_start, no_finish, starts_one}
 use Rattle.p2p_simulated.specs.WorldRefusals.{LaunchAccounts, FinishAccounts, first_accounts, later_accounts, WakeAccounts, start_accounts, finish_accounts, rest_accounts}
 use Rattle.p2p_simulated.specs.Refusing.{IsRefusedAt}
 use Rattle.p2p_simulated.proofs.Refusals.{refused_more}

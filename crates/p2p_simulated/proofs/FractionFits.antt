@@ -1,7 +1,7 @@
 -- What the arithmetic of fractions computes over a common denominator, and when it fits.
 use Prim.Native.Nat.{◌∣◌}
 use Rattle.std.proofs.Common.{◌≡◌, ℕ, zero, suc, ◌+◌, ◌-◌, ◌*◌, ◌/◌, ◌^◌, ◌<◌, ◌≤◌, ◌↔◌}
-use Rattle.std.proofs.Common.{Option, Some, None, IsSome, IfSome, refl, sym, ap, ◌∙◌, subst, arith, mul-le-mul_left}
+use Rattle.std.proofs.Common.{Option, Some, None, IsSome, refl, sym, ap, ◌∙◌, subst, arith, mul-le-mul_left}
 use Rattle.std.specs.Int.{IsGcd}
 use Rattle.std.proofs.Math.Nat.{mul_assoc, mul-pos, mul-sub, div_self, mul-div_cancel', dvd-mul_left, le_of_mul-le-mul_left}
 use Rattle.p2p_simulated.specs.Amount.{Amount, AreEqual, plus, minus, reduced}
@@ -15,10 +15,6 @@ use Rattle.p2p_simulated.specs.Laws.LowestTerms.{reduced_alike, reduced_scaled, 
 -- what is an amount in lowest terms has its value
 pub worth_if_reduced : (r m : Amount) → 0 < m.den → r ≡ reduced m.num m.den → AreEqual r m
 worth_if_reduced r m h e = subst (λ z. AreEqual z m) (sym e) (reduced_worth m.num m.den h)
-
-pub all_worth : (r : Option Ratio) (m : Amount) → 0 < m.den → IfSome r (λ x. amount_of x ≡ reduced m.num m.den) → IfSome r (λ x. IsWorth x m)
-all_worth None m h e = e
-all_worth (Some x) m h e = worth_if_reduced (amount_of x) m h e
 
 -- ---- the least common denominator
 
@@ -209,6 +205,3 @@ fits_if_known m n d e = (
 pub none_iff : {T P : Type 0} (r : Option T) → r ≡ None → (P → ⊥) → IsSome r ↔ P
 none_iff None e refuted = (λ s. cc, λ p. absurd (refuted p))
 none_iff (Some x) e refuted = cc
-
-pub some_iff : {T P : Type 0} (r : Option T) → IsSome r → P → IsSome r ↔ P
-some_iff r s p = (λ _. p, λ _. s)

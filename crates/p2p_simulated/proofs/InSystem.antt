@@ -56,9 +56,9 @@ module _ {P : Type 0} (cmp : P → P → Ordering) where
   pub accounts_keep : (t : ℕ) (old new : Planned P) (leavers : List (Message P)) → Accounts cmp t old leavers new → length leavers + length new.sending ≡ length old.sending
   accounts_keep t old new leavers a =
       let here = drained_to t old.sending in
-      let left : length leavers ≡ length (filter (is_spent cmp old) here) = ap length a.left ∙ length-map (λ (f : Paced P). f.message) (filter (is_spent cmp old) here) in
-      let stayed : length (filter (λ f. not (is_spent cmp old f)) here) ≡ length new.sending = length-zip (λ (f g : Paced P). (g.message ≡ f.message) × (g.left ≡ f.left) × (g.updated ≡ t)) _ new.sending a.stayed in
-      let both : length (filter (is_spent cmp old) here) + length (filter (λ f. not (is_spent cmp old f)) here) ≡ length here = length-filter_both (is_spent cmp old) (λ f. not (is_spent cmp old f)) (λ f. refl) here in
+      let left : length leavers ≡ length (filter (is_spent cmp old.caps) here) = ap length a.left ∙ length-map (λ (f : Paced P). f.message) (filter (is_spent cmp old.caps) here) in
+      let stayed : length (filter (λ f. not (is_spent cmp old.caps f)) here) ≡ length new.sending = length-zip (λ (f g : Paced P). (g.message ≡ f.message) × (g.left ≡ f.left) × (g.updated ≡ t)) _ new.sending a.stayed in
+      let both : length (filter (is_spent cmp old.caps) here) + length (filter (λ f. not (is_spent cmp old.caps f)) here) ≡ length here = length-filter_both (is_spent cmp old.caps) (λ f. not (is_spent cmp old.caps f)) (λ f. refl) here in
       omega (arith, left, stayed, both, length-drained t old.sending)
 
   pub accounts_waiting : (t : ℕ) (old new : Planned P) (leavers : List (Message P)) → Accounts cmp t old leavers new → new.waiting ≡ old.waiting

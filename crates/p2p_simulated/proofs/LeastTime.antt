@@ -9,12 +9,6 @@ use Rattle.p2p_simulated.specs.Ratio.{amount_of, IsWorth}
 use Rattle.p2p_simulated.specs.declared.ratio.Ratio.{Ratio}
 use Rattle.p2p_simulated.proofs.EqualAmounts.{equal_sym, equal_trans, equal_if_same, equal_fits, times_equal}
 
-pub least_is_one : (rate left : Amount) (m n : ℕ) → IsLeastTime rate left m → IsLeastTime rate left n → m ≡ n
-least_is_one rate left m n s t =
-    let low : m ≤ n = s.least n t.covers in
-    let high : n ≤ m = t.least m s.covers in
-    omega arith
-
 above : (n k l u : ℕ) → n * u < l → l ≤ k * u → suc n ≤ k
 above n k l u less enough =
     let up : n * u < k * u = omega arith in

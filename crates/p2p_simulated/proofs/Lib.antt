@@ -20,7 +20,6 @@ pub mod Filling
 pub mod Finishing
 pub mod Flying
 pub mod FractionFits
-pub mod Grounded
 pub mod InPlace
 pub mod InSystem
 pub mod LastRates
@@ -46,6 +45,7 @@ pub mod Registry
 pub mod Replaying
 pub mod Settling
 pub mod Shares
+pub mod SideUsers
 pub mod Size
 pub mod Sorted
 pub mod Splitting

@@ -50,25 +50,25 @@ spent_least fs None h = refl
 spent_least fs (Some t) h = spent_found t fs h.1.0 h.1.1 h.1.2 h.1.4
 
 -- what is spent leaves
-spent_leaves : {P : Type 0} (cmp : P → P → Ordering) (p : Planned P) (t : ℕ) (fs : List (Paced P)) → list_any (λ f. (left_at t f).num == 0) fs ≡ true → 1 ≤ length (filter (is_spent cmp p) (drained_to t fs))
+spent_leaves : {P : Type 0} (cmp : P → P → Ordering) (p : Planned P) (t : ℕ) (fs : List (Paced P)) → list_any (λ f. (left_at t f).num == 0) fs ≡ true → 1 ≤ length (filter (is_spent cmp p.caps) (drained_to t fs))
 spent_leaves cmp p t [] h = cc
 spent_leaves {P} cmp p t (f ∷ fs) h = by_first ((left_at t f).num == 0) refl h (spent_leaves cmp p t fs)
   where
     g : Paced P
     g = record f { left = left_at t f; updated = t }
 
-    more : (b : Bool) → 1 ≤ length (filter (is_spent cmp p) (drained_to t fs)) → 1 ≤ length (cond b (g ∷ filter (is_spent cmp p) (drained_to t fs)) (filter (is_spent cmp p) (drained_to t fs)))
+    more : (b : Bool) → 1 ≤ length (filter (is_spent cmp p.caps) (drained_to t fs)) → 1 ≤ length (cond b (g ∷ filter (is_spent cmp p.caps) (drained_to t fs)) (filter (is_spent cmp p.caps) (drained_to t fs)))
     more true le = omega arith
     more false le = le
 
-    one : (b : Bool) → b ≡ true → 1 ≤ length (cond b (g ∷ filter (is_spent cmp p) (drained_to t fs)) (filter (is_spent cmp p) (drained_to t fs)))
+    one : (b : Bool) → b ≡ true → 1 ≤ length (cond b (g ∷ filter (is_spent cmp p.caps) (drained_to t fs)) (filter (is_spent cmp p.caps) (drained_to t fs)))
     one true is = omega arith
     one false is = cc
 
-    by_first : (b : Bool) → ((left_at t f).num == 0) ≡ b → (b || list_any (λ f. (left_at t f).num == 0) fs) ≡ true → (list_any (λ f. (left_at t f).num == 0) fs ≡ true → 1 ≤ length (filter (is_spent cmp p) (drained_to t fs)))
-        → 1 ≤ length (filter (is_spent cmp p) (drained_to t (f ∷ fs)))
-    by_first true is h ih = one (is_spent cmp p g) (any_first ((left_at t f).num == 0) _ is)
-    by_first false is h ih = more (is_spent cmp p g) (ih h)
+    by_first : (b : Bool) → ((left_at t f).num == 0) ≡ b → (b || list_any (λ f. (left_at t f).num == 0) fs) ≡ true → (list_any (λ f. (left_at t f).num == 0) fs ≡ true → 1 ≤ length (filter (is_spent cmp p.caps) (drained_to t fs)))
+        → 1 ≤ length (filter (is_spent cmp p.caps) (drained_to t (f ∷ fs)))
+    by_first true is h ih = one (is_spent cmp p.caps g) (any_first ((left_at t f).num == 0) _ is)
+    by_first false is h ih = more (is_spent cmp p.caps g) (ih h)
 
 module _ {P : Type 0} (cmp : P → P → Ordering) where
   -- whether some pair is ready at the planned start
@@ -230,8 +230,8 @@ module _ {P : Type 0} (cmp : P → P → Ordering) where
         by_bool (spent_at p.sending p.finish)
         (λ fits.
         let some : list_any (λ (f : Paced P). (left_at t f).num == 0) p.sending ≡ true = ap (spent_at p.sending) (sym is) ∙ fits in
-        let leave : 1 ≤ length (filter (is_spent cmp (record p { finish = None })) (drained_to t p.sending)) = spent_leaves cmp (record p { finish = None }) t p.sending some in
-        let left : length leavers ≡ length (filter (is_spent cmp (record p { finish = None })) (drained_to t p.sending)) = ap length a.left ∙ length-map (λ (f : Paced P). f.message) (filter (is_spent cmp (record p { finish = None })) (drained_to t p.sending)) in
+        let leave : 1 ≤ length (filter (is_spent cmp p.caps) (drained_to t p.sending)) = spent_leaves cmp (record p { finish = None }) t p.sending some in
+        let left : length leavers ≡ length (filter (is_spent cmp p.caps) (drained_to t p.sending)) = ap length a.left ∙ length-map (λ (f : Paced P). f.message) (filter (is_spent cmp p.caps) (drained_to t p.sending)) in
         omega (arith, kept, waits, no_finish, no_start, leave, left, h.weighs))
         (λ fits. let one : lack (spent_at p.sending p.finish) ≡ 1 = ap lack fits in omega (arith, kept, waits, no_finish, no_start, one, h.weighs))
 

@@ -9,7 +9,7 @@ use Rattle.p2p_simulated.specs.declared.transmitter.peers.PeerCaps.{PeerCaps}
 use Rattle.p2p_simulated.specs.WorldMessages.{with_cap, AnswerAlike}
 use Rattle.p2p_simulated.specs.Sorted.{are_ascending, IsPlace, IsGap}
 use Rattle.p2p_simulated.specs.Peers.{egress_of, ingress_of, IsSameEntry}
-use Rattle.p2p_simulated.proofs.Copies.{zip_weaker, ascending_alike, value_alike}
+use Rattle.p2p_simulated.proofs.Copies.{zip_weaker, value_alike}
 use Rattle.p2p_simulated.proofs.Sorted.{is_eq_equal, read_place, ascending_set_at, ascending_insert_at, value_set_at, value_insert_at}
 
 -- the new list has those caps for a peer, and else the old ones
@@ -38,9 +38,6 @@ module _ {P : Type 0} (cmp : P → P → Ordering) (total : IsTotalOrder cmp) wh
   }
 
 module _ {P : Type 0} (cmp : P → P → Ordering) (total : IsTotalOrder cmp) (xs ys : List (PeerCaps P)) (same : AllZip (IsSameEntry cmp) xs ys) where
-  pub copy_ascending : are_ascending cmp (map (λ entry. entry.peer) xs) ≡ true → are_ascending cmp (map (λ entry. entry.peer) ys) ≡ true
-  copy_ascending = ascending_alike cmp total (λ entry. entry.peer) xs ys (zip_weaker (IsSameEntry cmp) (λ x y. cmp y.peer x.peer ≡ Equal) (λ x y s. s.peer) xs ys same)
-
   pub copy_egress : AnswerAlike cmp (egress_of cmp xs) (egress_of cmp ys)
   copy_egress p q h = value_alike cmp total (λ entry. entry.peer) (λ entry. entry.egress) None xs ys (zip_weaker (IsSameEntry cmp) (λ x y. (cmp y.peer x.peer ≡ Equal) × (y.egress ≡ x.egress)) (λ x y s. (s.peer, s.egress)) xs ys same) p q (is_eq_equal _ h)
 

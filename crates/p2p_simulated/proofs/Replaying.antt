@@ -1,10 +1,9 @@
 -- Replies in turn, and the replies to a list of calls.
-use Rattle.std.proofs.Common.{◌≡◌, ◌≢◌, ℕ, suc, ◌+◌, ◌-◌, ◌<◌, ◌≤◌, Some, List, [], ◌∷◌, ◌++◌, length, get_or, refl, sym, ap, ◌∙◌, subst, arith, append_assoc, append-nil, drop, drop-cons, length-drop}
+use Rattle.std.proofs.Common.{◌≡◌, ℕ, suc, ◌+◌, ◌-◌, ◌<◌, ◌≤◌, List, [], ◌∷◌, ◌++◌, length, get_or, refl, sym, ap, ◌∙◌, subst, arith, append_assoc, append-nil, drop, drop-cons, length-drop}
 use Rattle.std.specs.declared.cmp.Ordering.{Ordering}
 use Rattle.std.specs.Cmp.{IsTotalOrder}
 use Rattle.p2p_simulated.specs.declared.error.Error.{Error}
-use Rattle.p2p_simulated.specs.declared.error.Error.TheVariants.{OutOfMemory}
-use Rattle.p2p_simulated.specs.WorldCalls.{Call, call_limit, call_limit_link, call_enqueue, call_advance, call_next, moment_of}
+use Rattle.p2p_simulated.specs.WorldCalls.{Call, call_limit, call_limit_link, call_enqueue, call_advance, call_next}
 use Rattle.p2p_simulated.specs.WorldIsolation.{InTime}
 use Rattle.p2p_simulated.specs.WorldReplies.{Reply, reply_done, reply_next, reply_refused}
 use Rattle.p2p_simulated.specs.WorldPlanned.{Planned}
@@ -37,22 +36,6 @@ module _ {P : Type 0} (cmp : P → P → Ordering) (order : IsTotalOrder cmp) wh
   one_more p q (call_advance now) (reply_done cs) calls replies h rest = (h.answers, h.after, h.obeys, h.same_answers, obeyed_same cmp order q h.after calls replies (same_turned cmp order h.after q h.same_after) rest)
   one_more p q (call_advance now) (reply_refused e) calls replies h rest = (h.0, subst (λ (r : Planned P). Obeyed cmp r calls replies) h.1 rest)
   one_more p q (call_advance now) (reply_next t) calls replies h rest = absurd h
-
-  -- ---- one call
-
-  pub done_reply : (p q : Planned P) (call : Call P) (t : ℕ) (cs : List (Completed P)) → moment_of call ≡ Some t → Goes cmp p call cs q → IsReplyTo cmp p call (reply_done cs) q
-  done_reply p q (call_limit now peer egress ingress) t cs e h = h
-  done_reply p q (call_limit_link now origin recipient cap) t cs e h = h
-  done_reply p q (call_enqueue now m) t cs e h = h
-  done_reply p q (call_advance now) t cs e h = h
-  done_reply p q call_next t cs e h = cc
-
-  pub refused_reply : (p q : Planned P) (call : Call P) (t : ℕ) (why : Error) → moment_of call ≡ Some t → MayBeRefused cmp p call why → q ≡ p → IsReplyTo cmp p call (reply_refused why) q
-  refused_reply p q (call_limit now peer egress ingress) t why e h is = (h, is)
-  refused_reply p q (call_limit_link now origin recipient cap) t why e h is = (h, is)
-  refused_reply p q (call_enqueue now m) t why e h is = (h, is)
-  refused_reply p q (call_advance now) t why e h is = (h, is)
-  refused_reply p q call_next t why e h is = cc
 
   -- ---- the same call
 
@@ -90,14 +73,6 @@ module _ {P : Type 0} (cmp : P → P → Ordering) (order : IsTotalOrder cmp) wh
   reply_same p q (reply_next t) itself (same_enqueue same) h = h
   reply_same p q reply itself same_advance h = h
   reply_same p q reply itself same_next h = h
-
-  -- a call that cannot be copied is refused for memory
-  pub memory_reply : (p q : Planned P) (call : Call P) (why : Error) → why ≡ OutOfMemory → call ≢ call_next → q ≡ p → IsReplyTo cmp p call (reply_refused why) q
-  memory_reply p q (call_limit now peer egress ingress) why is not_next e = (subst (MayBeRefused cmp p (call_limit now peer egress ingress)) (sym is) tt, e)
-  memory_reply p q (call_limit_link now origin recipient cap) why is not_next e = (subst (MayBeRefused cmp p (call_limit_link now origin recipient cap)) (sym is) tt, e)
-  memory_reply p q (call_enqueue now m) why is not_next e = (subst (MayBeRefused cmp p (call_enqueue now m)) (sym is) tt, e)
-  memory_reply p q (call_advance now) why is not_next e = (subst (MayBeRefused cmp p (call_advance now)) (sym is) tt, e)
-  memory_reply p q call_next why is not_next e = absurd (not_next refl)
 
   -- ---- a list of calls
 

@@ -276,20 +276,6 @@ module _ {K : Type 0} (cmp : K → K → Ordering) (total : IsTotalOrder cmp) wh
 
     -- ---- by place
 
-    pub place_within : (es : List E) (k : K) (at : ℕ) → IsPlace cmp key es k at → at < length es
-    place_within es k at p = rw (p.split, p.is_at) (longer p.before (p.entry ∷ p.after))
-      where
-        longer : (xs ys : List E) → length xs < length (xs ++ p.entry ∷ p.after)
-        longer [] ys = omega arith
-        longer (x ∷ xs) ys = omega (arith, longer xs ys)
-
-    pub gap_within : (es : List E) (k : K) (at : ℕ) → IsGap cmp key es k at → at ≤ length es
-    gap_within es k at p = rw (p.split, p.is_at) (longer p.before)
-      where
-        longer : (xs : List E) → length xs ≤ length (xs ++ p.after)
-        longer [] = omega arith
-        longer (x ∷ xs) = omega (arith, longer xs)
-
     pub read_place : (es : List E) (k : K) (at : ℕ) (p : IsPlace cmp key es k at) (d : E) → get_or es at d ≡ p.entry
     read_place es k at p d = ap (λ l. get_or l at d) p.split ∙ ap (λ n. get_or (p.before ++ p.entry ∷ p.after) n d) p.is_at ∙ get_or-seam p.before p.after p.entry d
 

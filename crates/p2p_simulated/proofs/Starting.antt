@@ -92,10 +92,6 @@ module _ {P : Type 0} (cmp : P → P → Ordering) (order : IsTotalOrder cmp) wh
       subst (λ (first : Option (Message P)). LaunchAccounts cmp t p first mid) (sym found)
       (subst (λ (q : Planned P). LaunchAccounts cmp t p (Some m) q) (sym (is ∙ pushed_is t p o r m found)) (launch_accounts may_m id))
 
-  pub may_not : (t : ℕ) (p : Planned P) (first : Option (Message P)) → may_launch_first cmp t p first ≡ true → first ≡ None → ⊥
-  may_not t p None may none = cc
-  may_not t p (Some m) may none = cc
-
 -- ---- what is answered
 
 module _ {P : Type 0} (cmp : P → P → Ordering) (order : IsTotalOrder cmp) (t : ℕ) (p mid : Planned P) (o r : P) (m : Message P)

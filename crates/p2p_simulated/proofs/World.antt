@@ -57,12 +57,12 @@ pub mod SameRefusals
 pub mod SameStands
 pub mod SameSteps
 pub mod SameWorlds
-pub mod Settled
 pub mod Sift
 pub mod Simulated
 pub mod Sound
 pub mod Split
 pub mod SplitAnywhere
+pub mod StepsEnough
 pub mod Stepwise
 pub mod Stretch
 pub mod Totals

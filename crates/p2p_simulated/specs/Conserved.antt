@@ -5,26 +5,11 @@ use Rattle.std.specs.declared.cmp.Ordering.{Ordering}
 use Rattle.p2p_simulated.specs.WorldMessages.{Message, SameMessage, same_pair}
 use Rattle.p2p_simulated.specs.World.{Completed, goes}
 use Rattle.p2p_simulated.specs.WorldCalls.{Call}
-use Rattle.p2p_simulated.specs.WorldOrder.{enqueued, IsCompletionOf}
-use Rattle.p2p_simulated.specs.WorldReplies.{Reply, reply_done, reply_next, reply_refused, SameCompletion}
+use Rattle.p2p_simulated.specs.WorldOrder.{enqueued, answered, IsCompletionOf}
+use Rattle.p2p_simulated.specs.WorldReplies.{Reply, reply_done, reply_next, reply_refused, made, completions_in, SameCompletion}
 use Rattle.p2p_simulated.specs.WorldPlanned.{Planned, paced_flows}
 use Rattle.p2p_simulated.specs.WorldEvents.{Obeys}
 use Rattle.p2p_simulated.specs.Orderly.{IsOrderly}
-
--- the messages that accepted calls enqueue, in order
-abbrev pub accepted : {P : Type 0} → List (Call P) → List (Reply P) → List (Message P)
-accepted [] replies = []
-accepted (call ∷ calls) [] = []
-accepted (call ∷ calls) (reply_done cs ∷ replies) = enqueued (call ∷ []) ++ accepted calls replies
-accepted (call ∷ calls) (reply_next t ∷ replies) = accepted calls replies
-accepted (call ∷ calls) (reply_refused why ∷ replies) = accepted calls replies
-
--- the completions in replies, in order
-abbrev pub completions_in : {P : Type 0} → List (Reply P) → List (Completed P)
-completions_in [] = []
-completions_in (reply_done cs ∷ replies) = cs ++ completions_in replies
-completions_in (reply_next t ∷ replies) = completions_in replies
-completions_in (reply_refused why ∷ replies) = completions_in replies
 
 module _ {P : Type 0} (cmp : P → P → Ordering) where
   -- those of the messages that are of the pair of a message
@@ -41,7 +26,7 @@ module _ {P : Type 0} (cmp : P → P → Ordering) where
     pub completions_are : AllZip IsCompletionOf completions done
     pub each_pair : (k : Message P) → AllZip (SameMessage cmp) (of_pair k done ++ held_of k q) (held_of k p ++ of_pair k messages)
 
-  -- by the event rule the accepted calls lead from the planned world p to the last one
+  -- by the event rule the calls that were made lead from the planned world p to the last one
   abbrev pub LeadTo : Planned P → List (Call P) → List (Reply P) → Planned P → Type 0
   LeadTo p [] [] last = p ≡ last
   LeadTo p [] (reply ∷ replies) last = ⊥
@@ -55,4 +40,4 @@ module _ {P : Type 0} (cmp : P → P → Ordering) where
     pub last : Planned P
     pub led : LeadTo p calls replies last
     pub orderly : IsOrderly cmp last
-    pub conserved : IsConserved p (accepted calls replies) (completions_in replies) last
+    pub conserved : IsConserved p (enqueued (made calls replies)) (answered (completions_in replies)) last

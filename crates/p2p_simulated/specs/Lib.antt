@@ -25,6 +25,7 @@ pub mod Outcome
 pub mod Pairs
 pub mod PeerCaps
 pub mod Peers
+pub mod Places
 pub mod Progress
 pub mod RateValue
 pub mod Rates

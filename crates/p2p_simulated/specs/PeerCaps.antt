@@ -1,5 +1,5 @@
 -- Caps that are functions of the peer, and of the ordered pair: the sides that they make, and what follows for the rates.
-use Rattle.std.specs.Prelude.{◌≡◌, ℕ, ◌+◌, ◌==◌, ◌≤◌, ◌↔◌, Bool, true, cond, ◌&&◌, List, [], ◌∷◌, ◌++◌, Option, Some, None, All, Contains, length, map, count_by, slice_get}
+use Rattle.std.specs.Prelude.{◌≡◌, ℕ, ◌==◌, ◌≤◌, ◌↔◌, Bool, true, cond, ◌&&◌, List, [], ◌∷◌, Option, Some, None, All, Contains, length, map, count_by, slice_get}
 use Rattle.std.specs.List.{filter, list_any}
 use Rattle.std.specs.List.Sorted.{IsPermutation}
 use Rattle.std.specs.declared.cmp.Ordering.{Ordering}
@@ -12,6 +12,7 @@ use Rattle.p2p_simulated.specs.FairPart.{kept}
 use Rattle.p2p_simulated.specs.Rates.{AreFairRates, last_rate}
 use Rattle.p2p_simulated.specs.Caps.{Caps, CapsAlike}
 use Rattle.p2p_simulated.specs.Sides.{Subject, sent_by, received_by, sent_between, same_peer, sides_of}
+use Rattle.p2p_simulated.specs.Places.{places_from}
 
 -- the cap of what a side limits
 abbrev pub cap_of : {P : Type 0} → Caps P → Subject P → Option ℕ
@@ -85,11 +86,6 @@ module _ {P : Type 0} (cmp : P → P → Ordering) where
   limits (received_by p) f = f.delivered && same_peer cmp p f.recipient
   limits (sent_between p q) f = same_peer cmp p f.origin && same_peer cmp q f.recipient
 
-  -- the places of the flows that such a side limits, where the first has the given place
-  abbrev pub places_from : ℕ → Subject P → List (Flow P) → List ℕ
-  places_from place subject [] = []
-  places_from place subject (f ∷ flows) = cond (limits subject f) (place ∷ []) [] ++ places_from (place + 1) subject flows
-
   -- the side of a subject that has a cap and some flow to limit: its users are all flows that it limits
   pub record IsCappedSide (caps : Caps P) (flows : List (Flow P)) (side : Side) : Type 0 where
     pub subject : Subject P
@@ -97,7 +93,7 @@ module _ {P : Type 0} (cmp : P → P → Ordering) where
     pub flow : Flow P
     pub among : Contains flows flow
     pub limited : limits subject flow ≡ true
-    pub users : side.users ≡ places_from 0 subject flows
+    pub users : side.users ≡ places_from 0 (limits subject) flows
 
   -- the sides are exactly these
   abbrev pub SidesAreOfTheCaps : Type 0

@@ -7,24 +7,9 @@ use Rattle.p2p_simulated.specs.declared.error.Error.TheVariants.{OutOfMemory}
 use Rattle.p2p_simulated.specs.WorldMessages.{Message, same_pair}
 use Rattle.p2p_simulated.specs.World.{World, new_world, Completed, completion_of, goes}
 use Rattle.p2p_simulated.specs.WorldCalls.{Call, call_limit, call_limit_link, call_enqueue, call_advance, call_next, moment_of, Runs, IsInTurn}
-use Rattle.p2p_simulated.specs.WorldReplies.{Reply, reply_done, reply_next, reply_refused, AreInRange, SameCompletion}
+use Rattle.p2p_simulated.specs.WorldReplies.{Reply, reply_done, reply_next, reply_refused, made, completions_in, AreInRange, SameCompletion}
 use Rattle.p2p_simulated.specs.WorldOrder.{enqueued, answered, NeverGoDown, completes_pair}
 use Rattle.p2p_simulated.specs.WorldIsolation.{Answers, IsSet, KeepsApart, is_kept, kept_completions, NothingElse}
-
--- the calls that were made: those that are answered with completions
-abbrev pub made : {P : Type 0} → List (Call P) → List (Reply P) → List (Call P)
-made [] replies = []
-made (call ∷ calls) [] = []
-made (call ∷ calls) (reply_done cs ∷ replies) = call ∷ made calls replies
-made (call ∷ calls) (reply_next next ∷ replies) = made calls replies
-made (call ∷ calls) (reply_refused why ∷ replies) = made calls replies
-
--- the completions of the calls that were made, call by call
-abbrev pub completions_in : {P : Type 0} → List (Reply P) → List (List (Completed P))
-completions_in [] = []
-completions_in (reply_done cs ∷ replies) = cs ∷ completions_in replies
-completions_in (reply_next next ∷ replies) = completions_in replies
-completions_in (reply_refused why ∷ replies) = completions_in replies
 
 -- time is advanced first: a call that changes caps or adds a message comes at the moment of the last call that was made
 abbrev pub AreAdvancedFirst : {P : Type 0} → ℕ → List (Call P) → List (Reply P) → Type 0

@@ -1,5 +1,5 @@
 -- How a scheduler is read as a planned world.
-use Rattle.std.specs.Prelude.{ℕ, ◌<◌, Bool, false, ◌==◌, ◌||◌, List, length, map, Option, Some, None}
+use Rattle.std.specs.Prelude.{ℕ, ◌<◌, Bool, false, List, length, map, Option, Some, None}
 use Rattle.std.specs.List.{filter}
 use Rattle.std.specs.declared.cmp.Ordering.{Ordering}
 use Rattle.p2p_simulated.specs.declared.bandwidth.Flow.{Flow}
@@ -12,8 +12,7 @@ use Rattle.p2p_simulated.specs.declared.transmitter.working.Working.{Working}
 use Rattle.p2p_simulated.specs.Caps.{Caps}
 use Rattle.p2p_simulated.specs.World.{fronts}
 use Rattle.p2p_simulated.specs.WorldMessages.{Message}
-use Rattle.p2p_simulated.specs.WorldPlanned.{Planned, Paced, may_launch}
-use Rattle.p2p_simulated.specs.WorldRates.{is_unlimited}
+use Rattle.p2p_simulated.specs.WorldPlanned.{Planned, may_launch}
 use Rattle.p2p_simulated.specs.Message.{message_of}
 use Rattle.p2p_simulated.specs.Peers.{egress_of, ingress_of}
 use Rattle.p2p_simulated.specs.Pairs.{link_of, arrival_of, waiting_of}
@@ -22,10 +21,6 @@ use Rattle.p2p_simulated.specs.Flights.{sending_of}
 -- the caps of peers and of ordered pairs
 abbrev pub caps_of : {P : Type 0} → (P → P → Ordering) → List (PeerCaps P) → List (Pair P) → Caps P
 caps_of cmp peers pairs = record { egress = egress_of cmp peers; ingress = ingress_of cmp peers; link = link_of cmp pairs }
-
--- whether a message in flight is done under the caps: nothing is left of it, or it uses no capped side
-abbrev pub is_done_under : {P : Type 0} → (P → P → Ordering) → Caps P → Paced P → Bool
-is_done_under cmp caps f = (f.left.num == 0) || is_unlimited cmp caps f.message
 
 abbrev pub planned : {P : Type 0} {a : _} {b : _} {c : _} → (P → P → Ordering) → Working P a b c → Planned P
 planned cmp w = record {

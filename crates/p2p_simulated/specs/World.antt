@@ -118,14 +118,27 @@ module _ {P : Type 0} (cmp : P → P → Ordering) where
   abbrev pub raised : (P → P → Option ℕ) → Message P → ℕ → P → P → Option ℕ
   raised last m at p q = cond (same_peer cmp m.origin p && same_peer cmp m.recipient q) (Some (later_of (last p q) at)) (last p q)
 
+  -- when a message that is finished at t arrives, or counts as arrived if it is not delivered
+  abbrev pub arrival : ℕ → Message P → ℕ
+  arrival t m = if is_delivered cmp m then t + m.latency else t
+
+  -- whether it would arrive past the last moment
+  abbrev pub is_late : ℕ → Message P → Bool
+  is_late t m = is_delivered cmp m && nat_lt last_moment (t + m.latency)
+
+  -- what is answered of it
+  abbrev pub completed : ℕ → Message P → Completed P
+  completed t m = completion_of m (if is_delivered cmp m then Some (arrival t m) else None)
+
+  -- the world in which the first message that is done is out of flight, and that message has arrived
+  abbrev pub out_of_flight : ℕ → World P → Message P → World P
+  out_of_flight t w m = record w { sending = without_first (is_done w) w.sending; last_arrival = raised w.last_arrival m (arrival t m) }
+
   -- a message in flight completes at t, and its pair's first waiting one starts if it may
   abbrev pub complete : ℕ → World P → Message P → Course (Completed P) (World P)
   complete t w m =
-      let delivered = is_delivered cmp m in
-      let at = if delivered then t + m.latency else t in
-      let landed : World P = record w { sending = without_first (is_done w) w.sending; last_arrival = raised w.last_arrival m at } in
-      cond (delivered && nat_lt last_moment at) (meets MomentTooLate)
-      (preceded (completion_of m (if delivered then Some at else None) ∷ []) (start_next t landed (first_waiting landed m)))
+      let landed : World P = out_of_flight t w m in
+      cond (is_late t m) (meets MomentTooLate) (preceded (completed t m ∷ []) (start_next t landed (first_waiting landed m)))
 
   -- while a message in flight is done, the first one in the list completes; each makes one message fewer
   abbrev pub settle_within : ℕ → ℕ → World P → Course (Completed P) (World P)

@@ -1,13 +1,13 @@
 -- The event rule: what calls do to a planned world, at any moments.
-use Rattle.std.specs.Prelude.{◌≡◌, ◌≢◌, ℕ, ◌+◌, ◌<◌, ◌≤◌, List, [], ◌∷◌, ◌++◌, length, Bool, true, false, not, ◌&&◌, cond, if◌then◌else◌, Option, Some, None, nat_lt, IfSome}
+use Rattle.std.specs.Prelude.{◌≡◌, ◌≢◌, ℕ, ◌+◌, ◌<◌, ◌≤◌, List, [], ◌∷◌, ◌++◌, length, true, false, not, ◌&&◌, cond, if◌then◌else◌, Option, Some, None, nat_lt, IfSome}
 use Rattle.std.specs.List.{filter, AllZip}
 use Rattle.std.specs.declared.cmp.Ordering.{Ordering}
 use Rattle.p2p_simulated.specs.declared.error.Error.{Error}
 use Rattle.p2p_simulated.specs.declared.error.Error.TheVariants.{MomentTooLate, FlowIdsUsedUp}
 use Rattle.p2p_simulated.specs.Amount.{whole}
-use Rattle.p2p_simulated.specs.WorldMessages.{Message, Caps, same_pair, is_delivered}
+use Rattle.p2p_simulated.specs.WorldMessages.{Message, Caps, same_pair}
 use Rattle.p2p_simulated.specs.WorldRates.{Parts, rate_of, AreFair}
-use Rattle.p2p_simulated.specs.World.{Completed, completion_of, Course, goes, meets, last_moment, preceded, raised, later_of, without_first, fronts}
+use Rattle.p2p_simulated.specs.World.{Completed, completion_of, Course, goes, meets, last_moment, preceded, raised, later_of, without_first, fronts, arrival, is_late, completed}
 use Rattle.p2p_simulated.specs.WorldCalls.{Call, call_limit, call_limit_link, call_enqueue, call_advance, call_next, limited_by, linked_by}
 use Rattle.p2p_simulated.specs.WorldPlanned.{Planned, IsLeastMoment, next_event, paced_flows, SomeSpentAt, drained_to, next_of, queued, may_launch, SomeReadyAt, is_spent}
 
@@ -18,8 +18,8 @@ module _ {P : Type 0} (cmp : P → P → Ordering) where
   pub record Accounts (t : ℕ) (old : Planned P) (leavers : List (Message P)) (new : Planned P) : Type 0 where
     pub per : ℕ
     pub rates : Parts
-    pub left : leavers ≡ paced_flows (filter (is_spent cmp old) (drained_to t old.sending))
-    pub stayed : AllZip (λ f g. (g.message ≡ f.message) × (g.left ≡ f.left) × (g.updated ≡ t)) (filter (λ f. not (is_spent cmp old f)) (drained_to t old.sending)) new.sending
+    pub left : leavers ≡ paced_flows (filter (is_spent cmp old.caps) (drained_to t old.sending))
+    pub stayed : AllZip (λ f g. (g.message ≡ f.message) × (g.left ≡ f.left) × (g.updated ≡ t)) (filter (λ f. not (is_spent cmp old.caps f)) (drained_to t old.sending)) new.sending
     pub fair : AreFair cmp old.caps (paced_flows new.sending) per rates
     pub rated : AllZip (λ rate f. f.rate ≡ rate_of per rate) rates new.sending
     pub finish : IsLeastMoment (λ s. SomeSpentAt new.sending s) new.finish
@@ -46,29 +46,19 @@ module _ {P : Type 0} (cmp : P → P → Ordering) where
     starts : {m : Message P} {leavers : List (Message P)} {new : Planned P} → may_launch cmp t old m ≡ true → old.next_id < last_moment → Accounts t (launched t old m) leavers new
         → Launches t old (Some m) (goes leavers new)
 
-  -- when a message that is finished at t arrives, or counts as arrived if it is dropped
-  abbrev pub arrival : ℕ → Message P → ℕ
-  arrival t m = if is_delivered cmp m then t + m.latency else t
-
+  -- the planned world after a message that is finished at t
   abbrev pub landed : ℕ → Planned P → Message P → Planned P
-  landed t p m = record p { last_arrival = raised cmp p.last_arrival m (arrival t m) }
-
-  abbrev pub completed : ℕ → Message P → Completed P
-  completed t m = completion_of m (if is_delivered cmp m then Some (arrival t m) else None)
-
-  -- whether it would arrive past the last moment
-  abbrev pub is_late : ℕ → Message P → Bool
-  is_late t m = is_delivered cmp m && nat_lt last_moment (t + m.latency)
+  landed t p m = record p { last_arrival = raised cmp p.last_arrival m (arrival cmp t m) }
 
   -- a queue of leavers completes: each is followed by the launch of its pair, whose leavers join the queue's end; at last the start is planned
   pub data Finishes (t : ℕ) : List (Message P) → Planned P → Course (Completed P) (Planned P) → Type 0 where
     all_completed : {p q : Planned P} → Looks t p q → Finishes t [] p (goes [] q)
-    late : {m : Message P} {ms : List (Message P)} {p : Planned P} → is_late t m ≡ true → Finishes t (m ∷ ms) p (meets MomentTooLate)
-    stopped : {m : Message P} {ms : List (Message P)} {p : Planned P} {fault : Error} → is_late t m ≡ false → Launches t (landed t p m) (next_of cmp p m) (meets fault)
+    late : {m : Message P} {ms : List (Message P)} {p : Planned P} → is_late cmp t m ≡ true → Finishes t (m ∷ ms) p (meets MomentTooLate)
+    stopped : {m : Message P} {ms : List (Message P)} {p : Planned P} {fault : Error} → is_late cmp t m ≡ false → Launches t (landed t p m) (next_of cmp p m) (meets fault)
         → Finishes t (m ∷ ms) p (meets fault)
-    completes : {m : Message P} {ms more : List (Message P)} {p q : Planned P} {rest : Course (Completed P) (Planned P)} → is_late t m ≡ false
+    completes : {m : Message P} {ms more : List (Message P)} {p q : Planned P} {rest : Course (Completed P) (Planned P)} → is_late cmp t m ≡ false
         → Launches t (landed t p m) (next_of cmp p m) (goes more q) → Finishes t (ms ++ more) q rest
-        → Finishes t (m ∷ ms) p (preceded (completed t m ∷ []) rest)
+        → Finishes t (m ∷ ms) p (preceded (completed cmp t m ∷ []) rest)
 
   -- those pairs start, each with its finishes; at last the start is planned
   pub data WakesEach (t : ℕ) : List (Message P) → Planned P → Course (Completed P) (Planned P) → Type 0 where

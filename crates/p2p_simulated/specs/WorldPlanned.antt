@@ -85,9 +85,9 @@ module _ {P : Type 0} (cmp : P → P → Ordering) where
   abbrev pub SomeReadyAt : Planned P → ℕ → Type 0
   SomeReadyAt p t = (m : Message P) × (next_of p m ≡ Some m) × (may_launch t p m ≡ true)
 
-  -- whether a message in flight is done: nothing was left of it, or it uses no capped side
-  abbrev pub is_spent : Planned P → Paced P → Bool
-  is_spent p f = (f.left.num == 0) || is_unlimited cmp p.caps f.message
+  -- whether a message in flight is done under the caps: nothing was left of it, or it uses no capped side
+  abbrev pub is_spent : Caps P → Paced P → Bool
+  is_spent caps f = (f.left.num == 0) || is_unlimited cmp caps f.message
 
   -- each message in flight has its fair rate
   pub record IsRated (p : Planned P) : Type 0 where

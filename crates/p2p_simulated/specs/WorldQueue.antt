@@ -1,11 +1,11 @@
 -- Settling as a queue: what is done leaves in order of start, and a message that starts and is done at once joins the end.
-use Rattle.std.specs.Prelude.{ℕ, zero, suc, ◌+◌, List, [], ◌∷◌, ◌++◌, length, Bool, not, ◌&&◌, cond, if◌then◌else◌, Option, Some, None, nat_lt, nat_le}
+use Rattle.std.specs.Prelude.{ℕ, zero, suc, ◌+◌, List, [], ◌∷◌, ◌++◌, length, not, cond, Option, Some, None, nat_le}
 use Rattle.std.specs.List.{filter}
 use Rattle.std.specs.declared.cmp.Ordering.{Ordering}
 use Rattle.p2p_simulated.specs.declared.error.Error.TheVariants.{MomentTooLate, FlowIdsUsedUp}
 use Rattle.p2p_simulated.specs.Amount.{whole}
-use Rattle.p2p_simulated.specs.WorldMessages.{Message, same_pair, is_delivered}
-use Rattle.p2p_simulated.specs.World.{World, Flight, Completed, completion_of, Course, goes, meets, last_moment, preceded, without_first, raised, may_start, first_waiting, is_done}
+use Rattle.p2p_simulated.specs.WorldMessages.{Message, same_pair}
+use Rattle.p2p_simulated.specs.World.{World, Flight, Completed, Course, goes, meets, last_moment, preceded, without_first, raised, may_start, first_waiting, is_done, arrival, is_late, completed}
 
 module _ {P : Type 0} (cmp : P → P → Ordering) where
   -- the messages in flight that are done, in order of start
@@ -16,17 +16,9 @@ module _ {P : Type 0} (cmp : P → P → Ordering) where
   unfoldable pub staying : World P → World P
   staying w = record w { sending = filter (λ f. not (is_done cmp w f)) w.sending }
 
-  -- whether a message that is finished at t would arrive past the last moment
-  abbrev pub is_past : ℕ → Message P → Bool
-  is_past t m = is_delivered cmp m && nat_lt last_moment (if is_delivered cmp m then t + m.latency else t)
-
-  -- the completion of a message that is finished at t
-  abbrev pub completion : ℕ → Message P → Completed P
-  completion t m = completion_of m (if is_delivered cmp m then Some (if is_delivered cmp m then t + m.latency else t) else None)
-
-  -- the world after its arrival
+  -- the world after the arrival of a message that is finished at t
   abbrev pub arrived : ℕ → World P → Message P → World P
-  arrived t w m = record w { last_arrival = raised cmp w.last_arrival m (if is_delivered cmp m then t + m.latency else t) }
+  arrived t w m = record w { last_arrival = raised cmp w.last_arrival m (arrival cmp t m) }
 
   -- a message as it starts
   abbrev pub flight : Message P → Flight P
@@ -53,5 +45,5 @@ module _ {P : Type 0} (cmp : P → P → Ordering) where
   finish_within zero t queue w = goes [] w
   finish_within (suc n) t [] w = goes [] w
   finish_within (suc n) t (f ∷ queue) w =
-      cond (is_past t f.message) (meets MomentTooLate)
-      (preceded (completion t f.message ∷ []) (launch_then (finish_within n t) t queue (arrived t w f.message) (first_waiting cmp (arrived t w f.message) f.message)))
+      cond (is_late cmp t f.message) (meets MomentTooLate)
+      (preceded (completed cmp t f.message ∷ []) (launch_then (finish_within n t) t queue (arrived t w f.message) (first_waiting cmp (arrived t w f.message) f.message)))

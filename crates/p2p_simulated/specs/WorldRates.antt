@@ -1,11 +1,12 @@
 -- The sides that limit messages in flight, the rates that are fair for them, and how they drain.
-use Rattle.std.specs.Prelude.{◌≡◌, ℕ, ◌+◌, ◌<◌, List, [], ◌∷◌, ◌++◌, Bool, not, ◌&&◌, ◌||◌, cond, if◌then◌else◌, Option, Some, None, is_none}
+use Rattle.std.specs.Prelude.{◌≡◌, ℕ, ◌+◌, ◌<◌, List, [], ◌∷◌, ◌++◌, Bool, not, ◌&&◌, ◌||◌, if◌then◌else◌, Option, Some, None, is_none}
 use Rattle.std.specs.List.{flat_map}
 use Rattle.std.specs.declared.cmp.Ordering.{Ordering}
 use Rattle.p2p_simulated.specs.Amount.{Amount, whole, reduced, drained}
 use Rattle.p2p_simulated.specs.Fair.{Side, IsFair}
 use Rattle.p2p_simulated.specs.Sides.{same_peer}
 use Rattle.p2p_simulated.specs.WorldMessages.{Message, Caps, is_delivered}
+use Rattle.p2p_simulated.specs.Places.{places_from}
 
 -- the rates of messages in parts, so many of which are one byte a second; none is a rate without limit
 abbrev pub Parts : Type 0
@@ -26,16 +27,11 @@ pub record IsLowest (a : Amount) : Type 0 where
   pub positive : 0 < a.den
   pub lowest : reduced a.num a.den ≡ a
 
--- the places of those that pass the test, where the first has that place
-abbrev pub places_that_pass : {X : Type 0} → ℕ → (X → Bool) → List X → List ℕ
-places_that_pass place test [] = []
-places_that_pass place test (x ∷ xs) = cond (test x) (place ∷ places_that_pass (place + 1) test xs) (places_that_pass (place + 1) test xs)
-
 module _ {P : Type 0} (cmp : P → P → Ordering) where
   -- the side of this cap, if it is one, that those messages use for which the test passes
   abbrev pub side_of : Option ℕ → (Message P → Bool) → List (Message P) → List Side
   side_of None uses messages = []
-  side_of (Some cap) uses messages = record { cap = cap; users = places_that_pass 0 uses messages } ∷ []
+  side_of (Some cap) uses messages = record { cap = cap; users = places_from 0 uses messages } ∷ []
 
   -- a message uses the egress of its origin, with all messages of that origin
   abbrev pub egress_of : Caps P → List (Message P) → Message P → List Side

@@ -8,11 +8,11 @@ use Rattle.p2p_simulated.specs.Size.{FairRatesFit}
 use Rattle.p2p_simulated.specs.Time.{SecondsFit, TakenFits}
 use Rattle.p2p_simulated.specs.WorldMessages.{Message, Caps}
 use Rattle.p2p_simulated.specs.WorldRates.{capped_sides}
-use Rattle.p2p_simulated.specs.World.{Completed, goes, meets, last_moment, fronts}
+use Rattle.p2p_simulated.specs.World.{Completed, goes, meets, last_moment, fronts, is_late}
 use Rattle.p2p_simulated.specs.WorldCalls.{Call, call_limit, call_limit_link, call_enqueue, call_advance, call_next, limited_by, linked_by}
 use Rattle.p2p_simulated.specs.WorldReplies.{Reply, reply_done, reply_next, reply_refused, SameCompletion}
 use Rattle.p2p_simulated.specs.WorldPlanned.{Planned, Paced, next_event, paced_flows, drained_to, next_of, may_launch, is_spent}
-use Rattle.p2p_simulated.specs.WorldEvents.{Accounts, Launches, Finishes, Settles, Wakes, launched, landed, is_late, with_queued, Obeys}
+use Rattle.p2p_simulated.specs.WorldEvents.{Accounts, Launches, Finishes, Settles, Wakes, launched, landed, with_queued, Obeys}
 
 -- what went of the message by t does not fit, or cannot be taken off what was left
 abbrev pub IsDrainTooLarge : {P : Type 0} → ℕ → Paced P → Type 0
@@ -25,7 +25,7 @@ IsTimeTooLarge f = MatchOption f.rate ⊥ (λ rate. (0 < rate.num) × ¬ Seconds
 module _ {P : Type 0} (cmp : P → P → Ordering) where
   -- the messages that an account at t rates: those of which something is left and that use a capped side
   abbrev pub to_rate : ℕ → Planned P → List (Message P)
-  to_rate t p = paced_flows (filter (λ f. not (is_spent cmp p f)) (drained_to t p.sending))
+  to_rate t p = paced_flows (filter (λ f. not (is_spent cmp p.caps f)) (drained_to t p.sending))
 
   -- a number of an account at t does not fit: a drain, a time, or a rate of more than sixteen messages
   pub data IsTooLarge (t : ℕ) (old : Planned P) : Type 0 where

@@ -15,6 +15,21 @@ pub data Reply (P : Type 0) : Type 0 where
   reply_next : Option ℕ → Reply P
   reply_refused : Error → Reply P
 
+-- the calls that were made: those that are answered with completions
+abbrev pub made : {P : Type 0} → List (Call P) → List (Reply P) → List (Call P)
+made [] replies = []
+made (call ∷ calls) [] = []
+made (call ∷ calls) (reply_done cs ∷ replies) = call ∷ made calls replies
+made (call ∷ calls) (reply_next next ∷ replies) = made calls replies
+made (call ∷ calls) (reply_refused why ∷ replies) = made calls replies
+
+-- the completions of the calls that were made, call by call
+abbrev pub completions_in : {P : Type 0} → List (Reply P) → List (List (Completed P))
+completions_in [] = []
+completions_in (reply_done cs ∷ replies) = cs ∷ completions_in replies
+completions_in (reply_next next ∷ replies) = completions_in replies
+completions_in (reply_refused why ∷ replies) = completions_in replies
+
 -- how many messages a call hands over
 abbrev pub messages_in : {P : Type 0} → Call P → ℕ
 messages_in (call_limit now peer egress ingress) = 0

@@ -1,11 +1,11 @@
 -- Fairness of flows under caps, said without their places: so it holds in every order, and of a part.
-use Rattle.std.proofs.Common.{◌≡◌, ℕ, zero, suc, ◌+◌, ◌*◌, ◌<◌, ◌≤◌, Bool, true, false, cond, List, [], ◌∷◌, Some, map, length, get_or, sum_by, Contains, refl, sym, ap, ◌∙◌, subst, inl, inr, ◌⊎◌, arith}
+use Rattle.std.proofs.Common.{◌≡◌, ℕ, zero, suc, ◌+◌, ◌*◌, ◌<◌, ◌≤◌, Bool, true, false, cond, List, [], ◌∷◌, Some, map, length, get_or, sum_by, Contains, refl, sym, ap, ◌∙◌, subst, inl, inr, arith}
 use Rattle.std.specs.Prelude.{slice_get}
 use Rattle.std.specs.Cmp.{IsTotalOrder}
 use Rattle.std.specs.declared.cmp.Ordering.{Ordering}
 use Rattle.std.proofs.lemmas.List.{length-map}
 use Rattle.std.proofs.lemmas.List.Elements.{All-contains}
-use Rattle.std.proofs.lemmas.List.Sums.{sum_by-cons, sum_by-append}
+use Rattle.std.proofs.lemmas.List.Sums.{sum_by-cons}
 use Rattle.std.proofs.lemmas.Option.{get_or_from_slice_get, slice_get-map, same_Some}
 use Rattle.p2p_simulated.specs.declared.bandwidth.Flow.{Flow}
 use Rattle.p2p_simulated.specs.declared.bandwidth.Rate.{Rate}
@@ -15,11 +15,13 @@ use Rattle.p2p_simulated.specs.Rates.{IsRateOf}
 use Rattle.p2p_simulated.specs.Ratio.{IsWorth}
 use Rattle.p2p_simulated.specs.Sides.{Subject}
 use Rattle.p2p_simulated.specs.Caps.{Caps}
-use Rattle.p2p_simulated.specs.PeerCaps.{cap_of, AreOfPeers, limits, places_from, sides_under, AreFairUnder, IsCappedSide}
-use Rattle.p2p_simulated.proofs.Fairness.Members.{In, in_map, in_get, get_in, in_right, in_either, in_from_contains, contains_from_in, some_or_none}
+use Rattle.p2p_simulated.specs.PeerCaps.{cap_of, AreOfPeers, limits, sides_under, AreFairUnder, IsCappedSide}
+use Rattle.p2p_simulated.proofs.Fairness.Members.{In, in_map, in_get, get_in, in_from_contains, some_or_none, get_from_map}
 use Rattle.p2p_simulated.proofs.Fairness.Sums.{All-from_contains}
 use Rattle.p2p_simulated.proofs.Fairness.MaxMin.{rate_at}
 use Rattle.p2p_simulated.proofs.Fairness.CapSides.{capped_from_listed, listed_from_capped, side_of_subject}
+use Rattle.p2p_simulated.specs.Places.{places_from}
+use Rattle.p2p_simulated.proofs.Places.{place_here, passes_here}
 
 -- a flow, its parts and its rate
 pub record Allotted (P : Type 0) : Type 0 where
@@ -29,6 +31,9 @@ pub record Allotted (P : Type 0) : Type 0 where
 
 abbrev pub flows_of : {P : Type 0} → List (Allotted P) → List (Flow P)
 flows_of xs = map (λ x. x.flow) xs
+
+flow_at : {P : Type 0} (xs : List (Allotted P)) (k : ℕ) (x : Allotted P) → slice_get xs k ≡ Some x → slice_get (flows_of xs) k ≡ Some x.flow
+flow_at xs k x e = slice_get-map (λ (y : Allotted _). y.flow) xs k ∙ (rw e refl)
 
 abbrev pub rates_of : {P : Type 0} → List (Allotted P) → List Rate
 rates_of xs = map (λ x. x.rate) xs
@@ -95,53 +100,26 @@ module _ {P : Type 0} (cmp : P → P → Ordering) (caps : Caps P) where
 
   -- ---- places
 
-  load_is : (s : Subject P) (g : ℕ → ℕ) (place : ℕ) (xs : List (Allotted P)) → StandsAt g place xs → sum_by g (places_from cmp place s (flows_of xs)) ≡ total s xs
+  load_is : (s : Subject P) (g : ℕ → ℕ) (place : ℕ) (xs : List (Allotted P)) → StandsAt g place xs → sum_by g (places_from place (limits cmp s) (flows_of xs)) ≡ total s xs
   load_is s g place [] stands = refl
-  load_is s g place (x ∷ xs) stands =
-      sum_by-append g (cond (limits cmp s x.flow) (place ∷ []) []) (places_from cmp (place + 1) s (flows_of xs))
-      ∙ both (limits cmp s x.flow) (load_is s g (place + 1) xs stands.1)
-      ∙ sym (total-cons s x xs)
+  load_is s g place (x ∷ xs) stands = both (limits cmp s x.flow) (load_is s g (place + 1) xs stands.1) ∙ sym (total-cons s x xs)
     where
-      both : (t : Bool) → sum_by g (places_from cmp (place + 1) s (flows_of xs)) ≡ total s xs
-          → sum_by g (cond t (place ∷ []) []) + sum_by g (places_from cmp (place + 1) s (flows_of xs)) ≡ cond t x.parts 0 + total s xs
-      both true ih = omega (arith, ih, stands.0, sum_by-cons g place [])
+      users : List ℕ
+      users = places_from (place + 1) (limits cmp s) (flows_of xs)
+
+      both : (t : Bool) → sum_by g users ≡ total s xs → sum_by g (cond t (place ∷ users) users) ≡ cond t x.parts 0 + total s xs
+      both true ih = omega (arith, ih, stands.0, sum_by-cons g place users)
       both false ih = omega (arith, ih)
 
-  place_in : (s : Subject P) (place : ℕ) (xs : List (Allotted P)) (k : ℕ) (x : Allotted P) → slice_get xs k ≡ Some x → limits cmp s x.flow ≡ true
-      → In (places_from cmp place s (flows_of xs)) (place + k)
-  place_in s place [] k x at l = cc
-  place_in s place (y ∷ xs) zero x at l =
-      let same : y ≡ x = cc in
-      let on : limits cmp s y.flow ≡ true = subst (λ (z : Allotted P). limits cmp s z.flow ≡ true) (sym same) l in
-      let e : place ≡ place + 0 = omega arith in
-      rw on (inl e)
-  place_in s place (y ∷ xs) (suc k) x at l =
-      let e : place + 1 + k ≡ place + suc k = omega arith in
-      in_right (cond (limits cmp s y.flow) (place ∷ []) []) (places_from cmp (place + 1) s (flows_of xs)) (place + suc k)
-      (subst (In (places_from cmp (place + 1) s (flows_of xs))) e (place_in s (place + 1) xs k x at l))
+  place_in : (s : Subject P) (xs : List (Allotted P)) (k : ℕ) (x : Allotted P) → slice_get xs k ≡ Some x → limits cmp s x.flow ≡ true → Contains (places_from 0 (limits cmp s) (flows_of xs)) k
+  place_in s xs k x at l = place_here (limits cmp s) (flows_of xs) k x.flow (flow_at xs k x at) l
 
   -- who stands at a place
-  record StandsThere (s : Subject P) (place : ℕ) (xs : List (Allotted P)) (j : ℕ) : Type 0 where
-    k : ℕ
-    x : Allotted P
-    is : j ≡ place + k
-    at : slice_get xs k ≡ Some x
-    limited : limits cmp s x.flow ≡ true
-
-  from_place : (s : Subject P) (place : ℕ) (xs : List (Allotted P)) (j : ℕ) → In (places_from cmp place s (flows_of xs)) j → StandsThere s place xs j
-  from_place s place [] j h = absurd h
-  from_place s place (y ∷ xs) j h =
-      by_part (in_either (cond (limits cmp s y.flow) (place ∷ []) []) (places_from cmp (place + 1) s (flows_of xs)) j h) (λ g. from_place s (place + 1) xs j g)
-    where
-      here : (t : Bool) → limits cmp s y.flow ≡ t → In (cond t (place ∷ []) []) j → StandsThere s place (y ∷ xs) j
-      here true l (inl e) = record { k = 0; x = y; is = omega (arith, e); at = refl; limited = l }
-      here true l (inr g) = absurd g
-      here false l g = absurd g
-
-      by_part : In (cond (limits cmp s y.flow) (place ∷ []) []) j ⊎ In (places_from cmp (place + 1) s (flows_of xs)) j
-          → (In (places_from cmp (place + 1) s (flows_of xs)) j → StandsThere s (place + 1) xs j) → StandsThere s place (y ∷ xs) j
-      by_part (inl g) ih = here (limits cmp s y.flow) refl g
-      by_part (inr g) ih = let r = ih g in record { k = suc r.k; x = r.x; is = omega (arith, r.is); at = r.at; limited = r.limited }
+  from_place : (s : Subject P) (xs : List (Allotted P)) (k : ℕ) → Contains (places_from 0 (limits cmp s) (flows_of xs)) k → (x : Allotted P) × (slice_get xs k ≡ Some x) × (limits cmp s x.flow ≡ true)
+  from_place s xs k has =
+      let r = passes_here (limits cmp s) (flows_of xs) k (in_from_contains (places_from 0 (limits cmp s) (flows_of xs)) k has) in
+      let x = get_from_map (λ (y : Allotted P). y.flow) xs k r.0 r.1 in
+      (x.0, x.1, subst (λ (f : Flow P). limits cmp s f ≡ true) (sym x.2) r.2)
 
   module _ (order : IsTotalOrder cmp) (of : AreOfPeers cmp caps) (xs : List (Allotted P)) where
     abbrev S : List Side
@@ -151,22 +129,17 @@ module _ {P : Type 0} (cmp : P → P → Ordering) (caps : Caps P) where
     side_for s cap = side_of_subject cmp order caps of (flows_of xs) s cap
 
     uses_side : (k : ℕ) (x : Allotted P) → slice_get xs k ≡ Some x → (c : IsCapped x.flow) → Uses S k (side_for c.subject c.cap)
-    uses_side k x at c =
-        let e : 0 + k ≡ k = omega arith in
-        let users = places_from cmp 0 c.subject (flows_of xs) in record {
-          listed = listed_from_capped cmp order caps of (flows_of xs) c.subject c.cap x.flow c.capped (in_map (λ (x : Allotted P). x.flow) xs x (in_get xs k x at)) c.limited;
-          used = contains_from_in users k (subst (In users) e (place_in c.subject 0 xs k x at c.limited));
-        }
+    uses_side k x at c = record {
+      listed = listed_from_capped cmp order caps of (flows_of xs) c.subject c.cap x.flow c.capped (in_map (λ (x : Allotted P). x.flow) xs x (in_get xs k x at)) c.limited;
+      used = place_in c.subject xs k x at c.limited;
+    }
 
     limited_from_capped : (k : ℕ) (x : Allotted P) → slice_get xs k ≡ Some x → IsCapped x.flow → IsLimited S k
     limited_from_capped k x at c = (side_for c.subject c.cap, uses_side k x at c)
 
     -- the user of a side
     user_is : (side : Side) (c : IsCappedSide cmp caps (flows_of xs) side) (j : ℕ) → Contains side.users j → (x : Allotted P) × (slice_get xs j ≡ Some x) × (limits cmp c.subject x.flow ≡ true)
-    user_is side c j used =
-        let r = from_place c.subject 0 xs j (subst (λ (ps : List ℕ). In ps j) c.users (in_from_contains side.users j used)) in
-        let e : r.k ≡ j = omega (arith, r.is) in
-        (r.x, subst (λ i. slice_get xs i ≡ Some r.x) e r.at, r.limited)
+    user_is side c j used = from_place c.subject xs j (subst (λ (ps : List ℕ). Contains ps j) c.users used)
 
     capped_from_limited : (k : ℕ) (x : Allotted P) → slice_get xs k ≡ Some x → IsLimited S k → IsCapped x.flow
     capped_from_limited k x at (side, u) =
@@ -205,9 +178,7 @@ module _ {P : Type 0} (cmp : P → P → Ordering) (caps : Caps P) where
               full = sym (load_of b.side c) ∙ b.full;
               greatest = λ y h l.
                   let p = get_in xs y h in
-                  let e : 0 + p.0 ≡ p.0 = omega arith in
-                  let user = place_in c.subject 0 xs p.0 y p.1 l in
-                  let used = contains_from_in b.side.users p.0 (subst (λ (ps : List ℕ). In ps p.0) (sym c.users) (subst (In (places_from cmp 0 c.subject (flows_of xs))) e user)) in
+                  let used = subst (λ (ps : List ℕ). Contains ps p.0) (sym c.users) (place_in c.subject xs p.0 y p.1 l) in
                   let le = All-contains (λ i. g i ≤ g k) b.side.users p.0 b.greatest used in
                   omega (arith, le, at p.0 y p.1, at k x has);
             }
@@ -234,11 +205,9 @@ module _ {P : Type 0} (cmp : P → P → Ordering) (caps : Caps P) where
               uses = uses_side j x has h.by;
               full = load_is h.by.subject g 0 xs stands ∙ h.full;
               greatest = All-from_contains (λ i. g i ≤ g j) side.users (λ i used.
-                  let r = from_place h.by.subject 0 xs i (in_from_contains side.users i used) in
-                  let e : r.k ≡ i = omega (arith, r.is) in
-                  let there = subst (λ n. slice_get xs n ≡ Some r.x) e r.at in
-                  let le = h.greatest r.x (in_get xs i r.x there) r.limited in
-                  omega (arith, le, at i r.x there, at j x has));
+                  let r = from_place h.by.subject xs i used in
+                  let le = h.greatest r.0 (in_get xs i r.0 r.1) r.2 in
+                  omega (arith, le, at i r.0 r.1, at j x has));
             }
 
         fair : IsFair S per g

@@ -10,10 +10,11 @@ use Rattle.p2p_simulated.specs.declared.bandwidth.Flow.{Flow}
 use Rattle.p2p_simulated.specs.Fair.{Side}
 use Rattle.p2p_simulated.specs.Sides.{Subject, sent_by, received_by, sent_between, Ask, same_peer, same_subject, is_same, is_open, opened, sides_after, asks_from}
 use Rattle.p2p_simulated.specs.Caps.{Caps}
-use Rattle.p2p_simulated.specs.PeerCaps.{cap_of, answered_under, AreOfPeers, limits, places_from, sides_under, IsCappedSide, SidesAreOfTheCaps}
+use Rattle.p2p_simulated.specs.PeerCaps.{cap_of, answered_under, AreOfPeers, limits, sides_under, IsCappedSide, SidesAreOfTheCaps}
 use Rattle.p2p_simulated.proofs.Subjects.{same_itself, same_symm, same_congr}
 use Rattle.p2p_simulated.proofs.Fairness.Members.{In, in_left, in_right, in_either, in_from_contains, contains_from_in, none_passes, any_fails}
 use Rattle.p2p_simulated.proofs.Fairness.Subjects.{same_peer_itself, one_cap, same_limits}
+use Rattle.p2p_simulated.specs.Places.{places_from}
 
 module _ {P : Type 0} (cmp : P → P → Ordering) (order : IsTotalOrder cmp) (caps : Caps P) (of : AreOfPeers cmp caps) where
   -- the ask was answered by the caps
@@ -179,13 +180,18 @@ module _ {P : Type 0} (cmp : P → P → Ordering) (order : IsTotalOrder cmp) (c
       by_delivered true = one_kept (same_peer cmp p f.origin && same_peer cmp q f.recipient) (links place f)
       by_delivered false = one_kept (same_peer cmp p f.origin && same_peer cmp q f.recipient) (links place f)
 
+  joined : (place : ℕ) (b : Bool) (rest : List ℕ) → cond b (place ∷ []) [] ++ rest ≡ cond b (place ∷ rest) rest
+  joined place true rest = refl
+  joined place false rest = refl
+
   -- who asks for a subject is a flow that its side limits
-  places_asked : (place : ℕ) (flows : List (Flow P)) (a : Ask P) → map (λ b. b.place) (filter (is_same cmp a) (asks place flows)) ≡ places_from cmp place a.subject flows
+  places_asked : (place : ℕ) (flows : List (Flow P)) (a : Ask P) → map (λ b. b.place) (filter (is_same cmp a) (asks place flows)) ≡ places_from place (limits cmp a.subject) flows
   places_asked place [] a = refl
   places_asked place (f ∷ flows) a =
       ap (map (λ (b : Ask P). b.place)) (filter-append (is_same cmp a) (asks_if place f f.delivered) (asks (place + 1) flows))
       ∙ map-append (λ (b : Ask P). b.place) (filter (is_same cmp a) (asks_if place f f.delivered)) (filter (is_same cmp a) (asks (place + 1) flows))
       ∙ ap₂ (λ (xs ys : List ℕ). xs ++ ys) (one_place place f a.subject) (places_asked (place + 1) flows a)
+      ∙ joined place (limits cmp a.subject f) (places_from (place + 1) (limits cmp a.subject) flows)
 
   one_limits : (place : ℕ) (f : Flow P) (d : Bool) → f.delivered ≡ d → (a : Ask P) → In (asks_if place f d) a → limits cmp a.subject f ≡ true
   one_limits place f true is a (inl e) = subst (λ (b : Ask P). limits cmp b.subject f ≡ true) e (same_peer_itself cmp order f.origin)
@@ -230,9 +236,9 @@ module _ {P : Type 0} (cmp : P → P → Ordering) (order : IsTotalOrder cmp) (c
       (r.0, in_right (asks_if place g g.delivered) (asks (place + 1) flows) r.0 r.1, r.2)
 
   -- one subject has the same places
-  same_places : (place : ℕ) (s t : Subject P) (flows : List (Flow P)) → same_subject cmp s t ≡ true → places_from cmp place s flows ≡ places_from cmp place t flows
+  same_places : (place : ℕ) (s t : Subject P) (flows : List (Flow P)) → same_subject cmp s t ≡ true → places_from place (limits cmp s) flows ≡ places_from place (limits cmp t) flows
   same_places place s t [] e = refl
-  same_places place s t (f ∷ flows) e = ap₂ (λ (b : Bool) (ps : List ℕ). cond b (place ∷ []) [] ++ ps) (same_limits cmp order s t f e) (same_places (place + 1) s t flows e)
+  same_places place s t (f ∷ flows) e = ap₂ (λ (b : Bool) (ps : List ℕ). cond b (place ∷ ps) ps) (same_limits cmp order s t f e) (same_places (place + 1) s t flows e)
 
   -- ---- the sides
 
@@ -252,7 +258,7 @@ module _ {P : Type 0} (cmp : P → P → Ordering) (order : IsTotalOrder cmp) (c
 
   -- the side of a subject
   abbrev pub side_of_subject : List (Flow P) → Subject P → ℕ → Side
-  side_of_subject flows s cap = record { cap = cap; users = places_from cmp 0 s flows }
+  side_of_subject flows s cap = record { cap = cap; users = places_from 0 (limits cmp s) flows }
 
   pub listed_from_capped : (flows : List (Flow P)) (s : Subject P) (cap : ℕ) (f : Flow P) → cap_of caps s ≡ Some cap → In flows f → limits cmp s f ≡ true
       → Contains (sides_under cmp caps flows) (side_of_subject flows s cap)

@@ -12,14 +12,14 @@ use Rattle.p2p_simulated.specs.declared.bandwidth.Rate.{Rate}
 use Rattle.p2p_simulated.specs.declared.bandwidth.Rate.TheVariants.{Unlimited, Finite}
 use Rattle.p2p_simulated.specs.Fair.{Side}
 use Rattle.p2p_simulated.specs.FairLaws.{AreTheSameSides}
-use Rattle.p2p_simulated.specs.PeerCaps.{cap_of, AreOfPeers, HaveDistinctIds, IsFairById, limits, places_from, sides_under, AreFairUnder, UsesNoCap}
+use Rattle.p2p_simulated.specs.PeerCaps.{cap_of, AreOfPeers, HaveDistinctIds, IsFairById, limits, sides_under, AreFairUnder, UsesNoCap}
 use Rattle.p2p_simulated.specs.Rates.{AreFairRates, last_rate}
 use Rattle.p2p_simulated.specs.Ratio.{amount_of, IsWorth}
 use Rattle.p2p_simulated.specs.Sides.{Subject, sent_by, received_by, sent_between, same_peer, same_subject}
 use Rattle.p2p_simulated.specs.Amount.{Amount}
 use Rattle.p2p_simulated.specs.Caps.{Caps}
 use Rattle.p2p_simulated.specs.WorldMessages.{Message, is_delivered}
-use Rattle.p2p_simulated.specs.WorldRates.{Parts, places_that_pass, side_of, egress_of, ingress_of, link_of, sides_for, capped_sides, is_unlimited, rates_from, rate_of, AreFair}
+use Rattle.p2p_simulated.specs.WorldRates.{Parts, side_of, egress_of, ingress_of, link_of, sides_for, capped_sides, is_unlimited, rates_from, rate_of, AreFair}
 use Rattle.p2p_simulated.proofs.Subjects.{same_itself}
 use Rattle.p2p_simulated.proofs.Ratios.{worth_is_reduced}
 use Rattle.p2p_simulated.proofs.Fairness.Among.{Allotted, flows_of, rates_of, among_from}
@@ -30,6 +30,8 @@ use Rattle.p2p_simulated.proofs.Fairness.Members.{In, in_left, in_right, in_eith
 use Rattle.p2p_simulated.proofs.Fairness.SameSides.{fairness_is_of_the_set}
 use Rattle.p2p_simulated.proofs.Fairness.Uncapped.{unlimited_where_uncapped}
 use Rattle.p2p_simulated.proofs.Fairness.Subjects.{same_peer_itself, one_cap, same_limits}
+use Rattle.p2p_simulated.specs.Places.{places_from}
+use Rattle.p2p_simulated.proofs.Places.{places_alike}
 
 module _ {P : Type 0} (cmp : P → P → Ordering) where
   -- the flow is of the message's peers, by their order, and delivered as it is
@@ -54,18 +56,9 @@ module _ {P : Type 0} (cmp : P → P → Ordering) where
     limits_alike (received_by p) f m t = ap₂ (λ (a b : Bool). a && b) t.delivered (same_right p f.recipient m.recipient t.recipient)
     limits_alike (sent_between p q) f m t = ap₂ (λ (a b : Bool). a && b) (same_right p f.origin m.origin t.origin) (same_right q f.recipient m.recipient t.recipient)
 
-    joined : (place : ℕ) (b : Bool) (xs ys : List ℕ) → xs ≡ ys → cond b (place ∷ []) [] ++ xs ≡ cond b (place ∷ ys) ys
-    joined place true xs ys e = ap (λ (zs : List ℕ). place ∷ zs) e
-    joined place false xs ys e = e
-
-    places_alike : (place : ℕ) (s : Subject P) (flows : List (Flow P)) (messages : List (Message P)) → AllZip StandsForMessage flows messages
-        → places_from cmp place s flows ≡ places_that_pass place (limits_message s) messages
-    places_alike place s [] [] t = refl
-    places_alike place s [] (m ∷ ms) t = absurd t
-    places_alike place s (f ∷ fs) [] t = absurd t
-    places_alike place s (f ∷ fs) (m ∷ ms) t =
-        joined place (limits cmp s f) (places_from cmp (place + 1) s fs) (places_that_pass (place + 1) (limits_message s) ms) (places_alike (place + 1) s fs ms t.1)
-        ∙ ap (λ b. cond b (place ∷ places_that_pass (place + 1) (limits_message s) ms) (places_that_pass (place + 1) (limits_message s) ms)) (limits_alike s f m t.0)
+    users_alike : (s : Subject P) (flows : List (Flow P)) (messages : List (Message P)) → AllZip StandsForMessage flows messages
+        → places_from 0 (limits cmp s) flows ≡ places_from 0 (limits_message s) messages
+    users_alike s flows messages t = places_alike StandsForMessage (limits cmp s) (limits_message s) (λ f m e. limits_alike s f m e) 0 flows messages t
 
     same_limits_message : (s t : Subject P) (m : Message P) → same_subject cmp s t ≡ true → limits_message s m ≡ limits_message t m
     same_limits_message s t m e = sym (limits_alike s (flow_of m) m (own m)) ∙ same_limits cmp order s t (flow_of m) e ∙ limits_alike t (flow_of m) m (own m)
@@ -89,21 +82,21 @@ module _ {P : Type 0} (cmp : P → P → Ordering) where
     flow_for (f ∷ fs) (n ∷ ms) m t (inl e) = (f, inl refl, subst (λ (k : Message P). StandsForMessage f k) e t.0)
     flow_for (f ∷ fs) (n ∷ ms) m t (inr h) = let r : (g : Flow P) × In fs g × StandsForMessage g m = flow_for fs ms m t.1 h in (r.0, inr r.1, r.2)
 
-    places_agree : (place : ℕ) (p q : Message P → Bool) (messages : List (Message P)) → ((m : Message P) → p m ≡ q m) → places_that_pass place p messages ≡ places_that_pass place q messages
+    places_agree : (place : ℕ) (p q : Message P → Bool) (messages : List (Message P)) → ((m : Message P) → p m ≡ q m) → places_from place p messages ≡ places_from place q messages
     places_agree place p q [] h = refl
     places_agree place p q (m ∷ ms) h = ap₂ (λ (b : Bool) (ps : List ℕ). cond b (place ∷ ps) ps) (h m) (places_agree (place + 1) p q ms h)
 
     module _ (caps : Caps P) (of : AreOfPeers cmp caps) (flows : List (Flow P)) (messages : List (Message P)) (stand : AllZip StandsForMessage flows messages) where
       -- the side of a subject
       abbrev side_at : Subject P → ℕ → Side
-      side_at s cap = record { cap = cap; users = places_that_pass 0 (limits_message s) messages }
+      side_at s cap = record { cap = cap; users = places_from 0 (limits_message s) messages }
 
-      to_side_of : (o : Option ℕ) (uses : Message P → Bool) (cap : ℕ) → o ≡ Some cap → In (side_of cmp o uses messages) (record { cap = cap; users = places_that_pass 0 uses messages })
+      to_side_of : (o : Option ℕ) (uses : Message P → Bool) (cap : ℕ) → o ≡ Some cap → In (side_of cmp o uses messages) (record { cap = cap; users = places_from 0 uses messages })
       to_side_of None uses cap e = cc
-      to_side_of (Some c) uses cap e = let same : c ≡ cap = same_Some c cap e in inl (ap (λ n. record { cap = n; users = places_that_pass 0 uses messages }) same)
+      to_side_of (Some c) uses cap e = let same : c ≡ cap = same_Some c cap e in inl (ap (λ n. record { cap = n; users = places_from 0 uses messages }) same)
 
       from_side_of : (o : Option ℕ) (uses : Message P → Bool) (side : Side) → In (side_of cmp o uses messages) side
-          → (cap : ℕ) × (o ≡ Some cap) × (side ≡ record { cap = cap; users = places_that_pass 0 uses messages })
+          → (cap : ℕ) × (o ≡ Some cap) × (side ≡ record { cap = cap; users = places_from 0 uses messages })
       from_side_of None uses side h = absurd h
       from_side_of (Some cap) uses side (inl e) = (cap, refl, sym e)
       from_side_of (Some cap) uses side (inr h) = absurd h
@@ -175,14 +168,14 @@ module _ {P : Type 0} (cmp : P → P → Ordering) where
             let c = capped_from_listed cmp order caps of flows side listed in
             let r = message_for flows messages c.flow stand (in_from_contains flows c.flow c.among) in
             let brought = to_sides_for r.0 c.subject side.cap c.capped (sym (limits_alike c.subject c.flow r.0 r.2) ∙ c.limited) in
-            let same : side_at c.subject side.cap ≡ side = ap (λ (ps : List ℕ). record { cap = side.cap; users = ps }) (sym (c.users ∙ places_alike 0 c.subject flows messages stand)) in
+            let same : side_at c.subject side.cap ≡ side = ap (λ (ps : List ℕ). record { cap = side.cap; users = ps }) (sym (c.users ∙ users_alike c.subject flows messages stand)) in
             contains_from_in (capped_sides cmp caps messages) side (in_flat_map (sides_for cmp caps messages) messages r.0 side r.1 (subst (In (sides_for cmp caps messages r.0)) same brought))),
         (λ listed.
             let r = from_flat_map (sides_for cmp caps messages) messages side (in_from_contains (capped_sides cmp caps messages) side listed) in
             let b = from_sides_for r.0 side r.2 in
             let f = flow_for flows messages r.0 stand r.1 in
             let there = listed_from_capped cmp order caps of flows b.subject b.cap f.0 b.capped f.1 (limits_alike b.subject f.0 r.0 f.2 ∙ b.limited) in
-            let same : side_of_subject cmp order caps of flows b.subject b.cap ≡ side = ap (λ (ps : List ℕ). record { cap = b.cap; users = ps }) (places_alike 0 b.subject flows messages stand)
+            let same : side_of_subject cmp order caps of flows b.subject b.cap ≡ side = ap (λ (ps : List ℕ). record { cap = b.cap; users = ps }) (users_alike b.subject flows messages stand)
             ∙ sym b.is in
             subst (Contains (sides_under cmp caps flows)) same there),
       )

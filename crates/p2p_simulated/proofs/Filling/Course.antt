@@ -4,7 +4,7 @@ use Rattle.std.specs.Prelude.{IsPermutation, option_map, unwrap_or}
 use Rattle.std.specs.declared.cmp.Reverse.{Reverse}
 use Rattle.std.proofs.lemmas.Bool.{cases_eq, cases_lt, eqb-true}
 use Rattle.std.proofs.lemmas.List.{get_or-map, get_or_default, length-map, map_push}
-use Rattle.std.proofs.lemmas.List.Elements.{All-nil, All-cons, All-map, All-contains, Contains-get_or}
+use Rattle.std.proofs.lemmas.List.Elements.{All-cons, All-map, All-contains, Contains-get_or}
 use Rattle.std.proofs.lemmas.List.Sorted.{All-permutation}
 use Rattle.p2p_simulated.specs.Amount.{whole}
 use Rattle.p2p_simulated.specs.Code.{side_of}
@@ -44,14 +44,6 @@ start_of opens rates none_counted none = record {
 -- ---- the shares of the first sides
 
 module _ (sides : List Side) (rates : List (Option Ratio)) (opens : List OpenSide) (start : IsStart sides rates opens) where
-  pub first_none : AreShares sides rates opens []
-  first_none = record {
-    one_each = start.one_each;
-    accounts = start.accounts;
-    each = All-nil (IsShare sides rates opens);
-    once = λ k. omega arith;
-  }
-
   -- one more
   pub first_more : (shares later : List (Reverse Share)) (i : ℕ) (rate : Ratio) (e : OpenSide) → i < length sides → AreShares sides rates opens shares → count_by (is_at i) shares ≡ 0
       → ((d : OpenSide) → 0 < length (get_or opens i d).rising.items) → ((d : OpenSide) → IsShareOf (get_or opens i d) rate)

@@ -70,7 +70,7 @@ module _ {P : Type 0} (cmp : P → P → Ordering) (order : IsTotalOrder cmp) wh
   drawn t (f ∷ fs) (g ∷ gs) all =
       (record { message = all.0.message; lowest = drained_by_lowest f.rate (t - f.updated) f.left all.0.rate all.0.lowest.positive; left = all.0.left }, drawn t fs gs all.1)
 
-  spent_alike : (p : Planned P) (w : World P) → CapsAlike cmp p.caps w.caps → (n : Paced P) (g : Flight P) → IsDrawn n g → is_spent cmp p n ≡ is_done cmp w g
+  spent_alike : (p : Planned P) (w : World P) → CapsAlike cmp p.caps w.caps → (n : Paced P) (g : Flight P) → IsDrawn n g → is_spent cmp p.caps n ≡ is_done cmp w g
   spent_alike p w caps n g same = rw (same.left, unlimited_alike cmp order p.caps w.caps caps n.message g.message same.message) refl
 
   drawn_messages : (fs : List (Paced P)) (gs : List (Flight P)) → AllZip IsDrawn fs gs → AllZip (SameMessage cmp) (paced_flows fs) (map (λ (g : Flight P). g.message) gs)
@@ -108,13 +108,13 @@ module _ {P : Type 0} (cmp : P → P → Ordering) (order : IsTotalOrder cmp) wh
       )
 
   -- what stays uses a capped side
-  each_limited : (p : Planned P) (t : ℕ) (ss ns : List (Paced P)) → Each (λ f. not (is_spent cmp p f) ≡ true) ss → AllZip (λ f g. (g.message ≡ f.message) × (g.left ≡ f.left) × (g.updated ≡ t)) ss ns
+  each_limited : (p : Planned P) (t : ℕ) (ss ns : List (Paced P)) → Each (λ f. not (is_spent cmp p.caps f) ≡ true) ss → AllZip (λ f g. (g.message ≡ f.message) × (g.left ≡ f.left) × (g.updated ≡ t)) ss ns
       → Each (λ m. is_unlimited cmp p.caps m ≡ false) (paced_flows ns)
   each_limited p t [] [] stay stayed = tt
   each_limited p t [] (n ∷ ns) stay stayed = absurd stayed
   each_limited p t (s ∷ ss) [] stay stayed = absurd stayed
   each_limited p t (s ∷ ss) (n ∷ ns) stay stayed =
-      let parts : ((s.left.num == 0) ≡ false) × (is_unlimited cmp p.caps s.message ≡ false) = or_parts (s.left.num == 0) (is_unlimited cmp p.caps s.message) (no (is_spent cmp p s) stay.0) in
+      let parts : ((s.left.num == 0) ≡ false) × (is_unlimited cmp p.caps s.message ≡ false) = or_parts (s.left.num == 0) (is_unlimited cmp p.caps s.message) (no (is_spent cmp p.caps s) stay.0) in
       (subst (λ (m : Message P). is_unlimited cmp p.caps m ≡ false) (sym stayed.0.0) parts.1, each_limited p t ss ns stay.1 stayed.1)
     where
       no : (b : Bool) → not b ≡ true → b ≡ false
@@ -137,8 +137,8 @@ module _ {P : Type 0} (cmp : P → P → Ordering) (order : IsTotalOrder cmp) wh
   unfolding leaving
   leavers_alike t old new leavers w same account =
       subst (λ (ms : List (Message P)). AllZip (SameMessage cmp) ms (map (λ (g : Flight P). g.message) (filter (is_done cmp w) w.sending))) (sym account.left)
-      (drawn_messages (filter (is_spent cmp old) (drained_to t old.sending)) (filter (is_done cmp w) w.sending)
-      (filter_alike IsDrawn (is_spent cmp old) (is_done cmp w) (spent_alike old w same.caps) (drained_to t old.sending) w.sending (drawn t old.sending w.sending same.sending)))
+      (drawn_messages (filter (is_spent cmp old.caps) (drained_to t old.sending)) (filter (is_done cmp w) w.sending)
+      (filter_alike IsDrawn (is_spent cmp old.caps) (is_done cmp w) (spent_alike old w same.caps) (drained_to t old.sending) w.sending (drawn t old.sending w.sending same.sending)))
 
   pub account_follows : (t : ℕ) (old new : Planned P) (leavers : List (Message P)) (w : World P) → Tallies cmp t old w → Accounts cmp t old leavers new → Follows cmp t new (staying cmp w)
   unfolding staying
@@ -152,9 +152,9 @@ module _ {P : Type 0} (cmp : P → P → Ordering) (order : IsTotalOrder cmp) wh
       waiting = subst (λ (q : Planned P). (m : Message P) → AllZip (SameMessage cmp) (filter (same_pair cmp m) q.waiting) (filter (same_pair cmp m) w.waiting)) (sym account.same) same.waiting;
       pair_order = subst (λ (q : Planned P). AreInPairOrder cmp q.waiting) (sym account.same) same.pair_order;
       sending = rated_flights t account.per account.rates stays new.sending (filter (λ (g : Flight P). not (is_done cmp w g)) w.sending) account.fair.fair.some_part
-          (filter_alike IsDrawn (λ (f : Paced P). not (is_spent cmp old f)) (λ (g : Flight P). not (is_done cmp w g)) (λ n g e. ap not (spent_alike old w same.caps n g e)) (drained_to t old.sending) w.sending (drawn t old.sending w.sending same.sending))
+          (filter_alike IsDrawn (λ (f : Paced P). not (is_spent cmp old.caps f)) (λ (g : Flight P). not (is_done cmp w g)) (λ n g e. ap not (spent_alike old w same.caps n g e)) (drained_to t old.sending) w.sending (drawn t old.sending w.sending same.sending))
           account.stayed account.rated
-          (all_rated cmp old.caps (paced_flows new.sending) account.per account.rates account.fair (each_at (λ (m : Message P). is_unlimited cmp old.caps m ≡ false) (paced_flows new.sending) (each_limited old t stays new.sending (each_passes (λ (f : Paced P). not (is_spent cmp old f)) (drained_to t old.sending)) account.stayed)));
+          (all_rated cmp old.caps (paced_flows new.sending) account.per account.rates account.fair (each_at (λ (m : Message P). is_unlimited cmp old.caps m ≡ false) (paced_flows new.sending) (each_limited old t stays new.sending (each_passes (λ (f : Paced P). not (is_spent cmp old.caps f)) (drained_to t old.sending)) account.stayed)));
       one_each = one_filter (λ (g : Flight P). not (is_done cmp w g)) w.sending same.one_each;
       empty_at_first = λ free. still_empty (same.empty_at_first (sym (ap (λ (q : Planned P). q.limited) account.same) ∙ free));
     };
@@ -170,9 +170,9 @@ module _ {P : Type 0} (cmp : P → P → Ordering) (order : IsTotalOrder cmp) wh
       still_empty : (old.sending ≡ []) × (old.waiting ≡ []) → (new.sending ≡ []) × (new.waiting ≡ [])
       still_empty (sends, waits) = (
         none_matched {X = Paced P} {Y = Paced P} (λ f g. (g.message ≡ f.message) × (g.left ≡ f.left) × (g.updated ≡ t)) new.sending
-            (subst (λ (fs : List (Paced P)). AllZip (λ f g. (g.message ≡ f.message) × (g.left ≡ f.left) × (g.updated ≡ t)) (filter (λ (f : Paced P). not (is_spent cmp old f)) (drained_to t fs)) new.sending) sends account.stayed),
+            (subst (λ (fs : List (Paced P)). AllZip (λ f g. (g.message ≡ f.message) × (g.left ≡ f.left) × (g.updated ≡ t)) (filter (λ (f : Paced P). not (is_spent cmp old.caps f)) (drained_to t fs)) new.sending) sends account.stayed),
         ap (λ (q : Planned P). q.waiting) account.same ∙ waits,
       )
 
       stays : List (Paced P)
-      stays = filter (λ (f : Paced P). not (is_spent cmp old f)) (drained_to t old.sending)
+      stays = filter (λ (f : Paced P). not (is_spent cmp old.caps f)) (drained_to t old.sending)

@@ -1,5 +1,5 @@
 -- Lists of messages that are the same up to equal peers have the same sides, and so the same fair rates.
-use Rattle.std.proofs.Common.{◌+◌, ◌≡◌, ℕ, List, [], ◌∷◌, map, Bool, true, not, Option, Some, None, refl, sym, ap, ◌∙◌, subst}
+use Rattle.std.proofs.Common.{◌+◌, ◌≡◌, ℕ, List, [], ◌∷◌, Bool, true, not, Option, Some, None, refl, sym, ap, ◌∙◌, subst}
 use Rattle.std.specs.Prelude.{◌&&◌, if◌then◌else◌}
 use Rattle.std.specs.List.{list_any, flat_map, AllZip}
 use Rattle.std.specs.declared.cmp.Ordering.{Ordering}
@@ -9,8 +9,10 @@ use Rattle.std.proofs.lemmas.Cmp.{tied_itself}
 use Rattle.p2p_simulated.specs.Fair.{IsFair, Side}
 use Rattle.p2p_simulated.specs.Sides.{same_peer}
 use Rattle.p2p_simulated.specs.WorldMessages.{Message, SameMessage, is_delivered, same_pair, Caps, CapsAlike}
-use Rattle.p2p_simulated.specs.WorldRates.{AreFair, Parts, capped_sides, egress_of, ingress_of, is_unlimited, side_of, places_that_pass, link_of, sides_for, rates_from}
+use Rattle.p2p_simulated.specs.WorldRates.{AreFair, Parts, capped_sides, egress_of, ingress_of, is_unlimited, side_of, link_of, sides_for, rates_from}
 use Rattle.p2p_simulated.proofs.World.Queue.{peer_like, peer_sym, both_alike}
+use Rattle.p2p_simulated.specs.Places.{places_from}
+use Rattle.p2p_simulated.proofs.Places.{places_alike}
 
 module _ {P : Type 0} (cmp : P → P → Ordering) (order : IsTotalOrder cmp) where
   pub same_itself : (p : P) → same_peer cmp p p ≡ true
@@ -30,12 +32,6 @@ module _ {P : Type 0} (cmp : P → P → Ordering) (order : IsTotalOrder cmp) wh
   pub message_itself : (m : Message P) → SameMessage cmp m m
   message_itself m = record { origin = same_itself m.origin; recipient = same_itself m.recipient; channel = refl; bytes = refl; latency = refl; should_deliver = refl }
 
-  pub map_alike : {X Y Z : Type 0} (R : X → Y → Type 0) (f : X → Z) (g : Y → Z) → ((x : X) (y : Y) → R x y → f x ≡ g y) → (xs : List X) (ys : List Y) → AllZip R xs ys → map f xs ≡ map g ys
-  map_alike R f g same [] [] h = refl
-  map_alike R f g same [] (y ∷ ys) h = absurd h
-  map_alike R f g same (x ∷ xs) [] h = absurd h
-  map_alike R f g same (x ∷ xs) (y ∷ ys) h = rw (same x y h.0, map_alike R f g same xs ys h.1) refl
-
   pub any_alike : {X Y : Type 0} (R : X → Y → Type 0) (f : X → Bool) (g : Y → Bool) → ((x : X) (y : Y) → R x y → f x ≡ g y) → (xs : List X) (ys : List Y) → AllZip R xs ys
       → list_any f xs ≡ list_any g ys
   any_alike R f g same [] [] h = refl
@@ -43,7 +39,7 @@ module _ {P : Type 0} (cmp : P → P → Ordering) (order : IsTotalOrder cmp) wh
   any_alike R f g same (x ∷ xs) [] h = absurd h
   any_alike R f g same (x ∷ xs) (y ∷ ys) h = rw (same x y h.0, any_alike R f g same xs ys h.1) refl
 
-  side_alike : (c d : Option ℕ) (u v : Message P → Bool) (ms ns : List (Message P)) → c ≡ d → places_that_pass 0 u ms ≡ places_that_pass 0 v ns → side_of cmp c u ms ≡ side_of cmp d v ns
+  side_alike : (c d : Option ℕ) (u v : Message P → Bool) (ms ns : List (Message P)) → c ≡ d → places_from 0 u ms ≡ places_from 0 v ns → side_of cmp c u ms ≡ side_of cmp d v ns
   side_alike None None u v ms ns e f = refl
   side_alike None (Some d) u v ms ns e f = cc
   side_alike (Some c) None u v ms ns e f = cc
@@ -51,14 +47,6 @@ module _ {P : Type 0} (cmp : P → P → Ordering) (order : IsTotalOrder cmp) wh
 
   if_alike : {X : Type 0} (a b : Bool) (x y z : X) → a ≡ b → x ≡ y → (if a then x else z) ≡ (if b then y else z)
   if_alike a b x y z e f = rw (e, f) refl
-
-  -- the same places pass tests that answer alike
-  pub places_alike : {X Y : Type 0} (R : X → Y → Type 0) (f : X → Bool) (g : Y → Bool) → ((x : X) (y : Y) → R x y → f x ≡ g y) → (place : ℕ) (xs : List X) (ys : List Y)
-      → AllZip R xs ys → places_that_pass place f xs ≡ places_that_pass place g ys
-  places_alike R f g same place [] [] h = refl
-  places_alike R f g same place [] (y ∷ ys) h = absurd h
-  places_alike R f g same place (x ∷ xs) [] h = absurd h
-  places_alike R f g same place (x ∷ xs) (y ∷ ys) h = rw (same x y h.0, places_alike R f g same (place + 1) xs ys h.1) refl
 
   module _ (caps others : Caps P) (same : CapsAlike cmp caps others) where
     egress_alike : (m n : Message P) (ms ns : List (Message P)) → SameMessage cmp m n → AllZip (SameMessage cmp) ms ns → egress_of cmp caps ms m ≡ egress_of cmp others ns n

@@ -144,16 +144,16 @@ module _ {P : Type 0} (cmp : P → P → Ordering) (order : IsTotalOrder cmp) (p
       by_rate (Some a) h = h a refl
 
   rest : ℕ → Planned P → List (Paced P)
-  rest t p = filter (λ f. not (is_spent cmp p f)) (drained_to t p.sending)
+  rest t p = filter (λ f. not (is_spent cmp p.caps f)) (drained_to t p.sending)
 
   rest_small : (t : ℕ) (p : Planned P) → t < 2 ^ 56 → IsBounded p → Each (IsSmallFlight cmp pairs) (rest t p)
   unfolding rest
   rest_small t p early h =
-      each_filter (IsSmallFlight cmp pairs) (IsSmallFlight cmp pairs) (λ f. not (is_spent cmp p f)) (drained_to t p.sending) (λ f is small. small) (drained_small t p.sending early h.sending)
+      each_filter (IsSmallFlight cmp pairs) (IsSmallFlight cmp pairs) (λ f. not (is_spent cmp p.caps f)) (drained_to t p.sending) (λ f is small. small) (drained_small t p.sending early h.sending)
 
   rest_one : (t : ℕ) (p : Planned P) → IsBounded p → OneForEachPair cmp (paced_flows (rest t p))
   unfolding rest
-  rest_one t p h = one_fewer (λ f. not (is_spent cmp p f)) (drained_to t p.sending) (subst (OneForEachPair cmp) (sym (drained_flows t p.sending)) h.one_each)
+  rest_one t p h = one_fewer (λ f. not (is_spent cmp p.caps f)) (drained_to t p.sending) (subst (OneForEachPair cmp) (sym (drained_flows t p.sending)) h.one_each)
 
   -- an account leaves the planned world bounded, and rated
   pub account_bounded : (t : ℕ) (old new : Planned P) (leavers : List (Message P)) → t < 2 ^ 56 → IsBounded old → Accounts cmp t old leavers new → IsBounded new × IsRated cmp new
@@ -177,7 +177,7 @@ module _ {P : Type 0} (cmp : P → P → Ordering) (order : IsTotalOrder cmp) (p
   -- what leaves is in the range
   pub leavers_bounded : (t : ℕ) (old new : Planned P) (leavers : List (Message P)) → t < 2 ^ 56 → IsBounded old → Accounts cmp t old leavers new → Each IsLeaver leavers
   leavers_bounded t old new leavers early h account =
-      subst (Each IsLeaver) (sym account.left) (each_leaver (filter (is_spent cmp old) (drained_to t old.sending)) (each_filter (IsSmallFlight cmp pairs) (IsSmallFlight cmp pairs) (is_spent cmp old) (drained_to t old.sending) (λ f is small. small) (drained_small t old.sending early h.sending)))
+      subst (Each IsLeaver) (sym account.left) (each_leaver (filter (is_spent cmp old.caps) (drained_to t old.sending)) (each_filter (IsSmallFlight cmp pairs) (IsSmallFlight cmp pairs) (is_spent cmp old.caps) (drained_to t old.sending) (λ f is small. small) (drained_small t old.sending early h.sending)))
     where
       each_leaver : (fs : List (Paced P)) → Each (IsSmallFlight cmp pairs) fs → Each IsLeaver (paced_flows fs)
       each_leaver [] small = tt

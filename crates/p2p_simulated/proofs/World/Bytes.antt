@@ -1,6 +1,6 @@
 -- What an origin still has to send goes down by no more than its egress cap lets go.
 use Rattle.std.proofs.Common.{sum_by, ◌≡◌, ℕ, zero, suc, ◌+◌, ◌-◌, ◌*◌, ◌<◌, ◌≤◌, List, [], ◌∷◌, ◌++◌, map, length, Bool, true, false, cond, not, Option, Some, None, refl, sym, ap, ◌∙◌, subst, arith, append-nil}
-use Rattle.std.specs.Prelude.{is_none, ⊤, ◌&&◌, ◌||◌, nat_lt, nat_le, ◌==◌, if◌then◌else◌, slice_get, Contains}
+use Rattle.std.specs.Prelude.{is_none, ⊤, ◌&&◌, ◌||◌, nat_le, ◌==◌, if◌then◌else◌, slice_get, Contains}
 use Rattle.std.specs.List.{filter, find, flat_map}
 use Rattle.std.specs.declared.cmp.Ordering.{Ordering}
 use Rattle.std.specs.Ordering.{is_eq}
@@ -14,10 +14,10 @@ use Rattle.p2p_simulated.specs.Fair.{Side, load}
 use Rattle.std.proofs.lemmas.List.Sums.{sum_by-cons}
 use Rattle.p2p_simulated.specs.Sides.{same_peer}
 use Rattle.p2p_simulated.specs.WorldBytes.{allowance, bytes_from, left_from, waiting_from}
-use Rattle.p2p_simulated.specs.World.{Completed, Course, Flight, World, and_then, complete, completion_of, first_waiting, flows, fronts, goes, instant, is_done, last_moment, least_pair, may_start, meets, raised, ready, settle, settle_within, start, start_next, wake, wake_within, without_first, EndsWith}
+use Rattle.p2p_simulated.specs.World.{Completed, Course, Flight, World, and_then, complete, first_waiting, flows, fronts, goes, instant, is_done, last_moment, least_pair, may_start, meets, ready, settle, settle_within, start, start_next, wake, wake_within, without_first, EndsWith, out_of_flight, is_late, completed}
 use Rattle.p2p_simulated.specs.WorldCalls.{Runs, call_advance}
 use Rattle.p2p_simulated.specs.WorldMessages.{Caps, Message, is_delivered, pair_before, same_pair}
-use Rattle.p2p_simulated.specs.WorldRates.{rate_of, is_unlimited, rates_from, places_that_pass, AreFair, Parts, capped_sides, drained_by, sides_for}
+use Rattle.p2p_simulated.specs.WorldRates.{rate_of, is_unlimited, rates_from, AreFair, Parts, capped_sides, drained_by, sides_for}
 use Rattle.p2p_simulated.specs.WorldTime.{ArePositive, Drains, Ticks, drain_each, no_tick, one_tick, tick_faults}
 use Rattle.p2p_simulated.specs.declared.error.Error.TheVariants.{FlowIdsUsedUp, MomentTooLate}
 use borrow.Author.Tests.{eqb-true}
@@ -26,6 +26,7 @@ use Rattle.p2p_simulated.proofs.World.Queue.{then_then, pair_sym, peer_like, set
 use Rattle.p2p_simulated.proofs.World.Rests.{ends_preceded, ends_and_then, ends_cond, find_like}
 use Rattle.p2p_simulated.proofs.World.Split.{rest_is}
 use Rattle.p2p_simulated.proofs.World.Totals.{share, at_most_itself, at_most_trans, plus_under, plus_spent, plus_shares, plus_whole, two_shares, share_grows, no_share, lowest_takes}
+use Rattle.p2p_simulated.specs.Places.{places_from}
 
 -- ---- lists
 
@@ -48,15 +49,6 @@ find_in_flat_map {X} {A} test f x a (y ∷ ys) e has = by_test (test y) e (λ is
     by_test : (b : Bool) → cond b (Some y) (find test ys) ≡ Some x → (find test ys ≡ Some x → Contains (flat_map f ys) a) → Contains (f y ++ flat_map f ys) a
     by_test true is ih = let same : x ≡ y = cc in Contains-append_left (f y) (flat_map f ys) a (subst (λ (z : X). Contains (f z) a) same has)
     by_test false is ih = Contains-append_right (f y) (flat_map f ys) a (ih is)
-
-none_pass : {X : Type 0} (test : X → Bool) (xs : List X) (i : ℕ) → find test xs ≡ None → slice_get (map test xs) i ≡ Some true → ⊥
-none_pass test [] i e at = cc
-none_pass {X} test (x ∷ xs) i e at = by_test (test x) i e at (λ k. none_pass test xs k)
-  where
-    by_test : (b : Bool) (i : ℕ) → cond b (Some x) (find test xs) ≡ None → slice_get (b ∷ map test xs) i ≡ Some true → ((k : ℕ) → find test xs ≡ None → slice_get (map test xs) k ≡ Some true → ⊥) → ⊥
-    by_test true i is at ih = cc
-    by_test false zero is at ih = cc
-    by_test false (suc i) is at ih = ih i is at
 
 -- what those that pass get together
 abbrev part_of : Bool → Option ℕ → ℕ
@@ -216,15 +208,15 @@ module _ {P : Type 0} (cmp : P → P → Ordering) (order : IsTotalOrder cmp) wh
   -- where those that pass are limited, what they get together is the load of their places
   total_is_load : (caps : Caps P) (parts : ℕ → ℕ) (test : Message P → Bool) (place : ℕ) (ms : List (Message P))
       → ((m : Message P) → test m ≡ true → is_unlimited cmp caps m ≡ false)
-      → total (map test ms) (rates_from cmp caps parts place ms) ≡ sum_by parts (places_that_pass place test ms)
+      → total (map test ms) (rates_from cmp caps parts place ms) ≡ sum_by parts (places_from place test ms)
   total_is_load caps parts test place [] limited = refl
   total_is_load caps parts test place (m ∷ ms) limited = by_test (test m) refl (is_unlimited cmp caps m) refl (total_is_load caps parts test (place + 1) ms limited)
     where
       by_test : (b : Bool) → test m ≡ b → (u : Bool) → is_unlimited cmp caps m ≡ u
-          → total (map test ms) (rates_from cmp caps parts (place + 1) ms) ≡ sum_by parts (places_that_pass (place + 1) test ms)
-          → part_of b (if u then None else Some (parts place)) + total (map test ms) (rates_from cmp caps parts (place + 1) ms) ≡ sum_by parts (cond b (place ∷ places_that_pass (place + 1) test ms) (places_that_pass (place + 1) test ms))
+          → total (map test ms) (rates_from cmp caps parts (place + 1) ms) ≡ sum_by parts (places_from (place + 1) test ms)
+          → part_of b (if u then None else Some (parts place)) + total (map test ms) (rates_from cmp caps parts (place + 1) ms) ≡ sum_by parts (cond b (place ∷ places_from (place + 1) test ms) (places_from (place + 1) test ms))
       by_test true is true free ih = let bound : is_unlimited cmp caps m ≡ false = limited m is in cc
-      by_test true is false free ih = omega (arith, ih, sum_by-cons parts place (places_that_pass (place + 1) test ms))
+      by_test true is false free ih = omega (arith, ih, sum_by-cons parts place (places_from (place + 1) test ms))
       by_test false is u free ih = omega (arith, ih)
 
   passing_limited : (caps : Caps P) (parts : ℕ → ℕ) (test : Message P → Bool) (place : ℕ) (ms : List (Message P))
@@ -290,12 +282,11 @@ module _ {P : Type 0} (cmp : P → P → Ordering) (order : IsTotalOrder cmp) wh
 
     complete_follows : (t : ℕ) (w : World P) (f : Flight P) → Holds w → EndsWith (Follows w) (complete cmp t w f.message)
     complete_follows t w f h =
-        let at : ℕ = if is_delivered cmp f.message then t + f.message.latency else t in
-        let landed : World P = record w { sending = without_first (is_done cmp w) w.sending; last_arrival = raised cmp w.last_arrival f.message at } in
+        let landed : World P = out_of_flight cmp t w f.message in
         let still : Holds landed = record { positive = positive_without (is_done cmp w) w.sending h.positive; egress = h.egress } in
         let less : Follows w landed = record { holds = still; bytes = finished p (is_done cmp w) w.sending (waiting_from cmp p w.waiting) (λ g done from. done_is_spent w g h done from) } in
-        ends_cond (Follows w) (is_delivered cmp f.message && nat_lt last_moment at) (meets MomentTooLate) _ tt
-        (ends_preceded (Follows w) (completion_of f.message (if is_delivered cmp f.message then Some at else None) ∷ []) (start_next cmp t landed (first_waiting cmp landed f.message))
+        ends_cond (Follows w) (is_late cmp t f.message) (meets MomentTooLate) _ tt
+        (ends_preceded (Follows w) (completed cmp t f.message ∷ []) (start_next cmp t landed (first_waiting cmp landed f.message))
         (ends_more w landed less (start_next cmp t landed (first_waiting cmp landed f.message)) (start_next_follows t landed f.message (first_waiting cmp landed f.message) refl still)))
 
     settle_within_follows : (n t : ℕ) (w : World P) → Holds w → EndsWith (Follows w) (settle_within cmp n t w)
@@ -335,7 +326,7 @@ module _ {P : Type 0} (cmp : P → P → Ordering) (order : IsTotalOrder cmp) wh
       pub within : total (map from_it ms) rates ≤ cap * per
       pub limited : (i : ℕ) → slice_get (map from_it ms) i ≡ Some true → slice_get rates i ≡ Some None → ⊥
 
-    same_users : (q : P) (place : ℕ) (ms : List (Message P)) → same_peer cmp p q ≡ true → places_that_pass place (λ (n : Message P). same_peer cmp q n.origin) ms ≡ places_that_pass place from_it ms
+    same_users : (q : P) (place : ℕ) (ms : List (Message P)) → same_peer cmp p q ≡ true → places_from place (λ (n : Message P). same_peer cmp q n.origin) ms ≡ places_from place from_it ms
     same_users q place [] e = refl
     same_users q place (m ∷ ms) e = rw (peer_like cmp order p q m.origin e, same_users q (place + 1) ms e) refl
 
@@ -356,8 +347,8 @@ module _ {P : Type 0} (cmp : P → P → Ordering) (order : IsTotalOrder cmp) wh
         by_user None e = record { within = let z : total (map from_it (flows w)) rates ≡ 0 = none_total from_it (flows w) rates e in omega arith; limited = limits }
         by_user (Some m) e =
             let from : same_peer cmp p m.origin ≡ true = find_passes from_it m (flows w) e in
-            let side : Side = record { cap = cap; users = places_that_pass 0 (λ (n : Message P). same_peer cmp m.origin n.origin) (flows w) } in
-            let users : side.users ≡ places_that_pass 0 from_it (flows w) = same_users m.origin 0 (flows w) from in
+            let side : Side = record { cap = cap; users = places_from 0 (λ (n : Message P). same_peer cmp m.origin n.origin) (flows w) } in
+            let users : side.users ≡ places_from 0 from_it (flows w) = same_users m.origin 0 (flows w) from in
             let has : Contains (capped_sides cmp w.caps (flows w)) side
             = find_in_flat_map from_it (sides_for cmp w.caps (flows w)) m side (flows w) e (rw (h.egress m.origin from) (0, omega arith, refl)) in
             let load_is : total (map from_it (flows w)) rates ≡ sum_by fair.parts side.users

@@ -11,11 +11,11 @@ use Rattle.p2p_simulated.specs.declared.error.Error.TheVariants.{OutOfMemory, Nu
 use Rattle.p2p_simulated.specs.Amount.{Amount}
 use Rattle.p2p_simulated.specs.WorldMessages.{Message, Caps, same_pair}
 use Rattle.p2p_simulated.specs.WorldRates.{capped_sides, rates_from, rate_of, is_unlimited}
-use Rattle.p2p_simulated.specs.World.{new_world, is_in_order, Completed, Course, goes, meets, last_moment, preceded, fronts, is_in_order}
+use Rattle.p2p_simulated.specs.World.{new_world, is_in_order, Completed, Course, goes, meets, last_moment, preceded, fronts, is_in_order, is_late, completed}
 use Rattle.p2p_simulated.specs.WorldCalls.{moment_of, Call, call_limit, call_limit_link, call_enqueue, call_advance, call_next, limited_by, linked_by}
 use Rattle.p2p_simulated.specs.WorldReplies.{Agrees, Reply, reply_done, reply_next, reply_refused, SameCompletion}
 use Rattle.p2p_simulated.specs.WorldPlanned.{new_planned, Planned, Paced, IsLeastMoment, next_event, paced_flows, left_at, SomeSpentAt, drained_to, next_of, may_launch, SomeReadyAt, is_spent}
-use Rattle.p2p_simulated.specs.WorldEvents.{Accounts, Looks, launched, Launches, nothing_waits, too_early, no_id, starts, landed, completed, is_late, Finishes, all_completed, late, stopped, completes, WakesEach, all_started, no_start, no_finish, starts_one, Settles, settling, Recaps, none_sending, some_sending, completed_at_once, with_queued, Enqueues, at_once, no_launch, launches, Advances, no_more, at_finish, at_start, finish_stops, start_stops, Obeys}
+use Rattle.p2p_simulated.specs.WorldEvents.{Accounts, Looks, launched, Launches, nothing_waits, too_early, no_id, starts, landed, Finishes, all_completed, late, stopped, completes, WakesEach, all_started, no_start, no_finish, starts_one, Settles, settling, Recaps, none_sending, some_sending, completed_at_once, with_queued, Enqueues, at_once, no_launch, launches, Advances, no_more, at_finish, at_start, finish_stops, start_stops, Obeys}
 use Rattle.p2p_simulated.specs.WorldRefusals.{MayBeRefused, Obeyed}
 use Rattle.p2p_simulated.proofs.Fairness.Members.{In}
 use Rattle.p2p_simulated.proofs.World.Bytes.{Each, fronts_are_first}
@@ -118,10 +118,10 @@ module _ {P : Type 0} (cmp : P → P → Ordering) (order : IsTotalOrder cmp) (p
       ∷ paced caps shares t (place + 1) fs
 
   abbrev pub staying : ℕ → Planned P → List (Paced P)
-  staying t p = filter (λ f. not (is_spent cmp p f)) (drained_to t p.sending)
+  staying t p = filter (λ f. not (is_spent cmp p.caps f)) (drained_to t p.sending)
 
   abbrev pub leavers_of : ℕ → Planned P → List (Message P)
-  leavers_of t p = paced_flows (filter (is_spent cmp p) (drained_to t p.sending))
+  leavers_of t p = paced_flows (filter (is_spent cmp p.caps) (drained_to t p.sending))
 
   abbrev pub shares_of : ℕ → Planned P → Shares
   shares_of t p = plan p.caps (paced_flows (staying t p))

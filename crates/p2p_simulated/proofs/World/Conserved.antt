@@ -8,11 +8,11 @@ use Rattle.std.proofs.lemmas.List.{map-append}
 use Rattle.std.proofs.lemmas.List.Elements.{filter-append}
 use Rattle.p2p_simulated.specs.declared.error.Error.TheVariants.{MomentTooLate}
 use Rattle.p2p_simulated.specs.WorldMessages.{Message, Caps, OneForEachPair, same_pair, is_delivered}
-use Rattle.p2p_simulated.specs.World.{Completed, Course, goes, meets, last_moment, preceded, without_first, raised, later_of, completion_of}
+use Rattle.p2p_simulated.specs.World.{Completed, Course, goes, meets, last_moment, preceded, without_first, raised, later_of, completion_of, completed, arrival}
 use Rattle.p2p_simulated.specs.WorldCalls.{Call, call_limit, call_limit_link, call_enqueue, call_advance, call_next}
 use Rattle.p2p_simulated.specs.WorldOrder.{enqueued, IsCompletionOf}
 use Rattle.p2p_simulated.specs.WorldPlanned.{Planned, Paced, paced_flows, drained_to, next_of, may_launch, is_spent}
-use Rattle.p2p_simulated.specs.WorldEvents.{Accounts, Looks, Launches, nothing_waits, too_early, no_id, starts, Finishes, all_completed, late, stopped, completes, WakesEach, all_started, no_start, no_finish, starts_one, Settles, settling, Recaps, none_sending, some_sending, Enqueues, at_once, no_launch, launches, Advances, no_more, at_finish, at_start, finish_stops, start_stops, launched, landed, arrival, completed, with_queued, completed_at_once, Obeys}
+use Rattle.p2p_simulated.specs.WorldEvents.{Accounts, Looks, Launches, nothing_waits, too_early, no_id, starts, Finishes, all_completed, late, stopped, completes, WakesEach, all_started, no_start, no_finish, starts_one, Settles, settling, Recaps, none_sending, some_sending, Enqueues, at_once, no_launch, launches, Advances, no_more, at_finish, at_start, finish_stops, start_stops, launched, landed, with_queued, completed_at_once, Obeys}
 use Rattle.p2p_simulated.specs.Orderly.{IsOrderly}
 use Rattle.p2p_simulated.specs.Conserved.{of_pair, held_of}
 use Rattle.p2p_simulated.proofs.World.Queue.{find_passes, any_like}
@@ -67,8 +67,8 @@ module _ {P : Type 0} (cmp : P → P → Ordering) (order : IsTotalOrder cmp) wh
   account_holds t old new leavers a one k =
       let split : of_pair cmp k leavers ++ of_pair cmp k (paced_flows new.sending) ≡ of_pair cmp k (paced_flows old.sending)
       = ap (λ (ms : List (Message P)). of_pair cmp k ms ++ of_pair cmp k (paced_flows new.sending)) a.left
-      ∙ ap (λ (ms : List (Message P)). of_pair cmp k (paced_flows (filter (is_spent cmp old) all)) ++ of_pair cmp k ms) (stayed_messages t (filter (λ (f : Paced P). not (is_spent cmp old f)) all) new.sending a.stayed)
-      ∙ one_split k (is_spent cmp old) all (subst (OneForEachPair cmp) (sym (drained_messages t old.sending)) one) ∙ ap (of_pair cmp k) (drained_messages t old.sending) in
+      ∙ ap (λ (ms : List (Message P)). of_pair cmp k (paced_flows (filter (is_spent cmp old.caps) all)) ++ of_pair cmp k ms) (stayed_messages t (filter (λ (f : Paced P). not (is_spent cmp old.caps f)) all) new.sending a.stayed)
+      ∙ one_split k (is_spent cmp old.caps) all (subst (OneForEachPair cmp) (sym (drained_messages t old.sending)) one) ∙ ap (of_pair cmp k) (drained_messages t old.sending) in
       sym (append_assoc (of_pair cmp k leavers) (of_pair cmp k (paced_flows new.sending)) (of_pair cmp k new.waiting)) ∙ ap (λ (ms : List (Message P)). ms ++ of_pair cmp k new.waiting) split
       ∙ ap (λ (q : Planned P). of_pair cmp k (paced_flows old.sending) ++ of_pair cmp k q.waiting) a.same
     where

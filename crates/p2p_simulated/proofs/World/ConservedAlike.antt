@@ -9,18 +9,19 @@ use Rattle.p2p_simulated.specs.Sides.{same_peer}
 use Rattle.p2p_simulated.specs.WorldMessages.{Message, SameMessage, same_pair}
 use Rattle.p2p_simulated.specs.World.{Completed, goes}
 use Rattle.p2p_simulated.specs.WorldCalls.{Call, call_limit, call_limit_link, call_enqueue, call_advance, call_next}
-use Rattle.p2p_simulated.specs.WorldOrder.{enqueued, IsCompletionOf}
+use Rattle.p2p_simulated.specs.WorldOrder.{enqueued, answered, IsCompletionOf}
 use Rattle.p2p_simulated.specs.WorldPlanned.{Planned, paced_flows}
 use Rattle.p2p_simulated.specs.WorldEvents.{Obeys}
 use Rattle.p2p_simulated.specs.WorldRefusals.{Obeyed}
-use Rattle.p2p_simulated.specs.WorldReplies.{Reply, reply_done, reply_next, reply_refused, SameCompletion}
+use Rattle.p2p_simulated.specs.WorldReplies.{Reply, reply_done, reply_next, reply_refused, SameCompletion, made, completions_in}
 use Rattle.p2p_simulated.specs.SamePlanned.{IsSamePlanned, Goes}
 use Rattle.p2p_simulated.specs.Orderly.{IsOrderly}
-use Rattle.p2p_simulated.specs.Conserved.{of_pair, held_of, accepted, completions_in, IsConserved, AreConserved}
+use Rattle.p2p_simulated.specs.Conserved.{of_pair, held_of, IsConserved, AreConserved}
 use Rattle.p2p_simulated.proofs.World.Alike.{pairs_alike, message_itself}
 use Rattle.p2p_simulated.proofs.World.Instant.{both_joined}
 use Rattle.p2p_simulated.proofs.World.Orderly.{obeys_orderly}
 use Rattle.p2p_simulated.proofs.World.Conserved.{IsKept, call_keeps}
+use Rattle.p2p_simulated.proofs.World.PairHistory.{enqueued_split}
 use Rattle.p2p_simulated.proofs.World.SameWorlds.{zip_itself, zip_turned, zip_chain, message_turned, message_chain}
 use Rattle.p2p_simulated.proofs.World.SameSteps.{filter_same, flows_same}
 
@@ -168,5 +169,6 @@ module _ {P : Type 0} (cmp : P → P → Ordering) (order : IsTotalOrder cmp) wh
         last = rest.last;
         led = (one.answers, one.after, one.obeys, one.same, rest.led);
         orderly = rest.orderly;
-        conserved = conserved_then p one.after rest.last (enqueued (call ∷ [])) (accepted calls replies) cs (completions_in replies) first rest.conserved;
+        conserved = subst (λ (ms : List (Message P)). IsConserved cmp p ms (cs ++ answered (completions_in replies)) rest.last) (enqueued_split call (made calls replies))
+            (conserved_then p one.after rest.last (enqueued (call ∷ [])) (enqueued (made calls replies)) cs (answered (completions_in replies)) first rest.conserved);
       }

@@ -7,10 +7,10 @@ use Rattle.std.specs.Cmp.{IsTotalOrder}
 use Rattle.std.proofs.lemmas.Bool.{eq-eqb}
 use Rattle.p2p_simulated.specs.declared.error.Error.TheVariants.{MomentTooLate}
 use Rattle.p2p_simulated.specs.WorldMessages.{Message, Caps, same_pair}
-use Rattle.p2p_simulated.specs.World.{Completed, Course, goes, meets, last_moment, preceded, without_first, fronts, raised, later_of, completion_of}
+use Rattle.p2p_simulated.specs.World.{Completed, Course, goes, meets, last_moment, preceded, without_first, fronts, raised, later_of, completion_of, completed}
 use Rattle.p2p_simulated.specs.WorldCalls.{Call, call_limit, call_limit_link, call_enqueue, call_advance, call_next}
 use Rattle.p2p_simulated.specs.WorldPlanned.{Planned, Paced, IsLeastMoment, next_event, paced_flows, left_at, IsSpentAt, SomeSpentAt, drained_to, next_of, may_launch, SomeReadyAt, is_spent, IsPlanned, new_planned}
-use Rattle.p2p_simulated.specs.WorldEvents.{Accounts, Looks, Launches, nothing_waits, too_early, no_id, starts, Finishes, all_completed, late, stopped, completes, WakesEach, all_started, no_start, no_finish, starts_one, Wakes, Settles, settling, Recaps, none_sending, some_sending, Enqueues, at_once, no_launch, launches, Advances, no_more, at_finish, at_start, finish_stops, start_stops, launched, completed, Obeys}
+use Rattle.p2p_simulated.specs.WorldEvents.{Accounts, Looks, Launches, nothing_waits, too_early, no_id, starts, Finishes, all_completed, late, stopped, completes, WakesEach, all_started, no_start, no_finish, starts_one, Wakes, Settles, settling, Recaps, none_sending, some_sending, Enqueues, at_once, no_launch, launches, Advances, no_more, at_finish, at_start, finish_stops, start_stops, launched, Obeys}
 use Rattle.p2p_simulated.proofs.Fairness.Members.{In, in_filter}
 use Rattle.p2p_simulated.proofs.World.Rests.{find_like, length_without}
 use Rattle.p2p_simulated.proofs.World.Queue.{find_passes, pair_sym}
@@ -36,10 +36,6 @@ zip_length R [] (y ∷ ys) all = absurd all
 zip_length R (x ∷ xs) [] all = absurd all
 zip_length R (x ∷ xs) (y ∷ ys) all = ap suc (zip_length R xs ys all.1)
 
-some_in : {X : Type 0} (xs : List X) (x : X) → In xs x → 0 < length xs
-some_in [] x has = absurd has
-some_in (y ∷ ys) x has = omega arith
-
 module _ {P : Type 0} (cmp : P → P → Ordering) (order : IsTotalOrder cmp) where
   -- ---- what each step leaves to do
 
@@ -54,11 +50,11 @@ module _ {P : Type 0} (cmp : P → P → Ordering) (order : IsTotalOrder cmp) wh
   account_counts : (t : ℕ) (old new : Planned P) (leavers : List (Message P)) → Accounts cmp t old leavers new → to_do new + length leavers ≡ to_do old
   account_counts t old new leavers account =
       let all : List (Paced P) = drained_to t old.sending in
-      let out : length leavers ≡ length (filter (is_spent cmp old) all) = ap (λ (ms : List (Message P)). length ms) account.left ∙ map_length (filter (is_spent cmp old) all) in
-      let stay : length (filter (λ (f : Paced P). not (is_spent cmp old f)) all) ≡ length new.sending
-      = zip_length (λ (f g : Paced P). (g.message ≡ f.message) × (g.left ≡ f.left) × (g.updated ≡ t)) (filter (λ (f : Paced P). not (is_spent cmp old f)) all) new.sending account.stayed in
-      let both : length (filter (is_spent cmp old) all) + length (filter (λ (f : Paced P). not (is_spent cmp old f)) all) ≡ length old.sending
-      = split_length (is_spent cmp old) all ∙ drained_length t old.sending in
+      let out : length leavers ≡ length (filter (is_spent cmp old.caps) all) = ap (λ (ms : List (Message P)). length ms) account.left ∙ map_length (filter (is_spent cmp old.caps) all) in
+      let stay : length (filter (λ (f : Paced P). not (is_spent cmp old.caps f)) all) ≡ length new.sending
+      = zip_length (λ (f g : Paced P). (g.message ≡ f.message) × (g.left ≡ f.left) × (g.updated ≡ t)) (filter (λ (f : Paced P). not (is_spent cmp old.caps f)) all) new.sending account.stayed in
+      let both : length (filter (is_spent cmp old.caps) all) + length (filter (λ (f : Paced P). not (is_spent cmp old.caps f)) all) ≡ length old.sending
+      = split_length (is_spent cmp old.caps) all ∙ drained_length t old.sending in
       let same : length new.waiting ≡ length old.waiting = ap (λ (q : Planned P). length q.waiting) account.same in
       omega arith
 
@@ -75,11 +71,6 @@ module _ {P : Type 0} (cmp : P → P → Ordering) (order : IsTotalOrder cmp) wh
       let fewer : length (without_first (same_pair cmp m) p.waiting) + 1 ≡ length p.waiting = length_without (same_pair cmp m) m p.waiting own in
       let more : length (launched cmp t p m).sending ≡ length p.sending + 1 = longer p.sending _ in
       omega arith
-
-  -- after a launch there is no more to do than before, its leavers counted, and less where a message started
-  record IsLess (p : Planned P) (may : Bool) (ms : List (Message P)) (q : Planned P) : Type 0 where
-    pub no_more : to_do q + length ms ≤ to_do p
-    pub less : may ≡ true → to_do q + length ms < to_do p
 
   launch_counts : {t : ℕ} {p : Planned P} {o : Option (Message P)} {c : Course (Message P) (Planned P)} → Launches cmp t p o c
       → (k : Message P) (ms : List (Message P)) (q : Planned P) → next_of cmp p k ≡ o → c ≡ goes ms q → to_do q + length ms ≤ to_do p
@@ -227,25 +218,25 @@ module _ {P : Type 0} (cmp : P → P → Ordering) (order : IsTotalOrder cmp) wh
   -- ---- events
 
   -- something that is spent leaves
-  spent_leaves : (t : ℕ) (p : Planned P) (fs : List (Paced P)) (i : ℕ) (f : Paced P) → slice_get fs i ≡ Some f → IsSpentAt t f → 0 < length (filter (is_spent cmp p) (drained_to t fs))
+  spent_leaves : (t : ℕ) (p : Planned P) (fs : List (Paced P)) (i : ℕ) (f : Paced P) → slice_get fs i ≡ Some f → IsSpentAt t f → 0 < length (filter (is_spent cmp p.caps) (drained_to t fs))
   spent_leaves t p [] i f at spent = cc
   spent_leaves t p (g ∷ gs) zero f at spent =
       let same : g ≡ f = cc in
       let zero_left : ((left_at t g).num == 0) ≡ true = eq-eqb (left_at t g).num 0 (ap (λ (h : Paced P). (left_at t h).num) same ∙ spent) in
       rw zero_left (omega arith)
-  spent_leaves t p (g ∷ gs) (suc i) f at spent = by_test (is_spent cmp p (record g { left = left_at t g; updated = t })) (spent_leaves t p gs i f at spent)
+  spent_leaves t p (g ∷ gs) (suc i) f at spent = by_test (is_spent cmp p.caps (record g { left = left_at t g; updated = t })) (spent_leaves t p gs i f at spent)
     where
-      by_test : (b : Bool) → 0 < length (filter (is_spent cmp p) (drained_to t gs))
-          → 0 < length (cond b (record g { left = left_at t g; updated = t } ∷ filter (is_spent cmp p) (drained_to t gs)) (filter (is_spent cmp p) (drained_to t gs)))
+      by_test : (b : Bool) → 0 < length (filter (is_spent cmp p.caps) (drained_to t gs))
+          → 0 < length (cond b (record g { left = left_at t g; updated = t } ∷ filter (is_spent cmp p.caps) (drained_to t gs)) (filter (is_spent cmp p.caps) (drained_to t gs)))
       by_test true h = omega arith
       by_test false h = h
 
   settle_less : {t : ℕ} {p : Planned P} {c : Course (Completed P) (Planned P)} → Settles cmp t p c → SomeSpentAt p.sending t → 0 < to_do p × Leaves (to_do p - 1) c
   settle_less {t = t} {p = p} {c = c} (settling {leavers = leavers} {mid = mid} account finishes) some =
       let counts : to_do mid + length leavers ≡ to_do p = account_counts t p mid leavers account in
-      let out : length leavers ≡ length (filter (is_spent cmp p) (drained_to t p.sending))
-      = ap (λ (ms : List (Message P)). length ms) account.left ∙ map_length (filter (is_spent cmp p) (drained_to t p.sending)) in
-      let one : 0 < length (filter (is_spent cmp p) (drained_to t p.sending)) = spent_leaves t p p.sending some.0 some.1 some.2 some.4 in
+      let out : length leavers ≡ length (filter (is_spent cmp p.caps) (drained_to t p.sending))
+      = ap (λ (ms : List (Message P)). length ms) account.left ∙ map_length (filter (is_spent cmp p.caps) (drained_to t p.sending)) in
+      let one : 0 < length (filter (is_spent cmp p.caps) (drained_to t p.sending)) = spent_leaves t p p.sending some.0 some.1 some.2 some.4 in
       (omega arith, leaves_more (to_do mid) (to_do p - 1) c (omega arith) (finish_counts finishes))
 
   pub first_in_fronts : (m : Message P) (ws : List (Message P)) → find (same_pair cmp m) ws ≡ Some m → In (fronts cmp ws) m

@@ -1,12 +1,12 @@
 -- What every instant keeps: the moment, and that nothing is done at its end.
 use Rattle.std.proofs.Common.{◌≡◌, ℕ, zero, suc, ◌+◌, ◌≤◌, List, [], ◌∷◌, ◌++◌, length, Bool, true, false, cond, Option, Some, None, refl, sym, ap, ◌∙◌, subst, arith, ◌⊎◌, inl, inr}
-use Rattle.std.specs.Prelude.{⊤, ◌&&◌, ◌||◌, nat_lt, nat_le, if◌then◌else◌}
+use Rattle.std.specs.Prelude.{⊤, ◌||◌, nat_le}
 use Rattle.std.specs.List.{find, list_any}
 use Rattle.std.specs.declared.cmp.Ordering.{Ordering}
 use Rattle.std.specs.Cmp.{IsTotalOrder}
 use Rattle.p2p_simulated.specs.Amount.{whole}
-use Rattle.p2p_simulated.specs.World.{Completed, Course, Flight, IsQuiet, World, and_then, complete, completion_of, first_waiting, goes, instant, is_done, last_moment, least_pair, may_start, meets, preceded, raised, ready, settle, settle_within, start, start_next, wake, wake_within, without_first, EndsWith}
-use Rattle.p2p_simulated.specs.WorldMessages.{Message, is_delivered, same_pair}
+use Rattle.p2p_simulated.specs.World.{Completed, Course, Flight, IsQuiet, World, and_then, complete, first_waiting, goes, instant, is_done, last_moment, least_pair, may_start, meets, preceded, raised, ready, settle, settle_within, start, start_next, wake, wake_within, without_first, EndsWith, out_of_flight, is_late, completed, arrival}
+use Rattle.p2p_simulated.specs.WorldMessages.{Message, same_pair}
 use Rattle.p2p_simulated.specs.WorldTime.{Drains, NextIs, Ticks, comes_next, never_comes, no_tick, no_time, one_tick, quiet_tick, tick_faults}
 use Rattle.p2p_simulated.specs.declared.error.Error.TheVariants.{FlowIdsUsedUp, MomentTooLate}
 use Rattle.p2p_simulated.proofs.World.Queue.{settle_none, settle_first}
@@ -29,10 +29,9 @@ module _ {P : Type 0} (cmp : P → P → Ordering) (order : IsTotalOrder cmp) wh
 
     complete_keeps : (t : ℕ) (w : World P) (m : Message P) → Q w → EndsWith Q (complete cmp t w m)
     complete_keeps t w m h =
-        let at : ℕ = if is_delivered cmp m then t + m.latency else t in
-        let landed : World P = record w { sending = without_first (is_done cmp w) w.sending; last_arrival = raised cmp w.last_arrival m at } in
-        ends_cond Q (is_delivered cmp m && nat_lt last_moment at) (meets MomentTooLate) _ tt
-        (ends_preceded Q (completion_of m (if is_delivered cmp m then Some at else None) ∷ []) (start_next cmp t landed (first_waiting cmp landed m)) (start_next_keeps t landed (first_waiting cmp landed m) (lands w m at h)))
+        let landed : World P = out_of_flight cmp t w m in
+        ends_cond Q (is_late cmp t m) (meets MomentTooLate) _ tt
+        (ends_preceded Q (completed cmp t m ∷ []) (start_next cmp t landed (first_waiting cmp landed m)) (start_next_keeps t landed (first_waiting cmp landed m) (lands w m (arrival cmp t m) h)))
 
     settle_within_keeps : (n t : ℕ) (w : World P) → Q w → EndsWith Q (settle_within cmp n t w)
     settle_within_keeps zero t w h = h

@@ -1,6 +1,6 @@
 -- One event at the planned finish, in ticks: where nothing may start at once, the planned world stands for the world after it.
 use Rattle.std.proofs.Common.{◌≡◌, ℕ, zero, suc, ◌+◌, ◌<◌, ◌≤◌, List, [], ◌∷◌, length, Bool, true, false, not, Option, Some, None, refl, sym, ap, ◌∙◌, subst, arith, ◌⊎◌, inl, inr}
-use Rattle.std.specs.Prelude.{◌&&◌, ◌≢◌}
+use Rattle.std.specs.Prelude.{◌&&◌}
 use Rattle.std.specs.List.{find, list_any}
 use Rattle.std.specs.declared.cmp.Ordering.{Ordering}
 use Rattle.std.specs.Cmp.{IsTotalOrder}
@@ -100,9 +100,6 @@ module _ {P : Type 0} (cmp : P → P → Ordering) (order : IsTotalOrder cmp) wh
         quiet = record { none_done = settled.none_done; none_ready = ap (λ (s : ℕ). ready cmp s w) at ∙ none_ready_at cmp order t p w settled.follows.tallies not_now };
         start = start_from p t p.start settled.start not_now;
       }
-
-  pub nothing_now : (t : ℕ) (p : Planned P) (w : World P) → t ≤ last_moment → IsSettled cmp t p w → p.start ≢ Some t → ¬ SomeReadyAt cmp p t
-  nothing_now t p w within settled later some = later (start_is p t p.start settled.start within some)
 
   pub settled_wakes : (t : ℕ) (p : Planned P) (w : World P) → IsSettled cmp t p w → ¬ SomeReadyAt cmp p t → wake cmp w.moment w ≡ goes [] w
   settled_wakes t p w settled not_now =

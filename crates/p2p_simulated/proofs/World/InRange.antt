@@ -11,10 +11,10 @@ use Rattle.p2p_simulated.specs.Amount.{whole}
 use Rattle.p2p_simulated.specs.Laws.LowestTerms.{whole_IsReduced}
 use Rattle.p2p_simulated.specs.Sides.{same_peer}
 use Rattle.p2p_simulated.specs.WorldMessages.{Message, OneForEachPair, same_pair, is_delivered}
-use Rattle.p2p_simulated.specs.World.{Completed, Course, goes, meets, last_moment, preceded, without_first, later_of, is_in_order}
+use Rattle.p2p_simulated.specs.World.{Completed, Course, goes, meets, last_moment, preceded, without_first, later_of, is_in_order, is_late, completed, arrival}
 use Rattle.p2p_simulated.specs.WorldReplies.{names_pair}
 use Rattle.p2p_simulated.specs.WorldPlanned.{Planned, Paced, paced_flows, next_of, may_launch, IsRated}
-use Rattle.p2p_simulated.specs.WorldEvents.{Looks, Launches, nothing_waits, too_early, no_id, starts, Finishes, all_completed, late, stopped, completes, WakesEach, all_started, no_start, no_finish, starts_one, Settles, settling, Advances, no_more, at_finish, at_start, finish_stops, start_stops, launched, landed, arrival, completed, is_late}
+use Rattle.p2p_simulated.specs.WorldEvents.{Looks, Launches, nothing_waits, too_early, no_id, starts, Finishes, all_completed, late, stopped, completes, WakesEach, all_started, no_start, no_finish, starts_one, Settles, settling, Advances, no_more, at_finish, at_start, finish_stops, start_stops, launched, landed}
 use Rattle.p2p_simulated.specs.WorldRefusals.{LaunchAccounts, launch_accounts, FinishAccounts, first_accounts, later_accounts, WakeAccounts, start_accounts, finish_accounts, rest_accounts, SettleAccounts, own_account, leavers_account, AdvanceAccounts, in_the_end, at_the_finish, at_the_start, after_a_finish, after_a_start}
 use Rattle.p2p_simulated.specs.WorldStands.{IsSmallMessage, finest_parts}
 use Rattle.p2p_simulated.proofs.World.Bytes.{Each}

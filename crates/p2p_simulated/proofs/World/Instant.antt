@@ -1,22 +1,21 @@
 -- Settling in the planned world is settling in the world: the same completions or the same fault, and the two agree afterwards.
 use Rattle.std.proofs.Common.{◌≡◌, ℕ, zero, suc, ◌+◌, ◌≤◌, List, [], ◌∷◌, ◌++◌, map, length, Bool, true, false, cond, not, Option, Some, None, refl, sym, ap, ◌∙◌, subst, arith, length-append}
-use Rattle.std.specs.Prelude.{◌&&◌, nat_lt, if◌then◌else◌}
 use Rattle.std.specs.List.{filter, find, list_any, AllZip}
 use Rattle.std.specs.declared.cmp.Ordering.{Ordering}
 use Rattle.std.specs.Cmp.{IsTotalOrder}
 use Rattle.std.proofs.lemmas.List.{map-append}
 use Rattle.std.proofs.lemmas.Bool.{or_from}
-use Rattle.p2p_simulated.specs.World.{Completed, Course, Flight, World, flows, goes, is_done, last_moment, meets, preceded, raised, settle, EndsWith}
-use Rattle.p2p_simulated.specs.WorldEvents.{Finishes, Looks, Settles, all_completed, arrival, completed, completes, is_late, landed, late, settling, stopped}
-use Rattle.p2p_simulated.specs.WorldMessages.{Message, OneForEachPair, PairsAlike, SameMessage, is_delivered, same_pair}
+use Rattle.p2p_simulated.specs.World.{Completed, Course, Flight, World, flows, goes, is_done, meets, preceded, raised, settle, EndsWith, is_late, completed, arrival}
+use Rattle.p2p_simulated.specs.WorldEvents.{Finishes, Looks, Settles, all_completed, completes, landed, late, settling, stopped}
+use Rattle.p2p_simulated.specs.WorldMessages.{Message, OneForEachPair, PairsAlike, SameMessage, same_pair}
 use Rattle.p2p_simulated.specs.WorldPlanned.{IsLeastMoment, Planned, SomeReadyAt}
 use Rattle.p2p_simulated.specs.WorldReplies.{SameCompletion}
-use Rattle.p2p_simulated.specs.WorldStands.{CoursesAlike, Follows, IsSettled, StandsFor, Tallies}
+use Rattle.p2p_simulated.specs.WorldStands.{CoursesAlike, Follows, IsSettled, Tallies}
 use Rattle.p2p_simulated.specs.declared.error.Error.TheVariants.{MomentTooLate}
-use Rattle.p2p_simulated.specs.WorldQueue.{is_past, leaving, staying, completion, arrived, launch_then, finish_within}
+use Rattle.p2p_simulated.specs.WorldQueue.{leaving, staying, arrived, launch_then, finish_within}
 use Rattle.p2p_simulated.proofs.World.Queue.{over_state, settles_as_queue}
 use Rattle.p2p_simulated.proofs.World.Alike.{delivered_alike, peers_alike}
-use Rattle.p2p_simulated.proofs.World.Between.{Each, later, follows_later}
+use Rattle.p2p_simulated.proofs.World.Between.{Each}
 use Rattle.p2p_simulated.proofs.World.Again.{leavers_alike, account_follows}
 use Rattle.p2p_simulated.proofs.World.Launch.{NoneDone, staying_none, next_alike, GoesOn, LaunchAlike, launch_alike}
 use Rattle.p2p_simulated.proofs.World.Rests.{settle_rests}
@@ -49,17 +48,13 @@ all_without {X} test (x ∷ xs) e = by_test (test x) e (all_without test xs)
 module _ {P : Type 0} (cmp : P → P → Ordering) (order : IsTotalOrder cmp) where
   -- ---- a message lands
 
-  arrival_alike : (t : ℕ) (m n : Message P) → SameMessage cmp m n → arrival cmp t m ≡ (if is_delivered cmp n then t + n.latency else t)
+  arrival_alike : (t : ℕ) (m n : Message P) → SameMessage cmp m n → arrival cmp t m ≡ arrival cmp t n
   arrival_alike t m n e = rw (delivered_alike cmp order m n e, e.latency) refl
 
-  late_alike : (t : ℕ) (m n : Message P) → SameMessage cmp m n → is_late cmp t m ≡ is_past cmp t n
-  late_alike t m n e = rw (delivered_alike cmp order m n e, e.latency) (by_test (is_delivered cmp n))
-    where
-      by_test : (b : Bool) → (b && nat_lt last_moment (t + n.latency)) ≡ (b && nat_lt last_moment (if b then t + n.latency else t))
-      by_test true = refl
-      by_test false = refl
+  late_alike : (t : ℕ) (m n : Message P) → SameMessage cmp m n → is_late cmp t m ≡ is_late cmp t n
+  late_alike t m n e = rw (delivered_alike cmp order m n e, e.latency) refl
 
-  completed_alike : (t : ℕ) (m n : Message P) → SameMessage cmp m n → SameCompletion cmp (completed cmp t m) (completion cmp t n)
+  completed_alike : (t : ℕ) (m n : Message P) → SameMessage cmp m n → SameCompletion cmp (completed cmp t m) (completed cmp t n)
   completed_alike t m n e = record { origin = e.origin; recipient = e.recipient; channel = e.channel; bytes = e.bytes; deliver_at = rw (delivered_alike cmp order m n e, e.latency) refl }
 
   pub raised_alike : (last last' : P → P → Option ℕ) (m n : Message P) (at at' : ℕ) → PairsAlike cmp last last' → SameMessage cmp m n → at ≡ at'
@@ -73,7 +68,7 @@ module _ {P : Type 0} (cmp : P → P → Ordering) (order : IsTotalOrder cmp) wh
       moment = follows.tallies.moment;
       caps = follows.tallies.caps;
       limited = follows.tallies.limited;
-      last_arrival = raised_alike p.last_arrival w.last_arrival m n (arrival cmp t m) (if is_delivered cmp n then t + n.latency else t) follows.tallies.last_arrival e (arrival_alike t m n e);
+      last_arrival = raised_alike p.last_arrival w.last_arrival m n (arrival cmp t m) (arrival cmp t n) follows.tallies.last_arrival e (arrival_alike t m n e);
       next_id = follows.tallies.next_id;
       waiting = follows.tallies.waiting;
       pair_order = follows.tallies.pair_order;
@@ -130,12 +125,12 @@ module _ {P : Type 0} (cmp : P → P → Ordering) (order : IsTotalOrder cmp) wh
   no_queue zero t w = refl
   no_queue (suc n) t w = refl
 
-  first_late : (n t : ℕ) (f : Flight P) (fs : List (Flight P)) (w : World P) → is_past cmp t f.message ≡ true → finish_within cmp (suc n) t (f ∷ fs) w ≡ meets MomentTooLate
+  first_late : (n t : ℕ) (f : Flight P) (fs : List (Flight P)) (w : World P) → is_late cmp t f.message ≡ true → finish_within cmp (suc n) t (f ∷ fs) w ≡ meets MomentTooLate
   unfolding finish_within
   first_late n t f fs w e = rw e refl
 
-  first_lands : (n t : ℕ) (f : Flight P) (fs : List (Flight P)) (w : World P) → is_past cmp t f.message ≡ false
-      → finish_within cmp (suc n) t (f ∷ fs) w ≡ preceded (completion cmp t f.message ∷ []) (launch_then cmp (finish_within cmp n t) t fs (arrived cmp t w f.message) (find (same_pair cmp f.message) w.waiting))
+  first_lands : (n t : ℕ) (f : Flight P) (fs : List (Flight P)) (w : World P) → is_late cmp t f.message ≡ false
+      → finish_within cmp (suc n) t (f ∷ fs) w ≡ preceded (completed cmp t f.message ∷ []) (launch_then cmp (finish_within cmp n t) t fs (arrived cmp t w f.message) (find (same_pair cmp f.message) w.waiting))
   unfolding finish_within
   first_lands n t f fs w e = rw e refl
 
@@ -158,7 +153,7 @@ module _ {P : Type 0} (cmp : P → P → Ordering) (order : IsTotalOrder cmp) wh
       let there : Follows cmp t (landed cmp t p m) (arrived cmp t w f.message) = landed_follows t p w m f.message follows all.0 in
       let fails : LaunchAlike cmp order t (arrived cmp t w f.message) fs (find (same_pair cmp f.message) w.waiting) (meets fault) =
       launch_alike cmp order launch (arrived cmp t w f.message) fs f.message (find (same_pair cmp f.message) w.waiting) there none refl (next_alike cmp order t p w m f.message follows.tallies all.0) in
-      subst (λ (c : Course (Completed P) (World P)). CourseAlike t (meets fault) c) (sym (first_lands n t f fs w (sym (late_alike t m f.message all.0) ∙ not_late) ∙ ap (preceded (completion cmp t f.message ∷ [])) (fails (finish_within cmp n t)))) refl
+      subst (λ (c : Course (Completed P) (World P)). CourseAlike t (meets fault) c) (sym (first_lands n t f fs w (sym (late_alike t m f.message all.0) ∙ not_late) ∙ ap (preceded (completed cmp t f.message ∷ [])) (fails (finish_within cmp n t)))) refl
   finishes_alike (completes not_late launch rest) n [] w follows none all fuel = absurd all
   finishes_alike (completes not_late launch rest) zero (f ∷ fs) w follows none all fuel = absurd (omega arith)
   finishes_alike {t = t} {p = p} (completes {m = m} {ms = ms} {more = more} {q = q} {rest = after} not_late launch rest) (suc n) (f ∷ fs) w follows none all fuel =
@@ -171,8 +166,8 @@ module _ {P : Type 0} (cmp : P → P → Ordering) (order : IsTotalOrder cmp) wh
       let enough : length on.more + length on.world.waiting ≤ length w.waiting = on.fewer in
       let ih : CourseAlike t after (finish_within cmp n t (fs ++ on.more) on.world) = finishes_alike rest n (fs ++ on.more) on.world on.follows on.none leavers (omega arith) in
       subst (λ (c : Course (Completed P) (World P)). CourseAlike t (preceded (completed cmp t m ∷ []) after) c)
-      (sym (first_lands n t f fs w (sym (late_alike t m f.message all.0) ∙ not_late) ∙ ap (preceded (completion cmp t f.message ∷ [])) (on.launches (finish_within cmp n t))))
-      (preceded_alike t (completed cmp t m) (completion cmp t f.message) after (finish_within cmp n t (fs ++ on.more) on.world) (completed_alike t m f.message all.0) ih)
+      (sym (first_lands n t f fs w (sym (late_alike t m f.message all.0) ∙ not_late) ∙ ap (preceded (completed cmp t f.message ∷ [])) (on.launches (finish_within cmp n t))))
+      (preceded_alike t (completed cmp t m) (completed cmp t f.message) after (finish_within cmp n t (fs ++ on.more) on.world) (completed_alike t m f.message all.0) ih)
 
   -- ---- settling
 
@@ -209,23 +204,3 @@ module _ {P : Type 0} (cmp : P → P → Ordering) (order : IsTotalOrder cmp) wh
       finishes_alike finishes n (leaving cmp w) (staying cmp w) (account_follows cmp order t p mid leavers w same account) (staying_none cmp order w) (leavers_alike cmp order t p mid leavers w same account) (omega arith) in
       let way : settle cmp t w ≡ finish_within cmp n t (leaving cmp w) (staying cmp w) = settle_is_finish t w same.one_each in
       subst (λ (c : Course (Completed P) (World P)). CourseAlike t course c) (sym way) queued
-
-  -- ---- the event at the planned finish
-
-  -- at its planned finish the planned world settling as the world does, drained up to there
-  pub finish_settles : (p : Planned P) (w : World P) (stands : StandsFor cmp p w) (k : ℕ) {course : Course (Completed P) (Planned P)} → Settles cmp (w.moment + k) (record p { finish = None }) course
-      → CourseAlike (w.moment + k) course (settle cmp (w.moment + k) (later cmp order p w stands k))
-  finish_settles p w stands k event =
-      let there : Follows cmp (w.moment + k) p (later cmp order p w stands k) = follows_later cmp order p w stands k in
-      settles_alike event (later cmp order p w stands k) (record {
-        moment = there.tallies.moment;
-        caps = there.tallies.caps;
-        limited = there.tallies.limited;
-        last_arrival = there.tallies.last_arrival;
-        next_id = there.tallies.next_id;
-        waiting = there.tallies.waiting;
-        pair_order = there.tallies.pair_order;
-        sending = there.tallies.sending;
-        one_each = there.tallies.one_each;
-        empty_at_first = there.tallies.empty_at_first;
-      })

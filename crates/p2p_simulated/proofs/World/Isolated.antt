@@ -1,14 +1,14 @@
 -- The part of a world that is a set's messages goes its own way: what the others do does not touch it.
 use Rattle.std.proofs.Common.{◌≡◌, ℕ, zero, suc, ◌+◌, ◌<◌, ◌≤◌, List, [], ◌∷◌, ◌++◌, map, length, Bool, true, false, cond, Option, Some, None, refl, sym, ap, ◌∙◌, subst, arith, append-nil}
-use Rattle.std.specs.Prelude.{⊤, ◌&&◌, nat_lt, nat_le, if◌then◌else◌}
+use Rattle.std.specs.Prelude.{⊤, nat_le}
 use Rattle.std.specs.List.{filter, find, list_any}
 use Rattle.std.specs.declared.cmp.Ordering.{Ordering}
 use Rattle.std.specs.Cmp.{IsTotalOrder}
 use Rattle.std.proofs.lemmas.List.Elements.{filter-append}
 use Rattle.std.proofs.lemmas.Bool.{leb-false, lt-leb}
 use Rattle.p2p_simulated.specs.Amount.{whole}
-use Rattle.p2p_simulated.specs.World.{Completed, Course, Flight, World, and_then, complete, completion_of, first_waiting, fronts, goes, instant, is_done, last_moment, later_of, least_pair, may_start, meets, preceded, raised, ready, settle, settle_within, start, start_next, wake, wake_within, without_first, EndsWith}
-use Rattle.p2p_simulated.specs.WorldMessages.{Message, is_delivered, same_pair}
+use Rattle.p2p_simulated.specs.World.{Completed, Course, Flight, World, and_then, complete, first_waiting, fronts, goes, instant, is_done, last_moment, later_of, least_pair, may_start, meets, preceded, raised, ready, settle, settle_within, start, start_next, wake, wake_within, without_first, EndsWith, out_of_flight, is_late, completed, arrival}
+use Rattle.p2p_simulated.specs.WorldMessages.{Message, same_pair}
 use Rattle.p2p_simulated.specs.declared.error.Error.TheVariants.{FlowIdsUsedUp, MomentTooLate}
 use Rattle.p2p_simulated.proofs.World.Queue.{settle_none, settle_first, find_passes}
 use Rattle.p2p_simulated.proofs.World.Rests.{ends_preceded, ends_and_then, ends_cond, length_without, find_in_none, find_like, HasAtMost, complete_has, NoneDone, settle_rests}
@@ -28,9 +28,6 @@ module _ {P : Type 0} (cmp : P → P → Ordering) (order : IsTotalOrder cmp) (i
   -- the set's part of a world, with last arrivals and a next flow id of its own
   abbrev pub part : (P → P → Option ℕ) → ℕ → World P → World P
   part last id w = record w { sending = filter in_flight w.sending; waiting = filter mine w.waiting; last_arrival = last; next_id = id }
-
-  abbrev Arrivals : Type 0
-  Arrivals = P → P → Option ℕ
 
   -- those are of the world: the same last arrivals for the set's pairs, and no greater a flow id
   pub record IsPart (last : P → P → Option ℕ) (id : ℕ) (w : World P) : Type 0 where
@@ -146,15 +143,6 @@ module _ {P : Type 0} (cmp : P → P → Ordering) (order : IsTotalOrder cmp) (i
 
   -- ---- a completion
 
-  abbrev moment_for : ℕ → Message P → ℕ
-  moment_for t m = if is_delivered cmp m then t + m.latency else t
-
-  abbrev completion : ℕ → Message P → Completed P
-  completion t m = completion_of m (if is_delivered cmp m then Some (moment_for t m) else None)
-
-  abbrev landed : ℕ → World P → Message P → World P
-  landed t w m = record w { sending = without_first (is_done cmp w) w.sending; last_arrival = raised cmp w.last_arrival m (moment_for t m) }
-
   pub raised_same : (m n : Message P) (at : ℕ) (last : P → P → Option ℕ) (w : World P) (id : ℕ) → IsPart last id w → mine n ≡ true
       → raised cmp last m at n.origin n.recipient ≡ raised cmp w.last_arrival m at n.origin n.recipient
   raised_same m n at last w id is own = let same : last n.origin n.recipient ≡ w.last_arrival n.origin n.recipient = is.arrivals n own in rw same refl
@@ -168,13 +156,13 @@ module _ {P : Type 0} (cmp : P → P → Ordering) (order : IsTotalOrder cmp) (i
 
   complete_mine : (t : ℕ) (w : World P) (f : Flight P) (last : P → P → Option ℕ) (id : ℕ) → IsPart last id w → find (is_done cmp w) w.sending ≡ Some f → mine f.message ≡ true
       → IsPartOf (complete cmp t w f.message) (complete cmp t (part last id w) f.message)
-  complete_mine t w f last id is first own = by_late (is_delivered cmp f.message && nat_lt last_moment (moment_for t f.message)) inner
+  complete_mine t w f last id is first own = by_late (is_late cmp t f.message) inner
     where
-      inner : IsPartOf (start_next cmp t (landed t w f.message) (first_waiting cmp (landed t w f.message) f.message)) (start_next cmp t (landed t (part last id w) f.message) (first_waiting cmp (landed t (part last id w) f.message) f.message))
+      inner : IsPartOf (start_next cmp t (out_of_flight cmp t w f.message) (first_waiting cmp (out_of_flight cmp t w f.message) f.message)) (start_next cmp t (out_of_flight cmp t (part last id w) f.message) (first_waiting cmp (out_of_flight cmp t (part last id w) f.message) f.message))
       inner =
-          let at : ℕ = moment_for t f.message in
+          let at : ℕ = arrival cmp t f.message in
           let higher : P → P → Option ℕ = raised cmp last f.message at in
-          let still : IsPart higher id (landed t w f.message) = record {
+          let still : IsPart higher id (out_of_flight cmp t w f.message) = record {
             arrivals = λ n own_n. raised_same f.message n at last w id is own_n;
             ids = is.ids;
             sending = each_without (λ (g : Flight P). T g.message) (is_done cmp w) w.sending is.sending;
@@ -182,47 +170,47 @@ module _ {P : Type 0} (cmp : P → P → Ordering) (order : IsTotalOrder cmp) (i
           } in
           let next : Option (Message P) = find (same_pair cmp f.message) w.waiting in
           let same_next : find (same_pair cmp f.message) (filter mine w.waiting) ≡ next = find_kept mine (same_pair cmp f.message) w.waiting (λ n s. sym (alike f.message n s) ∙ own) in
-          let same_landed : landed t (part last id w) f.message ≡ part higher id (landed t w f.message)
+          let same_landed : out_of_flight cmp t (part last id w) f.message ≡ part higher id (out_of_flight cmp t w f.message)
           = part_alike w higher id _ _ (filter mine w.waiting) (filter mine w.waiting) (sym (first_kept in_flight (is_done cmp w) w.sending f first own).1) refl in
-          let base : IsPartOf (start_next cmp t (landed t w f.message) next) (start_next cmp t (part higher id (landed t w f.message)) next)
-          = start_next_mine t (landed t w f.message) f.message next higher id still own refl in
-          let one : IsPartOf (start_next cmp t (landed t w f.message) next) (start_next cmp t (landed t (part last id w) f.message) next)
-          = subst (λ (z : World P). IsPartOf (start_next cmp t (landed t w f.message) next) (start_next cmp t z next)) (sym same_landed) base in
-          subst (λ (o : Option (Message P)). IsPartOf (start_next cmp t (landed t w f.message) next) (start_next cmp t (landed t (part last id w) f.message) o)) (sym same_next) one
+          let base : IsPartOf (start_next cmp t (out_of_flight cmp t w f.message) next) (start_next cmp t (part higher id (out_of_flight cmp t w f.message)) next)
+          = start_next_mine t (out_of_flight cmp t w f.message) f.message next higher id still own refl in
+          let one : IsPartOf (start_next cmp t (out_of_flight cmp t w f.message) next) (start_next cmp t (out_of_flight cmp t (part last id w) f.message) next)
+          = subst (λ (z : World P). IsPartOf (start_next cmp t (out_of_flight cmp t w f.message) next) (start_next cmp t z next)) (sym same_landed) base in
+          subst (λ (o : Option (Message P)). IsPartOf (start_next cmp t (out_of_flight cmp t w f.message) next) (start_next cmp t (out_of_flight cmp t (part last id w) f.message) o)) (sym same_next) one
 
       by_late : (b : Bool)
-          → IsPartOf (start_next cmp t (landed t w f.message) (first_waiting cmp (landed t w f.message) f.message)) (start_next cmp t (landed t (part last id w) f.message) (first_waiting cmp (landed t (part last id w) f.message) f.message))
-          → IsPartOf (cond b (meets MomentTooLate) (preceded (completion t f.message ∷ []) (start_next cmp t (landed t w f.message) (first_waiting cmp (landed t w f.message) f.message))))
-          (cond b (meets MomentTooLate) (preceded (completion t f.message ∷ []) (start_next cmp t (landed t (part last id w) f.message) (first_waiting cmp (landed t (part last id w) f.message) f.message))))
+          → IsPartOf (start_next cmp t (out_of_flight cmp t w f.message) (first_waiting cmp (out_of_flight cmp t w f.message) f.message)) (start_next cmp t (out_of_flight cmp t (part last id w) f.message) (first_waiting cmp (out_of_flight cmp t (part last id w) f.message) f.message))
+          → IsPartOf (cond b (meets MomentTooLate) (preceded (completed cmp t f.message ∷ []) (start_next cmp t (out_of_flight cmp t w f.message) (first_waiting cmp (out_of_flight cmp t w f.message) f.message))))
+          (cond b (meets MomentTooLate) (preceded (completed cmp t f.message ∷ []) (start_next cmp t (out_of_flight cmp t (part last id w) f.message) (first_waiting cmp (out_of_flight cmp t (part last id w) f.message) f.message))))
       by_late true h = tt
       by_late false h =
-          let c : Completed P = completion t f.message in
+          let c : Completed P = completed cmp t f.message in
           let alone : filter in_done (c ∷ []) ≡ c ∷ [] = rw own refl in
-          let big : Course (Completed P) (World P) = start_next cmp t (landed t w f.message) (first_waiting cmp (landed t w f.message) f.message) in
-          let small : Course (Completed P) (World P) = start_next cmp t (landed t (part last id w) f.message) (first_waiting cmp (landed t (part last id w) f.message) f.message) in
+          let big : Course (Completed P) (World P) = start_next cmp t (out_of_flight cmp t w f.message) (first_waiting cmp (out_of_flight cmp t w f.message) f.message) in
+          let small : Course (Completed P) (World P) = start_next cmp t (out_of_flight cmp t (part last id w) f.message) (first_waiting cmp (out_of_flight cmp t (part last id w) f.message) f.message) in
           subst (λ (cs : List (Completed P)). IsPartOf (preceded (c ∷ []) big) (preceded cs small)) alone (part_preceded (c ∷ []) big small h)
 
   complete_other : (t : ℕ) (w : World P) (f : Flight P) (last : P → P → Option ℕ) (id : ℕ) → IsPart last id w → find (is_done cmp w) w.sending ≡ Some f → mine f.message ≡ false
       → IsPartOf (complete cmp t w f.message) (goes [] (part last id w))
-  complete_other t w f last id is first off = by_late (is_delivered cmp f.message && nat_lt last_moment (moment_for t f.message))
+  complete_other t w f last id is first off = by_late (is_late cmp t f.message)
     where
       by_late : (b : Bool)
-          → IsPartOf (cond b (meets MomentTooLate) (preceded (completion t f.message ∷ []) (start_next cmp t (landed t w f.message) (first_waiting cmp (landed t w f.message) f.message)))) (goes [] (part last id w))
+          → IsPartOf (cond b (meets MomentTooLate) (preceded (completed cmp t f.message ∷ []) (start_next cmp t (out_of_flight cmp t w f.message) (first_waiting cmp (out_of_flight cmp t w f.message) f.message)))) (goes [] (part last id w))
       by_late true = tt
       by_late false =
-          let c : Completed P = completion t f.message in
-          let still : IsPart last id (landed t w f.message) = record {
-            arrivals = λ n own_n. is.arrivals n own_n ∙ sym (raised_other f.message n (moment_for t f.message) w.last_arrival off own_n);
+          let c : Completed P = completed cmp t f.message in
+          let still : IsPart last id (out_of_flight cmp t w f.message) = record {
+            arrivals = λ n own_n. is.arrivals n own_n ∙ sym (raised_other f.message n (arrival cmp t f.message) w.last_arrival off own_n);
             ids = is.ids;
             sending = each_without (λ (g : Flight P). T g.message) (is_done cmp w) w.sending is.sending;
             waiting = is.waiting;
           } in
-          let same : part last id (landed t w f.message) ≡ part last id w
+          let same : part last id (out_of_flight cmp t w f.message) ≡ part last id w
           = part_alike w last id _ _ (filter mine w.waiting) (filter mine w.waiting) (first_dropped in_flight (is_done cmp w) w.sending f first off) refl in
           let nothing : filter in_done (c ∷ []) ≡ [] = rw off refl in
-          let big : Course (Completed P) (World P) = start_next cmp t (landed t w f.message) (first_waiting cmp (landed t w f.message) f.message) in
-          let base : IsPartOf big (goes [] (part last id (landed t w f.message)))
-          = start_next_other t (landed t w f.message) f.message (first_waiting cmp (landed t w f.message) f.message) last id still off refl in
+          let big : Course (Completed P) (World P) = start_next cmp t (out_of_flight cmp t w f.message) (first_waiting cmp (out_of_flight cmp t w f.message) f.message) in
+          let base : IsPartOf big (goes [] (part last id (out_of_flight cmp t w f.message)))
+          = start_next_other t (out_of_flight cmp t w f.message) f.message (first_waiting cmp (out_of_flight cmp t w f.message) f.message) last id still off refl in
           let one : IsPartOf big (goes [] (part last id w)) = subst (λ (z : World P). IsPartOf big (goes [] z)) same base in
           subst (λ (cs : List (Completed P)). IsPartOf (preceded (c ∷ []) big) (preceded cs (goes [] (part last id w)))) nothing (part_preceded (c ∷ []) big (goes [] (part last id w)) one)
 
@@ -235,14 +223,6 @@ module _ {P : Type 0} (cmp : P → P → Ordering) (order : IsTotalOrder cmp) (i
   some_element : {X : Type 0} (test : X → Bool) (x : X) (xs : List X) → find test xs ≡ Some x → 0 < length xs
   some_element test x [] e = cc
   some_element test x (y ∷ ys) e = omega arith
-
-  length_kept : {X : Type 0} (p : X → Bool) (xs : List X) → length (filter p xs) ≤ length xs
-  length_kept p [] = omega arith
-  length_kept {X} p (x ∷ xs) = by_test (p x) (length_kept p xs)
-    where
-      by_test : (b : Bool) → length (filter p xs) ≤ length xs → length (cond b (x ∷ filter p xs) (filter p xs)) ≤ suc (length xs)
-      by_test true h = omega arith
-      by_test false h = omega arith
 
   pub settle_part : (n k t : ℕ) (w : World P) (last : P → P → Option ℕ) (id : ℕ) → IsPart last id w → HasAtMost cmp order n w → HasAtMost cmp order k (part last id w)
       → IsPartOf (settle_within cmp n t w) (settle_within cmp k t (part last id w))
@@ -312,8 +292,8 @@ module _ {P : Type 0} (cmp : P → P → Ordering) (order : IsTotalOrder cmp) (i
 
   complete_waits : (k t : ℕ) (w : World P) (m : Message P) → WaitsAtMost k w → EndsWith (WaitsAtMost k) (complete cmp t w m)
   complete_waits k t w m h =
-      ends_cond (WaitsAtMost k) (is_delivered cmp m && nat_lt last_moment (moment_for t m)) (meets MomentTooLate) (preceded (completion t m ∷ []) (start_next cmp t (landed t w m) (first_waiting cmp (landed t w m) m))) tt
-      (ends_preceded (WaitsAtMost k) (completion t m ∷ []) (start_next cmp t (landed t w m) (first_waiting cmp (landed t w m) m)) (start_next_waits k t (landed t w m) (first_waiting cmp (landed t w m) m) h))
+      ends_cond (WaitsAtMost k) (is_late cmp t m) (meets MomentTooLate) (preceded (completed cmp t m ∷ []) (start_next cmp t (out_of_flight cmp t w m) (first_waiting cmp (out_of_flight cmp t w m) m))) tt
+      (ends_preceded (WaitsAtMost k) (completed cmp t m ∷ []) (start_next cmp t (out_of_flight cmp t w m) (first_waiting cmp (out_of_flight cmp t w m) m)) (start_next_waits k t (out_of_flight cmp t w m) (first_waiting cmp (out_of_flight cmp t w m) m) h))
 
   settle_waits : (n k t : ℕ) (w : World P) → WaitsAtMost k w → EndsWith (WaitsAtMost k) (settle_within cmp n t w)
   settle_waits zero k t w h = h

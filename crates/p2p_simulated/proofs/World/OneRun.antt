@@ -1,15 +1,14 @@
 -- A call has one course; quiet nanoseconds tick without a completion, and before the next event all are quiet.
-use Rattle.std.proofs.Common.{◌≡◌, ℕ, zero, suc, ◌+◌, ◌-◌, ◌<◌, ◌≤◌, List, [], Option, refl, sym, ap, ◌∙◌, subst, arith, ◌⊎◌, inl, inr}
-use Rattle.std.specs.Prelude.{IfSome}
+use Rattle.std.proofs.Common.{◌≡◌, ℕ, suc, List, [], refl, sym, ap, ◌∙◌, subst, arith, ◌⊎◌, inl, inr}
 use Rattle.std.specs.declared.cmp.Ordering.{Ordering}
 use Rattle.std.specs.Cmp.{IsTotalOrder}
-use Rattle.p2p_simulated.specs.World.{Completed, Course, World, and_then, goes, instant, last_moment, meets, preceded}
+use Rattle.p2p_simulated.specs.World.{Completed, Course, World, and_then, goes, instant, meets, preceded}
 use Rattle.p2p_simulated.specs.WorldCalls.{Call, Runs, act}
-use Rattle.p2p_simulated.specs.WorldTime.{Drains, IsSound, NextIs, Passes, Ticks, comes_next, never_comes, no_tick, no_time, one_tick, quiet_tick, tick_faults}
+use Rattle.p2p_simulated.specs.WorldTime.{Drains, IsSound, Ticks, no_tick, one_tick, tick_faults}
 use Rattle.p2p_simulated.specs.declared.error.Error.{Error}
 use Rattle.p2p_simulated.proofs.World.OneWorld.{one_world}
 use Rattle.p2p_simulated.proofs.World.Alike.{same_itself}
-use Rattle.p2p_simulated.proofs.World.Calm.{instant_of_quiet, ends_at, passes_end_at}
+use Rattle.p2p_simulated.proofs.World.Calm.{ends_at}
 use Rattle.p2p_simulated.proofs.World.Sound.{IsFit, drains_fit, instant_fit}
 
 module _ {P : Type 0} (cmp : P → P → Ordering) (order : IsTotalOrder cmp) where
@@ -75,24 +74,3 @@ module _ {P : Type 0} (cmp : P → P → Ordering) (order : IsTotalOrder cmp) wh
   pub runs_are_one : (w : World P) (call : Call P) (now : ℕ) (c d : Course (Completed P) (World P)) → IsSound cmp w → Runs cmp w call now c → Runs cmp w call now d → c ≡ d
   runs_are_one w call now c d sound r s =
       r.acts ∙ ap (λ (x : Course (Completed P) (World P)). and_then x (λ v. act cmp v call)) (ticks_are_one r.ticks s.ticked (record { positive = sound.positive; one_each = sound.one_each }) s.ticks) ∙ sym s.acts
-
-  -- ---- quiet nanoseconds
-
-  pub passing_ticks : {n : ℕ} {w v : World P} → Passes cmp n w v → Ticks cmp n w (goes [] v)
-  passing_ticks no_time = no_tick
-  passing_ticks (quiet_tick {v = v} d q p) = one_tick d (instant_of_quiet cmp order v q) (passing_ticks p)
-
-  passes_less : {n : ℕ} {w v : World P} → Passes cmp n w v → (k : ℕ) → k ≤ n → (u : World P) × Passes cmp k w u
-  passes_less {w = w} p zero h = (w, no_time)
-  passes_less no_time (suc k) h = absurd (omega arith)
-  passes_less {v = x} (quiet_tick {n = n} {v = v} d q p) (suc k) h =
-      let rest : (u : World P) × Passes cmp k v u = passes_less {n = n} {w = v} {v = x} p k (omega arith) in
-      (rest.0, quiet_tick d q rest.1)
-
-  -- before the next event all is quiet
-  pub quiet_before_next : (w : World P) (next : Option ℕ) (now : ℕ) → NextIs cmp w next → now ≤ last_moment → IfSome next (λ t. now < t) → (v : World P) × Passes cmp (now - w.moment) w v
-  quiet_before_next w next now (never_comes p) h before = passes_less p (now - w.moment) (omega arith)
-  quiet_before_next w next now (comes_next {n = n} {v = v} {u = u} p d event k) h before =
-      let at : v.moment ≡ w.moment + n = passes_end_at cmp order p in
-      let on : u.moment ≡ v.moment + 1 = ap (λ (x : World P). x.moment) d.world in
-      passes_less p (now - w.moment) (omega arith)

@@ -9,10 +9,10 @@ use Rattle.std.proofs.lemmas.List.{map-append}
 use Rattle.p2p_simulated.specs.declared.error.Error.TheVariants.{MomentTooLate}
 use Rattle.p2p_simulated.specs.WorldMessages.{Message, Caps, CapsAlike, PairsAlike, OneForEachPair, no_caps, same_pair}
 use Rattle.p2p_simulated.specs.WorldRates.{AreFair}
-use Rattle.p2p_simulated.specs.World.{Completed, Course, goes, meets, last_moment, raised, later_of, completion_of, is_in_order, EndsWith}
+use Rattle.p2p_simulated.specs.World.{Completed, Course, goes, meets, last_moment, raised, later_of, completion_of, is_in_order, EndsWith, completed, arrival}
 use Rattle.p2p_simulated.specs.WorldCalls.{Call, call_limit, call_limit_link, call_enqueue, call_advance, call_next, limited_by, linked_by}
 use Rattle.p2p_simulated.specs.WorldPlanned.{Planned, Paced, new_planned, paced_flows, drained_to, next_of, AreInPairOrder, may_launch, is_spent, IsRated}
-use Rattle.p2p_simulated.specs.WorldEvents.{Accounts, Looks, Launches, nothing_waits, too_early, no_id, starts, Finishes, all_completed, late, stopped, completes, WakesEach, all_started, no_start, no_finish, starts_one, Settles, settling, Recaps, none_sending, some_sending, Enqueues, at_once, no_launch, launches, Advances, no_more, at_finish, at_start, finish_stops, start_stops, launched, landed, arrival, completed, with_queued, Obeys}
+use Rattle.p2p_simulated.specs.WorldEvents.{Accounts, Looks, Launches, nothing_waits, too_early, no_id, starts, Finishes, all_completed, late, stopped, completes, WakesEach, all_started, no_start, no_finish, starts_one, Settles, settling, Recaps, none_sending, some_sending, Enqueues, at_once, no_launch, launches, Advances, no_more, at_finish, at_start, finish_stops, start_stops, launched, landed, with_queued, Obeys}
 use Rattle.p2p_simulated.specs.Orderly.{IsOrderly}
 use Rattle.p2p_simulated.proofs.World.Alike.{same_itself}
 use Rattle.p2p_simulated.proofs.World.Queue.{one_pair_more}
@@ -80,17 +80,17 @@ module _ {P : Type 0} (cmp : P → P → Ordering) (order : IsTotalOrder cmp) wh
   account_orderly t old new leavers a h = record {
     rated = record { per = a.per; rates = a.rates; fair = subst (λ (q : Planned P). AreFair cmp q.caps (paced_flows new.sending) a.per a.rates) (sym a.same) a.fair; rated = a.rated };
     one_each = subst (OneForEachPair cmp) (sym (stayed_messages t still new.sending a.stayed))
-        (one_of_fewer (λ (f : Paced P). not (is_spent cmp old f)) (drained_to t old.sending) (subst (OneForEachPair cmp) (sym (drained_messages t old.sending)) h.one_each));
+        (one_of_fewer (λ (f : Paced P). not (is_spent cmp old.caps f)) (drained_to t old.sending) (subst (OneForEachPair cmp) (sym (drained_messages t old.sending)) h.one_each));
     pair_order = subst (λ (q : Planned P). AreInPairOrder cmp q.waiting) (sym a.same) h.pair_order;
     empty_at_first = λ free.
         let empty = h.empty_at_first (sym (ap (λ (q : Planned P). q.limited) a.same) ∙ free) in
-        (none_stays t new.sending (subst (λ (fs : List (Paced P)). AllZip (Stays t) (filter (λ (f : Paced P). not (is_spent cmp old f)) (drained_to t fs)) new.sending) empty.0 a.stayed), ap (λ (q : Planned P). q.waiting) a.same ∙ empty.1);
+        (none_stays t new.sending (subst (λ (fs : List (Paced P)). AllZip (Stays t) (filter (λ (f : Paced P). not (is_spent cmp old.caps f)) (drained_to t fs)) new.sending) empty.0 a.stayed), ap (λ (q : Planned P). q.waiting) a.same ∙ empty.1);
     caps = subst (λ (q : Planned P). CapsAlike cmp q.caps q.caps) (sym a.same) h.caps;
     last_arrival = subst (λ (q : Planned P). PairsAlike cmp q.last_arrival q.last_arrival) (sym a.same) h.last_arrival;
   }
     where
       still : List (Paced P)
-      still = filter (λ (f : Paced P). not (is_spent cmp old f)) (drained_to t old.sending)
+      still = filter (λ (f : Paced P). not (is_spent cmp old.caps f)) (drained_to t old.sending)
 
   look_orderly : (t : ℕ) (p q : Planned P) → Looks cmp t p q → IsOrderly cmp p → IsOrderly cmp q
   look_orderly t p q looks h = subst (IsOrderly cmp) (sym looks.same) (record {

@@ -1,6 +1,6 @@
 -- What happens to one pair leaves the other pairs as they are.
 use Rattle.std.proofs.Common.{◌≡◌, ℕ, zero, suc, ◌+◌, List, [], ◌∷◌, ◌++◌, map, length, Bool, true, false, cond, not, Option, Some, None, refl, sym, ap, ◌∙◌, subst}
-use Rattle.std.specs.Prelude.{nat_le, ⊤, ◌&&◌, ◌||◌, nat_lt, ◌==◌, if◌then◌else◌}
+use Rattle.std.specs.Prelude.{nat_le, ⊤, ◌&&◌, ◌||◌, ◌==◌}
 use Rattle.std.specs.List.{filter, find, list_any}
 use Rattle.std.specs.declared.cmp.Ordering.{Ordering}
 use Rattle.std.specs.Cmp.{IsTotalOrder}
@@ -11,8 +11,8 @@ use Rattle.std.proofs.lemmas.Map.Views.{any-filter_same}
 use Rattle.std.proofs.lemmas.Bool.{or_right, or_left}
 use Rattle.std.proofs.lemmas.List.{append-nil, map-append}
 use Rattle.p2p_simulated.specs.Amount.{whole}
-use Rattle.p2p_simulated.specs.World.{Completed, Course, EndsWith, Flight, World, complete, completion_of, first_waiting, flows, fronts, goes, is_done, is_idle, is_in_order, last_moment, may_start, meets, raised, ready, settle, settle_within, start, start_next, turn, without_first}
-use Rattle.p2p_simulated.specs.WorldMessages.{Message, is_delivered, same_pair, Caps}
+use Rattle.p2p_simulated.specs.World.{Completed, Course, EndsWith, Flight, World, complete, first_waiting, flows, fronts, goes, is_done, is_idle, is_in_order, last_moment, may_start, meets, raised, ready, settle, settle_within, start, start_next, turn, without_first, out_of_flight, is_late, completed, arrival}
+use Rattle.p2p_simulated.specs.WorldMessages.{Message, same_pair, Caps}
 use Rattle.p2p_simulated.specs.WorldPass.{IsButFor, IsUnchangedFor, MayNotStart}
 use Rattle.p2p_simulated.specs.WorldRates.{is_unlimited}
 use Rattle.p2p_simulated.specs.declared.error.Error.TheVariants.{FlowIdsUsedUp, MomentTooLate}
@@ -303,11 +303,10 @@ module _ {P : Type 0} (cmp : P → P → Ordering) (order : IsTotalOrder cmp) wh
   -- a completion changes its pair alone, which then may not start
   pub complete_leaves : (t : ℕ) (w : World P) (f : Flight P) → find (is_done cmp w) w.sending ≡ Some f → EndsWith (Leaves t f.message w) (complete cmp t w f.message)
   complete_leaves t w f e =
-      let at : ℕ = if is_delivered cmp f.message then t + f.message.latency else t in
-      let landed : World P = record w { sending = without_first (is_done cmp w) w.sending; last_arrival = raised cmp w.last_arrival f.message at } in
-      ends_cond (Leaves t f.message w) (is_delivered cmp f.message && nat_lt last_moment at) (meets MomentTooLate) _ tt
-      (ends_preceded (Leaves t f.message w) (completion_of f.message (if is_delivered cmp f.message then Some at else None) ∷ []) (start_next cmp t landed (first_waiting cmp landed f.message))
-      (ends_more (Leaves t f.message landed) (Leaves t f.message w) (start_next cmp t landed (first_waiting cmp landed f.message)) (λ u l. leaves_like t f.message f.message w landed u (pair_itself f.message) (landed_but_for w f at e) l)
+      let landed : World P = out_of_flight cmp t w f.message in
+      ends_cond (Leaves t f.message w) (is_late cmp t f.message) (meets MomentTooLate) _ tt
+      (ends_preceded (Leaves t f.message w) (completed cmp t f.message ∷ []) (start_next cmp t landed (first_waiting cmp landed f.message))
+      (ends_more (Leaves t f.message landed) (Leaves t f.message w) (start_next cmp t landed (first_waiting cmp landed f.message)) (λ u l. leaves_like t f.message f.message w landed u (pair_itself f.message) (landed_but_for w f (arrival cmp t f.message) e) l)
       (next_leaves t landed f.message (first_waiting cmp landed f.message) refl)))
 
   -- ---- settling after a start

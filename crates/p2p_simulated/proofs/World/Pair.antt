@@ -7,10 +7,10 @@ use Rattle.std.specs.Cmp.{IsTotalOrder}
 use Rattle.std.proofs.lemmas.List.{map-append}
 use Rattle.std.proofs.lemmas.List.Folds.{list_any-append}
 use Rattle.p2p_simulated.specs.Sides.{same_peer}
-use Rattle.p2p_simulated.specs.World.{Completed, Course, Flight, World, flows, fronts, goes, is_done, last_moment, may_start, meets, ready, without_first, EndsWith}
+use Rattle.p2p_simulated.specs.World.{Completed, Course, Flight, World, flows, fronts, goes, is_done, last_moment, may_start, meets, ready, without_first, EndsWith, is_late, completed}
 use Rattle.p2p_simulated.specs.WorldMessages.{Message, same_pair}
 use Rattle.p2p_simulated.specs.declared.error.Error.TheVariants.{FlowIdsUsedUp, MomentTooLate}
-use Rattle.p2p_simulated.specs.WorldQueue.{is_past, flight, taken, joined, arrived, completion, launch_then, finish_within}
+use Rattle.p2p_simulated.specs.WorldQueue.{flight, taken, joined, arrived, launch_then, finish_within}
 use Rattle.p2p_simulated.proofs.World.Queue.{both_alike, both_parts, pair_like, pair_sym, peer_like, find_passes}
 use Rattle.p2p_simulated.proofs.World.Between.{Each, each_map, IsFront, fronts_first, first_found, find_like}
 use Rattle.p2p_simulated.proofs.World.Rests.{ends_preceded, ends_cond, length_without}
@@ -181,8 +181,8 @@ module _ {P : Type 0} (cmp : P → P → Ordering) (order : IsTotalOrder cmp) (y
   finish_only zero t (f ∷ fs) w own fuel rested = absurd (omega arith)
   finish_only (suc n) t [] w own fuel rested = (only_itself w, rested refl)
   finish_only (suc n) t (f ∷ fs) w own fuel rested =
-      ends_cond (IsAfter t w) (is_past cmp t f.message) (meets MomentTooLate) _ tt
-      (ends_preceded (IsAfter t w) (completion cmp t f.message ∷ []) _ (after_on t w (arrived cmp t w f.message) _ (only_arrived t w f.message own.0)
+      ends_cond (IsAfter t w) (is_late cmp t f.message) (meets MomentTooLate) _ tt
+      (ends_preceded (IsAfter t w) (completed cmp t f.message ∷ []) _ (after_on t w (arrived cmp t w f.message) _ (only_arrived t w f.message own.0)
       (by_next (find (same_pair cmp f.message) w.waiting) (sym (find_like cmp order y f.message w.waiting own.0)) (finish_only n t))))
     where
       by_next : (o : Option (Message P)) → find (same_pair cmp y) w.waiting ≡ o

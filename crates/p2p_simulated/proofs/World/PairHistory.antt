@@ -11,7 +11,7 @@ use Rattle.p2p_simulated.specs.declared.error.Error.TheVariants.{MomentTooLate, 
 use Rattle.p2p_simulated.specs.Amount.{whole}
 use Rattle.p2p_simulated.specs.Sides.{same_peer}
 use Rattle.p2p_simulated.specs.WorldMessages.{Message, Caps, PairsAlike, same_pair, is_delivered}
-use Rattle.p2p_simulated.specs.World.{World, Flight, Completed, completion_of, Course, goes, meets, last_moment, without_first, preceded, and_then, is_in_order, later_of, new_world, flows, first_waiting, may_start, start, start_next, is_done, raised, complete, settle_within, settle, least_pair, ready, turn, wake_within, wake, instant, fronts, EndsWith}
+use Rattle.p2p_simulated.specs.World.{World, Flight, Completed, completion_of, Course, goes, meets, last_moment, without_first, preceded, and_then, is_in_order, later_of, new_world, flows, first_waiting, may_start, start, start_next, is_done, raised, complete, settle_within, settle, least_pair, ready, turn, wake_within, wake, instant, fronts, EndsWith, out_of_flight, is_late, completed, arrival}
 use Rattle.p2p_simulated.specs.WorldTime.{IsSound, Drains, Ticks, no_tick, one_tick, tick_faults}
 use Rattle.p2p_simulated.specs.WorldCalls.{Call, call_limit, call_limit_link, call_enqueue, call_advance, call_next, recap, join, complete_at_once, act, moment_of, Runs, limited_by, linked_by}
 use Rattle.p2p_simulated.specs.WorldOrder.{enqueued, answered, IsCompletionOf, NoneBefore, NeverGoDown, completes_pair, IsInPairOrder}
@@ -91,10 +91,15 @@ filter_nothing p (x ∷ xs) e = by_test (p x) e (filter_nothing p xs)
     by_test true e ih = cc
     by_test false e ih = ih e
 
-module _ {P : Type 0} (cmp : P → P → Ordering) (order : IsTotalOrder cmp) (k : Message P) where
-  of_k : Message P → Bool
-  of_k m = same_pair cmp k m
+-- what the first call enqueues stands in front
+pub enqueued_split : {P : Type 0} (call : Call P) (calls : List (Call P)) → enqueued (call ∷ []) ++ enqueued calls ≡ enqueued (call ∷ calls)
+enqueued_split (call_limit now peer egress ingress) calls = refl
+enqueued_split (call_limit_link now origin recipient cap) calls = refl
+enqueued_split (call_enqueue now m) calls = refl
+enqueued_split (call_advance now) calls = refl
+enqueued_split call_next calls = refl
 
+module _ {P : Type 0} (cmp : P → P → Ordering) (order : IsTotalOrder cmp) (k : Message P) where
   abbrev told_of_k : List (Completed P) → List (Completed P)
   told_of_k cs = filter (completes_pair cmp k) cs
 
@@ -319,17 +324,11 @@ module _ {P : Type 0} (cmp : P → P → Ordering) (order : IsTotalOrder cmp) (k
 
     -- ---- a completion
 
-    abbrev moment_for : Message P → ℕ
-    moment_for m = if is_delivered cmp m then t + m.latency else t
-
-    abbrev answer : Message P → Completed P
-    answer m = completion_of m (if is_delivered cmp m then Some (moment_for m) else None)
-
     land : World P → Message P → World P
-    land w m = record w { sending = without_first (is_done cmp w) w.sending; last_arrival = raised cmp w.last_arrival m (moment_for m) }
+    land w m = out_of_flight cmp t w m
 
     land_history : (cs : List (Completed P)) (w : World P) (f : Flight P) → find (is_done cmp w) w.sending ≡ Some f → IsHistory messages t cs w
-        → IsHistory messages t (cs ++ answer f.message ∷ []) (land w f.message)
+        → IsHistory messages t (cs ++ completed cmp t f.message ∷ []) (land w f.message)
     unfolding land
     land_history cs w f found h = by_pair (same_pair cmp k f.message) refl
       where
@@ -337,12 +336,12 @@ module _ {P : Type 0} (cmp : P → P → Ordering) (order : IsTotalOrder cmp) (k
         m = f.message
 
         alike_too : PairsAlike cmp (land w f.message).last_arrival (land w f.message).last_arrival
-        alike_too = raised_peerwise cmp order w.last_arrival f.message (moment_for f.message) h.alike
+        alike_too = raised_peerwise cmp order w.last_arrival f.message (arrival cmp t f.message) h.alike
 
         peers_own : same_pair cmp k f.message ≡ true → (same_peer cmp f.message.origin k.origin && same_peer cmp f.message.recipient k.recipient) ≡ true
         peers_own own = pair_sym cmp order f.message k ∙ own
 
-        own_last : same_pair cmp k f.message ≡ true → last (land w f.message) ≡ Some (later_of (last w) (moment_for f.message))
+        own_last : same_pair cmp k f.message ≡ true → last (land w f.message) ≡ Some (later_of (last w) (arrival cmp t f.message))
         own_last own = rw (peers_own own) refl
 
         other_last : same_pair cmp k f.message ≡ false → last (land w f.message) ≡ last w
@@ -350,7 +349,7 @@ module _ {P : Type 0} (cmp : P → P → Ordering) (order : IsTotalOrder cmp) (k
 
         by_flying : same_pair cmp k f.message ≡ true → (o : Option (Message P)) → h.flying ≡ o → flies w ≡ held o
             → filter (same_pair cmp k) messages ≡ h.done ++ (held o ++ waits w) → IfSome o (λ n. is_in_order (last w) (t + n.latency) ≡ true)
-            → IsHistory messages t (cs ++ answer f.message ∷ []) (land w f.message)
+            → IsHistory messages t (cs ++ completed cmp t f.message ∷ []) (land w f.message)
         by_flying own None is none queue order_is = absurd (in_none w.sending found none)
           where
             in_none : (fs : List (Flight P)) → find (is_done cmp w) fs ≡ Some f → filter (same_pair cmp k) (map (λ (g : Flight P). g.message) fs) ≡ [] → ⊥
@@ -366,12 +365,12 @@ module _ {P : Type 0} (cmp : P → P → Ordering) (order : IsTotalOrder cmp) (k
         by_flying own (Some n) is one queue order_is =
             let taken : (f.message ≡ n) × (filter (same_pair cmp k) (map (λ (g : Flight P). g.message) (without_first (is_done cmp w) w.sending)) ≡ [])
             = taken_out (same_pair cmp k) (λ (g : Flight P). g.message) (is_done cmp w) f n w.sending found own one in
-            let c : Completed P = answer f.message in
+            let c : Completed P = completed cmp t f.message in
             let of_pair : completes_pair cmp k c ≡ true = own in
             let list_is : told_of_k (cs ++ c ∷ []) ≡ told_of_k cs ++ c ∷ [] = told_more cs c of_pair in
             let is_of : IsCompletionOf c n
             =
-            ((if is_delivered cmp f.message then Some (moment_for f.message) else None), ap (λ (x : Message P). completion_of x (if is_delivered cmp f.message then Some (moment_for f.message) else None)) taken.0)
+            ((if is_delivered cmp f.message then Some (arrival cmp t f.message) else None), ap (λ (x : Message P). completion_of x (if is_delivered cmp f.message then Some (arrival cmp t f.message) else None)) taken.0)
             in
             let in_order_here : is_in_order (last w) (t + f.message.latency) ≡ true = subst (λ (x : Message P). is_in_order (last w) (t + x.latency) ≡ true) (sym taken.0) order_is in
             record {
@@ -383,7 +382,7 @@ module _ {P : Type 0} (cmp : P → P → Ordering) (order : IsTotalOrder cmp) (k
               deliveries = subst NeverGoDown (sym list_is) (deliveries_push (last w) (told_of_k cs) c h.deliveries h.not_past (ordered (is_delivered cmp f.message) in_order_here));
               not_past = subst (λ (xs : List (Completed P)). AllNotPast (last (land w f.message)) xs) (sym list_is)
                   (subst (λ (l : Option ℕ). AllNotPast l (told_of_k cs ++ c ∷ [])) (sym (own_last own))
-                  (not_past_push (Some (later_of (last w) (moment_for f.message))) (told_of_k cs) c (not_past_later (last w) (Some (later_of (last w) (moment_for f.message))) (told_of_k cs) (λ s np. raises (last w) (moment_for f.message) s np) h.not_past) (reached (is_delivered cmp f.message))));
+                  (not_past_push (Some (later_of (last w) (arrival cmp t f.message))) (told_of_k cs) c (not_past_later (last w) (Some (later_of (last w) (arrival cmp t f.message))) (told_of_k cs) (λ s np. raises (last w) (arrival cmp t f.message) s np) h.not_past) (reached (is_delivered cmp f.message))));
               in_order = tt;
               alike = alike_too;
               now = h.now;
@@ -397,10 +396,10 @@ module _ {P : Type 0} (cmp : P → P → Ordering) (order : IsTotalOrder cmp) (k
             reached true = reaches_it (last w) (t + f.message.latency)
             reached false = tt
 
-        by_pair : (b : Bool) → same_pair cmp k f.message ≡ b → IsHistory messages t (cs ++ answer f.message ∷ []) (land w f.message)
+        by_pair : (b : Bool) → same_pair cmp k f.message ≡ b → IsHistory messages t (cs ++ completed cmp t f.message ∷ []) (land w f.message)
         by_pair true own = by_flying own h.flying refl h.in_flight h.queue h.in_order
         by_pair false off =
-            let c : Completed P = answer f.message in
+            let c : Completed P = completed cmp t f.message in
             let list_is : told_of_k (cs ++ c ∷ []) ≡ told_of_k cs = told_same cs c off in
             record {
               done = h.done;
@@ -421,13 +420,13 @@ module _ {P : Type 0} (cmp : P → P → Ordering) (order : IsTotalOrder cmp) (k
 
     complete_goes : (cs : List (Completed P)) (w : World P) (f : Flight P) → find (is_done cmp w) w.sending ≡ Some f → IsHistory messages t cs w → Goes cs (complete cmp t w f.message)
     unfolding land Goes
-    complete_goes cs w f found h = by_late (is_delivered cmp f.message && nat_lt last_moment (moment_for f.message))
+    complete_goes cs w f found h = by_late (is_late cmp t f.message)
       where
-        by_late : (b : Bool) → Goes cs (cond b (meets MomentTooLate) (preceded (answer f.message ∷ []) (start_next cmp t (land w f.message) (first_waiting cmp (land w f.message) f.message))))
+        by_late : (b : Bool) → Goes cs (cond b (meets MomentTooLate) (preceded (completed cmp t f.message ∷ []) (start_next cmp t (land w f.message) (first_waiting cmp (land w f.message) f.message))))
         by_late true = tt
         by_late false =
-            goes_preceded cs (answer f.message ∷ []) (start_next cmp t (land w f.message) (first_waiting cmp (land w f.message) f.message))
-            (next_goes (cs ++ answer f.message ∷ []) (land w f.message) f.message (first_waiting cmp (land w f.message) f.message) refl (land_history cs w f found h))
+            goes_preceded cs (completed cmp t f.message ∷ []) (start_next cmp t (land w f.message) (first_waiting cmp (land w f.message) f.message))
+            (next_goes (cs ++ completed cmp t f.message ∷ []) (land w f.message) f.message (first_waiting cmp (land w f.message) f.message) refl (land_history cs w f found h))
 
     -- ---- an instant
 
@@ -661,13 +660,6 @@ module _ {P : Type 0} (cmp : P → P → Ordering) (order : IsTotalOrder cmp) (k
           let all : Goes (messages ++ added call) now cs (preceded es (act cmp v call))
           = goes_preceded (messages ++ added call) now cs es (act cmp v call) (act_goes messages now (cs ++ es) v call at sound_v.empty_at_first there) in
           subst (Goes (messages ++ added call) now cs) (sym acts) all
-
-  enqueued_split : (call : Call P) (calls : List (Call P)) → added call ++ enqueued calls ≡ enqueued (call ∷ calls)
-  enqueued_split (call_limit now peer egress ingress) calls = refl
-  enqueued_split (call_limit_link now origin recipient cap) calls = refl
-  enqueued_split (call_enqueue now m) calls = refl
-  enqueued_split (call_advance now) calls = refl
-  enqueued_split call_next calls = refl
 
   ends_in_order : (messages : List (Message P)) (t : ℕ) (cs : List (Completed P)) (w : World P) → IsHistory messages t cs w → IsInPairOrder cmp k messages cs
   ends_in_order messages t cs w h = record { done = h.done; rest = held h.flying ++ waits w; messages_are = h.queue; completions_are = h.told; deliveries = h.deliveries }

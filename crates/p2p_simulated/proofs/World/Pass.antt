@@ -1,11 +1,11 @@
 -- Waking is one pass through the pairs that are ready, in the order of pairs, and ends with nothing done and nothing ready.
 use Rattle.std.proofs.Common.{◌≡◌, ℕ, zero, suc, ◌+◌, ◌≤◌, List, [], ◌∷◌, length, Bool, true, false, cond, not, Option, Some, None, refl, sym, ap, ◌∙◌, subst, arith}
-use Rattle.std.specs.Prelude.{nat_le, ⊤, ◌&&◌, nat_lt, if◌then◌else◌}
+use Rattle.std.specs.Prelude.{nat_le, ⊤}
 use Rattle.std.specs.List.{filter, find, list_any}
 use Rattle.std.specs.declared.cmp.Ordering.{Ordering}
 use Rattle.std.specs.Cmp.{IsTotalOrder}
-use Rattle.p2p_simulated.specs.World.{Completed, Course, EndsWith, Flight, IsQuiet, World, and_then, complete, completion_of, first_waiting, fronts, goes, is_done, last_moment, least_pair, may_start, meets, preceded, raised, ready, settle, settle_within, start, start_next, turn, wake, wake_within, without_first}
-use Rattle.p2p_simulated.specs.WorldMessages.{Message, OneForEachPair, is_delivered, pair_before, same_pair}
+use Rattle.p2p_simulated.specs.World.{Completed, Course, EndsWith, Flight, IsQuiet, World, and_then, complete, first_waiting, fronts, goes, is_done, last_moment, least_pair, may_start, meets, preceded, ready, settle, settle_within, start, start_next, turn, wake, wake_within, without_first, out_of_flight, is_late, completed}
+use Rattle.p2p_simulated.specs.WorldMessages.{Message, OneForEachPair, pair_before, same_pair}
 use Rattle.p2p_simulated.specs.WorldPass.{IsByPair, by_pair, wake_each}
 use Rattle.p2p_simulated.specs.declared.error.Error.TheVariants.{FlowIdsUsedUp, MomentTooLate}
 use Rattle.p2p_simulated.proofs.World.Queue.{pair_like, pair_sym, settle_none, settle_first}
@@ -63,10 +63,9 @@ module _ {P : Type 0} (cmp : P → P → Ordering) (order : IsTotalOrder cmp) wh
 
   complete_waits : (n t : ℕ) (w : World P) (m : Message P) → WaitAtMost n w → EndsWith (WaitAtMost n) (complete cmp t w m)
   complete_waits n t w m h =
-      let at : ℕ = if is_delivered cmp m then t + m.latency else t in
-      let landed : World P = record w { sending = without_first (is_done cmp w) w.sending; last_arrival = raised cmp w.last_arrival m at } in
-      ends_cond (WaitAtMost n) (is_delivered cmp m && nat_lt last_moment at) (meets MomentTooLate) _ tt
-      (ends_preceded (WaitAtMost n) (completion_of m (if is_delivered cmp m then Some at else None) ∷ []) (start_next cmp t landed (first_waiting cmp landed m)) (next_waits n t landed (first_waiting cmp landed m) h))
+      let landed : World P = out_of_flight cmp t w m in
+      ends_cond (WaitAtMost n) (is_late cmp t m) (meets MomentTooLate) _ tt
+      (ends_preceded (WaitAtMost n) (completed cmp t m ∷ []) (start_next cmp t landed (first_waiting cmp landed m)) (next_waits n t landed (first_waiting cmp landed m) h))
 
   -- what a property of worlds needs to outlast settling
   pub settle_keeps : (Q : World P → Type 0) (t : ℕ) → ((w : World P) (f : Flight P) → find (is_done cmp w) w.sending ≡ Some f → Q w → EndsWith Q (complete cmp t w f.message))
@@ -210,9 +209,6 @@ module _ {P : Type 0} (cmp : P → P → Ordering) (order : IsTotalOrder cmp) wh
   wake_is_pass t ms w none by same = wake_within_is_pass (length w.waiting) t ms w none (omega arith) by same
 
   -- ---- the list of those that are ready
-
-  any_in_filter : (p keep : Message P → Bool) (xs : List (Message P)) → list_any p xs ≡ false → list_any p (filter keep xs) ≡ false
-  any_in_filter p keep xs h = any_none p keep xs h
 
   one_in_filter : (keep : Message P → Bool) (xs : List (Message P)) → OneForEachPair cmp xs → OneForEachPair cmp (filter keep xs)
   one_in_filter keep [] one = tt

@@ -11,8 +11,8 @@ use Rattle.std.proofs.lemmas.List.Elements.{filter-append}
 use Rattle.std.proofs.lemmas.Bool.{or_from, or_parts}
 use Rattle.std.proofs.lemmas.List.{append-nil, map-append}
 use Rattle.p2p_simulated.specs.Sides.{same_peer}
-use Rattle.p2p_simulated.specs.World.{Completed, Course, Flight, World, and_then, complete, goes, is_done, is_in_order, last_moment, may_start, meets, preceded, settle_within, start, start_next, without_first}
-use Rattle.p2p_simulated.specs.WorldQueue.{leaving, staying, is_past, completion, arrived, flight, taken, joined, launch_then, finish_within}
+use Rattle.p2p_simulated.specs.World.{Completed, Course, Flight, World, and_then, complete, goes, is_done, is_in_order, last_moment, may_start, meets, preceded, settle_within, start, start_next, without_first, is_late, completed}
+use Rattle.p2p_simulated.specs.WorldQueue.{leaving, staying, arrived, flight, taken, joined, launch_then, finish_within}
 use Rattle.p2p_simulated.specs.WorldMessages.{Message, OneForEachPair, same_pair}
 use Rattle.p2p_simulated.specs.declared.error.Error.TheVariants.{FlowIdsUsedUp, MomentTooLate}
 
@@ -291,6 +291,6 @@ module _ {P : Type 0} (cmp : P → P → Ordering) (order : IsTotalOrder cmp) wh
       by_queue (f ∷ fs) e ih =
           let first : (find (is_done cmp w) w.sending ≡ Some f) × (filter (is_done cmp w) (without_first (is_done cmp w) w.sending) ≡ fs)
           = leaving_without (is_done cmp w) f fs w.sending (as_filter w (f ∷ fs) e) in
-          ap (over_state (staying cmp)) (settle_first n t w f first.0) ∙ (late_or_not (is_past cmp t f.message) (completion cmp t f.message) _ _ (settle_within cmp n t)
+          ap (over_state (staying cmp)) (settle_first n t w f first.0) ∙ (late_or_not (is_late cmp t f.message) (completed cmp t f.message) _ _ (settle_within cmp n t)
           (next_alike n t ih (record (arrived cmp t w f.message) { sending = without_first (is_done cmp w) w.sending }) fs (arrived cmp t (staying cmp w) f.message) f.message (find (same_pair cmp f.message) w.waiting)
           (one_without (is_done cmp w) w.sending one) (pair_is_idle (is_done cmp w) f w.sending first.0 one) (as_leaving (record (arrived cmp t w f.message) { sending = without_first (is_done cmp w) w.sending }) fs first.1) (landed_alike t w f.message) refl))

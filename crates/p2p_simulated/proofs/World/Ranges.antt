@@ -89,21 +89,6 @@ pub record Fits (x y : ℕ) : Type 0 where
   pub num : x < 2 ^ 128
   pub den : y < 2 ^ 128
 
--- `rate * elapsed` fits
-pub moved_fits : (r q n x y : ℕ) → SmallRate r q → n < 2 ^ 57 → IsReduced x y → x * q ≡ r * n * y → Fits x y
-moved_fits r q n x y s h low e =
-    let k : (k : ℕ) × (finest_parts * r ≡ q * k) × (k ≤ finest_parts * 2 ^ 32) = parts_of_rate r q s in
-    let same : x * finest_parts ≡ (k.0 * n) * y = eq_of_mul-eq-mul_left q s.positive (x * finest_parts) ((k.0 * n) * y) (over_parts finest_parts r q n x y k.0 e k.1) in
-    let least : (x ≤ k.0 * n) × (y ≤ finest_parts) = reduced_is_least (k.0 * n) finest_parts x y (omega arith) low same in
-    let most : k.0 * n ≤ (finest_parts * 2 ^ 32) * 2 ^ 57 = mul-le k.0 n (finest_parts * 2 ^ 32) (2 ^ 57) k.2 (omega arith) in
-    record { num = omega arith; den = omega arith }
-  where
-    over_parts : (l r q n x y k : ℕ) → x * q ≡ r * n * y → l * r ≡ q * k → q * (x * l) ≡ q * ((k * n) * y)
-    over_parts l r q n x y k e f =
-        let one : l * (x * q) ≡ l * (r * n * y) = ap (λ z. l * z) e in
-        let two : (l * r) * (n * y) ≡ (q * k) * (n * y) = ap (λ z. z * (n * y)) f in
-        omega arith
-
 -- `rate * elapsed / 10^9` fits, and is whole in the same parts as what is left
 pub elapsed_fits : (r q n x y : ℕ) → SmallRate r q → n < 2 ^ 57 → IsReduced x y → x * (q * billion) ≡ r * n * y → Fits x y × (y ∣ finest_parts * billion * x)
 elapsed_fits r q n x y s h low e =

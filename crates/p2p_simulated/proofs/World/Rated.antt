@@ -1,5 +1,5 @@
 -- The fair rates of messages: which messages are limited, and that the rates are one.
-use Rattle.std.proofs.Common.{◌≡◌, ℕ, zero, suc, ◌+◌, ◌*◌, ◌<◌, List, [], ◌∷◌, ◌++◌, length, Bool, true, false, cond, not, Option, Some, None, Contains, refl, sym, ap, ◌∙◌, subst, arith}
+use Rattle.std.proofs.Common.{◌≡◌, ℕ, zero, suc, ◌+◌, ◌*◌, List, [], ◌∷◌, ◌++◌, length, Bool, true, false, not, Option, Some, None, Contains, refl, sym, ap, ◌∙◌, subst, arith}
 use Rattle.std.specs.Prelude.{◌&&◌, ◌||◌, slice_get, is_none, if◌then◌else◌}
 use Rattle.std.specs.List.{flat_map}
 use Rattle.std.specs.declared.cmp.Ordering.{Ordering}
@@ -7,32 +7,12 @@ use Rattle.std.proofs.lemmas.List.Elements.{Contains-append_left, Contains-appen
 use Rattle.p2p_simulated.specs.Fair.{Side, IsLimited}
 use Rattle.p2p_simulated.specs.Sides.{same_peer}
 use Rattle.p2p_simulated.specs.WorldMessages.{Message, Caps, is_delivered}
-use Rattle.p2p_simulated.specs.WorldRates.{Parts, places_that_pass, egress_of, ingress_of, link_of, sides_for, capped_sides, is_unlimited, rates_from, AreFair}
+use Rattle.p2p_simulated.specs.WorldRates.{Parts, egress_of, ingress_of, link_of, sides_for, capped_sides, is_unlimited, rates_from, AreFair}
 use Rattle.p2p_simulated.proofs.Fairness.OneAllocation.{same_amounts}
+use Rattle.p2p_simulated.specs.Places.{places_from}
+use Rattle.p2p_simulated.proofs.Places.{place_here}
 
 -- ---- lists
-
-pub below_length : {X : Type 0} (xs : List X) (i : ℕ) (x : X) → slice_get xs i ≡ Some x → i < length xs
-below_length [] i x e = cc
-below_length (y ∷ ys) zero x e = omega arith
-below_length (y ∷ ys) (suc i) x e = let h : i < length ys = below_length ys i x e in omega arith
-
-in_cons : {X : Type 0} (y x : X) (xs : List X) → Contains xs x → Contains (y ∷ xs) x
-in_cons y x xs has = Contains-append_right (y ∷ []) xs x has
-
--- one that passes the test is among the places
-pub place_in : {X : Type 0} (place : ℕ) (test : X → Bool) (xs : List X) (i : ℕ) (x : X) → slice_get xs i ≡ Some x → test x ≡ true → Contains (places_that_pass place test xs) (place + i)
-place_in place test [] i x at e = cc
-place_in place test (y ∷ ys) zero x at e = let same : y ≡ x = cc in rw (same, e) (0, omega arith, omega arith)
-place_in {X} place test (y ∷ ys) (suc i) x at e = by_test (test y) (subst (λ (n : ℕ). Contains (places_that_pass (place + 1) test ys) n) (omega arith) (place_in (place + 1) test ys i x at e))
-  where
-    by_test : (b : Bool) → Contains (places_that_pass (place + 1) test ys) (place + suc i)
-        → Contains (cond b (place ∷ places_that_pass (place + 1) test ys) (places_that_pass (place + 1) test ys)) (place + suc i)
-    by_test true has = in_cons place (place + suc i) (places_that_pass (place + 1) test ys) has
-    by_test false has = has
-
-pub place_here : {X : Type 0} (test : X → Bool) (xs : List X) (i : ℕ) (x : X) → slice_get xs i ≡ Some x → test x ≡ true → Contains (places_that_pass 0 test xs) i
-place_here test xs i x at e = subst (λ (n : ℕ). Contains (places_that_pass 0 test xs) n) (omega arith) (place_in 0 test xs i x at e)
 
 pub in_flat_map : {X Y : Type 0} (f : X → List Y) (xs : List X) (i : ℕ) (x : X) (y : Y) → slice_get xs i ≡ Some x → Contains (f x) y → Contains (flat_map f xs) y
 in_flat_map f [] i x y e has = cc
@@ -107,13 +87,13 @@ module _ {P : Type 0} (cmp : P → P → Ordering) where
             → (is_none c && (not d || is_none k) && is_none l) ≡ false
             → HasSide caps ms i m
         by_caps (Some c) d k l out del into between e =
-            let side : Side = record { cap = c; users = places_that_pass 0 (by_egress m) ms } in
+            let side : Side = record { cap = c; users = places_from 0 (by_egress m) ms } in
             (side, Contains-append_left (egress_of cmp caps ms m ++ ingress_of cmp caps ms m) (link_of cmp caps ms m) side (Contains-append_left (egress_of cmp caps ms m) (ingress_of cmp caps ms m) side (rw out (one_in side))), place_here (by_egress m) ms i m at (itself m.origin))
         by_caps None true (Some c) l out del into between e =
-            let side : Side = record { cap = c; users = places_that_pass 0 (by_ingress m) ms } in
+            let side : Side = record { cap = c; users = places_from 0 (by_ingress m) ms } in
             (side, Contains-append_left (egress_of cmp caps ms m ++ ingress_of cmp caps ms m) (link_of cmp caps ms m) side (Contains-append_right (egress_of cmp caps ms m) (ingress_of cmp caps ms m) side (rw (del, into) (one_in side))), place_here (by_ingress m) ms i m at (rw (del, itself m.recipient) refl))
         by_caps None d k (Some c) out del into between e =
-            let side : Side = record { cap = c; users = places_that_pass 0 (by_link m) ms } in
+            let side : Side = record { cap = c; users = places_from 0 (by_link m) ms } in
             (side, Contains-append_right (egress_of cmp caps ms m ++ ingress_of cmp caps ms m) (link_of cmp caps ms m) side (rw between (one_in side)), place_here (by_link m) ms i m at (rw (itself m.origin, itself m.recipient) refl))
         by_caps None false k None out del into between e = cc
         by_caps None true None None out del into between e = cc

@@ -8,10 +8,10 @@ use Rattle.p2p_simulated.specs.Sides.{same_peer}
 use Rattle.p2p_simulated.specs.WorldMessages.{Message}
 use Rattle.p2p_simulated.specs.World.{new_world, Completed}
 use Rattle.p2p_simulated.specs.WorldCalls.{Call}
-use Rattle.p2p_simulated.specs.WorldReplies.{Reply, reply_done, reply_next, reply_refused, SameCompletion, Agrees}
+use Rattle.p2p_simulated.specs.WorldReplies.{Reply, reply_done, reply_next, reply_refused, SameCompletion, Agrees, made, completions_in}
 use Rattle.p2p_simulated.specs.WorldOrder.{enqueued, answered, IsCompletionOf, NoneBefore, NeverGoDown, completes_pair, IsInPairOrder}
 use Rattle.p2p_simulated.specs.WorldIsolation.{Answers, InTime, IsSet, NothingElse, inside_alone, is_kept, kept_completions}
-use Rattle.p2p_simulated.specs.ReplayLaws.{made, completions_in, AlwaysSoFar, Completes, CompletesInOrder, CompletePairsInOrder, IsolateSets}
+use Rattle.p2p_simulated.specs.ReplayLaws.{AlwaysSoFar, Completes, CompletesInOrder, CompletePairsInOrder, IsolateSets}
 use Rattle.p2p_simulated.proofs.World.Queue.{both_alike}
 use Rattle.p2p_simulated.proofs.World.Alike.{same_itself, peers_alike}
 use Rattle.p2p_simulated.proofs.World.Again.{filter_alike}

@@ -7,10 +7,10 @@ use Rattle.std.specs.Cmp.{IsTotalOrder}
 use Rattle.std.proofs.lemmas.Bool.{or_parts}
 use Rattle.std.proofs.lemmas.List.{map-append}
 use Rattle.std.proofs.lemmas.List.Folds.{list_any-append}
-use Rattle.p2p_simulated.specs.World.{Completed, Course, Flight, World, flows, fronts, goes, is_done, is_in_order, last_moment, may_start, meets, ready, settle, without_first, EndsWith}
+use Rattle.p2p_simulated.specs.World.{Completed, Course, Flight, World, flows, fronts, goes, is_done, is_in_order, last_moment, may_start, meets, ready, settle, without_first, EndsWith, is_late, completed}
 use Rattle.p2p_simulated.specs.WorldMessages.{Message, OneForEachPair, same_pair}
 use Rattle.p2p_simulated.specs.declared.error.Error.TheVariants.{FlowIdsUsedUp, MomentTooLate}
-use Rattle.p2p_simulated.specs.WorldQueue.{is_past, leaving, staying, flight, taken, joined, arrived, completion, launch_then, finish_within}
+use Rattle.p2p_simulated.specs.WorldQueue.{leaving, staying, flight, taken, joined, arrived, launch_then, finish_within}
 use Rattle.p2p_simulated.proofs.World.Queue.{any_like, find_passes, pair_sym, pair_like}
 use Rattle.p2p_simulated.proofs.World.Between.{each_map, filter_none, IsFront, fronts_first, first_found, find_like}
 use Rattle.p2p_simulated.proofs.World.Launch.{head_found, head_of, waits_without}
@@ -110,8 +110,8 @@ module _ {P : Type 0} (cmp : P → P → Ordering) (order : IsTotalOrder cmp) (y
   finish_rests (suc n) t [] w fuel (inr rested) = rested
   finish_rests zero t (f ∷ fs) w fuel held = absurd (omega arith)
   finish_rests (suc n) t (f ∷ fs) w fuel held =
-      ends_cond (IsRested cmp order y t) (is_past cmp t f.message) (meets MomentTooLate) _ tt
-      (ends_preceded (IsRested cmp order y t) (completion cmp t f.message ∷ []) _
+      ends_cond (IsRested cmp order y t) (is_late cmp t f.message) (meets MomentTooLate) _ tt
+      (ends_preceded (IsRested cmp order y t) (completed cmp t f.message ∷ []) _
       (launch_rests n t fs f.message (arrived cmp t w f.message) (find (same_pair cmp f.message) w.waiting) (finish_rests n t) (omega arith) refl (by_pair (same_pair cmp y f.message) refl held)))
     where
       by_pair : (b : Bool) → same_pair cmp y f.message ≡ b → ((b || list_any (same_pair cmp y) (map (λ (f : Flight P). f.message) fs)) ≡ true) ⊎ IsRested cmp order y t w

@@ -9,10 +9,11 @@ use Rattle.p2p_simulated.specs.Fair.{Side, load, IsLimited, HasBottleneck, IsFai
 use Rattle.p2p_simulated.specs.FairPart.{kept}
 use Rattle.p2p_simulated.specs.Sides.{same_peer}
 use Rattle.p2p_simulated.specs.WorldMessages.{Message, Caps, same_pair, is_delivered}
-use Rattle.p2p_simulated.specs.WorldRates.{AreFair, Parts, capped_sides, egress_of, ingress_of, link_of, side_of, sides_for, places_that_pass, rates_from, is_unlimited}
+use Rattle.p2p_simulated.specs.WorldRates.{AreFair, Parts, capped_sides, egress_of, ingress_of, link_of, side_of, sides_for, rates_from, is_unlimited}
 use Rattle.p2p_simulated.proofs.Fairness.Sums.{All-from_contains}
 use Rattle.p2p_simulated.proofs.Fairness.Members.{In, in_from_contains, contains_from_in, in_left, in_right, in_either, in_filter, from_filter, in_get}
-use Rattle.p2p_simulated.proofs.World.Rated.{place_here}
+use Rattle.p2p_simulated.specs.Places.{places_from}
+use Rattle.p2p_simulated.proofs.Places.{place_here, passes_here}
 
 -- which of the caps makes a side
 pub data Kind : Type 0 where
@@ -37,22 +38,6 @@ from_flat_map {X} {A} f (y ∷ ys) a h = by_part (in_either (f y) (flat_map f ys
 
 -- ---- places
 
--- what stands at a place of those that pass
-pub passes_at : {X : Type 0} (place : ℕ) (test : X → Bool) (xs : List X) (i : ℕ) → In (places_that_pass place test xs) i
-    → (k : ℕ) × (place + k ≡ i) × (x : X) × (slice_get xs k ≡ Some x) × (test x ≡ true)
-passes_at place test [] i h = absurd h
-passes_at {X} place test (x ∷ xs) i h = by_test (test x) refl h (passes_at (place + 1) test xs i)
-  where
-    by_test : (b : Bool) → test x ≡ b → In (cond b (place ∷ places_that_pass (place + 1) test xs) (places_that_pass (place + 1) test xs)) i
-        → (In (places_that_pass (place + 1) test xs) i → (k : ℕ) × (place + 1 + k ≡ i) × (y : X) × (slice_get xs k ≡ Some y) × (test y ≡ true))
-        → (k : ℕ) × (place + k ≡ i) × (y : X) × (slice_get (x ∷ xs) k ≡ Some y) × (test y ≡ true)
-    by_test true is (inl e) ih = (0, omega (arith, e), x, refl, is)
-    by_test true is (inr g) ih = let r = ih g in (suc r.0, omega (arith, r.1), r.2, r.3, r.4)
-    by_test false is g ih = let r = ih g in (suc r.0, omega (arith, r.1), r.2, r.3, r.4)
-
-pub passes_here : {X : Type 0} (test : X → Bool) (xs : List X) (i : ℕ) → In (places_that_pass 0 test xs) i → (x : X) × (slice_get xs i ≡ Some x) × (test x ≡ true)
-passes_here {X} test xs i h = let r = passes_at 0 test xs i h in let here : r.0 ≡ i = omega (arith, r.1) in (r.2, subst (λ (k : ℕ). slice_get xs k ≡ Some r.2) here r.3, r.4)
-
 -- where the kept element of that place stands in the whole list
 abbrev pub stood : List Bool → ℕ → ℕ
 stood [] i = 0
@@ -73,38 +58,38 @@ stood_at {X} mine (y ∷ ys) i x e = by_test (mine y) refl i e (λ k. stood_at m
     by_test false is (suc k) e ih = ih (suc k) e
 
 -- sums over places, counted from the next one
-sum_shifted : {X : Type 0} (f g : ℕ → ℕ) (p q : ℕ) (test : X → Bool) (xs : List X) → ((i : ℕ) → f (p + i) ≡ g (q + i)) → sum_by f (places_that_pass p test xs) ≡ sum_by g (places_that_pass q test xs)
+sum_shifted : {X : Type 0} (f g : ℕ → ℕ) (p q : ℕ) (test : X → Bool) (xs : List X) → ((i : ℕ) → f (p + i) ≡ g (q + i)) → sum_by f (places_from p test xs) ≡ sum_by g (places_from q test xs)
 sum_shifted f g p q test [] same = refl
 sum_shifted {X} f g p q test (x ∷ xs) same = by_test (test x) (sum_shifted f g (p + 1) (q + 1) test xs (λ i. ap f (omega arith) ∙ same (1 + i) ∙ ap g (omega arith)))
   where
     here : f p ≡ g q
     here = ap f (omega arith) ∙ same 0 ∙ ap g (omega arith)
 
-    by_test : (b : Bool) → sum_by f (places_that_pass (p + 1) test xs) ≡ sum_by g (places_that_pass (q + 1) test xs)
-        → sum_by f (cond b (p ∷ places_that_pass (p + 1) test xs) (places_that_pass (p + 1) test xs)) ≡ sum_by g (cond b (q ∷ places_that_pass (q + 1) test xs) (places_that_pass (q + 1) test xs))
-    by_test true ih = omega (arith, here, ih, sum_by-cons f p (places_that_pass (p + 1) test xs), sum_by-cons g q (places_that_pass (q + 1) test xs))
+    by_test : (b : Bool) → sum_by f (places_from (p + 1) test xs) ≡ sum_by g (places_from (q + 1) test xs)
+        → sum_by f (cond b (p ∷ places_from (p + 1) test xs) (places_from (p + 1) test xs)) ≡ sum_by g (cond b (q ∷ places_from (q + 1) test xs) (places_from (q + 1) test xs))
+    by_test true ih = omega (arith, here, ih, sum_by-cons f p (places_from (p + 1) test xs), sum_by-cons g q (places_from (q + 1) test xs))
     by_test false ih = ih
 
 -- a side whose users are all kept has the same load
 kept_load : {X : Type 0} (mine uses : X → Bool) (f : ℕ → ℕ) (xs : List X) → ((x : X) → In xs x → uses x ≡ true → mine x ≡ true)
-    → sum_by (λ i. f (stood (map mine xs) i)) (places_that_pass 0 uses (filter mine xs)) ≡ sum_by f (places_that_pass 0 uses xs)
+    → sum_by (λ i. f (stood (map mine xs) i)) (places_from 0 uses (filter mine xs)) ≡ sum_by f (places_from 0 uses xs)
 kept_load mine uses f [] all = refl
 kept_load {X} mine uses f (x ∷ xs) all = by_test (mine x) refl (uses x) refl (kept_load mine uses (λ i. f (suc i)) xs (λ y h. all y (inr h)))
   where
-    next : sum_by (λ i. f (suc i)) (places_that_pass 0 uses xs) ≡ sum_by f (places_that_pass 1 uses xs)
+    next : sum_by (λ i. f (suc i)) (places_from 0 uses xs) ≡ sum_by f (places_from 1 uses xs)
     next = sum_shifted (λ i. f (suc i)) f 0 1 uses xs (λ i. ap f (omega arith))
 
-    later : sum_by (λ i. f (suc (stood (map mine xs) i))) (places_that_pass 0 uses (filter mine xs)) ≡ sum_by (λ i. f (stood (true ∷ map mine xs) i)) (places_that_pass 1 uses (filter mine xs))
+    later : sum_by (λ i. f (suc (stood (map mine xs) i))) (places_from 0 uses (filter mine xs)) ≡ sum_by (λ i. f (stood (true ∷ map mine xs) i)) (places_from 1 uses (filter mine xs))
     later = sum_shifted (λ i. f (suc (stood (map mine xs) i))) (λ i. f (stood (true ∷ map mine xs) i)) 0 1 uses (filter mine xs) (λ i. at_next i)
       where
         at_next : (i : ℕ) → f (suc (stood (map mine xs) (0 + i))) ≡ f (stood (true ∷ map mine xs) (1 + i))
         at_next i = let a : 0 + i ≡ i = omega arith in let b : 1 + i ≡ suc i = omega arith in rw (a, b) refl
 
     by_test : (b : Bool) → mine x ≡ b → (u : Bool) → uses x ≡ u
-        → sum_by (λ i. f (suc (stood (map mine xs) i))) (places_that_pass 0 uses (filter mine xs)) ≡ sum_by (λ i. f (suc i)) (places_that_pass 0 uses xs)
-        → sum_by (λ i. f (stood (b ∷ map mine xs) i)) (places_that_pass 0 uses (cond b (x ∷ filter mine xs) (filter mine xs))) ≡ sum_by f (cond u (0 ∷ places_that_pass (0 + 1) uses xs) (places_that_pass (0 + 1) uses xs))
+        → sum_by (λ i. f (suc (stood (map mine xs) i))) (places_from 0 uses (filter mine xs)) ≡ sum_by (λ i. f (suc i)) (places_from 0 uses xs)
+        → sum_by (λ i. f (stood (b ∷ map mine xs) i)) (places_from 0 uses (cond b (x ∷ filter mine xs) (filter mine xs))) ≡ sum_by f (cond u (0 ∷ places_from (0 + 1) uses xs) (places_from (0 + 1) uses xs))
     by_test true is true used ih =
-        rw used (omega (arith, ih, next, later, sum_by-cons (λ i. f (stood (true ∷ map mine xs) i)) 0 (places_that_pass 1 uses (filter mine xs)), sum_by-cons f 0 (places_that_pass 1 uses xs)))
+        rw used (omega (arith, ih, next, later, sum_by-cons (λ i. f (stood (true ∷ map mine xs) i)) 0 (places_from 1 uses (filter mine xs)), sum_by-cons f 0 (places_from 1 uses xs)))
     by_test true is false used ih = rw used (sym later ∙ ih ∙ next)
     by_test false is true used ih = let own : mine x ≡ true = all x (inl refl) used in cc
     by_test false is false used ih = ih ∙ next
@@ -149,17 +134,17 @@ module _ {P : Type 0} (cmp : P → P → Ordering) (caps : Caps P) where
   uses_at at_link m n = same_pair cmp m n
 
   abbrev pub side_at : Kind → List (Message P) → Message P → ℕ → Side
-  side_at k ms m cap = record { cap = cap; users = places_that_pass 0 (uses_at k m) ms }
+  side_at k ms m cap = record { cap = cap; users = places_from 0 (uses_at k m) ms }
 
   from_side_of : (o : Option ℕ) (uses : Message P → Bool) (ms : List (Message P)) (s : Side) → In (side_of cmp o uses ms) s
-      → (c : ℕ) × (o ≡ Some c) × (s ≡ record { cap = c; users = places_that_pass 0 uses ms })
+      → (c : ℕ) × (o ≡ Some c) × (s ≡ record { cap = c; users = places_from 0 uses ms })
   from_side_of None uses ms s h = absurd h
   from_side_of (Some c) uses ms s (inl e) = (c, refl, sym e)
   from_side_of (Some c) uses ms s (inr h) = absurd h
 
-  to_side_of : (o : Option ℕ) (uses : Message P → Bool) (ms : List (Message P)) (cap : ℕ) → o ≡ Some cap → In (side_of cmp o uses ms) (record { cap = cap; users = places_that_pass 0 uses ms })
+  to_side_of : (o : Option ℕ) (uses : Message P → Bool) (ms : List (Message P)) (cap : ℕ) → o ≡ Some cap → In (side_of cmp o uses ms) (record { cap = cap; users = places_from 0 uses ms })
   to_side_of None uses ms cap e = cc
-  to_side_of (Some c) uses ms cap e = let same : c ≡ cap = cc in inl (ap (λ k. record { cap = k; users = places_that_pass 0 uses ms }) same)
+  to_side_of (Some c) uses ms cap e = let same : c ≡ cap = cc in inl (ap (λ k. record { cap = k; users = places_from 0 uses ms }) same)
 
   abbrev Brings : List (Message P) → Message P → Side → Type 0
   Brings ms m s = (k : Kind) × (cap : ℕ) × (cap_at k m ≡ Some cap) × (s ≡ side_at k ms m cap)
@@ -231,35 +216,35 @@ module _ {P : Type 0} (cmp : P → P → Ordering) (caps : Caps P) where
 
         by_side : (m : Message P) × In ms m × Brings ms m b.side → HasBottleneck (capped_sides cmp caps (filter mine ms)) per own_parts i
         by_side (m, has, (k, c, is, e)) =
-            let used : Contains (places_that_pass 0 (uses_at k m) ms) (stood (map mine ms) i) = subst (λ (z : Side). Contains z.users (stood (map mine ms) i)) e b.uses.used in
-            let there = passes_here (uses_at k m) ms (stood (map mine ms) i) (in_from_contains (places_that_pass 0 (uses_at k m) ms) (stood (map mine ms) i) used) in
+            let used : Contains (places_from 0 (uses_at k m) ms) (stood (map mine ms) i) = subst (λ (z : Side). Contains z.users (stood (map mine ms) i)) e b.uses.used in
+            let there = passes_here (uses_at k m) ms (stood (map mine ms) i) (in_from_contains (places_from 0 (uses_at k m) ms) (stood (map mine ms) i) used) in
             let same_x : Some there.0 ≡ Some x = sym there.1 ∙ stands.0 in
             let it : there.0 ≡ x = cc in
             let uses_x : uses_at k m x ≡ true = subst (λ (z : Message P). uses_at k m z ≡ true) it there.2 in
             let own_m : mine m ≡ true = apart k m x has (in_get ms (stood (map mine ms) i) x stands.0) uses_x ∙ stands.1 in
             let filled : load parts (side_at k ms m c) ≡ c * per = subst (λ (z : Side). load parts z ≡ z.cap * per) e b.full in
-            let most : All (λ other. parts other ≤ parts (stood (map mine ms) i)) (places_that_pass 0 (uses_at k m) ms)
+            let most : All (λ other. parts other ≤ parts (stood (map mine ms) i)) (places_from 0 (uses_at k m) ms)
             = subst (λ (z : Side). All (λ other. parts other ≤ parts (stood (map mine ms) i)) z.users) e b.greatest in
             record {
               side = side_at k (filter mine ms) m c;
               uses = record { listed = to_sides k (filter mine ms) m c (in_filter mine ms m has own_m) is; used = place_here (uses_at k m) (filter mine ms) i x here uses_x };
               full = same_load k m c has own_m ∙ filled;
-              greatest = All-from_contains (λ other. own_parts other ≤ own_parts i) (places_that_pass 0 (uses_at k m) (filter mine ms)) (λ other has_other. greatest k m other has_other most);
+              greatest = All-from_contains (λ other. own_parts other ≤ own_parts i) (places_from 0 (uses_at k m) (filter mine ms)) (λ other has_other. greatest k m other has_other most);
             }
           where
-            greatest : (k : Kind) (m : Message P) (other : ℕ) → Contains (places_that_pass 0 (uses_at k m) (filter mine ms)) other
-                → All (λ o. parts o ≤ parts (stood (map mine ms) i)) (places_that_pass 0 (uses_at k m) ms) → own_parts other ≤ own_parts i
+            greatest : (k : Kind) (m : Message P) (other : ℕ) → Contains (places_from 0 (uses_at k m) (filter mine ms)) other
+                → All (λ o. parts o ≤ parts (stood (map mine ms) i)) (places_from 0 (uses_at k m) ms) → own_parts other ≤ own_parts i
             greatest k m other has_other most =
-                let at = passes_here (uses_at k m) (filter mine ms) other (in_from_contains (places_that_pass 0 (uses_at k m) (filter mine ms)) other has_other) in
-                All-contains (λ o. parts o ≤ parts (stood (map mine ms) i)) (places_that_pass 0 (uses_at k m) ms) (stood (map mine ms) other) most (place_here (uses_at k m) ms (stood (map mine ms) other) at.0 (stood_at mine ms other at.0 at.1).0 at.2)
+                let at = passes_here (uses_at k m) (filter mine ms) other (in_from_contains (places_from 0 (uses_at k m) (filter mine ms)) other has_other) in
+                All-contains (λ o. parts o ≤ parts (stood (map mine ms) i)) (places_from 0 (uses_at k m) ms) (stood (map mine ms) other) most (place_here (uses_at k m) ms (stood (map mine ms) other) at.0 (stood_at mine ms other at.0 at.1).0 at.2)
 
     part_held : (i : ℕ) → IsLimited (capped_sides cmp caps (filter mine ms)) i → HasBottleneck (capped_sides cmp caps (filter mine ms)) per own_parts i
     part_held i limited = by_side (of_part limited.0 limited.1.listed)
       where
         by_side : Of limited.0 → HasBottleneck (capped_sides cmp caps (filter mine ms)) per own_parts i
         by_side (m, has, own, (k, c, is, e)) =
-            let used : Contains (places_that_pass 0 (uses_at k m) (filter mine ms)) i = subst (λ (z : Side). Contains z.users i) e limited.1.used in
-            let at = passes_here (uses_at k m) (filter mine ms) i (in_from_contains (places_that_pass 0 (uses_at k m) (filter mine ms)) i used) in
+            let used : Contains (places_from 0 (uses_at k m) (filter mine ms)) i = subst (λ (z : Side). Contains z.users i) e limited.1.used in
+            let at = passes_here (uses_at k m) (filter mine ms) i (in_from_contains (places_from 0 (uses_at k m) (filter mine ms)) i used) in
             let there : slice_get ms (stood (map mine ms) i) ≡ Some at.0 = (stood_at mine ms i at.0 at.1).0 in
             part_bottleneck i at.0 at.1 (fair.held (stood (map mine ms) i) (side_at k ms m c, record { listed = to_sides k ms m c has is; used = place_here (uses_at k m) ms (stood (map mine ms) i) at.0 there at.2 }))
 

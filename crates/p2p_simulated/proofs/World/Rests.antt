@@ -1,12 +1,12 @@
 -- The number of messages is steps enough: settling ends with nothing done.
 use Rattle.std.proofs.Common.{◌≡◌, ℕ, zero, suc, ◌+◌, ◌≤◌, List, [], ◌∷◌, ◌++◌, length, Bool, true, false, cond, Option, Some, None, refl, sym, ◌∙◌, subst, arith, length-append}
-use Rattle.std.specs.Prelude.{nat_le, ◌&&◌, nat_lt, if◌then◌else◌}
+use Rattle.std.specs.Prelude.{nat_le}
 use Rattle.std.specs.List.{find}
 use Rattle.std.specs.declared.cmp.Ordering.{Ordering}
 use Rattle.std.specs.Cmp.{IsTotalOrder}
 use Rattle.p2p_simulated.specs.Amount.{whole}
-use Rattle.p2p_simulated.specs.World.{Completed, Course, Flight, World, and_then, complete, completion_of, first_waiting, goes, is_done, last_moment, may_start, meets, preceded, raised, settle, settle_within, start, start_next, without_first, EndsWith}
-use Rattle.p2p_simulated.specs.WorldMessages.{Message, is_delivered, same_pair}
+use Rattle.p2p_simulated.specs.World.{Completed, Course, Flight, World, and_then, complete, first_waiting, goes, is_done, last_moment, may_start, meets, preceded, settle, settle_within, start, start_next, without_first, EndsWith, out_of_flight, is_late, completed}
+use Rattle.p2p_simulated.specs.WorldMessages.{Message, same_pair}
 use Rattle.p2p_simulated.specs.declared.error.Error.TheVariants.{FlowIdsUsedUp, MomentTooLate}
 use Rattle.p2p_simulated.proofs.World.Queue.{pair_like, settle_none, settle_first, find_passes}
 
@@ -55,10 +55,9 @@ module _ {P : Type 0} (cmp : P → P → Ordering) (order : IsTotalOrder cmp) wh
   pub complete_has : (t n : ℕ) (w : World P) (f : Flight P) → find (is_done cmp w) w.sending ≡ Some f → HasAtMost (suc n) w → EndsWith (HasAtMost n) (complete cmp t w f.message)
   complete_has t n w f e h =
       let fewer : length (without_first (is_done cmp w) w.sending) + 1 ≡ length w.sending = length_without (is_done cmp w) f w.sending e in
-      let at : ℕ = if is_delivered cmp f.message then t + f.message.latency else t in
-      let landed : World P = record w { sending = without_first (is_done cmp w) w.sending; last_arrival = raised cmp w.last_arrival f.message at } in
-      ends_cond (HasAtMost n) (is_delivered cmp f.message && nat_lt last_moment at) (meets MomentTooLate) _ tt
-      (ends_preceded (HasAtMost n) (completion_of f.message (if is_delivered cmp f.message then Some at else None) ∷ []) (start_next cmp t landed (first_waiting cmp landed f.message)) (next_has t n landed f.message (first_waiting cmp landed f.message) refl (omega arith)))
+      let landed : World P = out_of_flight cmp t w f.message in
+      ends_cond (HasAtMost n) (is_late cmp t f.message) (meets MomentTooLate) _ tt
+      (ends_preceded (HasAtMost n) (completed cmp t f.message ∷ []) (start_next cmp t landed (first_waiting cmp landed f.message)) (next_has t n landed f.message (first_waiting cmp landed f.message) refl (omega arith)))
 
   abbrev pub NoneDone : World P → Type 0
   NoneDone v = find (is_done cmp v) v.sending ≡ None

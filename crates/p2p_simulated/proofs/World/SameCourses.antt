@@ -7,11 +7,11 @@ use Rattle.std.specs.Cmp.{IsTotalOrder}
 use Rattle.p2p_simulated.specs.declared.error.Error.TheVariants.{MomentTooLate, FlowIdsUsedUp}
 use Rattle.p2p_simulated.specs.WorldMessages.{Message, Caps, CapsAlike, SameMessage}
 use Rattle.p2p_simulated.specs.WorldRates.{Parts, rate_of}
-use Rattle.p2p_simulated.specs.World.{Completed, Course, goes, meets, last_moment, preceded, fronts}
+use Rattle.p2p_simulated.specs.World.{Completed, Course, goes, meets, last_moment, preceded, fronts, completed}
 use Rattle.p2p_simulated.specs.WorldCalls.{Call, limited_by, linked_by}
 use Rattle.p2p_simulated.specs.WorldReplies.{SameCompletion}
 use Rattle.p2p_simulated.specs.WorldPlanned.{Planned, Paced, IsLeastMoment, SomeSpentAt, SomeReadyAt, paced_flows, drained_to, next_of, may_launch, is_spent}
-use Rattle.p2p_simulated.specs.WorldEvents.{Accounts, Looks, Launches, nothing_waits, too_early, no_id, starts, launched, landed, completed, Finishes, all_completed, late, stopped, completes, WakesEach, all_started, no_start, no_finish, starts_one, Wakes, Settles, settling, Recaps, none_sending, some_sending, completed_at_once, with_queued, Enqueues, at_once, no_launch, launches, Advances, no_more, at_finish, at_start, finish_stops, start_stops, Obeys}
+use Rattle.p2p_simulated.specs.WorldEvents.{Accounts, Looks, Launches, nothing_waits, too_early, no_id, starts, launched, landed, Finishes, all_completed, late, stopped, completes, WakesEach, all_started, no_start, no_finish, starts_one, Wakes, Settles, settling, Recaps, none_sending, some_sending, completed_at_once, with_queued, Enqueues, at_once, no_launch, launches, Advances, no_more, at_finish, at_start, finish_stops, start_stops, Obeys}
 use Rattle.p2p_simulated.specs.SamePlanned.{IsSamePaced, IsSamePlanned, IsSameCall, same_limit, same_limit_link, same_enqueue, same_advance, same_next, IsSameCourse}
 use Rattle.p2p_simulated.proofs.World.Alike.{fair_alike}
 use Rattle.p2p_simulated.proofs.World.Launch.{OptionsAlike}
@@ -70,13 +70,13 @@ module _ {P : Type 0} (cmp : P → P → Ordering) (order : IsTotalOrder cmp) wh
   pub accounts_same : (t : ℕ) (p q : Planned P) (leavers : List (Message P)) (new : Planned P) → IsSamePlanned cmp p q → Accounts cmp t p leavers new
       → Accounted t q leavers new
   accounts_same t p q leavers new same accounts =
-      let stays : List (Paced P) = filter (λ f. not (is_spent cmp p f)) (drained_to t p.sending) in
-      let stay : List (Paced P) = filter (λ f. not (is_spent cmp q f)) (drained_to t q.sending) in
+      let stays : List (Paced P) = filter (λ f. not (is_spent cmp p.caps f)) (drained_to t p.sending) in
+      let stay : List (Paced P) = filter (λ f. not (is_spent cmp q.caps f)) (drained_to t q.sending) in
       let gs : List (Paced P) = rerated t new.sending stay in
       let n : Planned P = record q { sending = gs; finish = new.finish } in
       let alike : AllZip (IsSamePaced cmp) stays stay = staying_same cmp order p q same t in
       let sending : AllZip (IsSamePaced cmp) new.sending gs = rerated_same t stays new.sending stay accounts.stayed alike in (
-        paced_flows (filter (is_spent cmp q) (drained_to t q.sending)),
+        paced_flows (filter (is_spent cmp q.caps) (drained_to t q.sending)),
         n,
         record {
           per = accounts.per;
@@ -88,8 +88,8 @@ module _ {P : Type 0} (cmp : P → P → Ordering) (order : IsTotalOrder cmp) wh
           finish = finish_so new.sending gs new.finish sending accounts.finish;
           same = refl;
         },
-        subst (λ (ms : List (Message P)). AllZip (SameMessage cmp) ms (paced_flows (filter (is_spent cmp q) (drained_to t q.sending)))) (sym accounts.left)
-            (flows_same cmp order (filter (is_spent cmp p) (drained_to t p.sending)) (filter (is_spent cmp q) (drained_to t q.sending)) (leaving_same cmp order p q same t)),
+        subst (λ (ms : List (Message P)). AllZip (SameMessage cmp) ms (paced_flows (filter (is_spent cmp q.caps) (drained_to t q.sending)))) (sym accounts.left)
+            (flows_same cmp order (filter (is_spent cmp p.caps) (drained_to t p.sending)) (filter (is_spent cmp q.caps) (drained_to t q.sending)) (leaving_same cmp order p q same t)),
         subst (λ (z : Planned P). IsSamePlanned cmp z n) (sym accounts.same) (accounted p q new.sending gs new.finish same sending),
       )
     where
@@ -210,10 +210,6 @@ module _ {P : Type 0} (cmp : P → P → Ordering) (order : IsTotalOrder cmp) wh
       let later : (c : Course (Completed P) (Planned P)) × WakesEach cmp t ns done.1 c × IsSameCourse cmp rest c = wake_same wakes ns done.1 done.4 all.1 in
       (preceded done.0 later.0, starts_one {rest = later.0} went.2 done.2 later.1, preceded_same cs done.0 rest later.0 done.3 later.2)
 
-  pub wakes_each_same : (t : ℕ) (ms ns : List (Message P)) (p q : Planned P) (course : Course (Completed P) (Planned P)) → IsSamePlanned cmp p q → AllZip (SameMessage cmp) ms ns
-      → WakesEach cmp t ms p course → (c : Course (Completed P) (Planned P)) × WakesEach cmp t ns q c × IsSameCourse cmp course c
-  wakes_each_same t ms ns p q course same all wakes = wake_same wakes ns q same all
-
   pub wakes_same : (t : ℕ) (p q : Planned P) (course : Course (Completed P) (Planned P)) → IsSamePlanned cmp p q → Wakes cmp t p course
       → (c : Course (Completed P) (Planned P)) × Wakes cmp t q c × IsSameCourse cmp course c
   wakes_same t p q course same wakes = wake_same wakes (filter (may_launch cmp t q) (fronts cmp q.waiting)) q same (ready_same cmp order p q same t)
@@ -242,10 +238,6 @@ module _ {P : Type 0} (cmp : P → P → Ordering) (order : IsTotalOrder cmp) wh
       = settle_same settles (record q { caps = others; limited = true }) (recapped_same cmp order p q same caps others alike) in
       (done.0, some_sending (some_same (IsSamePaced cmp) p.sending q.sending same.sending some) done.1, done.2)
 
-  pub recaps_same : (now : ℕ) (caps others : Caps P) (p q : Planned P) (course : Course (Completed P) (Planned P)) → CapsAlike cmp caps others → IsSamePlanned cmp p q
-      → Recaps cmp now caps p course → (c : Course (Completed P) (Planned P)) × Recaps cmp now others q c × IsSameCourse cmp course c
-  recaps_same now caps others p q course alike same recaps = recap_same recaps others q alike same
-
   enqueue_same : {now : ℕ} {m : Message P} {p : Planned P} {course : Course (Completed P) (Planned P)} → Enqueues cmp now m p course → (n : Message P) (q : Planned P)
       → SameMessage cmp m n → IsSamePlanned cmp p q → (c : Course (Completed P) (Planned P)) × Enqueues cmp now n q c × IsSameCourse cmp course c
   enqueue_same {now = now} {m = m} {p = p} (at_once free) n q messages same =
@@ -259,10 +251,6 @@ module _ {P : Type 0} (cmp : P → P → Ordering) (order : IsTotalOrder cmp) wh
       = launch_went cmp order (λ c. Launches cmp now (with_queued cmp q n) (next_of cmp (with_queued cmp q n) n) c) leavers mid (launch_same launch (with_queued cmp q n) (next_of cmp (with_queued cmp q n) n) queues (next_same cmp order (with_queued cmp p m) (with_queued cmp q n) queues m n messages)) in
       let done : (c : Course (Completed P) (Planned P)) × Finishes cmp now went.0 went.1 c × IsSameCourse cmp course c = finish_same finishes went.0 went.1 went.4 went.3 in
       (done.0, launches {course = done.0} (sym same.limited ∙ limited) went.2 done.1, done.2)
-
-  pub enqueues_same : (now : ℕ) (m n : Message P) (p q : Planned P) (course : Course (Completed P) (Planned P)) → SameMessage cmp m n → IsSamePlanned cmp p q
-      → Enqueues cmp now m p course → (c : Course (Completed P) (Planned P)) × Enqueues cmp now n q c × IsSameCourse cmp course c
-  enqueues_same now m n p q course messages same enqueues = enqueue_same enqueues n q messages same
 
   abbrev Went : (Course (Completed P) (Planned P) → Type 0) → List (Completed P) → Planned P → Type 0
   Went Q cs p = (ds : List (Completed P)) × (s : Planned P) × Q (goes ds s) × AllZip (SameCompletion cmp) cs ds × IsSamePlanned cmp p s

@@ -36,7 +36,7 @@ module _ {P : Type 0} (cmp : P → P → Ordering) (order : IsTotalOrder cmp) wh
 
   to_rate_same : (t : ℕ) (p q : Planned P) → IsSamePlanned cmp p q → AllZip (SameMessage cmp) (to_rate cmp t p) (to_rate cmp t q)
   to_rate_same t p q same =
-      flows_same cmp order (filter (λ f. not (is_spent cmp p f)) (drained_to t p.sending)) (filter (λ f. not (is_spent cmp q f)) (drained_to t q.sending)) (staying_same cmp order p q same t)
+      flows_same cmp order (filter (λ f. not (is_spent cmp p.caps f)) (drained_to t p.sending)) (filter (λ f. not (is_spent cmp q.caps f)) (drained_to t q.sending)) (staying_same cmp order p q same t)
 
   too_large_same : (t : ℕ) (p q : Planned P) → IsSamePlanned cmp p q → IsTooLarge cmp t p → IsTooLarge cmp t q
   too_large_same t p q same (drain_too_large place f at large) =

@@ -7,11 +7,11 @@ use Rattle.std.specs.Cmp.{IsTotalOrder}
 use Rattle.p2p_simulated.specs.declared.error.Error.{Error}
 use Rattle.p2p_simulated.specs.Sides.{same_peer}
 use Rattle.p2p_simulated.specs.WorldMessages.{Message, Caps, CapsAlike, PairsAlike, SameMessage, same_pair, pair_before}
-use Rattle.p2p_simulated.specs.World.{Completed, Course, goes, meets, last_moment, completion_of, later_of, raised, without_first, fronts}
+use Rattle.p2p_simulated.specs.World.{Completed, Course, goes, meets, last_moment, completion_of, later_of, raised, without_first, fronts, is_late, completed, arrival}
 use Rattle.p2p_simulated.specs.WorldCalls.{limited_by, linked_by}
 use Rattle.p2p_simulated.specs.WorldReplies.{SameCompletion}
 use Rattle.p2p_simulated.specs.WorldPlanned.{Planned, Paced, IsLeastMoment, SomeSpentAt, SomeReadyAt, next_event, paced_flows, left_at, drained_to, next_of, queued, may_launch, is_spent}
-use Rattle.p2p_simulated.specs.WorldEvents.{launched, landed, arrival, completed, is_late, with_queued, completed_at_once}
+use Rattle.p2p_simulated.specs.WorldEvents.{launched, landed, with_queued, completed_at_once}
 use Rattle.p2p_simulated.specs.SamePlanned.{IsSamePaced, IsSamePlanned, IsSameCourse}
 use Rattle.std.specs.Ordering.{ordering_reverse}
 use Rattle.p2p_simulated.specs.declared.error.Error.TheVariants.{MomentTooLate}
@@ -207,17 +207,17 @@ module _ {P : Type 0} (cmp : P → P → Ordering) (order : IsTotalOrder cmp) wh
   delivery now p m = if m.should_deliver then Some (landing now p m) else None
 
   module _ (p q : Planned P) (same : IsSamePlanned cmp p q) where
-    pub spent_same : (f g : Paced P) → IsSamePaced cmp f g → is_spent cmp p f ≡ is_spent cmp q g
+    pub spent_same : (f g : Paced P) → IsSamePaced cmp f g → is_spent cmp p.caps f ≡ is_spent cmp q.caps g
     spent_same f g e = rw (e.left, unlimited_alike cmp order p.caps q.caps same.caps f.message g.message e.message) refl
 
     -- those that an account finds done, and the others
-    pub leaving_same : (t : ℕ) → AllZip (IsSamePaced cmp) (filter (is_spent cmp p) (drained_to t p.sending)) (filter (is_spent cmp q) (drained_to t q.sending))
+    pub leaving_same : (t : ℕ) → AllZip (IsSamePaced cmp) (filter (is_spent cmp p.caps) (drained_to t p.sending)) (filter (is_spent cmp q.caps) (drained_to t q.sending))
     leaving_same t =
-        filter_same (IsSamePaced cmp) (is_spent cmp p) (is_spent cmp q) spent_same (drained_to t p.sending) (drained_to t q.sending) (drained_same t p.sending q.sending same.sending)
+        filter_same (IsSamePaced cmp) (is_spent cmp p.caps) (is_spent cmp q.caps) spent_same (drained_to t p.sending) (drained_to t q.sending) (drained_same t p.sending q.sending same.sending)
 
-    pub staying_same : (t : ℕ) → AllZip (IsSamePaced cmp) (filter (λ f. not (is_spent cmp p f)) (drained_to t p.sending)) (filter (λ f. not (is_spent cmp q f)) (drained_to t q.sending))
+    pub staying_same : (t : ℕ) → AllZip (IsSamePaced cmp) (filter (λ f. not (is_spent cmp p.caps f)) (drained_to t p.sending)) (filter (λ f. not (is_spent cmp q.caps f)) (drained_to t q.sending))
     staying_same t =
-        filter_same (IsSamePaced cmp) (λ f. not (is_spent cmp p f)) (λ f. not (is_spent cmp q f)) (λ f g e. ap not (spent_same f g e)) (drained_to t p.sending) (drained_to t q.sending) (drained_same t p.sending q.sending same.sending)
+        filter_same (IsSamePaced cmp) (λ f. not (is_spent cmp p.caps f)) (λ f. not (is_spent cmp q.caps f)) (λ f g e. ap not (spent_same f g e)) (drained_to t p.sending) (drained_to t q.sending) (drained_same t p.sending q.sending same.sending)
 
     -- ---- what waits
 

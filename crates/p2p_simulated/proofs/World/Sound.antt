@@ -7,9 +7,9 @@ use Rattle.std.specs.Cmp.{IsTotalOrder}
 use Rattle.std.proofs.lemmas.List.{map-append}
 use Rattle.p2p_simulated.specs.Amount.{whole}
 use Rattle.p2p_simulated.specs.Sides.{same_peer}
-use Rattle.p2p_simulated.specs.World.{Completed, Course, EndsWith, Flight, IsQuiet, World, and_then, complete, completion_of, first_waiting, flows, fronts, goes, instant, is_done, is_idle, is_in_order, last_moment, later_of, least_pair, may_start, meets, new_world, raised, ready, settle, start, start_next, turn, wake, without_first}
+use Rattle.p2p_simulated.specs.World.{Completed, Course, EndsWith, Flight, IsQuiet, World, and_then, complete, first_waiting, flows, fronts, goes, instant, is_done, is_idle, is_in_order, last_moment, later_of, least_pair, may_start, meets, new_world, raised, ready, settle, start, start_next, turn, wake, without_first, out_of_flight, is_late, completed, arrival}
 use Rattle.p2p_simulated.specs.WorldCalls.{Call, Runs, act, call_advance, call_enqueue, call_limit, call_next, complete_at_once, recap, limited_by, call_limit_link, linked_by}
-use Rattle.p2p_simulated.specs.WorldMessages.{Caps, Message, OneForEachPair, is_delivered, same_pair, with_cap, CapsAlike, PairsAlike, with_link}
+use Rattle.p2p_simulated.specs.WorldMessages.{Caps, Message, OneForEachPair, same_pair, with_cap, CapsAlike, PairsAlike, with_link}
 use Rattle.p2p_simulated.specs.WorldPass.{IsButFor}
 use Rattle.p2p_simulated.specs.WorldRates.{Parts}
 use Rattle.p2p_simulated.specs.WorldTime.{ArePositive, Drains, IsSound, Ticks, drain_each, no_tick, one_tick, tick_faults}
@@ -21,7 +21,7 @@ use Rattle.p2p_simulated.proofs.World.PairOrder.{found_in, least_is}
 use Rattle.p2p_simulated.proofs.World.Pass.{ends_both, settle_keeps}
 use Rattle.p2p_simulated.proofs.World.Stretch.{flows_drained}
 use Rattle.p2p_simulated.proofs.World.OneNext.{drain_each_positive}
-use Rattle.p2p_simulated.proofs.World.Calm.{settle_nothing, turn_outlasts, settle_outlasts, instant_outlasts, wake_keeps, instant_of_quiet, queued, ends_at}
+use Rattle.p2p_simulated.proofs.World.Calm.{settle_outlasts, instant_outlasts, wake_keeps, instant_of_quiet, queued, ends_at}
 
 positive_on : {P : Type 0} (fs gs : List (Flight P)) → ArePositive fs → ArePositive gs → ArePositive (fs ++ gs)
 positive_on [] gs h k = k
@@ -73,10 +73,9 @@ module _ {P : Type 0} (cmp : P → P → Ordering) (order : IsTotalOrder cmp) wh
 
   complete_fit : (t : ℕ) (w : World P) (m : Message P) → IsFit w → EndsWith IsFit (complete cmp t w m)
   complete_fit t w m fit =
-      let at : ℕ = if is_delivered cmp m then t + m.latency else t in
-      let landed : World P = record w { sending = without_first (is_done cmp w) w.sending; last_arrival = raised cmp w.last_arrival m at } in
-      ends_cond IsFit (is_delivered cmp m && nat_lt last_moment at) (meets MomentTooLate) _ tt
-      (ends_preceded IsFit (completion_of m (if is_delivered cmp m then Some at else None) ∷ []) (start_next cmp t landed (first_waiting cmp landed m))
+      let landed : World P = out_of_flight cmp t w m in
+      ends_cond IsFit (is_late cmp t m) (meets MomentTooLate) _ tt
+      (ends_preceded IsFit (completed cmp t m ∷ []) (start_next cmp t landed (first_waiting cmp landed m))
       (next_fit t landed (first_waiting cmp landed m) (record { positive = positive_without (is_done cmp w) w.sending fit.positive; one_each = one_without cmp order (is_done cmp w) w.sending fit.one_each })))
 
   settle_fit : (t : ℕ) (w : World P) → IsFit w → EndsWith IsFit (settle cmp t w)
@@ -211,11 +210,10 @@ module _ {P : Type 0} (cmp : P → P → Ordering) (order : IsTotalOrder cmp) wh
 
   complete_peerwise : (t : ℕ) (w : World P) (m : Message P) → IsPeerwise w → EndsWith (IsPeerwise) (complete cmp t w m)
   complete_peerwise t w m h =
-      let at : ℕ = if is_delivered cmp m then t + m.latency else t in
-      let landed : World P = record w { sending = without_first (is_done cmp w) w.sending; last_arrival = raised cmp w.last_arrival m at } in
-      ends_cond (IsPeerwise) (is_delivered cmp m && nat_lt last_moment at) (meets MomentTooLate) _ tt
-      (ends_preceded (IsPeerwise) (completion_of m (if is_delivered cmp m then Some at else None) ∷ []) (start_next cmp t landed (first_waiting cmp landed m))
-      (next_peerwise t landed (first_waiting cmp landed m) (landed_peerwise w (without_first (is_done cmp w) w.sending) m at h)))
+      let landed : World P = out_of_flight cmp t w m in
+      ends_cond (IsPeerwise) (is_late cmp t m) (meets MomentTooLate) _ tt
+      (ends_preceded (IsPeerwise) (completed cmp t m ∷ []) (start_next cmp t landed (first_waiting cmp landed m))
+      (next_peerwise t landed (first_waiting cmp landed m) (landed_peerwise w (without_first (is_done cmp w) w.sending) m (arrival cmp t m) h)))
 
   settle_peerwise : (t : ℕ) (w : World P) → IsPeerwise w → EndsWith (IsPeerwise) (settle cmp t w)
   settle_peerwise t w h = settle_keeps cmp order (IsPeerwise) t (λ v f e k. complete_peerwise t v f.message k) (length w.sending + length w.waiting) w h
@@ -285,25 +283,6 @@ module _ {P : Type 0} (cmp : P → P → Ordering) (order : IsTotalOrder cmp) wh
 
   as_fit : (w : World P) → IsSound cmp w → IsFit w
   as_fit w sound = record { positive = sound.positive; one_each = sound.one_each }
-
-  settle_empty : (t : ℕ) (w : World P) → IsEmptyAtFirst w → EndsWith IsEmptyAtFirst (settle cmp t w)
-  settle_empty t w h = by_limited w.limited refl
-    where
-      by_limited : (b : Bool) → w.limited ≡ b → EndsWith IsEmptyAtFirst (settle cmp t w)
-      by_limited true e = ends_more cmp order IsLimited IsEmptyAtFirst (settle cmp t w) empty_if_limited (settle_outlasts cmp order IsLimited limited_kept t w e)
-      by_limited false e = subst (λ (c : Course (Completed P) (World P)). EndsWith IsEmptyAtFirst c) (sym (settle_nothing cmp order (length w.sending + length w.waiting) t w (rw (h e).0 refl))) h
-
-  -- settling, a turn, an instant, ticks and calls keep a world sound
-  pub settle_keeps_sound : (t : ℕ) (w : World P) → IsSound cmp w → EndsWith (IsSound cmp) (settle cmp t w)
-  settle_keeps_sound t w sound = as_sound (settle cmp t w) (settle_fit t w (as_fit w sound)) (settle_empty t w sound.empty_at_first) (settle_peerwise t w (as_peerwise w sound))
-
-  -- of a message that waits, in a world with limits
-  pub turn_keeps_sound : (t : ℕ) (w : World P) (m : Message P) → w.limited ≡ true → may_start cmp t w m ≡ true → IsSound cmp w → EndsWith (IsSound cmp) (turn cmp t w m)
-  turn_keeps_sound t w m limited may sound =
-      as_sound (turn cmp t w m) (turn_fit t w m may (as_fit w sound)) (ends_more cmp order IsLimited IsEmptyAtFirst (turn cmp t w m) empty_if_limited (turn_outlasts cmp order IsLimited limited_kept t w m limited)) (turn_peerwise t w m (as_peerwise w sound))
-
-  pub instant_keeps_sound : (w : World P) → IsSound cmp w → EndsWith (IsSound cmp) (instant cmp w)
-  instant_keeps_sound w sound = as_sound (instant cmp w) (instant_fit w (as_fit w sound)) (instant_empty w sound.empty_at_first) (instant_peerwise w (as_peerwise w sound))
 
   pub ticks_keep_sound : {n : ℕ} {w : World P} {c : Course (Completed P) (World P)} → Ticks cmp n w c → IsSound cmp w → EndsWith (IsSound cmp) c
   ticks_keep_sound {w = w} {c = c} t sound = as_sound c (ticks_fit t (as_fit w sound)) (ticks_empty t sound.empty_at_first) (ticks_peerwise t (as_peerwise w sound))

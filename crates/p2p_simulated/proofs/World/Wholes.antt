@@ -6,7 +6,6 @@ use Rattle.std.specs.List.{list_any, find, AllPairs}
 use Rattle.std.specs.declared.cmp.Ordering.{Ordering}
 use Rattle.std.specs.Cmp.{IsTotalOrder}
 use Rattle.std.proofs.Math.Nat.{mul_comm, mul_assoc, dvd-mul_left, dvd_of_mul-dvd-mul_right, le_of_mul-le-mul_right}
-use Rattle.std.proofs.lemmas.List.Kept.{AllPairs-cons}
 use Rattle.p2p_simulated.specs.Amount.{reduced}
 use Rattle.p2p_simulated.specs.Laws.LowestTerms.{IsScaled, reduced_scales, reduced_positive}
 use Rattle.p2p_simulated.specs.Fair.{Side, IsLimited, IsFair}
@@ -14,41 +13,22 @@ use Rattle.p2p_simulated.specs.FairLaws.{HaveUsersBelow}
 use Rattle.p2p_simulated.specs.Size.{HaveDistinctUsers}
 use Rattle.p2p_simulated.specs.Sides.{same_peer}
 use Rattle.p2p_simulated.specs.WorldMessages.{Message, Caps, OneForEachPair, same_pair, is_delivered}
-use Rattle.p2p_simulated.specs.WorldRates.{Parts, AreFair, capped_sides, places_that_pass, rates_from, is_unlimited}
+use Rattle.p2p_simulated.specs.WorldRates.{Parts, AreFair, capped_sides, rates_from, is_unlimited}
 use Rattle.p2p_simulated.specs.World.{without_first}
 use Rattle.p2p_simulated.specs.WorldReplies.{IsSmallCap, names_pair}
 use Rattle.p2p_simulated.specs.WorldStands.{IsSmallRate, finest_parts}
 use Rattle.p2p_simulated.proofs.Denominators.{denominator_of, of_sixteen}
 use Rattle.p2p_simulated.proofs.Fairness.OneAllocation.{same_amounts}
 use Rattle.p2p_simulated.proofs.Fairness.Sums.{All-from_contains}
-use Rattle.p2p_simulated.proofs.Fairness.Members.{In, in_from_contains}
+use Rattle.p2p_simulated.proofs.Fairness.Members.{In}
 use Rattle.p2p_simulated.proofs.Size.Exists.{fair_parts}
 use Rattle.p2p_simulated.proofs.World.Bytes.{Each}
-use Rattle.p2p_simulated.proofs.World.Rated.{below_length, limited_at}
+use Rattle.p2p_simulated.proofs.World.Rated.{limited_at}
 use Rattle.p2p_simulated.proofs.World.Ranges.{fair_is_small}
-use Rattle.p2p_simulated.proofs.World.Restrict.{Kind, at_egress, at_ingress, at_link, cap_at, side_at, from_sides, passes_at, passes_here}
+use Rattle.p2p_simulated.proofs.World.Restrict.{Kind, at_egress, at_ingress, at_link, cap_at, side_at, from_sides}
 use Rattle.p2p_simulated.proofs.World.Queue.{both_parts, peer_like}
 use Rattle.p2p_simulated.proofs.World.Rests.{length_without}
-
--- ---- places
-
-places_apart : {X : Type 0} (place : ℕ) (test : X → Bool) (xs : List X) → AllPairs (λ user other. user ≢ other) (places_that_pass place test xs)
-places_apart place test [] = λ i j d before below. absurd (omega arith)
-places_apart {X} place test (x ∷ xs) = by_test (test x) (places_apart (place + 1) test xs)
-  where
-    rest : List ℕ
-    rest = places_that_pass (place + 1) test xs
-
-    later : All (λ other. place ≢ other) (places_that_pass (place + 1) test xs)
-    later = All-from_contains (λ other. place ≢ other) (places_that_pass (place + 1) test xs) (λ other has same. let at = passes_at (place + 1) test xs other (in_from_contains (places_that_pass (place + 1) test xs) other has) in absurd (omega (arith, at.1, same)))
-
-    by_test : (b : Bool) → AllPairs (λ user other. user ≢ other) (places_that_pass (place + 1) test xs)
-        → AllPairs (λ user other. user ≢ other) (cond b (place ∷ places_that_pass (place + 1) test xs) (places_that_pass (place + 1) test xs))
-    by_test true ih = AllPairs-cons (λ user other. user ≢ other) place (places_that_pass (place + 1) test xs) later ih
-    by_test false ih = ih
-
-places_below : {X : Type 0} (test : X → Bool) (xs : List X) (n : ℕ) → length xs ≤ n → All (λ user. user < n) (places_that_pass 0 test xs)
-places_below test xs n few = All-from_contains (λ user. user < n) (places_that_pass 0 test xs) (λ user has. let at = passes_here test xs user (in_from_contains (places_that_pass 0 test xs) user has) in let below : user < length xs = below_length xs user at.0 at.1 in omega arith)
+use Rattle.p2p_simulated.proofs.Places.{places_apart, places_below}
 
 -- ---- lowest terms
 

@@ -2,7 +2,7 @@
 ghost use Rattle.std.specs.Prelude.{◌≡◌, ◌≢◌, ℕ, All, Some, slice_get, ◌<◌, ◌&&◌, ◌||◌, Bool, true, not, is_none, map, length, slice_index_or, IfOk, IfErr, OnOk};
 ghost use Rattle.std.specs.List.{filter, list_all};
 ghost use Rattle.p2p_simulated.specs.declared.bandwidth.Flow.{Flow as AnyFlow};
-ghost use Rattle.p2p_simulated.specs.WorldPlanned.{Paced, paced_flows, drained_to, IsLeastMoment, SomeSpentAt};
+ghost use Rattle.p2p_simulated.specs.WorldPlanned.{Paced, paced_flows, drained_to, IsLeastMoment, SomeSpentAt, is_spent};
 ghost use Rattle.p2p_simulated.specs.WorldRefusals.{IsDrainTooLarge, IsTimeTooLarge};
 ghost use Rattle.p2p_simulated.specs.Message.{message_of};
 ghost use Rattle.p2p_simulated.specs.Peers.{egress_of, ingress_of};
@@ -38,7 +38,7 @@ impl<P: Peer> Flights<P> {
     ghost use Rattle.std.specs.Ordering.{nat_cmp};
     ghost use Rattle.std.specs.BTreeMap.{get};
     ghost use Rattle.p2p_simulated.specs.Flights.{sending_of, rated_by};
-    ghost use Rattle.p2p_simulated.specs.Working.{caps_of, is_done_under};
+    ghost use Rattle.p2p_simulated.specs.Working.{caps_of};
 
     /// All drain to that moment.
     fn drain(&mut self, now: u64) -> Result<(), Error>
@@ -53,7 +53,7 @@ impl<P: Peer> Flights<P> {
     /// Whether the message at that place is done: nothing is left of it, or it uses no capped side.
     fn is_done(&self, at: usize, peers: &Peers<P>, pairs: &Pairs<P>) -> bool
         requires { at < length self.now.flows.items }
-        ensures { (d : Paced P) → result ≡ is_done_under P.cmp (caps_of P.cmp peers.now.entries.items pairs.now.entries.items)
+        ensures { (d : Paced P) → result ≡ is_spent P.cmp (caps_of P.cmp peers.now.entries.items pairs.now.entries.items)
             (slice_index_or (sending_of self.now.flows.items self.now.progress.items) at d) }
     {
         self.progress[at].left.is_zero() || is_unlimited(&self.flows[at], peers, pairs)
@@ -66,9 +66,9 @@ impl<P: Peer> Flights<P> {
         peers: &Peers<P>,
         pairs: &Pairs<P>,
     ) -> Result<VecDeque<Message<P>>, Error>
-        ensures done { IfOk result (λ done. map message_of done.items ≡ paced_flows (filter (is_done_under P.cmp (caps_of P.cmp peers.now.entries.items pairs.now.entries.items))
+        ensures done { IfOk result (λ done. map message_of done.items ≡ paced_flows (filter (is_spent P.cmp (caps_of P.cmp peers.now.entries.items pairs.now.entries.items))
             (sending_of self.old.flows.items self.old.progress.items))) }
-        ensures rest { OnOk result (sending_of self.new.flows.items self.new.progress.items ≡ filter (λ f. not (is_done_under P.cmp (caps_of P.cmp peers.now.entries.items pairs.now.entries.items) f))
+        ensures rest { OnOk result (sending_of self.new.flows.items self.new.progress.items ≡ filter (λ f. not (is_spent P.cmp (caps_of P.cmp peers.now.entries.items pairs.now.entries.items) f))
             (sending_of self.old.flows.items self.old.progress.items)) }
         ensures others { (test : AnyFlow P → Bool) → list_all test self.old.flows.items ≡ true → list_all test self.new.flows.items ≡ true }
         ensures refused { IfErr result (λ e. e ≡ Error.OutOfMemory) }

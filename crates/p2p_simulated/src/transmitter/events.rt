@@ -1,9 +1,9 @@
 //! The event rule: what calls do, at any moments.
 ghost use Rattle.std.specs.Prelude.{◌≡◌, ℕ, ◌+◌, nat_lt, if◌then◌else◌, List, [], ◌∷◌, ◌++◌, map, true, false, IfOk, IfErr, IsTrue, ◌&&◌, is_some};
-ghost use Rattle.p2p_simulated.specs.World.{Completed, goes, meets, last_moment, later_of as latest};
+ghost use Rattle.p2p_simulated.specs.World.{Completed, goes, meets, last_moment, later_of as latest, is_late, completed};
 ghost use Rattle.p2p_simulated.specs.WorldMessages.{Message as AnyMessage};
 ghost use Rattle.p2p_simulated.specs.WorldPlanned.{next_of, next_event as next_of_planned};
-ghost use Rattle.p2p_simulated.specs.WorldEvents.{Launches, Finishes, Settles, Wakes, Recaps, Enqueues, Advances, landed, completed, is_late, completed_at_once};
+ghost use Rattle.p2p_simulated.specs.WorldEvents.{Launches, Finishes, Settles, Wakes, Recaps, Enqueues, Advances, landed, completed_at_once};
 ghost use Rattle.p2p_simulated.specs.WorldRefusals.{LaunchAccounts, FinishAccounts, SettleAccounts, WakeAccounts, RecapAccounts, EnqueueAccounts, AdvanceAccounts};
 ghost use Rattle.p2p_simulated.specs.Refusing.{IsRefusedBy, IsRefusedAt};
 ghost use Rattle.p2p_simulated.specs.Message.{message_of, completed_of};

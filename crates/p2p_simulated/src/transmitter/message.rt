@@ -20,7 +20,7 @@ pub(crate) struct Message<P> {
 
 impl<P: Peer> Message<P> {
     ghost use Rattle.p2p_simulated.specs.WorldMessages.{is_delivered};
-    ghost use Rattle.p2p_simulated.specs.WorldEvents.{is_late, arrival};
+    ghost use Rattle.p2p_simulated.specs.World.{is_late, arrival};
     ghost use Rattle.p2p_simulated.specs.Message.{message_of};
 
     /// Whether it arrives, under limits: a message to oneself does not.

@@ -1,9 +1,6 @@
-use Rattle.std.proofs.Common.{ap, map, refl}
+use Rattle.std.proofs.Common.{ap}
 use Rattle.std.proofs.lemmas.Result.{err_from_is_err_and}
-use Rattle.p2p_simulated.specs.Message.{completed_of}
-use Rattle.p2p_simulated.specs.Replay.{call_of}
 use Rattle.p2p_simulated.specs.Working.{planned}
-use Rattle.p2p_simulated.proofs.Replaying.{done_reply, refused_reply}
 use Rattle.p2p_simulated.proofs.replay.Call.make.Goals as goal
 use Rattle.p2p_simulated.proofs.replay.Call.make.Goals.{in-Limit+in_ok-completions-in-Limit, in-LimitLink+in_ok-completions-in-LimitLink, in-Enqueue+in_ok-completions-in-Enqueue, in-Advance+in_ok-completions-in-Advance}
 

@@ -1,6 +1,6 @@
 use Rattle.std.proofs.Common.{rules}
 use Rattle.p2p_simulated.specs.Script.{IsCapInRange, IsSmallCapInRange}
-use Rattle.p2p_simulated.proofs.Columns.{takes_both, takes_one, takes_none, cap_words, two_caps, AreCapsIn, link_words, IsLinkIn, takes_link, takes_no_link, takes_limit, takes_no_limit, takes_limit_link, takes_no_limit_link, word_then, AreIn}
+use Rattle.p2p_simulated.proofs.Columns.{takes_both, takes_one, takes_none, cap_words, two_caps, AreCapsIn, takes_link, takes_no_link, takes_limit, takes_no_limit, takes_limit_link, takes_no_limit_link, word_then, AreIn}
 use Rattle.p2p_simulated.specs.Script.{number_word, IsNumberInRange}
 use Rattle.p2p_simulated.proofs.linkrun.command.Command.take.Goals as goal
 

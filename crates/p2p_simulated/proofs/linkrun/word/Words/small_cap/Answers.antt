@@ -1,4 +1,4 @@
-use Rattle.std.proofs.Common.{rules, arith}
+use Rattle.std.proofs.Common.{rules}
 use Rattle.p2p_simulated.proofs.Columns.{narrow_cap, wide_cap, no_cap}
 use Rattle.p2p_simulated.proofs.linkrun.word.Words.small_cap.Goals as goal
 

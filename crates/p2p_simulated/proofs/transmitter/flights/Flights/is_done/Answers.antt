@@ -4,9 +4,10 @@ use Rattle.p2p_simulated.specs.Flights.{sending_of, paced_of}
 use Rattle.p2p_simulated.specs.Peers.{egress_of, ingress_of}
 use Rattle.p2p_simulated.specs.Pairs.{link_of}
 use Rattle.p2p_simulated.specs.WorldRates.{is_unlimited}
-use Rattle.p2p_simulated.specs.Working.{caps_of, is_done_under}
+use Rattle.p2p_simulated.specs.Working.{caps_of}
 use Rattle.p2p_simulated.proofs.Flying.{paced_at, mark_at, left_at_place, nothing_is_done, something_is_not}
 use Rattle.p2p_simulated.proofs.transmitter.flights.Flights.is_done.Goals as goal
+use Rattle.p2p_simulated.specs.WorldPlanned.{is_spent}
 
 pub returns-then-is_zero : goal.returns-then-is_zero
 returns-then-is_zero g c d = c.if-is_zero.true ∙ sym (nothing_is_done (get_or (sending_of c.args.self.now.flows.items c.args.self.now.progress.items) c.args.at d).left.num _ (ap (λ a. a.num) (left_at_place c.args.self.now.flows.items c.args.self.now.progress.items c.args.at c.index.result.now d c.args.self.now.parallel c.requires c.index.ensures) ∙ c.is_zero.ensures.0 c.if-is_zero.true))
@@ -18,4 +19,4 @@ returns-else-is_zero g c d =
     ∙ ap (λ b. is_none (egress_of g.P.Ord.cmp c.args.peers.now.entries.items c.index-else-is_zero.result.now.origin) && (not b || is_none (ingress_of g.P.Ord.cmp c.args.peers.now.entries.items c.index-else-is_zero.result.now.recipient)) && is_none (link_of g.P.Ord.cmp c.args.pairs.now.entries.items c.index-else-is_zero.result.now.origin c.index-else-is_zero.result.now.recipient))
     (mark_at g.P.Ord.cmp c.args.self.now.flows.items c.args.self.now.progress.items c.args.at c.index-else-is_zero.result.now c.index.result.now c.args.self.now.parallel c.args.self.now.marked c.requires c.index-else-is_zero.ensures c.index.ensures)
     ∙ sym (something_is_not (paced_of c.index-else-is_zero.result.now c.index.result.now).left.num (is_unlimited g.P.Ord.cmp (caps_of g.P.Ord.cmp c.args.peers.now.entries.items c.args.pairs.now.entries.items) (paced_of c.index-else-is_zero.result.now c.index.result.now).message) (λ z. cc (c.is_zero.ensures.1 z)))
-    ∙ ap (is_done_under g.P.Ord.cmp (caps_of g.P.Ord.cmp c.args.peers.now.entries.items c.args.pairs.now.entries.items)) (sym is)
+    ∙ ap (is_spent g.P.Ord.cmp (caps_of g.P.Ord.cmp c.args.peers.now.entries.items c.args.pairs.now.entries.items)) (sym is)

@@ -3,13 +3,14 @@ use Rattle.std.specs.List.{list_all}
 use Rattle.p2p_simulated.specs.declared.bandwidth.Flow.{Flow}
 use Rattle.p2p_simulated.specs.Message.{message_of}
 use Rattle.p2p_simulated.specs.Flights.{sending_of}
-use Rattle.p2p_simulated.specs.Working.{caps_of, is_done_under}
+use Rattle.p2p_simulated.specs.Working.{caps_of}
 use Rattle.p2p_simulated.proofs.Flying.{HaveLeft}
 use Rattle.p2p_simulated.proofs.transmitter.flights.Flights.take_done.Given as goal
+use Rattle.p2p_simulated.specs.WorldPlanned.{is_spent}
 
 abbrev pub invariant-loop-at : goal.invariant-loop-at
 invariant-loop-at g l =
-    HaveLeft (is_done_under g.P.Ord.cmp (caps_of g.P.Ord.cmp l.peers.entries.items l.pairs.entries.items)) (sending_of l.initial.self.flows.items l.initial.self.progress.items) (sending_of l.self.flows.items l.self.progress.items) (map message_of l.done.items) l.at
+    HaveLeft (is_spent g.P.Ord.cmp (caps_of g.P.Ord.cmp l.peers.entries.items l.pairs.entries.items)) (sending_of l.initial.self.flows.items l.initial.self.progress.items) (sending_of l.self.flows.items l.self.progress.items) (map message_of l.done.items) l.at
     × ((test : Flow g.row.P.Denot → Bool) → list_all test l.initial.self.flows.items ≡ true → list_all test l.self.flows.items ≡ true)
 
 abbrev pub decreases-loop-at : goal.decreases-loop-at

@@ -22,7 +22,7 @@ pub returns-in_err-by_id-clause-refused : goal.returns-in_err-by_id-clause-refus
 returns-in_err-by_id-clause-refused g c =
     let p = err_from_is_err_and c.from_residual-in_err-by_id.result c.from_residual-in_err-by_id.ensures.1 in
     let old : Planned g.row.P.Denot = planned g.P.Ord.cmp c.args.self.now in
-    let rest = c.in_ok-done.ensures.rest ∙ ap (filter (λ (f : Paced g.row.P.Denot). not (is_spent g.P.Ord.cmp old f))) c.in_ok-drain.ensures.sending in
+    let rest = c.in_ok-done.ensures.rest ∙ ap (filter (λ (f : Paced g.row.P.Denot). not (is_spent g.P.Ord.cmp old.caps f))) c.in_ok-drain.ensures.sending in
     let flying = c.take_done.new.self in
     rw (p.1, p.2) (rates_refused g.P.Ord.cmp g.met.P.Ord.total c.args.now old (looked_up g.P.Ord.cmp g.met.P.Ord.total c.args.self.now.peers.entries.items c.args.self.now.pairs.entries.items)
     flying.flows.items flying.progress.items flying.parallel flying.marked flying.apart rest _ c.in_err-by_id.ensures.refused)
@@ -30,14 +30,14 @@ returns-in_err-by_id-clause-refused g c =
 pub set_rates-requires : goal.set_rates-requires
 set_rates-requires g c =
     let old : Planned g.row.P.Denot = planned g.P.Ord.cmp c.args.self.now in
-    let rest = c.in_ok-done.ensures.rest ∙ ap (filter (λ (f : Paced g.row.P.Denot). not (is_spent g.P.Ord.cmp old f))) c.in_ok-drain.ensures.sending in
+    let rest = c.in_ok-done.ensures.rest ∙ ap (filter (λ (f : Paced g.row.P.Denot). not (is_spent g.P.Ord.cmp old.caps f))) c.in_ok-drain.ensures.sending in
     subst (λ (fs : List (Paced g.row.P.Denot)). All (λ f. f.left.num ≢ 0) fs) (sym rest) (some_left g.P.Ord.cmp old (drained_to c.args.now old.sending))
 
 pub returns-in_err-self-clause-refused : goal.returns-in_err-self-clause-refused
 returns-in_err-self-clause-refused g c =
     let p = err_from_is_err_and c.from_residual-in_err-self.result c.from_residual-in_err-self.ensures.1 in
     let old : Planned g.row.P.Denot = planned g.P.Ord.cmp c.args.self.now in
-    let rest = c.in_ok-done.ensures.rest ∙ ap (filter (λ (f : Paced g.row.P.Denot). not (is_spent g.P.Ord.cmp old f))) c.in_ok-drain.ensures.sending in
+    let rest = c.in_ok-done.ensures.rest ∙ ap (filter (λ (f : Paced g.row.P.Denot). not (is_spent g.P.Ord.cmp old.caps f))) c.in_ok-drain.ensures.sending in
     let flying = c.take_done.new.self in
     rw (p.1, p.2) (time_refused g.P.Ord.cmp g.met.P.Ord.total c.args.now old (looked_up g.P.Ord.cmp g.met.P.Ord.total c.args.self.now.peers.entries.items c.args.self.now.pairs.entries.items)
     flying.flows.items flying.progress.items flying.parallel flying.marked flying.apart rest (get nat_cmp c.in_ok-by_id.by_id) c.in_ok-by_id.ensures.fair _ c.in_err-self.ensures.refused)
@@ -45,10 +45,10 @@ returns-in_err-self-clause-refused g c =
 pub returns-clause-accounts : goal.returns-clause-accounts
 returns-clause-accounts g c =
     let old : Planned g.row.P.Denot = planned g.P.Ord.cmp c.args.self.now in
-    let rest = c.in_ok-done.ensures.rest ∙ ap (filter (λ (f : Paced g.row.P.Denot). not (is_spent g.P.Ord.cmp old f))) c.in_ok-drain.ensures.sending in
+    let rest = c.in_ok-done.ensures.rest ∙ ap (filter (λ (f : Paced g.row.P.Denot). not (is_spent g.P.Ord.cmp old.caps f))) c.in_ok-drain.ensures.sending in
     let flying = c.take_done.new.self in
     subst (λ (fs : List (Paced g.row.P.Denot)). Accounts g.P.Ord.cmp c.args.now old (messages c.in_ok-done.done.items) (record old { sending = fs; finish = c.in_ok-self.field-0 })) (sym c.in_ok-self.ensures.sending)
     (accounts_so g.P.Ord.cmp g.met.P.Ord.total c.args.now old (looked_up g.P.Ord.cmp g.met.P.Ord.total c.args.self.now.peers.entries.items c.args.self.now.pairs.entries.items)
     flying.flows.items flying.progress.items flying.parallel flying.marked flying.apart rest (messages c.in_ok-done.done.items) (get nat_cmp c.in_ok-by_id.by_id) c.in_ok-self.field-0
-    (c.in_ok-done.ensures.done ∙ ap (λ (fs : List (Paced g.row.P.Denot)). paced_flows (filter (is_spent g.P.Ord.cmp old) fs)) c.in_ok-drain.ensures.sending) c.in_ok-by_id.ensures.fair
+    (c.in_ok-done.ensures.done ∙ ap (λ (fs : List (Paced g.row.P.Denot)). paced_flows (filter (is_spent g.P.Ord.cmp old.caps) fs)) c.in_ok-drain.ensures.sending) c.in_ok-by_id.ensures.fair
     (subst (λ (fs : List (Paced g.row.P.Denot)). IsLeastMoment (λ s. SomeSpentAt fs s) c.in_ok-self.field-0) c.in_ok-self.ensures.sending c.in_ok-self.ensures.finish))
