@@ -54,11 +54,6 @@ looked_up {P} cmp order peers pairs = record {
       value_respects (pair_cmp cmp) (pair_total cmp order) key_of (λ (pair : Pair P). pair.cap) None pairs (p, r) (q, s) (is_eq_equal _ (is_eq-then (cmp p q) (cmp r s) ∙ and_both _ _ same_p same_r));
 }
 
--- equal pairs have the same last arrival
-pub arrivals_looked_up : {P : Type 0} (cmp : P → P → Ordering) → IsTotalOrder cmp → (pairs : List (Pair P)) → PairsAlike cmp (arrival_of cmp pairs) (arrival_of cmp pairs)
-arrivals_looked_up {P} cmp order pairs p q r s same_p same_r =
-    value_respects (pair_cmp cmp) (pair_total cmp order) key_of (λ (pair : Pair P). pair.last_arrival) None pairs (p, r) (q, s) (is_eq_equal _ (is_eq-then (cmp p q) (cmp r s) ∙ and_both _ _ same_p same_r))
-
 -- ---- the first moment at which nothing is left of a message
 
 -- of what is decided at each moment there is a first one below some moment, or none
@@ -74,6 +69,11 @@ first_below Q decide (suc n) = further (first_below Q decide n) (decide n)
 least_from : (Q : ℕ → Type 0) → ((t : ℕ) → t < 18446744073709551616 → ¬ Q t) ⊎ ((t : ℕ) × (t < 18446744073709551616) × Q t × ((s : ℕ) → Q s → t ≤ s)) → (o : Option ℕ) × IsLeastMoment Q o
 least_from Q (inl none) = (None, λ t le q. let lt : t < 18446744073709551616 = omega arith in none t lt q)
 least_from Q (inr (t, lt, q, least)) = (Some t, (omega arith, q, least))
+
+-- the last arrivals of equal pairs are the same
+pub arrivals_looked_up : {P : Type 0} (cmp : P → P → Ordering) → IsTotalOrder cmp → (es : List (Pair P)) → PairsAlike cmp (arrival_of cmp es) (arrival_of cmp es)
+arrivals_looked_up {P} cmp order es p q r s same_p same_r =
+    value_respects (pair_cmp cmp) (pair_total cmp order) key_of (λ (pair : Pair P). pair.last_arrival) None es (p, r) (q, s) (is_eq_equal _ (is_eq-then (cmp p q) (cmp r s) ∙ and_both _ _ same_p same_r))
 
 module _ {P : Type 0} where
   spent_here : (f : Paced P) (t : ℕ) → ((f.updated ≤ t) × IsSpentAt t f) ⊎ ¬ ((f.updated ≤ t) × IsSpentAt t f)

@@ -18,17 +18,10 @@ use Rattle.p2p_simulated.specs.SamePlanned.{IsSamePlanned, IsSameCall, same_limi
 use Rattle.p2p_simulated.proofs.World.Alike.{same_itself, message_itself}
 use Rattle.p2p_simulated.proofs.World.SameWorlds.{same_turned}
 use Rattle.p2p_simulated.proofs.World.SameCourses.{obeys_same, advances_same}
-use Rattle.p2p_simulated.proofs.World.SameRefusals.{refused_same}
+use Rattle.p2p_simulated.proofs.World.SameRefusals.{refused_same, call_itself}
 
 module _ {P : Type 0} (cmp : P → P → Ordering) (order : IsTotalOrder cmp) where
   -- ---- on the copy, and so on the kept one
-
-  pub call_itself : (call : Call P) → IsSameCall cmp call call
-  call_itself (call_limit now peer egress ingress) = same_limit (same_itself cmp order peer)
-  call_itself (call_limit_link now origin recipient cap) = same_limit_link (same_itself cmp order origin) (same_itself cmp order recipient)
-  call_itself (call_enqueue now m) = same_enqueue (message_itself cmp order m)
-  call_itself (call_advance now) = same_advance
-  call_itself call_next = same_next
 
   goes_as : (p r : Planned P) (call : Call P) (cs : List (Completed P)) (course : Course (Completed P) (Planned P)) → Obeys cmp p call course → IsSameCourse cmp (goes cs r) course → Goes cmp p call cs r
   goes_as p r call cs (goes ds s) obeys same = record { answers = ds; after = s; obeys = obeys; same_answers = same.0; same_after = same_turned cmp order r s same.1 }
@@ -39,7 +32,7 @@ module _ {P : Type 0} (cmp : P → P → Ordering) (order : IsTotalOrder cmp) wh
   advances_as now n p r cs (meets fault) advances same = absurd same
 
   pub goes_on : (p q r : Planned P) (call : Call P) (cs : List (Completed P)) → IsSamePlanned cmp p q → Obeys cmp q call (goes cs r) → Goes cmp p call cs r
-  goes_on p q r call cs same obeys = let c = obeys_same cmp order q p call call (goes cs r) (same_turned cmp order p q same) (call_itself call) obeys in goes_as p r call cs c.0 c.1 c.2
+  goes_on p q r call cs same obeys = let c = obeys_same cmp order q p call call (goes cs r) (same_turned cmp order p q same) (call_itself cmp order call) obeys in goes_as p r call cs c.0 c.1 c.2
 
   pub advances_on : (now n : ℕ) (p q r : Planned P) (cs : List (Completed P)) → IsSamePlanned cmp p q → Advances cmp now q n (goes cs r) → GoesCounted cmp now p n cs r
   advances_on now n p q r cs same advances = let c = advances_same cmp order q p now n (goes cs r) (same_turned cmp order p q same) advances in advances_as now n p r cs c.0 c.1 c.2
@@ -48,7 +41,7 @@ module _ {P : Type 0} (cmp : P → P → Ordering) (order : IsTotalOrder cmp) wh
   counted_goes now n p r cs counted = record { answers = counted.answers; after = counted.after; obeys = (n, counted.advances); same_answers = counted.same_answers; same_after = counted.same_after }
 
   refused_on : (p q : Planned P) (call : Call P) (e : Error) → IsSamePlanned cmp p q → MayBeRefused cmp q call e → MayBeRefused cmp p call e
-  refused_on p q call e same refused = refused_same cmp order q p call call e (same_turned cmp order p q same) (call_itself call) refused
+  refused_on p q call e same refused = refused_same cmp order q p call call e (same_turned cmp order p q same) (call_itself cmp order call) refused
 
   -- ---- the calls
 

@@ -16,7 +16,8 @@ use Rattle.p2p_simulated.specs.Working.{caps_of}
 use Rattle.p2p_simulated.proofs.Sorted.{and_both, is_eq_equal}
 use Rattle.p2p_simulated.proofs.Pairs.{pair_total, is_eq-then}
 use Rattle.p2p_simulated.proofs.Peers.{copy_egress, copy_ingress}
-use Rattle.p2p_simulated.proofs.Copies.{zip_weaker, zip-append, zip-map, value_alike}
+use Rattle.p2p_simulated.proofs.Copies.{zip-map, value_alike}
+use Rattle.p2p_simulated.proofs.Zips.{zip_weaker, zip-append}
 
 module _ {P : Type 0} (cmp : P → P → Ordering) (total : IsTotalOrder cmp) where
   same_pairs : (p q r s : P) → same_peer cmp p q ≡ true → same_peer cmp r s ≡ true → pair_cmp cmp (p, r) (q, s) ≡ Equal

@@ -8,6 +8,7 @@ use Rattle.std.specs.Cmp.{IsTotalOrder}
 use Rattle.std.proofs.lemmas.Cmp.{alike_right}
 use Rattle.p2p_simulated.specs.Sorted.{are_ascending, value_at}
 use Rattle.p2p_simulated.proofs.Sorted.{and_left, and_right, and_both}
+use Rattle.p2p_simulated.proofs.Zips.{zip_weaker, zip-append}
 
 -- one element more
 zip_more : {X Y : Type 0} (R : X → Y → Type 0) (xs : List X) (ys : List Y) (i : ℕ) (x : X) (y : Y) → i < length xs → x ≡ get_or xs i x → AllZip R (take i xs) ys → R x y → AllZip R (take (suc i) xs) (ys ++ y ∷ [])
@@ -26,18 +27,6 @@ take-whole (x ∷ xs) = ap (λ l. x ∷ l) (take-whole xs)
 
 pub copied_all : {X Y : Type 0} (R : X → Y → Type 0) (xs : List X) (ys : List Y) (i : ℕ) → i ≡ length xs → AllZip R (take i xs) ys → AllZip R xs ys
 copied_all R xs ys i end z = subst (λ l. AllZip R l ys) (ap (λ n. take n xs) end ∙ take-whole xs) z
-
-pub zip_weaker : {X Y : Type 0} (R S : X → Y → Type 0) → ((x : X) (y : Y) → R x y → S x y) → (xs : List X) (ys : List Y) → AllZip R xs ys → AllZip S xs ys
-zip_weaker R S f [] [] z = tt
-zip_weaker R S f [] (y ∷ ys) z = absurd z
-zip_weaker R S f (x ∷ xs) [] z = absurd z
-zip_weaker R S f (x ∷ xs) (y ∷ ys) z = (f x y z.0, zip_weaker R S f xs ys z.1)
-
-pub zip-append : {X Y : Type 0} (R : X → Y → Type 0) (xs us : List X) (ys vs : List Y) → AllZip R xs ys → AllZip R us vs → AllZip R (xs ++ us) (ys ++ vs)
-zip-append R [] us [] vs z w = w
-zip-append R [] us (y ∷ ys) vs z w = absurd z
-zip-append R (x ∷ xs) us [] vs z w = absurd z
-zip-append R (x ∷ xs) us (y ∷ ys) vs z w = (z.0, zip-append R xs us ys vs z.1 w)
 
 pub zip-map : {X Y : Type 0} (R : Y → Y → Type 0) (f : X → Y) (xs ys : List X) → AllZip (λ x y. R (f x) (f y)) xs ys → AllZip R (map f xs) (map f ys)
 zip-map R f [] [] z = tt

@@ -8,7 +8,7 @@ use Rattle.p2p_simulated.specs.declared.bandwidth.Rate.{Rate}
 use Rattle.p2p_simulated.specs.declared.bandwidth.Rate.TheVariants.{Unlimited, Finite}
 use Rattle.p2p_simulated.specs.Laws.LowestTerms.{IsScaled, reduced_alike, reduced_scaled, reduced_scales, reduced_positive}
 
-same_difference : (a b c d : ℕ) → a ≡ b → c ≡ d → a - c ≡ b - d
+pub same_difference : (a b c d : ℕ) → a ≡ b → c ≡ d → a - c ≡ b - d
 same_difference a b c d e f = rw (e, f) refl
 
 -- what drains over a common factor of both numbers drains alike

@@ -26,10 +26,6 @@ pub preceded_both : {X S : Type 0} (xs ys : List X) (c : Course X S) → precede
 preceded_both xs ys (goes zs s) = ap (λ l. goes l s) (sym (append_assoc xs ys zs))
 preceded_both xs ys (meets fault) = refl
 
-pub map-joined : {X Y : Type 0} (f : X → Y) (xs ys : List X) → map f (xs ++ ys) ≡ map f xs ++ map f ys
-map-joined f [] ys = refl
-map-joined f (x ∷ xs) ys = ap (λ l. f x ∷ l) (map-joined f xs ys)
-
 -- an answer that depends on two tests that agree
 pub then_some_is : (b d : Bool) (x y : ℕ) → b ≡ d → x ≡ y → then_some b x ≡ (if d then Some y else None)
 then_some_is b true x y same is = rw (same, is) refl

@@ -11,7 +11,7 @@ use Rattle.p2p_simulated.specs.Ratio.{amount_of}
 use Rattle.p2p_simulated.specs.Sides.{same_peer}
 use Rattle.p2p_simulated.specs.WorldMessages.{Message, is_delivered, same_pair}
 use Rattle.p2p_simulated.specs.WorldPlanned.{Paced, paced_flows}
-use Rattle.std.proofs.lemmas.List.{length-append, append-nil}
+use Rattle.std.proofs.lemmas.List.{length-append, append-nil, map-append}
 use Rattle.p2p_simulated.specs.Sorted.{are_ascending}
 use Rattle.p2p_simulated.specs.Flights.{message_in, paced_of, sending_of, are_marked}
 use Rattle.p2p_simulated.proofs.Sorted.{and_left, and_right, and_both, list_all-append, list_all-left, list_all-right, list_all-map, get_or-seam}
@@ -88,10 +88,6 @@ ascending_without cmp [] ls k h = and_right _ _ h
 ascending_without cmp (j ∷ ks) ls k h =
     let first = and_left (list_all (λ l. is_lt (cmp j l)) (ks ++ k ∷ ls)) _ h in
     and_both _ _ (list_all-append _ ks ls (list_all-left _ ks (k ∷ ls) first) (and_right _ _ (list_all-right (λ l. is_lt (cmp j l)) ks (k ∷ ls) first))) (ascending_without cmp ks ls k (and_right _ _ h))
-
-map-append : {X Y : Type 0} (f : X → Y) (xs ys : List X) → map f (xs ++ ys) ≡ map f xs ++ map f ys
-map-append f [] ys = refl
-map-append f (x ∷ xs) ys = ap (λ l. f x ∷ l) (map-append f xs ys)
 
 -- both lists without what stands at a place
 pub record IsWithout {P : Type 0} (cmp : P → P → Ordering) (fs : List (Flow P)) (ss : List Progress) (at : ℕ) (gs : List (Flow P)) (ts : List Progress) : Type 0 where

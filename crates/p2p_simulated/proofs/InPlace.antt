@@ -3,34 +3,7 @@ use Rattle.std.proofs.Common.{◌≡◌, ℕ, zero, suc, ◌+◌, ◌<◌, ◌�
 use Rattle.std.specs.List.{AllZip}
 use Rattle.std.proofs.lemmas.List.{length-append, append-nil}
 use Rattle.p2p_simulated.proofs.Sorted.{get_or-seam, set-seam}
-
-pub zip-push : {X Y : Type 0} (R : X → Y → Type 0) (xs : List X) (ys : List Y) (x : X) (y : Y) → AllZip R xs ys → R x y → AllZip R (xs ++ x ∷ []) (ys ++ y ∷ [])
-zip-push R [] [] x y z r = (r, tt)
-zip-push R [] (v ∷ ys) x y z r = absurd z
-zip-push R (u ∷ xs) [] x y z r = absurd z
-zip-push R (u ∷ xs) (v ∷ ys) x y z r = (z.0, zip-push R xs ys x y z.1 r)
-
-pub zip-append : {X Y : Type 0} (R : X → Y → Type 0) (xs us : List X) (ys vs : List Y) → AllZip R xs ys → AllZip R us vs → AllZip R (xs ++ us) (ys ++ vs)
-zip-append R [] us [] vs z w = w
-zip-append R [] us (v ∷ ys) vs z w = absurd z
-zip-append R (u ∷ xs) us [] vs z w = absurd z
-zip-append R (u ∷ xs) us (v ∷ ys) vs z w = (z.0, zip-append R xs us ys vs z.1 w)
-
-pub zip-same : {X : Type 0} (R : X → X → Type 0) → ((x : X) → R x x) → (xs : List X) → AllZip R xs xs
-zip-same R r [] = tt
-zip-same R r (x ∷ xs) = (r x, zip-same R r xs)
-
-pub zip-map : {X Y : Type 0} (R S : X → Y → Type 0) → ((x : X) (y : Y) → R x y → S x y) → (xs : List X) (ys : List Y) → AllZip R xs ys → AllZip S xs ys
-zip-map R S f [] [] z = tt
-zip-map R S f [] (y ∷ ys) z = absurd z
-zip-map R S f (x ∷ xs) [] z = absurd z
-zip-map R S f (x ∷ xs) (y ∷ ys) z = (f x y z.0, zip-map R S f xs ys z.1)
-
-pub zip-length : {X Y : Type 0} (R : X → Y → Type 0) (xs : List X) (ys : List Y) → AllZip R xs ys → length xs ≡ length ys
-zip-length R [] [] z = refl
-zip-length R [] (y ∷ ys) z = absurd z
-zip-length R (x ∷ xs) [] z = absurd z
-zip-length R (x ∷ xs) (y ∷ ys) z = ap suc (zip-length R xs ys z.1)
+use Rattle.p2p_simulated.proofs.Zips.{zip-length, zip-same, zip_weaker, zip-push, zip-append}
 
 -- up to a place the new elements stand to the old ones as R says, and from there on nothing has changed
 pub record IsChangedUpTo {X : Type 0} (R : X → X → Type 0) (old now : List X) (at : ℕ) : Type 0 where
@@ -90,7 +63,7 @@ module _ {X : Type 0} (R : X → X → Type 0) where
 
     -- and with a weaker relation all has changed at any time
     pub weakly_changed : (S : X → X → Type 0) → ((x y : X) → R x y → S x y) → ((x : X) → S x x) → AllZip S old now
-    weakly_changed S weaker same = subst (λ l. AllZip S l now) (sym h.old_is) (subst (AllZip S (h.from ++ h.rest)) (sym h.now_is) (zip-append S h.from h.rest h.to h.rest (zip-map R S weaker h.from h.to h.changed) (zip-same S same h.rest)))
+    weakly_changed S weaker same = subst (λ l. AllZip S l now) (sym h.old_is) (subst (AllZip S (h.from ++ h.rest)) (sym h.now_is) (zip-append S h.from h.rest h.to h.rest (zip_weaker R S weaker h.from h.to h.changed) (zip-same S same h.rest)))
 
 -- an element that is written over itself
 pub set_itself : {X : Type 0} (xs : List X) (at : ℕ) (d : X) → at < length xs → set xs at (get_or xs at d) ≡ xs

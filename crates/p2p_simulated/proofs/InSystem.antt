@@ -18,6 +18,7 @@ use Rattle.p2p_simulated.specs.World.{Course, goes, meets, without_first}
 use Rattle.p2p_simulated.specs.WorldPlanned.{Planned, Paced, drained_to, is_spent}
 use Rattle.p2p_simulated.specs.WorldEvents.{Accounts, Launches, nothing_waits, too_early, no_id, starts, launched}
 use Rattle.p2p_simulated.proofs.Sorted.{and_both}
+use Rattle.p2p_simulated.proofs.Zips.{zip-length}
 
 pub length-without : {X : Type 0} (f g : X → Bool) (y : X) (xs : List X) → find f xs ≡ Some y → g y ≡ true → length (without_first g xs) + 1 ≡ length xs
 length-without f g y [] found passes = cc
@@ -32,12 +33,6 @@ length-without {X} f g y (x ∷ xs) found passes = by_test (f x) (g x) refl foun
 pub length-map : {X Y : Type 0} (f : X → Y) (xs : List X) → length (map f xs) ≡ length xs
 length-map f [] = refl
 length-map f (x ∷ xs) = ap suc (length-map f xs)
-
-pub length-zip : {X Y : Type 0} (R : X → Y → Type 0) (xs : List X) (ys : List Y) → AllZip R xs ys → length xs ≡ length ys
-length-zip R [] [] zip = refl
-length-zip R [] (y ∷ ys) zip = absurd zip
-length-zip R (x ∷ xs) [] zip = absurd zip
-length-zip R (x ∷ xs) (y ∷ ys) zip = ap suc (length-zip R xs ys zip.1)
 
 length-drained : {P : Type 0} (t : ℕ) (fs : List (Paced P)) → length (drained_to t fs) ≡ length fs
 length-drained t [] = refl
@@ -57,7 +52,7 @@ module _ {P : Type 0} (cmp : P → P → Ordering) where
   accounts_keep t old new leavers a =
       let here = drained_to t old.sending in
       let left : length leavers ≡ length (filter (is_spent cmp old.caps) here) = ap length a.left ∙ length-map (λ (f : Paced P). f.message) (filter (is_spent cmp old.caps) here) in
-      let stayed : length (filter (λ f. not (is_spent cmp old.caps f)) here) ≡ length new.sending = length-zip (λ (f g : Paced P). (g.message ≡ f.message) × (g.left ≡ f.left) × (g.updated ≡ t)) _ new.sending a.stayed in
+      let stayed : length (filter (λ f. not (is_spent cmp old.caps f)) here) ≡ length new.sending = zip-length (λ (f g : Paced P). (g.message ≡ f.message) × (g.left ≡ f.left) × (g.updated ≡ t)) _ new.sending a.stayed in
       let both : length (filter (is_spent cmp old.caps) here) + length (filter (λ f. not (is_spent cmp old.caps f)) here) ≡ length here = length-filter_both (is_spent cmp old.caps) (λ f. not (is_spent cmp old.caps f)) (λ f. refl) here in
       omega (arith, left, stayed, both, length-drained t old.sending)
 

@@ -13,10 +13,12 @@ pub mod CopiedWorking
 pub mod Copies
 pub mod Denominators
 pub mod Draining
+pub mod Each
 pub mod Entries
 pub mod EqualAmounts
 pub mod Fairness
 pub mod Filling
+pub mod Filters
 pub mod Finishing
 pub mod Flying
 pub mod FractionFits
@@ -55,3 +57,4 @@ pub mod Taken
 pub mod Waiting
 pub mod Wording
 pub mod World
+pub mod Zips

@@ -18,7 +18,7 @@ use Rattle.p2p_simulated.specs.Pairs.{messages_of, waiting_of}
 use Rattle.p2p_simulated.specs.Events.{IsDue, Happens}
 use Rattle.p2p_simulated.proofs.InSystem.{accounts_keep, accounts_waiting, length-without, length-map, same_itself}
 use Rattle.p2p_simulated.proofs.Sorted.{by_bool}
-use Rattle.p2p_simulated.proofs.World.Between.{Each}
+use Rattle.p2p_simulated.proofs.Each.{Each}
 use Rattle.p2p_simulated.proofs.World.Others.{fronts_are_first}
 use Rattle.p2p_simulated.proofs.World.InOrder.{Somewhere, in_fronts}
 use Rattle.p2p_simulated.proofs.World.Advance.{earlier_start}

@@ -9,7 +9,8 @@ use Rattle.p2p_simulated.specs.declared.transmitter.peers.PeerCaps.{PeerCaps}
 use Rattle.p2p_simulated.specs.WorldMessages.{with_cap, AnswerAlike}
 use Rattle.p2p_simulated.specs.Sorted.{are_ascending, IsPlace, IsGap}
 use Rattle.p2p_simulated.specs.Peers.{egress_of, ingress_of, IsSameEntry}
-use Rattle.p2p_simulated.proofs.Copies.{zip_weaker, value_alike}
+use Rattle.p2p_simulated.proofs.Copies.{value_alike}
+use Rattle.p2p_simulated.proofs.Zips.{zip_weaker}
 use Rattle.p2p_simulated.proofs.Sorted.{is_eq_equal, read_place, ascending_set_at, ascending_insert_at, value_set_at, value_insert_at}
 
 -- the new list has those caps for a peer, and else the old ones

@@ -22,8 +22,10 @@ use Rattle.p2p_simulated.specs.Working.{may_launch_first}
 use Rattle.p2p_simulated.proofs.Sorted.{and_left, and_right, and_both, by_bool, place, at_place, read_place, get_or-seam, list_all-mono, list_all-right, list_all-map, is_lt_less}
 use Rattle.p2p_simulated.proofs.Pairs.{pair_total}
 use Rattle.p2p_simulated.proofs.Waiting.{first_at_place, of_groups, greater}
-use Rattle.p2p_simulated.proofs.Starting.{arrival_alike, may_launch_is, of_pair}
+use Rattle.p2p_simulated.proofs.Starting.{may_launch_is, of_pair}
+use Rattle.p2p_simulated.proofs.Accounting.{arrivals_looked_up}
 use Rattle.p2p_simulated.proofs.World.Queue.{find_passes, pair_like, pair_sym, peer_like}
+use Rattle.p2p_simulated.proofs.Zips.{zip-push}
 
 -- ---- the earlier of moments
 
@@ -216,7 +218,7 @@ module _ {P : Type 0} (cmp : P → P → Ordering) where
 
     module _ (es : List (Pair P)) (ascending : are_ascending (pair_cmp cmp) (map key_of es) ≡ true) (own : are_own cmp es ≡ true) (p : Planned P) (waits : p.waiting ≡ waiting_of es) (last : p.last_arrival ≡ arrival_of cmp es) where
       alike : PairsAlike cmp p.last_arrival p.last_arrival
-      alike = subst (λ (f : P → P → Option ℕ). PairsAlike cmp f f) (sym last) (arrival_alike cmp order es)
+      alike = subst (λ (f : P → P → Option ℕ). PairsAlike cmp f f) (sym last) (arrivals_looked_up cmp order es)
 
       record EntryIs (e : Pair P) : Type 0 where
         pub first : first_of cmp p.waiting e.origin e.recipient ≡ slice_get (messages_of e) 0
@@ -356,12 +358,6 @@ module _ {P : Type 0} (cmp : P → P → Ordering) where
       all_ready t keys zip = subst (λ (ms : List (Message P)). AllZip (IsKeyOf cmp) keys (filter (may_launch cmp t p) ms)) (sym (ap (fronts cmp) waits ∙ fronts_heads cmp order es ascending own)) (ready_keys t [] es keys refl zip)
 
 -- ---- one more key
-
-pub zip_more : {X Y : Type 0} (R : X → Y → Type 0) (xs : List X) (ys : List Y) (x : X) (y : Y) → AllZip R xs ys → R x y → AllZip R (xs ++ x ∷ []) (ys ++ y ∷ [])
-zip_more R [] [] x y zip r = (r, tt)
-zip_more R [] (v ∷ ys) x y zip r = absurd zip
-zip_more R (u ∷ xs) [] x y zip r = absurd zip
-zip_more R (u ∷ xs) (v ∷ ys) x y zip r = (zip.0, zip_more R xs ys x y zip.1 r)
 
 pub filter_pass : {X : Type 0} (f : X → Bool) (xs : List X) (x : X) → f x ≡ true → filter f (xs ++ x ∷ []) ≡ filter f xs ++ x ∷ []
 filter_pass f [] x h = rw h refl

@@ -7,7 +7,7 @@ use Rattle.std.specs.declared.cmp.Ordering.TheVariants.{Less, Equal, Greater}
 use Rattle.std.specs.Ordering.{is_lt, is_eq, is_gt, ordering_index}
 use Rattle.std.specs.Cmp.{IsTotalOrder}
 use Rattle.std.proofs.lemmas.Cmp.{tied_itself, tied_back, alike_right}
-use Rattle.std.proofs.lemmas.List.{take-append-drop, get_or-drop, length-drop}
+use Rattle.std.proofs.lemmas.List.{take-append-drop, get_or-drop, length-drop, map-append}
 use Rattle.p2p_simulated.specs.Sorted.{are_ascending, value_at, IsPlace, IsGap}
 
 -- ---- tests
@@ -166,10 +166,6 @@ module _ {K : Type 0} (cmp : K → K → Ordering) (total : IsTotalOrder cmp) wh
         index_le (key e) (key (get_or es j d)) k (is_lt_less _ (within_from_all (λ f. is_lt (cmp (key e) (key f))) es below j d (omega arith)))
     comparisons_rise (e ∷ es) k h (suc i) zero d le lt = absurd (omega arith)
     comparisons_rise (e ∷ es) k h (suc i) (suc j) d le lt = comparisons_rise es k (and_right (list_all (λ l. is_lt (cmp (key e) l)) (map key es)) _ h) i j d (omega arith) (omega arith)
-
-    map-append : {X Y : Type 0} (f : X → Y) (xs ys : List X) → map f (xs ++ ys) ≡ map f xs ++ map f ys
-    map-append f [] ys = refl
-    map-append f (x ∷ xs) ys = ap (λ l. f x ∷ l) (map-append f xs ys)
 
     -- an entry of the key in an ascending list is its place
     pub place : (es before after : List E) (here : E) (k : K) (at : ℕ) → es ≡ before ++ here ∷ after → at ≡ length before → are_ascending cmp (map key es) ≡ true → cmp (key here) k ≡ Equal → IsPlace cmp key es k at

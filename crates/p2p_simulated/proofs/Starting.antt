@@ -34,11 +34,6 @@ pub in_order_from : (last : Option ℕ) (latency t : ℕ) → is_in_order last (
 in_order_from None latency t = sym (le-leb 0 t (omega arith))
 in_order_from (Some last) latency t = same_test last (t + latency) (last - latency) t (λ h. omega arith) (λ h. omega arith)
 
--- the last arrivals of equal pairs are the same
-pub arrival_alike : {P : Type 0} (cmp : P → P → Ordering) → IsTotalOrder cmp → (es : List (Pair P)) → PairsAlike cmp (arrival_of cmp es) (arrival_of cmp es)
-arrival_alike {P} cmp order es p q r s same_p same_r =
-    value_respects (pair_cmp cmp) (pair_total cmp order) key_of (λ (pair : Pair P). pair.last_arrival) None es (p, r) (q, s) (is_eq_equal _ (is_eq-then (cmp p q) (cmp r s) ∙ and_both _ _ same_p same_r))
-
 module _ {P : Type 0} (cmp : P → P → Ordering) (order : IsTotalOrder cmp) where
   -- what is asked of a pair's message is asked of the pair
   pub of_pair : (o r : P) (m : Message P) → (same_peer cmp o m.origin && same_peer cmp r m.recipient) ≡ true → (n : Message P) → same_pair cmp m n ≡ (same_peer cmp o n.origin && same_peer cmp r n.recipient)

@@ -3,6 +3,7 @@ use Rattle.std.proofs.Common.{◌≡◌, Bool, true, false, ◌&&◌, refl, ap, 
 use Rattle.std.specs.Cmp.{IsTotalOrder, eq_by_cmp_equiv}
 use Rattle.std.specs.declared.cmp.Ordering.{Ordering}
 use Rattle.p2p_simulated.specs.Sides.{Subject, sent_by, received_by, sent_between, same_peer, same_subject}
+use Rattle.p2p_simulated.proofs.World.Queue.{peer_sym}
 
 first_of_both : (a b : Bool) → (a && b) ≡ true → a ≡ true
 first_of_both true b e = refl
@@ -13,16 +14,13 @@ second_of_both true b e = e
 second_of_both false b e = cc e
 
 module _ {P : Type 0} (cmp : P → P → Ordering) (o : IsTotalOrder cmp) where
-  peer_symm : (p q : P) → same_peer cmp p q ≡ same_peer cmp q p
-  peer_symm p q = (eq_by_cmp_equiv o).symm p q
-
   peer_congr : (p q r : P) → same_peer cmp p q ≡ true → same_peer cmp p r ≡ same_peer cmp q r
   peer_congr p q r e = (eq_by_cmp_equiv o).congr p q r e
 
   pub same_symm : (s t : Subject P) → same_subject cmp s t ≡ same_subject cmp t s
-  same_symm (sent_by p) (sent_by q) = peer_symm p q
-  same_symm (received_by p) (received_by q) = peer_symm p q
-  same_symm (sent_between p q) (sent_between r s) = ap (λ b. b && same_peer cmp q s) (peer_symm p r) ∙ ap (λ b. same_peer cmp r p && b) (peer_symm q s)
+  same_symm (sent_by p) (sent_by q) = peer_sym cmp o p q
+  same_symm (received_by p) (received_by q) = peer_sym cmp o p q
+  same_symm (sent_between p q) (sent_between r s) = ap (λ b. b && same_peer cmp q s) (peer_sym cmp o p r) ∙ ap (λ b. same_peer cmp r p && b) (peer_sym cmp o q s)
   same_symm s t = refl
 
   pub same_congr : (s t u : Subject P) → same_subject cmp s t ≡ true → same_subject cmp s u ≡ same_subject cmp t u

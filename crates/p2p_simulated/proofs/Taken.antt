@@ -9,6 +9,7 @@ use Rattle.p2p_simulated.specs.Ratio.{amount_of, IsWorth}
 use Rattle.p2p_simulated.specs.declared.ratio.Ratio.{Ratio}
 use Rattle.p2p_simulated.proofs.EqualAmounts.{equal_trans, equal_fits, times_equal}
 use Rattle.p2p_simulated.proofs.Ratios.{worth_is_reduced}
+use Rattle.p2p_simulated.proofs.Draining.{same_difference}
 
 -- ---- what drains
 
@@ -102,9 +103,6 @@ covers_iff left rate t n is =
     (λ le. let low = both.0 le in omega arith, λ covers. both.1 (omega arith))
 
 -- ---- what is left
-
-same_difference : (a b c d : ℕ) → a ≡ b → c ≡ d → a - c ≡ b - d
-same_difference a b c d e f = rw (e, f) refl
 
 -- one difference over two denominators
 over_other : (l d p q u n r : ℕ) → p * u ≡ r * n * q → (l * q - p * d) * (d * u) ≡ (l * u - n * (r * d)) * (d * q)

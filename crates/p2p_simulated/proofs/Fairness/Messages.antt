@@ -32,6 +32,7 @@ use Rattle.p2p_simulated.proofs.Fairness.Uncapped.{unlimited_where_uncapped}
 use Rattle.p2p_simulated.proofs.Fairness.Subjects.{same_peer_itself, one_cap, same_limits}
 use Rattle.p2p_simulated.specs.Places.{places_from}
 use Rattle.p2p_simulated.proofs.Places.{places_alike}
+use Rattle.p2p_simulated.proofs.Zips.{zip_chain}
 
 module _ {P : Type 0} (cmp : P → P → Ordering) where
   -- the flow is of the message's peers, by their order, and delivered as it is
@@ -315,15 +316,6 @@ same_amount per None (Finite ratio) pos h = absurd h
 same_amount per (Some n) Unlimited pos h = absurd h
 same_amount per (Some n) (Finite ratio) pos h = ap Some (sym (worth_is_reduced ratio (record { num = n; den = per }) pos h))
 
-joined_zip : {A B C : Type 0} (R : A → B → Type 0) (S : B → C → Type 0) (T : A → C → Type 0) → ((a : A) (b : B) (c : C) → R a b → S b c → T a c)
-    → (as' : List A) (bs : List B) (cs : List C) → AllZip R as' bs → AllZip S bs cs → AllZip T as' cs
-joined_zip R S T join [] [] [] r s = tt
-joined_zip R S T join [] [] (c ∷ cs) r s = absurd s
-joined_zip R S T join [] (b ∷ bs) cs r s = absurd r
-joined_zip R S T join (a ∷ as') [] cs r s = absurd r
-joined_zip R S T join (a ∷ as') (b ∷ bs) [] r s = absurd s
-joined_zip R S T join (a ∷ as') (b ∷ bs) (c ∷ cs) r s = (join a b c r.0 s.0, joined_zip R S T join as' bs cs r.1 s.1)
-
 module _ {P : Type 0} (cmp : P → P → Ordering) (order : IsTotalOrder cmp) (caps : Caps P) (of : AreOfPeers cmp caps) where
   zip_of : (R : Rate → Flow P → Type 0) (xs : List (Allotted P)) → ((x : Allotted P) → In xs x → R x.rate x.flow) → AllZip R (rates_of xs) (flows_of xs)
   zip_of R [] h = tt
@@ -347,7 +339,7 @@ module _ {P : Type 0} (cmp : P → P → Ordering) (order : IsTotalOrder cmp) (c
         some_part = r.some_part;
         parts = r.parts;
         fair = r.fair;
-        matched = joined_zip (IsInParts r.per) (λ rate flow. last_rate flow.id flows a.rates ≡ Some rate) (λ part flow. HasRateOf r.per part (rate_of_id flow.id))
+        matched = zip_chain (IsInParts r.per) (λ rate flow. last_rate flow.id flows a.rates ≡ Some rate) (λ part flow. HasRateOf r.per part (rate_of_id flow.id))
             (λ part rate flow is own. ap (option_map amount_of_rate) (a.by_id flow.id ∙ own) ∙ ap Some (sym (same_amount r.per part rate r.some_part is)))
             r.parts a.rates flows r.matched (own_rates flows a.rates distinct a.fair);
       }

@@ -11,7 +11,8 @@ use Rattle.p2p_simulated.proofs.Filling.Arithmetic.{same_parts}
 use Rattle.p2p_simulated.proofs.Filling.Frozen.{some_value, some_is}
 use Rattle.p2p_simulated.proofs.Filling.Rounds.{start, next}
 use Rattle.p2p_simulated.proofs.Filling.States.{at_level, parts_at, IsFilledTo, IsNextRound, IsFilling, FillsAt}
-use Rattle.p2p_simulated.proofs.Filling.Sums.{All-by_contains, sum_by_same, sum_by_under}
+use Rattle.p2p_simulated.proofs.Filling.Sums.{sum_by_same, sum_by_under}
+use Rattle.p2p_simulated.proofs.Fairness.Sums.{All-from_contains}
 
 -- before the first round
 pub filling_none : (sides : List Side) (rates : List (Option Ratio)) → ((flow : ℕ) → rate_at rates flow ≡ None) → IsFilling sides rates
@@ -51,7 +52,7 @@ module _ (sides : List Side) (rates : List (Option Ratio)) (rate : Ratio) (room 
   pub within_there : (per : ℕ) (parts : ℕ → ℕ) (level before : ℕ) → AreWorth rates per parts → IsWorth rate (record { num = level; den = per })
       → IsWithinCaps sides per (at_level (parts_at rates parts) before) → IsWithinCaps sides per (at_level (parts_at rates parts) level)
   within_there per parts level before w worth was =
-      All-by_contains (λ s. load (at_level (parts_at rates parts) level) s ≤ s.cap * per) sides (λ s c. elim (room s c) [
+      All-from_contains (λ s. load (at_level (parts_at rates parts) level) s ≤ s.cap * per) sides (λ s c. elim (room s c) [
         | inr has ↦ has.room per parts level w worth
         | inl all ↦ omega (
           arith,
@@ -104,7 +105,7 @@ module _ (sides : List Side) (rates : List (Option Ratio)) (rate : Ratio) (room 
                     side = side;
                     uses = record { listed = listed; used = new.1 };
                     full = fills.full per parts (parts user) w' is_worth;
-                    all_frozen = All-by_contains (λ j. IsSome (parts_at after parts j)) side.users (λ j used.
+                    all_frozen = All-from_contains (λ j. IsSome (parts_at after parts j)) side.users (λ j used.
                         let v = some_value (rate_at after j) (All-contains (λ j. IsSome (rate_at after j)) side.users j freezes.all used) in
                         some_is (parts_at after parts j) (parts j) (ap (option_map (λ _. parts j)) v.1));
                   },

@@ -2,7 +2,7 @@
 use Rattle.std.proofs.Common.{◌≡◌, ℕ, ◌+◌, ◌*◌, ◌<◌, ◌⊎◌, inl, inr, List, [], ◌∷◌, ◌++◌, length, get_or, map, All, AllPairs, Contains, Option, Some, None, IsSome, IfSome, MatchOption, refl, sym, ap, ◌∙◌, subst, arith, length-append}
 use Rattle.std.specs.Prelude.{Bool, true, false, not, ◌&&◌, ◌==◌}
 use Rattle.std.specs.Option.{option_eq}
-use Rattle.std.proofs.lemmas.Bool.{cases_lt, eqb-true, eq-eqb}
+use Rattle.std.proofs.lemmas.Bool.{cases_lt, eqb-true, eq-eqb, and_parts}
 use Rattle.std.proofs.lemmas.List.{get_or-map, get_or_past, length-map}
 use Rattle.std.proofs.lemmas.List.Elements.{All-nil, All-push, All-weaker, All-contains, Contains-push, Contains-push_cases, Contains-append_left}
 use Rattle.std.proofs.lemmas.List.Quantifiers.{all_pairs_push}
@@ -146,15 +146,10 @@ levels_are_rates rates level rounds has = (
 
 -- ---- how the code compares levels
 
-both_true : (s t : Bool) → (s && t) ≡ true → (s ≡ true) × (t ≡ true)
-both_true true true e = (refl, refl)
-both_true true false e = cc
-both_true false t e = cc
-
 pub same_level : (level : Option Ratio) (rate : Ratio) → option_eq (λ a b. (a.numerator == b.numerator) && (a.denominator == b.denominator)) level (Some rate) ≡ true → level ≡ Some rate
 same_level None rate e = cc
 same_level (Some top) rate e =
-    let parts = both_true (top.numerator == rate.numerator) (top.denominator == rate.denominator) e in
+    let parts = and_parts (top.numerator == rate.numerator) (top.denominator == rate.denominator) e in
     ap Some (same_ratio top rate (eqb-true top.numerator rate.numerator parts.0) (eqb-true top.denominator rate.denominator parts.1))
 
 itself : (rate : Ratio) → ((rate.numerator == rate.numerator) && (rate.denominator == rate.denominator)) ≡ true

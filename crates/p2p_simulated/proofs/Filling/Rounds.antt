@@ -4,12 +4,13 @@ use Rattle.std.proofs.lemmas.List.Elements.{All-contains}
 use Rattle.p2p_simulated.specs.Fair.{Side, load, IsLimited, IsFair}
 use Rattle.p2p_simulated.proofs.Filling.Frozen.{none_or_some, some_value, some_is, at_some, at_none, at_any}
 use Rattle.p2p_simulated.proofs.Filling.States.{at_level, IsHeld, IsFilledTo, IsNextRound}
-use Rattle.p2p_simulated.proofs.Filling.Sums.{All-by_contains, sum_by_same, sum_by-zero}
+use Rattle.p2p_simulated.proofs.Filling.Sums.{sum_by_same, sum_by-zero}
+use Rattle.p2p_simulated.proofs.Fairness.Sums.{All-from_contains}
 
 -- no flow is frozen
 pub start : (sides : List Side) (per : ℕ) (frozen : ℕ → Option ℕ) → ((flow : ℕ) → frozen flow ≡ None) → IsFilledTo sides per frozen 0
 start sides per frozen none = record {
-  within = All-by_contains (λ s. load (at_level frozen 0) s ≤ s.cap * per) sides (λ s c.
+  within = All-from_contains (λ s. load (at_level frozen 0) s ≤ s.cap * per) sides (λ s c.
       omega (arith, sum_by-zero s.users, sum_by_same (at_level frozen 0) (λ _. 0) s.users (λ k d l. at_none frozen 0 _ (none _))));
   below = λ j. omega (arith, at_none frozen 0 j (none j));
   held = λ j h. let v = some_value (frozen j) h in let e = none j in cc;
@@ -20,8 +21,8 @@ pub end : (sides : List Side) (per : ℕ) (frozen : ℕ → Option ℕ) (level :
     → IsFair sides per (at_level frozen 0)
 end sides per frozen level some filled all = record {
   some_part = some;
-  within = All-by_contains (λ s. load (at_level frozen 0) s ≤ s.cap * per) sides (λ s c.
-      let same = sum_by_same (at_level frozen 0) (at_level frozen level) s.users (All-by_contains (λ j. at_level frozen 0 j ≡ at_level frozen level j) s.users (λ j used.
+  within = All-from_contains (λ s. load (at_level frozen 0) s ≤ s.cap * per) sides (λ s c.
+      let same = sum_by_same (at_level frozen 0) (at_level frozen level) s.users (All-from_contains (λ j. at_level frozen 0 j ≡ at_level frozen level j) s.users (λ j used.
       at_any frozen 0 level j (all j (s, record { listed = c; used = used })))) in
       omega (arith, same, All-contains (λ s. load (at_level frozen level) s ≤ s.cap * per) sides s filled.within c));
   held = λ i limited. (filled.held i (all i limited)).bottleneck;
@@ -65,11 +66,11 @@ module _ (sides : List Side) (per : ℕ) (frozen : ℕ → Option ℕ) (level : 
           bottleneck = record {
             side = h.side;
             uses = h.uses;
-            full = sum_by_same (at_level after 0) (at_level frozen 0) users (All-by_contains (λ j. at_level after 0 j ≡ at_level frozen 0 j) users (λ j used. kept_at j (had j used))) ∙ h.full;
-            greatest = All-by_contains (λ j. at_level after 0 j ≤ at_level after 0 i) users (λ j used.
+            full = sum_by_same (at_level after 0) (at_level frozen 0) users (All-from_contains (λ j. at_level after 0 j ≡ at_level frozen 0 j) users (λ j used. kept_at j (had j used))) ∙ h.full;
+            greatest = All-from_contains (λ j. at_level after 0 j ≤ at_level after 0 i) users (λ j used.
                 omega (arith, kept_at j (had j used), kept_at i was, All-contains (λ j. at_level frozen 0 j ≤ at_level frozen 0 i) users j h.greatest used));
           };
-          all_frozen = All-by_contains (λ j. IsSome (after j)) users (λ j used. still j (had j used));
+          all_frozen = All-from_contains (λ j. IsSome (after j)) users (λ j used. still j (had j used));
         }
     | inl e ↦
         let v = some_value (after i) now in let f = round.fresh i v.0 e v.1 in let users = f.1.side.users in
@@ -79,8 +80,8 @@ module _ (sides : List Side) (per : ℕ) (frozen : ℕ → Option ℕ) (level : 
           bottleneck = record {
             side = f.1.side;
             uses = f.1.uses;
-            full = sum_by_same (at_level after 0) (at_level frozen next_level) users (All-by_contains (λ j. at_level after 0 j ≡ at_level frozen next_level j) users same) ∙ f.1.full;
-            greatest = All-by_contains (λ j. at_level after 0 j ≤ at_level after 0 i) users (λ j used. omega (arith, below j, at_some after 0 i v.0 v.1, f.0));
+            full = sum_by_same (at_level after 0) (at_level frozen next_level) users (All-from_contains (λ j. at_level after 0 j ≡ at_level frozen next_level j) users same) ∙ f.1.full;
+            greatest = All-from_contains (λ j. at_level after 0 j ≤ at_level after 0 i) users (λ j used. omega (arith, below j, at_some after 0 i v.0 v.1, f.0));
           };
           all_frozen = f.1.all_frozen;
         }
@@ -88,7 +89,7 @@ module _ (sides : List Side) (per : ℕ) (frozen : ℕ → Option ℕ) (level : 
 
   pub next : IsFilledTo sides per after next_level
   next = record {
-    within = All-by_contains (λ s. load (at_level after next_level) s ≤ s.cap * per) sides (λ s c.
+    within = All-from_contains (λ s. load (at_level after next_level) s ≤ s.cap * per) sides (λ s c.
         omega (
           arith,
           sum_by_same (at_level after next_level) (at_level frozen next_level) s.users (λ k d l. same_at _),

@@ -8,7 +8,8 @@ use Rattle.p2p_simulated.specs.Filling.{rate_at, AreWorth, HasRoomAt}
 use Rattle.p2p_simulated.specs.Ratio.{IsWorth}
 use Rattle.p2p_simulated.specs.declared.ratio.Ratio.{Ratio}
 use Rattle.p2p_simulated.proofs.Filling.States.{at_level, parts_at}
-use Rattle.p2p_simulated.proofs.Filling.Sums.{All-by_contains, sum_by-scale, sum_by_same, sum_by_below}
+use Rattle.p2p_simulated.proofs.Filling.Sums.{sum_by_same, sum_by_below}
+use Rattle.p2p_simulated.proofs.Fairness.Sums.{All-from_contains, sum_by-scaled}
 
 -- the parts, each divided in k
 abbrev pub finer : (ℕ → ℕ) → ℕ → ℕ → ℕ
@@ -28,13 +29,13 @@ whole_there rate per = omega arith
 pub fair_finer : (sides : List Side) (per : ℕ) (parts : ℕ → ℕ) (k : ℕ) → 0 < k → IsFair sides per parts → IsFair sides (per * k) (finer parts k)
 fair_finer sides per parts k some fair = record {
   some_part = mul-pos fair.some_part some;
-  within = All-by_contains (λ s. load (finer parts k) s ≤ s.cap * (per * k)) sides (λ s c.
-      omega (arith, sum_by-scale parts k s.users, mul-le-mul_right k (All-contains (λ s. load parts s ≤ s.cap * per) sides s fair.within c)));
+  within = All-from_contains (λ s. load (finer parts k) s ≤ s.cap * (per * k)) sides (λ s c.
+      omega (arith, sum_by-scaled parts k s.users, mul-le-mul_right k (All-contains (λ s. load parts s ≤ s.cap * per) sides s fair.within c)));
   held = λ i limited. let h = fair.held i limited in record {
     side = h.side;
     uses = h.uses;
-    full = omega (arith, sum_by-scale parts k h.side.users, ap (λ n. n * k) h.full);
-    greatest = All-by_contains (λ j. finer parts k j ≤ finer parts k i) h.side.users (λ j used.
+    full = omega (arith, sum_by-scaled parts k h.side.users, ap (λ n. n * k) h.full);
+    greatest = All-from_contains (λ j. finer parts k j ≤ finer parts k i) h.side.users (λ j used.
         mul-le-mul_right k (All-contains (λ j. parts j ≤ parts i) h.side.users j h.greatest used));
   };
 }
@@ -49,7 +50,7 @@ pub load_finer : (rates : List (Option Ratio)) (parts : ℕ → ℕ) (level k : 
 load_finer rates parts level k side =
     let same = sum_by_same (at_level (parts_at rates (finer parts k)) (level * k)) (λ i. at_level (parts_at rates parts) level i * k) side.users
     (λ j d inside. one_finer (rate_at rates _) (parts _) level k) in
-    omega (arith, same, sum_by-scale (at_level (parts_at rates parts) level) k side.users)
+    omega (arith, same, sum_by-scaled (at_level (parts_at rates parts) level) k side.users)
 
 pub one_lower : (o : Option Ratio) (parts lower level : ℕ) → lower ≤ level → unwrap_or (option_map (λ _. parts) o) lower ≤ unwrap_or (option_map (λ _. parts) o) level
 one_lower None parts lower level le = le

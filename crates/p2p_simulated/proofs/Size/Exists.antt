@@ -15,7 +15,7 @@ use Rattle.p2p_simulated.proofs.Denominators.{denominator_of, positive}
 use Rattle.p2p_simulated.proofs.Filling.Frozen.{none_or_some, some_is, at_some, at_none}
 use Rattle.p2p_simulated.proofs.Filling.Rounds.{start, end, next}
 use Rattle.p2p_simulated.proofs.Filling.States.{IsFilledTo}
-use Rattle.p2p_simulated.proofs.Filling.Sums.{All-by_contains}
+use Rattle.p2p_simulated.proofs.Fairness.Sums.{All-from_contains}
 use Rattle.p2p_simulated.proofs.Size.Level.{standing, taken, rising, left_of, least_is_next}
 use Rattle.p2p_simulated.proofs.Size.Least.{IsLeastOf, least_of}
 use Rattle.p2p_simulated.proofs.Size.Users.{sum_below, AreDistinct, below_less}
@@ -101,7 +101,7 @@ module _ (users : List ℕ) (level : ℕ) (frozen : ℕ → Option ℕ) where
   fewer_rise : (n : ℕ) → AreDistinct users → All (λ user. user < n) users → rising_below n (freeze users level frozen) + count_by (λ flow. is_none (frozen flow)) users ≤ rising_below n frozen
   fewer_rise n apart among =
       below_less n users (λ i. cond (is_none (frozen i)) 1 0) (λ i. cond (is_none (freeze users level frozen i)) 1 0) apart among still_rises
-      (All-by_contains (λ i. ◌≡◌ {A = ℕ} (cond (is_none (freeze users level frozen i)) 1 0) 0) users no_user_rises)
+      (All-from_contains (λ i. ◌≡◌ {A = ℕ} (cond (is_none (freeze users level frozen i)) 1 0) 0) users no_user_rises)
 
 -- ---- filling
 
@@ -187,7 +187,7 @@ module _ (n : ℕ) (small : n ≤ 16) (sides : List Side) (among : HaveUsersBelo
                 side = side;
                 uses = record { listed = least.listed; used = f.1 };
                 full = at.full;
-                all_frozen = All-by_contains (λ i. IsSome (after i)) users (λ i used. freeze_user users now frozen i used);
+                all_frozen = All-from_contains (λ i. IsSome (after i)) users (λ i used. freeze_user users now frozen i used);
               },
             );
           });

@@ -6,7 +6,8 @@ use Rattle.std.proofs.lemmas.List.Elements.{All-nil, All-cons, All-contains, Con
 use Rattle.p2p_simulated.specs.Fair.{Side, Uses, load, IsFair}
 use Rattle.p2p_simulated.specs.FairLaws.{HaveUsersBelow}
 use Rattle.p2p_simulated.specs.Size.{HaveDistinctUsers, FairRatesFit}
-use Rattle.p2p_simulated.proofs.Filling.Sums.{All-by_contains, sum_by-zero}
+use Rattle.p2p_simulated.proofs.Filling.Sums.{sum_by-zero}
+use Rattle.p2p_simulated.proofs.Fairness.Sums.{All-from_contains}
 use Rattle.p2p_simulated.proofs.Size.Promise.{few_users}
 
 -- fair parts, over which the caps, and what so many users share, are below 2^128
@@ -32,7 +33,7 @@ some_cap (side ∷ sides) = elim (cases_lt 0 side.cap) [
 nothing_is_fair : (sides : List Side) → ((flow : ℕ) (side : Side) → Uses sides flow side → side.cap ≡ 0) → IsFair sides 1 (λ _. 0)
 nothing_is_fair sides closed = record {
   some_part = omega arith;
-  within = All-by_contains (λ side. load (λ _. 0) side ≤ side.cap * 1) sides (λ side listed. omega (arith, sum_by-zero side.users));
+  within = All-from_contains (λ side. load (λ _. 0) side ≤ side.cap * 1) sides (λ side listed. omega (arith, sum_by-zero side.users));
   held = λ flow limited. record {
     side = limited.0;
     uses = limited.1;
@@ -55,7 +56,7 @@ one_fits sides flows small caps few closed = record {
 pub fitting_parts : (sides : List Side) (flows : ℕ)
     → flows < 2 ^ 128 → All (λ side. side.cap < 2 ^ 128) sides → HaveUsersBelow flows sides → HaveDistinctUsers sides → FairRatesFit sides flows → FittingParts sides
 fitting_parts sides flows small caps among distinct fits =
-    let few : All (λ side. length side.users ≤ flows) sides = All-by_contains (λ side. length side.users ≤ flows) sides (λ side listed. few_users flows sides side among distinct listed) in
+    let few : All (λ side. length side.users ≤ flows) sides = All-from_contains (λ side. length side.users ≤ flows) sides (λ side listed. few_users flows sides side among distinct listed) in
     elim (cases_lt 0 flows) [
       | inr none ↦ one_fits sides flows small caps few (λ flow side uses. absurd (no_users side flow uses.used (omega (arith, All-contains (λ s. length s.users ≤ flows) sides side few uses.listed))))
       | inl flows_pos ↦ elim (some_cap sides) [

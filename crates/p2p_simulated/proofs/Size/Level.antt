@@ -4,7 +4,7 @@ use Rattle.std.specs.Prelude.{unwrap_or}
 use Rattle.std.proofs.lemmas.List.Elements.{All-contains}
 use Rattle.std.proofs.lemmas.List.Sums.{sum_by-cons}
 use Rattle.p2p_simulated.specs.Fair.{Side, load, IsWithinCaps}
-use Rattle.p2p_simulated.proofs.Filling.Sums.{All-by_contains}
+use Rattle.p2p_simulated.proofs.Fairness.Sums.{All-from_contains}
 
 -- what each flow has: the parts at which it is frozen, or else the level
 abbrev pub standing : (ℕ → Option ℕ) → ℕ → ℕ → ℕ
@@ -55,7 +55,7 @@ least_is_next sides per frozen before side level was least =
     let here = within_at side least.listed in
     record {
       raised = le_of_mul-le-mul_right {k = rising frozen side} (omega (arith, here, least.share)) least.some;
-      within = All-by_contains (λ s. load (standing frozen level) s ≤ s.cap * per) sides (λ s listed.
+      within = All-from_contains (λ s. load (standing frozen level) s ≤ s.cap * per) sides (λ s listed.
           rw (load_at frozen level s) (omega (arith, within_at s listed, All-contains (λ o. level * rising frozen o ≤ left_of per frozen o) sides s least.least listed)));
       full = load_at frozen level side ∙ omega (arith, here, least.share);
     }

@@ -14,10 +14,12 @@ use Rattle.p2p_simulated.specs.WorldTime.{Drains, Passes, Ticks, no_tick}
 use Rattle.p2p_simulated.specs.declared.error.Error.{Error}
 use Rattle.p2p_simulated.proofs.World.Between.{later, follows_later, both_before, none_done_before, quiet_before, passes_before, passes_to, finish_is_later, spent_at_finish, done_at}
 use Rattle.p2p_simulated.proofs.World.Instant.{settles_alike}
-use Rattle.p2p_simulated.proofs.World.Event.{settle_quiet, wake_quiet, instant_is, ticks_through, ticks_quiet, settled_stands, settled_wakes, ready_later, start_is}
+use Rattle.p2p_simulated.proofs.World.Event.{settle_quiet, instant_is, ticks_through, ticks_quiet, settled_stands, settled_wakes, ready_later, start_is}
+use Rattle.p2p_simulated.proofs.World.Pass.{wake_none}
 use Rattle.p2p_simulated.proofs.World.Waking.{IsWoken, wakes_alike, each_none, preceded_by}
 use Rattle.p2p_simulated.proofs.World.InOrder.{picks_ready, none_ready_back}
 use Rattle.p2p_simulated.proofs.World.Split.{ticks_on, ticks_stop, preceded_append}
+use Rattle.p2p_simulated.proofs.World.Queue.{preceded_none}
 
 module _ {P : Type 0} (cmp : P → P → Ordering) (order : IsTotalOrder cmp) where
   -- ---- one instant
@@ -144,10 +146,6 @@ module _ {P : Type 0} (cmp : P → P → Ordering) (order : IsTotalOrder cmp) wh
   abbrev pub FromSettled : ℕ → Planned P → Course (Completed P) (Planned P) → Type 0
   FromSettled now p course = (t : ℕ) (v : World P) → t ≤ now → IsSettled cmp t p v → WakesAlike t now v course
 
-  preceded_none : (c : Course (Completed P) (World P)) → c ≡ preceded [] c
-  preceded_none (goes cs v) = refl
-  preceded_none (meets fault) = refl
-
   course_map : (R S : Planned P → World P → Type 0) (x : Course (Completed P) (Planned P)) (c : Course (Completed P) (World P)) → ((q : Planned P) (v : World P) → R q v → S q v)
       → CoursesAlike cmp R x c → CoursesAlike cmp S x c
   course_map R S (goes cs q) (goes ds v) f h = (h.0, f q v h.1)
@@ -172,7 +170,7 @@ module _ {P : Type 0} (cmp : P → P → Ordering) (order : IsTotalOrder cmp) wh
       let moment : v.moment ≡ t = settled.follows.tallies.moment in
       let sleeps : wake cmp t v ≡ goes [] v = ap (λ (s : ℕ). wake cmp s v) (sym moment) ∙ settled_wakes cmp order t p v settled never in
       let way : TicksAlike now v course = rest v (settled_stands cmp order t p v (omega arith) settled never) (omega arith) in
-      (way.0, subst (λ (x : Course (Completed P) (World P)). OnFrom t now x way.0) (sym sleeps) (way.0, subst (λ (s : ℕ). Ticks cmp (now - s) v way.0) moment way.1, preceded_none way.0), way.2)
+      (way.0, subst (λ (x : Course (Completed P) (World P)). OnFrom t now x way.0) (sym sleeps) (way.0, subst (λ (s : ℕ). Ticks cmp (now - s) v way.0) moment way.1, sym (preceded_none way.0)), way.2)
 
   -- a wake, and then the rest
   wake_on : (t now : ℕ) (p q : Planned P) (v : World P) (cs : List (Completed P)) (course : Course (Completed P) (Planned P)) → Wakes cmp t (record p { start = None }) (goes cs q)
@@ -213,7 +211,7 @@ module _ {P : Type 0} (cmp : P → P → Ordering) (order : IsTotalOrder cmp) wh
       = joined_ticks (suc steps.0) e now w [] (wake cmp e u) way.0
       (subst (λ (c : Course (Completed P) (World P)). Ticks cmp (suc steps.0) w c) instant_u (to_event p w stands e steps.0 steps.1 after.0 next)) way.1 in
       let count : now - e + suc steps.0 ≡ now - w.moment = omega (arith, steps.1, after.1) in
-      (way.0, subst (λ (k : ℕ). Ticks cmp k w way.0) count (subst (λ (c : Course (Completed P) (World P)). Ticks cmp (now - e + suc steps.0) w c) (sym (preceded_none way.0)) ticks), way.2)
+      (way.0, subst (λ (k : ℕ). Ticks cmp k w way.0) count (subst (λ (c : Course (Completed P) (World P)). Ticks cmp (now - e + suc steps.0) w c) ((preceded_none way.0)) ticks), way.2)
 
   -- the tick to a planned finish is a settling, and the wake that follows
   finish_ticks : (e now : ℕ) (p q : Planned P) (w : World P) (stands : StandsFor cmp p w) (cs : List (Completed P)) (course : Course (Completed P) (Planned P)) → p.finish ≡ Some e
@@ -269,7 +267,7 @@ module _ {P : Type 0} (cmp : P → P → Ordering) (order : IsTotalOrder cmp) wh
       ends : (v : World P) → Follows cmp now p v → list_any (is_done cmp v) v.sending ≡ false → ready cmp now v ≡ [] → Ticks cmp (now - w.moment) w (goes [] v) → TicksAlike now w course
       ends v follows none_done none_ready ticks =
           let woken : CoursesAlike cmp (IsWoken cmp order now) course (wake cmp now v) = wake_alike wakes v follows none_done in
-          let asleep : wake cmp now v ≡ goes [] v = wake_quiet cmp order (length v.waiting) now v none_ready in
+          let asleep : wake cmp now v ≡ goes [] v = wake_none cmp order (length v.waiting) now v none_ready in
           (goes [] v, ticks, course_map (IsWoken cmp order now) (StandsNow now) course (goes [] v) (λ q u h. (woken_stands now q u within h, h.0.follows.tallies.moment)) (subst (λ (c : Course (Completed P) (World P)). CoursesAlike cmp (IsWoken cmp order now) course c) asleep woken))
 
       by_count : (n : ℕ) → now - w.moment ≡ n → TicksAlike now w course

@@ -17,23 +17,11 @@ use Rattle.p2p_simulated.proofs.World.Lowest.{drained_by_lowest, drained_none}
 use Rattle.p2p_simulated.specs.WorldQueue.{leaving, staying}
 use Rattle.p2p_simulated.proofs.World.Queue.{any_filter}
 use Rattle.p2p_simulated.proofs.World.Alike.{unlimited_alike}
-use Rattle.p2p_simulated.proofs.World.Between.{Each}
+use Rattle.p2p_simulated.proofs.Each.{Each, each_at}
 use Rattle.p2p_simulated.proofs.World.Rated.{all_rated}
+use Rattle.p2p_simulated.proofs.Zips.{zip-filter}
 
 -- ---- lists
-
-pub filter_alike : {X Y : Type 0} (R : X → Y → Type 0) (f : X → Bool) (g : Y → Bool) → ((x : X) (y : Y) → R x y → f x ≡ g y) → (xs : List X) (ys : List Y) → AllZip R xs ys
-    → AllZip R (filter f xs) (filter g ys)
-filter_alike R f g same [] [] all = tt
-filter_alike R f g same [] (y ∷ ys) all = absurd all
-filter_alike R f g same (x ∷ xs) [] all = absurd all
-filter_alike {X} {Y} R f g same (x ∷ xs) (y ∷ ys) all = by_test (f x) (g y) (same x y all.0) (filter_alike R f g same xs ys all.1)
-  where
-    by_test : (a b : Bool) → a ≡ b → AllZip R (filter f xs) (filter g ys) → AllZip R (cond a (x ∷ filter f xs) (filter f xs)) (cond b (y ∷ filter g ys) (filter g ys))
-    by_test true true e ih = (all.0, ih)
-    by_test true false e ih = cc
-    by_test false true e ih = cc
-    by_test false false e ih = ih
 
 -- each that stays passes
 pub each_passes : {X : Type 0} (test : X → Bool) (xs : List X) → Each (λ x. test x ≡ true) (filter test xs)
@@ -48,11 +36,6 @@ each_passes {X} test (x ∷ xs) = by_test (test x) refl (each_passes test xs)
 pub none_matched : {X Y : Type 0} (R : X → Y → Type 0) (ys : List Y) → AllZip R [] ys → ys ≡ []
 none_matched R [] all = refl
 none_matched R (y ∷ ys) all = absurd all
-
-each_at : {X : Type 0} (Q : X → Type 0) (xs : List X) → Each Q xs → (i : ℕ) (x : X) → slice_get xs i ≡ Some x → Q x
-each_at Q [] h i x e = cc
-each_at Q (y ∷ ys) h zero x e = let same : y ≡ x = cc in subst Q same h.0
-each_at Q (y ∷ ys) h (suc i) x e = each_at Q ys h.1 i x e
 
 module _ {P : Type 0} (cmp : P → P → Ordering) (order : IsTotalOrder cmp) where
   -- ---- an account
@@ -138,7 +121,7 @@ module _ {P : Type 0} (cmp : P → P → Ordering) (order : IsTotalOrder cmp) wh
   leavers_alike t old new leavers w same account =
       subst (λ (ms : List (Message P)). AllZip (SameMessage cmp) ms (map (λ (g : Flight P). g.message) (filter (is_done cmp w) w.sending))) (sym account.left)
       (drawn_messages (filter (is_spent cmp old.caps) (drained_to t old.sending)) (filter (is_done cmp w) w.sending)
-      (filter_alike IsDrawn (is_spent cmp old.caps) (is_done cmp w) (spent_alike old w same.caps) (drained_to t old.sending) w.sending (drawn t old.sending w.sending same.sending)))
+      (zip-filter IsDrawn (is_spent cmp old.caps) (is_done cmp w) (spent_alike old w same.caps) (drained_to t old.sending) w.sending (drawn t old.sending w.sending same.sending)))
 
   pub account_follows : (t : ℕ) (old new : Planned P) (leavers : List (Message P)) (w : World P) → Tallies cmp t old w → Accounts cmp t old leavers new → Follows cmp t new (staying cmp w)
   unfolding staying
@@ -152,7 +135,7 @@ module _ {P : Type 0} (cmp : P → P → Ordering) (order : IsTotalOrder cmp) wh
       waiting = subst (λ (q : Planned P). (m : Message P) → AllZip (SameMessage cmp) (filter (same_pair cmp m) q.waiting) (filter (same_pair cmp m) w.waiting)) (sym account.same) same.waiting;
       pair_order = subst (λ (q : Planned P). AreInPairOrder cmp q.waiting) (sym account.same) same.pair_order;
       sending = rated_flights t account.per account.rates stays new.sending (filter (λ (g : Flight P). not (is_done cmp w g)) w.sending) account.fair.fair.some_part
-          (filter_alike IsDrawn (λ (f : Paced P). not (is_spent cmp old.caps f)) (λ (g : Flight P). not (is_done cmp w g)) (λ n g e. ap not (spent_alike old w same.caps n g e)) (drained_to t old.sending) w.sending (drawn t old.sending w.sending same.sending))
+          (zip-filter IsDrawn (λ (f : Paced P). not (is_spent cmp old.caps f)) (λ (g : Flight P). not (is_done cmp w g)) (λ n g e. ap not (spent_alike old w same.caps n g e)) (drained_to t old.sending) w.sending (drawn t old.sending w.sending same.sending))
           account.stayed account.rated
           (all_rated cmp old.caps (paced_flows new.sending) account.per account.rates account.fair (each_at (λ (m : Message P). is_unlimited cmp old.caps m ≡ false) (paced_flows new.sending) (each_limited old t stays new.sending (each_passes (λ (f : Paced P). not (is_spent cmp old.caps f)) (drained_to t old.sending)) account.stayed)));
       one_each = one_filter (λ (g : Flight P). not (is_done cmp w g)) w.sending same.one_each;

@@ -25,7 +25,7 @@ use Rattle.p2p_simulated.proofs.World.Queue.{peer_like}
 use Rattle.p2p_simulated.proofs.World.Limit.{new_stands, no_sides}
 use Rattle.p2p_simulated.proofs.World.Next.{next_is_planned}
 use Rattle.p2p_simulated.proofs.World.Obeys.{obeys_alike}
-use Rattle.p2p_simulated.proofs.World.Bytes.{Each}
+use Rattle.p2p_simulated.proofs.Each.{Each}
 use Rattle.p2p_simulated.proofs.World.Wholes.{AreSmall, fair_rates_small}
 use Rattle.p2p_simulated.proofs.World.Bounded.{IsSlowFlight, slow_flights, few_flows}
 use Rattle.p2p_simulated.proofs.World.InRange.{Holds, GoesWell}

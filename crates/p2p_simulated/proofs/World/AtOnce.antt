@@ -15,6 +15,7 @@ use Rattle.p2p_simulated.proofs.World.Alike.{same_itself, message_itself}
 use Rattle.p2p_simulated.proofs.World.Between.{none_ready_at}
 use Rattle.p2p_simulated.proofs.World.Instant.{raised_alike}
 use Rattle.p2p_simulated.proofs.World.Limit.{IsReached, reaches}
+use Rattle.p2p_simulated.proofs.World.Queue.{preceded_none}
 
 module _ {P : Type 0} (cmp : P → P → Ordering) (order : IsTotalOrder cmp) where
   -- with nothing waiting, nothing is ever ready
@@ -88,8 +89,4 @@ module _ {P : Type 0} (cmp : P → P → Ordering) (order : IsTotalOrder cmp) wh
       let under : there.world.limited ≡ false = sym there.follows.tallies.limited ∙ free in
       let c : Course (Completed P) (World P) = complete_at_once cmp now there.world m in
       let acts : act cmp there.world (call_enqueue now m) ≡ c = rw under refl in
-      (c, record { ticked = goes [] there.world; ticks = there.ticks; acts = sym acts ∙ preceded_none (act cmp there.world (call_enqueue now m)) }, at_once now p there.world m there.follows there.none_done empty stands.start)
-    where
-      preceded_none : (d : Course (Completed P) (World P)) → d ≡ preceded [] d
-      preceded_none (goes cs v) = refl
-      preceded_none (meets fault) = refl
+      (c, record { ticked = goes [] there.world; ticks = there.ticks; acts = sym acts ∙ sym (preceded_none (act cmp there.world (call_enqueue now m))) }, at_once now p there.world m there.follows there.none_done empty stands.start)

@@ -18,25 +18,10 @@ use Rattle.p2p_simulated.proofs.World.Lowest.{drained_by_lowest, drained_by_twic
 use Rattle.p2p_simulated.proofs.World.Queue.{pair_sym, pair_like, both_alike, find_passes}
 use Rattle.p2p_simulated.proofs.World.Alike.{same_itself, pairs_alike, any_alike, fair_alike}
 use Rattle.p2p_simulated.proofs.World.Stretch.{stretch, drifts_on, flows_drained}
+use Rattle.p2p_simulated.proofs.Each.{Each, each_map, each_filtered}
+use Rattle.p2p_simulated.proofs.World.Rests.{find_like}
 
 -- ---- lists
-
--- Q holds of each
-abbrev pub Each : {X : Type 0} → (X → Type 0) → List X → Type 0
-Each Q [] = ⊤
-Each Q (x ∷ xs) = Q x × Each Q xs
-
-pub each_map : {X : Type 0} (Q R : X → Type 0) (xs : List X) → ((x : X) → Q x → R x) → Each Q xs → Each R xs
-each_map Q R [] f h = tt
-each_map Q R (x ∷ xs) f h = (f x h.0, each_map Q R xs f h.1)
-
-pub each_filtered : {X : Type 0} (Q : X → Type 0) (test : X → Bool) (xs : List X) → Each Q xs → Each (λ x. Q x × (test x ≡ true)) (filter test xs)
-each_filtered Q test [] h = tt
-each_filtered {X} Q test (x ∷ xs) h = by_test (test x) refl (each_filtered Q test xs h.1)
-  where
-    by_test : (b : Bool) → test x ≡ b → Each (λ x. Q x × (test x ≡ true)) (filter test xs) → Each (λ x. Q x × (test x ≡ true)) (cond b (x ∷ filter test xs) (filter test xs))
-    by_test true e ih = ((h.0, e), ih)
-    by_test false e ih = ih
 
 pub filter_none : {X : Type 0} (test : X → Bool) (xs : List X) → Each (λ x. test x ≡ false) xs → filter test xs ≡ []
 filter_none test [] h = refl
@@ -165,15 +150,11 @@ module _ {P : Type 0} (cmp : P → P → Ordering) (order : IsTotalOrder cmp) wh
       by_test true e ih = cc
       by_test false e ih = ih e
 
-  pub find_like : (m x : Message P) (ys : List (Message P)) → same_pair cmp m x ≡ true → find (same_pair cmp x) ys ≡ find (same_pair cmp m) ys
-  find_like m x [] e = refl
-  find_like m x (y ∷ ys) e = rw (pair_like cmp order m x y e, find_like m x ys e) refl
-
   -- the first of a pair is the first of its own pair
   pub own_first : (m x : Message P) (rest ms : List (Message P)) → filter (same_pair cmp m) ms ≡ x ∷ rest → find (same_pair cmp x) ms ≡ Some x
   own_first m x rest ms e =
       let found : find (same_pair cmp m) ms ≡ Some x = first_found (same_pair cmp m) x rest ms e in
-      find_like m x ms (find_passes (same_pair cmp m) x ms found) ∙ found
+      find_like cmp order m x ms (find_passes (same_pair cmp m) x ms found) ∙ found
 
   -- a pair may start in the planned world where it may in the world
   pub may_alike : (t : ℕ) (p : Planned P) (w : World P) (m n : Message P) → PairsAlike cmp p.last_arrival w.last_arrival

@@ -16,15 +16,12 @@ use Rattle.p2p_simulated.specs.WorldPlanned.{Planned, Paced, paced_flows, left_a
 use Rattle.p2p_simulated.specs.WorldEvents.{Accounts}
 use Rattle.p2p_simulated.specs.WorldRefusals.{IsTooLarge, drain_too_large, time_too_large, rates_too_large}
 use Rattle.p2p_simulated.specs.WorldStands.{IsSmallAmount, IsSmallRate, IsNamed, IsSmallFlight, IsSmallMessage}
-use Rattle.p2p_simulated.proofs.World.Bytes.{Each, each_filter}
+use Rattle.p2p_simulated.proofs.World.Bytes.{each_filter}
+use Rattle.p2p_simulated.proofs.Each.{Each, each_at}
 use Rattle.p2p_simulated.proofs.World.Alike.{same_itself}
 use Rattle.p2p_simulated.proofs.World.Ranges.{left_at_is_small, taken_fits, seconds_fit}
 use Rattle.p2p_simulated.proofs.World.Wholes.{AreSmall, fair_rates_small, few_messages}
-
-pub each_place : {X : Type 0} (Q : X → Type 0) (xs : List X) → Each Q xs → (i : ℕ) (x : X) → slice_get xs i ≡ Some x → Q x
-each_place Q [] h i x e = cc
-each_place Q (y ∷ ys) h zero x e = let same : y ≡ x = cc in subst Q same h.0
-each_place Q (y ∷ ys) h (suc i) x e = each_place Q ys h.1 i x e
+use Rattle.p2p_simulated.proofs.World.Orderly.{one_of_fewer}
 
 -- a rate in the range, if there is one
 abbrev pub IsSlow : Option Amount → Type 0
@@ -87,15 +84,6 @@ module _ {P : Type 0} (cmp : P → P → Ordering) (order : IsTotalOrder cmp) (p
       by_test true false is e ih = rw is (ih (subst (λ (c : Bool). (c || list_any test (paced_flows fs)) ≡ false) is e))
       by_test false false is e ih = ih (subst (λ (c : Bool). (c || list_any test (paced_flows fs)) ≡ false) is e)
 
-  one_fewer : (p : Paced P → Bool) (fs : List (Paced P)) → OneForEachPair cmp (paced_flows fs) → OneForEachPair cmp (paced_flows (filter p fs))
-  one_fewer p [] one = tt
-  one_fewer p (f ∷ fs) one = by_test (p f) (any_fewer (same_pair cmp f.message) p fs one.0) (one_fewer p fs one.1)
-    where
-      by_test : (b : Bool) → list_any (same_pair cmp f.message) (paced_flows (filter p fs)) ≡ false → OneForEachPair cmp (paced_flows (filter p fs))
-          → OneForEachPair cmp (paced_flows (cond b (f ∷ filter p fs) (filter p fs)))
-      by_test true e ih = (e, ih)
-      by_test false e ih = ih
-
   flows_named : (fs : List (Paced P)) → Each (IsSmallFlight cmp pairs) fs → Each (λ (m : Message P). names_pair cmp pairs m.origin m.recipient ≡ true) (paced_flows fs)
   flows_named [] small = tt
   flows_named (f ∷ fs) small = (small.0.named, flows_named fs small.1)
@@ -153,7 +141,7 @@ module _ {P : Type 0} (cmp : P → P → Ordering) (order : IsTotalOrder cmp) (p
 
   rest_one : (t : ℕ) (p : Planned P) → IsBounded p → OneForEachPair cmp (paced_flows (rest t p))
   unfolding rest
-  rest_one t p h = one_fewer (λ f. not (is_spent cmp p.caps f)) (drained_to t p.sending) (subst (OneForEachPair cmp) (sym (drained_flows t p.sending)) h.one_each)
+  rest_one t p h = one_of_fewer cmp order (λ f. not (is_spent cmp p.caps f)) (drained_to t p.sending) (subst (OneForEachPair cmp) (sym (drained_flows t p.sending)) h.one_each)
 
   -- an account leaves the planned world bounded, and rated
   pub account_bounded : (t : ℕ) (old new : Planned P) (leavers : List (Message P)) → t < 2 ^ 56 → IsBounded old → Accounts cmp t old leavers new → IsBounded new × IsRated cmp new
@@ -189,7 +177,7 @@ module _ {P : Type 0} (cmp : P → P → Ordering) (order : IsTotalOrder cmp) (p
   nothing_too_large t old early h (drain_too_large place f at too) = by_rate f.rate refl too
     where
       slow : IsSlowFlight f
-      slow = each_place IsSlowFlight old.sending h.sending place f at
+      slow = each_at IsSlowFlight old.sending h.sending place f at
 
       by_rate : (r : Option Amount) → f.rate ≡ r → MatchOption r ⊥ (λ rate. (0 < f.left.num) × (0 < rate.num) × (f.updated < t) × ¬ TakenFits rate (t - f.updated) f.left) → ⊥
       by_rate None is too = too
@@ -197,7 +185,7 @@ module _ {P : Type 0} (cmp : P → P → Ordering) (order : IsTotalOrder cmp) (p
   nothing_too_large t old early h (time_too_large {leavers = leavers} {new = new} place f account at too) = by_rate f.rate refl too
     where
       slow : IsSlowFlight f
-      slow = each_place IsSlowFlight new.sending (account_bounded t old new leavers early h account).0.sending place f at
+      slow = each_at IsSlowFlight new.sending (account_bounded t old new leavers early h account).0.sending place f at
 
       by_rate : (r : Option Amount) → f.rate ≡ r → MatchOption r ⊥ (λ rate. (0 < rate.num) × ¬ SecondsFit rate f.left) → ⊥
       by_rate None is too = too

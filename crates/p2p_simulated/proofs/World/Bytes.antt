@@ -27,12 +27,10 @@ use Rattle.p2p_simulated.proofs.World.Rests.{ends_preceded, ends_and_then, ends_
 use Rattle.p2p_simulated.proofs.World.Split.{rest_is}
 use Rattle.p2p_simulated.proofs.World.Totals.{share, at_most_itself, at_most_trans, plus_under, plus_spent, plus_shares, plus_whole, two_shares, share_grows, no_share, lowest_takes}
 use Rattle.p2p_simulated.specs.Places.{places_from}
+use Rattle.p2p_simulated.proofs.Each.{Each}
+use Rattle.p2p_simulated.proofs.World.OneNext.{drain_each_positive}
 
 -- ---- lists
-
-abbrev pub Each : {X : Type 0} → (X → Type 0) → List X → Type 0
-Each Q [] = ⊤
-Each Q (x ∷ xs) = Q x × Each Q xs
 
 pub each_filter : {X : Type 0} (Q R : X → Type 0) (test : X → Bool) (xs : List X) → ((x : X) → test x ≡ true → Q x → R x) → Each Q xs → Each R (filter test xs)
 each_filter Q R test [] h e = tt
@@ -185,21 +183,6 @@ module _ {P : Type 0} (cmp : P → P → Ordering) (order : IsTotalOrder cmp) wh
   pub positive_joined : (fs : List (Flight P)) (m : Message P) → ArePositive fs → ArePositive (fs ++ flight m ∷ [])
   positive_joined [] m pos = (omega arith, tt)
   positive_joined (f ∷ fs) m pos = (pos.0, positive_joined fs m pos.1)
-
-  pub positive_drained : (per : ℕ) (rates : Parts) (n : ℕ) (fs : List (Flight P)) → 0 < per → ArePositive fs → ArePositive (drain_each per rates n fs)
-  positive_drained per rates n [] some pos = nothing_drained rates
-    where
-      nothing_drained : (rates : Parts) → ArePositive (drain_each {P = P} per rates n [])
-      nothing_drained [] = tt
-      nothing_drained (r ∷ rs) = tt
-  positive_drained per [] n (f ∷ fs) some pos = pos
-  positive_drained per (r ∷ rs) n (f ∷ fs) some pos = (by_rate r, positive_drained per rs n fs some pos.1)
-    where
-      by_rate : (r : Option ℕ) → 0 < (drained_by (rate_of per r) n f.left).den
-      by_rate None = omega arith
-      by_rate (Some a) =
-          let rate : Amount = reduced a per in
-          reduced_positive (f.left.num * (rate.den * billion) - n * (rate.num * f.left.den)) (f.left.den * (rate.den * billion)) (mul-pos pos.0 (mul-pos (reduced_positive a per some) (omega arith)))
 
   -- the egress cap of a peer, by whatever equal peer it is asked for
   abbrev pub HasEgress : World P → P → ℕ → Type 0
@@ -389,7 +372,7 @@ module _ {P : Type 0} (cmp : P → P → Ordering) (order : IsTotalOrder cmp) wh
         let capped : AreCapped (flows w) d.per d.rates = fair_is_capped w d.per d.rates h d.fair in
         let some : 0 < d.per = d.fair.fair.some_part in
         let u : World P = record w { sending = drain_each d.per d.rates 1 w.sending; moment = w.moment + 1 } in
-        let positive : ArePositive u.sending = positive_drained d.per d.rates 1 w.sending some h.positive in
+        let positive : ArePositive u.sending = drain_each_positive cmp order d.per d.rates 1 w.sending some h.positive in
         let all : ℕ = total (map from_it (flows w)) d.rates in
         let sums : IsAtMost (bytes_from cmp p w) (plus (bytes_from cmp p u) (share (all * 1) (d.per * billion))) =
         plus_whole (left_from cmp p w.sending) (left_from cmp p u.sending) (waiting_from cmp p w.waiting) (all * 1) (d.per * billion) (drained_each d.per d.rates 1 w.sending some h.positive capped.limited) in

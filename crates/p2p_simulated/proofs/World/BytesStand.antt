@@ -18,14 +18,10 @@ use Rattle.p2p_simulated.specs.SamePlanned.{Goes}
 use Rattle.p2p_simulated.specs.Simulated.{IsRun, KeepsToCaps}
 use Rattle.std.proofs.lemmas.List.Filters.{length-filter_both}
 use Rattle.p2p_simulated.proofs.World.Alike.{same_itself, peers_alike, pairs_alike, message_itself}
-use Rattle.p2p_simulated.proofs.World.Again.{filter_alike}
-use Rattle.p2p_simulated.proofs.World.Pair.{filters_swap}
+use Rattle.p2p_simulated.proofs.Zips.{zip-filter}
+use Rattle.p2p_simulated.proofs.Filters.{filter_swap, length-filter}
 use Rattle.p2p_simulated.proofs.World.Bytes.{pair_itself, Loses, advance_loses}
 use Rattle.p2p_simulated.proofs.World.Simulated.{calls_simulated, sound_of_stands, none_waits}
-
--- a filter makes a list no longer
-filter_no_longer : {X : Type 0} (test : X → Bool) (xs : List X) → length (filter test xs) ≤ length xs
-filter_no_longer test xs = let both : length (filter test xs) + length (filter (λ x. not (test x)) xs) ≡ length xs = length-filter_both test (λ x. not (test x)) (λ x. refl) xs in omega arith
 
 module _ {P : Type 0} (cmp : P → P → Ordering) (order : IsTotalOrder cmp) where
   module _ (origin : P) where
@@ -86,9 +82,9 @@ module _ {P : Type 0} (cmp : P → P → Ordering) (order : IsTotalOrder cmp) wh
     others_alike m ms ns alike k =
         let keep : Message P → Bool = λ n. not (same_pair cmp m n) in
         let both : AllZip (SameMessage cmp) (filter keep (filter (same_pair cmp k) ms)) (filter keep (filter (same_pair cmp k) ns))
-        = filter_alike (SameMessage cmp) keep keep (λ x y e. ap not (pairs_alike cmp order m m x y (message_itself cmp order m) e)) (filter (same_pair cmp k) ms) (filter (same_pair cmp k) ns) (alike k) in
-        subst (λ (xs : List (Message P)). AllZip (SameMessage cmp) xs (filter (same_pair cmp k) (filter keep ns))) (filters_swap keep (same_pair cmp k) ms)
-        (subst (λ (ys : List (Message P)). AllZip (SameMessage cmp) (filter keep (filter (same_pair cmp k) ms)) ys) (filters_swap keep (same_pair cmp k) ns) both)
+        = zip-filter (SameMessage cmp) keep keep (λ x y e. ap not (pairs_alike cmp order m m x y (message_itself cmp order m) e)) (filter (same_pair cmp k) ms) (filter (same_pair cmp k) ns) (alike k) in
+        subst (λ (xs : List (Message P)). AllZip (SameMessage cmp) xs (filter (same_pair cmp k) (filter keep ns))) (filter_swap keep (same_pair cmp k) ms)
+        (subst (λ (ys : List (Message P)). AllZip (SameMessage cmp) (filter keep (filter (same_pair cmp k) ms)) ys) (filter_swap keep (same_pair cmp k) ns) both)
 
     waiting_alike : (n : ℕ) (ms ns : List (Message P)) → length ms ≤ n → AlikeByPair ms ns → waiting_from cmp origin ms ≡ waiting_from cmp origin ns
     waiting_alike n [] ns fits alike = let none : ns ≡ [] = none_waits cmp order [] ns alike refl in sym (ap (waiting_from cmp origin) none)
@@ -96,7 +92,7 @@ module _ {P : Type 0} (cmp : P → P → Ordering) (order : IsTotalOrder cmp) wh
     waiting_alike (suc n) (m ∷ ms) ns fits alike =
         let keep : Message P → Bool = λ k. not (same_pair cmp m k) in
         let shorter : filter keep (m ∷ ms) ≡ filter keep ms = rw (pair_itself cmp order m) refl in
-        let few : length (filter keep (m ∷ ms)) ≤ n = subst (λ (xs : List (Message P)). length xs ≤ n) (sym shorter) (let le : length (filter keep ms) ≤ length ms = filter_no_longer keep ms in omega arith) in
+        let few : length (filter keep (m ∷ ms)) ≤ n = subst (λ (xs : List (Message P)). length xs ≤ n) (sym shorter) (let le : length (filter keep ms) ≤ length ms = length-filter keep ms in omega arith) in
         let own : waiting_from cmp origin (filter (same_pair cmp m) (m ∷ ms)) ≡ waiting_from cmp origin (filter (same_pair cmp m) ns)
         = waiting_zip (filter (same_pair cmp m) (m ∷ ms)) (filter (same_pair cmp m) ns) (alike m) in
         let rest : waiting_from cmp origin (filter keep (m ∷ ms)) ≡ waiting_from cmp origin (filter keep ns)

@@ -17,7 +17,7 @@ use Rattle.p2p_simulated.specs.WorldPlanned.{Planned, Paced, paced_flows, queued
 use Rattle.p2p_simulated.specs.WorldEvents.{Recaps, none_sending, some_sending, Enqueues, at_once, no_launch, launches, completed_at_once, with_queued, Obeys}
 use Rattle.p2p_simulated.specs.WorldRefusals.{RecapAccounts, recap_accounts, EnqueueAccounts, launched_account, finished_accounts, ComesToAccount, MayBeRefused}
 use Rattle.p2p_simulated.specs.WorldStands.{IsSmallMessage}
-use Rattle.p2p_simulated.proofs.World.Bytes.{Each}
+use Rattle.p2p_simulated.proofs.Each.{Each}
 use Rattle.p2p_simulated.proofs.World.Limit.{no_sides}
 use Rattle.p2p_simulated.proofs.World.Alike.{same_itself}
 use Rattle.p2p_simulated.proofs.World.Wholes.{AreSmall}

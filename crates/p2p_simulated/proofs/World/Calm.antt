@@ -15,7 +15,8 @@ use Rattle.p2p_simulated.specs.WorldTime.{no_time, Drains, NextIs, Passes, Ticks
 use Rattle.p2p_simulated.specs.declared.error.Error.TheVariants.{MomentTooLate}
 use Rattle.p2p_simulated.proofs.World.Queue.{settle_none, preceded_none}
 use Rattle.p2p_simulated.proofs.World.Rests.{ends_preceded, ends_and_then, ends_cond, NoneDone, settle_rests}
-use Rattle.p2p_simulated.proofs.World.Others.{Leaves, pair_itself, ends_more, leaves_like, next_leaves, start_leaves, complete_leaves, ready_without, any_from_find, find_from_any}
+use Rattle.p2p_simulated.proofs.World.Others.{Leaves, pair_itself, ends_more, leaves_like, next_leaves, start_leaves, complete_leaves, ready_without, any_from_find}
+use Rattle.p2p_simulated.proofs.Filters.{find_from_any}
 use Rattle.p2p_simulated.proofs.World.Pass.{ends_both, settle_keeps, wake_none, wake_first, wake_ends_quiet}
 
 filter_none : {X : Type 0} (p q : X → Bool) (xs : List X) → ((x : X) → p x ≡ true → q x ≡ true) → filter q xs ≡ [] → filter p xs ≡ []
@@ -110,7 +111,7 @@ module _ {P : Type 0} (cmp : P → P → Ordering) (order : IsTotalOrder cmp) wh
 
   -- ---- ticks
 
-  next_moment : (w v : World P) → Drains cmp w v → v.moment ≡ w.moment + 1
+  pub next_moment : (w v : World P) → Drains cmp w v → v.moment ≡ w.moment + 1
   next_moment w v d = ap (λ (u : World P). u.moment) d.world
 
   pub ends_at : (Q : World P → Type 0) (c : Course (Completed P) (World P)) (xs : List (Completed P)) (v : World P) → c ≡ goes xs v → EndsWith Q c → Q v

@@ -4,7 +4,7 @@ use Rattle.std.specs.Prelude.{max, ◌&&◌, ◌||◌, ◌==◌, nat_le, nat_lt}
 use Rattle.std.specs.List.{list_any, list_all, filter, AllZip}
 use Rattle.std.specs.declared.cmp.Ordering.{Ordering}
 use Rattle.std.specs.Cmp.{IsTotalOrder}
-use Rattle.std.proofs.lemmas.Bool.{leb-true, ltb-true, eqb-true}
+use Rattle.std.proofs.lemmas.Bool.{leb-true, ltb-true, eqb-true, and_parts}
 use Rattle.std.proofs.lemmas.List.Elements.{All-contains, All-cons, All-nil, Contains-append_left, Contains-append_right}
 use Rattle.p2p_simulated.specs.Fair.{Side, load, IsFair, HasBottleneck}
 use Rattle.p2p_simulated.specs.WorldMessages.{Message}
@@ -20,15 +20,10 @@ use Rattle.p2p_simulated.proofs.World.Limit.{no_sides}
 
 -- ---- lists
 
-pub both_true : (a b : Bool) → (a && b) ≡ true → (a ≡ true) × (b ≡ true)
-both_true true true e = (refl, refl)
-both_true true false e = cc
-both_true false b e = cc
-
 all_found : {X : Type 0} (test : X → Bool) (Q : X → Type 0) → ((x : X) → test x ≡ true → Q x) → (xs : List X) → list_all test xs ≡ true → All Q xs
 all_found test Q gives [] e = All-nil Q
 all_found test Q gives (x ∷ xs) e =
-    let parts : (test x ≡ true) × (list_all test xs ≡ true) = both_true (test x) (list_all test xs) e in
+    let parts : (test x ≡ true) × (list_all test xs ≡ true) = and_parts (test x) (list_all test xs) e in
     All-cons Q x xs (gives x parts.0) (all_found test Q gives xs parts.1)
 
 one_found : {X : Type 0} (test : X → Bool) (xs : List X) → list_any test xs ≡ true → (x : X) × Contains xs x × (test x ≡ true)
@@ -60,9 +55,9 @@ module _ (per : ℕ) (parts : ℕ → ℕ) where
       let found : (side : Side) × Contains sides side × (holds flow side ≡ true) = one_found (holds flow) sides e in
       let side : Side = found.0 in
       let all : ((list_any (λ user. user == flow) side.users && (load parts side == side.cap * per)) ≡ true) × (list_all (λ other. nat_le (parts other) (parts flow)) side.users ≡ true) =
-      both_true (list_any (λ user. user == flow) side.users && (load parts side == side.cap * per)) (list_all (λ other. nat_le (parts other) (parts flow)) side.users) found.2 in
+      and_parts (list_any (λ user. user == flow) side.users && (load parts side == side.cap * per)) (list_all (λ other. nat_le (parts other) (parts flow)) side.users) found.2 in
       let two : (list_any (λ user. user == flow) side.users ≡ true) × ((load parts side == side.cap * per) ≡ true)
-      = both_true (list_any (λ user. user == flow) side.users) (load parts side == side.cap * per) all.0 in
+      = and_parts (list_any (λ user. user == flow) side.users) (load parts side == side.cap * per) all.0 in
       let user : (u : ℕ) × Contains side.users u × ((u == flow) ≡ true) = one_found (λ u. u == flow) side.users two.0 in
       let same : user.0 ≡ flow = eqb-true user.0 flow user.2 in
       record {
@@ -74,8 +69,8 @@ module _ (per : ℕ) (parts : ℕ → ℕ) where
 
   pub fair_if_so : (sides : List Side) → is_fair sides ≡ true → IsFair sides per parts
   fair_if_so sides e =
-      let two : ((nat_lt 0 per && list_all fits sides) ≡ true) × (are_held sides ≡ true) = both_true (nat_lt 0 per && list_all fits sides) (are_held sides) e in
-      let one : (nat_lt 0 per ≡ true) × (list_all fits sides ≡ true) = both_true (nat_lt 0 per) (list_all fits sides) two.0 in
+      let two : ((nat_lt 0 per && list_all fits sides) ≡ true) × (are_held sides ≡ true) = and_parts (nat_lt 0 per && list_all fits sides) (are_held sides) e in
+      let one : (nat_lt 0 per ≡ true) × (list_all fits sides ≡ true) = and_parts (nat_lt 0 per) (list_all fits sides) two.0 in
       let held : All (λ (side : Side). All (λ flow. HasBottleneck sides per parts flow) side.users) sides =
       all_found (λ (side : Side). list_all (λ flow. list_any (holds flow) sides) side.users) (λ (side : Side). All (λ flow. HasBottleneck sides per parts flow) side.users)
       (λ side h. all_found (λ flow. list_any (holds flow) sides) (λ flow. HasBottleneck sides per parts flow) (λ flow k. bottleneck sides flow k) side.users h) sides two.1 in
@@ -132,7 +127,7 @@ module _ {P : Type 0} (cmp : P → P → Ordering) (order : IsTotalOrder cmp) (p
   pub ticks_so : (n : ℕ) (w : World P) → may_tick n w ≡ true → Ticks cmp n w (ticked n w)
   ticks_so zero w e = no_tick
   ticks_so (suc n) w e =
-      let two : (is_planned w ≡ true) × (goes_on (instant cmp (drifts w)) (may_tick n) ≡ true) = both_true (is_planned w) (goes_on (instant cmp (drifts w)) (may_tick n)) e in
+      let two : (is_planned w ≡ true) × (goes_on (instant cmp (drifts w)) (may_tick n) ≡ true) = and_parts (is_planned w) (goes_on (instant cmp (drifts w)) (may_tick n)) e in
       by_instant (instant cmp (drifts w)) refl two.1 (drains w two.0) (ticks_so n)
     where
       by_instant : (c : Course (Completed P) (World P)) → instant cmp (drifts w) ≡ c → goes_on c (may_tick n) ≡ true → Drains cmp w (drifts w)
@@ -170,7 +165,7 @@ module _ {P : Type 0} (cmp : P → P → Ordering) (order : IsTotalOrder cmp) (p
   quiet_if_so : (w : World P) → is_quiet w ≡ true → IsQuiet cmp w.moment w
   quiet_if_so w e =
       let two : (not (list_any (is_done cmp w) w.sending) ≡ true) × (is_empty (ready cmp w.moment w) ≡ true)
-      = both_true (not (list_any (is_done cmp w) w.sending)) (is_empty (ready cmp w.moment w)) e in
+      = and_parts (not (list_any (is_done cmp w) w.sending)) (is_empty (ready cmp w.moment w)) e in
       record { none_done = not_true (list_any (is_done cmp w) w.sending) two.0; none_ready = empty_is (ready cmp w.moment w) two.1 }
 
   loud_if_not : (w : World P) → is_quiet w ≡ false → ¬ IsQuiet cmp w.moment w
@@ -206,11 +201,11 @@ module _ {P : Type 0} (cmp : P → P → Ordering) (order : IsTotalOrder cmp) (p
 
   pub next_so : (n : ℕ) (w : World P) → may_seek n w ≡ true → NextIs cmp w (seek n w)
   next_so zero w e =
-      let two : (is_empty w.sending ≡ true) × (is_empty w.waiting ≡ true) = both_true (is_empty w.sending) (is_empty w.waiting) e in
+      let two : (is_empty w.sending ≡ true) × (is_empty w.waiting ≡ true) = and_parts (is_empty w.sending) (is_empty w.waiting) e in
       never_comes (calm (last_moment - w.moment) w (empty_is w.sending two.0) (empty_is w.waiting two.1)).1
   next_so (suc n) w e =
       let two : (is_planned w ≡ true) × (cond (is_quiet (drifts w)) (may_seek n (drifts w)) (nat_le (drifts w).moment last_moment) ≡ true)
-      = both_true (is_planned w) (cond (is_quiet (drifts w)) (may_seek n (drifts w)) (nat_le (drifts w).moment last_moment)) e in
+      = and_parts (is_planned w) (cond (is_quiet (drifts w)) (may_seek n (drifts w)) (nat_le (drifts w).moment last_moment)) e in
       by_quiet (is_quiet (drifts w)) refl two.1 (drains w two.0) (next_so n)
     where
       by_quiet : (b : Bool) → is_quiet (drifts w) ≡ b → cond b (may_seek n (drifts w)) (nat_le (drifts w).moment last_moment) ≡ true → Drains cmp w (drifts w)
@@ -311,7 +306,7 @@ module _ {P : Type 0} (cmp : P → P → Ordering) (order : IsTotalOrder cmp) (p
         → Replied w accepted call calls (replied (course_of w call now) w (λ v. answers n v calls))
     reply_agrees w accepted call now at e =
         let two : (may_tick (now - w.moment) w ≡ true) × (may_reply (course_of w call now) w (λ v. may_answer n v calls) ≡ true)
-        = both_true (may_tick (now - w.moment) w) (may_reply (course_of w call now) w (λ v. may_answer n v calls)) e in
+        = and_parts (may_tick (now - w.moment) w) (may_reply (course_of w call now) w (λ v. may_answer n v calls)) e in
         by_course (course_of w call now) refl two.0 two.1
       where
         by_course : (c : Course (Completed P) (World P)) → course_of w call now ≡ c → may_tick (now - w.moment) w ≡ true → may_reply c w (λ v. may_answer n v calls) ≡ true
@@ -334,7 +329,7 @@ module _ {P : Type 0} (cmp : P → P → Ordering) (order : IsTotalOrder cmp) (p
   answers_agree n (call_advance now ∷ calls) w accepted e =
       advance_agrees w accepted now calls (replied (course_of w (call_advance now) now) w (λ v. answers n v calls)) (reply_agrees n calls (answers_agree n calls) w accepted (call_advance now) now refl e)
   answers_agree n (call_next ∷ calls) w accepted e =
-      let two : (may_seek n w ≡ true) × (may_answer n w calls ≡ true) = both_true (may_seek n w) (may_answer n w calls) e in
+      let two : (may_seek n w ≡ true) × (may_answer n w calls ≡ true) = and_parts (may_seek n w) (may_answer n w calls) e in
       (next_so n w two.0, answers_agree n calls w accepted two.1)
 
 -- all messages share one cap evenly

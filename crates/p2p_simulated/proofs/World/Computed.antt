@@ -4,7 +4,7 @@ use Rattle.std.specs.Prelude.{max, ◌&&◌, ◌||◌, ◌==◌, nat_le, nat_lt,
 use Rattle.std.specs.List.{find, list_any, list_all, filter, AllZip}
 use Rattle.std.specs.declared.cmp.Ordering.{Ordering}
 use Rattle.std.specs.Cmp.{IsTotalOrder}
-use Rattle.std.proofs.lemmas.Bool.{leb-true, le-leb, ltb-true, ltb-false, eqb-true, eq-eqb, cases_lt}
+use Rattle.std.proofs.lemmas.Bool.{leb-true, le-leb, ltb-true, ltb-false, eqb-true, eq-eqb, cases_lt, and_parts}
 use Rattle.std.proofs.lemmas.Option.{same_Some}
 use Rattle.std.proofs.Math.Bool.{or-true}
 use Rattle.p2p_simulated.specs.declared.error.Error.TheVariants.{OutOfMemory, NumberTooLarge, MomentTooLate, FlowIdsUsedUp}
@@ -18,12 +18,13 @@ use Rattle.p2p_simulated.specs.WorldPlanned.{new_planned, Planned, Paced, IsLeas
 use Rattle.p2p_simulated.specs.WorldEvents.{Accounts, Looks, launched, Launches, nothing_waits, too_early, no_id, starts, landed, Finishes, all_completed, late, stopped, completes, WakesEach, all_started, no_start, no_finish, starts_one, Settles, settling, Recaps, none_sending, some_sending, completed_at_once, with_queued, Enqueues, at_once, no_launch, launches, Advances, no_more, at_finish, at_start, finish_stops, start_stops, Obeys}
 use Rattle.p2p_simulated.specs.WorldRefusals.{MayBeRefused, Obeyed}
 use Rattle.p2p_simulated.proofs.Fairness.Members.{In}
-use Rattle.p2p_simulated.proofs.World.Bytes.{Each, fronts_are_first}
+use Rattle.p2p_simulated.proofs.World.Bytes.{fronts_are_first}
+use Rattle.p2p_simulated.proofs.Each.{Each}
 use Rattle.p2p_simulated.proofs.World.Counting.{first_in_fronts}
 use Rattle.p2p_simulated.proofs.World.Lowest.{spent_later}
 use Rattle.p2p_simulated.proofs.World.Agreeing.{obeyed_agree}
 use Rattle.p2p_simulated.specs.WorldIsolation.{InTime}
-use Rattle.p2p_simulated.proofs.World.Checked.{same_all, Shares, both_true, is_fair, fair_if_so}
+use Rattle.p2p_simulated.proofs.World.Checked.{same_all, Shares, is_fair, fair_if_so}
 
 -- ---- options
 
@@ -140,7 +141,7 @@ module _ {P : Type 0} (cmp : P → P → Ordering) (order : IsTotalOrder cmp) (p
     where
       by_test : (b : Bool) → is_spent_at s f ≡ b → (b || list_any (is_spent_at s) fs) ≡ true → (list_any (is_spent_at s) fs ≡ true → SomeSpentAt fs s) → SomeSpentAt (f ∷ fs) s
       by_test true is e ih =
-          let two : (nat_le f.updated s ≡ true) × (((left_at s f).num == 0) ≡ true) = both_true (nat_le f.updated s) ((left_at s f).num == 0) is in
+          let two : (nat_le f.updated s ≡ true) × (((left_at s f).num == 0) ≡ true) = and_parts (nat_le f.updated s) ((left_at s f).num == 0) is in
           (0, f, refl, leb-true f.updated s two.0, eqb-true (left_at s f).num 0 two.1)
       by_test false is e ih = let rest : SomeSpentAt fs s = ih e in (suc rest.0, rest.1, rest.2, rest.3, rest.4)
 
@@ -165,7 +166,7 @@ module _ {P : Type 0} (cmp : P → P → Ordering) (order : IsTotalOrder cmp) (p
   positive_at : (fs : List (Paced P)) (i : ℕ) (f : Paced P) → list_all is_positive fs ≡ true → slice_get fs i ≡ Some f → (0 < f.left.den) × IfSome f.rate (λ r. 0 < r.den)
   positive_at [] i f e at = cc
   positive_at (g ∷ gs) i f e at =
-      let two : (is_positive g ≡ true) × (list_all is_positive gs ≡ true) = both_true (is_positive g) (list_all is_positive gs) e in
+      let two : (is_positive g ≡ true) × (list_all is_positive gs ≡ true) = and_parts (is_positive g) (list_all is_positive gs) e in
       by_place i at two.0 (λ j h. positive_at gs j f two.1 h)
     where
       by_place : (i : ℕ) → slice_get (g ∷ gs) i ≡ Some f → is_positive g ≡ true → ((j : ℕ) → slice_get gs j ≡ Some f → (0 < f.left.den) × IfSome f.rate (λ r. 0 < r.den))
@@ -174,7 +175,7 @@ module _ {P : Type 0} (cmp : P → P → Ordering) (order : IsTotalOrder cmp) (p
           let same : g ≡ f = the_same at in
           let test : is_positive f ≡ true = ap is_positive (sym same) ∙ here in
           let two : (nat_lt 0 f.left.den ≡ true) × (elim f.rate [ None ↦ true | Some r ↦ nat_lt 0 r.den ] ≡ true)
-          = both_true (nat_lt 0 f.left.den) (elim f.rate [ None ↦ true | Some r ↦ nat_lt 0 r.den ]) test in
+          = and_parts (nat_lt 0 f.left.den) (elim f.rate [ None ↦ true | Some r ↦ nat_lt 0 r.den ]) test in
           (ltb-true 0 f.left.den two.0, positive_rate f.rate two.1)
       by_place (suc j) at here rest = rest j at
 
@@ -200,7 +201,7 @@ module _ {P : Type 0} (cmp : P → P → Ordering) (order : IsTotalOrder cmp) (p
       by_test true is e = let same : from ≡ t = eqb-true from t is in omega arith
       by_test false is e =
           let two : (list_all is_positive sending ≡ true) × (not (list_any (is_spent_at (from - 1)) sending) ≡ true)
-          = both_true (list_all is_positive sending) (not (list_any (is_spent_at (from - 1)) sending)) e in
+          = and_parts (list_all is_positive sending) (not (list_any (is_spent_at (from - 1)) sending)) e in
           by_order (cases_lt s from) two.0 two.1
 
   no_flight : (fs : List (Paced P)) (s : ℕ) → is_none_of fs ≡ true → SomeSpentAt fs s → ⊥
@@ -258,7 +259,7 @@ module _ {P : Type 0} (cmp : P → P → Ordering) (order : IsTotalOrder cmp) (p
 
   ready_if_so : (t : ℕ) (p : Planned P) (s : ℕ) → is_ready_at t p s ≡ true → (t ≤ s) × SomeReadyAt cmp p s
   ready_if_so t p s e =
-      let two : (nat_le t s ≡ true) × (list_any (may_launch cmp s p) (fronts cmp p.waiting) ≡ true) = both_true (nat_le t s) (list_any (may_launch cmp s p) (fronts cmp p.waiting)) e in
+      let two : (nat_le t s ≡ true) × (list_any (may_launch cmp s p) (fronts cmp p.waiting) ≡ true) = and_parts (nat_le t s) (list_any (may_launch cmp s p) (fronts cmp p.waiting)) e in
       (leb-true t s two.0, found_in (fronts cmp p.waiting) (fronts_are_first cmp order p.waiting) two.1)
     where
       found_in : (ms : List (Message P)) → Each (λ m. find (same_pair cmp m) p.waiting ≡ Some m) ms → list_any (may_launch cmp s p) ms ≡ true → SomeReadyAt cmp p s
@@ -280,7 +281,7 @@ module _ {P : Type 0} (cmp : P → P → Ordering) (order : IsTotalOrder cmp) (p
   found_all : (test kind : Message P → Bool) (ws : List (Message P)) (m : Message P) → find test ws ≡ Some m → list_all kind ws ≡ true → kind m ≡ true
   found_all test kind [] m e all = cc
   found_all test kind (w ∷ ws) m e all =
-      let two : (kind w ≡ true) × (list_all kind ws ≡ true) = both_true (kind w) (list_all kind ws) all in
+      let two : (kind w ≡ true) × (list_all kind ws ≡ true) = and_parts (kind w) (list_all kind ws) all in
       by_test (test w) e two.0 (λ h. found_all test kind ws m h two.1)
     where
       by_test : (b : Bool) → cond b (Some w) (find test ws) ≡ Some m → kind w ≡ true → (find test ws ≡ Some m → kind m ≡ true) → kind m ≡ true
@@ -293,7 +294,7 @@ module _ {P : Type 0} (cmp : P → P → Ordering) (order : IsTotalOrder cmp) (p
       = found_all (same_pair cmp some.0) (λ m. list_any (same_pair cmp m) (paced_flows p.sending)) p.waiting some.0 some.1 e in
       let may : may_launch cmp s p some.0 ≡ true = some.2 in
       let parts : (not (list_any (same_pair cmp some.0) (paced_flows p.sending)) ≡ true) × (is_in_order (p.last_arrival some.0.origin some.0.recipient) (s + some.0.latency) ≡ true)
-      = both_true (not (list_any (same_pair cmp some.0) (paced_flows p.sending))) (is_in_order (p.last_arrival some.0.origin some.0.recipient) (s + some.0.latency)) may in
+      = and_parts (not (list_any (same_pair cmp some.0) (paced_flows p.sending))) (is_in_order (p.last_arrival some.0.origin some.0.recipient) (s + some.0.latency)) may in
       not_both (list_any (same_pair cmp some.0) (paced_flows p.sending)) busy parts.0
     where
       not_both : (b : Bool) → b ≡ true → not b ≡ true → ⊥
@@ -640,7 +641,7 @@ in_time_so : {P : Type 0} (calls : List (Call P)) → are_in_time calls ≡ true
 in_time_so [] e = tt
 in_time_so (call ∷ calls) e =
     let two : (elim (moment_of call) [ None ↦ true | Some now ↦ nat_le now last_moment ] ≡ true) × (are_in_time calls ≡ true)
-    = both_true (elim (moment_of call) [ None ↦ true | Some now ↦ nat_le now last_moment ]) (are_in_time calls) e in
+    = and_parts (elim (moment_of call) [ None ↦ true | Some now ↦ nat_le now last_moment ]) (are_in_time calls) e in
     (by_moment (moment_of call) two.0, in_time_so calls two.1)
   where
     by_moment : (o : Option ℕ) → elim o [ None ↦ true | Some now ↦ nat_le now last_moment ] ≡ true → (now : ℕ) → o ≡ Some now → now ≤ last_moment

@@ -18,7 +18,7 @@ use Rattle.p2p_simulated.specs.Conserved.{of_pair, held_of}
 use Rattle.p2p_simulated.proofs.World.Queue.{find_passes, any_like}
 use Rattle.p2p_simulated.proofs.World.Rests.{find_like}
 use Rattle.p2p_simulated.proofs.World.Launch.{rest_of, head_of, head_found, waits_without}
-use Rattle.p2p_simulated.proofs.World.Instant.{both_joined}
+use Rattle.p2p_simulated.proofs.Zips.{zip-append}
 use Rattle.p2p_simulated.proofs.World.Enqueue.{queued_last}
 use Rattle.p2p_simulated.proofs.World.PairHistory.{filter_nothing}
 use Rattle.p2p_simulated.proofs.World.Orderly.{drained_messages, stayed_messages, any_of_fewer, IsSteady, steady, idle_if_may, launched_steady, account_orderly, launch_orderly, landed_orderly, finish_orderly, wake_orderly, settle_orderly, no_finish_steady, no_start_orderly, recapped_steady, limited_by_alike, linked_by_alike, queued_orderly}
@@ -140,7 +140,7 @@ module _ {P : Type 0} (cmp : P → P → Ordering) (order : IsTotalOrder cmp) wh
   moves_then : (queue : List (Message P)) (p q r : Planned P) (cs ds : List (Completed P)) → Moves queue p cs q → Moves [] q ds r → Moves queue p (cs ++ ds) r
   moves_then queue p q r cs ds a b = record {
     done = a.done ++ b.done;
-    completions_are = both_joined IsCompletionOf cs a.done ds b.done a.completions_are b.completions_are;
+    completions_are = zip-append IsCompletionOf cs ds a.done b.done a.completions_are b.completions_are;
     each_pair = λ k.
         ap (λ (ms : List (Message P)). ms ++ held_of cmp k r) (filter-append (same_pair cmp k) a.done b.done) ∙ append_assoc (of_pair cmp k a.done) (of_pair cmp k b.done) (held_of cmp k r)
         ∙ ap (λ (ms : List (Message P)). of_pair cmp k a.done ++ ms) (b.each_pair k) ∙ a.each_pair k;

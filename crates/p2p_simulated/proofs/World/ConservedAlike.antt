@@ -18,18 +18,18 @@ use Rattle.p2p_simulated.specs.SamePlanned.{IsSamePlanned, Goes}
 use Rattle.p2p_simulated.specs.Orderly.{IsOrderly}
 use Rattle.p2p_simulated.specs.Conserved.{of_pair, held_of, IsConserved, AreConserved}
 use Rattle.p2p_simulated.proofs.World.Alike.{pairs_alike, message_itself}
-use Rattle.p2p_simulated.proofs.World.Instant.{both_joined}
 use Rattle.p2p_simulated.proofs.World.Orderly.{obeys_orderly}
 use Rattle.p2p_simulated.proofs.World.Conserved.{IsKept, call_keeps}
 use Rattle.p2p_simulated.proofs.World.PairHistory.{enqueued_split}
-use Rattle.p2p_simulated.proofs.World.SameWorlds.{zip_itself, zip_turned, zip_chain, message_turned, message_chain}
-use Rattle.p2p_simulated.proofs.World.SameSteps.{filter_same, flows_same}
+use Rattle.p2p_simulated.proofs.World.SameWorlds.{zip_turned, message_turned, message_chain}
+use Rattle.p2p_simulated.proofs.Zips.{zip_chain, zip-filter, zip-same, zip-append}
+use Rattle.p2p_simulated.proofs.World.SameSteps.{flows_same}
 
 module _ {P : Type 0} (cmp : P → P → Ordering) (order : IsTotalOrder cmp) where
   -- ---- messages that are the same
 
   itself : (ms : List (Message P)) → AllZip (SameMessage cmp) ms ms
-  itself ms = zip_itself (SameMessage cmp) (message_itself cmp order) ms
+  itself ms = zip-same (SameMessage cmp) (message_itself cmp order) ms
 
   turned : (ms ns : List (Message P)) → AllZip (SameMessage cmp) ms ns → AllZip (SameMessage cmp) ns ms
   turned ms ns all = zip_turned (SameMessage cmp) (SameMessage cmp) (message_turned cmp order) ms ns all
@@ -38,11 +38,11 @@ module _ {P : Type 0} (cmp : P → P → Ordering) (order : IsTotalOrder cmp) wh
   chain ms ns ks first second = zip_chain (SameMessage cmp) (SameMessage cmp) (SameMessage cmp) (message_chain cmp order) ms ns ks first second
 
   of_pair_alike : (k : Message P) (ms ns : List (Message P)) → AllZip (SameMessage cmp) ms ns → AllZip (SameMessage cmp) (of_pair cmp k ms) (of_pair cmp k ns)
-  of_pair_alike k ms ns all = filter_same (SameMessage cmp) (same_pair cmp k) (same_pair cmp k) (λ m n same. pairs_alike cmp order k k m n (message_itself cmp order k) same) ms ns all
+  of_pair_alike k ms ns all = zip-filter (SameMessage cmp) (same_pair cmp k) (same_pair cmp k) (λ m n same. pairs_alike cmp order k k m n (message_itself cmp order k) same) ms ns all
 
   held_alike : (k : Message P) (p q : Planned P) → IsSamePlanned cmp p q → AllZip (SameMessage cmp) (held_of cmp k q) (held_of cmp k p)
   held_alike k p q same =
-      both_joined (SameMessage cmp) (of_pair cmp k (paced_flows q.sending)) (of_pair cmp k (paced_flows p.sending)) (of_pair cmp k q.waiting) (of_pair cmp k p.waiting)
+      zip-append (SameMessage cmp) (of_pair cmp k (paced_flows q.sending)) (of_pair cmp k q.waiting) (of_pair cmp k (paced_flows p.sending)) (of_pair cmp k p.waiting)
       (of_pair_alike k (paced_flows q.sending) (paced_flows p.sending) (turned (paced_flows p.sending) (paced_flows q.sending) (flows_same cmp order p.sending q.sending same.sending))) (of_pair_alike k q.waiting p.waiting (turned p.waiting q.waiting same.waiting))
 
   -- ---- completions that are the same
@@ -87,7 +87,7 @@ module _ {P : Type 0} (cmp : P → P → Ordering) (order : IsTotalOrder cmp) wh
         done = are.messages;
         completions_are = are.completions_are;
         each_pair = λ k. subst (λ (ms : List (Message P)). AllZip (SameMessage cmp) (of_pair cmp k are.messages ++ held_of cmp k q) ms) (kept.each_pair k)
-            (both_joined (SameMessage cmp) (of_pair cmp k are.messages) (of_pair cmp k kept.done) (held_of cmp k q) (held_of cmp k after) (of_pair_alike k are.messages kept.done are.same) (alike k));
+            (zip-append (SameMessage cmp) (of_pair cmp k are.messages) (held_of cmp k q) (of_pair cmp k kept.done) (held_of cmp k after) (of_pair_alike k are.messages kept.done are.same) (alike k));
       }
 
   pub goes_conserved : (p q : Planned P) (call : Call P) (cs : List (Completed P)) → Goes cmp p call cs q → IsOrderly cmp p → IsConserved cmp p (enqueued (call ∷ [])) cs q
@@ -99,16 +99,16 @@ module _ {P : Type 0} (cmp : P → P → Ordering) (order : IsTotalOrder cmp) wh
   both_done : (d h p m e r n : List (Message P)) → AllZip (SameMessage cmp) (d ++ h) (p ++ m) → AllZip (SameMessage cmp) (e ++ r) (h ++ n) → AllZip (SameMessage cmp) ((d ++ e) ++ r) (p ++ (m ++ n))
   both_done d h p m e r n first second =
       subst (λ (xs : List (Message P)). AllZip (SameMessage cmp) xs (p ++ (m ++ n))) (sym (append_assoc d e r))
-      (chain (d ++ (e ++ r)) (d ++ (h ++ n)) (p ++ (m ++ n)) (both_joined (SameMessage cmp) d d (e ++ r) (h ++ n) (itself d) second)
+      (chain (d ++ (e ++ r)) (d ++ (h ++ n)) (p ++ (m ++ n)) (zip-append (SameMessage cmp) d (e ++ r) d (h ++ n) (itself d) second)
       (subst (λ (xs : List (Message P)). AllZip (SameMessage cmp) xs (p ++ (m ++ n))) (append_assoc d h n)
-      (subst (AllZip (SameMessage cmp) ((d ++ h) ++ n)) (append_assoc p m n) (both_joined (SameMessage cmp) (d ++ h) (p ++ m) n n first (itself n)))))
+      (subst (AllZip (SameMessage cmp) ((d ++ h) ++ n)) (append_assoc p m n) (zip-append (SameMessage cmp) (d ++ h) n (p ++ m) n first (itself n)))))
 
   -- one stretch and then another
   pub conserved_then : (p q r : Planned P) (ms ns : List (Message P)) (cs ds : List (Completed P)) → IsConserved cmp p ms cs q → IsConserved cmp q ns ds r
       → IsConserved cmp p (ms ++ ns) (cs ++ ds) r
   conserved_then p q r ms ns cs ds a b = record {
     done = a.done ++ b.done;
-    completions_are = both_joined IsCompletionOf cs a.done ds b.done a.completions_are b.completions_are;
+    completions_are = zip-append IsCompletionOf cs ds a.done b.done a.completions_are b.completions_are;
     each_pair = λ k.
         subst (λ (xs : List (Message P)). AllZip (SameMessage cmp) (xs ++ held_of cmp k r) (held_of cmp k p ++ of_pair cmp k (ms ++ ns))) (sym (filter-append (same_pair cmp k) a.done b.done))
         (subst (λ (ys : List (Message P)). AllZip (SameMessage cmp) ((of_pair cmp k a.done ++ of_pair cmp k b.done) ++ held_of cmp k r) (held_of cmp k p ++ ys)) (sym (filter-append (same_pair cmp k) ms ns))

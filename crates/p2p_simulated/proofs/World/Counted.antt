@@ -11,7 +11,8 @@ use Rattle.p2p_simulated.specs.WorldPlanned.{Planned, paced_flows}
 use Rattle.p2p_simulated.specs.Conserved.{of_pair, held_of, IsConserved}
 use Rattle.p2p_simulated.proofs.World.Queue.{pair_sym, pair_like}
 use Rattle.p2p_simulated.proofs.World.Others.{pair_itself}
-use Rattle.p2p_simulated.proofs.World.Counting.{split_length, zip_length, map_length}
+use Rattle.p2p_simulated.proofs.World.Counting.{split_length, map_length}
+use Rattle.p2p_simulated.proofs.Zips.{zip-length}
 
 module _ {P : Type 0} (cmp : P → P → Ordering) (order : IsTotalOrder cmp) where
   -- those of other pairs
@@ -75,7 +76,7 @@ module _ {P : Type 0} (cmp : P → P → Ordering) (order : IsTotalOrder cmp) wh
   as_long (suc most) (m ∷ ms) ns le alike =
       let few : length (others_than m (m ∷ ms)) ≤ most = subst (λ (xs : List (Message P)). length xs ≤ most) (sym (without_own m ms)) (let less : length (others_than m ms) ≤ length ms = shorter _ ms in omega arith) in
       let rest : length (others_than m (m ∷ ms)) ≡ length (others_than m ns) = as_long most (others_than m (m ∷ ms)) (others_than m ns) few (others_alike m (m ∷ ms) ns alike) in
-      let own : length (of_pair cmp m (m ∷ ms)) ≡ length (of_pair cmp m ns) = zip_length (SameMessage cmp) (of_pair cmp m (m ∷ ms)) (of_pair cmp m ns) (alike m) in
+      let own : length (of_pair cmp m (m ∷ ms)) ≡ length (of_pair cmp m ns) = zip-length (SameMessage cmp) (of_pair cmp m (m ∷ ms)) (of_pair cmp m ns) (alike m) in
       let left : length (of_pair cmp m (m ∷ ms)) + length (others_than m (m ∷ ms)) ≡ length (m ∷ ms) = split_length (same_pair cmp m) (m ∷ ms) in
       let right : length (of_pair cmp m ns) + length (others_than m ns) ≡ length ns = split_length (same_pair cmp m) ns in
       sym left ∙ ap (λ n. n + length (others_than m (m ∷ ms))) own ∙ ap (λ n. length (of_pair cmp m ns) + n) rest ∙ right
@@ -85,7 +86,7 @@ module _ {P : Type 0} (cmp : P → P → Ordering) (order : IsTotalOrder cmp) wh
   all_counted p q messages cs a =
       let same : length (a.done ++ (paced_flows q.sending ++ q.waiting)) ≡ length ((paced_flows p.sending ++ p.waiting) ++ messages)
       = as_long (length (a.done ++ (paced_flows q.sending ++ q.waiting))) (a.done ++ (paced_flows q.sending ++ q.waiting)) ((paced_flows p.sending ++ p.waiting) ++ messages) (omega arith) alike in
-      let told : length cs ≡ length a.done = zip_length IsCompletionOf cs a.done a.completions_are in
+      let told : length cs ≡ length a.done = zip-length IsCompletionOf cs a.done a.completions_are in
       let left : length (a.done ++ (paced_flows q.sending ++ q.waiting)) ≡ length a.done + length (paced_flows q.sending ++ q.waiting) = length-append a.done (paced_flows q.sending ++ q.waiting) in
       let held : length (paced_flows q.sending ++ q.waiting) ≡ length (paced_flows q.sending) + length q.waiting = length-append (paced_flows q.sending) q.waiting in
       let right : length ((paced_flows p.sending ++ p.waiting) ++ messages) ≡ length (paced_flows p.sending ++ p.waiting) + length messages = length-append (paced_flows p.sending ++ p.waiting) messages in

@@ -14,8 +14,10 @@ use Rattle.p2p_simulated.specs.WorldEvents.{Accounts, Looks, Launches, nothing_w
 use Rattle.p2p_simulated.proofs.Fairness.Members.{In, in_filter}
 use Rattle.p2p_simulated.proofs.World.Rests.{find_like, length_without}
 use Rattle.p2p_simulated.proofs.World.Queue.{find_passes, pair_sym}
-use Rattle.p2p_simulated.proofs.World.Bytes.{Each, each_filter, fronts_are_first}
+use Rattle.p2p_simulated.proofs.World.Bytes.{each_filter, fronts_are_first}
+use Rattle.p2p_simulated.proofs.Each.{Each}
 use Rattle.p2p_simulated.proofs.World.Advance.{earlier_start}
+use Rattle.p2p_simulated.proofs.Zips.{zip-length}
 
 -- what there is to do: each waiting message starts and completes, each in flight completes
 abbrev pub to_do : {P : Type 0} → Planned P → ℕ
@@ -29,12 +31,6 @@ split_length {X} test (x ∷ xs) = by_test (test x) (split_length test xs)
         → length (cond b (x ∷ filter test xs) (filter test xs)) + length (cond (not b) (x ∷ filter (λ y. not (test y)) xs) (filter (λ y. not (test y)) xs)) ≡ length (x ∷ xs)
     by_test true ih = omega (arith, ih)
     by_test false ih = omega (arith, ih)
-
-pub zip_length : {X Y : Type 0} (R : X → Y → Type 0) (xs : List X) (ys : List Y) → AllZip R xs ys → length xs ≡ length ys
-zip_length R [] [] all = refl
-zip_length R [] (y ∷ ys) all = absurd all
-zip_length R (x ∷ xs) [] all = absurd all
-zip_length R (x ∷ xs) (y ∷ ys) all = ap suc (zip_length R xs ys all.1)
 
 module _ {P : Type 0} (cmp : P → P → Ordering) (order : IsTotalOrder cmp) where
   -- ---- what each step leaves to do
@@ -52,7 +48,7 @@ module _ {P : Type 0} (cmp : P → P → Ordering) (order : IsTotalOrder cmp) wh
       let all : List (Paced P) = drained_to t old.sending in
       let out : length leavers ≡ length (filter (is_spent cmp old.caps) all) = ap (λ (ms : List (Message P)). length ms) account.left ∙ map_length (filter (is_spent cmp old.caps) all) in
       let stay : length (filter (λ (f : Paced P). not (is_spent cmp old.caps f)) all) ≡ length new.sending
-      = zip_length (λ (f g : Paced P). (g.message ≡ f.message) × (g.left ≡ f.left) × (g.updated ≡ t)) (filter (λ (f : Paced P). not (is_spent cmp old.caps f)) all) new.sending account.stayed in
+      = zip-length (λ (f g : Paced P). (g.message ≡ f.message) × (g.left ≡ f.left) × (g.updated ≡ t)) (filter (λ (f : Paced P). not (is_spent cmp old.caps f)) all) new.sending account.stayed in
       let both : length (filter (is_spent cmp old.caps) all) + length (filter (λ (f : Paced P). not (is_spent cmp old.caps f)) all) ≡ length old.sending
       = split_length (is_spent cmp old.caps) all ∙ drained_length t old.sending in
       let same : length new.waiting ≡ length old.waiting = ap (λ (q : Planned P). length q.waiting) account.same in

@@ -13,6 +13,9 @@ use Rattle.p2p_simulated.proofs.World.Queue.{settle_none, settle_first}
 use Rattle.p2p_simulated.proofs.World.Rests.{ends_preceded, ends_and_then, ends_cond, NoneDone, settle_rests}
 use Rattle.p2p_simulated.proofs.World.Bytes.{wake_none, wake_first}
 use Rattle.p2p_simulated.proofs.World.Split.{rest_is}
+use Rattle.p2p_simulated.proofs.Filters.{find_from_any}
+use Rattle.p2p_simulated.proofs.World.Calm.{settle_nothing}
+use Rattle.p2p_simulated.proofs.World.Event.{instant_quiet}
 
 module _ {P : Type 0} (cmp : P → P → Ordering) (order : IsTotalOrder cmp) where
   -- ---- a predicate that no start and no completion changes
@@ -107,27 +110,9 @@ module _ {P : Type 0} (cmp : P → P → Ordering) (order : IsTotalOrder cmp) wh
 
   -- ---- quiet nanoseconds
 
-  quiet_find : {X : Type 0} (test : X → Bool) (xs : List X) → list_any test xs ≡ false → find test xs ≡ None
-  quiet_find test [] e = refl
-  quiet_find {X} test (x ∷ xs) e = by_test (test x) e (λ g. quiet_find test xs g)
-    where
-      by_test : (b : Bool) → (b || list_any test xs) ≡ false → (list_any test xs ≡ false → find test xs ≡ None) → cond b (Some x) (find test xs) ≡ None
-      by_test true g ih = cc
-      by_test false g ih = ih g
-
-  settle_quiet : (n t : ℕ) (v : World P) → find (is_done cmp v) v.sending ≡ None → settle_within cmp n t v ≡ goes [] v
-  settle_quiet zero t v e = refl
-  settle_quiet (suc n) t v e = settle_none cmp order n t v e
-
   wake_quiet : (n t : ℕ) (v : World P) → ready cmp t v ≡ [] → wake_within cmp n t v ≡ goes [] v
   wake_quiet zero t v e = refl
   wake_quiet (suc n) t v e = wake_none cmp order n t v (ap (least_pair cmp) e)
-
-  -- at a quiet moment nothing happens
-  pub quiet_instant : (v : World P) → IsQuiet cmp v.moment v → instant cmp v ≡ goes [] v
-  quiet_instant v q =
-      ap (λ (c : Course (Completed P) (World P)). and_then c (λ u. wake cmp u.moment u)) (settle_quiet (length v.sending + length v.waiting) v.moment v (quiet_find (is_done cmp v) v.sending q.none_done))
-      ∙ ap (preceded []) (wake_quiet (length v.waiting) v.moment v q.none_ready)
 
   is_quiet_or_not : (v : World P) → IsQuiet cmp v.moment v ⊎ (¬ IsQuiet cmp v.moment v)
   is_quiet_or_not v = by_done (list_any (is_done cmp v) v.sending) refl (ready cmp v.moment v) refl
@@ -160,7 +145,7 @@ module _ {P : Type 0} (cmp : P → P → Ordering) (order : IsTotalOrder cmp) wh
           → (cs ≡ []) ⊎ ((t : ℕ) × (t ≤ w.moment + suc n) × NextIs cmp w (Some t))
       by_quiet (inr loud) at join ih = inr (z.moment, omega arith, comes_next no_time d loud (omega arith))
       by_quiet (inl q) at {es} join ih =
-          let same : goes [] z ≡ goes ds u = sym (quiet_instant z q) ∙ i in
+          let same : goes [] z ≡ goes ds u = sym (instant_quiet cmp order z q) ∙ i in
           let empty : ds ≡ [] = cc in
           let here : u ≡ z = cc in
           let there : u.moment ≡ z.moment = ap (λ (y : World P). y.moment) here in

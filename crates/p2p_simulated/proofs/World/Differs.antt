@@ -4,7 +4,7 @@ use Rattle.std.specs.Prelude.{◌&&◌, ◌||◌, ◌==◌, nat_le, nat_lt, IfSo
 use Rattle.std.specs.List.{AllZip}
 use Rattle.std.specs.declared.cmp.Ordering.{Ordering}
 use Rattle.std.specs.Cmp.{IsTotalOrder}
-use Rattle.std.proofs.lemmas.Bool.{leb-true, ltb-true, eq-eqb}
+use Rattle.std.proofs.lemmas.Bool.{leb-true, ltb-true, eq-eqb, and_parts}
 use Rattle.p2p_simulated.specs.Sides.{same_peer}
 use Rattle.p2p_simulated.specs.World.{World, new_world, Completed, Course, goes, meets, EndsWith}
 use Rattle.p2p_simulated.specs.WorldTime.{IsSound}
@@ -13,7 +13,7 @@ use Rattle.p2p_simulated.specs.WorldReplies.{Reply, reply_done, reply_next, repl
 use Rattle.p2p_simulated.proofs.World.OneNext.{next_is_one}
 use Rattle.p2p_simulated.proofs.World.OneRun.{runs_are_one}
 use Rattle.p2p_simulated.proofs.World.Sound.{call_keeps_sound, new_world_sound}
-use Rattle.p2p_simulated.proofs.World.Checked.{Shares, both_true, may_tick, may_seek, seek, next_so, course_of, runs_so}
+use Rattle.p2p_simulated.proofs.World.Checked.{Shares, may_tick, may_seek, seek, next_so, course_of, runs_so}
 
 module _ {P : Type 0} (cmp : P → P → Ordering) (order : IsTotalOrder cmp) (plan : World P → Shares) where
   -- ---- tests
@@ -85,8 +85,8 @@ module _ {P : Type 0} (cmp : P → P → Ordering) (order : IsTotalOrder cmp) (p
   in_turn : (n : ℕ) (w : World P) (now : ℕ) → IsSound cmp w → before_next n w now ≡ true → (w.moment ≤ now) × IsBeforeNext cmp now w
   in_turn n w now sound e =
       let two : ((nat_le w.moment now && may_seek cmp order plan n w) ≡ true) × (is_later (seek cmp order plan n w) now ≡ true)
-      = both_true (nat_le w.moment now && may_seek cmp order plan n w) (is_later (seek cmp order plan n w) now) e in
-      let one : (nat_le w.moment now ≡ true) × (may_seek cmp order plan n w ≡ true) = both_true (nat_le w.moment now) (may_seek cmp order plan n w) two.0 in
+      = and_parts (nat_le w.moment now && may_seek cmp order plan n w) (is_later (seek cmp order plan n w) now) e in
+      let one : (nat_le w.moment now ≡ true) × (may_seek cmp order plan n w ≡ true) = and_parts (nat_le w.moment now) (may_seek cmp order plan n w) two.0 in
       (leb-true w.moment now one.0, λ next is. by_next next (next_is_one cmp order w next (seek cmp order plan n w) sound.positive is (next_so cmp order plan n w one.1)) two.1)
     where
       by_next : (next : Option ℕ) → next ≡ seek cmp order plan n w → is_later (seek cmp order plan n w) now ≡ true → IfSome next (λ t. now < t)
@@ -106,7 +106,7 @@ module _ {P : Type 0} (cmp : P → P → Ordering) (order : IsTotalOrder cmp) (p
       → differ_at w call now (reply_done cs) (λ v. differ n v calls replies) ≡ true → ¬ Accepted w accepted call calls cs replies
   not_done n w accepted call calls now cs replies ih sound at e (now_too, ds, v, at_too, runs, same, rest) =
       let two : (may_tick cmp order plan (now - w.moment) w ≡ true) × (differ_done (course_of cmp order plan w call now) cs (λ u. differ n u calls replies) ≡ true)
-      = both_true (may_tick cmp order plan (now - w.moment) w) (differ_done (course_of cmp order plan w call now) cs (λ u. differ n u calls replies)) e in
+      = and_parts (may_tick cmp order plan (now - w.moment) w) (differ_done (course_of cmp order plan w call now) cs (λ u. differ n u calls replies)) e in
       let here : Some now_too ≡ Some now = sym at_too ∙ at in
       let it : now_too ≡ now = cc in
       let runs_here : Runs cmp w call now (goes ds v) = subst (λ (t : ℕ). Runs cmp w call t (goes ds v)) it runs in
@@ -123,38 +123,38 @@ module _ {P : Type 0} (cmp : P → P → Ordering) (order : IsTotalOrder cmp) (p
   disagree n (call ∷ calls) [] w accepted sound e agrees = agrees
   disagree n (call_next ∷ calls) (reply_next t ∷ replies) w accepted sound e agrees =
       let two : (may_seek cmp order plan n w ≡ true) × ((not (same_moment (seek cmp order plan n w) t) || differ n w calls replies) ≡ true)
-      = both_true (may_seek cmp order plan n w) (not (same_moment (seek cmp order plan n w) t) || differ n w calls replies) e in
+      = and_parts (may_seek cmp order plan n w) (not (same_moment (seek cmp order plan n w) t) || differ n w calls replies) e in
       let same : seek cmp order plan n w ≡ t = next_is_one cmp order w (seek cmp order plan n w) t sound.positive (next_so cmp order plan n w two.0) agrees.0 in
       either (same_moment (seek cmp order plan n w) t) (differ n w calls replies) two.1 (moment_shown (seek cmp order plan n w) t same) (λ d. disagree n calls replies w accepted sound d agrees.1)
   disagree n (call_next ∷ calls) (reply_done cs ∷ replies) w accepted sound e agrees = agrees
   disagree n (call_next ∷ calls) (reply_refused why ∷ replies) w accepted sound e agrees = agrees
   disagree n (call_limit now peer egress ingress ∷ calls) (reply_next t ∷ replies) w accepted sound e agrees = agrees
   disagree n (call_limit now peer egress ingress ∷ calls) (reply_done cs ∷ replies) w accepted sound e agrees =
-      let two = both_true (before_next n w now) (differ_at w (call_limit now peer egress ingress) now (reply_done cs) (λ v. differ n v calls replies)) e in
+      let two = and_parts (before_next n w now) (differ_at w (call_limit now peer egress ingress) now (reply_done cs) (λ v. differ n v calls replies)) e in
       not_done n w accepted (call_limit now peer egress ingress) calls now cs replies (disagree n calls replies) sound refl two.1 (agrees (in_turn n w now sound two.0))
   disagree n (call_limit now peer egress ingress ∷ calls) (reply_refused why ∷ replies) w accepted sound e agrees =
-      let two = both_true (before_next n w now) (differ_at w (call_limit now peer egress ingress) now (reply_refused why) (λ v. differ n v calls replies)) e in
+      let two = and_parts (before_next n w now) (differ_at w (call_limit now peer egress ingress) now (reply_refused why) (λ v. differ n v calls replies)) e in
       disagree n calls replies w accepted sound two.1 (agrees (in_turn n w now sound two.0)).1
   disagree n (call_limit_link now origin recipient cap ∷ calls) (reply_next t ∷ replies) w accepted sound e agrees = agrees
   disagree n (call_limit_link now origin recipient cap ∷ calls) (reply_done cs ∷ replies) w accepted sound e agrees =
-      let two = both_true (before_next n w now) (differ_at w (call_limit_link now origin recipient cap) now (reply_done cs) (λ v. differ n v calls replies)) e in
+      let two = and_parts (before_next n w now) (differ_at w (call_limit_link now origin recipient cap) now (reply_done cs) (λ v. differ n v calls replies)) e in
       not_done n w accepted (call_limit_link now origin recipient cap) calls now cs replies (disagree n calls replies) sound refl two.1 (agrees (in_turn n w now sound two.0))
   disagree n (call_limit_link now origin recipient cap ∷ calls) (reply_refused why ∷ replies) w accepted sound e agrees =
-      let two = both_true (before_next n w now) (differ_at w (call_limit_link now origin recipient cap) now (reply_refused why) (λ v. differ n v calls replies)) e in
+      let two = and_parts (before_next n w now) (differ_at w (call_limit_link now origin recipient cap) now (reply_refused why) (λ v. differ n v calls replies)) e in
       disagree n calls replies w accepted sound two.1 (agrees (in_turn n w now sound two.0)).1
   disagree n (call_enqueue now m ∷ calls) (reply_next t ∷ replies) w accepted sound e agrees = agrees
   disagree n (call_enqueue now m ∷ calls) (reply_done cs ∷ replies) w accepted sound e agrees =
-      let two = both_true (before_next n w now) (differ_at w (call_enqueue now m) now (reply_done cs) (λ v. differ n v calls replies)) e in
+      let two = and_parts (before_next n w now) (differ_at w (call_enqueue now m) now (reply_done cs) (λ v. differ n v calls replies)) e in
       not_done n w accepted (call_enqueue now m) calls now cs replies (disagree n calls replies) sound refl two.1 (agrees (in_turn n w now sound two.0))
   disagree n (call_enqueue now m ∷ calls) (reply_refused why ∷ replies) w accepted sound e agrees =
-      let two = both_true (before_next n w now) (differ_at w (call_enqueue now m) now (reply_refused why) (λ v. differ n v calls replies)) e in
+      let two = and_parts (before_next n w now) (differ_at w (call_enqueue now m) now (reply_refused why) (λ v. differ n v calls replies)) e in
       disagree n calls replies w accepted sound two.1 (agrees (in_turn n w now sound two.0)).1
   disagree n (call_advance now ∷ calls) (reply_next t ∷ replies) w accepted sound e agrees = agrees
   disagree n (call_advance now ∷ calls) (reply_done cs ∷ replies) w accepted sound e agrees =
-      let two = both_true (nat_le w.moment now) (differ_at w (call_advance now) now (reply_done cs) (λ v. differ n v calls replies)) e in
+      let two = and_parts (nat_le w.moment now) (differ_at w (call_advance now) now (reply_done cs) (λ v. differ n v calls replies)) e in
       not_done n w accepted (call_advance now) calls now cs replies (disagree n calls replies) sound refl two.1 (agrees (leb-true w.moment now two.0))
   disagree n (call_advance now ∷ calls) (reply_refused why ∷ replies) w accepted sound e agrees =
-      let two = both_true (nat_le w.moment now) (differ_at w (call_advance now) now (reply_refused why) (λ v. differ n v calls replies)) e in
+      let two = and_parts (nat_le w.moment now) (differ_at w (call_advance now) now (reply_refused why) (λ v. differ n v calls replies)) e in
       disagree n calls replies w accepted sound two.1 (agrees (leb-true w.moment now two.0)).1
 
   -- from the new world on

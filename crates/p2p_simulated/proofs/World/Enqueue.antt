@@ -14,17 +14,21 @@ use Rattle.p2p_simulated.specs.WorldMessages.{Message, SameMessage, pair_before,
 use Rattle.p2p_simulated.specs.WorldPlanned.{AreInPairOrder, Planned, may_launch, next_event, next_of, queued}
 use Rattle.p2p_simulated.specs.WorldStands.{CoursesAlike, Follows, IsSettled, StandsFor, Tallies}
 use Rattle.p2p_simulated.specs.WorldQueue.{flight, taken, joined, finish_within}
-use Rattle.p2p_simulated.proofs.World.Queue.{pair_sym, pair_like, find_passes}
-use Rattle.p2p_simulated.proofs.World.Between.{Each, each_map, filter_none, find_like, may_alike, messages_alike}
+use Rattle.p2p_simulated.proofs.World.Queue.{pair_sym, pair_like, find_passes, preceded_none}
+use Rattle.p2p_simulated.proofs.World.Between.{filter_none, may_alike, messages_alike}
+use Rattle.p2p_simulated.proofs.World.Rests.{find_like}
+use Rattle.p2p_simulated.proofs.Each.{Each, each_map}
 use Rattle.p2p_simulated.proofs.World.Alike.{message_itself}
-use Rattle.p2p_simulated.proofs.World.Instant.{both_joined, finishes_alike, no_queue}
+use Rattle.p2p_simulated.proofs.World.Instant.{finishes_alike, no_queue}
+use Rattle.p2p_simulated.proofs.Zips.{zip-append}
 use Rattle.p2p_simulated.proofs.World.Launch.{NoneDone, joining, started, OptionsAlike, next_alike, StartsSo, start_alike}
 use Rattle.p2p_simulated.proofs.World.Event.{settle_quiet}
 use Rattle.p2p_simulated.proofs.World.Pair.{IsRested, only_taken, only_joined, rested_joined, or_left}
 use Rattle.p2p_simulated.proofs.World.Rested.{IsHeld, rested_other, find_without, all_rested, finish_rests, none_then}
 use Rattle.p2p_simulated.proofs.World.Limit.{IsReached, reaches, settled_rests}
 use Rattle.p2p_simulated.proofs.World.Waking.{each_none, own_pair, round_is, round_fuel, round_alike}
-use Rattle.p2p_simulated.proofs.World.InOrder.{not_both_before, before_apart, after_none}
+use Rattle.p2p_simulated.proofs.World.Sift.{before_both}
+use Rattle.p2p_simulated.proofs.World.PairOrder.{apart_if_before, not_before_back}
 
 module _ {P : Type 0} (cmp : P → P → Ordering) (order : IsTotalOrder cmp) where
   any_from : (test : Message P → Bool) (ms : List (Message P)) → Each (λ z. test z ≡ false) ms → list_any test ms ≡ false
@@ -34,7 +38,7 @@ module _ {P : Type 0} (cmp : P → P → Ordering) (order : IsTotalOrder cmp) wh
   -- all that stand behind a message of a later pair are of later pairs
   all_after : (m n : Message P) (ns : List (Message P)) → pair_before cmp m n ≡ true → list_any (λ z. pair_before cmp z n) ns ≡ false → Each (λ z. pair_before cmp m z ≡ true) (n ∷ ns)
   all_after m n ns before none =
-      (before, each_map (λ z. pair_before cmp z n ≡ false) (λ z. pair_before cmp m z ≡ true) ns (λ z k. after_none cmp order m n z before k) (each_none (λ z. pair_before cmp z n) ns none))
+      (before, each_map (λ z. pair_before cmp z n ≡ false) (λ z. pair_before cmp m z ≡ true) ns (λ z k. before_both cmp order m n z before k) (each_none (λ z. pair_before cmp z n) ns none))
 
   any_queued : (test : Message P → Bool) (m : Message P) (ms : List (Message P)) → test m ≡ false → list_any test ms ≡ false → list_any test (queued cmp m ms) ≡ false
   any_queued test m [] e none = or_from (test m) false e refl
@@ -52,7 +56,7 @@ module _ {P : Type 0} (cmp : P → P → Ordering) (order : IsTotalOrder cmp) wh
     where
       by_test : (b : Bool) → pair_before cmp m n ≡ b → AreInPairOrder cmp (queued cmp m ns) → AreInPairOrder cmp (cond b (m ∷ n ∷ ns) (n ∷ queued cmp m ns))
       by_test true e ih =
-          (any_from (λ z. pair_before cmp z m) (n ∷ ns) (each_map (λ z. pair_before cmp m z ≡ true) (λ z. pair_before cmp z m ≡ false) (n ∷ ns) (λ z k. not_both_before cmp order m z k) (all_after m n ns e h.0)), h)
+          (any_from (λ z. pair_before cmp z m) (n ∷ ns) (each_map (λ z. pair_before cmp m z ≡ true) (λ z. pair_before cmp z m ≡ false) (n ∷ ns) (λ z k. not_before_back cmp order m z k) (all_after m n ns e h.0)), h)
       by_test false e ih = (any_queued (λ z. pair_before cmp z n) m ns e h.0, ih)
 
   -- it stands last among those of its pair
@@ -65,7 +69,7 @@ module _ {P : Type 0} (cmp : P → P → Ordering) (order : IsTotalOrder cmp) wh
       behind true e after =
           let none : filter (same_pair cmp k) (n ∷ ns) ≡ []
           = filter_none (same_pair cmp k) (n ∷ ns)
-          (each_map (λ z. pair_before cmp m z ≡ true) (λ z. same_pair cmp k z ≡ false) (n ∷ ns) (λ z d. sym (pair_like cmp order k m z e) ∙ before_apart cmp order m z d) after)
+          (each_map (λ z. pair_before cmp m z ≡ true) (λ z. same_pair cmp k z ≡ false) (n ∷ ns) (λ z d. sym (pair_like cmp order k m z e) ∙ apart_if_before cmp order m z d) after)
           in
           ap (λ (q : List (Message P)). m ∷ q) none ∙ sym (ap (λ (q : List (Message P)). q ++ m ∷ []) none)
       behind false e after = sym (append-nil (filter (same_pair cmp k) (n ∷ ns)))
@@ -91,7 +95,7 @@ module _ {P : Type 0} (cmp : P → P → Ordering) (order : IsTotalOrder cmp) wh
     next_id = same.next_id;
     waiting = λ k. subst (λ (xs : List (Message P)). AllZip (SameMessage cmp) xs (filter (same_pair cmp k) (w.waiting ++ m ∷ []))) (sym (queued_last k m p.waiting same.pair_order))
         (subst (λ (ys : List (Message P)). AllZip (SameMessage cmp) (filter (same_pair cmp k) p.waiting ++ filter (same_pair cmp k) (m ∷ [])) ys) (sym (filter-append (same_pair cmp k) w.waiting (m ∷ [])))
-        (both_joined (SameMessage cmp) (filter (same_pair cmp k) p.waiting) (filter (same_pair cmp k) w.waiting) (filter (same_pair cmp k) (m ∷ [])) (filter (same_pair cmp k) (m ∷ [])) (same.waiting k) (itself (same_pair cmp k m))));
+        (zip-append (SameMessage cmp) (filter (same_pair cmp k) p.waiting) (filter (same_pair cmp k) (m ∷ [])) (filter (same_pair cmp k) w.waiting) (filter (same_pair cmp k) (m ∷ [])) (same.waiting k) (itself (same_pair cmp k m))));
     pair_order = queued_in_order m p.waiting same.pair_order;
     sending = same.sending;
     one_each = same.one_each;
@@ -183,10 +187,6 @@ module _ {P : Type 0} (cmp : P → P → Ordering) (order : IsTotalOrder cmp) wh
   begins_not : (t : ℕ) (w : World P) (y : Message P) → may_start cmp t w y ≡ false → start_next cmp t w (Some y) ≡ goes [] w
   begins_not t w y e = rw e refl
 
-  no_more_before : (c : Course (Completed P) (World P)) → preceded [] c ≡ c
-  no_more_before (goes cs v) = refl
-  no_more_before (meets fault) = refl
-
   -- under limits, what a message does as it is enqueued
   joins : (t : ℕ) (p : Planned P) (u : World P) (m : Message P) (course : Course (Completed P) (Planned P)) → p.limited ≡ true → Follows cmp t p u
       → list_any (is_done cmp u) u.sending ≡ false → ready cmp t u ≡ [] → Enqueues cmp t m p course
@@ -242,7 +242,7 @@ module _ {P : Type 0} (cmp : P → P → Ordering) (order : IsTotalOrder cmp) wh
           let rests : EndsWith (λ v. ready cmp t v ≡ []) (settle cmp t (joined cmp (waits_too u m) y)) =
           none_then cmp order t (settle cmp t (joined cmp (waits_too u m) y)) (λ k. subst (λ (c : Course (Completed P) (World P)). EndsWith (IsRested cmp order k t) c) (sym (round_is cmp order t (waits_too u m) y idle so.one_each))
           (finish_rests cmp order k (length (joined cmp (waits_too u m) y).sending + length (joined cmp (waits_too u m) y).waiting) t (joining cmp order (waits_too u m) y) (started cmp order (waits_too u m) y) (round_fuel cmp order (waits_too u m) y) (held_after t u m y k none_ready pair))) in
-          result (settle cmp t (joined cmp (waits_too u m) y)) x (first_is y (goes [] (joined cmp (waits_too u m) y)) found (begins t (waits_too u m) y may ∙ so.starts) ∙ no_more_before (settle cmp t (joined cmp (waits_too u m) y))) alike rests
+          result (settle cmp t (joined cmp (waits_too u m) y)) x (first_is y (goes [] (joined cmp (waits_too u m) y)) found (begins t (waits_too u m) y may ∙ so.starts) ∙ preceded_none (settle cmp t (joined cmp (waits_too u m) y))) alike rests
       by_may y found true may (at_once off) = other_mode off
       by_may y found false may (at_once off) = other_mode off
       by_may y found false may (no_launch {fault = fault} under launch) =
@@ -256,7 +256,7 @@ module _ {P : Type 0} (cmp : P → P → Ordering) (order : IsTotalOrder cmp) wh
           let still : CoursesAlike cmp (IsSettled cmp t) x (finish_within cmp (length (u.waiting ++ m ∷ [])) t [] (waits_too u m)) =
           finishes_alike cmp order finishes (length (u.waiting ++ m ∷ [])) [] (waits_too u m) (subst (λ (q : Planned P). Follows cmp t q (waits_too u m)) (sym same_mid) there) idle (subst (λ (ms : List (Message P)). AllZip (SameMessage cmp) ms []) (sym no_leavers) tt) (omega arith) in
           let quiet : settle cmp t (waits_too u m) ≡ goes [] (waits_too u m) = settle_quiet cmp order (length u.sending + length (u.waiting ++ m ∷ [])) t (waits_too u m) none_done in
-          result (goes [] (waits_too u m)) x (first_is y (goes [] (waits_too u m)) found (begins_not t (waits_too u m) y may) ∙ no_more_before (settle cmp t (waits_too u m)) ∙ quiet)
+          result (goes [] (waits_too u m)) x (first_is y (goes [] (waits_too u m)) found (begins_not t (waits_too u m) y may) ∙ preceded_none (settle cmp t (waits_too u m)) ∙ quiet)
           (subst (λ (c : Course (Completed P) (World P)). CoursesAlike cmp (IsSettled cmp t) x c) (no_queue cmp order (length (u.waiting ++ m ∷ [])) t (waits_too u m)) still)
           (none_then cmp order t (goes [] (waits_too u m)) (all_rest t u m y none_ready found may))
 
@@ -271,4 +271,4 @@ module _ {P : Type 0} (cmp : P → P → Ordering) (order : IsTotalOrder cmp) wh
       let both : CoursesAlike cmp (IsSettled cmp now) course c × EndsWith (λ v. ready cmp now v ≡ []) c
       = joins now p there.world m course limits there.follows there.none_done there.none_ready enqueues in
       let acts : act cmp there.world (call_enqueue now m) ≡ c = rw under refl in
-      (c, record { ticked = goes [] there.world; ticks = there.ticks; acts = sym acts ∙ sym (no_more_before (act cmp there.world (call_enqueue now m))) }, settled_rests cmp order now course c within both.0 both.1)
+      (c, record { ticked = goes [] there.world; ticks = there.ticks; acts = sym acts ∙ sym (preceded_none (act cmp there.world (call_enqueue now m))) }, settled_rests cmp order now course c within both.0 both.1)

@@ -11,12 +11,10 @@ use Rattle.p2p_simulated.specs.WorldMessages.{Message, same_pair}
 use Rattle.p2p_simulated.specs.WorldPlanned.{IsLeastMoment, Planned, SomeReadyAt, may_launch, paced_flows}
 use Rattle.p2p_simulated.specs.WorldStands.{Follows, IsSettled, StandsFor}
 use Rattle.p2p_simulated.specs.WorldTime.{Drains, Passes, Ticks, no_tick, no_time, one_tick, quiet_tick, tick_faults}
-use Rattle.p2p_simulated.proofs.World.Queue.{settle_none}
+use Rattle.p2p_simulated.proofs.World.Queue.{settle_none, preceded_none}
 use Rattle.p2p_simulated.proofs.World.Between.{none_ready_at}
-
-none_found : {X : Type 0} (test : X → Bool) (xs : List X) → list_any test xs ≡ false → find test xs ≡ None
-none_found test [] e = refl
-none_found test (x ∷ xs) e = let parts : (test x ≡ false) × (list_any test xs ≡ false) = or_parts (test x) (list_any test xs) e in rw (parts.0, none_found test xs parts.1) refl
+use Rattle.p2p_simulated.proofs.Filters.{find_from_any}
+use Rattle.p2p_simulated.proofs.World.Pass.{wake_none}
 
 pub in_order_later : (o : Option ℕ) (a b : ℕ) → a ≤ b → is_in_order o a ≡ true → is_in_order o b ≡ true
 in_order_later None a b le e = refl
@@ -27,24 +25,16 @@ module _ {P : Type 0} (cmp : P → P → Ordering) (order : IsTotalOrder cmp) wh
 
   pub settle_quiet : (n t : ℕ) (w : World P) → list_any (is_done cmp w) w.sending ≡ false → settle_within cmp n t w ≡ goes [] w
   settle_quiet zero t w e = refl
-  settle_quiet (suc n) t w e = settle_none cmp order n t w (none_found (is_done cmp w) w.sending e)
-
-  pub wake_quiet : (n t : ℕ) (w : World P) → ready cmp t w ≡ [] → wake_within cmp n t w ≡ goes [] w
-  wake_quiet zero t w e = refl
-  wake_quiet (suc n) t w e = rw (e, wake_within) refl
+  settle_quiet (suc n) t w e = settle_none cmp order n t w (find_from_any (is_done cmp w) w.sending e)
 
   pub instant_is : (w v : World P) (cs : List (Completed P)) → settle cmp w.moment w ≡ goes cs v → instant cmp w ≡ preceded cs (wake cmp v.moment v)
   instant_is w v cs e = ap (λ (c : Course (Completed P) (World P)). and_then c (λ u. wake cmp u.moment u)) e
 
   pub instant_quiet : (w : World P) → IsQuiet cmp w.moment w → instant cmp w ≡ goes [] w
   instant_quiet w quiet =
-      instant_is w w [] (settle_quiet (length w.sending + length w.waiting) w.moment w quiet.none_done) ∙ ap (preceded []) (wake_quiet (length w.waiting) w.moment w quiet.none_ready)
+      instant_is w w [] (settle_quiet (length w.sending + length w.waiting) w.moment w quiet.none_done) ∙ ap (preceded []) (wake_none cmp order (length w.waiting) w.moment w quiet.none_ready)
 
   -- ---- quiet ticks, and then one
-
-  preceded_none : (c : Course (Completed P) (World P)) → c ≡ preceded [] c
-  preceded_none (goes cs v) = refl
-  preceded_none (meets fault) = refl
 
   pub last_tick : (w v : World P) (c : Course (Completed P) (World P)) → Drains cmp w v → instant cmp v ≡ c → Ticks cmp 1 w c
   last_tick w v (goes cs u) drains e = subst (λ (ds : List (Completed P)). Ticks cmp 1 w (goes ds u)) (append-nil cs) (one_tick drains e no_tick)
@@ -53,7 +43,7 @@ module _ {P : Type 0} (cmp : P → P → Ordering) (order : IsTotalOrder cmp) wh
   pub ticks_through : {n : ℕ} {w v : World P} → Passes cmp n w v → (u : World P) (c : Course (Completed P) (World P)) → Drains cmp v u → instant cmp u ≡ c → Ticks cmp (suc n) w c
   ticks_through {w = w} no_time u c drains e = last_tick w u c drains e
   ticks_through {w = w} (quiet_tick {n = n} {v = x} drift quiet more) u c drains e =
-      subst (λ (d : Course (Completed P) (World P)). Ticks cmp (suc (suc n)) w d) (sym (preceded_none c)) (one_tick drift (instant_quiet x quiet) (ticks_through more u c drains e))
+      subst (λ (d : Course (Completed P) (World P)). Ticks cmp (suc (suc n)) w d) ((preceded_none c)) (one_tick drift (instant_quiet x quiet) (ticks_through more u c drains e))
 
   pub ticks_quiet : {n : ℕ} {w v : World P} → Passes cmp n w v → Ticks cmp n w (goes [] v)
   ticks_quiet no_time = no_tick
@@ -103,4 +93,4 @@ module _ {P : Type 0} (cmp : P → P → Ordering) (order : IsTotalOrder cmp) wh
 
   pub settled_wakes : (t : ℕ) (p : Planned P) (w : World P) → IsSettled cmp t p w → ¬ SomeReadyAt cmp p t → wake cmp w.moment w ≡ goes [] w
   settled_wakes t p w settled not_now =
-      wake_quiet (length w.waiting) w.moment w (ap (λ (s : ℕ). ready cmp s w) settled.follows.tallies.moment ∙ none_ready_at cmp order t p w settled.follows.tallies not_now)
+      wake_none cmp order (length w.waiting) w.moment w (ap (λ (s : ℕ). ready cmp s w) settled.follows.tallies.moment ∙ none_ready_at cmp order t p w settled.follows.tallies not_now)

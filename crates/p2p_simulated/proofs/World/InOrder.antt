@@ -13,10 +13,15 @@ use Rattle.p2p_simulated.specs.WorldPlanned.{AreInPairOrder, Planned, SomeReadyA
 use Rattle.p2p_simulated.specs.WorldStands.{Tallies}
 use Rattle.p2p_simulated.proofs.World.Queue.{pair_sym, find_passes}
 use Rattle.p2p_simulated.proofs.World.Alike.{message_itself, pairs_alike}
-use Rattle.p2p_simulated.proofs.World.Between.{Each, each_map, each_filtered, IsFront, fronts_first, first_found, find_like, may_alike, messages_alike}
+use Rattle.p2p_simulated.proofs.World.Between.{IsFront, fronts_first, first_found, may_alike, messages_alike}
+use Rattle.p2p_simulated.proofs.World.Rests.{find_like}
+use Rattle.p2p_simulated.proofs.Each.{Each, each_map, each_filtered}
 use Rattle.p2p_simulated.proofs.World.Launch.{OptionsAlike, next_alike}
 use Rattle.p2p_simulated.proofs.World.Pair.{apart}
-use Rattle.p2p_simulated.proofs.World.Waking.{Picks, least_each, each_none}
+use Rattle.p2p_simulated.proofs.World.Waking.{Picks, each_none}
+use Rattle.p2p_simulated.proofs.World.Bytes.{each_least}
+use Rattle.p2p_simulated.proofs.World.PairOrder.{before_if_not, apart_if_before, not_before_on, not_before_back}
+use Rattle.p2p_simulated.proofs.World.Sift.{before_both, none_below}
 
 -- ---- lists
 
@@ -91,42 +96,6 @@ module _ {P : Type 0} (cmp : P → P → Ordering) (order : IsTotalOrder cmp) wh
   before_itself : (m : Message P) → pair_before cmp m m ≡ false
   before_itself m = ap is_lt (tied_itself pair_total m)
 
-  pub not_both_before : (m n : Message P) → pair_before cmp m n ≡ true → pair_before cmp n m ≡ false
-  not_both_before m n e = ap is_lt (pair_total.antisymm n m ∙ ap ordering_reverse (less_is (pair_cmp m n) e))
-
-  pub before_apart : (m n : Message P) → pair_before cmp m n ≡ true → same_pair cmp m n ≡ false
-  before_apart m n e = same_is m n ∙ ap is_eq (less_is (pair_cmp m n) e)
-
-  -- not before and not the same: after
-  after_else : (m n : Message P) → pair_before cmp n m ≡ false → same_pair cmp m n ≡ false → pair_before cmp m n ≡ true
-  after_else m n e d = by_order (pair_cmp m n) refl
-    where
-      by_order : (o : Ordering) → pair_cmp m n ≡ o → is_lt o ≡ true
-      by_order Less is = refl
-      by_order Equal is = let k : same_pair cmp m n ≡ true = same_is m n ∙ ap is_eq is in cc
-      by_order Greater is = let k : pair_before cmp n m ≡ true = ap is_lt (pair_total.antisymm n m ∙ ap ordering_reverse is) in cc
-
-  pub not_before_on : (z n x : Message P) → pair_before cmp z n ≡ false → pair_before cmp n x ≡ false → pair_before cmp z x ≡ false
-  not_before_on z n x e d = by_order (pair_cmp z x) refl (pair_cmp z n) refl
-    where
-      by_order : (o : Ordering) → pair_cmp z x ≡ o → (s : Ordering) → pair_cmp z n ≡ s → is_lt o ≡ false
-      by_order Equal is s at = refl
-      by_order Greater is s at = refl
-      by_order Less is Less at = let k : pair_before cmp z n ≡ true = ap is_lt at in cc
-      by_order Less is Equal at = let k : pair_before cmp n x ≡ true = ap is_lt (sym (pair_total.congr z n x at) ∙ is) in cc
-      by_order Less is Greater at =
-          let turned : pair_cmp n z ≡ Less = pair_total.antisymm n z ∙ ap ordering_reverse at in
-          let k : pair_before cmp n x ≡ true = ap is_lt (pair_total.trans n z x turned is) in
-          cc
-
-  -- before what is not after
-  pub after_none : (m n z : Message P) → pair_before cmp m n ≡ true → pair_before cmp z n ≡ false → pair_before cmp m z ≡ true
-  after_none m n z e d = by_test (pair_before cmp m z) refl
-    where
-      by_test : (b : Bool) → pair_before cmp m z ≡ b → b ≡ true
-      by_test true is = refl
-      by_test false is = let k : pair_before cmp m n ≡ false = not_before_on m z n is d in cc
-
   pub before_alike : (m n k l : Message P) → SameMessage cmp m n → SameMessage cmp k l → pair_before cmp m k ≡ pair_before cmp n l
   before_alike m n k l f g =
       let first : pair_cmp m n ≡ Equal = is_equal (pair_cmp m n) (sym (same_is m n) ∙ rw (f.origin, f.recipient) refl) in
@@ -134,30 +103,6 @@ module _ {P : Type 0} (cmp : P → P → Ordering) (order : IsTotalOrder cmp) wh
       ap is_lt (pair_total.congr m n k first ∙ alike_right pair_total k l n second)
 
   -- ---- the least pair
-
-  least_before : (xs : List (Message P)) (y : Message P) → least_pair cmp xs ≡ Some y → Each (λ z. pair_before cmp z y ≡ false) xs
-  least_before [] y e = tt
-  least_before (x ∷ xs) y e = by_rest (least_pair cmp xs) refl e (least_before xs)
-    where
-      none_if : (xs : List (Message P)) → least_pair cmp xs ≡ None → xs ≡ []
-      none_if [] e = refl
-      none_if (z ∷ zs) e = cc
-
-      by_rest : (o : Option (Message P)) → least_pair cmp xs ≡ o → Some (elim o [ None ↦ x | Some n ↦ if pair_before cmp n x then n else x ]) ≡ Some y
-          → ((z : Message P) → least_pair cmp xs ≡ Some z → Each (λ v. pair_before cmp v z ≡ false) xs)
-          → (pair_before cmp x y ≡ false) × Each (λ z. pair_before cmp z y ≡ false) xs
-      by_rest None is e ih =
-          let same : x ≡ y = cc in
-          (subst (λ (m : Message P). pair_before cmp x m ≡ false) same (before_itself x), subst (λ (zs : List (Message P)). Each (λ z. pair_before cmp z y ≡ false) zs) (sym (none_if xs is)) tt)
-      by_rest (Some n) is e ih = by_test (pair_before cmp n x) refl e
-        where
-          by_test : (b : Bool) → pair_before cmp n x ≡ b → Some (cond b n x) ≡ Some y → (pair_before cmp x y ≡ false) × Each (λ z. pair_before cmp z y ≡ false) xs
-          by_test true d e =
-              let same : n ≡ y = cc in
-              (subst (λ (m : Message P). pair_before cmp x m ≡ false) same (not_both_before n x d), subst (λ (m : Message P). Each (λ z. pair_before cmp z m ≡ false) xs) same (ih n is))
-          by_test false d e =
-              let same : x ≡ y = cc in
-              (subst (λ (m : Message P). pair_before cmp x m ≡ false) same (before_itself x), subst (λ (m : Message P). Each (λ z. pair_before cmp z m ≡ false) xs) same (each_map (λ z. pair_before cmp z n ≡ false) (λ z. pair_before cmp z x ≡ false) xs (λ z k. not_before_on z n x k d) (ih n is)))
 
   least_some : (x : Message P) (xs : List (Message P)) → (y : Message P) × (least_pair cmp (x ∷ xs) ≡ Some y)
   least_some x xs = (elim (least_pair cmp xs) [ None ↦ x | Some n ↦ if pair_before cmp n x then n else x ], refl)
@@ -183,7 +128,7 @@ module _ {P : Type 0} (cmp : P → P → Ordering) (order : IsTotalOrder cmp) wh
   pub fronts_sorted : (ms : List (Message P)) → AreInPairOrder cmp ms → IsSorted (fronts cmp ms)
   fronts_sorted [] h = tt
   fronts_sorted (m ∷ ms) h = (
-    each_map (λ n. (pair_before cmp n m ≡ false) × (not (same_pair cmp m n) ≡ true)) (λ n. pair_before cmp m n ≡ true) (filter (λ n. not (same_pair cmp m n)) (fronts cmp ms)) (λ n k. after_else m n k.0 (of_not (same_pair cmp m n) k.1))
+    each_map (λ n. (pair_before cmp n m ≡ false) × (not (same_pair cmp m n) ≡ true)) (λ n. pair_before cmp m n ≡ true) (filter (λ n. not (same_pair cmp m n)) (fronts cmp ms)) (λ n k. before_if_not cmp order m n k.0 (of_not (same_pair cmp m n) k.1))
         (each_filtered (λ n. pair_before cmp n m ≡ false) (λ n. not (same_pair cmp m n)) (fronts cmp ms) (each_front (λ n. pair_before cmp n m ≡ false) ms (each_none (λ n. pair_before cmp n m) ms h.0))),
     sorted_filter (λ n. not (same_pair cmp m n)) (fronts cmp ms) (fronts_sorted ms h.1),
   )
@@ -212,7 +157,7 @@ module _ {P : Type 0} (cmp : P → P → Ordering) (order : IsTotalOrder cmp) wh
       by_place (inr rest) =
           let later : (n : Message P) × (pair_before cmp m n ≡ true) × SameMessage cmp n y = some_each (λ n. pair_before cmp m n ≡ true) (λ n. SameMessage cmp n y) ms sorted.0 rest in
           let there : (z : Message P) × (pair_before cmp z y ≡ false) × SameMessage cmp m z
-          = some_each (λ z. pair_before cmp z y ≡ false) (λ z. SameMessage cmp m z) (x ∷ xs) (least_before (x ∷ xs) y least) has.0 in
+          = some_each (λ z. pair_before cmp z y ≡ false) (λ z. SameMessage cmp m z) (x ∷ xs) (none_below cmp order (x ∷ xs) y least) has.0 in
           let same : pair_before cmp m later.0 ≡ pair_before cmp there.0 y = before_alike m there.0 later.0 y there.2 later.2 in
           absurd (differ (sym later.1 ∙ same ∙ there.1))
         where
@@ -220,7 +165,7 @@ module _ {P : Type 0} (cmp : P → P → Ordering) (order : IsTotalOrder cmp) wh
           differ e = cc
 
       own : SameMessage cmp m y
-      own = by_place (least_each cmp order (IsAmong (m ∷ ms)) (x ∷ xs) y among least)
+      own = by_place (each_least cmp order (IsAmong (m ∷ ms)) (x ∷ xs) y among least)
 
       own_pair : same_pair cmp m m ≡ true
       own_pair = same_is m m ∙ ap is_eq (tied_itself pair_total m)
@@ -248,7 +193,7 @@ module _ {P : Type 0} (cmp : P → P → Ordering) (order : IsTotalOrder cmp) wh
 
           stays : (n : Message P) → HasIn (x ∷ xs) n → pair_before cmp m n ≡ true → HasIn (filter (apart cmp order y) (x ∷ xs)) n
           stays n has before = some_filtered (λ z. SameMessage cmp n z) (apart cmp order y) (x ∷ xs)
-              (some_map (λ z. SameMessage cmp n z) (λ z. SameMessage cmp n z × (apart cmp order y z ≡ true)) (x ∷ xs) (λ z same. (same, not_of (same_pair cmp y z) (sym (pairs_alike cmp order m y n z own same) ∙ before_apart m n before))) has)
+              (some_map (λ z. SameMessage cmp n z) (λ z. SameMessage cmp n z × (apart cmp order y z ≡ true)) (x ∷ xs) (λ z same. (same, not_of (same_pair cmp y z) (sym (pairs_alike cmp order m y n z own same) ∙ apart_if_before cmp order m n before))) has)
 
   -- ---- who is ready in the one world is ready in the other
 

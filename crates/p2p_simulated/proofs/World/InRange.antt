@@ -17,8 +17,7 @@ use Rattle.p2p_simulated.specs.WorldPlanned.{Planned, Paced, paced_flows, next_o
 use Rattle.p2p_simulated.specs.WorldEvents.{Looks, Launches, nothing_waits, too_early, no_id, starts, Finishes, all_completed, late, stopped, completes, WakesEach, all_started, no_start, no_finish, starts_one, Settles, settling, Advances, no_more, at_finish, at_start, finish_stops, start_stops, launched, landed}
 use Rattle.p2p_simulated.specs.WorldRefusals.{LaunchAccounts, launch_accounts, FinishAccounts, first_accounts, later_accounts, WakeAccounts, start_accounts, finish_accounts, rest_accounts, SettleAccounts, own_account, leavers_account, AdvanceAccounts, in_the_end, at_the_finish, at_the_start, after_a_finish, after_a_start}
 use Rattle.p2p_simulated.specs.WorldStands.{IsSmallMessage, finest_parts}
-use Rattle.p2p_simulated.proofs.World.Bytes.{Each}
-use Rattle.p2p_simulated.proofs.World.Sift.{each_find, each_without, each_joined}
+use Rattle.p2p_simulated.proofs.Each.{each_find, each_without, each_joined, Each}
 use Rattle.p2p_simulated.proofs.World.Rests.{find_like, length_without}
 use Rattle.p2p_simulated.proofs.World.Queue.{find_passes, one_pair_more, peer_like, peer_sym}
 use Rattle.p2p_simulated.proofs.World.Ranges.{whole_is_small}

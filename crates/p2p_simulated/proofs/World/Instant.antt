@@ -15,26 +15,14 @@ use Rattle.p2p_simulated.specs.declared.error.Error.TheVariants.{MomentTooLate}
 use Rattle.p2p_simulated.specs.WorldQueue.{leaving, staying, arrived, launch_then, finish_within}
 use Rattle.p2p_simulated.proofs.World.Queue.{over_state, settles_as_queue}
 use Rattle.p2p_simulated.proofs.World.Alike.{delivered_alike, peers_alike}
-use Rattle.p2p_simulated.proofs.World.Between.{Each}
+use Rattle.p2p_simulated.proofs.Each.{Each}
 use Rattle.p2p_simulated.proofs.World.Again.{leavers_alike, account_follows}
 use Rattle.p2p_simulated.proofs.World.Launch.{NoneDone, staying_none, next_alike, GoesOn, LaunchAlike, launch_alike}
 use Rattle.p2p_simulated.proofs.World.Rests.{settle_rests}
+use Rattle.p2p_simulated.proofs.Filters.{length-filter}
+use Rattle.p2p_simulated.proofs.Zips.{zip-append}
 
 -- ---- lists
-
-pub both_joined : {X Y : Type 0} (R : X → Y → Type 0) (xs : List X) (ys : List Y) (us : List X) (vs : List Y) → AllZip R xs ys → AllZip R us vs → AllZip R (xs ++ us) (ys ++ vs)
-both_joined R [] [] us vs all more = more
-both_joined R [] (y ∷ ys) us vs all more = absurd all
-both_joined R (x ∷ xs) [] us vs all more = absurd all
-both_joined R (x ∷ xs) (y ∷ ys) us vs all more = (all.0, both_joined R xs ys us vs all.1 more)
-
-fewer_passing : {X : Type 0} (test : X → Bool) (xs : List X) → length (filter test xs) ≤ length xs
-fewer_passing test [] = omega arith
-fewer_passing {X} test (x ∷ xs) = by_test (test x) (fewer_passing test xs)
-  where
-    by_test : (b : Bool) → length (filter test xs) ≤ length xs → length (cond b (x ∷ filter test xs) (filter test xs)) ≤ suc (length xs)
-    by_test true h = omega arith
-    by_test false h = omega arith
 
 all_without : {X : Type 0} (test : X → Bool) (xs : List X) → find test xs ≡ None → filter (λ x. not (test x)) xs ≡ xs
 all_without test [] e = refl
@@ -48,13 +36,13 @@ all_without {X} test (x ∷ xs) e = by_test (test x) e (all_without test xs)
 module _ {P : Type 0} (cmp : P → P → Ordering) (order : IsTotalOrder cmp) where
   -- ---- a message lands
 
-  arrival_alike : (t : ℕ) (m n : Message P) → SameMessage cmp m n → arrival cmp t m ≡ arrival cmp t n
+  pub arrival_alike : (t : ℕ) (m n : Message P) → SameMessage cmp m n → arrival cmp t m ≡ arrival cmp t n
   arrival_alike t m n e = rw (delivered_alike cmp order m n e, e.latency) refl
 
-  late_alike : (t : ℕ) (m n : Message P) → SameMessage cmp m n → is_late cmp t m ≡ is_late cmp t n
+  pub late_alike : (t : ℕ) (m n : Message P) → SameMessage cmp m n → is_late cmp t m ≡ is_late cmp t n
   late_alike t m n e = rw (delivered_alike cmp order m n e, e.latency) refl
 
-  completed_alike : (t : ℕ) (m n : Message P) → SameMessage cmp m n → SameCompletion cmp (completed cmp t m) (completed cmp t n)
+  pub completed_alike : (t : ℕ) (m n : Message P) → SameMessage cmp m n → SameCompletion cmp (completed cmp t m) (completed cmp t n)
   completed_alike t m n e = record { origin = e.origin; recipient = e.recipient; channel = e.channel; bytes = e.bytes; deliver_at = rw (delivered_alike cmp order m n e, e.latency) refl }
 
   pub raised_alike : (last last' : P → P → Option ℕ) (m n : Message P) (at at' : ℕ) → PairsAlike cmp last last' → SameMessage cmp m n → at ≡ at'
@@ -161,7 +149,7 @@ module _ {P : Type 0} (cmp : P → P → Ordering) (order : IsTotalOrder cmp) wh
       let on : GoesOn cmp order t (arrived cmp t w f.message) fs (find (same_pair cmp f.message) w.waiting) more q =
       launch_alike cmp order launch (arrived cmp t w f.message) fs f.message (find (same_pair cmp f.message) w.waiting) there none refl (next_alike cmp order t p w m f.message follows.tallies all.0) in
       let leavers : AllZip (SameMessage cmp) (ms ++ more) (map (λ (g : Flight P). g.message) (fs ++ on.more)) =
-      subst (λ (ns : List (Message P)). AllZip (SameMessage cmp) (ms ++ more) ns) (sym (map-append (λ (g : Flight P). g.message) fs on.more)) (both_joined (SameMessage cmp) ms (map (λ (g : Flight P). g.message) fs) more (map (λ (g : Flight P). g.message) on.more) all.1 on.leaves) in
+      subst (λ (ns : List (Message P)). AllZip (SameMessage cmp) (ms ++ more) ns) (sym (map-append (λ (g : Flight P). g.message) fs on.more)) (zip-append (SameMessage cmp) ms more (map (λ (g : Flight P). g.message) fs) (map (λ (g : Flight P). g.message) on.more) all.1 on.leaves) in
       let many : length (fs ++ on.more) ≡ length fs + length on.more = length-append fs on.more in
       let enough : length on.more + length on.world.waiting ≤ length w.waiting = on.fewer in
       let ih : CourseAlike t after (finish_within cmp n t (fs ++ on.more) on.world) = finishes_alike rest n (fs ++ on.more) on.world on.follows on.none leavers (omega arith) in
@@ -185,7 +173,7 @@ module _ {P : Type 0} (cmp : P → P → Ordering) (order : IsTotalOrder cmp) wh
 
   pub leaving_fewer : (w : World P) → length (leaving cmp w) ≤ length w.sending
   unfolding leaving
-  leaving_fewer w = fewer_passing (is_done cmp w) w.sending
+  leaving_fewer w = length-filter (is_done cmp w) w.sending
 
   pub staying_waiting : (w : World P) → (staying cmp w).waiting ≡ w.waiting
   unfolding staying

@@ -10,10 +10,14 @@ use Rattle.p2p_simulated.specs.Amount.{whole}
 use Rattle.p2p_simulated.specs.World.{Completed, Course, Flight, World, and_then, complete, first_waiting, fronts, goes, instant, is_done, last_moment, later_of, least_pair, may_start, meets, preceded, raised, ready, settle, settle_within, start, start_next, wake, wake_within, without_first, EndsWith, out_of_flight, is_late, completed, arrival}
 use Rattle.p2p_simulated.specs.WorldMessages.{Message, same_pair}
 use Rattle.p2p_simulated.specs.declared.error.Error.TheVariants.{FlowIdsUsedUp, MomentTooLate}
-use Rattle.p2p_simulated.proofs.World.Queue.{settle_none, settle_first, find_passes}
+use Rattle.p2p_simulated.proofs.World.Queue.{settle_none, settle_first, find_passes, preceded_none}
 use Rattle.p2p_simulated.proofs.World.Rests.{ends_preceded, ends_and_then, ends_cond, length_without, find_in_none, find_like, HasAtMost, complete_has, NoneDone, settle_rests}
-use Rattle.p2p_simulated.proofs.World.Bytes.{Each, wake_none, wake_first, ready_is_first}
-use Rattle.p2p_simulated.proofs.World.Sift.{least_none, each_find, each_without, each_joined, first_kept, first_dropped, none_kept, find_kept, any_kept, filter_swap, fronts_kept, least_kept}
+use Rattle.p2p_simulated.proofs.World.Bytes.{wake_none, wake_first, ready_is_first}
+use Rattle.p2p_simulated.proofs.World.Sift.{first_kept, first_dropped, none_kept, find_kept, any_kept, filter_swap, fronts_kept, least_kept}
+use Rattle.p2p_simulated.proofs.World.PairOrder.{least_none}
+use Rattle.p2p_simulated.proofs.Each.{each_find, each_without, each_joined, Each}
+use Rattle.p2p_simulated.proofs.Filters.{length-without_first, none_long}
+use Rattle.p2p_simulated.proofs.World.Calm.{settle_nothing}
 
 module _ {P : Type 0} (cmp : P → P → Ordering) (order : IsTotalOrder cmp) (inside : P → Bool) (alike : (m n : Message P) → same_pair cmp m n ≡ true → inside m.origin ≡ inside n.origin) (T : Message P → Type 0) where
   abbrev mine : Message P → Bool
@@ -43,10 +47,6 @@ module _ {P : Type 0} (cmp : P → P → Ordering) (order : IsTotalOrder cmp) (i
 
   pub goes_alike : (cs ds : List (Completed P)) (u v : World P) → cs ≡ ds → u ≡ v → ◌≡◌ {A = Course (Completed P) (World P)} (goes cs u) (goes ds v)
   goes_alike cs ds u v e f = rw (e, f) refl
-
-  pub preceded_none : (c : Course (Completed P) (World P)) → preceded [] c ≡ c
-  preceded_none (goes cs u) = refl
-  preceded_none (meets fault) = refl
 
   pub part_preceded : (cs : List (Completed P)) (c d : Course (Completed P) (World P)) → IsPartOf c d → IsPartOf (preceded cs c) (preceded (filter in_done cs) d)
   part_preceded cs (goes ds u) d (last, id, is, e) =
@@ -216,10 +216,6 @@ module _ {P : Type 0} (cmp : P → P → Ordering) (order : IsTotalOrder cmp) (i
 
   -- ---- settling
 
-  pub settle_nothing : (n t : ℕ) (v : World P) → find (is_done cmp v) v.sending ≡ None → settle_within cmp n t v ≡ goes [] v
-  settle_nothing zero t v e = refl
-  settle_nothing (suc n) t v e = settle_none cmp order n t v e
-
   some_element : {X : Type 0} (test : X → Bool) (x : X) (xs : List X) → find test xs ≡ Some x → 0 < length xs
   some_element test x [] e = cc
   some_element test x (y ∷ ys) e = omega arith
@@ -228,7 +224,7 @@ module _ {P : Type 0} (cmp : P → P → Ordering) (order : IsTotalOrder cmp) (i
       → IsPartOf (settle_within cmp n t w) (settle_within cmp k t (part last id w))
   settle_part zero k t w last id is most few =
       let none : find (is_done cmp w) w.sending ≡ None = find_in_none (is_done cmp w) w.sending (omega arith) in
-      (last, id, is, settle_nothing k t (part last id w) (none_kept in_flight (is_done cmp w) w.sending none))
+      (last, id, is, settle_nothing cmp order k t (part last id w) (none_kept in_flight (is_done cmp w) w.sending none))
   settle_part (suc n) k t w last id is most few = by_first (find (is_done cmp w) w.sending) refl (λ j u l i g h m. settle_part n j t u l i g h m)
     where
       by_mine : (f : Flight P) → find (is_done cmp w) w.sending ≡ Some f → mine f.message ≡ true → (k : ℕ) → HasAtMost cmp order k (part last id w)
@@ -262,7 +258,7 @@ module _ {P : Type 0} (cmp : P → P → Ordering) (order : IsTotalOrder cmp) (i
           → ((j : ℕ) (u : World P) (l : P → P → Option ℕ) (i : ℕ) → IsPart l i u → HasAtMost cmp order n u → HasAtMost cmp order j (part l i u) → IsPartOf (settle_within cmp n t u) (settle_within cmp j t (part l i u)))
           → IsPartOf (settle_within cmp (suc n) t w) (settle_within cmp k t (part last id w))
       by_first None e ih =
-          subst (λ (c : Course (Completed P) (World P)). IsPartOf c (settle_within cmp k t (part last id w))) (sym (settle_none cmp order n t w e)) (last, id, is, settle_nothing k t (part last id w) (none_kept in_flight (is_done cmp w) w.sending e))
+          subst (λ (c : Course (Completed P) (World P)). IsPartOf c (settle_within cmp k t (part last id w))) (sym (settle_none cmp order n t w e)) (last, id, is, settle_nothing cmp order k t (part last id w) (none_kept in_flight (is_done cmp w) w.sending e))
       by_first (Some f) e ih =
           subst (λ (c : Course (Completed P) (World P)). IsPartOf c (settle_within cmp k t (part last id w))) (sym (settle_first cmp order n t w f e)) (by_owner (mine f.message) f e refl ih)
 
@@ -270,14 +266,6 @@ module _ {P : Type 0} (cmp : P → P → Ordering) (order : IsTotalOrder cmp) (i
 
   abbrev WaitsAtMost : ℕ → World P → Type 0
   WaitsAtMost k v = length v.waiting ≤ k
-
-  no_longer : {X : Type 0} (test : X → Bool) (xs : List X) → length (without_first test xs) ≤ length xs
-  no_longer test [] = omega arith
-  no_longer {X} test (x ∷ xs) = by_test (test x) (no_longer test xs)
-    where
-      by_test : (b : Bool) → length (without_first test xs) ≤ length xs → length (cond b xs (x ∷ without_first test xs)) ≤ suc (length xs)
-      by_test true h = omega arith
-      by_test false h = omega arith
 
   start_waits : (k : ℕ) (w : World P) (m : Message P) → find (same_pair cmp m) w.waiting ≡ Some m → WaitsAtMost (suc k) w → EndsWith (WaitsAtMost k) (start cmp w m)
   start_waits k w m first h =
@@ -287,7 +275,7 @@ module _ {P : Type 0} (cmp : P → P → Ordering) (order : IsTotalOrder cmp) (i
   start_next_waits : (k t : ℕ) (w : World P) (o : Option (Message P)) → WaitsAtMost k w → EndsWith (WaitsAtMost k) (start_next cmp t w o)
   start_next_waits k t w None h = h
   start_next_waits k t w (Some m) h =
-      let fewer : length (without_first (same_pair cmp m) w.waiting) ≤ length w.waiting = no_longer (same_pair cmp m) w.waiting in
+      let fewer : length (without_first (same_pair cmp m) w.waiting) ≤ length w.waiting = length-without_first (same_pair cmp m) w.waiting in
       ends_cond (WaitsAtMost k) (may_start cmp t w m) (start cmp w m) (goes [] w) (ends_cond (WaitsAtMost k) (nat_le last_moment w.next_id) (meets FlowIdsUsedUp) (goes [] (started w m)) tt (omega arith)) h
 
   complete_waits : (k t : ℕ) (w : World P) (m : Message P) → WaitsAtMost k w → EndsWith (WaitsAtMost k) (complete cmp t w m)
@@ -321,10 +309,6 @@ module _ {P : Type 0} (cmp : P → P → Ordering) (order : IsTotalOrder cmp) (i
   wake_nothing zero t v e = refl
   wake_nothing (suc k) t v e = wake_none cmp order k t v (ap (least_pair cmp) e)
 
-  no_element : {X : Type 0} (xs : List X) → length xs ≤ 0 → xs ≡ []
-  no_element [] h = refl
-  no_element (x ∷ xs) h = absurd (omega arith)
-
   abbrev Goes : ℕ → ℕ → Type 0
   Goes n t =
       (k : ℕ) (w : World P) (last : P → P → Option ℕ) (id : ℕ) → IsPart last id w → NoneDone cmp order w → WaitsAtMost n w → WaitsAtMost k (part last id w) → IsPartOf
@@ -343,7 +327,7 @@ module _ {P : Type 0} (cmp : P → P → Ordering) (order : IsTotalOrder cmp) (i
 
   pub wake_part : (n t : ℕ) → Goes n t
   wake_part zero t k w last id is rests most few =
-      let none : ready cmp t w ≡ [] = ap (λ (ms : List (Message P)). filter (may_start cmp t w) (fronts cmp ms)) (no_element w.waiting most) in
+      let none : ready cmp t w ≡ [] = ap (λ (ms : List (Message P)). filter (may_start cmp t w) (fronts cmp ms)) (none_long w.waiting most) in
       (last, id, is, wake_nothing k t (part last id w) (ready_part t w last id is ∙ ap (filter mine) none))
   wake_part (suc n) t k w last id is rests most few = by_least (least_pair cmp (ready cmp t w)) refl (wake_part n t)
     where
@@ -368,7 +352,7 @@ module _ {P : Type 0} (cmp : P → P → Ordering) (order : IsTotalOrder cmp) (i
           let first : find (same_pair cmp m) w.waiting ≡ Some m = ready_is_first cmp order t w m e in
           let small : World P = part last id w in
           let rests_here : find (is_done cmp w) (filter in_flight w.sending) ≡ None = none_kept in_flight (is_done cmp w) w.sending rests in
-          let still : settle cmp t small ≡ goes [] small = settle_nothing (length small.sending + length small.waiting) t small rests_here in
+          let still : settle cmp t small ≡ goes [] small = settle_nothing cmp order (length small.sending + length small.waiting) t small rests_here in
           let same : and_then (goes [] small) (λ v. and_then (settle cmp t v) (wake_within cmp k t)) ≡ wake_within cmp k t small =
           preceded_none (and_then (settle cmp t small) (wake_within cmp k t)) ∙ ap (λ (c : Course (Completed P) (World P)). and_then c (wake_within cmp k t)) still ∙ preceded_none (wake_within cmp k t small) in
           subst (λ (c : Course (Completed P) (World P)). IsPartOf (and_then (start cmp w m) (λ v. and_then (settle cmp t v) (wake_within cmp n t))) c) same

@@ -19,14 +19,17 @@ use Rattle.p2p_simulated.specs.declared.error.Error.TheVariants.{MomentTooLate}
 use Rattle.p2p_simulated.proofs.World.Restrict.{fair_part}
 use Rattle.p2p_simulated.proofs.Fairness.Members.{contains_from_in}
 use Rattle.p2p_simulated.proofs.World.Rests.{ends_and_then, ends_cond, NoneDone, settle_rests}
-use Rattle.p2p_simulated.proofs.World.Bytes.{Each}
-use Rattle.p2p_simulated.proofs.World.Sift.{find_kept, none_kept, each_joined}
+use Rattle.p2p_simulated.proofs.World.Sift.{find_kept, none_kept}
+use Rattle.p2p_simulated.proofs.Each.{each_joined, Each}
 use Rattle.p2p_simulated.proofs.Fairness.Members.{In}
 use Rattle.p2p_simulated.proofs.World.Restrict.{Kind, at_egress, at_ingress, at_link, uses_at, SharesNoSide}
 use Rattle.p2p_simulated.proofs.World.Split.{ticks_on, rest_is}
 use Rattle.p2p_simulated.proofs.World.Course.{ticks_end, first_event, settle_moment, start_next_moment}
-use Rattle.p2p_simulated.proofs.World.Isolated.{part, IsPart, IsPartOf, part_alike, goes_alike, part_then, preceded_none, settle_part, settle_nothing, start_next_mine, start_next_other, raised_same, raised_other}
+use Rattle.p2p_simulated.proofs.World.Isolated.{part, IsPart, IsPartOf, part_alike, goes_alike, part_then, settle_part, start_next_mine, start_next_other, raised_same, raised_other}
+use Rattle.p2p_simulated.proofs.World.Calm.{settle_nothing}
 use Rattle.p2p_simulated.proofs.World.IsolatedTime.{ticks_part}
+use Rattle.p2p_simulated.proofs.World.MadeCalls.{turn_later}
+use Rattle.p2p_simulated.proofs.World.Queue.{preceded_none}
 
 module _ {P : Type 0} (cmp : P → P → Ordering) (order : IsTotalOrder cmp) (inside : P → Bool) (together : IsSet cmp inside) where
   abbrev pub mine : Message P → Bool
@@ -178,7 +181,7 @@ module _ {P : Type 0} (cmp : P → P → Ordering) (order : IsTotalOrder cmp) (i
 
       still : and_then (goes [] (Small last id w)) (settle cmp now) ≡ goes [] (Small last id w)
       still =
-          preceded_none cmp order inside alike Whole (settle cmp now (Small last id w)) ∙ settle_nothing cmp order inside alike Whole
+          preceded_none (settle cmp now (Small last id w)) ∙ settle_nothing cmp order
           (length (Small last id w).sending + length (Small last id w).waiting) now (Small last id w)
           (none_kept (λ (f : Flight P). mine f.message) (is_done cmp w) w.sending rests)
 
@@ -228,13 +231,6 @@ module _ {P : Type 0} (cmp : P → P → Ordering) (order : IsTotalOrder cmp) (i
   act_moment w (call_advance now) t h = h
   act_moment w call_next t h = h
 
-  turn_later : (w : World P) (call : Call P) (now : ℕ) → moment_of call ≡ Some now → IsInTurn cmp w call → w.moment ≤ now
-  turn_later w (call_limit t peer egress ingress) now e h = let same : t ≡ now = cc in let le : w.moment ≤ t = h.0 in omega arith
-  turn_later w (call_limit_link t origin recipient link) now e h = let same : t ≡ now = cc in let le : w.moment ≤ t = h.0 in omega arith
-  turn_later w (call_enqueue t m) now e h = let same : t ≡ now = cc in let le : w.moment ≤ t = h.0 in omega arith
-  turn_later w (call_advance t) now e h = let same : t ≡ now = cc in let le : w.moment ≤ t = h in omega arith
-  turn_later w call_next now e h = cc
-
   -- a message of others comes before the next event
   other_is_before : (w : World P) (call : Call P) (now : ℕ) → moment_of call ≡ Some now → IsInTurn cmp w call → is_kept inside call ≡ false → (t : ℕ) → NextIs cmp w (Some t) → now < t
   other_is_before w (call_limit s peer egress ingress) now e h off t next = cc
@@ -270,7 +266,7 @@ module _ {P : Type 0} (cmp : P → P → Ordering) (order : IsTotalOrder cmp) (i
           → Answers cmp s (cond k (call ∷ filter (is_kept inside) calls) (filter (is_kept inside) calls)) (cond k (inside_alone inside cs ∷ kept_completions inside calls css) (kept_completions inside calls css))
           × (cond k ⊤ (inside_alone inside cs ≡ []) × NothingElse inside calls css)
       by_call true kept ds v es ticked acted join ih =
-          let later : w.moment ≤ now = turn_later w call now is_now turn in
+          let later : w.moment ≤ now = turn_later cmp order w call now is_now turn in
           let ends : (v.moment ≡ w.moment + (now - w.moment)) × NoneDone cmp order v = ticks_end cmp order runs.ticks ds v ticked b.rests in
           let small : (l : P → P → Option ℕ) × (i : ℕ) × Within l i v × Ticks cmp (now - w.moment) (Small last id w) (goes (filter (λ (c : Completed P). inside c.origin) ds) (Small l i v)) =
           ticks_part cmp order inside alike Whole shares runs.ticks ds v last id ticked b.within in
@@ -295,7 +291,7 @@ module _ {P : Type 0} (cmp : P → P → Ordering) (order : IsTotalOrder cmp) (i
           = ih (Small act_small.0 act_small.1 u) act_small.0 act_small.1 next in
           (call_answers is_now (omega arith) run others.0, (tt, others.1))
       by_call false dropped ds v es ticked acted join ih =
-          let later : w.moment ≤ now = turn_later w call now is_now turn in
+          let later : w.moment ≤ now = turn_later cmp order w call now is_now turn in
           let ends : (v.moment ≡ w.moment + (now - w.moment)) × NoneDone cmp order v = ticks_end cmp order runs.ticks ds v ticked b.rests in
           let low : now ≤ last_moment = in_time.0 now is_now in
           let empty : ds ≡ [] = no_event later (first_event cmp order runs.ticks ds v ticked (omega arith)) in

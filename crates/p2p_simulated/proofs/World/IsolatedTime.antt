@@ -8,7 +8,7 @@ use Rattle.p2p_simulated.specs.World.{Completed, Course, Flight, World, flows, g
 use Rattle.p2p_simulated.specs.WorldMessages.{Message, same_pair}
 use Rattle.p2p_simulated.specs.WorldRates.{AreFair, Parts, drained_by, rate_of}
 use Rattle.p2p_simulated.specs.WorldTime.{Drains, Ticks, drain_each, no_tick, one_tick, tick_faults}
-use Rattle.p2p_simulated.proofs.World.Bytes.{Each}
+use Rattle.p2p_simulated.proofs.Each.{Each}
 use Rattle.p2p_simulated.proofs.World.Restrict.{SharesNoSide, fair_part}
 use Rattle.p2p_simulated.proofs.World.Split.{rest_is}
 use Rattle.p2p_simulated.proofs.World.Rated.{one_each}

@@ -20,9 +20,10 @@ use Rattle.p2p_simulated.proofs.World.Lowest.{whole_lowest, drained_none}
 use Rattle.p2p_simulated.specs.WorldQueue.{leaving, staying, flight, taken, joined, launch_then}
 use Rattle.p2p_simulated.proofs.World.Queue.{find_none, pair_like, pair_sym, one_pair_more, find_passes}
 use Rattle.p2p_simulated.proofs.World.Alike.{message_itself, pairs_alike}
-use Rattle.p2p_simulated.proofs.World.Between.{Each, each_map, filter_none, messages_alike, may_alike, find_like}
+use Rattle.p2p_simulated.proofs.World.Between.{filter_none, messages_alike, may_alike}
+use Rattle.p2p_simulated.proofs.Each.{Each, each_map}
 use Rattle.p2p_simulated.proofs.World.Again.{none_matched, each_passes, leavers_alike, account_follows}
-use Rattle.p2p_simulated.proofs.World.Rests.{length_without}
+use Rattle.p2p_simulated.proofs.World.Rests.{length_without, find_like}
 
 -- ---- lists
 

@@ -20,6 +20,7 @@ use Rattle.p2p_simulated.proofs.World.Event.{settle_quiet, ticks_quiet}
 use Rattle.p2p_simulated.proofs.World.Waking.{each_none}
 use Rattle.p2p_simulated.proofs.World.Advance.{woken_stands}
 use Rattle.p2p_simulated.proofs.World.Rested.{settle_keeps_rest}
+use Rattle.p2p_simulated.proofs.World.Queue.{preceded_none}
 
 pub no_sides : {P : Type 0} (cmp : P → P → Ordering) (caps : Caps P) → AreFair cmp caps [] 1 []
 no_sides cmp caps = record {
@@ -126,14 +127,10 @@ module _ {P : Type 0} (cmp : P → P → Ordering) (order : IsTotalOrder cmp) wh
   settled_rests now (meets f) (goes ds v) within h idle = absurd h
   settled_rests now (meets f) (meets g) within h idle = h
 
-  none_flies : (t : ℕ) (ms : List (Paced P)) (fs : List (Flight P)) → AllZip (IsSameFlight cmp t) ms fs → ms ≡ [] → fs ≡ []
+  pub none_flies : (t : ℕ) (ms : List (Paced P)) (fs : List (Flight P)) → AllZip (IsSameFlight cmp t) ms fs → ms ≡ [] → fs ≡ []
   none_flies t [] [] all e = refl
   none_flies t [] (f ∷ fs) all e = absurd all
   none_flies t (m ∷ ms) fs all e = cc
-
-  no_caps_before : (c : Course (Completed P) (World P)) → c ≡ preceded [] c
-  no_caps_before (goes cs v) = refl
-  no_caps_before (meets fault) = refl
 
   -- new caps do in the planned world what they do in the world
   recaps_there : (p : Planned P) (now : ℕ) (u : World P) (caps others : Caps P) (course : Course (Completed P) (Planned P)) → CapsAlike cmp caps others → now ≤ last_moment
@@ -177,7 +174,7 @@ module _ {P : Type 0} (cmp : P → P → Ordering) (order : IsTotalOrder cmp) wh
   recapping p w now call new course acts alike stands le within before recaps =
       let there : IsReached now p w = reaches now p w stands le within before in (
         recap cmp now there.world (new there.world.caps),
-        record { ticked = goes [] there.world; ticks = there.ticks; acts = sym (acts there.world) ∙ no_caps_before (act cmp there.world call) },
+        record { ticked = goes [] there.world; ticks = there.ticks; acts = sym (acts there.world) ∙ sym (preceded_none (act cmp there.world call)) },
         recaps_there p now there.world (new p.caps) (new there.world.caps) course (alike p.caps there.world.caps there.follows.tallies.caps) within there.follows there.none_ready recaps,
       )
 

@@ -14,7 +14,7 @@ use Rattle.p2p_simulated.proofs.World.Limit.{new_stands}
 use Rattle.p2p_simulated.proofs.World.Stepwise.{agrees_next, agrees_refused, agrees_done, IsMade}
 
 module _ {P : Type 0} (cmp : P → P → Ordering) (order : IsTotalOrder cmp) where
-  turn_later : (w : World P) (call : Call P) (now : ℕ) → moment_of call ≡ Some now → IsInTurn cmp w call → w.moment ≤ now
+  pub turn_later : (w : World P) (call : Call P) (now : ℕ) → moment_of call ≡ Some now → IsInTurn cmp w call → w.moment ≤ now
   turn_later w (call_limit t peer egress ingress) now e h = let same : t ≡ now = cc in let le : w.moment ≤ t = h.0 in omega arith
   turn_later w (call_limit_link t origin recipient link) now e h = let same : t ≡ now = cc in let le : w.moment ≤ t = h.0 in omega arith
   turn_later w (call_enqueue t m) now e h = let same : t ≡ now = cc in let le : w.moment ≤ t = h.0 in omega arith

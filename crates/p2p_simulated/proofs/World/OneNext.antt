@@ -11,6 +11,7 @@ use Rattle.p2p_simulated.specs.WorldTime.{ArePositive, Drains, NextIs, Passes, c
 use Rattle.p2p_simulated.specs.Laws.LowestTerms.{reduced_positive}
 use Rattle.p2p_simulated.proofs.World.OneWorld.{one_world}
 use Rattle.p2p_simulated.proofs.World.Alike.{same_itself}
+use Rattle.p2p_simulated.proofs.World.Calm.{next_moment, passes_end_at}
 
 module _ {P : Type 0} (cmp : P → P → Ordering) (order : IsTotalOrder cmp) where
   -- ---- amounts stay over a number above zero
@@ -53,17 +54,6 @@ module _ {P : Type 0} (cmp : P → P → Ordering) (order : IsTotalOrder cmp) wh
       let f : (y : World P) × Drains cmp w y × IsQuiet cmp y.moment y × Passes cmp (suc k) y x = first_step p (suc k) refl in
       passes_through rest k x u (subst (λ (y : World P). Passes cmp (suc k) y x) (one_world cmp (same_itself cmp order) w f.0 v pos f.1 here) f.3) (omega arith) (drains_positive w v here pos) d
 
-  next_moment : (w v : World P) → Drains cmp w v → v.moment ≡ w.moment + 1
-  next_moment w v d = ap (λ (u : World P). u.moment) d.world
-
-  passes_end_at : {n : ℕ} {w v : World P} → Passes cmp n w v → v.moment ≡ w.moment + n
-  passes_end_at {w = w} no_time = let e : w.moment ≡ w.moment + 0 = omega arith in e
-  passes_end_at (quiet_tick {n = n} {w = w} {v = v} {u = u} d q p) =
-      let before : v.moment ≡ w.moment + 1 = next_moment w v d in
-      let after : u.moment ≡ v.moment + n = passes_end_at p in
-      let e : u.moment ≡ w.moment + suc n = omega arith in
-      e
-
   -- an event stops what would pass it
   not_passed : (w : World P) (n k : ℕ) (v u x : World P) → ArePositive w.sending → Passes cmp n w v → Drains cmp v u → ¬ IsQuiet cmp u.moment u → Passes cmp k w x → n < k → ⊥
   unfolding IsQuietNow
@@ -74,18 +64,18 @@ module _ {P : Type 0} (cmp : P → P → Ordering) (order : IsTotalOrder cmp) wh
   pub next_is_one : (w : World P) (a b : Option ℕ) → ArePositive w.sending → NextIs cmp w a → NextIs cmp w b → a ≡ b
   next_is_one w a b pos (never_comes p) (never_comes q) = refl
   next_is_one w a b pos (never_comes {v = x} p) (comes_next {n = n} {v = v} {u = u} q d event h) =
-      let at : v.moment ≡ w.moment + n = passes_end_at q in
-      let on : u.moment ≡ v.moment + 1 = next_moment v u d in
+      let at : v.moment ≡ w.moment + n = passes_end_at cmp order q in
+      let on : u.moment ≡ v.moment + 1 = next_moment cmp order v u d in
       absurd (not_passed w n (last_moment - w.moment) v u x pos q d event p (omega arith))
   next_is_one w a b pos (comes_next {n = n} {v = v} {u = u} q d event h) (never_comes {v = x} p) =
-      let at : v.moment ≡ w.moment + n = passes_end_at q in
-      let on : u.moment ≡ v.moment + 1 = next_moment v u d in
+      let at : v.moment ≡ w.moment + n = passes_end_at cmp order q in
+      let on : u.moment ≡ v.moment + 1 = next_moment cmp order v u d in
       absurd (not_passed w n (last_moment - w.moment) v u x pos q d event p (omega arith))
   next_is_one w a b pos (comes_next {n = n} {v = v} {u = u} q d event h) (comes_next {n = k} {v = y} {u = x} p e other j) =
-      let at : v.moment ≡ w.moment + n = passes_end_at q in
-      let on : u.moment ≡ v.moment + 1 = next_moment v u d in
-      let at_other : y.moment ≡ w.moment + k = passes_end_at p in
-      let on_other : x.moment ≡ y.moment + 1 = next_moment y x e in
+      let at : v.moment ≡ w.moment + n = passes_end_at cmp order q in
+      let on : u.moment ≡ v.moment + 1 = next_moment cmp order v u d in
+      let at_other : y.moment ≡ w.moment + k = passes_end_at cmp order p in
+      let on_other : x.moment ≡ y.moment + 1 = next_moment cmp order y x e in
       by_order (cases_lt n k) (cases_lt k n) at on at_other on_other
     where
       by_order : (n < k) ⊎ (k ≤ n) → (k < n) ⊎ (n ≤ k) → v.moment ≡ w.moment + n → u.moment ≡ v.moment + 1 → y.moment ≡ w.moment + k → x.moment ≡ y.moment + 1 → Some u.moment ≡ Some x.moment

@@ -54,7 +54,7 @@ any_of_fewer {P} p test (f ∷ fs) e =
     by_test false h ih = ih
 
 module _ {P : Type 0} (cmp : P → P → Ordering) (order : IsTotalOrder cmp) where
-  one_of_fewer : (test : Paced P → Bool) (fs : List (Paced P)) → OneForEachPair cmp (paced_flows fs) → OneForEachPair cmp (paced_flows (filter test fs))
+  pub one_of_fewer : (test : Paced P → Bool) (fs : List (Paced P)) → OneForEachPair cmp (paced_flows fs) → OneForEachPair cmp (paced_flows (filter test fs))
   one_of_fewer test [] one = tt
   one_of_fewer test (f ∷ fs) one = by_test (test f) (any_of_fewer (same_pair cmp f.message) test fs one.0) (one_of_fewer test fs one.1)
     where

@@ -14,16 +14,9 @@ use Rattle.p2p_simulated.proofs.World.InOrder.{before_alike}
 use Rattle.p2p_simulated.proofs.World.Orderly.{obeys_orderly}
 use Rattle.p2p_simulated.proofs.World.SameWorlds.{pairs_turned, pairs_chain, caps_turned, caps_chain}
 use Rattle.p2p_simulated.proofs.World.SameSteps.{none_same, flows_same}
-use Rattle.p2p_simulated.proofs.World.SameStands.{rated_same}
+use Rattle.p2p_simulated.proofs.World.SameStands.{rated_same, one_each_same}
 
 module _ {P : Type 0} (cmp : P → P → Ordering) (order : IsTotalOrder cmp) where
-  one_same : (ms ns : List (Message P)) → AllZip (SameMessage cmp) ms ns → OneForEachPair cmp ms → OneForEachPair cmp ns
-  one_same [] [] all one = tt
-  one_same [] (n ∷ ns) all one = absurd all
-  one_same (m ∷ ms) [] all one = absurd all
-  one_same (m ∷ ms) (n ∷ ns) all one =
-      (sym (any_alike cmp order (SameMessage cmp) (same_pair cmp m) (same_pair cmp n) (λ k l f. pairs_alike cmp order m n k l all.0 f) ms ns all.1) ∙ one.0, one_same ms ns all.1 one.1)
-
   pair_order_same : (ms ns : List (Message P)) → AllZip (SameMessage cmp) ms ns → AreInPairOrder cmp ms → AreInPairOrder cmp ns
   pair_order_same [] [] all h = tt
   pair_order_same [] (n ∷ ns) all h = absurd all
@@ -34,7 +27,7 @@ module _ {P : Type 0} (cmp : P → P → Ordering) (order : IsTotalOrder cmp) wh
   pub orderly_same : (p q : Planned P) → IsSamePlanned cmp p q → IsOrderly cmp p → IsOrderly cmp q
   orderly_same p q same h = record {
     rated = rated_same cmp order p q same h.rated;
-    one_each = one_same (paced_flows p.sending) (paced_flows q.sending) (flows_same cmp order p.sending q.sending same.sending) h.one_each;
+    one_each = one_each_same cmp order (paced_flows p.sending) (paced_flows q.sending) (flows_same cmp order p.sending q.sending same.sending) h.one_each;
     pair_order = pair_order_same p.waiting q.waiting same.waiting h.pair_order;
     empty_at_first = λ free.
         let empty = h.empty_at_first (same.limited ∙ free) in

@@ -18,13 +18,10 @@ use Rattle.p2p_simulated.specs.WorldRates.{is_unlimited}
 use Rattle.p2p_simulated.specs.declared.error.Error.TheVariants.{FlowIdsUsedUp, MomentTooLate}
 use Rattle.p2p_simulated.proofs.World.Queue.{pair_like, pair_sym, settle_none, settle_first, find_passes, filter_without}
 use Rattle.p2p_simulated.proofs.World.Rests.{find_like, ends_preceded, ends_and_then, ends_cond}
+use Rattle.p2p_simulated.proofs.Filters.{find_from_any, filter_swap, filter_stronger}
+use Rattle.p2p_simulated.proofs.Each.{Each, each_filtered}
 
 -- ---- lists
-
--- P of each element
-abbrev pub Each : {X : Type 0} → (X → Type 0) → List X → Type 0
-Each P [] = ⊤
-Each P (x ∷ xs) = P x × Each P xs
 
 pub filter_skips : {X : Type 0} (keep test : X → Bool) (f : X) (xs : List X) → find test xs ≡ Some f → keep f ≡ false → filter keep (without_first test xs) ≡ filter keep xs
 filter_skips keep test f [] e h = refl
@@ -47,26 +44,6 @@ pub each_more : {X : Type 0} (P Q : X → Type 0) → ((x : X) → P x → Q x) 
 each_more P Q more [] h = tt
 each_more P Q more (x ∷ xs) h = (more x h.0, each_more P Q more xs h.1)
 
--- each that the filter keeps has the property, and passes
-pub each_filter : {X : Type 0} (P : X → Type 0) (p : X → Bool) (xs : List X) → Each P xs → Each (λ x. P x × (p x ≡ true)) (filter p xs)
-each_filter P p [] h = tt
-each_filter {X} P p (x ∷ xs) h = by_test (p x) refl (each_filter P p xs h.1)
-  where
-    by_test : (b : Bool) → p x ≡ b → Each (λ y. P y × (p y ≡ true)) (filter p xs) → Each (λ y. P y × (p y ≡ true)) (cond b (x ∷ filter p xs) (filter p xs))
-    by_test true is ih = ((h.0, is), ih)
-    by_test false is ih = ih
-
-pub filter_twice : {X : Type 0} (p q : X → Bool) (xs : List X) → filter p (filter q xs) ≡ filter q (filter p xs)
-filter_twice p q [] = refl
-filter_twice {X} p q (x ∷ xs) = by_tests (p x) (q x) refl refl (filter_twice p q xs)
-  where
-    by_tests : (a b : Bool) → p x ≡ a → q x ≡ b → filter p (filter q xs) ≡ filter q (filter p xs)
-        → filter p (cond b (x ∷ filter q xs) (filter q xs)) ≡ filter q (cond a (x ∷ filter p xs) (filter p xs))
-    by_tests true true e f ih = rw (e, f, ih) refl
-    by_tests true false e f ih = rw (f, ih) refl
-    by_tests false true e f ih = rw (e, ih) refl
-    by_tests false false e f ih = ih
-
 -- a test that only kept ones pass sees no difference
 pub find_kept : {X : Type 0} (test keep : X → Bool) (xs : List X) → ((x : X) → test x ≡ true → keep x ≡ true) → find test (filter keep xs) ≡ find test xs
 find_kept test keep [] h = refl
@@ -74,17 +51,6 @@ find_kept {X} test keep (x ∷ xs) h = by_tests (test x) (keep x) refl refl (fin
   where
     by_tests : (a b : Bool) → test x ≡ a → keep x ≡ b → find test (filter keep xs) ≡ find test xs → find test (cond b (x ∷ filter keep xs) (filter keep xs)) ≡ cond a (Some x) (find test xs)
     by_tests true true e f ih = rw e refl
-    by_tests true false e f ih = let g : keep x ≡ true = h x e in cc
-    by_tests false true e f ih = rw (e, ih) refl
-    by_tests false false e f ih = ih
-
-pub filter_kept : {X : Type 0} (test keep : X → Bool) (xs : List X) → ((x : X) → test x ≡ true → keep x ≡ true) → filter test (filter keep xs) ≡ filter test xs
-filter_kept test keep [] h = refl
-filter_kept {X} test keep (x ∷ xs) h = by_tests (test x) (keep x) refl refl (filter_kept test keep xs h)
-  where
-    by_tests : (a b : Bool) → test x ≡ a → keep x ≡ b → filter test (filter keep xs) ≡ filter test xs
-        → filter test (cond b (x ∷ filter keep xs) (filter keep xs)) ≡ cond a (x ∷ filter test xs) (filter test xs)
-    by_tests true true e f ih = rw (e, ih) refl
     by_tests true false e f ih = let g : keep x ≡ true = h x e in cc
     by_tests false true e f ih = rw (e, ih) refl
     by_tests false false e f ih = ih
@@ -129,14 +95,6 @@ any_map g p (x ∷ xs) = rw (any_map g p xs) refl
 pub any_alike : {X : Type 0} (p q : X → Bool) (xs : List X) → ((x : X) → p x ≡ q x) → list_any p xs ≡ list_any q xs
 any_alike p q [] same = refl
 any_alike p q (x ∷ xs) same = rw (same x, any_alike p q xs same) refl
-
-pub find_from_any : {X : Type 0} (p : X → Bool) (xs : List X) → list_any p xs ≡ false → find p xs ≡ None
-find_from_any p [] h = refl
-find_from_any {X} p (x ∷ xs) h = by_test (p x) h (find_from_any p xs)
-  where
-    by_test : (b : Bool) → (b || list_any p xs) ≡ false → (list_any p xs ≡ false → find p xs ≡ None) → cond b (Some x) (find p xs) ≡ None
-    by_test true h ih = cc
-    by_test false h ih = ih h
 
 pub any_from_find : {X : Type 0} (p : X → Bool) (xs : List X) → find p xs ≡ None → list_any p xs ≡ false
 any_from_find p [] h = refl
@@ -222,13 +180,13 @@ module _ {P : Type 0} (cmp : P → P → Ordering) (order : IsTotalOrder cmp) wh
   others_see_nothing m k w v a h = record {
     ready = λ t x e. may_start_alike t m x w v a (pair_sym cmp order m x ∙ pair_like cmp order k x m e ∙ pair_sym cmp order k m ∙ h);
     last_arrival = a.arrivals k h;
-    waiting = sym (filter_kept (same_pair cmp k) (λ n. not (same_pair cmp m n)) v.waiting (λ n e. pair_other m n k h e))
+    waiting = sym (filter_stronger (same_pair cmp k) (λ n. not (same_pair cmp m n)) v.waiting (λ n e. pair_other m n k h e))
         ∙ ap (filter (same_pair cmp k)) a.waiting
-        ∙ filter_kept (same_pair cmp k) (λ n. not (same_pair cmp m n)) w.waiting (λ n e. pair_other m n k h e);
+        ∙ filter_stronger (same_pair cmp k) (λ n. not (same_pair cmp m n)) w.waiting (λ n e. pair_other m n k h e);
     first = first_alike m k w v a h;
-    sending = sym (filter_kept (λ (f : Flight P). same_pair cmp k f.message) (λ (f : Flight P). not (same_pair cmp m f.message)) v.sending (λ f e. pair_other m f.message k h e))
+    sending = sym (filter_stronger (λ (f : Flight P). same_pair cmp k f.message) (λ (f : Flight P). not (same_pair cmp m f.message)) v.sending (λ f e. pair_other m f.message k h e))
         ∙ ap (filter (λ (f : Flight P). same_pair cmp k f.message)) a.sending
-        ∙ filter_kept (λ (f : Flight P). same_pair cmp k f.message) (λ (f : Flight P). not (same_pair cmp m f.message)) w.sending (λ f e. pair_other m f.message k h e);
+        ∙ filter_stronger (λ (f : Flight P). same_pair cmp k f.message) (λ (f : Flight P). not (same_pair cmp m f.message)) w.sending (λ f e. pair_other m f.message k h e);
   }
 
   -- ---- a pair that may not start
@@ -353,7 +311,7 @@ module _ {P : Type 0} (cmp : P → P → Ordering) (order : IsTotalOrder cmp) wh
   fronts_are_first (x ∷ xs) = (
     rw (pair_itself x) refl,
     each_more (λ (n : Message P). (find (same_pair cmp n) xs ≡ Some n) × (not (same_pair cmp x n) ≡ true)) (λ (n : Message P). cond (same_pair cmp n x) (Some x) (find (same_pair cmp n) xs) ≡ Some n) (λ n h. behind n h.0 h.1)
-        (filter (λ n. not (same_pair cmp x n)) (fronts cmp xs)) (each_filter (λ (n : Message P). find (same_pair cmp n) xs ≡ Some n) (λ n. not (same_pair cmp x n)) (fronts cmp xs) (fronts_are_first xs)),
+        (filter (λ n. not (same_pair cmp x n)) (fronts cmp xs)) (each_filtered (λ (n : Message P). find (same_pair cmp n) xs ≡ Some n) (λ n. not (same_pair cmp x n)) (fronts cmp xs) (fronts_are_first xs)),
   )
     where
       behind : (n : Message P) → find (same_pair cmp n) xs ≡ Some n → not (same_pair cmp x n) ≡ true → cond (same_pair cmp n x) (Some x) (find (same_pair cmp n) xs) ≡ Some n
@@ -372,9 +330,9 @@ module _ {P : Type 0} (cmp : P → P → Ordering) (order : IsTotalOrder cmp) wh
           → cond (not b) (x ∷ filter (λ n. not (same_pair cmp m n)) (filter (λ n. not (same_pair cmp x n)) (fronts cmp xs))) (filter (λ n. not (same_pair cmp m n)) (filter (λ n. not (same_pair cmp x n)) (fronts cmp xs)))
           ≡ fronts cmp (cond (not b) (x ∷ filter (λ n. not (same_pair cmp m n)) xs) (filter (λ n. not (same_pair cmp m n)) xs))
       by_pair true e ih =
-          ap (filter (λ n. not (same_pair cmp m n))) (not_alike m x e (fronts cmp xs)) ∙ filter_kept (λ n. not (same_pair cmp m n)) (λ n. not (same_pair cmp m n)) (fronts cmp xs) (λ n h. h) ∙ ih
+          ap (filter (λ n. not (same_pair cmp m n))) (not_alike m x e (fronts cmp xs)) ∙ filter_stronger (λ n. not (same_pair cmp m n)) (λ n. not (same_pair cmp m n)) (fronts cmp xs) (λ n h. h) ∙ ih
       by_pair false e ih =
-          ap (λ (ns : List (Message P)). x ∷ ns) (filter_twice (λ n. not (same_pair cmp m n)) (λ n. not (same_pair cmp x n)) (fronts cmp xs) ∙ ap (filter (λ n. not (same_pair cmp x n))) ih)
+          ap (λ (ns : List (Message P)). x ∷ ns) (filter_swap (λ n. not (same_pair cmp m n)) (λ n. not (same_pair cmp x n)) (fronts cmp xs) ∙ ap (filter (λ n. not (same_pair cmp x n))) ih)
 
   -- a pair that changed alone and may not start any more: the others are ready as before
   pub ready_without : (t : ℕ) (m : Message P) (w v : World P) → Leaves t m w v → ready cmp t v ≡ filter (λ n. not (same_pair cmp m n)) (ready cmp t w)
@@ -383,8 +341,8 @@ module _ {P : Type 0} (cmp : P → P → Ordering) (order : IsTotalOrder cmp) wh
       ∙ ap (filter (may_start cmp t v)) (fronts_without m v.waiting ∙ ap (fronts cmp) l.others.waiting ∙ sym (fronts_without m w.waiting))
       ∙ filter_alike (may_start cmp t v) (may_start cmp t w) (filter (λ n. not (same_pair cmp m n)) (fronts cmp w.waiting))
       (each_more (λ (n : Message P). ⊤ × (not (same_pair cmp m n) ≡ true)) (λ (n : Message P). may_start cmp t v n ≡ may_start cmp t w n) (λ n h. may_start_alike t m n w v l.others (not_true (same_pair cmp m n) h.1))
-      (filter (λ n. not (same_pair cmp m n)) (fronts cmp w.waiting)) (each_filter (λ (n : Message P). ⊤) (λ n. not (same_pair cmp m n)) (fronts cmp w.waiting) (each_of (λ (n : Message P). ⊤) (λ n. tt) (fronts cmp w.waiting))))
-      ∙ filter_twice (may_start cmp t w) (λ n. not (same_pair cmp m n)) (fronts cmp w.waiting)
+      (filter (λ n. not (same_pair cmp m n)) (fronts cmp w.waiting)) (each_filtered (λ (n : Message P). ⊤) (λ n. not (same_pair cmp m n)) (fronts cmp w.waiting) (each_of (λ (n : Message P). ⊤) (λ n. tt) (fronts cmp w.waiting))))
+      ∙ filter_swap (may_start cmp t w) (λ n. not (same_pair cmp m n)) (fronts cmp w.waiting)
     where
       not_true : (b : Bool) → not b ≡ true → b ≡ false
       not_true true e = cc

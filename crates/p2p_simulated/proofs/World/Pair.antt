@@ -11,32 +11,14 @@ use Rattle.p2p_simulated.specs.World.{Completed, Course, Flight, World, flows, f
 use Rattle.p2p_simulated.specs.WorldMessages.{Message, same_pair}
 use Rattle.p2p_simulated.specs.declared.error.Error.TheVariants.{FlowIdsUsedUp, MomentTooLate}
 use Rattle.p2p_simulated.specs.WorldQueue.{flight, taken, joined, arrived, launch_then, finish_within}
-use Rattle.p2p_simulated.proofs.World.Queue.{both_alike, both_parts, pair_like, pair_sym, peer_like, find_passes}
-use Rattle.p2p_simulated.proofs.World.Between.{Each, each_map, IsFront, fronts_first, first_found, find_like}
-use Rattle.p2p_simulated.proofs.World.Rests.{ends_preceded, ends_cond, length_without}
+use Rattle.p2p_simulated.proofs.World.Queue.{both_alike, pair_like, pair_sym, peer_like, find_passes}
+use Rattle.p2p_simulated.proofs.World.Between.{IsFront, fronts_first, first_found}
+use Rattle.p2p_simulated.proofs.Each.{Each, each_map, each_joined}
+use Rattle.p2p_simulated.proofs.World.Rests.{ends_preceded, ends_cond, length_without, find_like}
+use Rattle.p2p_simulated.proofs.Filters.{filter_swap, filter_stronger, length-without_first}
+use Rattle.std.proofs.lemmas.Bool.{and_parts}
 
 -- ---- lists
-
-pub filters_swap : {X : Type 0} (f g : X → Bool) (xs : List X) → filter f (filter g xs) ≡ filter g (filter f xs)
-filters_swap f g [] = refl
-filters_swap {X} f g (x ∷ xs) = by_test (f x) (g x) refl refl (filters_swap f g xs)
-  where
-    by_test : (a b : Bool) → f x ≡ a → g x ≡ b → filter f (filter g xs) ≡ filter g (filter f xs) → filter f (cond b (x ∷ filter g xs) (filter g xs)) ≡ filter g (cond a (x ∷ filter f xs) (filter f xs))
-    by_test true true d e ih = rw (d, e, ih) refl
-    by_test true false d e ih = rw (e, ih) refl
-    by_test false true d e ih = rw (d, ih) refl
-    by_test false false d e ih = ih
-
--- what the one test passes, the other does too
-pub filter_stronger : {X : Type 0} (f g : X → Bool) (xs : List X) → ((x : X) → f x ≡ true → g x ≡ true) → filter f (filter g xs) ≡ filter f xs
-filter_stronger f g [] h = refl
-filter_stronger {X} f g (x ∷ xs) h = by_test (f x) (g x) refl refl (filter_stronger f g xs h)
-  where
-    by_test : (a b : Bool) → f x ≡ a → g x ≡ b → filter f (filter g xs) ≡ filter f xs → filter f (cond b (x ∷ filter g xs) (filter g xs)) ≡ cond a (x ∷ filter f xs) (filter f xs)
-    by_test true true d e ih = rw (d, ih) refl
-    by_test true false d e ih = let k : g x ≡ true = h x d in cc
-    by_test false true d e ih = rw (d, ih) refl
-    by_test false false d e ih = ih
 
 -- what the second test fails, the first does too
 filter_only : {X : Type 0} (f g : X → Bool) (xs : List X) → Each (λ x. g x ≡ false → f x ≡ false) xs → filter f xs ≡ filter f (filter g xs)
@@ -61,21 +43,9 @@ pub no_nil : {X : Type 0} (xs : List X) (x : X) → xs ++ x ∷ [] ≡ [] → �
 no_nil [] x e = cc
 no_nil (y ∷ ys) x e = cc
 
-each_more : {X : Type 0} (Q : X → Type 0) (xs : List X) (x : X) → Each Q xs → Q x → Each Q (xs ++ x ∷ [])
-each_more Q [] x h q = (q, tt)
-each_more Q (y ∷ ys) x h q = (h.0, each_more Q ys x h.1 q)
-
 pub ends_so : {X S : Type 0} (R Q : S → Type 0) (c : Course X S) → ((s : S) → R s → Q s) → EndsWith R c → EndsWith Q c
 ends_so R Q (goes xs s) f h = f s h
 ends_so R Q (meets fault) f h = tt
-
-shorter_without : {X : Type 0} (test : X → Bool) (xs : List X) → length (without_first test xs) ≤ length xs
-shorter_without test [] = omega arith
-shorter_without {X} test (x ∷ xs) = by_test (test x) (shorter_without test xs)
-  where
-    by_test : (b : Bool) → length (without_first test xs) ≤ length xs → length (cond b xs (x ∷ without_first test xs)) ≤ suc (length xs)
-    by_test true h = omega arith
-    by_test false h = omega arith
 
 pub not_true : (b : Bool) → not b ≡ true → b ≡ false
 not_true true e = cc
@@ -124,14 +94,14 @@ module _ {P : Type 0} (cmp : P → P → Ordering) (order : IsTotalOrder cmp) (y
           rw own (sym (filter_stronger apart (λ n. not (same_pair cmp z n)) (fronts cmp ws) (λ n k. ap not (pair_like cmp order y z n own) ∙ k)))
       by_test false is ih =
           let own : same_pair cmp y z ≡ false = sym same ∙ is in
-          rw own (ap (λ (q : List (Message P)). z ∷ q) (filters_swap apart (λ n. not (same_pair cmp z n)) (fronts cmp (without_first (same_pair cmp x) ws)) ∙ ap (filter (λ n. not (same_pair cmp z n))) ih ∙ filters_swap (λ n. not (same_pair cmp z n)) apart (fronts cmp ws)))
+          rw own (ap (λ (q : List (Message P)). z ∷ q) (filter_swap apart (λ n. not (same_pair cmp z n)) (fronts cmp (without_first (same_pair cmp x) ws)) ∙ ap (filter (λ n. not (same_pair cmp z n))) ih ∙ filter_swap (λ n. not (same_pair cmp z n)) apart (fronts cmp ws)))
 
   -- ---- steps
 
   pub only_arrived : (t : ℕ) (w : World P) (m : Message P) → same_pair cmp y m ≡ true → OnlyPair w (arrived cmp t w m)
   only_arrived t w m e =
       let parts : (same_peer cmp y.origin m.origin ≡ true) × (same_peer cmp y.recipient m.recipient ≡ true)
-      = both_parts cmp order (same_peer cmp y.origin m.origin) (same_peer cmp y.recipient m.recipient) e in
+      = and_parts (same_peer cmp y.origin m.origin) (same_peer cmp y.recipient m.recipient) e in
       record {
         last = λ p q off. rw (both_alike cmp order (same_peer cmp m.origin p) (same_peer cmp y.origin p) (same_peer cmp m.recipient q) (same_peer cmp y.recipient q) (peer_like cmp order y.origin m.origin p parts.0) (peer_like cmp order y.recipient m.recipient q parts.1) ∙ off) refl;
         busy = λ m e. refl;
@@ -140,14 +110,14 @@ module _ {P : Type 0} (cmp : P → P → Ordering) (order : IsTotalOrder cmp) (y
       }
 
   pub only_taken : (w : World P) (x : Message P) → same_pair cmp y x ≡ true → OnlyPair w (taken cmp w x)
-  only_taken w x e = record { last = λ p q off. refl; busy = λ m off. refl; others = fronts_without x w.waiting e; fewer = shorter_without (same_pair cmp x) w.waiting }
+  only_taken w x e = record { last = λ p q off. refl; busy = λ m off. refl; others = fronts_without x w.waiting e; fewer = length-without_first (same_pair cmp x) w.waiting }
 
   pub only_joined : (w : World P) (x : Message P) → same_pair cmp y x ≡ true → OnlyPair w (joined cmp w x)
   only_joined w x e = record {
     last = λ p q off. refl;
     busy = λ m off. ap (list_any (same_pair cmp m)) (map-append (λ (g : Flight P). g.message) w.sending (flight cmp x ∷ [])) ∙ list_any-append (same_pair cmp m) (flows w) (x ∷ []) ∙ by_pair m (list_any (same_pair cmp m) (flows w)) (pair_sym cmp order m x ∙ pair_like cmp order y x m e ∙ off);
     others = fronts_without x w.waiting e;
-    fewer = shorter_without (same_pair cmp x) w.waiting;
+    fewer = length-without_first (same_pair cmp x) w.waiting;
   }
     where
       by_pair : (m : Message P) (b : Bool) → same_pair cmp m x ≡ false → (b || (same_pair cmp m x || false)) ≡ b
@@ -201,7 +171,7 @@ module _ {P : Type 0} (cmp : P → P → Ordering) (order : IsTotalOrder cmp) (y
               → EndsWith (IsAfter t (arrived cmp t w f.message)) (cond b (finish_within cmp n t (fs ++ flight cmp x ∷ []) (taken cmp (arrived cmp t w f.message) x)) (finish_within cmp n t fs (joined cmp (arrived cmp t w f.message) x)))
           by_done true less =
               let many : length (fs ++ flight cmp x ∷ []) ≡ length fs + 1 = length-append fs (flight cmp x ∷ []) in
-              after_on t (arrived cmp t w f.message) (taken cmp (arrived cmp t w f.message) x) _ (only_taken (arrived cmp t w f.message) x pair) (ih (fs ++ flight cmp x ∷ []) (taken cmp (arrived cmp t w f.message) x) (each_more (λ g. same_pair cmp y g.message ≡ true) fs (flight cmp x) own.1 pair) (omega arith) (λ e. absurd (no_nil fs (flight cmp x) e)))
+              after_on t (arrived cmp t w f.message) (taken cmp (arrived cmp t w f.message) x) _ (only_taken (arrived cmp t w f.message) x pair) (ih (fs ++ flight cmp x ∷ []) (taken cmp (arrived cmp t w f.message) x) (each_joined (λ g. same_pair cmp y g.message ≡ true) fs (flight cmp x) own.1 pair) (omega arith) (λ e. absurd (no_nil fs (flight cmp x) e)))
           by_done false less =
               after_on t (arrived cmp t w f.message) (joined cmp (arrived cmp t w f.message) x) _ (only_joined (arrived cmp t w f.message) x pair)
               (ih fs (joined cmp (arrived cmp t w f.message) x) own.1 (omega arith) (λ e. rested_joined t (arrived cmp t w f.message) x pair))
@@ -224,7 +194,7 @@ module _ {P : Type 0} (cmp : P → P → Ordering) (order : IsTotalOrder cmp) (y
       filter_only (may_start cmp t v) apart (fronts cmp v.waiting) (each_map (IsFront cmp order v.waiting) (λ m. apart m ≡ false → may_start cmp t v m ≡ false) (fronts cmp v.waiting) (λ m front. own_rested m front.0 front.1) (fronts_first cmp order v.waiting))
       ∙ ap (filter (may_start cmp t v)) after.0.others
       ∙ filter_where (may_start cmp t v) (may_start cmp t w) apart (fronts cmp w.waiting) (λ m off. may_others t w v m after.0 off)
-      ∙ filters_swap (may_start cmp t w) apart (fronts cmp w.waiting)
+      ∙ filter_swap (may_start cmp t w) apart (fronts cmp w.waiting)
     where
       own_rested : (m : Message P) (rest : List (Message P)) → filter (same_pair cmp m) v.waiting ≡ m ∷ rest → apart m ≡ false → may_start cmp t v m ≡ false
       own_rested m rest front own =

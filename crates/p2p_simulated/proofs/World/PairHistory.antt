@@ -6,7 +6,7 @@ use Rattle.std.specs.declared.cmp.Ordering.{Ordering}
 use Rattle.std.specs.Cmp.{IsTotalOrder}
 use Rattle.std.proofs.lemmas.List.Elements.{filter-append}
 use Rattle.std.proofs.lemmas.List.{map-append}
-use Rattle.std.proofs.lemmas.Bool.{leb-true, le-leb}
+use Rattle.std.proofs.lemmas.Bool.{leb-true, le-leb, and_parts}
 use Rattle.p2p_simulated.specs.declared.error.Error.TheVariants.{MomentTooLate, FlowIdsUsedUp}
 use Rattle.p2p_simulated.specs.Amount.{whole}
 use Rattle.p2p_simulated.specs.Sides.{same_peer}
@@ -16,9 +16,10 @@ use Rattle.p2p_simulated.specs.WorldTime.{IsSound, Drains, Ticks, no_tick, one_t
 use Rattle.p2p_simulated.specs.WorldCalls.{Call, call_limit, call_limit_link, call_enqueue, call_advance, call_next, recap, join, complete_at_once, act, moment_of, Runs, limited_by, linked_by}
 use Rattle.p2p_simulated.specs.WorldOrder.{enqueued, answered, IsCompletionOf, NoneBefore, NeverGoDown, completes_pair, IsInPairOrder}
 use Rattle.p2p_simulated.specs.WorldIsolation.{Answers, no_calls, call_answers}
-use Rattle.p2p_simulated.proofs.World.Queue.{pair_like, pair_sym, both_parts, find_passes, settle_none, settle_first}
+use Rattle.p2p_simulated.proofs.World.Queue.{pair_like, pair_sym, find_passes, settle_none, settle_first}
 use Rattle.p2p_simulated.proofs.World.Rests.{find_like}
-use Rattle.p2p_simulated.proofs.World.Bytes.{Each, wake_none, each_least, each_filter, fronts_are_first}
+use Rattle.p2p_simulated.proofs.World.Bytes.{wake_none, each_least, each_filter, fronts_are_first}
+use Rattle.p2p_simulated.proofs.Each.{Each}
 use Rattle.p2p_simulated.proofs.World.Stretch.{flows_drained}
 use Rattle.p2p_simulated.proofs.World.Split.{rest_is}
 use Rattle.p2p_simulated.proofs.World.Sound.{raised_peerwise, ticks_keep_sound, call_keeps_sound, new_world_sound}
@@ -194,7 +195,7 @@ module _ {P : Type 0} (cmp : P → P → Ordering) (order : IsTotalOrder cmp) (k
 
   last_of : (w : World P) (m : Message P) → PairsAlike cmp w.last_arrival w.last_arrival → same_pair cmp k m ≡ true → w.last_arrival m.origin m.recipient ≡ last w
   last_of w m alike own =
-      let parts = both_parts cmp order (same_peer cmp k.origin m.origin) (same_peer cmp k.recipient m.recipient) own in
+      let parts = and_parts (same_peer cmp k.origin m.origin) (same_peer cmp k.recipient m.recipient) own in
       sym (alike k.origin m.origin k.recipient m.recipient parts.0 parts.1)
 
   first_of_waits : (w : World P) (m : Message P) → same_pair cmp k m ≡ true → find (same_pair cmp m) w.waiting ≡ Some m

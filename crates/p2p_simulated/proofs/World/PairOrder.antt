@@ -11,7 +11,10 @@ use Rattle.p2p_simulated.specs.World.{least_pair}
 use Rattle.p2p_simulated.specs.WorldMessages.{Message, OneForEachPair, pair_before, same_pair}
 use Rattle.p2p_simulated.specs.WorldPass.{IsBeforeEach, IsByPair, by_pair, insert_by_pair}
 use Rattle.p2p_simulated.proofs.World.Queue.{pair_like, pair_sym}
-use Rattle.p2p_simulated.proofs.World.Others.{Each, each_more, pair_itself, find_from_any}
+use Rattle.p2p_simulated.proofs.World.Others.{each_more, pair_itself}
+use Rattle.p2p_simulated.proofs.Each.{Each}
+use Rattle.p2p_simulated.proofs.Filters.{find_from_any}
+use Rattle.p2p_simulated.proofs.Pairs.{is_eq-then}
 
 lt_turned : (r : Ordering) → is_lt (ordering_reverse r) ≡ is_gt r
 lt_turned Less = refl
@@ -38,11 +41,6 @@ not_gt_if_lt Less e = refl
 not_gt_if_lt Equal e = refl
 not_gt_if_lt Greater e = cc
 
-eq_of_both : (r s : Ordering) → is_eq (ordering_then r s) ≡ (is_eq r && is_eq s)
-eq_of_both Less s = refl
-eq_of_both Equal s = refl
-eq_of_both Greater s = refl
-
 module _ {P : Type 0} (cmp : P → P → Ordering) (order : IsTotalOrder cmp) where
   abbrev pair_cmp : Message P → Message P → Ordering
   pair_cmp m n = ordering_then (cmp m.origin n.origin) (cmp m.recipient n.recipient)
@@ -60,7 +58,7 @@ module _ {P : Type 0} (cmp : P → P → Ordering) (order : IsTotalOrder cmp) wh
   not_before_back m n e = turned n m ∙ not_gt_if_lt (pair_cmp m n) e
 
   pub apart_if_before : (m n : Message P) → pair_before cmp m n ≡ true → same_pair cmp m n ≡ false
-  apart_if_before m n e = sym (eq_of_both (cmp m.origin n.origin) (cmp m.recipient n.recipient)) ∙ not_eq_if_lt (pair_cmp m n) e
+  apart_if_before m n e = sym (is_eq-then (cmp m.origin n.origin) (cmp m.recipient n.recipient)) ∙ not_eq_if_lt (pair_cmp m n) e
 
   pub before_each_other : (m n k : Message P) → pair_before cmp m n ≡ true → pair_before cmp n k ≡ true → pair_before cmp m k ≡ true
   before_each_other m n k e f = ap is_lt (pairs.trans m n k (is_less (pair_cmp m n) e) (is_less (pair_cmp n k) f))
@@ -69,7 +67,7 @@ module _ {P : Type 0} (cmp : P → P → Ordering) (order : IsTotalOrder cmp) wh
   not_before_on m n k e f = turned m k ∙ upto pairs k n m (sym (turned n k) ∙ f) (sym (turned m n) ∙ e)
 
   pub before_if_not : (m n : Message P) → pair_before cmp n m ≡ false → same_pair cmp m n ≡ false → pair_before cmp m n ≡ true
-  before_if_not m n e f = turned m n ∙ gt_if_neither (pair_cmp n m) e (eq_of_both (cmp n.origin m.origin) (cmp n.recipient m.recipient) ∙ pair_sym cmp order n m ∙ f)
+  before_if_not m n e f = turned m n ∙ gt_if_neither (pair_cmp n m) e (is_eq-then (cmp n.origin m.origin) (cmp n.recipient m.recipient) ∙ pair_sym cmp order n m ∙ f)
 
   -- ---- the least pair
 

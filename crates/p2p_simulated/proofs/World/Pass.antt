@@ -10,7 +10,9 @@ use Rattle.p2p_simulated.specs.WorldPass.{IsByPair, by_pair, wake_each}
 use Rattle.p2p_simulated.specs.declared.error.Error.TheVariants.{FlowIdsUsedUp, MomentTooLate}
 use Rattle.p2p_simulated.proofs.World.Queue.{pair_like, pair_sym, settle_none, settle_first}
 use Rattle.p2p_simulated.proofs.World.Rests.{length_without, ends_preceded, ends_and_then, ends_cond, NoneDone, settle_rests}
-use Rattle.p2p_simulated.proofs.World.Others.{Each, each_more, each_filter, each_of, find_kept, any_from_find, find_from_any, Leaves, pair_itself, pair_other, ends_more, fronts_are_first, ready_without, start_settles, any_none}
+use Rattle.p2p_simulated.proofs.World.Others.{each_more, each_of, find_kept, any_from_find, Leaves, pair_itself, pair_other, ends_more, fronts_are_first, ready_without, start_settles, any_none}
+use Rattle.p2p_simulated.proofs.Each.{Each, each_filtered}
+use Rattle.p2p_simulated.proofs.Filters.{find_from_any, length-without_first, none_long}
 use Rattle.p2p_simulated.proofs.World.PairOrder.{apart_if_before, least_none, least_is, found_in, as_each, find_nowhere, find_by_pair, ordered_by_pair}
 
 -- ---- courses
@@ -29,18 +31,6 @@ ends_any Q (meets fault) all = tt
 
 -- ---- lists
 
-length_without_first : {X : Type 0} (test : X → Bool) (xs : List X) → length (without_first test xs) ≤ length xs
-length_without_first test [] = omega arith
-length_without_first {X} test (x ∷ xs) = by_test (test x) (length_without_first test xs)
-  where
-    by_test : (b : Bool) → length (without_first test xs) ≤ length xs → length (cond b xs (x ∷ without_first test xs)) ≤ suc (length xs)
-    by_test true ih = omega arith
-    by_test false ih = omega arith
-
-none_long : {X : Type 0} (xs : List X) → length xs ≤ 0 → xs ≡ []
-none_long [] h = refl
-none_long (x ∷ xs) h = absurd (omega arith)
-
 module _ {P : Type 0} (cmp : P → P → Ordering) (order : IsTotalOrder cmp) where
   -- ---- fewer wait
 
@@ -49,7 +39,7 @@ module _ {P : Type 0} (cmp : P → P → Ordering) (order : IsTotalOrder cmp) wh
 
   start_waits : (n : ℕ) (w : World P) (m : Message P) → WaitAtMost n w → EndsWith (WaitAtMost n) (start cmp w m)
   start_waits n w m h =
-      let fewer : length (without_first (same_pair cmp m) w.waiting) ≤ length w.waiting = length_without_first (same_pair cmp m) w.waiting in
+      let fewer : length (without_first (same_pair cmp m) w.waiting) ≤ length w.waiting = length-without_first (same_pair cmp m) w.waiting in
       ends_cond (WaitAtMost n) (nat_le last_moment w.next_id) (meets FlowIdsUsedUp) _ tt (omega arith)
 
   start_takes : (n : ℕ) (w : World P) (m x : Message P) → find (same_pair cmp m) w.waiting ≡ Some x → WaitAtMost (suc n) w → EndsWith (WaitAtMost n) (start cmp w m)
@@ -103,7 +93,7 @@ module _ {P : Type 0} (cmp : P → P → Ordering) (order : IsTotalOrder cmp) wh
   ready_is_front : (t : ℕ) (w : World P) (k x : Message P) → find (same_pair cmp k) (ready cmp t w) ≡ Some x → find (same_pair cmp x) w.waiting ≡ Some x
   ready_is_front t w k x e =
       (found_in cmp order (λ (n : Message P). (find (same_pair cmp n) w.waiting ≡ Some n) × (may_start cmp t w n ≡ true)) (same_pair cmp k) x (ready cmp t w)
-      (each_filter (λ (n : Message P). find (same_pair cmp n) w.waiting ≡ Some n) (may_start cmp t w) (fronts cmp w.waiting) (fronts_are_first cmp order w.waiting)) e).0
+      (each_filtered (λ (n : Message P). find (same_pair cmp n) w.waiting ≡ Some n) (may_start cmp t w) (fronts cmp w.waiting) (fronts_are_first cmp order w.waiting)) e).0
 
   ready_in_none : (t : ℕ) (w : World P) → w.waiting ≡ [] → ready cmp t w ≡ []
   ready_in_none t w e = rw e refl
@@ -141,7 +131,7 @@ module _ {P : Type 0} (cmp : P → P → Ordering) (order : IsTotalOrder cmp) wh
   find_without k m xs e =
       find_nowhere cmp order (same_pair cmp k) (filter (λ n. not (same_pair cmp m n)) xs)
       (each_more (λ (n : Message P). ⊤ × (not (same_pair cmp m n) ≡ true)) (λ (n : Message P). same_pair cmp k n ≡ false) (λ n h. pair_like cmp order m k n e ∙ not_true (same_pair cmp m n) h.1) (filter (λ n. not (same_pair cmp m n)) xs)
-      (each_filter (λ (n : Message P). ⊤) (λ n. not (same_pair cmp m n)) xs (each_of (λ (n : Message P). ⊤) (λ n. tt) xs)))
+      (each_filtered (λ (n : Message P). ⊤) (λ n. not (same_pair cmp m n)) xs (each_of (λ (n : Message P). ⊤) (λ n. tt) xs)))
     where
       not_true : (b : Bool) → not b ≡ true → b ≡ false
       not_true true e = cc

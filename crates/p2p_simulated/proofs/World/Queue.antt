@@ -8,7 +8,7 @@ use Rattle.std.specs.Ordering.{is_eq, ordering_reverse}
 use Rattle.std.specs.Cmp.{IsTotalOrder}
 use Rattle.std.proofs.lemmas.List.Folds.{list_any-append}
 use Rattle.std.proofs.lemmas.List.Elements.{filter-append}
-use Rattle.std.proofs.lemmas.Bool.{or_from, or_parts}
+use Rattle.std.proofs.lemmas.Bool.{or_from, or_parts, and_parts}
 use Rattle.std.proofs.lemmas.List.{append-nil, map-append}
 use Rattle.p2p_simulated.specs.Sides.{same_peer}
 use Rattle.p2p_simulated.specs.World.{Completed, Course, Flight, World, and_then, complete, goes, is_done, is_in_order, last_moment, may_start, meets, preceded, settle_within, start, start_next, without_first, is_late, completed}
@@ -102,11 +102,6 @@ module _ {P : Type 0} (cmp : P → P → Ordering) (order : IsTotalOrder cmp) wh
   reversed Equal = refl
   reversed Greater = refl
 
-  pub both_parts : (a b : Bool) → (a && b) ≡ true → (a ≡ true) × (b ≡ true)
-  both_parts true true e = (refl, refl)
-  both_parts true false e = cc
-  both_parts false b e = cc
-
   pub peer_like : (p q r : P) → same_peer cmp p q ≡ true → same_peer cmp q r ≡ same_peer cmp p r
   peer_like p q r e = ap is_eq (sym (order.congr p q r (equal_from (cmp p q) e)))
 
@@ -118,7 +113,7 @@ module _ {P : Type 0} (cmp : P → P → Ordering) (order : IsTotalOrder cmp) wh
 
   pub pair_like : (m n k : Message P) → same_pair cmp m n ≡ true → same_pair cmp n k ≡ same_pair cmp m k
   pair_like m n k e =
-      let parts : (same_peer cmp m.origin n.origin ≡ true) × (same_peer cmp m.recipient n.recipient ≡ true) = both_parts (same_peer cmp m.origin n.origin) (same_peer cmp m.recipient n.recipient) e in
+      let parts : (same_peer cmp m.origin n.origin ≡ true) × (same_peer cmp m.recipient n.recipient ≡ true) = and_parts (same_peer cmp m.origin n.origin) (same_peer cmp m.recipient n.recipient) e in
       both_alike (same_peer cmp n.origin k.origin) (same_peer cmp m.origin k.origin) (same_peer cmp n.recipient k.recipient) (same_peer cmp m.recipient k.recipient) (peer_like m.origin n.origin k.origin parts.0) (peer_like m.recipient n.recipient k.recipient parts.1)
 
   pub pair_sym : (m n : Message P) → same_pair cmp m n ≡ same_pair cmp n m

@@ -14,8 +14,7 @@ use Rattle.p2p_simulated.specs.WorldIsolation.{Answers, InTime, IsSet, NothingEl
 use Rattle.p2p_simulated.specs.ReplayLaws.{AlwaysSoFar, Completes, CompletesInOrder, CompletePairsInOrder, IsolateSets}
 use Rattle.p2p_simulated.proofs.World.Queue.{both_alike}
 use Rattle.p2p_simulated.proofs.World.Alike.{same_itself, peers_alike}
-use Rattle.p2p_simulated.proofs.World.Again.{filter_alike}
-use Rattle.p2p_simulated.proofs.World.Instant.{both_joined}
+use Rattle.p2p_simulated.proofs.Zips.{zip-append, zip-filter}
 use Rattle.p2p_simulated.proofs.World.PairHistory.{pair_in_order}
 use Rattle.p2p_simulated.proofs.World.IsolatedCalls.{isolation}
 use Rattle.p2p_simulated.proofs.World.MadeCalls.{Bridged, made_in_turn, any_turn}
@@ -26,7 +25,7 @@ answered_alike : {X Y : Type 0} (R : X → Y → Type 0) (xss : List (List X)) (
 answered_alike R [] [] all = tt
 answered_alike R [] (ys ∷ yss) all = absurd all
 answered_alike R (xs ∷ xss) [] all = absurd all
-answered_alike R (xs ∷ xss) (ys ∷ yss) all = both_joined R xs ys (answered xss) (answered yss) all.0 (answered_alike R xss yss all.1)
+answered_alike R (xs ∷ xss) (ys ∷ yss) all = zip-append R xs (answered xss) ys (answered yss) all.0 (answered_alike R xss yss all.1)
 
 none_alike : {X Y : Type 0} (R : X → Y → Type 0) (xs : List X) (ys : List Y) → AllZip R xs ys → ys ≡ [] → xs ≡ []
 none_alike R [] ys all e = refl
@@ -85,7 +84,7 @@ module _ {P : Type 0} (cmp : P → P → Ordering) (order : IsTotalOrder cmp) wh
       → CompletesInOrder cmp k messages cs
   in_order_alike k messages cs ds same order_of =
       let those : AllZip (SameCompletion cmp) (filter (completes_pair cmp k) cs) (filter (completes_pair cmp k) ds)
-      = filter_alike (SameCompletion cmp) (completes_pair cmp k) (completes_pair cmp k) (completes_alike k) cs ds same in
+      = zip-filter (SameCompletion cmp) (completes_pair cmp k) (completes_pair cmp k) (completes_alike k) cs ds same in
       record {
         done = order_of.done;
         rest = order_of.rest;
@@ -104,7 +103,7 @@ module _ {P : Type 0} (cmp : P → P → Ordering) (order : IsTotalOrder cmp) wh
 
   module _ (inside : P → Bool) (together : IsSet cmp inside) where
     alone_alike : (cs ds : List (Completed P)) → AllZip (SameCompletion cmp) cs ds → AllZip (SameCompletion cmp) (inside_alone inside cs) (inside_alone inside ds)
-    alone_alike cs ds same = filter_alike (SameCompletion cmp) (λ c. inside c.origin) (λ c. inside c.origin) (λ c d one. together c.origin d.origin one.origin) cs ds same
+    alone_alike cs ds same = zip-filter (SameCompletion cmp) (λ c. inside c.origin) (λ c. inside c.origin) (λ c d one. together c.origin d.origin one.origin) cs ds same
 
     kept_alike : (calls : List (Call P)) (css dss : List (List (Completed P))) → AllZip (AllZip (SameCompletion cmp)) css dss
         → AllZip (AllZip (SameCompletion cmp)) (kept_completions inside calls css) (kept_completions inside calls dss)

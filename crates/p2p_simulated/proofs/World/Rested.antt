@@ -12,13 +12,14 @@ use Rattle.p2p_simulated.specs.WorldMessages.{Message, OneForEachPair, same_pair
 use Rattle.p2p_simulated.specs.declared.error.Error.TheVariants.{FlowIdsUsedUp, MomentTooLate}
 use Rattle.p2p_simulated.specs.WorldQueue.{leaving, staying, flight, taken, joined, arrived, launch_then, finish_within}
 use Rattle.p2p_simulated.proofs.World.Queue.{any_like, find_passes, pair_sym, pair_like}
-use Rattle.p2p_simulated.proofs.World.Between.{each_map, filter_none, IsFront, fronts_first, first_found, find_like}
+use Rattle.p2p_simulated.proofs.World.Between.{filter_none, IsFront, fronts_first, first_found}
+use Rattle.p2p_simulated.proofs.Each.{each_map}
 use Rattle.p2p_simulated.proofs.World.Launch.{head_found, head_of, waits_without}
 use Rattle.p2p_simulated.proofs.World.Instant.{settle_is_finish}
 use Rattle.p2p_simulated.proofs.World.Pair.{OnlyPair, only_arrived, only_taken, only_joined, IsRested, rested_joined, may_others, or_left, or_right}
 use Rattle.p2p_simulated.proofs.World.Waking.{own_pair}
 use Rattle.p2p_simulated.proofs.World.InOrder.{Somewhere, some_filtered, in_fronts}
-use Rattle.p2p_simulated.proofs.World.Rests.{ends_preceded, ends_cond, length_without}
+use Rattle.p2p_simulated.proofs.World.Rests.{ends_preceded, ends_cond, length_without, find_like}
 
 any_split : {X : Type 0} (p test : X → Bool) (xs : List X) → list_any p (filter test xs) ≡ false → list_any p (filter (λ x. not (test x)) xs) ≡ list_any p xs
 any_split p test [] e = refl

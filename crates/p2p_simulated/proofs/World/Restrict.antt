@@ -11,7 +11,7 @@ use Rattle.p2p_simulated.specs.Sides.{same_peer}
 use Rattle.p2p_simulated.specs.WorldMessages.{Message, Caps, same_pair, is_delivered}
 use Rattle.p2p_simulated.specs.WorldRates.{AreFair, Parts, capped_sides, egress_of, ingress_of, link_of, side_of, sides_for, rates_from, is_unlimited}
 use Rattle.p2p_simulated.proofs.Fairness.Sums.{All-from_contains}
-use Rattle.p2p_simulated.proofs.Fairness.Members.{In, in_from_contains, contains_from_in, in_left, in_right, in_either, in_filter, from_filter, in_get}
+use Rattle.p2p_simulated.proofs.Fairness.Members.{In, in_from_contains, contains_from_in, in_left, in_right, in_either, in_filter, from_filter, in_get, from_flat_map, in_flat_map}
 use Rattle.p2p_simulated.specs.Places.{places_from}
 use Rattle.p2p_simulated.proofs.Places.{place_here, passes_here}
 
@@ -22,19 +22,6 @@ pub data Kind : Type 0 where
   at_link : Kind
 
 -- ---- members
-
-pub in_flat_map : {X A : Type 0} (f : X → List A) (xs : List X) (x : X) (a : A) → In xs x → In (f x) a → In (flat_map f xs) a
-in_flat_map f [] x a h g = absurd h
-in_flat_map {X} {A} f (y ∷ ys) x a (inl e) g = in_left (f y) (flat_map f ys) a (subst (λ (z : X). In (f z) a) (sym e) g)
-in_flat_map f (y ∷ ys) x a (inr h) g = in_right (f y) (flat_map f ys) a (in_flat_map f ys x a h g)
-
-pub from_flat_map : {X A : Type 0} (f : X → List A) (xs : List X) (a : A) → In (flat_map f xs) a → (x : X) × In xs x × In (f x) a
-from_flat_map f [] a h = absurd h
-from_flat_map {X} {A} f (y ∷ ys) a h = by_part (in_either (f y) (flat_map f ys) a h) (λ g. from_flat_map f ys a g)
-  where
-    by_part : In (f y) a ⊎ In (flat_map f ys) a → (In (flat_map f ys) a → (x : X) × In ys x × In (f x) a) → (x : X) × In (y ∷ ys) x × In (f x) a
-    by_part (inl g) ih = (y, inl refl, g)
-    by_part (inr g) ih = let r : (x : X) × In ys x × In (f x) a = ih g in (r.0, inr r.1, r.2)
 
 -- ---- places
 

@@ -15,8 +15,9 @@ use Rattle.p2p_simulated.specs.WorldEvents.{Accounts, Looks, Launches, nothing_w
 use Rattle.p2p_simulated.specs.SamePlanned.{IsSamePaced, IsSamePlanned, IsSameCall, same_limit, same_limit_link, same_enqueue, same_advance, same_next, IsSameCourse}
 use Rattle.p2p_simulated.proofs.World.Alike.{fair_alike}
 use Rattle.p2p_simulated.proofs.World.Launch.{OptionsAlike}
-use Rattle.p2p_simulated.proofs.World.Waking.{zips_joined}
-use Rattle.p2p_simulated.proofs.World.SameSteps.{least_same, none_same, some_same, IsSameLaunch, course_went, course_met, launch_went, launch_met, limited_by_same, linked_by_same, late_same, completed_same, flows_same, some_spent_same, leaving_same, staying_same, may_same, next_same, ready_same, some_ready_same, next_event_same, recapped_same, no_finish_same, no_start_same, launched_same, landed_same, with_queued_same, at_once_same}
+use Rattle.p2p_simulated.proofs.Zips.{zip-append}
+use Rattle.p2p_simulated.proofs.World.SameSteps.{least_same, none_same, some_same, IsSameLaunch, course_went, course_met, launch_went, launch_met, limited_by_same, linked_by_same, flows_same, some_spent_same, leaving_same, staying_same, may_same, next_same, ready_same, some_ready_same, next_event_same, recapped_same, no_finish_same, no_start_same, launched_same, landed_same, with_queued_same, at_once_same}
+use Rattle.p2p_simulated.proofs.World.Instant.{completed_alike, late_alike}
 use Rattle.p2p_simulated.proofs.World.SameWorlds.{zip_turned, paced_turned, same_turned}
 
 module _ {P : Type 0} (cmp : P → P → Ordering) (order : IsTotalOrder cmp) where
@@ -131,7 +132,7 @@ module _ {P : Type 0} (cmp : P → P → Ordering) (order : IsTotalOrder cmp) wh
         start = refl;
       }
 
-  abbrev LaunchWent : ℕ → Planned P → Option (Message P) → List (Message P) → Planned P → Type 0
+  abbrev pub LaunchWent : ℕ → Planned P → Option (Message P) → List (Message P) → Planned P → Type 0
   LaunchWent t q r ms p = (ns : List (Message P)) × (s : Planned P) × Launches cmp t q r (goes ns s) × AllZip (SameMessage cmp) ms ns × IsSamePlanned cmp p s
 
   launch_same : {t : ℕ} {p : Planned P} {o : Option (Message P)} {course : Course (Message P) (Planned P)} → Launches cmp t p o course → (q : Planned P) (r : Option (Message P))
@@ -154,7 +155,7 @@ module _ {P : Type 0} (cmp : P → P → Ordering) (order : IsTotalOrder cmp) wh
 
   pub preceded_same : (cs ds : List (Completed P)) (x y : Course (Completed P) (Planned P)) → AllZip (SameCompletion cmp) cs ds → IsSameCourse cmp x y
       → IsSameCourse cmp (preceded cs x) (preceded ds y)
-  preceded_same cs ds (goes es p) (goes fs q) all same = (zips_joined (SameCompletion cmp) cs ds es fs all same.0, same.1)
+  preceded_same cs ds (goes es p) (goes fs q) all same = (zip-append (SameCompletion cmp) cs es ds fs all same.0, same.1)
   preceded_same cs ds (goes es p) (meets fault) all same = absurd same
   preceded_same cs ds (meets fault) (goes fs q) all same = absurd same
   preceded_same cs ds (meets fault) (meets other) all same = same
@@ -166,17 +167,17 @@ module _ {P : Type 0} (cmp : P → P → Ordering) (order : IsTotalOrder cmp) wh
       (goes [] l.0, all_completed l.1, (tt, l.2))
   finish_same (all_completed looks) (n ∷ ns) q same all = absurd all
   finish_same (late is) [] q same all = absurd all
-  finish_same {t = t} (late {m = m} is) (n ∷ ns) q same all = (meets MomentTooLate, late (sym (late_same cmp order t m n all.0) ∙ is), refl)
+  finish_same {t = t} (late {m = m} is) (n ∷ ns) q same all = (meets MomentTooLate, late (sym (late_alike cmp order t m n all.0) ∙ is), refl)
   finish_same (stopped is launch) [] q same all = absurd all
   finish_same {t = t} (stopped {m = m} {p = p} {fault = fault} is launch) (n ∷ ns) q same all =
-      (meets fault, stopped (sym (late_same cmp order t m n all.0) ∙ is) (launch_met cmp order (λ c. Launches cmp t (landed cmp t q n) (next_of cmp q n) c) fault (launch_same launch (landed cmp t q n) (next_of cmp q n) (landed_same cmp order p q same t m n all.0) (next_same cmp order p q same m n all.0))), refl)
+      (meets fault, stopped (sym (late_alike cmp order t m n all.0) ∙ is) (launch_met cmp order (λ c. Launches cmp t (landed cmp t q n) (next_of cmp q n) c) fault (launch_same launch (landed cmp t q n) (next_of cmp q n) (landed_same cmp order p q same t m n all.0) (next_same cmp order p q same m n all.0))), refl)
   finish_same (completes is launch finishes) [] q same all = absurd all
   finish_same {t = t} (completes {m = m} {ms = ms} {more = more} {p = p} {q = s} {rest = rest} is launch finishes) (n ∷ ns) q same all =
       let went : LaunchWent t (landed cmp t q n) (next_of cmp q n) more s
       = launch_went cmp order (λ c. Launches cmp t (landed cmp t q n) (next_of cmp q n) c) more s (launch_same launch (landed cmp t q n) (next_of cmp q n) (landed_same cmp order p q same t m n all.0) (next_same cmp order p q same m n all.0)) in
       let later : (c : Course (Completed P) (Planned P)) × Finishes cmp t (ns ++ went.0) went.1 c × IsSameCourse cmp rest c
-      = finish_same finishes (ns ++ went.0) went.1 went.4 (zips_joined (SameMessage cmp) ms ns more went.0 all.1 went.3) in
-      (preceded (completed cmp t n ∷ []) later.0, completes {rest = later.0} (sym (late_same cmp order t m n all.0) ∙ is) went.2 later.1, preceded_same (completed cmp t m ∷ []) (completed cmp t n ∷ []) rest later.0 (completed_same cmp order t m n all.0, tt) later.2)
+      = finish_same finishes (ns ++ went.0) went.1 went.4 (zip-append (SameMessage cmp) ms more ns went.0 all.1 went.3) in
+      (preceded (completed cmp t n ∷ []) later.0, completes {rest = later.0} (sym (late_alike cmp order t m n all.0) ∙ is) went.2 later.1, preceded_same (completed cmp t m ∷ []) (completed cmp t n ∷ []) rest later.0 (completed_alike cmp order t m n all.0, tt) later.2)
 
   pub finishes_same : (t : ℕ) (ms ns : List (Message P)) (p q : Planned P) (course : Course (Completed P) (Planned P)) → IsSamePlanned cmp p q → AllZip (SameMessage cmp) ms ns
       → Finishes cmp t ms p course → (c : Course (Completed P) (Planned P)) × Finishes cmp t ns q c × IsSameCourse cmp course c
@@ -252,7 +253,7 @@ module _ {P : Type 0} (cmp : P → P → Ordering) (order : IsTotalOrder cmp) wh
       let done : (c : Course (Completed P) (Planned P)) × Finishes cmp now went.0 went.1 c × IsSameCourse cmp course c = finish_same finishes went.0 went.1 went.4 went.3 in
       (done.0, launches {course = done.0} (sym same.limited ∙ limited) went.2 done.1, done.2)
 
-  abbrev Went : (Course (Completed P) (Planned P) → Type 0) → List (Completed P) → Planned P → Type 0
+  abbrev pub Went : (Course (Completed P) (Planned P) → Type 0) → List (Completed P) → Planned P → Type 0
   Went Q cs p = (ds : List (Completed P)) × (s : Planned P) × Q (goes ds s) × AllZip (SameCompletion cmp) cs ds × IsSamePlanned cmp p s
 
   advance_same : {now : ℕ} {p : Planned P} {n : ℕ} {course : Course (Completed P) (Planned P)} → Advances cmp now p n course → (q : Planned P) → IsSamePlanned cmp p q

@@ -19,11 +19,12 @@ use Rattle.p2p_simulated.specs.WorldEvents.{Accounts, Launches, Finishes, Settle
 use Rattle.p2p_simulated.specs.WorldRefusals.{IsDrainTooLarge, IsTimeTooLarge, to_rate, IsTooLarge, drain_too_large, time_too_large, rates_too_large, LaunchAccounts, launch_accounts, FinishAccounts, first_accounts, later_accounts, WakeAccounts, start_accounts, finish_accounts, rest_accounts, SettleAccounts, own_account, leavers_account, RecapAccounts, recap_accounts, EnqueueAccounts, launched_account, finished_accounts, AdvanceAccounts, in_the_end, at_the_finish, at_the_start, after_a_finish, after_a_start, ComesToAccount, MayBeRefused, Obeyed}
 use Rattle.p2p_simulated.specs.SamePlanned.{IsSamePaced, IsSamePlanned, IsSameCall, same_limit, same_limit_link, same_enqueue, same_advance, same_next}
 use Rattle.p2p_simulated.proofs.World.Alike.{same_itself as one_peer, message_itself, sides_alike}
-use Rattle.p2p_simulated.proofs.World.Instant.{both_joined}
+use Rattle.p2p_simulated.proofs.Zips.{zip-append}
 use Rattle.p2p_simulated.proofs.World.Agreeing.{all_trans}
 use Rattle.p2p_simulated.proofs.World.Launch.{OptionsAlike}
-use Rattle.p2p_simulated.proofs.World.SameSteps.{at_same, some_same, course_went, course_met, launch_went, limited_by_same, linked_by_same, late_same, flows_same, staying_same, may_same, next_same, ready_same, next_event_same, recapped_same, no_finish_same, no_start_same, launched_same, landed_same, with_queued_same}
-use Rattle.p2p_simulated.proofs.World.SameCourses.{accounts_same, launches_same, finishes_same, wakes_same, settles_same, obeys_same}
+use Rattle.p2p_simulated.proofs.World.SameSteps.{at_same, some_same, course_went, course_met, launch_went, limited_by_same, linked_by_same, flows_same, staying_same, may_same, next_same, ready_same, next_event_same, recapped_same, no_finish_same, no_start_same, launched_same, landed_same, with_queued_same}
+use Rattle.p2p_simulated.proofs.World.Instant.{late_alike}
+use Rattle.p2p_simulated.proofs.World.SameCourses.{accounts_same, launches_same, finishes_same, wakes_same, settles_same, obeys_same, Went, LaunchWent}
 
 module _ {P : Type 0} (cmp : P → P → Ordering) (order : IsTotalOrder cmp) where
   -- ---- numbers that are too large
@@ -68,11 +69,8 @@ module _ {P : Type 0} (cmp : P → P → Ordering) (order : IsTotalOrder cmp) wh
     launched_same cmp order p q same t m n alike,
   )
 
-  abbrev Launched : ℕ → Planned P → Option (Message P) → List (Message P) → Planned P → Type 0
-  Launched t q r more new = (others : List (Message P)) × (n : Planned P) × Launches cmp t q r (goes others n) × AllZip (SameMessage cmp) more others × IsSamePlanned cmp new n
-
   launch_goes_same : (t : ℕ) (p q : Planned P) (m n : Message P) (more : List (Message P)) (new : Planned P) → IsSamePlanned cmp p q → SameMessage cmp m n → Launches cmp t p (next_of cmp p m) (goes more new)
-      → Launched t q (next_of cmp q n) more new
+      → LaunchWent cmp order t q (next_of cmp q n) more new
   launch_goes_same t p q m n more new same alike launches =
       launch_went cmp order (Launches cmp t q (next_of cmp q n)) more new (launches_same cmp order t p q (next_of cmp p m) (next_of cmp q n) (goes more new) same (next_same cmp order p q same m n alike) launches)
 
@@ -81,17 +79,13 @@ module _ {P : Type 0} (cmp : P → P → Ordering) (order : IsTotalOrder cmp) wh
   finish_accounts_same (first_accounts in_time launch) q [] same all = absurd all
   finish_accounts_same {t = t} {p = p} (first_accounts {m = m} in_time launch) q (n ∷ ns) same all =
       let found = launch_accounts_same launch (landed cmp t q n) (next_of cmp q n) (landed_same cmp order p q same t m n all.0) (next_same cmp order p q same m n all.0) in
-      (found.0, first_accounts (sym (late_same cmp order t m n all.0) ∙ in_time) found.1, found.2)
+      (found.0, first_accounts (sym (late_alike cmp order t m n all.0) ∙ in_time) found.1, found.2)
   finish_accounts_same (later_accounts in_time launch rest) q [] same all = absurd all
   finish_accounts_same {t = t} {p = p} {new = new} (later_accounts {m = m} {ms = ms} {more = more} {q = mid} in_time launch rest) q (n ∷ ns) same all =
-      let went : Launched t (landed cmp t q n) (next_of cmp q n) more mid
+      let went : (LaunchWent cmp order) t (landed cmp t q n) (next_of cmp q n) more mid
       = launch_went cmp order (Launches cmp t (landed cmp t q n) (next_of cmp q n)) more mid (launches_same cmp order t (landed cmp t p m) (landed cmp t q n) (next_of cmp p m) (next_of cmp q n) (goes more mid) (landed_same cmp order p q same t m n all.0) (next_same cmp order p q same m n all.0) launch) in
-      let found : Same (FinishAccounts cmp t (ns ++ went.0) went.1) new = finish_accounts_same rest went.1 (ns ++ went.0) went.4 (both_joined (SameMessage cmp) ms ns more went.0 all.1 went.3) in
-      (found.0, later_accounts {r = found.0} (sym (late_same cmp order t m n all.0) ∙ in_time) went.2 found.1, found.2)
-
-  -- it goes with the same completions, to a planned world that is the same
-  abbrev Went : (Course (Completed P) (Planned P) → Type 0) → List (Completed P) → Planned P → Type 0
-  Went Q cs new = (ds : List (Completed P)) × (n : Planned P) × Q (goes ds n) × AllZip (SameCompletion cmp) cs ds × IsSamePlanned cmp new n
+      let found : Same (FinishAccounts cmp t (ns ++ went.0) went.1) new = finish_accounts_same rest went.1 (ns ++ went.0) went.4 (zip-append (SameMessage cmp) ms more ns went.0 all.1 went.3) in
+      (found.0, later_accounts {r = found.0} (sym (late_alike cmp order t m n all.0) ∙ in_time) went.2 found.1, found.2)
 
   wake_accounts_same : {t : ℕ} {ms : List (Message P)} {p new : Planned P} → WakeAccounts cmp t ms p new → (q : Planned P) (ns : List (Message P)) → IsSamePlanned cmp p q → AllZip (SameMessage cmp) ms ns
       → Same (WakeAccounts cmp t ns q) new
@@ -101,13 +95,13 @@ module _ {P : Type 0} (cmp : P → P → Ordering) (order : IsTotalOrder cmp) wh
       (found.0, start_accounts found.1, found.2)
   wake_accounts_same (finish_accounts launch finishes) q [] same all = absurd all
   wake_accounts_same {t = t} {p = p} (finish_accounts {m = m} {more = more} {q = mid} launch finishes) q (n ∷ ns) same all =
-      let went : Launched t q (next_of cmp q n) more mid = launch_goes_same t p q m n more mid same all.0 launch in
+      let went : (LaunchWent cmp order) t q (next_of cmp q n) more mid = launch_goes_same t p q m n more mid same all.0 launch in
       let found = finish_accounts_same finishes went.1 went.0 went.4 went.3 in
       (found.0, finish_accounts went.2 found.1, found.2)
   wake_accounts_same (rest_accounts launch finishes rest) q [] same all = absurd all
   wake_accounts_same {t = t} {p = p} (rest_accounts {m = m} {more = more} {q = mid} {r = after} {cs = cs} launch finishes rest) q (n ∷ ns) same all =
-      let went : Launched t q (next_of cmp q n) more mid = launch_goes_same t p q m n more mid same all.0 launch in
-      let ended : Went (Finishes cmp t went.0 went.1) cs after
+      let went : (LaunchWent cmp order) t q (next_of cmp q n) more mid = launch_goes_same t p q m n more mid same all.0 launch in
+      let ended : (Went cmp order) (Finishes cmp t went.0 went.1) cs after
       = course_went cmp order (Finishes cmp t went.0 went.1) cs after (finishes_same cmp order t more went.0 mid went.1 (goes cs after) went.4 went.3 finishes) in
       let found = wake_accounts_same rest ended.1 ns ended.4 all.1 in
       (found.0, rest_accounts went.2 ended.2 found.1, found.2)
@@ -133,7 +127,7 @@ module _ {P : Type 0} (cmp : P → P → Ordering) (order : IsTotalOrder cmp) wh
       let found = launch_accounts_same launch (with_queued cmp q n) (next_of cmp (with_queued cmp q n) n) queued (next_same cmp order (with_queued cmp p m) (with_queued cmp q n) queued m n alike) in
       (found.0, launched_account (sym same.limited ∙ limited) found.1, found.2)
   enqueue_accounts_same now m n p q new alike same (finished_accounts {leavers = leavers} {mid = mid} limited launch finishes) =
-      let went : Launched now (with_queued cmp q n) (next_of cmp (with_queued cmp q n) n) leavers mid
+      let went : (LaunchWent cmp order) now (with_queued cmp q n) (next_of cmp (with_queued cmp q n) n) leavers mid
       = launch_goes_same now (with_queued cmp p m) (with_queued cmp q n) m n leavers mid (with_queued_same cmp order p q same m n alike) alike launch in
       let found = finish_accounts_same finishes went.1 went.0 went.4 went.3 in
       (found.0, finished_accounts (sym same.limited ∙ limited) went.2 found.1, found.2)
@@ -149,12 +143,12 @@ module _ {P : Type 0} (cmp : P → P → Ordering) (order : IsTotalOrder cmp) wh
       let found = wake_accounts_same accounts (record q { start = None }) (filter (may_launch cmp t q) (fronts cmp q.waiting)) (no_start_same cmp order p q same) (ready_same cmp order p q same t) in
       (found.0, at_the_start (subst (λ (o : Option ℕ). o ≢ Some t) same.finish finish) (sym (next_event_same cmp order p q same) ∙ next) early found.1, found.2)
   advance_accounts_same {p = p} (after_a_finish {q = mid} {t = s} {cs = cs} finish next early settles accounts) q same =
-      let went : Went (Settles cmp s (record q { finish = None })) cs mid
+      let went : (Went cmp order) (Settles cmp s (record q { finish = None })) cs mid
       = course_went cmp order (Settles cmp s (record q { finish = None })) cs mid (settles_same cmp order s (record p { finish = None }) (record q { finish = None }) (goes cs mid) (no_finish_same cmp order p q same) settles) in
       let found = advance_accounts_same accounts went.1 went.4 in
       (found.0, after_a_finish (sym same.finish ∙ finish) (sym (next_event_same cmp order p q same) ∙ next) early went.2 found.1, found.2)
   advance_accounts_same {p = p} (after_a_start {q = mid} {t = s} {cs = cs} finish next early wakes accounts) q same =
-      let went : Went (Wakes cmp s (record q { start = None })) cs mid
+      let went : (Went cmp order) (Wakes cmp s (record q { start = None })) cs mid
       = course_went cmp order (Wakes cmp s (record q { start = None })) cs mid (wakes_same cmp order s (record p { start = None }) (record q { start = None }) (goes cs mid) (no_start_same cmp order p q same) wakes) in
       let found = advance_accounts_same accounts went.1 went.4 in
       (found.0, after_a_start (subst (λ (o : Option ℕ). o ≢ Some s) same.finish finish) (sym (next_event_same cmp order p q same) ∙ next) early went.2 found.1, found.2)
@@ -188,7 +182,7 @@ module _ {P : Type 0} (cmp : P → P → Ordering) (order : IsTotalOrder cmp) wh
 
   -- ---- replies
 
-  call_itself : (call : Call P) → IsSameCall cmp call call
+  pub call_itself : (call : Call P) → IsSameCall cmp call call
   call_itself (call_limit now peer egress ingress) = same_limit (one_peer cmp order peer)
   call_itself (call_limit_link now origin recipient cap) = same_limit_link (one_peer cmp order origin) (one_peer cmp order recipient)
   call_itself (call_enqueue now m) = same_enqueue (message_itself cmp order m)
@@ -202,7 +196,7 @@ module _ {P : Type 0} (cmp : P → P → Ordering) (order : IsTotalOrder cmp) wh
   accepted_same : (p q : Planned P) (call : Call P) (calls : List (Call P)) (cs : List (Completed P)) (replies : List (Reply P)) → IsSamePlanned cmp p q
       → ((n r : Planned P) → IsSamePlanned cmp n r → Obeyed cmp n calls replies → Obeyed cmp r calls replies) → Accepted p call calls cs replies → Accepted q call calls cs replies
   accepted_same p q call calls cs replies same rest (ds, n, obeys, alike, obeyed) =
-      let went : Went (Obeys cmp q call) ds n = course_went cmp order (Obeys cmp q call) ds n (obeys_same cmp order p q call call (goes ds n) same (call_itself call) obeys) in
+      let went : (Went cmp order) (Obeys cmp q call) ds n = course_went cmp order (Obeys cmp q call) ds n (obeys_same cmp order p q call call (goes ds n) same (call_itself call) obeys) in
       (went.0, went.1, went.2, all_trans cmp order cs ds went.0 alike went.3, rest n went.1 went.4 obeyed)
 
   pub obeyed_same : (p q : Planned P) (calls : List (Call P)) (replies : List (Reply P)) → IsSamePlanned cmp p q → Obeyed cmp p calls replies → Obeyed cmp q calls replies

@@ -17,8 +17,9 @@ use Rattle.p2p_simulated.specs.SamePlanned.{IsSamePaced, IsSamePlanned}
 use Rattle.p2p_simulated.proofs.World.Alike.{same_itself, pairs_alike, message_itself, any_alike, fair_alike}
 use Rattle.p2p_simulated.proofs.World.InOrder.{before_alike}
 use Rattle.p2p_simulated.proofs.World.InRange.{named_alike}
-use Rattle.p2p_simulated.proofs.World.SameWorlds.{zip_chain, message_chain, pairs_chain, caps_chain, same_turned}
-use Rattle.p2p_simulated.proofs.World.SameSteps.{filter_same, none_same, least_same, flows_same, left_same, some_spent_same, some_ready_same}
+use Rattle.p2p_simulated.proofs.World.SameWorlds.{message_chain, pairs_chain, caps_chain, same_turned}
+use Rattle.p2p_simulated.proofs.Zips.{zip_chain, zip-filter}
+use Rattle.p2p_simulated.proofs.World.SameSteps.{none_same, least_same, flows_same, left_same, some_spent_same, some_ready_same}
 
 -- ---- lists
 
@@ -70,7 +71,7 @@ module _ {P : Type 0} (cmp : P → P → Ordering) (order : IsTotalOrder cmp) wh
     last_arrival = pairs_chain cmp order q.last_arrival p.last_arrival w.last_arrival back.last_arrival tallies.last_arrival;
     next_id = back.next_id ∙ tallies.next_id;
     waiting = λ m. zip_chain (SameMessage cmp) (SameMessage cmp) (SameMessage cmp) (message_chain cmp order) (filter (same_pair cmp m) q.waiting) (filter (same_pair cmp m) p.waiting) (filter (same_pair cmp m) w.waiting)
-        (filter_same (SameMessage cmp) (same_pair cmp m) (same_pair cmp m) (λ k l e. pairs_alike cmp order m m k l (message_itself cmp order m) e) q.waiting p.waiting back.waiting) (tallies.waiting m);
+        (zip-filter (SameMessage cmp) (same_pair cmp m) (same_pair cmp m) (λ k l e. pairs_alike cmp order m m k l (message_itself cmp order m) e) q.waiting p.waiting back.waiting) (tallies.waiting m);
     pair_order = order_same p.waiting q.waiting same.waiting tallies.pair_order;
     sending = zip_chain (IsSamePaced cmp) (IsSameFlight cmp t) (IsSameFlight cmp t) (flight_same t) q.sending p.sending w.sending back.sending tallies.sending;
     one_each = tallies.one_each;
@@ -97,7 +98,7 @@ module _ {P : Type 0} (cmp : P → P → Ordering) (order : IsTotalOrder cmp) wh
 
   -- ---- the range
 
-  one_each_same : (ms ns : List (Message P)) → AllZip (SameMessage cmp) ms ns → OneForEachPair cmp ms → OneForEachPair cmp ns
+  pub one_each_same : (ms ns : List (Message P)) → AllZip (SameMessage cmp) ms ns → OneForEachPair cmp ms → OneForEachPair cmp ns
   one_each_same [] [] all h = tt
   one_each_same [] (n ∷ ns) all h = absurd all
   one_each_same (m ∷ ms) [] all h = absurd all

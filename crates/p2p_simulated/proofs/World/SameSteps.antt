@@ -18,28 +18,14 @@ use Rattle.p2p_simulated.specs.declared.error.Error.TheVariants.{MomentTooLate}
 use Rattle.p2p_simulated.specs.Amount.{Amount, whole}
 use Rattle.p2p_simulated.proofs.Sorted.{is_eq_equal}
 use Rattle.p2p_simulated.proofs.World.Alike.{peers_alike, pairs_alike, delivered_alike, message_itself, any_alike, unlimited_alike}
-use Rattle.p2p_simulated.proofs.World.Between.{find_like}
+use Rattle.p2p_simulated.proofs.World.Rests.{find_like}
 use Rattle.p2p_simulated.proofs.World.Launch.{OptionsAlike}
 use Rattle.p2p_simulated.proofs.World.Queue.{find_passes}
-use Rattle.p2p_simulated.proofs.World.Waking.{zips_joined}
+use Rattle.p2p_simulated.proofs.Zips.{zip-filter, zip-append, zip-if}
+use Rattle.p2p_simulated.proofs.World.Instant.{arrival_alike, completed_alike, late_alike}
+use Rattle.p2p_simulated.proofs.World.InOrder.{before_alike}
 
 -- ---- lists
-
--- where two tests answer alike, either branch is the same
-by_tests : {X Y : Type 0} (R : X → Y → Type 0) (a b : Bool) (xs us : List X) (ys vs : List Y) → a ≡ b → AllZip R xs ys → AllZip R us vs → AllZip R (cond a xs us) (cond b ys vs)
-by_tests R true true xs us ys vs e f g = f
-by_tests R true false xs us ys vs e f g = cc
-by_tests R false true xs us ys vs e f g = cc
-by_tests R false false xs us ys vs e f g = g
-
-pub filter_same : {X Y : Type 0} (R : X → Y → Type 0) (f : X → Bool) (g : Y → Bool) → ((x : X) (y : Y) → R x y → f x ≡ g y) → (xs : List X) (ys : List Y)
-    → AllZip R xs ys → AllZip R (filter f xs) (filter g ys)
-filter_same R f g alike [] [] all = tt
-filter_same R f g alike [] (y ∷ ys) all = absurd all
-filter_same R f g alike (x ∷ xs) [] all = absurd all
-filter_same R f g alike (x ∷ xs) (y ∷ ys) all =
-    let rest : AllZip R (filter f xs) (filter g ys) = filter_same R f g alike xs ys all.1 in
-    by_tests R (f x) (g y) (x ∷ filter f xs) (filter f xs) (y ∷ filter g ys) (filter g ys) (alike x y all.0) (all.0, rest) rest
 
 pub find_same : {X Y : Type 0} (R : X → Y → Type 0) (f : X → Bool) (g : Y → Bool) → ((x : X) (y : Y) → R x y → f x ≡ g y) → (xs : List X) (ys : List Y)
     → AllZip R xs ys → OptionsAlike R (find f xs) (find g ys)
@@ -60,7 +46,7 @@ without_same R f g alike [] [] all = tt
 without_same R f g alike [] (y ∷ ys) all = absurd all
 without_same R f g alike (x ∷ xs) [] all = absurd all
 without_same R f g alike (x ∷ xs) (y ∷ ys) all =
-    by_tests R (f x) (g y) xs (x ∷ without_first f xs) ys (y ∷ without_first g ys) (alike x y all.0) all.1 (all.0, without_same R f g alike xs ys all.1)
+    zip-if R (f x) (g y) xs (x ∷ without_first f xs) ys (y ∷ without_first g ys) (alike x y all.0) all.1 (all.0, without_same R f g alike xs ys all.1)
 
 -- the item at a place has one that is the same
 pub at_same : {X Y : Type 0} (R : X → Y → Type 0) (xs : List X) (ys : List Y) (i : ℕ) (x : X) → AllZip R xs ys → slice_get xs i ≡ Some x → (y : Y) × (slice_get ys i ≡ Some y) × R x y
@@ -143,15 +129,12 @@ module _ {P : Type 0} (cmp : P → P → Ordering) (order : IsTotalOrder cmp) wh
   ranks_same p q r s e f =
       order.congr p q r (is_eq_equal (cmp p q) e) ∙ order.antisymm q r ∙ ap ordering_reverse (order.congr r s q (is_eq_equal (cmp r s) f)) ∙ sym (order.antisymm q s)
 
-  pub before_same : (m n k l : Message P) → SameMessage cmp m n → SameMessage cmp k l → pair_before cmp m k ≡ pair_before cmp n l
-  before_same m n k l e f = rw (ranks_same m.origin n.origin k.origin l.origin e.origin f.origin, ranks_same m.recipient n.recipient k.recipient l.recipient e.recipient f.recipient) refl
-
   pub queued_same : (m n : Message P) (ms ns : List (Message P)) → SameMessage cmp m n → AllZip (SameMessage cmp) ms ns → AllZip (SameMessage cmp) (queued cmp m ms) (queued cmp n ns)
   queued_same m n [] [] e all = (e, tt)
   queued_same m n [] (l ∷ ls) e all = absurd all
   queued_same m n (k ∷ ks) [] e all = absurd all
   queued_same m n (k ∷ ks) (l ∷ ls) e all =
-      by_tests (SameMessage cmp) (pair_before cmp m k) (pair_before cmp n l) (m ∷ k ∷ ks) (k ∷ queued cmp m ks) (n ∷ l ∷ ls) (l ∷ queued cmp n ls) (before_same m n k l e all.0) (e, all) (all.0, queued_same m n ks ls e all.1)
+      zip-if (SameMessage cmp) (pair_before cmp m k) (pair_before cmp n l) (m ∷ k ∷ ks) (k ∷ queued cmp m ks) (n ∷ l ∷ ls) (l ∷ queued cmp n ls) (before_alike cmp order m n k l e all.0) (e, all) (all.0, queued_same m n ks ls e all.1)
 
   pub fronts_same : (ms ns : List (Message P)) → AllZip (SameMessage cmp) ms ns → AllZip (SameMessage cmp) (fronts cmp ms) (fronts cmp ns)
   fronts_same [] [] all = tt
@@ -159,17 +142,8 @@ module _ {P : Type 0} (cmp : P → P → Ordering) (order : IsTotalOrder cmp) wh
   fronts_same (m ∷ ms) [] all = absurd all
   fronts_same (m ∷ ms) (n ∷ ns) all = (
     all.0,
-    filter_same (SameMessage cmp) (λ k. not (same_pair cmp m k)) (λ k. not (same_pair cmp n k)) (λ k l e. ap not (pairs_alike cmp order m n k l all.0 e)) (fronts cmp ms) (fronts cmp ns) (fronts_same ms ns all.1),
+    zip-filter (SameMessage cmp) (λ k. not (same_pair cmp m k)) (λ k. not (same_pair cmp n k)) (λ k l e. ap not (pairs_alike cmp order m n k l all.0 e)) (fronts cmp ms) (fronts cmp ns) (fronts_same ms ns all.1),
   )
-
-  pub arrival_same : (t : ℕ) (m n : Message P) → SameMessage cmp m n → arrival cmp t m ≡ arrival cmp t n
-  arrival_same t m n e = rw (delivered_alike cmp order m n e, e.latency) refl
-
-  pub late_same : (t : ℕ) (m n : Message P) → SameMessage cmp m n → is_late cmp t m ≡ is_late cmp t n
-  late_same t m n e = rw (delivered_alike cmp order m n e, e.latency) refl
-
-  pub completed_same : (t : ℕ) (m n : Message P) → SameMessage cmp m n → SameCompletion cmp (completed cmp t m) (completed cmp t n)
-  completed_same t m n e = record { origin = e.origin; recipient = e.recipient; channel = e.channel; bytes = e.bytes; deliver_at = rw (delivered_alike cmp order m n e, e.latency) refl }
 
   -- ---- what is in flight
 
@@ -213,11 +187,11 @@ module _ {P : Type 0} (cmp : P → P → Ordering) (order : IsTotalOrder cmp) wh
     -- those that an account finds done, and the others
     pub leaving_same : (t : ℕ) → AllZip (IsSamePaced cmp) (filter (is_spent cmp p.caps) (drained_to t p.sending)) (filter (is_spent cmp q.caps) (drained_to t q.sending))
     leaving_same t =
-        filter_same (IsSamePaced cmp) (is_spent cmp p.caps) (is_spent cmp q.caps) spent_same (drained_to t p.sending) (drained_to t q.sending) (drained_same t p.sending q.sending same.sending)
+        zip-filter (IsSamePaced cmp) (is_spent cmp p.caps) (is_spent cmp q.caps) spent_same (drained_to t p.sending) (drained_to t q.sending) (drained_same t p.sending q.sending same.sending)
 
     pub staying_same : (t : ℕ) → AllZip (IsSamePaced cmp) (filter (λ f. not (is_spent cmp p.caps f)) (drained_to t p.sending)) (filter (λ f. not (is_spent cmp q.caps f)) (drained_to t q.sending))
     staying_same t =
-        filter_same (IsSamePaced cmp) (λ f. not (is_spent cmp p.caps f)) (λ f. not (is_spent cmp q.caps f)) (λ f g e. ap not (spent_same f g e)) (drained_to t p.sending) (drained_to t q.sending) (drained_same t p.sending q.sending same.sending)
+        zip-filter (IsSamePaced cmp) (λ f. not (is_spent cmp p.caps f)) (λ f. not (is_spent cmp q.caps f)) (λ f g e. ap not (spent_same f g e)) (drained_to t p.sending) (drained_to t q.sending) (drained_same t p.sending q.sending same.sending)
 
     -- ---- what waits
 
@@ -231,7 +205,7 @@ module _ {P : Type 0} (cmp : P → P → Ordering) (order : IsTotalOrder cmp) wh
     -- the pairs that a wake at t finds ready
     pub ready_same : (t : ℕ) → AllZip (SameMessage cmp) (filter (may_launch cmp t p) (fronts cmp p.waiting)) (filter (may_launch cmp t q) (fronts cmp q.waiting))
     ready_same t =
-        filter_same (SameMessage cmp) (may_launch cmp t p) (may_launch cmp t q) (may_same t) (fronts cmp p.waiting) (fronts cmp q.waiting) (fronts_same p.waiting q.waiting same.waiting)
+        zip-filter (SameMessage cmp) (may_launch cmp t p) (may_launch cmp t q) (may_same t) (fronts cmp p.waiting) (fronts cmp q.waiting) (fronts_same p.waiting q.waiting same.waiting)
 
     pub some_ready_same : (t : ℕ) → SomeReadyAt cmp p t → SomeReadyAt cmp q t
     some_ready_same t (m, own, may) =
@@ -286,7 +260,7 @@ module _ {P : Type 0} (cmp : P → P → Ordering) (order : IsTotalOrder cmp) wh
     launched_same t m n e = record {
       caps = same.caps;
       limited = same.limited;
-      sending = zips_joined (IsSamePaced cmp) p.sending q.sending (launching t m ∷ []) (launching t n ∷ []) same.sending (launching_same t m n e, tt);
+      sending = zip-append (IsSamePaced cmp) p.sending (launching t m ∷ []) q.sending (launching t n ∷ []) same.sending (launching_same t m n e, tt);
       waiting = without_same (SameMessage cmp) (same_pair cmp m) (same_pair cmp n) (λ k l f. pairs_alike cmp order m n k l e f) p.waiting q.waiting same.waiting;
       last_arrival = same.last_arrival;
       next_id = ap (λ (k : ℕ). k + 1) same.next_id;
@@ -309,7 +283,7 @@ module _ {P : Type 0} (cmp : P → P → Ordering) (order : IsTotalOrder cmp) wh
     pub landed_same : (t : ℕ) (m n : Message P) → SameMessage cmp m n → IsSamePlanned cmp (landed cmp t p m) (landed cmp t q n)
     landed_same t m n e =
         arrived_same (raised cmp p.last_arrival m (arrival cmp t m)) (raised cmp q.last_arrival n (arrival cmp t n))
-        (subst (λ (at : ℕ). PairsAlike cmp (raised cmp p.last_arrival m (arrival cmp t m)) (raised cmp q.last_arrival n at)) (arrival_same t m n e) (raised_same p.last_arrival q.last_arrival m n (arrival cmp t m) same.last_arrival e))
+        (subst (λ (at : ℕ). PairsAlike cmp (raised cmp p.last_arrival m (arrival cmp t m)) (raised cmp q.last_arrival n at)) (arrival_alike cmp order t m n e) (raised_same p.last_arrival q.last_arrival m n (arrival cmp t m) same.last_arrival e))
 
     pub with_queued_same : (m n : Message P) → SameMessage cmp m n → IsSamePlanned cmp (with_queued cmp p m) (with_queued cmp q n)
     with_queued_same m n e = record {

@@ -9,27 +9,15 @@ use Rattle.p2p_simulated.specs.WorldPlanned.{Paced, Planned}
 use Rattle.p2p_simulated.specs.SamePlanned.{IsSamePaced, IsSamePlanned}
 use Rattle.p2p_simulated.proofs.World.Queue.{peer_like, peer_sym}
 use Rattle.p2p_simulated.proofs.World.Alike.{same_itself as one_peer, message_itself}
+use Rattle.p2p_simulated.proofs.Zips.{zip_chain, zip-same}
 
 -- ---- lists
-
-pub zip_itself : {X : Type 0} (R : X → X → Type 0) → ((x : X) → R x x) → (xs : List X) → AllZip R xs xs
-zip_itself R itself [] = tt
-zip_itself R itself (x ∷ xs) = (itself x, zip_itself R itself xs)
 
 pub zip_turned : {X Y : Type 0} (R : X → Y → Type 0) (S : Y → X → Type 0) → ((x : X) (y : Y) → R x y → S y x) → (xs : List X) (ys : List Y) → AllZip R xs ys → AllZip S ys xs
 zip_turned R S turn [] [] all = tt
 zip_turned R S turn [] (y ∷ ys) all = absurd all
 zip_turned R S turn (x ∷ xs) [] all = absurd all
 zip_turned R S turn (x ∷ xs) (y ∷ ys) all = (turn x y all.0, zip_turned R S turn xs ys all.1)
-
-pub zip_chain : {X Y Z : Type 0} (R : X → Y → Type 0) (S : Y → Z → Type 0) (T : X → Z → Type 0) → ((x : X) (y : Y) (z : Z) → R x y → S y z → T x z)
-    → (xs : List X) (ys : List Y) (zs : List Z) → AllZip R xs ys → AllZip S ys zs → AllZip T xs zs
-zip_chain R S T chain [] [] [] f g = tt
-zip_chain R S T chain [] [] (z ∷ zs) f g = absurd g
-zip_chain R S T chain [] (y ∷ ys) zs f g = absurd f
-zip_chain R S T chain (x ∷ xs) [] zs f g = absurd f
-zip_chain R S T chain (x ∷ xs) (y ∷ ys) [] f g = absurd g
-zip_chain R S T chain (x ∷ xs) (y ∷ ys) (z ∷ zs) f g = (chain x y z f.0 g.0, zip_chain R S T chain xs ys zs f.1 g.1)
 
 module _ {P : Type 0} (cmp : P → P → Ordering) (order : IsTotalOrder cmp) where
   -- ---- peers and messages
@@ -105,8 +93,8 @@ module _ {P : Type 0} (cmp : P → P → Ordering) (order : IsTotalOrder cmp) wh
   same_itself p caps arrivals = record {
     caps = caps;
     limited = refl;
-    sending = zip_itself (IsSamePaced cmp) paced_itself p.sending;
-    waiting = zip_itself (SameMessage cmp) (message_itself cmp order) p.waiting;
+    sending = zip-same (IsSamePaced cmp) paced_itself p.sending;
+    waiting = zip-same (SameMessage cmp) (message_itself cmp order) p.waiting;
     last_arrival = arrivals;
     next_id = refl;
     finish = refl;

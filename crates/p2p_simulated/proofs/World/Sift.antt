@@ -10,31 +10,10 @@ use Rattle.std.proofs.lemmas.Cmp.{tied_itself, alike_right, then_total, on_total
 use Rattle.std.proofs.lemmas.Bool.{false_from_ne_true}
 use Rattle.p2p_simulated.specs.World.{fronts, least_pair, without_first}
 use Rattle.p2p_simulated.specs.WorldMessages.{Message, pair_before, same_pair}
-use Rattle.p2p_simulated.proofs.World.Bytes.{Each, each_filter, each_least}
-
-pub each_map : {X : Type 0} (Q R : X → Type 0) (xs : List X) → ((x : X) → Q x → R x) → Each Q xs → Each R xs
-each_map Q R [] h e = tt
-each_map Q R (x ∷ xs) h e = (h x e.0, each_map Q R xs h e.1)
-
-pub each_find : {X : Type 0} (Q : X → Type 0) (test : X → Bool) (xs : List X) (x : X) → Each Q xs → find test xs ≡ Some x → Q x
-each_find Q test [] x e is = cc
-each_find {X} Q test (y ∷ ys) x e is = by_test (test y) is (λ g. each_find Q test ys x e.1 g)
-  where
-    by_test : (b : Bool) → cond b (Some y) (find test ys) ≡ Some x → (find test ys ≡ Some x → Q x) → Q x
-    by_test true g ih = let same : y ≡ x = cc in subst Q same e.0
-    by_test false g ih = ih g
-
-pub each_without : {X : Type 0} (Q : X → Type 0) (test : X → Bool) (xs : List X) → Each Q xs → Each Q (without_first test xs)
-each_without Q test [] e = tt
-each_without {X} Q test (x ∷ xs) e = by_test (test x) (each_without Q test xs e.1)
-  where
-    by_test : (b : Bool) → Each Q (without_first test xs) → Each Q (cond b xs (x ∷ without_first test xs))
-    by_test true ih = e.1
-    by_test false ih = (e.0, ih)
-
-pub each_joined : {X : Type 0} (Q : X → Type 0) (xs : List X) (x : X) → Each Q xs → Q x → Each Q (xs ++ x ∷ [])
-each_joined Q [] x e q = (q, tt)
-each_joined Q (y ∷ ys) x e q = (e.0, each_joined Q ys x e.1 q)
+use Rattle.p2p_simulated.proofs.World.Bytes.{each_filter, each_least}
+use Rattle.p2p_simulated.proofs.Each.{each_find, each_without, each_joined, Each, each_map}
+use Rattle.p2p_simulated.proofs.Filters.{filter_stronger}
+use Rattle.p2p_simulated.proofs.World.PairOrder.{least_none}
 
 -- ---- the first that passes, in the list and in what a filter leaves
 
@@ -109,15 +88,6 @@ filter_swap {X} p q r (y ∷ ys) h = by_test (p y) (r y) refl refl (filter_swap 
     by_test false true is at ih = rw (is, ih) refl
     by_test false false is at ih = ih
 
-pub filter_absorb : {X : Type 0} (p q : X → Bool) (xs : List X) → ((x : X) → p x ≡ true → q x ≡ true) → filter p (filter q xs) ≡ filter p xs
-filter_absorb p q [] h = refl
-filter_absorb {X} p q (y ∷ ys) h = by_test (p y) (q y) refl refl (filter_absorb p q ys h)
-  where
-    by_test : (b c : Bool) → p y ≡ b → q y ≡ c → filter p (filter q ys) ≡ filter p ys → filter p (cond c (y ∷ filter q ys) (filter q ys)) ≡ cond b (y ∷ filter p ys) (filter p ys)
-    by_test b true is at ih = rw (is, ih) refl
-    by_test false false is at ih = ih
-    by_test true false is at ih = let k : q y ≡ true = h y is in cc
-
 module _ {P : Type 0} (cmp : P → P → Ordering) (order : IsTotalOrder cmp) where
   -- ---- the order of pairs
 
@@ -138,7 +108,7 @@ module _ {P : Type 0} (cmp : P → P → Ordering) (order : IsTotalOrder cmp) wh
   not_before_back : (m n : Message P) → pair_before cmp n m ≡ true → pair_before cmp m n ≡ false
   not_before_back m n e = ap is_lt (pairs_total.antisymm m n ∙ ap ordering_reverse (is_less (pair_cmp n m) e))
 
-  before_both : (k m n : Message P) → pair_before cmp k m ≡ true → pair_before cmp n m ≡ false → pair_before cmp k n ≡ true
+  pub before_both : (k m n : Message P) → pair_before cmp k m ≡ true → pair_before cmp n m ≡ false → pair_before cmp k n ≡ true
   before_both k m n e f = by_order (pair_cmp n m) refl f
     where
       by_order : (o : Ordering) → pair_cmp n m ≡ o → is_lt o ≡ false → pair_before cmp k n ≡ true
@@ -148,10 +118,6 @@ module _ {P : Type 0} (cmp : P → P → Ordering) (order : IsTotalOrder cmp) wh
 
   not_below : (k m n : Message P) → pair_before cmp n m ≡ false → pair_before cmp k n ≡ false → pair_before cmp k m ≡ false
   not_below k m n h g = false_from_ne_true (pair_before cmp k m) (λ t. let u : pair_before cmp k n ≡ true = before_both k m n t h in cc)
-
-  pub least_none : (ms : List (Message P)) → least_pair cmp ms ≡ None → ms ≡ []
-  least_none [] e = refl
-  least_none (m ∷ ms) e = cc
 
   -- ---- fronts and least pairs
 
@@ -169,14 +135,14 @@ module _ {P : Type 0} (cmp : P → P → Ordering) (order : IsTotalOrder cmp) wh
       by_test true is ih =
           ap (λ (ns : List (Message P)). m ∷ filter (λ n. not (same_pair cmp m n)) ns) ih ∙ ap (λ (ns : List (Message P)). m ∷ ns)
           (filter_swap mine (λ n. not (same_pair cmp m n)) (λ n. not (same_pair cmp m n)) (fronts cmp ms) (λ n own. refl)) ∙ (rw is refl)
-      by_test false is ih = ih ∙ sym (filter_absorb mine (λ n. not (same_pair cmp m n)) (fronts cmp ms) (λ n own. by_pair n (same_pair cmp m n) refl is own)) ∙ (rw is refl)
+      by_test false is ih = ih ∙ sym (filter_stronger mine (λ n. not (same_pair cmp m n)) (fronts cmp ms) (λ n own. by_pair n (same_pair cmp m n) refl is own)) ∙ (rw is refl)
 
   least_is : (m : Message P) (ms : List (Message P)) (o : Option (Message P)) → least_pair cmp ms ≡ o
       → least_pair cmp (m ∷ ms) ≡ Some (elim o [ None ↦ m | Some n ↦ if pair_before cmp n m then n else m ])
   least_is m ms o e = rw e refl
 
   -- no pair of the list comes before the least
-  none_below : (ms : List (Message P)) (x : Message P) → least_pair cmp ms ≡ Some x → Each (λ m. pair_before cmp m x ≡ false) ms
+  pub none_below : (ms : List (Message P)) (x : Message P) → least_pair cmp ms ≡ Some x → Each (λ m. pair_before cmp m x ≡ false) ms
   none_below [] x e = cc
   none_below (m ∷ ms) x e = by_rest (least_pair cmp ms) refl (λ y g. none_below ms y g)
     where
@@ -191,7 +157,7 @@ module _ {P : Type 0} (cmp : P → P → Ordering) (order : IsTotalOrder cmp) wh
       by_rest None is ih =
           let s : Some m ≡ Some x = sym (least_is m ms None is) ∙ e in
           let same : m ≡ x = cc in
-          let none : ms ≡ [] = least_none ms is in
+          let none : ms ≡ [] = least_none cmp order ms is in
           subst (λ (z : Message P). Each (λ k. pair_before cmp k z ≡ false) (m ∷ ms)) same (not_before_itself m, subst (λ (ks : List (Message P)). Each (λ k. pair_before cmp k m ≡ false) ks) (sym none) tt)
       by_rest (Some n) is ih = by_test n (pair_before cmp n m) refl (sym (least_is m ms (Some n) is) ∙ e) (ih n is)
 
@@ -224,6 +190,6 @@ module _ {P : Type 0} (cmp : P → P → Ordering) (order : IsTotalOrder cmp) wh
           let s : Some m ≡ Some x = sym (least_is m ms None is) ∙ e in
           let same : m ≡ x = cc in
           let here : mine m ≡ true = ap mine same ∙ own in
-          let none : ms ≡ [] = least_none ms is in
+          let none : ms ≡ [] = least_none cmp order ms is in
           rw (here, none) s
       by_rest (Some n) is ih below = by_test n (pair_before cmp n m) refl (sym (least_is m ms (Some n) is) ∙ e) (λ h. ih n is h) below.1

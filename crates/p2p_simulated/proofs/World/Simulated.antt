@@ -26,14 +26,10 @@ use Rattle.p2p_simulated.proofs.World.OneRun.{runs_are_one}
 use Rattle.p2p_simulated.proofs.World.Obeys.{obeys_alike}
 use Rattle.p2p_simulated.proofs.World.Agreeing.{all_trans, obeys_in_range, refused_in_range}
 use Rattle.p2p_simulated.proofs.World.SameStands.{stands_same, range_same}
+use Rattle.p2p_simulated.proofs.World.Limit.{none_flies}
 
 module _ {P : Type 0} (cmp : P → P → Ordering) (order : IsTotalOrder cmp) where
   -- ---- the worlds that a planned world stands for are sound
-
-  none_flies : (t : ℕ) (fs : List (Paced P)) (gs : List (Flight P)) → AllZip (IsSameFlight cmp t) fs gs → fs ≡ [] → gs ≡ []
-  none_flies t [] [] all e = refl
-  none_flies t [] (g ∷ gs) all e = absurd all
-  none_flies t (f ∷ fs) gs all e = cc
 
   pub none_waits : (ms ns : List (Message P)) → ((m : Message P) → AllZip (SameMessage cmp) (filter (same_pair cmp m) ms) (filter (same_pair cmp m) ns)) → ms ≡ [] → ns ≡ []
   none_waits ms [] same e = refl
@@ -60,7 +56,7 @@ module _ {P : Type 0} (cmp : P → P → Ordering) (order : IsTotalOrder cmp) wh
     one_each = stands.follows.tallies.one_each;
     empty_at_first = λ e.
         let empty : (p.sending ≡ []) × (p.waiting ≡ []) = stands.follows.tallies.empty_at_first (stands.follows.tallies.limited ∙ e) in
-        (none_flies w.moment p.sending w.sending stands.follows.tallies.sending empty.0, none_waits p.waiting w.waiting stands.follows.tallies.waiting empty.1);
+        (none_flies cmp order w.moment p.sending w.sending stands.follows.tallies.sending empty.0, none_waits p.waiting w.waiting stands.follows.tallies.waiting empty.1);
   }
 
   -- ---- a call that goes

@@ -16,7 +16,8 @@ use Rattle.p2p_simulated.specs.WorldTime.{ArePositive, Drains, IsSound, Ticks, d
 use Rattle.p2p_simulated.specs.declared.error.Error.TheVariants.{FlowIdsUsedUp, MomentTooLate}
 use Rattle.p2p_simulated.proofs.World.Queue.{peer_like, peer_sym, one_without, one_pair_more, messages}
 use Rattle.p2p_simulated.proofs.World.Rests.{ends_preceded, ends_and_then, ends_cond}
-use Rattle.p2p_simulated.proofs.World.Others.{each_filter, each_of, ends_more, Leaves, next_leaves}
+use Rattle.p2p_simulated.proofs.World.Others.{each_of, ends_more, Leaves, next_leaves}
+use Rattle.p2p_simulated.proofs.Each.{each_filtered}
 use Rattle.p2p_simulated.proofs.World.PairOrder.{found_in, least_is}
 use Rattle.p2p_simulated.proofs.World.Pass.{ends_both, settle_keeps}
 use Rattle.p2p_simulated.proofs.World.Stretch.{flows_drained}
@@ -87,7 +88,7 @@ module _ {P : Type 0} (cmp : P → P → Ordering) (order : IsTotalOrder cmp) wh
   ready_may_start : (t : ℕ) (w : World P) (m : Message P) → least_pair cmp (ready cmp t w) ≡ Some m → may_start cmp t w m ≡ true
   ready_may_start t w m e =
       (found_in cmp order (λ (n : Message P). ⊤ × (may_start cmp t w n ≡ true)) (same_pair cmp m) m (ready cmp t w)
-      (each_filter (λ (n : Message P). ⊤) (may_start cmp t w) (fronts cmp w.waiting) (each_of (λ (n : Message P). ⊤) (λ n. tt) (fronts cmp w.waiting))) (least_is cmp order m (ready cmp t w) e).0).1
+      (each_filtered (λ (n : Message P). ⊤) (may_start cmp t w) (fronts cmp w.waiting) (each_of (λ (n : Message P). ⊤) (λ n. tt) (fronts cmp w.waiting))) (least_is cmp order m (ready cmp t w) e).0).1
 
   wake_fit : (t : ℕ) (w : World P) → IsFit w → EndsWith IsFit (wake cmp t w)
   wake_fit t w fit = wake_keeps cmp order IsFit t (λ v m e k. turn_fit t v m (ready_may_start t v m e) k) (length w.waiting) w fit

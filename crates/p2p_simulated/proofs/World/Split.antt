@@ -4,15 +4,12 @@ use Rattle.std.specs.declared.cmp.Ordering.{Ordering}
 use Rattle.p2p_simulated.specs.World.{Completed, Course, World, goes, meets, preceded}
 use Rattle.p2p_simulated.specs.WorldTime.{Ticks, no_tick, one_tick, tick_faults, Continues}
 use Rattle.p2p_simulated.specs.declared.error.Error.{Error}
+use Rattle.p2p_simulated.proofs.World.Queue.{preceded_none}
 
 module _ {P : Type 0} (cmp : P → P → Ordering) where
   pub preceded_append : (xs ys : List (Completed P)) (c : Course (Completed P) (World P)) → preceded xs (preceded ys c) ≡ preceded (xs ++ ys) c
   preceded_append xs ys (goes zs s) = ap (λ (l : List (Completed P)). goes l s) (sym (append_assoc xs ys zs))
   preceded_append xs ys (meets f) = refl
-
-  preceded_none : (c : Course (Completed P) (World P)) → c ≡ preceded [] c
-  preceded_none (goes xs s) = refl
-  preceded_none (meets f) = refl
 
   pub rest_is : (ds : List (Completed P)) (rest : Course (Completed P) (World P)) (cs : List (Completed P)) (v : World P) → preceded ds rest ≡ goes cs v
       → (es : List (Completed P)) × (rest ≡ goes es v) × (ds ++ es ≡ cs)
@@ -25,7 +22,7 @@ module _ {P : Type 0} (cmp : P → P → Ordering) where
       let same : v ≡ w = cc in
       let empty : [] ≡ cs = cc in
       let count : b ≡ b + 0 = omega arith in
-      subst (λ (ds : List (Completed P)). Ticks cmp (b + 0) w (preceded ds c)) empty (subst (λ (d : Course (Completed P) (World P)). Ticks cmp (b + 0) w d) (preceded_none c) (subst (λ (k : ℕ). Ticks cmp k w c) count (subst (λ (u : World P). Ticks cmp b u c) same more)))
+      subst (λ (ds : List (Completed P)). Ticks cmp (b + 0) w (preceded ds c)) empty (subst (λ (d : Course (Completed P) (World P)). Ticks cmp (b + 0) w d) (sym (preceded_none c)) (subst (λ (k : ℕ). Ticks cmp k w c) count (subst (λ (u : World P). Ticks cmp b u c) same more)))
   ticks_on {w = w} (one_tick {n = n} {u = u} {cs = ds} {rest = rest} d i t) b v cs c e more =
       let r : (es : List (Completed P)) × (rest ≡ goes es v) × (ds ++ es ≡ cs) = rest_is ds rest cs v e in
       let later : Ticks cmp (b + n) u (preceded r.0 c) = ticks_on t b v r.0 c r.1 more in
@@ -56,7 +53,7 @@ module _ {P : Type 0} (cmp : P → P → Ordering) where
   -- ticking for both is ticking for a while and then for another
   pub ticks_apart : {k : ℕ} {w : World P} {course : Course (Completed P) (World P)} → Ticks cmp k w course → (a b : ℕ) → k ≡ a + b
       → (first : Course (Completed P) (World P)) × Ticks cmp a w first × Continues cmp b first course
-  ticks_apart {k = k} {w = w} {course = course} t zero b e = let count : k ≡ b = omega arith in (goes [] w, no_tick, (course, subst (λ (n : ℕ). Ticks cmp n w course) count t, preceded_none course))
+  ticks_apart {k = k} {w = w} {course = course} t zero b e = let count : k ≡ b = omega arith in (goes [] w, no_tick, (course, subst (λ (n : ℕ). Ticks cmp n w course) count t, sym (preceded_none course)))
   ticks_apart no_tick (suc a) b e = absurd (omega arith)
   ticks_apart (one_tick {n = n} {u = u} {cs = cs} {rest = rest} d i t) (suc a) b e =
       let ih : (first : Course (Completed P) (World P)) × Ticks cmp a u first × Continues cmp b first rest = ticks_apart {k = n} {w = u} {course = rest} t a b (omega arith) in

@@ -12,25 +12,22 @@ use Rattle.p2p_simulated.specs.WorldPlanned.{Planned, next_of}
 use Rattle.p2p_simulated.specs.WorldReplies.{SameCompletion}
 use Rattle.p2p_simulated.specs.WorldStands.{CoursesAlike, Follows, IsSettled}
 use Rattle.p2p_simulated.specs.WorldQueue.{staying, flight, taken, joined, finish_within}
-use Rattle.p2p_simulated.proofs.World.Queue.{then_then}
-use Rattle.p2p_simulated.proofs.World.Between.{Each, each_filtered, IsFront, fronts_first, first_found}
+use Rattle.p2p_simulated.proofs.World.Queue.{then_then, preceded_none}
+use Rattle.p2p_simulated.proofs.World.Between.{IsFront, fronts_first, first_found}
+use Rattle.p2p_simulated.proofs.Each.{Each, each_filtered}
 use Rattle.p2p_simulated.proofs.World.Launch.{NoneDone, joining, started, joining_leaves, started_stays, OptionsAlike, next_alike, StartsSo, StartAlike, start_alike}
 use Rattle.p2p_simulated.proofs.World.Instant.{CourseAlike, looked, finishes_alike, settle_is_finish}
-use Rattle.p2p_simulated.proofs.World.Event.{wake_quiet}
+use Rattle.p2p_simulated.proofs.World.Pass.{wake_none}
 use Rattle.p2p_simulated.proofs.World.Alike.{same_itself}
 use Rattle.p2p_simulated.proofs.World.Pair.{apart, OnlyPair, only_both, IsRested, IsAfter, only_taken, only_joined, rested_joined, finish_only, ready_after, ends_so}
 use Rattle.p2p_simulated.proofs.World.Rests.{length_without}
+use Rattle.p2p_simulated.proofs.Zips.{zip-append}
+use Rattle.p2p_simulated.proofs.World.Bytes.{each_least, wake_first}
 
 -- each of a list of which none passes
 pub each_none : {X : Type 0} (test : X → Bool) (xs : List X) → list_any test xs ≡ false → Each (λ x. test x ≡ false) xs
 each_none test [] e = tt
 each_none test (x ∷ xs) e = let parts : (test x ≡ false) × (list_any test xs ≡ false) = or_parts (test x) (list_any test xs) e in (parts.0, each_none test xs parts.1)
-
-pub zips_joined : {X Y : Type 0} (R : X → Y → Type 0) (xs : List X) (ys : List Y) (us : List X) (vs : List Y) → AllZip R xs ys → AllZip R us vs → AllZip R (xs ++ us) (ys ++ vs)
-zips_joined R [] [] us vs all more = more
-zips_joined R [] (y ∷ ys) us vs all more = absurd all
-zips_joined R (x ∷ xs) [] us vs all more = absurd all
-zips_joined R (x ∷ xs) (y ∷ ys) us vs all more = (all.0, zips_joined R xs ys us vs all.1 more)
 
 module _ {P : Type 0} (cmp : P → P → Ordering) (order : IsTotalOrder cmp) where
   -- ---- a round: one pair starts, and what is done then completes
@@ -94,35 +91,14 @@ module _ {P : Type 0} (cmp : P → P → Ordering) (order : IsTotalOrder cmp) wh
   Picks xs [] = xs ≡ []
   Picks xs (m ∷ ms) = (y : Message P) × (least_pair cmp xs ≡ Some y) × SameMessage cmp m y × Picks (filter (apart cmp order y) xs) ms
 
-  pub least_each : (Q : Message P → Type 0) (xs : List (Message P)) (y : Message P) → Each Q xs → least_pair cmp xs ≡ Some y → Q y
-  least_each Q [] y h e = cc
-  least_each Q (x ∷ xs) y h e = by_rest (least_pair cmp xs) refl e (least_each Q xs)
-    where
-      by_rest : (o : Option (Message P)) → least_pair cmp xs ≡ o → Some (elim o [ None ↦ x | Some n ↦ if pair_before cmp n x then n else x ]) ≡ Some y
-          → ((z : Message P) → Each Q xs → least_pair cmp xs ≡ Some z → Q z) → Q y
-      by_rest None is e ih = let same : x ≡ y = cc in subst Q same h.0
-      by_rest (Some n) is e ih = by_test (pair_before cmp n x) e
-        where
-          by_test : (b : Bool) → Some (cond b n x) ≡ Some y → Q y
-          by_test true e = let same : n ≡ y = cc in subst Q same (ih n h.1 is)
-          by_test false e = let same : x ≡ y = cc in subst Q same h.0
-
-  wake_some : (n t : ℕ) (w : World P) (y : Message P) → least_pair cmp (ready cmp t w) ≡ Some y
-      → wake_within cmp (suc n) t w ≡ and_then (start cmp w y) (λ v. and_then (settle cmp t v) (wake_within cmp n t))
-  wake_some n t w y e = rw (e, wake_within) (then_then (start cmp w y) (settle cmp t) (wake_within cmp n t))
-
-  preceded_none : (c : Course (Completed P) (World P)) → preceded [] c ≡ c
-  preceded_none (goes cs v) = refl
-  preceded_none (meets fault) = refl
-
   wake_round : (n t : ℕ) (w : World P) (y : Message P) (c : Course (Completed P) (World P)) → least_pair cmp (ready cmp t w) ≡ Some y → start cmp w y ≡ goes [] (joined cmp w y)
       → settle cmp t (joined cmp w y) ≡ c → wake_within cmp (suc n) t w ≡ and_then c (wake_within cmp n t)
   wake_round n t w y c least starts e =
-      wake_some n t w y least ∙ ap (λ (d : Course (Completed P) (World P)). and_then d (λ v. and_then (settle cmp t v) (wake_within cmp n t))) starts ∙ preceded_none (and_then (settle cmp t (joined cmp w y)) (wake_within cmp n t)) ∙ ap (λ (d : Course (Completed P) (World P)). and_then d (wake_within cmp n t)) e
+      wake_first cmp order n t w y least ∙ ap (λ (d : Course (Completed P) (World P)). and_then d (λ v. and_then (settle cmp t v) (wake_within cmp n t))) starts ∙ preceded_none (and_then (settle cmp t (joined cmp w y)) (wake_within cmp n t)) ∙ ap (λ (d : Course (Completed P) (World P)). and_then d (wake_within cmp n t)) e
 
   pub preceded_by : (R : Planned P → World P → Type 0) (cs ds : List (Completed P)) (x : Course (Completed P) (Planned P)) (c : Course (Completed P) (World P))
       → AllZip (SameCompletion cmp) cs ds → CoursesAlike cmp R x c → CoursesAlike cmp R (preceded cs x) (preceded ds c)
-  preceded_by R cs ds (goes es q) (goes fs v) all h = (zips_joined (SameCompletion cmp) cs ds es fs all h.0, h.1)
+  preceded_by R cs ds (goes es q) (goes fs v) all h = (zip-append (SameCompletion cmp) cs es ds fs all h.0, h.1)
   preceded_by R cs ds (goes es q) (meets g) all h = absurd h
   preceded_by R cs ds (meets f) (goes fs v) all h = absurd h
   preceded_by R cs ds (meets f) (meets g) all h = h
@@ -140,7 +116,7 @@ module _ {P : Type 0} (cmp : P → P → Ordering) (order : IsTotalOrder cmp) wh
   next_is : (t : ℕ) (w : World P) (y : Message P) → least_pair cmp (ready cmp t w) ≡ Some y → IsNext t w y
   next_is t w y least =
       let known : IsFront cmp order w.waiting y × (may_start cmp t w y ≡ true)
-      = least_each (λ m. IsFront cmp order w.waiting m × (may_start cmp t w m ≡ true)) (ready cmp t w) y
+      = each_least cmp order (λ m. IsFront cmp order w.waiting m × (may_start cmp t w m ≡ true)) (ready cmp t w) y
       (each_filtered (IsFront cmp order w.waiting) (may_start cmp t w) (fronts cmp w.waiting) (fronts_first cmp order w.waiting)) least in
       record { found = first_found cmp order (same_pair cmp y) y known.0.0 w.waiting known.0.1; may = known.1 }
 
@@ -165,11 +141,11 @@ module _ {P : Type 0} (cmp : P → P → Ordering) (order : IsTotalOrder cmp) wh
 
   pub wakes_alike : {t : ℕ} {ms : List (Message P)} {p : Planned P} {course : Course (Completed P) (Planned P)} → WakesEach cmp t ms p course → WhenPicked t ms p course
   wakes_alike {t = t} {p = p} (all_started {q = q} looks) n w follows none picks fuel =
-      subst (λ (c : Course (Completed P) (World P)). CoursesAlike cmp (IsWoken t) (goes [] q) c) (sym (wake_quiet cmp order n t w picks)) (tt, (looked cmp order t p q w follows none looks, picks))
+      subst (λ (c : Course (Completed P) (World P)). CoursesAlike cmp (IsWoken t) (goes [] q) c) (sym (wake_none cmp order n t w picks)) (tt, (looked cmp order t p q w follows none looks, picks))
   wakes_alike {t = t} (no_start launch) zero w follows none picks fuel = absurd (no_fuel t w picks.0 (next_is t w picks.0 picks.1) fuel)
   wakes_alike {t = t} (no_start {fault = fault} launch) (suc n) w follows none picks fuel =
       let fails : start cmp w picks.0 ≡ meets fault = launch_starts launch w picks.0 follows none (next_is t w picks.0 picks.1) picks.2 in
-      subst (λ (c : Course (Completed P) (World P)). CoursesAlike cmp (IsWoken t) (meets fault) c) (sym (wake_some n t w picks.0 picks.1 ∙ ap (λ (d : Course (Completed P) (World P)). and_then d (λ v. and_then (settle cmp t v) (wake_within cmp n t))) fails)) refl
+      subst (λ (c : Course (Completed P) (World P)). CoursesAlike cmp (IsWoken t) (meets fault) c) (sym (wake_first cmp order n t w picks.0 picks.1 ∙ ap (λ (d : Course (Completed P) (World P)). and_then d (λ v. and_then (settle cmp t v) (wake_within cmp n t))) fails)) refl
   wakes_alike {t = t} (no_finish launch finish) zero w follows none picks fuel = absurd (no_fuel t w picks.0 (next_is t w picks.0 picks.1) fuel)
   wakes_alike {t = t} (no_finish {more = more} {q = q} {fault = fault} launch finish) (suc n) w follows none picks fuel =
       let so : StartsSo cmp order t w picks.0 more q = launch_starts launch w picks.0 follows none (next_is t w picks.0 picks.1) picks.2 in

@@ -22,13 +22,14 @@ use Rattle.p2p_simulated.proofs.Fairness.OneAllocation.{same_amounts}
 use Rattle.p2p_simulated.proofs.Fairness.Sums.{All-from_contains}
 use Rattle.p2p_simulated.proofs.Fairness.Members.{In}
 use Rattle.p2p_simulated.proofs.Size.Exists.{fair_parts}
-use Rattle.p2p_simulated.proofs.World.Bytes.{Each}
+use Rattle.p2p_simulated.proofs.Each.{Each}
 use Rattle.p2p_simulated.proofs.World.Rated.{limited_at}
 use Rattle.p2p_simulated.proofs.World.Ranges.{fair_is_small}
 use Rattle.p2p_simulated.proofs.World.Restrict.{Kind, at_egress, at_ingress, at_link, cap_at, side_at, from_sides}
-use Rattle.p2p_simulated.proofs.World.Queue.{both_parts, peer_like}
+use Rattle.p2p_simulated.proofs.World.Queue.{peer_like}
 use Rattle.p2p_simulated.proofs.World.Rests.{length_without}
 use Rattle.p2p_simulated.proofs.Places.{places_apart, places_below}
+use Rattle.std.proofs.lemmas.Bool.{and_parts}
 
 -- ---- lowest terms
 
@@ -130,8 +131,8 @@ module _ {P : Type 0} (cmp : P → P → Ordering) (order : IsTotalOrder cmp) (i
 
   of_both : (m n : Message P) (pair : P × P) → is_of m pair ≡ true → is_of n pair ≡ true → same_pair cmp m n ≡ true
   of_both m n pair e f =
-      let a : (same_peer cmp pair.0 m.origin ≡ true) × (same_peer cmp pair.1 m.recipient ≡ true) = both_parts cmp order (same_peer cmp pair.0 m.origin) (same_peer cmp pair.1 m.recipient) e in
-      let b : (same_peer cmp pair.0 n.origin ≡ true) × (same_peer cmp pair.1 n.recipient ≡ true) = both_parts cmp order (same_peer cmp pair.0 n.origin) (same_peer cmp pair.1 n.recipient) f in
+      let a : (same_peer cmp pair.0 m.origin ≡ true) × (same_peer cmp pair.1 m.recipient ≡ true) = and_parts (same_peer cmp pair.0 m.origin) (same_peer cmp pair.1 m.recipient) e in
+      let b : (same_peer cmp pair.0 n.origin ≡ true) × (same_peer cmp pair.1 n.recipient ≡ true) = and_parts (same_peer cmp pair.0 n.origin) (same_peer cmp pair.1 n.recipient) f in
       let first : same_peer cmp m.origin n.origin ≡ true = peer_like cmp order pair.0 m.origin n.origin a.0 ∙ b.0 in
       let second : same_peer cmp m.recipient n.recipient ≡ true = peer_like cmp order pair.1 m.recipient n.recipient a.1 ∙ b.1 in
       rw (first, second) refl

@@ -1,6 +1,7 @@
 use Rattle.p2p_simulated.specs.Pairs.{IsSamePair, pair_cmp, key_of}
 use Rattle.p2p_simulated.proofs.Pairs.{pair_total}
-use Rattle.p2p_simulated.proofs.Copies.{ascending_alike, zip_weaker}
+use Rattle.p2p_simulated.proofs.Copies.{ascending_alike}
+use Rattle.p2p_simulated.proofs.Zips.{zip_weaker}
 use Rattle.p2p_simulated.proofs.CopiedPairs.{own_alike}
 use Rattle.p2p_simulated.proofs.transmitter.pairs.PairsClone.clone.Goals as goal
 

@@ -1,5 +1,6 @@
 use Rattle.p2p_simulated.specs.Peers.{IsSameEntry}
-use Rattle.p2p_simulated.proofs.Copies.{ascending_alike, zip_weaker}
+use Rattle.p2p_simulated.proofs.Copies.{ascending_alike}
+use Rattle.p2p_simulated.proofs.Zips.{zip_weaker}
 use Rattle.p2p_simulated.proofs.transmitter.peers.PeersClone.clone.Goals as goal
 
 pub invariant_of-result : goal.invariant_of-result

@@ -3,9 +3,10 @@ use Rattle.std.proofs.lemmas.Result.{err_from_is_err_and}
 use Rattle.p2p_simulated.specs.WorldMessages.{Message, same_pair}
 use Rattle.p2p_simulated.specs.Message.{message_of, completed_of}
 use Rattle.p2p_simulated.specs.Working.{planned, messages}
-use Rattle.p2p_simulated.proofs.Finishing.{FinishesSo, finishes_start, finishes_step, finishes_end, finishes_refused, map-joined}
+use Rattle.p2p_simulated.proofs.Finishing.{FinishesSo, finishes_start, finishes_step, finishes_end, finishes_refused}
 use Rattle.p2p_simulated.proofs.InSystem.{in_system, launch_keeps, length-map}
 use Rattle.p2p_simulated.proofs.transmitter.working.Working.finish.Goals as goal
+use Rattle.std.proofs.lemmas.List.{map-append}
 
 pub loop-message-init : goal.loop-message-init
 loop-message-init g c = finishes_start g.P.Ord.cmp c.args.now (messages c.args.queue.items) (planned g.P.Ord.cmp c.args.self.now) (map completed_of c.args.completions.now.items)
@@ -35,7 +36,7 @@ pub loop-message-preserved : goal.loop-message-preserved
 loop-message-preserved g c =
     let so = subst (λ (ms : List (Message g.row.P.Denot)). FinishesSo g.P.Ord.cmp c.args.now (messages c.args.queue.items) (planned g.P.Ord.cmp c.args.self.now) (map completed_of c.args.completions.now.items) ms (planned g.P.Ord.cmp c.loop-message.self) (map completed_of c.loop-message.completions.items))
     (ap messages c.in-Some.ensures.items) c.loop-message.invariant in
-    let joined : messages c.append.new.self.items ≡ messages c.pop_front.new.self.items ++ messages c.in_ok-more.more.items = ap messages c.in_ok-append.ensures.items ∙ map-joined message_of c.pop_front.new.self.items c.in_ok-more.more.items in
+    let joined : messages c.append.new.self.items ≡ messages c.pop_front.new.self.items ++ messages c.in_ok-more.more.items = ap messages c.in_ok-append.ensures.items ∙ map-append message_of c.pop_front.new.self.items c.in_ok-more.more.items in
     subst (λ (ms : List (Message g.row.P.Denot)). FinishesSo g.P.Ord.cmp c.args.now (messages c.args.queue.items) (planned g.P.Ord.cmp c.args.self.now) (map completed_of c.args.completions.now.items) ms (planned g.P.Ord.cmp c.complete.new.self) (map completed_of c.complete.new.completions.items))
     (sym joined)
     (finishes_step g.P.Ord.cmp c.args.now (messages c.args.queue.items) (planned g.P.Ord.cmp c.args.self.now) (map completed_of c.args.completions.now.items) (message_of c.in-Some.message) (messages c.pop_front.new.self.items) (messages c.in_ok-more.more.items)

@@ -6,7 +6,8 @@ use Rattle.p2p_simulated.specs.declared.transmitter.look.Key.{Key}
 use Rattle.p2p_simulated.specs.Starts.{start_at, is_moment}
 use Rattle.p2p_simulated.specs.Working.{planned}
 use Rattle.p2p_simulated.proofs.Copies.{take-whole}
-use Rattle.p2p_simulated.proofs.Readying.{IsKeyFor, all_ready, zip_more, filter_pass, filter_skip}
+use Rattle.p2p_simulated.proofs.Readying.{IsKeyFor, all_ready, filter_pass, filter_skip}
+use Rattle.p2p_simulated.proofs.Zips.{zip-push}
 use Rattle.p2p_simulated.proofs.transmitter.working.Working.ready.Goals as goal
 use Rattle.p2p_simulated.proofs.transmitter.working.Working.ready.Goals.{then-is_ready+in_ok-new+in_ok-push, else-is_ready}
 
@@ -22,7 +23,7 @@ loop-pair-preserved g c =
           let pairs : filter starts (take (c.loop-pair.pair-index + 1) c.all-pair-items.result.now) ≡ filter starts before ++ c.pair-item.result ∷ [] = ap (filter starts) more ∙ filter_pass starts before c.pair-item.result (sym c.is_ready.ensures ∙ w.if-is_ready.true) in
           subst (λ (es : List (Pair g.row.P.Denot)). AllZip (IsKeyFor g.P.Ord.cmp) c.if-is_ready.ready.items es) (sym pairs)
           (subst (λ (ks : List (Key g.row.P.Denot)). AllZip (IsKeyFor g.P.Ord.cmp) ks (filter starts before ++ c.pair-item.result ∷ [])) (sym keys)
-          (zip_more (IsKeyFor g.P.Ord.cmp) c.loop-pair.ready.items (filter starts before) w.in_ok-new.field-0 c.pair-item.result c.loop-pair.invariant (record { origin = w.in_ok-new.ensures.origin; recipient = w.in_ok-new.ensures.recipient })))
+          (zip-push (IsKeyFor g.P.Ord.cmp) c.loop-pair.ready.items (filter starts before) w.in_ok-new.field-0 c.pair-item.result c.loop-pair.invariant (record { origin = w.in_ok-new.ensures.origin; recipient = w.in_ok-new.ensures.recipient })))
       | else-is_ready w ↦
           let pairs : filter starts (take (c.loop-pair.pair-index + 1) c.all-pair-items.result.now) ≡ filter starts before = ap (filter starts) more ∙ filter_skip starts before c.pair-item.result (sym c.is_ready.ensures ∙ w.if-is_ready.false) in
           subst (λ (es : List (Pair g.row.P.Denot)). AllZip (IsKeyFor g.P.Ord.cmp) c.if-is_ready.ready.items es) (sym pairs)
