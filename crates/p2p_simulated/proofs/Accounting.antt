@@ -13,7 +13,7 @@ use Rattle.std.proofs.lemmas.List.Sums.{sum_by-cons}
 use Rattle.std.proofs.lemmas.Option.{none-some, same_Some}
 use Rattle.p2p_simulated.specs.declared.bandwidth.Flow.{Flow}
 use Rattle.p2p_simulated.specs.declared.bandwidth.Rate.{Rate}
-use Rattle.p2p_simulated.specs.declared.bandwidth.Rate.TheVariants.{Unlimited, Finite}
+use Rattle.p2p_simulated.specs.declared.bandwidth.Rate.TheVariants.{Unlimited}
 use Rattle.p2p_simulated.specs.declared.error.Error.{Error}
 use Rattle.p2p_simulated.specs.declared.error.Error.TheVariants.{OutOfMemory, NumberTooLarge}
 use Rattle.p2p_simulated.specs.declared.transmitter.pairs.Pair.{Pair}
@@ -32,13 +32,12 @@ use Rattle.p2p_simulated.specs.WorldEvents.{Accounts}
 use Rattle.p2p_simulated.specs.WorldMessages.{Message, is_delivered, PairsAlike}
 use Rattle.p2p_simulated.specs.WorldPlanned.{Planned, Paced, IsLeastMoment, SomeSpentAt, IsSpentAt, left_at, paced_flows, drained_to, is_spent}
 use Rattle.p2p_simulated.specs.WorldRates.{AreFair, capped_sides, rate_of}
-use Rattle.p2p_simulated.specs.WorldRefusals.{IsDrainTooLarge, IsTimeTooLarge, IsTooLarge, drain_too_large, time_too_large, rates_too_large, to_rate}
-use Rattle.p2p_simulated.proofs.Flying.{length-sending, nothing_is_done}
+use Rattle.p2p_simulated.specs.WorldRefusals.{IsDrainTooLarge, IsTimeTooLarge, drain_too_large, time_too_large, rates_too_large, to_rate, HasNumberTooLarge}
+use Rattle.p2p_simulated.proofs.InFlight.{length-sending, nothing_is_done}
 use Rattle.p2p_simulated.proofs.Pairs.{pair_total, is_eq-then}
 use Rattle.p2p_simulated.proofs.Sorted.{and_left, and_right, and_both, is_eq_equal, value_respects}
 use Rattle.p2p_simulated.proofs.Refusals.{refused_memory}
 use Rattle.p2p_simulated.proofs.Fairness.Messages.{StandsForMessage, HasRateOf, rates_by_id_of_messages, same_sides}
-use Rattle.p2p_simulated.proofs.Fairness.Messages as planner
 use Rattle.p2p_simulated.proofs.Fairness.SameSides.{still_fair}
 use Rattle.p2p_simulated.proofs.Fairness.Subjects.{same_peer_itself}
 use Rattle.p2p_simulated.proofs.Fairness.Sums.{All-from_contains}
@@ -121,13 +120,9 @@ less_from true c h = refl
 less_from false true h = h
 less_from false false h = h
 
-same_amount_of_rate : (rate : Rate) → amount_of_rate rate ≡ planner.amount_of_rate rate
-same_amount_of_rate Unlimited = refl
-same_amount_of_rate (Finite ratio) = refl
-
 own_rate : (per : ℕ) (part : Option ℕ) (rate : Option Rate) → HasRateOf per part rate → amount_of_rate (unwrap_or rate Unlimited) ≡ rate_of per part
 own_rate per part None h = absurd (none-some _ h)
-own_rate per part (Some rate) h = same_amount_of_rate rate ∙ same_Some _ _ h
+own_rate per part (Some rate) h = same_Some _ _ h
 
 module _ {P : Type 0} where
   pub stayed_so : (now : ℕ) (by_id : ℕ → Option Rate) (fs : List (Flow P)) (ss : List Progress)
@@ -209,7 +204,7 @@ fit_alike xs ys flows same fits = record {
 
 module _ {P : Type 0} (cmp : P → P → Ordering) (now : ℕ) (old : Planned P) where
   -- a number of it refuses it
-  too_large : (e : Error) → e ≡ NumberTooLarge → IsTooLarge cmp now old → IsRefusedAt cmp now (λ fault. ⊥) (λ q. q ≡ old) e
+  too_large : (e : Error) → e ≡ NumberTooLarge → HasNumberTooLarge cmp now old → IsRefusedAt cmp now (λ fault. ⊥) (λ q. q ≡ old) e
   too_large e is large = subst (IsRefusedAt cmp now (λ fault. ⊥) (λ q. q ≡ old)) (sym is) (now, old, (refl, refl), large)
 
   -- as a drain that does not fit

@@ -16,7 +16,8 @@ use Rattle.p2p_simulated.specs.Fair.{Side}
 use Rattle.p2p_simulated.specs.Filling.{Fits, NoFairFits}
 use Rattle.p2p_simulated.specs.Rates.{AreFairRates, HasDifferentRates, last_rate}
 use Rattle.p2p_simulated.specs.Sides.{sides_of}
-use Rattle.p2p_simulated.specs.Size.{HaveDistinctUsers, FairRatesFit}
+use Rattle.p2p_simulated.specs.Size.{FairRatesFit}
+use Rattle.p2p_simulated.proofs.Size.Users.{HaveDistinctUsers}
 use Rattle.p2p_simulated.specs.TooLarge.{IsTooLarge}
 use Rattle.p2p_simulated.proofs.Size.Answered.{too_large}
 use Rattle.p2p_simulated.proofs.Fairness.Allocation.{the_allocation}

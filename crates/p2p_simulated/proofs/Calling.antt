@@ -7,15 +7,14 @@ use Rattle.p2p_simulated.specs.declared.error.Error.TheVariants.{OutOfMemory, Nu
 use Rattle.p2p_simulated.specs.Caps.{Caps}
 use Rattle.p2p_simulated.specs.WorldMessages.{Message}
 use Rattle.p2p_simulated.specs.World.{Completed, Course, goes, meets}
-use Rattle.p2p_simulated.specs.WorldCalls.{Call, call_limit, call_limit_link, call_enqueue, call_advance, call_next, limited_by, linked_by}
+use Rattle.p2p_simulated.specs.WorldCalls.{Call, call_limit, call_limit_link, call_enqueue, call_advance, limited_by, linked_by}
 use Rattle.p2p_simulated.specs.WorldPlanned.{Planned}
 use Rattle.p2p_simulated.specs.WorldEvents.{Recaps, none_sending, some_sending, Enqueues, Advances}
 use Rattle.p2p_simulated.specs.WorldRefusals.{RecapAccounts, recap_accounts, EnqueueAccounts, AdvanceAccounts}
 use Rattle.p2p_simulated.specs.Refusing.{IsRefusedAt, IsRefusedBy}
 use Rattle.p2p_simulated.specs.WorldEvents.{Obeys}
 use Rattle.p2p_simulated.specs.WorldRefusals.{MayBeRefused}
-use Rattle.p2p_simulated.specs.SamePlanned.{IsSamePlanned, IsSameCall, same_limit, same_limit_link, same_enqueue, same_advance, same_next, IsSameCourse, Goes, GoesCounted}
-use Rattle.p2p_simulated.proofs.World.Alike.{same_itself, message_itself}
+use Rattle.p2p_simulated.specs.SamePlanned.{IsSamePlanned, IsSameCourse, Goes, GoesCounted}
 use Rattle.p2p_simulated.proofs.World.SameWorlds.{same_turned}
 use Rattle.p2p_simulated.proofs.World.SameCourses.{obeys_same, advances_same}
 use Rattle.p2p_simulated.proofs.World.SameRefusals.{refused_same, call_itself}

@@ -12,7 +12,7 @@ use Rattle.p2p_simulated.specs.declared.transmitter.progress.Progress.{Progress}
 use Rattle.p2p_simulated.specs.WorldMessages.{SameMessage, is_delivered}
 use Rattle.p2p_simulated.specs.SamePlanned.{IsSamePaced}
 use Rattle.p2p_simulated.specs.Flights.{message_in, sending_of, are_marked, IsSameFlow}
-use Rattle.p2p_simulated.proofs.World.Alike.{delivered_alike}
+use Rattle.p2p_simulated.proofs.World.AlikeMessages.{delivered_alike}
 
 module _ {P : Type 0} (cmp : P → P → Ordering) where
   -- a copy of a flow, where an error would have become another

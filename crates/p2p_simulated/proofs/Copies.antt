@@ -8,7 +8,6 @@ use Rattle.std.specs.Cmp.{IsTotalOrder}
 use Rattle.std.proofs.lemmas.Cmp.{alike_right}
 use Rattle.p2p_simulated.specs.Sorted.{are_ascending, value_at}
 use Rattle.p2p_simulated.proofs.Sorted.{and_left, and_right, and_both}
-use Rattle.p2p_simulated.proofs.Zips.{zip_weaker, zip-append}
 
 -- one element more
 zip_more : {X Y : Type 0} (R : X → Y → Type 0) (xs : List X) (ys : List Y) (i : ℕ) (x : X) (y : Y) → i < length xs → x ≡ get_or xs i x → AllZip R (take i xs) ys → R x y → AllZip R (take (suc i) xs) (ys ++ y ∷ [])

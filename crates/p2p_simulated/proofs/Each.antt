@@ -1,7 +1,7 @@
 -- A property of each element of a list, by recursion.
-use Rattle.std.proofs.Common.{◌≡◌, ℕ, zero, suc, ◌+◌, ◌<◌, ◌≤◌, List, [], ◌∷◌, ◌++◌, map, length, Bool, true, false, cond, not, Option, Some, None, refl, sym, ap, ◌∙◌, subst, arith}
-use Rattle.std.specs.Prelude.{⊤, ◌&&◌, ◌||◌, slice_get}
-use Rattle.std.specs.List.{filter, find, list_any, AllZip}
+use Rattle.std.proofs.Common.{◌≡◌, ℕ, zero, suc, List, [], ◌∷◌, ◌++◌, Bool, true, false, cond, Some, refl, subst}
+use Rattle.std.specs.Prelude.{⊤, slice_get}
+use Rattle.std.specs.List.{filter, find}
 use Rattle.p2p_simulated.specs.World.{without_first}
 
 -- Q holds of each

@@ -1,5 +1,5 @@
 -- The finishes of a queue and the starts of pairs, one after another.
-use Rattle.std.proofs.Common.{◌≡◌, ℕ, suc, ◌+◌, ◌-◌, ◌<◌, ◌≤◌, List, [], ◌∷◌, ◌++◌, length, map, Bool, true, false, if◌then◌else◌, Some, None, refl, sym, ap, ◌∙◌, subst, arith, append_assoc, get_or, drop, drop-cons, length-drop}
+use Rattle.std.proofs.Common.{◌≡◌, ℕ, suc, ◌+◌, ◌-◌, ◌<◌, ◌≤◌, List, [], ◌∷◌, ◌++◌, length, Bool, true, false, if◌then◌else◌, Some, None, refl, sym, ap, ◌∙◌, subst, arith, append_assoc, get_or, drop, drop-cons, length-drop}
 use Rattle.std.specs.Bool.{then_some}
 use Rattle.std.specs.List.{find, AllZip}
 use Rattle.std.specs.declared.cmp.Ordering.{Ordering}

@@ -4,8 +4,8 @@ use Rattle.std.proofs.Common.{◌≡◌, ℕ, zero, suc, ◌+◌, ◌-◌, ◌*�
 use Rattle.std.proofs.Common.{Option, Some, None, IsSome, refl, sym, ap, ◌∙◌, subst, arith, mul-le-mul_left}
 use Rattle.std.specs.Int.{IsGcd}
 use Rattle.std.proofs.Math.Nat.{mul_assoc, mul-pos, mul-sub, div_self, mul-div_cancel', dvd-mul_left, le_of_mul-le-mul_left}
-use Rattle.p2p_simulated.specs.Amount.{Amount, AreEqual, plus, minus, reduced}
-use Rattle.p2p_simulated.specs.Fits.{gcd, raised, other_raised, least_common, AreOverCommon, CommonFits, ReducedFits}
+use Rattle.p2p_simulated.specs.Amount.{Amount, AreEqual, plus, minus, reduced, gcd}
+use Rattle.p2p_simulated.specs.Fits.{raised, other_raised, least_common, AreOverCommon, CommonFits, ReducedFits}
 use Rattle.p2p_simulated.specs.Fraction.{IsReduced}
 use Rattle.p2p_simulated.specs.Ratio.{amount_of, IsWorth}
 use Rattle.p2p_simulated.specs.declared.ratio.Ratio.{Ratio}

@@ -16,16 +16,13 @@ use Rattle.p2p_simulated.specs.Amount.{whole}
 use Rattle.p2p_simulated.specs.Message.{message_of}
 use Rattle.p2p_simulated.specs.Pairs.{messages_of, waiting_of}
 use Rattle.p2p_simulated.specs.Events.{IsDue, Happens}
-use Rattle.p2p_simulated.proofs.InSystem.{accounts_keep, accounts_waiting, length-without, length-map, same_itself}
+use Rattle.p2p_simulated.proofs.MessageCounts.{accounts_keep, accounts_waiting, length-without, length-map, same_itself}
 use Rattle.p2p_simulated.proofs.Sorted.{by_bool}
 use Rattle.p2p_simulated.proofs.Each.{Each}
-use Rattle.p2p_simulated.proofs.World.Others.{fronts_are_first}
+use Rattle.p2p_simulated.proofs.World.OtherPairs.{fronts_are_first}
 use Rattle.p2p_simulated.proofs.World.InOrder.{Somewhere, in_fronts}
 use Rattle.p2p_simulated.proofs.World.Advance.{earlier_start}
-
-any_or : (a b : Bool) → b ≡ true → (a || b) ≡ true
-any_or true b h = refl
-any_or false b h = h
+use Rattle.p2p_simulated.proofs.World.BeforeNext.{or_true}
 
 any_first : (a b : Bool) → a ≡ true → (a || b) ≡ true
 any_first a b h = rw h refl
@@ -33,7 +30,7 @@ any_first a b h = rw h refl
 any_somewhere : {X : Type 0} (f : X → Bool) (xs : List X) → Somewhere (λ x. f x ≡ true) xs → list_any f xs ≡ true
 any_somewhere f [] h = absurd h
 any_somewhere f (x ∷ xs) (inl h) = any_first (f x) (list_any f xs) h
-any_somewhere f (x ∷ xs) (inr h) = any_or (f x) (list_any f xs) (any_somewhere f xs h)
+any_somewhere f (x ∷ xs) (inr h) = or_true (f x) (list_any f xs) (any_somewhere f xs h)
 
 -- whether a message is spent at the planned finish
 abbrev pub spent_at : {P : Type 0} → List (Paced P) → Option ℕ → Bool
@@ -43,7 +40,7 @@ spent_at fs (Some t) = list_any (λ f. (left_at t f).num == 0) fs
 spent_found : {P : Type 0} (t : ℕ) (fs : List (Paced P)) (i : ℕ) (f : Paced P) → slice_get fs i ≡ Some f → (left_at t f).num ≡ 0 → list_any (λ f. (left_at t f).num == 0) fs ≡ true
 spent_found t [] i f is spent = cc
 spent_found t (x ∷ fs) zero f is spent = let same : x ≡ f = cc in any_first ((left_at t x).num == 0) _ (ap (λ g. (left_at t g).num == 0) same ∙ eq-eqb ((left_at t f).num) 0 spent)
-spent_found t (x ∷ fs) (suc i) f is spent = any_or ((left_at t x).num == 0) _ (spent_found t fs i f is spent)
+spent_found t (x ∷ fs) (suc i) f is spent = or_true ((left_at t x).num == 0) _ (spent_found t fs i f is spent)
 
 spent_least : {P : Type 0} (fs : List (Paced P)) (o : Option ℕ) → IsLeastMoment (λ s. SomeSpentAt fs s) o → spent_at fs o ≡ true
 spent_least fs None h = refl

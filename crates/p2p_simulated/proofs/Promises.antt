@@ -1,5 +1,5 @@
 -- What a scheduler promises of a call, from what it keeps.
-use Rattle.std.proofs.Common.{◌≡◌, ℕ, ◌<◌, ◌≤◌, ◌^◌, List, [], ◌∷◌, length, Option, Some, refl, sym, subst}
+use Rattle.std.proofs.Common.{◌≡◌, ℕ, ◌<◌, ◌≤◌, ◌^◌, List, [], ◌∷◌, length, Option, Some, Result, Ok, Err, IfOk, IfErr, OnOk, OnErr, refl, sym, subst}
 use Rattle.std.specs.declared.cmp.Ordering.{Ordering}
 use Rattle.std.specs.Cmp.{IsTotalOrder}
 use Rattle.std.proofs.Math.Logic.{∥∥₁_map}
@@ -7,7 +7,7 @@ use Rattle.p2p_simulated.specs.declared.error.Error.{Error}
 use Rattle.p2p_simulated.specs.World.{Completed, goes, new_world}
 use Rattle.p2p_simulated.specs.WorldCalls.{Call, call_advance, moment_of}
 use Rattle.p2p_simulated.specs.WorldOrder.{enqueued}
-use Rattle.p2p_simulated.specs.WorldPlanned.{Planned, IsRated, new_planned, next_event}
+use Rattle.p2p_simulated.specs.WorldPlanned.{Planned, IsPlanned, IsRated, new_planned, next_event}
 use Rattle.p2p_simulated.specs.WorldEvents.{Obeys}
 use Rattle.p2p_simulated.specs.WorldRefusals.{MayBeRefused}
 use Rattle.p2p_simulated.specs.WorldStands.{StandsFor, IsInRange}
@@ -18,11 +18,22 @@ use Rattle.p2p_simulated.specs.Simulated.{IsSimulated, IsNextInSimulation, Keeps
 use Rattle.p2p_simulated.proofs.World.Agreeing.{new_in_range}
 use Rattle.p2p_simulated.proofs.World.BytesStand.{advance_keeps_to_caps}
 use Rattle.p2p_simulated.proofs.World.ConservedAlike.{goes_conserved}
+use Rattle.p2p_simulated.proofs.World.Counting.{obeys_right}
 use Rattle.p2p_simulated.proofs.World.Limit.{new_stands}
 use Rattle.p2p_simulated.proofs.World.Orderly.{new_orderly, obeys_orderly}
 use Rattle.p2p_simulated.proofs.World.OrderlyAlike.{orderly_same, goes_orderly}
 use Rattle.p2p_simulated.proofs.World.Simulated.{moment_in_time, calls_simulated, call_keeps_range, refusals_simulated, next_in_simulation}
 use Rattle.p2p_simulated.proofs.World.SplitAnywhere.{advance_split_anywhere}
+
+-- what is so of an answer, from what else is
+pub ok_so : {X E : Type 0} (r : Result X E) (Q R : X → Type 0) → ((x : X) → Q x → R x) → IfOk r Q → IfOk r R
+ok_so (Ok x) Q R so h = so x h
+ok_so (Err e) Q R so h = h
+
+-- and of a refusal
+pub err_so : {X E : Type 0} (r : Result X E) (Q R : E → Type 0) → ((e : E) → Q e → R e) → IfErr r Q → IfErr r R
+err_so (Ok x) Q R so h = h
+err_so (Err e) Q R so h = so e h
 
 module _ {P : Type 0} (cmp : P → P → Ordering) (order : IsTotalOrder cmp) where
   -- ---- a new scheduler
@@ -41,6 +52,21 @@ module _ {P : Type 0} (cmp : P → P → Ordering) (order : IsTotalOrder cmp) wh
   -- a call on the copy leaves what is planned in order
   pub orderly_on : (p q r : Planned P) (call : Call P) (cs : List (Completed P)) → IsSamePlanned cmp p q → ∥ IsOrderly cmp p ∥₁ → Obeys cmp q call (goes cs r) → ∥ IsOrderly cmp r ∥₁
   orderly_on p q r call cs same orderly obeys = ∥∥₁_map orderly (λ h. obeys_orderly cmp order q r call cs obeys (orderly_same cmp order p q same h))
+
+  -- what is kept by a step that does a call at once, or leaves what is planned as it was
+  pub record Kept (q : Planned P) : Type 0 where
+    pub right : ∥ IsPlanned cmp q ∥₁
+    pub orderly : ∥ IsOrderly cmp q ∥₁
+
+  pub kept_at_once : {X E : Type 0} (r : Result X E) (p q : Planned P) (call : Call P) (cs : List (Completed P)) → OnOk r (Obeys cmp p call (goes cs q)) → OnErr r (q ≡ p) → ∥ IsPlanned cmp p ∥₁ → ∥ IsOrderly cmp p ∥₁ → Kept q
+  kept_at_once (Ok x) p q call cs obeys same right orderly = record {
+    right = ∥∥₁_map right (λ h. obeys_right cmp order p call (goes cs q) h obeys cs q refl);
+    orderly = ∥∥₁_map orderly (obeys_orderly cmp order p q call cs obeys);
+  }
+  kept_at_once (Err e) p q call cs obeys same right orderly = record {
+    right = subst (λ (r : Planned P). ∥ IsPlanned cmp r ∥₁) (sym same) right;
+    orderly = subst (λ (r : Planned P). ∥ IsOrderly cmp r ∥₁) (sym same) orderly;
+  }
 
   -- what is promised of a call that goes from p to q
   pub record Promised (p : Planned P) (call : Call P) (cs : List (Completed P)) (q : Planned P) : Type 0 where

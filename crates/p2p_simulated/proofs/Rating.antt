@@ -21,7 +21,7 @@ use Rattle.p2p_simulated.specs.Flights.{amount_of_rate, paced_of, sending_of, ra
 use Rattle.p2p_simulated.specs.Progress.{IsSameSent}
 use Rattle.p2p_simulated.specs.WorldRefusals.{IsTimeTooLarge}
 use Rattle.p2p_simulated.proofs.Draining.{covers_if_spent, spent_from_least}
-use Rattle.p2p_simulated.proofs.Flying.{sending-append}
+use Rattle.p2p_simulated.proofs.InFlight.{sending-append}
 use Rattle.p2p_simulated.proofs.Zips.{zip-same, zip-push, zip-append}
 use Rattle.p2p_simulated.proofs.Progressing.{positive, same_sent, left_read, sending_there}
 use Rattle.p2p_simulated.proofs.Sorted.{get_or-seam, set-seam}

@@ -25,7 +25,6 @@ use Rattle.p2p_simulated.proofs.Waiting.{first_at_place, of_groups, greater}
 use Rattle.p2p_simulated.proofs.Starting.{may_launch_is, of_pair}
 use Rattle.p2p_simulated.proofs.Accounting.{arrivals_looked_up}
 use Rattle.p2p_simulated.proofs.World.Queue.{find_passes, pair_like, pair_sym, peer_like}
-use Rattle.p2p_simulated.proofs.Zips.{zip-push}
 
 -- ---- the earlier of moments
 

@@ -10,7 +10,7 @@ use Rattle.std.specs.declared.cmp.Ordering.{Ordering}
 use Rattle.p2p_simulated.specs.Fair.{Side}
 use Rattle.p2p_simulated.specs.Sides.{Subject, Ask, same_subject, is_same, is_open, opened, sides_after}
 use Rattle.p2p_simulated.specs.Registering.{subjects_after}
-use Rattle.p2p_simulated.proofs.Subjects.{same_symm, same_congr}
+use Rattle.p2p_simulated.proofs.Subjects.{same_symm, same_congr, second_of_both}
 
 -- a side and its subject
 pub record Share (P : Type 0) : Type 0 where
@@ -25,10 +25,6 @@ limit_of s = record { cap = s.cap; users = s.users }
 abbrev before : {P : Type 0} → List (Ask P) → List (Ask P) → List (Ask P)
 before [] earlier = earlier
 before (a ∷ asks) earlier = before asks (a ∷ earlier)
-
-second : (s m : Bool) → (s && m) ≡ true → m ≡ true
-second true m e = e
-second false m e = cc e
 
 turn : (m rest o : Bool) → ((m || false || rest) || o) ≡ (rest || (m || o))
 turn true true o = refl
@@ -144,7 +140,7 @@ module _ {P : Type 0} (cmp : P → P → Ordering) where
         → ((list_any (is_side_of t) (cond b [] (opened_share u ts answer)) || rest) || is_open cmp earlier t)
         ≡ (rest || ((is_some answer && is_same cmp u t) || is_open cmp earlier t))
     first_is u t ts earlier rest true answer e =
-        bools rest (is_open cmp earlier t) (is_some answer) (is_same cmp u t) (λ h. sym (open_alike u t earlier (second (is_some answer) (is_same cmp u t) h)) ∙ e)
+        bools rest (is_open cmp earlier t) (is_some answer) (is_same cmp u t) (λ h. sym (open_alike u t earlier (second_of_both (is_some answer) (is_same cmp u t) h)) ∙ e)
     first_is u t ts earlier rest false None e = refl
     first_is u t ts earlier rest false (Some cap) e = turn (is_same cmp u t) rest (is_open cmp earlier t)
 

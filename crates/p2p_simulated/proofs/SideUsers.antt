@@ -10,7 +10,7 @@ use Rattle.p2p_simulated.specs.declared.bandwidth.sides.Side as declared_side
 use Rattle.std.proofs.lemmas.List.{get_or-map, length-map}
 use Rattle.p2p_simulated.specs.Answers.{Answered}
 use Rattle.p2p_simulated.specs.Sides.{Ask, sent_by, received_by, sent_between, asks_of_one, asks_from, is_same, is_open, opened, sides_after, sides_of}
-use Rattle.p2p_simulated.proofs.Later.{EachLater}
+use Rattle.p2p_simulated.proofs.EachLater.{EachLater}
 use Rattle.p2p_simulated.proofs.Subjects.{same_congr}
 
 -- each number is below all later ones

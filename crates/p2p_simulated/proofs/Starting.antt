@@ -13,16 +13,14 @@ use Rattle.p2p_simulated.proofs.Refusals.{refused_more}
 use Rattle.p2p_simulated.specs.Amount.{whole}
 use Rattle.p2p_simulated.specs.Sides.{same_peer}
 use Rattle.p2p_simulated.specs.Moments.{first_moment}
-use Rattle.p2p_simulated.specs.declared.transmitter.pairs.Pair.{Pair}
-use Rattle.p2p_simulated.specs.Pairs.{first_of, arrival_of, pair_cmp, key_of}
+use Rattle.p2p_simulated.specs.Pairs.{first_of}
 use Rattle.p2p_simulated.specs.WorldMessages.{Message, PairsAlike, same_pair}
 use Rattle.p2p_simulated.specs.World.{goes, meets, is_in_order, last_moment, without_first}
 use Rattle.p2p_simulated.specs.WorldPlanned.{Planned, paced_flows, may_launch}
 use Rattle.p2p_simulated.specs.WorldEvents.{Launches, nothing_waits, too_early, no_id, starts, Accounts, launched}
 use Rattle.p2p_simulated.specs.WorldRefusals.{LaunchAccounts, launch_accounts}
 use Rattle.p2p_simulated.specs.Working.{may_launch_first}
-use Rattle.p2p_simulated.proofs.Sorted.{by_bool, and_left, and_right, and_both, is_eq_equal, list_all-mono, value_respects}
-use Rattle.p2p_simulated.proofs.Pairs.{pair_total, is_eq-then}
+use Rattle.p2p_simulated.proofs.Sorted.{by_bool, and_left, and_right, list_all-mono}
 use Rattle.p2p_simulated.proofs.World.Queue.{find_passes, any_like, pair_like}
 
 -- two orders of numbers that hold together are one test

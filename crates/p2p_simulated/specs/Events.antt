@@ -9,6 +9,7 @@ use Rattle.p2p_simulated.specs.declared.transmitter.event.Event.{Event}
 use Rattle.p2p_simulated.specs.declared.transmitter.event.Event.TheVariants.{Finish, Start}
 use Rattle.p2p_simulated.specs.WorldPlanned.{Planned, next_event, may_launch}
 
+-- the moment of an event
 abbrev pub moment_of : Event → ℕ
 moment_of (Finish moment) = moment
 moment_of (Start moment) = moment

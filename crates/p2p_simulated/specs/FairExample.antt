@@ -17,6 +17,7 @@ shared = record { cap = 1; users = 0 ∷ 1 ∷ [] } ∷ []
 abbrev pub half : Amount
 half = record { num = 1; den = 2 }
 
+-- the ratio is worth a half
 abbrev pub IsHalf : Ratio → Type 0
 IsHalf ratio = IsWorth ratio half
 

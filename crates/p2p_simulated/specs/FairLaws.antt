@@ -3,7 +3,7 @@ use Rattle.std.specs.Prelude.{◌≡◌, ℕ, ◌*◌, ◌<◌, ◌≤◌, ◌�
 use Rattle.p2p_simulated.specs.declared.bandwidth.Rate.{Rate}
 use Rattle.p2p_simulated.specs.declared.bandwidth.Rate.TheVariants.{Finite}
 use Rattle.p2p_simulated.specs.declared.ratio.Ratio.{Ratio}
-use Rattle.p2p_simulated.specs.Amount.{Amount}
+use Rattle.p2p_simulated.specs.Amount.{Amount, parts_over}
 use Rattle.p2p_simulated.specs.Fair.{Side, Uses, IsLimited, IsWithinCaps, IsFair}
 use Rattle.p2p_simulated.specs.Rates.{AreFairRates}
 use Rattle.p2p_simulated.specs.Ratio.{amount_of}
@@ -15,10 +15,6 @@ IsLess a b = a.num * b.den < b.num * a.den
 -- the first amount is no greater than the second
 abbrev pub IsAtMost : Amount → Amount → Type 0
 IsAtMost a b = a.num * b.den ≤ b.num * a.den
-
--- so many parts, `per` of which are one
-abbrev pub parts_over : ℕ → ℕ → Amount
-parts_over per parts = record { num = parts; den = per }
 
 -- the flow at that place has that finite rate
 abbrev pub HasRate : List Rate → ℕ → Ratio → Type 0

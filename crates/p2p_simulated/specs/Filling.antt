@@ -12,6 +12,7 @@ use Rattle.p2p_simulated.specs.declared.ratio.Ratio.{Ratio}
 use Rattle.std.specs.Ordering.{nat_cmp, ordering_then}
 use Rattle.std.specs.declared.cmp.Ordering.{Ordering}
 use Rattle.std.specs.declared.cmp.Reverse.{Reverse}
+use Rattle.p2p_simulated.specs.Amount.{parts_over}
 
 -- the rate at which a flow is frozen, if it is
 abbrev pub rate_at : List (Option Ratio) → ℕ → Option Ratio
@@ -20,7 +21,7 @@ rate_at rates flow = slice_index_or rates flow None
 -- each frozen rate is worth that many parts, `per` of which are one byte a second
 pub record AreWorth (rates : List (Option Ratio)) (per : ℕ) (parts : ℕ → ℕ) : Type 0 where
   pub some_part : 0 < per
-  pub worth : (flow : ℕ) (rate : Ratio) → rate_at rates flow ≡ Some rate → IsWorth rate (record { num = parts flow; den = per })
+  pub worth : (flow : ℕ) (rate : Ratio) → rate_at rates flow ≡ Some rate → IsWorth rate (parts_over per (parts flow))
 
 -- none of these users has a rate
 abbrev pub AllRise : List (Option Ratio) → List ℕ → Type 0
@@ -38,7 +39,7 @@ pub record KeepsAccount (side : Side) (rates : List (Option Ratio)) (open_side :
   pub counted : List ℕ
   pub parted : IsPermutation side.users (counted ++ open_side.rising.items)
   pub frozen : All (λ flow. IsSome (rate_at rates flow)) counted
-  pub taken : (per : ℕ) (parts : ℕ → ℕ) → AreWorth rates per parts → IsWorth open_side.taken (record { num = sum_by parts counted; den = per })
+  pub taken : (per : ℕ) (parts : ℕ → ℕ) → AreWorth rates per parts → IsWorth open_side.taken (parts_over per (sum_by parts counted))
 
 -- the same users are counted
 pub record IsUnchanged (old new : OpenSide) : Type 0 where
@@ -71,7 +72,7 @@ parts_at_level rates parts level flow = unwrap_or (option_map (λ _. parts flow)
 
 -- where its rising users stand at this rate, the side carries no more than its cap
 pub record HasRoomAt (rates : List (Option Ratio)) (rate : Ratio) (side : Side) : Type 0 where
-  pub room : (per : ℕ) (parts : ℕ → ℕ) (level : ℕ) → AreWorth rates per parts → IsWorth rate (record { num = level; den = per }) → load (parts_at_level rates parts level) side ≤ side.cap * per
+  pub room : (per : ℕ) (parts : ℕ → ℕ) (level : ℕ) → AreWorth rates per parts → IsWorth rate (parts_over per level) → load (parts_at_level rates parts level) side ≤ side.cap * per
 
 -- all users of the side are frozen
 abbrev pub AllFrozen : List (Option Ratio) → List ℕ → Type 0
@@ -85,6 +86,7 @@ share_cmp a b = ordering_then (fraction_cmp a.rate.numerator a.rate.denominator 
 abbrev pub queue_cmp : Reverse Share → Reverse Share → Ordering
 queue_cmp a b = share_cmp b.0 a.0
 
+-- the first rate is no greater than the second
 abbrev pub IsNoGreater : Ratio → Ratio → Type 0
 IsNoGreater a b = a.numerator * b.denominator ≤ b.numerator * a.denominator
 

@@ -1,10 +1,6 @@
 -- When the results of arithmetic on fractions of 128 bits fit.
-use Rattle.std.specs.Prelude.{◌≡◌, ℕ, suc, ◌+◌, ◌*◌, ◌/◌, ◌^◌, ◌<◌, ◌≤◌}
-use Rattle.p2p_simulated.specs.Amount.{Amount, gcd_within, reduced}
-
--- the greatest common divisor
-abbrev pub gcd : ℕ → ℕ → ℕ
-gcd a b = gcd_within (suc b) a b
+use Rattle.std.specs.Prelude.{◌≡◌, ℕ, ◌+◌, ◌*◌, ◌/◌, ◌^◌, ◌<◌, ◌≤◌}
+use Rattle.p2p_simulated.specs.Amount.{Amount, reduced, gcd}
 
 -- the amount in lowest terms has two numbers of 128 bits
 pub record ReducedFits (a : Amount) : Type 0 where

@@ -20,6 +20,7 @@ amount_of_rate (Finite rate) = Some (amount_of rate)
 abbrev pub message_in : {P : Type 0} → Flow P → Progress → Message P
 message_in flow s = record { origin = flow.origin; recipient = flow.recipient; channel = s.channel; bytes = s.bytes; latency = s.latency; should_deliver = s.should_deliver }
 
+-- a message in flight: a flow, and the rest
 abbrev pub paced_of : {P : Type 0} → Flow P → Progress → Paced P
 paced_of flow s = record { message = message_in flow s; left = amount_of s.left; rate = amount_of_rate s.rate; updated = s.updated }
 

@@ -15,9 +15,11 @@ use Rattle.p2p_simulated.specs.Message.{message_of}
 abbrev pub pair_cmp : {P : Type 0} → (P → P → Ordering) → (P × P) → (P × P) → Ordering
 pair_cmp cmp a b = ordering_then (cmp a.0 b.0) (cmp a.1 b.1)
 
+-- the ordered pair of peers
 abbrev pub key_of : {P : Type 0} → Pair P → P × P
 key_of pair = (pair.origin, pair.recipient)
 
+-- what waits for one pair, the first one first
 abbrev pub messages_of : {P : Type 0} → Pair P → List (Message P)
 messages_of pair = map message_of pair.waiting.items
 

@@ -6,11 +6,12 @@ use Rattle.p2p_simulated.specs.declared.bandwidth.Rate.TheVariants.{Unlimited, F
 use Rattle.p2p_simulated.specs.Fair.{Side, IsLimited, IsFair}
 use Rattle.p2p_simulated.specs.Ratio.{IsWorth}
 use Rattle.p2p_simulated.specs.declared.ratio.Ratio.{Ratio}
+use Rattle.p2p_simulated.specs.Amount.{parts_over}
 
 -- the rate of a flow: unlimited where it uses no side, and else its parts over `per`
 abbrev pub IsRateOf : List Side → ℕ → (ℕ → ℕ) → ℕ → Rate → Type 0
 IsRateOf sides per parts flow Unlimited = ¬ IsLimited sides flow
-IsRateOf sides per parts flow (Finite ratio) = IsLimited sides flow × IsWorth ratio (record { num = parts flow; den = per })
+IsRateOf sides per parts flow (Finite ratio) = IsLimited sides flow × IsWorth ratio (parts_over per (parts flow))
 
 -- one rate for each of so many flows, and over some common denominator they are max-min fair
 pub record AreFairRates (sides : List Side) (flows : ℕ) (rates : List Rate) : Type 0 where
@@ -29,6 +30,7 @@ pub record AreItsRates (rates : List Rate) (values : List Ratio) : Type 0 where
 abbrev pub HasDifferentRates : List Rate → ℕ → Type 0
 HasDifferentRates rates n = (values : List Ratio) × AreItsRates rates values × (length values ≡ n)
 
+-- the first if it is there, and else the second
 abbrev pub or_else : {X : Type 0} → Option X → Option X → Option X
 or_else None other = other
 or_else (Some x) other = Some x

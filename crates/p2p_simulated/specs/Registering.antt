@@ -11,6 +11,7 @@ use Rattle.p2p_simulated.specs.declared.bandwidth.sides.Side as declared_side
 use Rattle.p2p_simulated.specs.declared.bandwidth.sides.Subject as declared
 use Rattle.p2p_simulated.specs.declared.bandwidth.sides.Subject.TheVariants.{SentBy, ReceivedBy, SentBetween}
 
+-- a subject in the code
 abbrev pub subject_of : {P : Type 0} → declared.Subject P → Subject P
 subject_of (SentBy p) = sent_by p.now
 subject_of (ReceivedBy p) = received_by p.now

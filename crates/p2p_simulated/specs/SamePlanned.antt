@@ -18,6 +18,7 @@ module _ {P : Type 0} (cmp : P → P → Ordering) where
     pub rate : f.rate ≡ g.rate
     pub updated : f.updated ≡ g.updated
 
+  -- the same caps, messages, rates and plans, of equal peers
   pub record IsSamePlanned (p q : Planned P) : Type 0 where
     pub caps : CapsAlike cmp p.caps q.caps
     pub limited : p.limited ≡ q.limited

@@ -35,6 +35,7 @@ module _ {P : Type 0} (cmp : P → P → Ordering) where
   abbrev pub same_peer : P → P → Bool
   same_peer p q = is_eq (cmp p q)
 
+  -- whether two subjects are one, by the order of peers
   abbrev pub same_subject : Subject P → Subject P → Bool
   same_subject (sent_by p) (sent_by q) = same_peer p q
   same_subject (received_by p) (received_by q) = same_peer p q

@@ -1,13 +1,10 @@
 -- When rates fit in fractions of 128 bits.
-use Rattle.std.specs.Prelude.{ℕ, ◌*◌, ◌^◌, ◌<◌, ◌≢◌, List, All, AllPairs}
+use Rattle.std.specs.Prelude.{ℕ, ◌*◌, ◌^◌, ◌<◌, List, All}
 use Rattle.p2p_simulated.specs.Fair.{Side, IsFair}
 use Rattle.p2p_simulated.specs.Ratio.{IsWorth}
 use Rattle.p2p_simulated.specs.declared.bandwidth.Rate.{Rate}
 use Rattle.p2p_simulated.specs.declared.bandwidth.Rate.TheVariants.{Unlimited, Finite}
-
--- no flow uses a side twice
-abbrev pub HaveDistinctUsers : List Side → Type 0
-HaveDistinctUsers sides = All (λ side. AllPairs (λ user other. user ≢ other) side.users) sides
+use Rattle.p2p_simulated.specs.Amount.{parts_over}
 
 -- the fair rates are whole numbers of parts, and the parts that make one, times the number of flows and the greatest cap, are below 2^128
 pub record FairRatesFit (sides : List Side) (flows : ℕ) : Type 0 where
@@ -19,7 +16,7 @@ pub record FairRatesFit (sides : List Side) (flows : ℕ) : Type 0 where
 -- the rate, if it is finite, is a whole number of parts, `per` of which are one byte a second
 abbrev pub IsWholeOver : ℕ → Rate → Type 0
 IsWholeOver per Unlimited = Unit {0}
-IsWholeOver per (Finite ratio) = (parts : ℕ) × IsWorth ratio (record { num = parts; den = per })
+IsWholeOver per (Finite ratio) = (parts : ℕ) × IsWorth ratio (parts_over per parts)
 
 -- so is each of the rates
 abbrev pub AreWholeOver : ℕ → List Rate → Type 0

@@ -9,6 +9,7 @@ use Rattle.p2p_simulated.specs.Sides.{same_peer}
 use Rattle.p2p_simulated.specs.WorldMessages.{Message}
 use Rattle.p2p_simulated.specs.WorldPlanned.{Planned, paced_flows}
 
+-- whether that is the moment
 abbrev pub is_moment : ℕ → Option ℕ → Bool
 is_moment t None = false
 is_moment t (Some s) = s == t

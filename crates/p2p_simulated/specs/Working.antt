@@ -1,6 +1,6 @@
 -- How a scheduler is read as a planned world.
-use Rattle.std.specs.Prelude.{ℕ, ◌<◌, Bool, false, List, length, map, Option, Some, None}
-use Rattle.std.specs.List.{filter}
+use Rattle.std.specs.Prelude.{ℕ, ◌<◌, Bool, false, ◌&&◌, List, length, map, Option, Some, None}
+use Rattle.std.specs.List.{filter, list_any}
 use Rattle.std.specs.declared.cmp.Ordering.{Ordering}
 use Rattle.p2p_simulated.specs.declared.bandwidth.Flow.{Flow}
 use Rattle.p2p_simulated.specs.PeerCaps.{sides_under}
@@ -10,9 +10,10 @@ use Rattle.p2p_simulated.specs.declared.transmitter.peers.PeerCaps.{PeerCaps}
 use Rattle.p2p_simulated.specs.declared.transmitter.pairs.Pair.{Pair}
 use Rattle.p2p_simulated.specs.declared.transmitter.working.Working.{Working}
 use Rattle.p2p_simulated.specs.Caps.{Caps}
+use Rattle.p2p_simulated.specs.Sides.{same_peer}
 use Rattle.p2p_simulated.specs.World.{fronts}
 use Rattle.p2p_simulated.specs.WorldMessages.{Message}
-use Rattle.p2p_simulated.specs.WorldPlanned.{Planned, may_launch}
+use Rattle.p2p_simulated.specs.WorldPlanned.{Planned, paced_flows, may_launch}
 use Rattle.p2p_simulated.specs.Message.{message_of}
 use Rattle.p2p_simulated.specs.Peers.{egress_of, ingress_of}
 use Rattle.p2p_simulated.specs.Pairs.{link_of, arrival_of, waiting_of}
@@ -22,6 +23,7 @@ use Rattle.p2p_simulated.specs.Flights.{sending_of}
 abbrev pub caps_of : {P : Type 0} → (P → P → Ordering) → List (PeerCaps P) → List (Pair P) → Caps P
 caps_of cmp peers pairs = record { egress = egress_of cmp peers; ingress = ingress_of cmp peers; link = link_of cmp pairs }
 
+-- a scheduler's state as a planned world
 abbrev pub planned : {P : Type 0} {a : _} {b : _} {c : _} → (P → P → Ordering) → Working P a b c → Planned P
 planned cmp w = record {
   caps = caps_of cmp w.peers.entries.items w.pairs.entries.items;
@@ -34,6 +36,7 @@ planned cmp w = record {
   start = w.start;
 }
 
+-- messages in the code
 abbrev pub messages : {P : Type 0} → List (code.Message P) → List (Message P)
 messages ms = map message_of ms
 
@@ -50,3 +53,7 @@ ready_messages cmp t p = filter (may_launch cmp t p) (fronts cmp p.waiting)
 pub record AreTooMany {P : Type 0} (cmp : P → P → Ordering) (caps : Caps P) (flows : List (Flow P)) : Type 0 where
   pub many : 16 < length flows
   pub nothing_fits : ¬ FairRatesFit (sides_under cmp caps flows) (length flows)
+
+-- whether a message from the one peer to the other is in flight
+abbrev pub is_sending : {P : Type 0} → (P → P → Ordering) → Planned P → P → P → Bool
+is_sending cmp p origin recipient = list_any (λ m. same_peer cmp origin m.origin && same_peer cmp recipient m.recipient) (paced_flows p.sending)

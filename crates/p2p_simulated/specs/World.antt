@@ -14,6 +14,10 @@ pub record Flight (P : Type 0) : Type 0 where
   pub message : Message P
   pub left : Amount
 
+-- a message as it starts
+abbrev pub flight_of : {P : Type 0} → Message P → Flight P
+flight_of m = record { message = m; left = whole (length m.bytes) }
+
 -- what is answered of a message that is done, and the moment at which it arrives, if it does
 pub record Completed (P : Type 0) : Type 0 where
   pub origin : P
@@ -101,7 +105,7 @@ module _ {P : Type 0} (cmp : P → P → Ordering) where
   -- the pair's first waiting message starts, under the next flow id
   abbrev pub start : World P → Message P → Course (Completed P) (World P)
   start w m = cond (nat_le last_moment w.next_id) (meets FlowIdsUsedUp)
-      (goes [] (record w { sending = w.sending ++ record { message = m; left = whole (length m.bytes) } ∷ []; waiting = without_first (same_pair cmp m) w.waiting; next_id = w.next_id + 1 }))
+      (goes [] (record w { sending = w.sending ++ flight_of m ∷ []; waiting = without_first (same_pair cmp m) w.waiting; next_id = w.next_id + 1 }))
 
   -- it starts if it may
   abbrev pub start_next : ℕ → World P → Option (Message P) → Course (Completed P) (World P)

@@ -1,14 +1,14 @@
 -- The bytes that an origin still has to send.
 use Rattle.std.specs.Prelude.{ℕ, ◌+◌, ◌*◌, List, [], ◌∷◌, length, if◌then◌else◌}
 use Rattle.std.specs.declared.cmp.Ordering.{Ordering}
-use Rattle.p2p_simulated.specs.Amount.{Amount, whole, plus, billion}
+use Rattle.p2p_simulated.specs.Amount.{Amount, whole, plus, billion, parts_over}
 use Rattle.p2p_simulated.specs.Sides.{same_peer}
 use Rattle.p2p_simulated.specs.WorldMessages.{Message}
 use Rattle.p2p_simulated.specs.World.{World, Flight}
 
 -- what a cap lets go in n nanoseconds
 abbrev pub allowance : ℕ → ℕ → Amount
-allowance cap n = record { num = cap * n; den = billion }
+allowance cap n = parts_over billion (cap * n)
 
 module _ {P : Type 0} (cmp : P → P → Ordering) where
   -- what is left of the messages in flight from that origin

@@ -22,7 +22,7 @@ module _ {P : Type 0} (cmp : P → P → Ordering) where
     pub stayed : AllZip (λ f g. (g.message ≡ f.message) × (g.left ≡ f.left) × (g.updated ≡ t)) (filter (λ f. not (is_spent cmp old.caps f)) (drained_to t old.sending)) new.sending
     pub fair : AreFair cmp old.caps (paced_flows new.sending) per rates
     pub rated : AllZip (λ rate f. f.rate ≡ rate_of per rate) rates new.sending
-    pub finish : IsLeastMoment (λ s. SomeSpentAt new.sending s) new.finish
+    pub finish : IsLeastMoment (SomeSpentAt new.sending) new.finish
     pub same : new ≡ record old { sending = new.sending; finish = new.finish }
 
   -- the start is planned anew: the least moment from t on at which a pair is ready

@@ -1,21 +1,12 @@
 -- What one pair's turn does to the others, and going once through the pairs that may start.
-use Rattle.std.specs.Prelude.{⊤, ◌≡◌, ℕ, List, [], ◌∷◌, true, false, not, cond, Some}
+use Rattle.std.specs.Prelude.{⊤, ◌≡◌, ℕ, List, [], ◌∷◌, true, false, cond, Some}
 use Rattle.std.specs.List.{filter, find}
 use Rattle.std.specs.declared.cmp.Ordering.{Ordering}
 use Rattle.p2p_simulated.specs.WorldMessages.{Message, same_pair, pair_before}
 use Rattle.p2p_simulated.specs.World.{World, Flight, Completed, Course, goes, and_then, turn, may_start, first_waiting}
 
 module _ {P : Type 0} (cmp : P → P → Ordering) where
-  -- the second world is the first, but for the pair of a message
-  pub record IsButFor (m : Message P) (w v : World P) : Type 0 where
-    pub caps : v.caps ≡ w.caps
-    pub limited : v.limited ≡ w.limited
-    pub moment : v.moment ≡ w.moment
-    pub arrivals : (k : Message P) → same_pair cmp m k ≡ false → v.last_arrival k.origin k.recipient ≡ w.last_arrival k.origin k.recipient
-    pub waiting : filter (λ n. not (same_pair cmp m n)) v.waiting ≡ filter (λ n. not (same_pair cmp m n)) w.waiting
-    pub sending : filter (λ (f : Flight P). not (same_pair cmp m f.message)) v.sending ≡ filter (λ (f : Flight P). not (same_pair cmp m f.message)) w.sending
-
-  -- what one other pair sees of a world does not change
+  -- what a pair sees of a world does not change
   pub record IsUnchangedFor (k : Message P) (w v : World P) : Type 0 where
     pub ready : (t : ℕ) (x : Message P) → same_pair cmp k x ≡ true → may_start cmp t v x ≡ may_start cmp t w x
     pub last_arrival : v.last_arrival k.origin k.recipient ≡ w.last_arrival k.origin k.recipient

@@ -29,6 +29,7 @@ pub record Planned (P : Type 0) : Type 0 where
 abbrev pub new_planned : {P : Type 0} → ℕ → Planned P
 new_planned id = record { caps = no_caps; limited = false; sending = []; waiting = []; last_arrival = λ p q. None; next_id = id; finish = None; start = None }
 
+-- the earlier of two moments, each of which may be missing
 abbrev pub earlier : Option ℕ → Option ℕ → Option ℕ
 earlier None b = b
 earlier (Some a) None = Some a
@@ -42,6 +43,7 @@ IsLeastMoment Q moment = MatchOption moment ((t : ℕ) → t ≤ last_moment →
 abbrev pub next_event : {P : Type 0} → Planned P → Option ℕ
 next_event p = earlier p.finish p.start
 
+-- the messages in flight, without the rest
 abbrev pub paced_flows : {P : Type 0} → List (Paced P) → List (Message P)
 paced_flows sending = map (λ f. f.message) sending
 

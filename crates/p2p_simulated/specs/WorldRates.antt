@@ -28,26 +28,26 @@ pub record IsLowest (a : Amount) : Type 0 where
   pub lowest : reduced a.num a.den ≡ a
 
 module _ {P : Type 0} (cmp : P → P → Ordering) where
-  -- the side of this cap, if it is one, that those messages use for which the test passes
-  abbrev pub side_of : Option ℕ → (Message P → Bool) → List (Message P) → List Side
-  side_of None uses messages = []
-  side_of (Some cap) uses messages = record { cap = cap; users = places_from 0 uses messages } ∷ []
+  -- the side of this cap, if there is one, which those messages use that pass the test
+  abbrev pub capped_side : Option ℕ → (Message P → Bool) → List (Message P) → List Side
+  capped_side None uses messages = []
+  capped_side (Some cap) uses messages = record { cap = cap; users = places_from 0 uses messages } ∷ []
 
   -- a message uses the egress of its origin, with all messages of that origin
-  abbrev pub egress_of : Caps P → List (Message P) → Message P → List Side
-  egress_of caps messages m = side_of (caps.egress m.origin) (λ n. same_peer cmp m.origin n.origin) messages
+  abbrev pub egress_side : Caps P → List (Message P) → Message P → List Side
+  egress_side caps messages m = capped_side (caps.egress m.origin) (λ n. same_peer cmp m.origin n.origin) messages
 
   -- and if it is delivered the ingress of its recipient, with all messages that are delivered there
-  abbrev pub ingress_of : Caps P → List (Message P) → Message P → List Side
-  ingress_of caps messages m = side_of (if is_delivered cmp m then caps.ingress m.recipient else None) (λ n. is_delivered cmp n && same_peer cmp m.recipient n.recipient) messages
+  abbrev pub ingress_side : Caps P → List (Message P) → Message P → List Side
+  ingress_side caps messages m = capped_side (if is_delivered cmp m then caps.ingress m.recipient else None) (λ n. is_delivered cmp n && same_peer cmp m.recipient n.recipient) messages
 
   -- and the link of its pair, with all messages of the pair, delivered or not
-  abbrev pub link_of : Caps P → List (Message P) → Message P → List Side
-  link_of caps messages m = side_of (caps.link m.origin m.recipient) (λ n. same_peer cmp m.origin n.origin && same_peer cmp m.recipient n.recipient) messages
+  abbrev pub link_side : Caps P → List (Message P) → Message P → List Side
+  link_side caps messages m = capped_side (caps.link m.origin m.recipient) (λ n. same_peer cmp m.origin n.origin && same_peer cmp m.recipient n.recipient) messages
 
   -- the capped sides that one message uses, at most three
   abbrev pub sides_for : Caps P → List (Message P) → Message P → List Side
-  sides_for caps messages m = egress_of caps messages m ++ ingress_of caps messages m ++ link_of caps messages m
+  sides_for caps messages m = egress_side caps messages m ++ ingress_side caps messages m ++ link_side caps messages m
 
   -- the capped sides that the messages use; one that several use stands there for each
   abbrev pub capped_sides : Caps P → List (Message P) → List Side

@@ -28,11 +28,11 @@ module _ {P : Type 0} (cmp : P → P → Ordering) where
   to_rate t p = paced_flows (filter (λ f. not (is_spent cmp p.caps f)) (drained_to t p.sending))
 
   -- a number of an account at t does not fit: a drain, a time, or a rate of more than sixteen messages
-  pub data IsTooLarge (t : ℕ) (old : Planned P) : Type 0 where
-    drain_too_large : (place : ℕ) (f : Paced P) → slice_get old.sending place ≡ Some f → IsDrainTooLarge t f → IsTooLarge t old
+  pub data HasNumberTooLarge (t : ℕ) (old : Planned P) : Type 0 where
+    drain_too_large : (place : ℕ) (f : Paced P) → slice_get old.sending place ≡ Some f → IsDrainTooLarge t f → HasNumberTooLarge t old
     time_too_large : {leavers : List (Message P)} {new : Planned P} (place : ℕ) (f : Paced P) → Accounts cmp t old leavers new → slice_get new.sending place ≡ Some f
-        → IsTimeTooLarge f → IsTooLarge t old
-    rates_too_large : 16 < length (to_rate t old) → ¬ FairRatesFit (capped_sides cmp old.caps (to_rate t old)) (length (to_rate t old)) → IsTooLarge t old
+        → IsTimeTooLarge f → HasNumberTooLarge t old
+    rates_too_large : 16 < length (to_rate t old) → ¬ FairRatesFit (capped_sides cmp old.caps (to_rate t old)) (length (to_rate t old)) → HasNumberTooLarge t old
 
   -- ---- the accounts in a course: of which planned worlds, all at t
 
@@ -60,14 +60,17 @@ module _ {P : Type 0} (cmp : P → P → Ordering) where
 
   -- ---- the accounts of a call: of which planned world, and at which moment
 
+  -- of new caps, where something is in flight
   pub data RecapAccounts (now : ℕ) (caps : Caps P) (old : Planned P) : Planned P → Type 0 where
     recap_accounts : {q : Planned P} → old.sending ≢ [] → SettleAccounts now (record old { caps = caps; limited = true }) q → RecapAccounts now caps old q
 
+  -- of a message that is enqueued under limits
   pub data EnqueueAccounts (now : ℕ) (m : Message P) (old : Planned P) : Planned P → Type 0 where
     launched_account : {q : Planned P} → old.limited ≡ true → LaunchAccounts now (with_queued cmp old m) (next_of cmp (with_queued cmp old m) m) q → EnqueueAccounts now m old q
     finished_accounts : {leavers : List (Message P)} {mid q : Planned P} → old.limited ≡ true
         → Launches cmp now (with_queued cmp old m) (next_of cmp (with_queued cmp old m) m) (goes leavers mid) → FinishAccounts now leavers mid q → EnqueueAccounts now m old q
 
+  -- of an advance: of a wake at its end, and of its events
   pub data AdvanceAccounts (now : ℕ) : Planned P → ℕ → Planned P → Type 0 where
     in_the_end : {p q : Planned P} → IfSome (next_event p) (λ t. now < t) → WakeAccounts now (filter (may_launch cmp now p) (fronts cmp p.waiting)) p q → AdvanceAccounts now p now q
     at_the_finish : {p q : Planned P} {t : ℕ} → p.finish ≡ Some t → next_event p ≡ Some t → t ≤ now → SettleAccounts t (record p { finish = None }) q → AdvanceAccounts now p t q
@@ -89,7 +92,7 @@ module _ {P : Type 0} (cmp : P → P → Ordering) where
   -- when a call on a planned world may be refused: a number in its course is too large, or its course meets that fault
   abbrev pub MayBeRefused : Planned P → Call P → Error → Type 0
   MayBeRefused p call OutOfMemory = ⊤
-  MayBeRefused p call NumberTooLarge = (t : ℕ) × (q : Planned P) × ComesToAccount p call t q × IsTooLarge t q
+  MayBeRefused p call NumberTooLarge = (t : ℕ) × (q : Planned P) × ComesToAccount p call t q × HasNumberTooLarge t q
   MayBeRefused p call MomentTooLate = Obeys cmp p call (meets MomentTooLate)
   MayBeRefused p call FlowIdsUsedUp = Obeys cmp p call (meets FlowIdsUsedUp)
 

@@ -1,9 +1,8 @@
 -- For worked examples: peers are numbers, and a cap of a billion is one byte a nanosecond.
 use Rattle.std.specs.Prelude.{ℕ, zero, suc, List, [], ◌∷◌, true, false, length, Option, Some, None}
 use Rattle.std.specs.Ordering.{nat_cmp}
-use Rattle.p2p_simulated.specs.Amount.{whole}
 use Rattle.p2p_simulated.specs.WorldMessages.{Message, no_caps}
-use Rattle.p2p_simulated.specs.World.{World, Completed, completion_of}
+use Rattle.p2p_simulated.specs.World.{World, Completed, completion_of, flight_of}
 use Rattle.p2p_simulated.specs.WorldCalls.{limited_by}
 
 -- so many bytes
@@ -36,7 +35,7 @@ abbrev pub flying : ℕ → Message ℕ → World ℕ
 flying cap m = record {
   caps = limited_by nat_cmp no_caps 1 (Some cap) None;
   limited = true;
-  sending = record { message = m; left = whole (length m.bytes) } ∷ [];
+  sending = flight_of m ∷ [];
   waiting = [];
   last_arrival = λ p q. None;
   next_id = 1;

@@ -77,6 +77,7 @@ module _ {P : Type 0} (cmp : P → P → Ordering) where
 
   -- ---- the range of a planned world
 
+  -- the message is of one of those pairs
   abbrev pub IsNamed : List (P × P) → Message P → Type 0
   IsNamed pairs m = names_pair cmp pairs m.origin m.recipient ≡ true
 

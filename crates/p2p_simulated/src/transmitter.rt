@@ -88,7 +88,7 @@ pub struct State<P: Peer> {
 }
 
 impl<P: Peer> State<P> {
-    ghost use Rattle.p2p_simulated.specs.Message.{completed_of};
+    ghost use Rattle.p2p_simulated.specs.Message.{message_of, completed_of};
 
     /// A scheduler at the start, moment 0, without limits and with nothing sent. Flow ids begin
     /// at 0.
@@ -251,9 +251,8 @@ impl<P: Peer> State<P> {
         ensures rated { IfOk result (λ completions. ∥ IsRated P.cmp (planned P.cmp self.new.kept) ∥₁) }
         ensures refused { IfErr result (MayBeRefused P.cmp (planned P.cmp self.old.kept) (call_enqueue now (record { origin = origin; recipient = recipient; channel = channel; bytes = message; latency = latency; should_deliver = should_deliver }))) }
         ensures cause { IfErr result (IsRefusedInSimulation P.cmp (planned P.cmp self.old.kept) (call_enqueue now (record { origin = origin; recipient = recipient; channel = channel; bytes = message; latency = latency; should_deliver = should_deliver }))) }
-        ensures unchanged { OnErr result (self.new ≡ self.old) }
+        ensures unchanged { OnErr result (planned P.cmp self.new.kept ≡ planned P.cmp self.old.kept) }
     {
-        let mut working = self.kept.clone()?;
         let message = Message {
             origin,
             recipient,
@@ -262,6 +261,20 @@ impl<P: Peer> State<P> {
             latency,
             should_deliver,
         };
+        self.send(now, message)
+    }
+
+    /// Sends a message. Where it only has to wait, nothing is copied.
+    fn send(&mut self, now: u64, message: Message<P>) -> Result<Vec<Completion<P>>, Error>
+        ensures goes { IfOk result (λ completions. Goes P.cmp (planned P.cmp self.old.kept) (call_enqueue now (message_of message)) (map completed_of completions.items) (planned P.cmp self.new.kept)) }
+        ensures refused { IfErr result (MayBeRefused P.cmp (planned P.cmp self.old.kept) (call_enqueue now (message_of message))) }
+        ensures unchanged { OnErr result (planned P.cmp self.new.kept ≡ planned P.cmp self.old.kept) }
+    {
+        if self.kept.has_to_wait(&message.origin, &message.recipient) {
+            self.kept.wait(now, message)?;
+            return Ok(Vec::new(self.kept.alloc));
+        }
+        let mut working = self.kept.clone()?;
         let completions = working.enqueue(now, message)?;
         self.kept = working;
         Ok(completions)

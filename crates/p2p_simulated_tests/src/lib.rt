@@ -18,6 +18,8 @@ mod planner_sizes;
 #[cfg(test)]
 mod ratio_tests;
 #[cfg(test)]
+mod replays;
+#[cfg(test)]
 mod scheduler;
 #[cfg(test)]
 mod scripts;

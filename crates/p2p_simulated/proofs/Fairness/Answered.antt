@@ -2,7 +2,7 @@
 use Rattle.std.proofs.Common.{◌≡◌, ℕ, Bool, true, false, cond, List, [], ◌∷◌, ◌++◌, Option, None, map, refl, sym, ap, ap₂, ◌∙◌, subst}
 use Rattle.std.specs.List.{FoldsTo}
 use Rattle.p2p_simulated.specs.declared.bandwidth.Flow.{Flow}
-use Rattle.p2p_simulated.specs.Answers.{Answered, Calls, PairCalls, States, CallsFor, CalledIfDelivered, NoLink, recipients, pairs}
+use Rattle.p2p_simulated.specs.Answers.{Answered, Calls, PairCalls, States, CallsFor, CalledIfDelivered, recipients, pairs}
 use Rattle.p2p_simulated.specs.PeerCaps.{answered_under, AnswersOnEach, AnswersOnEachPair, AnswerBy, AnswersAreThoseOfTheCaps}
 use Rattle.p2p_simulated.specs.Caps.{Caps}
 
@@ -23,10 +23,6 @@ pair_answers_if_unchanged call cap f h [] = tt
 pair_answers_if_unchanged {P} {F} call cap f h ((p, q) ∷ pairs) = λ a g called.
     let r = h p q a g called in
     (r.0, subst (λ (k : F). AnswersOnEachPair call cap k pairs) (sym r.1) (pair_answers_if_unchanged call cap f h pairs))
-
--- where there is no closure for ordered pairs, no pair has a cap
-pub no_link_answers : {P : Type 0} (pairs : List (P × P)) → AnswersOnEachPair (NoLink {P = P}) (λ p q. None) tt pairs
-no_link_answers {P} pairs = pair_answers_if_unchanged (NoLink {P = P}) (λ p q. None) tt (λ p q a g none. (none, refl)) pairs
 
 -- ---- what follows
 

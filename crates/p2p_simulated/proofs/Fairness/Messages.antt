@@ -14,12 +14,11 @@ use Rattle.p2p_simulated.specs.Fair.{Side}
 use Rattle.p2p_simulated.specs.FairLaws.{AreTheSameSides}
 use Rattle.p2p_simulated.specs.PeerCaps.{cap_of, AreOfPeers, HaveDistinctIds, IsFairById, limits, sides_under, AreFairUnder, UsesNoCap}
 use Rattle.p2p_simulated.specs.Rates.{AreFairRates, last_rate}
-use Rattle.p2p_simulated.specs.Ratio.{amount_of, IsWorth}
+use Rattle.p2p_simulated.specs.Ratio.{IsWorth}
 use Rattle.p2p_simulated.specs.Sides.{Subject, sent_by, received_by, sent_between, same_peer, same_subject}
-use Rattle.p2p_simulated.specs.Amount.{Amount}
 use Rattle.p2p_simulated.specs.Caps.{Caps}
 use Rattle.p2p_simulated.specs.WorldMessages.{Message, is_delivered}
-use Rattle.p2p_simulated.specs.WorldRates.{Parts, side_of, egress_of, ingress_of, link_of, sides_for, capped_sides, is_unlimited, rates_from, rate_of, AreFair}
+use Rattle.p2p_simulated.specs.WorldRates.{Parts, sides_for, capped_sides, is_unlimited, rates_from, rate_of, AreFair, egress_side, ingress_side, link_side, capped_side}
 use Rattle.p2p_simulated.proofs.Subjects.{same_itself}
 use Rattle.p2p_simulated.proofs.Ratios.{worth_is_reduced}
 use Rattle.p2p_simulated.proofs.Fairness.Among.{Allotted, flows_of, rates_of, among_from}
@@ -33,6 +32,7 @@ use Rattle.p2p_simulated.proofs.Fairness.Subjects.{same_peer_itself, one_cap, sa
 use Rattle.p2p_simulated.specs.Places.{places_from}
 use Rattle.p2p_simulated.proofs.Places.{places_alike}
 use Rattle.p2p_simulated.proofs.Zips.{zip_chain}
+use Rattle.p2p_simulated.specs.Flights.{amount_of_rate}
 
 module _ {P : Type 0} (cmp : P → P → Ordering) where
   -- the flow is of the message's peers, by their order, and delivered as it is
@@ -92,11 +92,11 @@ module _ {P : Type 0} (cmp : P → P → Ordering) where
       abbrev side_at : Subject P → ℕ → Side
       side_at s cap = record { cap = cap; users = places_from 0 (limits_message s) messages }
 
-      to_side_of : (o : Option ℕ) (uses : Message P → Bool) (cap : ℕ) → o ≡ Some cap → In (side_of cmp o uses messages) (record { cap = cap; users = places_from 0 uses messages })
+      to_side_of : (o : Option ℕ) (uses : Message P → Bool) (cap : ℕ) → o ≡ Some cap → In (capped_side cmp o uses messages) (record { cap = cap; users = places_from 0 uses messages })
       to_side_of None uses cap e = cc
       to_side_of (Some c) uses cap e = let same : c ≡ cap = same_Some c cap e in inl (ap (λ n. record { cap = n; users = places_from 0 uses messages }) same)
 
-      from_side_of : (o : Option ℕ) (uses : Message P → Bool) (side : Side) → In (side_of cmp o uses messages) side
+      from_side_of : (o : Option ℕ) (uses : Message P → Bool) (side : Side) → In (capped_side cmp o uses messages) side
           → (cap : ℕ) × (o ≡ Some cap) × (side ≡ record { cap = cap; users = places_from 0 uses messages })
       from_side_of None uses side h = absurd h
       from_side_of (Some cap) uses side (inl e) = (cap, refl, sym e)
@@ -119,9 +119,9 @@ module _ {P : Type 0} (cmp : P → P → Ordering) where
       delivered_cap false o cap e = cc
 
       from_sides_for : (m : Message P) (side : Side) → In (sides_for cmp caps messages m) side → Brings m side
-      from_sides_for m side h = by_kind (in_either (egress_of cmp caps messages m ++ ingress_of cmp caps messages m) (link_of cmp caps messages m) side h)
+      from_sides_for m side h = by_kind (in_either (egress_side cmp caps messages m ++ ingress_side cmp caps messages m) (link_side cmp caps messages m) side h)
         where
-          by_peer : In (egress_of cmp caps messages m) side ⊎ In (ingress_of cmp caps messages m) side → Brings m side
+          by_peer : In (egress_side cmp caps messages m) side ⊎ In (ingress_side cmp caps messages m) side → Brings m side
           by_peer (inl g) =
               let r = from_side_of (caps.egress m.origin) (limits_message (sent_by m.origin)) side g in
               record { subject = sent_by m.origin; cap = r.0; capped = r.1; limited = same_peer_itself cmp order m.origin; is = r.2 }
@@ -137,8 +137,8 @@ module _ {P : Type 0} (cmp : P → P → Ordering) where
                 is = r.2;
               }
 
-          by_kind : In (egress_of cmp caps messages m ++ ingress_of cmp caps messages m) side ⊎ In (link_of cmp caps messages m) side → Brings m side
-          by_kind (inl g) = by_peer (in_either (egress_of cmp caps messages m) (ingress_of cmp caps messages m) side g)
+          by_kind : In (egress_side cmp caps messages m ++ ingress_side cmp caps messages m) side ⊎ In (link_side cmp caps messages m) side → Brings m side
+          by_kind (inl g) = by_peer (in_either (egress_side cmp caps messages m) (ingress_side cmp caps messages m) side g)
           by_kind (inr g) =
               let r = from_side_of (caps.link m.origin m.recipient) (limits_message (sent_between m.origin m.recipient)) side g in
               record { subject = sent_between m.origin m.recipient; cap = r.0; capped = r.1; limited = same_itself cmp order (sent_between m.origin m.recipient); is = r.2 }
@@ -151,16 +151,16 @@ module _ {P : Type 0} (cmp : P → P → Ordering) where
 
       to_sides_for : (m : Message P) (s : Subject P) (cap : ℕ) → cap_of caps s ≡ Some cap → limits_message s m ≡ true → In (sides_for cmp caps messages m) (side_at s cap)
       to_sides_for m (sent_by p) cap e l = own_side m (sent_by p) cap (sent_by m.origin) l e (λ c.
-          in_left (egress_of cmp caps messages m ++ ingress_of cmp caps messages m) (link_of cmp caps messages m) (side_at (sent_by m.origin) cap)
-          (in_left (egress_of cmp caps messages m) (ingress_of cmp caps messages m) (side_at (sent_by m.origin) cap) (to_side_of (caps.egress m.origin) (limits_message (sent_by m.origin)) cap c)))
+          in_left (egress_side cmp caps messages m ++ ingress_side cmp caps messages m) (link_side cmp caps messages m) (side_at (sent_by m.origin) cap)
+          (in_left (egress_side cmp caps messages m) (ingress_side cmp caps messages m) (side_at (sent_by m.origin) cap) (to_side_of (caps.egress m.origin) (limits_message (sent_by m.origin)) cap c)))
       to_sides_for m (received_by p) cap e l =
           let both = and_parts (is_delivered cmp m) (same_peer cmp p m.recipient) l in
           own_side m (received_by p) cap (received_by m.recipient) both.1 e (λ c.
           let asked : ingress_cap m ≡ Some cap = rw both.0 c in
-          in_left (egress_of cmp caps messages m ++ ingress_of cmp caps messages m) (link_of cmp caps messages m) (side_at (received_by m.recipient) cap)
-          (in_right (egress_of cmp caps messages m) (ingress_of cmp caps messages m) (side_at (received_by m.recipient) cap) (to_side_of (ingress_cap m) (limits_message (received_by m.recipient)) cap asked)))
+          in_left (egress_side cmp caps messages m ++ ingress_side cmp caps messages m) (link_side cmp caps messages m) (side_at (received_by m.recipient) cap)
+          (in_right (egress_side cmp caps messages m) (ingress_side cmp caps messages m) (side_at (received_by m.recipient) cap) (to_side_of (ingress_cap m) (limits_message (received_by m.recipient)) cap asked)))
       to_sides_for m (sent_between p q) cap e l = own_side m (sent_between p q) cap (sent_between m.origin m.recipient) l e (λ c.
-          in_right (egress_of cmp caps messages m ++ ingress_of cmp caps messages m) (link_of cmp caps messages m) (side_at (sent_between m.origin m.recipient) cap)
+          in_right (egress_side cmp caps messages m ++ ingress_side cmp caps messages m) (link_side cmp caps messages m) (side_at (sent_between m.origin m.recipient) cap)
           (to_side_of (caps.link m.origin m.recipient) (limits_message (sent_between m.origin m.recipient)) cap c))
 
       pub same_sides : AreTheSameSides (sides_under cmp caps flows) (capped_sides cmp caps messages)
@@ -292,11 +292,6 @@ module _ {P : Type 0} (cmp : P → P → Ordering) (order : IsTotalOrder cmp) (c
     }
 
 -- ---- rates by the ids of flows
-
--- the amount of a rate: none without a limit
-abbrev pub amount_of_rate : Rate → Option Amount
-amount_of_rate Unlimited = None
-amount_of_rate (Finite ratio) = Some (amount_of ratio)
 
 -- the rate of the id is the simulation's
 abbrev pub HasRateOf : ℕ → Option ℕ → Option Rate → Type 0

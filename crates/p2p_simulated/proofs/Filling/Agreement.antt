@@ -10,8 +10,7 @@ use Rattle.p2p_simulated.proofs.Filling.Frozen.{none_or_some, some_is}
 use Rattle.p2p_simulated.proofs.Filling.Level.{level_of_none, level_of_some, load_frozen, RoomOnAll}
 use Rattle.p2p_simulated.proofs.Filling.Scaling.{finer, worth_finer, fair_finer, whole_there}
 use Rattle.p2p_simulated.proofs.Filling.States.{at_level, parts_at, AgreesWithFair, FillsAt}
-use Rattle.p2p_simulated.proofs.Filling.Sums.{sum_by_under}
-use Rattle.p2p_simulated.proofs.Fairness.Sums.{All-from_contains}
+use Rattle.p2p_simulated.proofs.Fairness.Sums.{All-from_contains, sum_by-under}
 
 -- before the first round
 pub agrees_none : (sides : List Side) (rates : List (Option Ratio)) → ((flow : ℕ) → rate_at rates flow ≡ None) → AgreesWithFair sides rates
@@ -31,7 +30,7 @@ module _ (sides : List Side) (per : ℕ) (parts : ℕ → ℕ) (fair : IsFair si
           | inl e ↦ omega (arith, level_of_none rates parts level j e, lt, All-contains (λ k. parts k ≤ parts i) h.side.users j h.greatest used)
           | inr (rate, e) ↦ omega (arith, level_of_some rates parts level j (some_is (rate_at rates j) rate e))
         ] in
-        let less = sum_by_under parts (at_level (parts_at rates parts) level) h.side.users i h.uses.used
+        let less = sum_by-under parts (at_level (parts_at rates parts) level) h.side.users i h.uses.used
         (All-from_contains (λ j. parts j ≤ at_level (parts_at rates parts) level j) h.side.users each) (omega (arith, level_of_none rates parts level i rises, lt)) in
         absurd (omega (arith, less, h.full, All-contains (λ s. load (at_level (parts_at rates parts) level) s ≤ s.cap * per) sides h.side within h.uses.listed))
   ]
@@ -45,7 +44,7 @@ module _ (sides : List Side) (per : ℕ) (parts : ℕ → ℕ) (fair : IsFair si
           | inl e ↦ omega (arith, level_of_none rates parts level j e, above j (s, record { listed = uses.listed; used = used }) e)
           | inr (rate, e) ↦ omega (arith, level_of_some rates parts level j (some_is (rate_at rates j) rate e))
         ] in
-        let less = sum_by_under (at_level (parts_at rates parts) level) parts s.users i uses.used
+        let less = sum_by-under (at_level (parts_at rates parts) level) parts s.users i uses.used
         (All-from_contains (λ j. at_level (parts_at rates parts) level j ≤ parts j) s.users each) (omega (arith, level_of_none rates parts level i rises, lt)) in
         absurd (omega (arith, less, full, All-contains (λ s. load parts s ≤ s.cap * per) sides s fair.within uses.listed))
   ]

@@ -2,8 +2,8 @@
 use Prim.Native.Nat.{◌∣◌}
 use Rattle.std.proofs.Common.{◌≡◌, ℕ, zero, suc, ◌+◌, ◌*◌, ◌/◌, ◌^◌, ◌<◌, ◌≤◌, sym, ap, ◌∙◌, subst, arith, le_of_mul-le-mul_right, mul-le-mul_left}
 use Rattle.std.proofs.Math.Nat.{dvd-mul_left, dvd-mul_right, le_of_dvd, mul-div_cancel', mul-pos, eq_of_mul-eq-mul_left}
-use Rattle.p2p_simulated.specs.Amount.{over, reduced, whole}
-use Rattle.p2p_simulated.specs.Fits.{gcd, raised, other_raised, CommonFits, SumFits, DifferenceFits, ReducedFits}
+use Rattle.p2p_simulated.specs.Amount.{over, reduced, whole, gcd}
+use Rattle.p2p_simulated.specs.Fits.{raised, other_raised, CommonFits, SumFits, DifferenceFits, ReducedFits}
 use Rattle.p2p_simulated.specs.Laws.LowestTerms.{coprime_parts, divides_other, reduced_same, reduced_scales}
 use Rattle.p2p_simulated.specs.Ratio.{amount_of, IsWorth}
 use Rattle.p2p_simulated.specs.declared.ratio.Ratio.{Ratio}

@@ -11,8 +11,8 @@ use Rattle.p2p_simulated.proofs.Filling.Arithmetic.{same_parts}
 use Rattle.p2p_simulated.proofs.Filling.Frozen.{some_value, some_is}
 use Rattle.p2p_simulated.proofs.Filling.Rounds.{start, next}
 use Rattle.p2p_simulated.proofs.Filling.States.{at_level, parts_at, IsFilledTo, IsNextRound, IsFilling, FillsAt}
-use Rattle.p2p_simulated.proofs.Filling.Sums.{sum_by_same, sum_by_under}
-use Rattle.p2p_simulated.proofs.Fairness.Sums.{All-from_contains}
+use Rattle.p2p_simulated.proofs.Filling.Sums.{sum_by_same}
+use Rattle.p2p_simulated.proofs.Fairness.Sums.{All-from_contains, sum_by-under}
 
 -- before the first round
 pub filling_none : (sides : List Side) (rates : List (Option Ratio)) → ((flow : ℕ) → rate_at rates flow ≡ None) → IsFilling sides rates
@@ -82,7 +82,7 @@ module _ (sides : List Side) (rates : List (Option Ratio)) (rate : Ratio) (room 
           let low = at_level (parts_at rates parts) level in
           let high = at_level (parts_at rates parts) before in
           let here : low user < high user = omega (arith, level_of_none rates parts level user rises, level_of_none rates parts before user rises) in
-          let less = sum_by_under low high side.users user used (λ k d inside. one_level (rate_at rates _) (parts _) level before lt) here in
+          let less = sum_by-under low high side.users user used (λ k d inside. one_level (rate_at rates _) (parts _) level before lt) here in
           absurd (omega (arith, less, fills.full per parts level w worth, All-contains (λ s. load high s ≤ s.cap * per) sides side was.within listed))
     ]
 

@@ -8,8 +8,8 @@ use Rattle.p2p_simulated.specs.Filling.{rate_at, AreWorth, HasRoomAt}
 use Rattle.p2p_simulated.specs.Ratio.{IsWorth}
 use Rattle.p2p_simulated.specs.declared.ratio.Ratio.{Ratio}
 use Rattle.p2p_simulated.proofs.Filling.States.{at_level, parts_at}
-use Rattle.p2p_simulated.proofs.Filling.Sums.{sum_by_same, sum_by_below}
-use Rattle.p2p_simulated.proofs.Fairness.Sums.{All-from_contains, sum_by-scaled}
+use Rattle.p2p_simulated.proofs.Filling.Sums.{sum_by_same}
+use Rattle.p2p_simulated.proofs.Fairness.Sums.{All-from_contains, sum_by-scaled, sum_by-below}
 
 -- the parts, each divided in k
 abbrev pub finer : (ℕ → ℕ) → ℕ → ℕ → ℕ
@@ -60,7 +60,7 @@ one_lower (Some rate) parts lower level le = omega arith
 pub load_lower : (rates : List (Option Ratio)) (parts : ℕ → ℕ) (lower level : ℕ) (side : Side) → lower ≤ level
     → load (at_level (parts_at rates parts) lower) side ≤ load (at_level (parts_at rates parts) level) side
 load_lower rates parts lower level side le =
-    sum_by_below (at_level (parts_at rates parts) lower) (at_level (parts_at rates parts) level) side.users (λ k d inside. one_lower (rate_at rates _) (parts _) lower level le)
+    sum_by-below (at_level (parts_at rates parts) lower) (at_level (parts_at rates parts) level) side.users (λ k d inside. one_lower (rate_at rates _) (parts _) lower level le)
 
 lower_parts : (ln ld hn hd low per : ℕ) → 0 < ld → ln * hd ≤ hn * ld → ln * per ≡ low * ld → low * hd ≤ hn * per
 lower_parts ln ld hn hd low per ld_pos le worth =

@@ -16,7 +16,8 @@ use Rattle.p2p_simulated.proofs.Filling.Frozen.{none_or_some, some_is, some_valu
 use Rattle.p2p_simulated.proofs.Filling.Level.{level_of_none, level_of_some}
 use Rattle.p2p_simulated.proofs.Filling.Scaling.{finer, worth_finer, one_lower}
 use Rattle.p2p_simulated.proofs.Filling.States.{at_level, parts_at, FillsAt}
-use Rattle.p2p_simulated.proofs.Filling.Sums.{sum_by_same, sum_by_below, sum_by_under}
+use Rattle.p2p_simulated.proofs.Filling.Sums.{sum_by_same}
+use Rattle.p2p_simulated.proofs.Fairness.Sums.{sum_by-under, sum_by-below}
 
 sum_by-constant : (n : ℕ) (xs : List ℕ) → sum_by (λ _. n) xs ≡ n * length xs
 sum_by-constant n [] = omega arith
@@ -107,7 +108,7 @@ room_after rates after rate level side users freezes le has = record {
               omega (arith, low, level_of_none rates parts l i e, level_of_some after parts l i (some_is (rate_at after i) r e'))
         ]
       ] in
-      omega (arith, sum_by_below (at_level (parts_at after parts) l) (at_level (parts_at rates parts) l) side.users (λ k d inside. each _), has.room per parts l w' worth);
+      omega (arith, sum_by-below (at_level (parts_at after parts) l) (at_level (parts_at rates parts) l) side.users (λ k d inside. each _), has.room per parts l w' worth);
 }
 
 over_both : (n d p q : ℕ) → n * (p * (d * q)) ≡ n * p * q * d
@@ -133,7 +134,7 @@ fills_above rates high low side user used rises fills has =
       | inl lt ↦
           let f = at_level (parts_at rates parts) top in
           let g = at_level (parts_at rates parts) bottom in
-          let less = sum_by_under f g side.users user used (λ j d inside. one_lower (rate_at rates _) (parts _) top bottom (omega arith))
+          let less = sum_by-under f g side.users user used (λ j d inside. one_lower (rate_at rates _) (parts _) top bottom (omega arith))
           (omega (arith, level_of_none rates parts top user rises, level_of_none rates parts bottom user rises)) in
           absurd (omega (arith, less, full, room))
     ]

@@ -10,7 +10,6 @@ use Rattle.std.proofs.lemmas.List.Elements.{All-contains}
 use Rattle.std.proofs.lemmas.List.Sums.{get_or-le-sum_by}
 use Rattle.p2p_simulated.specs.Fair.{Side, IsFair}
 use Rattle.p2p_simulated.specs.FairLaws.{HaveUsersBelow}
-use Rattle.p2p_simulated.specs.Size.{HaveDistinctUsers}
 use Rattle.p2p_simulated.proofs.Denominators.{denominator_of, positive}
 use Rattle.p2p_simulated.proofs.Filling.Frozen.{none_or_some, some_is, at_some, at_none}
 use Rattle.p2p_simulated.proofs.Filling.Rounds.{start, end, next}
@@ -18,7 +17,7 @@ use Rattle.p2p_simulated.proofs.Filling.States.{IsFilledTo}
 use Rattle.p2p_simulated.proofs.Fairness.Sums.{All-from_contains}
 use Rattle.p2p_simulated.proofs.Size.Level.{standing, taken, rising, left_of, least_is_next}
 use Rattle.p2p_simulated.proofs.Size.Least.{IsLeastOf, least_of}
-use Rattle.p2p_simulated.proofs.Size.Users.{sum_below, AreDistinct, below_less}
+use Rattle.p2p_simulated.proofs.Size.Users.{sum_below, AreDistinct, below_less, HaveDistinctUsers}
 use Rattle.p2p_simulated.proofs.Size.Whole.{IsOver, cap_over, sums, rest, later, level}
 
 -- how many of so many flows rise

@@ -5,7 +5,8 @@ use Rattle.std.proofs.lemmas.Bool.{cases_lt}
 use Rattle.std.proofs.lemmas.List.Elements.{All-nil, All-cons, All-contains, Contains-append_left, Contains-append_right}
 use Rattle.p2p_simulated.specs.Fair.{Side, Uses, load, IsFair}
 use Rattle.p2p_simulated.specs.FairLaws.{HaveUsersBelow}
-use Rattle.p2p_simulated.specs.Size.{HaveDistinctUsers, FairRatesFit}
+use Rattle.p2p_simulated.specs.Size.{FairRatesFit}
+use Rattle.p2p_simulated.proofs.Size.Users.{HaveDistinctUsers}
 use Rattle.p2p_simulated.proofs.Filling.Sums.{sum_by-zero}
 use Rattle.p2p_simulated.proofs.Fairness.Sums.{All-from_contains}
 use Rattle.p2p_simulated.proofs.Size.Promise.{few_users}

@@ -7,7 +7,7 @@ use Rattle.p2p_simulated.specs.Fair.{Side, IsFair}
 use Rattle.p2p_simulated.specs.declared.bandwidth.sides.Side as declared_side
 use Rattle.p2p_simulated.specs.Rates.{IsRateOf, AreFairRates}
 use Rattle.p2p_simulated.specs.FairLaws.{HaveUsersBelow}
-use Rattle.p2p_simulated.specs.Size.{HaveDistinctUsers, FairRatesFit, IsWholeOver, AreWholeOver}
+use Rattle.p2p_simulated.specs.Size.{FairRatesFit, IsWholeOver, AreWholeOver}
 use Rattle.p2p_simulated.specs.declared.bandwidth.Rate.{Rate}
 use Rattle.p2p_simulated.specs.declared.bandwidth.Rate.TheVariants.{Unlimited, Finite}
 use Rattle.p2p_simulated.proofs.Denominators.{denominator_of, at_most}
@@ -15,7 +15,7 @@ use Rattle.p2p_simulated.proofs.Fairness.OneAllocation.{same_amounts}
 use Rattle.std.proofs.lemmas.Bool.{cases_lt}
 use Rattle.std.proofs.lemmas.List.Elements.{All-contains, All-nil, All-cons, All-map, Contains-append_left, Contains-append_right}
 use Rattle.p2p_simulated.proofs.Size.Exists.{fair_parts}
-use Rattle.p2p_simulated.proofs.Size.Users.{AreDistinct, distinct_length}
+use Rattle.p2p_simulated.proofs.Size.Users.{AreDistinct, distinct_length, HaveDistinctUsers}
 
 -- no side has more users than there are flows
 pub few_users : (flows : ℕ) (sides : List Side) (side : Side) → HaveUsersBelow flows sides → HaveDistinctUsers sides → Contains sides side → length side.users ≤ flows

@@ -12,10 +12,10 @@ use Rattle.p2p_simulated.specs.WorldRates.{is_unlimited}
 use Rattle.p2p_simulated.specs.WorldStands.{CoursesAlike, Follows, IsSettled, StandsFor, Tallies}
 use Rattle.p2p_simulated.specs.WorldTime.{Drains, Passes, Ticks, no_tick}
 use Rattle.p2p_simulated.specs.declared.error.Error.{Error}
-use Rattle.p2p_simulated.proofs.World.Between.{later, follows_later, both_before, none_done_before, quiet_before, passes_before, passes_to, finish_is_later, spent_at_finish, done_at}
-use Rattle.p2p_simulated.proofs.World.Instant.{settles_alike}
-use Rattle.p2p_simulated.proofs.World.Event.{settle_quiet, instant_is, ticks_through, ticks_quiet, settled_stands, settled_wakes, ready_later, start_is}
-use Rattle.p2p_simulated.proofs.World.Pass.{wake_none}
+use Rattle.p2p_simulated.proofs.World.BeforeNext.{later, follows_later, both_before, none_done_before, quiet_before, passes_before, passes_to, finish_is_later, spent_at_finish, done_at}
+use Rattle.p2p_simulated.proofs.World.Settling.{settles_alike}
+use Rattle.p2p_simulated.proofs.World.FinishEvent.{settle_quiet, instant_is, ticks_through, ticks_quiet, settled_stands, settled_wakes, ready_later, start_is}
+use Rattle.p2p_simulated.proofs.World.OnePass.{wake_none}
 use Rattle.p2p_simulated.proofs.World.Waking.{IsWoken, wakes_alike, each_none, preceded_by}
 use Rattle.p2p_simulated.proofs.World.InOrder.{picks_ready, none_ready_back}
 use Rattle.p2p_simulated.proofs.World.Split.{ticks_on, ticks_stop, preceded_append}

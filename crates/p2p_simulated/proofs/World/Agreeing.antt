@@ -20,13 +20,13 @@ use Rattle.p2p_simulated.specs.WorldEvents.{Obeys}
 use Rattle.p2p_simulated.specs.WorldRefusals.{MayBeRefused, Obeyed}
 use Rattle.p2p_simulated.specs.WorldIsolation.{InTime}
 use Rattle.p2p_simulated.specs.WorldStands.{StandsFor, CoursesAlike, IsInRange, IsSmallFlight, IsSmallMessage, IsSmallRate}
-use Rattle.p2p_simulated.proofs.World.Alike.{same_itself}
+use Rattle.p2p_simulated.proofs.World.AlikeMessages.{same_itself}
 use Rattle.p2p_simulated.proofs.World.Queue.{peer_like}
 use Rattle.p2p_simulated.proofs.World.Limit.{new_stands, no_sides}
-use Rattle.p2p_simulated.proofs.World.Next.{next_is_planned}
+use Rattle.p2p_simulated.proofs.World.NextEvent.{next_is_planned}
 use Rattle.p2p_simulated.proofs.World.Obeys.{obeys_alike}
 use Rattle.p2p_simulated.proofs.Each.{Each}
-use Rattle.p2p_simulated.proofs.World.Wholes.{AreSmall, fair_rates_small}
+use Rattle.p2p_simulated.proofs.World.RatesInRange.{AreSmall, fair_rates_small}
 use Rattle.p2p_simulated.proofs.World.Bounded.{IsSlowFlight, slow_flights, few_flows}
 use Rattle.p2p_simulated.proofs.World.InRange.{Holds, GoesWell}
 use Rattle.p2p_simulated.proofs.World.CallsInRange.{obeys_well, refused_for_memory}

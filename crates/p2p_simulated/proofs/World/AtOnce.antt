@@ -4,16 +4,16 @@ use Rattle.std.specs.Prelude.{◌&&◌, nat_lt, IfSome, if◌then◌else◌}
 use Rattle.std.specs.List.{find, list_any}
 use Rattle.std.specs.declared.cmp.Ordering.{Ordering}
 use Rattle.std.specs.Cmp.{IsTotalOrder}
-use Rattle.p2p_simulated.specs.World.{Completed, Course, World, completion_of, goes, is_done, last_moment, later_of, meets, preceded, raised, ready}
+use Rattle.p2p_simulated.specs.World.{Completed, Course, World, completion_of, goes, is_done, last_moment, later_of, meets, raised, ready}
 use Rattle.p2p_simulated.specs.WorldCalls.{Runs, act, call_enqueue, complete_at_once}
 use Rattle.p2p_simulated.specs.WorldEvents.{completed_at_once}
 use Rattle.p2p_simulated.specs.WorldMessages.{Message, same_pair}
 use Rattle.p2p_simulated.specs.WorldPlanned.{IsLeastMoment, Planned, SomeReadyAt, next_event}
 use Rattle.p2p_simulated.specs.WorldStands.{CoursesAlike, Follows, StandsFor, Tallies}
 use Rattle.p2p_simulated.specs.declared.error.Error.TheVariants.{MomentTooLate}
-use Rattle.p2p_simulated.proofs.World.Alike.{same_itself, message_itself}
-use Rattle.p2p_simulated.proofs.World.Between.{none_ready_at}
-use Rattle.p2p_simulated.proofs.World.Instant.{raised_alike}
+use Rattle.p2p_simulated.proofs.World.AlikeMessages.{same_itself, message_itself}
+use Rattle.p2p_simulated.proofs.World.BeforeNext.{none_ready_at}
+use Rattle.p2p_simulated.proofs.World.Settling.{raised_alike}
 use Rattle.p2p_simulated.proofs.World.Limit.{IsReached, reaches}
 use Rattle.p2p_simulated.proofs.World.Queue.{preceded_none}
 

@@ -1,7 +1,7 @@
 -- In the range an account leaves a planned world bounded, and none of its numbers is too large.
-use Rattle.std.proofs.Common.{◌≡◌, ℕ, zero, suc, ◌+◌, ◌-◌, ◌*◌, ◌<◌, ◌≤◌, ◌^◌, List, [], ◌∷◌, length, Bool, true, false, cond, not, Option, Some, None, refl, sym, ap, subst, arith}
-use Rattle.std.specs.Prelude.{◌||◌, IfSome, MatchOption, slice_get}
-use Rattle.std.specs.List.{list_any, filter, AllZip}
+use Rattle.std.proofs.Common.{◌≡◌, ℕ, suc, ◌+◌, ◌-◌, ◌*◌, ◌<◌, ◌≤◌, ◌^◌, List, [], ◌∷◌, length, true, not, Option, Some, None, refl, sym, ap, subst, arith}
+use Rattle.std.specs.Prelude.{IfSome, MatchOption, slice_get}
+use Rattle.std.specs.List.{filter, AllZip}
 use Rattle.std.specs.declared.cmp.Ordering.{Ordering}
 use Rattle.std.specs.Cmp.{IsTotalOrder}
 use Rattle.std.proofs.Math.Nat.{mul-pos}
@@ -9,18 +9,18 @@ use Rattle.p2p_simulated.specs.Amount.{Amount, reduced, billion}
 use Rattle.p2p_simulated.specs.Fraction.{IsReduced}
 use Rattle.p2p_simulated.specs.Laws.LowestTerms.{reduced_IsReduced, whole_IsReduced}
 use Rattle.p2p_simulated.specs.Time.{TakenFits, SecondsFit}
-use Rattle.p2p_simulated.specs.WorldMessages.{Message, OneForEachPair, same_pair}
+use Rattle.p2p_simulated.specs.WorldMessages.{Message, OneForEachPair}
 use Rattle.p2p_simulated.specs.WorldRates.{Parts, rate_of, drained_by}
 use Rattle.p2p_simulated.specs.WorldReplies.{names_pair}
 use Rattle.p2p_simulated.specs.WorldPlanned.{Planned, Paced, paced_flows, left_at, drained_to, is_spent, IsRated}
 use Rattle.p2p_simulated.specs.WorldEvents.{Accounts}
-use Rattle.p2p_simulated.specs.WorldRefusals.{IsTooLarge, drain_too_large, time_too_large, rates_too_large}
+use Rattle.p2p_simulated.specs.WorldRefusals.{drain_too_large, time_too_large, rates_too_large, HasNumberTooLarge}
 use Rattle.p2p_simulated.specs.WorldStands.{IsSmallAmount, IsSmallRate, IsNamed, IsSmallFlight, IsSmallMessage}
 use Rattle.p2p_simulated.proofs.World.Bytes.{each_filter}
 use Rattle.p2p_simulated.proofs.Each.{Each, each_at}
-use Rattle.p2p_simulated.proofs.World.Alike.{same_itself}
-use Rattle.p2p_simulated.proofs.World.Ranges.{left_at_is_small, taken_fits, seconds_fit}
-use Rattle.p2p_simulated.proofs.World.Wholes.{AreSmall, fair_rates_small, few_messages}
+use Rattle.p2p_simulated.proofs.World.AlikeMessages.{same_itself}
+use Rattle.p2p_simulated.proofs.World.ArithmeticInRange.{left_at_is_small, taken_fits, seconds_fit}
+use Rattle.p2p_simulated.proofs.World.RatesInRange.{AreSmall, fair_rates_small, few_messages}
 use Rattle.p2p_simulated.proofs.World.Orderly.{one_of_fewer}
 
 -- a rate in the range, if there is one
@@ -72,17 +72,6 @@ module _ {P : Type 0} (cmp : P → P → Ordering) (order : IsTotalOrder cmp) (p
   drained_flows : (t : ℕ) (fs : List (Paced P)) → paced_flows (drained_to t fs) ≡ paced_flows fs
   drained_flows t [] = refl
   drained_flows t (f ∷ fs) = ap (λ (ms : List (Message P)). f.message ∷ ms) (drained_flows t fs)
-
-  any_fewer : (test : Message P → Bool) (p : Paced P → Bool) (fs : List (Paced P)) → list_any test (paced_flows fs) ≡ false → list_any test (paced_flows (filter p fs)) ≡ false
-  any_fewer test p [] e = refl
-  any_fewer test p (f ∷ fs) e = by_test (p f) (test f.message) refl e (any_fewer test p fs)
-    where
-      by_test : (b c : Bool) → test f.message ≡ c → (test f.message || list_any test (paced_flows fs)) ≡ false
-          → (list_any test (paced_flows fs) ≡ false → list_any test (paced_flows (filter p fs)) ≡ false)
-          → list_any test (paced_flows (cond b (f ∷ filter p fs) (filter p fs))) ≡ false
-      by_test b true is e ih = let on : (true || list_any test (paced_flows fs)) ≡ false = subst (λ (c : Bool). (c || list_any test (paced_flows fs)) ≡ false) is e in cc
-      by_test true false is e ih = rw is (ih (subst (λ (c : Bool). (c || list_any test (paced_flows fs)) ≡ false) is e))
-      by_test false false is e ih = ih (subst (λ (c : Bool). (c || list_any test (paced_flows fs)) ≡ false) is e)
 
   flows_named : (fs : List (Paced P)) → Each (IsSmallFlight cmp pairs) fs → Each (λ (m : Message P). names_pair cmp pairs m.origin m.recipient ≡ true) (paced_flows fs)
   flows_named [] small = tt
@@ -172,7 +161,7 @@ module _ {P : Type 0} (cmp : P → P → Ordering) (order : IsTotalOrder cmp) (p
       each_leaver (f ∷ fs) small = (record { named = small.0.named; latency = small.0.latency }, each_leaver fs small.1)
 
   -- none of its numbers is too large
-  pub nothing_too_large : (t : ℕ) (old : Planned P) → t < 2 ^ 56 → IsBounded old → ¬ IsTooLarge cmp t old
+  pub nothing_too_large : (t : ℕ) (old : Planned P) → t < 2 ^ 56 → IsBounded old → ¬ HasNumberTooLarge cmp t old
   unfolding rest
   nothing_too_large t old early h (drain_too_large place f at too) = by_rate f.rate refl too
     where

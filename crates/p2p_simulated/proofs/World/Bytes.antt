@@ -1,34 +1,32 @@
 -- What an origin still has to send goes down by no more than its egress cap lets go.
 use Rattle.std.proofs.Common.{sum_by, ◌≡◌, ℕ, zero, suc, ◌+◌, ◌-◌, ◌*◌, ◌<◌, ◌≤◌, List, [], ◌∷◌, ◌++◌, map, length, Bool, true, false, cond, not, Option, Some, None, refl, sym, ap, ◌∙◌, subst, arith, append-nil}
-use Rattle.std.specs.Prelude.{is_none, ⊤, ◌&&◌, ◌||◌, nat_le, ◌==◌, if◌then◌else◌, slice_get, Contains}
+use Rattle.std.specs.Prelude.{is_none, ◌&&◌, ◌||◌, nat_le, ◌==◌, if◌then◌else◌, slice_get, Contains}
 use Rattle.std.specs.List.{filter, find, flat_map}
 use Rattle.std.specs.declared.cmp.Ordering.{Ordering}
-use Rattle.std.specs.Ordering.{is_eq}
 use Rattle.std.specs.Cmp.{IsTotalOrder}
-use Rattle.std.proofs.lemmas.Cmp.{tied_itself}
 use Rattle.std.proofs.lemmas.List.Elements.{All-contains, Contains-append_left, Contains-append_right}
 use Rattle.std.proofs.Math.Nat.{mul-pos, add-mul, mul-add, mul-zero, zero-add, zero-mul}
 use Rattle.p2p_simulated.specs.FairLaws.{IsAtMost}
-use Rattle.p2p_simulated.specs.Amount.{reduced, plus, Amount, billion, whole}
+use Rattle.p2p_simulated.specs.Amount.{plus, Amount, billion, whole}
 use Rattle.p2p_simulated.specs.Fair.{Side, load}
 use Rattle.std.proofs.lemmas.List.Sums.{sum_by-cons}
 use Rattle.p2p_simulated.specs.Sides.{same_peer}
 use Rattle.p2p_simulated.specs.WorldBytes.{allowance, bytes_from, left_from, waiting_from}
-use Rattle.p2p_simulated.specs.World.{Completed, Course, Flight, World, and_then, complete, first_waiting, flows, fronts, goes, instant, is_done, last_moment, least_pair, may_start, meets, ready, settle, settle_within, start, start_next, wake, wake_within, without_first, EndsWith, out_of_flight, is_late, completed}
+use Rattle.p2p_simulated.specs.World.{Completed, Course, Flight, World, and_then, complete, first_waiting, flows, fronts, goes, instant, is_done, last_moment, least_pair, may_start, meets, ready, settle, settle_within, start, start_next, wake, wake_within, without_first, EndsWith, out_of_flight, is_late, completed, flight_of}
 use Rattle.p2p_simulated.specs.WorldCalls.{Runs, call_advance}
 use Rattle.p2p_simulated.specs.WorldMessages.{Caps, Message, is_delivered, pair_before, same_pair}
 use Rattle.p2p_simulated.specs.WorldRates.{rate_of, is_unlimited, rates_from, AreFair, Parts, capped_sides, drained_by, sides_for}
 use Rattle.p2p_simulated.specs.WorldTime.{ArePositive, Drains, Ticks, drain_each, no_tick, one_tick, tick_faults}
 use Rattle.p2p_simulated.specs.declared.error.Error.TheVariants.{FlowIdsUsedUp, MomentTooLate}
 use borrow.Author.Tests.{eqb-true}
-use Rattle.p2p_simulated.specs.Laws.LowestTerms.{reduced_positive}
 use Rattle.p2p_simulated.proofs.World.Queue.{then_then, pair_sym, peer_like, settle_none, settle_first, find_passes}
-use Rattle.p2p_simulated.proofs.World.Rests.{ends_preceded, ends_and_then, ends_cond, find_like}
+use Rattle.p2p_simulated.proofs.World.SettlingEnds.{ends_preceded, ends_and_then, ends_cond, find_like}
 use Rattle.p2p_simulated.proofs.World.Split.{rest_is}
 use Rattle.p2p_simulated.proofs.World.Totals.{share, at_most_itself, at_most_trans, plus_under, plus_spent, plus_shares, plus_whole, two_shares, share_grows, no_share, lowest_takes}
 use Rattle.p2p_simulated.specs.Places.{places_from}
 use Rattle.p2p_simulated.proofs.Each.{Each}
 use Rattle.p2p_simulated.proofs.World.OneNext.{drain_each_positive}
+use Rattle.p2p_simulated.proofs.World.AlikeMessages.{same_itself}
 
 -- ---- lists
 
@@ -69,11 +67,8 @@ none_total {X} test (x ∷ xs) (r ∷ rs) e = by_test (test x) e (none_total tes
     by_test false is ih = let h : total (map test xs) rs ≡ 0 = ih is in omega arith
 
 module _ {P : Type 0} (cmp : P → P → Ordering) (order : IsTotalOrder cmp) where
-  pub peer_itself : (p : P) → same_peer cmp p p ≡ true
-  peer_itself p = ap is_eq (tied_itself order p)
-
   pub pair_itself : (m : Message P) → same_pair cmp m m ≡ true
-  pair_itself m = rw (peer_itself m.origin, peer_itself m.recipient) refl
+  pair_itself m = rw (same_itself cmp order m.origin, same_itself cmp order m.recipient) refl
 
   -- each front is the first waiting message of its pair
   pub fronts_are_first : (ms : List (Message P)) → Each (λ m. find (same_pair cmp m) ms ≡ Some m) (fronts cmp ms)
@@ -138,10 +133,7 @@ module _ {P : Type 0} (cmp : P → P → Ordering) (order : IsTotalOrder cmp) wh
   abbrev gain : P → Message P → ℕ
   gain p m = if same_peer cmp p m.origin then length m.bytes else 0
 
-  abbrev flight : Message P → Flight P
-  flight m = record { message = m; left = whole (length m.bytes) }
-
-  started : (p : P) (m : Message P) (fs : List (Flight P)) (n k : ℕ) → n ≡ gain p m + k → IsAtMost (plus (left_from cmp p fs) (whole n)) (plus (left_from cmp p (fs ++ flight m ∷ [])) (whole k))
+  started : (p : P) (m : Message P) (fs : List (Flight P)) (n k : ℕ) → n ≡ gain p m + k → IsAtMost (plus (left_from cmp p fs) (whole n)) (plus (left_from cmp p (fs ++ flight_of m ∷ [])) (whole k))
   started p m [] n k e = by_origin (same_peer cmp p m.origin) e
     where
       by_origin : (c : Bool) → n ≡ (if c then length m.bytes else 0) + k → IsAtMost (plus (whole 0) (whole n)) (plus (if c then plus (whole (length m.bytes)) (whole 0) else (whole 0)) (whole k))
@@ -149,9 +141,9 @@ module _ {P : Type 0} (cmp : P → P → Ordering) (order : IsTotalOrder cmp) wh
       by_origin false e = omega arith
   started p m (f ∷ fs) n k e = by_origin (same_peer cmp p f.message.origin) (started p m fs n k e)
     where
-      by_origin : (c : Bool) → IsAtMost (plus (left_from cmp p fs) (whole n)) (plus (left_from cmp p (fs ++ flight m ∷ [])) (whole k))
-          → IsAtMost (plus (if c then plus f.left (left_from cmp p fs) else left_from cmp p fs) (whole n)) (plus (if c then plus f.left (left_from cmp p (fs ++ flight m ∷ [])) else left_from cmp p (fs ++ flight m ∷ [])) (whole k))
-      by_origin true h = plus_under f.left (left_from cmp p fs) (left_from cmp p (fs ++ flight m ∷ [])) n k h
+      by_origin : (c : Bool) → IsAtMost (plus (left_from cmp p fs) (whole n)) (plus (left_from cmp p (fs ++ flight_of m ∷ [])) (whole k))
+          → IsAtMost (plus (if c then plus f.left (left_from cmp p fs) else left_from cmp p fs) (whole n)) (plus (if c then plus f.left (left_from cmp p (fs ++ flight_of m ∷ [])) else left_from cmp p (fs ++ flight_of m ∷ [])) (whole k))
+      by_origin true h = plus_under f.left (left_from cmp p fs) (left_from cmp p (fs ++ flight_of m ∷ [])) n k h
       by_origin false h = h
 
   taken_from : (p : P) (m : Message P) (ms : List (Message P)) → find (same_pair cmp m) ms ≡ Some m → waiting_from cmp p ms ≡ gain p m + waiting_from cmp p (without_first (same_pair cmp m) ms)
@@ -180,7 +172,7 @@ module _ {P : Type 0} (cmp : P → P → Ordering) (order : IsTotalOrder cmp) wh
       by_test true h = pos.1
       by_test false h = (pos.0, h)
 
-  pub positive_joined : (fs : List (Flight P)) (m : Message P) → ArePositive fs → ArePositive (fs ++ flight m ∷ [])
+  pub positive_joined : (fs : List (Flight P)) (m : Message P) → ArePositive fs → ArePositive (fs ++ flight_of m ∷ [])
   positive_joined [] m pos = (omega arith, tt)
   positive_joined (f ∷ fs) m pos = (pos.0, positive_joined fs m pos.1)
 

@@ -16,8 +16,7 @@ use Rattle.p2p_simulated.specs.WorldPlanned.{Planned, Paced}
 use Rattle.p2p_simulated.specs.WorldStands.{StandsFor, IsSameFlight}
 use Rattle.p2p_simulated.specs.SamePlanned.{Goes}
 use Rattle.p2p_simulated.specs.Simulated.{IsRun, KeepsToCaps}
-use Rattle.std.proofs.lemmas.List.Filters.{length-filter_both}
-use Rattle.p2p_simulated.proofs.World.Alike.{same_itself, peers_alike, pairs_alike, message_itself}
+use Rattle.p2p_simulated.proofs.World.AlikeMessages.{same_itself, peers_alike, pairs_alike, message_itself}
 use Rattle.p2p_simulated.proofs.Zips.{zip-filter}
 use Rattle.p2p_simulated.proofs.Filters.{filter_swap, length-filter}
 use Rattle.p2p_simulated.proofs.World.Bytes.{pair_itself, Loses, advance_loses}

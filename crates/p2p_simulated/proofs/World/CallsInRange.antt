@@ -19,8 +19,8 @@ use Rattle.p2p_simulated.specs.WorldRefusals.{RecapAccounts, recap_accounts, Enq
 use Rattle.p2p_simulated.specs.WorldStands.{IsSmallMessage}
 use Rattle.p2p_simulated.proofs.Each.{Each}
 use Rattle.p2p_simulated.proofs.World.Limit.{no_sides}
-use Rattle.p2p_simulated.proofs.World.Alike.{same_itself}
-use Rattle.p2p_simulated.proofs.World.Wholes.{AreSmall}
+use Rattle.p2p_simulated.proofs.World.AlikeMessages.{same_itself}
+use Rattle.p2p_simulated.proofs.World.RatesInRange.{AreSmall}
 use Rattle.p2p_simulated.proofs.World.Bounded.{IsBounded, IsLeaver, nothing_too_large}
 use Rattle.p2p_simulated.proofs.World.InRange.{Holds, GoesWell, LaunchesWell, launches_well, launch_account_bounded, finishes_well, finish_account_bounded, settles_well, settle_account_bounded, advances_well, advance_account_bounded, looked_holds, named_alike}
 

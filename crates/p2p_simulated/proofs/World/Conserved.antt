@@ -16,7 +16,7 @@ use Rattle.p2p_simulated.specs.WorldEvents.{Accounts, Looks, Launches, nothing_w
 use Rattle.p2p_simulated.specs.Orderly.{IsOrderly}
 use Rattle.p2p_simulated.specs.Conserved.{of_pair, held_of}
 use Rattle.p2p_simulated.proofs.World.Queue.{find_passes, any_like}
-use Rattle.p2p_simulated.proofs.World.Rests.{find_like}
+use Rattle.p2p_simulated.proofs.World.SettlingEnds.{find_like}
 use Rattle.p2p_simulated.proofs.World.Launch.{rest_of, head_of, head_found, waits_without}
 use Rattle.p2p_simulated.proofs.Zips.{zip-append}
 use Rattle.p2p_simulated.proofs.World.Enqueue.{queued_last}

@@ -17,7 +17,7 @@ use Rattle.p2p_simulated.specs.WorldReplies.{Reply, reply_done, reply_next, repl
 use Rattle.p2p_simulated.specs.SamePlanned.{IsSamePlanned, Goes}
 use Rattle.p2p_simulated.specs.Orderly.{IsOrderly}
 use Rattle.p2p_simulated.specs.Conserved.{of_pair, held_of, IsConserved, AreConserved}
-use Rattle.p2p_simulated.proofs.World.Alike.{pairs_alike, message_itself}
+use Rattle.p2p_simulated.proofs.World.AlikeMessages.{pairs_alike, message_itself}
 use Rattle.p2p_simulated.proofs.World.Orderly.{obeys_orderly}
 use Rattle.p2p_simulated.proofs.World.Conserved.{IsKept, call_keeps}
 use Rattle.p2p_simulated.proofs.World.PairHistory.{enqueued_split}

@@ -1,7 +1,7 @@
 -- Each event takes a message out or starts one, so there are at most twice the waiting ones and once those in flight.
 use Rattle.std.proofs.Common.{◌≡◌, ◌≢◌, ℕ, zero, suc, ◌+◌, ◌-◌, ◌*◌, ◌<◌, ◌≤◌, List, [], ◌∷◌, ◌++◌, length, Bool, true, false, cond, not, Option, Some, None, refl, sym, ap, ◌∙◌, subst, arith, inl, inr}
 use Rattle.std.specs.Prelude.{⊤, ◌&&◌, ◌==◌, nat_lt, slice_get, if◌then◌else◌}
-use Rattle.std.specs.List.{find, filter, AllZip}
+use Rattle.std.specs.List.{find, filter}
 use Rattle.std.specs.declared.cmp.Ordering.{Ordering}
 use Rattle.std.specs.Cmp.{IsTotalOrder}
 use Rattle.std.proofs.lemmas.Bool.{eq-eqb}
@@ -12,7 +12,7 @@ use Rattle.p2p_simulated.specs.WorldCalls.{Call, call_limit, call_limit_link, ca
 use Rattle.p2p_simulated.specs.WorldPlanned.{Planned, Paced, IsLeastMoment, next_event, paced_flows, left_at, IsSpentAt, SomeSpentAt, drained_to, next_of, may_launch, SomeReadyAt, is_spent, IsPlanned, new_planned}
 use Rattle.p2p_simulated.specs.WorldEvents.{Accounts, Looks, Launches, nothing_waits, too_early, no_id, starts, Finishes, all_completed, late, stopped, completes, WakesEach, all_started, no_start, no_finish, starts_one, Wakes, Settles, settling, Recaps, none_sending, some_sending, Enqueues, at_once, no_launch, launches, Advances, no_more, at_finish, at_start, finish_stops, start_stops, launched, Obeys}
 use Rattle.p2p_simulated.proofs.Fairness.Members.{In, in_filter}
-use Rattle.p2p_simulated.proofs.World.Rests.{find_like, length_without}
+use Rattle.p2p_simulated.proofs.World.SettlingEnds.{find_like, length_without}
 use Rattle.p2p_simulated.proofs.World.Queue.{find_passes, pair_sym}
 use Rattle.p2p_simulated.proofs.World.Bytes.{each_filter, fronts_are_first}
 use Rattle.p2p_simulated.proofs.Each.{Each}

@@ -7,27 +7,27 @@ use Rattle.std.specs.Cmp.{IsTotalOrder}
 use Rattle.std.proofs.lemmas.Bool.{or_from, or_parts}
 use Rattle.std.proofs.lemmas.List.{append-nil}
 use Rattle.std.proofs.lemmas.List.Elements.{filter-append}
-use Rattle.p2p_simulated.specs.World.{Completed, Course, World, and_then, goes, is_done, last_moment, may_start, meets, preceded, ready, settle, start, start_next, EndsWith}
+use Rattle.p2p_simulated.specs.World.{Completed, Course, World, and_then, goes, is_done, last_moment, may_start, meets, ready, settle, start, start_next, EndsWith, flight_of}
 use Rattle.p2p_simulated.specs.WorldCalls.{Runs, act, call_enqueue}
 use Rattle.p2p_simulated.specs.WorldEvents.{Enqueues, Launches, launches, no_id, no_launch, nothing_waits, starts, too_early, at_once}
 use Rattle.p2p_simulated.specs.WorldMessages.{Message, SameMessage, pair_before, same_pair}
 use Rattle.p2p_simulated.specs.WorldPlanned.{AreInPairOrder, Planned, may_launch, next_event, next_of, queued}
 use Rattle.p2p_simulated.specs.WorldStands.{CoursesAlike, Follows, IsSettled, StandsFor, Tallies}
-use Rattle.p2p_simulated.specs.WorldQueue.{flight, taken, joined, finish_within}
+use Rattle.p2p_simulated.specs.WorldQueue.{taken, joined, finish_within}
 use Rattle.p2p_simulated.proofs.World.Queue.{pair_sym, pair_like, find_passes, preceded_none}
-use Rattle.p2p_simulated.proofs.World.Between.{filter_none, may_alike, messages_alike}
-use Rattle.p2p_simulated.proofs.World.Rests.{find_like}
+use Rattle.p2p_simulated.proofs.World.BeforeNext.{filter_none, may_alike, messages_alike}
+use Rattle.p2p_simulated.proofs.World.SettlingEnds.{find_like}
 use Rattle.p2p_simulated.proofs.Each.{Each, each_map}
-use Rattle.p2p_simulated.proofs.World.Alike.{message_itself}
-use Rattle.p2p_simulated.proofs.World.Instant.{finishes_alike, no_queue}
+use Rattle.p2p_simulated.proofs.World.AlikeMessages.{message_itself}
+use Rattle.p2p_simulated.proofs.World.Settling.{finishes_alike, no_queue}
 use Rattle.p2p_simulated.proofs.Zips.{zip-append}
 use Rattle.p2p_simulated.proofs.World.Launch.{NoneDone, joining, started, OptionsAlike, next_alike, StartsSo, start_alike}
-use Rattle.p2p_simulated.proofs.World.Event.{settle_quiet}
-use Rattle.p2p_simulated.proofs.World.Pair.{IsRested, only_taken, only_joined, rested_joined, or_left}
-use Rattle.p2p_simulated.proofs.World.Rested.{IsHeld, rested_other, find_without, all_rested, finish_rests, none_then}
+use Rattle.p2p_simulated.proofs.World.FinishEvent.{settle_quiet}
+use Rattle.p2p_simulated.proofs.World.OnePair.{IsRested, only_taken, only_joined, rested_joined, or_left}
+use Rattle.p2p_simulated.proofs.World.NoneReadied.{IsHeld, rested_other, find_without, all_rested, finish_rests, none_then}
 use Rattle.p2p_simulated.proofs.World.Limit.{IsReached, reaches, settled_rests}
 use Rattle.p2p_simulated.proofs.World.Waking.{each_none, own_pair, round_is, round_fuel, round_alike}
-use Rattle.p2p_simulated.proofs.World.Sift.{before_both}
+use Rattle.p2p_simulated.proofs.World.FilteredFronts.{before_both}
 use Rattle.p2p_simulated.proofs.World.PairOrder.{apart_if_before, not_before_back}
 
 module _ {P : Type 0} (cmp : P → P → Ordering) (order : IsTotalOrder cmp) where
@@ -137,12 +137,12 @@ module _ {P : Type 0} (cmp : P → P → Ordering) (order : IsTotalOrder cmp) wh
 
   held_after : (t : ℕ) (u : World P) (m y k : Message P) → ready cmp t u ≡ [] → same_pair cmp m y ≡ true
       → IsHeld cmp order k t (joining cmp order (waits_too u m) y) (started cmp order (waits_too u m) y)
-  held_after t u m y k none_ready pair = by_pair (same_pair cmp k y) refl (is_done cmp (waits_too u m) (flight cmp y))
+  held_after t u m y k none_ready pair = by_pair (same_pair cmp k y) refl (is_done cmp (waits_too u m) (flight_of y))
     where
       off_m : same_pair cmp k y ≡ false → same_pair cmp k m ≡ false
       off_m e = pair_sym cmp order k m ∙ sym (pair_like cmp order m y k pair) ∙ pair_sym cmp order y k ∙ e
 
-      by_pair : (a : Bool) → same_pair cmp k y ≡ a → (b : Bool) → IsHeld cmp order k t (cond b (flight cmp y ∷ []) []) (cond b (taken cmp (waits_too u m) y) (joined cmp (waits_too u m) y))
+      by_pair : (a : Bool) → same_pair cmp k y ≡ a → (b : Bool) → IsHeld cmp order k t (cond b (flight_of y ∷ []) []) (cond b (taken cmp (waits_too u m) y) (joined cmp (waits_too u m) y))
       by_pair true e true = inl (or_left (same_pair cmp k y) false e)
       by_pair true e false = inr (rested_joined cmp order k t (waits_too u m) y e)
       by_pair false e true =

@@ -4,24 +4,25 @@ use Rattle.std.specs.Prelude.{⊤, ◌&&◌, if◌then◌else◌}
 use Rattle.std.specs.List.{filter, find}
 use Rattle.std.specs.declared.cmp.Ordering.{Ordering}
 use Rattle.std.specs.declared.cmp.Ordering.TheVariants.{Less, Equal, Greater}
-use Rattle.std.specs.Ordering.{is_eq, is_lt, ordering_then, ordering_reverse}
+use Rattle.std.specs.Ordering.{is_eq, is_lt, ordering_then}
 use Rattle.std.specs.Cmp.{IsTotalOrder}
-use Rattle.std.proofs.lemmas.Cmp.{on_total, then_total, tied_itself, alike_right}
+use Rattle.std.proofs.lemmas.Cmp.{tied_itself, alike_right}
 use Rattle.p2p_simulated.specs.World.{World, fronts, least_pair, may_start, ready}
 use Rattle.p2p_simulated.specs.WorldMessages.{Message, SameMessage, pair_before, same_pair}
 use Rattle.p2p_simulated.specs.WorldPlanned.{AreInPairOrder, Planned, SomeReadyAt, may_launch, next_of}
 use Rattle.p2p_simulated.specs.WorldStands.{Tallies}
 use Rattle.p2p_simulated.proofs.World.Queue.{pair_sym, find_passes}
-use Rattle.p2p_simulated.proofs.World.Alike.{message_itself, pairs_alike}
-use Rattle.p2p_simulated.proofs.World.Between.{IsFront, fronts_first, first_found, may_alike, messages_alike}
-use Rattle.p2p_simulated.proofs.World.Rests.{find_like}
+use Rattle.p2p_simulated.proofs.World.AlikeMessages.{message_itself, pairs_alike}
+use Rattle.p2p_simulated.proofs.World.BeforeNext.{IsFront, fronts_first, first_found, may_alike, messages_alike}
+use Rattle.p2p_simulated.proofs.World.SettlingEnds.{find_like}
 use Rattle.p2p_simulated.proofs.Each.{Each, each_map, each_filtered}
 use Rattle.p2p_simulated.proofs.World.Launch.{OptionsAlike, next_alike}
-use Rattle.p2p_simulated.proofs.World.Pair.{apart}
+use Rattle.p2p_simulated.proofs.World.OnePair.{apart, not_true}
 use Rattle.p2p_simulated.proofs.World.Waking.{Picks, each_none}
 use Rattle.p2p_simulated.proofs.World.Bytes.{each_least}
-use Rattle.p2p_simulated.proofs.World.PairOrder.{before_if_not, apart_if_before, not_before_on, not_before_back}
-use Rattle.p2p_simulated.proofs.World.Sift.{before_both, none_below}
+use Rattle.p2p_simulated.proofs.World.PairOrder.{before_if_not, apart_if_before, pair_cmp, pairs_total}
+use Rattle.p2p_simulated.proofs.World.FilteredFronts.{none_below}
+use Rattle.p2p_simulated.proofs.Sorted.{is_eq_equal}
 
 -- ---- lists
 
@@ -62,45 +63,22 @@ not_of : (b : Bool) → b ≡ false → not b ≡ true
 not_of true e = cc
 not_of false e = refl
 
-of_not : (b : Bool) → not b ≡ true → b ≡ false
-of_not true e = cc
-of_not false e = refl
-
 module _ {P : Type 0} (cmp : P → P → Ordering) (order : IsTotalOrder cmp) where
   -- ---- the order of pairs
-
-  abbrev pub pair_cmp : Message P → Message P → Ordering
-  pair_cmp m n = ordering_then (cmp m.origin n.origin) (cmp m.recipient n.recipient)
-
-  pair_total : IsTotalOrder pair_cmp
-  pair_total = then_total (on_total (λ (m : Message P). m.origin) order) (on_total (λ (m : Message P). m.recipient) order)
 
   both_equal : (a b : Ordering) → (is_eq a && is_eq b) ≡ is_eq (ordering_then a b)
   both_equal Less b = refl
   both_equal Equal b = refl
   both_equal Greater b = refl
 
-  same_is : (m n : Message P) → same_pair cmp m n ≡ is_eq (pair_cmp m n)
+  same_is : (m n : Message P) → same_pair cmp m n ≡ is_eq (pair_cmp cmp order m n)
   same_is m n = both_equal (cmp m.origin n.origin) (cmp m.recipient n.recipient)
-
-  is_equal : (o : Ordering) → is_eq o ≡ true → o ≡ Equal
-  is_equal Less e = cc
-  is_equal Equal e = refl
-  is_equal Greater e = cc
-
-  less_is : (o : Ordering) → is_lt o ≡ true → o ≡ Less
-  less_is Less e = refl
-  less_is Equal e = cc
-  less_is Greater e = cc
-
-  before_itself : (m : Message P) → pair_before cmp m m ≡ false
-  before_itself m = ap is_lt (tied_itself pair_total m)
 
   pub before_alike : (m n k l : Message P) → SameMessage cmp m n → SameMessage cmp k l → pair_before cmp m k ≡ pair_before cmp n l
   before_alike m n k l f g =
-      let first : pair_cmp m n ≡ Equal = is_equal (pair_cmp m n) (sym (same_is m n) ∙ rw (f.origin, f.recipient) refl) in
-      let second : pair_cmp k l ≡ Equal = is_equal (pair_cmp k l) (sym (same_is k l) ∙ rw (g.origin, g.recipient) refl) in
-      ap is_lt (pair_total.congr m n k first ∙ alike_right pair_total k l n second)
+      let first : pair_cmp cmp order m n ≡ Equal = is_eq_equal (pair_cmp cmp order m n) (sym (same_is m n) ∙ rw (f.origin, f.recipient) refl) in
+      let second : pair_cmp cmp order k l ≡ Equal = is_eq_equal (pair_cmp cmp order k l) (sym (same_is k l) ∙ rw (g.origin, g.recipient) refl) in
+      ap is_lt ((pairs_total cmp order).congr m n k first ∙ alike_right (pairs_total cmp order) k l n second)
 
   -- ---- the least pair
 
@@ -128,7 +106,7 @@ module _ {P : Type 0} (cmp : P → P → Ordering) (order : IsTotalOrder cmp) wh
   pub fronts_sorted : (ms : List (Message P)) → AreInPairOrder cmp ms → IsSorted (fronts cmp ms)
   fronts_sorted [] h = tt
   fronts_sorted (m ∷ ms) h = (
-    each_map (λ n. (pair_before cmp n m ≡ false) × (not (same_pair cmp m n) ≡ true)) (λ n. pair_before cmp m n ≡ true) (filter (λ n. not (same_pair cmp m n)) (fronts cmp ms)) (λ n k. before_if_not cmp order m n k.0 (of_not (same_pair cmp m n) k.1))
+    each_map (λ n. (pair_before cmp n m ≡ false) × (not (same_pair cmp m n) ≡ true)) (λ n. pair_before cmp m n ≡ true) (filter (λ n. not (same_pair cmp m n)) (fronts cmp ms)) (λ n k. before_if_not cmp order m n k.0 (not_true (same_pair cmp m n) k.1))
         (each_filtered (λ n. pair_before cmp n m ≡ false) (λ n. not (same_pair cmp m n)) (fronts cmp ms) (each_front (λ n. pair_before cmp n m ≡ false) ms (each_none (λ n. pair_before cmp n m) ms h.0))),
     sorted_filter (λ n. not (same_pair cmp m n)) (fronts cmp ms) (fronts_sorted ms h.1),
   )
@@ -168,7 +146,7 @@ module _ {P : Type 0} (cmp : P → P → Ordering) (order : IsTotalOrder cmp) wh
       own = by_place (each_least cmp order (IsAmong (m ∷ ms)) (x ∷ xs) y among least)
 
       own_pair : same_pair cmp m m ≡ true
-      own_pair = same_is m m ∙ ap is_eq (tied_itself pair_total m)
+      own_pair = same_is m m ∙ ap is_eq (tied_itself (pairs_total cmp order) m)
 
       among_rest : Each (IsAmong ms) (filter (apart cmp order y) (x ∷ xs))
       among_rest =
@@ -178,7 +156,7 @@ module _ {P : Type 0} (cmp : P → P → Ordering) (order : IsTotalOrder cmp) wh
           by_head : (z : Message P) → SameMessage cmp m z ⊎ IsAmong ms z → apart cmp order y z ≡ true → IsAmong ms z
           by_head z (inl same) off =
               let pair : same_pair cmp y z ≡ true = sym (pairs_alike cmp order m y m z own same) ∙ own_pair in
-              let none : same_pair cmp y z ≡ false = of_not (same_pair cmp y z) off in
+              let none : same_pair cmp y z ≡ false = not_true (same_pair cmp y z) off in
               cc
           by_head z (inr rest) off = rest
 

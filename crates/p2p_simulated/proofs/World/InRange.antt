@@ -18,9 +18,9 @@ use Rattle.p2p_simulated.specs.WorldEvents.{Looks, Launches, nothing_waits, too_
 use Rattle.p2p_simulated.specs.WorldRefusals.{LaunchAccounts, launch_accounts, FinishAccounts, first_accounts, later_accounts, WakeAccounts, start_accounts, finish_accounts, rest_accounts, SettleAccounts, own_account, leavers_account, AdvanceAccounts, in_the_end, at_the_finish, at_the_start, after_a_finish, after_a_start}
 use Rattle.p2p_simulated.specs.WorldStands.{IsSmallMessage, finest_parts}
 use Rattle.p2p_simulated.proofs.Each.{each_find, each_without, each_joined, Each}
-use Rattle.p2p_simulated.proofs.World.Rests.{find_like, length_without}
+use Rattle.p2p_simulated.proofs.World.SettlingEnds.{find_like, length_without}
 use Rattle.p2p_simulated.proofs.World.Queue.{find_passes, one_pair_more, peer_like, peer_sym}
-use Rattle.p2p_simulated.proofs.World.Ranges.{whole_is_small}
+use Rattle.p2p_simulated.proofs.World.ArithmeticInRange.{whole_is_small}
 use Rattle.p2p_simulated.proofs.World.Bounded.{IsSlowFlight, IsBounded, IsLeaver, account_bounded, leavers_bounded}
 
 module _ {P : Type 0} (cmp : P → P → Ordering) (order : IsTotalOrder cmp) (pairs : List (P × P)) (sixteen : length pairs ≤ 16) (most : ℕ) (room : most < 2 ^ 64) where

@@ -6,18 +6,17 @@ use Rattle.std.specs.declared.cmp.Ordering.{Ordering}
 use Rattle.std.specs.Cmp.{IsTotalOrder}
 use Rattle.std.proofs.lemmas.List.Elements.{filter-append}
 use Rattle.std.proofs.lemmas.Bool.{leb-false, lt-leb}
-use Rattle.p2p_simulated.specs.Amount.{whole}
-use Rattle.p2p_simulated.specs.World.{Completed, Course, Flight, World, and_then, complete, first_waiting, fronts, goes, instant, is_done, last_moment, later_of, least_pair, may_start, meets, preceded, raised, ready, settle, settle_within, start, start_next, wake, wake_within, without_first, EndsWith, out_of_flight, is_late, completed, arrival}
+use Rattle.p2p_simulated.specs.World.{Completed, Course, Flight, World, and_then, complete, first_waiting, fronts, goes, instant, is_done, last_moment, later_of, least_pair, may_start, meets, preceded, raised, ready, settle, settle_within, start, start_next, wake, wake_within, without_first, EndsWith, out_of_flight, is_late, completed, arrival, flight_of}
 use Rattle.p2p_simulated.specs.WorldMessages.{Message, same_pair}
 use Rattle.p2p_simulated.specs.declared.error.Error.TheVariants.{FlowIdsUsedUp, MomentTooLate}
 use Rattle.p2p_simulated.proofs.World.Queue.{settle_none, settle_first, find_passes, preceded_none}
-use Rattle.p2p_simulated.proofs.World.Rests.{ends_preceded, ends_and_then, ends_cond, length_without, find_in_none, find_like, HasAtMost, complete_has, NoneDone, settle_rests}
+use Rattle.p2p_simulated.proofs.World.SettlingEnds.{ends_preceded, ends_and_then, ends_cond, length_without, find_in_none, find_like, HasAtMost, complete_has, NoneDone, settle_rests}
 use Rattle.p2p_simulated.proofs.World.Bytes.{wake_none, wake_first, ready_is_first}
-use Rattle.p2p_simulated.proofs.World.Sift.{first_kept, first_dropped, none_kept, find_kept, any_kept, filter_swap, fronts_kept, least_kept}
+use Rattle.p2p_simulated.proofs.World.FilteredFronts.{first_kept, first_dropped, none_kept, find_kept, any_kept, filter_swap, fronts_kept, least_kept}
 use Rattle.p2p_simulated.proofs.World.PairOrder.{least_none}
 use Rattle.p2p_simulated.proofs.Each.{each_find, each_without, each_joined, Each}
 use Rattle.p2p_simulated.proofs.Filters.{length-without_first, none_long}
-use Rattle.p2p_simulated.proofs.World.Calm.{settle_nothing}
+use Rattle.p2p_simulated.proofs.World.QuietInstants.{settle_nothing}
 
 module _ {P : Type 0} (cmp : P → P → Ordering) (order : IsTotalOrder cmp) (inside : P → Bool) (alike : (m n : Message P) → same_pair cmp m n ≡ true → inside m.origin ≡ inside n.origin) (T : Message P → Type 0) where
   abbrev mine : Message P → Bool
@@ -62,24 +61,21 @@ module _ {P : Type 0} (cmp : P → P → Ordering) (order : IsTotalOrder cmp) (i
 
   -- ---- a start
 
-  abbrev flight : Message P → Flight P
-  flight m = record { message = m; left = whole (length m.bytes) }
-
   abbrev started : World P → Message P → World P
-  started w m = record w { sending = w.sending ++ flight m ∷ []; waiting = without_first (same_pair cmp m) w.waiting; next_id = w.next_id + 1 }
+  started w m = record w { sending = w.sending ++ flight_of m ∷ []; waiting = without_first (same_pair cmp m) w.waiting; next_id = w.next_id + 1 }
 
   pub part_alike : (w : World P) (last : P → P → Option ℕ) (id : ℕ) (fs gs : List (Flight P)) (ms ns : List (Message P)) → fs ≡ gs → ms ≡ ns
       → ◌≡◌ {A = World P} (record w { sending = fs; waiting = ms; last_arrival = last; next_id = id }) (record w { sending = gs; waiting = ns; last_arrival = last; next_id = id })
   part_alike w last id fs gs ms ns e f = rw (e, f) refl
 
-  pub joined_part : (fs : List (Flight P)) (m : Message P) (b : Bool) → mine m ≡ b → filter in_flight (fs ++ flight m ∷ []) ≡ filter in_flight fs ++ cond b (flight m ∷ []) []
-  joined_part fs m b e = filter-append in_flight fs (flight m ∷ []) ∙ (rw e refl)
+  pub joined_part : (fs : List (Flight P)) (m : Message P) (b : Bool) → mine m ≡ b → filter in_flight (fs ++ flight_of m ∷ []) ≡ filter in_flight fs ++ cond b (flight_of m ∷ []) []
+  joined_part fs m b e = filter-append in_flight fs (flight_of m ∷ []) ∙ (rw e refl)
 
   started_is : (last : P → P → Option ℕ) (id j : ℕ) (w : World P) (m : Message P) → IsPart last id w → find (same_pair cmp m) w.waiting ≡ Some m → j ≤ w.next_id + 1 → IsPart last j (started w m)
   started_is last id j w m is first le = record {
     arrivals = is.arrivals;
     ids = le;
-    sending = each_joined (λ (f : Flight P). T f.message) w.sending (flight m) is.sending (each_find T (same_pair cmp m) w.waiting m is.waiting first);
+    sending = each_joined (λ (f : Flight P). T f.message) w.sending (flight_of m) is.sending (each_find T (same_pair cmp m) w.waiting m is.waiting first);
     waiting = each_without T (same_pair cmp m) w.waiting is.waiting;
   }
 
@@ -93,7 +89,7 @@ module _ {P : Type 0} (cmp : P → P → Ordering) (order : IsTotalOrder cmp) (i
           let free : w.next_id < last_moment = leb-false last_moment w.next_id e in
           let least : id ≤ w.next_id = is.ids in
           let low : nat_le last_moment id ≡ false = lt-leb last_moment id (omega arith) in
-          let sending : filter in_flight w.sending ++ flight m ∷ [] ≡ filter in_flight (w.sending ++ flight m ∷ []) = sym (joined_part w.sending m true own) in
+          let sending : filter in_flight w.sending ++ flight_of m ∷ [] ≡ filter in_flight (w.sending ++ flight_of m ∷ []) = sym (joined_part w.sending m true own) in
           let waiting : without_first (same_pair cmp m) (filter mine w.waiting) ≡ filter mine (without_first (same_pair cmp m) w.waiting)
           = sym (first_kept mine (same_pair cmp m) w.waiting m first own).1 in
           (last, id + 1, started_is last id (id + 1) w m is first (omega arith), (rw low (goes_alike [] [] _ _ refl (part_alike w last (id + 1) _ _ _ _ sending waiting))))
@@ -106,7 +102,7 @@ module _ {P : Type 0} (cmp : P → P → Ordering) (order : IsTotalOrder cmp) (i
       by_id true = tt
       by_id false =
           let least : id ≤ w.next_id = is.ids in
-          let sending : filter in_flight w.sending ≡ filter in_flight (w.sending ++ flight m ∷ []) = sym (joined_part w.sending m false off ∙ append-nil (filter in_flight w.sending)) in
+          let sending : filter in_flight w.sending ≡ filter in_flight (w.sending ++ flight_of m ∷ []) = sym (joined_part w.sending m false off ∙ append-nil (filter in_flight w.sending)) in
           let waiting : filter mine w.waiting ≡ filter mine (without_first (same_pair cmp m) w.waiting) = sym (first_dropped mine (same_pair cmp m) w.waiting m first off) in
           (last, id, started_is last id id w m is first (omega arith), goes_alike [] [] _ _ refl (part_alike w last id _ _ _ _ sending waiting))
 

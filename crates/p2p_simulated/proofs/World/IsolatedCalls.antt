@@ -16,17 +16,17 @@ use Rattle.p2p_simulated.specs.WorldMessages.{Caps, Message, is_delivered, same_
 use Rattle.p2p_simulated.specs.WorldRates.{AreFair, Parts}
 use Rattle.p2p_simulated.specs.WorldTime.{NextIs, Ticks, no_tick}
 use Rattle.p2p_simulated.specs.declared.error.Error.TheVariants.{MomentTooLate}
-use Rattle.p2p_simulated.proofs.World.Restrict.{fair_part}
+use Rattle.p2p_simulated.proofs.World.PartRates.{fair_part}
 use Rattle.p2p_simulated.proofs.Fairness.Members.{contains_from_in}
-use Rattle.p2p_simulated.proofs.World.Rests.{ends_and_then, ends_cond, NoneDone, settle_rests}
-use Rattle.p2p_simulated.proofs.World.Sift.{find_kept, none_kept}
+use Rattle.p2p_simulated.proofs.World.SettlingEnds.{ends_and_then, ends_cond, NoneDone, settle_rests}
+use Rattle.p2p_simulated.proofs.World.FilteredFronts.{find_kept, none_kept}
 use Rattle.p2p_simulated.proofs.Each.{each_joined, Each}
 use Rattle.p2p_simulated.proofs.Fairness.Members.{In}
-use Rattle.p2p_simulated.proofs.World.Restrict.{Kind, at_egress, at_ingress, at_link, uses_at, SharesNoSide}
+use Rattle.p2p_simulated.proofs.World.PartRates.{Kind, at_egress, at_ingress, at_link, uses_at, SharesNoSide}
 use Rattle.p2p_simulated.proofs.World.Split.{ticks_on, rest_is}
-use Rattle.p2p_simulated.proofs.World.Course.{ticks_end, first_event, settle_moment, start_next_moment}
+use Rattle.p2p_simulated.proofs.World.EveryInstant.{ticks_end, first_event, settle_moment, start_next_moment}
 use Rattle.p2p_simulated.proofs.World.Isolated.{part, IsPart, IsPartOf, part_alike, goes_alike, part_then, settle_part, start_next_mine, start_next_other, raised_same, raised_other}
-use Rattle.p2p_simulated.proofs.World.Calm.{settle_nothing}
+use Rattle.p2p_simulated.proofs.World.QuietInstants.{settle_nothing, queued}
 use Rattle.p2p_simulated.proofs.World.IsolatedTime.{ticks_part}
 use Rattle.p2p_simulated.proofs.World.MadeCalls.{turn_later}
 use Rattle.p2p_simulated.proofs.World.Queue.{preceded_none}
@@ -74,10 +74,7 @@ module _ {P : Type 0} (cmp : P → P → Ordering) (order : IsTotalOrder cmp) (i
       settle_part cmp order inside alike Whole (length w.sending + length w.waiting) (length (filter (λ (f : Flight P). mine f.message) w.sending) + length (filter mine w.waiting))
       t w last id is (omega arith) (omega arith)
 
-  abbrev queued : World P → Message P → World P
-  queued w m = record w { waiting = w.waiting ++ m ∷ [] }
-
-  queued_within : (w : World P) (m : Message P) (last : P → P → Option ℕ) (id : ℕ) → Within last id w → Whole m → Within last id (queued w m)
+  queued_within : (w : World P) (m : Message P) (last : P → P → Option ℕ) (id : ℕ) → Within last id w → Whole m → Within last id (queued cmp order w m)
   queued_within w m last id is whole = record { arrivals = is.arrivals; ids = is.ids; sending = is.sending; waiting = each_joined Whole w.waiting m is.waiting whole }
 
   queued_filter : (ms : List (Message P)) (m : Message P) (b : Bool) → mine m ≡ b → filter mine (ms ++ m ∷ []) ≡ filter mine ms ++ cond b (m ∷ []) []
@@ -95,24 +92,24 @@ module _ {P : Type 0} (cmp : P → P → Ordering) (order : IsTotalOrder cmp) (i
       → Of (act cmp w (call_enqueue now m)) (act cmp (Small last id w) (call_enqueue now m))
   enqueue_mine now w m last id is whole own = by_mode w.limited
     where
-      within : Within last id (queued w m)
+      within : Within last id (queued cmp order w m)
       within = queued_within w m last id is whole
 
-      same_world : queued (Small last id w) m ≡ Small last id (queued w m)
+      same_world : (queued cmp order) (Small last id w) m ≡ Small last id (queued cmp order w m)
       same_world =
           part_alike cmp order inside alike Whole w last id (filter (λ (f : Flight P). mine f.message) w.sending) (filter (λ (f : Flight P). mine f.message) w.sending) _ _ refl
           (sym (queued_filter w.waiting m true own))
 
-      same_next : first_waiting cmp (Small last id (queued w m)) m ≡ first_waiting cmp (queued w m) m
+      same_next : first_waiting cmp (Small last id (queued cmp order w m)) m ≡ first_waiting cmp (queued cmp order w m) m
       same_next = find_kept mine (same_pair cmp m) (w.waiting ++ m ∷ []) (λ n s. sym (alike m n s) ∙ own)
 
-      starting : Of (start_next cmp now (queued w m) (first_waiting cmp (queued w m) m)) (start_next cmp now (queued (Small last id w) m) (first_waiting cmp (queued (Small last id w) m) m))
+      starting : Of (start_next cmp now (queued cmp order w m) (first_waiting cmp (queued cmp order w m) m)) (start_next cmp now (queued cmp order (Small last id w) m) (first_waiting cmp (queued cmp order (Small last id w) m) m))
       starting =
-          let base : Of (start_next cmp now (queued w m) (first_waiting cmp (queued w m) m)) (start_next cmp now (Small last id (queued w m)) (first_waiting cmp (queued w m) m)) =
-          start_next_mine cmp order inside alike Whole now (queued w m) m (first_waiting cmp (queued w m) m) last id within own refl in
-          let one : Of (start_next cmp now (queued w m) (first_waiting cmp (queued w m) m)) (start_next cmp now (Small last id (queued w m)) (first_waiting cmp (Small last id (queued w m)) m)) =
-          subst (λ (o : Option (Message P)). Of (start_next cmp now (queued w m) (first_waiting cmp (queued w m) m)) (start_next cmp now (Small last id (queued w m)) o)) (sym same_next) base in
-          subst (λ (z : World P). Of (start_next cmp now (queued w m) (first_waiting cmp (queued w m) m)) (start_next cmp now z (first_waiting cmp z m))) (sym same_world) one
+          let base : Of (start_next cmp now (queued cmp order w m) (first_waiting cmp (queued cmp order w m) m)) (start_next cmp now (Small last id (queued cmp order w m)) (first_waiting cmp (queued cmp order w m) m)) =
+          start_next_mine cmp order inside alike Whole now (queued cmp order w m) m (first_waiting cmp (queued cmp order w m) m) last id within own refl in
+          let one : Of (start_next cmp now (queued cmp order w m) (first_waiting cmp (queued cmp order w m) m)) (start_next cmp now (Small last id (queued cmp order w m)) (first_waiting cmp (Small last id (queued cmp order w m)) m)) =
+          subst (λ (o : Option (Message P)). Of (start_next cmp now (queued cmp order w m) (first_waiting cmp (queued cmp order w m) m)) (start_next cmp now (Small last id (queued cmp order w m)) o)) (sym same_next) base in
+          subst (λ (z : World P). Of (start_next cmp now (queued cmp order w m) (first_waiting cmp (queued cmp order w m) m)) (start_next cmp now z (first_waiting cmp z m))) (sym same_world) one
 
       at_same : once_at (last m.origin m.recipient) now m ≡ once_at (w.last_arrival m.origin m.recipient) now m
       at_same = ap (λ o. once_at o now m) (is.arrivals m own)
@@ -137,12 +134,12 @@ module _ {P : Type 0} (cmp : P → P → Ordering) (order : IsTotalOrder cmp) (i
       at_once : Of (complete_at_once cmp now w m) (complete_at_once cmp now (Small last id w) m)
       at_once = by_late (m.should_deliver && nat_lt last_moment (now + m.latency))
 
-      by_mode : (b : Bool) → Of (cond b (and_then (start_next cmp now (queued w m) (first_waiting cmp (queued w m) m)) (settle cmp now)) (complete_at_once cmp now w m))
-          (cond b (and_then (start_next cmp now (queued (Small last id w) m) (first_waiting cmp (queued (Small last id w) m) m)) (settle cmp now)) (complete_at_once cmp now (Small last id w) m))
+      by_mode : (b : Bool) → Of (cond b (and_then (start_next cmp now (queued cmp order w m) (first_waiting cmp (queued cmp order w m) m)) (settle cmp now)) (complete_at_once cmp now w m))
+          (cond b (and_then (start_next cmp now (queued cmp order (Small last id w) m) (first_waiting cmp (queued cmp order (Small last id w) m) m)) (settle cmp now)) (complete_at_once cmp now (Small last id w) m))
       by_mode true =
-          part_then cmp order inside alike Whole Any Any (start_next cmp now (queued w m) (first_waiting cmp (queued w m) m))
-          (start_next cmp now (queued (Small last id w) m) (first_waiting cmp (queued (Small last id w) m) m)) (settle cmp now) (settle cmp now) starting
-          (ends_any (start_next cmp now (queued w m) (first_waiting cmp (queued w m) m))) (ends_any (start_next cmp now (queued (Small last id w) m) (first_waiting cmp (queued (Small last id w) m) m))) (λ u l i part_u r s. settle_in_part now u l i part_u)
+          part_then cmp order inside alike Whole Any Any (start_next cmp now (queued cmp order w m) (first_waiting cmp (queued cmp order w m) m))
+          (start_next cmp now (queued cmp order (Small last id w) m) (first_waiting cmp (queued cmp order (Small last id w) m) m)) (settle cmp now) (settle cmp now) starting
+          (ends_any (start_next cmp now (queued cmp order w m) (first_waiting cmp (queued cmp order w m) m))) (ends_any (start_next cmp now (queued cmp order (Small last id w) m) (first_waiting cmp (queued cmp order (Small last id w) m) m))) (λ u l i part_u r s. settle_in_part now u l i part_u)
       by_mode false = at_once
 
   -- ---- a message of others is enqueued
@@ -151,15 +148,15 @@ module _ {P : Type 0} (cmp : P → P → Ordering) (order : IsTotalOrder cmp) (i
       → Of (act cmp w (call_enqueue now m)) (goes [] (Small last id w))
   enqueue_other now w m last id is rests whole off = by_mode w.limited
     where
-      same_world : Small last id (queued w m) ≡ Small last id w
+      same_world : Small last id (queued cmp order w m) ≡ Small last id w
       same_world =
           part_alike cmp order inside alike Whole w last id (filter (λ (f : Flight P). mine f.message) w.sending) (filter (λ (f : Flight P). mine f.message) w.sending) _ _ refl
           (queued_filter w.waiting m false off ∙ append-nil (filter mine w.waiting))
 
-      starting : Of (start_next cmp now (queued w m) (first_waiting cmp (queued w m) m)) (goes [] (Small last id w))
+      starting : Of (start_next cmp now (queued cmp order w m) (first_waiting cmp (queued cmp order w m) m)) (goes [] (Small last id w))
       starting =
-          subst (λ (z : World P). Of (start_next cmp now (queued w m) (first_waiting cmp (queued w m) m)) (goes [] z)) same_world
-          (start_next_other cmp order inside alike Whole now (queued w m) m (first_waiting cmp (queued w m) m) last id (queued_within w m last id is whole) off refl)
+          subst (λ (z : World P). Of (start_next cmp now (queued cmp order w m) (first_waiting cmp (queued cmp order w m) m)) (goes [] z)) same_world
+          (start_next_other cmp order inside alike Whole now (queued cmp order w m) m (first_waiting cmp (queued cmp order w m) m) last id (queued_within w m last id is whole) off refl)
 
       raised_within : Within last id (record w { last_arrival = raised cmp w.last_arrival m (once_at (w.last_arrival m.origin m.recipient) now m) })
       raised_within = record {
@@ -185,10 +182,10 @@ module _ {P : Type 0} (cmp : P → P → Ordering) (order : IsTotalOrder cmp) (i
           (length (Small last id w).sending + length (Small last id w).waiting) now (Small last id w)
           (none_kept (λ (f : Flight P). mine f.message) (is_done cmp w) w.sending rests)
 
-      by_mode : (b : Bool) → Of (cond b (and_then (start_next cmp now (queued w m) (first_waiting cmp (queued w m) m)) (settle cmp now)) (complete_at_once cmp now w m)) (goes [] (Small last id w))
-      by_mode true = subst (λ (c : Course (Completed P) (World P)). Of (and_then (start_next cmp now (queued w m) (first_waiting cmp (queued w m) m)) (settle cmp now)) c) still
-          (part_then cmp order inside alike Whole Any Any (start_next cmp now (queued w m) (first_waiting cmp (queued w m) m)) (goes [] (Small last id w)) (settle cmp now) (settle cmp now) starting
-          (ends_any (start_next cmp now (queued w m) (first_waiting cmp (queued w m) m))) tt (λ u l i part_u r s. settle_in_part now u l i part_u))
+      by_mode : (b : Bool) → Of (cond b (and_then (start_next cmp now (queued cmp order w m) (first_waiting cmp (queued cmp order w m) m)) (settle cmp now)) (complete_at_once cmp now w m)) (goes [] (Small last id w))
+      by_mode true = subst (λ (c : Course (Completed P) (World P)). Of (and_then (start_next cmp now (queued cmp order w m) (first_waiting cmp (queued cmp order w m) m)) (settle cmp now)) c) still
+          (part_then cmp order inside alike Whole Any Any (start_next cmp now (queued cmp order w m) (first_waiting cmp (queued cmp order w m) m)) (goes [] (Small last id w)) (settle cmp now) (settle cmp now) starting
+          (ends_any (start_next cmp now (queued cmp order w m) (first_waiting cmp (queued cmp order w m) m))) tt (λ u l i part_u r s. settle_in_part now u l i part_u))
       by_mode false = at_once
 
   -- ---- a call
@@ -215,8 +212,8 @@ module _ {P : Type 0} (cmp : P → P → Ordering) (order : IsTotalOrder cmp) (i
   act_rests w (call_limit now peer egress ingress) h = settle_rests cmp order now (record w { caps = limited_by cmp w.caps peer egress ingress; limited = true })
   act_rests w (call_limit_link now origin recipient link) h = settle_rests cmp order now (record w { caps = linked_by cmp w.caps origin recipient link; limited = true })
   act_rests w (call_enqueue now m) h =
-      ends_cond (NoneDone cmp order) w.limited (and_then (start_next cmp now (queued w m) (first_waiting cmp (queued w m) m)) (settle cmp now)) (complete_at_once cmp now w m)
-      (ends_and_then Any (NoneDone cmp order) (start_next cmp now (queued w m) (first_waiting cmp (queued w m) m)) (settle cmp now) (ends_any (start_next cmp now (queued w m) (first_waiting cmp (queued w m) m))) (λ v g. settle_rests cmp order now v))
+      ends_cond (NoneDone cmp order) w.limited (and_then (start_next cmp now (queued cmp order w m) (first_waiting cmp (queued cmp order w m) m)) (settle cmp now)) (complete_at_once cmp now w m)
+      (ends_and_then Any (NoneDone cmp order) (start_next cmp now (queued cmp order w m) (first_waiting cmp (queued cmp order w m) m)) (settle cmp now) (ends_any (start_next cmp now (queued cmp order w m) (first_waiting cmp (queued cmp order w m) m))) (λ v g. settle_rests cmp order now v))
       (ends_cond (NoneDone cmp order) (m.should_deliver && nat_lt last_moment (now + m.latency)) (meets MomentTooLate) _ tt h)
   act_rests w (call_advance now) h = h
   act_rests w call_next h = h
@@ -225,8 +222,8 @@ module _ {P : Type 0} (cmp : P → P → Ordering) (order : IsTotalOrder cmp) (i
   act_moment w (call_limit now peer egress ingress) t h = settle_moment cmp order now (record w { caps = limited_by cmp w.caps peer egress ingress; limited = true }) t h
   act_moment w (call_limit_link now origin recipient link) t h = settle_moment cmp order now (record w { caps = linked_by cmp w.caps origin recipient link; limited = true }) t h
   act_moment w (call_enqueue now m) t h =
-      ends_cond (λ v. v.moment ≡ t) w.limited (and_then (start_next cmp now (queued w m) (first_waiting cmp (queued w m) m)) (settle cmp now)) (complete_at_once cmp now w m)
-      (ends_and_then (λ v. v.moment ≡ t) (λ v. v.moment ≡ t) (start_next cmp now (queued w m) (first_waiting cmp (queued w m) m)) (settle cmp now) (start_next_moment cmp order now (queued w m) (first_waiting cmp (queued w m) m) t h) (λ v g. settle_moment cmp order now v t g))
+      ends_cond (λ v. v.moment ≡ t) w.limited (and_then (start_next cmp now (queued cmp order w m) (first_waiting cmp (queued cmp order w m) m)) (settle cmp now)) (complete_at_once cmp now w m)
+      (ends_and_then (λ v. v.moment ≡ t) (λ v. v.moment ≡ t) (start_next cmp now (queued cmp order w m) (first_waiting cmp (queued cmp order w m) m)) (settle cmp now) (start_next_moment cmp order now (queued cmp order w m) (first_waiting cmp (queued cmp order w m) m) t h) (λ v g. settle_moment cmp order now v t g))
       (ends_cond (λ v. v.moment ≡ t) (m.should_deliver && nat_lt last_moment (now + m.latency)) (meets MomentTooLate) _ tt h)
   act_moment w (call_advance now) t h = h
   act_moment w call_next t h = h

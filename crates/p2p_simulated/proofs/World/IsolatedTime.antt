@@ -9,9 +9,9 @@ use Rattle.p2p_simulated.specs.WorldMessages.{Message, same_pair}
 use Rattle.p2p_simulated.specs.WorldRates.{AreFair, Parts, drained_by, rate_of}
 use Rattle.p2p_simulated.specs.WorldTime.{Drains, Ticks, drain_each, no_tick, one_tick, tick_faults}
 use Rattle.p2p_simulated.proofs.Each.{Each}
-use Rattle.p2p_simulated.proofs.World.Restrict.{SharesNoSide, fair_part}
+use Rattle.p2p_simulated.proofs.World.PartRates.{SharesNoSide, fair_part}
 use Rattle.p2p_simulated.proofs.World.Split.{rest_is}
-use Rattle.p2p_simulated.proofs.World.Rated.{one_each}
+use Rattle.p2p_simulated.proofs.World.FairRates.{one_each}
 use Rattle.p2p_simulated.specs.FairPart.{kept}
 use Rattle.p2p_simulated.proofs.World.Isolated.{part, IsPart, IsPartOf, part_alike, instant_part}
 

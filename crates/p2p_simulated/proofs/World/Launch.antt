@@ -9,21 +9,21 @@ use Rattle.std.proofs.lemmas.List.{append-nil, map-append}
 use Rattle.std.proofs.lemmas.List.Elements.{filter-append}
 use Rattle.std.proofs.lemmas.Slice.Zip.{all_zipped_more}
 use Rattle.p2p_simulated.specs.Amount.{drained, whole}
-use Rattle.p2p_simulated.specs.World.{Completed, Course, Flight, World, flows, goes, is_done, is_in_order, last_moment, may_start, meets, start, without_first}
+use Rattle.p2p_simulated.specs.World.{Completed, Course, Flight, World, flows, goes, is_done, is_in_order, last_moment, may_start, meets, start, without_first, flight_of}
 use Rattle.p2p_simulated.specs.WorldEvents.{Launches, launched, no_id, nothing_waits, starts, too_early}
 use Rattle.p2p_simulated.specs.WorldMessages.{Message, OneForEachPair, SameMessage, pair_before, same_pair}
 use Rattle.p2p_simulated.specs.WorldPlanned.{AreInPairOrder, Planned, may_launch, next_of}
 use Rattle.p2p_simulated.specs.WorldStands.{Follows, IsSameFlight, Tallies}
 use Rattle.p2p_simulated.specs.declared.error.Error.TheVariants.{FlowIdsUsedUp}
 use Rattle.std.proofs.lemmas.Bool.{leb-true, le-leb}
-use Rattle.p2p_simulated.proofs.World.Lowest.{whole_lowest, drained_none}
-use Rattle.p2p_simulated.specs.WorldQueue.{leaving, staying, flight, taken, joined, launch_then}
+use Rattle.p2p_simulated.proofs.World.LowestTerms.{whole_lowest, drained_none}
+use Rattle.p2p_simulated.specs.WorldQueue.{leaving, staying, taken, joined, launch_then}
 use Rattle.p2p_simulated.proofs.World.Queue.{find_none, pair_like, pair_sym, one_pair_more, find_passes}
-use Rattle.p2p_simulated.proofs.World.Alike.{message_itself, pairs_alike}
-use Rattle.p2p_simulated.proofs.World.Between.{filter_none, messages_alike, may_alike}
+use Rattle.p2p_simulated.proofs.World.AlikeMessages.{message_itself, pairs_alike}
+use Rattle.p2p_simulated.proofs.World.BeforeNext.{filter_none, messages_alike, may_alike}
 use Rattle.p2p_simulated.proofs.Each.{Each, each_map}
-use Rattle.p2p_simulated.proofs.World.Again.{none_matched, each_passes, leavers_alike, account_follows}
-use Rattle.p2p_simulated.proofs.World.Rests.{length_without, find_like}
+use Rattle.p2p_simulated.proofs.World.Accounts.{none_matched, each_passes, leavers_alike, account_follows}
+use Rattle.p2p_simulated.proofs.World.SettlingEnds.{length_without, find_like}
 
 -- ---- lists
 
@@ -144,7 +144,7 @@ module _ {P : Type 0} (cmp : P → P → Ordering) (order : IsTotalOrder cmp) wh
 
   -- ---- a message starts
 
-  started_flight : (t : ℕ) (x y : Message P) → SameMessage cmp x y → IsSameFlight cmp t (record { message = x; left = whole (length x.bytes); rate = Some (whole 0); updated = t }) (flight cmp y)
+  started_flight : (t : ℕ) (x y : Message P) → SameMessage cmp x y → IsSameFlight cmp t (record { message = x; left = whole (length x.bytes); rate = Some (whole 0); updated = t }) (flight_of y)
   started_flight t x y same =
       let no_time : t - t ≡ 0 = omega arith in
       record {
@@ -173,8 +173,8 @@ module _ {P : Type 0} (cmp : P → P → Ordering) (order : IsTotalOrder cmp) wh
     next_id = ap (λ (n : ℕ). n + 1) same.next_id;
     waiting = λ m. waiting_taken x y m p.waiting w.waiting alike (same.waiting m);
     pair_order = pair_order_without (same_pair cmp x) p.waiting same.pair_order;
-    sending = all_zipped_more (IsSameFlight cmp t) p.sending w.sending (record { message = x; left = whole (length x.bytes); rate = Some (whole 0); updated = t }) (flight cmp y) same.sending (started_flight t x y alike);
-    one_each = subst (OneForEachPair cmp) (sym (map-append (λ (g : Flight P). g.message) w.sending (flight cmp y ∷ []))) (one_pair_more cmp order (flows w) y same.one_each idle);
+    sending = all_zipped_more (IsSameFlight cmp t) p.sending w.sending (record { message = x; left = whole (length x.bytes); rate = Some (whole 0); updated = t }) (flight_of y) same.sending (started_flight t x y alike);
+    one_each = subst (OneForEachPair cmp) (sym (map-append (λ (g : Flight P). g.message) w.sending (flight_of y ∷ []))) (one_pair_more cmp order (flows w) y same.one_each idle);
     empty_at_first = λ free. absurd (waits_limited t p w y same own free);
   }
 
@@ -193,22 +193,22 @@ module _ {P : Type 0} (cmp : P → P → Ordering) (order : IsTotalOrder cmp) wh
 
   -- those that join the leavers, and the world after the start
   abbrev pub joining : World P → Message P → List (Flight P)
-  joining w y = cond (is_done cmp w (flight cmp y)) (flight cmp y ∷ []) []
+  joining w y = cond (is_done cmp w (flight_of y)) (flight_of y ∷ []) []
 
   abbrev pub started : World P → Message P → World P
-  started w y = cond (is_done cmp w (flight cmp y)) (taken cmp w y) (joined cmp w y)
+  started w y = cond (is_done cmp w (flight_of y)) (taken cmp w y) (joined cmp w y)
 
   pub joining_leaves : (w : World P) (y : Message P) → NoneDone w → leaving cmp (joined cmp w y) ≡ joining w y
   unfolding leaving
-  joining_leaves w y none = filter-append (is_done cmp w) w.sending (flight cmp y ∷ []) ∙ ap (λ (q : List (Flight P)). q ++ joining w y) (filter_none (is_done cmp w) w.sending none)
+  joining_leaves w y none = filter-append (is_done cmp w) w.sending (flight_of y ∷ []) ∙ ap (λ (q : List (Flight P)). q ++ joining w y) (filter_none (is_done cmp w) w.sending none)
 
   pub started_stays : (w : World P) (y : Message P) → NoneDone w → staying cmp (joined cmp w y) ≡ started w y
   unfolding staying
   started_stays w y none =
-      ap (λ (q : List (Flight P)). record (joined cmp w y) { sending = q }) (filter-append (λ g. not (is_done cmp w g)) w.sending (flight cmp y ∷ []) ∙ ap (λ (q : List (Flight P)). q ++ cond (not (is_done cmp w (flight cmp y))) (flight cmp y ∷ []) []) (filter_all (is_done cmp w) w.sending none))
-      ∙ by_test (is_done cmp w (flight cmp y))
+      ap (λ (q : List (Flight P)). record (joined cmp w y) { sending = q }) (filter-append (λ g. not (is_done cmp w g)) w.sending (flight_of y ∷ []) ∙ ap (λ (q : List (Flight P)). q ++ cond (not (is_done cmp w (flight_of y))) (flight_of y ∷ []) []) (filter_all (is_done cmp w) w.sending none))
+      ∙ by_test (is_done cmp w (flight_of y))
     where
-      by_test : (b : Bool) → ◌≡◌ {A = World P} (record (joined cmp w y) { sending = w.sending ++ cond (not b) (flight cmp y ∷ []) [] }) (cond b (taken cmp w y) (joined cmp w y))
+      by_test : (b : Bool) → ◌≡◌ {A = World P} (record (joined cmp w y) { sending = w.sending ++ cond (not b) (flight_of y ∷ []) [] }) (cond b (taken cmp w y) (joined cmp w y))
       by_test true = ap (λ (q : List (Flight P)). record (joined cmp w y) { sending = q }) (append-nil w.sending)
       by_test false = refl
 
@@ -256,19 +256,19 @@ module _ {P : Type 0} (cmp : P → P → Ordering) (order : IsTotalOrder cmp) wh
       → (nat_le last_moment w.next_id) ≡ false
       → launch_then cmp next t fs w (Some y) ≡ next (fs ++ joining w y) (started w y)
   unfolding launch_then
-  starts_so next t fs w y e f = rw (e, f) (by_test (is_done cmp w (flight cmp y)))
+  starts_so next t fs w y e f = rw (e, f) (by_test (is_done cmp w (flight_of y)))
     where
-      by_test : (b : Bool) → cond b (next (fs ++ flight cmp y ∷ []) (taken cmp w y)) (next fs (joined cmp w y)) ≡ next (fs ++ cond b (flight cmp y ∷ []) []) (cond b (taken cmp w y) (joined cmp w y))
+      by_test : (b : Bool) → cond b (next (fs ++ flight_of y ∷ []) (taken cmp w y)) (next fs (joined cmp w y)) ≡ next (fs ++ cond b (flight_of y ∷ []) []) (cond b (taken cmp w y) (joined cmp w y))
       by_test true = refl
       by_test false = ap (λ (q : List (Flight P)). next q (joined cmp w y)) (sym (append-nil fs))
 
   pub started_fewer : (w : World P) (y : Message P) → find (same_pair cmp y) w.waiting ≡ Some y → length (joining w y) + length (started w y).waiting ≤ length w.waiting
   started_fewer w y e =
       let fewer : length (without_first (same_pair cmp y) w.waiting) + 1 ≡ length w.waiting = length_without (same_pair cmp y) y w.waiting e in
-      by_test (is_done cmp w (flight cmp y)) fewer
+      by_test (is_done cmp w (flight_of y)) fewer
     where
       by_test : (b : Bool) → length (without_first (same_pair cmp y) w.waiting) + 1 ≡ length w.waiting
-          → length (cond b (flight cmp y ∷ []) []) + length (cond b (taken cmp w y) (joined cmp w y)).waiting ≤ length w.waiting
+          → length (cond b (flight_of y ∷ []) []) + length (cond b (taken cmp w y) (joined cmp w y)).waiting ≤ length w.waiting
       by_test true h = omega arith
       by_test false h = omega arith
 

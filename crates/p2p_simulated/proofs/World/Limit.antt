@@ -4,7 +4,7 @@ use Rattle.std.specs.Prelude.{IfSome}
 use Rattle.std.specs.List.{list_any, AllZip}
 use Rattle.std.specs.declared.cmp.Ordering.{Ordering}
 use Rattle.std.specs.Cmp.{IsTotalOrder}
-use Rattle.p2p_simulated.specs.World.{Completed, Course, Flight, IsQuiet, World, goes, is_done, last_moment, meets, new_world, preceded, ready, settle, EndsWith}
+use Rattle.p2p_simulated.specs.World.{Completed, Course, Flight, IsQuiet, World, goes, is_done, last_moment, meets, new_world, ready, settle, EndsWith}
 use Rattle.p2p_simulated.specs.WorldCalls.{Runs, act, call_limit, Call, recap, limited_by, linked_by, call_limit_link}
 use Rattle.p2p_simulated.specs.WorldEvents.{none_sending, some_sending, Recaps}
 use Rattle.p2p_simulated.specs.WorldMessages.{AnswerAlike, Message, with_cap, Caps, no_caps, PairsAlike, with_link, CapsAlike}
@@ -12,14 +12,14 @@ use Rattle.p2p_simulated.specs.WorldPlanned.{Paced, Planned, SomeReadyAt, SomeSp
 use Rattle.p2p_simulated.specs.WorldRates.{AreFair, rate_of}
 use Rattle.p2p_simulated.specs.WorldStands.{CoursesAlike, Follows, IsSameFlight, IsSettled, StandsFor, Tallies}
 use Rattle.p2p_simulated.specs.WorldTime.{Ticks, no_tick}
-use Rattle.p2p_simulated.proofs.World.Alike.{same_itself, peers_alike}
+use Rattle.p2p_simulated.proofs.World.AlikeMessages.{same_itself, peers_alike}
 use Rattle.p2p_simulated.specs.WorldQueue.{leaving, staying}
-use Rattle.p2p_simulated.proofs.World.Between.{later, follows_later, quiet_before, passes_to}
-use Rattle.p2p_simulated.proofs.World.Instant.{settles_alike, looked, leaving_fewer, staying_waiting}
-use Rattle.p2p_simulated.proofs.World.Event.{settle_quiet, ticks_quiet}
+use Rattle.p2p_simulated.proofs.World.BeforeNext.{later, follows_later, quiet_before, passes_to}
+use Rattle.p2p_simulated.proofs.World.Settling.{settles_alike, looked, leaving_fewer, staying_waiting}
+use Rattle.p2p_simulated.proofs.World.FinishEvent.{settle_quiet, ticks_quiet}
 use Rattle.p2p_simulated.proofs.World.Waking.{each_none}
 use Rattle.p2p_simulated.proofs.World.Advance.{woken_stands}
-use Rattle.p2p_simulated.proofs.World.Rested.{settle_keeps_rest}
+use Rattle.p2p_simulated.proofs.World.NoneReadied.{settle_keeps_rest}
 use Rattle.p2p_simulated.proofs.World.Queue.{preceded_none}
 
 pub no_sides : {P : Type 0} (cmp : P → P → Ordering) (caps : Caps P) → AreFair cmp caps [] 1 []

@@ -9,7 +9,7 @@ use Rattle.p2p_simulated.specs.World.{World, IsQuiet, flows}
 use Rattle.p2p_simulated.specs.WorldTime.{NextIs, comes_next, drifted}
 use Rattle.p2p_simulated.specs.WorldRows.{message, flying}
 use Rattle.p2p_simulated.proofs.Draining.{spent_if_covers, covers_if_spent}
-use Rattle.p2p_simulated.proofs.World.Checked.{fair_if_so}
+use Rattle.p2p_simulated.proofs.World.ComputedReplies.{fair_if_so}
 use Rattle.p2p_simulated.proofs.World.Stretch.{stretch, drifts_on}
 
 abbrev slow : World ℕ

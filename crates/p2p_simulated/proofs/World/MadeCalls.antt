@@ -9,7 +9,7 @@ use Rattle.p2p_simulated.specs.WorldCalls.{Call, call_limit, call_limit_link, ca
 use Rattle.p2p_simulated.specs.WorldReplies.{Reply, reply_done, reply_next, reply_refused, SameCompletion, Agrees, made, completions_in}
 use Rattle.p2p_simulated.specs.WorldIsolation.{Answers, no_calls, call_answers, AnswersInTurn, no_calls_in_turn, answers_in_turn}
 use Rattle.p2p_simulated.specs.ReplayLaws.{AreInTurn, AreAdvancedFirst}
-use Rattle.p2p_simulated.proofs.World.Calm.{next_is_later, call_ends_quiet}
+use Rattle.p2p_simulated.proofs.World.QuietInstants.{next_is_later, call_ends_quiet}
 use Rattle.p2p_simulated.proofs.World.Limit.{new_stands}
 use Rattle.p2p_simulated.proofs.World.Stepwise.{agrees_next, agrees_refused, agrees_done, IsMade}
 

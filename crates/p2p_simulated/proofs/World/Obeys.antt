@@ -9,7 +9,7 @@ use Rattle.p2p_simulated.specs.WorldCalls.{Call, call_limit, call_limit_link, ca
 use Rattle.p2p_simulated.specs.WorldPlanned.{Planned, next_event}
 use Rattle.p2p_simulated.specs.WorldEvents.{Enqueues, at_once, no_launch, launches, Obeys}
 use Rattle.p2p_simulated.specs.WorldStands.{CoursesAlike, StandsFor}
-use Rattle.p2p_simulated.proofs.World.Next.{next_is_planned, advance_runs}
+use Rattle.p2p_simulated.proofs.World.NextEvent.{next_is_planned, advance_runs}
 use Rattle.p2p_simulated.proofs.World.Limit.{limits_alike, links_alike}
 use Rattle.p2p_simulated.proofs.World.Enqueue.{enqueues_alike}
 use Rattle.p2p_simulated.proofs.World.AtOnce.{at_once_alike}

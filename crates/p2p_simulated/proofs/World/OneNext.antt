@@ -10,8 +10,8 @@ use Rattle.p2p_simulated.specs.WorldRates.{Parts, drained_by, rate_of}
 use Rattle.p2p_simulated.specs.WorldTime.{ArePositive, Drains, NextIs, Passes, comes_next, drain_each, never_comes, no_time, quiet_tick}
 use Rattle.p2p_simulated.specs.Laws.LowestTerms.{reduced_positive}
 use Rattle.p2p_simulated.proofs.World.OneWorld.{one_world}
-use Rattle.p2p_simulated.proofs.World.Alike.{same_itself}
-use Rattle.p2p_simulated.proofs.World.Calm.{next_moment, passes_end_at}
+use Rattle.p2p_simulated.proofs.World.AlikeMessages.{same_itself}
+use Rattle.p2p_simulated.proofs.World.QuietInstants.{next_moment, passes_end_at, IsQuietNow}
 
 module _ {P : Type 0} (cmp : P → P → Ordering) (order : IsTotalOrder cmp) where
   -- ---- amounts stay over a number above zero
@@ -36,15 +36,12 @@ module _ {P : Type 0} (cmp : P → P → Ordering) (order : IsTotalOrder cmp) wh
 
   -- ---- passing is one way
 
-  IsQuietNow : World P → Type 0
-  IsQuietNow v = IsQuiet cmp v.moment v
-
   first_step : {k : ℕ} {w x : World P} → Passes cmp k w x → (m : ℕ) → k ≡ suc m → (v : World P) × Drains cmp w v × IsQuiet cmp v.moment v × Passes cmp m v x
   first_step no_time m e = absurd (omega arith)
   first_step (quiet_tick {n = n} {v = v} {u = u} d q p) m e = let same : n ≡ m = omega arith in (v, d, q, subst (λ (k : ℕ). Passes cmp k v u) same p)
 
   -- what passes longer passes here quietly
-  passes_through : {n : ℕ} {w v : World P} → Passes cmp n w v → (k : ℕ) (x u : World P) → Passes cmp (suc k) w x → n ≤ k → ArePositive w.sending → Drains cmp v u → IsQuietNow u
+  passes_through : {n : ℕ} {w v : World P} → Passes cmp n w v → (k : ℕ) (x u : World P) → Passes cmp (suc k) w x → n ≤ k → ArePositive w.sending → Drains cmp v u → IsQuietNow cmp order u
   unfolding IsQuietNow
   passes_through {w = w} no_time k x u p le pos d =
       let f : (v : World P) × Drains cmp w v × IsQuiet cmp v.moment v × Passes cmp k v x = first_step p k refl in

@@ -1,4 +1,4 @@
--- A call has one course; quiet nanoseconds tick without a completion, and before the next event all are quiet.
+-- A call has one course.
 use Rattle.std.proofs.Common.{◌≡◌, ℕ, suc, List, [], refl, sym, ap, ◌∙◌, subst, arith, ◌⊎◌, inl, inr}
 use Rattle.std.specs.declared.cmp.Ordering.{Ordering}
 use Rattle.std.specs.Cmp.{IsTotalOrder}
@@ -7,8 +7,8 @@ use Rattle.p2p_simulated.specs.WorldCalls.{Call, Runs, act}
 use Rattle.p2p_simulated.specs.WorldTime.{Drains, IsSound, Ticks, no_tick, one_tick, tick_faults}
 use Rattle.p2p_simulated.specs.declared.error.Error.{Error}
 use Rattle.p2p_simulated.proofs.World.OneWorld.{one_world}
-use Rattle.p2p_simulated.proofs.World.Alike.{same_itself}
-use Rattle.p2p_simulated.proofs.World.Calm.{ends_at}
+use Rattle.p2p_simulated.proofs.World.AlikeMessages.{same_itself}
+use Rattle.p2p_simulated.proofs.World.QuietInstants.{ends_at}
 use Rattle.p2p_simulated.proofs.World.Sound.{IsFit, drains_fit, instant_fit}
 
 module _ {P : Type 0} (cmp : P → P → Ordering) (order : IsTotalOrder cmp) where

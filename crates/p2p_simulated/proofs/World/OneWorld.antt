@@ -7,7 +7,7 @@ use Rattle.p2p_simulated.specs.World.{Flight, World, flows}
 use Rattle.p2p_simulated.specs.WorldRates.{Parts, drained_by, rate_of}
 use Rattle.p2p_simulated.specs.WorldTime.{ArePositive, Drains, drain_each}
 use Rattle.p2p_simulated.specs.Laws.LowestTerms.{reduced_same}
-use Rattle.p2p_simulated.proofs.World.Rated.{Match, one_each, rates_match}
+use Rattle.p2p_simulated.proofs.World.FairRates.{Match, one_each, rates_match}
 
 module _ {P : Type 0} (cmp : P → P → Ordering) where
   at_same : (x y : Option ℕ) (d e n : ℕ) (left : Amount) → 0 < left.den → 0 < d → 0 < e → ((a : ℕ) → x ≡ Some a → (b : ℕ) × (y ≡ Some b) × (a * e ≡ b * d))

@@ -14,9 +14,9 @@ use Rattle.p2p_simulated.specs.WorldCalls.{Call, call_limit, call_limit_link, ca
 use Rattle.p2p_simulated.specs.WorldPlanned.{Planned, Paced, new_planned, paced_flows, drained_to, next_of, AreInPairOrder, may_launch, is_spent, IsRated}
 use Rattle.p2p_simulated.specs.WorldEvents.{Accounts, Looks, Launches, nothing_waits, too_early, no_id, starts, Finishes, all_completed, late, stopped, completes, WakesEach, all_started, no_start, no_finish, starts_one, Settles, settling, Recaps, none_sending, some_sending, Enqueues, at_once, no_launch, launches, Advances, no_more, at_finish, at_start, finish_stops, start_stops, launched, landed, with_queued, Obeys}
 use Rattle.p2p_simulated.specs.Orderly.{IsOrderly}
-use Rattle.p2p_simulated.proofs.World.Alike.{same_itself}
+use Rattle.p2p_simulated.proofs.World.AlikeMessages.{same_itself}
 use Rattle.p2p_simulated.proofs.World.Queue.{one_pair_more}
-use Rattle.p2p_simulated.proofs.World.Rests.{ends_preceded}
+use Rattle.p2p_simulated.proofs.World.SettlingEnds.{ends_preceded}
 use Rattle.p2p_simulated.proofs.World.Sound.{raised_peerwise}
 use Rattle.p2p_simulated.proofs.World.Limit.{no_sides}
 use Rattle.p2p_simulated.proofs.World.SameSteps.{limited_by_same, linked_by_same}

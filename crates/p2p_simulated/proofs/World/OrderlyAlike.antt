@@ -1,34 +1,24 @@
 -- Planned worlds that are the same up to equal peers are in order alike.
-use Rattle.std.proofs.Common.{List, [], ◌∷◌, sym, ◌∙◌}
-use Rattle.std.specs.List.{AllZip}
+use Rattle.std.proofs.Common.{List, ◌∙◌}
 use Rattle.std.specs.declared.cmp.Ordering.{Ordering}
 use Rattle.std.specs.Cmp.{IsTotalOrder}
-use Rattle.p2p_simulated.specs.WorldMessages.{Message, SameMessage, OneForEachPair, pair_before, same_pair}
+use Rattle.p2p_simulated.specs.WorldMessages.{SameMessage}
 use Rattle.p2p_simulated.specs.World.{Completed}
 use Rattle.p2p_simulated.specs.WorldCalls.{Call}
-use Rattle.p2p_simulated.specs.WorldPlanned.{Planned, paced_flows, AreInPairOrder}
+use Rattle.p2p_simulated.specs.WorldPlanned.{Planned, paced_flows}
 use Rattle.p2p_simulated.specs.SamePlanned.{IsSamePaced, IsSamePlanned, Goes}
 use Rattle.p2p_simulated.specs.Orderly.{IsOrderly}
-use Rattle.p2p_simulated.proofs.World.Alike.{pairs_alike, any_alike}
-use Rattle.p2p_simulated.proofs.World.InOrder.{before_alike}
 use Rattle.p2p_simulated.proofs.World.Orderly.{obeys_orderly}
 use Rattle.p2p_simulated.proofs.World.SameWorlds.{pairs_turned, pairs_chain, caps_turned, caps_chain}
 use Rattle.p2p_simulated.proofs.World.SameSteps.{none_same, flows_same}
-use Rattle.p2p_simulated.proofs.World.SameStands.{rated_same, one_each_same}
+use Rattle.p2p_simulated.proofs.World.SameStands.{rated_same, one_each_same, order_same}
 
 module _ {P : Type 0} (cmp : P → P → Ordering) (order : IsTotalOrder cmp) where
-  pair_order_same : (ms ns : List (Message P)) → AllZip (SameMessage cmp) ms ns → AreInPairOrder cmp ms → AreInPairOrder cmp ns
-  pair_order_same [] [] all h = tt
-  pair_order_same [] (n ∷ ns) all h = absurd all
-  pair_order_same (m ∷ ms) [] all h = absurd all
-  pair_order_same (m ∷ ms) (n ∷ ns) all h =
-      (sym (any_alike cmp order (SameMessage cmp) (λ k. pair_before cmp k m) (λ l. pair_before cmp l n) (λ k l f. before_alike cmp order k l m n f all.0) ms ns all.1) ∙ h.0, pair_order_same ms ns all.1 h.1)
-
   pub orderly_same : (p q : Planned P) → IsSamePlanned cmp p q → IsOrderly cmp p → IsOrderly cmp q
   orderly_same p q same h = record {
     rated = rated_same cmp order p q same h.rated;
     one_each = one_each_same cmp order (paced_flows p.sending) (paced_flows q.sending) (flows_same cmp order p.sending q.sending same.sending) h.one_each;
-    pair_order = pair_order_same p.waiting q.waiting same.waiting h.pair_order;
+    pair_order = order_same cmp order p.waiting q.waiting same.waiting h.pair_order;
     empty_at_first = λ free.
         let empty = h.empty_at_first (same.limited ∙ free) in
         (none_same (IsSamePaced cmp) p.sending q.sending same.sending empty.0, none_same (SameMessage cmp) p.waiting q.waiting same.waiting empty.1);

@@ -8,22 +8,21 @@ use Rattle.std.proofs.lemmas.List.Elements.{filter-append}
 use Rattle.std.proofs.lemmas.List.{map-append}
 use Rattle.std.proofs.lemmas.Bool.{leb-true, le-leb, and_parts}
 use Rattle.p2p_simulated.specs.declared.error.Error.TheVariants.{MomentTooLate, FlowIdsUsedUp}
-use Rattle.p2p_simulated.specs.Amount.{whole}
 use Rattle.p2p_simulated.specs.Sides.{same_peer}
 use Rattle.p2p_simulated.specs.WorldMessages.{Message, Caps, PairsAlike, same_pair, is_delivered}
-use Rattle.p2p_simulated.specs.World.{World, Flight, Completed, completion_of, Course, goes, meets, last_moment, without_first, preceded, and_then, is_in_order, later_of, new_world, flows, first_waiting, may_start, start, start_next, is_done, raised, complete, settle_within, settle, least_pair, ready, turn, wake_within, wake, instant, fronts, EndsWith, out_of_flight, is_late, completed, arrival}
+use Rattle.p2p_simulated.specs.World.{World, Flight, Completed, completion_of, Course, goes, meets, last_moment, without_first, preceded, and_then, is_in_order, later_of, new_world, flows, first_waiting, may_start, start, start_next, is_done, raised, complete, settle_within, settle, least_pair, ready, turn, wake_within, wake, instant, fronts, EndsWith, out_of_flight, is_late, completed, arrival, flight_of}
 use Rattle.p2p_simulated.specs.WorldTime.{IsSound, Drains, Ticks, no_tick, one_tick, tick_faults}
 use Rattle.p2p_simulated.specs.WorldCalls.{Call, call_limit, call_limit_link, call_enqueue, call_advance, call_next, recap, join, complete_at_once, act, moment_of, Runs, limited_by, linked_by}
 use Rattle.p2p_simulated.specs.WorldOrder.{enqueued, answered, IsCompletionOf, NoneBefore, NeverGoDown, completes_pair, IsInPairOrder}
 use Rattle.p2p_simulated.specs.WorldIsolation.{Answers, no_calls, call_answers}
 use Rattle.p2p_simulated.proofs.World.Queue.{pair_like, pair_sym, find_passes, settle_none, settle_first}
-use Rattle.p2p_simulated.proofs.World.Rests.{find_like}
+use Rattle.p2p_simulated.proofs.World.SettlingEnds.{find_like}
 use Rattle.p2p_simulated.proofs.World.Bytes.{wake_none, each_least, each_filter, fronts_are_first}
 use Rattle.p2p_simulated.proofs.Each.{Each}
 use Rattle.p2p_simulated.proofs.World.Stretch.{flows_drained}
 use Rattle.p2p_simulated.proofs.World.Split.{rest_is}
 use Rattle.p2p_simulated.proofs.World.Sound.{raised_peerwise, ticks_keep_sound, call_keeps_sound, new_world_sound}
-use Rattle.p2p_simulated.proofs.World.Calm.{ends_at}
+use Rattle.p2p_simulated.proofs.World.QuietInstants.{ends_at}
 
 -- ---- lists
 
@@ -224,12 +223,12 @@ module _ {P : Type 0} (cmp : P → P → Ordering) (order : IsTotalOrder cmp) (k
       by_test false is ih = ap (λ (ms : List (Message P)). cond (same_pair cmp k x) (x ∷ ms) ms) ih
 
   joined : World P → Message P → World P
-  joined w m = record w { sending = w.sending ++ record { message = m; left = whole (length m.bytes) } ∷ []; waiting = without_first (same_pair cmp m) w.waiting; next_id = w.next_id + 1 }
+  joined w m = record w { sending = w.sending ++ flight_of m ∷ []; waiting = without_first (same_pair cmp m) w.waiting; next_id = w.next_id + 1 }
 
   flies_more : (w : World P) (m : Message P) → flies (joined w m) ≡ flies w ++ filter (same_pair cmp k) (m ∷ [])
   unfolding joined
   flies_more w m =
-      ap (filter (same_pair cmp k)) (map-append (λ (f : Flight P). f.message) w.sending (record { message = m; left = whole (length m.bytes) } ∷ [])) ∙ filter-append
+      ap (filter (same_pair cmp k)) (map-append (λ (f : Flight P). f.message) w.sending (flight_of m ∷ [])) ∙ filter-append
       (same_pair cmp k) (flows w) (m ∷ [])
 
   start_history : (messages : List (Message P)) (t : ℕ) (cs : List (Completed P)) (w : World P) (m : Message P) → find (same_pair cmp m) w.waiting ≡ Some m

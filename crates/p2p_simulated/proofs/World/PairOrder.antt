@@ -1,6 +1,5 @@
 -- The order of pairs, and lists in that order.
 use Rattle.std.proofs.Common.{◌≡◌, List, [], ◌∷◌, Bool, true, false, cond, Option, Some, None, refl, sym, ap, ◌∙◌, subst}
-use Rattle.std.specs.Prelude.{◌&&◌}
 use Rattle.std.specs.List.{find}
 use Rattle.std.specs.declared.cmp.Ordering.{Ordering}
 use Rattle.std.specs.declared.cmp.Ordering.TheVariants.{Less, Equal, Greater}
@@ -11,20 +10,16 @@ use Rattle.p2p_simulated.specs.World.{least_pair}
 use Rattle.p2p_simulated.specs.WorldMessages.{Message, OneForEachPair, pair_before, same_pair}
 use Rattle.p2p_simulated.specs.WorldPass.{IsBeforeEach, IsByPair, by_pair, insert_by_pair}
 use Rattle.p2p_simulated.proofs.World.Queue.{pair_like, pair_sym}
-use Rattle.p2p_simulated.proofs.World.Others.{each_more, pair_itself}
+use Rattle.p2p_simulated.proofs.World.OtherPairs.{each_more, pair_itself}
 use Rattle.p2p_simulated.proofs.Each.{Each}
 use Rattle.p2p_simulated.proofs.Filters.{find_from_any}
 use Rattle.p2p_simulated.proofs.Pairs.{is_eq-then}
+use Rattle.p2p_simulated.proofs.Sorted.{is_lt_less}
 
 lt_turned : (r : Ordering) → is_lt (ordering_reverse r) ≡ is_gt r
 lt_turned Less = refl
 lt_turned Equal = refl
 lt_turned Greater = refl
-
-is_less : (r : Ordering) → is_lt r ≡ true → r ≡ Less
-is_less Less e = refl
-is_less Equal e = cc
-is_less Greater e = cc
 
 not_eq_if_lt : (r : Ordering) → is_lt r ≡ true → is_eq r ≡ false
 not_eq_if_lt Less e = refl
@@ -42,17 +37,17 @@ not_gt_if_lt Equal e = refl
 not_gt_if_lt Greater e = cc
 
 module _ {P : Type 0} (cmp : P → P → Ordering) (order : IsTotalOrder cmp) where
-  abbrev pair_cmp : Message P → Message P → Ordering
+  abbrev pub pair_cmp : Message P → Message P → Ordering
   pair_cmp m n = ordering_then (cmp m.origin n.origin) (cmp m.recipient n.recipient)
 
-  pairs : IsTotalOrder pair_cmp
-  pairs = then_total (on_total (λ (m : Message P). m.origin) order) (on_total (λ (m : Message P). m.recipient) order)
+  pub pairs_total : IsTotalOrder pair_cmp
+  pairs_total = then_total (on_total (λ (m : Message P). m.origin) order) (on_total (λ (m : Message P). m.recipient) order)
 
   turned : (m n : Message P) → pair_before cmp m n ≡ is_gt (pair_cmp n m)
-  turned m n = ap is_lt (pairs.antisymm m n) ∙ lt_turned (pair_cmp n m)
+  turned m n = ap is_lt (pairs_total.antisymm m n) ∙ lt_turned (pair_cmp n m)
 
   pub not_before_itself : (m : Message P) → pair_before cmp m m ≡ false
-  not_before_itself m = ap is_lt (tied_itself pairs m)
+  not_before_itself m = ap is_lt (tied_itself pairs_total m)
 
   pub not_before_back : (m n : Message P) → pair_before cmp m n ≡ true → pair_before cmp n m ≡ false
   not_before_back m n e = turned n m ∙ not_gt_if_lt (pair_cmp m n) e
@@ -61,10 +56,10 @@ module _ {P : Type 0} (cmp : P → P → Ordering) (order : IsTotalOrder cmp) wh
   apart_if_before m n e = sym (is_eq-then (cmp m.origin n.origin) (cmp m.recipient n.recipient)) ∙ not_eq_if_lt (pair_cmp m n) e
 
   pub before_each_other : (m n k : Message P) → pair_before cmp m n ≡ true → pair_before cmp n k ≡ true → pair_before cmp m k ≡ true
-  before_each_other m n k e f = ap is_lt (pairs.trans m n k (is_less (pair_cmp m n) e) (is_less (pair_cmp n k) f))
+  before_each_other m n k e f = ap is_lt (pairs_total.trans m n k (is_lt_less (pair_cmp m n) e) (is_lt_less (pair_cmp n k) f))
 
   pub not_before_on : (m n k : Message P) → pair_before cmp m n ≡ false → pair_before cmp n k ≡ false → pair_before cmp m k ≡ false
-  not_before_on m n k e f = turned m k ∙ upto pairs k n m (sym (turned n k) ∙ f) (sym (turned m n) ∙ e)
+  not_before_on m n k e f = turned m k ∙ upto pairs_total k n m (sym (turned n k) ∙ f) (sym (turned m n) ∙ e)
 
   pub before_if_not : (m n : Message P) → pair_before cmp n m ≡ false → same_pair cmp m n ≡ false → pair_before cmp m n ≡ true
   before_if_not m n e f = turned m n ∙ gt_if_neither (pair_cmp n m) e (is_eq-then (cmp n.origin m.origin) (cmp n.recipient m.recipient) ∙ pair_sym cmp order n m ∙ f)

@@ -11,10 +11,11 @@ use Rattle.std.proofs.lemmas.List.Elements.{filter-append}
 use Rattle.std.proofs.lemmas.Bool.{or_from, or_parts, and_parts}
 use Rattle.std.proofs.lemmas.List.{append-nil, map-append}
 use Rattle.p2p_simulated.specs.Sides.{same_peer}
-use Rattle.p2p_simulated.specs.World.{Completed, Course, Flight, World, and_then, complete, goes, is_done, is_in_order, last_moment, may_start, meets, preceded, settle_within, start, start_next, without_first, is_late, completed}
-use Rattle.p2p_simulated.specs.WorldQueue.{leaving, staying, arrived, flight, taken, joined, launch_then, finish_within}
+use Rattle.p2p_simulated.specs.World.{Completed, Course, Flight, World, and_then, complete, goes, is_done, is_in_order, last_moment, may_start, meets, preceded, settle_within, start, start_next, without_first, is_late, completed, flight_of}
+use Rattle.p2p_simulated.specs.WorldQueue.{leaving, staying, arrived, taken, joined, launch_then, finish_within}
 use Rattle.p2p_simulated.specs.WorldMessages.{Message, OneForEachPair, same_pair}
 use Rattle.p2p_simulated.specs.declared.error.Error.TheVariants.{FlowIdsUsedUp, MomentTooLate}
+use Rattle.p2p_simulated.proofs.Sorted.{is_eq_equal}
 
 -- ---- courses
 
@@ -92,18 +93,13 @@ find_passes {X} test y (z ∷ zs) g = by_test (test z) refl g (find_passes test 
 module _ {P : Type 0} (cmp : P → P → Ordering) (order : IsTotalOrder cmp) where
   -- ---- pairs
 
-  equal_from : (o : Ordering) → is_eq o ≡ true → o ≡ Equal
-  equal_from Less e = cc
-  equal_from Equal e = refl
-  equal_from Greater e = cc
-
   reversed : (o : Ordering) → is_eq (ordering_reverse o) ≡ is_eq o
   reversed Less = refl
   reversed Equal = refl
   reversed Greater = refl
 
   pub peer_like : (p q r : P) → same_peer cmp p q ≡ true → same_peer cmp q r ≡ same_peer cmp p r
-  peer_like p q r e = ap is_eq (sym (order.congr p q r (equal_from (cmp p q) e)))
+  peer_like p q r e = ap is_eq (sym (order.congr p q r (is_eq_equal (cmp p q) e)))
 
   pub peer_sym : (p q : P) → same_peer cmp p q ≡ same_peer cmp q p
   peer_sym p q = ap is_eq (order.antisymm p q) ∙ reversed (cmp q p)
@@ -202,35 +198,35 @@ module _ {P : Type 0} (cmp : P → P → Ordering) (order : IsTotalOrder cmp) wh
   finish_alike n t q r v u e f = rw (e, f) refl
 
   done_or_not : (b : Bool) (n t : ℕ) (fs : List (Flight P)) (v : World P) (m : Message P)
-      → finish_within cmp n t (fs ++ cond b (flight cmp m ∷ []) []) (record (taken cmp v m) { sending = v.sending ++ cond (not b) (flight cmp m ∷ []) [] })
-      ≡ cond b (finish_within cmp n t (fs ++ flight cmp m ∷ []) (taken cmp v m)) (finish_within cmp n t fs (joined cmp v m))
-  done_or_not true n t fs v m = ap (λ (rest : List (Flight P)). finish_within cmp n t (fs ++ flight cmp m ∷ []) (record (taken cmp v m) { sending = rest })) (append-nil v.sending)
+      → finish_within cmp n t (fs ++ cond b (flight_of m ∷ []) []) (record (taken cmp v m) { sending = v.sending ++ cond (not b) (flight_of m ∷ []) [] })
+      ≡ cond b (finish_within cmp n t (fs ++ flight_of m ∷ []) (taken cmp v m)) (finish_within cmp n t fs (joined cmp v m))
+  done_or_not true n t fs v m = ap (λ (rest : List (Flight P)). finish_within cmp n t (fs ++ flight_of m ∷ []) (record (taken cmp v m) { sending = rest })) (append-nil v.sending)
   done_or_not false n t fs v m = ap (λ (rest : List (Flight P)). finish_within cmp n t rest (joined cmp v m)) (append-nil fs)
 
   -- a message starts in the one world and in the other
   module _ (n t : ℕ) (ih : (w : World P) → OneForEachPair cmp (messages w.sending) → over_state (staying cmp) (settle_within cmp n t w) ≡ finish_within cmp n t (leaving cmp w) (staying cmp w)) where
     starting : (w : World P) (fs : List (Flight P)) (v : World P) (m : Message P) → OneForEachPair cmp (messages w.sending)
         → list_any (same_pair cmp m) (messages w.sending) ≡ false → leaving cmp w ≡ fs → staying cmp w ≡ v
-        → over_state (staying cmp) (and_then (start cmp w m) (settle_within cmp n t)) ≡ cond (nat_le last_moment v.next_id) (meets FlowIdsUsedUp) (cond (is_done cmp v (flight cmp m)) (finish_within cmp n t (fs ++ flight cmp m ∷ []) (taken cmp v m)) (finish_within cmp n t fs (joined cmp v m)))
+        → over_state (staying cmp) (and_then (start cmp w m) (settle_within cmp n t)) ≡ cond (nat_le last_moment v.next_id) (meets FlowIdsUsedUp) (cond (is_done cmp v (flight_of m)) (finish_within cmp n t (fs ++ flight_of m ∷ []) (taken cmp v m)) (finish_within cmp n t fs (joined cmp v m)))
     unfolding leaving staying over_state
     starting w fs v m one idle e f =
-        subst (λ (u : World P). over_state (staying cmp) (and_then (start cmp w m) (settle_within cmp n t)) ≡ cond (nat_le last_moment u.next_id) (meets FlowIdsUsedUp) (cond (is_done cmp u (flight cmp m)) (finish_within cmp n t (fs ++ flight cmp m ∷ []) (taken cmp u m)) (finish_within cmp n t fs (joined cmp u m)))) f
+        subst (λ (u : World P). over_state (staying cmp) (and_then (start cmp w m) (settle_within cmp n t)) ≡ cond (nat_le last_moment u.next_id) (meets FlowIdsUsedUp) (cond (is_done cmp u (flight_of m)) (finish_within cmp n t (fs ++ flight_of m ∷ []) (taken cmp u m)) (finish_within cmp n t fs (joined cmp u m)))) f
         (by_id (nat_le last_moment w.next_id))
       where
         after : World P
-        after = record w { sending = w.sending ++ flight cmp m ∷ []; waiting = without_first (same_pair cmp m) w.waiting; next_id = w.next_id + 1 }
+        after = record w { sending = w.sending ++ flight_of m ∷ []; waiting = without_first (same_pair cmp m) w.waiting; next_id = w.next_id + 1 }
 
-        one_after : OneForEachPair cmp (messages (w.sending ++ flight cmp m ∷ []))
-        one_after = subst (OneForEachPair cmp) (sym (map-append (λ (g : Flight P). g.message) w.sending (flight cmp m ∷ []))) (one_pair_more (messages w.sending) m one idle)
+        one_after : OneForEachPair cmp (messages (w.sending ++ flight_of m ∷ []))
+        one_after = subst (OneForEachPair cmp) (sym (map-append (λ (g : Flight P). g.message) w.sending (flight_of m ∷ []))) (one_pair_more (messages w.sending) m one idle)
 
         by_id : (b : Bool) → over_state (staying cmp) (and_then (cond b (meets FlowIdsUsedUp) (goes [] after)) (settle_within cmp n t))
-            ≡ cond b (meets FlowIdsUsedUp) (cond (is_done cmp (staying cmp w) (flight cmp m)) (finish_within cmp n t (fs ++ flight cmp m ∷ []) (taken cmp (staying cmp w) m)) (finish_within cmp n t fs (joined cmp (staying cmp w) m)))
+            ≡ cond b (meets FlowIdsUsedUp) (cond (is_done cmp (staying cmp w) (flight_of m)) (finish_within cmp n t (fs ++ flight_of m ∷ []) (taken cmp (staying cmp w) m)) (finish_within cmp n t fs (joined cmp (staying cmp w) m)))
         by_id true = refl
         by_id false = nothing_first (settle_within cmp n t) after ∙ ih after one_after
-            ∙ finish_alike n t (leaving cmp after) (fs ++ cond (is_done cmp w (flight cmp m)) (flight cmp m ∷ []) []) (staying cmp after) (record (taken cmp (staying cmp w) m) { sending = (staying cmp w).sending ++ cond (not (is_done cmp w (flight cmp m))) (flight cmp m ∷ []) [] })
-            (filter-append (is_done cmp w) w.sending (flight cmp m ∷ []) ∙ ap (λ (q : List (Flight P)). q ++ cond (is_done cmp w (flight cmp m)) (flight cmp m ∷ []) []) e)
-            (ap (λ (q : List (Flight P)). record (staying cmp after) { sending = q }) (filter-append (λ g. not (is_done cmp w g)) w.sending (flight cmp m ∷ [])))
-            ∙ done_or_not (is_done cmp w (flight cmp m)) n t fs (staying cmp w) m
+            ∙ finish_alike n t (leaving cmp after) (fs ++ cond (is_done cmp w (flight_of m)) (flight_of m ∷ []) []) (staying cmp after) (record (taken cmp (staying cmp w) m) { sending = (staying cmp w).sending ++ cond (not (is_done cmp w (flight_of m))) (flight_of m ∷ []) [] })
+            (filter-append (is_done cmp w) w.sending (flight_of m ∷ []) ∙ ap (λ (q : List (Flight P)). q ++ cond (is_done cmp w (flight_of m)) (flight_of m ∷ []) []) e)
+            (ap (λ (q : List (Flight P)). record (staying cmp after) { sending = q }) (filter-append (λ g. not (is_done cmp w g)) w.sending (flight_of m ∷ [])))
+            ∙ done_or_not (is_done cmp w (flight_of m)) n t fs (staying cmp w) m
 
     -- the pair's next starts if it may, in the one world and in the other
     next_alike : (w : World P) (fs : List (Flight P)) (v : World P) (m : Message P) (o : Option (Message P)) → OneForEachPair cmp (messages w.sending)
@@ -251,7 +247,7 @@ module _ {P : Type 0} (cmp : P → P → Ordering) (order : IsTotalOrder cmp) wh
         idle_still w x h = ap (λ b. not b && is_in_order (w.last_arrival x.origin x.recipient) (t + x.latency)) (any_filter (same_pair cmp x) (λ g. not (is_done cmp w g)) w.sending h)
 
         by_order : (b : Bool) → list_any (same_pair cmp x) (messages w.sending) ≡ false → over_state (staying cmp) (and_then (cond b (start cmp w x) (goes [] w)) (settle_within cmp n t))
-            ≡ cond b (cond (nat_le last_moment v.next_id) (meets FlowIdsUsedUp) (cond (is_done cmp v (flight cmp x)) (finish_within cmp n t (fs ++ flight cmp x ∷ []) (taken cmp v x)) (finish_within cmp n t fs (joined cmp v x)))) (finish_within cmp n t fs v)
+            ≡ cond b (cond (nat_le last_moment v.next_id) (meets FlowIdsUsedUp) (cond (is_done cmp v (flight_of x)) (finish_within cmp n t (fs ++ flight_of x ∷ []) (taken cmp v x)) (finish_within cmp n t fs (joined cmp v x)))) (finish_within cmp n t fs v)
         by_order true h = starting w fs v x one h e f
         by_order false h = nothing_first (settle_within cmp n t) w ∙ ih w one ∙ finish_alike n t (leaving cmp w) fs (staying cmp w) v e f
 

@@ -13,7 +13,7 @@ use Rattle.p2p_simulated.specs.WorldOrder.{enqueued, answered, IsCompletionOf, N
 use Rattle.p2p_simulated.specs.WorldIsolation.{Answers, InTime, IsSet, NothingElse, inside_alone, is_kept, kept_completions}
 use Rattle.p2p_simulated.specs.ReplayLaws.{AlwaysSoFar, Completes, CompletesInOrder, CompletePairsInOrder, IsolateSets}
 use Rattle.p2p_simulated.proofs.World.Queue.{both_alike}
-use Rattle.p2p_simulated.proofs.World.Alike.{same_itself, peers_alike}
+use Rattle.p2p_simulated.proofs.World.AlikeMessages.{same_itself, peers_alike}
 use Rattle.p2p_simulated.proofs.Zips.{zip-append, zip-filter}
 use Rattle.p2p_simulated.proofs.World.PairHistory.{pair_in_order}
 use Rattle.p2p_simulated.proofs.World.IsolatedCalls.{isolation}

@@ -13,11 +13,11 @@ use Rattle.p2p_simulated.specs.WorldReplies.{SameCompletion}
 use Rattle.p2p_simulated.specs.WorldPlanned.{Planned, Paced, IsLeastMoment, SomeSpentAt, SomeReadyAt, paced_flows, drained_to, next_of, may_launch, is_spent}
 use Rattle.p2p_simulated.specs.WorldEvents.{Accounts, Looks, Launches, nothing_waits, too_early, no_id, starts, launched, landed, Finishes, all_completed, late, stopped, completes, WakesEach, all_started, no_start, no_finish, starts_one, Wakes, Settles, settling, Recaps, none_sending, some_sending, completed_at_once, with_queued, Enqueues, at_once, no_launch, launches, Advances, no_more, at_finish, at_start, finish_stops, start_stops, Obeys}
 use Rattle.p2p_simulated.specs.SamePlanned.{IsSamePaced, IsSamePlanned, IsSameCall, same_limit, same_limit_link, same_enqueue, same_advance, same_next, IsSameCourse}
-use Rattle.p2p_simulated.proofs.World.Alike.{fair_alike}
+use Rattle.p2p_simulated.proofs.World.AlikeMessages.{fair_alike}
 use Rattle.p2p_simulated.proofs.World.Launch.{OptionsAlike}
 use Rattle.p2p_simulated.proofs.Zips.{zip-append}
 use Rattle.p2p_simulated.proofs.World.SameSteps.{least_same, none_same, some_same, IsSameLaunch, course_went, course_met, launch_went, launch_met, limited_by_same, linked_by_same, flows_same, some_spent_same, leaving_same, staying_same, may_same, next_same, ready_same, some_ready_same, next_event_same, recapped_same, no_finish_same, no_start_same, launched_same, landed_same, with_queued_same, at_once_same}
-use Rattle.p2p_simulated.proofs.World.Instant.{completed_alike, late_alike}
+use Rattle.p2p_simulated.proofs.World.Settling.{completed_alike, late_alike}
 use Rattle.p2p_simulated.proofs.World.SameWorlds.{zip_turned, paced_turned, same_turned}
 
 module _ {P : Type 0} (cmp : P → P → Ordering) (order : IsTotalOrder cmp) where

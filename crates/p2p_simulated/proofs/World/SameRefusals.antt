@@ -11,19 +11,19 @@ use Rattle.p2p_simulated.specs.Fair.{Side}
 use Rattle.p2p_simulated.specs.Size.{FairRatesFit}
 use Rattle.p2p_simulated.specs.WorldMessages.{Message, Caps, CapsAlike, SameMessage}
 use Rattle.p2p_simulated.specs.WorldRates.{capped_sides}
-use Rattle.p2p_simulated.specs.World.{Completed, Course, goes, meets, last_moment, fronts}
+use Rattle.p2p_simulated.specs.World.{Completed, goes, meets, last_moment, fronts}
 use Rattle.p2p_simulated.specs.WorldCalls.{Call, call_limit, call_limit_link, call_enqueue, call_advance, call_next, limited_by, linked_by}
 use Rattle.p2p_simulated.specs.WorldReplies.{Reply, reply_done, reply_next, reply_refused, SameCompletion}
 use Rattle.p2p_simulated.specs.WorldPlanned.{Planned, Paced, drained_to, next_of, may_launch, is_spent}
 use Rattle.p2p_simulated.specs.WorldEvents.{Accounts, Launches, Finishes, Settles, Wakes, launched, landed, with_queued, Obeys}
-use Rattle.p2p_simulated.specs.WorldRefusals.{IsDrainTooLarge, IsTimeTooLarge, to_rate, IsTooLarge, drain_too_large, time_too_large, rates_too_large, LaunchAccounts, launch_accounts, FinishAccounts, first_accounts, later_accounts, WakeAccounts, start_accounts, finish_accounts, rest_accounts, SettleAccounts, own_account, leavers_account, RecapAccounts, recap_accounts, EnqueueAccounts, launched_account, finished_accounts, AdvanceAccounts, in_the_end, at_the_finish, at_the_start, after_a_finish, after_a_start, ComesToAccount, MayBeRefused, Obeyed}
+use Rattle.p2p_simulated.specs.WorldRefusals.{IsDrainTooLarge, IsTimeTooLarge, to_rate, drain_too_large, time_too_large, rates_too_large, LaunchAccounts, launch_accounts, FinishAccounts, first_accounts, later_accounts, WakeAccounts, start_accounts, finish_accounts, rest_accounts, SettleAccounts, own_account, leavers_account, RecapAccounts, recap_accounts, EnqueueAccounts, launched_account, finished_accounts, AdvanceAccounts, in_the_end, at_the_finish, at_the_start, after_a_finish, after_a_start, ComesToAccount, MayBeRefused, Obeyed, HasNumberTooLarge}
 use Rattle.p2p_simulated.specs.SamePlanned.{IsSamePaced, IsSamePlanned, IsSameCall, same_limit, same_limit_link, same_enqueue, same_advance, same_next}
-use Rattle.p2p_simulated.proofs.World.Alike.{same_itself as one_peer, message_itself, sides_alike}
+use Rattle.p2p_simulated.proofs.World.AlikeMessages.{same_itself as one_peer, message_itself, sides_alike}
 use Rattle.p2p_simulated.proofs.Zips.{zip-append}
 use Rattle.p2p_simulated.proofs.World.Agreeing.{all_trans}
 use Rattle.p2p_simulated.proofs.World.Launch.{OptionsAlike}
 use Rattle.p2p_simulated.proofs.World.SameSteps.{at_same, some_same, course_went, course_met, launch_went, limited_by_same, linked_by_same, flows_same, staying_same, may_same, next_same, ready_same, next_event_same, recapped_same, no_finish_same, no_start_same, launched_same, landed_same, with_queued_same}
-use Rattle.p2p_simulated.proofs.World.Instant.{late_alike}
+use Rattle.p2p_simulated.proofs.World.Settling.{late_alike}
 use Rattle.p2p_simulated.proofs.World.SameCourses.{accounts_same, launches_same, finishes_same, wakes_same, settles_same, obeys_same, Went, LaunchWent}
 
 module _ {P : Type 0} (cmp : P → P → Ordering) (order : IsTotalOrder cmp) where
@@ -39,7 +39,7 @@ module _ {P : Type 0} (cmp : P → P → Ordering) (order : IsTotalOrder cmp) wh
   to_rate_same t p q same =
       flows_same cmp order (filter (λ f. not (is_spent cmp p.caps f)) (drained_to t p.sending)) (filter (λ f. not (is_spent cmp q.caps f)) (drained_to t q.sending)) (staying_same cmp order p q same t)
 
-  too_large_same : (t : ℕ) (p q : Planned P) → IsSamePlanned cmp p q → IsTooLarge cmp t p → IsTooLarge cmp t q
+  too_large_same : (t : ℕ) (p q : Planned P) → IsSamePlanned cmp p q → HasNumberTooLarge cmp t p → HasNumberTooLarge cmp t q
   too_large_same t p q same (drain_too_large place f at large) =
       let there : (g : Paced P) × (slice_get q.sending place ≡ Some g) × IsSamePaced cmp f g = at_same (IsSamePaced cmp) p.sending q.sending place f same.sending at in
       drain_too_large place there.0 there.1 (drain_same t f there.0 there.2 large)

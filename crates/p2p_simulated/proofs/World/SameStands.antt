@@ -14,7 +14,7 @@ use Rattle.p2p_simulated.specs.WorldReplies.{IsSmallCap, names_pair}
 use Rattle.p2p_simulated.specs.WorldPlanned.{Planned, Paced, IsRated, AreInPairOrder, IsLeastMoment, SomeSpentAt, SomeReadyAt, paced_flows}
 use Rattle.p2p_simulated.specs.WorldStands.{IsSameFlight, IsSmallFlight, IsSmallMessage, IsSmallAmount, Tallies, StandsFor, IsInRange}
 use Rattle.p2p_simulated.specs.SamePlanned.{IsSamePaced, IsSamePlanned}
-use Rattle.p2p_simulated.proofs.World.Alike.{same_itself, pairs_alike, message_itself, any_alike, fair_alike}
+use Rattle.p2p_simulated.proofs.World.AlikeMessages.{same_itself, pairs_alike, message_itself, any_alike, fair_alike}
 use Rattle.p2p_simulated.proofs.World.InOrder.{before_alike}
 use Rattle.p2p_simulated.proofs.World.InRange.{named_alike}
 use Rattle.p2p_simulated.proofs.World.SameWorlds.{message_chain, pairs_chain, caps_chain, same_turned}
@@ -57,7 +57,7 @@ module _ {P : Type 0} (cmp : P → P → Ordering) (order : IsTotalOrder cmp) wh
   none_before_same m n ms ns same all =
       any_alike cmp order (SameMessage cmp) (λ k. pair_before cmp k m) (λ k. pair_before cmp k n) (λ k l e. before_alike cmp order k l m n e same) ms ns all
 
-  order_same : (ms ns : List (Message P)) → AllZip (SameMessage cmp) ms ns → AreInPairOrder cmp ms → AreInPairOrder cmp ns
+  pub order_same : (ms ns : List (Message P)) → AllZip (SameMessage cmp) ms ns → AreInPairOrder cmp ms → AreInPairOrder cmp ns
   order_same [] [] all h = tt
   order_same [] (n ∷ ns) all h = absurd all
   order_same (m ∷ ms) [] all h = absurd all

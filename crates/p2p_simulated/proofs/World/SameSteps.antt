@@ -7,22 +7,20 @@ use Rattle.std.specs.Cmp.{IsTotalOrder}
 use Rattle.p2p_simulated.specs.declared.error.Error.{Error}
 use Rattle.p2p_simulated.specs.Sides.{same_peer}
 use Rattle.p2p_simulated.specs.WorldMessages.{Message, Caps, CapsAlike, PairsAlike, SameMessage, same_pair, pair_before}
-use Rattle.p2p_simulated.specs.World.{Completed, Course, goes, meets, last_moment, completion_of, later_of, raised, without_first, fronts, is_late, completed, arrival}
+use Rattle.p2p_simulated.specs.World.{Completed, Course, goes, meets, last_moment, completion_of, later_of, raised, without_first, fronts, arrival}
 use Rattle.p2p_simulated.specs.WorldCalls.{limited_by, linked_by}
 use Rattle.p2p_simulated.specs.WorldReplies.{SameCompletion}
 use Rattle.p2p_simulated.specs.WorldPlanned.{Planned, Paced, IsLeastMoment, SomeSpentAt, SomeReadyAt, next_event, paced_flows, left_at, drained_to, next_of, queued, may_launch, is_spent}
 use Rattle.p2p_simulated.specs.WorldEvents.{launched, landed, with_queued, completed_at_once}
 use Rattle.p2p_simulated.specs.SamePlanned.{IsSamePaced, IsSamePlanned, IsSameCourse}
-use Rattle.std.specs.Ordering.{ordering_reverse}
 use Rattle.p2p_simulated.specs.declared.error.Error.TheVariants.{MomentTooLate}
 use Rattle.p2p_simulated.specs.Amount.{Amount, whole}
-use Rattle.p2p_simulated.proofs.Sorted.{is_eq_equal}
-use Rattle.p2p_simulated.proofs.World.Alike.{peers_alike, pairs_alike, delivered_alike, message_itself, any_alike, unlimited_alike}
-use Rattle.p2p_simulated.proofs.World.Rests.{find_like}
+use Rattle.p2p_simulated.proofs.World.AlikeMessages.{peers_alike, pairs_alike, message_itself, any_alike, unlimited_alike}
+use Rattle.p2p_simulated.proofs.World.SettlingEnds.{find_like}
 use Rattle.p2p_simulated.proofs.World.Launch.{OptionsAlike}
 use Rattle.p2p_simulated.proofs.World.Queue.{find_passes}
 use Rattle.p2p_simulated.proofs.Zips.{zip-filter, zip-append, zip-if}
-use Rattle.p2p_simulated.proofs.World.Instant.{arrival_alike, completed_alike, late_alike}
+use Rattle.p2p_simulated.proofs.World.Settling.{arrival_alike}
 use Rattle.p2p_simulated.proofs.World.InOrder.{before_alike}
 
 -- ---- lists
@@ -124,10 +122,6 @@ module _ {P : Type 0} (cmp : P → P → Ordering) (order : IsTotalOrder cmp) wh
       rw (peers_alike cmp order m.origin n.origin p q messages.origin e, peers_alike cmp order m.recipient n.recipient r s messages.recipient f, same p q r s e f) refl
 
   -- ---- messages
-
-  ranks_same : (p q r s : P) → same_peer cmp p q ≡ true → same_peer cmp r s ≡ true → cmp p r ≡ cmp q s
-  ranks_same p q r s e f =
-      order.congr p q r (is_eq_equal (cmp p q) e) ∙ order.antisymm q r ∙ ap ordering_reverse (order.congr r s q (is_eq_equal (cmp r s) f)) ∙ sym (order.antisymm q s)
 
   pub queued_same : (m n : Message P) (ms ns : List (Message P)) → SameMessage cmp m n → AllZip (SameMessage cmp) ms ns → AllZip (SameMessage cmp) (queued cmp m ms) (queued cmp n ns)
   queued_same m n [] [] e all = (e, tt)

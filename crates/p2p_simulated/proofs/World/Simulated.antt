@@ -7,21 +7,21 @@ use Rattle.std.specs.Cmp.{IsTotalOrder}
 use Rattle.p2p_simulated.specs.declared.error.Error.{Error}
 use Rattle.p2p_simulated.specs.declared.error.Error.TheVariants.{OutOfMemory, NumberTooLarge, MomentTooLate, FlowIdsUsedUp}
 use Rattle.p2p_simulated.specs.WorldMessages.{Message, SameMessage, same_pair, CapsAlike}
-use Rattle.p2p_simulated.specs.World.{World, Flight, Completed, Course, goes, meets, last_moment}
+use Rattle.p2p_simulated.specs.World.{World, Completed, Course, goes, meets, last_moment}
 use Rattle.p2p_simulated.specs.WorldTime.{IsSound}
 use Rattle.p2p_simulated.specs.WorldCalls.{Call, moment_of, Runs}
 use Rattle.p2p_simulated.specs.WorldReplies.{Faults}
-use Rattle.p2p_simulated.specs.WorldPlanned.{Planned, Paced, next_event}
+use Rattle.p2p_simulated.specs.WorldPlanned.{Planned, next_event}
 use Rattle.p2p_simulated.specs.WorldEvents.{Obeys}
 use Rattle.p2p_simulated.specs.WorldRefusals.{MayBeRefused}
-use Rattle.p2p_simulated.specs.WorldStands.{StandsFor, CoursesAlike, IsSameFlight, IsInRange}
+use Rattle.p2p_simulated.specs.WorldStands.{StandsFor, CoursesAlike, IsInRange}
 use Rattle.p2p_simulated.specs.SamePlanned.{Goes}
 use Rattle.p2p_simulated.specs.Simulated.{IsRun, IsSimulated, IsNextInSimulation, IsCallInRange, KeepsRange, MeetsFault, HasCause, IsRefusedInSimulation}
-use Rattle.p2p_simulated.proofs.World.Alike.{same_itself}
+use Rattle.p2p_simulated.proofs.World.AlikeMessages.{same_itself}
 use Rattle.p2p_simulated.proofs.World.Bytes.{pair_itself}
-use Rattle.p2p_simulated.proofs.World.Between.{positive_flights}
-use Rattle.p2p_simulated.proofs.World.Calm.{next_is_later}
-use Rattle.p2p_simulated.proofs.World.Next.{next_is_planned}
+use Rattle.p2p_simulated.proofs.World.BeforeNext.{positive_flights}
+use Rattle.p2p_simulated.proofs.World.QuietInstants.{next_is_later}
+use Rattle.p2p_simulated.proofs.World.NextEvent.{next_is_planned}
 use Rattle.p2p_simulated.proofs.World.OneRun.{runs_are_one}
 use Rattle.p2p_simulated.proofs.World.Obeys.{obeys_alike}
 use Rattle.p2p_simulated.proofs.World.Agreeing.{all_trans, obeys_in_range, refused_in_range}

@@ -5,24 +5,22 @@ use Rattle.std.specs.List.{list_any}
 use Rattle.std.specs.declared.cmp.Ordering.{Ordering}
 use Rattle.std.specs.Cmp.{IsTotalOrder}
 use Rattle.std.proofs.lemmas.List.{map-append}
-use Rattle.p2p_simulated.specs.Amount.{whole}
 use Rattle.p2p_simulated.specs.Sides.{same_peer}
-use Rattle.p2p_simulated.specs.World.{Completed, Course, EndsWith, Flight, IsQuiet, World, and_then, complete, first_waiting, flows, fronts, goes, instant, is_done, is_idle, is_in_order, last_moment, later_of, least_pair, may_start, meets, new_world, raised, ready, settle, start, start_next, turn, wake, without_first, out_of_flight, is_late, completed, arrival}
+use Rattle.p2p_simulated.specs.World.{Completed, Course, EndsWith, Flight, IsQuiet, World, and_then, complete, first_waiting, flows, fronts, goes, instant, is_done, is_idle, is_in_order, last_moment, later_of, least_pair, may_start, meets, new_world, raised, ready, settle, start, start_next, turn, wake, without_first, out_of_flight, is_late, completed, arrival, flight_of}
 use Rattle.p2p_simulated.specs.WorldCalls.{Call, Runs, act, call_advance, call_enqueue, call_limit, call_next, complete_at_once, recap, limited_by, call_limit_link, linked_by}
 use Rattle.p2p_simulated.specs.WorldMessages.{Caps, Message, OneForEachPair, same_pair, with_cap, CapsAlike, PairsAlike, with_link}
-use Rattle.p2p_simulated.specs.WorldPass.{IsButFor}
 use Rattle.p2p_simulated.specs.WorldRates.{Parts}
 use Rattle.p2p_simulated.specs.WorldTime.{ArePositive, Drains, IsSound, Ticks, drain_each, no_tick, one_tick, tick_faults}
 use Rattle.p2p_simulated.specs.declared.error.Error.TheVariants.{FlowIdsUsedUp, MomentTooLate}
 use Rattle.p2p_simulated.proofs.World.Queue.{peer_like, peer_sym, one_without, one_pair_more, messages}
-use Rattle.p2p_simulated.proofs.World.Rests.{ends_preceded, ends_and_then, ends_cond}
-use Rattle.p2p_simulated.proofs.World.Others.{each_of, ends_more, Leaves, next_leaves}
+use Rattle.p2p_simulated.proofs.World.SettlingEnds.{ends_preceded, ends_and_then, ends_cond}
+use Rattle.p2p_simulated.proofs.World.OtherPairs.{each_of, ends_more, Leaves, next_leaves, IsButFor}
 use Rattle.p2p_simulated.proofs.Each.{each_filtered}
 use Rattle.p2p_simulated.proofs.World.PairOrder.{found_in, least_is}
-use Rattle.p2p_simulated.proofs.World.Pass.{ends_both, settle_keeps}
+use Rattle.p2p_simulated.proofs.World.OnePass.{ends_both, settle_keeps}
 use Rattle.p2p_simulated.proofs.World.Stretch.{flows_drained}
 use Rattle.p2p_simulated.proofs.World.OneNext.{drain_each_positive}
-use Rattle.p2p_simulated.proofs.World.Calm.{settle_outlasts, instant_outlasts, wake_keeps, instant_of_quiet, queued, ends_at}
+use Rattle.p2p_simulated.proofs.World.QuietInstants.{settle_outlasts, instant_outlasts, wake_keeps, instant_of_quiet, queued, ends_at}
 
 positive_on : {P : Type 0} (fs gs : List (Flight P)) → ArePositive fs → ArePositive gs → ArePositive (fs ++ gs)
 positive_on [] gs h k = k
@@ -42,15 +40,11 @@ module _ {P : Type 0} (cmp : P → P → Ordering) (order : IsTotalOrder cmp) wh
     pub positive : ArePositive w.sending
     pub one_each : OneForEachPair cmp (flows w)
 
-  flight : Message P → Flight P
-  flight m = record { message = m; left = whole (length m.bytes) }
-
   start_fit : (w : World P) (m : Message P) → is_idle cmp w m ≡ true → IsFit w → EndsWith IsFit (start cmp w m)
-  unfolding flight
   start_fit w m idle fit = ends_cond IsFit (nat_le last_moment w.next_id) (meets FlowIdsUsedUp) _ tt
       (record {
-        positive = positive_on w.sending (flight m ∷ []) fit.positive (omega arith, tt);
-        one_each = subst (OneForEachPair cmp) (sym (map-append (λ (g : Flight P). g.message) w.sending (flight m ∷ []))) (one_pair_more cmp order (messages cmp order w.sending) m fit.one_each (is_false (list_any (same_pair cmp m) (flows w)) idle));
+        positive = positive_on w.sending (flight_of m ∷ []) fit.positive (omega arith, tt);
+        one_each = subst (OneForEachPair cmp) (sym (map-append (λ (g : Flight P). g.message) w.sending (flight_of m ∷ []))) (one_pair_more cmp order (messages cmp order w.sending) m fit.one_each (is_false (list_any (same_pair cmp m) (flows w)) idle));
       })
     where
       is_false : (b : Bool) → not b ≡ true → b ≡ false

@@ -12,8 +12,8 @@ use Rattle.p2p_simulated.specs.WorldStands.{StandsFor}
 use Rattle.p2p_simulated.specs.SamePlanned.{Goes}
 use Rattle.p2p_simulated.specs.Simulated.{IsRun, RunsInTwo, IsSplitAnywhere}
 use Rattle.p2p_simulated.proofs.World.Split.{ticks_apart}
-use Rattle.p2p_simulated.proofs.World.Calm.{IsAt, ends_at, ticks_end_at}
-use Rattle.p2p_simulated.proofs.World.Onward.{nothing_more, ticks_of}
+use Rattle.p2p_simulated.proofs.World.QuietInstants.{IsAt, ends_at, ticks_end_at}
+use Rattle.p2p_simulated.proofs.World.AdvanceOnward.{nothing_more, ticks_of}
 use Rattle.p2p_simulated.proofs.World.Simulated.{calls_simulated}
 
 module _ {P : Type 0} (cmp : P → P → Ordering) (order : IsTotalOrder cmp) where

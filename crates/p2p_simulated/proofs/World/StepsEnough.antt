@@ -5,10 +5,10 @@ use Rattle.std.specs.declared.cmp.Ordering.{Ordering}
 use Rattle.std.specs.Cmp.{IsTotalOrder}
 use Rattle.p2p_simulated.specs.World.{Flight, World, complete, is_done, settle_within}
 use Rattle.p2p_simulated.proofs.World.Queue.{settle_first}
-use Rattle.p2p_simulated.proofs.World.Rests.{HasAtMost, complete_has, find_in_none}
-use Rattle.p2p_simulated.proofs.World.Others.{ends_more}
-use Rattle.p2p_simulated.proofs.World.Pass.{and_then_alike, ends_both}
-use Rattle.p2p_simulated.proofs.World.Calm.{settle_nothing}
+use Rattle.p2p_simulated.proofs.World.SettlingEnds.{HasAtMost, complete_has, find_in_none}
+use Rattle.p2p_simulated.proofs.World.OtherPairs.{ends_more}
+use Rattle.p2p_simulated.proofs.World.OnePass.{and_then_alike, ends_both}
+use Rattle.p2p_simulated.proofs.World.QuietInstants.{settle_nothing}
 
 module _ {P : Type 0} (cmp : P → P → Ordering) (order : IsTotalOrder cmp) where
   pub settle_enough : (n m t : ℕ) (w : World P) → HasAtMost cmp order n w → HasAtMost cmp order m w → settle_within cmp n t w ≡ settle_within cmp m t w

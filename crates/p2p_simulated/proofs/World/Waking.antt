@@ -1,26 +1,25 @@
 -- Waking in the planned world is waking in the world.
-use Rattle.std.proofs.Common.{◌≡◌, ℕ, zero, suc, ◌+◌, ◌≤◌, List, [], ◌∷◌, ◌++◌, length, Bool, true, false, cond, Option, Some, None, refl, sym, ap, ◌∙◌, subst, arith, length-append}
-use Rattle.std.specs.Prelude.{if◌then◌else◌}
+use Rattle.std.proofs.Common.{◌≡◌, ℕ, zero, suc, ◌+◌, ◌≤◌, List, [], ◌∷◌, ◌++◌, length, Bool, true, false, cond, Option, Some, refl, sym, ap, ◌∙◌, subst, arith, length-append}
 use Rattle.std.specs.List.{filter, find, list_any, AllZip}
 use Rattle.std.specs.declared.cmp.Ordering.{Ordering}
 use Rattle.std.specs.Cmp.{IsTotalOrder}
 use Rattle.std.proofs.lemmas.Bool.{or_parts}
-use Rattle.p2p_simulated.specs.World.{Completed, Course, Flight, World, and_then, flows, fronts, goes, is_done, least_pair, may_start, meets, preceded, ready, settle, start, wake_within, without_first, EndsWith}
+use Rattle.p2p_simulated.specs.World.{Completed, Course, Flight, World, and_then, flows, fronts, goes, is_done, least_pair, may_start, meets, preceded, ready, settle, start, wake_within, without_first, EndsWith, flight_of}
 use Rattle.p2p_simulated.specs.WorldEvents.{Finishes, Launches, WakesEach, all_started, no_finish, no_start, starts_one}
-use Rattle.p2p_simulated.specs.WorldMessages.{Message, OneForEachPair, SameMessage, pair_before, same_pair}
+use Rattle.p2p_simulated.specs.WorldMessages.{Message, OneForEachPair, SameMessage, same_pair}
 use Rattle.p2p_simulated.specs.WorldPlanned.{Planned, next_of}
 use Rattle.p2p_simulated.specs.WorldReplies.{SameCompletion}
 use Rattle.p2p_simulated.specs.WorldStands.{CoursesAlike, Follows, IsSettled}
-use Rattle.p2p_simulated.specs.WorldQueue.{staying, flight, taken, joined, finish_within}
-use Rattle.p2p_simulated.proofs.World.Queue.{then_then, preceded_none}
-use Rattle.p2p_simulated.proofs.World.Between.{IsFront, fronts_first, first_found}
+use Rattle.p2p_simulated.specs.WorldQueue.{staying, taken, joined, finish_within}
+use Rattle.p2p_simulated.proofs.World.Queue.{preceded_none}
+use Rattle.p2p_simulated.proofs.World.BeforeNext.{IsFront, fronts_first, first_found}
 use Rattle.p2p_simulated.proofs.Each.{Each, each_filtered}
 use Rattle.p2p_simulated.proofs.World.Launch.{NoneDone, joining, started, joining_leaves, started_stays, OptionsAlike, next_alike, StartsSo, StartAlike, start_alike}
-use Rattle.p2p_simulated.proofs.World.Instant.{CourseAlike, looked, finishes_alike, settle_is_finish}
-use Rattle.p2p_simulated.proofs.World.Pass.{wake_none}
-use Rattle.p2p_simulated.proofs.World.Alike.{same_itself}
-use Rattle.p2p_simulated.proofs.World.Pair.{apart, OnlyPair, only_both, IsRested, IsAfter, only_taken, only_joined, rested_joined, finish_only, ready_after, ends_so}
-use Rattle.p2p_simulated.proofs.World.Rests.{length_without}
+use Rattle.p2p_simulated.proofs.World.Settling.{CourseAlike, looked, finishes_alike, settle_is_finish}
+use Rattle.p2p_simulated.proofs.World.OnePass.{wake_none}
+use Rattle.p2p_simulated.proofs.World.AlikeMessages.{same_itself}
+use Rattle.p2p_simulated.proofs.World.OnePair.{apart, OnlyPair, only_both, IsRested, IsAfter, only_taken, only_joined, rested_joined, finish_only, ready_after, ends_so}
+use Rattle.p2p_simulated.proofs.World.SettlingEnds.{length_without}
 use Rattle.p2p_simulated.proofs.Zips.{zip-append}
 use Rattle.p2p_simulated.proofs.World.Bytes.{each_least, wake_first}
 
@@ -43,11 +42,11 @@ module _ {P : Type 0} (cmp : P → P → Ordering) (order : IsTotalOrder cmp) wh
 
   pub round_fuel : (w : World P) (y : Message P) → length (joining cmp order w y) + length (started cmp order w y).waiting ≤ length (joined cmp w y).sending + length (joined cmp w y).waiting
   round_fuel w y =
-      let many : length (w.sending ++ flight cmp y ∷ []) ≡ length w.sending + 1 = length-append w.sending (flight cmp y ∷ []) in
-      by_test (is_done cmp w (flight cmp y)) many
+      let many : length (w.sending ++ flight_of y ∷ []) ≡ length w.sending + 1 = length-append w.sending (flight_of y ∷ []) in
+      by_test (is_done cmp w (flight_of y)) many
     where
-      by_test : (b : Bool) → length (w.sending ++ flight cmp y ∷ []) ≡ length w.sending + 1
-          → length (cond b (flight cmp y ∷ []) []) + length (cond b (taken cmp w y) (joined cmp w y)).waiting ≤ length (w.sending ++ flight cmp y ∷ []) + length (without_first (same_pair cmp y) w.waiting)
+      by_test : (b : Bool) → length (w.sending ++ flight_of y ∷ []) ≡ length w.sending + 1
+          → length (cond b (flight_of y ∷ []) []) + length (cond b (taken cmp w y) (joined cmp w y)).waiting ≤ length (w.sending ++ flight_of y ∷ []) + length (without_first (same_pair cmp y) w.waiting)
       by_test true h = omega arith
       by_test false h = omega arith
 
@@ -60,13 +59,13 @@ module _ {P : Type 0} (cmp : P → P → Ordering) (order : IsTotalOrder cmp) wh
   round_after t w y none one found =
       subst (λ (c : Course (Completed P) (World P)). EndsWith (IsRound t y w) c) (sym (round_is t w y none one))
       (ends_so (IsAfter cmp order y t (started cmp order w y)) (IsRound t y w) _ (λ v after. both v after (length_without (same_pair cmp y) y w.waiting found))
-      (finish_only cmp order y (length (joined cmp w y).sending + length (joined cmp w y).waiting) t (joining cmp order w y) (started cmp order w y) (own_joining (is_done cmp w (flight cmp y))) (round_fuel w y) (rests (is_done cmp w (flight cmp y)))))
+      (finish_only cmp order y (length (joined cmp w y).sending + length (joined cmp w y).waiting) t (joining cmp order w y) (started cmp order w y) (own_joining (is_done cmp w (flight_of y))) (round_fuel w y) (rests (is_done cmp w (flight_of y)))))
     where
-      own_joining : (b : Bool) → Each (λ (f : Flight P). same_pair cmp y f.message ≡ true) (cond b (flight cmp y ∷ []) [])
+      own_joining : (b : Bool) → Each (λ (f : Flight P). same_pair cmp y f.message ≡ true) (cond b (flight_of y ∷ []) [])
       own_joining true = (own_pair y, tt)
       own_joining false = tt
 
-      rests : (b : Bool) → cond b (flight cmp y ∷ []) [] ≡ [] → IsRested cmp order y t (cond b (taken cmp w y) (joined cmp w y))
+      rests : (b : Bool) → cond b (flight_of y ∷ []) [] ≡ [] → IsRested cmp order y t (cond b (taken cmp w y) (joined cmp w y))
       rests true e = cc
       rests false e = rested_joined cmp order y t w y (own_pair y)
 
@@ -81,8 +80,8 @@ module _ {P : Type 0} (cmp : P → P → Ordering) (order : IsTotalOrder cmp) wh
       both : (v : World P) → IsAfter cmp order y t (started cmp order w y) v → length (without_first (same_pair cmp y) w.waiting) + 1 ≡ length w.waiting → IsRound t y w v
       both v after fewer =
           let less : length v.waiting ≤ length (started cmp order w y).waiting = after.0.fewer in
-          let some : length (started cmp order w y).waiting ≡ length (without_first (same_pair cmp y) w.waiting) = waits (is_done cmp w (flight cmp y)) in
-          ((only_both cmp order y w (started cmp order w y) v (only (is_done cmp w (flight cmp y))) after.0, after.1), omega arith)
+          let some : length (started cmp order w y).waiting ≡ length (without_first (same_pair cmp y) w.waiting) = waits (is_done cmp w (flight_of y)) in
+          ((only_both cmp order y w (started cmp order w y) v (only (is_done cmp w (flight_of y))) after.0, after.1), omega arith)
 
   -- ---- the order of the pairs
 

@@ -18,7 +18,7 @@ use std::alloc::Global;
 pub(crate) fn make(alloc: Global, scheduler: &mut State<u64>, call: Call) -> Result<Answer, Error>
     ensures answer { IfOk result (λ answer. Makes call scheduler.old answer scheduler.new) }
     ensures refused { IfErr result (MayRefuseCall call scheduler.old) }
-    ensures unchanged { OnErr result (scheduler.new ≡ scheduler.old) }
+    ensures unchanged { OnErr result (planned_by scheduler.new ≡ planned_by scheduler.old) }
 {
     match call {
         Call::Limit {
@@ -47,7 +47,7 @@ fn enqueue(
 ) -> Result<Vec<Completion<u64>>, Error>
     ensures goes { IfOk result (λ completions. Goes nat_cmp (planned_by scheduler.old) (call_enqueue parcel.now (message_of parcel)) (map completed_of completions.items) (planned_by scheduler.new)) }
     ensures refused { IfErr result (MayBeRefused nat_cmp (planned_by scheduler.old) (call_enqueue parcel.now (message_of parcel))) }
-    ensures unchanged { OnErr result (scheduler.new ≡ scheduler.old) }
+    ensures unchanged { OnErr result (planned_by scheduler.new ≡ planned_by scheduler.old) }
 {
     let message = zeros(alloc, parcel.length)?;
     scheduler.enqueue(

@@ -6,7 +6,7 @@ ghost use Rattle.p2p_simulated.specs.Caps.{no_caps};
 ghost use Rattle.p2p_simulated.specs.Pairs.{pair_cmp};
 ghost use Rattle.p2p_simulated.specs.PeerCaps.{IsFairById};
 ghost use Rattle.p2p_simulated.specs.Schedule.{planned_by};
-ghost use Rattle.p2p_simulated.specs.Session.{Says, SaysSame, KeepsScheduler, SaysAfter, AnswersTo, MayRefuse, MayRefuseRates, caps_of, with_cap, with_link};
+ghost use Rattle.p2p_simulated.specs.Session.{Says, SaysSame, KeepsPlanned, SaysAfter, AnswersTo, MayRefuse, MayRefuseRates, caps_of, with_cap, with_link};
 ghost use Rattle.p2p_simulated.specs.WorldPlanned.{new_planned};
 
 use crate::bandwidth;
@@ -52,7 +52,7 @@ impl Session {
     pub(crate) fn perform(&mut self, command: Command) -> Result<Answer, Error>
         ensures answer { IfOk result (λ answer. AnswersTo command self.old answer self.new) }
         ensures done { OnOk result (SaysAfter command self.old self.new) }
-        ensures kept { OnErr result (SaysSame self.old self.new × KeepsScheduler self.old self.new) }
+        ensures kept { OnErr result (SaysSame self.old self.new × KeepsPlanned self.old self.new) }
         ensures refused { IfErr result (MayRefuse command self.old) }
     {
         match command {

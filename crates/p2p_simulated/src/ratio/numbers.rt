@@ -1,6 +1,6 @@
 //! Whole numbers of 128 bits, handled in 64 bits where they fit: that is many times faster.
 ghost use Rattle.std.specs.Prelude.{◌≡◌, ◌*◌, ◌/◌, ◌<◌};
-ghost use Rattle.p2p_simulated.specs.Fits.{gcd as greatest_divisor};
+ghost use Rattle.p2p_simulated.specs.Amount.{gcd as greatest_divisor};
 ghost use Rattle.p2p_simulated.specs.Fraction.{fraction_cmp};
 
 use std::cmp::Ordering;

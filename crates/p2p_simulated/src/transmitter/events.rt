@@ -1,8 +1,8 @@
 //! The event rule: what calls do, at any moments.
-ghost use Rattle.std.specs.Prelude.{◌≡◌, ℕ, ◌+◌, nat_lt, if◌then◌else◌, List, [], ◌∷◌, ◌++◌, map, true, false, IfOk, IfErr, IsTrue, ◌&&◌, is_some};
+ghost use Rattle.std.specs.Prelude.{◌≡◌, ℕ, ◌+◌, nat_lt, if◌then◌else◌, List, [], ◌∷◌, ◌++◌, map, true, false, IfOk, IfErr, OnOk, OnErr, IsTrue, ◌&&◌, is_some};
 ghost use Rattle.p2p_simulated.specs.World.{Completed, goes, meets, last_moment, later_of as latest, is_late, completed};
 ghost use Rattle.p2p_simulated.specs.WorldMessages.{Message as AnyMessage};
-ghost use Rattle.p2p_simulated.specs.WorldPlanned.{next_of, next_event as next_of_planned};
+ghost use Rattle.p2p_simulated.specs.WorldPlanned.{next_of};
 ghost use Rattle.p2p_simulated.specs.WorldEvents.{Launches, Finishes, Settles, Wakes, Recaps, Enqueues, Advances, landed, completed_at_once};
 ghost use Rattle.p2p_simulated.specs.WorldRefusals.{LaunchAccounts, FinishAccounts, SettleAccounts, WakeAccounts, RecapAccounts, EnqueueAccounts, AdvanceAccounts};
 ghost use Rattle.p2p_simulated.specs.Refusing.{IsRefusedBy, IsRefusedAt};
@@ -21,7 +21,7 @@ use crate::peer::Peer;
 use std::collections::VecDeque;
 
 impl<P: Peer> Working<P> {
-    ghost use Rattle.p2p_simulated.specs.Working.{planned, messages, may_launch_first, ready_messages};
+    ghost use Rattle.p2p_simulated.specs.Working.{planned, messages, is_sending, may_launch_first, ready_messages};
 
     /// Whether the first waiting message of the pair may start: the pair is idle, and the message
     /// arrives no earlier than the pair's last one.
@@ -165,6 +165,26 @@ impl<P: Peer> Working<P> {
         let queue = self.launch(&pair.origin, &pair.recipient, now)?;
         self.finish(queue, now, &mut completions)?;
         Ok(completions)
+    }
+
+    /// Whether a message of the pair has to wait: limits hold, and one of the pair is in flight.
+    pub(crate) fn has_to_wait(&self, origin: &P, recipient: &P) -> bool
+        ensures { result ≡ ((planned P.cmp self.now).limited && is_sending P.cmp (planned P.cmp self.now) origin.now recipient.now) }
+    {
+        self.limited && self.flights.has_pair(origin, recipient)
+    }
+
+    /// A message waits behind the one of its pair that is in flight.
+    pub(crate) fn wait(&mut self, now: u64, message: Message<P>) -> Result<(), Error>
+        requires limited { (planned P.cmp self.old).limited ≡ true }
+        requires busy { is_sending P.cmp (planned P.cmp self.old) message.origin message.recipient ≡ true }
+        ensures enqueues { OnOk result (Enqueues P.cmp now (message_of message) (planned P.cmp self.old) (goes [] (planned P.cmp self.new))) }
+        ensures unchanged { OnErr result (planned P.cmp self.new ≡ planned P.cmp self.old) }
+        ensures refused { IfErr result (λ e. e ≡ Error.OutOfMemory) }
+    {
+        self.pairs.push(self.alloc, message)?;
+        self.look(now);
+        Ok(())
     }
 
     /// The moment at which a message arrives that completes at once: no earlier than its pair's

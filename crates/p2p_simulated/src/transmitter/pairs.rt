@@ -42,7 +42,7 @@ pub(crate) fn later_of(last: Option<u64>, moment: u64) -> u64
 }
 
 impl<P: Peer> Pairs<P> {
-    ghost use Rattle.std.specs.Prelude.{[], OnOk, option_map};
+    ghost use Rattle.std.specs.Prelude.{[], OnOk, OnErr, option_map};
     ghost use Rattle.p2p_simulated.specs.Sides.{same_peer};
     ghost use Rattle.p2p_simulated.specs.WorldMessages.{with_link};
     ghost use Rattle.p2p_simulated.specs.World.{without_first};
@@ -73,9 +73,9 @@ impl<P: Peer> Pairs<P> {
     /// Where the pair stands, if need be from now on.
     fn place(&mut self, alloc: Global, origin: &P, recipient: &P) -> Result<usize, Error>
         ensures found { IfOk result (IsPlace (pair_cmp P.cmp) key_of self.new.entries.items (origin.now, recipient.now)) }
-        ensures link { OnOk result (link_of P.cmp self.new.entries.items ≡ link_of P.cmp self.old.entries.items) }
-        ensures arrival { OnOk result (arrival_of P.cmp self.new.entries.items ≡ arrival_of P.cmp self.old.entries.items) }
-        ensures waiting { OnOk result (waiting_of self.new.entries.items ≡ waiting_of self.old.entries.items) }
+        ensures link { link_of P.cmp self.new.entries.items ≡ link_of P.cmp self.old.entries.items }
+        ensures arrival { arrival_of P.cmp self.new.entries.items ≡ arrival_of P.cmp self.old.entries.items }
+        ensures waiting { waiting_of self.new.entries.items ≡ waiting_of self.old.entries.items }
         ensures refused { IfErr result (λ e. e ≡ Error.OutOfMemory) }
     {
         match self.search(origin, recipient) {
@@ -178,8 +178,9 @@ impl<P: Peer> Pairs<P> {
     /// The message joins those that wait for its pair, as the last one.
     pub(crate) fn push(&mut self, alloc: Global, message: Message<P>) -> Result<(), Error>
         ensures waiting { OnOk result (waiting_of self.new.entries.items ≡ queued P.cmp (message_of message) (waiting_of self.old.entries.items)) }
-        ensures link { OnOk result (link_of P.cmp self.new.entries.items ≡ link_of P.cmp self.old.entries.items) }
-        ensures arrival { OnOk result (arrival_of P.cmp self.new.entries.items ≡ arrival_of P.cmp self.old.entries.items) }
+        ensures kept { OnErr result (waiting_of self.new.entries.items ≡ waiting_of self.old.entries.items) }
+        ensures link { link_of P.cmp self.new.entries.items ≡ link_of P.cmp self.old.entries.items }
+        ensures arrival { arrival_of P.cmp self.new.entries.items ≡ arrival_of P.cmp self.old.entries.items }
         ensures refused { IfErr result (λ e. e ≡ Error.OutOfMemory) }
     {
         let at = self.place(alloc, &message.origin, &message.recipient)?;

@@ -78,3 +78,13 @@ fn nothing_is_due_before_the_next_event(rt: HostRuntime) {
     p.expect_counted(&rt, 2 * SECOND - 1, &[], 0);
     p.expect_next(&rt, Some(2 * SECOND));
 }
+
+#[test]
+fn a_lost_message_does_not_lower_the_last_arrival(rt: HostRuntime) {
+    let mut p = capped(&rt, rt.alloc(), 1000);
+    let late = from_to(1, 2).of(0).after(100);
+    p.sends(&rt, late, &[(0, Some(100))]);
+    p.sends(&rt, late.lost(), &[(1, None)]);
+    p.sends(&rt, from_to(1, 2).of(0), &[]);
+    p.walk(&rt, &[(100, [(2, Some(100))].as_slice())]);
+}

@@ -4,10 +4,10 @@ use Rattle.std.proofs.lemmas.List.{take_all, nil_from_length}
 use Rattle.p2p_simulated.specs.Answers.{Answered, States, CallsFor, CallableOnEach, recipients}
 use Rattle.p2p_simulated.specs.Sides.{received_by}
 use Rattle.p2p_simulated.specs.Registering.{FindsSides}
-use Rattle.p2p_simulated.proofs.Later.{AllPairs-from_later}
+use Rattle.p2p_simulated.proofs.EachLater.{AllPairs-from_later}
 use Rattle.p2p_simulated.proofs.Registry.{nothing_registered, finds_sides}
 use Rattle.p2p_simulated.proofs.Asking.{Asked, registers_it, registers_nothing}
-use Rattle.p2p_simulated.proofs.Passes.{Passed, passed, called, not_called, origin_next, recipient_next, recipient_skip, pair_next}
+use Rattle.p2p_simulated.proofs.FlowByFlow.{Passed, passed, called, not_called, origin_next, recipient_next, recipient_skip, pair_next}
 use Rattle.p2p_simulated.proofs.SideUsers.{users_of}
 use Rattle.p2p_simulated.proofs.bandwidth.sides.sides.Goals.{then-flow+in_ok-register-2, else-flow}
 use Rattle.p2p_simulated.proofs.bandwidth.sides.sides.Goals as goal

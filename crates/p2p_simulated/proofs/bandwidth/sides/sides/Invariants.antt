@@ -1,7 +1,7 @@
 use Rattle.std.proofs.Common.{drop}
 use Rattle.std.specs.Fn.{CalledAt, TakesAt, CalledAtTwo, TakesAtTwo}
 use Rattle.p2p_simulated.specs.Answers.{CallableOnEach, CallableOnEachPair, origins, recipients, pairs}
-use Rattle.p2p_simulated.proofs.Passes.{Passed}
+use Rattle.p2p_simulated.proofs.FlowByFlow.{Passed}
 use Rattle.p2p_simulated.proofs.bandwidth.sides.sides.Given as goal
 
 abbrev pub invariant-loop-place : goal.invariant-loop-place

@@ -1,4 +1,4 @@
-use Rattle.p2p_simulated.proofs.World.Next.{advance_runs}
+use Rattle.p2p_simulated.proofs.World.NextEvent.{advance_runs}
 use Rattle.p2p_simulated.proofs.model.events.advancing_is_ticking.Goals as goal
 
 pub returns : goal.returns

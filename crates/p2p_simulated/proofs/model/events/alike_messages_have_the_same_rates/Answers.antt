@@ -1,4 +1,4 @@
-use Rattle.p2p_simulated.proofs.World.Alike.{fair_alike}
+use Rattle.p2p_simulated.proofs.World.AlikeMessages.{fair_alike}
 use Rattle.p2p_simulated.proofs.model.events.alike_messages_have_the_same_rates.Goals as goal
 
 pub returns : goal.returns

@@ -1,4 +1,4 @@
-use Rattle.p2p_simulated.proofs.World.Next.{next_is_planned}
+use Rattle.p2p_simulated.proofs.World.NextEvent.{next_is_planned}
 use Rattle.p2p_simulated.proofs.model.events.next_is_planned.Goals as goal
 
 pub returns-clause-quiet : goal.returns-clause-quiet

@@ -1,4 +1,4 @@
-use Rattle.p2p_simulated.proofs.World.Instant.{settles_alike}
+use Rattle.p2p_simulated.proofs.World.Settling.{settles_alike}
 use Rattle.p2p_simulated.proofs.model.events.settling_is_finishing.Goals as goal
 
 pub returns : goal.returns

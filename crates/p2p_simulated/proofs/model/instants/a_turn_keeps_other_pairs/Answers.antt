@@ -1,6 +1,6 @@
 use Rattle.p2p_simulated.specs.WorldPass.{IsUnchangedFor}
 use Rattle.p2p_simulated.specs.World.{turn}
-use Rattle.p2p_simulated.proofs.World.Others.{Leaves, ends_more, start_settles, others_see_nothing}
+use Rattle.p2p_simulated.proofs.World.OtherPairs.{Leaves, ends_more, start_settles, others_see_nothing}
 use Rattle.p2p_simulated.proofs.model.instants.a_turn_keeps_other_pairs.Goals as goal
 
 pub returns : goal.returns

@@ -3,7 +3,7 @@ use Rattle.std.specs.List.{filter}
 use Rattle.p2p_simulated.specs.WorldMessages.{same_pair}
 use Rattle.p2p_simulated.specs.WorldPass.{MayNotStart}
 use Rattle.p2p_simulated.specs.World.{turn, ready}
-use Rattle.p2p_simulated.proofs.World.Others.{Leaves, ends_more, start_settles, ready_without}
+use Rattle.p2p_simulated.proofs.World.OtherPairs.{Leaves, ends_more, start_settles, ready_without}
 use Rattle.p2p_simulated.proofs.model.instants.a_turn_rests_its_pair.Goals as goal
 
 pub returns-clause-may_not : goal.returns-clause-may_not

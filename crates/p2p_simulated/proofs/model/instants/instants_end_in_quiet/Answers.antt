@@ -1,11 +1,11 @@
 use Rattle.std.proofs.Common.{◌≡◌, false}
 use Rattle.std.specs.List.{list_any}
 use Rattle.p2p_simulated.specs.World.{is_done, settle}
-use Rattle.p2p_simulated.proofs.World.Calm.{instant_ends_quiet, instant_of_quiet, quiet_if_unchanged}
-use Rattle.p2p_simulated.proofs.World.Pass.{wake_ends_quiet}
-use Rattle.p2p_simulated.proofs.World.Rests.{NoneDone, settle_rests}
-use Rattle.p2p_simulated.proofs.World.Others.{any_from_find}
-use Rattle.p2p_simulated.proofs.World.Others.{ends_more}
+use Rattle.p2p_simulated.proofs.World.QuietInstants.{instant_ends_quiet, instant_of_quiet, quiet_if_unchanged}
+use Rattle.p2p_simulated.proofs.World.OnePass.{wake_ends_quiet}
+use Rattle.p2p_simulated.proofs.World.SettlingEnds.{NoneDone, settle_rests}
+use Rattle.p2p_simulated.proofs.World.OtherPairs.{any_from_find}
+use Rattle.p2p_simulated.proofs.World.OtherPairs.{ends_more}
 use Rattle.p2p_simulated.proofs.model.instants.instants_end_in_quiet.Goals as goal
 
 pub returns-clause-settled : goal.returns-clause-settled

@@ -1,4 +1,4 @@
-use Rattle.p2p_simulated.proofs.World.Instant.{settle_is_finish}
+use Rattle.p2p_simulated.proofs.World.Settling.{settle_is_finish}
 use Rattle.p2p_simulated.proofs.model.instants.settling_is_a_queue.Goals as goal
 
 pub returns : goal.returns

@@ -1,4 +1,4 @@
-use Rattle.p2p_simulated.proofs.World.Pass.{wake_is_one_pass, wake_is_pass}
+use Rattle.p2p_simulated.proofs.World.OnePass.{wake_is_one_pass, wake_is_pass}
 use Rattle.p2p_simulated.proofs.model.instants.waking_is_one_pass.Goals as goal
 
 pub returns-clause-sorted : goal.returns-clause-sorted

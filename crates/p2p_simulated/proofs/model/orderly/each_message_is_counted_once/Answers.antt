@@ -1,4 +1,4 @@
-use Rattle.p2p_simulated.proofs.World.Counted.{all_counted}
+use Rattle.p2p_simulated.proofs.World.ConservedCount.{all_counted}
 use Rattle.p2p_simulated.proofs.model.orderly.each_message_is_counted_once.Goals as goal
 
 pub returns : goal.returns

@@ -1,4 +1,4 @@
-use Rattle.p2p_simulated.proofs.World.Ranges.{drained_is_small, taken_fits, seconds_fit}
+use Rattle.p2p_simulated.proofs.World.ArithmeticInRange.{drained_is_small, taken_fits, seconds_fit}
 use Rattle.p2p_simulated.proofs.model.range.the_range_is_kept_by_draining.Goals as goal
 
 pub returns-clause-kept : goal.returns-clause-kept

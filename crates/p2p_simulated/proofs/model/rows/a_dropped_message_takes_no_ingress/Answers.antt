@@ -5,7 +5,7 @@ use Rattle.p2p_simulated.specs.Amount.{reduced, gcd_within}
 use Rattle.p2p_simulated.specs.World.{World, new_world}
 use Rattle.p2p_simulated.specs.WorldCalls.{call_limit, call_enqueue, call_advance, call_next}
 use Rattle.p2p_simulated.specs.WorldRows.{message, dropped, a_byte_a_nanosecond}
-use Rattle.p2p_simulated.proofs.World.Checked.{Shares, answers_agree}
+use Rattle.p2p_simulated.proofs.World.ComputedReplies.{Shares, answers_agree}
 use Rattle.p2p_simulated.proofs.model.rows.a_dropped_message_takes_no_ingress.Goals as goal
 
 -- each has a byte a nanosecond

@@ -5,7 +5,7 @@ use Rattle.p2p_simulated.specs.Amount.{reduced, gcd_within}
 use Rattle.p2p_simulated.specs.World.{new_world}
 use Rattle.p2p_simulated.specs.WorldCalls.{call_limit_link, call_enqueue, call_advance, call_next}
 use Rattle.p2p_simulated.specs.WorldRows.{message, a_byte_a_nanosecond}
-use Rattle.p2p_simulated.proofs.World.Checked.{answers_agree, evenly}
+use Rattle.p2p_simulated.proofs.World.ComputedReplies.{answers_agree, evenly}
 use Rattle.p2p_simulated.proofs.model.rows.a_link_has_one_direction.Goals as goal
 
 pub returns : goal.returns

@@ -6,7 +6,7 @@ use Rattle.p2p_simulated.specs.Amount.{reduced, gcd_within}
 use Rattle.p2p_simulated.specs.World.{World, new_world}
 use Rattle.p2p_simulated.specs.WorldCalls.{call_limit, call_limit_link, call_enqueue, call_advance, call_next}
 use Rattle.p2p_simulated.specs.WorldRows.{message, a_byte_a_nanosecond}
-use Rattle.p2p_simulated.proofs.World.Checked.{Shares, answers_agree}
+use Rattle.p2p_simulated.proofs.World.ComputedReplies.{Shares, answers_agree}
 use Rattle.p2p_simulated.proofs.model.rows.a_link_leaves_the_rest_to_others.Goals as goal
 
 -- the first message has what its link allows

@@ -5,7 +5,7 @@ use Rattle.p2p_simulated.specs.Amount.{reduced, gcd_within}
 use Rattle.p2p_simulated.specs.WorldCalls.{call_limit, call_enqueue, call_advance, call_next}
 use Rattle.p2p_simulated.specs.WorldReplies.{reply_done, reply_next}
 use Rattle.p2p_simulated.specs.WorldRows.{message, arrives, a_byte_a_nanosecond}
-use Rattle.p2p_simulated.proofs.World.Computed.{agrees_by_rule, no_hint, shared}
+use Rattle.p2p_simulated.proofs.World.ComputedRule.{agrees_by_rule, no_hint, shared}
 use Rattle.p2p_simulated.proofs.model.rows.a_message_may_arrive_at_the_last_moment.Goals as goal
 
 pub returns : goal.returns

@@ -5,8 +5,8 @@ use Rattle.p2p_simulated.specs.Amount.{reduced, gcd_within}
 use Rattle.p2p_simulated.specs.WorldCalls.{call_limit, call_enqueue, call_advance}
 use Rattle.p2p_simulated.specs.WorldReplies.{reply_done}
 use Rattle.p2p_simulated.specs.WorldRows.{message, arrives, a_byte_a_nanosecond}
-use Rattle.p2p_simulated.proofs.World.Checked.{evenly}
-use Rattle.p2p_simulated.proofs.World.Differs.{never_agree}
+use Rattle.p2p_simulated.proofs.World.ComputedReplies.{evenly}
+use Rattle.p2p_simulated.proofs.World.ComputedDifferences.{never_agree}
 use Rattle.p2p_simulated.proofs.model.rows.a_wrong_order_does_not_agree.Goals as goal
 
 pub returns : goal.returns

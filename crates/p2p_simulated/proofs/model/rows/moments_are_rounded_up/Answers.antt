@@ -7,7 +7,7 @@ use Rattle.p2p_simulated.specs.WorldMessages.{Message}
 use Rattle.p2p_simulated.specs.WorldCalls.{call_limit, call_enqueue, call_advance, call_next}
 use Rattle.p2p_simulated.specs.WorldReplies.{reply_done, reply_next}
 use Rattle.p2p_simulated.specs.WorldRows.{message, arrives}
-use Rattle.p2p_simulated.proofs.World.Computed.{agrees_by_rule, shared}
+use Rattle.p2p_simulated.proofs.World.ComputedRule.{agrees_by_rule, shared}
 use Rattle.p2p_simulated.proofs.model.rows.moments_are_rounded_up.Goals as goal
 
 -- the first byte alone would take a seventh of a second

@@ -6,7 +6,7 @@ use Rattle.p2p_simulated.specs.WorldPlanned.{new_planned}
 use Rattle.p2p_simulated.specs.WorldCalls.{call_limit, call_enqueue, call_advance, call_next}
 use Rattle.p2p_simulated.specs.WorldReplies.{reply_done, reply_next}
 use Rattle.p2p_simulated.specs.WorldRows.{message, arrives, a_byte_a_nanosecond}
-use Rattle.p2p_simulated.proofs.World.Computed.{no_hint, obeyed_so, shared}
+use Rattle.p2p_simulated.proofs.World.ComputedRule.{no_hint, obeyed_so, shared}
 use Rattle.p2p_simulated.proofs.model.rule.one_advance_meets_all_events.Goals as goal
 
 pub returns : goal.returns

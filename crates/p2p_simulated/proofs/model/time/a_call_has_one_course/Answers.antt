@@ -2,8 +2,8 @@ use Rattle.std.proofs.Common.{◌≡◌, ℕ, ◌<◌, Option, subst}
 use Rattle.std.specs.Prelude.{IfSome}
 use Rattle.p2p_simulated.specs.World.{IsQuiet}
 use Rattle.p2p_simulated.specs.WorldTime.{NextIs}
-use Rattle.p2p_simulated.proofs.World.Others.{ends_more}
-use Rattle.p2p_simulated.proofs.World.Calm.{next_is_later, call_ends_quiet, QuietAt}
+use Rattle.p2p_simulated.proofs.World.OtherPairs.{ends_more}
+use Rattle.p2p_simulated.proofs.World.QuietInstants.{next_is_later, call_ends_quiet, QuietAt}
 use Rattle.p2p_simulated.proofs.World.Sound.{new_world_sound, call_keeps_sound}
 use Rattle.p2p_simulated.proofs.World.OneRun.{runs_are_one}
 use Rattle.p2p_simulated.proofs.model.time.a_call_has_one_course.Goals as goal

@@ -1,4 +1,4 @@
-use Rattle.p2p_simulated.proofs.World.Onward.{advance_splits}
+use Rattle.p2p_simulated.proofs.World.AdvanceOnward.{advance_splits}
 use Rattle.p2p_simulated.proofs.model.time.advancing_splits.Goals as goal
 
 pub returns : goal.returns

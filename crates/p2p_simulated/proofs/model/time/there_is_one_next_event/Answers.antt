@@ -1,5 +1,5 @@
 use Rattle.p2p_simulated.proofs.World.OneNext.{next_is_one}
-use Rattle.p2p_simulated.proofs.World.Calm.{next_is_later}
+use Rattle.p2p_simulated.proofs.World.QuietInstants.{next_is_later}
 use Rattle.p2p_simulated.proofs.model.time.there_is_one_next_event.Goals as goal
 
 pub returns-clause-one : goal.returns-clause-one

@@ -1,4 +1,4 @@
-use Rattle.p2p_simulated.proofs.World.Alike.{same_itself}
+use Rattle.p2p_simulated.proofs.World.AlikeMessages.{same_itself}
 use Rattle.p2p_simulated.proofs.World.OneWorld.{one_world}
 use Rattle.p2p_simulated.proofs.World.OneRun.{ticks_are_one}
 use Rattle.p2p_simulated.proofs.model.time.ticking_has_one_outcome.Goals as goal

@@ -1,5 +1,5 @@
 use Rattle.std.proofs.Common.{◌≡◌}
-use Rattle.p2p_simulated.specs.Fits.{gcd}
+use Rattle.p2p_simulated.specs.Amount.{gcd}
 use Rattle.p2p_simulated.proofs.ratio.numbers.gcd_of_narrow.Given as goal
 
 abbrev pub invariant-loop-rest : goal.invariant-loop-rest

@@ -28,7 +28,7 @@ pub returns-in_err-completions-in-Enqueue-clause-refused :
     goal.returns-in_err-completions-in-Enqueue-clause-refused
 returns-in_err-completions-in-Enqueue-clause-refused g c =
     let p = err_from_is_err_and c.from_residual-in_err-completions-in-Enqueue.result c.from_residual-in_err-completions-in-Enqueue.ensures.1 in
-    rw (p.1, p.2, c.in-Enqueue.is) (c.in_err-completions-in-Enqueue.ensures.refused, ap (λ s. planned g.P.Ord.cmp s.kept) c.in_err-completions-in-Enqueue.ensures.unchanged)
+    rw (p.1, p.2, c.in-Enqueue.is) (c.in_err-completions-in-Enqueue.ensures.refused, c.in_err-completions-in-Enqueue.ensures.unchanged)
 
 pub returns-in_err-completions-in-Advance-clause-refused :
     goal.returns-in_err-completions-in-Advance-clause-refused

@@ -1,62 +1,28 @@
-use Rattle.std.proofs.Common.{map, refl}
-use Rattle.std.proofs.lemmas.Result.{err_from_is_err_and}
+use Rattle.std.proofs.Common.{map, refl, List}
+use Rattle.p2p_simulated.specs.World.{Completed}
 use Rattle.p2p_simulated.specs.WorldCalls.{call_enqueue}
 use Rattle.p2p_simulated.specs.Working.{planned}
 use Rattle.p2p_simulated.specs.Message.{completed_of}
-use Rattle.p2p_simulated.proofs.Calling.{enqueue_refused, goes_on}
-use Rattle.p2p_simulated.proofs.World.SameIsPlanned.{planned_on}
-use Rattle.p2p_simulated.proofs.Accounting.{looked_up, arrivals_looked_up}
-use Rattle.p2p_simulated.proofs.Promises.{orderly_on, Promised, promised_if, cause_of}
+use Rattle.p2p_simulated.specs.SamePlanned.{Goes}
+use Rattle.p2p_simulated.proofs.Promises.{Promised, promised_if, cause_of, ok_so, err_so}
 use Rattle.p2p_simulated.proofs.transmitter.State.enqueue.Goals as goal
 
-pub returns-in_err-completions-clause-refused : goal.returns-in_err-completions-clause-refused
-returns-in_err-completions-clause-refused g c =
-    let p = err_from_is_err_and c.from_residual-in_err-completions.result c.from_residual-in_err-completions.ensures.1 in
-    rw (p.1, p.2) (enqueue_refused g.P.Ord.cmp g.met.P.Ord.total c.args.now (record { origin = c.args.origin; recipient = c.args.recipient; channel = c.args.channel; bytes = c.args.message; latency = c.args.latency; should_deliver = c.args.should_deliver }) (planned g.P.Ord.cmp c.args.self.now.kept) (planned g.P.Ord.cmp c.in_ok-working.working) c.in_ok-working.ensures.cases _ c.in_err-completions.ensures.refused)
-
-pub returns-in_err-completions-clause-cause : goal.returns-in_err-completions-clause-cause
-returns-in_err-completions-clause-cause g c =
-    let p = err_from_is_err_and c.from_residual-in_err-completions.result c.from_residual-in_err-completions.ensures.1 in
-    rw (p.1, p.2) (cause_of g.P.Ord.cmp g.met.P.Ord.total (planned g.P.Ord.cmp c.args.self.now.kept) (call_enqueue c.args.now (record { origin = c.args.origin; recipient = c.args.recipient; channel = c.args.channel; bytes = c.args.message; latency = c.args.latency; should_deliver = c.args.should_deliver })) c.args.now _ refl c.ranges.now.fits
-    (enqueue_refused g.P.Ord.cmp g.met.P.Ord.total c.args.now (record { origin = c.args.origin; recipient = c.args.recipient; channel = c.args.channel; bytes = c.args.message; latency = c.args.latency; should_deliver = c.args.should_deliver }) (planned g.P.Ord.cmp c.args.self.now.kept) (planned g.P.Ord.cmp c.in_ok-working.working) c.in_ok-working.ensures.cases _ c.in_err-completions.ensures.refused))
-
-pub invariant_of-self-clause-caps : goal.invariant_of-self-clause-caps
-invariant_of-self-clause-caps g c = looked_up g.P.Ord.cmp g.met.P.Ord.total c.enqueue.new.self.peers.entries.items c.enqueue.new.self.pairs.entries.items
-
-pub invariant_of-self-clause-arrivals : goal.invariant_of-self-clause-arrivals
-invariant_of-self-clause-arrivals g c = arrivals_looked_up g.P.Ord.cmp g.met.P.Ord.total c.enqueue.new.self.pairs.entries.items
-
-pub invariant_of-self-clause-right : goal.invariant_of-self-clause-right
-invariant_of-self-clause-right g c = planned_on g.P.Ord.cmp g.met.P.Ord.total (planned g.P.Ord.cmp c.args.self.now.kept) (planned g.P.Ord.cmp c.in_ok-working.working) (planned g.P.Ord.cmp c.enqueue.new.self)
-    (call_enqueue c.args.now (record { origin = c.args.origin; recipient = c.args.recipient; channel = c.args.channel; bytes = c.args.message; latency = c.args.latency; should_deliver = c.args.should_deliver }))
-    (map completed_of c.in_ok-completions.completions.items) c.in_ok-working.ensures.cases c.args.self.now.right
-    c.in_ok-completions.ensures.enqueues
-
-pub invariant_of-self-clause-orderly : goal.invariant_of-self-clause-orderly
-invariant_of-self-clause-orderly g c = orderly_on g.P.Ord.cmp g.met.P.Ord.total (planned g.P.Ord.cmp c.args.self.now.kept) (planned g.P.Ord.cmp c.in_ok-working.working) (planned g.P.Ord.cmp c.enqueue.new.self)
-    (call_enqueue c.args.now (record { origin = c.args.origin; recipient = c.args.recipient; channel = c.args.channel; bytes = c.args.message; latency = c.args.latency; should_deliver = c.args.should_deliver }))
-    (map completed_of c.in_ok-completions.completions.items) c.in_ok-working.ensures.cases c.args.self.now.orderly
-    c.in_ok-completions.ensures.enqueues
-
-pub returns-clause-goes : goal.returns-clause-goes
-returns-clause-goes g c = goes_on g.P.Ord.cmp g.met.P.Ord.total (planned g.P.Ord.cmp c.args.self.now.kept) (planned g.P.Ord.cmp c.in_ok-working.working) (planned g.P.Ord.cmp c.enqueue.new.self)
-    (call_enqueue c.args.now (record { origin = c.args.origin; recipient = c.args.recipient; channel = c.args.channel; bytes = c.args.message; latency = c.args.latency; should_deliver = c.args.should_deliver }))
-    (map completed_of c.in_ok-completions.completions.items) c.in_ok-working.ensures.cases
-    c.in_ok-completions.ensures.enqueues
-
--- what is promised of the call
-promised : (g : _) (c : goal.After-drop-self-4 g) → Promised g.P.Ord.cmp g.met.P.Ord.total (planned g.P.Ord.cmp c.args.self.now.kept) (call_enqueue c.args.now (record { origin = c.args.origin; recipient = c.args.recipient; channel = c.args.channel; bytes = c.args.message; latency = c.args.latency; should_deliver = c.args.should_deliver })) (map completed_of c.in_ok-completions.completions.items) (planned g.P.Ord.cmp c.enqueue.new.self)
-promised g c = promised_if g.P.Ord.cmp g.met.P.Ord.total (planned g.P.Ord.cmp c.args.self.now.kept) (planned g.P.Ord.cmp c.enqueue.new.self) (call_enqueue c.args.now (record { origin = c.args.origin; recipient = c.args.recipient; channel = c.args.channel; bytes = c.args.message; latency = c.args.latency; should_deliver = c.args.should_deliver })) c.args.now
-    (map completed_of c.in_ok-completions.completions.items) refl c.ranges.now.fits c.args.self.now.orderly (returns-clause-goes g c)
+-- what is promised of the call, from how it goes
+promised : (g : _) (c : goal.After-send g) (cs : List (Completed g.row.P.Denot)) → Goes g.P.Ord.cmp (planned g.P.Ord.cmp c.args.self.now.kept) (call_enqueue c.args.now (record { origin = c.args.origin; recipient = c.args.recipient; channel = c.args.channel; bytes = c.args.message; latency = c.args.latency; should_deliver = c.args.should_deliver })) cs (planned g.P.Ord.cmp c.send.new.self.kept)
+    → Promised g.P.Ord.cmp g.met.P.Ord.total (planned g.P.Ord.cmp c.args.self.now.kept) (call_enqueue c.args.now (record { origin = c.args.origin; recipient = c.args.recipient; channel = c.args.channel; bytes = c.args.message; latency = c.args.latency; should_deliver = c.args.should_deliver })) cs (planned g.P.Ord.cmp c.send.new.self.kept)
+promised g c cs went = promised_if g.P.Ord.cmp g.met.P.Ord.total (planned g.P.Ord.cmp c.args.self.now.kept) (planned g.P.Ord.cmp c.send.new.self.kept) (call_enqueue c.args.now (record { origin = c.args.origin; recipient = c.args.recipient; channel = c.args.channel; bytes = c.args.message; latency = c.args.latency; should_deliver = c.args.should_deliver })) c.args.now cs refl c.ranges.now.fits c.args.self.now.orderly went
 
 pub returns-clause-simulated : goal.returns-clause-simulated
-returns-clause-simulated g c = (promised g c).simulated
+returns-clause-simulated g c = ok_so c.send.result _ _ (λ completions went. (promised g c (map completed_of completions.items) went).simulated) c.send.ensures.goes
 
 pub returns-clause-in_range : goal.returns-clause-in_range
-returns-clause-in_range g c = (promised g c).in_range
+returns-clause-in_range g c = ok_so c.send.result _ _ (λ completions went. (promised g c (map completed_of completions.items) went).in_range) c.send.ensures.goes
 
 pub returns-clause-conserved : goal.returns-clause-conserved
-returns-clause-conserved g c = (promised g c).conserved
+returns-clause-conserved g c = ok_so c.send.result _ _ (λ completions went. (promised g c (map completed_of completions.items) went).conserved) c.send.ensures.goes
 
 pub returns-clause-rated : goal.returns-clause-rated
-returns-clause-rated g c = (promised g c).rated
+returns-clause-rated g c = ok_so c.send.result _ _ (λ completions went. (promised g c (map completed_of completions.items) went).rated) c.send.ensures.goes
+
+pub returns-clause-cause : goal.returns-clause-cause
+returns-clause-cause g c = err_so c.send.result _ _ (λ why refused. cause_of g.P.Ord.cmp g.met.P.Ord.total (planned g.P.Ord.cmp c.args.self.now.kept) (call_enqueue c.args.now (record { origin = c.args.origin; recipient = c.args.recipient; channel = c.args.channel; bytes = c.args.message; latency = c.args.latency; should_deliver = c.args.should_deliver })) c.args.now why refl c.ranges.now.fits refused) c.send.ensures.refused

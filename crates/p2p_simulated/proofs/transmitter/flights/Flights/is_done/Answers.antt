@@ -5,7 +5,7 @@ use Rattle.p2p_simulated.specs.Peers.{egress_of, ingress_of}
 use Rattle.p2p_simulated.specs.Pairs.{link_of}
 use Rattle.p2p_simulated.specs.WorldRates.{is_unlimited}
 use Rattle.p2p_simulated.specs.Working.{caps_of}
-use Rattle.p2p_simulated.proofs.Flying.{paced_at, mark_at, left_at_place, nothing_is_done, something_is_not}
+use Rattle.p2p_simulated.proofs.InFlight.{paced_at, mark_at, left_at_place, nothing_is_done, something_is_not}
 use Rattle.p2p_simulated.proofs.transmitter.flights.Flights.is_done.Goals as goal
 use Rattle.p2p_simulated.specs.WorldPlanned.{is_spent}
 

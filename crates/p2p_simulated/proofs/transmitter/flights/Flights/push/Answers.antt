@@ -4,7 +4,7 @@ use Rattle.p2p_simulated.specs.declared.bandwidth.Rate.TheVariants.{Finite}
 use Rattle.p2p_simulated.specs.Amount.{whole}
 use Rattle.p2p_simulated.specs.Message.{message_of}
 use Rattle.p2p_simulated.specs.Flights.{sending_of}
-use Rattle.p2p_simulated.proofs.Flying.{AreLawful, lawful_with, with_one}
+use Rattle.p2p_simulated.proofs.InFlight.{AreLawful, lawful_with, with_one}
 use Rattle.p2p_simulated.proofs.transmitter.flights.Flights.push.Goals as goal
 
 pub invariant_of-self-2 : goal.invariant_of-self-2

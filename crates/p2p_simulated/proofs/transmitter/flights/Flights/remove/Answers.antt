@@ -1,5 +1,5 @@
 use Rattle.std.proofs.Common.{ap, sym}
-use Rattle.p2p_simulated.proofs.Flying.{IsWithout, without, paced_at}
+use Rattle.p2p_simulated.proofs.InFlight.{IsWithout, without, paced_at}
 use Rattle.p2p_simulated.proofs.transmitter.flights.Flights.remove.Goals as goal
 
 pub invariant_of-self : goal.invariant_of-self

@@ -3,7 +3,7 @@ use Rattle.p2p_simulated.specs.Message.{message_of}
 use Rattle.p2p_simulated.specs.Flights.{sending_of}
 use Rattle.p2p_simulated.specs.Working.{caps_of}
 use Rattle.p2p_simulated.proofs.Waiting.{map-push}
-use Rattle.p2p_simulated.proofs.Flying.{HaveLeft, none_left, step_leaves, step_stays, all_looked_at, length-sending}
+use Rattle.p2p_simulated.proofs.InFlight.{HaveLeft, none_left, step_leaves, step_stays, all_looked_at, length-sending}
 use Rattle.p2p_simulated.proofs.transmitter.flights.Flights.take_done.Goals as goal
 use Rattle.p2p_simulated.specs.WorldPlanned.{is_spent}
 

@@ -4,7 +4,7 @@ use Rattle.p2p_simulated.specs.declared.bandwidth.Flow.{Flow}
 use Rattle.p2p_simulated.specs.Message.{message_of}
 use Rattle.p2p_simulated.specs.Flights.{sending_of}
 use Rattle.p2p_simulated.specs.Working.{caps_of}
-use Rattle.p2p_simulated.proofs.Flying.{HaveLeft}
+use Rattle.p2p_simulated.proofs.InFlight.{HaveLeft}
 use Rattle.p2p_simulated.proofs.transmitter.flights.Flights.take_done.Given as goal
 use Rattle.p2p_simulated.specs.WorldPlanned.{is_spent}
 

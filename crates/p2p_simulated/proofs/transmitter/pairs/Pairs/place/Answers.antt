@@ -7,7 +7,7 @@ use Rattle.p2p_simulated.specs.Sorted.{are_ascending}
 use Rattle.p2p_simulated.specs.Message.{message_of}
 use Rattle.p2p_simulated.specs.Pairs.{pair_cmp, key_of, messages_of, are_own}
 use Rattle.p2p_simulated.proofs.Sorted.{either}
-use Rattle.p2p_simulated.proofs.Entries.{added, placed}
+use Rattle.p2p_simulated.proofs.PairEntries.{added, placed}
 use Rattle.p2p_simulated.proofs.transmitter.pairs.Pairs.place.Goals as goal
 
 pub invariant_of-self : goal.invariant_of-self

@@ -1,10 +1,11 @@
 use Rattle.std.proofs.Common.{if◌then◌else◌, [], ◌∷◌, ◌++◌, map, refl, ap, ◌∙◌}
 use Rattle.std.specs.Result.{is_ok}
+use Rattle.std.proofs.lemmas.Result.{err_from_is_err_and}
 use Rattle.p2p_simulated.specs.WorldPlanned.{queued}
 use Rattle.p2p_simulated.specs.Message.{message_of}
 use Rattle.p2p_simulated.proofs.Sorted.{by_bool}
 use Rattle.p2p_simulated.proofs.Waiting.{map-push}
-use Rattle.p2p_simulated.proofs.Entries.{set_ascending, own_kept, own_queued, link_kept, arrival_kept, waiting_queued}
+use Rattle.p2p_simulated.proofs.PairEntries.{set_ascending, own_kept, own_queued, link_kept, arrival_kept, waiting_kept, waiting_queued}
 use Rattle.p2p_simulated.proofs.transmitter.pairs.Pairs.push.Goals as goal
 
 pub invariant_of-self : goal.invariant_of-self
@@ -23,3 +24,14 @@ returns-clause-link g c = link_kept g.P.Ord.cmp g.met.P.Ord.total c.place.new.se
 
 pub returns-clause-arrival : goal.returns-clause-arrival
 returns-clause-arrival g c = arrival_kept g.P.Ord.cmp g.met.P.Ord.total c.place.new.self.entries.items c.args.message.origin c.args.message.recipient c.in_ok-at.at c.in_ok-at.ensures.found c.place.new.self.ascending c.place.new.self.own c.index_mut.result.now c.index_mut.ensures.value (record c.index_mut.result.now { waiting = c.push_back.new.self }) refl refl ∙ c.in_ok-at.ensures.arrival
+
+pub returns-in_err-push_back-clause-kept : goal.returns-in_err-push_back-clause-kept
+returns-in_err-push_back-clause-kept g c =
+    let p = err_from_is_err_and c.from_residual-in_err-push_back.result c.from_residual-in_err-push_back.ensures.1 in
+    rw p.1 (waiting_kept g.P.Ord.cmp g.met.P.Ord.total c.place.new.self.entries.items c.args.message.origin c.args.message.recipient c.in_ok-at.at c.in_ok-at.ensures.found c.place.new.self.ascending c.place.new.self.own c.index_mut.result.now c.index_mut.ensures.value (record c.index_mut.result.now { waiting = c.push_back.new.self }) refl (ap (map message_of) c.in_err-push_back.ensures.items) ∙ c.in_ok-at.ensures.waiting)
+
+pub returns-in_err-push_back-clause-link : goal.returns-in_err-push_back-clause-link
+returns-in_err-push_back-clause-link g c = link_kept g.P.Ord.cmp g.met.P.Ord.total c.place.new.self.entries.items c.args.message.origin c.args.message.recipient c.in_ok-at.at c.in_ok-at.ensures.found c.place.new.self.ascending c.place.new.self.own c.index_mut.result.now c.index_mut.ensures.value (record c.index_mut.result.now { waiting = c.push_back.new.self }) refl refl ∙ c.in_ok-at.ensures.link
+
+pub returns-in_err-push_back-clause-arrival : goal.returns-in_err-push_back-clause-arrival
+returns-in_err-push_back-clause-arrival g c = arrival_kept g.P.Ord.cmp g.met.P.Ord.total c.place.new.self.entries.items c.args.message.origin c.args.message.recipient c.in_ok-at.at c.in_ok-at.ensures.found c.place.new.self.ascending c.place.new.self.own c.index_mut.result.now c.index_mut.ensures.value (record c.index_mut.result.now { waiting = c.push_back.new.self }) refl refl ∙ c.in_ok-at.ensures.arrival

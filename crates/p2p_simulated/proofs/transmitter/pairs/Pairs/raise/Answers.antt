@@ -1,6 +1,6 @@
 use Rattle.std.proofs.Common.{Some, refl, ap, ◌∙◌}
 use Rattle.p2p_simulated.specs.Pairs.{raised_at}
-use Rattle.p2p_simulated.proofs.Entries.{set_ascending, own_kept, link_kept, waiting_kept, arrival_set}
+use Rattle.p2p_simulated.proofs.PairEntries.{set_ascending, own_kept, link_kept, waiting_kept, arrival_set}
 use Rattle.p2p_simulated.proofs.transmitter.pairs.Pairs.raise.Goals as goal
 
 pub invariant_of-self : goal.invariant_of-self

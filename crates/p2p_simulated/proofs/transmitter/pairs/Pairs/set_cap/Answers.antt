@@ -1,6 +1,6 @@
 use Rattle.std.proofs.Common.{refl, ap, ◌∙◌}
 use Rattle.p2p_simulated.specs.WorldMessages.{with_link}
-use Rattle.p2p_simulated.proofs.Entries.{set_ascending, own_kept, arrival_kept, waiting_kept, link_set}
+use Rattle.p2p_simulated.proofs.PairEntries.{set_ascending, own_kept, arrival_kept, waiting_kept, link_set}
 use Rattle.p2p_simulated.proofs.transmitter.pairs.Pairs.set_cap.Goals as goal
 
 pub invariant_of-self : goal.invariant_of-self

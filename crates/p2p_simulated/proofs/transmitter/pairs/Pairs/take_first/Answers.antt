@@ -4,7 +4,7 @@ use Rattle.p2p_simulated.specs.Pairs.{pair_cmp, key_of, messages_of}
 use Rattle.p2p_simulated.proofs.Sorted.{read_place}
 use Rattle.p2p_simulated.proofs.Pairs.{pair_total}
 use Rattle.p2p_simulated.proofs.Waiting.{first_at_place, first_at_gap, without_at_gap, popped_is, drop-map}
-use Rattle.p2p_simulated.proofs.Entries.{set_ascending, own_taken, link_kept, arrival_kept, waiting_taken}
+use Rattle.p2p_simulated.proofs.PairEntries.{set_ascending, own_taken, link_kept, arrival_kept, waiting_taken}
 use Rattle.p2p_simulated.proofs.transmitter.pairs.Pairs.take_first.Goals as goal
 
 pub invariant_of-self : goal.invariant_of-self

@@ -2,7 +2,7 @@ use Rattle.std.proofs.Common.{◌≡◌, ◌+◌, ◌<◌, ◌≤◌, map, lengt
 use Rattle.std.proofs.lemmas.Result.{err_from_is_err_and}
 use Rattle.p2p_simulated.specs.Working.{planned}
 use Rattle.p2p_simulated.specs.Message.{completed_of}
-use Rattle.p2p_simulated.proofs.Flying.{length-sending}
+use Rattle.p2p_simulated.proofs.InFlight.{length-sending}
 use Rattle.p2p_simulated.proofs.Advancing.{advances_step, advances_end, event_refused, wake_refused}
 use Rattle.p2p_simulated.proofs.Lightening.{events_left, happens_fewer, events_few}
 use Rattle.p2p_simulated.proofs.transmitter.working.Working.advance.Goals as goal

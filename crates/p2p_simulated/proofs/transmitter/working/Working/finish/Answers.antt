@@ -4,7 +4,7 @@ use Rattle.p2p_simulated.specs.WorldMessages.{Message, same_pair}
 use Rattle.p2p_simulated.specs.Message.{message_of, completed_of}
 use Rattle.p2p_simulated.specs.Working.{planned, messages}
 use Rattle.p2p_simulated.proofs.Finishing.{FinishesSo, finishes_start, finishes_step, finishes_end, finishes_refused}
-use Rattle.p2p_simulated.proofs.InSystem.{in_system, launch_keeps, length-map}
+use Rattle.p2p_simulated.proofs.MessageCounts.{in_system, launch_keeps, length-map}
 use Rattle.p2p_simulated.proofs.transmitter.working.Working.finish.Goals as goal
 use Rattle.std.proofs.lemmas.List.{map-append}
 

@@ -2,7 +2,7 @@ use Rattle.std.proofs.Common.{◌+◌, map, length}
 use Rattle.p2p_simulated.specs.Working.{planned, messages}
 use Rattle.p2p_simulated.specs.Message.{completed_of}
 use Rattle.p2p_simulated.proofs.Finishing.{FinishesSo}
-use Rattle.p2p_simulated.proofs.InSystem.{in_system}
+use Rattle.p2p_simulated.proofs.MessageCounts.{in_system}
 use Rattle.p2p_simulated.proofs.transmitter.working.Working.finish.Given as goal
 
 abbrev pub invariant-loop-message : goal.invariant-loop-message

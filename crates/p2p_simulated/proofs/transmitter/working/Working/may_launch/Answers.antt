@@ -4,7 +4,7 @@ use Rattle.p2p_simulated.specs.Moments.{first_moment}
 use Rattle.p2p_simulated.specs.Message.{message_of}
 use Rattle.p2p_simulated.specs.Pairs.{arrival_of}
 use Rattle.p2p_simulated.specs.Working.{planned}
-use Rattle.p2p_simulated.proofs.Flying.{any_of_pair}
+use Rattle.p2p_simulated.proofs.InFlight.{any_of_pair}
 use Rattle.p2p_simulated.proofs.Starting.{may_launch_is}
 use Rattle.p2p_simulated.proofs.Accounting.{arrivals_looked_up}
 use Rattle.p2p_simulated.proofs.transmitter.working.Working.may_launch.Goals as goal

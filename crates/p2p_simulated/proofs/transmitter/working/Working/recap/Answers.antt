@@ -6,7 +6,7 @@ use Rattle.p2p_simulated.specs.WorldEvents.{Recaps}
 use Rattle.p2p_simulated.specs.Working.{planned}
 use Rattle.p2p_simulated.specs.Message.{completed_of}
 use Rattle.p2p_simulated.proofs.Settling.{recap_refused, recaps_settled, recaps_looked}
-use Rattle.p2p_simulated.proofs.InSystem.{none_flies, some_fly}
+use Rattle.p2p_simulated.proofs.MessageCounts.{none_flies, some_fly}
 use Rattle.p2p_simulated.proofs.transmitter.working.Working.recap.Goals as goal
 use Rattle.p2p_simulated.proofs.transmitter.working.Working.recap.Goals.{then-is_empty, else-is_empty+in_ok-settle}
 

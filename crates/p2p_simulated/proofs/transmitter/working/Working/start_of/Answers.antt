@@ -4,7 +4,7 @@ use Rattle.p2p_simulated.specs.Message.{message_of}
 use Rattle.p2p_simulated.specs.Pairs.{messages_of}
 use Rattle.p2p_simulated.specs.Starts.{is_busy}
 use Rattle.p2p_simulated.specs.Working.{planned}
-use Rattle.p2p_simulated.proofs.Flying.{any_of_pair}
+use Rattle.p2p_simulated.proofs.InFlight.{any_of_pair}
 use Rattle.p2p_simulated.proofs.Waiting.{front_is}
 use Rattle.p2p_simulated.proofs.Readying.{starts_busy, starts_from}
 use Rattle.p2p_simulated.proofs.transmitter.working.Working.start_of.Goals as goal
