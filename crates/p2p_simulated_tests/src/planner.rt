@@ -399,13 +399,22 @@ fn answered_rates(
 }
 
 /// A side comes into being with the first number that is answered for it, and keeps that cap.
+/// Nothing is answered.
+const NONE: Answers<'static> = Answers {
+    egress: &[],
+    ingress: &[],
+    links: &[],
+};
+
+/// The first flow came before the side.
+const FROM_THE_SECOND: [Wanted; 3] = [
+    Wanted(1, None),
+    Wanted(2, Some((2, 1))),
+    Wanted(3, Some((2, 1))),
+];
+
 #[test]
 fn the_first_number_is_the_cap(rt: HostRuntime) -> Result<(), Fail> {
-    let none = Answers {
-        egress: &[],
-        ingress: &[],
-        links: &[],
-    };
     let lost = [
         Arrow(1, 1, 2, false),
         Arrow(2, 1, 2, false),
@@ -414,7 +423,7 @@ fn the_first_number_is_the_cap(rt: HostRuntime) -> Result<(), Fail> {
     let lost = flows_of::<u64>(rt.alloc(), &lost)?;
     let falling = Answers {
         egress: &[Some(10), Some(1), None],
-        ..none
+        ..NONE
     };
     let thirds = [
         Wanted(1, Some((10, 3))),
@@ -422,29 +431,28 @@ fn the_first_number_is_the_cap(rt: HostRuntime) -> Result<(), Fail> {
         Wanted(3, Some((10, 3))),
     ];
     expect(&rt, &answered_rates(rt.alloc(), &lost, &falling)?, &thirds)?;
-    let from_the_second = [
-        Wanted(1, None),
-        Wanted(2, Some((2, 1))),
-        Wanted(3, Some((2, 1))),
-    ];
     let late = Answers {
         egress: &[None, Some(4)],
-        ..none
+        ..NONE
     };
     expect(
         &rt,
         &answered_rates(rt.alloc(), &lost, &late)?,
-        &from_the_second,
+        &FROM_THE_SECOND,
     )?;
     let late_link = Answers {
         links: &[None, Some(4), None],
-        ..none
+        ..NONE
     };
     expect(
         &rt,
         &answered_rates(rt.alloc(), &lost, &late_link)?,
-        &from_the_second,
-    )?;
+        &FROM_THE_SECOND,
+    )
+}
+
+#[test]
+fn the_first_number_of_an_ingress_is_its_cap(rt: HostRuntime) -> Result<(), Fail> {
     let arriving = [
         Arrow(1, 1, 9, true),
         Arrow(2, 2, 9, true),
@@ -453,12 +461,12 @@ fn the_first_number_is_the_cap(rt: HostRuntime) -> Result<(), Fail> {
     let arriving = flows_of::<u64>(rt.alloc(), &arriving)?;
     let between = Answers {
         ingress: &[None, Some(4), None],
-        ..none
+        ..NONE
     };
     expect(
         &rt,
         &answered_rates(rt.alloc(), &arriving, &between)?,
-        &from_the_second,
+        &FROM_THE_SECOND,
     )
 }
 

@@ -51,6 +51,14 @@ rate 5 250000/3\n",
             "egress 1 100\ningress 2 0\ningress 3 0\nflow 1 1 2 1\nflow 2 1 3 0\nrates",
             "rate 1 0/1\nrate 2 100/1\n",
         ),
+    ] {
+        expect(&rt, script.as_bytes(), output, Outcome::Whole);
+    }
+}
+
+#[test]
+fn rates_are_of_all_flows_so_far(rt: HostRuntime) {
+    for (script, output) in [
         (
             "flow 9 1 2 1\nflow 3 1 2 1\nflow 18446744073709551615 1 2 1\nflow 0 1 2 1\n\
 egress 1 1\nrates\nrates\n",
@@ -122,122 +130,164 @@ fn lines_of_the_language(rt: HostRuntime) {
     }
 }
 
+/// Lines of other words, and of other numbers of words.
+const OTHER_WORDS: [&str; 29] = [
+    "flow",
+    "flow 1 1 2",
+    "flow 1 1 2 1 1",
+    "egress",
+    "egress 1",
+    "egress 1 1 1",
+    "ingress 1",
+    "ingress 1 1 1",
+    "rates 1",
+    "Rates",
+    "rate",
+    "ratess",
+    "link",
+    "link 1 2",
+    "link 1 2 3 4",
+    "limit",
+    "limit 0 1 1",
+    "limit 0 1 1 1 1",
+    "limitlink 0 1 2",
+    "limitlink 0 1 2 3 4",
+    "enqueue 0 1 2 0 1 0",
+    "enqueue 0 1 2 0 1 0 1 1",
+    "advance",
+    "advance 0 0",
+    "next 0",
+    "Next",
+    "nexts",
+    "limits 0 1 1 -",
+    "stop",
+];
+
+/// Lines with other spaces.
+const OTHER_SPACES: [&str; 11] = [
+    " ",
+    "  ",
+    " rates",
+    "rates ",
+    "flow  1 1 2 1",
+    "flow 1 1 2  1",
+    " flow 1 1 2 1",
+    "flow 1 1 2 1 ",
+    "egress 1  1",
+    "egress 1 1 ",
+    "egress\t1 1",
+];
+
+/// Lines with other bytes.
+const OTHER_BYTES: [&str; 10] = [
+    "rates\r",
+    "\r",
+    "flow 1 1 2 1\r",
+    "egress 1\r 1",
+    "egress 1 1\0",
+    "egress 1 1a",
+    "egress 1 0x1",
+    "egress 1 1_0",
+    "egress 1 \u{661}",
+    "rat\u{e9}s",
+];
+
+/// Lines with signs and leading zeros.
+const OTHER_NUMBERS: [&str; 29] = [
+    "flow 01 1 2 1",
+    "flow 1 00 2 1",
+    "flow 1 1 02 1",
+    "flow 1 1 2 01",
+    "flow 1 1 2 00",
+    "flow +1 1 2 1",
+    "flow 1 -1 2 1",
+    "flow 1 1 2 +1",
+    "egress 01 1",
+    "egress 1 01",
+    "egress 1 00",
+    "egress 1 -0",
+    "egress 1 +1",
+    "egress 1 --",
+    "egress - 1",
+    "ingress 007 1",
+    "ingress 1 09",
+    "link 1 2 03",
+    "limit 00 1 1 1",
+    "limit 0 1 +1 1",
+    "limit 0 1 1 --",
+    "limit - 1 1 1",
+    "limitlink 0 1 2 03",
+    "enqueue 0 1 2 0 01 0 1",
+    "enqueue 0 1 2 0 - 0 1",
+    "enqueue 0 1 2 0 1 - 1",
+    "enqueue 0 1 2 0 1 0 01",
+    "advance 07",
+    "advance -",
+];
+
+/// Lines with numbers just past their ranges.
+const PAST_THE_RANGE: [&str; 28] = [
+    "flow 18446744073709551616 1 2 1",
+    "flow 1 18446744073709551616 2 1",
+    "flow 1 1 18446744073709551616 1",
+    "flow 1 1 2 2",
+    "egress 18446744073709551616 1",
+    "egress 1 340282366920938463463374607431768211456",
+    "ingress 18446744073709551616 1",
+    "ingress 1 340282366920938463463374607431768211456",
+    "egress 1 1000000000000000000000000000000000000000",
+    "link 18446744073709551616 2 1",
+    "link 1 18446744073709551616 1",
+    "link 1 2 340282366920938463463374607431768211456",
+    "limit 18446744073709551616 1 1 1",
+    "limit 0 18446744073709551616 1 1",
+    "limit 0 1 18446744073709551616 1",
+    "limit 0 1 1 18446744073709551616",
+    "limitlink 18446744073709551616 1 2 1",
+    "limitlink 0 18446744073709551616 2 1",
+    "limitlink 0 1 18446744073709551616 1",
+    "limitlink 0 1 2 18446744073709551616",
+    "enqueue 18446744073709551616 1 2 0 1 0 1",
+    "enqueue 0 18446744073709551616 2 0 1 0 1",
+    "enqueue 0 1 18446744073709551616 0 1 0 1",
+    "enqueue 0 1 2 18446744073709551616 1 0 1",
+    "enqueue 0 1 2 0 67108865 0 1",
+    "enqueue 0 1 2 0 1 18446744073709551616 1",
+    "enqueue 0 1 2 0 1 0 2",
+    "advance 18446744073709551616",
+];
+
 #[test]
-fn lines_out_of_the_language(rt: HostRuntime) {
-    for line in [
-        // Other words, and other numbers of words.
-        "flow",
-        "flow 1 1 2",
-        "flow 1 1 2 1 1",
-        "egress",
-        "egress 1",
-        "egress 1 1 1",
-        "ingress 1",
-        "ingress 1 1 1",
-        "rates 1",
-        "Rates",
-        "rate",
-        "ratess",
-        "link",
-        "link 1 2",
-        "link 1 2 3 4",
-        "limit",
-        "limit 0 1 1",
-        "limit 0 1 1 1 1",
-        "limitlink 0 1 2",
-        "limitlink 0 1 2 3 4",
-        "enqueue 0 1 2 0 1 0",
-        "enqueue 0 1 2 0 1 0 1 1",
-        "advance",
-        "advance 0 0",
-        "next 0",
-        "Next",
-        "nexts",
-        "limits 0 1 1 -",
-        "stop",
-        // Spaces.
-        " ",
-        "  ",
-        " rates",
-        "rates ",
-        "flow  1 1 2 1",
-        "flow 1 1 2  1",
-        " flow 1 1 2 1",
-        "flow 1 1 2 1 ",
-        "egress 1  1",
-        "egress 1 1 ",
-        "egress\t1 1",
-        // Other bytes.
-        "rates\r",
-        "\r",
-        "flow 1 1 2 1\r",
-        "egress 1\r 1",
-        "egress 1 1\0",
-        "egress 1 1a",
-        "egress 1 0x1",
-        "egress 1 1_0",
-        "egress 1 \u{661}",
-        "rat\u{e9}s",
-        // Signs and leading zeros.
-        "flow 01 1 2 1",
-        "flow 1 00 2 1",
-        "flow 1 1 02 1",
-        "flow 1 1 2 01",
-        "flow 1 1 2 00",
-        "flow +1 1 2 1",
-        "flow 1 -1 2 1",
-        "flow 1 1 2 +1",
-        "egress 01 1",
-        "egress 1 01",
-        "egress 1 00",
-        "egress 1 -0",
-        "egress 1 +1",
-        "egress 1 --",
-        "egress - 1",
-        "ingress 007 1",
-        "ingress 1 09",
-        "link 1 2 03",
-        "limit 00 1 1 1",
-        "limit 0 1 +1 1",
-        "limit 0 1 1 --",
-        "limit - 1 1 1",
-        "limitlink 0 1 2 03",
-        "enqueue 0 1 2 0 01 0 1",
-        "enqueue 0 1 2 0 - 0 1",
-        "enqueue 0 1 2 0 1 - 1",
-        "enqueue 0 1 2 0 1 0 01",
-        "advance 07",
-        "advance -",
-        // Numbers just past their ranges.
-        "flow 18446744073709551616 1 2 1",
-        "flow 1 18446744073709551616 2 1",
-        "flow 1 1 18446744073709551616 1",
-        "flow 1 1 2 2",
-        "egress 18446744073709551616 1",
-        "egress 1 340282366920938463463374607431768211456",
-        "ingress 18446744073709551616 1",
-        "ingress 1 340282366920938463463374607431768211456",
-        "egress 1 1000000000000000000000000000000000000000",
-        "link 18446744073709551616 2 1",
-        "link 1 18446744073709551616 1",
-        "link 1 2 340282366920938463463374607431768211456",
-        "limit 18446744073709551616 1 1 1",
-        "limit 0 18446744073709551616 1 1",
-        "limit 0 1 18446744073709551616 1",
-        "limit 0 1 1 18446744073709551616",
-        "limitlink 18446744073709551616 1 2 1",
-        "limitlink 0 18446744073709551616 2 1",
-        "limitlink 0 1 18446744073709551616 1",
-        "limitlink 0 1 2 18446744073709551616",
-        "enqueue 18446744073709551616 1 2 0 1 0 1",
-        "enqueue 0 18446744073709551616 2 0 1 0 1",
-        "enqueue 0 1 18446744073709551616 0 1 0 1",
-        "enqueue 0 1 2 18446744073709551616 1 0 1",
-        "enqueue 0 1 2 0 67108865 0 1",
-        "enqueue 0 1 2 0 1 18446744073709551616 1",
-        "enqueue 0 1 2 0 1 0 2",
-        "advance 18446744073709551616",
-    ] {
+fn lines_of_other_words_are_bad(rt: HostRuntime) {
+    for line in OTHER_WORDS {
+        expect_silence(&rt, line, Outcome::BadLine(1));
+    }
+}
+
+#[test]
+fn lines_with_other_spaces_are_bad(rt: HostRuntime) {
+    for line in OTHER_SPACES {
+        expect_silence(&rt, line, Outcome::BadLine(1));
+    }
+}
+
+#[test]
+fn lines_with_other_bytes_are_bad(rt: HostRuntime) {
+    for line in OTHER_BYTES {
+        expect_silence(&rt, line, Outcome::BadLine(1));
+    }
+}
+
+#[test]
+fn signs_and_leading_zeros_are_bad(rt: HostRuntime) {
+    for line in OTHER_NUMBERS {
+        expect_silence(&rt, line, Outcome::BadLine(1));
+    }
+}
+
+#[test]
+fn numbers_past_their_ranges_are_bad(rt: HostRuntime) {
+    for line in PAST_THE_RANGE {
         expect_silence(&rt, line, Outcome::BadLine(1));
     }
 }
