@@ -22,10 +22,9 @@ examples: bin/linkrun
 		./bin/linkrun < $$script 2>/dev/null | cmp - $${script%.link}.out && echo $$script || exit 1; \
 	done
 
-# Times of one allocation, by the number of flows, and of one message, by the kind of work.
+# Times of one allocation and of one message beside those of the Rust original. `make bench work="NAME .."` runs those alone.
 bench: bin/linkrun
-	python3 bench/allocations.py bin/linkrun
-	python3 bench/schedules.py bin/linkrun
+	python3 bench/run.py bin/linkrun $(work)
 
 clean:
 	rm -rf bin crates/*/out

@@ -3,18 +3,17 @@ use Rattle.std.proofs.Common.{◌≡◌, ℕ, List, Option, true, subst}
 use Rattle.std.specs.declared.cmp.Ordering.{Ordering}
 use Rattle.std.specs.Cmp.{IsTotalOrder}
 use Rattle.p2p_simulated.specs.declared.error.Error.{Error}
-use Rattle.p2p_simulated.specs.declared.error.Error.TheVariants.{OutOfMemory, NumberTooLarge, MomentTooLate, FlowIdsUsedUp}
 use Rattle.p2p_simulated.specs.Caps.{Caps}
 use Rattle.p2p_simulated.specs.WorldMessages.{Message}
 use Rattle.p2p_simulated.specs.World.{Completed, Course, goes, meets}
 use Rattle.p2p_simulated.specs.WorldCalls.{Call, call_limit, call_limit_link, call_enqueue, call_advance, limited_by, linked_by}
 use Rattle.p2p_simulated.specs.WorldPlanned.{Planned}
 use Rattle.p2p_simulated.specs.WorldEvents.{Recaps, none_sending, some_sending, Enqueues, Advances}
-use Rattle.p2p_simulated.specs.WorldRefusals.{RecapAccounts, recap_accounts, EnqueueAccounts, AdvanceAccounts}
-use Rattle.p2p_simulated.specs.Refusing.{IsRefusedAt, IsRefusedBy}
+use Rattle.p2p_simulated.specs.Refusing.{IsRefusedFor}
 use Rattle.p2p_simulated.specs.WorldEvents.{Obeys}
 use Rattle.p2p_simulated.specs.WorldRefusals.{MayBeRefused}
 use Rattle.p2p_simulated.specs.SamePlanned.{IsSamePlanned, IsSameCourse, Goes, GoesCounted}
+use Rattle.p2p_simulated.proofs.Refusals.{refused_more}
 use Rattle.p2p_simulated.proofs.World.SameWorlds.{same_turned}
 use Rattle.p2p_simulated.proofs.World.SameCourses.{obeys_same, advances_same}
 use Rattle.p2p_simulated.proofs.World.SameRefusals.{refused_same, call_itself}
@@ -49,37 +48,32 @@ module _ {P : Type 0} (cmp : P → P → Ordering) (order : IsTotalOrder cmp) wh
   recap_there now caps q course (none_sending none looks) = none_sending none looks
   recap_there now caps q course (some_sending some settles) = some_sending some settles
 
-  accounts_there : (now : ℕ) (caps : Caps P) (q r : Planned P) → RecapAccounts cmp now caps (record q { caps = caps; limited = true }) r → RecapAccounts cmp now caps q r
-  accounts_there now caps q r (recap_accounts some settles) = recap_accounts some settles
-
   pub recaps_on : (now : ℕ) (caps : Caps P) (q mid : Planned P) (course : Course (Completed P) (Planned P)) → mid ≡ record q { caps = caps; limited = true } → Recaps cmp now mid.caps mid course → Recaps cmp now caps q course
   recaps_on now caps q mid course is h = recap_there now caps q course (subst (λ (r : Planned P). Recaps cmp now r.caps r course) is h)
 
-  accounts_on : (now : ℕ) (caps : Caps P) (q mid r : Planned P) → mid ≡ record q { caps = caps; limited = true } → RecapAccounts cmp now mid.caps mid r → RecapAccounts cmp now caps q r
-  accounts_on now caps q mid r is h = accounts_there now caps q r (subst (λ (p : Planned P). RecapAccounts cmp now p.caps p r) is h)
-
+  -- a call on the copy is refused as one on what is kept
   pub limit_refused : (now : ℕ) (peer : P) (egress ingress : Option ℕ) (p q mid : Planned P) → IsSamePlanned cmp p q → mid ≡ record q { caps = limited_by cmp q.caps peer egress ingress; limited = true } → (e : Error)
-      → IsRefusedAt cmp now (λ fault. Recaps cmp now mid.caps mid (meets fault)) (RecapAccounts cmp now mid.caps mid) e → MayBeRefused cmp p (call_limit now peer egress ingress) e
-  limit_refused now peer egress ingress p q mid same is OutOfMemory h = tt
-  limit_refused now peer egress ingress p q mid same is NumberTooLarge h = refused_on p q (call_limit now peer egress ingress) NumberTooLarge same (h.0, h.1, (h.2.0, accounts_on now (limited_by cmp q.caps peer egress ingress) q mid h.1 is h.2.1), h.3)
-  limit_refused now peer egress ingress p q mid same is MomentTooLate h = refused_on p q (call_limit now peer egress ingress) MomentTooLate same (recaps_on now (limited_by cmp q.caps peer egress ingress) q mid (meets MomentTooLate) is h)
-  limit_refused now peer egress ingress p q mid same is FlowIdsUsedUp h = refused_on p q (call_limit now peer egress ingress) FlowIdsUsedUp same (recaps_on now (limited_by cmp q.caps peer egress ingress) q mid (meets FlowIdsUsedUp) is h)
+      → IsRefusedFor (λ fault. Recaps cmp now mid.caps mid (meets fault)) e
+      → MayBeRefused cmp p (call_limit now peer egress ingress) e
+  limit_refused now peer egress ingress p q mid same is e h =
+      refused_on p q (call_limit now peer egress ingress) e same
+      (refused_more (λ fault. Recaps cmp now mid.caps mid (meets fault))
+      (λ fault. Obeys cmp q (call_limit now peer egress ingress) (meets fault))
+      (λ fault. recaps_on now (limited_by cmp q.caps peer egress ingress) q mid (meets fault) is) e h)
 
   pub link_refused : (now : ℕ) (origin recipient : P) (cap : Option ℕ) (p q mid : Planned P) → IsSamePlanned cmp p q → mid ≡ record q { caps = linked_by cmp q.caps origin recipient cap; limited = true } → (e : Error)
-      → IsRefusedAt cmp now (λ fault. Recaps cmp now mid.caps mid (meets fault)) (RecapAccounts cmp now mid.caps mid) e → MayBeRefused cmp p (call_limit_link now origin recipient cap) e
-  link_refused now origin recipient cap p q mid same is OutOfMemory h = tt
-  link_refused now origin recipient cap p q mid same is NumberTooLarge h = refused_on p q (call_limit_link now origin recipient cap) NumberTooLarge same (h.0, h.1, (h.2.0, accounts_on now (linked_by cmp q.caps origin recipient cap) q mid h.1 is h.2.1), h.3)
-  link_refused now origin recipient cap p q mid same is MomentTooLate h = refused_on p q (call_limit_link now origin recipient cap) MomentTooLate same (recaps_on now (linked_by cmp q.caps origin recipient cap) q mid (meets MomentTooLate) is h)
-  link_refused now origin recipient cap p q mid same is FlowIdsUsedUp h = refused_on p q (call_limit_link now origin recipient cap) FlowIdsUsedUp same (recaps_on now (linked_by cmp q.caps origin recipient cap) q mid (meets FlowIdsUsedUp) is h)
+      → IsRefusedFor (λ fault. Recaps cmp now mid.caps mid (meets fault)) e
+      → MayBeRefused cmp p (call_limit_link now origin recipient cap) e
+  link_refused now origin recipient cap p q mid same is e h =
+      refused_on p q (call_limit_link now origin recipient cap) e same
+      (refused_more (λ fault. Recaps cmp now mid.caps mid (meets fault))
+      (λ fault. Obeys cmp q (call_limit_link now origin recipient cap) (meets fault))
+      (λ fault. recaps_on now (linked_by cmp q.caps origin recipient cap) q mid (meets fault) is) e h)
 
-  pub enqueue_refused : (now : ℕ) (m : Message P) (p q : Planned P) → IsSamePlanned cmp p q → (e : Error) → IsRefusedAt cmp now (λ fault. Enqueues cmp now m q (meets fault)) (EnqueueAccounts cmp now m q) e → MayBeRefused cmp p (call_enqueue now m) e
-  enqueue_refused now m p q same OutOfMemory h = tt
-  enqueue_refused now m p q same NumberTooLarge h = refused_on p q (call_enqueue now m) NumberTooLarge same h
-  enqueue_refused now m p q same MomentTooLate h = refused_on p q (call_enqueue now m) MomentTooLate same h
-  enqueue_refused now m p q same FlowIdsUsedUp h = refused_on p q (call_enqueue now m) FlowIdsUsedUp same h
+  pub enqueue_refused : (now : ℕ) (m : Message P) (p q : Planned P) → IsSamePlanned cmp p q → (e : Error)
+      → IsRefusedFor (λ fault. Enqueues cmp now m q (meets fault)) e → MayBeRefused cmp p (call_enqueue now m) e
+  enqueue_refused now m p q same e h = refused_on p q (call_enqueue now m) e same h
 
-  pub advance_refused : (now : ℕ) (p q : Planned P) → IsSamePlanned cmp p q → (e : Error) → IsRefusedBy cmp (λ fault. (n : ℕ) × Advances cmp now q n (meets fault)) (λ t r. AdvanceAccounts cmp now q t r) e → MayBeRefused cmp p (call_advance now) e
-  advance_refused now p q same OutOfMemory h = tt
-  advance_refused now p q same NumberTooLarge h = refused_on p q (call_advance now) NumberTooLarge same h
-  advance_refused now p q same MomentTooLate h = refused_on p q (call_advance now) MomentTooLate same h
-  advance_refused now p q same FlowIdsUsedUp h = refused_on p q (call_advance now) FlowIdsUsedUp same h
+  pub advance_refused : (now : ℕ) (p q : Planned P) → IsSamePlanned cmp p q → (e : Error)
+      → IsRefusedFor (λ fault. (n : ℕ) × Advances cmp now q n (meets fault)) e → MayBeRefused cmp p (call_advance now) e
+  advance_refused now p q same e h = refused_on p q (call_advance now) e same h

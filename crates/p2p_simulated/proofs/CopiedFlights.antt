@@ -47,12 +47,12 @@ module _ {P : Type 0} (cmp : P → P → Ordering) where
       should_deliver = refl;
     }
 
-    pub sending_alike : (xs ys : List (Flow P)) (ss : List Progress) → AllZip (IsSameFlow cmp) xs ys → AllZip (IsSamePaced cmp) (sending_of xs ss) (sending_of ys ss)
-    sending_alike [] [] ss z = tt
-    sending_alike [] (y ∷ ys) ss z = absurd z
-    sending_alike (x ∷ xs) [] ss z = absurd z
-    sending_alike (x ∷ xs) (y ∷ ys) [] z = tt
-    sending_alike (x ∷ xs) (y ∷ ys) (s ∷ ss) z = (record { message = in_alike x y s z.0; left = refl; rate = refl; updated = refl }, sending_alike xs ys ss z.1)
+    pub sending_alike : (scale : ℕ) (levels : List ℕ) (xs ys : List (Flow P)) (ss : List Progress) → AllZip (IsSameFlow cmp) xs ys → AllZip (IsSamePaced cmp) (sending_of scale levels xs ss) (sending_of scale levels ys ss)
+    sending_alike scale levels [] [] ss z = tt
+    sending_alike scale levels [] (y ∷ ys) ss z = absurd z
+    sending_alike scale levels (x ∷ xs) [] ss z = absurd z
+    sending_alike scale levels (x ∷ xs) (y ∷ ys) [] z = tt
+    sending_alike scale levels (x ∷ xs) (y ∷ ys) (s ∷ ss) z = (record { message = in_alike x y s z.0; left = refl; rate = refl; updated = refl }, sending_alike scale levels xs ys ss z.1)
 
     pub marked_alike : (xs ys : List (Flow P)) (ss : List Progress) → AllZip (IsSameFlow cmp) xs ys → are_marked cmp ys ss ≡ are_marked cmp xs ss
     marked_alike [] [] ss z = refl

@@ -24,7 +24,7 @@ drained_scaled g n d a rate k h i j num den =
     sym (reduced_scaled g (a.num * unit - k * (rate.num * a.den)) (a.den * unit) h some) ∙ reduced_alike _ _ _ _ up down
 
 -- draining an amount in lowest terms is draining the amount
-drained_reduced : (n d : ℕ) (rate : Amount) (k : ℕ) → 0 < d → 0 < rate.den
+pub drained_reduced : (n d : ℕ) (rate : Amount) (k : ℕ) → 0 < d → 0 < rate.den
     → drained (reduced n d) rate k ≡ reduced (n * (rate.den * billion) - k * (rate.num * d)) (d * (rate.den * billion))
 drained_reduced n d rate k h j =
     let s : IsScaled n d (reduced n d) = reduced_scales n d h in
@@ -53,7 +53,7 @@ drained_twice left rate a b h j =
 
 -- ---- nothing is left exactly where the time covers it
 
-product_none : (g q : ℕ) → 0 < g → g * q ≡ 0 → q ≡ 0
+pub product_none : (g q : ℕ) → 0 < g → g * q ≡ 0 → q ≡ 0
 product_none g zero h e = refl
 product_none g (suc q) h e = absurd (omega (arith, mul-pos {m = g} {n = suc q} h (omega arith)))
 

@@ -15,8 +15,7 @@ use Rattle.p2p_simulated.specs.WorldMessages.{Message, same_pair}
 use Rattle.p2p_simulated.specs.World.{Completed, Course, goes, meets, preceded, is_late, completed}
 use Rattle.p2p_simulated.specs.WorldPlanned.{Planned, next_of}
 use Rattle.p2p_simulated.specs.WorldEvents.{Looks, Launches, Finishes, all_completed, late, stopped, completes, landed, WakesEach, all_started, no_start, no_finish, starts_one}
-use Rattle.p2p_simulated.specs.WorldRefusals.{LaunchAccounts, FinishAccounts, first_accounts, later_accounts, WakeAccounts, start_accounts, finish_accounts, rest_accounts}
-use Rattle.p2p_simulated.specs.Refusing.{IsRefusedAt}
+use Rattle.p2p_simulated.specs.Refusing.{IsRefusedFor}
 use Rattle.p2p_simulated.proofs.Refusals.{refused_more}
 use Rattle.p2p_simulated.proofs.Sorted.{and_both}
 use Rattle.p2p_simulated.proofs.World.Queue.{pair_like, preceded_none}
@@ -34,17 +33,20 @@ then_some_is b false x y same is = rw same refl
 module _ {P : Type 0} (cmp : P → P → Ordering) where
   -- ---- one message completes
 
-  pub refused_late : (t : ℕ) (m : Message P) (ms : List (Message P)) (p : Planned P) (accounts : Planned P → Type 0) (e : Error) → is_late cmp t m ≡ true → e ≡ MomentTooLate
-      → IsRefusedAt cmp t (λ fault. Finishes cmp t (m ∷ ms) p (meets fault)) accounts e
-  refused_late t m ms p accounts e is_so is = subst (IsRefusedAt cmp t (λ fault. Finishes cmp t (m ∷ ms) p (meets fault)) accounts) (sym is) (late is_so)
+  pub refused_late : (t : ℕ) (m : Message P) (ms : List (Message P)) (p : Planned P) (e : Error)
+      → is_late cmp t m ≡ true → e ≡ MomentTooLate
+      → IsRefusedFor (λ fault. Finishes cmp t (m ∷ ms) p (meets fault)) e
+  refused_late t m ms p e is_so is =
+      subst (IsRefusedFor (λ fault. Finishes cmp t (m ∷ ms) p (meets fault))) (sym is) (late is_so)
 
   pub refused_launch : (t : ℕ) (m : Message P) (ms : List (Message P)) (p mid : Planned P) → is_late cmp t m ≡ false → mid ≡ landed cmp t p m → (e : Error)
-      → IsRefusedAt cmp t (λ fault. Launches cmp t mid (first_of cmp mid.waiting m.origin m.recipient) (meets fault)) (LaunchAccounts cmp t mid (first_of cmp mid.waiting m.origin m.recipient)) e
-      → IsRefusedAt cmp t (λ fault. Finishes cmp t (m ∷ ms) p (meets fault)) (FinishAccounts cmp t (m ∷ ms) p) e
+      → IsRefusedFor (λ fault. Launches cmp t mid (first_of cmp mid.waiting m.origin m.recipient) (meets fault)) e
+      → IsRefusedFor (λ fault. Finishes cmp t (m ∷ ms) p (meets fault)) e
   refused_launch t m ms p mid in_time is e refused =
-      refused_more cmp t (λ fault. Launches cmp t (landed cmp t p m) (next_of cmp p m) (meets fault)) (λ fault. Finishes cmp t (m ∷ ms) p (meets fault)) (LaunchAccounts cmp t (landed cmp t p m) (next_of cmp p m)) (FinishAccounts cmp t (m ∷ ms) p)
-      (λ fault h. stopped in_time h) (λ q h. first_accounts in_time h) e
-      (subst (λ (q : Planned P). IsRefusedAt cmp t (λ fault. Launches cmp t q (first_of cmp q.waiting m.origin m.recipient) (meets fault)) (LaunchAccounts cmp t q (first_of cmp q.waiting m.origin m.recipient)) e) is refused)
+      refused_more (λ fault. Launches cmp t (landed cmp t p m) (next_of cmp p m) (meets fault))
+      (λ fault. Finishes cmp t (m ∷ ms) p (meets fault)) (λ fault h. stopped in_time h) e
+      (subst (λ (q : Planned P). IsRefusedFor (λ fault. Launches cmp t q (first_of cmp q.waiting m.origin m.recipient)
+      (meets fault)) e) is refused)
 
   pub launches_landed : (t : ℕ) (m : Message P) (p mid : Planned P) (course : Course (Message P) (Planned P)) → mid ≡ landed cmp t p m → Launches cmp t mid (first_of cmp mid.waiting m.origin m.recipient) course
       → Launches cmp t (landed cmp t p m) (next_of cmp p m) course
@@ -57,10 +59,15 @@ module _ {P : Type 0} (cmp : P → P → Ordering) where
     pub done : List (Completed P)
     pub out : after ≡ before ++ done
     pub finishes : (course : Course (Completed P) (Planned P)) → Finishes cmp t rest now course → Finishes cmp t ms p (preceded done course)
-    pub accounts : (q : Planned P) → FinishAccounts cmp t rest now q → FinishAccounts cmp t ms p q
 
   pub finishes_start : (t : ℕ) (ms : List (Message P)) (p : Planned P) (before : List (Completed P)) → FinishesSo t ms p before ms p before
-  finishes_start t ms p before = record { done = []; out = sym (append-nil before); finishes = λ course h. subst (Finishes cmp t ms p) (sym (preceded_none course)) h; accounts = λ q h. h }
+  finishes_start t ms p before =
+      record {
+        done = [];
+        out = sym (append-nil before);
+        finishes = λ course h. subst (Finishes cmp t ms p)
+            (sym (preceded_none course)) h;
+      }
 
   pub finishes_step : (t : ℕ) (ms : List (Message P)) (p : Planned P) (before : List (Completed P)) (m : Message P) (rest more : List (Message P)) (now next : Planned P) (mid after : List (Completed P)) → FinishesSo t ms p before (m ∷ rest) now mid
       → is_late cmp t m ≡ false → after ≡ mid ++ completed cmp t m ∷ [] → Launches cmp t (landed cmp t now m) (next_of cmp now m) (goes more next) → FinishesSo t ms p before (rest ++ more) next after
@@ -68,7 +75,6 @@ module _ {P : Type 0} (cmp : P → P → Ordering) where
     done = so.done ++ completed cmp t m ∷ [];
     out = out ∙ ap (λ l. l ++ completed cmp t m ∷ []) so.out ∙ append_assoc before so.done (completed cmp t m ∷ []);
     finishes = λ course h. subst (Finishes cmp t ms p) (preceded_both so.done (completed cmp t m ∷ []) course) (so.finishes (preceded (completed cmp t m ∷ []) course) (completes in_time launch h));
-    accounts = λ q h. so.accounts q (later_accounts in_time launch h);
   }
 
   -- what came out in the end
@@ -86,9 +92,11 @@ module _ {P : Type 0} (cmp : P → P → Ordering) where
   }
 
   pub finishes_refused : (t : ℕ) (ms : List (Message P)) (p : Planned P) (before : List (Completed P)) (rest : List (Message P)) (now : Planned P) (after : List (Completed P)) → FinishesSo t ms p before rest now after → (e : Error)
-      → IsRefusedAt cmp t (λ fault. Finishes cmp t rest now (meets fault)) (FinishAccounts cmp t rest now) e → IsRefusedAt cmp t (λ fault. Finishes cmp t ms p (meets fault)) (FinishAccounts cmp t ms p) e
+      → IsRefusedFor (λ fault. Finishes cmp t rest now (meets fault)) e
+      → IsRefusedFor (λ fault. Finishes cmp t ms p (meets fault)) e
   finishes_refused t ms p before rest now after so e refused =
-      refused_more cmp t (λ fault. Finishes cmp t rest now (meets fault)) (λ fault. Finishes cmp t ms p (meets fault)) (FinishAccounts cmp t rest now) (FinishAccounts cmp t ms p) (λ fault h. so.finishes (meets fault) h) so.accounts e refused
+      refused_more (λ fault. Finishes cmp t rest now (meets fault)) (λ fault. Finishes cmp t ms p (meets fault))
+      (λ fault h. so.finishes (meets fault) h) e refused
 
   -- ---- pairs start
 
@@ -96,10 +104,15 @@ module _ {P : Type 0} (cmp : P → P → Ordering) where
     pub done : List (Completed P)
     pub out : after ≡ before ++ done
     pub wakes : (course : Course (Completed P) (Planned P)) → WakesEach cmp t rest now course → WakesEach cmp t ms p (preceded done course)
-    pub accounts : (q : Planned P) → WakeAccounts cmp t rest now q → WakeAccounts cmp t ms p q
 
   pub wakes_start : (t : ℕ) (ms : List (Message P)) (p : Planned P) (before : List (Completed P)) → WakesSo t ms p before ms p before
-  wakes_start t ms p before = record { done = []; out = sym (append-nil before); wakes = λ course h. subst (WakesEach cmp t ms p) (sym (preceded_none course)) h; accounts = λ q h. h }
+  wakes_start t ms p before =
+      record {
+        done = [];
+        out = sym (append-nil before);
+        wakes = λ course h. subst (WakesEach cmp t ms p)
+            (sym (preceded_none course)) h;
+      }
 
   pub wakes_step : (t : ℕ) (ms : List (Message P)) (p : Planned P) (before : List (Completed P)) (m : Message P) (rest more : List (Message P)) (now next new : Planned P) (mid after cs : List (Completed P)) → WakesSo t ms p before (m ∷ rest) now mid
       → Launches cmp t now (next_of cmp now m) (goes more next) → Finishes cmp t more next (goes cs new) → after ≡ mid ++ cs → WakesSo t ms p before rest new after
@@ -107,7 +120,6 @@ module _ {P : Type 0} (cmp : P → P → Ordering) where
     done = so.done ++ cs;
     out = out ∙ ap (λ l. l ++ cs) so.out ∙ append_assoc before so.done cs;
     wakes = λ course h. subst (WakesEach cmp t ms p) (preceded_both so.done cs course) (so.wakes (preceded cs course) (starts_one launch finishes h));
-    accounts = λ q h. so.accounts q (rest_accounts launch finishes h);
   }
 
   pub record WakesWith (t : ℕ) (ms : List (Message P)) (p : Planned P) (before : List (Completed P)) (new : Planned P) (after : List (Completed P)) : Type 0 where
@@ -124,17 +136,19 @@ module _ {P : Type 0} (cmp : P → P → Ordering) where
   }
 
   pub wakes_launch_refused : (t : ℕ) (ms : List (Message P)) (p : Planned P) (before : List (Completed P)) (m : Message P) (rest : List (Message P)) (now : Planned P) (after : List (Completed P)) → WakesSo t ms p before (m ∷ rest) now after → (e : Error)
-      → IsRefusedAt cmp t (λ fault. Launches cmp t now (next_of cmp now m) (meets fault)) (LaunchAccounts cmp t now (next_of cmp now m)) e → IsRefusedAt cmp t (λ fault. WakesEach cmp t ms p (meets fault)) (WakeAccounts cmp t ms p) e
+      → IsRefusedFor (λ fault. Launches cmp t now (next_of cmp now m) (meets fault)) e
+      → IsRefusedFor (λ fault. WakesEach cmp t ms p (meets fault)) e
   wakes_launch_refused t ms p before m rest now after so e refused =
-      refused_more cmp t (λ fault. Launches cmp t now (next_of cmp now m) (meets fault)) (λ fault. WakesEach cmp t ms p (meets fault)) (LaunchAccounts cmp t now (next_of cmp now m)) (WakeAccounts cmp t ms p)
-      (λ fault h. so.wakes (meets fault) (no_start h)) (λ q h. so.accounts q (start_accounts h)) e refused
+      refused_more (λ fault. Launches cmp t now (next_of cmp now m) (meets fault))
+      (λ fault. WakesEach cmp t ms p (meets fault)) (λ fault h. so.wakes (meets fault) (no_start h)) e refused
 
   pub wakes_finish_refused : (t : ℕ) (ms : List (Message P)) (p : Planned P) (before : List (Completed P)) (m : Message P) (rest more : List (Message P)) (now next : Planned P) (after : List (Completed P)) → WakesSo t ms p before (m ∷ rest) now after
       → Launches cmp t now (next_of cmp now m) (goes more next) → (e : Error)
-      → IsRefusedAt cmp t (λ fault. Finishes cmp t more next (meets fault)) (FinishAccounts cmp t more next) e → IsRefusedAt cmp t (λ fault. WakesEach cmp t ms p (meets fault)) (WakeAccounts cmp t ms p) e
+      → IsRefusedFor (λ fault. Finishes cmp t more next (meets fault)) e
+      → IsRefusedFor (λ fault. WakesEach cmp t ms p (meets fault)) e
   wakes_finish_refused t ms p before m rest more now next after so launch e refused =
-      refused_more cmp t (λ fault. Finishes cmp t more next (meets fault)) (λ fault. WakesEach cmp t ms p (meets fault)) (FinishAccounts cmp t more next) (WakeAccounts cmp t ms p)
-      (λ fault h. so.wakes (meets fault) (no_finish launch h)) (λ q h. so.accounts q (finish_accounts launch h)) e refused
+      refused_more (λ fault. Finishes cmp t more next (meets fault)) (λ fault. WakesEach cmp t ms p (meets fault))
+      (λ fault h. so.wakes (meets fault) (no_finish launch h)) e refused
 
   -- the messages whose pairs are still to start, and their keys
   pub record WakesAt (t : ℕ) (ms : List (Message P)) (p : Planned P) (before : List (Completed P)) (keys : List (Key P)) (at : ℕ) (now : Planned P) (after : List (Completed P)) : Type 0 where

@@ -1,5 +1,5 @@
 -- The messages in flight: a list of flows and a list of the rest, place by place.
-use Rattle.std.proofs.Common.{◌≡◌, ℕ, zero, suc, ◌+◌, ◌<◌, ◌≤◌, Bool, true, false, not, if◌then◌else◌, ◌&&◌, ◌||◌, List, [], ◌∷◌, ◌++◌, length, map, get_or, nat_lt, refl, sym, ◌∙◌, ap, arith, append_assoc}
+use Rattle.std.proofs.Common.{◌≡◌, ℕ, zero, suc, ◌+◌, ◌*◌, ◌<◌, ◌≤◌, Bool, true, false, not, if◌then◌else◌, ◌&&◌, ◌||◌, List, [], ◌∷◌, ◌++◌, length, map, get_or, nat_lt, refl, sym, ◌∙◌, ap, arith, append_assoc}
 use Rattle.std.specs.List.{list_all, list_any, remove, filter}
 use Rattle.std.specs.declared.cmp.Ordering.{Ordering}
 use Rattle.std.specs.Ordering.{is_lt, nat_cmp}
@@ -7,7 +7,7 @@ use Rattle.p2p_simulated.specs.declared.bandwidth.Flow.{Flow}
 use Rattle.p2p_simulated.specs.declared.transmitter.progress.Progress.{Progress}
 use Rattle.std.specs.Bool.{◌==◌}
 use Rattle.std.proofs.lemmas.Bool.Decides.{nat_tests}
-use Rattle.p2p_simulated.specs.Ratio.{amount_of}
+use Rattle.p2p_simulated.specs.Amount.{reduced, billion}
 use Rattle.p2p_simulated.specs.Sides.{same_peer}
 use Rattle.p2p_simulated.specs.WorldMessages.{Message, is_delivered, same_pair}
 use Rattle.p2p_simulated.specs.WorldPlanned.{Paced, paced_flows}
@@ -48,16 +48,16 @@ cut_flight (f ∷ fs) (s ∷ ss) (suc at) same lt =
       at_is = ap suc c.at_is;
     }
 
-pub sending-append : {P : Type 0} (fs gs : List (Flow P)) (ss ts : List Progress) → length fs ≡ length ss → sending_of (fs ++ gs) (ss ++ ts) ≡ sending_of fs ss ++ sending_of gs ts
-sending-append [] gs [] ts same = refl
-sending-append [] gs (s ∷ ss) ts same = absurd (omega arith)
-sending-append (f ∷ fs) gs [] ts same = absurd (omega arith)
-sending-append (f ∷ fs) gs (s ∷ ss) ts same = ap (λ l. paced_of f s ∷ l) (sending-append fs gs ss ts (omega arith))
+pub sending-append : {P : Type 0} (scale : ℕ) (levels : List ℕ) (fs gs : List (Flow P)) (ss ts : List Progress) → length fs ≡ length ss → sending_of scale levels (fs ++ gs) (ss ++ ts) ≡ sending_of scale levels fs ss ++ sending_of scale levels gs ts
+sending-append scale levels [] gs [] ts same = refl
+sending-append scale levels [] gs (s ∷ ss) ts same = absurd (omega arith)
+sending-append scale levels (f ∷ fs) gs [] ts same = absurd (omega arith)
+sending-append scale levels (f ∷ fs) gs (s ∷ ss) ts same = ap (λ l. paced_of scale levels f s ∷ l) (sending-append scale levels fs gs ss ts (omega arith))
 
-pub length-sending : {P : Type 0} (fs : List (Flow P)) (ss : List Progress) → length fs ≡ length ss → length (sending_of fs ss) ≡ length fs
-length-sending [] ss same = refl
-length-sending (f ∷ fs) [] same = absurd (omega arith)
-length-sending (f ∷ fs) (s ∷ ss) same = ap suc (length-sending fs ss (omega arith))
+pub length-sending : {P : Type 0} (scale : ℕ) (levels : List ℕ) (fs : List (Flow P)) (ss : List Progress) → length fs ≡ length ss → length (sending_of scale levels fs ss) ≡ length fs
+length-sending scale levels [] ss same = refl
+length-sending scale levels (f ∷ fs) [] same = absurd (omega arith)
+length-sending scale levels (f ∷ fs) (s ∷ ss) same = ap suc (length-sending scale levels fs ss (omega arith))
 
 remove-seam : {X : Type 0} (xs ys : List X) (y : X) → remove (xs ++ y ∷ ys) (length xs) ≡ xs ++ ys
 remove-seam [] ys y = refl
@@ -75,11 +75,11 @@ module _ {P : Type 0} (cmp : P → P → Ordering) where
       and_assoc false b c = refl
 
   -- whether a message of a pair is in flight, by the flows
-  pub any_of_pair : (m : Message P) (fs : List (Flow P)) (ss : List Progress) → length fs ≡ length ss
-      → list_any (λ (flow : Flow P). same_peer cmp m.origin flow.origin && same_peer cmp m.recipient flow.recipient) fs ≡ list_any (same_pair cmp m) (paced_flows (sending_of fs ss))
-  any_of_pair m [] ss same = refl
-  any_of_pair m (f ∷ fs) [] same = absurd (omega arith)
-  any_of_pair m (f ∷ fs) (s ∷ ss) same = ap (λ b. (same_peer cmp m.origin f.origin && same_peer cmp m.recipient f.recipient) || b) (any_of_pair m fs ss (omega arith))
+  pub any_of_pair : (scale : ℕ) (levels : List ℕ) (m : Message P) (fs : List (Flow P)) (ss : List Progress) → length fs ≡ length ss
+      → list_any (λ (flow : Flow P). same_peer cmp m.origin flow.origin && same_peer cmp m.recipient flow.recipient) fs ≡ list_any (same_pair cmp m) (paced_flows (sending_of scale levels fs ss))
+  any_of_pair scale levels m [] ss same = refl
+  any_of_pair scale levels m (f ∷ fs) [] same = absurd (omega arith)
+  any_of_pair scale levels m (f ∷ fs) (s ∷ ss) same = ap (λ b. (same_peer cmp m.origin f.origin && same_peer cmp m.recipient f.recipient) || b) (any_of_pair scale levels m fs ss (omega arith))
 
 -- ---- without one
 
@@ -90,51 +90,51 @@ ascending_without cmp (j ∷ ks) ls k h =
     and_both _ _ (list_all-append _ ks ls (list_all-left _ ks (k ∷ ls) first) (and_right _ _ (list_all-right (λ l. is_lt (cmp j l)) ks (k ∷ ls) first))) (ascending_without cmp ks ls k (and_right _ _ h))
 
 -- both lists without what stands at a place
-pub record IsWithout {P : Type 0} (cmp : P → P → Ordering) (fs : List (Flow P)) (ss : List Progress) (at : ℕ) (gs : List (Flow P)) (ts : List Progress) : Type 0 where
+pub record IsWithout {P : Type 0} (scale : ℕ) (levels : List ℕ) (cmp : P → P → Ordering) (fs : List (Flow P)) (ss : List Progress) (at : ℕ) (gs : List (Flow P)) (ts : List Progress) : Type 0 where
   pub parallel : length gs ≡ length ts
   pub marked : are_marked cmp fs ss ≡ true → are_marked cmp gs ts ≡ true
   pub apart : are_ascending nat_cmp (map (λ (flow : Flow P). flow.id) fs) ≡ true → are_ascending nat_cmp (map (λ (flow : Flow P). flow.id) gs) ≡ true
-  pub sending : sending_of gs ts ≡ remove (sending_of fs ss) at
+  pub sending : sending_of scale levels gs ts ≡ remove (sending_of scale levels fs ss) at
   pub others : (test : Flow P → Bool) → list_all test fs ≡ true → list_all test gs ≡ true
 
-split_without : {P : Type 0} (cmp : P → P → Ordering) (fb fa : List (Flow P)) (f : Flow P) (sb sa : List Progress) (s : Progress) → length fb ≡ length sb → length fa ≡ length sa
-    → IsWithout cmp (fb ++ f ∷ fa) (sb ++ s ∷ sa) (length fb) (fb ++ fa) (sb ++ sa)
-split_without cmp fb fa f sb sa s front back = record {
+split_without : {P : Type 0} (scale : ℕ) (levels : List ℕ) (cmp : P → P → Ordering) (fb fa : List (Flow P)) (f : Flow P) (sb sa : List Progress) (s : Progress) → length fb ≡ length sb → length fa ≡ length sa
+    → IsWithout scale levels cmp (fb ++ f ∷ fa) (sb ++ s ∷ sa) (length fb) (fb ++ fa) (sb ++ sa)
+split_without scale levels cmp fb fa f sb sa s front back = record {
   parallel = length-append fb fa ∙ ap (λ n. n + length fa) front ∙ ap (λ n. length sb + n) back ∙ sym (length-append sb sa);
   marked = λ h.
       let both = sym (marked-append cmp fb (f ∷ fa) sb (s ∷ sa) front) ∙ h in
       marked-append cmp fb fa sb sa front ∙ and_both _ _ (and_left (are_marked cmp fb sb) _ both) (and_right _ (are_marked cmp fa sa) (and_right (are_marked cmp fb sb) _ both));
   apart = λ h. ap (are_ascending nat_cmp) (map-append _ fb fa) ∙ ascending_without nat_cmp (map (λ flow. flow.id) fb) (map (λ flow. flow.id) fa) f.id (ap (are_ascending nat_cmp) (sym (map-append _ fb (f ∷ fa))) ∙ h);
-  sending = sending-append fb fa sb sa front
-      ∙ sym (ap (λ l. remove l (length fb)) (sending-append fb (f ∷ fa) sb (s ∷ sa) front) ∙ ap (remove (sending_of fb sb ++ paced_of f s ∷ sending_of fa sa)) (sym (length-sending fb sb front)) ∙ remove-seam (sending_of fb sb) (sending_of fa sa) (paced_of f s));
+  sending = sending-append scale levels fb fa sb sa front
+      ∙ sym (ap (λ l. remove l (length fb)) (sending-append scale levels fb (f ∷ fa) sb (s ∷ sa) front) ∙ ap (remove (sending_of scale levels fb sb ++ paced_of scale levels f s ∷ sending_of scale levels fa sa)) (sym (length-sending scale levels fb sb front)) ∙ remove-seam (sending_of scale levels fb sb) (sending_of scale levels fa sa) (paced_of scale levels f s));
   others = λ test h. list_all-append test fb fa (list_all-left test fb (f ∷ fa) h) (and_right (test f) _ (list_all-right test fb (f ∷ fa) h));
 }
 
 same_after : {X Y : Type 0} (xs xs' : List X) (ys ys' : List Y) (x : X) (y : Y) → length (xs ++ x ∷ xs') ≡ length (ys ++ y ∷ ys') → length xs ≡ length ys → length xs' ≡ length ys'
 same_after xs xs' ys ys' x y h front = omega (arith, length-append xs (x ∷ xs'), length-append ys (y ∷ ys'))
 
-pub without : {P : Type 0} (cmp : P → P → Ordering) (fs : List (Flow P)) (ss : List Progress) (at : ℕ) → length fs ≡ length ss → at < length fs → IsWithout cmp fs ss at (remove fs at) (remove ss at)
-without {P} cmp fs ss at same lt = by_cut (cut_flight fs ss at same lt)
+pub without : {P : Type 0} (scale : ℕ) (levels : List ℕ) (cmp : P → P → Ordering) (fs : List (Flow P)) (ss : List Progress) (at : ℕ) → length fs ≡ length ss → at < length fs → IsWithout scale levels cmp fs ss at (remove fs at) (remove ss at)
+without {P} scale levels cmp fs ss at same lt = by_cut (cut_flight fs ss at same lt)
   where
     from : (fs : List (Flow P)) (ss : List Progress) (at : ℕ) (fb fa : List (Flow P)) (f : Flow P) (sb sa : List Progress) (s : Progress) → fs ≡ fb ++ f ∷ fa → ss ≡ sb ++ s ∷ sa → at ≡ length fb → at ≡ length sb → length fs ≡ length ss
-        → IsWithout cmp fs ss at (remove fs at) (remove ss at)
+        → IsWithout scale levels cmp fs ss at (remove fs at) (remove ss at)
     from fs ss at fb fa f sb sa s fs_is ss_is at_fb at_sb same =
         let front : length fb ≡ length sb = sym at_fb ∙ at_sb in
         let back : length fa ≡ length sa = same_after fb fa sb sa f s (ap length (sym fs_is) ∙ same ∙ ap length ss_is) front in
         let removed_fs : remove fs at ≡ fb ++ fa = ap (λ l. remove l at) fs_is ∙ ap (remove (fb ++ f ∷ fa)) at_fb ∙ remove-seam fb fa f in
         let removed_ss : remove ss at ≡ sb ++ sa = ap (λ l. remove l at) ss_is ∙ ap (remove (sb ++ s ∷ sa)) at_sb ∙ remove-seam sb sa s in
-        rw (removed_fs, removed_ss, fs_is, ss_is, at_fb) (split_without cmp fb fa f sb sa s front back)
+        rw (removed_fs, removed_ss, fs_is, ss_is, at_fb) (split_without scale levels cmp fb fa f sb sa s front back)
 
-    by_cut : IsCutFlight fs ss at → IsWithout cmp fs ss at (remove fs at) (remove ss at)
+    by_cut : IsCutFlight fs ss at → IsWithout scale levels cmp fs ss at (remove fs at) (remove ss at)
     by_cut c = from fs ss at c.flows_before c.flows_after c.flow c.before c.after c.here c.flows_split c.split c.flows_at c.at_is same
 
 -- what is read at a place
-pub paced_at : {P : Type 0} (fs : List (Flow P)) (ss : List Progress) (at : ℕ) (f : Flow P) (s : Progress) (d : Paced P) → length fs ≡ length ss → at < length fs → f ≡ get_or fs at f → s ≡ get_or ss at s
-    → get_or (sending_of fs ss) at d ≡ paced_of f s
-paced_at [] ss at f s d same lt f_is s_is = absurd (omega arith)
-paced_at (g ∷ fs) [] at f s d same lt f_is s_is = absurd (omega arith)
-paced_at (g ∷ fs) (t ∷ ss) zero f s d same lt f_is s_is = ap (λ x. paced_of x t) (sym f_is) ∙ ap (paced_of f) (sym s_is)
-paced_at (g ∷ fs) (t ∷ ss) (suc at) f s d same lt f_is s_is = paced_at fs ss at f s d (omega arith) (omega arith) f_is s_is
+pub paced_at : {P : Type 0} (scale : ℕ) (levels : List ℕ) (fs : List (Flow P)) (ss : List Progress) (at : ℕ) (f : Flow P) (s : Progress) (d : Paced P) → length fs ≡ length ss → at < length fs → f ≡ get_or fs at f → s ≡ get_or ss at s
+    → get_or (sending_of scale levels fs ss) at d ≡ paced_of scale levels f s
+paced_at scale levels [] ss at f s d same lt f_is s_is = absurd (omega arith)
+paced_at scale levels (g ∷ fs) [] at f s d same lt f_is s_is = absurd (omega arith)
+paced_at scale levels (g ∷ fs) (t ∷ ss) zero f s d same lt f_is s_is = ap (λ x. paced_of scale levels x t) (sym f_is) ∙ ap (paced_of scale levels f) (sym s_is)
+paced_at scale levels (g ∷ fs) (t ∷ ss) (suc at) f s d same lt f_is s_is = paced_at scale levels fs ss at f s d (omega arith) (omega arith) f_is s_is
 
 -- ---- with one more
 
@@ -146,19 +146,19 @@ ascending_push (j ∷ ks) k h below = and_both _ _ (list_all-append (λ l. is_lt
     less : (j k : ℕ) → nat_lt j k ≡ true → is_lt (nat_cmp j k) ≡ true
     less j k h = rw h refl
 
-pub record IsWith {P : Type 0} (cmp : P → P → Ordering) (fs : List (Flow P)) (ss : List Progress) (f : Flow P) (s : Progress) : Type 0 where
+pub record IsWith {P : Type 0} (scale : ℕ) (levels : List ℕ) (cmp : P → P → Ordering) (fs : List (Flow P)) (ss : List Progress) (f : Flow P) (s : Progress) : Type 0 where
   pub parallel : length (fs ++ f ∷ []) ≡ length (ss ++ s ∷ [])
   pub marked : are_marked cmp (fs ++ f ∷ []) (ss ++ s ∷ []) ≡ true
   pub apart : are_ascending nat_cmp (map (λ (flow : Flow P). flow.id) (fs ++ f ∷ [])) ≡ true
-  pub sending : sending_of (fs ++ f ∷ []) (ss ++ s ∷ []) ≡ sending_of fs ss ++ paced_of f s ∷ []
+  pub sending : sending_of scale levels (fs ++ f ∷ []) (ss ++ s ∷ []) ≡ sending_of scale levels fs ss ++ paced_of scale levels f s ∷ []
 
-pub with_one : {P : Type 0} (cmp : P → P → Ordering) (fs : List (Flow P)) (ss : List Progress) (f : Flow P) (s : Progress) → length fs ≡ length ss → are_marked cmp fs ss ≡ true → are_ascending nat_cmp (map (λ (flow : Flow P). flow.id) fs) ≡ true
-    → f.delivered ≡ is_delivered cmp (message_in f s) → list_all (λ (flow : Flow P). nat_lt flow.id f.id) fs ≡ true → IsWith cmp fs ss f s
-with_one cmp fs ss f s same marked apart delivered below = record {
+pub with_one : {P : Type 0} (scale : ℕ) (levels : List ℕ) (cmp : P → P → Ordering) (fs : List (Flow P)) (ss : List Progress) (f : Flow P) (s : Progress) → length fs ≡ length ss → are_marked cmp fs ss ≡ true → are_ascending nat_cmp (map (λ (flow : Flow P). flow.id) fs) ≡ true
+    → f.delivered ≡ is_delivered cmp (message_in f s) → list_all (λ (flow : Flow P). nat_lt flow.id f.id) fs ≡ true → IsWith scale levels cmp fs ss f s
+with_one scale levels cmp fs ss f s same marked apart delivered below = record {
   parallel = omega (arith, length-append fs (f ∷ []), length-append ss (s ∷ []), same);
   marked = marked-append cmp fs (f ∷ []) ss (s ∷ []) same ∙ and_both _ _ marked (and_both _ true (marks f.delivered (is_delivered cmp (message_in f s)) delivered) refl);
   apart = ap (are_ascending nat_cmp) (map-append _ fs (f ∷ [])) ∙ ascending_push (map (λ flow. flow.id) fs) f.id apart (list_all-map (λ j. nat_lt j f.id) (λ flow. flow.id) fs ∙ below);
-  sending = sending-append fs (f ∷ []) ss (s ∷ []) same;
+  sending = sending-append scale levels fs (f ∷ []) ss (s ∷ []) same;
 }
   where
     marks : (a b : Bool) → a ≡ b → (if b then a else not a) ≡ true
@@ -173,8 +173,8 @@ pub record AreLawful {P : Type 0} (cmp : P → P → Ordering) (fs : List (Flow 
   pub marked : are_marked cmp fs ss ≡ true
   pub apart : are_ascending nat_cmp (map (λ (flow : Flow P). flow.id) fs) ≡ true
 
-pub lawful_with : {P : Type 0} (cmp : P → P → Ordering) (fs : List (Flow P)) (ss : List Progress) (f : Flow P) (s : Progress) → IsWith cmp fs ss f s → AreLawful cmp (fs ++ f ∷ []) (ss ++ s ∷ [])
-lawful_with cmp fs ss f s w = record { parallel = w.parallel; marked = w.marked; apart = w.apart }
+pub lawful_with : {P : Type 0} (scale : ℕ) (levels : List ℕ) (cmp : P → P → Ordering) (fs : List (Flow P)) (ss : List Progress) (f : Flow P) (s : Progress) → IsWith scale levels cmp fs ss f s → AreLawful cmp (fs ++ f ∷ []) (ss ++ s ∷ [])
+lawful_with scale levels cmp fs ss f s w = record { parallel = w.parallel; marked = w.marked; apart = w.apart }
 
 -- ---- those that are done leave
 
@@ -258,11 +258,11 @@ mark_at cmp (g ∷ fs) (t ∷ ss) zero f s same marked lt f_is s_is =
     unmark false false h = refl
 mark_at cmp (g ∷ fs) (t ∷ ss) (suc at) f s same marked lt f_is s_is = mark_at cmp fs ss at f s (omega arith) (and_right _ _ marked) (omega arith) f_is s_is
 
-pub left_at_place : {P : Type 0} (fs : List (Flow P)) (ss : List Progress) (at : ℕ) (s : Progress) (d : Paced P) → length fs ≡ length ss → at < length fs → s ≡ get_or ss at s → (get_or (sending_of fs ss) at d).left ≡ amount_of s.left
-left_at_place [] ss at s d same lt is = absurd (omega arith)
-left_at_place (g ∷ fs) [] at s d same lt is = absurd (omega arith)
-left_at_place (g ∷ fs) (t ∷ ss) zero s d same lt is = ap (λ x. amount_of x.left) (sym is)
-left_at_place (g ∷ fs) (t ∷ ss) (suc at) s d same lt is = left_at_place fs ss at s d (omega arith) (omega arith) is
+pub left_at_place : {P : Type 0} (scale : ℕ) (levels : List ℕ) (fs : List (Flow P)) (ss : List Progress) (at : ℕ) (s : Progress) (d : Paced P) → length fs ≡ length ss → at < length fs → s ≡ get_or ss at s → (get_or (sending_of scale levels fs ss) at d).left ≡ reduced s.left (scale * billion)
+left_at_place scale levels [] ss at s d same lt is = absurd (omega arith)
+left_at_place scale levels (g ∷ fs) [] at s d same lt is = absurd (omega arith)
+left_at_place scale levels (g ∷ fs) (t ∷ ss) zero s d same lt is = ap (λ (x : Progress). reduced x.left (scale * billion)) (sym is)
+left_at_place scale levels (g ∷ fs) (t ∷ ss) (suc at) s d same lt is = left_at_place scale levels fs ss at s d (omega arith) (omega arith) is
 
 pub nothing_is_done : (n : ℕ) (b : Bool) → n ≡ 0 → ((n == 0) || b) ≡ true
 nothing_is_done n b h = rw h refl

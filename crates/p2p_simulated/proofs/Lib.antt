@@ -55,6 +55,7 @@ pub mod Splitting
 pub mod Starting
 pub mod Subjects
 pub mod Taken
+pub mod Units
 pub mod Waiting
 pub mod Wording
 pub mod World

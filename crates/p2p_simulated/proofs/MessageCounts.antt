@@ -79,11 +79,11 @@ module _ {P : Type 0} (cmp : P → P → Ordering) where
 
 -- ---- whether something is in flight
 
-pub none_flies : {P : Type 0} (fs : List (Flow P)) (ss : List Progress) → (length fs == 0) ≡ true → sending_of fs ss ≡ []
-none_flies [] ss none = refl
-none_flies (f ∷ fs) ss none = let zero_long : length (f ∷ fs) ≡ 0 = eqb-true (length (f ∷ fs)) 0 none in absurd (omega arith)
+pub none_flies : {P : Type 0} (scale : ℕ) (levels : List ℕ) (fs : List (Flow P)) (ss : List Progress) → (length fs == 0) ≡ true → sending_of scale levels fs ss ≡ []
+none_flies scale levels [] ss none = refl
+none_flies scale levels (f ∷ fs) ss none = let zero_long : length (f ∷ fs) ≡ 0 = eqb-true (length (f ∷ fs)) 0 none in absurd (omega arith)
 
-pub some_fly : {P : Type 0} (fs : List (Flow P)) (ss : List Progress) → length fs ≡ length ss → (length fs == 0) ≡ false → sending_of fs ss ≢ []
-some_fly [] ss long some = cc (eq-eqb 0 0 refl)
-some_fly (f ∷ fs) [] long some = absurd (omega arith)
-some_fly (f ∷ fs) (s ∷ ss) long some = λ none. cc
+pub some_fly : {P : Type 0} (scale : ℕ) (levels : List ℕ) (fs : List (Flow P)) (ss : List Progress) → length fs ≡ length ss → (length fs == 0) ≡ false → sending_of scale levels fs ss ≢ []
+some_fly scale levels [] ss long some = cc (eq-eqb 0 0 refl)
+some_fly scale levels (f ∷ fs) [] long some = absurd (omega arith)
+some_fly scale levels (f ∷ fs) (s ∷ ss) long some = λ none. cc

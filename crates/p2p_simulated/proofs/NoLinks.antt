@@ -49,6 +49,7 @@ module _ {P E I L : Type 0} (egress : Calls E P) (ingress : Calls I P) (link : P
   too_large_without_links cmp first flows h = record {
     answered = h.answered;
     in_order = in_order_without first flows h.answered h.in_order;
+    large_rate = h.large_rate;
     nothing_fits = h.nothing_fits;
     many_or_large = h.many_or_large;
   }

@@ -10,12 +10,14 @@ use Rattle.p2p_simulated.specs.WorldOrder.{enqueued}
 use Rattle.p2p_simulated.specs.WorldPlanned.{Planned, IsPlanned, IsRated, new_planned, next_event}
 use Rattle.p2p_simulated.specs.WorldEvents.{Obeys}
 use Rattle.p2p_simulated.specs.WorldRefusals.{MayBeRefused}
-use Rattle.p2p_simulated.specs.WorldStands.{StandsFor, IsInRange}
+use Rattle.p2p_simulated.specs.WorldRange.{IsInRange}
+use Rattle.p2p_simulated.specs.WorldStands.{StandsFor}
 use Rattle.p2p_simulated.specs.SamePlanned.{IsSamePlanned, Goes}
 use Rattle.p2p_simulated.specs.Orderly.{IsOrderly}
 use Rattle.p2p_simulated.specs.Conserved.{IsConserved}
+use Rattle.p2p_simulated.specs.State.{Makes, Refuses}
 use Rattle.p2p_simulated.specs.Simulated.{IsSimulated, IsNextInSimulation, KeepsRange, IsRefusedInSimulation, IsSplitAnywhere, KeepsToCaps}
-use Rattle.p2p_simulated.proofs.World.Agreeing.{new_in_range}
+use Rattle.p2p_simulated.proofs.World.RepliesInRange.{new_in_range}
 use Rattle.p2p_simulated.proofs.World.BytesStand.{advance_keeps_to_caps}
 use Rattle.p2p_simulated.proofs.World.ConservedAlike.{goes_conserved}
 use Rattle.p2p_simulated.proofs.World.Counting.{obeys_right}
@@ -41,8 +43,8 @@ module _ {P : Type 0} (cmp : P → P → Ordering) (order : IsTotalOrder cmp) wh
   pub new_one_stands : (p : Planned P) (id : ℕ) → p ≡ new_planned id → StandsFor cmp p (new_world id)
   new_one_stands p id is = subst (λ (q : Planned P). StandsFor cmp q (new_world id)) (sym is) (new_stands cmp order id)
 
-  pub new_one_in_range : (p : Planned P) (id : ℕ) → p ≡ new_planned id → id < 2 ^ 64 → (pairs : List (P × P)) → length pairs ≤ 16 → IsInRange cmp pairs p
-  new_one_in_range p id is fits pairs sixteen = subst (IsInRange cmp pairs) (sym is) (new_in_range cmp order pairs id sixteen fits)
+  pub new_one_in_range : (p : Planned P) (id : ℕ) → p ≡ new_planned id → id < 2 ^ 64 → IsInRange p
+  new_one_in_range p id is fits = subst (λ (q : Planned P). IsInRange q) (sym is) (new_in_range id fits)
 
   pub new_one_orderly : (p : Planned P) (id : ℕ) → p ≡ new_planned id → ∥ IsOrderly cmp p ∥₁
   new_one_orderly p id is = ∣ subst (IsOrderly cmp) (sym is) (new_orderly cmp order id) ∣₁
@@ -69,14 +71,9 @@ module _ {P : Type 0} (cmp : P → P → Ordering) (order : IsTotalOrder cmp) wh
   }
 
   -- what is promised of a call that goes from p to q
-  pub record Promised (p : Planned P) (call : Call P) (cs : List (Completed P)) (q : Planned P) : Type 0 where
-    pub simulated : IsSimulated cmp p call cs q
-    pub in_range : KeepsRange cmp p call q
-    pub conserved : ∥ IsConserved cmp p (enqueued (call ∷ [])) cs q ∥₁
-    pub rated : ∥ IsRated cmp q ∥₁
-
-  pub promised_if : (p q : Planned P) (call : Call P) (now : ℕ) (cs : List (Completed P)) → moment_of call ≡ Some now → now < 2 ^ 64 → ∥ IsOrderly cmp p ∥₁ → Goes cmp p call cs q → Promised p call cs q
+  pub promised_if : (p q : Planned P) (call : Call P) (now : ℕ) (cs : List (Completed P)) → moment_of call ≡ Some now → now < 2 ^ 64 → ∥ IsOrderly cmp p ∥₁ → Goes cmp p call cs q → Makes cmp p call cs q
   promised_if p q call now cs at fits orderly went = record {
+    by_rule = went;
     simulated = calls_simulated cmp order p q call cs (moment_in_time cmp order call now at fits) went;
     in_range = call_keeps_range cmp order p q call cs went;
     conserved = ∥∥₁_map orderly (goes_conserved cmp order p q call cs went);
@@ -93,8 +90,11 @@ module _ {P : Type 0} (cmp : P → P → Ordering) (order : IsTotalOrder cmp) wh
 
   -- ---- a call that is refused
 
-  pub cause_of : (p : Planned P) (call : Call P) (now : ℕ) (why : Error) → moment_of call ≡ Some now → now < 2 ^ 64 → MayBeRefused cmp p call why → IsRefusedInSimulation cmp p call why
-  cause_of p call now why at fits may = refusals_simulated cmp order p call why (moment_in_time cmp order call now at fits) may
+  pub cause_of : (p : Planned P) (call : Call P) (now : ℕ) (why : Error) → moment_of call ≡ Some now → now < 2 ^ 64 → MayBeRefused cmp p call why → Refuses cmp p call why
+  cause_of p call now why at fits may = record {
+    by_rule = may;
+    simulated = refusals_simulated cmp order p call why (moment_in_time cmp order call now at fits) may;
+  }
 
   -- ---- the next event
 

@@ -13,8 +13,7 @@ use Rattle.p2p_simulated.specs.WorldMessages.{Message}
 use Rattle.p2p_simulated.specs.World.{Completed, Course, goes, meets, completion_of, last_moment, later_of, raised}
 use Rattle.p2p_simulated.specs.WorldPlanned.{Planned, next_of}
 use Rattle.p2p_simulated.specs.WorldEvents.{Accounts, Looks, Launches, Finishes, Settles, settling, Recaps, none_sending, some_sending, Enqueues, at_once, no_launch, launches, with_queued, completed_at_once}
-use Rattle.p2p_simulated.specs.WorldRefusals.{LaunchAccounts, FinishAccounts, SettleAccounts, own_account, leavers_account, RecapAccounts, recap_accounts, EnqueueAccounts, launched_account, finished_accounts}
-use Rattle.p2p_simulated.specs.Refusing.{IsRefusedAt}
+use Rattle.p2p_simulated.specs.Refusing.{IsRefusedFor}
 use Rattle.p2p_simulated.proofs.Refusals.{refused_more}
 use Rattle.p2p_simulated.proofs.Finishing.{first_of_key, then_some_is}
 
@@ -26,14 +25,13 @@ on_ok_both (Err e) f a b = tt
 module _ {P : Type 0} (cmp : P → P → Ordering) where
   -- ---- settling
 
-  pub settle_account_refused : (t : ℕ) (p : Planned P) (e : Error) → IsRefusedAt cmp t (λ fault. ⊥) (λ q. q ≡ p) e → IsRefusedAt cmp t (λ fault. Settles cmp t p (meets fault)) (SettleAccounts cmp t p) e
-  settle_account_refused t p = refused_more cmp t (λ fault. ⊥) (λ fault. Settles cmp t p (meets fault)) (λ q. q ≡ p) (SettleAccounts cmp t p) (λ fault none. absurd none) (λ q same. subst (SettleAccounts cmp t p) (sym same) own_account)
-
   pub settle_finish_refused : {X : Type 0} (t : ℕ) (p mid : Planned P) (leavers : List (Message P)) → Accounts cmp t p leavers mid → (result : Result X Error)
-      → IfErr result (IsRefusedAt cmp t (λ fault. Finishes cmp t leavers mid (meets fault)) (FinishAccounts cmp t leavers mid)) → IfErr result (IsRefusedAt cmp t (λ fault. Settles cmp t p (meets fault)) (SettleAccounts cmp t p))
+      → IfErr result (IsRefusedFor (λ fault. Finishes cmp t leavers mid (meets fault)))
+      → IfErr result (IsRefusedFor (λ fault. Settles cmp t p (meets fault)))
   settle_finish_refused t p mid leavers a (Ok x) refused = tt
   settle_finish_refused t p mid leavers a (Err e) refused =
-      refused_more cmp t (λ fault. Finishes cmp t leavers mid (meets fault)) (λ fault. Settles cmp t p (meets fault)) (FinishAccounts cmp t leavers mid) (SettleAccounts cmp t p) (λ fault h. settling a h) (λ q h. leavers_account a h) e refused
+      refused_more (λ fault. Finishes cmp t leavers mid (meets fault)) (λ fault. Settles cmp t p (meets fault))
+      (λ fault h. settling a h) e refused
 
   pub settles_so : {X : Type 0} (t : ℕ) (p mid new : Planned P) (leavers : List (Message P)) (before after : List (Completed P)) → Accounts cmp t p leavers mid → (result : Result X Error)
       → IfOk result (λ done. (cs : List (Completed P)) × (after ≡ before ++ cs) × Finishes cmp t leavers mid (goes cs new)) → IfOk result (λ done. (cs : List (Completed P)) × (after ≡ before ++ cs) × Settles cmp t p (goes cs new))
@@ -45,11 +43,13 @@ module _ {P : Type 0} (cmp : P → P → Ordering) where
   pub as_recapped : (p : Planned P) → p.limited ≡ true → p ≡ record p { caps = p.caps; limited = true }
   as_recapped p limited i = record p { limited = limited i }
 
-  pub recap_refused : (t : ℕ) (p : Planned P) → p.limited ≡ true → p.sending ≢ [] → (e : Error) → IsRefusedAt cmp t (λ fault. Settles cmp t p (meets fault)) (SettleAccounts cmp t p) e
-      → IsRefusedAt cmp t (λ fault. Recaps cmp t p.caps p (meets fault)) (RecapAccounts cmp t p.caps p) e
-  recap_refused t p limited sends = refused_more cmp t (λ fault. Settles cmp t p (meets fault)) (λ fault. Recaps cmp t p.caps p (meets fault)) (SettleAccounts cmp t p) (RecapAccounts cmp t p.caps p)
-      (λ fault h. some_sending sends (subst (λ (q : Planned P). Settles cmp t q (meets fault)) (as_recapped p limited) h))
-      (λ q h. recap_accounts sends (subst (λ (r : Planned P). SettleAccounts cmp t r q) (as_recapped p limited) h))
+  pub recap_refused : (t : ℕ) (p : Planned P) → p.limited ≡ true → p.sending ≢ [] → (e : Error)
+      → IsRefusedFor (λ fault. Settles cmp t p (meets fault)) e
+      → IsRefusedFor (λ fault. Recaps cmp t p.caps p (meets fault)) e
+  recap_refused t p limited sends =
+      refused_more (λ fault. Settles cmp t p (meets fault)) (λ fault. Recaps cmp t p.caps p (meets fault))
+      (λ fault h. some_sending sends (subst (λ (q : Planned P). Settles cmp t q (meets fault)) (as_recapped p limited)
+      h))
 
   pub recaps_settled : (t : ℕ) (p new : Planned P) (cs out : List (Completed P)) → p.limited ≡ true → p.sending ≢ [] → Settles cmp t p (goes cs new) → out ≡ [] ++ cs → Recaps cmp t p.caps p (goes out new)
   recaps_settled t p new cs out limited sends h is =
@@ -61,10 +61,12 @@ module _ {P : Type 0} (cmp : P → P → Ordering) where
 
   -- ---- a message is sent
 
-  pub at_once_refused : (t : ℕ) (m : Message P) (p : Planned P) → p.limited ≡ false → (e : Error) → IsRefusedAt cmp t (λ fault. completed_at_once cmp t p m ≡ meets fault) (λ q. ⊥) e
-      → IsRefusedAt cmp t (λ fault. Enqueues cmp t m p (meets fault)) (EnqueueAccounts cmp t m p) e
-  at_once_refused t m p free = refused_more cmp t (λ fault. completed_at_once cmp t p m ≡ meets fault) (λ fault. Enqueues cmp t m p (meets fault)) (λ q. ⊥) (EnqueueAccounts cmp t m p)
-      (λ fault h. subst (Enqueues cmp t m p) h (at_once free)) (λ q none. absurd none)
+  pub at_once_refused : (t : ℕ) (m : Message P) (p : Planned P) → p.limited ≡ false → (e : Error)
+      → IsRefusedFor (λ fault. completed_at_once cmp t p m ≡ meets fault) e
+      → IsRefusedFor (λ fault. Enqueues cmp t m p (meets fault)) e
+  at_once_refused t m p free =
+      refused_more (λ fault. completed_at_once cmp t p m ≡ meets fault) (λ fault. Enqueues cmp t m p (meets fault))
+      (λ fault h. subst (Enqueues cmp t m p) h (at_once free))
 
   pub enqueues_at_once : (t : ℕ) (m : Message P) (p new : Planned P) (c : Completed P) (out : List (Completed P)) → p.limited ≡ false → completed_at_once cmp t p m ≡ goes (c ∷ []) new → out ≡ [] ++ c ∷ [] → Enqueues cmp t m p (goes out new)
   enqueues_at_once t m p new c out free h is = subst (λ (l : List (Completed P)). Enqueues cmp t m p (goes l new)) (sym is) (subst (Enqueues cmp t m p) h (at_once free))
@@ -88,8 +90,9 @@ module _ {P : Type 0} (cmp : P → P → Ordering) where
       ap (λ (b : Bool). cond b (meets MomentTooLate) course) is
 
   pub too_late_refused : (t : ℕ) (p : Planned P) (m : Message P) (e : Error) → (m.should_deliver && nat_lt last_moment (t + m.latency)) ≡ true → e ≡ MomentTooLate
-      → IsRefusedAt cmp t (λ fault. completed_at_once cmp t p m ≡ meets fault) (λ q. ⊥) e
-  too_late_refused t p m e is e_is = subst (IsRefusedAt cmp t (λ fault. completed_at_once cmp t p m ≡ meets fault) (λ q. ⊥)) (sym e_is) (too_late t p m is)
+      → IsRefusedFor (λ fault. completed_at_once cmp t p m ≡ meets fault) e
+  too_late_refused t p m e is e_is =
+      subst (IsRefusedFor (λ fault. completed_at_once cmp t p m ≡ meets fault)) (sym e_is) (too_late t p m is)
 
   module _ (order : IsTotalOrder cmp) where
     -- what is said of the first message of a key's pair in one world is said of a message's pair in an equal one
@@ -98,20 +101,22 @@ module _ {P : Type 0} (cmp : P → P → Ordering) where
         subst (F q) (first_of_key cmp order key m q.waiting is) (subst (λ (r : Planned P). F r (first_of cmp r.waiting key.origin key.recipient)) same h)
 
     pub enqueue_launch_refused : (t : ℕ) (m : Message P) (p mid : Planned P) (key : Key P) → p.limited ≡ true → mid ≡ with_queued cmp p m → IsKeyOf cmp key m → (e : Error)
-        → IsRefusedAt cmp t (λ fault. Launches cmp t mid (first_of cmp mid.waiting key.origin key.recipient) (meets fault)) (LaunchAccounts cmp t mid (first_of cmp mid.waiting key.origin key.recipient)) e
-        → IsRefusedAt cmp t (λ fault. Enqueues cmp t m p (meets fault)) (EnqueueAccounts cmp t m p) e
+        → IsRefusedFor (λ fault. Launches cmp t mid (first_of cmp mid.waiting key.origin key.recipient) (meets fault)) e
+        → IsRefusedFor (λ fault. Enqueues cmp t m p (meets fault)) e
     enqueue_launch_refused t m p mid key limited same is =
-        refused_more cmp t (λ fault. Launches cmp t mid (first_of cmp mid.waiting key.origin key.recipient) (meets fault)) (λ fault. Enqueues cmp t m p (meets fault)) (LaunchAccounts cmp t mid (first_of cmp mid.waiting key.origin key.recipient)) (EnqueueAccounts cmp t m p)
-        (λ fault h. no_launch limited (of_message (λ q first. Launches cmp t q first (meets fault)) mid (with_queued cmp p m) key m same is h))
-        (λ q h. launched_account limited (of_message (λ r first. LaunchAccounts cmp t r first q) mid (with_queued cmp p m) key m same is h))
+        refused_more (λ fault. Launches cmp t mid (first_of cmp mid.waiting key.origin key.recipient) (meets fault))
+        (λ fault. Enqueues cmp t m p (meets fault))
+        (λ fault h. no_launch limited (of_message (λ q first. Launches cmp t q first (meets fault)) mid
+        (with_queued cmp p m) key m same is h))
 
     pub enqueue_finish_refused : (t : ℕ) (m : Message P) (p mid next : Planned P) (key : Key P) (leavers : List (Message P)) → p.limited ≡ true → mid ≡ with_queued cmp p m → IsKeyOf cmp key m
         → Launches cmp t mid (first_of cmp mid.waiting key.origin key.recipient) (goes leavers next) → (e : Error)
-        → IsRefusedAt cmp t (λ fault. Finishes cmp t leavers next (meets fault)) (FinishAccounts cmp t leavers next) e → IsRefusedAt cmp t (λ fault. Enqueues cmp t m p (meets fault)) (EnqueueAccounts cmp t m p) e
+        → IsRefusedFor (λ fault. Finishes cmp t leavers next (meets fault)) e
+        → IsRefusedFor (λ fault. Enqueues cmp t m p (meets fault)) e
     enqueue_finish_refused t m p mid next key leavers limited same is launch =
         let there = of_message (λ q first. Launches cmp t q first (goes leavers next)) mid (with_queued cmp p m) key m same is launch in
-        refused_more cmp t (λ fault. Finishes cmp t leavers next (meets fault)) (λ fault. Enqueues cmp t m p (meets fault)) (FinishAccounts cmp t leavers next) (EnqueueAccounts cmp t m p)
-        (λ fault h. launches limited there h) (λ q h. finished_accounts limited there h)
+        refused_more (λ fault. Finishes cmp t leavers next (meets fault)) (λ fault. Enqueues cmp t m p (meets fault))
+        (λ fault h. launches limited there h)
 
     pub enqueues_launched : (t : ℕ) (m : Message P) (p mid next new : Planned P) (key : Key P) (leavers : List (Message P)) (cs out : List (Completed P)) → p.limited ≡ true → mid ≡ with_queued cmp p m → IsKeyOf cmp key m
         → Launches cmp t mid (first_of cmp mid.waiting key.origin key.recipient) (goes leavers next) → Finishes cmp t leavers next (goes cs new) → out ≡ [] ++ cs → Enqueues cmp t m p (goes out new)

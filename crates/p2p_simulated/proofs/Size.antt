@@ -4,6 +4,8 @@ pub mod Least
 pub mod Level
 pub mod Whole
 pub mod Exists
+pub mod WholeRates
+pub mod UnderCaps
 pub mod Promise
 pub mod Fitting
 pub mod Answered

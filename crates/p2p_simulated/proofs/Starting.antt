@@ -8,7 +8,6 @@ use Rattle.std.proofs.lemmas.Bool.{leb-true, le-leb, ltb-true, lt-ltb}
 use Rattle.p2p_simulated.specs.declared.error.Error.{Error}
 use Rattle.p2p_simulated.specs.declared.error.Error.TheVariants.{FlowIdsUsedUp}
 use Rattle.p2p_simulated.specs.declared.bandwidth.Flow.{Flow}
-use Rattle.p2p_simulated.specs.Refusing.{IsRefusedAt}
 use Rattle.p2p_simulated.proofs.Refusals.{refused_more}
 use Rattle.p2p_simulated.specs.Amount.{whole}
 use Rattle.p2p_simulated.specs.Sides.{same_peer}
@@ -18,7 +17,6 @@ use Rattle.p2p_simulated.specs.WorldMessages.{Message, PairsAlike, same_pair}
 use Rattle.p2p_simulated.specs.World.{goes, meets, is_in_order, last_moment, without_first}
 use Rattle.p2p_simulated.specs.WorldPlanned.{Planned, paced_flows, may_launch}
 use Rattle.p2p_simulated.specs.WorldEvents.{Launches, nothing_waits, too_early, no_id, starts, Accounts, launched}
-use Rattle.p2p_simulated.specs.WorldRefusals.{LaunchAccounts, launch_accounts}
 use Rattle.p2p_simulated.specs.Working.{may_launch_first}
 use Rattle.p2p_simulated.proofs.Sorted.{by_bool, and_left, and_right, list_all-mono}
 use Rattle.p2p_simulated.proofs.World.Queue.{find_passes, any_like, pair_like}
@@ -78,13 +76,6 @@ module _ {P : Type 0} (cmp : P → P → Ordering) (order : IsTotalOrder cmp) wh
       let there : Accounts cmp t (launched cmp t p m) leavers new = subst (λ (q : Planned P). Accounts cmp t q leavers new) (is ∙ pushed_is t p o r m found) accounts in
       subst (λ (first : Option (Message P)). Launches cmp t p first (goes leavers new)) (sym found) (starts may_m id there)
 
-  pub launch_comes : (t : ℕ) (p mid : Planned P) (o r : P) (m : Message P) → may_launch_first cmp t p (first_of cmp p.waiting o r) ≡ true → p.next_id < last_moment
-      → first_of cmp p.waiting o r ≡ Some m → mid ≡ pushed t p o r m → LaunchAccounts cmp t p (first_of cmp p.waiting o r) mid
-  launch_comes t p mid o r m may id found is =
-      let may_m : may_launch cmp t p m ≡ true = ap (may_launch_first cmp t p) (sym found) ∙ may in
-      subst (λ (first : Option (Message P)). LaunchAccounts cmp t p first mid) (sym found)
-      (subst (λ (q : Planned P). LaunchAccounts cmp t p (Some m) q) (sym (is ∙ pushed_is t p o r m found)) (launch_accounts may_m id))
-
 -- ---- what is answered
 
 module _ {P : Type 0} (cmp : P → P → Ordering) (order : IsTotalOrder cmp) (t : ℕ) (p mid : Planned P) (o r : P) (m : Message P)
@@ -92,12 +83,6 @@ module _ {P : Type 0} (cmp : P → P → Ordering) (order : IsTotalOrder cmp) (t
   pub launched_so : {X : Type 0} (f : X → List (Message P)) (result : Result X Error) (new : Planned P) → IfOk result (λ x. Accounts cmp t mid (f x) new) → IfOk result (λ x. Launches cmp t p (first_of cmp p.waiting o r) (goes (f x) new))
   launched_so f (Ok x) new accounts = launch_starts cmp order t p mid new o r m (f x) may id found is accounts
   launched_so f (Err e) new accounts = tt
-
-  pub launch_refused : {X : Type 0} (result : Result X Error) → IfErr result (IsRefusedAt cmp t (λ fault. ⊥) (λ q. q ≡ mid))
-      → IfErr result (IsRefusedAt cmp t (λ e. Launches cmp t p (first_of cmp p.waiting o r) (meets e)) (LaunchAccounts cmp t p (first_of cmp p.waiting o r)))
-  launch_refused (Ok x) refused = tt
-  launch_refused (Err e) refused = refused_more cmp t (λ fault. ⊥) (λ fault. Launches cmp t p (first_of cmp p.waiting o r) (meets fault)) (λ q. q ≡ mid) (LaunchAccounts cmp t p (first_of cmp p.waiting o r))
-      (λ fault none. absurd none) (λ q same. launch_comes cmp order t p q o r m may id found (same ∙ is)) e refused
 
 -- ---- flow ids
 

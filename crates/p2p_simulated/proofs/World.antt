@@ -3,20 +3,21 @@ pub mod Advance
 pub mod AdvanceOnward
 pub mod Agreeing
 pub mod AlikeMessages
-pub mod ArithmeticInRange
+pub mod Alone
 pub mod AtOnce
 pub mod BeforeNext
-pub mod Bounded
 pub mod Bytes
 pub mod BytesStand
-pub mod CallsInRange
 pub mod ComputedDifferences
 pub mod ComputedReplies
 pub mod ComputedRule
 pub mod Conserved
 pub mod ConservedAlike
 pub mod ConservedCount
+pub mod ConservedSoFar
+pub mod Continuing
 pub mod Counting
+pub mod Ending
 pub mod Enqueue
 pub mod EveryInstant
 pub mod FairRates
@@ -33,8 +34,10 @@ pub mod LongRow
 pub mod LowestTerms
 pub mod MadeCalls
 pub mod NextEvent
+pub mod NoNumbers
 pub mod NoneReadied
 pub mod Obeys
+pub mod OneCourse
 pub mod OneNext
 pub mod OnePair
 pub mod OnePass
@@ -48,7 +51,6 @@ pub mod PairOrder
 pub mod PartRates
 pub mod Queue
 pub mod QuietInstants
-pub mod RatesInRange
 pub mod RepliesInOrder
 pub mod RepliesInRange
 pub mod SameCourses
@@ -59,6 +61,7 @@ pub mod SameSteps
 pub mod SameWorlds
 pub mod Settling
 pub mod SettlingEnds
+pub mod SidesUsers
 pub mod Simulated
 pub mod Sound
 pub mod Split
@@ -67,4 +70,5 @@ pub mod StepsEnough
 pub mod Stepwise
 pub mod Stretch
 pub mod Totals
+pub mod TurnByNext
 pub mod Waking

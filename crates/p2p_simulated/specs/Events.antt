@@ -1,13 +1,11 @@
 -- Events that are due.
 use Rattle.std.specs.Prelude.{◌≡◌, ◌≢◌, ℕ, ◌<◌, ◌≤◌, Option, Some, None, IfSome}
-use Rattle.std.specs.List.{filter}
 use Rattle.std.specs.declared.cmp.Ordering.{Ordering}
-use Rattle.p2p_simulated.specs.World.{Completed, Course, fronts}
+use Rattle.p2p_simulated.specs.World.{Completed, Course}
 use Rattle.p2p_simulated.specs.WorldEvents.{Settles, Wakes}
-use Rattle.p2p_simulated.specs.WorldRefusals.{SettleAccounts, WakeAccounts}
 use Rattle.p2p_simulated.specs.declared.transmitter.event.Event.{Event}
 use Rattle.p2p_simulated.specs.declared.transmitter.event.Event.TheVariants.{Finish, Start}
-use Rattle.p2p_simulated.specs.WorldPlanned.{Planned, next_event, may_launch}
+use Rattle.p2p_simulated.specs.WorldPlanned.{Planned, next_event}
 
 -- the moment of an event
 abbrev pub moment_of : Event → ℕ
@@ -25,8 +23,3 @@ module _ {P : Type 0} (cmp : P → P → Ordering) where
   abbrev pub Happens : Event → Planned P → Course (Completed P) (Planned P) → Type 0
   Happens (Finish t) p course = Settles cmp t (record p { finish = None }) course
   Happens (Start t) p course = Wakes cmp t (record p { start = None }) course
-
-  -- the accounts in an event
-  abbrev pub HappenAccounts : Event → Planned P → Planned P → Type 0
-  HappenAccounts (Finish t) p q = SettleAccounts cmp t (record p { finish = None }) q
-  HappenAccounts (Start t) p q = WakeAccounts cmp t (filter (may_launch cmp t p) (fronts cmp p.waiting)) (record p { start = None }) q

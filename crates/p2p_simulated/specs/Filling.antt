@@ -1,155 +1,139 @@
 -- Filling: the flows rise together, and the users of a side that is full stay where they are.
-use Rattle.std.specs.Prelude.{◌≡◌, ◌≢◌, ℕ, ◌⊎◌, ◌==◌, Bool, ◌-◌, ◌*◌, ◌<◌, ◌≤◌, ◌^◌, List, ◌++◌, All, Contains, length, sum_by, count_by, IsPermutation, Option, Some, None, IsSome, slice_index_or, unwrap_or, option_map}
+-- All is in whole parts, `scale` of which are one byte a second. `frozen` says at how many a flow stays, and None of a flow that still rises.
+use Rattle.std.specs.Prelude.{◌≡◌, ◌≢◌, ◌↔◌, ℕ, ◌+◌, ◌-◌, ◌*◌, ◌<◌, ◌≤◌, ◌⊎◌, List, [], ◌∷◌, ◌++◌, All, AllPairs, Contains, length, map, sum_by, IsPermutation, Option, Some, None, IsSome, IfSome, slice_index, unwrap_or, option_map}
 use Rattle.std.specs.BinaryHeap.{IsHeap}
-use Rattle.p2p_simulated.specs.Fair.{Side, load, IsWithinCaps, IsFair}
-use Rattle.p2p_simulated.specs.Ratio.{IsWorth}
-use Rattle.p2p_simulated.specs.declared.bandwidth.Rate.{Rate}
-use Rattle.p2p_simulated.specs.declared.bandwidth.Rate.TheVariants.{Unlimited, Finite}
-use Rattle.p2p_simulated.specs.declared.bandwidth.filling.open.OpenSide.{OpenSide}
-use Rattle.p2p_simulated.specs.Fraction.{fraction_cmp}
-use Rattle.p2p_simulated.specs.declared.bandwidth.filling.Share.{Share}
-use Rattle.p2p_simulated.specs.declared.ratio.Ratio.{Ratio}
-use Rattle.std.specs.Ordering.{nat_cmp, ordering_then}
 use Rattle.std.specs.declared.cmp.Ordering.{Ordering}
 use Rattle.std.specs.declared.cmp.Reverse.{Reverse}
-use Rattle.p2p_simulated.specs.Amount.{parts_over}
+use Rattle.p2p_simulated.specs.Code.{side_of}
+use Rattle.p2p_simulated.specs.Fair.{Side, IsLimited, IsFair}
+use Rattle.p2p_simulated.specs.FairParts.{product, level_at, flow_parts}
+use Rattle.p2p_simulated.specs.Fraction.{fraction_cmp}
+use Rattle.p2p_simulated.specs.declared.bandwidth.filling.open.OpenSide.{OpenSide}
+use Rattle.p2p_simulated.specs.declared.bandwidth.sides.Side as declared
+use Rattle.p2p_simulated.specs.declared.bandwidth.parts.FairParts.{FairParts}
 
--- the rate at which a flow is frozen, if it is
-abbrev pub rate_at : List (Option Ratio) → ℕ → Option Ratio
-rate_at rates flow = slice_index_or rates flow None
+-- ---- flows
 
--- each frozen rate is worth that many parts, `per` of which are one byte a second
-pub record AreWorth (rates : List (Option Ratio)) (per : ℕ) (parts : ℕ → ℕ) : Type 0 where
-  pub some_part : 0 < per
-  pub worth : (flow : ℕ) (rate : Ratio) → rate_at rates flow ≡ Some rate → IsWorth rate (parts_over per (parts flow))
+-- at how many parts a flow is frozen, if it is: those of its level
+abbrev pub frozen_at : List ℕ → List (Option ℕ) → ℕ → Option ℕ
+frozen_at levels level_of flow = option_map (slice_index levels) (level_at level_of flow)
 
--- none of these users has a rate
-abbrev pub AllRise : List (Option Ratio) → List ℕ → Type 0
-AllRise rates users = All (λ flow. rate_at rates flow ≡ None) users
+-- what each flow has: the parts at which it is frozen, or else the level
+abbrev pub at_level : (ℕ → Option ℕ) → ℕ → ℕ → ℕ
+at_level frozen level flow = unwrap_or (frozen flow) level
 
--- each of these users is frozen, those that were not at this rate, and nothing else changes
-pub record FreezesAll (users : List ℕ) (before after : List (Option Ratio)) (level : Ratio) : Type 0 where
-  pub kept : (flow : ℕ) (rate : Ratio) → rate_at before flow ≡ Some rate → rate_at after flow ≡ Some rate
-  pub fresh : (flow : ℕ) (rate : Ratio) → rate_at before flow ≡ None → rate_at after flow ≡ Some rate → (rate ≡ level) × Contains users flow
-  pub all : All (λ flow. IsSome (rate_at after flow)) users
+-- none of these users is frozen
+abbrev pub AllRise : (ℕ → Option ℕ) → List ℕ → Type 0
+AllRise frozen users = All (λ flow. frozen flow ≡ None) users
 
--- an open side keeps account of a side: some frozen users are counted, and it has what they have together and the others
-pub record KeepsAccount (side : Side) (rates : List (Option Ratio)) (open_side : OpenSide) : Type 0 where
-  pub cap : open_side.cap ≡ side.cap
-  pub counted : List ℕ
-  pub parted : IsPermutation side.users (counted ++ open_side.rising.items)
-  pub frozen : All (λ flow. IsSome (rate_at rates flow)) counted
-  pub taken : (per : ℕ) (parts : ℕ → ℕ) → AreWorth rates per parts → IsWorth open_side.taken (parts_over per (sum_by parts counted))
+-- all of them are frozen
+abbrev pub AllFrozen : (ℕ → Option ℕ) → List ℕ → Type 0
+AllFrozen frozen users = All (λ flow. IsSome (frozen flow)) users
 
--- the same users are counted
-pub record IsUnchanged (old new : OpenSide) : Type 0 where
-  pub cap : new.cap ≡ old.cap
-  pub taken : new.taken ≡ old.taken
-  pub rising : new.rising.items ≡ old.rising.items
+-- the places of the flows' levels are places of levels
+abbrev pub AreInside : List ℕ → List (Option ℕ) → Type 0
+AreInside levels level_of = All (λ level. IfSome level (λ place. place < length levels)) level_of
 
--- what is left of the cap for each user that is not counted
-pub record IsShareOf (open_side : OpenSide) (share : Ratio) : Type 0 where
-  pub within : open_side.taken.numerator ≤ open_side.cap * open_side.taken.denominator
-  pub worth : IsWorth share (record { num = open_side.cap * open_side.taken.denominator - open_side.taken.numerator; den = open_side.taken.denominator * length open_side.rising.items })
+-- ---- levels
 
--- over `per`, all numbers about the side stay below 2^128
-pub record Fits (side : Side) (per : ℕ) : Type 0 where
-  pub cap : side.cap * per < 2 ^ 128
-  pub shares : per * length side.users < 2 ^ 128
+-- the last of the levels
+abbrev pub top : List ℕ → ℕ
+top levels = slice_index levels (length levels - 1)
 
--- numbers about the side do not fit, whatever the rates are parts of
-abbrev pub CannotFit : List (Option Ratio) → OpenSide → Type 0
-CannotFit rates open_side = (side : Side) (per : ℕ) (parts : ℕ → ℕ) → KeepsAccount side rates open_side → AreWorth rates per parts → load parts side ≤ side.cap * per → ¬ Fits side per
+-- the level is the last of the levels afterwards, which is a new one if it was not before
+pub record IsRaised (before after : List ℕ) (level : ℕ) : Type 0 where
+  pub some : 0 < length after
+  pub last : top after ≡ level
+  pub same_or_new : (after ≡ before) ⊎ ((after ≡ before ++ level ∷ []) × ((before ≡ []) ⊎ (top before ≢ level)))
 
--- what a flow is answered: the rate at which it is frozen, or that no side limits it
-abbrev pub answer_of : Option Ratio → Rate
-answer_of None = Unlimited
-answer_of (Some rate) = Finite rate
+-- these users have the last level, and the others what they had
+pub record AreAtTop (users : List ℕ) (before after : List (Option ℕ)) (levels : List ℕ) : Type 0 where
+  pub one_each : length after ≡ length before
+  pub all : All (λ flow. level_at after flow ≡ Some (length levels - 1)) users
+  pub others : (flow : ℕ) → Contains users flow ⊎ (level_at after flow ≡ level_at before flow)
 
--- what each flow has, in parts: those of its rate, or else those of the level
-abbrev pub parts_at_level : List (Option Ratio) → (ℕ → ℕ) → ℕ → ℕ → ℕ
-parts_at_level rates parts level flow = unwrap_or (option_map (λ _. parts flow) (rate_at rates flow)) level
+-- ---- open sides
 
--- where its rising users stand at this rate, the side carries no more than its cap
-pub record HasRoomAt (rates : List (Option Ratio)) (rate : Ratio) (side : Side) : Type 0 where
-  pub room : (per : ℕ) (parts : ℕ → ℕ) (level : ℕ) → AreWorth rates per parts → IsWorth rate (parts_over per level) → load (parts_at_level rates parts level) side ≤ side.cap * per
-
--- all users of the side are frozen
-abbrev pub AllFrozen : List (Option Ratio) → List ℕ → Type 0
-AllFrozen rates users = All (λ flow. IsSome (rate_at rates flow)) users
-
--- how two shares stand, by the rate and then by the side
-abbrev pub share_cmp : Share → Share → Ordering
-share_cmp a b = ordering_then (fraction_cmp a.rate.numerator a.rate.denominator b.rate.numerator b.rate.denominator) (nat_cmp a.place b.place)
+-- how the shares of two open sides stand to each other
+abbrev pub share_cmp : OpenSide → OpenSide → Ordering
+share_cmp a b = fraction_cmp a.slack (length a.rising.items) b.slack (length b.rising.items)
 
 -- the least share comes first
-abbrev pub queue_cmp : Reverse Share → Reverse Share → Ordering
+abbrev pub queue_cmp : Reverse OpenSide → Reverse OpenSide → Ordering
 queue_cmp a b = share_cmp b.0 a.0
 
--- the first rate is no greater than the second
-abbrev pub IsNoGreater : Ratio → Ratio → Type 0
-IsNoGreater a b = a.numerator * b.denominator ≤ b.numerator * a.denominator
+-- so many parts for each of these users are no more than the slack
+abbrev pub IsWithin : ℕ → ℕ → List ℕ → Type 0
+IsWithin parts slack users = parts * length users ≤ slack
 
--- the share is that of the side at this place
-abbrev pub is_at : ℕ → Reverse Share → Bool
-is_at place share = share.0.place == place
+-- none of the users is frozen at more than the share
+abbrev pub HaveNoMore : (ℕ → Option ℕ) → ℕ → List ℕ → Type 0
+HaveNoMore frozen slack users = All (λ flow. IsWithin (at_level frozen 0 flow) slack users) users
 
--- the share is what its side has left for each user that is not counted, and the side has room at it
-pub record IsShare (sides : List Side) (rates : List (Option Ratio)) (open_sides : List OpenSide) (share : Reverse Share) : Type 0 where
-  pub inside : share.0.place < length sides
-  pub some : (d : OpenSide) → 0 < length (slice_index_or open_sides share.0.place d).rising.items
-  pub exact : (d : OpenSide) → IsShareOf (slice_index_or open_sides share.0.place d) share.0.rate
-  pub room : (d : Side) → HasRoomAt rates share.0.rate (slice_index_or sides share.0.place d)
+-- some frozen users of the side are counted, the slack is what they leave of its cap, and these are the others
+pub record KeepsAccount (side : Side) (scale : ℕ) (frozen : ℕ → Option ℕ) (slack : ℕ) (rising : List ℕ) : Type 0 where
+  pub counted : List ℕ
+  pub parted : IsPermutation side.users (counted ++ rising)
+  pub done : AllFrozen frozen counted
+  pub left : slack + sum_by (at_level frozen 0) counted ≡ side.cap * scale
 
--- the open sides keep account of the sides, and the shares are of some of them, one at most of each
-pub record AreShares (sides : List Side) (rates : List (Option Ratio)) (open_sides : List OpenSide) (shares : List (Reverse Share)) : Type 0 where
-  pub one_each : length open_sides ≡ length sides
-  pub accounts : (k : ℕ) (d : Side) (e : OpenSide) → k < length sides → KeepsAccount (slice_index_or sides k d) rates (slice_index_or open_sides k e)
-  pub each : All (IsShare sides rates open_sides) shares
-  pub once : (k : ℕ) → count_by (is_at k) shares ≤ 1
+-- the open side keeps account of one of the sides
+abbrev pub IsOpen : List Side → ℕ → (ℕ → Option ℕ) → Reverse OpenSide → Type 0
+IsOpen sides scale frozen open_side = (side : Side) × Contains sides side × KeepsAccount side scale frozen open_side.0.slack open_side.0.rising.items
 
--- there is a share of the side at this place, or none of its users rises
-abbrev pub IsCovered : List Side → List (Option Ratio) → List (Reverse Share) → ℕ → Type 0
-IsCovered sides rates shares k = (d : Side) → AllFrozen rates (slice_index_or sides k d).users ⊎ (0 < count_by (is_at k) shares)
+-- the users of the side are all frozen, or one of the open sides keeps account of it
+abbrev pub IsCovered : ℕ → (ℕ → Option ℕ) → List (Reverse OpenSide) → Side → Type 0
+IsCovered scale frozen opens side = AllFrozen frozen side.users ⊎ ((open_side : Reverse OpenSide) × Contains opens open_side × KeepsAccount side scale frozen open_side.0.slack open_side.0.rising.items)
 
--- each side with rising users has a share
-pub record IsQueue (sides : List Side) (rates : List (Option Ratio)) (open_sides : List OpenSide) (shares : List (Reverse Share)) : Type 0 where
-  pub are : AreShares sides rates open_sides shares
-  pub covered : (k : ℕ) → k < length sides → IsCovered sides rates shares k
+-- the open sides are of some sides, and each side with rising users has one
+pub record IsQueue (sides : List Side) (scale : ℕ) (frozen : ℕ → Option ℕ) (opens : List (Reverse OpenSide)) : Type 0 where
+  pub each : All (IsOpen sides scale frozen) opens
+  pub covered : All (IsCovered scale frozen opens) sides
 
--- this share was the least, its side counts all frozen users, and the other sides with rising users have a share
-pub record IsNext (sides : List Side) (rates : List (Option Ratio)) (open_sides : List OpenSide) (shares : List (Reverse Share)) (next : Share) : Type 0 where
-  pub are : AreShares sides rates open_sides shares
-  pub covered : (k : ℕ) → k < length sides → k ≢ next.place → IsCovered sides rates shares k
-  pub none_left : count_by (is_at next.place) shares ≡ 0
-  pub itself : IsShare sides rates open_sides (record { 0 = next })
-  pub rise : (d : OpenSide) → AllRise rates (slice_index_or open_sides next.place d).rising.items
-  pub least : All (λ share. IsNoGreater next.rate share.0.rate) shares
+-- the open sides are of these sides, whoever is frozen, and their users are users of these
+pub record AreOpened (scale : ℕ) (sides : List declared.Side) (opens : List (Reverse OpenSide)) : Type 0 where
+  pub queue : (frozen : ℕ → Option ℕ) → IsQueue (map side_of sides) scale frozen opens
+  pub users : (flows : ℕ) → All (λ side. All (λ flow. flow < flows) side.users.items) sides → All (λ open_side. All (λ flow. flow < flows) open_side.0.rising.items) opens
 
--- no user of any side rises
-abbrev pub AllFilled : List Side → List (Option Ratio) → Type 0
-AllFilled sides rates = (k : ℕ) (d : Side) → k < length sides → AllFrozen rates (slice_index_or sides k d).users
+-- the users are flows, none has more than the share, and the least share is on top
+pub record IsSound (flows : ℕ) (frozen : ℕ → Option ℕ) (opens : List (Reverse OpenSide)) : Type 0 where
+  pub users : All (λ open_side. All (λ flow. flow < flows) open_side.0.rising.items) opens
+  pub no_more : All (λ open_side. HaveNoMore frozen open_side.0.slack open_side.0.rising.items) opens
+  pub order : IsHeap queue_cmp opens
 
--- the open sides keep account of the sides, and none of the users that are not counted is frozen
-pub record IsStart (sides : List Side) (rates : List (Option Ratio)) (open_sides : List OpenSide) : Type 0 where
-  pub one_each : length open_sides ≡ length sides
-  pub accounts : (k : ℕ) (d : Side) (e : OpenSide) → k < length sides → KeepsAccount (slice_index_or sides k d) rates (slice_index_or open_sides k e)
-  pub rise : (k : ℕ) (e : OpenSide) → k < length sides → AllRise rates (slice_index_or open_sides k e).rising.items
+-- so many parts are within the share of each open side
+abbrev pub AreAbove : ℕ → List (Reverse OpenSide) → Type 0
+AreAbove parts opens = All (λ open_side. IsWithin parts open_side.0.slack open_side.0.rising.items) opens
 
--- the users are flows, the shares are of sides, and the least is on top
-pub record IsSound (flows : ℕ) (open_sides : List OpenSide) (shares : List (Reverse Share)) : Type 0 where
-  pub users : All (λ side. All (λ flow. flow < flows) side.rising.items) open_sides
-  pub places : All (λ share. share.0.place < length open_sides) shares
-  pub order : IsHeap queue_cmp shares
+-- the share of this open side is no greater than those of the others, and none of its users is frozen
+pub record IsLeast (frozen : ℕ → Option ℕ) (next : OpenSide) (opens : List (Reverse OpenSide)) : Type 0 where
+  pub rise : AllRise frozen next.rising.items
+  pub least : All (λ open_side. next.slack * length open_side.0.rising.items ≤ open_side.0.slack * length next.rising.items) opens
 
--- the side of which no user is counted
-abbrev pub whole_side : OpenSide → Side
-whole_side open_side = record { cap = open_side.cap; users = open_side.rising.items }
+-- all users of all sides are frozen
+abbrev pub AllFilled : List Side → (ℕ → Option ℕ) → Type 0
+AllFilled sides frozen = All (λ side. AllFrozen frozen side.users) sides
 
--- whatever the rates are parts of, and whatever amounts within the caps they belong to, some numbers do not fit
-abbrev pub CannotFill : List Side → List (Option Ratio) → Type 0
-CannotFill sides rates = (per : ℕ) (parts : ℕ → ℕ) → AreWorth rates per parts → IsWithinCaps sides per parts → ¬ All (λ side. Fits side per) sides
+-- the same open side at so many times the scale
+pub record IsGrown (factor : ℕ) (old new : OpenSide) : Type 0 where
+  pub slack : new.slack ≡ old.slack * factor
+  pub rising : new.rising.items ≡ old.rising.items
 
--- no fair allocation of the sides has all its numbers fit
-abbrev pub NoFairFits : List Side → Type 0
-NoFairFits sides = (per : ℕ) (parts : ℕ → ℕ) → IsFair sides per parts → ¬ All (λ side. Fits side per) sides
+-- each open side has a grown one among the new, and these are all
+pub record AreGrown (factor : ℕ) (old new : List (Reverse OpenSide)) : Type 0 where
+  pub each : All (λ b. (a : Reverse OpenSide) × Contains old a × IsGrown factor a.0 b.0) new
+  pub all : All (λ a. (b : Reverse OpenSide) × Contains new b × IsGrown factor a.0 b.0) old
+
+-- ---- the end
+
+-- the flows' levels are fair on the sides, the levels are different, and each is of some flow
+pub record AreFilled (sides : List Side) (flows scale : ℕ) (found : FairParts) : Type 0 where
+  pub grown : found.scale ≡ scale * product found.growth.items
+  pub factors : All (λ factor. 0 < factor) found.growth.items
+  pub one_each : length found.level_of.items ≡ flows
+  pub inside : AreInside found.levels.items found.level_of.items
+  pub fair : IsFair sides found.scale (flow_parts found.levels.items found.level_of.items)
+  pub limited : (flow : ℕ) → IsSome (level_at found.level_of.items flow) ↔ IsLimited sides flow
+  pub rising : AllPairs (λ a b. a < b) found.levels.items
+  pub reached : (place : ℕ) → place < length found.levels.items → (flow : ℕ) × (level_at found.level_of.items flow ≡ Some place)
+  pub few : length found.levels.items ≤ length sides

@@ -1,5 +1,6 @@
 pub mod Allocation
 pub mod AllocationLaws
+pub mod Alone
 pub mod Amount
 pub mod Answer
 pub mod Answers
@@ -9,17 +10,21 @@ pub mod Conserved
 pub mod Events
 pub mod Fair
 pub mod FairExample
+pub mod FairExists
 pub mod FairLaws
 pub mod FairPart
+pub mod FairParts
 pub mod Filling
 pub mod Fits
 pub mod Flights
+pub mod InFlight
 pub mod Fraction
 pub mod Keys
 pub mod Laws
 pub mod Lines
 pub mod Message
 pub mod Moments
+pub mod MostEvents
 pub mod Orderly
 pub mod Outcome
 pub mod Pairs
@@ -44,6 +49,7 @@ pub mod Simulated
 pub mod Size
 pub mod Sorted
 pub mod Starts
+pub mod State
 pub mod Time
 pub mod TooLarge
 pub mod Words
@@ -58,6 +64,7 @@ pub mod WorldOrder
 pub mod WorldPass
 pub mod WorldPlanned
 pub mod WorldQueue
+pub mod WorldRange
 pub mod WorldRates
 pub mod WorldRefusals
 pub mod WorldReplies

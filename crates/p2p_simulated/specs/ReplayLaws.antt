@@ -1,13 +1,13 @@
 -- What follows for a list of calls and its replies from their agreement with the simulation.
-use Rattle.std.specs.Prelude.{◌≡◌, ⊤, ℕ, ◌≤◌, List, [], ◌∷◌, ◌++◌, Bool, Option, Some, take}
-use Rattle.std.specs.List.{filter, AllZip, Contains}
+use Rattle.std.specs.Prelude.{◌≡◌, ⊤, ℕ, ◌+◌, ◌<◌, ◌≤◌, List, [], ◌∷◌, ◌++◌, Bool, Option, Some, IfSome, take}
+use Rattle.std.specs.List.{filter, AllZip}
 use Rattle.std.specs.declared.cmp.Ordering.{Ordering}
-use Rattle.p2p_simulated.specs.declared.error.Error.{Error}
 use Rattle.p2p_simulated.specs.declared.error.Error.TheVariants.{OutOfMemory}
 use Rattle.p2p_simulated.specs.WorldMessages.{Message, same_pair}
 use Rattle.p2p_simulated.specs.World.{World, new_world, Completed, completion_of, goes}
 use Rattle.p2p_simulated.specs.WorldCalls.{Call, call_limit, call_limit_link, call_enqueue, call_advance, call_next, moment_of, Runs, IsInTurn}
-use Rattle.p2p_simulated.specs.WorldReplies.{Reply, reply_done, reply_next, reply_refused, made, completions_in, AreInRange, SameCompletion}
+use Rattle.p2p_simulated.specs.WorldReplies.{Reply, reply_done, reply_next, reply_refused, made, completions_in, SameCompletion}
+use Rattle.p2p_simulated.specs.WorldRange.{AreInRange}
 use Rattle.p2p_simulated.specs.WorldOrder.{enqueued, answered, NeverGoDown, completes_pair}
 use Rattle.p2p_simulated.specs.WorldIsolation.{Answers, IsSet, KeepsApart, is_kept, kept_completions, NothingElse}
 
@@ -23,15 +23,38 @@ AreAdvancedFirst at (call_advance now ∷ calls) (reply_next next ∷ replies) =
 AreAdvancedFirst at (call_advance now ∷ calls) (reply_refused why ∷ replies) = (at ≤ now) × AreAdvancedFirst at calls replies
 AreAdvancedFirst at (call_next ∷ calls) (reply ∷ replies) = AreAdvancedFirst at calls replies
 
+-- a call comes no earlier than the one moment and, if it changes caps or adds a message, before the other, if there is one
+abbrev pub IsBetween : {P : Type 0} → ℕ → Option ℕ → Call P → Type 0
+IsBetween from before (call_limit now peer egress ingress) = (from ≤ now) × IfSome before (λ t. now < t)
+IsBetween from before (call_limit_link now origin recipient cap) = (from ≤ now) × IfSome before (λ t. now < t)
+IsBetween from before (call_enqueue now m) = (from ≤ now) × IfSome before (λ t. now < t)
+IsBetween from before (call_advance now) = from ≤ now
+IsBetween from before call_next = ⊤
+
+-- the calls go by what is answered: a call comes no earlier than the last that was made and, if it changes caps or adds a message, at that moment, or before what `next` has answered since
+abbrev pub GoByNext : {P : Type 0} → ℕ → Option ℕ → List (Call P) → List (Reply P) → Type 0
+GoByNext from before [] replies = ⊤
+GoByNext from before (call ∷ calls) [] = ⊤
+GoByNext from before (call ∷ calls) (reply_done cs ∷ replies) =
+    IsBetween from before call × IfSome (moment_of call) (λ now. GoByNext now (Some (now + 1)) calls replies)
+GoByNext from before (call ∷ calls) (reply_next next ∷ replies) = GoByNext from next calls replies
+GoByNext from before (call ∷ calls) (reply_refused why ∷ replies) = IsBetween from before call × GoByNext from before calls replies
+
 -- a law holds of the first calls, however many, and their replies
 abbrev pub AlwaysSoFar : {P : Type 0} → (List (Call P) → List (Reply P) → Type 0) → List (Call P) → List (Reply P) → Type 0
 AlwaysSoFar Law calls replies = (n : ℕ) → Law (take n calls) (take n replies)
 
-module _ {P : Type 0} (cmp : P → P → Ordering) where
-  -- calls in the range are refused for memory alone
-  abbrev pub RefusesForMemoryAlone : List (Call P) → List (Reply P) → Type 0
-  RefusesForMemoryAlone calls replies = AreInRange cmp calls → (why : Error) → Contains replies (reply_refused why) → why ≡ OutOfMemory
+-- a call that is in the range, with those that were made before it, is refused for memory alone
+abbrev pub RefusesForMemoryAlone : {P : Type 0} → List (Call P) → List (Call P) → List (Reply P) → Type 0
+RefusesForMemoryAlone earlier [] replies = ⊤
+RefusesForMemoryAlone earlier (call ∷ calls) [] = ⊤
+RefusesForMemoryAlone earlier (call ∷ calls) (reply_done cs ∷ replies) =
+    RefusesForMemoryAlone (earlier ++ call ∷ []) calls replies
+RefusesForMemoryAlone earlier (call ∷ calls) (reply_next next ∷ replies) = RefusesForMemoryAlone earlier calls replies
+RefusesForMemoryAlone earlier (call ∷ calls) (reply_refused why ∷ replies) =
+    (AreInRange (earlier ++ call ∷ []) → why ≡ OutOfMemory) × RefusesForMemoryAlone earlier calls replies
 
+module _ {P : Type 0} (cmp : P → P → Ordering) where
   -- each call comes in its turn in the simulation, from the world w on, where a refused call changes nothing
   abbrev pub AreInTurn : World P → List (Call P) → List (Reply P) → Type 0
   AreInTurn w [] replies = ⊤

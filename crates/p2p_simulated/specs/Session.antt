@@ -13,7 +13,8 @@ use Rattle.p2p_simulated.specs.declared.linkrun.session.Session.{Session}
 use Rattle.p2p_simulated.specs.Caps.{Caps}
 use Rattle.p2p_simulated.specs.Pairs.{pair_cmp}
 use Rattle.p2p_simulated.specs.PeerCaps.{answered_under, sides_under, IsFairById}
-use Rattle.p2p_simulated.specs.Schedule.{Makes, MayRefuseCall, planned_by}
+use Rattle.p2p_simulated.specs.Schedule.{Makes, MayRefuseCall}
+use Rattle.p2p_simulated.specs.State.{planned_of}
 use Rattle.p2p_simulated.specs.Size.{FairRatesFit}
 use Rattle.p2p_simulated.specs.TooLarge.{HasLargeAnswer}
 
@@ -58,7 +59,7 @@ KeepsScheduler old new = new.scheduler ≡ old.scheduler
 
 -- what the scheduler knows and plans is as it was
 abbrev pub KeepsPlanned : Session → Session → Type 0
-KeepsPlanned old new = planned_by new.scheduler ≡ planned_by old.scheduler
+KeepsPlanned old new = planned_of new.scheduler ≡ planned_of old.scheduler
 
 -- what is said after a command: its flow at the end, or its cap in the place of that of the peer or of the pair
 abbrev pub SaysAfter : Command → Session → Session → Type 0

@@ -1,17 +1,19 @@
 -- What a call does, told by the simulation.
-use Rattle.std.specs.Prelude.{◌≡◌, ⊤, ℕ, ◌+◌, ◌-◌, ◌<◌, ◌≤◌, ◌^◌, List, ◌++◌, length, Option, Some, IfSome}
+use Rattle.std.specs.Prelude.{◌≡◌, ℕ, ◌-◌, ◌<◌, ◌≤◌, List, ◌++◌, Option, Some, IfSome}
 use Rattle.std.specs.List.{AllZip}
 use Rattle.std.specs.declared.cmp.Ordering.{Ordering}
 use Rattle.p2p_simulated.specs.declared.error.Error.{Error}
-use Rattle.p2p_simulated.specs.declared.error.Error.TheVariants.{OutOfMemory, NumberTooLarge, MomentTooLate, FlowIdsUsedUp}
+use Rattle.p2p_simulated.specs.declared.error.Error.TheVariants.{OutOfMemory}
 use Rattle.p2p_simulated.specs.Amount.{plus}
 use Rattle.p2p_simulated.specs.FairLaws.{IsAtMost}
+use Rattle.p2p_simulated.specs.Refusing.{IsRefusedFor}
 use Rattle.p2p_simulated.specs.World.{World, Completed, goes}
 use Rattle.p2p_simulated.specs.WorldTime.{NextIs}
 use Rattle.p2p_simulated.specs.WorldCalls.{Call, call_advance, moment_of, Runs, IsInTurn}
-use Rattle.p2p_simulated.specs.WorldReplies.{IsSmallCall, messages_in, SameCompletion, Faults}
+use Rattle.p2p_simulated.specs.WorldReplies.{SameCompletion, Faults}
 use Rattle.p2p_simulated.specs.WorldPlanned.{Planned, next_event}
-use Rattle.p2p_simulated.specs.WorldStands.{StandsFor, IsInRange}
+use Rattle.p2p_simulated.specs.WorldRange.{IsInRange, IsCallInRange}
+use Rattle.p2p_simulated.specs.WorldStands.{StandsFor}
 use Rattle.p2p_simulated.specs.WorldBytes.{bytes_from, allowance}
 
 module _ {P : Type 0} (cmp : P → P → Ordering) where
@@ -40,31 +42,18 @@ module _ {P : Type 0} (cmp : P → P → Ordering) where
   abbrev pub IsNextInSimulation : Planned P → Option ℕ → Type 0
   IsNextInSimulation p next = (w : World P) → StandsFor cmp p w → NextIs cmp w next
 
-  -- p is in the range of these pairs, and so is the call, with its message
-  pub record IsCallInRange (pairs : List (P × P)) (p : Planned P) (call : Call P) : Type 0 where
-    pub planned : IsInRange cmp pairs p
-    pub small : IsSmallCall cmp pairs call
-    pub messages : p.next_id + length p.waiting + messages_in call < 2 ^ 64
-
   -- a call in the range leads to a planned world in the range
   abbrev pub KeepsRange : Planned P → Call P → Planned P → Type 0
-  KeepsRange p call q = (pairs : List (P × P)) → IsCallInRange pairs p call → IsInRange cmp pairs q
+  KeepsRange p call q = IsCallInRange p call → IsInRange q
 
   -- in each world that p stands for, a call in its turn meets that fault
   abbrev pub MeetsFault : Planned P → Call P → Error → Type 0
   MeetsFault p call fault = (w : World P) (now : ℕ) → IsCalled p call now w → Faults cmp w call fault
 
-  -- why a call is refused: memory; a number of a call that is not in the range; or a fault that the simulation meets
-  abbrev pub HasCause : Planned P → Call P → Error → Type 0
-  HasCause p call OutOfMemory = ⊤
-  HasCause p call NumberTooLarge = (pairs : List (P × P)) → ¬ IsCallInRange pairs p call
-  HasCause p call MomentTooLate = MeetsFault p call MomentTooLate
-  HasCause p call FlowIdsUsedUp = MeetsFault p call FlowIdsUsedUp
-
-  -- a refusal has a cause, and in the range it is for memory alone
+  -- a refusal is for memory or for a fault that the simulation meets, and in the range for memory alone
   pub record IsRefusedInSimulation (p : Planned P) (call : Call P) (why : Error) : Type 0 where
-    pub cause : HasCause p call why
-    pub in_range : (pairs : List (P × P)) → IsCallInRange pairs p call → why ≡ OutOfMemory
+    pub cause : IsRefusedFor (MeetsFault p call) why
+    pub in_range : IsCallInRange p call → why ≡ OutOfMemory
 
   -- time goes on from w to the first moment, and from there to the second; both together have the same completions, and q stands for the world at the end
   pub record RunsInTwo (w : World P) (first second : ℕ) (completions : List (Completed P)) (q : Planned P) : Type 0 where

@@ -1,10 +1,12 @@
 -- How a scheduler is read as a planned world.
-use Rattle.std.specs.Prelude.{ℕ, ◌<◌, Bool, false, ◌&&◌, List, length, map, Option, Some, None}
+use Rattle.std.specs.Prelude.{◌≡◌, ℕ, ◌*◌, Bool, false, ◌&&◌, List, length, map, Option, Some, None}
 use Rattle.std.specs.List.{filter, list_any}
 use Rattle.std.specs.declared.cmp.Ordering.{Ordering}
 use Rattle.p2p_simulated.specs.declared.bandwidth.Flow.{Flow}
+use Rattle.p2p_simulated.specs.declared.bandwidth.parts.FairParts.{FairParts}
+use Rattle.p2p_simulated.specs.Fair.{IsFair}
+use Rattle.p2p_simulated.specs.FairParts.{product, flow_parts}
 use Rattle.p2p_simulated.specs.PeerCaps.{sides_under}
-use Rattle.p2p_simulated.specs.Size.{FairRatesFit}
 use Rattle.p2p_simulated.specs.declared.transmitter.message.Message as code
 use Rattle.p2p_simulated.specs.declared.transmitter.peers.PeerCaps.{PeerCaps}
 use Rattle.p2p_simulated.specs.declared.transmitter.pairs.Pair.{Pair}
@@ -17,7 +19,7 @@ use Rattle.p2p_simulated.specs.WorldPlanned.{Planned, paced_flows, may_launch}
 use Rattle.p2p_simulated.specs.Message.{message_of}
 use Rattle.p2p_simulated.specs.Peers.{egress_of, ingress_of}
 use Rattle.p2p_simulated.specs.Pairs.{link_of, arrival_of, waiting_of}
-use Rattle.p2p_simulated.specs.Flights.{sending_of}
+use Rattle.p2p_simulated.specs.InFlight.{in_flight}
 
 -- the caps of peers and of ordered pairs
 abbrev pub caps_of : {P : Type 0} → (P → P → Ordering) → List (PeerCaps P) → List (Pair P) → Caps P
@@ -28,7 +30,7 @@ abbrev pub planned : {P : Type 0} {a : _} {b : _} {c : _} → (P → P → Order
 planned cmp w = record {
   caps = caps_of cmp w.peers.entries.items w.pairs.entries.items;
   limited = w.limited;
-  sending = sending_of w.flights.flows.items w.flights.progress.items;
+  sending = in_flight w.flights;
   waiting = waiting_of w.pairs.entries.items;
   last_arrival = arrival_of cmp w.pairs.entries.items;
   next_id = w.next_id;
@@ -49,10 +51,11 @@ may_launch_first cmp t p (Some m) = may_launch cmp t p m
 abbrev pub ready_messages : {P : Type 0} → (P → P → Ordering) → ℕ → Planned P → List (Message P)
 ready_messages cmp t p = filter (may_launch cmp t p) (fronts cmp p.waiting)
 
--- there are more than sixteen flows, and no fair rates fit on the sides that the caps make for them
-pub record AreTooMany {P : Type 0} (cmp : P → P → Ordering) (caps : Caps P) (flows : List (Flow P)) : Type 0 where
-  pub many : 16 < length flows
-  pub nothing_fits : ¬ FairRatesFit (sides_under cmp caps flows) (length flows)
+-- parts of a scale, which has grown from another, are the fair rates of the flows on the sides that the caps make for them
+pub record AreFairPartsUnder {P : Type 0} (cmp : P → P → Ordering) (caps : Caps P) (flows : List (Flow P)) (scale : ℕ) (found : FairParts) : Type 0 where
+  pub grown : found.scale ≡ scale * product found.growth.items
+  pub one_each : length found.level_of.items ≡ length flows
+  pub fair : IsFair (sides_under cmp caps flows) found.scale (flow_parts found.levels.items found.level_of.items)
 
 -- whether a message from the one peer to the other is in flight
 abbrev pub is_sending : {P : Type 0} → (P → P → Ordering) → Planned P → P → P → Bool

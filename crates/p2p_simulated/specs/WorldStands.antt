@@ -1,34 +1,14 @@
--- When a planned world stands for a world of the simulation, and when it is in range.
-use Prim.Native.Nat.{◌∣◌}
-use Rattle.std.specs.Prelude.{◌≡◌, ℕ, ◌+◌, ◌*◌, ◌<◌, ◌≤◌, ◌^◌, List, [], length, true, false, IfSome, All}
+-- When a planned world stands for a world of the simulation.
+use Rattle.std.specs.Prelude.{◌≡◌, ℕ, ◌<◌, ◌≤◌, List, [], false, IfSome}
 use Rattle.std.specs.List.{filter, list_any, AllZip}
 use Rattle.std.specs.declared.cmp.Ordering.{Ordering}
-use Rattle.p2p_simulated.specs.Amount.{Amount, billion}
-use Rattle.p2p_simulated.specs.Fraction.{IsReduced}
 use Rattle.p2p_simulated.specs.WorldMessages.{Message, SameMessage, same_pair, CapsAlike, PairsAlike, OneForEachPair}
 use Rattle.p2p_simulated.specs.WorldRates.{IsLowest}
 use Rattle.p2p_simulated.specs.World.{World, Flight, Completed, Course, goes, meets, flows, is_done, IsQuiet}
-use Rattle.p2p_simulated.specs.WorldReplies.{SameCompletion, names_pair, IsSmallCap}
+use Rattle.p2p_simulated.specs.WorldReplies.{SameCompletion}
 use Rattle.p2p_simulated.specs.WorldPlanned.{Planned, Paced, IsLeastMoment, paced_flows, left_at, SomeSpentAt, SomeReadyAt, AreInPairOrder, IsRated}
 
--- each fair rate of up to sixteen flows is a whole number of such parts of a byte a second
-abbrev pub finest_parts : ℕ
-finest_parts = 54_486_432_000
-
--- an amount left in the range: below 2^32, and a whole number of the finest parts, each of a nanosecond
-pub record IsSmallAmount (left : Amount) : Type 0 where
-  pub below : left.num < 2 ^ 32 * left.den
-  pub whole : left.den ∣ finest_parts * billion * left.num
-
--- a rate in the range: at most 2^32, and a whole number of the finest parts
-pub record IsSmallRate (rate : Amount) : Type 0 where
-  pub positive : 0 < rate.den
-  pub at_most : rate.num ≤ 2 ^ 32 * rate.den
-  pub whole : rate.den ∣ finest_parts * rate.num
-
 module _ {P : Type 0} (cmp : P → P → Ordering) where
-  -- ---- the planned world and the world
-
   -- a message in flight, as it is planned and as it is at t
   pub record IsSameFlight (t : ℕ) (f : Paced P) (g : Flight P) : Type 0 where
     pub message : SameMessage cmp f.message g.message
@@ -74,36 +54,3 @@ module _ {P : Type 0} (cmp : P → P → Ordering) where
   CoursesAlike R (goes cs p) (meets fault) = ⊥
   CoursesAlike R (meets fault) (goes ds w) = ⊥
   CoursesAlike R (meets fault) (meets other) = fault ≡ other
-
-  -- ---- the range of a planned world
-
-  -- the message is of one of those pairs
-  abbrev pub IsNamed : List (P × P) → Message P → Type 0
-  IsNamed pairs m = names_pair cmp pairs m.origin m.recipient ≡ true
-
-  -- a message in flight in the range, what is left of it in lowest terms
-  pub record IsSmallFlight (pairs : List (P × P)) (f : Paced P) : Type 0 where
-    pub named : IsNamed pairs f.message
-    pub lowest : IsReduced f.left.num f.left.den
-    pub left : IsSmallAmount f.left
-    pub updated : f.updated < 2 ^ 56
-    pub latency : f.message.latency < 2 ^ 56
-
-  -- a waiting message in the range
-  pub record IsSmallMessage (pairs : List (P × P)) (m : Message P) : Type 0 where
-    pub named : IsNamed pairs m
-    pub bytes : length m.bytes < 2 ^ 32
-    pub latency : m.latency < 2 ^ 56
-
-  -- at most sixteen pairs, one message in flight for each at its fair rate, and small numbers
-  pub record IsInRange (pairs : List (P × P)) (p : Planned P) : Type 0 where
-    pub sixteen : length pairs ≤ 16
-    pub egress : (q : P) → IsSmallCap (p.caps.egress q)
-    pub ingress : (q : P) → IsSmallCap (p.caps.ingress q)
-    pub link : (q r : P) → IsSmallCap (p.caps.link q r)
-    pub one_each : OneForEachPair cmp (paced_flows p.sending)
-    pub rated : IsRated cmp p
-    pub sending : All (IsSmallFlight pairs) p.sending
-    pub waiting : All (IsSmallMessage pairs) p.waiting
-    pub arrivals : (q r : P) → IfSome (p.last_arrival q r) (λ t. (t < 2 ^ 57) × (names_pair cmp pairs q r ≡ true))
-    pub ids : p.next_id + length p.waiting < 2 ^ 64

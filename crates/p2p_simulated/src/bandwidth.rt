@@ -1,17 +1,19 @@
 //! Who sends how fast.
-ghost use Rattle.std.specs.Prelude.{◌≡◌, ◌⊎◌, ℕ, IfOk, IfErr};
+ghost use Rattle.std.specs.Prelude.{◌≡◌, ◌⊎◌, ◌<◌, ℕ, IfOk, IfErr};
 ghost use Rattle.std.specs.Fn.{CalledAt, TakesAt, CalledAtTwo, TakesAtTwo};
 ghost use Rattle.std.specs.Ordering.{nat_cmp};
 ghost use Rattle.std.specs.declared.cmp.Ordering.TheVariants.{Equal};
 ghost use Rattle.std.specs.BTreeMap.{get};
 ghost use Rattle.p2p_simulated.specs.Answers.{NoLink, CallableOnEach, CallableOnEachPair, origins, recipients, pairs};
 ghost use Rattle.p2p_simulated.specs.Allocation.{IsAllocation, IsCountedAllocation};
+ghost use Rattle.p2p_simulated.specs.FairParts.{AreFairParts};
 ghost use Rattle.p2p_simulated.specs.Rates.{last_rate};
 ghost use Rattle.p2p_simulated.specs.TooLarge.{IsTooLarge};
 
 mod equality;
 mod filling;
 pub mod laws;
+mod parts;
 mod sides;
 mod time;
 
@@ -19,6 +21,8 @@ use crate::error::Error;
 use crate::peer::Peer;
 use crate::ratio::Ratio;
 pub use equality::rates_are_equal_by_value;
+use natural::Natural;
+pub(crate) use parts::FairParts;
 use std::alloc::Global;
 use std::collections::BTreeMap;
 pub use time::{
@@ -94,10 +98,10 @@ pub enum Rate {
 ///
 /// - `OutOfMemory` where memory for a list or for the map was refused. The closures may then have
 ///   been called for no more than the first few of the flows.
-/// - `NumberTooLarge` where rates do not fit in fractions of 128 bits. It comes only with more than
-///   16 flows or with an answered cap of 2^64 or more. And it never comes where the rates fit: where
-///   some whole number above zero makes each finite rate whole and is, times the number of flows
-///   and the greatest cap of a side, below 2^128.
+/// - `NumberTooLarge` exactly where the fair rate of some flow, in lowest terms, has a numerator or a
+///   denominator of 2^128 or more. That takes more than 16 flows or an answered cap of 2^64 or more.
+///   And it never comes where the rates fit: where some whole number above zero makes each finite
+///   rate whole and is, times the number of flows and the greatest cap of a side, below 2^128.
 pub fn allocate<P, E, I>(
     alloc: Global,
     flows: &[Flow<P>],
@@ -230,9 +234,40 @@ where
         (record { egress = egress_cap; ingress = ingress_cap; link = link_cap }) flows.now)) }
 {
     let sides = sides::sides(alloc, flows, egress_cap, ingress_cap, link_cap)?;
-    let filled = filling::fair_rates(alloc, flows.len(), sides)?;
-    let rates = rates_by_id(alloc, flows, &filled.rates)?;
-    Ok((rates, filled.rounds))
+    let one = Natural::from_u64(alloc, 1);
+    let found = filling::fair_parts(alloc, flows.len(), sides, &one)?;
+    let rates = found.rates(alloc)?;
+    let by_id = rates_by_id(alloc, flows, &rates)?;
+    Ok((by_id, found.levels.len() as u128))
+}
+
+/// The max-min fair rates of the flows, in parts of one byte a second, so many at `scale`. Where a
+/// rate is no whole number of parts, the scale grows.
+///
+/// Sides and answers are as those of [`allocate_linked`]. Refused only where memory was.
+pub(crate) fn fair_parts<P, E, I, L>(
+    alloc: Global,
+    flows: &[Flow<P>],
+    egress_cap: E,
+    ingress_cap: I,
+    link_cap: L,
+    scale: &Natural,
+) -> Result<FairParts, Error>
+where
+    P: Peer,
+    E: FnMut(&P) -> Option<u128>,
+    I: FnMut(&P) -> Option<u128>,
+    L: FnMut(&P, &P) -> Option<u128>,
+    requires egress { CallableOnEach (TakesAt E.FnMut) (CalledAt E.FnMut) egress_cap (origins flows.now) }
+    requires ingress { CallableOnEach (TakesAt I.FnMut) (CalledAt I.FnMut) ingress_cap (recipients flows.now) }
+    requires link { CallableOnEachPair (TakesAtTwo L.FnMut) (CalledAtTwo L.FnMut) link_cap (pairs flows.now) }
+    requires some_part { 0 < scale.now }
+    ensures fair { IfOk result (λ found. AreFairParts P.cmp (CalledAt E.FnMut) (CalledAt I.FnMut) (CalledAtTwo L.FnMut)
+        (record { egress = egress_cap; ingress = ingress_cap; link = link_cap }) flows.now scale.now found) }
+    ensures refused { IfErr result (λ e. e ≡ Error.OutOfMemory) }
+{
+    let limits = sides::sides(alloc, flows, egress_cap, ingress_cap, link_cap)?;
+    Ok(filling::fair_parts(alloc, flows.len(), limits, scale)?)
 }
 
 /// The rates by the ids of their flows. Of flows with one id the last counts.

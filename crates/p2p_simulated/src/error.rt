@@ -12,7 +12,7 @@ pub enum Error {
     /// No memory was left for a list, a map or a clone.
     OutOfMemory,
     /// A fraction, or a number on the way to it, does not fit in 128 bits. Each call says exactly
-    /// when.
+    /// when; those of `State` never answer it.
     NumberTooLarge,
     /// An arrival would lie past the last moment, 18446744073709551615 nanoseconds.
     MomentTooLate,

@@ -5,9 +5,12 @@
 //! event to event; `WorldStands` says when a state of the one stands for a state of the other.
 //! Each function here does nothing: its contract is a law.
 
+pub mod alone;
+pub mod differences;
 pub mod events;
 pub mod instants;
 pub mod orderly;
+pub mod progress;
 pub mod range;
 pub mod replies;
 pub mod rows;

@@ -6,7 +6,7 @@ ghost use Rattle.p2p_simulated.specs.Fraction.{IsReduced, fraction_cmp};
 ghost use Rattle.p2p_simulated.specs.Laws.FractionOrder.{fraction_total, fraction_cmp-Equal};
 
 mod laws;
-mod numbers;
+pub(crate) mod numbers;
 
 pub use laws::{
     comparisons_are_by_value, each_value_has_one_fraction, hashes_read_the_whole_value,
@@ -100,6 +100,18 @@ impl Ratio {
         Ratio {
             numerator: quotient(num, divisor),
             denominator: quotient(den, divisor),
+        }
+    }
+
+    /// `num / den`, which is in lowest terms.
+    pub(crate) fn from_lowest(num: u128, den: u128) -> Ratio
+        requires positive { 0 < den }
+        requires lowest { IsReduced num den }
+        ensures { amount_of result ≡ record { num = num; den = den } }
+    {
+        Ratio {
+            numerator: num,
+            denominator: den,
         }
     }
 

@@ -8,7 +8,7 @@ ghost use Rattle.p2p_simulated.specs.WorldPlanned.{new_planned};
 ghost use Rattle.p2p_simulated.specs.WorldRefusals.{Obeyed};
 ghost use Rattle.p2p_simulated.specs.WorldReplies.{reply_refused, Agrees};
 ghost use Rattle.p2p_simulated.specs.SamePlanned.{IsSameCall};
-ghost use Rattle.p2p_simulated.specs.Working.{planned};
+ghost use Rattle.p2p_simulated.specs.State.{planned_of};
 ghost use Rattle.p2p_simulated.specs.Conserved.{AreConserved};
 ghost use Rattle.p2p_simulated.specs.ReplayLaws.{AlwaysSoFar, RefusesForMemoryAlone, CompletePairsInOrder, IsolateSets};
 ghost use Rattle.p2p_simulated.specs.Replay.{call_of, reply_of, IsReplyTo};
@@ -71,11 +71,11 @@ pub enum Reply<P> {
 /// there. A call that is refused is answered `Refused` and changes nothing, and the calls after it
 /// are made. So is one whose arguments cannot be cloned, which is not made at all.
 pub fn replay<P: Peer>(alloc: Global, calls: &[Call<P>]) -> Result<Vec<Reply<P>>, Error>
-    ensures agrees { IfOk result (λ replies. Agrees P.cmp (new_world 0) [] (map call_of calls.now) (map reply_of replies.items)) }
+    ensures agrees { IfOk result (λ replies. Agrees P.cmp (new_world 0) (map call_of calls.now) (map reply_of replies.items)) }
     ensures obeyed { IfOk result (λ replies. Obeyed P.cmp (new_planned 0) (map call_of calls.now) (map reply_of replies.items)) }
     ensures one_each { IfOk result (λ replies. length replies.items ≡ length calls.now) }
-    ensures in_range { IfOk result (λ replies. RefusesForMemoryAlone P.cmp (map call_of calls.now) (map reply_of replies.items)) }
-    ensures conserved { IfOk result (λ replies. AreConserved P.cmp (new_planned 0) (map call_of calls.now) (map reply_of replies.items)) }
+    ensures in_range { IfOk result (λ replies. RefusesForMemoryAlone [] (map call_of calls.now) (map reply_of replies.items)) }
+    ensures conserved { IfOk result (λ replies. AlwaysSoFar (AreConserved P.cmp (new_planned 0)) (map call_of calls.now) (map reply_of replies.items)) }
     ensures order { IfOk result (λ replies. AlwaysSoFar (CompletePairsInOrder P.cmp) (map call_of calls.now) (map reply_of replies.items)) }
     ensures isolation { IfOk result (λ replies. AlwaysSoFar (IsolateSets P.cmp) (map call_of calls.now) (map reply_of replies.items)) }
     ensures refused { IfErr result (λ e. e ≡ Error.OutOfMemory) }
@@ -92,7 +92,7 @@ impl<P: Peer> Call<P> {
     /// Makes the call, unless it is refused.
     fn answer(&self, state: &mut State<P>) -> Reply<P>
         ensures in_time { InTime (call_of self.now ∷ []) }
-        ensures reply { IsReplyTo P.cmp (planned P.cmp state.old.kept) (call_of self.now) (reply_of result) (planned P.cmp state.new.kept) }
+        ensures reply { IsReplyTo P.cmp (planned_of state.old) (call_of self.now) (reply_of result) (planned_of state.new) }
     {
         match self.copy() {
             Err(error) => Reply::Refused(error),
@@ -156,8 +156,8 @@ impl<P: Peer> Call<P> {
 
     /// Makes the call, which takes its arguments.
     fn make(self, state: &mut State<P>) -> Result<Reply<P>, Error>
-        ensures made { IfOk result (λ reply. IsReplyTo P.cmp (planned P.cmp state.old.kept) (call_of self) (reply_of reply) (planned P.cmp state.new.kept)) }
-        ensures refused { IfErr result (λ e. IsReplyTo P.cmp (planned P.cmp state.old.kept) (call_of self) (reply_refused e) (planned P.cmp state.new.kept)) }
+        ensures made { IfOk result (λ reply. IsReplyTo P.cmp (planned_of state.old) (call_of self) (reply_of reply) (planned_of state.new)) }
+        ensures refused { IfErr result (λ e. IsReplyTo P.cmp (planned_of state.old) (call_of self) (reply_refused e) (planned_of state.new)) }
     {
         let completions = match self {
             Call::Limit {

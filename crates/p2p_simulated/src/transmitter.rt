@@ -1,16 +1,10 @@
 //! When each message arrives: a scheduler of messages over capped peers.
-ghost use Rattle.std.specs.Prelude.{◌≡◌, ◌+◌, ◌*◌, ◌≤◌, List, [], ◌∷◌, length, map, IfOk, IfErr, OnErr};
-ghost use Rattle.p2p_simulated.specs.World.{new_world};
-ghost use Rattle.p2p_simulated.specs.WorldCalls.{call_limit, call_limit_link, call_enqueue, call_advance};
-ghost use Rattle.p2p_simulated.specs.WorldPlanned.{IsPlanned, IsRated, new_planned, next_event as next_planned};
-ghost use Rattle.p2p_simulated.specs.WorldStands.{StandsFor, IsInRange};
-ghost use Rattle.p2p_simulated.specs.WorldRefusals.{MayBeRefused};
-ghost use Rattle.p2p_simulated.specs.SamePlanned.{Goes, GoesCounted};
-ghost use Rattle.p2p_simulated.specs.WorldMessages.{CapsAlike, PairsAlike};
-ghost use Rattle.p2p_simulated.specs.Working.{planned};
+ghost use Rattle.std.specs.Prelude.{◌≡◌, IfOk, IfErr, OnErr};
 ghost use Rattle.p2p_simulated.specs.Orderly.{IsOrderly};
-ghost use Rattle.p2p_simulated.specs.Conserved.{IsConserved};
-ghost use Rattle.p2p_simulated.specs.Simulated.{IsSimulated, IsNextInSimulation, KeepsRange, IsRefusedInSimulation, IsSplitAnywhere, KeepsToCaps};
+ghost use Rattle.p2p_simulated.specs.Working.{planned};
+ghost use Rattle.p2p_simulated.specs.WorldCalls.{call_limit, call_limit_link, call_enqueue, call_advance};
+ghost use Rattle.p2p_simulated.specs.WorldMessages.{CapsAlike, PairsAlike};
+ghost use Rattle.p2p_simulated.specs.WorldPlanned.{IsPlanned};
 
 mod account;
 mod completion;
@@ -65,18 +59,18 @@ use working::Working;
 /// The *simulation* (`model`) goes nanosecond by nanosecond: all that is in flight drains at its
 /// fair rate, what is done completes, and what may start starts. Where moments never go back, and
 /// caps change and messages are sent only before the next event, each call does what it does in the
-/// simulation (clause `simulated`). So let time go on to a moment by `advance` first, and then
+/// simulation (`made.simulated`). So let time go on to a moment by `advance` first, and then
 /// change caps and send messages. Elsewhere a call still goes by the event rule, from one planned
-/// moment to the next, which speaks of any moments (clause `goes`).
+/// moment to the next, which speaks of any moments (`made.by_rule`).
 ///
-/// A message is neither lost nor doubled (`conserved`), and after each call those in flight have
-/// their max-min fair rates under the caps now (`rated`). A call that is refused leaves the
+/// A message is neither lost nor doubled (`made.conserved`), and after each call those in flight have
+/// their max-min fair rates under the caps now (`made.rated`). A call that is refused leaves the
 /// scheduler as it was (`unchanged`).
 ///
-/// The *range* is: messages between at most sixteen ordered pairs of peers, the first flow id and
-/// the number of messages together below 2^64, caps in bytes a second and lengths in bytes below
-/// 2^32, moments and latencies below 2^56. There a call is refused for memory alone (`cause`), and
-/// leaves the scheduler in the range (`in_range`).
+/// No call is refused for a number, whatever caps, lengths and moments it is given, and however
+/// many peers send. The *range* is: the first flow id and the number of messages together below
+/// 2^64, moments and latencies below 2^63. There a call is refused for memory alone (`refused`), and
+/// leaves the scheduler in the range (`made.in_range`).
 #[derive(Drop)]
 pub struct State<P: Peer> {
     kept: Working<P>,
@@ -88,17 +82,15 @@ pub struct State<P: Peer> {
 }
 
 impl<P: Peer> State<P> {
-    ghost use Rattle.p2p_simulated.specs.Message.{message_of, completed_of};
+    ghost use Rattle.p2p_simulated.specs.Message.{message_of};
+    ghost use Rattle.p2p_simulated.specs.State.{planned_of, sent, IsNew, IsMade, IsRefused, IsAdvanced, IsCounted, IsNextOf};
 
     /// A scheduler at the start, moment 0, without limits and with nothing sent. Flow ids begin
     /// at 0.
     ///
-    /// It stands for the new world of the simulation, and is in the range of any list of at most
-    /// sixteen ordered pairs.
+    /// It stands for the new world of the simulation, and is in the range.
     pub fn new(alloc: Global) -> Self
-        ensures planned { planned P.cmp result.kept ≡ new_planned 0 }
-        ensures stands { StandsFor P.cmp (planned P.cmp result.kept) (new_world 0) }
-        ensures in_range { (pairs : List (P × P)) → length pairs ≤ 16 → IsInRange P.cmp pairs (planned P.cmp result.kept) }
+        ensures new { IsNew result 0 }
     {
         State::with_first_id(alloc, 0)
     }
@@ -106,9 +98,7 @@ impl<P: Peer> State<P> {
     /// As `new`, with flow ids from `first`. Each message that starts to be sent under limits takes
     /// the next id, and the last id that is given is 18446744073709551614.
     pub fn with_first_id(alloc: Global, first: u64) -> Self
-        ensures planned { planned P.cmp result.kept ≡ new_planned first }
-        ensures stands { StandsFor P.cmp (planned P.cmp result.kept) (new_world first) }
-        ensures in_range { (pairs : List (P × P)) → length pairs ≤ 16 → IsInRange P.cmp pairs (planned P.cmp result.kept) }
+        ensures new { IsNew result first }
     {
         State {
             kept: Working::new(alloc, first),
@@ -132,9 +122,6 @@ impl<P: Peer> State<P> {
     /// The scheduler then stays as it was.
     ///
     /// - `OutOfMemory` where memory was refused, for a list or for the clone of a peer.
-    /// - `NumberTooLarge` where what is left of a message, the time that it takes or, with more
-    ///   than sixteen in flight, a fair rate does not fit in fractions of 128 bits. In the range
-    ///   (see `State`) it never comes.
     /// - `MomentTooLate` where a message completes and would arrive past the last moment,
     ///   18446744073709551615.
     /// - `FlowIdsUsedUp` where a message would start and no flow id is left.
@@ -145,13 +132,8 @@ impl<P: Peer> State<P> {
         egress: Option<usize>,
         ingress: Option<usize>,
     ) -> Result<Vec<Completion<P>>, Error>
-        ensures goes { IfOk result (λ completions. Goes P.cmp (planned P.cmp self.old.kept) (call_limit now peer.now egress ingress) (map completed_of completions.items) (planned P.cmp self.new.kept)) }
-        ensures simulated { IfOk result (λ completions. IsSimulated P.cmp (planned P.cmp self.old.kept) (call_limit now peer.now egress ingress) (map completed_of completions.items) (planned P.cmp self.new.kept)) }
-        ensures in_range { IfOk result (λ completions. KeepsRange P.cmp (planned P.cmp self.old.kept) (call_limit now peer.now egress ingress) (planned P.cmp self.new.kept)) }
-        ensures conserved { IfOk result (λ completions. ∥ IsConserved P.cmp (planned P.cmp self.old.kept) [] (map completed_of completions.items) (planned P.cmp self.new.kept) ∥₁) }
-        ensures rated { IfOk result (λ completions. ∥ IsRated P.cmp (planned P.cmp self.new.kept) ∥₁) }
-        ensures refused { IfErr result (MayBeRefused P.cmp (planned P.cmp self.old.kept) (call_limit now peer.now egress ingress)) }
-        ensures cause { IfErr result (IsRefusedInSimulation P.cmp (planned P.cmp self.old.kept) (call_limit now peer.now egress ingress)) }
+        ensures made { IfOk result (λ done. IsMade self.old (call_limit now peer.now egress ingress) done.items self.new) }
+        ensures refused { IfErr result (IsRefused self.old (call_limit now peer.now egress ingress)) }
         ensures unchanged { OnErr result (self.new ≡ self.old) }
     {
         let mut working = self.kept.clone()?;
@@ -177,9 +159,6 @@ impl<P: Peer> State<P> {
     /// The scheduler then stays as it was.
     ///
     /// - `OutOfMemory` where memory was refused, for a list or for the clone of a peer.
-    /// - `NumberTooLarge` where what is left of a message, the time that it takes or, with more
-    ///   than sixteen in flight, a fair rate does not fit in fractions of 128 bits. In the range
-    ///   (see `State`) it never comes.
     /// - `MomentTooLate` where a message completes and would arrive past the last moment,
     ///   18446744073709551615.
     /// - `FlowIdsUsedUp` where a message would start and no flow id is left.
@@ -190,13 +169,8 @@ impl<P: Peer> State<P> {
         recipient: &P,
         cap: Option<usize>,
     ) -> Result<Vec<Completion<P>>, Error>
-        ensures goes { IfOk result (λ completions. Goes P.cmp (planned P.cmp self.old.kept) (call_limit_link now origin.now recipient.now cap) (map completed_of completions.items) (planned P.cmp self.new.kept)) }
-        ensures simulated { IfOk result (λ completions. IsSimulated P.cmp (planned P.cmp self.old.kept) (call_limit_link now origin.now recipient.now cap) (map completed_of completions.items) (planned P.cmp self.new.kept)) }
-        ensures in_range { IfOk result (λ completions. KeepsRange P.cmp (planned P.cmp self.old.kept) (call_limit_link now origin.now recipient.now cap) (planned P.cmp self.new.kept)) }
-        ensures conserved { IfOk result (λ completions. ∥ IsConserved P.cmp (planned P.cmp self.old.kept) [] (map completed_of completions.items) (planned P.cmp self.new.kept) ∥₁) }
-        ensures rated { IfOk result (λ completions. ∥ IsRated P.cmp (planned P.cmp self.new.kept) ∥₁) }
-        ensures refused { IfErr result (MayBeRefused P.cmp (planned P.cmp self.old.kept) (call_limit_link now origin.now recipient.now cap)) }
-        ensures cause { IfErr result (IsRefusedInSimulation P.cmp (planned P.cmp self.old.kept) (call_limit_link now origin.now recipient.now cap)) }
+        ensures made { IfOk result (λ done. IsMade self.old (call_limit_link now origin.now recipient.now cap) done.items self.new) }
+        ensures refused { IfErr result (IsRefused self.old (call_limit_link now origin.now recipient.now cap)) }
         ensures unchanged { OnErr result (self.new ≡ self.old) }
     {
         let mut working = self.kept.clone()?;
@@ -226,9 +200,6 @@ impl<P: Peer> State<P> {
     /// The scheduler then stays as it was.
     ///
     /// - `OutOfMemory` where memory was refused, for a list or for the clone of a peer.
-    /// - `NumberTooLarge` where what is left of a message, the time that it takes or, with more
-    ///   than sixteen in flight, a fair rate does not fit in fractions of 128 bits. In the range
-    ///   (see `State`) it never comes.
     /// - `MomentTooLate` where a message completes and would arrive past the last moment,
     ///   18446744073709551615.
     /// - `FlowIdsUsedUp` where a message would start and no flow id is left.
@@ -244,14 +215,10 @@ impl<P: Peer> State<P> {
         latency: u64,
         should_deliver: bool,
     ) -> Result<Vec<Completion<P>>, Error>
-        ensures goes { IfOk result (λ completions. Goes P.cmp (planned P.cmp self.old.kept) (call_enqueue now (record { origin = origin; recipient = recipient; channel = channel; bytes = message; latency = latency; should_deliver = should_deliver })) (map completed_of completions.items) (planned P.cmp self.new.kept)) }
-        ensures simulated { IfOk result (λ completions. IsSimulated P.cmp (planned P.cmp self.old.kept) (call_enqueue now (record { origin = origin; recipient = recipient; channel = channel; bytes = message; latency = latency; should_deliver = should_deliver })) (map completed_of completions.items) (planned P.cmp self.new.kept)) }
-        ensures in_range { IfOk result (λ completions. KeepsRange P.cmp (planned P.cmp self.old.kept) (call_enqueue now (record { origin = origin; recipient = recipient; channel = channel; bytes = message; latency = latency; should_deliver = should_deliver })) (planned P.cmp self.new.kept)) }
-        ensures conserved { IfOk result (λ completions. ∥ IsConserved P.cmp (planned P.cmp self.old.kept) ((record { origin = origin; recipient = recipient; channel = channel; bytes = message; latency = latency; should_deliver = should_deliver }) ∷ []) (map completed_of completions.items) (planned P.cmp self.new.kept) ∥₁) }
-        ensures rated { IfOk result (λ completions. ∥ IsRated P.cmp (planned P.cmp self.new.kept) ∥₁) }
-        ensures refused { IfErr result (MayBeRefused P.cmp (planned P.cmp self.old.kept) (call_enqueue now (record { origin = origin; recipient = recipient; channel = channel; bytes = message; latency = latency; should_deliver = should_deliver }))) }
-        ensures cause { IfErr result (IsRefusedInSimulation P.cmp (planned P.cmp self.old.kept) (call_enqueue now (record { origin = origin; recipient = recipient; channel = channel; bytes = message; latency = latency; should_deliver = should_deliver }))) }
-        ensures unchanged { OnErr result (planned P.cmp self.new.kept ≡ planned P.cmp self.old.kept) }
+        ensures made { IfOk result (λ done.
+            IsMade self.old (call_enqueue now (sent origin recipient channel message latency should_deliver)) done.items self.new) }
+        ensures refused { IfErr result (IsRefused self.old (call_enqueue now (sent origin recipient channel message latency should_deliver))) }
+        ensures unchanged { OnErr result (planned_of self.new ≡ planned_of self.old) }
     {
         let message = Message {
             origin,
@@ -266,9 +233,9 @@ impl<P: Peer> State<P> {
 
     /// Sends a message. Where it only has to wait, nothing is copied.
     fn send(&mut self, now: u64, message: Message<P>) -> Result<Vec<Completion<P>>, Error>
-        ensures goes { IfOk result (λ completions. Goes P.cmp (planned P.cmp self.old.kept) (call_enqueue now (message_of message)) (map completed_of completions.items) (planned P.cmp self.new.kept)) }
-        ensures refused { IfErr result (MayBeRefused P.cmp (planned P.cmp self.old.kept) (call_enqueue now (message_of message))) }
-        ensures unchanged { OnErr result (planned P.cmp self.new.kept ≡ planned P.cmp self.old.kept) }
+        ensures made { IfOk result (λ done. IsMade self.old (call_enqueue now (message_of message)) done.items self.new) }
+        ensures refused { IfErr result (IsRefused self.old (call_enqueue now (message_of message))) }
+        ensures unchanged { OnErr result (planned_of self.new ≡ planned_of self.old) }
     {
         if self.kept.has_to_wait(&message.origin, &message.recipient) {
             self.kept.wait(now, message)?;
@@ -288,30 +255,21 @@ impl<P: Peer> State<P> {
     /// Where moments never go back, and caps change and messages are sent only before the next
     /// event, it does what the simulation does: the same messages complete in the same order, to
     /// arrive at the same moments. There an advance to any moment on the way, and then on,
-    /// completes the same (clause `split`), and an origin sends no more than its egress cap lets go
-    /// in the time between (`within_caps`).
+    /// completes the same (`advanced.split`), and an origin sends no more than its egress cap lets go
+    /// in the time between (`advanced.within_caps`).
     ///
     /// # Errors
     ///
     /// The scheduler then stays as it was.
     ///
     /// - `OutOfMemory` where memory was refused, for a list or for the clone of a peer.
-    /// - `NumberTooLarge` where what is left of a message, the time that it takes or, with more
-    ///   than sixteen in flight, a fair rate does not fit in fractions of 128 bits. In the range
-    ///   (see `State`) it never comes.
     /// - `MomentTooLate` where a message completes and would arrive past the last moment,
     ///   18446744073709551615.
     /// - `FlowIdsUsedUp` where a message would start and no flow id is left.
     pub fn advance(&mut self, now: u64) -> Result<Vec<Completion<P>>, Error>
-        ensures goes { IfOk result (λ completions. Goes P.cmp (planned P.cmp self.old.kept) (call_advance now) (map completed_of completions.items) (planned P.cmp self.new.kept)) }
-        ensures simulated { IfOk result (λ completions. IsSimulated P.cmp (planned P.cmp self.old.kept) (call_advance now) (map completed_of completions.items) (planned P.cmp self.new.kept)) }
-        ensures in_range { IfOk result (λ completions. KeepsRange P.cmp (planned P.cmp self.old.kept) (call_advance now) (planned P.cmp self.new.kept)) }
-        ensures conserved { IfOk result (λ completions. ∥ IsConserved P.cmp (planned P.cmp self.old.kept) [] (map completed_of completions.items) (planned P.cmp self.new.kept) ∥₁) }
-        ensures rated { IfOk result (λ completions. ∥ IsRated P.cmp (planned P.cmp self.new.kept) ∥₁) }
-        ensures split { IfOk result (λ completions. IsSplitAnywhere P.cmp (planned P.cmp self.old.kept) now (map completed_of completions.items) (planned P.cmp self.new.kept)) }
-        ensures within_caps { IfOk result (λ completions. KeepsToCaps P.cmp (planned P.cmp self.old.kept) now (planned P.cmp self.new.kept)) }
-        ensures refused { IfErr result (MayBeRefused P.cmp (planned P.cmp self.old.kept) (call_advance now)) }
-        ensures cause { IfErr result (IsRefusedInSimulation P.cmp (planned P.cmp self.old.kept) (call_advance now)) }
+        ensures made { IfOk result (λ done. IsMade self.old (call_advance now) done.items self.new) }
+        ensures advanced { IfOk result (λ done. IsAdvanced self.old now done.items self.new) }
+        ensures refused { IfErr result (IsRefused self.old (call_advance now)) }
         ensures unchanged { OnErr result (self.new ≡ self.old) }
     {
         Ok(self.advance_counted(now)?.0)
@@ -328,16 +286,10 @@ impl<P: Peer> State<P> {
     ///
     /// Those of `advance`, and the scheduler then stays as it was.
     pub fn advance_counted(&mut self, now: u64) -> Result<(Vec<Completion<P>>, u128), Error>
-        ensures advances { IfOk result (λ answer. GoesCounted P.cmp now (planned P.cmp self.old.kept) answer.1 (map completed_of answer.0.items) (planned P.cmp self.new.kept)) }
-        ensures few { IfOk result (λ answer. answer.1 ≤ 2 * length (planned P.cmp self.old.kept).waiting + length (planned P.cmp self.old.kept).sending) }
-        ensures simulated { IfOk result (λ answer. IsSimulated P.cmp (planned P.cmp self.old.kept) (call_advance now) (map completed_of answer.0.items) (planned P.cmp self.new.kept)) }
-        ensures in_range { IfOk result (λ answer. KeepsRange P.cmp (planned P.cmp self.old.kept) (call_advance now) (planned P.cmp self.new.kept)) }
-        ensures conserved { IfOk result (λ answer. ∥ IsConserved P.cmp (planned P.cmp self.old.kept) [] (map completed_of answer.0.items) (planned P.cmp self.new.kept) ∥₁) }
-        ensures rated { IfOk result (λ answer. ∥ IsRated P.cmp (planned P.cmp self.new.kept) ∥₁) }
-        ensures split { IfOk result (λ answer. IsSplitAnywhere P.cmp (planned P.cmp self.old.kept) now (map completed_of answer.0.items) (planned P.cmp self.new.kept)) }
-        ensures within_caps { IfOk result (λ answer. KeepsToCaps P.cmp (planned P.cmp self.old.kept) now (planned P.cmp self.new.kept)) }
-        ensures refused { IfErr result (MayBeRefused P.cmp (planned P.cmp self.old.kept) (call_advance now)) }
-        ensures cause { IfErr result (IsRefusedInSimulation P.cmp (planned P.cmp self.old.kept) (call_advance now)) }
+        ensures made { IfOk result (λ answer. IsMade self.old (call_advance now) answer.0.items self.new) }
+        ensures advanced { IfOk result (λ answer. IsAdvanced self.old now answer.0.items self.new) }
+        ensures counted { IfOk result (λ answer. IsCounted self.old now answer.1 answer.0.items self.new) }
+        ensures refused { IfErr result (IsRefused self.old (call_advance now)) }
         ensures unchanged { OnErr result (self.new ≡ self.old) }
     {
         let mut working = self.kept.clone()?;
@@ -353,8 +305,7 @@ impl<P: Peer> State<P> {
     /// It takes no memory, changes nothing and is never refused. Where moments never went back, and
     /// caps changed and messages were sent only before the next event, it is the simulation's.
     pub fn next(&self) -> Option<u64>
-        ensures planned { result ≡ next_planned (planned P.cmp self.now.kept) }
-        ensures simulated { IsNextInSimulation P.cmp (planned P.cmp self.now.kept) result }
+        ensures next { IsNextOf self.now result }
     {
         self.kept.next_event()
     }

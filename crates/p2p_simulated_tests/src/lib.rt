@@ -2,11 +2,15 @@
 #![tactic(auto)]
 
 #[cfg(test)]
+mod naturals;
+#[cfg(test)]
 mod planner;
 #[cfg(test)]
 mod planner_judge;
 #[cfg(test)]
 mod planner_lists;
+#[cfg(test)]
+mod planner_many;
 #[cfg(test)]
 mod planner_network;
 #[cfg(test)]
@@ -15,6 +19,8 @@ mod planner_peers;
 mod planner_plain;
 #[cfg(test)]
 mod planner_sizes;
+#[cfg(test)]
+mod planner_wide;
 #[cfg(test)]
 mod ratio_tests;
 #[cfg(test)]

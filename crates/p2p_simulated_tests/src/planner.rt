@@ -470,6 +470,58 @@ fn the_first_number_of_an_ingress_is_its_cap(rt: HostRuntime) -> Result<(), Fail
     )
 }
 
+/// The rates where the closures for peers answer from lists, without one for links.
+fn plainly_answered_rates(
+    alloc: Global,
+    flows: &[Flow<u64>],
+    answers: &Answers,
+) -> Result<BTreeMap<u64, Rate>, Error> {
+    let mut egress = answers.egress.iter();
+    let mut ingress = answers.ingress.iter();
+    allocate(
+        alloc,
+        flows,
+        |_peer| answer_from(&mut egress),
+        |_peer| answer_from(&mut ingress),
+    )
+}
+
+/// Of two flows the first is asked about before there is a cap.
+#[test]
+fn a_late_cap_holds_for_the_later_flow_alone(rt: HostRuntime) -> Result<(), Fail> {
+    let flows = [Arrow(1, 1, 2, false), Arrow(2, 1, 2, false)];
+    let flows = flows_of::<u64>(rt.alloc(), &flows)?;
+    let wanted = [Wanted(1, None), Wanted(2, Some((6, 1)))];
+    let late = [None, Some(6)];
+    let egress = Answers {
+        egress: &late,
+        ..NONE
+    };
+    let rates = plainly_answered_rates(rt.alloc(), &flows, &egress)?;
+    expect(&rt, &rates, &wanted)?;
+    let link = Answers {
+        links: &late,
+        ..NONE
+    };
+    expect(&rt, &answered_rates(rt.alloc(), &flows, &link)?, &wanted)
+}
+
+/// A link of cap zero stops its own flow, and leaves all of the egress to the other.
+#[test]
+fn a_closed_link_leaves_the_egress_to_others(rt: HostRuntime) -> Result<(), Fail> {
+    let flows = [Arrow(1, 1, 2, true), Arrow(2, 1, 3, true)];
+    let wanted = [Wanted(1, Some((0, 1))), Wanted(2, Some((100, 1)))];
+    let case = Case {
+        flows: &flows,
+        egress: &[Cap(1, 100)],
+        ingress: &[],
+        links: &[LinkCap(1, 2, 0)],
+        wanted: &wanted,
+        rounds: 2,
+    };
+    holds_at_each_type(&rt, &case)
+}
+
 /// A call of one of the closures.
 #[derive(Clone, Copy, Debug, PartialEq, Eq)]
 enum Call {

@@ -1,4 +1,5 @@
 //! Lists of calls on a new scheduler.
+mod long;
 mod orders;
 mod refusals;
 mod turns;

@@ -1,4 +1,5 @@
 //! Scripts, what they print, and how they end.
+mod broadcasts;
 mod schedules;
 
 use p2p_simulated::linkrun::{Outcome, run};

@@ -1,240 +1,146 @@
--- The course of filling: the queue before the first round, a round, and the end.
-use Rattle.std.proofs.Common.{◌≡◌, ℕ, ◌+◌, ◌<◌, ◌⊎◌, inl, inr, List, [], ◌∷◌, ◌++◌, length, get_or, map, All, Contains, count_by, Option, Some, None, IsSome, refl, sym, ap, ◌∙◌, subst, arith}
-use Rattle.std.specs.Prelude.{IsPermutation, option_map, unwrap_or}
+-- A round of filling: the users of the side with the least share freeze at it.
+use Rattle.std.proofs.Common.{◌≡◌, ℕ, ◌*◌, ◌<◌, ◌≤◌, ◌⊎◌, inl, inr, List, ◌∷◌, ◌++◌, length, All, Contains, Option, Some, None, IsSome, sym, ap, subst, ◌∙◌, arith, le_of_mul-le-mul_right}
+use Rattle.std.specs.Prelude.{unwrap_or}
 use Rattle.std.specs.declared.cmp.Reverse.{Reverse}
-use Rattle.std.proofs.lemmas.Bool.{cases_eq, cases_lt, eqb-true}
-use Rattle.std.proofs.lemmas.List.{get_or-map, get_or_default, length-map, map_push}
-use Rattle.std.proofs.lemmas.List.Elements.{All-cons, All-map, All-contains, Contains-get_or}
-use Rattle.std.proofs.lemmas.List.Sorted.{All-permutation}
-use Rattle.p2p_simulated.specs.Amount.{whole}
-use Rattle.p2p_simulated.specs.Code.{side_of}
-use Rattle.p2p_simulated.specs.Fair.{Side, IsLimited}
-use Rattle.p2p_simulated.specs.Filling.{rate_at, AllFrozen, FreezesAll, KeepsAccount, IsShareOf, HasRoomAt, IsNoGreater, is_at, IsShare, AreShares, IsCovered, IsQueue, IsNext, IsStart, AllFilled, CannotFill, NoFairFits, answer_of, whole_side}
-use Rattle.p2p_simulated.specs.Rates.{IsRateOf, AreFairRates}
-use Rattle.p2p_simulated.specs.Ratio.{amount_of, IsWorth}
-use Rattle.p2p_simulated.specs.declared.bandwidth.sides.Side as declared
+use Rattle.std.proofs.lemmas.List.Elements.{All-head, All-tail, All-append, All-contains, All-weaker, Contains-append_right}
+use Rattle.std.proofs.lemmas.List.Sorted.{All-permutation, Contains-permutation, IsPermutation-sym}
+use Rattle.p2p_simulated.specs.Fair.{Side, load}
+use Rattle.p2p_simulated.specs.Filling.{at_level, AllRise, AllFrozen, IsWithin, HaveNoMore, KeepsAccount, IsOpen, IsCovered, IsQueue, AreAbove}
 use Rattle.p2p_simulated.specs.declared.bandwidth.filling.open.OpenSide.{OpenSide}
-use Rattle.p2p_simulated.specs.declared.bandwidth.filling.Share.{Share}
-use Rattle.p2p_simulated.specs.declared.ratio.Ratio.{Ratio}
-use Rattle.p2p_simulated.proofs.Filling.Account.{account_start}
-use Rattle.p2p_simulated.proofs.Filling.Agreement.{agrees_more}
-use Rattle.p2p_simulated.proofs.Filling.Common.{product, parts_of, are_worth}
-use Rattle.p2p_simulated.proofs.Filling.Frozen.{some_value, some_is}
-use Rattle.p2p_simulated.proofs.Filling.Level.{filling_more, RoomOnAll}
-use Rattle.p2p_simulated.proofs.Filling.Queue.{pushed_once}
-use Rattle.p2p_simulated.proofs.Filling.Rounds.{end}
-use Rattle.p2p_simulated.proofs.Filling.Scaling.{room_lower}
-use Rattle.p2p_simulated.proofs.Filling.Shares.{fills_at, room_of_fills, room_after, all_counted, uncounted_used, freezes_users, account_frozen}
-use Rattle.p2p_simulated.proofs.Filling.States.{at_level, parts_at, IsFilledTo, IsFilling, AgreesWithFair, FillsAt}
-use Rattle.p2p_simulated.proofs.Filling.Sums.{counted}
+use Rattle.p2p_simulated.proofs.Fairness.Sums.{All-from_contains}
+use Rattle.p2p_simulated.proofs.Filling.Account.{has_room, is_full}
+use Rattle.p2p_simulated.proofs.Filling.Frozen.{some_value, some_is, at_some, at_any}
+use Rattle.p2p_simulated.proofs.Filling.Queue.{first_or_later}
+use Rattle.p2p_simulated.proofs.Filling.Rounds.{next}
+use Rattle.p2p_simulated.proofs.Filling.States.{IsFilledTo}
+use Rattle.p2p_simulated.proofs.Filling.Sums.{sum_by_same}
 
--- ---- before the first round
+-- each of these users is frozen at the level now, and nothing else changes
+pub record Freezes (users : List ℕ) (before after : ℕ → Option ℕ) (level : ℕ) : Type 0 where
+  pub all : All (λ flow. after flow ≡ Some level) users
+  pub others : (flow : ℕ) → Contains users flow ⊎ (after flow ≡ before flow)
 
-pub start_of : (opens : List OpenSide) (rates : List (Option Ratio)) → All (λ side. amount_of side.taken ≡ whole 0) opens → ((flow : ℕ) → rate_at rates flow ≡ None)
-    → IsStart (map whole_side opens) rates opens
-start_of opens rates none_counted none = record {
-  one_each = sym (length-map opens whole_side);
-  accounts = λ k d e inside.
-      let within : k < length opens = omega (arith, length-map opens whole_side) in
-      subst (λ s. KeepsAccount s rates (get_or opens k e)) (sym (get_or-map whole_side opens k e d within))
-      (account_start (whole_side (get_or opens k e)) rates (get_or opens k e) refl (none_counted k e within) refl);
-  rise = λ k e inside j d within. none _;
-}
-
--- ---- the shares of the first sides
-
-module _ (sides : List Side) (rates : List (Option Ratio)) (opens : List OpenSide) (start : IsStart sides rates opens) where
-  -- one more
-  pub first_more : (shares later : List (Reverse Share)) (i : ℕ) (rate : Ratio) (e : OpenSide) → i < length sides → AreShares sides rates opens shares → count_by (is_at i) shares ≡ 0
-      → ((d : OpenSide) → 0 < length (get_or opens i d).rising.items) → ((d : OpenSide) → IsShareOf (get_or opens i d) rate)
-      → IsPermutation ((record { 0 = record { rate = rate; place = i } }) ∷ shares) later → AreShares sides rates opens later
-  first_more shares later i rate e inside are none some exact perm =
-      let x : Reverse Share = record { 0 = record { rate = rate; place = i } } in
-      record {
-        one_each = are.one_each;
-        accounts = are.accounts;
-        each = All-permutation (IsShare sides rates opens) (x ∷ shares) later perm (All-cons (IsShare sides rates opens) x shares (record {
-          inside = inside;
-          some = some;
-          exact = exact;
-          room = λ d. room_of_fills rates rate (get_or sides i d) (fills_at (get_or sides i d) rates (get_or opens i e) (start.accounts i d e inside) (start.rise i e inside) rate (exact e));
-        }) are.each);
-        once = pushed_once x shares later perm are.once none;
-      }
-
-  -- a side without users needs no share
-  pub first_without : (i : ℕ) (e : OpenSide) → i < length sides → length (get_or opens i e).rising.items ≡ 0 → (d : Side) → AllFrozen rates (get_or sides i d).users
-  first_without i e inside none d = all_counted (get_or sides i d) rates (get_or opens i e) (start.accounts i d e inside) none
-
--- the sides before this one and this one
-pub covered_more : (sides : List Side) (rates : List (Option Ratio)) (shares later : List (Reverse Share)) (i : ℕ)
-    → ((k : ℕ) → 0 < count_by (is_at k) shares → 0 < count_by (is_at k) later) → ((k : ℕ) → k < i → IsCovered sides rates shares k) → IsCovered sides rates later i → (k : ℕ)
-    → k < i + 1 → IsCovered sides rates later k
-covered_more sides rates shares later i more before here k inside d = elim (cases_eq k i) [
-  | inl same ↦ subst (λ j. IsCovered sides rates later j) (sym same) here d
-  | inr other ↦ elim (before k (omega arith) d) [ inl all ↦ inl all | inr some ↦ inr (more k some) ]
-]
-
--- no share is of a side that did not come yet
-pub none_yet : (shares : List (Reverse Share)) (i : ℕ) → All (λ share. share.0.place < i) shares → count_by (is_at i) shares ≡ 0
-none_yet shares i below = elim (cases_lt 0 (count_by (is_at i) shares)) [
-  | inr none ↦ omega (arith, none)
-  | inl some ↦
-      let c = counted (is_at i) shares some in
-      absurd (omega (arith, All-contains (λ share. share.0.place < i) shares c.0 below c.1, eqb-true c.0.0.place i c.2))
-]
-
--- ---- a round
-
-module _ (sides : List Side) (rates after : List (Option Ratio)) (opens : List OpenSide) (shares : List (Reverse Share)) (next : Share) (is_next : IsNext sides rates opens shares next)
-    (e : OpenSide) (freezes : FreezesAll (get_or opens next.place e).rising.items rates after next.rate) where
-  abbrev none : Side
-  none = record { cap = 0; users = [] }
-
-  abbrev here : Side
-  here = get_or sides next.place none
-
-  abbrev opened : OpenSide
-  opened = get_or opens next.place e
-
-  account_here : KeepsAccount here rates opened
-  account_here = is_next.are.accounts next.place none e is_next.itself.inside
-
-  fills : FillsAt rates next.rate here
-  fills = fills_at here rates opened account_here (is_next.rise e) next.rate (is_next.itself.exact e)
-
-  listed : Contains sides here
-  listed = Contains-get_or sides next.place none is_next.itself.inside
-
-  user : ℕ
-  user = get_or opened.rising.items 0 0
-
-  used : Contains here.users user
-  unfolding user
-  used = uncounted_used here rates opened account_here (get_or opened.rising.items 0 0) (Contains-get_or opened.rising.items 0 0 (is_next.itself.some e))
-
-  rises : rate_at rates user ≡ None
-  unfolding user
-  rises = is_next.rise e 0 0 (is_next.itself.some e)
-
-  freezes_all : FreezesAll here.users rates after next.rate
-  freezes_all = freezes_users here rates opened account_here after next.rate freezes
-
-  -- a side with a share has room at the least
-  room_by_share : (k : ℕ) (d : Side) → 0 < count_by (is_at k) shares → HasRoomAt rates next.rate (get_or sides k d)
-  room_by_share k d some =
-      let c = counted (is_at k) shares some in
-      let share = c.0 in
-      let at : share.0.place ≡ k = eqb-true share.0.place k c.2 in
-      let is = All-contains (IsShare sides rates opens) shares share is_next.are.each c.1 in
-      let le = All-contains (λ x. IsNoGreater next.rate x.0.rate) shares share is_next.least c.1 in
-      subst (λ j. HasRoomAt rates next.rate (get_or sides j d)) at (room_lower rates (get_or sides share.0.place d) share.0.rate next.rate le (is.room d))
-
-  room_at : (k : ℕ) → k < length sides → AllFrozen rates (get_or sides k none).users ⊎ HasRoomAt rates next.rate (get_or sides k none)
-  room_at k inside = elim (cases_eq k next.place) [
-    | inl same ↦ inr (subst (λ j. HasRoomAt rates next.rate (get_or sides j none)) (sym same) (room_of_fills rates next.rate here fills))
-    | inr other ↦ elim (is_next.covered k inside other none) [
-      | inl all ↦ inl all
-      | inr some ↦ inr (room_by_share k none some)
-    ]
+module _ (sides : List Side) (scale : ℕ) (frozen after : ℕ → Option ℕ) (x : Reverse OpenSide) (opens : List (Reverse OpenSide)) (level last : ℕ)
+    (queue : IsQueue sides scale frozen (x ∷ opens)) (no_more : All (λ o. HaveNoMore frozen o.0.slack o.0.rising.items) opens) (rise : AllRise frozen x.0.rising.items)
+    (within : AreAbove level opens) (share : level * length x.0.rising.items ≡ x.0.slack) (freezes : Freezes x.0.rising.items frozen after level) where
+  -- who was frozen stays so
+  kept : (flow parts : ℕ) → frozen flow ≡ Some parts → after flow ≡ Some parts
+  kept flow parts e = elim (freezes.others flow) [
+    | inr same ↦ same ∙ e
+    | inl used ↦ let none = All-contains (λ j. frozen j ≡ None) x.0.rising.items flow rise used in absurd (cc)
   ]
 
-  room : RoomOnAll sides rates next.rate
-  room side c =
-      let same : get_or sides c.0 none ≡ side = get_or_default sides c.0 none side c.1 ∙ c.2 in
-      subst (λ s. AllFrozen rates s.users ⊎ HasRoomAt rates next.rate s) same (room_at c.0 c.1)
+  fresh : (flow parts : ℕ) → frozen flow ≡ None → after flow ≡ Some parts → (parts ≡ level) × Contains x.0.rising.items flow
+  fresh flow parts none e = elim (freezes.others flow) [
+    | inr same ↦ absurd (cc)
+    | inl used ↦ let now = All-contains (λ j. after j ≡ Some level) x.0.rising.items flow freezes.all used in let same : parts ≡ level = cc in (same, used)
+  ]
 
-  pub filling_on : IsFilling sides rates → IsFilling sides after
-  filling_on = filling_more sides rates next.rate room after here listed fills user used rises freezes_all
+  still : (flow : ℕ) → IsSome (frozen flow) → IsSome (after flow)
+  still flow some = let v = some_value (frozen flow) some in some_is (after flow) v.0 (kept flow v.0 v.1)
 
-  pub agrees_on : AgreesWithFair sides rates → AgreesWithFair sides after
-  agrees_on = agrees_more sides rates after next.rate room here listed fills freezes_all
+  still_has : (flow : ℕ) → IsSome (frozen flow) → at_level after 0 flow ≡ at_level frozen 0 flow
+  still_has flow some = let v = some_value (frozen flow) some in at_some after 0 flow v.0 (kept flow v.0 v.1) ∙ sym (at_some frozen 0 flow v.0 v.1)
 
-  still : (flow : ℕ) → IsSome (rate_at rates flow) → IsSome (rate_at after flow)
-  still flow some = let v = some_value (rate_at rates flow) some in some_is (rate_at after flow) v.0 (freezes.kept flow v.0 v.1)
+  -- a side of which the open one keeps account is frozen whole
+  all_frozen : (side : Side) → KeepsAccount side scale frozen x.0.slack x.0.rising.items → AllFrozen after side.users
+  all_frozen side account =
+      All-permutation (λ j. IsSome (after j)) (account.counted ++ x.0.rising.items) side.users (IsPermutation-sym side.users (account.counted ++ x.0.rising.items) account.parted)
+      (All-append (λ j. IsSome (after j)) account.counted x.0.rising.items (All-weaker (λ j. IsSome (frozen j)) (λ j. IsSome (after j)) still account.counted account.done)
+      (All-weaker (λ j. after j ≡ Some level) (λ j. IsSome (after j)) (λ j e. some_is (after j) level e) x.0.rising.items freezes.all))
 
-  -- the queue goes on without the share
-  pub queue_on : IsQueue sides after opens shares
-  queue_on = record {
-    are = record {
-      one_each = is_next.are.one_each;
-      accounts = λ k d o inside. account_frozen (get_or sides k d) rates (get_or opens k o) (is_next.are.accounts k d o inside) after next.rate opened.rising.items freezes;
-      each = λ k d inside. let share = get_or shares k d in let is = is_next.are.each k d inside in record {
-        inside = is.inside;
-        some = is.some;
-        exact = is.exact;
-        room = λ s. room_after rates after share.0.rate next.rate (get_or sides share.0.place s) opened.rising.items freezes (is_next.least k d inside) (is.room s);
-      };
-      once = is_next.are.once;
-    };
-    covered = λ k inside d. elim (cases_eq k next.place) [
-      | inl same ↦
-          let at : get_or sides k d ≡ here = ap (λ j. get_or sides j d) same ∙ get_or_default sides next.place d none is_next.itself.inside in
-          inl (subst (λ s. AllFrozen after s.users) (sym at) freezes_all.all)
-      | inr other ↦ elim (is_next.covered k inside other d) [
-        | inl all ↦ inl (λ j z within. still _ (all j z within))
-        | inr some ↦ inr some
-      ]
-    ];
+  -- an account stands
+  account_kept : (side : Side) (slack : ℕ) (rising : List ℕ) → KeepsAccount side scale frozen slack rising → KeepsAccount side scale after slack rising
+  account_kept side slack rising account = record {
+    counted = account.counted;
+    parted = account.parted;
+    done = All-weaker (λ j. IsSome (frozen j)) (λ j. IsSome (after j)) still account.counted account.done;
+    left = omega (
+      arith,
+      account.left,
+      sum_by_same (at_level after 0) (at_level frozen 0) account.counted
+          (All-weaker (λ j. IsSome (frozen j)) (λ j. at_level after 0 j ≡ at_level frozen 0 j) still_has account.counted account.done),
+    );
   }
 
--- ---- the end
+  -- ---- the queue
 
-module _ (sides : List Side) (rates : List (Option Ratio)) (filling : IsFilling sides rates) (ended : AllFilled sides rates) where
-  limited_frozen : (flow : ℕ) → IsLimited sides flow → IsSome (rate_at rates flow)
-  limited_frozen flow (side, uses) =
-      let all : AllFrozen rates side.users = subst (λ s. AllFrozen rates s.users) uses.listed.2 (ended uses.listed.0 side uses.listed.1) in
-      All-contains (λ i. IsSome (rate_at rates i)) side.users flow all uses.used
+  pub queue_on : IsQueue sides scale after opens
+  queue_on = record {
+    each = All-weaker (IsOpen sides scale frozen) (IsOpen sides scale after) (λ o (side, listed, account). (side, listed, account_kept side o.0.slack o.0.rising.items account)) opens
+        (All-tail (IsOpen sides scale frozen) x opens queue.each);
+    covered = All-weaker (IsCovered scale frozen (x ∷ opens)) (IsCovered scale after opens) again sides queue.covered;
+  }
+    where
+      again : (side : Side) → IsCovered scale frozen (x ∷ opens) side → IsCovered scale after opens side
+      again side (inl all) = inl (All-weaker (λ j. IsSome (frozen j)) (λ j. IsSome (after j)) still side.users all)
+      again side (inr (o, c, account)) = elim (first_or_later x o opens c) [
+        | inl same ↦ inl (all_frozen side (subst (λ (p : Reverse OpenSide). KeepsAccount side scale frozen p.0.slack p.0.rising.items) (sym same) account))
+        | inr later ↦ inr (o, later, account_kept side o.0.slack o.0.rising.items account)
+      ]
 
-  abbrev per : ℕ
-  per = product rates
+  -- nobody has more than the shares
+  pub no_more_on : All (λ o. HaveNoMore after o.0.slack o.0.rising.items) opens
+  no_more_on = All-from_contains (λ (o : Reverse OpenSide). HaveNoMore after o.0.slack o.0.rising.items) opens (λ o listed.
+      let was = All-contains (λ (o : Reverse OpenSide). HaveNoMore frozen o.0.slack o.0.rising.items) opens o no_more listed in
+      let fits = All-contains (λ (o : Reverse OpenSide). IsWithin level o.0.slack o.0.rising.items) opens o within listed in
+      let n : ℕ = length o.0.rising.items in
+      All-weaker (λ j. at_level frozen 0 j * n ≤ o.0.slack) (λ j. at_level after 0 j * n ≤ o.0.slack) (λ j le. elim (freezes.others j) [
+        | inl used ↦
+            let now = All-contains (λ j. after j ≡ Some level) x.0.rising.items j freezes.all used in
+            omega (arith, fits, ap (λ k. k * n) (at_some after 0 j level now))
+        | inr same ↦ omega (arith, le, ap (λ o. unwrap_or o 0 * n) same)
+      ]) o.0.rising.items was)
 
-  abbrev parts : ℕ → ℕ
-  parts flow = parts_of per (rate_at rates flow)
+  -- ---- the round
 
-  rate_of_one : (level : ℕ) → IsFilledTo sides per (parts_at rates parts) level → (flow : ℕ) (o : Option Ratio) → rate_at rates flow ≡ o
-      → IsRateOf sides per (at_level (parts_at rates parts) 0) flow (answer_of o)
-  rate_of_one level filled flow None e = λ limited. let v = some_value (rate_at rates flow) (limited_frozen flow limited) in let e' = v.1 in cc
-  rate_of_one level filled flow (Some rate) e =
-      let has : parts_at rates parts flow ≡ Some (parts flow) = ap (option_map (λ _. parts flow)) e in
-      let bottleneck = (filled.held flow (some_is (parts_at rates parts flow) (parts flow) has)).bottleneck in
-      let is : at_level (parts_at rates parts) 0 flow ≡ parts flow = ap (λ o. unwrap_or o 0) has in
-      ((bottleneck.side, bottleneck.uses), subst (λ n. IsWorth rate (record { num = n; den = per })) (sym is) ((are_worth rates).worth flow rate e))
+  open_account : IsOpen sides scale frozen x
+  open_account = All-head (IsOpen sides scale frozen) x opens queue.each
 
-  -- the answered rates are fair
-  pub ends_fair : (count : ℕ) → length rates ≡ count → AreFairRates sides count (map answer_of rates)
-  ends_fair count len =
-      let filled = filling.filled per parts (are_worth rates) in
-      record {
-        one_each = length-map rates answer_of ∙ len;
-        per = per;
-        parts = at_level (parts_at rates parts) 0;
-        fair = end sides per (parts_at rates parts) filled.0 (are_worth rates).some_part filled.1 (λ flow limited.
-            let v = some_value (rate_at rates flow) (limited_frozen flow limited) in
-            some_is (parts_at rates parts flow) (parts flow) (ap (option_map (λ _. parts flow)) v.1));
-        rated = λ flow d inside.
-            let within : flow < length rates = omega (arith, len) in
-            subst (IsRateOf sides per (at_level (parts_at rates parts) 0) flow) (sym (get_or-map answer_of rates flow None d within))
-            (rate_of_one filled.0 filled.1 flow (get_or rates flow None) refl);
-      }
+  module _ (some : 0 < length x.0.rising.items) (some_each : (o : Reverse OpenSide) → 0 < length o.0.rising.items) (filled : IsFilledTo sides scale frozen last) (raised : last ≤ level) where
+    full : load (at_level frozen level) open_account.0 ≡ open_account.0.cap * scale
+    full = is_full open_account.0 scale frozen x.0.slack x.0.rising.items open_account.2 level rise share
 
--- where the numbers do not fit, they do not for any fair allocation
-pub no_fair_fits : (sides : List Side) (rates : List (Option Ratio)) → AgreesWithFair sides rates → CannotFill sides rates → NoFairFits sides
-no_fair_fits sides rates agrees cannot per parts fair = cannot per parts (agrees.agrees per parts fair) fair.within
+    -- the level is within the caps
+    room : (side : Side) → Contains sides side → IsCovered scale frozen (x ∷ opens) side → load (at_level frozen level) side ≤ side.cap * scale
+    room side listed (inl all) =
+        let same = sum_by_same (at_level frozen level) (at_level frozen last) side.users
+        (All-weaker (λ j. IsSome (frozen j)) (λ j. at_level frozen level j ≡ at_level frozen last j) (λ j h. at_any frozen level last j h) side.users all) in
+        omega (arith, same, All-contains (λ s. load (at_level frozen last) s ≤ s.cap * scale) sides side filled.within listed)
+    room side listed (inr (o, c, account)) = elim (first_or_later x o opens c) [
+      | inl same ↦
+          let here : KeepsAccount side scale frozen x.0.slack x.0.rising.items = subst (λ (p : Reverse OpenSide). KeepsAccount side scale frozen p.0.slack p.0.rising.items) (sym same) account in
+          omega (arith, is_full side scale frozen x.0.slack x.0.rising.items here level rise share)
+      | inr later ↦
+          has_room side scale frozen o.0.slack o.0.rising.items account level (some_each o)
+          (All-contains (λ (o : Reverse OpenSide). IsWithin level o.0.slack o.0.rising.items) opens o within later)
+          (All-contains (λ (o : Reverse OpenSide). HaveNoMore frozen o.0.slack o.0.rising.items) opens o no_more later)
+    ]
 
-abbrev pub side_with : ℕ → List ℕ → Side
-side_with cap users = record { cap = cap; users = users }
+    used_by : (flow : ℕ) → Contains x.0.rising.items flow → Contains open_account.0.users flow
+    used_by flow used =
+        Contains-permutation (open_account.2.counted ++ x.0.rising.items) open_account.0.users flow
+        (IsPermutation-sym open_account.0.users (open_account.2.counted ++ x.0.rising.items) open_account.2.parted)
+        (Contains-append_right open_account.2.counted x.0.rising.items flow used)
 
--- one more side is opened
-pub opened_more : (opens later : List OpenSide) (sides : List declared.Side) (side : declared.Side) (open_side : OpenSide) → later ≡ opens ++ open_side ∷ [] → whole_side open_side ≡ side_of side
-    → map whole_side opens ≡ map side_of sides → map whole_side later ≡ map side_of (sides ++ side ∷ [])
-opened_more opens later sides side open_side is same was =
-    ap (map whole_side) is ∙ map_push whole_side opens open_side ∙ ap (λ xs. xs ++ whole_side open_side ∷ []) was ∙ ap (λ s. map side_of sides ++ s ∷ []) same ∙ sym (map_push side_of sides side)
+    pub filled_on : IsFilledTo sides scale after level
+    filled_on = next sides scale frozen last after level filled (record {
+      raised = raised;
+      within = All-from_contains (λ s. load (at_level frozen level) s ≤ s.cap * scale) sides (λ side listed. room side listed (All-contains (IsCovered scale frozen (x ∷ opens)) sides side queue.covered listed));
+      kept = kept;
+      fresh = λ flow parts none e.
+          let f = fresh flow parts none e in (
+            f.0,
+            record {
+              side = open_account.0;
+              uses = record { listed = open_account.1; used = used_by flow f.1 };
+              full = full;
+              all_frozen = all_frozen open_account.0 open_account.2;
+            },
+          );
+    })
 
--- the open sides have the users of the sides
-pub users_opened : (opens : List OpenSide) (sides : List declared.Side) (P : ℕ → Type 0) → map whole_side opens ≡ map side_of sides → All (λ side. All P side.users.items) sides
-    → All (λ side. All P side.rising.items) opens
-users_opened opens sides P same all k d inside =
-    let mapped : All (λ side. All P side.users) (map whole_side opens) = subst (All (λ (side : Side). All P side.users)) (sym same) (All-map (λ (side : Side). All P side.users) side_of sides all) in
-    let at : get_or (map whole_side opens) k (whole_side d) ≡ whole_side (get_or opens k d) = get_or-map whole_side opens k d (whole_side d) inside in
-    subst (λ side. All P side.users) at (mapped k (whole_side d) (omega (arith, length-map opens whole_side)))
+-- the level of the least share is within the others
+pub share_within : (level slack n other m : ℕ) → 0 < n → level * n ≡ slack → slack * m ≤ other * n → level * m ≤ other
+share_within level slack n other m some share le =
+    le_of_mul-le-mul_right {k = n} (omega (arith, ap (λ k. k * m) share, le)) some

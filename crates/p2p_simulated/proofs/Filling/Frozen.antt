@@ -1,14 +1,10 @@
 -- What a frozen flow has, and what one that rises.
-use Rattle.std.proofs.Common.{◌≡◌, ℕ, List, length, ◌⊎◌, inl, inr, Option, Some, None, IsSome, refl, arith, sym, ap, subst, ◌∙◌}
+use Rattle.std.proofs.Common.{◌≡◌, ℕ, ◌⊎◌, inl, inr, Option, Some, None, IsSome, refl, sym, ap, subst, ◌∙◌}
 use Rattle.std.specs.Option.{ok_or}
 use Rattle.std.specs.Bool.{MatchBool}
-use Rattle.std.specs.Prelude.{Bool, true, false, OnSome, Result, Ok, Err, IfErr, IsErrAnd, unwrap_or, IfSome, IfNone, MatchOption, replicate}
-use Rattle.std.proofs.lemmas.Bool.{cases_lt}
-use Rattle.std.proofs.lemmas.List.{get_or-replicate, length-replicate, get_or_past}
-use Rattle.p2p_simulated.specs.Filling.{rate_at}
-use Rattle.p2p_simulated.proofs.Filling.States.{at_level}
+use Rattle.std.specs.Prelude.{Bool, true, false, OnOk, OnSome, Result, Ok, Err, IfErr, IsErrAnd, unwrap_or, IfSome, IfNone, MatchOption}
+use Rattle.p2p_simulated.specs.Filling.{at_level}
 use Rattle.p2p_simulated.specs.declared.error.Error.{Error}
-use Rattle.p2p_simulated.specs.declared.ratio.Ratio.{Ratio}
 
 pub none_or_some : {X : Type 0} (o : Option X) → (o ≡ None) ⊎ ((x : X) × (o ≡ Some x))
 none_or_some None = inl refl
@@ -47,13 +43,6 @@ match_some P Q o h x e = let at : MatchOption (Some x) P Q = subst (λ o. MatchO
 pub match_none : {X : Type 0} (P : Type 0) (Q : X → Type 0) (o : Option X) → MatchOption o P Q → o ≡ None → P
 match_none {X} P Q o h e = let at : MatchOption {T = X} None P Q = subst (λ o. MatchOption o P Q) e h in at
 
--- no flow of a list without rates has one
-pub rate_at-replicate : (count flow : ℕ) → rate_at (replicate count None) flow ≡ None
-rate_at-replicate count flow = elim (cases_lt flow count) [
-  | inl inside ↦ get_or-replicate count flow None None inside
-  | inr past ↦ get_or_past (replicate count None) flow None (omega (arith, length-replicate {A = Option Ratio} count None))
-]
-
 pub if_none : {X P : Type 0} (o : Option X) → P → IfNone o P
 if_none None p = p
 if_none (Some x) p = tt
@@ -69,9 +58,9 @@ if_none_unless (Some x) f = tt
 -- ---- results
 
 -- an error that stands for no value
-pub refused_by : {X P : Type 0} (o : Option X) (given error : Error) → ◌≡◌ {A = Result X Error} (Err given) (ok_or o error) → IfNone o P → (given ≡ error) × P
-refused_by None given error e p = (cc, p)
-refused_by (Some x) given error e p = cc
+pub none_by : {X : Type 0} (o : Option X) (given error : Error) → ◌≡◌ {A = Result X Error} (Err given) (ok_or o error) → (given ≡ error) × (o ≡ None)
+none_by None given error e = (cc, refl)
+none_by (Some x) given error e = cc
 
 pub if_err : {X E : Type 0} (P Q : E → Type 0) (r : Result X E) → IsErrAnd r P → ((e : E) → P e → Q e) → IfErr r Q
 if_err P Q (Ok x) h f = tt
@@ -89,5 +78,6 @@ pub match_false : (P Q : Type 0) (b : Bool) → b ≡ false → MatchBool b P Q 
 match_false P Q true e h = cc
 match_false P Q false e h = h
 
-pub none_rated : (rates : List (Option Ratio)) → rates ≡ replicate (length rates) None → (flow : ℕ) → rate_at rates flow ≡ None
-none_rated rates none flow = ap (λ xs. rate_at xs flow) none ∙ rate_at-replicate (length rates) flow
+pub on_ok : {X E P : Type 0} (r : Result X E) → P → OnOk r P
+on_ok (Ok x) p = p
+on_ok (Err e) p = tt

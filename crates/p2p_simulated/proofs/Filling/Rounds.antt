@@ -3,7 +3,8 @@ use Rattle.std.proofs.Common.{◌≡◌, ℕ, ◌*◌, ◌<◌, ◌≤◌, inl, 
 use Rattle.std.proofs.lemmas.List.Elements.{All-contains}
 use Rattle.p2p_simulated.specs.Fair.{Side, load, IsLimited, IsFair}
 use Rattle.p2p_simulated.proofs.Filling.Frozen.{none_or_some, some_value, some_is, at_some, at_none, at_any}
-use Rattle.p2p_simulated.proofs.Filling.States.{at_level, IsHeld, IsFilledTo, IsNextRound}
+use Rattle.p2p_simulated.specs.Filling.{at_level}
+use Rattle.p2p_simulated.proofs.Filling.States.{IsHeld, IsFilledTo, IsNextRound}
 use Rattle.p2p_simulated.proofs.Filling.Sums.{sum_by_same, sum_by-zero}
 use Rattle.p2p_simulated.proofs.Fairness.Sums.{All-from_contains}
 
@@ -98,3 +99,17 @@ module _ (sides : List Side) (per : ℕ) (frozen : ℕ → Option ℕ) (level : 
     below = below;
     held = held;
   }
+
+-- parts that are the same are fair
+pub fair_same : (sides : List Side) (per : ℕ) (parts other : ℕ → ℕ) → ((flow : ℕ) → parts flow ≡ other flow) → IsFair sides per parts → IsFair sides per other
+fair_same sides per parts other same fair = record {
+  some_part = fair.some_part;
+  within = All-from_contains (λ s. load other s ≤ s.cap * per) sides (λ s c.
+      omega (arith, sum_by_same parts other s.users (λ k d inside. same _), All-contains (λ s. load parts s ≤ s.cap * per) sides s fair.within c));
+  held = λ flow limited. let h = fair.held flow limited in record {
+    side = h.side;
+    uses = h.uses;
+    full = sym (sum_by_same parts other h.side.users (λ k d inside. same _)) ∙ h.full;
+    greatest = All-from_contains (λ j. other j ≤ other flow) h.side.users (λ j used. omega (arith, same j, same flow, All-contains (λ j. parts j ≤ parts flow) h.side.users j h.greatest used));
+  };
+}

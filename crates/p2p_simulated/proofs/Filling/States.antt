@@ -1,14 +1,8 @@
 -- The states between the rounds of filling.
 -- `frozen` says at how many parts a flow stays, and None of a flow that still rises.
-use Rattle.std.specs.Prelude.{◌≡◌, ℕ, ◌*◌, ◌≤◌, List, All, Option, Some, None, IsSome, unwrap_or, option_map}
-use Rattle.p2p_simulated.specs.Fair.{Side, load, Uses, IsWithinCaps, HasBottleneck, IsFair}
-use Rattle.p2p_simulated.specs.Filling.{rate_at, AreWorth}
-use Rattle.p2p_simulated.specs.Ratio.{IsWorth}
-use Rattle.p2p_simulated.specs.declared.ratio.Ratio.{Ratio}
-
--- what each flow has: the parts at which it is frozen, or else the level
-abbrev pub at_level : (ℕ → Option ℕ) → ℕ → ℕ → ℕ
-at_level frozen level flow = unwrap_or (frozen flow) level
+use Rattle.std.specs.Prelude.{◌≡◌, ℕ, ◌*◌, ◌≤◌, List, All, Option, Some, None, IsSome}
+use Rattle.p2p_simulated.specs.Fair.{Side, load, Uses, IsWithinCaps, HasBottleneck}
+use Rattle.p2p_simulated.specs.Filling.{at_level}
 
 -- the side is full where the rising flows stand at this level
 abbrev pub IsFullAt : ℕ → (ℕ → Option ℕ) → ℕ → Side → Type 0
@@ -38,19 +32,3 @@ pub record IsNextRound (sides : List Side) (per : ℕ) (frozen : ℕ → Option 
   pub within : IsWithinCaps sides per (at_level frozen next_level)
   pub kept : (flow parts : ℕ) → frozen flow ≡ Some parts → next flow ≡ Some parts
   pub fresh : (flow parts : ℕ) → frozen flow ≡ None → next flow ≡ Some parts → (parts ≡ next_level) × IsFilledBy sides per frozen next_level next flow
-
--- the parts of the frozen flows
-abbrev pub parts_at : List (Option Ratio) → (ℕ → ℕ) → ℕ → Option ℕ
-parts_at rates parts flow = option_map (λ _. parts flow) (rate_at rates flow)
-
--- over whatever the frozen rates are parts of, the flows are filled to some level
-pub record IsFilling (sides : List Side) (rates : List (Option Ratio)) : Type 0 where
-  pub filled : (per : ℕ) (parts : ℕ → ℕ) → AreWorth rates per parts → (level : ℕ) × IsFilledTo sides per (parts_at rates parts) level
-
--- the frozen rates are those of every fair allocation
-pub record AgreesWithFair (sides : List Side) (rates : List (Option Ratio)) : Type 0 where
-  pub agrees : (per : ℕ) (parts : ℕ → ℕ) → IsFair sides per parts → AreWorth rates per parts
-
--- where its rising users stand at this rate, the side is full
-pub record FillsAt (rates : List (Option Ratio)) (rate : Ratio) (side : Side) : Type 0 where
-  pub full : (per : ℕ) (parts : ℕ → ℕ) (level : ℕ) → AreWorth rates per parts → IsWorth rate (record { num = level; den = per }) → IsFullAt per (parts_at rates parts) level side

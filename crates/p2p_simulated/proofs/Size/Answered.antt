@@ -7,9 +7,10 @@ use Rattle.p2p_simulated.specs.Code.{side_of}
 use Rattle.p2p_simulated.specs.Fair.{Side}
 use Rattle.p2p_simulated.specs.Sides.{Ask, sent_by, received_by, sent_between, asks_of_one, asks_from, is_open, opened, sides_after, sides_of}
 use Rattle.p2p_simulated.specs.Size.{FairRatesFit}
-use Rattle.p2p_simulated.specs.TooLarge.{IsAnswer, HasLargeAnswer, IsTooLarge}
+use Rattle.p2p_simulated.specs.TooLarge.{IsAnswer, HasLargeAnswer, HasLargeRate, IsTooLarge}
 use Rattle.p2p_simulated.specs.declared.bandwidth.Flow.{Flow}
 use Rattle.p2p_simulated.specs.declared.bandwidth.sides.Side as declared_side
+use Rattle.p2p_simulated.proofs.Size.Fitting.{large_does_not_fit}
 use Rattle.p2p_simulated.proofs.Size.Promise.{distinct_sides, users_below_sides, too_many_or_large}
 
 -- ---- the caps of the sides were answered
@@ -74,21 +75,25 @@ large_answer cmp answered side listed large =
     let w = All-contains (λ side. WasAnswered answered side.cap) (sides_of cmp answered) side (caps_were_answered cmp answered) listed in
     record { asked = w.0; listed = w.1; cap = side.cap; is = w.2; large = large }
 
--- where no fair rates fit on the sides that were registered
+-- where a fair rate on the sides that were registered is no fraction of 128 bits
 pub too_large : {P E I L : Type 0} (cmp : P → P → Ordering) (egress : Calls E P) (ingress : Calls I P) (link : PairCalls L P) (first : States E I L) (flows : List (Flow P))
     → (answered : List (Answered P)) (sides : List declared_side.Side)
     → AnswerInOrder egress ingress link first flows answered
     → map side_of sides ≡ sides_of cmp answered
     → All (λ side. All (λ flow. flow < length flows) side.users.items) sides
     → All (λ side. AllPairs (λ a b. a < b) side.users.items) sides
-    → ¬ FairRatesFit (map side_of sides) (length flows)
+    → HasLargeRate (map side_of sides)
     → IsTooLarge cmp egress ingress link first flows
-too_large cmp egress ingress link first flows answered sides in_order registered below rise refused = record {
-  answered = answered;
-  in_order = in_order;
-  nothing_fits = subst (λ s. ¬ FairRatesFit s (length flows)) registered refused;
-  many_or_large = elim (too_many_or_large (map side_of sides) (length flows) (users_below_sides (length flows) sides below) (distinct_sides sides rise) refused) [
-    | inl many ↦ inl many
-    | inr (side, listed, large) ↦ inr (large_answer cmp answered side (subst (λ s. Contains s side) registered listed) large)
-  ];
-}
+too_large cmp egress ingress link first flows answered sides in_order registered below rise large =
+    let among = users_below_sides (length flows) sides below in
+    let refused = large_does_not_fit (map side_of sides) (length flows) among large in
+    record {
+      answered = answered;
+      in_order = in_order;
+      large_rate = subst HasLargeRate registered large;
+      nothing_fits = subst (λ s. ¬ FairRatesFit s (length flows)) registered refused;
+      many_or_large = elim (too_many_or_large (map side_of sides) (length flows) among (distinct_sides sides rise) refused) [
+        | inl many ↦ inl many
+        | inr (side, listed, over) ↦ inr (large_answer cmp answered side (subst (λ s. Contains s side) registered listed) over)
+      ];
+    }

@@ -1,4 +1,4 @@
--- Among at most sixteen flows there are fair parts, of which the entry of the table makes one: filling finds them.
+-- There are fair parts, of which the denominator of that many flows makes one: filling finds them.
 use Prim.Native.Nat.{◌∣◌}
 use Rattle.std.proofs.Common.{◌≡◌, ℕ, zero, suc, ◌+◌, ◌-◌, ◌*◌, ◌<◌, ◌≤◌, inl, inr, Bool, true, false, cond, List, get_or, All, Contains, count_by, refl, sym, ap, ◌∙◌, subst, arith, Option, Some, None, is_none, IsSome}
 use Rattle.std.specs.Prelude.{unwrap_or, ◌==◌}
@@ -113,15 +113,15 @@ entry n risers k few within = omega arith
 nothing_over : (n m : ℕ) → IsOver n m 0
 nothing_over n m = let e : 0 ≡ 0 * denominator_of m = omega arith in subst (λ k. denominator_of n ∣ k) e (dvd-zero (denominator_of n))
 
--- after a round what each has is whole over the next entry
-over_after : (n : ℕ) (small : n ≤ 16) (m m' : ℕ) (users : List ℕ) (level : ℕ) (frozen : ℕ → Option ℕ) (flow : ℕ)
-    → m ≤ m' → m' ≤ n → IsOver n m (standing frozen 0 flow) → IsOver n m' level → IsOver n m' (standing (freeze users level frozen) 0 flow)
-over_after n small m m' users level frozen flow le within was now =
+-- after a round what each has is whole over the next denominator
+over_after : (n m m' : ℕ) (users : List ℕ) (level : ℕ) (frozen : ℕ → Option ℕ) (flow : ℕ)
+    → m ≤ m' → IsOver n m (standing frozen 0 flow) → IsOver n m' level → IsOver n m' (standing (freeze users level frozen) 0 flow)
+over_after n m m' users level frozen flow le was now =
     let after = freeze users level frozen in
     elim (none_or_some (frozen flow)) [
       | inr (parts, e) ↦
           let same : standing frozen 0 flow ≡ standing after 0 flow = at_some frozen 0 flow parts e ∙ sym (at_some after 0 flow parts (freeze_kept users level frozen flow parts e)) in
-          subst (λ a. IsOver n m' a) same (later n m m' (standing frozen 0 flow) le (omega arith) was)
+          subst (λ a. IsOver n m' a) same (later n m m' (standing frozen 0 flow) le was)
       | inl e ↦ elim (none_or_some (after flow)) [
         | inl e' ↦ subst (λ a. IsOver n m' a) (sym (at_none after 0 flow e')) (nothing_over n m')
         | inr (parts, e') ↦
@@ -134,8 +134,8 @@ rising_all : (n : ℕ) → rising_below n (λ _. None) ≤ n
 rising_all zero = omega arith
 rising_all (suc n) = omega (arith, rising_all n)
 
-module _ (n : ℕ) (small : n ≤ 16) (sides : List Side) (among : HaveUsersBelow n sides) (distinct : HaveDistinctUsers sides) where
-  -- between two rounds: the state of filling, of which so many flows rise, and what each frozen flow has is whole over the entry for the frozen ones
+module _ (n : ℕ) (sides : List Side) (among : HaveUsersBelow n sides) (distinct : HaveDistinctUsers sides) where
+  -- between two rounds: the state of filling, of which so many flows rise, and what each frozen flow has is whole over the denominator for the frozen ones
   record IsFilling (frozen : ℕ → Option ℕ) (risers : ℕ) : Type 0 where
     level : ℕ
     filled : IsFilledTo sides (denominator_of n) frozen level
@@ -161,7 +161,7 @@ module _ (n : ℕ) (small : n ≤ 16) (sides : List Side) (among : HaveUsersBelo
       let in_range = All-contains (λ s. All (λ user. user < n) s.users) sides side among least.listed in
       let within : k ≤ risers = omega (arith, s.count, fewer_rise users 0 frozen n apart in_range) in
       let left_over = rest n (n - risers) (side.cap * per) (taken frozen side) (cap_over n (n - risers) side.cap) (sums n (n - risers) (standing frozen 0) users s.over) in
-      let l = level n (n - risers) k (left_of per frozen side) least.some (omega (arith, s.few)) small left_over in
+      let l = level n (n - risers) k (left_of per frozen side) least.some (omega (arith, s.few)) left_over in
       let now : ℕ = l.level in
       let after = freeze users now frozen in
       let at = least_is_next sides per frozen s.level side now s.filled.within (record {
@@ -192,7 +192,7 @@ module _ (n : ℕ) (small : n ≤ 16) (sides : List Side) (among : HaveUsersBelo
           });
           count = omega (arith, s.count, fewer_rise users now frozen n apart in_range);
           few = omega (arith, s.few);
-          over = λ flow. over_after n small (n - risers) (n - (risers - k)) users now frozen flow (omega arith) (omega arith) (s.over flow)
+          over = λ flow. over_after n (n - risers) (n - (risers - k)) users now frozen flow (omega arith) (s.over flow)
               (subst (λ j. IsOver n j now) (entry n risers k s.few within) l.over);
         };
       }
@@ -200,7 +200,7 @@ module _ (n : ℕ) (small : n ≤ 16) (sides : List Side) (among : HaveUsersBelo
   -- all are frozen
   done : (frozen : ℕ → Option ℕ) (risers : ℕ) (s : IsFilling frozen risers) → All (λ side. rising frozen side ≡ 0) sides → IsFair sides (denominator_of n) (standing frozen 0)
   done frozen risers s none =
-      end sides (denominator_of n) frozen s.level (positive n small) s.filled
+      end sides (denominator_of n) frozen s.level (positive n) s.filled
       (λ flow limited. elim (none_or_some (frozen flow)) [
         | inr (parts, e) ↦ some_is (frozen flow) parts e
         | inl e ↦
@@ -216,7 +216,7 @@ module _ (n : ℕ) (small : n ≤ 16) (sides : List Side) (among : HaveUsersBelo
     | inr least ↦ let r = round frozen risers s least in fill fuel r.fewer (omega (arith, r.less)) r.after r.filling
   ]
 
-  -- there are fair parts, the entry of the table of which makes one
+  -- there are fair parts, the denominator of which makes one
   pub fair_parts : (parts : ℕ → ℕ) × IsFair sides (denominator_of n) parts
   fair_parts = fill (suc n) n (omega arith) (λ _. None) (record {
     level = 0;

@@ -1,83 +1,60 @@
--- Where fair rates fit, all numbers about a side stay below 2^128 over some parts.
-use Rattle.std.proofs.Common.{◌≡◌, ℕ, ◌*◌, ◌^◌, ◌<◌, ◌≤◌, ◌⊎◌, inl, inr, List, [], ◌∷◌, length, get_or, All, Contains, refl, arith}
+-- Where fair rates fit, each of them is a fraction of 128 bits.
+use Rattle.std.proofs.Common.{◌≡◌, ℕ, ◌*◌, ◌^◌, ◌<◌, ◌≤◌, inl, inr, List, All, sym, ap, subst, ◌∙◌, arith, lit<}
 use Rattle.std.proofs.Math.Nat.{lt_of_le_of_lt, mul-le-mul_left}
 use Rattle.std.proofs.lemmas.Bool.{cases_lt}
-use Rattle.std.proofs.lemmas.List.Elements.{All-nil, All-cons, All-contains, Contains-append_left, Contains-append_right}
-use Rattle.p2p_simulated.specs.Fair.{Side, Uses, load, IsFair}
+use Rattle.std.proofs.lemmas.List.Elements.{All-contains}
+use Rattle.std.proofs.lemmas.List.Sums.{get_or-le-sum_by}
+use Rattle.p2p_simulated.specs.Amount.{parts_over, reduced}
+use Rattle.p2p_simulated.specs.Fair.{Side}
 use Rattle.p2p_simulated.specs.FairLaws.{HaveUsersBelow}
+use Rattle.p2p_simulated.specs.Fits.{ReducedFits}
+use Rattle.p2p_simulated.specs.Laws.LowestTerms.{reduced_same, reduced_scales}
 use Rattle.p2p_simulated.specs.Size.{FairRatesFit}
-use Rattle.p2p_simulated.proofs.Size.Users.{HaveDistinctUsers}
-use Rattle.p2p_simulated.proofs.Filling.Sums.{sum_by-zero}
-use Rattle.p2p_simulated.proofs.Fairness.Sums.{All-from_contains}
-use Rattle.p2p_simulated.proofs.Size.Promise.{few_users}
+use Rattle.p2p_simulated.specs.TooLarge.{HasLargeRate}
+use Rattle.p2p_simulated.proofs.Fairness.OneAllocation.{same_amounts}
 
--- fair parts, over which the caps, and what so many users share, are below 2^128
-pub record FittingParts (sides : List Side) : Type 0 where
-  pub per : ℕ
-  pub parts : ℕ → ℕ
-  pub fair : IsFair sides per parts
-  pub caps : All (λ side. side.cap * per < 2 ^ 128) sides
-  pub shares : All (λ side. per * length side.users < 2 ^ 128) sides
+-- lowest terms are no greater
+pub small_fits : (n d : ℕ) → 0 < d → n < 2 ^ 128 → d < 2 ^ 128 → ReducedFits (parts_over d n)
+small_fits n d some n_small d_small =
+    let s = reduced_scales n d some in
+    record {
+      numerator = lt_of_le_of_lt (part n s.factor (reduced n d).num s.positive s.num) n_small;
+      denominator = lt_of_le_of_lt (part d s.factor (reduced n d).den s.positive s.den) d_small;
+    }
+  where
+    part : (whole factor rest : ℕ) → 0 < factor → whole ≡ factor * rest → rest ≤ whole
+    part whole factor rest f e = omega (arith, e, mul-le-mul_left rest f)
 
--- all caps are zero, or one is not
-some_cap : (sides : List Side) → All (λ side. side.cap ≡ 0) sides ⊎ ((side : Side) × Contains sides side × (0 < side.cap))
-some_cap [] = inl (All-nil (λ side. side.cap ≡ 0))
-some_cap (side ∷ sides) = elim (cases_lt 0 side.cap) [
-  | inl some ↦ inr (side, Contains-append_left (side ∷ []) sides side (0, omega arith, refl), some)
-  | inr none ↦ elim (some_cap sides) [
-    | inl all ↦ inl (All-cons (λ side. side.cap ≡ 0) side sides (omega arith) all)
-    | inr (other, listed, some) ↦ inr (other, Contains-append_right (side ∷ []) sides other listed, some)
-  ]
+-- amounts of one value fit both or neither
+pub fits_alike : (n d m e : ℕ) → 0 < d → 0 < e → n * e ≡ m * d → ReducedFits (parts_over e m) → ReducedFits (parts_over d n)
+fits_alike n d m e d_pos e_pos same fits =
+    let is : reduced n d ≡ reduced m e = reduced_same n d m e d_pos e_pos same in
+    record {
+      numerator = subst (λ a. a.num < 2 ^ 128) (sym is) fits.numerator;
+      denominator = subst (λ a. a.den < 2 ^ 128) (sym is) fits.denominator;
+    }
+
+-- the rate of a flow that has a bottleneck fits where the sides' numbers do
+rate_fits : (per flows parts limit : ℕ) → 0 < per → 0 < flows → parts ≤ limit * per → per * flows * limit < 2 ^ 128 → ReducedFits (parts_over per parts)
+rate_fits per flows parts limit some flows_some le small = elim (cases_lt 0 limit) [
+  | inl positive ↦
+      small_fits parts per some (lt_of_le_of_lt (omega (arith, le, mul-le-mul_left (limit * per) flows_some)) small)
+      (lt_of_le_of_lt (omega (arith, mul-le-mul_left per flows_some, mul-le-mul_left (per * flows) positive)) small)
+  | inr none ↦
+      let zero : limit * per ≡ 0 = let closed : limit ≡ 0 = omega arith in ap (λ n. n * per) closed ∙ (let e : 0 * per ≡ 0 = omega arith in e) in
+      fits_alike parts per 0 1 some (omega arith) (omega (arith, le, zero)) (small_fits 0 1 (omega arith) (lit< tt) (lit< tt))
 ]
 
--- nothing for all is fair where each side that is used has a cap of zero
-nothing_is_fair : (sides : List Side) → ((flow : ℕ) (side : Side) → Uses sides flow side → side.cap ≡ 0) → IsFair sides 1 (λ _. 0)
-nothing_is_fair sides closed = record {
-  some_part = omega arith;
-  within = All-from_contains (λ side. load (λ _. 0) side ≤ side.cap * 1) sides (λ side listed. omega (arith, sum_by-zero side.users));
-  held = λ flow limited. record {
-    side = limited.0;
-    uses = limited.1;
-    full = omega (arith, sum_by-zero limited.0.users, closed flow limited.0 limited.1);
-    greatest = λ k d inside. omega arith;
-  };
-}
-
-one_fits : (sides : List Side) (flows : ℕ)
-    → flows < 2 ^ 128 → All (λ side. side.cap < 2 ^ 128) sides → All (λ side. length side.users ≤ flows) sides → ((flow : ℕ) (side : Side) → Uses sides flow side → side.cap ≡ 0) → FittingParts sides
-one_fits sides flows small caps few closed = record {
-  per = 1;
-  parts = λ _. 0;
-  fair = nothing_is_fair sides closed;
-  caps = λ k d inside. lt_of_le_of_lt (omega arith) (caps k d inside);
-  shares = λ k d inside. lt_of_le_of_lt (omega (arith, few k d inside)) small;
-}
-
--- the parts that fit, or where no cap is above zero nothing at all
-pub fitting_parts : (sides : List Side) (flows : ℕ)
-    → flows < 2 ^ 128 → All (λ side. side.cap < 2 ^ 128) sides → HaveUsersBelow flows sides → HaveDistinctUsers sides → FairRatesFit sides flows → FittingParts sides
-fitting_parts sides flows small caps among distinct fits =
-    let few : All (λ side. length side.users ≤ flows) sides = All-from_contains (λ side. length side.users ≤ flows) sides (λ side listed. few_users flows sides side among distinct listed) in
-    elim (cases_lt 0 flows) [
-      | inr none ↦ one_fits sides flows small caps few (λ flow side uses. absurd (no_users side flow uses.used (omega (arith, All-contains (λ s. length s.users ≤ flows) sides side few uses.listed))))
-      | inl flows_pos ↦ elim (some_cap sides) [
-        | inl closed ↦ one_fits sides flows small caps few (λ flow side uses. All-contains (λ s. s.cap ≡ 0) sides side closed uses.listed)
-        | inr (side, listed, some) ↦ record {
-          per = fits.per;
-          parts = fits.parts;
-          fair = fits.fair;
-          caps = λ k d inside. lt_of_le_of_lt (by_flows fits.per flows (get_or sides k d).cap flows_pos) (fits.small k d inside);
-          shares = λ k d inside. lt_of_le_of_lt (by_cap fits.per (length (get_or sides k d).users) flows side.cap (few k d inside) some)
-              (All-contains (λ s. fits.per * flows * s.cap < 2 ^ 128) sides side fits.small listed);
-        }
-      ]
-    ]
-  where
-    no_users : (side : Side) (flow : ℕ) → Contains side.users flow → length side.users ≤ 0 → ⊥
-    no_users side flow used none = absurd (omega (arith, used.1))
-
-    by_flows : (per flows limit : ℕ) → 0 < flows → limit * per ≤ per * flows * limit
-    by_flows per flows limit some = omega (arith, mul-le-mul_left (limit * per) some)
-
-    by_cap : (per users flows limit : ℕ) → users ≤ flows → 0 < limit → per * users ≤ per * flows * limit
-    by_cap per users flows limit few some = omega (arith, mul-le-mul_left per few, mul-le-mul_left (per * flows) some)
+-- so where a fair rate is no such fraction, no fair rates fit
+pub large_does_not_fit : (sides : List Side) (flows : ℕ) → HaveUsersBelow flows sides → HasLargeRate sides → ¬ FairRatesFit sides flows
+large_does_not_fit sides flows among large fits =
+    let flow = large.flow in
+    let h = fits.fair.held flow large.limited in
+    let used = h.uses.used in
+    let here = get_or-le-sum_by fits.parts h.side.users used.0 flow used.1 in
+    let at_most : fits.parts flow ≤ h.side.cap * fits.per = omega (arith, here, ap fits.parts used.2, h.full) in
+    let below : flow < flows = All-contains (λ user. user < flows) h.side.users flow (All-contains (λ s. All (λ user. user < flows) s.users) sides h.side among h.uses.listed) used in
+    let small = All-contains (λ s. fits.per * flows * s.cap < 2 ^ 128) sides h.side fits.small h.uses.listed in
+    large.large (fits_alike (large.parts flow) large.per (fits.parts flow) fits.per large.fair.some_part fits.fair.some_part
+    (same_amounts sides large.per fits.per large.parts fits.parts large.fair fits.fair flow large.limited)
+    (rate_fits fits.per flows (fits.parts flow) h.side.cap fits.fair.some_part (omega (arith, below)) at_most small))

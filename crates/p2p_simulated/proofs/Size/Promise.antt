@@ -1,20 +1,19 @@
--- The promises: sixteen flows with caps below 2^64 fit, and the rates of a few flows are whole over the table.
-use Rattle.std.proofs.Common.{◌≡◌, ◌⊎◌, inl, inr, refl, [], ◌∷◌, AllPairs, ℕ, ◌*◌, ◌^◌, ◌<◌, ◌≤◌, List, length, get_or, All, Contains, ap, arith, lit<, mul-le-mul, le_of_lt}
-use Rattle.std.proofs.Math.Nat.{lt_of_le_of_lt, eq_of_mul-eq-mul_right}
+-- The promises: sixteen flows with caps below 2^64 fit, and of what the rates of a few flows are whole.
+use Rattle.std.proofs.Common.{◌⊎◌, inl, inr, refl, [], ◌∷◌, AllPairs, ℕ, ◌*◌, ◌^◌, ◌<◌, ◌≤◌, List, length, get_or, All, Contains, subst, arith, lit<, mul-le-mul, le_of_lt}
+use Rattle.std.proofs.Math.Nat.{lt_of_le_of_lt}
 use Rattle.std.specs.Prelude.{map}
 use Rattle.p2p_simulated.specs.Code.{side_of}
-use Rattle.p2p_simulated.specs.Fair.{Side, IsFair}
+use Rattle.p2p_simulated.specs.Fair.{Side}
 use Rattle.p2p_simulated.specs.declared.bandwidth.sides.Side as declared_side
-use Rattle.p2p_simulated.specs.Rates.{IsRateOf, AreFairRates}
+use Rattle.p2p_simulated.specs.Rates.{AreFairRates}
 use Rattle.p2p_simulated.specs.FairLaws.{HaveUsersBelow}
-use Rattle.p2p_simulated.specs.Size.{FairRatesFit, IsWholeOver, AreWholeOver}
+use Rattle.p2p_simulated.specs.Size.{FairRatesFit, AreWholeOver}
 use Rattle.p2p_simulated.specs.declared.bandwidth.Rate.{Rate}
-use Rattle.p2p_simulated.specs.declared.bandwidth.Rate.TheVariants.{Unlimited, Finite}
-use Rattle.p2p_simulated.proofs.Denominators.{denominator_of, at_most}
-use Rattle.p2p_simulated.proofs.Fairness.OneAllocation.{same_amounts}
+use Rattle.p2p_simulated.proofs.Denominators.{denominator_of, of_four, of_sixteen, at_most}
 use Rattle.std.proofs.lemmas.Bool.{cases_lt}
 use Rattle.std.proofs.lemmas.List.Elements.{All-contains, All-nil, All-cons, All-map, Contains-append_left, Contains-append_right}
 use Rattle.p2p_simulated.proofs.Size.Exists.{fair_parts}
+use Rattle.p2p_simulated.proofs.Size.WholeRates.{whole_rates}
 use Rattle.p2p_simulated.proofs.Size.Users.{AreDistinct, distinct_length, HaveDistinctUsers}
 
 -- no side has more users than there are flows
@@ -32,7 +31,7 @@ small_product per flows limit per_le flows_le limit_lt =
 -- at most sixteen flows with caps below 2^64 fit
 pub sixteen_fit : (sides : List Side) (flows : ℕ) → flows ≤ 16 → HaveUsersBelow flows sides → HaveDistinctUsers sides → All (λ side. side.cap < 2 ^ 64) sides → FairRatesFit sides flows
 sixteen_fit sides flows small among distinct caps =
-    let fair = fair_parts flows small sides among distinct in
+    let fair = fair_parts flows sides among distinct in
     record {
       per = denominator_of flows;
       parts = fair.0;
@@ -73,32 +72,14 @@ distinct_sides sides rise =
 pub users_below_sides : (flows : ℕ) (sides : List declared_side.Side) → All (λ side. All (λ user. user < flows) side.users.items) sides → HaveUsersBelow flows (map side_of sides)
 users_below_sides flows sides among = All-map (λ side. All (λ user. user < flows) side.users) side_of sides among
 
--- ---- whole over the table
-
-same_worth : (num den per parts last other : ℕ) → 0 < per → num * per ≡ parts * den → parts * last ≡ other * per → num * last ≡ other * den
-same_worth num den per parts last other some worth same =
-    eq_of_mul-eq-mul_right per some (num * last) (other * den) (omega (arith, ap (λ n. n * last) worth, ap (λ n. n * den) same))
-
-whole_rate : (sides : List Side) (per last : ℕ) (parts other : ℕ → ℕ)
-    → IsFair sides per parts → IsFair sides last other → (flow : ℕ) (rate : Rate) → IsRateOf sides per parts flow rate → IsWholeOver last rate
-whole_rate sides per last parts other fair fair' flow Unlimited rated = tt
-whole_rate sides per last parts other fair fair' flow (Finite ratio) rated =
-    (other flow, same_worth ratio.numerator ratio.denominator per (parts flow) last (other flow) fair.some_part rated.1 (same_amounts sides per last parts other fair fair' flow rated.0))
-
--- the fair rates of at most n flows are whole over the entry of the table at n
-pub whole_rates : (n : ℕ) (sides : List Side) (flows : ℕ) (rates : List Rate)
-    → flows ≤ n → n ≤ 16 → HaveUsersBelow flows sides → HaveDistinctUsers sides → AreFairRates sides flows rates → AreWholeOver (denominator_of n) rates
-whole_rates n sides flows rates le small among distinct fair =
-    let among_n : HaveUsersBelow n sides = λ k d l i e inside. let below : get_or (get_or sides k d).users i e < flows = among k d l i e inside in omega arith in
-    let other = fair_parts n small sides among_n distinct in
-    λ flow d l. whole_rate sides fair.per (denominator_of n) fair.parts other.0 fair.fair other.1 flow (get_or rates flow d) (fair.rated flow d (omega (arith, l, fair.one_each)))
+-- ---- whole over the denominator
 
 -- of at most four flows twelve times each rate is whole
 pub twelfths : (sides : List Side) (flows : ℕ) (rates : List Rate)
     → flows ≤ 4 → HaveUsersBelow flows sides → HaveDistinctUsers sides → AreFairRates sides flows rates → AreWholeOver 12 rates
-twelfths sides flows rates small among distinct fair = whole_rates 4 sides flows rates small (omega arith) among distinct fair
+twelfths sides flows rates small among distinct fair = subst (λ per. AreWholeOver per rates) of_four (whole_rates 4 sides flows rates small among distinct fair)
 
 -- and of at most sixteen, 54486432000 times
 pub whole_of_sixteen : (sides : List Side) (flows : ℕ) (rates : List Rate)
     → flows ≤ 16 → HaveUsersBelow flows sides → HaveDistinctUsers sides → AreFairRates sides flows rates → AreWholeOver 54486432000 rates
-whole_of_sixteen sides flows rates small among distinct fair = whole_rates 16 sides flows rates small (omega arith) among distinct fair
+whole_of_sixteen sides flows rates small among distinct fair = subst (λ per. AreWholeOver per rates) of_sixteen (whole_rates 16 sides flows rates small among distinct fair)

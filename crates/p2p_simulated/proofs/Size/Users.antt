@@ -4,11 +4,7 @@ use Rattle.std.proofs.lemmas.Bool.{cases_eq, cases_lt, eq-eqb, ne_eqb}
 use Rattle.std.proofs.lemmas.List.Elements.{All-head, All-tail}
 use Rattle.std.proofs.lemmas.List.Sums.{sum_by-cons}
 use Rattle.p2p_simulated.proofs.Filling.Sums.{sum_by_same}
-use Rattle.p2p_simulated.specs.Fair.{Side}
-
--- no flow uses a side twice
-abbrev pub HaveDistinctUsers : List Side → Type 0
-HaveDistinctUsers sides = All (λ side. AllPairs (λ user other. user ≢ other) side.users) sides
+pub use Rattle.p2p_simulated.specs.FairExists.{HaveDistinctUsers}
 
 -- what the first flows have together
 abbrev pub sum_below : (ℕ → ℕ) → ℕ → ℕ

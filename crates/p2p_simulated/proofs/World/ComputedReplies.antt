@@ -249,85 +249,101 @@ module _ {P : Type 0} (cmp : P → P → Ordering) (order : IsTotalOrder cmp) (p
   runs_so w call now e = record { ticked = ticked (now - w.moment) w; ticks = ticks_so (now - w.moment) w e; acts = refl }
 
   -- a call is accepted, or meets its fault
-  abbrev Accepted : World P → List (Call P) → Call P → List (Call P) → List (Completed P) → List (Reply P) → Type 0
-  Accepted w accepted call calls cs replies =
-      (now : ℕ) × (ds : List (Completed P)) × (v : World P) × (moment_of call ≡ Some now) × Runs cmp w call now (goes ds v) × AllZip (SameCompletion cmp) cs ds × Agrees cmp v
-      (accepted ++ call ∷ []) calls replies
+  abbrev Accepted : World P → Call P → List (Call P) → List (Completed P) → List (Reply P) → Type 0
+  Accepted w call calls cs replies =
+      (now : ℕ) × (ds : List (Completed P)) × (v : World P) × (moment_of call ≡ Some now)
+      × Runs cmp w call now (goes ds v) × AllZip (SameCompletion cmp) cs ds × Agrees cmp v calls replies
 
-  accepts : (w : World P) (accepted : List (Call P)) (call : Call P) (calls : List (Call P)) (now : ℕ) (cs : List (Completed P)) (v : World P) (replies : List (Reply P))
+  accepts : (w : World P) (call : Call P) (calls : List (Call P)) (now : ℕ) (cs : List (Completed P)) (v : World P)
+      (replies : List (Reply P))
       → moment_of call ≡ Some now → may_tick (now - w.moment) w ≡ true → course_of w call now ≡ goes cs v
-      → Agrees cmp v (accepted ++ call ∷ []) calls replies → Accepted w accepted call calls cs replies
-  accepts w accepted call calls now cs v replies at ticks is rest =
+      → Agrees cmp v calls replies → Accepted w call calls cs replies
+  accepts w call calls now cs v replies at ticks is rest =
       (now, cs, v, at, subst (λ (c : Course (Completed P) (World P)). Runs cmp w call now c) is (runs_so w call now ticks), same_all cmp order cs, rest)
 
   faults : (w : World P) (call : Call P) (now : ℕ) (fault : Error) → moment_of call ≡ Some now → may_tick (now - w.moment) w ≡ true → course_of w call now ≡ meets fault → Faults cmp w call fault
   faults w call now fault at ticks is = (now, at, subst (λ (c : Course (Completed P) (World P)). Runs cmp w call now c) is (runs_so w call now ticks))
 
-  abbrev Replied : World P → List (Call P) → Call P → List (Call P) → List (Reply P) → Type 0
-  Replied w accepted call calls [] = ⊥
-  Replied w accepted call calls (reply_next t ∷ replies) = ⊥
-  Replied w accepted call calls (reply_done cs ∷ replies) = IsInTurn cmp w call → Accepted w accepted call calls cs replies
-  Replied w accepted call calls (reply_refused why ∷ replies) = IsInTurn cmp w call → MayRefuse cmp w (accepted ++ call ∷ []) call why × Agrees cmp w accepted calls replies
+  abbrev Replied : World P → Call P → List (Call P) → List (Reply P) → Type 0
+  Replied w call calls [] = ⊥
+  Replied w call calls (reply_next t ∷ replies) = ⊥
+  Replied w call calls (reply_done cs ∷ replies) = IsInTurn cmp w call → Accepted w call calls cs replies
+  Replied w call calls (reply_refused why ∷ replies) =
+      IsInTurn cmp w call → MayRefuse cmp w call why × Agrees cmp w calls replies
 
-  limit_agrees : (w : World P) (accepted : List (Call P)) (now : ℕ) (peer : P) (egress ingress : Option ℕ) (calls : List (Call P)) (replies : List (Reply P))
-      → Replied w accepted (call_limit now peer egress ingress) calls replies → Agrees cmp w accepted (call_limit now peer egress ingress ∷ calls) replies
-  limit_agrees w accepted now peer egress ingress calls [] h = h
-  limit_agrees w accepted now peer egress ingress calls (reply_next t ∷ replies) h = h
-  limit_agrees w accepted now peer egress ingress calls (reply_done cs ∷ replies) h = h
-  limit_agrees w accepted now peer egress ingress calls (reply_refused why ∷ replies) h = h
+  limit_agrees : (w : World P) (now : ℕ) (peer : P) (egress ingress : Option ℕ) (calls : List (Call P))
+      (replies : List (Reply P))
+      → Replied w (call_limit now peer egress ingress) calls replies
+      → Agrees cmp w (call_limit now peer egress ingress ∷ calls) replies
+  limit_agrees w now peer egress ingress calls [] h = h
+  limit_agrees w now peer egress ingress calls (reply_next t ∷ replies) h = h
+  limit_agrees w now peer egress ingress calls (reply_done cs ∷ replies) h = h
+  limit_agrees w now peer egress ingress calls (reply_refused why ∷ replies) h = h
 
-  link_agrees : (w : World P) (accepted : List (Call P)) (now : ℕ) (origin recipient : P) (cap : Option ℕ) (calls : List (Call P)) (replies : List (Reply P))
-      → Replied w accepted (call_limit_link now origin recipient cap) calls replies → Agrees cmp w accepted (call_limit_link now origin recipient cap ∷ calls) replies
-  link_agrees w accepted now origin recipient cap calls [] h = h
-  link_agrees w accepted now origin recipient cap calls (reply_next t ∷ replies) h = h
-  link_agrees w accepted now origin recipient cap calls (reply_done cs ∷ replies) h = h
-  link_agrees w accepted now origin recipient cap calls (reply_refused why ∷ replies) h = h
+  link_agrees : (w : World P) (now : ℕ) (origin recipient : P) (cap : Option ℕ) (calls : List (Call P))
+      (replies : List (Reply P))
+      → Replied w (call_limit_link now origin recipient cap) calls replies
+      → Agrees cmp w (call_limit_link now origin recipient cap ∷ calls) replies
+  link_agrees w now origin recipient cap calls [] h = h
+  link_agrees w now origin recipient cap calls (reply_next t ∷ replies) h = h
+  link_agrees w now origin recipient cap calls (reply_done cs ∷ replies) h = h
+  link_agrees w now origin recipient cap calls (reply_refused why ∷ replies) h = h
 
-  enqueue_agrees : (w : World P) (accepted : List (Call P)) (now : ℕ) (m : Message P) (calls : List (Call P)) (replies : List (Reply P))
-      → Replied w accepted (call_enqueue now m) calls replies → Agrees cmp w accepted (call_enqueue now m ∷ calls) replies
-  enqueue_agrees w accepted now m calls [] h = h
-  enqueue_agrees w accepted now m calls (reply_next t ∷ replies) h = h
-  enqueue_agrees w accepted now m calls (reply_done cs ∷ replies) h = h
-  enqueue_agrees w accepted now m calls (reply_refused why ∷ replies) h = h
+  enqueue_agrees : (w : World P) (now : ℕ) (m : Message P) (calls : List (Call P)) (replies : List (Reply P))
+      → Replied w (call_enqueue now m) calls replies → Agrees cmp w (call_enqueue now m ∷ calls) replies
+  enqueue_agrees w now m calls [] h = h
+  enqueue_agrees w now m calls (reply_next t ∷ replies) h = h
+  enqueue_agrees w now m calls (reply_done cs ∷ replies) h = h
+  enqueue_agrees w now m calls (reply_refused why ∷ replies) h = h
 
-  advance_agrees : (w : World P) (accepted : List (Call P)) (now : ℕ) (calls : List (Call P)) (replies : List (Reply P)) → Replied w accepted (call_advance now) calls replies
-      → Agrees cmp w accepted (call_advance now ∷ calls) replies
-  advance_agrees w accepted now calls [] h = h
-  advance_agrees w accepted now calls (reply_next t ∷ replies) h = h
-  advance_agrees w accepted now calls (reply_done cs ∷ replies) h = h
-  advance_agrees w accepted now calls (reply_refused why ∷ replies) h = h
+  advance_agrees : (w : World P) (now : ℕ) (calls : List (Call P)) (replies : List (Reply P))
+      → Replied w (call_advance now) calls replies
+      → Agrees cmp w (call_advance now ∷ calls) replies
+  advance_agrees w now calls [] h = h
+  advance_agrees w now calls (reply_next t ∷ replies) h = h
+  advance_agrees w now calls (reply_done cs ∷ replies) h = h
+  advance_agrees w now calls (reply_refused why ∷ replies) h = h
 
-  module _ (n : ℕ) (calls : List (Call P)) (ih : (v : World P) (accepted : List (Call P)) → may_answer n v calls ≡ true → Agrees cmp v accepted calls (answers n v calls)) where
-    reply_agrees : (w : World P) (accepted : List (Call P)) (call : Call P) (now : ℕ) → moment_of call ≡ Some now
+  module _ (n : ℕ) (calls : List (Call P)) (ih : (v : World P) → may_answer n v calls ≡ true
+      → Agrees cmp v calls (answers n v calls)) where
+    reply_agrees : (w : World P) (call : Call P) (now : ℕ) → moment_of call ≡ Some now
         → (may_tick (now - w.moment) w && may_reply (course_of w call now) w (λ v. may_answer n v calls)) ≡ true
-        → Replied w accepted call calls (replied (course_of w call now) w (λ v. answers n v calls))
-    reply_agrees w accepted call now at e =
+        → Replied w call calls (replied (course_of w call now) w (λ v. answers n v calls))
+    reply_agrees w call now at e =
         let two : (may_tick (now - w.moment) w ≡ true) × (may_reply (course_of w call now) w (λ v. may_answer n v calls) ≡ true)
         = and_parts (may_tick (now - w.moment) w) (may_reply (course_of w call now) w (λ v. may_answer n v calls)) e in
         by_course (course_of w call now) refl two.0 two.1
       where
         by_course : (c : Course (Completed P) (World P)) → course_of w call now ≡ c → may_tick (now - w.moment) w ≡ true → may_reply c w (λ v. may_answer n v calls) ≡ true
-            → Replied w accepted call calls (replied c w (λ v. answers n v calls))
-        by_course (goes cs v) is ticks e = λ turn. accepts w accepted call calls now cs v (answers n v calls) at ticks is (ih v (accepted ++ call ∷ []) e)
+            → Replied w call calls (replied c w (λ v. answers n v calls))
+        by_course (goes cs v) is ticks e =
+            λ turn. accepts w call calls now cs v (answers n v calls) at ticks is (ih v e)
         by_course (meets OutOfMemory) is ticks e = cc
         by_course (meets NumberTooLarge) is ticks e = cc
-        by_course (meets MomentTooLate) is ticks e = λ turn. (faults w call now MomentTooLate at ticks is, ih w accepted e)
-        by_course (meets FlowIdsUsedUp) is ticks e = λ turn. (faults w call now FlowIdsUsedUp at ticks is, ih w accepted e)
+        by_course (meets MomentTooLate) is ticks e = λ turn. (faults w call now MomentTooLate at ticks is, ih w e)
+        by_course (meets FlowIdsUsedUp) is ticks e = λ turn. (faults w call now FlowIdsUsedUp at ticks is, ih w e)
 
   -- those replies agree
-  pub answers_agree : (n : ℕ) (calls : List (Call P)) (w : World P) (accepted : List (Call P)) → may_answer n w calls ≡ true → Agrees cmp w accepted calls (answers n w calls)
-  answers_agree n [] w accepted e = tt
-  answers_agree n (call_limit now peer egress ingress ∷ calls) w accepted e =
-      limit_agrees w accepted now peer egress ingress calls (replied (course_of w (call_limit now peer egress ingress) now) w (λ v. answers n v calls)) (reply_agrees n calls (answers_agree n calls) w accepted (call_limit now peer egress ingress) now refl e)
-  answers_agree n (call_limit_link now origin recipient cap ∷ calls) w accepted e =
-      link_agrees w accepted now origin recipient cap calls (replied (course_of w (call_limit_link now origin recipient cap) now) w (λ v. answers n v calls)) (reply_agrees n calls (answers_agree n calls) w accepted (call_limit_link now origin recipient cap) now refl e)
-  answers_agree n (call_enqueue now m ∷ calls) w accepted e =
-      enqueue_agrees w accepted now m calls (replied (course_of w (call_enqueue now m) now) w (λ v. answers n v calls)) (reply_agrees n calls (answers_agree n calls) w accepted (call_enqueue now m) now refl e)
-  answers_agree n (call_advance now ∷ calls) w accepted e =
-      advance_agrees w accepted now calls (replied (course_of w (call_advance now) now) w (λ v. answers n v calls)) (reply_agrees n calls (answers_agree n calls) w accepted (call_advance now) now refl e)
-  answers_agree n (call_next ∷ calls) w accepted e =
+  pub answers_agree : (n : ℕ) (calls : List (Call P)) (w : World P) → may_answer n w calls ≡ true
+      → Agrees cmp w calls (answers n w calls)
+  answers_agree n [] w e = tt
+  answers_agree n (call_limit now peer egress ingress ∷ calls) w e =
+      limit_agrees w now peer egress ingress calls
+      (replied (course_of w (call_limit now peer egress ingress) now) w (λ v. answers n v calls))
+      (reply_agrees n calls (answers_agree n calls) w (call_limit now peer egress ingress) now refl e)
+  answers_agree n (call_limit_link now origin recipient cap ∷ calls) w e =
+      link_agrees w now origin recipient cap calls
+      (replied (course_of w (call_limit_link now origin recipient cap) now) w (λ v. answers n v calls))
+      (reply_agrees n calls (answers_agree n calls) w (call_limit_link now origin recipient cap) now refl e)
+  answers_agree n (call_enqueue now m ∷ calls) w e =
+      enqueue_agrees w now m calls (replied (course_of w (call_enqueue now m) now) w (λ v. answers n v calls))
+      (reply_agrees n calls (answers_agree n calls) w (call_enqueue now m) now refl e)
+  answers_agree n (call_advance now ∷ calls) w e =
+      advance_agrees w now calls (replied (course_of w (call_advance now) now) w (λ v. answers n v calls))
+      (reply_agrees n calls (answers_agree n calls) w (call_advance now) now refl e)
+  answers_agree n (call_next ∷ calls) w e =
       let two : (may_seek n w ≡ true) × (may_answer n w calls ≡ true) = and_parts (may_seek n w) (may_answer n w calls) e in
-      (next_so n w two.0, answers_agree n calls w accepted two.1)
+      (next_so n w two.0, answers_agree n calls w two.1)
 
 -- all messages share one cap evenly
 abbrev pub evenly : {P : Type 0} → ℕ → World P → Shares

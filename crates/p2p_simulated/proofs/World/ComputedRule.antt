@@ -647,7 +647,7 @@ in_time_so (call ∷ calls) e =
 
 -- what the event rule replies agrees with the simulation
 pub agrees_by_rule : {P : Type 0} (cmp : P → P → Ordering) (order : IsTotalOrder cmp) (plan : Caps P → List (Message P) → Shares) (hint : ℕ → List (Message P) → ℕ) (n : ℕ) (calls : List (Call P)) (replies : List (Reply P))
-    → are_in_time calls ≡ true → replies_by_rule cmp order plan hint n (new_planned 0) calls ≡ Some replies → Agrees cmp (new_world 0) [] calls replies
+    → are_in_time calls ≡ true → replies_by_rule cmp order plan hint n (new_planned 0) calls ≡ Some replies → Agrees cmp (new_world 0) calls replies
 agrees_by_rule cmp order plan hint n calls replies times e = obeyed_agree cmp order calls replies (in_time_so calls times) (obeyed_so cmp order plan hint n (new_planned 0) calls replies e)
 
 -- ---- plans

@@ -144,13 +144,17 @@ module _ {P : Type 0} (cmp : P → P → Ordering) (order : IsTotalOrder cmp) wh
   one_accepted p (call_advance now) calls cs replies obeyed = record { answers = obeyed.0; after = obeyed.1; obeys = obeyed.2; same = obeyed.3; rest = obeyed.4 }
   one_accepted p call_next calls cs replies obeyed = absurd obeyed
 
+  -- where nothing is done
+  pub none_conserved : (p : Planned P) → IsConserved cmp p [] [] p
+  none_conserved p = record { done = []; completions_are = tt; each_pair = λ k. subst (AllZip (SameMessage cmp) (held_of cmp k p)) (sym (append-nil (held_of cmp k p))) (itself (held_of cmp k p)) }
+
   -- from a planned world in order
   pub obeyed_conserved : (p : Planned P) (calls : List (Call P)) (replies : List (Reply P)) → IsOrderly cmp p → Obeyed cmp p calls replies → AreConserved cmp p calls replies
   obeyed_conserved p [] [] h obeyed = record {
     last = p;
     led = refl;
     orderly = h;
-    conserved = record { done = []; completions_are = tt; each_pair = λ k. subst (AllZip (SameMessage cmp) (held_of cmp k p)) (sym (append-nil (held_of cmp k p))) (itself (held_of cmp k p)) };
+    conserved = none_conserved p;
   }
   obeyed_conserved p [] (reply ∷ replies) h obeyed = absurd obeyed
   obeyed_conserved p (call ∷ calls) [] h obeyed = absurd obeyed

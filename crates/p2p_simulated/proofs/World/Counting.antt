@@ -1,11 +1,12 @@
 -- Each event takes a message out or starts one, so there are at most twice the waiting ones and once those in flight.
-use Rattle.std.proofs.Common.{◌≡◌, ◌≢◌, ℕ, zero, suc, ◌+◌, ◌-◌, ◌*◌, ◌<◌, ◌≤◌, List, [], ◌∷◌, ◌++◌, length, Bool, true, false, cond, not, Option, Some, None, refl, sym, ap, ◌∙◌, subst, arith, inl, inr}
-use Rattle.std.specs.Prelude.{⊤, ◌&&◌, ◌==◌, nat_lt, slice_get, if◌then◌else◌}
+use Rattle.std.proofs.Common.{◌≡◌, ◌≢◌, ℕ, zero, suc, ◌+◌, ◌-◌, ◌<◌, ◌≤◌, List, [], ◌∷◌, ◌++◌, length, Bool, true, false, cond, not, Option, Some, None, refl, sym, ap, ◌∙◌, subst, arith, inl, inr}
+use Rattle.std.specs.Prelude.{⊤, ◌&&◌, ◌==◌, nat_lt, slice_get, if◌then◌else◌, IfSome}
 use Rattle.std.specs.List.{find, filter}
 use Rattle.std.specs.declared.cmp.Ordering.{Ordering}
 use Rattle.std.specs.Cmp.{IsTotalOrder}
 use Rattle.std.proofs.lemmas.Bool.{eq-eqb}
 use Rattle.p2p_simulated.specs.declared.error.Error.TheVariants.{MomentTooLate}
+use Rattle.p2p_simulated.specs.MostEvents.{most_events}
 use Rattle.p2p_simulated.specs.WorldMessages.{Message, Caps, same_pair}
 use Rattle.p2p_simulated.specs.World.{Completed, Course, goes, meets, last_moment, preceded, without_first, fronts, raised, later_of, completion_of, completed}
 use Rattle.p2p_simulated.specs.WorldCalls.{Call, call_limit, call_limit_link, call_enqueue, call_advance, call_next}
@@ -18,10 +19,6 @@ use Rattle.p2p_simulated.proofs.World.Bytes.{each_filter, fronts_are_first}
 use Rattle.p2p_simulated.proofs.Each.{Each}
 use Rattle.p2p_simulated.proofs.World.Advance.{earlier_start}
 use Rattle.p2p_simulated.proofs.Zips.{zip-length}
-
--- what there is to do: each waiting message starts and completes, each in flight completes
-abbrev pub to_do : {P : Type 0} → Planned P → ℕ
-to_do p = 2 * length p.waiting + length p.sending
 
 pub split_length : {X : Type 0} (test : X → Bool) (xs : List X) → length (filter test xs) + length (filter (λ x. not (test x)) xs) ≡ length xs
 split_length test [] = refl
@@ -43,7 +40,7 @@ module _ {P : Type 0} (cmp : P → P → Ordering) (order : IsTotalOrder cmp) wh
   drained_length t [] = refl
   drained_length t (f ∷ fs) = ap suc (drained_length t fs)
 
-  account_counts : (t : ℕ) (old new : Planned P) (leavers : List (Message P)) → Accounts cmp t old leavers new → to_do new + length leavers ≡ to_do old
+  account_counts : (t : ℕ) (old new : Planned P) (leavers : List (Message P)) → Accounts cmp t old leavers new → most_events new + length leavers ≡ most_events old
   account_counts t old new leavers account =
       let all : List (Paced P) = drained_to t old.sending in
       let out : length leavers ≡ length (filter (is_spent cmp old.caps) all) = ap (λ (ms : List (Message P)). length ms) account.left ∙ map_length (filter (is_spent cmp old.caps) all) in
@@ -54,14 +51,14 @@ module _ {P : Type 0} (cmp : P → P → Ordering) (order : IsTotalOrder cmp) wh
       let same : length new.waiting ≡ length old.waiting = ap (λ (q : Planned P). length q.waiting) account.same in
       omega arith
 
-  look_counts : (t : ℕ) (p q : Planned P) → Looks cmp t p q → to_do q ≡ to_do p
-  look_counts t p q looks = ap to_do looks.same
+  look_counts : (t : ℕ) (p q : Planned P) → Looks cmp t p q → most_events q ≡ most_events p
+  look_counts t p q looks = ap most_events looks.same
 
   longer : (fs : List (Paced P)) (f : Paced P) → length (fs ++ f ∷ []) ≡ length fs + 1
   longer [] f = refl
   longer (g ∷ fs) f = omega (arith, longer fs f)
 
-  launched_counts : (t : ℕ) (p : Planned P) (k m : Message P) → next_of cmp p k ≡ Some m → to_do (launched cmp t p m) + 1 ≡ to_do p
+  launched_counts : (t : ℕ) (p : Planned P) (k m : Message P) → next_of cmp p k ≡ Some m → most_events (launched cmp t p m) + 1 ≡ most_events p
   launched_counts t p k m found =
       let own : find (same_pair cmp m) p.waiting ≡ Some m = find_like cmp order k m p.waiting (find_passes (same_pair cmp k) m p.waiting found) ∙ found in
       let fewer : length (without_first (same_pair cmp m) p.waiting) + 1 ≡ length p.waiting = length_without (same_pair cmp m) m p.waiting own in
@@ -69,26 +66,26 @@ module _ {P : Type 0} (cmp : P → P → Ordering) (order : IsTotalOrder cmp) wh
       omega arith
 
   launch_counts : {t : ℕ} {p : Planned P} {o : Option (Message P)} {c : Course (Message P) (Planned P)} → Launches cmp t p o c
-      → (k : Message P) (ms : List (Message P)) (q : Planned P) → next_of cmp p k ≡ o → c ≡ goes ms q → to_do q + length ms ≤ to_do p
+      → (k : Message P) (ms : List (Message P)) (q : Planned P) → next_of cmp p k ≡ o → c ≡ goes ms q → most_events q + length ms ≤ most_events p
   launch_counts {p = p} nothing_waits k ms q is e =
       let none : [] ≡ ms = cc in
       let same : p ≡ q = cc in
-      subst (λ (z : Planned P). to_do z + length ms ≤ to_do p) same (subst (λ (ns : List (Message P)). to_do p + length ns ≤ to_do p) none (omega arith))
+      subst (λ (z : Planned P). most_events z + length ms ≤ most_events p) same (subst (λ (ns : List (Message P)). most_events p + length ns ≤ most_events p) none (omega arith))
   launch_counts {p = p} (too_early may) k ms q is e =
       let none : [] ≡ ms = cc in
       let same : p ≡ q = cc in
-      subst (λ (z : Planned P). to_do z + length ms ≤ to_do p) same (subst (λ (ns : List (Message P)). to_do p + length ns ≤ to_do p) none (omega arith))
+      subst (λ (z : Planned P). most_events z + length ms ≤ most_events p) same (subst (λ (ns : List (Message P)). most_events p + length ns ≤ most_events p) none (omega arith))
   launch_counts (no_id may last) k ms q is e = cc
   launch_counts {t = t} {p = p} (starts {m = m} {leavers = leavers} {new = new} may below account) k ms q is e =
-      let counts : to_do new + length leavers ≡ to_do (launched cmp t p m) = account_counts t (launched cmp t p m) new leavers account in
-      let one : to_do (launched cmp t p m) + 1 ≡ to_do p = launched_counts t p k m is in
+      let counts : most_events new + length leavers ≡ most_events (launched cmp t p m) = account_counts t (launched cmp t p m) new leavers account in
+      let one : most_events (launched cmp t p m) + 1 ≡ most_events p = launched_counts t p k m is in
       let out : leavers ≡ ms = cc in
       let same : new ≡ q = cc in
-      subst (λ (z : Planned P). to_do z + length ms ≤ to_do p) same (subst (λ (ns : List (Message P)). to_do new + length ns ≤ to_do p) out (omega arith))
+      subst (λ (z : Planned P). most_events z + length ms ≤ most_events p) same (subst (λ (ns : List (Message P)). most_events new + length ns ≤ most_events p) out (omega arith))
 
   -- one that may start does
   launch_less : {t : ℕ} {p : Planned P} {o : Option (Message P)} {c : Course (Message P) (Planned P)} → Launches cmp t p o c
-      → (k m : Message P) (ms : List (Message P)) (q : Planned P) → next_of cmp p k ≡ o → o ≡ Some m → may_launch cmp t p m ≡ true → c ≡ goes ms q → to_do q + length ms < to_do p
+      → (k m : Message P) (ms : List (Message P)) (q : Planned P) → next_of cmp p k ≡ o → o ≡ Some m → may_launch cmp t p m ≡ true → c ≡ goes ms q → most_events q + length ms < most_events p
   launch_less nothing_waits k m ms q is some may e = cc
   launch_less {t = t} {p = p} (too_early {m = x} early) k m ms q is some may e =
       let same : x ≡ m = cc in
@@ -96,15 +93,15 @@ module _ {P : Type 0} (cmp : P → P → Ordering) (order : IsTotalOrder cmp) wh
       cc
   launch_less (no_id first last) k m ms q is some may e = cc
   launch_less {t = t} {p = p} (starts {m = x} {leavers = leavers} {new = new} first below account) k m ms q is some may e =
-      let counts : to_do new + length leavers ≡ to_do (launched cmp t p x) = account_counts t (launched cmp t p x) new leavers account in
-      let one : to_do (launched cmp t p x) + 1 ≡ to_do p = launched_counts t p k x is in
+      let counts : most_events new + length leavers ≡ most_events (launched cmp t p x) = account_counts t (launched cmp t p x) new leavers account in
+      let one : most_events (launched cmp t p x) + 1 ≡ most_events p = launched_counts t p k x is in
       let out : leavers ≡ ms = cc in
       let same : new ≡ q = cc in
-      subst (λ (z : Planned P). to_do z + length ms < to_do p) same (subst (λ (ns : List (Message P)). to_do new + length ns < to_do p) out (omega arith))
+      subst (λ (z : Planned P). most_events z + length ms < most_events p) same (subst (λ (ns : List (Message P)). most_events new + length ns < most_events p) out (omega arith))
 
   -- no more is left to do than so much
   abbrev Leaves : ℕ → Course (Completed P) (Planned P) → Type 0
-  Leaves n (goes cs q) = to_do q ≤ n
+  Leaves n (goes cs q) = most_events q ≤ n
   Leaves n (meets fault) = ⊤
 
   leaves_after : (n : ℕ) (cs : List (Completed P)) (c : Course (Completed P) (Planned P)) → Leaves n c → Leaves n (preceded cs c)
@@ -115,39 +112,39 @@ module _ {P : Type 0} (cmp : P → P → Ordering) (order : IsTotalOrder cmp) wh
   leaves_more m n (goes ds q) le h = omega arith
   leaves_more m n (meets fault) le h = tt
 
-  finish_counts : {t : ℕ} {ms : List (Message P)} {p : Planned P} {c : Course (Completed P) (Planned P)} → Finishes cmp t ms p c → Leaves (to_do p) c
-  finish_counts {t = t} {p = p} (all_completed {q = q} looks) = let same : to_do q ≡ to_do p = look_counts t p q looks in omega arith
+  finish_counts : {t : ℕ} {ms : List (Message P)} {p : Planned P} {c : Course (Completed P) (Planned P)} → Finishes cmp t ms p c → Leaves (most_events p) c
+  finish_counts {t = t} {p = p} (all_completed {q = q} looks) = let same : most_events q ≡ most_events p = look_counts t p q looks in omega arith
   finish_counts (late is) = tt
   finish_counts (stopped is launch) = tt
   finish_counts {t = t} {p = p} (completes {m = m} {more = more} {q = q} {rest = rest} is launch finishes) =
-      let less : to_do q + length more ≤ to_do p = launch_counts launch m more q refl refl in
-      leaves_after (to_do p) (completed cmp t m ∷ []) rest (leaves_more (to_do q) (to_do p) rest (omega arith) (finish_counts finishes))
+      let less : most_events q + length more ≤ most_events p = launch_counts launch m more q refl refl in
+      leaves_after (most_events p) (completed cmp t m ∷ []) rest (leaves_more (most_events q) (most_events p) rest (omega arith) (finish_counts finishes))
 
-  wake_counts : {t : ℕ} {ms : List (Message P)} {p : Planned P} {c : Course (Completed P) (Planned P)} → WakesEach cmp t ms p c → Leaves (to_do p) c
-  wake_counts {t = t} {p = p} (all_started {q = q} looks) = let same : to_do q ≡ to_do p = look_counts t p q looks in omega arith
+  wake_counts : {t : ℕ} {ms : List (Message P)} {p : Planned P} {c : Course (Completed P) (Planned P)} → WakesEach cmp t ms p c → Leaves (most_events p) c
+  wake_counts {t = t} {p = p} (all_started {q = q} looks) = let same : most_events q ≡ most_events p = look_counts t p q looks in omega arith
   wake_counts (no_start launch) = tt
   wake_counts (no_finish launch finishes) = tt
   wake_counts {p = p} (starts_one {m = m} {more = more} {q = q} {r = r} {cs = cs} {rest = rest} launch finishes wakes) =
-      let less : to_do q + length more ≤ to_do p = launch_counts launch m more q refl refl in
-      let after : to_do r ≤ to_do q = finish_counts finishes in
-      leaves_after (to_do p) cs rest (leaves_more (to_do r) (to_do p) rest (omega arith) (wake_counts wakes))
+      let less : most_events q + length more ≤ most_events p = launch_counts launch m more q refl refl in
+      let after : most_events r ≤ most_events q = finish_counts finishes in
+      leaves_after (most_events p) cs rest (leaves_more (most_events r) (most_events p) rest (omega arith) (wake_counts wakes))
 
   -- a wake that finds a pair ready starts it
   wake_less : {t : ℕ} {ms : List (Message P)} {p : Planned P} {c : Course (Completed P) (Planned P)} → WakesEach cmp t ms p c → (m : Message P) (ns : List (Message P))
-      → ms ≡ m ∷ ns → next_of cmp p m ≡ Some m → may_launch cmp t p m ≡ true → 0 < to_do p × Leaves (to_do p - 1) c
+      → ms ≡ m ∷ ns → next_of cmp p m ≡ Some m → may_launch cmp t p m ≡ true → 0 < most_events p × Leaves (most_events p - 1) c
   wake_less (all_started looks) m ns e found may = cc
   wake_less {p = p} (no_start {m = x} launch) m ns e found may = (waits_some p m found, tt)
     where
-      waits_some : (p : Planned P) (m : Message P) → next_of cmp p m ≡ Some m → 0 < to_do p
+      waits_some : (p : Planned P) (m : Message P) → next_of cmp p m ≡ Some m → 0 < most_events p
       waits_some p m found = let fewer : length (without_first (same_pair cmp m) p.waiting) + 1 ≡ length p.waiting = length_without (same_pair cmp m) m p.waiting found in omega arith
   wake_less {p = p} (no_finish {m = x} {more = more} {q = q} launch finishes) m ns e found may =
       let fewer : length (without_first (same_pair cmp m) p.waiting) + 1 ≡ length p.waiting = length_without (same_pair cmp m) m p.waiting found in (omega arith, tt)
   wake_less {t = t} {p = p} (starts_one {m = x} {more = more} {q = q} {r = r} {cs = cs} {rest = rest} launch finishes wakes) m ns e found may =
       let same : x ≡ m = cc in
       let found_x : next_of cmp p x ≡ Some m = ap (next_of cmp p) same ∙ found in
-      let less : to_do q + length more < to_do p = launch_less launch x m more q refl found_x may refl in
-      let after : to_do r ≤ to_do q = finish_counts finishes in
-      (omega arith, leaves_after (to_do p - 1) cs rest (leaves_more (to_do r) (to_do p - 1) rest (omega arith) (wake_counts wakes)))
+      let less : most_events q + length more < most_events p = launch_less launch x m more q refl found_x may refl in
+      let after : most_events r ≤ most_events q = finish_counts finishes in
+      (omega arith, leaves_after (most_events p - 1) cs rest (leaves_more (most_events r) (most_events p - 1) rest (omega arith) (wake_counts wakes)))
 
   -- ---- what is planned stays right
 
@@ -227,13 +224,13 @@ module _ {P : Type 0} (cmp : P → P → Ordering) (order : IsTotalOrder cmp) wh
       by_test true h = omega arith
       by_test false h = h
 
-  settle_less : {t : ℕ} {p : Planned P} {c : Course (Completed P) (Planned P)} → Settles cmp t p c → SomeSpentAt p.sending t → 0 < to_do p × Leaves (to_do p - 1) c
+  settle_less : {t : ℕ} {p : Planned P} {c : Course (Completed P) (Planned P)} → Settles cmp t p c → SomeSpentAt p.sending t → 0 < most_events p × Leaves (most_events p - 1) c
   settle_less {t = t} {p = p} {c = c} (settling {leavers = leavers} {mid = mid} account finishes) some =
-      let counts : to_do mid + length leavers ≡ to_do p = account_counts t p mid leavers account in
+      let counts : most_events mid + length leavers ≡ most_events p = account_counts t p mid leavers account in
       let out : length leavers ≡ length (filter (is_spent cmp p.caps) (drained_to t p.sending))
       = ap (λ (ms : List (Message P)). length ms) account.left ∙ map_length (filter (is_spent cmp p.caps) (drained_to t p.sending)) in
       let one : 0 < length (filter (is_spent cmp p.caps) (drained_to t p.sending)) = spent_leaves t p p.sending some.0 some.1 some.2 some.4 in
-      (omega arith, leaves_more (to_do mid) (to_do p - 1) c (omega arith) (finish_counts finishes))
+      (omega arith, leaves_more (most_events mid) (most_events p - 1) c (omega arith) (finish_counts finishes))
 
   pub first_in_fronts : (m : Message P) (ws : List (Message P)) → find (same_pair cmp m) ws ≡ Some m → In (fronts cmp ws) m
   first_in_fronts m [] e = cc
@@ -243,13 +240,13 @@ module _ {P : Type 0} (cmp : P → P → Ordering) (order : IsTotalOrder cmp) wh
       by_test true is e ih = let same : x ≡ m = cc in inl same
       by_test false is e ih = inr (in_filter (λ n. not (same_pair cmp x n)) (fronts cmp ws) m (ih e) (rw (pair_sym cmp order x m, is) refl))
 
-  wake_event : {t : ℕ} {p : Planned P} {c : Course (Completed P) (Planned P)} → Wakes cmp t p c → SomeReadyAt cmp p t → 0 < to_do p × Leaves (to_do p - 1) c
+  wake_event : {t : ℕ} {p : Planned P} {c : Course (Completed P) (Planned P)} → Wakes cmp t p c → SomeReadyAt cmp p t → 0 < most_events p × Leaves (most_events p - 1) c
   wake_event {t = t} {p = p} {c = c} wakes some =
       by_list (filter (may_launch cmp t p) (fronts cmp p.waiting)) (in_filter (may_launch cmp t p) (fronts cmp p.waiting) some.0 (first_in_fronts some.0 p.waiting some.1) some.2)
       (each_filter (λ (m : Message P). find (same_pair cmp m) p.waiting ≡ Some m) (λ (m : Message P). (find (same_pair cmp m) p.waiting ≡ Some m) × (may_launch cmp t p m ≡ true)) (may_launch cmp t p) (fronts cmp p.waiting) (λ m may found. (found, may)) (fronts_are_first cmp order p.waiting)) wakes
     where
       by_list : (ms : List (Message P)) → In ms some.0 → Each (λ (m : Message P). (find (same_pair cmp m) p.waiting ≡ Some m) × (may_launch cmp t p m ≡ true)) ms
-          → WakesEach cmp t ms p c → 0 < to_do p × Leaves (to_do p - 1) c
+          → WakesEach cmp t ms p c → 0 < most_events p × Leaves (most_events p - 1) c
       by_list [] has all wakes = absurd has
       by_list (m ∷ ms) has all wakes = wake_less wakes m ms refl all.0.0 all.0.1
 
@@ -262,26 +259,53 @@ module _ {P : Type 0} (cmp : P → P → Ordering) (order : IsTotalOrder cmp) wh
       let least : IsLeastMoment (λ s. (h.from ≤ s) × SomeReadyAt cmp p s) (Some t) = subst (λ (o : Option ℕ). IsLeastMoment (λ s. (h.from ≤ s) × SomeReadyAt cmp p s) o) start h.start in
       least.1.1
 
-  -- there are no more events than there is to do
-  pub few_events : {now n : ℕ} {p : Planned P} {c : Course (Completed P) (Planned P)} → Advances cmp now p n c → IsPlanned cmp p → n ≤ to_do p
+  -- so many events, and what is left to do after them, are no more than so much
+  abbrev Spends : ℕ → ℕ → Course (Completed P) (Planned P) → Type 0
+  Spends events n (goes cs q) = events + most_events q ≤ n
+  Spends events n (meets fault) = events ≤ n
+
+  spends_one_more : (events m n : ℕ) (cs : List (Completed P)) (c : Course (Completed P) (Planned P)) → m < n → Spends events m c → Spends (events + 1) n (preceded cs c)
+  spends_one_more events m n cs (goes ds q) less h = omega arith
+  spends_one_more events m n cs (meets fault) less h = omega arith
+
+  spends_none : (n : ℕ) (c : Course (Completed P) (Planned P)) → Leaves n c → Spends 0 n c
+  spends_none n (goes cs q) h = omega arith
+  spends_none n (meets fault) h = omega arith
+
+  -- the events of an advance leave so much less to do
+  pub events_spend : {now n : ℕ} {p : Planned P} {c : Course (Completed P) (Planned P)} → Advances cmp now p n c → IsPlanned cmp p → Spends n (most_events p) c
   unfolding Right
-  few_events (no_more before wakes) h = omega arith
-  few_events {p = p} (at_finish {q = q} {t = t} {n = n} {cs = cs} is next due event more) h =
-      let less : 0 < to_do p × (to_do q ≤ to_do p - 1) = settle_less event (spent_at p t h is) in
+  events_spend {p = p} {c = c} (no_more before wakes) h = spends_none (most_events p) c (wake_counts wakes)
+  events_spend {p = p} (at_finish {q = q} {t = t} {n = n} {cs = cs} {rest = rest} is next due event more) h =
+      let less : 0 < most_events p × (most_events q ≤ most_events p - 1) = settle_less event (spent_at p t h is) in
       let after : IsPlanned cmp q = settle_right event h.none_at_first in
-      let rest : n ≤ to_do q = few_events more after in
-      let some : 0 < to_do p = less.0 in
-      let fewer : to_do q ≤ to_do p - 1 = less.1 in
-      omega arith
-  few_events {p = p} (at_start {q = q} {t = t} {n = n} {cs = cs} is next due event more) h =
-      let less : 0 < to_do p × (to_do q ≤ to_do p - 1) = wake_event event (ready_at p t h is next) in
+      let some : 0 < most_events p = less.0 in
+      let fewer : most_events q ≤ most_events p - 1 = less.1 in
+      spends_one_more n (most_events q) (most_events p) cs rest (omega arith) (events_spend more after)
+  events_spend {p = p} (at_start {q = q} {t = t} {n = n} {cs = cs} {rest = rest} is next due event more) h =
+      let less : 0 < most_events p × (most_events q ≤ most_events p - 1) = wake_event event (ready_at p t h is next) in
       let after : IsPlanned cmp q = wake_right event (record { finish = h.finish; none_at_first = h.none_at_first }) in
-      let rest : n ≤ to_do q = few_events more after in
-      let some : 0 < to_do p = less.0 in
-      let fewer : to_do q ≤ to_do p - 1 = less.1 in
-      omega arith
-  few_events {p = p} (finish_stops {t = t} {fault = fault} is next due event) h = let some : 0 < to_do p = (settle_less event (spent_at p t h is)).0 in omega arith
-  few_events {p = p} (start_stops {t = t} {fault = fault} is next due event) h = let some : 0 < to_do p = (wake_event event (ready_at p t h is next)).0 in omega arith
+      let some : 0 < most_events p = less.0 in
+      let fewer : most_events q ≤ most_events p - 1 = less.1 in
+      spends_one_more n (most_events q) (most_events p) cs rest (omega arith) (events_spend more after)
+  events_spend {p = p} (finish_stops {t = t} {fault = fault} is next due event) h = let some : 0 < most_events p = (settle_less event (spent_at p t h is)).0 in omega arith
+  events_spend {p = p} (start_stops {t = t} {fault = fault} is next due event) h = let some : 0 < most_events p = (wake_event event (ready_at p t h is next)).0 in omega arith
+
+  spends_at_most : (events n : ℕ) (c : Course (Completed P) (Planned P)) → Spends events n c → events ≤ n
+  spends_at_most events n (goes cs q) h = omega arith
+  spends_at_most events n (meets fault) h = h
+
+  -- there are no more events than there is to do
+  pub few_events : {now n : ℕ} {p : Planned P} {c : Course (Completed P) (Planned P)} → Advances cmp now p n c → IsPlanned cmp p → n ≤ most_events p
+  few_events {n = n} {p = p} {c = c} advances h = spends_at_most n (most_events p) c (events_spend advances h)
+
+  -- an advance to the next event has that event
+  pub some_event : {now n : ℕ} {p : Planned P} {c : Course (Completed P) (Planned P)} → Advances cmp now p n c → next_event p ≡ Some now → 0 < n
+  some_event {now = now} (no_more before wakes) is = let later : now < now = subst (λ (o : Option ℕ). IfSome o (λ t. now < t)) is before in absurd (omega arith)
+  some_event (at_finish is next due event more) e = omega arith
+  some_event (at_start is next due event more) e = omega arith
+  some_event (finish_stops is next due event) e = omega arith
+  some_event (start_stops is next due event) e = omega arith
 
   -- ---- calls
 

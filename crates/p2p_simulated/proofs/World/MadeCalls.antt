@@ -29,25 +29,26 @@ module _ {P : Type 0} (cmp : P → P → Ordering) (order : IsTotalOrder cmp) wh
   Bridged w calls replies = (css : List (List (Completed P))) × AnswersInTurn cmp w (made calls replies) css × AllZip (AllZip (SameCompletion cmp)) (completions_in replies) css
 
   -- and so it is up to any call
-  pub made_in_turn : (n : ℕ) (calls : List (Call P)) (replies : List (Reply P)) (w : World P) (accepted : List (Call P)) → Agrees cmp w accepted calls replies
+  pub made_in_turn : (n : ℕ) (calls : List (Call P)) (replies : List (Reply P)) (w : World P)
+      → Agrees cmp w calls replies
       → AreInTurn cmp w (take n calls) (take n replies) → Bridged w (take n calls) (take n replies)
-  made_in_turn zero calls replies w accepted agrees turns = ([], no_calls_in_turn, tt)
-  made_in_turn (suc n) [] [] w accepted agrees turns = ([], no_calls_in_turn, tt)
-  made_in_turn (suc n) [] (reply ∷ replies) w accepted agrees turns = absurd agrees
-  made_in_turn (suc n) (call ∷ calls) [] w accepted agrees turns = absurd agrees
-  made_in_turn (suc n) (call ∷ calls) (reply_next next ∷ replies) w accepted agrees turns =
-      made_in_turn n calls replies w accepted (agrees_next cmp w accepted calls replies call next agrees) turns.1
-  made_in_turn (suc n) (call ∷ calls) (reply_refused why ∷ replies) w accepted agrees turns =
-      made_in_turn n calls replies w accepted (agrees_refused cmp w accepted calls replies call why agrees turns.0) turns.1
-  made_in_turn (suc n) (call ∷ calls) (reply_done cs ∷ replies) w accepted agrees turns =
-      let one : IsMade cmp w accepted calls replies call cs = agrees_done cmp w accepted calls replies call cs agrees turns.0 in
+  made_in_turn zero calls replies w agrees turns = ([], no_calls_in_turn, tt)
+  made_in_turn (suc n) [] [] w agrees turns = ([], no_calls_in_turn, tt)
+  made_in_turn (suc n) [] (reply ∷ replies) w agrees turns = absurd agrees
+  made_in_turn (suc n) (call ∷ calls) [] w agrees turns = absurd agrees
+  made_in_turn (suc n) (call ∷ calls) (reply_next next ∷ replies) w agrees turns =
+      made_in_turn n calls replies w (agrees_next cmp w calls replies call next agrees) turns.1
+  made_in_turn (suc n) (call ∷ calls) (reply_refused why ∷ replies) w agrees turns =
+      made_in_turn n calls replies w (agrees_refused cmp w calls replies call why agrees turns.0) turns.1
+  made_in_turn (suc n) (call ∷ calls) (reply_done cs ∷ replies) w agrees turns =
+      let one : IsMade cmp w calls replies call cs = agrees_done cmp w calls replies call cs agrees turns.0 in
       let rest : Bridged one.after (take n calls) (take n replies)
-      = made_in_turn n calls replies one.after (accepted ++ call ∷ []) one.rest (turns.1 one.now one.answers one.after one.moment one.runs) in
+      = made_in_turn n calls replies one.after one.rest (turns.1 one.now one.answers one.after one.moment one.runs) in
       (one.answers ∷ rest.0, answers_in_turn one.moment turns.0 one.runs rest.1, (one.same, rest.2))
 
   -- ---- calls that come after time is advanced are in turn
 
-  run_ends : (w v : World P) (call : Call P) (now : ℕ) (cs : List (Completed P)) → IsQuiet cmp w.moment w → moment_of call ≡ Some now → w.moment ≤ now → Runs cmp w call now (goes cs v)
+  pub run_ends : (w v : World P) (call : Call P) (now : ℕ) (cs : List (Completed P)) → IsQuiet cmp w.moment w → moment_of call ≡ Some now → w.moment ≤ now → Runs cmp w call now (goes cs v)
       → (v.moment ≡ now) × IsQuiet cmp v.moment v
   run_ends w v call now cs quiet at le runs =
       let ends : IsQuiet cmp now v × (v.moment ≡ now) = call_ends_quiet cmp order w call now (goes cs v) quiet at le runs in

@@ -93,9 +93,9 @@ module _ {P : Type 0} (cmp : P → P → Ordering) (order : IsTotalOrder cmp) wh
         deliveries = never_down (filter (completes_pair cmp k) cs) (filter (completes_pair cmp k) ds) those order_of.deliveries;
       }
 
-  pub pairs_complete_in_order : (calls : List (Call P)) (replies : List (Reply P)) → Agrees cmp (new_world 0) [] calls replies → AlwaysSoFar (CompletePairsInOrder cmp) calls replies
+  pub pairs_complete_in_order : (calls : List (Call P)) (replies : List (Reply P)) → Agrees cmp (new_world 0) calls replies → AlwaysSoFar (CompletePairsInOrder cmp) calls replies
   pairs_complete_in_order calls replies agrees n k turns =
-      let bridged : Bridged cmp order (new_world 0) (take n calls) (take n replies) = made_in_turn cmp order n calls replies (new_world 0) [] agrees turns in
+      let bridged : Bridged cmp order (new_world 0) (take n calls) (take n replies) = made_in_turn cmp order n calls replies (new_world 0) agrees turns in
       in_order_alike k (enqueued (made (take n calls) (take n replies))) (answered (completions_in (take n replies))) (answered bridged.0) (answered_alike (SameCompletion cmp) (completions_in (take n replies)) bridged.0 bridged.2)
       (pair_in_order cmp order k 0 (made (take n calls) (take n replies)) bridged.0 (any_turn cmp order bridged.1))
 
@@ -128,9 +128,9 @@ module _ {P : Type 0} (cmp : P → P → Ordering) (order : IsTotalOrder cmp) wh
         by_kept true none = tt
         by_kept false none = none_alike (SameCompletion cmp) (inside_alone inside cs) (inside_alone inside ds) (alone_alike cs ds same.0) none
 
-  pub sets_are_isolated : (calls : List (Call P)) (replies : List (Reply P)) → InTime calls → Agrees cmp (new_world 0) [] calls replies → AlwaysSoFar (IsolateSets cmp) calls replies
+  pub sets_are_isolated : (calls : List (Call P)) (replies : List (Reply P)) → InTime calls → Agrees cmp (new_world 0) calls replies → AlwaysSoFar (IsolateSets cmp) calls replies
   sets_are_isolated calls replies in_time agrees n inside together apart turns =
-      let bridged : Bridged cmp order (new_world 0) (take n calls) (take n replies) = made_in_turn cmp order n calls replies (new_world 0) [] agrees turns in
+      let bridged : Bridged cmp order (new_world 0) (take n calls) (take n replies) = made_in_turn cmp order n calls replies (new_world 0) agrees turns in
       let calls_made : List (Call P) = made (take n calls) (take n replies) in
       let isolated : Answers cmp (new_world 0) (filter (is_kept inside) calls_made) (kept_completions inside calls_made bridged.0) × NothingElse inside calls_made bridged.0
       = isolation cmp order inside together 0 calls_made bridged.0 bridged.1 apart (made_in_time (take n calls) (take n replies) (first_in_time n calls in_time)) in

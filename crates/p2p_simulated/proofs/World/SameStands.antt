@@ -6,17 +6,15 @@ use Rattle.std.specs.declared.cmp.Ordering.{Ordering}
 use Rattle.std.specs.Cmp.{IsTotalOrder}
 use Rattle.std.proofs.lemmas.List.Elements.{All-nil, All-cons, All-head, All-tail, length_all_zip}
 use Rattle.p2p_simulated.specs.Amount.{Amount}
-use Rattle.p2p_simulated.specs.Fraction.{IsReduced}
 use Rattle.p2p_simulated.specs.WorldMessages.{Message, SameMessage, OneForEachPair, same_pair, pair_before}
 use Rattle.p2p_simulated.specs.WorldRates.{IsLowest, rate_of}
 use Rattle.p2p_simulated.specs.World.{World, Flight}
-use Rattle.p2p_simulated.specs.WorldReplies.{IsSmallCap, names_pair}
 use Rattle.p2p_simulated.specs.WorldPlanned.{Planned, Paced, IsRated, AreInPairOrder, IsLeastMoment, SomeSpentAt, SomeReadyAt, paced_flows}
-use Rattle.p2p_simulated.specs.WorldStands.{IsSameFlight, IsSmallFlight, IsSmallMessage, IsSmallAmount, Tallies, StandsFor, IsInRange}
+use Rattle.p2p_simulated.specs.WorldRange.{IsInRange}
+use Rattle.p2p_simulated.specs.WorldStands.{IsSameFlight, Tallies, StandsFor}
 use Rattle.p2p_simulated.specs.SamePlanned.{IsSamePaced, IsSamePlanned}
 use Rattle.p2p_simulated.proofs.World.AlikeMessages.{same_itself, pairs_alike, message_itself, any_alike, fair_alike}
 use Rattle.p2p_simulated.proofs.World.InOrder.{before_alike}
-use Rattle.p2p_simulated.proofs.World.InRange.{named_alike}
 use Rattle.p2p_simulated.proofs.World.SameWorlds.{message_chain, pairs_chain, caps_chain, same_turned}
 use Rattle.p2p_simulated.proofs.Zips.{zip_chain, zip-filter}
 use Rattle.p2p_simulated.proofs.World.SameSteps.{none_same, least_same, flows_same, left_same, some_spent_same, some_ready_same}
@@ -105,35 +103,18 @@ module _ {P : Type 0} (cmp : P → P → Ordering) (order : IsTotalOrder cmp) wh
   one_each_same (m ∷ ms) (n ∷ ns) all h =
       (sym (any_alike cmp order (SameMessage cmp) (same_pair cmp m) (same_pair cmp n) (λ k l e. pairs_alike cmp order m n k l all.0 e) ms ns all.1) ∙ h.0, one_each_same ms ns all.1 h.1)
 
-  named_same : (pairs : List (P × P)) (m n : Message P) → SameMessage cmp m n → names_pair cmp pairs m.origin m.recipient ≡ true → names_pair cmp pairs n.origin n.recipient ≡ true
-  named_same pairs m n e h = named_alike cmp order [] (omega arith) 0 (omega arith) m pairs n.origin n.recipient e.origin e.recipient h
+  near_flight_same : (f g : Paced P) → IsSamePaced cmp f g → f.message.latency < 2 ^ 63 → g.message.latency < 2 ^ 63
+  near_flight_same f g same near = subst (λ (n : ℕ). n < 2 ^ 63) same.message.latency near
 
-  small_flight_same : (pairs : List (P × P)) (f g : Paced P) → IsSamePaced cmp f g → IsSmallFlight cmp pairs f → IsSmallFlight cmp pairs g
-  small_flight_same pairs f g same small = record {
-    named = named_same pairs f.message g.message same.message small.named;
-    lowest = subst (λ (a : Amount). IsReduced a.num a.den) same.left small.lowest;
-    left = subst IsSmallAmount same.left small.left;
-    updated = subst (λ (n : ℕ). n < 2 ^ 56) same.updated small.updated;
-    latency = subst (λ (n : ℕ). n < 2 ^ 56) same.message.latency small.latency;
-  }
+  near_same : (m n : Message P) → SameMessage cmp m n → m.latency < 2 ^ 63 → n.latency < 2 ^ 63
+  near_same m n same near = subst (λ (k : ℕ). k < 2 ^ 63) same.latency near
 
-  small_message_same : (pairs : List (P × P)) (m n : Message P) → SameMessage cmp m n → IsSmallMessage cmp pairs m → IsSmallMessage cmp pairs n
-  small_message_same pairs m n same small = record {
-    named = named_same pairs m n same small.named;
-    bytes = subst (λ (bs : List ℕ). length bs < 2 ^ 32) same.bytes small.bytes;
-    latency = subst (λ (k : ℕ). k < 2 ^ 56) same.latency small.latency;
-  }
-
-  pub range_same : (pairs : List (P × P)) (p q : Planned P) → IsSamePlanned cmp p q → IsInRange cmp pairs p → IsInRange cmp pairs q
-  range_same pairs p q same range = record {
-    sixteen = range.sixteen;
-    egress = λ x. subst IsSmallCap (same.caps.egress x x (same_itself cmp order x)) (range.egress x);
-    ingress = λ x. subst IsSmallCap (same.caps.ingress x x (same_itself cmp order x)) (range.ingress x);
-    link = λ x y. subst IsSmallCap (same.caps.link x x y y (same_itself cmp order x) (same_itself cmp order y)) (range.link x y);
-    one_each = one_each_same (paced_flows p.sending) (paced_flows q.sending) (flows_same cmp order p.sending q.sending same.sending) range.one_each;
-    rated = rated_same p q same range.rated;
-    sending = all_across (IsSamePaced cmp) (IsSmallFlight cmp pairs) (small_flight_same pairs) p.sending q.sending same.sending range.sending;
-    waiting = all_across (SameMessage cmp) (IsSmallMessage cmp pairs) (small_message_same pairs) p.waiting q.waiting same.waiting range.waiting;
-    arrivals = λ x y. subst (λ (o : Option ℕ). IfSome o (λ t. (t < 2 ^ 57) × (names_pair cmp pairs x y ≡ true))) (same.last_arrival x x y y (same_itself cmp order x) (same_itself cmp order y)) (range.arrivals x y);
+  pub range_same : (p q : Planned P) → IsSamePlanned cmp p q → IsInRange p → IsInRange q
+  range_same p q same range = record {
+    sending =
+        all_across (IsSamePaced cmp) (λ f. f.message.latency < 2 ^ 63) near_flight_same p.sending q.sending same.sending
+        range.sending;
+    waiting =
+        all_across (SameMessage cmp) (λ m. m.latency < 2 ^ 63) near_same p.waiting q.waiting same.waiting range.waiting;
     ids = subst (λ (n : ℕ). n + length q.waiting < 2 ^ 64) same.next_id (subst (λ (n : ℕ). p.next_id + n < 2 ^ 64) (length_all_zip (SameMessage cmp) p.waiting q.waiting same.waiting) range.ids);
   }

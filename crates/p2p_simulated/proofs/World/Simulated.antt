@@ -5,7 +5,6 @@ use Rattle.std.specs.List.{filter, AllZip}
 use Rattle.std.specs.declared.cmp.Ordering.{Ordering}
 use Rattle.std.specs.Cmp.{IsTotalOrder}
 use Rattle.p2p_simulated.specs.declared.error.Error.{Error}
-use Rattle.p2p_simulated.specs.declared.error.Error.TheVariants.{OutOfMemory, NumberTooLarge, MomentTooLate, FlowIdsUsedUp}
 use Rattle.p2p_simulated.specs.WorldMessages.{Message, SameMessage, same_pair, CapsAlike}
 use Rattle.p2p_simulated.specs.World.{World, Completed, Course, goes, meets, last_moment}
 use Rattle.p2p_simulated.specs.WorldTime.{IsSound}
@@ -14,9 +13,10 @@ use Rattle.p2p_simulated.specs.WorldReplies.{Faults}
 use Rattle.p2p_simulated.specs.WorldPlanned.{Planned, next_event}
 use Rattle.p2p_simulated.specs.WorldEvents.{Obeys}
 use Rattle.p2p_simulated.specs.WorldRefusals.{MayBeRefused}
-use Rattle.p2p_simulated.specs.WorldStands.{StandsFor, CoursesAlike, IsInRange}
+use Rattle.p2p_simulated.specs.WorldRange.{IsInRange}
+use Rattle.p2p_simulated.specs.WorldStands.{StandsFor, CoursesAlike}
 use Rattle.p2p_simulated.specs.SamePlanned.{Goes}
-use Rattle.p2p_simulated.specs.Simulated.{IsRun, IsSimulated, IsNextInSimulation, IsCallInRange, KeepsRange, MeetsFault, HasCause, IsRefusedInSimulation}
+use Rattle.p2p_simulated.specs.Simulated.{IsRun, IsSimulated, IsNextInSimulation, KeepsRange, MeetsFault, IsRefusedInSimulation}
 use Rattle.p2p_simulated.proofs.World.AlikeMessages.{same_itself}
 use Rattle.p2p_simulated.proofs.World.Bytes.{pair_itself}
 use Rattle.p2p_simulated.proofs.World.BeforeNext.{positive_flights}
@@ -24,7 +24,9 @@ use Rattle.p2p_simulated.proofs.World.QuietInstants.{next_is_later}
 use Rattle.p2p_simulated.proofs.World.NextEvent.{next_is_planned}
 use Rattle.p2p_simulated.proofs.World.OneRun.{runs_are_one}
 use Rattle.p2p_simulated.proofs.World.Obeys.{obeys_alike}
-use Rattle.p2p_simulated.proofs.World.Agreeing.{all_trans, obeys_in_range, refused_in_range}
+use Rattle.p2p_simulated.proofs.Refusals.{refused_more}
+use Rattle.p2p_simulated.proofs.World.Agreeing.{all_trans}
+use Rattle.p2p_simulated.proofs.World.RepliesInRange.{obeys_in_range, refused_in_range}
 use Rattle.p2p_simulated.proofs.World.SameStands.{stands_same, range_same}
 use Rattle.p2p_simulated.proofs.World.Limit.{none_flies}
 
@@ -102,11 +104,11 @@ module _ {P : Type 0} (cmp : P → P → Ordering) (order : IsTotalOrder cmp) wh
       by_course (meets fault) runs alike = absurd alike
 
   pub call_keeps_range : (p q : Planned P) (call : Call P) (completions : List (Completed P)) → Goes cmp p call completions q → KeepsRange cmp p call q
-  call_keeps_range p q call completions go pairs in_range =
-      let f : (cs : List (Completed P)) × (r : Planned P) × (goes go.answers go.after ≡ goes cs r) × IsInRange cmp pairs r
-      = obeys_in_range cmp order pairs p call (goes go.answers go.after) in_range.planned in_range.small in_range.messages go.obeys in
+  call_keeps_range p q call completions go in_range =
+      let f : (cs : List (Completed P)) × (r : Planned P) × (goes go.answers go.after ≡ goes cs r) × IsInRange r
+      = obeys_in_range cmp order p call (goes go.answers go.after) in_range go.obeys in
       let same : f.1 ≡ go.after = cc in
-      range_same cmp order pairs go.after q go.same_after (subst (λ (r : Planned P). IsInRange cmp pairs r) same f.3)
+      range_same cmp order go.after q go.same_after (subst (λ (r : Planned P). IsInRange r) same f.3)
 
   -- ---- a call that is refused
 
@@ -122,13 +124,9 @@ module _ {P : Type 0} (cmp : P → P → Ordering) (order : IsTotalOrder cmp) wh
 
   pub refusals_simulated : (p : Planned P) (call : Call P) (why : Error) → ((t : ℕ) → moment_of call ≡ Some t → t ≤ last_moment) → MayBeRefused cmp p call why
       → IsRefusedInSimulation cmp p call why
-  refusals_simulated p call why in_time may = record { cause = by_error why may; in_range = for_memory why may }
-    where
-      for_memory : (e : Error) → MayBeRefused cmp p call e → (pairs : List (P × P)) → IsCallInRange cmp pairs p call → e ≡ OutOfMemory
-      for_memory e may pairs range = refused_in_range cmp order pairs p call e range.planned range.small range.messages may
-
-      by_error : (e : Error) → MayBeRefused cmp p call e → HasCause cmp p call e
-      by_error OutOfMemory may = tt
-      by_error NumberTooLarge may = λ pairs range. let clash : NumberTooLarge ≡ OutOfMemory = for_memory NumberTooLarge may pairs range in cc
-      by_error MomentTooLate may = fault_is_met p call MomentTooLate in_time may
-      by_error FlowIdsUsedUp may = fault_is_met p call FlowIdsUsedUp in_time may
+  refusals_simulated p call why in_time may = record {
+    cause =
+        refused_more (λ fault. Obeys cmp p call (meets fault)) (MeetsFault cmp p call)
+        (λ fault. fault_is_met p call fault in_time) why may;
+    in_range = λ range. refused_in_range cmp order p call why range may;
+  }

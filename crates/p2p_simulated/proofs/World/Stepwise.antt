@@ -1,5 +1,5 @@
 -- What replies that agree with the simulation, or that follow the event rule, say of the first call.
-use Rattle.std.proofs.Common.{◌≡◌, ℕ, List, [], ◌∷◌, ◌++◌, Option, Some}
+use Rattle.std.proofs.Common.{◌≡◌, ℕ, List, [], ◌∷◌, Option, Some}
 use Rattle.std.specs.List.{AllZip}
 use Rattle.std.specs.declared.cmp.Ordering.{Ordering}
 use Rattle.p2p_simulated.specs.declared.error.Error.{Error}
@@ -13,43 +13,47 @@ use Rattle.p2p_simulated.specs.WorldRefusals.{MayBeRefused, Obeyed}
 module _ {P : Type 0} (cmp : P → P → Ordering) where
   -- ---- in the simulation
 
-  pub agrees_next : (w : World P) (accepted calls : List (Call P)) (replies : List (Reply P)) (call : Call P) (next : Option ℕ) → Agrees cmp w accepted (call ∷ calls) (reply_next next ∷ replies)
-      → Agrees cmp w accepted calls replies
-  agrees_next w accepted calls replies (call_limit now peer egress ingress) next agrees = absurd agrees
-  agrees_next w accepted calls replies (call_limit_link now origin recipient cap) next agrees = absurd agrees
-  agrees_next w accepted calls replies (call_enqueue now m) next agrees = absurd agrees
-  agrees_next w accepted calls replies (call_advance now) next agrees = absurd agrees
-  agrees_next w accepted calls replies call_next next agrees = agrees.1
+  pub agrees_next : (w : World P) (calls : List (Call P)) (replies : List (Reply P)) (call : Call P) (next : Option ℕ)
+      → Agrees cmp w (call ∷ calls) (reply_next next ∷ replies)
+      → Agrees cmp w calls replies
+  agrees_next w calls replies (call_limit now peer egress ingress) next agrees = absurd agrees
+  agrees_next w calls replies (call_limit_link now origin recipient cap) next agrees = absurd agrees
+  agrees_next w calls replies (call_enqueue now m) next agrees = absurd agrees
+  agrees_next w calls replies (call_advance now) next agrees = absurd agrees
+  agrees_next w calls replies call_next next agrees = agrees.1
 
-  pub agrees_refused : (w : World P) (accepted calls : List (Call P)) (replies : List (Reply P)) (call : Call P) (why : Error)
-      → Agrees cmp w accepted (call ∷ calls) (reply_refused why ∷ replies) → IsInTurn cmp w call → Agrees cmp w accepted calls replies
-  agrees_refused w accepted calls replies (call_limit now peer egress ingress) why agrees turn = (agrees turn).1
-  agrees_refused w accepted calls replies (call_limit_link now origin recipient cap) why agrees turn = (agrees turn).1
-  agrees_refused w accepted calls replies (call_enqueue now m) why agrees turn = (agrees turn).1
-  agrees_refused w accepted calls replies (call_advance now) why agrees turn = (agrees turn).1
-  agrees_refused w accepted calls replies call_next why agrees turn = absurd agrees
+  pub agrees_refused : (w : World P) (calls : List (Call P)) (replies : List (Reply P)) (call : Call P) (why : Error)
+      → Agrees cmp w (call ∷ calls) (reply_refused why ∷ replies) → IsInTurn cmp w call → Agrees cmp w calls replies
+  agrees_refused w calls replies (call_limit now peer egress ingress) why agrees turn = (agrees turn).1
+  agrees_refused w calls replies (call_limit_link now origin recipient cap) why agrees turn = (agrees turn).1
+  agrees_refused w calls replies (call_enqueue now m) why agrees turn = (agrees turn).1
+  agrees_refused w calls replies (call_advance now) why agrees turn = (agrees turn).1
+  agrees_refused w calls replies call_next why agrees turn = absurd agrees
 
   -- a call that was made: its run, and the rest
-  pub record IsMade (w : World P) (accepted calls : List (Call P)) (replies : List (Reply P)) (call : Call P) (completions : List (Completed P)) : Type 0 where
+  pub record IsMade (w : World P) (calls : List (Call P)) (replies : List (Reply P)) (call : Call P)
+      (completions : List (Completed P)) : Type 0 where
     pub now : ℕ
     pub answers : List (Completed P)
     pub after : World P
     pub moment : moment_of call ≡ Some now
     pub runs : Runs cmp w call now (goes answers after)
     pub same : AllZip (SameCompletion cmp) completions answers
-    pub rest : Agrees cmp after (accepted ++ call ∷ []) calls replies
+    pub rest : Agrees cmp after calls replies
 
-  pub agrees_done : (w : World P) (accepted calls : List (Call P)) (replies : List (Reply P)) (call : Call P) (completions : List (Completed P))
-      → Agrees cmp w accepted (call ∷ calls) (reply_done completions ∷ replies) → IsInTurn cmp w call → IsMade w accepted calls replies call completions
-  agrees_done w accepted calls replies (call_limit now peer egress ingress) completions agrees turn =
+  pub agrees_done : (w : World P) (calls : List (Call P)) (replies : List (Reply P)) (call : Call P)
+      (completions : List (Completed P))
+      → Agrees cmp w (call ∷ calls) (reply_done completions ∷ replies) → IsInTurn cmp w call
+      → IsMade w calls replies call completions
+  agrees_done w calls replies (call_limit now peer egress ingress) completions agrees turn =
       let (t, ds, v, at, runs, same, rest) = agrees turn in record { now = t; answers = ds; after = v; moment = at; runs = runs; same = same; rest = rest }
-  agrees_done w accepted calls replies (call_limit_link now origin recipient cap) completions agrees turn =
+  agrees_done w calls replies (call_limit_link now origin recipient cap) completions agrees turn =
       let (t, ds, v, at, runs, same, rest) = agrees turn in record { now = t; answers = ds; after = v; moment = at; runs = runs; same = same; rest = rest }
-  agrees_done w accepted calls replies (call_enqueue now m) completions agrees turn =
+  agrees_done w calls replies (call_enqueue now m) completions agrees turn =
       let (t, ds, v, at, runs, same, rest) = agrees turn in record { now = t; answers = ds; after = v; moment = at; runs = runs; same = same; rest = rest }
-  agrees_done w accepted calls replies (call_advance now) completions agrees turn =
+  agrees_done w calls replies (call_advance now) completions agrees turn =
       let (t, ds, v, at, runs, same, rest) = agrees turn in record { now = t; answers = ds; after = v; moment = at; runs = runs; same = same; rest = rest }
-  agrees_done w accepted calls replies call_next completions agrees turn = absurd agrees
+  agrees_done w calls replies call_next completions agrees turn = absurd agrees
 
   -- ---- by the event rule
 

@@ -4,10 +4,12 @@
 //! [`allocate`](super::allocate) says what it answers: `AreFairRates` of a list of rates, and
 //! `IsAllocation` of the whole answer. Where a law has a clause `plain` and a clause `linked`, the
 //! one is about `allocate` and the other about `allocate_linked`.
+ghost use Rattle.std.specs.Prelude.{ℕ, ◌≡◌, ◌∷◌, []};
 ghost use Rattle.std.specs.Fn.{CalledAt, CalledAtTwo};
 ghost use Rattle.p2p_simulated.specs.AllocationLaws.{AllocatesUnderCaps};
 ghost use Rattle.p2p_simulated.specs.Answers.{NoLink};
 ghost use Rattle.p2p_simulated.specs.FairExample.{HalfExists, HalvesAreFair, LessIsUnfair, MoreIsUnfair, NoLimitIsUnfair, LimitIsUnfair};
+ghost use Rattle.p2p_simulated.specs.FairExists.{IsLeastMultiple, AreLeastMultiplesFrom, FairAmountsExist, FairAmountsExistUnderCaps, FairRatesAreWhole};
 ghost use Rattle.p2p_simulated.specs.FairLaws.{FairIsMaxMin, FairRatesAreMaxMin, OneAllocation, FairRatesAreZeroWhereClosed, FairnessIsOfTheSet};
 ghost use Rattle.p2p_simulated.specs.FairPart.{FlowsApartAreFair};
 ghost use Rattle.p2p_simulated.specs.PeerCaps.{AnswersAreThoseOfTheCaps, SidesAreOfTheCaps, UnlimitedWhereUncapped, UnlimitedByIdWhereUncapped, OrderDoesNotMatter, PartIsFair, OthersDoNotMatter};
@@ -34,6 +36,18 @@ pub fn fair_rates_are_max_min()
 /// There is one list of fair rates at most.
 pub fn one_allocation_is_fair()
     ensures { OneAllocation }
+{}
+
+/// Fair amounts exist, whatever the sides are: for `n` flows, none of which uses a side twice, they
+/// are whole over the least common multiple of all products of whole numbers above zero whose sum
+/// is at most `n`. There is one such multiple for each `n`, and from 0 to 16 they are these.
+pub fn fair_amounts_exist()
+    ensures exist { FairAmountsExist }
+    ensures whole { FairRatesAreWhole }
+    ensures multiple { (n : ℕ) → (per : ℕ) × IsLeastMultiple n per }
+    ensures one { (n per other : ℕ) → IsLeastMultiple n per → IsLeastMultiple n other → per ≡ other }
+    ensures values { AreLeastMultiplesFrom 0 (1 ∷ 1 ∷ 2 ∷ 6 ∷ 12 ∷ 60 ∷ 360 ∷ 2520 ∷ 5040 ∷ 15120 ∷ 151200 ∷ 1663200
+        ∷ 9979200 ∷ 129729600 ∷ 1816214400 ∷ 27243216000 ∷ 54486432000 ∷ []) }
 {}
 
 /// A fair rate is zero exactly where the flow uses a side of cap zero.
@@ -83,6 +97,11 @@ where
 /// all flows that it limits.
 pub fn sides_are_of_the_caps<P: Peer>()
     ensures { SidesAreOfTheCaps P.cmp }
+{}
+
+/// Caps by peer leave fair amounts to every list of flows.
+pub fn fair_amounts_exist_under_caps<P: Peer>()
+    ensures { FairAmountsExistUnderCaps P.cmp }
 {}
 
 /// Under caps by peer a flow is unlimited exactly where it uses no capped side: by place, and with

@@ -1,11 +1,8 @@
 //! What a script asks of its scheduler.
-ghost use Rattle.std.specs.Prelude.{◌≡◌, map, replicate, IfOk, IfErr, OnErr};
-ghost use Rattle.std.specs.Ordering.{nat_cmp};
-ghost use Rattle.p2p_simulated.specs.Message.{completed_of};
-ghost use Rattle.p2p_simulated.specs.SamePlanned.{Goes};
-ghost use Rattle.p2p_simulated.specs.Schedule.{message_of, planned_by, Makes, MayRefuseCall};
+ghost use Rattle.std.specs.Prelude.{◌≡◌, replicate, IfOk, IfErr, OnErr};
+ghost use Rattle.p2p_simulated.specs.Schedule.{message_of, Makes, MayRefuseCall};
+ghost use Rattle.p2p_simulated.specs.State.{planned_of, IsMade, IsRefused};
 ghost use Rattle.p2p_simulated.specs.WorldCalls.{call_enqueue};
-ghost use Rattle.p2p_simulated.specs.WorldRefusals.{MayBeRefused};
 
 use crate::error::Error;
 use crate::linkrun::answer::Answer;
@@ -18,7 +15,7 @@ use std::alloc::Global;
 pub(crate) fn make(alloc: Global, scheduler: &mut State<u64>, call: Call) -> Result<Answer, Error>
     ensures answer { IfOk result (λ answer. Makes call scheduler.old answer scheduler.new) }
     ensures refused { IfErr result (MayRefuseCall call scheduler.old) }
-    ensures unchanged { OnErr result (planned_by scheduler.new ≡ planned_by scheduler.old) }
+    ensures unchanged { OnErr result (planned_of scheduler.new ≡ planned_of scheduler.old) }
 {
     match call {
         Call::Limit {
@@ -45,9 +42,10 @@ fn enqueue(
     scheduler: &mut State<u64>,
     parcel: Parcel,
 ) -> Result<Vec<Completion<u64>>, Error>
-    ensures goes { IfOk result (λ completions. Goes nat_cmp (planned_by scheduler.old) (call_enqueue parcel.now (message_of parcel)) (map completed_of completions.items) (planned_by scheduler.new)) }
-    ensures refused { IfErr result (MayBeRefused nat_cmp (planned_by scheduler.old) (call_enqueue parcel.now (message_of parcel))) }
-    ensures unchanged { OnErr result (planned_by scheduler.new ≡ planned_by scheduler.old) }
+    ensures made { IfOk result (λ done.
+        IsMade scheduler.old (call_enqueue parcel.now (message_of parcel)) done.items scheduler.new) }
+    ensures refused { IfErr result (IsRefused scheduler.old (call_enqueue parcel.now (message_of parcel))) }
+    ensures unchanged { OnErr result (planned_of scheduler.new ≡ planned_of scheduler.old) }
 {
     let message = zeros(alloc, parcel.length)?;
     scheduler.enqueue(

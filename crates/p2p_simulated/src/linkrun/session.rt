@@ -5,7 +5,7 @@ ghost use Rattle.std.specs.BTreeMap.{get, IsUnchanged};
 ghost use Rattle.p2p_simulated.specs.Caps.{no_caps};
 ghost use Rattle.p2p_simulated.specs.Pairs.{pair_cmp};
 ghost use Rattle.p2p_simulated.specs.PeerCaps.{IsFairById};
-ghost use Rattle.p2p_simulated.specs.Schedule.{planned_by};
+ghost use Rattle.p2p_simulated.specs.State.{planned_of};
 ghost use Rattle.p2p_simulated.specs.Session.{Says, SaysSame, KeepsPlanned, SaysAfter, AnswersTo, MayRefuse, MayRefuseRates, caps_of, with_cap, with_link};
 ghost use Rattle.p2p_simulated.specs.WorldPlanned.{new_planned};
 
@@ -36,7 +36,7 @@ impl Session {
     /// Nothing is said.
     pub(crate) fn new(alloc: Global) -> Session
         ensures said { Says result [] no_caps }
-        ensures scheduler { planned_by result.scheduler ≡ new_planned 0 }
+        ensures scheduler { planned_of result.scheduler ≡ new_planned 0 }
     {
         Session {
             alloc,

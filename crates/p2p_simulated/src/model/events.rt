@@ -50,9 +50,9 @@ pub fn calls_do_the_same<P: Ord>()
         (c : Course (Completed P) (World P)) × Runs P.cmp w call now c × CoursesAlike P.cmp (λ q v. StandsFor P.cmp q v × (v.moment ≡ now)) course c }
 {}
 
-/// Replies by the event rule, from the new planned world on, agree with the simulation: every completion and every next event are its own, a fault is refused where it meets one, and a number is refused only out of the range.
+/// Replies by the event rule, from the new planned world on, agree with the simulation: every completion and every next event are its own, and a fault is refused just where it meets one.
 pub fn replies_agree<P: Ord>()
-    ensures { (calls : List (Call P)) (replies : List (Reply P)) → InTime calls → Obeyed P.cmp (new_planned 0) calls replies → Agrees P.cmp (new_world 0) [] calls replies }
+    ensures { (calls : List (Call P)) (replies : List (Reply P)) → InTime calls → Obeyed P.cmp (new_planned 0) calls replies → Agrees P.cmp (new_world 0) calls replies }
 {}
 
 /// In one `advance`, at any moments, there are at most twice as many events as messages wait and once as many as are in flight. What is planned is right in a new planned world and after each call that goes.
@@ -61,4 +61,12 @@ pub fn an_advance_has_few_events<P: Ord>()
     ensures kept { (p q : Planned P) (call : Call P) (cs : List (Completed P)) → IsPlanned P.cmp p → Obeys P.cmp p call (goes cs q) → IsPlanned P.cmp q }
     ensures few { (p : Planned P) (now n : ℕ) (course : Course (Completed P) (Planned P)) → IsPlanned P.cmp p → Advances P.cmp now p n course →
         n ≤ 2 * length p.waiting + length p.sending }
+{}
+
+/// At any moments the event rule has one course for a call, and one number of events for an advance: the same completions in the same order and the same planned world, or the same fault.
+pub fn a_call_has_one_course_by_the_rule<P: Ord>()
+    ensures course { (p : Planned P) (call : Call P) (c d : Course (Completed P) (Planned P)) →
+        Obeys P.cmp p call c → Obeys P.cmp p call d → c ≡ d }
+    ensures events { (p : Planned P) (now n m : ℕ) (c d : Course (Completed P) (Planned P)) →
+        Advances P.cmp now p n c → Advances P.cmp now p m d → n ≡ m }
 {}

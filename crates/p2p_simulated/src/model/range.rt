@@ -1,31 +1,48 @@
-//! In the range no number is too large, and the range is kept.
-ghost use Rattle.std.specs.Prelude.{◌≡◌, ℕ, ◌+◌, ◌<◌, ◌≤◌, ◌^◌, List, length};
-ghost use Rattle.p2p_simulated.specs.Amount.{Amount, drained};
-ghost use Rattle.p2p_simulated.specs.Fraction.{IsReduced};
-ghost use Rattle.p2p_simulated.specs.Time.{TakenFits, SecondsFit};
-ghost use Rattle.p2p_simulated.specs.World.{Completed, Course, goes};
-ghost use Rattle.p2p_simulated.specs.WorldCalls.{Call};
+//! In the range a call meets no fault, and the range is kept.
+ghost use Rattle.std.specs.Prelude.{◌≡◌, ℕ, ◌<◌, ◌^◌, List, [], ◌∷◌, None, replicate};
+ghost use Rattle.std.specs.Ordering.{nat_cmp};
+ghost use Rattle.p2p_simulated.specs.World.{Completed, Course, goes, new_world};
+ghost use Rattle.p2p_simulated.specs.WorldCalls.{Call, call_limit, call_limit_link, call_enqueue, call_advance, call_next};
 ghost use Rattle.p2p_simulated.specs.declared.error.Error.{Error as AnyError};
-ghost use Rattle.p2p_simulated.specs.declared.error.Error.TheVariants.{OutOfMemory};
-ghost use Rattle.p2p_simulated.specs.WorldReplies.{IsSmallCall, messages_in};
+ghost use Rattle.p2p_simulated.specs.declared.error.Error.TheVariants.{OutOfMemory, MomentTooLate};
 ghost use Rattle.p2p_simulated.specs.WorldPlanned.{Planned, new_planned};
 ghost use Rattle.p2p_simulated.specs.WorldEvents.{Obeys};
+ghost use Rattle.p2p_simulated.specs.WorldRange.{AreInRange, IsInRange, IsCallInRange};
 ghost use Rattle.p2p_simulated.specs.WorldRefusals.{MayBeRefused};
-ghost use Rattle.p2p_simulated.specs.WorldStands.{IsSmallAmount, IsSmallRate, IsInRange};
+ghost use Rattle.p2p_simulated.specs.WorldReplies.{reply_done, reply_refused, Agrees};
+ghost use Rattle.p2p_simulated.specs.WorldRows.{message};
+ghost use Rattle.p2p_simulated.specs.ReplayLaws.{RefusesForMemoryAlone};
 
-/// Of an amount left and a rate in the range, what is left after a time is in the range, and all numbers on the way to it and to the least time fit 128 bits.
-pub fn the_range_is_kept_by_draining()
-    ensures kept { (left rate : Amount) (n : ℕ) → IsSmallAmount left → IsSmallRate rate → IsSmallAmount (drained left rate n) }
-    ensures drain { (left rate : Amount) (n : ℕ) → IsReduced left.num left.den → IsSmallAmount left → IsSmallRate rate → n < 2 ^ 57 → TakenFits rate n left }
-    ensures time { (left rate : Amount) → IsSmallAmount left → IsSmallRate rate → 0 < rate.num → SecondsFit rate left }
+/// A call in the range on a planned world in the range, its own message counted, goes and leaves it in the range, and may be refused for want of memory alone. A new planned world is in the range.
+pub fn calls_in_the_range_are_not_refused<P: Ord>()
+    ensures new { (id : ℕ) → id < 2 ^ 64 → IsInRange {P = P} (new_planned id) }
+    ensures kept { (p : Planned P) (call : Call P) (course : Course (Completed P) (Planned P)) → IsCallInRange p call →
+        Obeys P.cmp p call course → (cs : List (Completed P)) × (q : Planned P) × (course ≡ goes cs q) × IsInRange q }
+    ensures refused { (p : Planned P) (call : Call P) (why : AnyError) → IsCallInRange p call →
+        MayBeRefused P.cmp p call why → why ≡ OutOfMemory }
 {}
 
-/// A call in the range on a planned world in the range, its own message and pair counted, goes and leaves it in the range, and may be refused for want of memory alone. A new planned world is in the range.
-pub fn calls_in_the_range_are_not_refused<P: Ord>()
-    ensures new { (pairs : List (P × P)) (id : ℕ) → length pairs ≤ 16 → id < 2 ^ 64 → IsInRange P.cmp pairs (new_planned id) }
-    ensures kept { (pairs : List (P × P)) (p : Planned P) (call : Call P) (course : Course (Completed P) (Planned P)) → IsInRange P.cmp pairs p →
-        IsSmallCall P.cmp pairs call → p.next_id + length p.waiting + messages_in call < 2 ^ 64 → Obeys P.cmp p call course →
-        (cs : List (Completed P)) × (q : Planned P) × (course ≡ goes cs q) × IsInRange P.cmp pairs q }
-    ensures refused { (pairs : List (P × P)) (p : Planned P) (call : Call P) (why : AnyError) → IsInRange P.cmp pairs p → IsSmallCall P.cmp pairs call →
-        p.next_id + length p.waiting + messages_in call < 2 ^ 64 → MayBeRefused P.cmp p call why → why ≡ OutOfMemory }
+/// The range reaches to the last nanosecond before 2^63, to as many messages as there are flow ids, and to the last id.
+pub fn the_range_reaches_so_far()
+    ensures calls { AreInRange (call_limit 9_223_372_036_854_775_807 1 None None ∷ call_limit_link 9_223_372_036_854_775_807 1 2 None
+        ∷ call_enqueue 9_223_372_036_854_775_807 (message 1 2 0 9_223_372_036_854_775_807)
+        ∷ call_advance 9_223_372_036_854_775_807 ∷ call_next ∷ []) }
+    ensures messages { (n : ℕ) → n < 2 ^ 64 → AreInRange (replicate n (call_enqueue 0 (message 1 2 0 0))) }
+    ensures planned { IsCallInRange (new_planned 18_446_744_073_709_551_614)
+        (call_enqueue 9_223_372_036_854_775_807 (message 1 2 0 9_223_372_036_854_775_807)) }
+    ensures held { (p : Planned ℕ) → p.sending ≡ [] → p.waiting ≡ message 1 2 0 9_223_372_036_854_775_807 ∷ [] →
+        p.next_id ≡ 18_446_744_073_709_551_614 → IsInRange p }
+{}
+
+/// One nanosecond further a call may be refused.
+pub fn outside_the_range_a_moment_is_too_late()
+    ensures { Agrees nat_cmp (new_world 0)
+        (call_enqueue 9_223_372_036_854_775_808 (message 1 2 0 9_223_372_036_854_775_808) ∷ [])
+        (reply_refused MomentTooLate ∷ []) }
+{}
+
+/// Calls are judged one by one: one that is in the range is refused for memory alone, though a later one is outside.
+pub fn a_later_call_excuses_no_refusal()
+    ensures { ¬ RefusesForMemoryAlone {P = ℕ} [] (call_advance 0 ∷ call_advance 18_446_744_073_709_551_615 ∷ [])
+        (reply_refused MomentTooLate ∷ reply_done [] ∷ []) }
 {}

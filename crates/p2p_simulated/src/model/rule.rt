@@ -77,3 +77,13 @@ pub fn a_link_limits_its_own_pair()
         (call_limit_link 0 1 2 a_byte_a_nanosecond ∷ call_enqueue 0 (message 1 2 2 0) ∷ call_enqueue 0 (message 1 3 2 0) ∷ call_next ∷ call_advance 2 ∷ call_next ∷ [])
         (reply_done [] ∷ reply_done [] ∷ reply_done (arrives (message 1 3 2 0) 0 ∷ []) ∷ reply_next (Some 2) ∷ reply_done (arrives (message 1 2 2 0) 2 ∷ []) ∷ reply_next None ∷ []) }
 {}
+
+/// Where a moment goes back, the interval since then drains twice: of four bytes two went by 2, one more goes from 1 to 2, and the last one by 3.
+pub fn an_interval_may_be_drained_twice()
+    ensures { Obeyed nat_cmp (new_planned 0)
+        (call_limit 0 1 a_byte_a_nanosecond None ∷ call_enqueue 0 (message 1 2 4 0)
+        ∷ call_limit 2 1 a_byte_a_nanosecond None ∷ call_next ∷ call_limit 1 1 a_byte_a_nanosecond None ∷ call_next
+        ∷ call_advance 3 ∷ call_next ∷ [])
+        (reply_done [] ∷ reply_done [] ∷ reply_done [] ∷ reply_next (Some 4) ∷ reply_done [] ∷ reply_next (Some 3)
+        ∷ reply_done (arrives (message 1 2 4 0) 3 ∷ []) ∷ reply_next None ∷ []) }
+{}

@@ -7,7 +7,8 @@ ghost use Rattle.p2p_simulated.specs.WorldReplies.{Reply};
 ghost use Rattle.p2p_simulated.specs.WorldPlanned.{Planned};
 ghost use Rattle.p2p_simulated.specs.WorldEvents.{Obeys};
 ghost use Rattle.p2p_simulated.specs.WorldRefusals.{MayBeRefused, Obeyed};
-ghost use Rattle.p2p_simulated.specs.WorldStands.{StandsFor, IsInRange};
+ghost use Rattle.p2p_simulated.specs.WorldRange.{IsInRange};
+ghost use Rattle.p2p_simulated.specs.WorldStands.{StandsFor};
 ghost use Rattle.p2p_simulated.specs.SamePlanned.{IsSamePlanned, IsSameCall, IsSameCourse};
 
 /// On planned worlds that are the same up to equal peers a call has the same course, may be refused alike, and leaves them the same, so a list of calls may be replied to alike. They stand for the same worlds, and are in the range alike.
@@ -17,5 +18,5 @@ pub fn the_same_worlds_do_the_same<P: Ord>()
     ensures refused { (p q : Planned P) (call other : Call P) (why : AnyError) → IsSamePlanned P.cmp p q → IsSameCall P.cmp call other → MayBeRefused P.cmp p call why → MayBeRefused P.cmp q other why }
     ensures replies { (p q : Planned P) (calls : List (Call P)) (replies : List (Reply P)) → IsSamePlanned P.cmp p q → Obeyed P.cmp p calls replies → Obeyed P.cmp q calls replies }
     ensures stands { (p q : Planned P) (w : World P) → IsSamePlanned P.cmp p q → StandsFor P.cmp p w → StandsFor P.cmp q w }
-    ensures range { (pairs : List (P × P)) (p q : Planned P) → IsSamePlanned P.cmp p q → IsInRange P.cmp pairs p → IsInRange P.cmp pairs q }
+    ensures range { (p q : Planned P) → IsSamePlanned P.cmp p q → IsInRange p → IsInRange q }
 {}

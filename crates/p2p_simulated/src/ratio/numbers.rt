@@ -19,7 +19,8 @@ pub(super) fn gcd(a: u128, b: u128) -> u128
     if b == 0 { a } else { gcd(b, a % b) }
 }
 
-fn gcd_of_narrow(a: u64, b: u64) -> u64
+/// The greatest common divisor of two numbers of 64 bits.
+pub(crate) fn gcd_of_narrow(a: u64, b: u64) -> u64
     ensures { result ≡ greatest_divisor a b }
 {
     let mut last = a;

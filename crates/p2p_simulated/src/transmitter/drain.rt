@@ -1,23 +1,30 @@
-//! All that is in flight drains.
-ghost use Rattle.std.specs.Prelude.{◌≡◌, ◌-◌, ℕ, Some, slice_get, OnOk, IfErr};
+//! All that is in flight drains, and counts in smaller units.
+ghost use Rattle.std.specs.Prelude.{◌≡◌, OnOk, IfErr};
 ghost use Rattle.std.specs.List.{AllZip};
-ghost use Rattle.p2p_simulated.specs.declared.transmitter.progress.Progress.{Progress as AnyProgress};
-ghost use Rattle.p2p_simulated.specs.Ratio.{amount_of};
-ghost use Rattle.p2p_simulated.specs.Time.{TransferFits};
-ghost use Rattle.p2p_simulated.specs.Progress.{DrainsTo, IsSameSent};
+ghost use Rattle.p2p_simulated.specs.FairParts.{product};
+ghost use Rattle.p2p_simulated.specs.Progress.{DrainsTo, GrowsBy, IsSameSent};
 
 use super::progress::Progress;
 use crate::error::Error;
+use natural::Natural;
 
 /// All drain to that moment.
-pub(crate) fn drain_all(progress: &mut [Progress], now: u64) -> Result<(), Error>
-    ensures drained { OnOk result (AllZip (DrainsTo now) progress.old progress.new) }
-    ensures same { AllZip IsSameSent progress.old progress.new }
-    ensures refused { IfErr result (λ e. (e ≡ Error.NumberTooLarge) × ((place : ℕ) × (s : AnyProgress) × (slice_get progress.old place ≡ Some s)
-        × ¬ TransferFits s.rate (now - s.updated) (amount_of s.left))) }
+pub(crate) fn drain_all(progress: &mut [Progress], levels: &[Natural], now: u64)
+    ensures { AllZip (DrainsTo levels.now now) progress.old progress.new }
 {
     for one in progress.iter_mut() {
-        one.drain(now)?;
+        one.drain(levels, now);
+    }
+}
+
+/// What is left of each counts in smaller units, of which so many times as many are needed.
+pub(crate) fn grow_all(progress: &mut [Progress], growth: &[u64]) -> Result<(), Error>
+    ensures grown { OnOk result (AllZip (GrowsBy (product growth.now)) progress.old progress.new) }
+    ensures same { AllZip IsSameSent progress.old progress.new }
+    ensures refused { IfErr result (λ e. e ≡ Error.OutOfMemory) }
+{
+    for one in progress.iter_mut() {
+        one.grow(growth)?;
     }
     Ok(())
 }

@@ -4,11 +4,10 @@ ghost use Rattle.p2p_simulated.specs.World.{Completed, goes, meets, last_moment,
 ghost use Rattle.p2p_simulated.specs.WorldMessages.{Message as AnyMessage};
 ghost use Rattle.p2p_simulated.specs.WorldPlanned.{next_of};
 ghost use Rattle.p2p_simulated.specs.WorldEvents.{Launches, Finishes, Settles, Wakes, Recaps, Enqueues, Advances, landed, completed_at_once};
-ghost use Rattle.p2p_simulated.specs.WorldRefusals.{LaunchAccounts, FinishAccounts, SettleAccounts, WakeAccounts, RecapAccounts, EnqueueAccounts, AdvanceAccounts};
-ghost use Rattle.p2p_simulated.specs.Refusing.{IsRefusedBy, IsRefusedAt};
+ghost use Rattle.p2p_simulated.specs.Refusing.{IsRefusedFor};
 ghost use Rattle.p2p_simulated.specs.Message.{message_of, completed_of};
 ghost use Rattle.p2p_simulated.specs.Pairs.{first_of, arrival_of};
-ghost use Rattle.p2p_simulated.specs.Events.{IsDue, Happens, HappenAccounts, moment_of};
+ghost use Rattle.p2p_simulated.specs.Events.{IsDue, Happens};
 
 use super::completion::Completion;
 use super::event::Event;
@@ -47,7 +46,8 @@ impl<P: Peer> Working<P> {
         now: u64,
     ) -> Result<VecDeque<Message<P>>, Error>
         ensures launches { IfOk result (λ leavers. Launches P.cmp now (planned P.cmp self.old) (first_of P.cmp (planned P.cmp self.old).waiting origin.now recipient.now) (goes (messages leavers.items) (planned P.cmp self.new))) }
-        ensures refused { IfErr result (IsRefusedAt P.cmp now (λ e. Launches P.cmp now (planned P.cmp self.old) (first_of P.cmp (planned P.cmp self.old).waiting origin.now recipient.now) (meets e)) (LaunchAccounts P.cmp now (planned P.cmp self.old) (first_of P.cmp (planned P.cmp self.old).waiting origin.now recipient.now))) }
+        ensures refused { IfErr result (IsRefusedFor (λ fault. Launches P.cmp now (planned P.cmp self.old)
+            (first_of P.cmp (planned P.cmp self.old).waiting origin.now recipient.now) (meets fault))) }
     {
         if !self.may_launch(origin, recipient, now) {
             return Ok(VecDeque::new(self.alloc));
@@ -75,7 +75,8 @@ impl<P: Peer> Working<P> {
         ensures in_time { IfOk result (λ more. is_late P.cmp now (message_of message) ≡ false) }
         ensures completion { IfOk result (λ more. map completed_of completions.new.items ≡ map completed_of completions.old.items ++ completed P.cmp now (message_of message) ∷ []) }
         ensures launches { IfOk result (λ more. Launches P.cmp now (landed P.cmp now (planned P.cmp self.old) (message_of message)) (next_of P.cmp (planned P.cmp self.old) (message_of message)) (goes (messages more.items) (planned P.cmp self.new))) }
-        ensures refused { IfErr result (λ e. (ms : List (AnyMessage P)) → IsRefusedAt P.cmp now (λ fault. Finishes P.cmp now (message_of message ∷ ms) (planned P.cmp self.old) (meets fault)) (FinishAccounts P.cmp now (message_of message ∷ ms) (planned P.cmp self.old)) e) }
+        ensures refused { IfErr result (λ e. (ms : List (AnyMessage P)) →
+            IsRefusedFor (λ fault. Finishes P.cmp now (message_of message ∷ ms) (planned P.cmp self.old) (meets fault)) e) }
     {
         let arrival = message.arrival(now)?;
         let deliver_at = message.is_delivered().then_some(arrival);
@@ -96,7 +97,8 @@ impl<P: Peer> Working<P> {
     ) -> Result<(), Error>
         ensures finishes { IfOk result (λ done. (cs : List (Completed P)) × (map completed_of completions.new.items ≡ map completed_of completions.old.items ++ cs)
             × Finishes P.cmp now (messages queue.items) (planned P.cmp self.old) (goes cs (planned P.cmp self.new))) }
-        ensures refused { IfErr result (IsRefusedAt P.cmp now (λ fault. Finishes P.cmp now (messages queue.items) (planned P.cmp self.old) (meets fault)) (FinishAccounts P.cmp now (messages queue.items) (planned P.cmp self.old))) }
+        ensures refused { IfErr result (IsRefusedFor
+            (λ fault. Finishes P.cmp now (messages queue.items) (planned P.cmp self.old) (meets fault))) }
     {
         while let Some(message) = queue.pop_front() {
             let mut more = self.complete(message, now, completions)?;
@@ -110,7 +112,7 @@ impl<P: Peer> Working<P> {
     fn settle(&mut self, now: u64, completions: &mut Vec<Completion<P>>) -> Result<(), Error>
         ensures settles { IfOk result (λ done. (cs : List (Completed P)) × (map completed_of completions.new.items ≡ map completed_of completions.old.items ++ cs)
             × Settles P.cmp now (planned P.cmp self.old) (goes cs (planned P.cmp self.new))) }
-        ensures refused { IfErr result (IsRefusedAt P.cmp now (λ fault. Settles P.cmp now (planned P.cmp self.old) (meets fault)) (SettleAccounts P.cmp now (planned P.cmp self.old))) }
+        ensures refused { IfErr result (IsRefusedFor (λ fault. Settles P.cmp now (planned P.cmp self.old) (meets fault))) }
     {
         let queue = self.account(now)?;
         self.finish(queue, now, completions)
@@ -120,7 +122,7 @@ impl<P: Peer> Working<P> {
     fn wake(&mut self, now: u64, completions: &mut Vec<Completion<P>>) -> Result<(), Error>
         ensures wakes { IfOk result (λ done. (cs : List (Completed P)) × (map completed_of completions.new.items ≡ map completed_of completions.old.items ++ cs)
             × Wakes P.cmp now (planned P.cmp self.old) (goes cs (planned P.cmp self.new))) }
-        ensures refused { IfErr result (IsRefusedAt P.cmp now (λ fault. Wakes P.cmp now (planned P.cmp self.old) (meets fault)) (WakeAccounts P.cmp now (ready_messages P.cmp now (planned P.cmp self.old)) (planned P.cmp self.old))) }
+        ensures refused { IfErr result (IsRefusedFor (λ fault. Wakes P.cmp now (planned P.cmp self.old) (meets fault))) }
     {
         let ready = self.ready(now)?;
         for pair in &ready {
@@ -135,7 +137,8 @@ impl<P: Peer> Working<P> {
     pub(crate) fn recap(&mut self, now: u64) -> Result<Vec<Completion<P>>, Error>
         requires { (planned P.cmp self.old).limited ≡ true }
         ensures recaps { IfOk result (λ completions. Recaps P.cmp now (planned P.cmp self.old).caps (planned P.cmp self.old) (goes (map completed_of completions.items) (planned P.cmp self.new))) }
-        ensures refused { IfErr result (IsRefusedAt P.cmp now (λ fault. Recaps P.cmp now (planned P.cmp self.old).caps (planned P.cmp self.old) (meets fault)) (RecapAccounts P.cmp now (planned P.cmp self.old).caps (planned P.cmp self.old))) }
+        ensures refused { IfErr result (IsRefusedFor
+            (λ fault. Recaps P.cmp now (planned P.cmp self.old).caps (planned P.cmp self.old) (meets fault))) }
     {
         let mut completions = Vec::new(self.alloc);
         if self.flights.is_empty() {
@@ -153,7 +156,8 @@ impl<P: Peer> Working<P> {
         message: Message<P>,
     ) -> Result<Vec<Completion<P>>, Error>
         ensures enqueues { IfOk result (λ completions. Enqueues P.cmp now (message_of message) (planned P.cmp self.old) (goes (map completed_of completions.items) (planned P.cmp self.new))) }
-        ensures refused { IfErr result (IsRefusedAt P.cmp now (λ fault. Enqueues P.cmp now (message_of message) (planned P.cmp self.old) (meets fault)) (EnqueueAccounts P.cmp now (message_of message) (planned P.cmp self.old))) }
+        ensures refused { IfErr result (IsRefusedFor
+            (λ fault. Enqueues P.cmp now (message_of message) (planned P.cmp self.old) (meets fault))) }
     {
         let mut completions = Vec::new(self.alloc);
         if !self.limited {
@@ -215,7 +219,8 @@ impl<P: Peer> Working<P> {
     ) -> Result<(), Error>
         ensures completes { IfOk result (λ done. (c : Completed P) × (map completed_of completions.new.items ≡ map completed_of completions.old.items ++ c ∷ [])
             × (completed_at_once P.cmp now (planned P.cmp self.old) (message_of message) ≡ goes (c ∷ []) (planned P.cmp self.new))) }
-        ensures refused { IfErr result (IsRefusedAt P.cmp now (λ fault. completed_at_once P.cmp now (planned P.cmp self.old) (message_of message) ≡ meets fault) (λ q. ⊥)) }
+        ensures refused { IfErr result (IsRefusedFor
+            (λ fault. completed_at_once P.cmp now (planned P.cmp self.old) (message_of message) ≡ meets fault)) }
     {
         let arrival = self.arrival_at_once(&message, now)?;
         self.pairs
@@ -252,7 +257,7 @@ impl<P: Peer> Working<P> {
     fn happen(&mut self, event: Event, completions: &mut Vec<Completion<P>>) -> Result<(), Error>
         ensures happens { IfOk result (λ done. (cs : List (Completed P)) × (map completed_of completions.new.items ≡ map completed_of completions.old.items ++ cs)
             × Happens P.cmp event (planned P.cmp self.old) (goes cs (planned P.cmp self.new))) }
-        ensures refused { IfErr result (IsRefusedAt P.cmp (moment_of event) (λ fault. Happens P.cmp event (planned P.cmp self.old) (meets fault)) (HappenAccounts P.cmp event (planned P.cmp self.old))) }
+        ensures refused { IfErr result (IsRefusedFor (λ fault. Happens P.cmp event (planned P.cmp self.old) (meets fault))) }
     {
         match event {
             Event::Finish(moment) => {
@@ -270,7 +275,8 @@ impl<P: Peer> Working<P> {
     /// too.
     pub(crate) fn advance(&mut self, now: u64) -> Result<(Vec<Completion<P>>, u128), Error>
         ensures advances { IfOk result (λ answer. Advances P.cmp now (planned P.cmp self.old) answer.1 (goes (map completed_of answer.0.items) (planned P.cmp self.new))) }
-        ensures refused { IfErr result (IsRefusedBy P.cmp (λ fault. (n : ℕ) × Advances P.cmp now (planned P.cmp self.old) n (meets fault)) (λ t q. AdvanceAccounts P.cmp now (planned P.cmp self.old) t q)) }
+        ensures refused { IfErr result (IsRefusedFor
+            (λ fault. (n : ℕ) × Advances P.cmp now (planned P.cmp self.old) n (meets fault))) }
     {
         let mut completions = Vec::new(self.alloc);
         let mut events = 0u128;

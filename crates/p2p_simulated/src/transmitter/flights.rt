@@ -7,20 +7,32 @@ ghost use Rattle.p2p_simulated.specs.Flights.{are_marked};
 
 use super::message::Message;
 use super::progress::Progress;
-use crate::bandwidth::{Flow, Rate};
+use crate::bandwidth::Flow;
 use crate::error::Error;
 use crate::peer::Peer;
-use crate::ratio::Ratio;
+use natural::Natural;
 use std::alloc::{AllocError, Global};
 
+/// Units of what is left in a byte, for each unit of a rate in a byte a second: nanoseconds in a
+/// second.
+const UNITS_A_BYTE: u128 = 1_000_000_000;
+
 /// The messages in flight, in order of start: their flows, and in a second list the rest.
+///
+/// All that is kept of them is whole, in units that they share. A rate is a number of units of
+/// which `scale` are one byte a second. What is left is a number of units of which a billion times
+/// `scale` are one byte, so that a rate is what drains in a nanosecond.
 #[derive(Drop)]
 pub(crate) struct Flights<P: Peer> {
     pub(crate) flows: Vec<Flow<P>>,
     pub(crate) progress: Vec<Progress>,
+    pub(crate) scale: Natural,
+    /// The different rates.
+    pub(crate) levels: Vec<Natural>,
     pub ghost parallel: { length flows.items ≡ length progress.items },
     pub ghost marked: { are_marked P.cmp flows.items progress.items ≡ true },
     pub ghost apart: { are_ascending nat_cmp (map (λ flow. flow.id) flows.items) ≡ true },
+    pub ghost scaled: { 0 < scale },
 }
 
 impl<P: Peer> Flights<P> {
@@ -29,7 +41,7 @@ impl<P: Peer> Flights<P> {
     ghost use Rattle.p2p_simulated.specs.Sides.{same_peer};
     ghost use Rattle.p2p_simulated.specs.WorldPlanned.{Paced};
     ghost use Rattle.p2p_simulated.specs.Message.{message_of};
-    ghost use Rattle.p2p_simulated.specs.Flights.{sending_of};
+    ghost use Rattle.p2p_simulated.specs.InFlight.{in_flight};
 
     pub(crate) fn new(alloc: Global) -> Self
         ensures flows { result.flows.items ≡ [] }
@@ -38,6 +50,8 @@ impl<P: Peer> Flights<P> {
         Flights {
             flows: Vec::new(alloc),
             progress: Vec::new(alloc),
+            scale: Natural::from_u64(alloc, 1),
+            levels: Vec::new(alloc),
         }
     }
 
@@ -59,14 +73,15 @@ impl<P: Peer> Flights<P> {
     /// The message is in flight from now on, under an id above those of the others.
     pub(crate) fn push(&mut self, message: Message<P>, id: u64, now: u64) -> Result<(), Error>
         requires { list_all (λ flow. nat_lt flow.id id) self.old.flows.items ≡ true }
-        ensures sending { OnOk result (sending_of self.new.flows.items self.new.progress.items ≡ sending_of self.old.flows.items self.old.progress.items
+        ensures sending { OnOk result (in_flight self.new ≡ in_flight self.old
             ++ record { message = message_of message; left = whole (length message.bytes); rate = Some (whole 0); updated = now } ∷ []) }
         ensures flow { (test : AnyFlow P → Bool) → list_all test self.old.flows.items ≡ true
             → ((flow : AnyFlow P) → flow.id ≡ id → test flow ≡ true) → list_all test self.new.flows.items ≡ true }
         ensures refused { IfErr result (λ e. e ≡ Error.OutOfMemory) }
     {
         let delivered = message.is_delivered();
-        let left = Ratio::from_whole(message.bytes.len() as u128);
+        let units = message.bytes.len() as u128 * UNITS_A_BYTE;
+        let left = self.scale.product(units)?;
         self.progress.reserve(1)?;
         self.flows.push(Flow {
             id,
@@ -80,7 +95,7 @@ impl<P: Peer> Flights<P> {
             latency: message.latency,
             should_deliver: message.should_deliver,
             left,
-            rate: Rate::Finite(Ratio::zero()),
+            level: None,
             updated: now,
         };
         self.progress.push(progress)?;
@@ -90,8 +105,8 @@ impl<P: Peer> Flights<P> {
     /// Takes the message at that place.
     pub(crate) fn remove(&mut self, at: usize) -> Message<P>
         requires { at < length self.old.flows.items }
-        ensures sending { sending_of self.new.flows.items self.new.progress.items ≡ remove (sending_of self.old.flows.items self.old.progress.items) at }
-        ensures taken { (d : Paced P) → message_of result ≡ (slice_index_or (sending_of self.old.flows.items self.old.progress.items) at d).message }
+        ensures sending { in_flight self.new ≡ remove (in_flight self.old) at }
+        ensures taken { (d : Paced P) → message_of result ≡ (slice_index_or (in_flight self.old) at d).message }
         ensures length { length self.new.flows.items + 1 ≡ length self.old.flows.items }
         ensures others { (test : AnyFlow P → Bool) → list_all test self.old.flows.items ≡ true → list_all test self.new.flows.items ≡ true }
     {
@@ -109,10 +124,9 @@ impl<P: Peer> Flights<P> {
 }
 
 impl<P: Peer> Clone for Flights<P> {
-    ghost use Rattle.std.specs.List.{AllZip};
-    ghost use Rattle.p2p_simulated.specs.Flights.{IsSameFlow};
+    ghost use Rattle.p2p_simulated.specs.InFlight.{IsSameFlights};
 
-    ghost is_clone = { λ flights copy. AllZip (IsSameFlow P.cmp) flights.flows.items copy.flows.items × (copy.progress.items ≡ flights.progress.items) };
+    ghost is_clone = { IsSameFlights P.cmp };
 
     /// The same messages in flight, the peers cloned.
     fn clone(&self) -> Result<Flights<P>, AllocError> {
@@ -121,7 +135,11 @@ impl<P: Peer> Clone for Flights<P> {
             let copy = flow.clone().map_err(|_error| AllocError)?;
             flows.push(copy)?;
         }
-        let progress = self.progress.clone()?;
-        Ok(Flights { flows, progress })
+        Ok(Flights {
+            flows,
+            progress: self.progress.clone()?,
+            scale: self.scale.clone()?,
+            levels: self.levels.clone()?,
+        })
     }
 }

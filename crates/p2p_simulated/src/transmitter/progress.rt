@@ -1,24 +1,25 @@
 //! What is known of a message in flight beside its flow.
-ghost use Rattle.std.specs.Prelude.{◌≡◌, ◌≢◌, ◌-◌, ◌<◌, ◌≤◌, ℕ, Some, slice_get, IfOk, IfErr, OnOk, OnErr};
-ghost use Rattle.std.specs.List.{AllZip};
+ghost use Rattle.std.specs.Prelude.{◌≡◌, ◌≢◌, ◌-◌, ◌*◌, ◌<◌, ◌≤◌, IfErr, OnOk, MatchOption};
+ghost use Rattle.p2p_simulated.specs.FairParts.{product, parts_of_level};
 
-use crate::bandwidth::{Rate, duration, transfer};
 use crate::error::Error;
-use crate::ratio::Ratio;
 use bytes::Bytes;
+use natural::Natural;
 use std::alloc::AllocError;
 
-/// What is known of a message in flight beside its flow.
+/// What is known of a message in flight beside its flow. What is left, and the rates, are whole
+/// numbers of the units that all messages in flight share.
 #[derive(Drop)]
 pub(crate) struct Progress {
     pub(crate) channel: u64,
     pub(crate) bytes: Bytes,
     pub(crate) latency: u64,
     pub(crate) should_deliver: bool,
-    /// The bytes that were left at the moment of the last update.
-    pub(crate) left: Ratio,
-    /// The rate since then.
-    pub(crate) rate: Rate,
+    /// The units that were left at the moment of the last update.
+    pub(crate) left: Natural,
+    /// The place of its rate since then. None is a rate of zero, from its start to the account that
+    /// follows.
+    pub(crate) level: Option<usize>,
     pub(crate) updated: u64,
 }
 
@@ -31,44 +32,63 @@ impl Clone for Progress {
             bytes: self.bytes.slice(..)?,
             latency: self.latency,
             should_deliver: self.should_deliver,
-            left: self.left,
-            rate: self.rate,
+            left: self.left.clone()?,
+            level: self.level,
             updated: self.updated,
         })
     }
 }
 
+/// The rate at that place. None is a rate of zero.
+fn rate_at(levels: &[Natural], level: Option<usize>) -> Option<&Natural>
+    ensures { MatchOption result (parts_of_level levels.now level ≡ 0) (λ rate. rate.now ≡ parts_of_level levels.now level) }
+{
+    levels.get(level?)
+}
+
 impl Progress {
-    ghost use Rattle.p2p_simulated.specs.Ratio.{amount_of};
-    ghost use Rattle.p2p_simulated.specs.Time.{TransferFits, TimeFits, left_after};
     ghost use Rattle.p2p_simulated.specs.WorldPlanned.{IsLeastMoment};
+    ghost use Rattle.p2p_simulated.specs.Progress.{DrainsTo, GrowsBy};
 
     /// Drains to that moment at the rate since the last update.
-    pub(crate) fn drain(&mut self, now: u64) -> Result<(), Error>
-        ensures left { OnOk result (amount_of self.new.left ≡ left_after self.old.rate (now - self.old.updated) (amount_of self.old.left)) }
-        ensures rest { OnOk result (self.new ≡ record self.old { left = self.new.left; updated = now }) }
-        ensures err { OnErr result (self.new ≡ self.old) }
-        ensures refused { IfErr result (λ e. (e ≡ Error.NumberTooLarge) × ¬ TransferFits self.old.rate (now - self.old.updated) (amount_of self.old.left)) }
+    pub(crate) fn drain(&mut self, levels: &[Natural], now: u64)
+        ensures { DrainsTo levels.now now self.old self.new }
     {
         let elapsed = now.saturating_sub(self.updated);
-        self.left = transfer(&self.rate, elapsed, self.left)?;
+        if let Some(rate) = rate_at(levels, self.level) {
+            self.left.sub_times(rate, elapsed);
+        }
         self.updated = now;
+    }
+
+    /// What is left counts in smaller units, of which so many times as many are needed.
+    pub(crate) fn grow(&mut self, growth: &[u64]) -> Result<(), Error>
+        ensures grown { OnOk result (GrowsBy (product growth.now) self.old self.new) }
+        ensures rest { self.new ≡ record self.old { left = self.new.left } }
+        ensures refused { IfErr result (λ e. e ≡ Error.OutOfMemory) }
+    {
+        for factor in growth {
+            self.left.multiply(*factor)?;
+        }
         Ok(())
     }
 
-    /// That moment is the update, and that the rate from then on. Answers the first moment at which
-    /// nothing is left then.
-    pub(crate) fn set_rate(&mut self, rate: Rate, now: u64) -> Result<Option<u64>, Error>
-        requires { (amount_of self.old.left).num ≢ 0 }
-        ensures after { self.new ≡ record self.old { rate = rate; updated = now } }
-        ensures finish { IfOk result (IsLeastMoment (λ s. (now ≤ s) × ((left_after rate (s - now) (amount_of self.old.left)).num ≡ 0))) }
-        ensures refused { IfErr result (λ e. (e ≡ Error.NumberTooLarge) × ¬ TimeFits rate (amount_of self.old.left)) }
+    /// That moment is the update, and the rate from then on is the one at that place. Answers the
+    /// first moment at which nothing is left then.
+    pub(crate) fn set_level(
+        &mut self,
+        level: Option<usize>,
+        levels: &[Natural],
+        now: u64,
+    ) -> Option<u64>
+        requires { self.old.left ≢ 0 }
+        ensures after { self.new ≡ record self.old { level = level; updated = now } }
+        ensures finish { IsLeastMoment (λ s. (now ≤ s) × (self.old.left ≤ parts_of_level levels.now level * (s - now))) result }
     {
-        self.rate = rate;
+        self.level = level;
         self.updated = now;
-        match duration(&rate, &self.left)? {
-            None => Ok(None),
-            Some(time) => Ok(now.checked_add(time)),
-        }
+        let rate = rate_at(levels, level)?;
+        let time = self.left.least_multiple(rate)?;
+        now.checked_add(time)
     }
 }

@@ -100,25 +100,30 @@ fn calls_go_on_after_refusals(rt: HostRuntime) -> Result<(), Error> {
     Ok(())
 }
 
-/// The fractions of an amount that drains at one share after another grow past 128 bits. The call
-/// that meets this is refused, and the calls after it are made.
+/// The parts of an amount that drains at one share after another grow past 128 bits. All is answered
+/// exactly.
 #[test]
-fn a_fraction_that_does_not_fit_is_refused(rt: HostRuntime) -> Result<(), Error> {
+fn parts_past_128_bits_are_answered(rt: HostRuntime) -> Result<(), Error> {
     let mut p = begin::<u64>(rt.alloc());
     p.limit(0, 1, Some(4_294_967_291), None)?;
     p.done(&[])?;
-    let mut all = Vec::new(rt.alloc());
-    for place in 0..52u8 {
-        p.send(from_to(1, 2 + place).of(4096).at(place as u64))?;
+    let mut others = Vec::new(rt.alloc());
+    for place in 0..60u8 {
+        let now = place as u64;
+        p.send(from_to(1, 2 + place).of(4096).at(now))?;
         p.done(&[])?;
-        all.push((place as usize, Some(51)))?;
+        if place > 50 {
+            p.next(Some(49_408 + 949 * (now - 51)))?;
+        }
+        if place > 0 {
+            others.push((place as usize, Some(51)))?;
+        }
     }
-    p.next(Some(49_408))?;
-    p.send(from_to(1, 54).of(4096).at(52))?;
-    p.refused(Error::NumberTooLarge)?;
-    p.next(Some(49_408))?;
+    p.advance(57_000)?;
+    p.done(&[(0, Some(57_000))])?;
+    p.next(Some(57_059))?;
     p.limit(51, 1, None, None)?;
-    p.done(&all)?;
+    p.done(&others)?;
     p.next(None)?;
     p.expect(&rt);
     Ok(())

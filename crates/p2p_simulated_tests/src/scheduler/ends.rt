@@ -27,6 +27,19 @@ fn an_arrival_past_the_last_moment_is_refused(rt: HostRuntime) {
     p.expect_next(&rt, Some(LAST));
 }
 
+/// What is dropped never arrives, so it is not late: a message that is to be dropped, and one to
+/// oneself.
+#[test]
+fn a_dropped_message_is_never_late(rt: HostRuntime) {
+    for parcel in [from_to(1, 2).lost(), from_to(1, 1)] {
+        let mut p = begin(rt.alloc());
+        p.limits(&rt, 0, 1, Some(1), None);
+        p.sends(&rt, parcel.at(LAST - SECOND).after(LAST), &[]);
+        p.walk(&rt, &[(LAST, [(0, None)].as_slice())]);
+        p.sends(&rt, parcel.of(0).at(LAST).after(LAST), &[(1, None)]);
+    }
+}
+
 #[test]
 fn a_finish_past_the_last_moment_is_no_event(rt: HostRuntime) {
     let mut p = begin(rt.alloc());

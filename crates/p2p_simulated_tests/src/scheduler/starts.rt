@@ -88,3 +88,18 @@ fn a_lost_message_does_not_lower_the_last_arrival(rt: HostRuntime) {
     p.sends(&rt, from_to(1, 2).of(0), &[]);
     p.walk(&rt, &[(100, [(2, Some(100))].as_slice())]);
 }
+
+/// Two pairs of different origins may start at one moment. The pair of the lesser origin starts
+/// first, though its recipient is greater and it was sent later.
+#[test]
+fn pairs_of_different_origins_start_in_their_order(rt: HostRuntime) {
+    let mut p = begin(rt.alloc());
+    p.sends(&rt, from_to(2, 3).after(100), &[(0, Some(100))]);
+    p.sends(&rt, from_to(1, 4).after(100), &[(1, Some(100))]);
+    p.limits(&rt, 0, 9, None, None);
+    p.sends(&rt, from_to(2, 3), &[]);
+    p.sends(&rt, from_to(1, 4), &[]);
+    p.expect_next(&rt, Some(100));
+    p.expect_counted(&rt, 100, &[(3, Some(100)), (2, Some(100))], 1);
+    p.expect_next(&rt, None);
+}

@@ -16,6 +16,26 @@ fn a_link_has_a_cap_of_its_own(rt: HostRuntime) {
     p.walk(&rt, &[(2500 * MILLI, [(0, Some(2500 * MILLI))].as_slice())]);
 }
 
+/// A link from a greater peer to a lesser one, beside one the other way.
+#[test]
+fn a_link_may_lead_to_a_lesser_peer(rt: HostRuntime) {
+    let mut p = begin(rt.alloc());
+    let answer = p.link(0, 2, 1, Some(100));
+    p.expect(&rt, answer, &[]);
+    p.sends(&rt, from_to(2, 1).of(100), &[]);
+    p.sends(&rt, from_to(1, 2).of(100), &[(1, Some(0))]);
+    let answer = p.link(0, 1, 2, Some(50));
+    p.expect(&rt, answer, &[]);
+    p.sends(&rt, from_to(1, 2).of(100), &[]);
+    p.walk(
+        &rt,
+        &[
+            (SECOND, [(0, Some(SECOND))].as_slice()),
+            (2 * SECOND, [(2, Some(2 * SECOND))].as_slice()),
+        ],
+    );
+}
+
 #[test]
 fn a_link_to_oneself_holds(rt: HostRuntime) {
     let mut p = begin(rt.alloc());

@@ -11,15 +11,14 @@ use Rattle.p2p_simulated.specs.WorldIsolation.{InTime}
 use Rattle.p2p_simulated.specs.WorldRefusals.{Obeyed}
 use Rattle.p2p_simulated.specs.WorldReplies.{Agrees}
 use Rattle.p2p_simulated.proofs.World.Agreeing.{obeyed_agree}
-use Rattle.p2p_simulated.proofs.World.Orderly.{new_orderly}
-use Rattle.p2p_simulated.proofs.World.ConservedAlike.{obeyed_conserved}
+use Rattle.p2p_simulated.proofs.World.ConservedSoFar.{conserved_so_far}
 use Rattle.p2p_simulated.proofs.World.RepliesInRange.{refuses_for_memory}
 use Rattle.p2p_simulated.proofs.World.RepliesInOrder.{pairs_complete_in_order, sets_are_isolated}
 use Rattle.p2p_simulated.proofs.replay.replay.Goals as goal
 
 pub loop-call-init : goal.loop-call-init
 loop-call-init g c = begins g.P.Ord.cmp g.met.P.Ord.total (new_planned 0) (planned g.P.Ord.cmp c.new-state.result.kept) (map call_of c.args.calls.now) (map reply_of c.in_ok-replies.replies.items) (vec_len c.in_ok-replies.replies) (vec_capacity c.in_ok-replies.replies)
-    (ap (map reply_of) c.in_ok-replies.ensures.items) c.in_ok-replies.ensures.len (subst (λ n. n ≤ vec_capacity c.in_ok-replies.replies) (sym (length-map c.args.calls.now call_of)) c.in_ok-replies.ensures.capacity) c.new-state.ensures.planned
+    (ap (map reply_of) c.in_ok-replies.ensures.items) c.in_ok-replies.ensures.len (subst (λ n. n ≤ vec_capacity c.in_ok-replies.replies) (sym (length-map c.args.calls.now call_of)) c.in_ok-replies.ensures.capacity) c.new-state.ensures.new.planned
 
 pub unwrap-requires : goal.unwrap-requires
 unwrap-requires g c = c.push.ensures.succeeds (has_room g.P.Ord.cmp g.met.P.Ord.total (new_planned 0) (map call_of c.args.calls.now) c.loop-call.call-index (map reply_of c.loop-call.replies.items) (vec_len c.loop-call.replies) (vec_capacity c.loop-call.replies) (planned g.P.Ord.cmp c.loop-call.state.kept)
@@ -33,12 +32,12 @@ loop-call-preserved g c =
     (ap call_of c.call-item.is ∙ sym (get_or-map call_of c.args.calls.now c.loop-call.call-index c.call-item.result (call_of c.call-item.result) c.loop-call-test.true)) c.push.ensures.capacity c.answer.ensures.in_time c.answer.ensures.reply)
 
 -- all calls are replied to by the event rule, and come at moments
-replied : (g : _) (c : goal.After-drop-state-4 g) → Obeyed g.P.Ord.cmp (new_planned 0) (map call_of c.args.calls.now) (map reply_of c.loop-call.replies.items) × InTime (map call_of c.args.calls.now)
+replied : (g : _) (c : goal.After-drop-state-6 g) → Obeyed g.P.Ord.cmp (new_planned 0) (map call_of c.args.calls.now) (map reply_of c.loop-call.replies.items) × InTime (map call_of c.args.calls.now)
 replied g c = ends g.P.Ord.cmp g.met.P.Ord.total (new_planned 0) (map call_of c.args.calls.now) c.loop-call.call-index (map reply_of c.loop-call.replies.items) (vec_len c.loop-call.replies) (vec_capacity c.loop-call.replies) (planned g.P.Ord.cmp c.loop-call.state.kept) c.loop-call.invariant
     (subst (λ n. n ≤ c.loop-call.call-index) (sym (length-map c.args.calls.now call_of)) c.loop-call-test.false)
 
 -- and so they are those of the simulation
-agreed : (g : _) (c : goal.After-drop-state-4 g) → Agrees g.P.Ord.cmp (new_world 0) [] (map call_of c.args.calls.now) (map reply_of c.loop-call.replies.items)
+agreed : (g : _) (c : goal.After-drop-state-6 g) → Agrees g.P.Ord.cmp (new_world 0) (map call_of c.args.calls.now) (map reply_of c.loop-call.replies.items)
 agreed g c = obeyed_agree g.P.Ord.cmp g.met.P.Ord.total (map call_of c.args.calls.now) (map reply_of c.loop-call.replies.items) (replied g c).1 (replied g c).0
 
 pub returns-clause-obeyed : goal.returns-clause-obeyed
@@ -54,7 +53,7 @@ pub returns-clause-in_range : goal.returns-clause-in_range
 returns-clause-in_range g c = refuses_for_memory g.P.Ord.cmp g.met.P.Ord.total (map call_of c.args.calls.now) (map reply_of c.loop-call.replies.items) (replied g c).0
 
 pub returns-clause-conserved : goal.returns-clause-conserved
-returns-clause-conserved g c = obeyed_conserved g.P.Ord.cmp g.met.P.Ord.total (new_planned 0) (map call_of c.args.calls.now) (map reply_of c.loop-call.replies.items) (new_orderly g.P.Ord.cmp g.met.P.Ord.total 0) (replied g c).0
+returns-clause-conserved g c = conserved_so_far g.P.Ord.cmp g.met.P.Ord.total 0 (map call_of c.args.calls.now) (map reply_of c.loop-call.replies.items) (replied g c).0
 
 pub returns-clause-order : goal.returns-clause-order
 returns-clause-order g c = pairs_complete_in_order g.P.Ord.cmp g.met.P.Ord.total (map call_of c.args.calls.now) (map reply_of c.loop-call.replies.items) (agreed g c)

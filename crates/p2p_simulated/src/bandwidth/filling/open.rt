@@ -1,70 +1,117 @@
 //! A side while the flows rise.
-ghost use Rattle.std.specs.Prelude.{◌≡◌, ◌<◌, IfSome, IfNone, OnSome, All, List, Option, length};
-ghost use Rattle.std.specs.Bool.{MatchBool};
-ghost use Rattle.p2p_simulated.specs.Amount.{whole};
-ghost use Rattle.p2p_simulated.specs.Fair.{Side as WholeSide};
-ghost use Rattle.p2p_simulated.specs.Filling.{AllRise, KeepsAccount, IsUnchanged, IsShareOf, CannotFit};
-ghost use Rattle.p2p_simulated.specs.Ratio.{amount_of};
-ghost use Rattle.p2p_simulated.specs.declared.ratio.Ratio.{Ratio as Fraction};
+ghost use Rattle.std.specs.Prelude.{◌<◌, Some, length};
+ghost use Rattle.std.specs.Cmp.{partial_equiv_from_equiv, eq_by_cmp_equiv, partial_order_from_total};
+ghost use Rattle.std.specs.Ordering.{eq_by_cmp};
+ghost use Rattle.std.proofs.Common.{refl};
+ghost use Rattle.p2p_simulated.specs.Fraction.{fraction_cmp};
+ghost use Rattle.p2p_simulated.specs.Laws.FractionOrder.{fraction_total};
 
-use crate::bandwidth::sides::Side;
-use crate::ratio::Ratio;
+use natural::Natural;
+use std::alloc::AllocError;
+use std::cmp::Ordering;
 
-/// A side while the flows rise: its cap, what the users counted as frozen have together, and the
-/// other users.
-#[derive(Debug, Drop)]
+/// A side of which some users rise. Sides are compared by their shares: the slack for each rising
+/// user.
+#[derive(Drop)]
 pub(crate) struct OpenSide {
-    pub(crate) cap: u128,
-    pub(crate) taken: Ratio,
+    /// What the users that are counted as frozen leave of the cap, in parts.
+    pub(crate) slack: Natural,
+    /// The other users.
     pub(crate) rising: Vec<usize>,
+    pub(crate) ghost some: { 0 < length rising.items },
+}
+
+impl PartialEq for OpenSide {
+    ghost eq = { eq_by_cmp (λ x y. fraction_cmp x.slack (length x.rising.items) y.slack (length y.rising.items)) };
+
+    ghost laws = { partial_equiv_from_equiv (eq_by_cmp_equiv (fraction_total (λ x. x.slack) (λ x. length x.rising.items) (λ x. x.some))) };
+
+    fn eq(&self, other: &OpenSide) -> bool {
+        self.cmp(other).is_eq()
+    }
+}
+
+impl Eq for OpenSide {
+    ghost laws = { eq_by_cmp_equiv (fraction_total (λ x. x.slack) (λ x. length x.rising.items) (λ x. x.some)) };
+}
+
+impl PartialOrd for OpenSide {
+    ghost partial_cmp = { λ x y. Some (fraction_cmp x.slack (length x.rising.items) y.slack (length y.rising.items)) };
+
+    ghost laws = { partial_order_from_total (fraction_total (λ x. x.slack) (λ x. length x.rising.items) (λ x. x.some)) };
+
+    fn partial_cmp(&self, other: &OpenSide) -> Option<Ordering> {
+        Some(self.cmp(other))
+    }
+}
+
+impl Ord for OpenSide {
+    ghost cmp = { λ x y. fraction_cmp x.slack (length x.rising.items) y.slack (length y.rising.items) };
+
+    ghost total = { fraction_total (λ x. x.slack) (λ x. length x.rising.items) (λ x. x.some) };
+
+    ghost matches_partial_cmp = { λ x y. refl };
+
+    ghost matches_eq = { λ x y. refl };
+
+    fn cmp(&self, other: &OpenSide) -> Ordering {
+        let count = self.rising.len() as u64;
+        let other_count = other.rising.len() as u64;
+        self.slack.compare_times(other_count, &other.slack, count)
+    }
 }
 
 impl OpenSide {
-    /// No user is counted.
-    pub(crate) fn new(side: Side) -> OpenSide
-        ensures cap { result.cap ≡ side.cap }
-        ensures taken { amount_of result.taken ≡ whole 0 }
-        ensures rising { result.rising.items ≡ side.users.items }
-    {
-        let Side { cap, users } = side;
-        OpenSide {
-            cap,
-            taken: Ratio::zero(),
-            rising: users,
-        }
-    }
+    ghost use Rattle.std.specs.Prelude.{◌≡◌, ℕ, ◌⊎◌, All, IfSome, IfOk, MatchOption};
+    ghost use Rattle.p2p_simulated.specs.Fair.{Side as WholeSide};
+    ghost use Rattle.p2p_simulated.specs.Filling.{frozen_at, AllRise, AllFrozen, AreInside, HaveNoMore, IsWithin, KeepsAccount, IsGrown};
 
-    /// Counts the users that froze since. Answers whether there are any, or `None` where what the
-    /// counted ones have together does not fit.
-    pub(crate) fn count_frozen(&mut self, rates: &[Option<Ratio>]) -> Option<bool>
-        requires { All (λ flow. flow < length rates.now) self.old.rising.items }
-        ensures account { OnSome result ((side : WholeSide) → KeepsAccount side rates.now self.old → KeepsAccount side rates.now self.new) }
-        ensures users { OnSome result (All (λ flow. flow < length rates.now) self.new.rising.items) }
-        ensures rising { OnSome result (AllRise rates.now self.new.rising.items) }
-        ensures changed { IfSome result (λ changed. MatchBool changed (length self.new.rising.items < length self.old.rising.items) (IsUnchanged self.old self.new)) }
-        ensures too_large { IfNone result (CannotFit rates.now self.old) }
+    /// Counts the users that froze since. `None` where all are frozen now.
+    pub(crate) fn count_frozen(
+        self,
+        levels: &[Natural],
+        level_of: &[Option<usize>],
+    ) -> Option<OpenSide>
+        requires users { All (λ flow. flow < length level_of.now) self.rising.items }
+        requires inside { AreInside levels.now level_of.now }
+        requires no_more { HaveNoMore (frozen_at levels.now level_of.now) self.slack self.rising.items }
+        ensures account { (side : WholeSide) (scale : ℕ)
+            → KeepsAccount side scale (frozen_at levels.now level_of.now) self.slack self.rising.items
+            → MatchOption result (AllFrozen (frozen_at levels.now level_of.now) side.users)
+            (λ new. KeepsAccount side scale (frozen_at levels.now level_of.now) new.slack new.rising.items) }
+        ensures users { IfSome result (λ new. All (λ flow. flow < length level_of.now) new.rising.items) }
+        ensures rise { IfSome result (λ new. AllRise (frozen_at levels.now level_of.now) new.rising.items) }
+        ensures no_lower { IfSome result (λ new. (parts : ℕ)
+            → IsWithin parts self.slack self.rising.items → IsWithin parts new.slack new.rising.items) }
+        ensures changed { IfSome result (λ new. (length new.rising.items < length self.rising.items)
+            ⊎ ((new.slack ≡ self.slack) × (length new.rising.items ≡ length self.rising.items))) }
     {
-        let before = self.rising.len();
+        let OpenSide {
+            mut slack,
+            mut rising,
+        } = self;
         let mut place = 0;
-        while place < self.rising.len() {
-            match rates[self.rising[place]] {
-                Some(rate) => {
-                    self.taken = self.taken.checked_add(rate)?;
-                    self.rising.swap_remove(place);
+        while place < rising.len() {
+            match level_of[rising[place]] {
+                Some(level) => {
+                    slack.sub_assign(&levels[level]);
+                    rising.swap_remove(place);
                 }
                 None => place += 1,
             }
         }
-        Some(self.rising.len() < before)
+        if rising.is_empty() {
+            return None;
+        }
+        Some(OpenSide { slack, rising })
     }
 
-    /// What is left of the cap for each user that is not counted. `None` where that does not fit.
-    pub(crate) fn share(&self) -> Option<Ratio>
-        requires { 0 < length self.now.rising.items }
-        ensures share { IfSome result (IsShareOf self.now) }
-        ensures too_large { IfNone result ((rates : List (Option Fraction)) → CannotFit rates self.now) }
+    /// The same side at a scale so many times as great.
+    pub(crate) fn grown(self, factor: u64) -> Result<OpenSide, AllocError>
+        ensures { IfOk result (λ new. IsGrown factor self new) }
     {
-        let left = Ratio::from_whole(self.cap).checked_sub(self.taken)?;
-        left.checked_div(Ratio::from_whole(self.rising.len() as u128))
+        let OpenSide { mut slack, rising } = self;
+        slack.multiply(factor)?;
+        Ok(OpenSide { slack, rising })
     }
 }

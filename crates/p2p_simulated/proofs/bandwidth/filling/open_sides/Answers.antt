@@ -1,17 +1,30 @@
-use Rattle.std.proofs.Common.{◌≡◌, All, sym, subst, ap₂}
-use Rattle.std.proofs.lemmas.List.Elements.{All-push}
-use Rattle.p2p_simulated.specs.Amount.{whole}
-use Rattle.p2p_simulated.specs.Ratio.{amount_of}
-use Rattle.p2p_simulated.specs.declared.bandwidth.filling.open.OpenSide.{OpenSide}
-use Rattle.p2p_simulated.proofs.Filling.Course.{opened_more, side_with}
+use Rattle.std.proofs.Common.{◌∷◌, [], refl, subst, sym, length-append, arith}
+use Rattle.std.specs.BinaryHeap.{heap_items}
+use Rattle.std.proofs.lemmas.Grind.{common_steps}
+use Rattle.p2p_simulated.specs.declared.bandwidth.sides.Side.{Side}
+use Rattle.p2p_simulated.specs.Filling.{AreOpened}
+use Rattle.p2p_simulated.proofs.Filling.Queue.{opened_none, opened_more, opened_without}
 use Rattle.p2p_simulated.proofs.bandwidth.filling.open_sides.Goals as goal
 
+pub loop-side-init : goal.loop-side-init
+loop-side-init c = record {
+  opened = subst (AreOpened c.args.scale.now []) (sym c.in_ok-queue.ensures.items) (opened_none c.args.scale.now);
+  order = c.in_ok-queue.ensures.heap_order;
+  count = omega (arith, c.in_ok-queue.ensures.len);
+}
+
+pub loop-side-preserved-in-Continue-branch-3 : goal.loop-side-preserved-in-Continue-branch-3
+loop-side-preserved-in-Continue-branch-3 c = record {
+  opened = opened_more c.args.scale.now c.loop-side.yielded c.in-Some.side (heap_items c.loop-side.queue) c.loop-side.invariant.opened (heap_items c.push.new.self) c.in_ok-push.ensures.permutation
+      c.in_ok-slack.ensures.value refl;
+  order = c.in_ok-push.ensures.heap_order c.loop-side.invariant.order;
+  count = omega (arith, c.in_ok-push.ensures.len, c.loop-side.invariant.count, length-append {A = Side} c.loop-side.yielded (c.in-Some.side ∷ []));
+}
+
 pub loop-side-preserved : goal.loop-side-preserved
-loop-side-preserved c =
-    let opens = c.loop-side.opened.items in
-    let new = c.new.result in
-    let items = c.in_ok-push.ensures.items in
-    record {
-      same = opened_more opens c.push.new.self.items c.loop-side.yielded c.in-Some.side new items (ap₂ side_with c.new.ensures.cap c.new.ensures.rising) c.loop-side.invariant.same;
-      none_counted = subst (All (λ (side : OpenSide). amount_of side.taken ≡ whole 0)) (sym items) (All-push (λ (side : OpenSide). amount_of side.taken ≡ whole 0) opens new c.loop-side.invariant.none_counted c.new.ensures.taken);
-    }
+loop-side-preserved c = record {
+  opened = opened_without c.args.scale.now c.loop-side.yielded c.in-Some.side (heap_items c.loop-side.queue) c.loop-side.invariant.opened
+      (grind (arith, common_steps, c.is_empty.ensures, c.if-not-is_empty.false));
+  order = c.loop-side.invariant.order;
+  count = omega (arith, c.loop-side.invariant.count, length-append {A = Side} c.loop-side.yielded (c.in-Some.side ∷ []));
+}

@@ -1,12 +1,11 @@
-use Rattle.std.proofs.Common.{◌≡◌, map, All}
-use Rattle.p2p_simulated.specs.Amount.{whole}
-use Rattle.p2p_simulated.specs.Code.{side_of}
-use Rattle.p2p_simulated.specs.Filling.{whole_side}
-use Rattle.p2p_simulated.specs.Ratio.{amount_of}
+use Rattle.std.proofs.Common.{◌≤◌, length}
+use Rattle.std.specs.BinaryHeap.{heap_items, heap_len, IsHeap}
+use Rattle.p2p_simulated.specs.Filling.{AreOpened, queue_cmp}
 use Rattle.p2p_simulated.proofs.bandwidth.filling.open_sides.Given as goal
 
 abbrev pub invariant-loop-side : goal.invariant-loop-side
 invariant-loop-side l = record {
-  same : map whole_side l.opened.items ≡ map side_of l.yielded;
-  none_counted : All (λ side. amount_of side.taken ≡ whole 0) l.opened.items;
+  opened : AreOpened l.scale l.yielded (heap_items l.queue);
+  order : IsHeap queue_cmp (heap_items l.queue);
+  count : heap_len l.queue ≤ length l.yielded;
 }

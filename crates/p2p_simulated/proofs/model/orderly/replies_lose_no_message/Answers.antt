@@ -1,7 +1,5 @@
-use Rattle.p2p_simulated.specs.WorldPlanned.{new_planned}
-use Rattle.p2p_simulated.proofs.World.Orderly.{new_orderly}
-use Rattle.p2p_simulated.proofs.World.ConservedAlike.{obeyed_conserved}
+use Rattle.p2p_simulated.proofs.World.ConservedSoFar.{conserved_so_far}
 use Rattle.p2p_simulated.proofs.model.orderly.replies_lose_no_message.Goals as goal
 
 pub returns : goal.returns
-returns g c = λ id calls replies obeyed. obeyed_conserved g.P.Ord.cmp g.met.P.Ord.total (new_planned id) calls replies (new_orderly g.P.Ord.cmp g.met.P.Ord.total id) obeyed
+returns g c = conserved_so_far g.P.Ord.cmp g.met.P.Ord.total

@@ -10,4 +10,4 @@ use Rattle.p2p_simulated.proofs.model.rows.a_follower_keeps_behind.Goals as goal
 
 pub returns : goal.returns
 unfolding reduced gcd_within
-returns c = answers_agree nat_cmp nat_cmp_total (evenly 1_000_000_000) 20 (call_limit 0 1 a_byte_a_nanosecond None ∷ call_enqueue 0 (message 1 2 4 3) ∷ call_enqueue 0 (message 1 2 2 1) ∷ call_next ∷ call_advance 4 ∷ call_next ∷ call_advance 6 ∷ call_next ∷ call_advance 8 ∷ call_next ∷ []) (new_world 0) [] refl
+returns c = answers_agree nat_cmp nat_cmp_total (evenly 1_000_000_000) 20 (call_limit 0 1 a_byte_a_nanosecond None ∷ call_enqueue 0 (message 1 2 4 3) ∷ call_enqueue 0 (message 1 2 2 1) ∷ call_next ∷ call_advance 4 ∷ call_next ∷ call_advance 6 ∷ call_next ∷ call_advance 8 ∷ call_next ∷ []) (new_world 0) refl

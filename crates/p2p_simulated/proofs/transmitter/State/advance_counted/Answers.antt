@@ -8,16 +8,11 @@ use Rattle.p2p_simulated.specs.SamePlanned.{Goes}
 use Rattle.p2p_simulated.proofs.Calling.{advance_refused, advances_on, counted_goes}
 use Rattle.p2p_simulated.proofs.World.SameIsPlanned.{planned_on, few_on}
 use Rattle.p2p_simulated.proofs.Accounting.{looked_up, arrivals_looked_up}
-use Rattle.p2p_simulated.proofs.Promises.{orderly_on, Promised, promised_if, cause_of, split_on, within_caps_on}
+use Rattle.p2p_simulated.proofs.Promises.{orderly_on, promised_if, cause_of, split_on, within_caps_on}
 use Rattle.p2p_simulated.proofs.transmitter.State.advance_counted.Goals as goal
 
 pub returns-in_err-completions-clause-refused : goal.returns-in_err-completions-clause-refused
 returns-in_err-completions-clause-refused g c =
-    let p = err_from_is_err_and c.from_residual-in_err-completions.result c.from_residual-in_err-completions.ensures.1 in
-    rw (p.1, p.2) (advance_refused g.P.Ord.cmp g.met.P.Ord.total c.args.now (planned g.P.Ord.cmp c.args.self.now.kept) (planned g.P.Ord.cmp c.in_ok-working.working) c.in_ok-working.ensures.cases _ c.in_err-completions.ensures.refused)
-
-pub returns-in_err-completions-clause-cause : goal.returns-in_err-completions-clause-cause
-returns-in_err-completions-clause-cause g c =
     let p = err_from_is_err_and c.from_residual-in_err-completions.result c.from_residual-in_err-completions.ensures.1 in
     rw (p.1, p.2) (cause_of g.P.Ord.cmp g.met.P.Ord.total (planned g.P.Ord.cmp c.args.self.now.kept) (call_advance c.args.now) c.args.now _ refl c.ranges.now.fits
     (advance_refused g.P.Ord.cmp g.met.P.Ord.total c.args.now (planned g.P.Ord.cmp c.args.self.now.kept) (planned g.P.Ord.cmp c.in_ok-working.working) c.in_ok-working.ensures.cases _ c.in_err-completions.ensures.refused))
@@ -40,37 +35,24 @@ invariant_of-self-clause-orderly g c = orderly_on g.P.Ord.cmp g.met.P.Ord.total 
     (map completed_of c.in_ok-completions.completions.items) c.in_ok-working.ensures.cases c.args.self.now.orderly
     (c.in_ok-completions.events, c.in_ok-completions.ensures.advances)
 
-pub returns-clause-advances : goal.returns-clause-advances
-returns-clause-advances g c = advances_on g.P.Ord.cmp g.met.P.Ord.total c.args.now c.in_ok-completions.events (planned g.P.Ord.cmp c.args.self.now.kept) (planned g.P.Ord.cmp c.in_ok-working.working) (planned g.P.Ord.cmp c.advance.new.self)
-    (map completed_of c.in_ok-completions.completions.items) c.in_ok-working.ensures.cases c.in_ok-completions.ensures.advances
-
-pub returns-clause-few : goal.returns-clause-few
-returns-clause-few g c = few_on g.P.Ord.cmp g.met.P.Ord.total c.args.now c.in_ok-completions.events (planned g.P.Ord.cmp c.args.self.now.kept) (planned g.P.Ord.cmp c.in_ok-working.working)
-    (goes (map completed_of c.in_ok-completions.completions.items) (planned g.P.Ord.cmp c.advance.new.self)) c.in_ok-working.ensures.cases c.args.self.now.right c.in_ok-completions.ensures.advances
+pub returns-clause-counted : goal.returns-clause-counted
+returns-clause-counted g c = record {
+  by_rule = advances_on g.P.Ord.cmp g.met.P.Ord.total c.args.now c.in_ok-completions.events (planned g.P.Ord.cmp c.args.self.now.kept) (planned g.P.Ord.cmp c.in_ok-working.working) (planned g.P.Ord.cmp c.advance.new.self)
+      (map completed_of c.in_ok-completions.completions.items) c.in_ok-working.ensures.cases c.in_ok-completions.ensures.advances;
+  few = few_on g.P.Ord.cmp g.met.P.Ord.total c.args.now c.in_ok-completions.events (planned g.P.Ord.cmp c.args.self.now.kept) (planned g.P.Ord.cmp c.in_ok-working.working)
+      (goes (map completed_of c.in_ok-completions.completions.items) (planned g.P.Ord.cmp c.advance.new.self)) c.in_ok-working.ensures.cases c.args.self.now.right c.in_ok-completions.ensures.advances;
+}
 
 -- the advance goes, as it was counted
-went : (g : _) (c : goal.After-drop-self-4 g) → Goes g.P.Ord.cmp (planned g.P.Ord.cmp c.args.self.now.kept) (call_advance c.args.now) (map completed_of c.in_ok-completions.completions.items) (planned g.P.Ord.cmp c.advance.new.self)
-went g c = counted_goes g.P.Ord.cmp g.met.P.Ord.total c.args.now c.in_ok-completions.events (planned g.P.Ord.cmp c.args.self.now.kept) (planned g.P.Ord.cmp c.advance.new.self) (map completed_of c.in_ok-completions.completions.items) (returns-clause-advances g c)
+went : (g : _) (c : goal.After-drop-self-6 g) → Goes g.P.Ord.cmp (planned g.P.Ord.cmp c.args.self.now.kept) (call_advance c.args.now) (map completed_of c.in_ok-completions.completions.items) (planned g.P.Ord.cmp c.advance.new.self)
+went g c = counted_goes g.P.Ord.cmp g.met.P.Ord.total c.args.now c.in_ok-completions.events (planned g.P.Ord.cmp c.args.self.now.kept) (planned g.P.Ord.cmp c.advance.new.self) (map completed_of c.in_ok-completions.completions.items) (returns-clause-counted g c).by_rule
 
--- what is promised of the call
-promised : (g : _) (c : goal.After-drop-self-4 g) → Promised g.P.Ord.cmp g.met.P.Ord.total (planned g.P.Ord.cmp c.args.self.now.kept) (call_advance c.args.now) (map completed_of c.in_ok-completions.completions.items) (planned g.P.Ord.cmp c.advance.new.self)
-promised g c = promised_if g.P.Ord.cmp g.met.P.Ord.total (planned g.P.Ord.cmp c.args.self.now.kept) (planned g.P.Ord.cmp c.advance.new.self) (call_advance c.args.now) c.args.now
+pub returns-clause-made : goal.returns-clause-made
+returns-clause-made g c = promised_if g.P.Ord.cmp g.met.P.Ord.total (planned g.P.Ord.cmp c.args.self.now.kept) (planned g.P.Ord.cmp c.advance.new.self) (call_advance c.args.now) c.args.now
     (map completed_of c.in_ok-completions.completions.items) refl c.ranges.now.fits c.args.self.now.orderly (went g c)
 
-pub returns-clause-simulated : goal.returns-clause-simulated
-returns-clause-simulated g c = (promised g c).simulated
-
-pub returns-clause-in_range : goal.returns-clause-in_range
-returns-clause-in_range g c = (promised g c).in_range
-
-pub returns-clause-conserved : goal.returns-clause-conserved
-returns-clause-conserved g c = (promised g c).conserved
-
-pub returns-clause-rated : goal.returns-clause-rated
-returns-clause-rated g c = (promised g c).rated
-
-pub returns-clause-split : goal.returns-clause-split
-returns-clause-split g c = split_on g.P.Ord.cmp g.met.P.Ord.total (planned g.P.Ord.cmp c.args.self.now.kept) (planned g.P.Ord.cmp c.advance.new.self) c.args.now (map completed_of c.in_ok-completions.completions.items) c.ranges.now.fits (went g c)
-
-pub returns-clause-within_caps : goal.returns-clause-within_caps
-returns-clause-within_caps g c = within_caps_on g.P.Ord.cmp g.met.P.Ord.total (planned g.P.Ord.cmp c.args.self.now.kept) (planned g.P.Ord.cmp c.advance.new.self) c.args.now (map completed_of c.in_ok-completions.completions.items) c.ranges.now.fits (went g c)
+pub returns-clause-advanced : goal.returns-clause-advanced
+returns-clause-advanced g c = record {
+  split = split_on g.P.Ord.cmp g.met.P.Ord.total (planned g.P.Ord.cmp c.args.self.now.kept) (planned g.P.Ord.cmp c.advance.new.self) c.args.now (map completed_of c.in_ok-completions.completions.items) c.ranges.now.fits (went g c);
+  within_caps = within_caps_on g.P.Ord.cmp g.met.P.Ord.total (planned g.P.Ord.cmp c.args.self.now.kept) (planned g.P.Ord.cmp c.advance.new.self) c.args.now (map completed_of c.in_ok-completions.completions.items) c.ranges.now.fits (went g c);
+}

@@ -7,16 +7,11 @@ use Rattle.p2p_simulated.specs.Message.{completed_of}
 use Rattle.p2p_simulated.proofs.Calling.{link_refused, recaps_on, goes_on}
 use Rattle.p2p_simulated.proofs.World.SameIsPlanned.{planned_on}
 use Rattle.p2p_simulated.proofs.Accounting.{looked_up, arrivals_looked_up}
-use Rattle.p2p_simulated.proofs.Promises.{orderly_on, Promised, promised_if, cause_of}
+use Rattle.p2p_simulated.proofs.Promises.{orderly_on, promised_if, cause_of}
 use Rattle.p2p_simulated.proofs.transmitter.State.limit_link.Goals as goal
 
 pub returns-in_err-completions-clause-refused : goal.returns-in_err-completions-clause-refused
 returns-in_err-completions-clause-refused g c =
-    let p = err_from_is_err_and c.from_residual-in_err-completions.result c.from_residual-in_err-completions.ensures.1 in
-    rw (p.1, p.2) (link_refused g.P.Ord.cmp g.met.P.Ord.total c.args.now c.args.origin.now c.args.recipient.now c.args.cap (planned g.P.Ord.cmp c.args.self.now.kept) (planned g.P.Ord.cmp c.in_ok-working.working) (planned g.P.Ord.cmp c.limit_pair.new.self) c.in_ok-working.ensures.cases c.in_ok-limit_pair.ensures.limited _ c.in_err-completions.ensures.refused)
-
-pub returns-in_err-completions-clause-cause : goal.returns-in_err-completions-clause-cause
-returns-in_err-completions-clause-cause g c =
     let p = err_from_is_err_and c.from_residual-in_err-completions.result c.from_residual-in_err-completions.ensures.1 in
     rw (p.1, p.2) (cause_of g.P.Ord.cmp g.met.P.Ord.total (planned g.P.Ord.cmp c.args.self.now.kept) (call_limit_link c.args.now c.args.origin.now c.args.recipient.now c.args.cap) c.args.now _ refl c.ranges.now.fits
     (link_refused g.P.Ord.cmp g.met.P.Ord.total c.args.now c.args.origin.now c.args.recipient.now c.args.cap (planned g.P.Ord.cmp c.args.self.now.kept) (planned g.P.Ord.cmp c.in_ok-working.working) (planned g.P.Ord.cmp c.limit_pair.new.self) c.in_ok-working.ensures.cases c.in_ok-limit_pair.ensures.limited _ c.in_err-completions.ensures.refused))
@@ -39,25 +34,10 @@ invariant_of-self-clause-orderly g c = orderly_on g.P.Ord.cmp g.met.P.Ord.total 
     (map completed_of c.in_ok-completions.completions.items) c.in_ok-working.ensures.cases c.args.self.now.orderly
     (recaps_on g.P.Ord.cmp g.met.P.Ord.total c.args.now (linked_by g.P.Ord.cmp (planned g.P.Ord.cmp c.in_ok-working.working).caps c.args.origin.now c.args.recipient.now c.args.cap) (planned g.P.Ord.cmp c.in_ok-working.working) (planned g.P.Ord.cmp c.limit_pair.new.self) (goes (map completed_of c.in_ok-completions.completions.items) (planned g.P.Ord.cmp c.recap.new.self)) c.in_ok-limit_pair.ensures.limited c.in_ok-completions.ensures.recaps)
 
-pub returns-clause-goes : goal.returns-clause-goes
-returns-clause-goes g c = goes_on g.P.Ord.cmp g.met.P.Ord.total (planned g.P.Ord.cmp c.args.self.now.kept) (planned g.P.Ord.cmp c.in_ok-working.working) (planned g.P.Ord.cmp c.recap.new.self)
+pub returns-clause-made : goal.returns-clause-made
+returns-clause-made g c = promised_if g.P.Ord.cmp g.met.P.Ord.total (planned g.P.Ord.cmp c.args.self.now.kept) (planned g.P.Ord.cmp c.recap.new.self) (call_limit_link c.args.now c.args.origin.now c.args.recipient.now c.args.cap) c.args.now
+    (map completed_of c.in_ok-completions.completions.items) refl c.ranges.now.fits c.args.self.now.orderly
+    (goes_on g.P.Ord.cmp g.met.P.Ord.total (planned g.P.Ord.cmp c.args.self.now.kept) (planned g.P.Ord.cmp c.in_ok-working.working) (planned g.P.Ord.cmp c.recap.new.self)
     (call_limit_link c.args.now c.args.origin.now c.args.recipient.now c.args.cap)
     (map completed_of c.in_ok-completions.completions.items) c.in_ok-working.ensures.cases
-    (recaps_on g.P.Ord.cmp g.met.P.Ord.total c.args.now (linked_by g.P.Ord.cmp (planned g.P.Ord.cmp c.in_ok-working.working).caps c.args.origin.now c.args.recipient.now c.args.cap) (planned g.P.Ord.cmp c.in_ok-working.working) (planned g.P.Ord.cmp c.limit_pair.new.self) (goes (map completed_of c.in_ok-completions.completions.items) (planned g.P.Ord.cmp c.recap.new.self)) c.in_ok-limit_pair.ensures.limited c.in_ok-completions.ensures.recaps)
-
--- what is promised of the call
-promised : (g : _) (c : goal.After-drop-self-4 g) → Promised g.P.Ord.cmp g.met.P.Ord.total (planned g.P.Ord.cmp c.args.self.now.kept) (call_limit_link c.args.now c.args.origin.now c.args.recipient.now c.args.cap) (map completed_of c.in_ok-completions.completions.items) (planned g.P.Ord.cmp c.recap.new.self)
-promised g c = promised_if g.P.Ord.cmp g.met.P.Ord.total (planned g.P.Ord.cmp c.args.self.now.kept) (planned g.P.Ord.cmp c.recap.new.self) (call_limit_link c.args.now c.args.origin.now c.args.recipient.now c.args.cap) c.args.now
-    (map completed_of c.in_ok-completions.completions.items) refl c.ranges.now.fits c.args.self.now.orderly (returns-clause-goes g c)
-
-pub returns-clause-simulated : goal.returns-clause-simulated
-returns-clause-simulated g c = (promised g c).simulated
-
-pub returns-clause-in_range : goal.returns-clause-in_range
-returns-clause-in_range g c = (promised g c).in_range
-
-pub returns-clause-conserved : goal.returns-clause-conserved
-returns-clause-conserved g c = (promised g c).conserved
-
-pub returns-clause-rated : goal.returns-clause-rated
-returns-clause-rated g c = (promised g c).rated
+    (recaps_on g.P.Ord.cmp g.met.P.Ord.total c.args.now (linked_by g.P.Ord.cmp (planned g.P.Ord.cmp c.in_ok-working.working).caps c.args.origin.now c.args.recipient.now c.args.cap) (planned g.P.Ord.cmp c.in_ok-working.working) (planned g.P.Ord.cmp c.limit_pair.new.self) (goes (map completed_of c.in_ok-completions.completions.items) (planned g.P.Ord.cmp c.recap.new.self)) c.in_ok-limit_pair.ensures.limited c.in_ok-completions.ensures.recaps))

@@ -1,4 +1,4 @@
-use Rattle.std.proofs.Common.{[], map, ap}
+use Rattle.std.proofs.Common.{[], map, ap, refl}
 use Rattle.std.proofs.lemmas.Result.{err_from_is_err_and}
 use Rattle.p2p_simulated.specs.WorldCalls.{call_enqueue}
 use Rattle.p2p_simulated.specs.Working.{planned}
@@ -7,7 +7,7 @@ use Rattle.p2p_simulated.proofs.Calling.{enqueue_refused, goes_on}
 use Rattle.p2p_simulated.proofs.World.SameIsPlanned.{planned_on}
 use Rattle.p2p_simulated.proofs.World.SameWorlds.{same_itself}
 use Rattle.p2p_simulated.proofs.Accounting.{looked_up, arrivals_looked_up}
-use Rattle.p2p_simulated.proofs.Promises.{orderly_on, kept_at_once}
+use Rattle.p2p_simulated.proofs.Promises.{orderly_on, kept_at_once, promised_if, cause_of}
 use Rattle.p2p_simulated.proofs.transmitter.State.send.Goals as goal
 
 -- where the message waits
@@ -29,17 +29,19 @@ returns-in_err-wait-clause-unchanged g c =
     let p = err_from_is_err_and c.from_residual.result c.from_residual.ensures.1 in
     rw p.1 c.in_err-wait.ensures.unchanged
 
-pub returns-then-has_to_wait-clause-goes : goal.returns-then-has_to_wait-clause-goes
-returns-then-has_to_wait-clause-goes g c =
-    rw (ap (map completed_of) c.new.ensures.items) (goes_on g.P.Ord.cmp g.met.P.Ord.total (planned g.P.Ord.cmp c.args.self.now.kept) (planned g.P.Ord.cmp c.args.self.now.kept) (planned g.P.Ord.cmp c.wait.new.self) (call_enqueue c.args.now (message_of c.args.message)) []
-    (same_itself g.P.Ord.cmp g.met.P.Ord.total (planned g.P.Ord.cmp c.args.self.now.kept) c.args.self.now.caps c.args.self.now.arrivals) c.in_ok-wait.ensures.enqueues)
+pub returns-then-has_to_wait-clause-made : goal.returns-then-has_to_wait-clause-made
+returns-then-has_to_wait-clause-made g c =
+    rw (ap (map completed_of) c.new.ensures.items) (promised_if g.P.Ord.cmp g.met.P.Ord.total (planned g.P.Ord.cmp c.args.self.now.kept) (planned g.P.Ord.cmp c.wait.new.self)
+    (call_enqueue c.args.now (message_of c.args.message)) c.args.now [] refl c.ranges.now.fits c.args.self.now.orderly (goes_on g.P.Ord.cmp g.met.P.Ord.total (planned g.P.Ord.cmp c.args.self.now.kept) (planned g.P.Ord.cmp c.args.self.now.kept) (planned g.P.Ord.cmp c.wait.new.self) (call_enqueue c.args.now (message_of c.args.message)) []
+    (same_itself g.P.Ord.cmp g.met.P.Ord.total (planned g.P.Ord.cmp c.args.self.now.kept) c.args.self.now.caps c.args.self.now.arrivals) c.in_ok-wait.ensures.enqueues))
 
 -- where it goes on a copy
 
 pub returns-in_err-completions-clause-refused : goal.returns-in_err-completions-clause-refused
 returns-in_err-completions-clause-refused g c =
     let p = err_from_is_err_and c.from_residual-in_err-completions.result c.from_residual-in_err-completions.ensures.1 in
-    rw (p.1, p.2) (enqueue_refused g.P.Ord.cmp g.met.P.Ord.total c.args.now (message_of c.args.message) (planned g.P.Ord.cmp c.args.self.now.kept) (planned g.P.Ord.cmp c.in_ok-working.working) c.in_ok-working.ensures.cases _ c.in_err-completions.ensures.refused)
+    rw (p.1, p.2) (cause_of g.P.Ord.cmp g.met.P.Ord.total (planned g.P.Ord.cmp c.args.self.now.kept) (call_enqueue c.args.now (message_of c.args.message)) c.args.now _ refl c.ranges.now.fits
+    (enqueue_refused g.P.Ord.cmp g.met.P.Ord.total c.args.now (message_of c.args.message) (planned g.P.Ord.cmp c.args.self.now.kept) (planned g.P.Ord.cmp c.in_ok-working.working) c.in_ok-working.ensures.cases _ c.in_err-completions.ensures.refused))
 
 pub invariant_of-self-2-clause-caps : goal.invariant_of-self-2-clause-caps
 invariant_of-self-2-clause-caps g c = looked_up g.P.Ord.cmp g.met.P.Ord.total c.enqueue.new.self.peers.entries.items c.enqueue.new.self.pairs.entries.items
@@ -55,6 +57,8 @@ pub invariant_of-self-2-clause-orderly : goal.invariant_of-self-2-clause-orderly
 invariant_of-self-2-clause-orderly g c = orderly_on g.P.Ord.cmp g.met.P.Ord.total (planned g.P.Ord.cmp c.args.self.now.kept) (planned g.P.Ord.cmp c.in_ok-working.working) (planned g.P.Ord.cmp c.enqueue.new.self)
     (call_enqueue c.args.now (message_of c.args.message)) (map completed_of c.in_ok-completions.completions.items) c.in_ok-working.ensures.cases c.args.self.now.orderly c.in_ok-completions.ensures.enqueues
 
-pub returns-clause-goes : goal.returns-clause-goes
-returns-clause-goes g c = goes_on g.P.Ord.cmp g.met.P.Ord.total (planned g.P.Ord.cmp c.args.self.now.kept) (planned g.P.Ord.cmp c.in_ok-working.working) (planned g.P.Ord.cmp c.enqueue.new.self)
-    (call_enqueue c.args.now (message_of c.args.message)) (map completed_of c.in_ok-completions.completions.items) c.in_ok-working.ensures.cases c.in_ok-completions.ensures.enqueues
+pub returns-clause-made : goal.returns-clause-made
+returns-clause-made g c = promised_if g.P.Ord.cmp g.met.P.Ord.total (planned g.P.Ord.cmp c.args.self.now.kept) (planned g.P.Ord.cmp c.enqueue.new.self)
+    (call_enqueue c.args.now (message_of c.args.message)) c.args.now (map completed_of c.in_ok-completions.completions.items) refl c.ranges.now.fits c.args.self.now.orderly
+    (goes_on g.P.Ord.cmp g.met.P.Ord.total (planned g.P.Ord.cmp c.args.self.now.kept) (planned g.P.Ord.cmp c.in_ok-working.working) (planned g.P.Ord.cmp c.enqueue.new.self)
+    (call_enqueue c.args.now (message_of c.args.message)) (map completed_of c.in_ok-completions.completions.items) c.in_ok-working.ensures.cases c.in_ok-completions.ensures.enqueues)

@@ -18,8 +18,11 @@ invariant_of-result-clause-right g c = ∣ subst (IsPlanned g.P.Ord.cmp) (sym c.
 pub invariant_of-result-clause-orderly : goal.invariant_of-result-clause-orderly
 invariant_of-result-clause-orderly g c = new_one_orderly g.P.Ord.cmp g.met.P.Ord.total (planned g.P.Ord.cmp c.new.result) c.args.first c.new.ensures
 
-pub returns-clause-stands : goal.returns-clause-stands
-returns-clause-stands g c = new_one_stands g.P.Ord.cmp g.met.P.Ord.total (planned g.P.Ord.cmp c.new.result) c.args.first c.new.ensures
-
-pub returns-clause-in_range : goal.returns-clause-in_range
-returns-clause-in_range g c = new_one_in_range g.P.Ord.cmp g.met.P.Ord.total (planned g.P.Ord.cmp c.new.result) c.args.first c.new.ensures c.ranges.first.fits
+pub returns : goal.returns
+returns g c = record {
+  new = record {
+    planned = c.new.ensures;
+    stands = new_one_stands g.P.Ord.cmp g.met.P.Ord.total (planned g.P.Ord.cmp c.new.result) c.args.first c.new.ensures;
+    in_range = new_one_in_range g.P.Ord.cmp g.met.P.Ord.total (planned g.P.Ord.cmp c.new.result) c.args.first c.new.ensures c.ranges.first.fits;
+  };
+}

@@ -2,7 +2,7 @@ use Rattle.std.proofs.Common.{◌≡◌, ◌-◌, Bool, true, map, length}
 use Rattle.std.specs.List.{list_all}
 use Rattle.p2p_simulated.specs.declared.bandwidth.Flow.{Flow}
 use Rattle.p2p_simulated.specs.Message.{message_of}
-use Rattle.p2p_simulated.specs.Flights.{sending_of}
+use Rattle.p2p_simulated.specs.InFlight.{in_flight}
 use Rattle.p2p_simulated.specs.Working.{caps_of}
 use Rattle.p2p_simulated.proofs.InFlight.{HaveLeft}
 use Rattle.p2p_simulated.proofs.transmitter.flights.Flights.take_done.Given as goal
@@ -10,7 +10,7 @@ use Rattle.p2p_simulated.specs.WorldPlanned.{is_spent}
 
 abbrev pub invariant-loop-at : goal.invariant-loop-at
 invariant-loop-at g l =
-    HaveLeft (is_spent g.P.Ord.cmp (caps_of g.P.Ord.cmp l.peers.entries.items l.pairs.entries.items)) (sending_of l.initial.self.flows.items l.initial.self.progress.items) (sending_of l.self.flows.items l.self.progress.items) (map message_of l.done.items) l.at
+    HaveLeft (is_spent g.P.Ord.cmp (caps_of g.P.Ord.cmp l.peers.entries.items l.pairs.entries.items)) (in_flight l.initial.self) (in_flight l.self) (map message_of l.done.items) l.at
     × ((test : Flow g.row.P.Denot → Bool) → list_all test l.initial.self.flows.items ≡ true → list_all test l.self.flows.items ≡ true)
 
 abbrev pub decreases-loop-at : goal.decreases-loop-at

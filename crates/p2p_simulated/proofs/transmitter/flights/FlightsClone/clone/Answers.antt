@@ -1,4 +1,4 @@
-use Rattle.std.proofs.Common.{◌≡◌, length, get_or, sym, ◌∙◌, ap, arith}
+use Rattle.std.proofs.Common.{◌≡◌, ◌<◌, length, get_or, sym, ◌∙◌, ap, subst, arith}
 use Rattle.std.specs.List.{AllZip, each_same}
 use Rattle.std.specs.Ordering.{nat_cmp}
 use Rattle.std.proofs.lemmas.Slice.Zip.{AllZip-long}
@@ -19,17 +19,20 @@ pub invariant_of-result : goal.invariant_of-result
 invariant_of-result g c =
     let old = c.args.self.now in
     let same : AllZip (IsSameFlow g.P.Ord.cmp) old.flows.items c.loop-flow.flows.items = copied_all (IsSameFlow g.P.Ord.cmp) old.flows.items c.loop-flow.flows.items c.loop-flow.flow-index (omega arith) c.loop-flow.invariant in
-    let rest : c.in_ok-progress.progress.items ≡ old.progress.items = each_same old.progress.items c.in_ok-progress.progress.items c.in_ok-progress.ensures.cases.0 in
+    let rest : c.in_ok-clone.field-0.items ≡ old.progress.items = each_same old.progress.items c.in_ok-clone.field-0.items c.in_ok-clone.ensures.cases.0 in
     record {
       parallel = AllZip-long (IsSameFlow g.P.Ord.cmp) old.flows.items c.loop-flow.flows.items same ∙ old.parallel ∙ sym (ap length rest);
       marked = rw rest (marked_alike g.P.Ord.cmp g.met.P.Ord.total old.flows.items c.loop-flow.flows.items old.progress.items same ∙ old.marked);
+      scaled = subst (λ n. 0 < n) (sym c.in_ok-clone-2.ensures.value) old.scaled;
       apart = ap (are_ascending nat_cmp) (ids_alike g.P.Ord.cmp old.flows.items c.loop-flow.flows.items same) ∙ old.apart;
     }
 
 pub returns : goal.returns
 returns g c = record {
-  cases = (
-    copied_all (IsSameFlow g.P.Ord.cmp) c.args.self.now.flows.items c.loop-flow.flows.items c.loop-flow.flow-index (omega arith) c.loop-flow.invariant,
-    each_same c.args.self.now.progress.items c.in_ok-progress.progress.items c.in_ok-progress.ensures.cases.0,
-  );
+  cases = record {
+    flows = copied_all (IsSameFlow g.P.Ord.cmp) c.args.self.now.flows.items c.loop-flow.flows.items c.loop-flow.flow-index (omega arith) c.loop-flow.invariant;
+    progress = each_same c.args.self.now.progress.items c.in_ok-clone.field-0.items c.in_ok-clone.ensures.cases.0;
+    scale = c.in_ok-clone-2.ensures.value;
+    levels = each_same c.args.self.now.levels.items c.in_ok-clone-3.field-0.items c.in_ok-clone-3.ensures.cases.0;
+  };
 }

@@ -20,7 +20,7 @@ overflow_add-events g c =
     let entries : length c.args.self.now.pairs.entries.items < 9223372036854775808 = omega (arith, c.args.self.now.pairs.entries.small, c.args.self.now.pairs.entries.ok) in
     let flows : length c.args.self.now.flights.flows.items < 9223372036854775808 = omega (arith, c.args.self.now.flights.flows.small, c.args.self.now.flights.flows.ok) in
     let all : events_left g.P.Ord.cmp (planned g.P.Ord.cmp c.args.self.now) < 340282366920938463463374607431768211456 = events_few g.P.Ord.cmp (planned g.P.Ord.cmp c.args.self.now) c.args.self.now.pairs.entries.items refl entries
-    (let same : length (planned g.P.Ord.cmp c.args.self.now).sending ≡ length c.args.self.now.flights.flows.items = length-sending c.args.self.now.flights.flows.items c.args.self.now.flights.progress.items c.args.self.now.flights.parallel in omega (arith, same, flows)) in
+    (let same : length (planned g.P.Ord.cmp c.args.self.now).sending ≡ length c.args.self.now.flights.flows.items = length-sending c.args.self.now.flights.scale c.args.self.now.flights.levels.items c.args.self.now.flights.flows.items c.args.self.now.flights.progress.items c.args.self.now.flights.parallel in omega (arith, same, flows)) in
     omega (arith, fewer, few, all)
 
 pub loop-event-smaller : goal.loop-event-smaller

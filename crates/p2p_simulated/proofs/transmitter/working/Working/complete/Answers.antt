@@ -1,11 +1,10 @@
 use Rattle.std.proofs.Common.{[], ◌∷◌, ◌++◌, map, ap, ◌∙◌}
 use Rattle.std.proofs.lemmas.Result.{err_from_is_err_and}
 use Rattle.p2p_simulated.specs.World.{completion_of}
-use Rattle.p2p_simulated.specs.WorldRefusals.{FinishAccounts}
 use Rattle.p2p_simulated.specs.Message.{message_of, completed_of}
 use Rattle.p2p_simulated.specs.Pairs.{arrival_of, raised_at}
 use Rattle.p2p_simulated.specs.Peers.{egress_of, ingress_of}
-use Rattle.p2p_simulated.specs.Flights.{sending_of}
+use Rattle.p2p_simulated.specs.InFlight.{in_flight}
 use Rattle.p2p_simulated.specs.Working.{planned}
 use Rattle.p2p_simulated.proofs.Waiting.{map-push}
 use Rattle.p2p_simulated.proofs.Finishing.{refused_late, refused_launch, launches_landed, then_some_is}
@@ -14,7 +13,8 @@ use Rattle.p2p_simulated.proofs.transmitter.working.Working.complete.Goals as go
 pub returns-in_err-arrival-clause-refused : goal.returns-in_err-arrival-clause-refused
 returns-in_err-arrival-clause-refused g c =
     let p = err_from_is_err_and c.from_residual.result c.from_residual.ensures.1 in
-    rw (p.1, p.2) (λ ms. refused_late g.P.Ord.cmp c.args.now (message_of c.args.message) ms (planned g.P.Ord.cmp c.args.self.now) (FinishAccounts g.P.Ord.cmp c.args.now (message_of c.args.message ∷ ms) (planned g.P.Ord.cmp c.args.self.now)) _ c.in_err-arrival.ensures.refused.1 c.in_err-arrival.ensures.refused.0)
+    rw (p.1, p.2) (λ ms. refused_late g.P.Ord.cmp c.args.now (message_of c.args.message) ms
+    (planned g.P.Ord.cmp c.args.self.now) _ c.in_err-arrival.ensures.refused.1 c.in_err-arrival.ensures.refused.0)
 
 pub returns-in_err-more-clause-refused : goal.returns-in_err-more-clause-refused
 returns-in_err-more-clause-refused g c =
@@ -23,7 +23,7 @@ returns-in_err-more-clause-refused g c =
     (λ i. record {
       caps = record { egress = egress_of g.P.Ord.cmp c.args.self.now.peers.entries.items; ingress = ingress_of g.P.Ord.cmp c.args.self.now.peers.entries.items; link = c.in_ok-raise.ensures.link i };
       limited = c.args.self.now.limited;
-      sending = sending_of c.args.self.now.flights.flows.items c.args.self.now.flights.progress.items;
+      sending = in_flight c.args.self.now.flights;
       waiting = c.in_ok-raise.ensures.waiting i;
       last_arrival = (c.in_ok-raise.ensures.arrival ∙ ap (raised_at g.P.Ord.cmp (arrival_of g.P.Ord.cmp c.args.self.now.pairs.entries.items) c.args.message.origin c.args.message.recipient) c.in_ok-arrival.ensures.moment) i;
       next_id = c.args.self.now.next_id;
@@ -44,7 +44,7 @@ returns-clause-launches g c =
     (λ i. record {
       caps = record { egress = egress_of g.P.Ord.cmp c.args.self.now.peers.entries.items; ingress = ingress_of g.P.Ord.cmp c.args.self.now.peers.entries.items; link = c.in_ok-raise.ensures.link i };
       limited = c.args.self.now.limited;
-      sending = sending_of c.args.self.now.flights.flows.items c.args.self.now.flights.progress.items;
+      sending = in_flight c.args.self.now.flights;
       waiting = c.in_ok-raise.ensures.waiting i;
       last_arrival = (c.in_ok-raise.ensures.arrival ∙ ap (raised_at g.P.Ord.cmp (arrival_of g.P.Ord.cmp c.args.self.now.pairs.entries.items) c.args.message.origin c.args.message.recipient) c.in_ok-arrival.ensures.moment) i;
       next_id = c.args.self.now.next_id;

@@ -3,7 +3,7 @@ use Rattle.std.proofs.lemmas.Result.{err_from_is_err_and}
 use Rattle.p2p_simulated.specs.World.{completion_of}
 use Rattle.p2p_simulated.specs.Message.{message_of, completed_of}
 use Rattle.p2p_simulated.specs.Peers.{egress_of, ingress_of}
-use Rattle.p2p_simulated.specs.Flights.{sending_of}
+use Rattle.p2p_simulated.specs.InFlight.{in_flight}
 use Rattle.p2p_simulated.specs.Working.{planned}
 use Rattle.p2p_simulated.proofs.Waiting.{map-push}
 use Rattle.p2p_simulated.proofs.Settling.{completes_so, too_late_refused}
@@ -23,7 +23,7 @@ returns-clause-completes g c = (
       (λ i. record {
         caps = record { egress = egress_of g.P.Ord.cmp c.args.self.now.peers.entries.items; ingress = ingress_of g.P.Ord.cmp c.args.self.now.peers.entries.items; link = c.in_ok-raise.ensures.link i };
         limited = c.args.self.now.limited;
-        sending = sending_of c.args.self.now.flights.flows.items c.args.self.now.flights.progress.items;
+        sending = in_flight c.args.self.now.flights;
         waiting = c.in_ok-raise.ensures.waiting i;
         last_arrival = c.in_ok-raise.ensures.arrival i;
         next_id = c.args.self.now.next_id;

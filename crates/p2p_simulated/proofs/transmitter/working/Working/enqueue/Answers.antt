@@ -2,7 +2,7 @@ use Rattle.std.proofs.Common.{[], ◌∷◌, ◌++◌, map, ap, ◌∙◌}
 use Rattle.std.proofs.lemmas.Result.{err_from_is_err_and}
 use Rattle.p2p_simulated.specs.Message.{message_of, completed_of}
 use Rattle.p2p_simulated.specs.Peers.{egress_of, ingress_of}
-use Rattle.p2p_simulated.specs.Flights.{sending_of}
+use Rattle.p2p_simulated.specs.InFlight.{in_flight}
 use Rattle.p2p_simulated.specs.Working.{planned, messages}
 use Rattle.p2p_simulated.proofs.Settling.{at_once_refused, enqueues_at_once, enqueue_launch_refused, enqueue_finish_refused, enqueues_launched}
 use Rattle.p2p_simulated.proofs.transmitter.working.Working.enqueue.Goals as goal
@@ -25,7 +25,7 @@ returns-in_err-queue-clause-refused g c =
     (λ i. record {
       caps = record { egress = egress_of g.P.Ord.cmp c.args.self.now.peers.entries.items; ingress = ingress_of g.P.Ord.cmp c.args.self.now.peers.entries.items; link = c.in_ok-push.ensures.link i };
       limited = c.args.self.now.limited;
-      sending = sending_of c.args.self.now.flights.flows.items c.args.self.now.flights.progress.items;
+      sending = in_flight c.args.self.now.flights;
       waiting = c.in_ok-push.ensures.waiting i;
       last_arrival = c.in_ok-push.ensures.arrival i;
       next_id = c.args.self.now.next_id;
@@ -41,7 +41,7 @@ returns-in_err-finish-clause-refused g c =
     (λ i. record {
       caps = record { egress = egress_of g.P.Ord.cmp c.args.self.now.peers.entries.items; ingress = ingress_of g.P.Ord.cmp c.args.self.now.peers.entries.items; link = c.in_ok-push.ensures.link i };
       limited = c.args.self.now.limited;
-      sending = sending_of c.args.self.now.flights.flows.items c.args.self.now.flights.progress.items;
+      sending = in_flight c.args.self.now.flights;
       waiting = c.in_ok-push.ensures.waiting i;
       last_arrival = c.in_ok-push.ensures.arrival i;
       next_id = c.args.self.now.next_id;
@@ -57,7 +57,7 @@ returns-clause-enqueues g c =
     (λ i. record {
       caps = record { egress = egress_of g.P.Ord.cmp c.args.self.now.peers.entries.items; ingress = ingress_of g.P.Ord.cmp c.args.self.now.peers.entries.items; link = c.in_ok-push.ensures.link i };
       limited = c.args.self.now.limited;
-      sending = sending_of c.args.self.now.flights.flows.items c.args.self.now.flights.progress.items;
+      sending = in_flight c.args.self.now.flights;
       waiting = c.in_ok-push.ensures.waiting i;
       last_arrival = c.in_ok-push.ensures.arrival i;
       next_id = c.args.self.now.next_id;

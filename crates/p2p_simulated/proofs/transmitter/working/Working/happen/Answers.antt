@@ -1,8 +1,8 @@
 use Rattle.std.proofs.Common.{◌≡◌, ◌++◌, List, map, IfOk, IfErr, sym, subst}
 use Rattle.p2p_simulated.specs.declared.transmitter.event.Event.{Event}
 use Rattle.p2p_simulated.specs.World.{Completed, goes, meets}
-use Rattle.p2p_simulated.specs.Events.{Happens, HappenAccounts, moment_of}
-use Rattle.p2p_simulated.specs.Refusing.{IsRefusedAt}
+use Rattle.p2p_simulated.specs.Events.{Happens}
+use Rattle.p2p_simulated.specs.Refusing.{IsRefusedFor}
 use Rattle.p2p_simulated.specs.Working.{planned}
 use Rattle.p2p_simulated.specs.Message.{completed_of}
 use Rattle.p2p_simulated.proofs.transmitter.working.Working.happen.Goals as goal
@@ -14,10 +14,12 @@ returns-in-Finish-clause-happens g c =
 
 pub returns-in-Finish-clause-refused : goal.returns-in-Finish-clause-refused
 returns-in-Finish-clause-refused g c =
-    subst (λ (event : Event). IfErr c.settle.result (IsRefusedAt g.P.Ord.cmp (moment_of event) (λ fault. Happens g.P.Ord.cmp event (planned g.P.Ord.cmp c.args.self.now) (meets fault)) (HappenAccounts g.P.Ord.cmp event (planned g.P.Ord.cmp c.args.self.now))))
+    subst (λ (event : Event). IfErr c.settle.result
+    (IsRefusedFor (λ fault. Happens g.P.Ord.cmp event (planned g.P.Ord.cmp c.args.self.now) (meets fault))))
     (sym c.in-Finish.is) c.settle.ensures.refused
 
 pub returns-in-Start-clause-refused : goal.returns-in-Start-clause-refused
 returns-in-Start-clause-refused g c =
-    subst (λ (event : Event). IfErr c.wake.result (IsRefusedAt g.P.Ord.cmp (moment_of event) (λ fault. Happens g.P.Ord.cmp event (planned g.P.Ord.cmp c.args.self.now) (meets fault)) (HappenAccounts g.P.Ord.cmp event (planned g.P.Ord.cmp c.args.self.now))))
+    subst (λ (event : Event). IfErr c.wake.result (IsRefusedFor (λ fault. Happens g.P.Ord.cmp event
+    (planned g.P.Ord.cmp c.args.self.now) (meets fault))))
     (sym c.in-Start.is) c.wake.ensures.refused

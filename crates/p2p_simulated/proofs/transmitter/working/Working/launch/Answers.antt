@@ -1,14 +1,15 @@
 use Rattle.std.proofs.Common.{◌+◌, List, sym, ◌∙◌, subst, arith}
 use Rattle.std.specs.Prelude.{nat_lt}
 use Rattle.p2p_simulated.specs.declared.transmitter.message.Message as code
-use Rattle.p2p_simulated.specs.World.{goes}
+use Rattle.p2p_simulated.specs.World.{goes, meets}
 use Rattle.p2p_simulated.specs.WorldPlanned.{Planned}
 use Rattle.p2p_simulated.specs.WorldEvents.{Launches}
 use Rattle.p2p_simulated.specs.Message.{message_of}
 use Rattle.p2p_simulated.specs.Pairs.{first_of}
 use Rattle.p2p_simulated.specs.Peers.{egress_of, ingress_of}
 use Rattle.p2p_simulated.specs.Working.{planned, messages}
-use Rattle.p2p_simulated.proofs.Starting.{not_started, no_more_ids, launched_so, launch_refused, ids_later, id_below}
+use Rattle.p2p_simulated.proofs.Refusals.{memory_refuses}
+use Rattle.p2p_simulated.proofs.Starting.{not_started, no_more_ids, launched_so, ids_later, id_below}
 use Rattle.p2p_simulated.proofs.transmitter.working.Working.launch.Goals as goal
 
 pub returns-then-not-may_launch-clause-launches : goal.returns-then-not-may_launch-clause-launches
@@ -41,16 +42,6 @@ returns-clause-launches g c =
 
 pub returns-clause-refused : goal.returns-clause-refused
 returns-clause-refused g c =
-    launch_refused g.P.Ord.cmp g.met.P.Ord.total c.args.now (planned g.P.Ord.cmp c.args.self.now) _ c.args.origin.now c.args.recipient.now (message_of c.in-Some.message)
-    (sym c.may_launch.ensures ∙ c.if-not-may_launch.false) (omega arith) (sym c.in-Some.ensures.taken)
-    (λ i. record {
-      caps = record { egress = egress_of g.P.Ord.cmp c.args.self.now.peers.entries.items; ingress = ingress_of g.P.Ord.cmp c.args.self.now.peers.entries.items; link = c.in-Some.ensures.link i };
-      limited = c.args.self.now.limited;
-      sending = c.in_ok-push.ensures.sending i;
-      waiting = c.in-Some.ensures.waiting i;
-      last_arrival = c.in-Some.ensures.arrival i;
-      next_id = c.args.self.now.next_id + 1;
-      finish = c.args.self.now.finish;
-      start = c.args.self.now.start;
-    })
-    c.account.result c.account.ensures.refused
+    let p : Planned g.row.P.Denot = planned g.P.Ord.cmp c.args.self.now in
+    memory_refuses (λ e. Launches g.P.Ord.cmp c.args.now p (first_of g.P.Ord.cmp p.waiting c.args.origin.now
+    c.args.recipient.now) (meets e)) c.account.result c.account.ensures.refused

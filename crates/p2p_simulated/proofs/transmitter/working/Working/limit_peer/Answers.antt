@@ -1,6 +1,6 @@
 use Rattle.std.proofs.Common.{true}
 use Rattle.p2p_simulated.specs.Pairs.{link_of, arrival_of, waiting_of}
-use Rattle.p2p_simulated.specs.Flights.{sending_of}
+use Rattle.p2p_simulated.specs.InFlight.{in_flight}
 use Rattle.p2p_simulated.proofs.Settling.{on_ok_both}
 use Rattle.p2p_simulated.proofs.transmitter.working.Working.limit_peer.Goals as goal
 
@@ -13,7 +13,7 @@ returns-clause-limited g c =
         link = link_of g.P.Ord.cmp c.args.self.now.pairs.entries.items;
       };
       limited = true;
-      sending = sending_of c.args.self.now.flights.flows.items c.args.self.now.flights.progress.items;
+      sending = in_flight c.args.self.now.flights;
       waiting = waiting_of c.args.self.now.pairs.entries.items;
       last_arrival = arrival_of g.P.Ord.cmp c.args.self.now.pairs.entries.items;
       next_id = c.args.self.now.next_id;

@@ -2,13 +2,17 @@ use Rattle.std.proofs.Common.{map}
 use Rattle.std.proofs.lemmas.Result.{err_from_is_err_and}
 use Rattle.p2p_simulated.specs.Working.{planned, messages}
 use Rattle.p2p_simulated.specs.Message.{completed_of}
-use Rattle.p2p_simulated.proofs.Settling.{settle_account_refused, settle_finish_refused, settles_so}
+use Rattle.p2p_simulated.specs.World.{meets}
+use Rattle.p2p_simulated.specs.WorldEvents.{Settles}
+use Rattle.p2p_simulated.proofs.Refusals.{refused_memory}
+use Rattle.p2p_simulated.proofs.Settling.{settle_finish_refused, settles_so}
 use Rattle.p2p_simulated.proofs.transmitter.working.Working.settle.Goals as goal
 
 pub returns-in_err-queue-clause-refused : goal.returns-in_err-queue-clause-refused
 returns-in_err-queue-clause-refused g c =
     let p = err_from_is_err_and c.from_residual.result c.from_residual.ensures.1 in
-    rw (p.1, p.2) (settle_account_refused g.P.Ord.cmp c.args.now (planned g.P.Ord.cmp c.args.self.now) _ c.in_err-queue.ensures.refused)
+    rw (p.1, p.2) (refused_memory (λ fault. Settles g.P.Ord.cmp c.args.now (planned g.P.Ord.cmp c.args.self.now)
+    (meets fault)) _ c.in_err-queue.ensures.refused)
 
 pub returns-clause-settles : goal.returns-clause-settles
 returns-clause-settles g c =

@@ -1,6 +1,6 @@
 use Rattle.p2p_simulated.specs.Message.{message_of}
 use Rattle.p2p_simulated.specs.Peers.{egress_of, ingress_of}
-use Rattle.p2p_simulated.specs.Flights.{sending_of}
+use Rattle.p2p_simulated.specs.InFlight.{in_flight}
 use Rattle.p2p_simulated.specs.Working.{planned}
 use Rattle.p2p_simulated.proofs.Busy.{enqueue_waits}
 use Rattle.p2p_simulated.proofs.transmitter.working.Working.wait.Goals as goal
@@ -10,7 +10,7 @@ returns-clause-enqueues g c = enqueue_waits g.P.Ord.cmp g.met.P.Ord.total c.args
     (λ i. record {
       caps = record { egress = egress_of g.P.Ord.cmp c.args.self.now.peers.entries.items; ingress = ingress_of g.P.Ord.cmp c.args.self.now.peers.entries.items; link = c.push.ensures.link i };
       limited = c.args.self.now.limited;
-      sending = sending_of c.args.self.now.flights.flows.items c.args.self.now.flights.progress.items;
+      sending = in_flight c.args.self.now.flights;
       waiting = c.in_ok-push.ensures.waiting i;
       last_arrival = c.push.ensures.arrival i;
       next_id = c.args.self.now.next_id;

@@ -7,8 +7,7 @@ use Rattle.p2p_simulated.specs.WorldMessages.{Message}
 use Rattle.p2p_simulated.specs.World.{goes, meets}
 use Rattle.p2p_simulated.specs.WorldPlanned.{Planned}
 use Rattle.p2p_simulated.specs.WorldEvents.{Launches}
-use Rattle.p2p_simulated.specs.WorldRefusals.{LaunchAccounts}
-use Rattle.p2p_simulated.specs.Refusing.{IsRefusedAt}
+use Rattle.p2p_simulated.specs.Refusing.{IsRefusedFor}
 use Rattle.p2p_simulated.specs.Working.{planned, messages, ready_messages}
 use Rattle.p2p_simulated.specs.Message.{completed_of}
 use Rattle.p2p_simulated.proofs.Finishing.{wakes_start, wakes_step, wakes_end, wakes_launch_refused, wakes_finish_refused, next_at, none_at}
@@ -29,7 +28,9 @@ returns-in_err-queue-clause-refused g c =
     let n = next_at g.P.Ord.cmp c.args.now (ready_messages g.P.Ord.cmp c.args.now (planned g.P.Ord.cmp c.args.self.now)) (planned g.P.Ord.cmp c.args.self.now) (map completed_of c.args.completions.now.items) c.deref-pair-items.result.now c.loop-pair.pair-index here (map completed_of c.loop-pair.completions.items)
     c.pair-item.result c.loop-pair.invariant c.loop-pair-test.true c.pair-item.is in
     rw (p.1, p.2) (wakes_launch_refused g.P.Ord.cmp c.args.now (ready_messages g.P.Ord.cmp c.args.now (planned g.P.Ord.cmp c.args.self.now)) (planned g.P.Ord.cmp c.args.self.now) (map completed_of c.args.completions.now.items) n.message n.rest here (map completed_of c.loop-pair.completions.items) n.so _
-    (of_message g.P.Ord.cmp g.met.P.Ord.total (λ (q : Planned g.row.P.Denot) (first : Option (Message g.row.P.Denot)). IsRefusedAt g.P.Ord.cmp c.args.now (λ fault. Launches g.P.Ord.cmp c.args.now q first (meets fault)) (LaunchAccounts g.P.Ord.cmp c.args.now q first) c.in_err-queue.field-0.0)
+    (of_message g.P.Ord.cmp g.met.P.Ord.total (λ (q : Planned g.row.P.Denot)
+    (first : Option (Message g.row.P.Denot)). IsRefusedFor
+    (λ fault. Launches g.P.Ord.cmp c.args.now q first (meets fault)) c.in_err-queue.field-0.0)
     here here c.pair-item.result n.message refl n.is_key c.in_err-queue.ensures.refused))
 
 pub returns-in_err-finish-clause-refused : goal.returns-in_err-finish-clause-refused

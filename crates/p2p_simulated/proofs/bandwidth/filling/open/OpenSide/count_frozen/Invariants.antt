@@ -1,17 +1,19 @@
-use Rattle.std.proofs.Common.{◌≡◌, ℕ, ◌-◌, ◌<◌, ◌≤◌, ◌⊎◌, None, length, get_or}
+use Rattle.std.proofs.Common.{◌≡◌, ℕ, ◌-◌, ◌<◌, ◌≤◌, ◌⊎◌, None, length, get_or, All}
 use Rattle.p2p_simulated.specs.Fair.{Side}
-use Rattle.p2p_simulated.specs.Filling.{rate_at, KeepsAccount, IsUnchanged}
+use Rattle.p2p_simulated.specs.Filling.{frozen_at, HaveNoMore, IsWithin, KeepsAccount}
 use Rattle.p2p_simulated.proofs.bandwidth.filling.open.OpenSide.count_frozen.Given as goal
 
 abbrev pub invariant-loop-place : goal.invariant-loop-place
 invariant-loop-place l = record {
-  account : (side : Side) → KeepsAccount side l.rates l.initial.self → KeepsAccount side l.rates l.self;
-  passed : (k d : ℕ) → k < l.place → rate_at l.rates (get_or l.self.rising.items k d) ≡ None;
-  within : l.place ≤ length l.self.rising.items;
-  changed : (length l.self.rising.items < l.before) ⊎ IsUnchanged l.initial.self l.self;
-  below : (k d : ℕ) → k < length l.self.rising.items → get_or l.self.rising.items k d < length l.rates;
-  shorter : length l.self.rising.items ≤ l.before;
+  account : (side : Side) (scale : ℕ) → KeepsAccount side scale (frozen_at l.levels l.level_of) l.initial.slack l.initial.rising.items
+      → KeepsAccount side scale (frozen_at l.levels l.level_of) l.slack l.rising.items;
+  users : All (λ flow. flow < length l.level_of) l.rising.items;
+  no_more : HaveNoMore (frozen_at l.levels l.level_of) l.slack l.rising.items;
+  no_lower : (parts : ℕ) → IsWithin parts l.initial.slack l.initial.rising.items → IsWithin parts l.slack l.rising.items;
+  changed : (length l.rising.items < length l.initial.rising.items) ⊎ ((l.slack ≡ l.initial.slack) × (length l.rising.items ≡ length l.initial.rising.items));
+  passed : (k d : ℕ) → k < l.place → frozen_at l.levels l.level_of (get_or l.rising.items k d) ≡ None;
+  within : l.place ≤ length l.rising.items;
 }
 
 abbrev pub decreases-loop-place : goal.decreases-loop-place
-decreases-loop-place l = length l.self.rising.items - l.place
+decreases-loop-place l = length l.rising.items - l.place

@@ -1,0 +1,82 @@
+"""Times of `linkrun` beside those of the Rust original. Prints a table, and judges nothing.
+
+    python3 bench/run.py bin/linkrun          all of it but what takes minutes
+    python3 bench/run.py bin/linkrun NAME..   those workloads, also long ones (`bench/workloads.py` tells what they are)
+
+Each script is run three times (once where it takes more than ten seconds), and the least time is divided by the number
+of its allocations or messages, printing included. The original's figures were measured once, on a machine of four cores
+at 2.5 GHz on which other work ran: they move by a factor of two. `-` is not measured.
+"""
+import os
+import subprocess
+import sys
+import tempfile
+import time
+
+import workloads
+
+# microseconds for one allocation or message
+ORIGINAL = {
+    "whole-4": 17, "whole-16": 190, "whole-64": 2000, "whole-256": 30000, "whole-1024": 630000,
+    "any-4": 27, "any-16": 310, "any-64": 3200, "any-256": 70000, "any-1024": 1300000,
+    "groups-4-1000": 30, "groups-16-5000": 214, "groups-64-20000": 3300, "pairs-64-2000": 6800,
+    "queue-20000": 2.5, "broadcast-8": 475, "broadcast-16": 1940, "broadcast-24": 10000, "broadcast-32": 25600,
+}
+LONG = {"broadcast-64", "broadcast-100", "mixed-64", "mixed-100", "groups-256-20000", "idle-10000"}
+RUNS, SLOW = 3, 10
+
+
+def run(program, script):
+    """The seconds that a run takes, and the most memory that it was seen to hold, in megabytes."""
+    most = 0
+    with open(script) as lines, open(os.devnull, "w") as nowhere:
+        start = time.perf_counter()
+        child = subprocess.Popen([program], stdin=lines, stdout=nowhere)
+        while True:
+            most = max(most, memory_of(child.pid))
+            try:
+                child.wait(0.01)
+                break
+            except subprocess.TimeoutExpired:
+                pass
+        took = time.perf_counter() - start
+    if child.returncode:
+        sys.exit(f"{program} ended with {child.returncode}")
+    return took, most
+
+
+def memory_of(process):
+    """The most memory that the process has held so far, in megabytes, as Linux tells."""
+    try:
+        with open(f"/proc/{process}/status") as lines:
+            return max((int(line.split()[1]) / 1024 for line in lines if line.startswith("VmHWM")), default=0)
+    except OSError:
+        return 0
+
+
+def work_in(name):
+    """How many allocations or messages the script asks for."""
+    wanted = "rates" if name.startswith(("whole", "any")) else "enqueue"
+    return sum(line.startswith(wanted) for line in workloads.lines_of(name))
+
+
+def main():
+    program, names = sys.argv[1], sys.argv[2:] or [name for name in workloads.SCRIPTS if name not in LONG]
+    print(f"{'work':>18} {'pieces':>7} {'seconds':>8} {'us a piece':>11} {'original':>9} {'times as fast':>14} {'MB':>6}")
+    with tempfile.TemporaryDirectory() as folder:
+        for name in names:
+            script = os.path.join(folder, name)
+            with open(script, "w") as file:
+                file.writelines(line + "\n" for line in workloads.lines_of(name))
+            least, memory = run(program, script)
+            for _ in range(RUNS - 1 if least < SLOW else 0):
+                least = min(least, run(program, script)[0])
+            pieces = work_in(name)
+            each = least / pieces * 1e6
+            original = ORIGINAL.get(name)
+            beside = f"{original:>9} {original / each:>14.1f}" if original else f"{'-':>9} {'-':>14}"
+            print(f"{name:>18} {pieces:>7} {least:>8.3f} {each:>11.1f} {beside} {memory:>6.1f}", flush=True)
+
+
+if __name__ == "__main__":
+    main()
