@@ -55,10 +55,10 @@ impl<P: Peer> Working<P> {
         ensures start { result ≡ start_at P.cmp now (planned P.cmp self.now) pair.now }
         ensures moment { IfSome result (λ moment. moment ≤ last_moment) }
     {
+        let front = pair.waiting.front()?;
         if self.flights.has_pair(&pair.origin, &pair.recipient) {
             return None;
         }
-        let front = pair.waiting.front()?;
         Some(now.max(ready_moment(pair.last_arrival, front.latency)))
     }
 
