@@ -13,16 +13,9 @@ use Rattle.p2p_simulated.specs.Session.{AreTooLargeUnder, MayRefuseRates}
 use Rattle.p2p_simulated.specs.Sides.{sides_of}
 use Rattle.p2p_simulated.specs.Size.{FairRatesFit}
 use Rattle.p2p_simulated.specs.TooLarge.{HasLargeAnswer, IsTooLarge}
+use Rattle.p2p_simulated.proofs.LookingUp.{LooksUp, LooksUpPairs}
 use Rattle.p2p_simulated.proofs.Fairness.Allocation.{allocates_under_caps}
 use Rattle.p2p_simulated.proofs.Fairness.Answered.{answers_if_unchanged, pair_answers_if_unchanged, answers_are_those_of_the_caps}
-
--- from its one state, the closure answers by that function of the peer, and stays in it
-abbrev pub LooksUp : {F P : Type 0} → Calls F P → F → (P → Option ℕ) → Type 0
-LooksUp {F} {P} call f cap = (peer : P) (answer : Option ℕ) (after : F) → call f peer answer after → (answer ≡ cap peer) × (after ≡ f)
-
--- the same of a closure over ordered pairs
-abbrev pub LooksUpPairs : {F P : Type 0} → PairCalls F P → F → (P → P → Option ℕ) → Type 0
-LooksUpPairs {F} {P} call f cap = (p q : P) (answer : Option ℕ) (after : F) → call f p q answer after → (answer ≡ cap p q) × (after ≡ f)
 
 module _ {E I L : Type 0} (egress : Calls E ℕ) (ingress : Calls I ℕ) (link : PairCalls L ℕ) (e : E) (i : I) (l : L) (under : Caps ℕ)
     (egress_by : LooksUp egress e under.egress) (ingress_by : LooksUp ingress i under.ingress) (link_by : LooksUpPairs link l under.link) where

@@ -9,7 +9,7 @@ use Rattle.p2p_simulated.specs.Fair.{IsFair}
 use Rattle.p2p_simulated.specs.FairParts.{AreFairParts, flow_parts}
 use Rattle.p2p_simulated.specs.Sides.{sides_of}
 use Rattle.p2p_simulated.specs.Working.{AreFairPartsUnder}
-use Rattle.p2p_simulated.proofs.CapAnswers.{LooksUp, LooksUpPairs}
+use Rattle.p2p_simulated.proofs.LookingUp.{LooksUp, LooksUpPairs}
 use Rattle.p2p_simulated.proofs.Fairness.Answered.{answers_if_unchanged, pair_answers_if_unchanged, answers_are_those_of_the_caps}
 
 module _ {P E I L : Type 0} (egress : Calls E P) (ingress : Calls I P) (link : PairCalls L P) (e : E) (i : I) (l : L) (caps : Caps P)

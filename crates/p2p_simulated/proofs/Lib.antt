@@ -29,6 +29,7 @@ pub mod LastRates
 pub mod LeastTime
 pub mod Lightening
 pub mod LinkCaps
+pub mod LookingUp
 pub mod MessageCounts
 pub mod NoLinks
 pub mod Numerals

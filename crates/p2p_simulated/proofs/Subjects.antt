@@ -1,9 +1,15 @@
 -- That two subjects are one is an equivalence.
 use Rattle.std.proofs.Common.{◌≡◌, Bool, true, false, ◌&&◌, refl, ap, ◌∙◌}
+use Rattle.std.specs.declared.cmp.Ordering.TheVariants.{Less, Equal, Greater}
+use Rattle.std.specs.Ordering.{is_eq, ordering_reverse}
 use Rattle.std.specs.Cmp.{IsTotalOrder, eq_by_cmp_equiv}
 use Rattle.std.specs.declared.cmp.Ordering.{Ordering}
 use Rattle.p2p_simulated.specs.Sides.{Subject, sent_by, received_by, sent_between, same_peer, same_subject}
-use Rattle.p2p_simulated.proofs.World.Queue.{peer_sym}
+
+reversed : (o : Ordering) → is_eq (ordering_reverse o) ≡ is_eq o
+reversed Less = refl
+reversed Equal = refl
+reversed Greater = refl
 
 first_of_both : (a b : Bool) → (a && b) ≡ true → a ≡ true
 first_of_both true b e = refl
@@ -14,13 +20,16 @@ second_of_both true b e = e
 second_of_both false b e = cc e
 
 module _ {P : Type 0} (cmp : P → P → Ordering) (o : IsTotalOrder cmp) where
+  pub peer_sym : (p q : P) → same_peer cmp p q ≡ same_peer cmp q p
+  peer_sym p q = ap is_eq (o.antisymm p q) ∙ reversed (cmp q p)
+
   peer_congr : (p q r : P) → same_peer cmp p q ≡ true → same_peer cmp p r ≡ same_peer cmp q r
   peer_congr p q r e = (eq_by_cmp_equiv o).congr p q r e
 
   pub same_symm : (s t : Subject P) → same_subject cmp s t ≡ same_subject cmp t s
-  same_symm (sent_by p) (sent_by q) = peer_sym cmp o p q
-  same_symm (received_by p) (received_by q) = peer_sym cmp o p q
-  same_symm (sent_between p q) (sent_between r s) = ap (λ b. b && same_peer cmp q s) (peer_sym cmp o p r) ∙ ap (λ b. same_peer cmp r p && b) (peer_sym cmp o q s)
+  same_symm (sent_by p) (sent_by q) = peer_sym p q
+  same_symm (received_by p) (received_by q) = peer_sym p q
+  same_symm (sent_between p q) (sent_between r s) = ap (λ b. b && same_peer cmp q s) (peer_sym p r) ∙ ap (λ b. same_peer cmp r p && b) (peer_sym q s)
   same_symm s t = refl
 
   pub same_congr : (s t u : Subject P) → same_subject cmp s t ≡ true → same_subject cmp s u ≡ same_subject cmp t u

@@ -10,7 +10,8 @@ use Rattle.p2p_simulated.specs.Fair.{IsFair, Side}
 use Rattle.p2p_simulated.specs.Sides.{same_peer}
 use Rattle.p2p_simulated.specs.WorldMessages.{Message, SameMessage, is_delivered, same_pair, Caps, CapsAlike}
 use Rattle.p2p_simulated.specs.WorldRates.{AreFair, Parts, capped_sides, is_unlimited, sides_for, rates_from, egress_side, ingress_side, link_side, capped_side}
-use Rattle.p2p_simulated.proofs.World.Queue.{peer_like, peer_sym, both_alike}
+use Rattle.p2p_simulated.proofs.World.Queue.{peer_like, both_alike}
+use Rattle.p2p_simulated.proofs.Subjects.{peer_sym}
 use Rattle.p2p_simulated.specs.Places.{places_from}
 use Rattle.p2p_simulated.proofs.Places.{places_alike}
 

@@ -25,7 +25,6 @@ use Rattle.p2p_simulated.proofs.World.LowestTerms.{spent_later}
 use Rattle.p2p_simulated.proofs.World.Agreeing.{obeyed_agree}
 use Rattle.p2p_simulated.specs.WorldIsolation.{InTime}
 use Rattle.p2p_simulated.proofs.World.ComputedReplies.{same_all, Shares, is_fair, fair_if_so}
-use Rattle.p2p_simulated.specs.Starts.{is_moment}
 
 -- ---- options
 
@@ -457,6 +456,11 @@ module _ {P : Type 0} (cmp : P → P → Ordering) (order : IsTotalOrder cmp) (p
           = bound (launch now (with_queued cmp p m) (next_of cmp (with_queued cmp p m) m)) (λ l. followed l (λ leavers mid. finish_all now n leavers mid)) c e in
           by_launch found.0 is (launch_so now (with_queued cmp p m) (next_of cmp (with_queued cmp p m) m) found.0 found.1) found.2
       by_limited false is e = subst (Enqueues cmp now m p) (the_same e) (at_once is)
+
+  -- whether that is the moment
+  abbrev pub is_moment : ℕ → Option ℕ → Bool
+  is_moment t None = false
+  is_moment t (Some s) = s == t
 
   abbrev pub is_past : ℕ → Option ℕ → Bool
   is_past now None = true

@@ -4,7 +4,7 @@ use Rattle.std.specs.List.{find}
 use Rattle.std.specs.declared.cmp.Ordering.{Ordering}
 use Rattle.std.specs.declared.cmp.Ordering.TheVariants.{Less, Equal, Greater}
 use Rattle.std.specs.Ordering.{is_eq, is_lt, is_gt, ordering_reverse, ordering_then}
-use Rattle.std.specs.Cmp.{IsTotalOrder, then_total, upto}
+use Rattle.std.specs.Cmp.{IsTotalOrder, then_total, tied_then, upto}
 use Rattle.std.proofs.lemmas.Cmp.{on_total, tied_itself}
 use Rattle.p2p_simulated.specs.World.{least_pair}
 use Rattle.p2p_simulated.specs.WorldMessages.{Message, OneForEachPair, pair_before, same_pair}
@@ -13,7 +13,6 @@ use Rattle.p2p_simulated.proofs.World.Queue.{pair_like, pair_sym}
 use Rattle.p2p_simulated.proofs.World.OtherPairs.{each_more, pair_itself}
 use Rattle.p2p_simulated.proofs.Each.{Each}
 use Rattle.p2p_simulated.proofs.Filters.{find_from_any}
-use Rattle.p2p_simulated.proofs.Pairs.{is_eq-then}
 use Rattle.p2p_simulated.proofs.Sorted.{is_lt_less}
 
 lt_turned : (r : Ordering) → is_lt (ordering_reverse r) ≡ is_gt r
@@ -53,7 +52,7 @@ module _ {P : Type 0} (cmp : P → P → Ordering) (order : IsTotalOrder cmp) wh
   not_before_back m n e = turned n m ∙ not_gt_if_lt (pair_cmp m n) e
 
   pub apart_if_before : (m n : Message P) → pair_before cmp m n ≡ true → same_pair cmp m n ≡ false
-  apart_if_before m n e = sym (is_eq-then (cmp m.origin n.origin) (cmp m.recipient n.recipient)) ∙ not_eq_if_lt (pair_cmp m n) e
+  apart_if_before m n e = tied_then (cmp m.origin n.origin) (cmp m.recipient n.recipient) ∙ not_eq_if_lt (pair_cmp m n) e
 
   pub before_each_other : (m n k : Message P) → pair_before cmp m n ≡ true → pair_before cmp n k ≡ true → pair_before cmp m k ≡ true
   before_each_other m n k e f = ap is_lt (pairs_total.trans m n k (is_lt_less (pair_cmp m n) e) (is_lt_less (pair_cmp n k) f))
@@ -62,7 +61,7 @@ module _ {P : Type 0} (cmp : P → P → Ordering) (order : IsTotalOrder cmp) wh
   not_before_on m n k e f = turned m k ∙ upto pairs_total k n m (sym (turned n k) ∙ f) (sym (turned m n) ∙ e)
 
   pub before_if_not : (m n : Message P) → pair_before cmp n m ≡ false → same_pair cmp m n ≡ false → pair_before cmp m n ≡ true
-  before_if_not m n e f = turned m n ∙ gt_if_neither (pair_cmp n m) e (is_eq-then (cmp n.origin m.origin) (cmp n.recipient m.recipient) ∙ pair_sym cmp order n m ∙ f)
+  before_if_not m n e f = turned m n ∙ gt_if_neither (pair_cmp n m) e (sym (tied_then (cmp n.origin m.origin) (cmp n.recipient m.recipient)) ∙ pair_sym cmp order n m ∙ f)
 
   -- ---- the least pair
 

@@ -3,8 +3,7 @@ use Rattle.std.proofs.Common.{append_assoc, ◌≡◌, ℕ, zero, suc, ◌+◌, 
 use Rattle.std.specs.Prelude.{nat_le, ◌&&◌, ◌||◌}
 use Rattle.std.specs.List.{filter, find, list_any}
 use Rattle.std.specs.declared.cmp.Ordering.{Ordering}
-use Rattle.std.specs.declared.cmp.Ordering.TheVariants.{Less, Equal, Greater}
-use Rattle.std.specs.Ordering.{is_eq, ordering_reverse}
+use Rattle.std.specs.Ordering.{is_eq}
 use Rattle.std.specs.Cmp.{IsTotalOrder}
 use Rattle.std.proofs.lemmas.List.Folds.{list_any-append}
 use Rattle.std.proofs.lemmas.List.Elements.{filter-append}
@@ -16,6 +15,7 @@ use Rattle.p2p_simulated.specs.WorldQueue.{leaving, staying, arrived, taken, joi
 use Rattle.p2p_simulated.specs.WorldMessages.{Message, OneForEachPair, same_pair}
 use Rattle.p2p_simulated.specs.declared.error.Error.TheVariants.{FlowIdsUsedUp, MomentTooLate}
 use Rattle.p2p_simulated.proofs.Sorted.{is_eq_equal}
+use Rattle.p2p_simulated.proofs.Subjects.{peer_sym}
 
 -- ---- courses
 
@@ -93,16 +93,8 @@ find_passes {X} test y (z ∷ zs) g = by_test (test z) refl g (find_passes test 
 module _ {P : Type 0} (cmp : P → P → Ordering) (order : IsTotalOrder cmp) where
   -- ---- pairs
 
-  reversed : (o : Ordering) → is_eq (ordering_reverse o) ≡ is_eq o
-  reversed Less = refl
-  reversed Equal = refl
-  reversed Greater = refl
-
   pub peer_like : (p q r : P) → same_peer cmp p q ≡ true → same_peer cmp q r ≡ same_peer cmp p r
   peer_like p q r e = ap is_eq (sym (order.congr p q r (is_eq_equal (cmp p q) e)))
-
-  pub peer_sym : (p q : P) → same_peer cmp p q ≡ same_peer cmp q p
-  peer_sym p q = ap is_eq (order.antisymm p q) ∙ reversed (cmp q p)
 
   pub both_alike : (a b c d : Bool) → a ≡ b → c ≡ d → (a && c) ≡ (b && d)
   both_alike a b c d e f = rw (e, f) refl
@@ -115,7 +107,7 @@ module _ {P : Type 0} (cmp : P → P → Ordering) (order : IsTotalOrder cmp) wh
   pub pair_sym : (m n : Message P) → same_pair cmp m n ≡ same_pair cmp n m
   pair_sym m n =
       both_alike (same_peer cmp m.origin n.origin) (same_peer cmp n.origin m.origin) (same_peer cmp m.recipient n.recipient) (same_peer cmp n.recipient m.recipient)
-      (peer_sym m.origin n.origin) (peer_sym m.recipient n.recipient)
+      (peer_sym cmp order m.origin n.origin) (peer_sym cmp order m.recipient n.recipient)
 
   pub any_like : (m n : Message P) (ks : List (Message P)) → same_pair cmp m n ≡ true → list_any (same_pair cmp n) ks ≡ list_any (same_pair cmp m) ks
   any_like m n [] e = refl

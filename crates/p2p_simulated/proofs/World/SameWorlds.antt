@@ -7,7 +7,8 @@ use Rattle.p2p_simulated.specs.Sides.{same_peer}
 use Rattle.p2p_simulated.specs.WorldMessages.{Message, Caps, AnswerAlike, CapsAlike, PairsAlike, SameMessage}
 use Rattle.p2p_simulated.specs.WorldPlanned.{Paced, Planned}
 use Rattle.p2p_simulated.specs.SamePlanned.{IsSamePaced, IsSamePlanned}
-use Rattle.p2p_simulated.proofs.World.Queue.{peer_like, peer_sym}
+use Rattle.p2p_simulated.proofs.World.Queue.{peer_like}
+use Rattle.p2p_simulated.proofs.Subjects.{peer_sym}
 use Rattle.p2p_simulated.proofs.World.AlikeMessages.{same_itself as one_peer, message_itself}
 use Rattle.p2p_simulated.proofs.Zips.{zip_chain, zip-same}
 

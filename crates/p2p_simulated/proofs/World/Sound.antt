@@ -12,7 +12,8 @@ use Rattle.p2p_simulated.specs.WorldMessages.{Caps, Message, OneForEachPair, sam
 use Rattle.p2p_simulated.specs.WorldRates.{Parts}
 use Rattle.p2p_simulated.specs.WorldTime.{ArePositive, Drains, IsSound, Ticks, drain_each, no_tick, one_tick, tick_faults}
 use Rattle.p2p_simulated.specs.declared.error.Error.TheVariants.{FlowIdsUsedUp, MomentTooLate}
-use Rattle.p2p_simulated.proofs.World.Queue.{peer_like, peer_sym, one_without, one_pair_more, messages}
+use Rattle.p2p_simulated.proofs.World.Queue.{peer_like, one_without, one_pair_more, messages}
+use Rattle.p2p_simulated.proofs.Subjects.{peer_sym}
 use Rattle.p2p_simulated.proofs.World.SettlingEnds.{ends_preceded, ends_and_then, ends_cond}
 use Rattle.p2p_simulated.proofs.World.OtherPairs.{each_of, ends_more, Leaves, next_leaves, IsButFor}
 use Rattle.p2p_simulated.proofs.Each.{each_filtered}
