@@ -1,0 +1,38 @@
+-- What is allocated is the one max-min allocation.
+use Rattle.std.proofs.Common.{ℕ, List, length, subst}
+use Rattle.std.specs.declared.cmp.Ordering.{Ordering}
+use Rattle.fair_rates.specs.declared.bandwidth.Rate.{Rate}
+use Rattle.fair_rates.specs.AllocationLaws.{AllocatesUnderCaps}
+use Rattle.fair_rates.specs.Answers.{Answered, Calls, PairCalls}
+use Rattle.fair_rates.specs.Fair.{Side}
+use Rattle.fair_rates.specs.FairLaws.{HaveUsersBelow, IsTheOnlyFair, AreMaxMin, AreZeroWhereClosed}
+use Rattle.fair_rates.specs.Rates.{AreFairRates}
+use Rattle.fair_rates.specs.Sides.{sides_of}
+use Rattle.fair_rates.proofs.Fairness.Answered.{answers_are_those_of_the_caps}
+use Rattle.fair_rates.proofs.Fairness.ClosedSides.{fair_rates_are_zero_where_closed}
+use Rattle.fair_rates.proofs.Fairness.MaxMin.{fair_rates_are_max_min}
+use Rattle.fair_rates.proofs.Fairness.OneAllocation.{one_allocation}
+
+-- these rates are the one max-min allocation
+pub record AreTheAllocation (sides : List Side) (flows : ℕ) (rates : List Rate) : Type 0 where
+  pub only : IsTheOnlyFair sides flows rates
+  pub max_min : AreMaxMin sides rates
+  pub zero : AreZeroWhereClosed sides rates
+
+-- fair rates are the one max-min allocation, where the sides have users among the flows
+pub the_allocation : (sides : List Side) (flows : ℕ) (rates : List Rate) → HaveUsersBelow flows sides → AreFairRates sides flows rates → AreTheAllocation sides flows rates
+the_allocation sides flows rates users f = record {
+  only = one_allocation sides flows rates f;
+  max_min = fair_rates_are_max_min sides flows rates users f;
+  zero = fair_rates_are_zero_where_closed sides flows rates f;
+}
+
+-- what closures that answer by caps have allocated is fair under the caps
+pub allocates_under_caps : {P E I L : Type 0} (cmp : P → P → Ordering) (egress : Calls E P) (ingress : Calls I P) (link : PairCalls L P) → AllocatesUnderCaps cmp egress ingress link
+allocates_under_caps {P} cmp egress ingress link caps first flows rate_of by a =
+    let answered = answers_are_those_of_the_caps egress ingress link caps first flows a.answered by a.in_order in
+    record {
+      rates = a.rates;
+      fair = subst (λ (bs : List (Answered P)). AreFairRates (sides_of cmp bs) (length flows) a.rates) answered a.fair;
+      by_id = a.by_id;
+    }

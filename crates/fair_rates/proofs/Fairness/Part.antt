@@ -1,0 +1,113 @@
+-- A part of the flows that shares no side with the rest.
+use Rattle.std.proofs.Common.{◌≡◌, ℕ, ◌≤◌, Bool, true, false, cond, List, [], ◌∷◌, map, refl, sym, ap, ◌∙◌, subst, subst₂, ap₂, inl, inr, arith}
+use Rattle.std.specs.List.{filter}
+use Rattle.std.specs.Cmp.{IsTotalOrder}
+use Rattle.std.specs.declared.cmp.Ordering.{Ordering}
+use Rattle.std.proofs.lemmas.Bool.{and_parts}
+use Rattle.std.proofs.lemmas.Cmp.{eq_by_cmp_equiv}
+use Rattle.std.proofs.lemmas.List.Elements.{All-contains}
+use Rattle.std.proofs.lemmas.Map.Steps.{list_any_congr}
+use Rattle.fair_rates.specs.declared.bandwidth.Flow.{Flow}
+use Rattle.fair_rates.specs.declared.bandwidth.Rate.{Rate}
+use Rattle.fair_rates.specs.FairPart.{kept}
+use Rattle.fair_rates.specs.Sides.{Subject, sent_by, received_by, sent_between, same_peer}
+use Rattle.fair_rates.specs.Caps.{Caps}
+use Rattle.fair_rates.specs.PeerCaps.{limits, is_among, is_of, HaveBothEndsOrNone, AreFairUnder, PartIsFair}
+use Rattle.fair_rates.proofs.Fairness.Members.{In, in_map, from_filter, contains_from_in}
+use Rattle.fair_rates.proofs.Fairness.Among.{Allotted, flows_of, rates_of, total, total-cons, AreFairAmong, among_from, under_from}
+
+module _ {P : Type 0} (cmp : P → P → Ordering) (caps : Caps P) (mine : Flow P → Bool) where
+  -- what the test passes
+  abbrev pub part : List (Allotted P) → List (Allotted P)
+  part xs = filter (λ x. mine x.flow) xs
+
+  pub flows_of_part : (xs : List (Allotted P)) → flows_of (part xs) ≡ filter mine (flows_of xs)
+  flows_of_part [] = refl
+  flows_of_part (x ∷ xs) = by_test (mine x.flow) (flows_of_part xs)
+    where
+      by_test : (b : Bool) → flows_of (part xs) ≡ filter mine (flows_of xs) → flows_of (cond b (x ∷ part xs) (part xs)) ≡ cond b (x.flow ∷ filter mine (flows_of xs)) (filter mine (flows_of xs))
+      by_test true ih = ap (λ (fs : List (Flow P)). x.flow ∷ fs) ih
+      by_test false ih = ih
+
+  pub rates_of_part : (xs : List (Allotted P)) → rates_of (part xs) ≡ kept (map mine (flows_of xs)) (rates_of xs)
+  rates_of_part [] = refl
+  rates_of_part (x ∷ xs) = by_test (mine x.flow) (rates_of_part xs)
+    where
+      by_test : (b : Bool) → rates_of (part xs) ≡ kept (map mine (flows_of xs)) (rates_of xs)
+          → rates_of (cond b (x ∷ part xs) (part xs)) ≡ cond b (x.rate ∷ kept (map mine (flows_of xs)) (rates_of xs)) (kept (map mine (flows_of xs)) (rates_of xs))
+      by_test true ih = ap (λ (rs : List Rate). x.rate ∷ rs) ih
+      by_test false ih = ih
+
+  total_at_most : (s : Subject P) (xs : List (Allotted P)) → total cmp caps s (part xs) ≤ total cmp caps s xs
+  total_at_most s [] = omega arith
+  total_at_most s (x ∷ xs) = by_test (mine x.flow) (total_at_most s xs)
+    where
+      by_test : (b : Bool) → total cmp caps s (part xs) ≤ total cmp caps s xs → total cmp caps s (cond b (x ∷ part xs) (part xs)) ≤ total cmp caps s (x ∷ xs)
+      by_test true ih = omega (arith, ih, total-cons cmp caps s x (part xs), total-cons cmp caps s x xs)
+      by_test false ih = omega (arith, ih, total-cons cmp caps s x xs)
+
+  -- where all that a side limits pass, their total is the same
+  total_same : (s : Subject P) (xs : List (Allotted P)) → ((x : Allotted P) → In xs x → limits cmp s x.flow ≡ true → mine x.flow ≡ true) → total cmp caps s (part xs) ≡ total cmp caps s xs
+  total_same s [] all = refl
+  total_same s (x ∷ xs) all = by_test (mine x.flow) (limits cmp s x.flow) refl refl (total_same s xs (λ y h. all y (inr h)))
+    where
+      by_test : (b l : Bool) → mine x.flow ≡ b → limits cmp s x.flow ≡ l → total cmp caps s (part xs) ≡ total cmp caps s xs
+          → total cmp caps s (cond b (x ∷ part xs) (part xs)) ≡ total cmp caps s (x ∷ xs)
+      by_test true l own is ih = omega (arith, ih, total-cons cmp caps s x (part xs), total-cons cmp caps s x xs)
+      by_test false true own is ih = let passes : mine x.flow ≡ true = all x (inl refl) is in cc
+      by_test false false own is ih =
+          let nothing : cond (limits cmp s x.flow) x.parts 0 ≡ 0 = rw is refl in
+          omega (arith, ih, total-cons cmp caps s x xs, nothing)
+
+  -- fairness of the part
+  pub part_among : (per : ℕ) (xs : List (Allotted P)) → AreFairAmong cmp caps per xs
+      → ((s : Subject P) (x y : Allotted P) → In xs x → In xs y → limits cmp s x.flow ≡ true → limits cmp s y.flow ≡ true → mine x.flow ≡ mine y.flow)
+      → AreFairAmong cmp caps per (part xs)
+  part_among per xs f apart = record {
+    some_part = f.some_part;
+    within = λ s cap has. omega (arith, total_at_most s xs, f.within s cap has);
+    held = λ x h c.
+        let own = from_filter (λ (x : Allotted P). mine x.flow) xs x h in
+        let b = f.held x own.0 c in record {
+          by = b.by;
+          full = total_same b.by.subject xs (λ y among l. apart b.by.subject y x among own.0 l b.by.limited ∙ own.1) ∙ b.full;
+          greatest = λ y among l. b.greatest y (from_filter (λ (x : Allotted P). mine x.flow) xs y among).0 l;
+        };
+    rated = λ x h. f.rated x (from_filter (λ (x : Allotted P). mine x.flow) xs x h).0;
+  }
+
+module _ {P : Type 0} (cmp : P → P → Ordering) (order : IsTotalOrder cmp) (peers : List P) where
+  same_among : (p q : P) → same_peer cmp p q ≡ true → is_among cmp peers p ≡ is_among cmp peers q
+  same_among p q e = list_any_congr (eq_by_cmp_equiv order) p q peers e
+
+  -- two flows with a side in common are both of the set or neither
+  apart : (s : Subject P) (f g : Flow P) → is_among cmp peers f.origin ≡ is_among cmp peers f.recipient → is_among cmp peers g.origin ≡ is_among cmp peers g.recipient
+      → limits cmp s f ≡ true → limits cmp s g ≡ true → is_of cmp peers f ≡ is_of cmp peers g
+  apart (sent_by p) f g at_f at_g lf lg = sym (same_among p f.origin lf) ∙ same_among p g.origin lg
+  apart (received_by p) f g at_f at_g lf lg =
+      at_f
+      ∙ sym (same_among p f.recipient (and_parts f.delivered (same_peer cmp p f.recipient) lf).1)
+      ∙ same_among p g.recipient (and_parts g.delivered (same_peer cmp p g.recipient) lg).1
+      ∙ sym at_g
+  apart (sent_between p q) f g at_f at_g lf lg =
+      sym (same_among p f.origin (and_parts (same_peer cmp p f.origin) (same_peer cmp q f.recipient) lf).0)
+      ∙ same_among p g.origin (and_parts (same_peer cmp p g.origin) (same_peer cmp q g.recipient) lg).0
+
+  module _ (caps : Caps P) (flows : List (Flow P)) (ends : HaveBothEndsOrNone cmp peers flows) (xs : List (Allotted P)) (same : flows_of xs ≡ flows) where
+    both_ends : (x : Allotted P) → In xs x → is_among cmp peers x.flow.origin ≡ is_among cmp peers x.flow.recipient
+    both_ends x h =
+        All-contains (λ (f : Flow P). is_among cmp peers f.origin ≡ is_among cmp peers f.recipient) flows x.flow ends
+        (contains_from_in flows x.flow (subst (λ (fs : List (Flow P)). In fs x.flow) same (in_map (λ (x : Allotted P). x.flow) xs x h)))
+
+    together : (t : Subject P) (x y : Allotted P) → In xs x → In xs y → limits cmp t x.flow ≡ true → limits cmp t y.flow ≡ true → is_of cmp peers x.flow ≡ is_of cmp peers y.flow
+    together t x y h g lx ly = apart t x.flow y.flow (both_ends x h) (both_ends y g) lx ly
+
+pub part_is_fair : {P : Type 0} (cmp : P → P → Ordering) → IsTotalOrder cmp → PartIsFair cmp
+part_is_fair {P} cmp order caps peers flows rates of ends fair =
+    let mine = is_of cmp peers in
+    let s = among_from cmp caps order of flows rates fair in
+    let whole = under_from cmp caps order of s.per (part cmp caps mine s.all) (part_among cmp caps mine s.per s.all s.fair (together cmp order peers caps flows ends s.all s.flows_are)) in
+    let flows_is : flows_of (part cmp caps mine s.all) ≡ filter mine flows = flows_of_part cmp caps mine s.all ∙ ap (filter mine) s.flows_are in
+    let rates_is : rates_of (part cmp caps mine s.all) ≡ kept (map mine flows) rates = rates_of_part cmp caps mine s.all
+    ∙ ap₂ (λ (fs : List (Flow P)) (rs : List Rate). kept (map mine fs) rs) s.flows_are s.rates_are in
+    subst₂ (AreFairUnder cmp caps) flows_is rates_is whole

@@ -1,0 +1,45 @@
+-- Fairness depends on the set of sides alone.
+use Rattle.std.proofs.Common.{ℕ, ◌*◌, ◌≤◌, List, get_or}
+use Rattle.std.proofs.lemmas.List.Elements.{All-contains}
+use Rattle.fair_rates.specs.declared.bandwidth.Rate.{Rate}
+use Rattle.fair_rates.specs.declared.bandwidth.Rate.TheVariants.{Unlimited, Finite}
+use Rattle.fair_rates.specs.Fair.{Side, load, IsLimited, IsFair, HasBottleneck}
+use Rattle.fair_rates.specs.Rates.{IsRateOf}
+use Rattle.fair_rates.specs.FairLaws.{AreTheSameSides, FairnessIsOfTheSet}
+use Rattle.fair_rates.proofs.Fairness.Sums.{All-from_contains}
+
+module _ (xs ys : List Side) (same : AreTheSameSides xs ys) where
+  there : (flow : ℕ) → IsLimited xs flow → IsLimited ys flow
+  there flow (side, u) = (side, record { listed = (same side).0 u.listed; used = u.used })
+
+  back : (flow : ℕ) → IsLimited ys flow → IsLimited xs flow
+  back flow (side, u) = (side, record { listed = (same side).1 u.listed; used = u.used })
+
+  moved : (per : ℕ) (parts : ℕ → ℕ) (flow : ℕ) → HasBottleneck xs per parts flow → HasBottleneck ys per parts flow
+  moved per parts flow h = record {
+    side = h.side;
+    uses = record { listed = (same h.side).0 h.uses.listed; used = h.uses.used };
+    full = h.full;
+    greatest = h.greatest;
+  }
+
+  pub still_fair : (per : ℕ) (parts : ℕ → ℕ) → IsFair xs per parts → IsFair ys per parts
+  still_fair per parts f = record {
+    some_part = f.some_part;
+    within = All-from_contains (λ s. load parts s ≤ s.cap * per) ys (λ s listed.
+        All-contains (λ s. load parts s ≤ s.cap * per) xs s f.within ((same s).1 listed));
+    held = λ flow limited. moved per parts flow (f.held flow (back flow limited));
+  }
+
+  still_rate : (per : ℕ) (parts : ℕ → ℕ) (flow : ℕ) (r : Rate) → IsRateOf xs per parts flow r → IsRateOf ys per parts flow r
+  still_rate per parts flow Unlimited h = λ limited. h (back flow limited)
+  still_rate per parts flow (Finite r) h = (there flow h.0, h.1)
+
+pub fairness_is_of_the_set : FairnessIsOfTheSet
+fairness_is_of_the_set xs ys flows rates same f = record {
+  one_each = f.one_each;
+  per = f.per;
+  parts = f.parts;
+  fair = still_fair xs ys same f.per f.parts f.fair;
+  rated = λ flow d within. still_rate xs ys same f.per f.parts flow (get_or rates flow d) (f.rated flow d within);
+}

@@ -1,0 +1,115 @@
+-- Filling keeps its state, round by round, and ends in a fair allocation.
+use Rattle.std.proofs.Common.{◌≡◌, ℕ, ◌*◌, ◌<◌, ◌≤◌, inl, inr, List, Contains, sym, ◌∙◌, arith, Option, None, IsSome}
+use Rattle.std.proofs.lemmas.List.Elements.{All-contains}
+use Rattle.fair_rates.specs.Fair.{Side, load, IsLimited, IsFair}
+use Rattle.fair_rates.proofs.Filling.Frozen.{none_or_some, some_value, some_is, at_some, at_none, at_any}
+use Rattle.fair_rates.specs.Filling.{at_level}
+use Rattle.fair_rates.proofs.Filling.States.{IsHeld, IsFilledTo, IsNextRound}
+use Rattle.fair_rates.proofs.Filling.Sums.{sum_by_same, sum_by-zero}
+use Rattle.fair_rates.proofs.Fairness.Sums.{All-from_contains}
+
+-- no flow is frozen
+pub start : (sides : List Side) (per : ℕ) (frozen : ℕ → Option ℕ) → ((flow : ℕ) → frozen flow ≡ None) → IsFilledTo sides per frozen 0
+start sides per frozen none = record {
+  within = All-from_contains (λ s. load (at_level frozen 0) s ≤ s.cap * per) sides (λ s c.
+      omega (arith, sum_by-zero s.users, sum_by_same (at_level frozen 0) (λ _. 0) s.users (λ k d l. at_none frozen 0 _ (none _))));
+  below = λ j. omega (arith, at_none frozen 0 j (none j));
+  held = λ j h. let v = some_value (frozen j) h in let e = none j in cc;
+}
+
+-- every limited flow is frozen
+pub end : (sides : List Side) (per : ℕ) (frozen : ℕ → Option ℕ) (level : ℕ) → 0 < per → IsFilledTo sides per frozen level → ((flow : ℕ) → IsLimited sides flow → IsSome (frozen flow))
+    → IsFair sides per (at_level frozen 0)
+end sides per frozen level some filled all = record {
+  some_part = some;
+  within = All-from_contains (λ s. load (at_level frozen 0) s ≤ s.cap * per) sides (λ s c.
+      let same = sum_by_same (at_level frozen 0) (at_level frozen level) s.users (All-from_contains (λ j. at_level frozen 0 j ≡ at_level frozen level j) s.users (λ j used.
+      at_any frozen 0 level j (all j (s, record { listed = c; used = used })))) in
+      omega (arith, same, All-contains (λ s. load (at_level frozen level) s ≤ s.cap * per) sides s filled.within c));
+  held = λ i limited. (filled.held i (all i limited)).bottleneck;
+}
+
+module _ (sides : List Side) (per : ℕ) (frozen : ℕ → Option ℕ) (level : ℕ) (after : ℕ → Option ℕ) (next_level : ℕ) (filled : IsFilledTo sides per frozen level)
+    (round : IsNextRound sides per frozen level after next_level) where
+  -- at the next level nothing moves
+  same_at : (j : ℕ) → at_level after next_level j ≡ at_level frozen next_level j
+  same_at j = elim (none_or_some (frozen j)) [
+    | inr (a, e) ↦ at_some after next_level j a (round.kept j a e) ∙ sym (at_some frozen next_level j a e)
+    | inl e ↦ elim (none_or_some (after j)) [
+      | inl e' ↦ at_none after next_level j e' ∙ sym (at_none frozen next_level j e)
+      | inr (a, e') ↦ omega (arith, at_some after next_level j a e', at_none frozen next_level j e, (round.fresh j a e e').0)
+    ]
+  ]
+
+  -- a frozen flow keeps its parts
+  kept_at : (j : ℕ) → IsSome (frozen j) → at_level after 0 j ≡ at_level frozen 0 j
+  kept_at j h = let v = some_value (frozen j) h in at_some after 0 j v.0 (round.kept j v.0 v.1) ∙ sym (at_some frozen 0 j v.0 v.1)
+
+  still : (j : ℕ) → IsSome (frozen j) → IsSome (after j)
+  still j h = let v = some_value (frozen j) h in some_is (after j) v.0 (round.kept j v.0 v.1)
+
+  below : (j : ℕ) → at_level after 0 j ≤ next_level
+  below j = elim (none_or_some (frozen j)) [
+    | inr (a, e) ↦ omega (arith, kept_at j (some_is (frozen j) a e), filled.below j, round.raised)
+    | inl e ↦ elim (none_or_some (after j)) [
+      | inl e' ↦ omega (arith, at_none after 0 j e')
+      | inr (a, e') ↦ omega (arith, at_some after 0 j a e', (round.fresh j a e e').0)
+    ]
+  ]
+
+  held : (i : ℕ) → IsSome (after i) → IsHeld sides per after i
+  held i now = elim (none_or_some (frozen i)) [
+    | inr (a, e) ↦
+        let was = some_is (frozen i) a e in
+        let s = filled.held i was in let h = s.bottleneck in let users = h.side.users in
+        let had : (j : ℕ) → Contains users j → IsSome (frozen j) = λ j used. All-contains (λ j. IsSome (frozen j)) users j s.all_frozen used in
+        record {
+          bottleneck = record {
+            side = h.side;
+            uses = h.uses;
+            full = sum_by_same (at_level after 0) (at_level frozen 0) users (All-from_contains (λ j. at_level after 0 j ≡ at_level frozen 0 j) users (λ j used. kept_at j (had j used))) ∙ h.full;
+            greatest = All-from_contains (λ j. at_level after 0 j ≤ at_level after 0 i) users (λ j used.
+                omega (arith, kept_at j (had j used), kept_at i was, All-contains (λ j. at_level frozen 0 j ≤ at_level frozen 0 i) users j h.greatest used));
+          };
+          all_frozen = All-from_contains (λ j. IsSome (after j)) users (λ j used. still j (had j used));
+        }
+    | inl e ↦
+        let v = some_value (after i) now in let f = round.fresh i v.0 e v.1 in let users = f.1.side.users in
+        let same : (j : ℕ) → Contains users j → at_level after 0 j ≡ at_level frozen next_level j =
+        λ j used. at_any after 0 next_level j (All-contains (λ j. IsSome (after j)) users j f.1.all_frozen used) ∙ same_at j in
+        record {
+          bottleneck = record {
+            side = f.1.side;
+            uses = f.1.uses;
+            full = sum_by_same (at_level after 0) (at_level frozen next_level) users (All-from_contains (λ j. at_level after 0 j ≡ at_level frozen next_level j) users same) ∙ f.1.full;
+            greatest = All-from_contains (λ j. at_level after 0 j ≤ at_level after 0 i) users (λ j used. omega (arith, below j, at_some after 0 i v.0 v.1, f.0));
+          };
+          all_frozen = f.1.all_frozen;
+        }
+  ]
+
+  pub next : IsFilledTo sides per after next_level
+  next = record {
+    within = All-from_contains (λ s. load (at_level after next_level) s ≤ s.cap * per) sides (λ s c.
+        omega (
+          arith,
+          sum_by_same (at_level after next_level) (at_level frozen next_level) s.users (λ k d l. same_at _),
+          All-contains (λ s. load (at_level frozen next_level) s ≤ s.cap * per) sides s round.within c,
+        ));
+    below = below;
+    held = held;
+  }
+
+-- parts that are the same are fair
+pub fair_same : (sides : List Side) (per : ℕ) (parts other : ℕ → ℕ) → ((flow : ℕ) → parts flow ≡ other flow) → IsFair sides per parts → IsFair sides per other
+fair_same sides per parts other same fair = record {
+  some_part = fair.some_part;
+  within = All-from_contains (λ s. load other s ≤ s.cap * per) sides (λ s c.
+      omega (arith, sum_by_same parts other s.users (λ k d inside. same _), All-contains (λ s. load parts s ≤ s.cap * per) sides s fair.within c));
+  held = λ flow limited. let h = fair.held flow limited in record {
+    side = h.side;
+    uses = h.uses;
+    full = sym (sum_by_same parts other h.side.users (λ k d inside. same _)) ∙ h.full;
+    greatest = All-from_contains (λ j. other j ≤ other flow) h.side.users (λ j used. omega (arith, same j, same flow, All-contains (λ j. parts j ≤ parts flow) h.side.users j h.greatest used));
+  };
+}

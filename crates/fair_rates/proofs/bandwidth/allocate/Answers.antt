@@ -1,0 +1,14 @@
+use Rattle.std.proofs.Common.{rules, of_calls}
+use Rattle.std.proofs.lemmas.Result.{IfOk-weaker}
+use Rattle.fair_rates.proofs.Callable.{callable_on_each_pair}
+use Rattle.fair_rates.proofs.NoLinks.{without_links, refused_without_links}
+use Rattle.fair_rates.proofs.bandwidth.allocate.Goals as goal
+
+pub allocate_linked-requires-clause-link : goal.allocate_linked-requires-clause-link
+allocate_linked-requires-clause-link g c = search (of_calls, callable_on_each_pair)
+
+pub returns-clause-fair : goal.returns-clause-fair
+returns-clause-fair g c = IfOk-weaker c.allocate_linked.result _ _ (λ rates h. without_links _ _ _ (λ l p q a l' k. search rules) g.P.Ord.cmp _ _ _ h) c.allocate_linked.ensures.fair
+
+pub returns-clause-refused : goal.returns-clause-refused
+returns-clause-refused g c = refused_without_links _ _ _ (λ l p q a l' k. search rules) g.P.Ord.cmp _ _ c.allocate_linked.result c.allocate_linked.ensures.refused

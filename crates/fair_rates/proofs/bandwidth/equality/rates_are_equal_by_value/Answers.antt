@@ -1,0 +1,14 @@
+use borrow.Author.Tests.{eq-eqb}
+use Rattle.std.proofs.Common.{◌∙◌, refl, sym}
+use Rattle.std.proofs.lemmas.Bool.{eqb-true, false≢true}
+use Rattle.fair_rates.specs.declared.bandwidth.Rate.TheVariants.{Unlimited, Finite}
+use Rattle.fair_rates.specs.Laws.FractionOrder.{same_test}
+use Rattle.fair_rates.proofs.bandwidth.equality.rates_are_equal_by_value.Goals as goal
+
+pub returns : goal.returns
+returns c Unlimited Unlimited = (λ _. tt, λ _. refl)
+returns c Unlimited (Finite s) = (λ e. false≢true e, λ h. absurd h)
+returns c (Finite r) Unlimited = (λ e. false≢true e, λ h. absurd h)
+returns c (Finite r) (Finite s) =
+    let e = same_test r.numerator r.denominator s.numerator s.denominator r.positive s.positive r.reduced s.reduced in
+    (λ h. eqb-true _ _ (sym e ∙ h), λ h. e ∙ eq-eqb _ _ h)

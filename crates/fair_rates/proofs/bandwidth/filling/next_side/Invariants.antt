@@ -1,0 +1,17 @@
+use Rattle.std.proofs.Common.{ℕ, ◌+◌, ◌≤◌, List, length, sum_by}
+use Rattle.std.specs.BinaryHeap.{heap_items, heap_len}
+use Rattle.fair_rates.specs.Fair.{Side}
+use Rattle.fair_rates.specs.Filling.{frozen_at, IsQueue, IsSound, AreAbove}
+use Rattle.fair_rates.proofs.bandwidth.filling.next_side.Given as goal
+
+abbrev pub invariant-loop-least : goal.invariant-loop-least
+invariant-loop-least l = record {
+  sound : IsSound (length l.level_of) (frozen_at l.levels l.level_of) (heap_items l.queue);
+  queue : (sides : List Side) (scale : ℕ) → IsQueue sides scale (frozen_at l.levels l.level_of) (heap_items l.initial.queue)
+      → IsQueue sides scale (frozen_at l.levels l.level_of) (heap_items l.queue);
+  no_lower : (parts : ℕ) → AreAbove parts (heap_items l.initial.queue) → AreAbove parts (heap_items l.queue);
+  fewer : heap_len l.queue ≤ heap_len l.initial.queue;
+}
+
+abbrev pub decreases-loop-least : goal.decreases-loop-least
+decreases-loop-least l = sum_by (λ open_side. 1 + length open_side.0.rising.items) (heap_items l.queue)

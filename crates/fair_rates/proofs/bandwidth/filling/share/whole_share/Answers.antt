@@ -1,0 +1,30 @@
+use Prim.Native.Nat.{◌∣◌}
+use Rattle.std.proofs.Common.{◌*◌, ◌/◌, ap, subst, sym, arith}
+use Rattle.std.proofs.Math.Nat.{div-mul_cancel}
+use Rattle.fair_rates.specs.Laws.Gcd.{gcd-pos, gcd-IsGcd}
+use Rattle.fair_rates.proofs.Filling.Share.{quotient_positive, whole}
+use Rattle.fair_rates.proofs.bandwidth.filling.share.whole_share.Goals as goal
+
+pub nonzero_div-factor : goal.nonzero_div-factor
+nonzero_div-factor c = omega (arith, gcd-pos c.divide-rest.result c.args.count c.requires, c.gcd_of_narrow-shared.ensures)
+
+pub nonzero_div-rest : goal.nonzero_div-rest
+nonzero_div-rest c = omega (arith, gcd-pos c.divide-rest.result c.args.count c.requires, c.gcd_of_narrow-shared.ensures)
+
+pub returns-clause-factor : goal.returns-clause-factor
+returns-clause-factor c =
+    let g = gcd-IsGcd c.divide-rest.result c.args.count in
+    quotient_positive c.args.count c.gcd_of_narrow-shared.result (c.args.count / c.gcd_of_narrow-shared.result) c.requires
+    (div-mul_cancel c.gcd_of_narrow-shared.result (subst (λ n. n ∣ c.args.count) (sym c.gcd_of_narrow-shared.ensures) g.1))
+
+pub returns-clause-whole : goal.returns-clause-whole
+returns-clause-whole c =
+    let shared = c.gcd_of_narrow-shared.result in
+    let rest = c.divide-rest.result in
+    let g = gcd-IsGcd rest c.args.count in
+    let quotient = c.divide-rest.new.self in
+    whole c.args.slack c.args.count quotient rest shared (c.args.count / shared) (rest / shared) c.add_assign-2.new.self
+    (omega (arith, ap (λ n. c.args.count * n) c.divide-rest.ensures.quotient, c.divide-rest.ensures.rest))
+    (div-mul_cancel shared (subst (λ n. n ∣ c.args.count) (sym c.gcd_of_narrow-shared.ensures) g.1))
+    (div-mul_cancel shared (subst (λ n. n ∣ rest) (sym c.gcd_of_narrow-shared.ensures) g.0))
+    (omega (arith, c.in_ok-add_assign.ensures.value, c.in_ok-multiply.ensures.value, c.from_u64.ensures))

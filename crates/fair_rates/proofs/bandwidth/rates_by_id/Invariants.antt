@@ -1,0 +1,11 @@
+use Rattle.std.proofs.Common.{◌≡◌, ℕ}
+use Rattle.std.specs.Ordering.{nat_cmp}
+use Rattle.std.specs.BTreeMap.{get}
+use Rattle.std.specs.Iterator.Adapters.{zip_first, zip_second}
+use Rattle.std.specs.Slice.Iter.{iter_rest}
+use Rattle.fair_rates.specs.Rates.{or_else, last_rate}
+use Rattle.fair_rates.proofs.bandwidth.rates_by_id.Given as goal
+
+abbrev pub invariant-loop-flow : goal.invariant-loop-flow
+invariant-loop-flow g l =
+    (id : ℕ) → or_else (last_rate id (iter_rest (zip_first l.flow-iterator)) (iter_rest (zip_second l.flow-iterator))) (get nat_cmp l.by_id id) ≡ last_rate id l.flows l.rates

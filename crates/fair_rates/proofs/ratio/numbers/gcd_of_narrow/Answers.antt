@@ -1,0 +1,9 @@
+use Rattle.std.proofs.Common.{◌∙◌, sym, arith}
+use Rattle.fair_rates.specs.Laws.Gcd.{gcd-mod, gcd-zero}
+use Rattle.fair_rates.proofs.ratio.numbers.gcd_of_narrow.Goals as goal
+
+pub loop-rest-preserved : goal.loop-rest-preserved
+loop-rest-preserved c = gcd-mod _ _ (omega arith) ∙ c.loop-rest.invariant
+
+pub returns : goal.returns
+returns c = sym (gcd-zero _ _ (omega arith)) ∙ c.loop-rest.invariant

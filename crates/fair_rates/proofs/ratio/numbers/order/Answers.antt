@@ -1,0 +1,6 @@
+use Rattle.std.proofs.Common.{◌∙◌}
+use Rattle.fair_rates.specs.Laws.FractionOrder.{over_one_denominator}
+use Rattle.fair_rates.proofs.ratio.numbers.order.Goals as goal
+
+pub returns-then-b-d : goal.returns-then-b-d
+returns-then-b-d c = c.cmp.ensures ∙ over_one_denominator _ _ _ _ c.requires.left c.if-b-d.true

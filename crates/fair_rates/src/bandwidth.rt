@@ -1,0 +1,287 @@
+//! Who sends how fast.
+ghost use Rattle.std.specs.Prelude.{◌≡◌, ◌⊎◌, ◌<◌, ℕ, IfOk, IfErr};
+ghost use Rattle.std.specs.Fn.{CalledAt, TakesAt, CalledAtTwo, TakesAtTwo};
+ghost use Rattle.std.specs.Ordering.{nat_cmp};
+ghost use Rattle.std.specs.declared.cmp.Ordering.TheVariants.{Equal};
+ghost use Rattle.std.specs.BTreeMap.{get};
+ghost use Rattle.fair_rates.specs.Answers.{NoLink, CallableOnEach, CallableOnEachPair, origins, recipients, pairs};
+ghost use Rattle.fair_rates.specs.Allocation.{IsAllocation, IsCountedAllocation};
+ghost use Rattle.fair_rates.specs.FairParts.{AreFairParts};
+ghost use Rattle.fair_rates.specs.Rates.{last_rate};
+ghost use Rattle.fair_rates.specs.TooLarge.{IsTooLarge};
+
+mod equality;
+mod filling;
+pub mod laws;
+mod parts;
+mod sides;
+mod time;
+
+use crate::error::Error;
+use crate::peer::Peer;
+use crate::ratio::Ratio;
+pub use equality::rates_are_equal_by_value;
+use natural::Natural;
+pub use parts::FairParts;
+use std::alloc::Global;
+use std::collections::BTreeMap;
+pub use time::{
+    draining_splits, duration, nothing_is_left_from_the_least_time_on, there_is_one_least_time,
+    transfer,
+};
+
+/// Something that goes from one peer to another, as a message while it is sent.
+#[derive(Debug, Drop)]
+pub struct Flow<P> {
+    /// The name under which its rate is answered. Several flows may have one name.
+    pub id: u64,
+    /// Who sends.
+    pub origin: P,
+    /// Who is to receive. It may be the origin.
+    pub recipient: P,
+    /// Whether it arrives. A flow that does not, as a message that will be lost, takes nothing of
+    /// what its recipient may receive.
+    pub delivered: bool,
+}
+
+impl<P: Peer> Flow<P> {
+    /// The same flow, with a clone of each peer. Refused only where memory was refused for one.
+    pub fn clone(&self) -> Result<Flow<P>, Error>
+        ensures id { IfOk result (λ copy. copy.id ≡ self.now.id) }
+        ensures origin { IfOk result (λ copy. P.cmp copy.origin self.now.origin ≡ Equal) }
+        ensures recipient { IfOk result (λ copy. P.cmp copy.recipient self.now.recipient ≡ Equal) }
+        ensures delivered { IfOk result (λ copy. copy.delivered ≡ self.now.delivered) }
+        ensures refused { IfErr result (λ e. e ≡ Error.OutOfMemory) }
+    {
+        Ok(Flow {
+            id: self.id,
+            origin: self.origin.clone_peer().ok_or(Error::OutOfMemory)?,
+            recipient: self.recipient.clone_peer().ok_or(Error::OutOfMemory)?,
+            delivered: self.delivered,
+        })
+    }
+}
+
+/// How fast a flow may send.
+#[derive(Clone, Copy, Debug, PartialEq, Eq)]
+pub enum Rate {
+    /// No cap holds for the flow.
+    Unlimited,
+    /// So many bytes a second.
+    Finite(Ratio),
+}
+
+/// The max-min fair rate of each flow, by its id.
+///
+/// The caps are in bytes a second, and `None` stands for no cap. `egress_cap` says how much a peer
+/// may send in all, `ingress_cap` how much it may receive. Both are called flow by flow in the
+/// order of the list: `egress_cap` once for each flow, with its origin, and then `ingress_cap`
+/// once with its recipient, if the flow is delivered. So they may be called several times with one
+/// peer, and in any state that their earlier calls left.
+///
+/// The first number that is answered for a peer is its cap for good. It holds for the flow for
+/// which it was answered and for each later flow of that peer, whatever is answered then. Flows
+/// before that one are not held by it.
+///
+/// A flow for which no cap holds is `Unlimited`. The rates of the others are max-min fair: the
+/// flows under a cap have no more than it together, and each flow is under a cap that is used up
+/// and that leaves none of its flows more than this one has. A flow under a cap of zero has rate
+/// zero.
+///
+/// The map has an entry for each id that occurs. Of flows with one id the last decides, but each of
+/// them is given its share.
+///
+/// With at most four flows each finite rate is a whole number of twelfths, with at most sixteen a
+/// whole number of 54486432000ths.
+///
+/// # Errors
+///
+/// - `OutOfMemory` where memory for a list or for the map was refused. The closures may then have
+///   been called for no more than the first few of the flows.
+/// - `NumberTooLarge` exactly where the fair rate of some flow, in lowest terms, has a numerator or a
+///   denominator of 2^128 or more. That takes more than 16 flows or an answered cap of 2^64 or more.
+///   And it never comes where the rates fit: where some whole number above zero makes each finite
+///   rate whole and is, times the number of flows and the greatest cap of a side, below 2^128.
+pub fn allocate<P, E, I>(
+    alloc: Global,
+    flows: &[Flow<P>],
+    egress_cap: E,
+    ingress_cap: I,
+) -> Result<BTreeMap<u64, Rate>, Error>
+where
+    P: Peer,
+    E: FnMut(&P) -> Option<u128>,
+    I: FnMut(&P) -> Option<u128>,
+    requires egress { CallableOnEach (TakesAt E.FnMut) (CalledAt E.FnMut) egress_cap (origins flows.now) }
+    requires ingress { CallableOnEach (TakesAt I.FnMut) (CalledAt I.FnMut) ingress_cap (recipients flows.now) }
+    ensures fair { IfOk result (λ rates. IsAllocation P.cmp (CalledAt E.FnMut) (CalledAt I.FnMut) NoLink
+        (record { egress = egress_cap; ingress = ingress_cap; link = tt }) flows.now (get nat_cmp rates)) }
+    ensures refused { IfErr result (λ e. (e ≡ Error.OutOfMemory)
+        ⊎ ((e ≡ Error.NumberTooLarge) × IsTooLarge P.cmp (CalledAt E.FnMut) (CalledAt I.FnMut) NoLink
+        (record { egress = egress_cap; ingress = ingress_cap; link = tt }) flows.now)) }
+{
+    allocate_linked(
+        alloc,
+        flows,
+        egress_cap,
+        ingress_cap,
+        |_origin, _recipient| None,
+    )
+}
+
+/// The max-min fair rate of each flow, by its id, where also links have caps.
+///
+/// As [`allocate`], with a third closure. `link_cap` says how much may go from one peer to another,
+/// in bytes a second. It is called once for each flow, after the other closures, with the origin
+/// and the recipient, also for a flow that is not delivered. The first number that is answered for
+/// an ordered pair is the cap of all that goes from the one to the other, delivered or not, from
+/// that flow on. The two directions between two peers are two links.
+///
+/// # Errors
+///
+/// As those of [`allocate`].
+pub fn allocate_linked<P, E, I, L>(
+    alloc: Global,
+    flows: &[Flow<P>],
+    egress_cap: E,
+    ingress_cap: I,
+    link_cap: L,
+) -> Result<BTreeMap<u64, Rate>, Error>
+where
+    P: Peer,
+    E: FnMut(&P) -> Option<u128>,
+    I: FnMut(&P) -> Option<u128>,
+    L: FnMut(&P, &P) -> Option<u128>,
+    requires egress { CallableOnEach (TakesAt E.FnMut) (CalledAt E.FnMut) egress_cap (origins flows.now) }
+    requires ingress { CallableOnEach (TakesAt I.FnMut) (CalledAt I.FnMut) ingress_cap (recipients flows.now) }
+    requires link { CallableOnEachPair (TakesAtTwo L.FnMut) (CalledAtTwo L.FnMut) link_cap (pairs flows.now) }
+    ensures fair { IfOk result (λ rates. IsAllocation P.cmp (CalledAt E.FnMut) (CalledAt I.FnMut) (CalledAtTwo L.FnMut)
+        (record { egress = egress_cap; ingress = ingress_cap; link = link_cap }) flows.now (get nat_cmp rates)) }
+    ensures refused { IfErr result (λ e. (e ≡ Error.OutOfMemory)
+        ⊎ ((e ≡ Error.NumberTooLarge) × IsTooLarge P.cmp (CalledAt E.FnMut) (CalledAt I.FnMut) (CalledAtTwo L.FnMut)
+        (record { egress = egress_cap; ingress = ingress_cap; link = link_cap }) flows.now)) }
+{
+    let (rates, _rounds) = allocate_linked_counted(
+        alloc,
+        flows,
+        egress_cap,
+        ingress_cap,
+        link_cap,
+    )?;
+    Ok(rates)
+}
+
+/// As [`allocate`], with the number of rounds of filling.
+///
+/// A round raises the common rate of all flows that are not yet held by a full side, until the next
+/// side is full, or by nothing where one is full from the start. So there are as many rounds as
+/// there are different finite rates, and no more than there are sides.
+///
+/// # Errors
+///
+/// As those of [`allocate`].
+pub fn allocate_counted<P, E, I>(
+    alloc: Global,
+    flows: &[Flow<P>],
+    egress_cap: E,
+    ingress_cap: I,
+) -> Result<(BTreeMap<u64, Rate>, u128), Error>
+where
+    P: Peer,
+    E: FnMut(&P) -> Option<u128>,
+    I: FnMut(&P) -> Option<u128>,
+    requires egress { CallableOnEach (TakesAt E.FnMut) (CalledAt E.FnMut) egress_cap (origins flows.now) }
+    requires ingress { CallableOnEach (TakesAt I.FnMut) (CalledAt I.FnMut) ingress_cap (recipients flows.now) }
+    ensures counted { IfOk result (λ counted. IsCountedAllocation P.cmp (CalledAt E.FnMut) (CalledAt I.FnMut) NoLink
+        (record { egress = egress_cap; ingress = ingress_cap; link = tt }) flows.now (get nat_cmp counted.0) counted.1) }
+    ensures refused { IfErr result (λ e. (e ≡ Error.OutOfMemory)
+        ⊎ ((e ≡ Error.NumberTooLarge) × IsTooLarge P.cmp (CalledAt E.FnMut) (CalledAt I.FnMut) NoLink
+        (record { egress = egress_cap; ingress = ingress_cap; link = tt }) flows.now)) }
+{
+    allocate_linked_counted(
+        alloc,
+        flows,
+        egress_cap,
+        ingress_cap,
+        |_origin, _recipient| None,
+    )
+}
+
+/// As [`allocate_linked`], with the number of rounds of filling, as [`allocate_counted`] has it.
+///
+/// # Errors
+///
+/// As those of [`allocate`].
+pub fn allocate_linked_counted<P, E, I, L>(
+    alloc: Global,
+    flows: &[Flow<P>],
+    egress_cap: E,
+    ingress_cap: I,
+    link_cap: L,
+) -> Result<(BTreeMap<u64, Rate>, u128), Error>
+where
+    P: Peer,
+    E: FnMut(&P) -> Option<u128>,
+    I: FnMut(&P) -> Option<u128>,
+    L: FnMut(&P, &P) -> Option<u128>,
+    requires egress { CallableOnEach (TakesAt E.FnMut) (CalledAt E.FnMut) egress_cap (origins flows.now) }
+    requires ingress { CallableOnEach (TakesAt I.FnMut) (CalledAt I.FnMut) ingress_cap (recipients flows.now) }
+    requires link { CallableOnEachPair (TakesAtTwo L.FnMut) (CalledAtTwo L.FnMut) link_cap (pairs flows.now) }
+    ensures counted { IfOk result (λ counted. IsCountedAllocation P.cmp (CalledAt E.FnMut) (CalledAt I.FnMut) (CalledAtTwo L.FnMut)
+        (record { egress = egress_cap; ingress = ingress_cap; link = link_cap }) flows.now (get nat_cmp counted.0) counted.1) }
+    ensures refused { IfErr result (λ e. (e ≡ Error.OutOfMemory)
+        ⊎ ((e ≡ Error.NumberTooLarge) × IsTooLarge P.cmp (CalledAt E.FnMut) (CalledAt I.FnMut) (CalledAtTwo L.FnMut)
+        (record { egress = egress_cap; ingress = ingress_cap; link = link_cap }) flows.now)) }
+{
+    let sides = sides::sides(alloc, flows, egress_cap, ingress_cap, link_cap)?;
+    let one = Natural::from_u64(alloc, 1);
+    let found = filling::fair_parts(alloc, flows.len(), sides, &one)?;
+    let rates = found.rates(alloc)?;
+    let by_id = rates_by_id(alloc, flows, &rates)?;
+    Ok((by_id, found.levels.len() as u128))
+}
+
+/// The max-min fair rates of the flows, in parts of one byte a second, so many at `scale`. Where a
+/// rate is no whole number of parts, the scale grows.
+///
+/// Sides and answers are as those of [`allocate_linked`]. Refused only where memory was.
+pub fn fair_parts<P, E, I, L>(
+    alloc: Global,
+    flows: &[Flow<P>],
+    egress_cap: E,
+    ingress_cap: I,
+    link_cap: L,
+    scale: &Natural,
+) -> Result<FairParts, Error>
+where
+    P: Peer,
+    E: FnMut(&P) -> Option<u128>,
+    I: FnMut(&P) -> Option<u128>,
+    L: FnMut(&P, &P) -> Option<u128>,
+    requires egress { CallableOnEach (TakesAt E.FnMut) (CalledAt E.FnMut) egress_cap (origins flows.now) }
+    requires ingress { CallableOnEach (TakesAt I.FnMut) (CalledAt I.FnMut) ingress_cap (recipients flows.now) }
+    requires link { CallableOnEachPair (TakesAtTwo L.FnMut) (CalledAtTwo L.FnMut) link_cap (pairs flows.now) }
+    requires some_part { 0 < scale.now }
+    ensures fair { IfOk result (λ found. AreFairParts P.cmp (CalledAt E.FnMut) (CalledAt I.FnMut) (CalledAtTwo L.FnMut)
+        (record { egress = egress_cap; ingress = ingress_cap; link = link_cap }) flows.now scale.now found) }
+    ensures refused { IfErr result (λ e. e ≡ Error.OutOfMemory) }
+{
+    let limits = sides::sides(alloc, flows, egress_cap, ingress_cap, link_cap)?;
+    Ok(filling::fair_parts(alloc, flows.len(), limits, scale)?)
+}
+
+/// The rates by the ids of their flows. Of flows with one id the last counts.
+fn rates_by_id<P>(
+    alloc: Global,
+    flows: &[Flow<P>],
+    rates: &[Rate],
+) -> Result<BTreeMap<u64, Rate>, Error>
+    ensures by_id { IfOk result (λ by_id. (id : ℕ) → get nat_cmp by_id id ≡ last_rate id flows.now rates.now) }
+    ensures refused { IfErr result (λ e. e ≡ Error.OutOfMemory) }
+{
+    let mut by_id = BTreeMap::new(alloc);
+    for (flow, rate) in flows.iter().zip(rates) {
+        by_id.insert(flow.id, *rate)?;
+    }
+    Ok(by_id)
+}

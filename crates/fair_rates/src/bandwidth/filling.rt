@@ -1,0 +1,124 @@
+//! Filling: the flows rise together, and the users of a side that is full stay where they are.
+//!
+//! A side with rising users has a share: what the frozen ones leave of its cap, for each of the
+//! others. The users of the side with the least share freeze at it. A heap holds the sides by their
+//! shares. These only grow as flows freeze, so one that was reckoned before is never too much, and
+//! only the one on top is reckoned anew, if a user of its side froze since.
+//!
+//! All numbers are whole parts of one byte a second. Where the least share is not whole, the scale
+//! grows, and all that is kept with it.
+ghost use Rattle.std.specs.Prelude.{◌≡◌, ◌<◌, ◌≤◌, ℕ, IfOk, IfSome, OnSome, MatchOption, Option, All, List, ◌∷◌, map, length};
+ghost use Rattle.std.specs.BinaryHeap.{heap_items, heap_len, IsHeap};
+ghost use Rattle.fair_rates.specs.Code.{side_of};
+ghost use Rattle.fair_rates.specs.Fair.{Side as WholeSide};
+ghost use Rattle.fair_rates.specs.Filling.{frozen_at, AreInside, AreAbove, IsQueue, IsSound, IsLeast, AllFilled, AreOpened, AreGrown, AreFilled, queue_cmp};
+
+mod open;
+mod share;
+
+use crate::bandwidth::parts::FairParts;
+use crate::bandwidth::sides::Side;
+use natural::Natural;
+use open::OpenSide;
+use share::whole_share;
+use std::alloc::{AllocError, Global};
+use std::cmp::Reverse;
+use std::collections::BinaryHeap;
+
+/// The sides that have users, before any is frozen.
+fn open_sides(
+    alloc: Global,
+    sides: Vec<Side>,
+    scale: &Natural,
+) -> Result<BinaryHeap<Reverse<OpenSide>>, AllocError>
+    ensures opened { IfOk result (λ queue. AreOpened scale.now sides.items (heap_items queue)) }
+    ensures order { IfOk result (λ queue. IsHeap queue_cmp (heap_items queue)) }
+    ensures count { IfOk result (λ queue. heap_len queue ≤ length sides.items) }
+{
+    let mut queue = BinaryHeap::with_capacity(alloc, sides.len())?;
+    for side in sides {
+        let Side { cap, users } = side;
+        if !users.is_empty() {
+            let slack = scale.product(cap)?;
+            let rising = users;
+            queue.push(Reverse(OpenSide { slack, rising }))?;
+        }
+    }
+    Ok(queue)
+}
+
+/// Takes out the side with the least share, once all its frozen users are counted.
+fn next_side(
+    queue: &mut BinaryHeap<Reverse<OpenSide>>,
+    levels: &[Natural],
+    level_of: &[Option<usize>],
+) -> Result<Option<OpenSide>, AllocError>
+    requires inside { AreInside levels.now level_of.now }
+    requires sound { IsSound (length level_of.now) (frozen_at levels.now level_of.now) (heap_items queue.old) }
+    ensures sound { IfOk result (λ next. IfSome next (λ side. IsSound (length level_of.now) (frozen_at levels.now level_of.now) (heap_items queue.new))) }
+    ensures users { IfOk result (λ next. IfSome next (λ side. All (λ flow. flow < length level_of.now) side.rising.items)) }
+    ensures least { IfOk result (λ next. IfSome next (λ side. IsLeast (frozen_at levels.now level_of.now) side (heap_items queue.new))) }
+    ensures queue { IfOk result (λ next. (sides : List WholeSide) (scale : ℕ)
+        → IsQueue sides scale (frozen_at levels.now level_of.now) (heap_items queue.old)
+        → MatchOption next (AllFilled sides (frozen_at levels.now level_of.now))
+        (λ side. IsQueue sides scale (frozen_at levels.now level_of.now) (record { 0 = side } ∷ heap_items queue.new))) }
+    ensures no_lower { IfOk result (λ next. IfSome next (λ side. (parts : ℕ)
+        → AreAbove parts (heap_items queue.old) → AreAbove parts (record { 0 = side } ∷ heap_items queue.new))) }
+    ensures fewer { IfOk result (λ next. OnSome next (heap_len queue.new < heap_len queue.old)) }
+{
+    while let Some(Reverse(least)) = queue.pop() {
+        let before = least.rising.len();
+        if let Some(side) = least.count_frozen(levels, level_of) {
+            if side.rising.len() == before {
+                return Ok(Some(side));
+            }
+            queue.push(Reverse(side))?;
+        }
+    }
+    Ok(None)
+}
+
+/// The same sides at a scale so many times as great.
+fn grown_sides(
+    alloc: Global,
+    queue: BinaryHeap<Reverse<OpenSide>>,
+    factor: u64,
+) -> Result<BinaryHeap<Reverse<OpenSide>>, AllocError>
+    requires { IsHeap queue_cmp (heap_items queue) }
+    ensures grown { IfOk result (λ grown. AreGrown factor (heap_items queue) (heap_items grown)) }
+    ensures order { IfOk result (λ grown. IsHeap queue_cmp (heap_items grown)) }
+    ensures count { IfOk result (λ grown. heap_len grown ≡ heap_len queue) }
+{
+    if factor == 1 {
+        return Ok(queue);
+    }
+    let mut grown = BinaryHeap::with_capacity(alloc, queue.len())?;
+    for Reverse(side) in queue.into_vec() {
+        grown.push(Reverse(side.grown(factor)?))?;
+    }
+    Ok(grown)
+}
+
+/// The max-min fair rates of `count` flows on the sides, in parts of one byte a second, so many at
+/// `scale`. Where a rate is no whole number of parts, the scale grows.
+pub(crate) fn fair_parts(
+    alloc: Global,
+    count: usize,
+    sides: Vec<Side>,
+    scale: &Natural,
+) -> Result<FairParts, AllocError>
+    requires users { All (λ side. All (λ flow. flow < count) side.users.items) sides.items }
+    requires some_part { 0 < scale.now }
+    ensures { IfOk result (λ found. AreFilled (map side_of sides.items) count scale.now found) }
+{
+    let mut queue = open_sides(alloc, sides, scale)?;
+    let mut found = FairParts::new(alloc, count, scale)?;
+    while let Some(side) = next_side(&mut queue, &found.levels, &found.level_of)? {
+        let OpenSide { slack, rising } = side;
+        let share = whole_share(alloc, slack, rising.len() as u64)?;
+        found.grow(share.factor)?;
+        queue = grown_sides(alloc, queue, share.factor)?;
+        found.freeze(&rising, share.parts)?;
+    }
+    Ok(found)
+}

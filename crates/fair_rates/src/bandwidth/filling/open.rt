@@ -1,0 +1,117 @@
+//! A side while the flows rise.
+ghost use Rattle.std.specs.Prelude.{◌<◌, Some, length};
+ghost use Rattle.std.specs.Cmp.{partial_equiv_from_equiv, eq_by_cmp_equiv, partial_order_from_total};
+ghost use Rattle.std.specs.Ordering.{eq_by_cmp};
+ghost use Rattle.std.proofs.Common.{refl};
+ghost use Rattle.fair_rates.specs.Fraction.{fraction_cmp};
+ghost use Rattle.fair_rates.specs.Laws.FractionOrder.{fraction_total};
+
+use natural::Natural;
+use std::alloc::AllocError;
+use std::cmp::Ordering;
+
+/// A side of which some users rise. Sides are compared by their shares: the slack for each rising
+/// user.
+#[derive(Drop)]
+pub(crate) struct OpenSide {
+    /// What the users that are counted as frozen leave of the cap, in parts.
+    pub(crate) slack: Natural,
+    /// The other users.
+    pub(crate) rising: Vec<usize>,
+    pub(crate) ghost some: { 0 < length rising.items },
+}
+
+impl PartialEq for OpenSide {
+    ghost eq = { eq_by_cmp (λ x y. fraction_cmp x.slack (length x.rising.items) y.slack (length y.rising.items)) };
+
+    ghost laws = { partial_equiv_from_equiv (eq_by_cmp_equiv (fraction_total (λ x. x.slack) (λ x. length x.rising.items) (λ x. x.some))) };
+
+    fn eq(&self, other: &OpenSide) -> bool {
+        self.cmp(other).is_eq()
+    }
+}
+
+impl Eq for OpenSide {
+    ghost laws = { eq_by_cmp_equiv (fraction_total (λ x. x.slack) (λ x. length x.rising.items) (λ x. x.some)) };
+}
+
+impl PartialOrd for OpenSide {
+    ghost partial_cmp = { λ x y. Some (fraction_cmp x.slack (length x.rising.items) y.slack (length y.rising.items)) };
+
+    ghost laws = { partial_order_from_total (fraction_total (λ x. x.slack) (λ x. length x.rising.items) (λ x. x.some)) };
+
+    fn partial_cmp(&self, other: &OpenSide) -> Option<Ordering> {
+        Some(self.cmp(other))
+    }
+}
+
+impl Ord for OpenSide {
+    ghost cmp = { λ x y. fraction_cmp x.slack (length x.rising.items) y.slack (length y.rising.items) };
+
+    ghost total = { fraction_total (λ x. x.slack) (λ x. length x.rising.items) (λ x. x.some) };
+
+    ghost matches_partial_cmp = { λ x y. refl };
+
+    ghost matches_eq = { λ x y. refl };
+
+    fn cmp(&self, other: &OpenSide) -> Ordering {
+        let count = self.rising.len() as u64;
+        let other_count = other.rising.len() as u64;
+        self.slack.compare_times(other_count, &other.slack, count)
+    }
+}
+
+impl OpenSide {
+    ghost use Rattle.std.specs.Prelude.{◌≡◌, ℕ, ◌⊎◌, All, IfSome, IfOk, MatchOption};
+    ghost use Rattle.fair_rates.specs.Fair.{Side as WholeSide};
+    ghost use Rattle.fair_rates.specs.Filling.{frozen_at, AllRise, AllFrozen, AreInside, HaveNoMore, IsWithin, KeepsAccount, IsGrown};
+
+    /// Counts the users that froze since. `None` where all are frozen now.
+    pub(crate) fn count_frozen(
+        self,
+        levels: &[Natural],
+        level_of: &[Option<usize>],
+    ) -> Option<OpenSide>
+        requires users { All (λ flow. flow < length level_of.now) self.rising.items }
+        requires inside { AreInside levels.now level_of.now }
+        requires no_more { HaveNoMore (frozen_at levels.now level_of.now) self.slack self.rising.items }
+        ensures account { (side : WholeSide) (scale : ℕ)
+            → KeepsAccount side scale (frozen_at levels.now level_of.now) self.slack self.rising.items
+            → MatchOption result (AllFrozen (frozen_at levels.now level_of.now) side.users)
+            (λ new. KeepsAccount side scale (frozen_at levels.now level_of.now) new.slack new.rising.items) }
+        ensures users { IfSome result (λ new. All (λ flow. flow < length level_of.now) new.rising.items) }
+        ensures rise { IfSome result (λ new. AllRise (frozen_at levels.now level_of.now) new.rising.items) }
+        ensures no_lower { IfSome result (λ new. (parts : ℕ)
+            → IsWithin parts self.slack self.rising.items → IsWithin parts new.slack new.rising.items) }
+        ensures changed { IfSome result (λ new. (length new.rising.items < length self.rising.items)
+            ⊎ ((new.slack ≡ self.slack) × (length new.rising.items ≡ length self.rising.items))) }
+    {
+        let OpenSide {
+            mut slack,
+            mut rising,
+        } = self;
+        let mut place = 0;
+        while place < rising.len() {
+            match level_of[rising[place]] {
+                Some(level) => {
+                    slack.sub_assign(&levels[level]);
+                    rising.swap_remove(place);
+                }
+                None => place += 1,
+            }
+        }
+        if rising.is_empty() {
+            return None;
+        }
+        Some(OpenSide { slack, rising })
+    }
+
+    /// The same side at a scale so many times as great.
+    pub(crate) fn grown(self, factor: u64) -> Result<OpenSide, AllocError>
+        ensures { IfOk result (λ new. IsGrown factor self new) }
+    {
+        let OpenSide { mut slack, rising } = self;
+        slack.multiply(factor)?;
+        Ok(OpenSide { slack, rising })
+    }
+}

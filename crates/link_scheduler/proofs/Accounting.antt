@@ -1,0 +1,148 @@
+-- An account of what is in flight, from what its steps do.
+use Rattle.std.proofs.Common.{◌≡◌, ◌≢◌, ℕ, suc, ◌+◌, Bool, true, false, not, cond, if◌then◌else◌, ◌||◌, List, [], ◌∷◌, length, Option, Some, None, refl, sym, ◌∙◌, ap, subst, arith, zero-add, get_or, All}
+use Rattle.std.specs.List.{AllZip, filter, list_all}
+use Rattle.std.specs.Bool.{◌==◌}
+use Rattle.std.specs.Cmp.{IsTotalOrder}
+use Rattle.std.specs.declared.cmp.Ordering.{Ordering}
+use Rattle.std.proofs.lemmas.List.Elements.{filter_passes}
+use Rattle.fair_rates.specs.declared.bandwidth.Flow.{Flow}
+use Rattle.fair_rates.specs.declared.bandwidth.parts.FairParts.{FairParts}
+use Rattle.link_scheduler.specs.declared.transmitter.pairs.Pair.{Pair}
+use Rattle.link_scheduler.specs.declared.transmitter.peers.PeerCaps.{PeerCaps}
+use Rattle.link_scheduler.specs.declared.transmitter.progress.Progress.{Progress}
+use Rattle.fair_rates.specs.Amount.{reduced}
+use Rattle.fair_rates.specs.Caps.{Caps}
+use Rattle.fair_rates.specs.FairLaws.{AreTheSameSides}
+use Rattle.fair_rates.specs.FairParts.{flow_parts, parts_of_level}
+use Rattle.link_scheduler.specs.Flights.{message_in, sending_of, are_marked, rated_by}
+use Rattle.fair_rates.specs.PeerCaps.{AreOfPeers, sides_under}
+use Rattle.link_scheduler.specs.Pairs.{pair_cmp, key_of, arrival_of}
+use Rattle.link_scheduler.specs.Working.{caps_of, AreFairPartsUnder}
+use Rattle.link_simulation.specs.WorldEvents.{Accounts}
+use Rattle.link_simulation.specs.WorldMessages.{Message, is_delivered, PairsAlike}
+use Rattle.link_simulation.specs.WorldPlanned.{Planned, Paced, IsLeastMoment, SomeSpentAt, paced_flows, drained_to, is_spent}
+use Rattle.link_simulation.specs.WorldRates.{AreFair, capped_sides, is_unlimited, rate_of, rates_from}
+use Rattle.link_scheduler.proofs.InFlight.{length-sending, nothing_is_done}
+use Rattle.link_scheduler.proofs.Pairs.{pair_total, is_eq-then}
+use Rattle.link_simulation.proofs.Sorted.{and_left, and_right, and_both, is_eq_equal, value_respects}
+use Rattle.link_scheduler.proofs.Fairness.Messages.{StandsForMessage, same_sides}
+use Rattle.fair_rates.proofs.Fairness.SameSides.{still_fair}
+use Rattle.fair_rates.proofs.Fairness.Subjects.{same_peer_itself}
+
+-- ---- the caps that are looked up
+
+-- they are those of the peers
+pub looked_up : {P : Type 0} (cmp : P → P → Ordering) → IsTotalOrder cmp → (peers : List (PeerCaps P)) (pairs : List (Pair P)) → AreOfPeers cmp (caps_of cmp peers pairs)
+looked_up {P} cmp order peers pairs = record {
+  egress = λ p q same. value_respects cmp order (λ (entry : PeerCaps P). entry.peer) (λ (entry : PeerCaps P). entry.egress) None peers p q (is_eq_equal _ same);
+  ingress = λ p q same. value_respects cmp order (λ (entry : PeerCaps P). entry.peer) (λ (entry : PeerCaps P). entry.ingress) None peers p q (is_eq_equal _ same);
+  link = λ p q r s same_p same_r.
+      value_respects (pair_cmp cmp) (pair_total cmp order) key_of (λ (pair : Pair P). pair.cap) None pairs (p, r) (q, s) (is_eq_equal _ (is_eq-then (cmp p q) (cmp r s) ∙ and_both _ _ same_p same_r));
+}
+
+-- the last arrivals of equal pairs are the same
+pub arrivals_looked_up : {P : Type 0} (cmp : P → P → Ordering) → IsTotalOrder cmp → (es : List (Pair P)) → PairsAlike cmp (arrival_of cmp es) (arrival_of cmp es)
+arrivals_looked_up {P} cmp order es p q r s same_p same_r =
+    value_respects (pair_cmp cmp) (pair_total cmp order) key_of (λ (pair : Pair P). pair.last_arrival) None es (p, r) (q, s) (is_eq_equal _ (is_eq-then (cmp p q) (cmp r s) ∙ and_both _ _ same_p same_r))
+
+-- ---- what is in flight, and what it becomes
+
+mark : (a b : Bool) → (if b then a else not a) ≡ true → a ≡ b
+mark true true h = refl
+mark true false h = sym h
+mark false true h = h
+mark false false h = refl
+
+module _ {P : Type 0} (now scale : ℕ) (levels : List ℕ) where
+  stayed_so : (os : List (Option ℕ)) (fs : List (Paced P)) → length os ≡ length fs → AllZip (λ f g. (g.message ≡ f.message) × (g.left ≡ f.left) × (g.updated ≡ now)) fs (rated_by now scale levels os fs)
+  stayed_so [] [] same = tt
+  stayed_so [] (f ∷ fs) same = absurd (omega arith)
+  stayed_so (o ∷ os) [] same = absurd (omega arith)
+  stayed_so (o ∷ os) (f ∷ fs) same = ((refl, refl, refl), stayed_so os fs (omega arith))
+
+  same_messages : (os : List (Option ℕ)) (fs : List (Paced P)) → length os ≡ length fs → paced_flows (rated_by now scale levels os fs) ≡ paced_flows fs
+  same_messages [] [] same = refl
+  same_messages [] (f ∷ fs) same = absurd (omega arith)
+  same_messages (o ∷ os) [] same = absurd (omega arith)
+  same_messages (o ∷ os) (f ∷ fs) same = ap (λ (ms : List (Message P)). f.message ∷ ms) (same_messages os fs (omega arith))
+
+module _ {P : Type 0} (cmp : P → P → Ordering) where
+  -- something is left of what stays
+  pub some_left : (p : Planned P) (fs : List (Paced P)) → All (λ f. f.left.num ≢ 0) (filter (λ f. not (is_spent cmp p.caps f)) fs)
+  some_left p fs k d lt none = passes (get_or (filter (λ f. not (is_spent cmp p.caps f)) fs) k d) none (filter_passes (λ f. not (is_spent cmp p.caps f)) fs k d lt)
+    where
+      passes : (f : Paced P) → f.left.num ≡ 0 → not (is_spent cmp p.caps f) ≡ true → ⊥
+      passes f none stays = let spent : is_spent cmp p.caps f ≡ true = nothing_is_done f.left.num _ none in cc
+
+  -- each flow stands for its message
+  pub flows_stand : IsTotalOrder cmp → (scale : ℕ) (levels : List ℕ) (fs : List (Flow P)) (ss : List Progress) → length fs ≡ length ss → are_marked cmp fs ss ≡ true → AllZip (StandsForMessage cmp) fs (paced_flows (sending_of scale levels fs ss))
+  flows_stand order scale levels [] ss same marked = tt
+  flows_stand order scale levels (f ∷ fs) [] same marked = absurd (omega arith)
+  flows_stand order scale levels (f ∷ fs) (s ∷ ss) same marked = (
+    record { origin = same_peer_itself cmp order f.origin; recipient = same_peer_itself cmp order f.recipient; delivered = mark f.delivered (is_delivered cmp (message_in f s)) (and_left _ _ marked) },
+    flows_stand order scale levels fs ss (omega arith) (and_right (if is_delivered cmp (message_in f s) then f.delivered else not f.delivered) _ marked),
+  )
+
+  -- what stays uses a capped side
+  abbrev all_limited : Caps P → List (Paced P) → Bool
+  all_limited caps fs = list_all (λ (f : Paced P). not (is_unlimited cmp caps f.message)) fs
+
+  limited_if_not_spent : (none unlimited : Bool) → not (none || unlimited) ≡ true → not unlimited ≡ true
+  limited_if_not_spent true unlimited h = cc
+  limited_if_not_spent false unlimited h = h
+
+  stays_limited : (caps : Caps P) (fs : List (Paced P)) → all_limited caps (filter (λ f. not (is_spent cmp caps f)) fs) ≡ true
+  stays_limited caps [] = refl
+  stays_limited caps (f ∷ fs) = by_test (not (is_spent cmp caps f)) refl (stays_limited caps fs)
+    where
+      by_test : (b : Bool) → not (is_spent cmp caps f) ≡ b → all_limited caps (filter (λ g. not (is_spent cmp caps g)) fs) ≡ true → all_limited caps (cond b (f ∷ filter (λ g. not (is_spent cmp caps g)) fs) (filter (λ g. not (is_spent cmp caps g)) fs)) ≡ true
+      by_test true e others = and_both _ _ (limited_if_not_spent (f.left.num == 0) (is_unlimited cmp caps f.message) e) others
+      by_test false e others = others
+
+  -- each has the rate of its place
+  rated_so : (now scale : ℕ) (levels : List ℕ) (caps : Caps P) (parts : ℕ → ℕ) (place : ℕ) (os : List (Option ℕ)) (fs : List (Paced P)) → ((i : ℕ) → parts (place + i) ≡ parts_of_level levels (get_or os i None)) → length os ≡ length fs
+      → all_limited caps fs ≡ true → AllZip (λ rate f. f.rate ≡ rate_of scale rate) (rates_from cmp caps parts place (paced_flows fs)) (rated_by now scale levels os fs)
+  rated_so now scale levels caps parts place [] [] at same limited = tt
+  rated_so now scale levels caps parts place [] (f ∷ fs) at same limited = absurd (omega arith)
+  rated_so now scale levels caps parts place (o ∷ os) [] at same limited = absurd (omega arith)
+  rated_so now scale levels caps parts place (o ∷ os) (f ∷ fs) at same limited = (
+    by_test (is_unlimited cmp caps f.message) (and_left (not (is_unlimited cmp caps f.message)) _ limited),
+    rated_so now scale levels caps parts (place + 1) os fs (λ i. ap parts (next i) ∙ at (suc i)) (omega arith) (and_right (not (is_unlimited cmp caps f.message)) _ limited),
+  )
+    where
+      next : (i : ℕ) → place + 1 + i ≡ place + suc i
+      next i = omega arith
+
+      here : place ≡ place + 0
+      here = omega arith
+
+      by_test : (b : Bool) → not b ≡ true → Some (reduced (parts_of_level levels o) scale) ≡ rate_of scale (if b then None else Some (parts place))
+      by_test true h = cc
+      by_test false h = ap (λ n. Some (reduced n scale)) (sym (ap parts here ∙ at 0))
+
+-- ---- the account
+
+module _ {P : Type 0} (cmp : P → P → Ordering) (order : IsTotalOrder cmp) (now : ℕ) (old : Planned P) (of : AreOfPeers cmp old.caps) (scale : ℕ) (levels : List ℕ) (fs : List (Flow P)) (ss : List Progress)
+    (parallel : length fs ≡ length ss) (marked : are_marked cmp fs ss ≡ true) (rest : sending_of scale levels fs ss ≡ filter (λ f. not (is_spent cmp old.caps f)) (drained_to now old.sending)) where
+  -- with fair rates, and a finish, this is an account
+  pub accounts_so : (leavers : List (Message P)) (found : FairParts) (finish : Option ℕ) → leavers ≡ paced_flows (filter (is_spent cmp old.caps) (drained_to now old.sending))
+      → AreFairPartsUnder cmp old.caps fs scale found → IsLeastMoment (λ s. SomeSpentAt (rated_by now found.scale found.levels.items found.level_of.items (sending_of scale levels fs ss)) s) finish
+      → Accounts cmp now old leavers (record old { sending = rated_by now found.scale found.levels.items found.level_of.items (sending_of scale levels fs ss); finish = finish })
+  accounts_so leavers found finish left fair least =
+      let stay : List (Paced P) = sending_of scale levels fs ss in
+      let rated : List (Paced P) = rated_by now found.scale found.levels.items found.level_of.items stay in
+      let parts : ℕ → ℕ = flow_parts found.levels.items found.level_of.items in
+      let one_each : length found.level_of.items ≡ length stay = fair.one_each ∙ sym (length-sending scale levels fs ss parallel) in
+      let limited : all_limited cmp old.caps stay ≡ true = ap (all_limited cmp old.caps) rest ∙ stays_limited cmp old.caps (drained_to now old.sending) in
+      let same : AreTheSameSides (sides_under cmp old.caps fs) (capped_sides cmp old.caps (paced_flows stay)) = same_sides cmp order old.caps of fs (paced_flows stay) (flows_stand cmp order scale levels fs ss parallel marked) in
+      record {
+        per = found.scale;
+        rates = rates_from cmp old.caps parts 0 (paced_flows stay);
+        left = left;
+        stayed = subst (λ (stay : List (Paced P)). AllZip (λ f g. (g.message ≡ f.message) × (g.left ≡ f.left) × (g.updated ≡ now)) stay rated) rest (stayed_so now found.scale found.levels.items found.level_of.items stay one_each);
+        fair = subst (λ ms. AreFair cmp old.caps ms found.scale (rates_from cmp old.caps parts 0 (paced_flows stay))) (sym (same_messages now found.scale found.levels.items found.level_of.items stay one_each))
+            (record { parts = parts; fair = still_fair (sides_under cmp old.caps fs) (capped_sides cmp old.caps (paced_flows stay)) same found.scale parts fair.fair; rated = refl });
+        rated = rated_so cmp now found.scale found.levels.items old.caps parts 0 found.level_of.items stay (λ i. ap parts (zero-add i)) one_each limited;
+        finish = least;
+        same = refl;
+      }

@@ -1,0 +1,2 @@
+-- The laws of max-min fairness.
+pub mod Messages

@@ -1,0 +1,2 @@
+-- Why the event rule and the simulation are one.
+pub mod SameIsPlanned

@@ -1,0 +1,28 @@
+use Rattle.std.proofs.Common.{sym, subst}
+use Rattle.link_simulation.specs.WorldPlanned.{IsPlanned}
+use Rattle.link_scheduler.specs.Working.{planned}
+use Rattle.link_simulation.proofs.World.Counting.{new_is_planned}
+use Rattle.link_scheduler.proofs.Accounting.{looked_up, arrivals_looked_up}
+use Rattle.link_scheduler.proofs.Promises.{new_one_stands, new_one_in_range, new_one_orderly}
+use Rattle.link_scheduler.proofs.transmitter.State.with_first_id.Goals as goal
+
+pub invariant_of-result-clause-caps : goal.invariant_of-result-clause-caps
+invariant_of-result-clause-caps g c = looked_up g.P.Ord.cmp g.met.P.Ord.total c.new.result.peers.entries.items c.new.result.pairs.entries.items
+
+pub invariant_of-result-clause-arrivals : goal.invariant_of-result-clause-arrivals
+invariant_of-result-clause-arrivals g c = arrivals_looked_up g.P.Ord.cmp g.met.P.Ord.total c.new.result.pairs.entries.items
+
+pub invariant_of-result-clause-right : goal.invariant_of-result-clause-right
+invariant_of-result-clause-right g c = ∣ subst (IsPlanned g.P.Ord.cmp) (sym c.new.ensures) (new_is_planned g.P.Ord.cmp g.met.P.Ord.total c.args.first) ∣₁
+
+pub invariant_of-result-clause-orderly : goal.invariant_of-result-clause-orderly
+invariant_of-result-clause-orderly g c = new_one_orderly g.P.Ord.cmp g.met.P.Ord.total (planned g.P.Ord.cmp c.new.result) c.args.first c.new.ensures
+
+pub returns : goal.returns
+returns g c = record {
+  new = record {
+    planned = c.new.ensures;
+    stands = new_one_stands g.P.Ord.cmp g.met.P.Ord.total (planned g.P.Ord.cmp c.new.result) c.args.first c.new.ensures;
+    in_range = new_one_in_range g.P.Ord.cmp g.met.P.Ord.total (planned g.P.Ord.cmp c.new.result) c.args.first c.new.ensures c.ranges.first.fits;
+  };
+}

@@ -1,0 +1,13 @@
+pub mod Events
+pub mod Flights
+pub mod InFlight
+pub mod Keys
+pub mod Message
+pub mod Moments
+pub mod Pairs
+pub mod Peers
+pub mod Progress
+pub mod Replay
+pub mod Starts
+pub mod State
+pub mod Working

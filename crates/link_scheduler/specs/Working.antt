@@ -1,0 +1,62 @@
+-- How a scheduler is read as a planned world.
+use Rattle.std.specs.Prelude.{◌≡◌, ℕ, ◌*◌, Bool, false, ◌&&◌, List, length, map, Option, Some, None}
+use Rattle.std.specs.List.{filter, list_any}
+use Rattle.std.specs.declared.cmp.Ordering.{Ordering}
+use Rattle.fair_rates.specs.declared.bandwidth.Flow.{Flow}
+use Rattle.fair_rates.specs.declared.bandwidth.parts.FairParts.{FairParts}
+use Rattle.fair_rates.specs.Fair.{IsFair}
+use Rattle.fair_rates.specs.FairParts.{product, flow_parts}
+use Rattle.fair_rates.specs.PeerCaps.{sides_under}
+use Rattle.link_scheduler.specs.declared.transmitter.message.Message as code
+use Rattle.link_scheduler.specs.declared.transmitter.peers.PeerCaps.{PeerCaps}
+use Rattle.link_scheduler.specs.declared.transmitter.pairs.Pair.{Pair}
+use Rattle.link_scheduler.specs.declared.transmitter.working.Working.{Working}
+use Rattle.fair_rates.specs.Caps.{Caps}
+use Rattle.fair_rates.specs.Sides.{same_peer}
+use Rattle.link_simulation.specs.World.{fronts}
+use Rattle.link_simulation.specs.WorldMessages.{Message}
+use Rattle.link_simulation.specs.WorldPlanned.{Planned, paced_flows, may_launch}
+use Rattle.link_scheduler.specs.Message.{message_of}
+use Rattle.link_scheduler.specs.Peers.{egress_of, ingress_of}
+use Rattle.link_scheduler.specs.Pairs.{link_of, arrival_of, waiting_of}
+use Rattle.link_scheduler.specs.InFlight.{in_flight}
+
+-- the caps of peers and of ordered pairs
+abbrev pub caps_of : {P : Type 0} → (P → P → Ordering) → List (PeerCaps P) → List (Pair P) → Caps P
+caps_of cmp peers pairs = record { egress = egress_of cmp peers; ingress = ingress_of cmp peers; link = link_of cmp pairs }
+
+-- a scheduler's state as a planned world
+abbrev pub planned : {P : Type 0} {a : _} {b : _} {c : _} → (P → P → Ordering) → Working P a b c → Planned P
+planned cmp w = record {
+  caps = caps_of cmp w.peers.entries.items w.pairs.entries.items;
+  limited = w.limited;
+  sending = in_flight w.flights;
+  waiting = waiting_of w.pairs.entries.items;
+  last_arrival = arrival_of cmp w.pairs.entries.items;
+  next_id = w.next_id;
+  finish = w.finish;
+  start = w.start;
+}
+
+-- messages in the code
+abbrev pub messages : {P : Type 0} → List (code.Message P) → List (Message P)
+messages ms = map message_of ms
+
+-- whether a pair's first waiting message, if there is one, may start
+abbrev pub may_launch_first : {P : Type 0} → (P → P → Ordering) → ℕ → Planned P → Option (Message P) → Bool
+may_launch_first cmp t p None = false
+may_launch_first cmp t p (Some m) = may_launch cmp t p m
+
+-- the first waiting messages of the pairs that are ready, in the order of pairs
+abbrev pub ready_messages : {P : Type 0} → (P → P → Ordering) → ℕ → Planned P → List (Message P)
+ready_messages cmp t p = filter (may_launch cmp t p) (fronts cmp p.waiting)
+
+-- parts of a scale, which has grown from another, are the fair rates of the flows on the sides that the caps make for them
+pub record AreFairPartsUnder {P : Type 0} (cmp : P → P → Ordering) (caps : Caps P) (flows : List (Flow P)) (scale : ℕ) (found : FairParts) : Type 0 where
+  pub grown : found.scale ≡ scale * product found.growth.items
+  pub one_each : length found.level_of.items ≡ length flows
+  pub fair : IsFair (sides_under cmp caps flows) found.scale (flow_parts found.levels.items found.level_of.items)
+
+-- whether a message from the one peer to the other is in flight
+abbrev pub is_sending : {P : Type 0} → (P → P → Ordering) → Planned P → P → P → Bool
+is_sending cmp p origin recipient = list_any (λ m. same_peer cmp origin m.origin && same_peer cmp recipient m.recipient) (paced_flows p.sending)

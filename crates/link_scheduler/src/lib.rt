@@ -1,0 +1,5 @@
+//! The scheduler: who sends how fast, and when each message arrives.
+#![tactic(auto)]
+
+pub mod replay;
+pub mod transmitter;

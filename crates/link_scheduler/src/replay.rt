@@ -1,0 +1,213 @@
+//! A list of calls on a new scheduler, and what each is answered.
+ghost use Rattle.std.specs.Prelude.{◌≡◌, ◌≢◌, true, length, map, [], ◌∷◌, IfOk, IfErr};
+ghost use Rattle.fair_rates.specs.Sides.{same_peer};
+ghost use Rattle.link_simulation.specs.World.{new_world};
+ghost use Rattle.link_simulation.specs.WorldCalls.{call_next};
+ghost use Rattle.link_simulation.specs.WorldIsolation.{InTime};
+ghost use Rattle.link_simulation.specs.WorldPlanned.{new_planned};
+ghost use Rattle.link_simulation.specs.WorldRefusals.{Obeyed};
+ghost use Rattle.link_simulation.specs.WorldReplies.{reply_refused, Agrees};
+ghost use Rattle.link_simulation.specs.SamePlanned.{IsSameCall};
+ghost use Rattle.link_scheduler.specs.State.{planned_of};
+ghost use Rattle.link_simulation.specs.Conserved.{AreConserved};
+ghost use Rattle.link_simulation.specs.ReplayLaws.{AlwaysSoFar, RefusesForMemoryAlone, CompletePairsInOrder, IsolateSets};
+ghost use Rattle.link_scheduler.specs.Replay.{call_of, reply_of, IsReplyTo};
+
+use crate::transmitter::{Completion, State};
+use bytes::Bytes;
+use fair_rates::error::Error;
+use fair_rates::peer::Peer;
+use std::alloc::Global;
+
+/// A call of a scheduler, with its arguments: see the functions of `State`.
+#[derive(Drop)]
+pub enum Call<P> {
+    /// `State::limit`.
+    Limit {
+        now: u64,
+        peer: P,
+        egress: Option<usize>,
+        ingress: Option<usize>,
+    },
+    /// `State::limit_link`.
+    LimitLink {
+        now: u64,
+        origin: P,
+        recipient: P,
+        cap: Option<usize>,
+    },
+    /// `State::enqueue`.
+    Enqueue {
+        now: u64,
+        origin: P,
+        recipient: P,
+        channel: u64,
+        message: Bytes,
+        latency: u64,
+        should_deliver: bool,
+    },
+    /// `State::advance`.
+    Advance {
+        now: u64,
+    },
+    /// `State::next`.
+    Next,
+}
+
+/// What a call is answered.
+#[derive(Drop)]
+pub enum Reply<P> {
+    /// The call was made, and these messages completed, in order.
+    Done(Vec<Completion<P>>),
+    /// The moment of the next event, in nanoseconds since the start, or none.
+    Next(Option<u64>),
+    /// The call was refused, and changed nothing.
+    Refused(Error),
+}
+
+/// Makes a new scheduler, makes the calls in order, and answers one reply for each.
+///
+/// Room for the replies is reserved first: its only error is `OutOfMemory`, and it comes only
+/// there. A call that is refused is answered `Refused` and changes nothing, and the calls after it
+/// are made. So is one whose arguments cannot be cloned, which is not made at all.
+pub fn replay<P: Peer>(alloc: Global, calls: &[Call<P>]) -> Result<Vec<Reply<P>>, Error>
+    ensures agrees { IfOk result (λ replies. Agrees P.cmp (new_world 0) (map call_of calls.now) (map reply_of replies.items)) }
+    ensures obeyed { IfOk result (λ replies. Obeyed P.cmp (new_planned 0) (map call_of calls.now) (map reply_of replies.items)) }
+    ensures one_each { IfOk result (λ replies. length replies.items ≡ length calls.now) }
+    ensures in_range { IfOk result (λ replies. RefusesForMemoryAlone [] (map call_of calls.now) (map reply_of replies.items)) }
+    ensures conserved { IfOk result (λ replies. AlwaysSoFar (AreConserved P.cmp (new_planned 0)) (map call_of calls.now) (map reply_of replies.items)) }
+    ensures order { IfOk result (λ replies. AlwaysSoFar (CompletePairsInOrder P.cmp) (map call_of calls.now) (map reply_of replies.items)) }
+    ensures isolation { IfOk result (λ replies. AlwaysSoFar (IsolateSets P.cmp) (map call_of calls.now) (map reply_of replies.items)) }
+    ensures refused { IfErr result (λ e. e ≡ Error.OutOfMemory) }
+{
+    let mut replies = Vec::with_capacity(alloc, calls.len())?;
+    let mut state = State::new(alloc);
+    for call in calls {
+        replies.push(call.answer(&mut state)).unwrap();
+    }
+    Ok(replies)
+}
+
+impl<P: Peer> Call<P> {
+    /// Makes the call, unless it is refused.
+    fn answer(&self, state: &mut State<P>) -> Reply<P>
+        ensures in_time { InTime (call_of self.now ∷ []) }
+        ensures reply { IsReplyTo P.cmp (planned_of state.old) (call_of self.now) (reply_of result) (planned_of state.new) }
+    {
+        match self.copy() {
+            Err(error) => Reply::Refused(error),
+            Ok(call) => match call.make(state) {
+                Err(error) => Reply::Refused(error),
+                Ok(reply) => reply,
+            },
+        }
+    }
+
+    /// The same call, its peers cloned. It shares the bytes.
+    fn copy(&self) -> Result<Call<P>, Error>
+        ensures in_time { InTime (call_of self.now ∷ []) }
+        ensures same { IfOk result (λ copy. IsSameCall P.cmp (call_of self.now) (call_of copy)) }
+        ensures refused { IfErr result (λ e. (e ≡ Error.OutOfMemory) × (call_of self.now ≢ call_next)) }
+    {
+        Ok(match self {
+            Call::Limit {
+                now,
+                peer,
+                egress,
+                ingress,
+            } => Call::Limit {
+                now: *now,
+                peer: copy_of(peer)?,
+                egress: *egress,
+                ingress: *ingress,
+            },
+            Call::LimitLink {
+                now,
+                origin,
+                recipient,
+                cap,
+            } => Call::LimitLink {
+                now: *now,
+                origin: copy_of(origin)?,
+                recipient: copy_of(recipient)?,
+                cap: *cap,
+            },
+            Call::Enqueue {
+                now,
+                origin,
+                recipient,
+                channel,
+                message,
+                latency,
+                should_deliver,
+            } => Call::Enqueue {
+                now: *now,
+                origin: copy_of(origin)?,
+                recipient: copy_of(recipient)?,
+                channel: *channel,
+                message: share(message)?,
+                latency: *latency,
+                should_deliver: *should_deliver,
+            },
+            Call::Advance { now } => Call::Advance { now: *now },
+            Call::Next => Call::Next,
+        })
+    }
+
+    /// Makes the call, which takes its arguments.
+    fn make(self, state: &mut State<P>) -> Result<Reply<P>, Error>
+        ensures made { IfOk result (λ reply. IsReplyTo P.cmp (planned_of state.old) (call_of self) (reply_of reply) (planned_of state.new)) }
+        ensures refused { IfErr result (λ e. IsReplyTo P.cmp (planned_of state.old) (call_of self) (reply_refused e) (planned_of state.new)) }
+    {
+        let completions = match self {
+            Call::Limit {
+                now,
+                peer,
+                egress,
+                ingress,
+            } => state.limit(now, &peer, egress, ingress)?,
+            Call::LimitLink {
+                now,
+                origin,
+                recipient,
+                cap,
+            } => state.limit_link(now, &origin, &recipient, cap)?,
+            Call::Enqueue {
+                now,
+                origin,
+                recipient,
+                channel,
+                message,
+                latency,
+                should_deliver,
+            } => state.enqueue(
+                now,
+                origin,
+                recipient,
+                channel,
+                message,
+                latency,
+                should_deliver,
+            )?,
+            Call::Advance { now } => state.advance(now)?,
+            Call::Next => return Ok(Reply::Next(state.next())),
+        };
+        Ok(Reply::Done(completions))
+    }
+}
+
+/// An equal peer.
+fn copy_of<P: Peer>(peer: &P) -> Result<P, Error>
+    ensures same { IfOk result (λ copy. same_peer P.cmp peer.now copy ≡ true) }
+    ensures refused { IfErr result (λ e. e ≡ Error.OutOfMemory) }
+{
+    peer.clone_peer().ok_or(Error::OutOfMemory)
+}
+
+/// The same bytes, shared.
+fn share(message: &Bytes) -> Result<Bytes, Error>
+    ensures same { IfOk result (λ copy. copy ≡ message.now) }
+    ensures refused { IfErr result (λ e. e ≡ Error.OutOfMemory) }
+{
+    Ok(message.slice(..)?)
+}

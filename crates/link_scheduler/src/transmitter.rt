@@ -1,0 +1,312 @@
+//! When each message arrives: a scheduler of messages over capped peers.
+ghost use Rattle.std.specs.Prelude.{◌≡◌, IfOk, IfErr, OnErr};
+ghost use Rattle.link_simulation.specs.Orderly.{IsOrderly};
+ghost use Rattle.link_scheduler.specs.Working.{planned};
+ghost use Rattle.link_simulation.specs.WorldCalls.{call_limit, call_limit_link, call_enqueue, call_advance};
+ghost use Rattle.link_simulation.specs.WorldMessages.{CapsAlike, PairsAlike};
+ghost use Rattle.link_simulation.specs.WorldPlanned.{IsPlanned};
+
+mod account;
+mod completion;
+mod drain;
+mod event;
+mod events;
+mod flights;
+mod look;
+mod message;
+mod pairs;
+mod peers;
+mod progress;
+mod rate;
+mod working;
+
+use bytes::Bytes;
+pub use completion::Completion;
+use fair_rates::error::Error;
+use fair_rates::peer::Peer;
+use message::Message;
+use std::alloc::Global;
+use working::Working;
+
+/// A scheduler of messages between capped peers: it tells when each completes and arrives.
+///
+/// It has no clock. Each call but `next` says its moment, in nanoseconds since the start, and
+/// answers what completes, in order.
+///
+/// Before any limit a message completes as it is enqueued. After the first `limit` or `limit_link`,
+/// at most one message of each ordered pair of peers is in flight, and the others of the pair wait
+/// behind it. The messages in flight share the caps max-min fairly, as `bandwidth::allocate` tells.
+/// A message completes once nothing is left of it, at once where no cap holds for it, and arrives
+/// its latency later. The next one of its pair starts once it can no longer overtake it. A message
+/// that is to be dropped takes its part of what its origin may send, nothing of what its recipient
+/// may receive, and does not arrive. Under limits the same holds of one from a peer to itself.
+///
+/// # An example
+///
+/// Peer 1 may send 1000 bytes a second. So a `message` of 500 bytes to peer 2 takes half a second,
+/// and with a latency of one millisecond it arrives one millisecond later:
+///
+/// ```
+/// let mut state = State::new(alloc);
+/// state.limit(0, &1u64, Some(1000), None)?;
+/// state.enqueue(0, 1, 2, 7, message, 1_000_000, true)?;
+/// let next = state.next(); // Some(500_000_000)
+/// let done = state.advance(500_000_000)?; // one completion, with deliver_at: Some(501_000_000)
+/// ```
+///
+/// # What is promised
+///
+/// The *simulation* (`model`) goes nanosecond by nanosecond: all that is in flight drains at its
+/// fair rate, what is done completes, and what may start starts. Where moments never go back, and
+/// caps change and messages are sent only before the next event, each call does what it does in the
+/// simulation (`made.simulated`). So let time go on to a moment by `advance` first, and then
+/// change caps and send messages. Elsewhere a call still goes by the event rule, from one planned
+/// moment to the next, which speaks of any moments (`made.by_rule`).
+///
+/// A message is neither lost nor doubled (`made.conserved`), and after each call those in flight have
+/// their max-min fair rates under the caps now (`made.rated`). A call that is refused leaves the
+/// scheduler as it was (`unchanged`).
+///
+/// No call is refused for a number, whatever caps, lengths and moments it is given, and however
+/// many peers send. The *range* is: the first flow id and the number of messages together below
+/// 2^64, moments and latencies below 2^63. There a call is refused for memory alone (`refused`), and
+/// leaves the scheduler in the range (`made.in_range`).
+#[derive(Drop)]
+pub struct State<P: Peer> {
+    kept: Working<P>,
+    pub ghost caps: { CapsAlike P.cmp (planned P.cmp kept).caps (planned P.cmp kept).caps },
+    pub ghost arrivals: { PairsAlike P.cmp (planned P.cmp kept).last_arrival (planned P.cmp kept).last_arrival },
+    // Here and in the clauses `∥ A ∥₁` reads: there is an `A`.
+    pub ghost right: { ∥ IsPlanned P.cmp (planned P.cmp kept) ∥₁ },
+    pub ghost orderly: { ∥ IsOrderly P.cmp (planned P.cmp kept) ∥₁ },
+}
+
+impl<P: Peer> State<P> {
+    ghost use Rattle.link_scheduler.specs.Message.{message_of};
+    ghost use Rattle.link_scheduler.specs.State.{planned_of, sent, IsNew, IsMade, IsRefused, IsAdvanced, IsCounted, IsNextOf};
+
+    /// A scheduler at the start, moment 0, without limits and with nothing sent. Flow ids begin
+    /// at 0.
+    ///
+    /// It stands for the new world of the simulation, and is in the range.
+    pub fn new(alloc: Global) -> Self
+        ensures new { IsNew result 0 }
+    {
+        State::with_first_id(alloc, 0)
+    }
+
+    /// As `new`, with flow ids from `first`. Each message that starts to be sent under limits takes
+    /// the next id, and the last id that is given is 18446744073709551614.
+    pub fn with_first_id(alloc: Global, first: u64) -> Self
+        ensures new { IsNew result first }
+    {
+        State {
+            kept: Working::new(alloc, first),
+        }
+    }
+
+    /// Sets the caps of a peer from `now` on, and answers what completes at that moment.
+    ///
+    /// `egress` is the cap on all that the peer sends and `ingress` that on all that it receives,
+    /// both in bytes a second; `None` is no cap. `now` is in nanoseconds since the start. The
+    /// messages in flight go on at the fair rates under the new caps, and those for which no cap
+    /// holds any more complete. The first limit ends the time in which messages complete as they
+    /// are enqueued, also where it sets no cap.
+    ///
+    /// Where moments never go back, and caps change and messages are sent only before the next
+    /// event, it does what the simulation does: the same messages complete in the same order, to
+    /// arrive at the same moments.
+    ///
+    /// # Errors
+    ///
+    /// The scheduler then stays as it was.
+    ///
+    /// - `OutOfMemory` where memory was refused, for a list or for the clone of a peer.
+    /// - `MomentTooLate` where a message completes and would arrive past the last moment,
+    ///   18446744073709551615.
+    /// - `FlowIdsUsedUp` where a message would start and no flow id is left.
+    pub fn limit(
+        &mut self,
+        now: u64,
+        peer: &P,
+        egress: Option<usize>,
+        ingress: Option<usize>,
+    ) -> Result<Vec<Completion<P>>, Error>
+        ensures made { IfOk result (λ done. IsMade self.old (call_limit now peer.now egress ingress) done.items self.new) }
+        ensures refused { IfErr result (IsRefused self.old (call_limit now peer.now egress ingress)) }
+        ensures unchanged { OnErr result (self.new ≡ self.old) }
+    {
+        let mut working = self.kept.clone()?;
+        working.limit_peer(peer, egress, ingress)?;
+        let completions = working.recap(now)?;
+        self.kept = working;
+        Ok(completions)
+    }
+
+    /// Sets the cap of an ordered pair of peers from `now` on, and answers what completes at that
+    /// moment.
+    ///
+    /// `cap` is on all that `origin` sends to `recipient`, in bytes a second, beside the caps of
+    /// the two peers; `None` is no cap. `now` is in nanoseconds since the start. All else is as
+    /// with `limit`.
+    ///
+    /// Where moments never go back, and caps change and messages are sent only before the next
+    /// event, it does what the simulation does: the same messages complete in the same order, to
+    /// arrive at the same moments.
+    ///
+    /// # Errors
+    ///
+    /// The scheduler then stays as it was.
+    ///
+    /// - `OutOfMemory` where memory was refused, for a list or for the clone of a peer.
+    /// - `MomentTooLate` where a message completes and would arrive past the last moment,
+    ///   18446744073709551615.
+    /// - `FlowIdsUsedUp` where a message would start and no flow id is left.
+    pub fn limit_link(
+        &mut self,
+        now: u64,
+        origin: &P,
+        recipient: &P,
+        cap: Option<usize>,
+    ) -> Result<Vec<Completion<P>>, Error>
+        ensures made { IfOk result (λ done. IsMade self.old (call_limit_link now origin.now recipient.now cap) done.items self.new) }
+        ensures refused { IfErr result (IsRefused self.old (call_limit_link now origin.now recipient.now cap)) }
+        ensures unchanged { OnErr result (self.new ≡ self.old) }
+    {
+        let mut working = self.kept.clone()?;
+        working.limit_pair(origin, recipient, cap)?;
+        let completions = working.recap(now)?;
+        self.kept = working;
+        Ok(completions)
+    }
+
+    /// Sends a message at `now`, and answers what completes at that moment.
+    ///
+    /// `now` is in nanoseconds since the start, and `latency` in nanoseconds. `channel` and the
+    /// bytes come back with the completion. The message is to be dropped where `should_deliver` is
+    /// false.
+    ///
+    /// Before any limit it completes at once, and arrives its latency later, or with the last one
+    /// of its pair where that arrives after it. Under limits it waits behind the others of its
+    /// pair. It starts once none of them is in flight and, were it done at once, it would arrive no
+    /// earlier than the last one that completed.
+    ///
+    /// Where moments never go back, and caps change and messages are sent only before the next
+    /// event, it does what the simulation does: the same messages complete in the same order, to
+    /// arrive at the same moments.
+    ///
+    /// # Errors
+    ///
+    /// The scheduler then stays as it was.
+    ///
+    /// - `OutOfMemory` where memory was refused, for a list or for the clone of a peer.
+    /// - `MomentTooLate` where a message completes and would arrive past the last moment,
+    ///   18446744073709551615.
+    /// - `FlowIdsUsedUp` where a message would start and no flow id is left.
+    ///
+    /// Before any limit only `OutOfMemory` and `MomentTooLate` come.
+    pub fn enqueue(
+        &mut self,
+        now: u64,
+        origin: P,
+        recipient: P,
+        channel: u64,
+        message: Bytes,
+        latency: u64,
+        should_deliver: bool,
+    ) -> Result<Vec<Completion<P>>, Error>
+        ensures made { IfOk result (λ done.
+            IsMade self.old (call_enqueue now (sent origin recipient channel message latency should_deliver)) done.items self.new) }
+        ensures refused { IfErr result (IsRefused self.old (call_enqueue now (sent origin recipient channel message latency should_deliver))) }
+        ensures unchanged { OnErr result (planned_of self.new ≡ planned_of self.old) }
+    {
+        let message = Message {
+            origin,
+            recipient,
+            channel,
+            bytes: message,
+            latency,
+            should_deliver,
+        };
+        self.send(now, message)
+    }
+
+    /// Sends a message. Where it only has to wait, nothing is copied.
+    fn send(&mut self, now: u64, message: Message<P>) -> Result<Vec<Completion<P>>, Error>
+        ensures made { IfOk result (λ done. IsMade self.old (call_enqueue now (message_of message)) done.items self.new) }
+        ensures refused { IfErr result (IsRefused self.old (call_enqueue now (message_of message))) }
+        ensures unchanged { OnErr result (planned_of self.new ≡ planned_of self.old) }
+    {
+        if self.kept.has_to_wait(&message.origin, &message.recipient) {
+            self.kept.wait(now, message)?;
+            return Ok(Vec::new(self.kept.alloc));
+        }
+        let mut working = self.kept.clone()?;
+        let completions = working.enqueue(now, message)?;
+        self.kept = working;
+        Ok(completions)
+    }
+
+    /// Lets time go on to `now`, in nanoseconds since the start, and answers what completes up to
+    /// that moment and at it, in order.
+    ///
+    /// Each event on the way is handled at its own moment: messages finish, and others start.
+    ///
+    /// Where moments never go back, and caps change and messages are sent only before the next
+    /// event, it does what the simulation does: the same messages complete in the same order, to
+    /// arrive at the same moments. There an advance to any moment on the way, and then on,
+    /// completes the same (`advanced.split`), and an origin sends no more than its egress cap lets go
+    /// in the time between (`advanced.within_caps`).
+    ///
+    /// # Errors
+    ///
+    /// The scheduler then stays as it was.
+    ///
+    /// - `OutOfMemory` where memory was refused, for a list or for the clone of a peer.
+    /// - `MomentTooLate` where a message completes and would arrive past the last moment,
+    ///   18446744073709551615.
+    /// - `FlowIdsUsedUp` where a message would start and no flow id is left.
+    pub fn advance(&mut self, now: u64) -> Result<Vec<Completion<P>>, Error>
+        ensures made { IfOk result (λ done. IsMade self.old (call_advance now) done.items self.new) }
+        ensures advanced { IfOk result (λ done. IsAdvanced self.old now done.items self.new) }
+        ensures refused { IfErr result (IsRefused self.old (call_advance now)) }
+        ensures unchanged { OnErr result (self.new ≡ self.old) }
+    {
+        Ok(self.advance_counted(now)?.0)
+    }
+
+    /// As `advance`, with the number of events that it handled: finishes and starts, each of one
+    /// moment. There are at most twice as many as messages waited and once as many as were in
+    /// flight.
+    ///
+    /// Where moments never go back, and caps change and messages are sent only before the next
+    /// event, it does what the simulation does, as `advance`.
+    ///
+    /// # Errors
+    ///
+    /// Those of `advance`, and the scheduler then stays as it was.
+    pub fn advance_counted(&mut self, now: u64) -> Result<(Vec<Completion<P>>, u128), Error>
+        ensures made { IfOk result (λ answer. IsMade self.old (call_advance now) answer.0.items self.new) }
+        ensures advanced { IfOk result (λ answer. IsAdvanced self.old now answer.0.items self.new) }
+        ensures counted { IfOk result (λ answer. IsCounted self.old now answer.1 answer.0.items self.new) }
+        ensures refused { IfErr result (IsRefused self.old (call_advance now)) }
+        ensures unchanged { OnErr result (self.new ≡ self.old) }
+    {
+        let mut working = self.kept.clone()?;
+        let (completions, events) = working.advance(now)?;
+        self.kept = working;
+        Ok((completions, events))
+    }
+
+    /// The moment of the next event, in nanoseconds since the start: the next at which a message
+    /// finishes or starts, unless a cap changes or a message is sent before. `None` where none
+    /// comes up to the last moment, 18446744073709551615.
+    ///
+    /// It takes no memory, changes nothing and is never refused. Where moments never went back, and
+    /// caps changed and messages were sent only before the next event, it is the simulation's.
+    pub fn next(&self) -> Option<u64>
+        ensures next { IsNextOf self.now result }
+    {
+        self.kept.next_event()
+    }
+}

@@ -1,0 +1,150 @@
+//! What is in flight, accounted for at a moment.
+ghost use Rattle.std.specs.Prelude.{◌≡◌, ◌≢◌, ◌*◌, ℕ, All, ◌<◌, ◌&&◌, ◌||◌, Bool, true, not, is_none, map, length, slice_index_or, IfOk, IfErr, OnOk};
+ghost use Rattle.std.specs.List.{filter, list_all};
+ghost use Rattle.fair_rates.specs.declared.bandwidth.Flow.{Flow as AnyFlow};
+ghost use Rattle.link_simulation.specs.WorldPlanned.{Paced, paced_flows, drained_to, IsLeastMoment, SomeSpentAt, is_spent};
+ghost use Rattle.link_scheduler.specs.Message.{message_of};
+ghost use Rattle.link_scheduler.specs.Peers.{egress_of, ingress_of};
+ghost use Rattle.link_scheduler.specs.Pairs.{link_of};
+ghost use Rattle.link_simulation.specs.WorldEvents.{Accounts};
+
+use super::drain::drain_all;
+use super::flights::Flights;
+use super::message::Message;
+use super::pairs::Pairs;
+use super::peers::Peers;
+use super::rate::rerate_all;
+use super::working::Working;
+use fair_rates::bandwidth::{FairParts, Flow, fair_parts};
+use fair_rates::error::Error;
+use fair_rates::peer::Peer;
+use natural::Natural;
+use std::alloc::Global;
+use std::collections::VecDeque;
+
+/// Whether the flow uses no capped side.
+fn is_unlimited<P: Peer>(flow: &Flow<P>, peers: &Peers<P>, pairs: &Pairs<P>) -> bool
+    ensures { result ≡ (is_none (egress_of P.cmp peers.now.entries.items flow.now.origin)
+        && (not flow.now.delivered || is_none (ingress_of P.cmp peers.now.entries.items flow.now.recipient))
+        && is_none (link_of P.cmp pairs.now.entries.items flow.now.origin flow.now.recipient)) }
+{
+    peers.egress(&flow.origin).is_none()
+        && (!flow.delivered || peers.ingress(&flow.recipient).is_none())
+        && pairs.cap(&flow.origin, &flow.recipient).is_none()
+}
+
+impl<P: Peer> Flights<P> {
+    ghost use Rattle.link_scheduler.specs.Flights.{rated_by};
+    ghost use Rattle.link_scheduler.specs.InFlight.{in_flight};
+    ghost use Rattle.fair_rates.specs.FairParts.{product};
+    ghost use Rattle.link_scheduler.specs.Working.{caps_of};
+
+    /// All drain to that moment.
+    fn drain(&mut self, now: u64)
+        ensures sending { in_flight self.new ≡ drained_to now (in_flight self.old) }
+        ensures flows { self.new.flows.items ≡ self.old.flows.items }
+    {
+        drain_all(&mut self.progress, &self.levels, now);
+    }
+
+    /// Whether the message at that place is done: nothing is left of it, or it uses no capped side.
+    fn is_done(&self, at: usize, peers: &Peers<P>, pairs: &Pairs<P>) -> bool
+        requires { at < length self.now.flows.items }
+        ensures { (d : Paced P) → result ≡ is_spent P.cmp (caps_of P.cmp peers.now.entries.items pairs.now.entries.items)
+            (slice_index_or (in_flight self.now) at d) }
+    {
+        self.progress[at].left.is_zero() || is_unlimited(&self.flows[at], peers, pairs)
+    }
+
+    /// Takes those that are done, in order of start.
+    fn take_done(
+        &mut self,
+        alloc: Global,
+        peers: &Peers<P>,
+        pairs: &Pairs<P>,
+    ) -> Result<VecDeque<Message<P>>, Error>
+        ensures done { IfOk result (λ done. map message_of done.items ≡ paced_flows (filter (is_spent P.cmp (caps_of P.cmp peers.now.entries.items pairs.now.entries.items))
+            (in_flight self.old))) }
+        ensures rest { OnOk result (in_flight self.new ≡ filter (λ f. not (is_spent P.cmp (caps_of P.cmp peers.now.entries.items pairs.now.entries.items) f))
+            (in_flight self.old)) }
+        ensures others { (test : AnyFlow P → Bool) → list_all test self.old.flows.items ≡ true → list_all test self.new.flows.items ≡ true }
+        ensures refused { IfErr result (λ e. e ≡ Error.OutOfMemory) }
+    {
+        let mut done = VecDeque::new(alloc);
+        let mut at = 0;
+        while at < self.flows.len() {
+            if self.is_done(at, peers, pairs) {
+                done.push_back(self.remove(at))?;
+            } else {
+                at += 1;
+            }
+        }
+        Ok(done)
+    }
+
+    /// Where nothing is in flight, units begin anew: one is a byte a second.
+    fn renew_units(&mut self)
+        ensures sending { in_flight self.new ≡ in_flight self.old }
+        ensures flows { self.new.flows.items ≡ self.old.flows.items }
+        ensures progress { self.new.progress.items ≡ self.old.progress.items }
+        ensures one { length self.new.flows.items ≡ 0 → self.new.scale ≡ 1 }
+    {
+        if self.flows.is_empty() {
+            self.scale = Natural::from_u64(*self.flows.allocator(), 1);
+            self.levels.clear();
+        }
+    }
+
+    /// Gives each its rate from now on, in the units of these rates. Answers the first moment at
+    /// which nothing is left of one.
+    fn set_rates(&mut self, rates: FairParts, now: u64) -> Result<Option<u64>, Error>
+        requires left { All (λ f. f.left.num ≢ 0) (in_flight self.old) }
+        requires one_each { length rates.level_of.items ≡ length self.old.flows.items }
+        requires grown { rates.scale ≡ self.old.scale * product rates.growth.items }
+        requires scaled { 0 < rates.scale }
+        ensures flows { self.new.flows.items ≡ self.old.flows.items }
+        ensures sending { OnOk result (in_flight self.new ≡ rated_by now rates.scale rates.levels.items rates.level_of.items (in_flight self.old)) }
+        ensures finish { IfOk result (IsLeastMoment (λ s. SomeSpentAt (in_flight self.new) s)) }
+        ensures refused { IfErr result (λ e. e ≡ Error.OutOfMemory) }
+    {
+        let finish = rerate_all(&mut self.progress, &rates, now)?;
+        self.scale = rates.scale;
+        self.levels = rates.levels;
+        Ok(finish)
+    }
+}
+
+impl<P: Peer> Working<P> {
+    ghost use Rattle.link_scheduler.specs.Working.{planned, messages, caps_of, AreFairPartsUnder};
+
+    /// All that is in flight drains to that moment. What is done leaves, in order of start, and the
+    /// rest gets its fair rates. The finish is planned anew.
+    pub(crate) fn account(&mut self, now: u64) -> Result<VecDeque<Message<P>>, Error>
+        ensures accounts { IfOk result (λ leavers. Accounts P.cmp now (planned P.cmp self.old) (messages leavers.items) (planned P.cmp self.new)) }
+        ensures refused { IfErr result (λ e. e ≡ Error.OutOfMemory) }
+    {
+        self.flights.drain(now);
+        let done = self
+            .flights
+            .take_done(self.alloc, &self.peers, &self.pairs)?;
+        self.flights.renew_units();
+        let rates = self.rates()?;
+        self.finish = self.flights.set_rates(rates, now)?;
+        Ok(done)
+    }
+
+    /// The fair rate of each flow in flight.
+    fn rates(&self) -> Result<FairParts, Error>
+        ensures fair { IfOk result (AreFairPartsUnder P.cmp (caps_of P.cmp self.now.peers.entries.items self.now.pairs.entries.items) self.now.flights.flows.items self.now.flights.scale) }
+        ensures refused { IfErr result (λ e. e ≡ Error.OutOfMemory) }
+    {
+        fair_parts(
+            self.alloc,
+            &self.flights.flows,
+            |peer| self.peers.egress(peer),
+            |peer| self.peers.ingress(peer),
+            |origin, recipient| self.pairs.cap(origin, recipient),
+            &self.flights.scale,
+        )
+    }
+}

@@ -1,0 +1,290 @@
+//! The event rule: what calls do, at any moments.
+ghost use Rattle.std.specs.Prelude.{◌≡◌, ℕ, ◌+◌, nat_lt, if◌then◌else◌, List, [], ◌∷◌, ◌++◌, map, true, false, IfOk, IfErr, OnOk, OnErr, IsTrue, ◌&&◌, is_some};
+ghost use Rattle.link_simulation.specs.World.{Completed, goes, meets, last_moment, later_of as latest, is_late, completed};
+ghost use Rattle.link_simulation.specs.WorldMessages.{Message as AnyMessage};
+ghost use Rattle.link_simulation.specs.WorldPlanned.{next_of};
+ghost use Rattle.link_simulation.specs.WorldEvents.{Launches, Finishes, Settles, Wakes, Recaps, Enqueues, Advances, landed, completed_at_once};
+ghost use Rattle.link_simulation.specs.Refusing.{IsRefusedFor};
+ghost use Rattle.link_scheduler.specs.Message.{message_of, completed_of};
+ghost use Rattle.link_scheduler.specs.Pairs.{first_of, arrival_of};
+ghost use Rattle.link_scheduler.specs.Events.{IsDue, Happens};
+
+use super::completion::Completion;
+use super::event::Event;
+use super::look::{Key, ready_moment};
+use super::message::Message;
+use super::pairs::later_of;
+use super::working::Working;
+use fair_rates::error::Error;
+use fair_rates::peer::Peer;
+use std::collections::VecDeque;
+
+impl<P: Peer> Working<P> {
+    ghost use Rattle.link_scheduler.specs.Working.{planned, messages, is_sending, may_launch_first, ready_messages};
+
+    /// Whether the first waiting message of the pair may start: the pair is idle, and the message
+    /// arrives no earlier than the pair's last one.
+    fn may_launch(&self, origin: &P, recipient: &P, now: u64) -> bool
+        ensures { result ≡ may_launch_first P.cmp now (planned P.cmp self.now) (first_of P.cmp (planned P.cmp self.now).waiting origin.now recipient.now) }
+    {
+        match self.pairs.first(origin, recipient) {
+            None => false,
+            Some(front) => {
+                let last = self.pairs.last_arrival(origin, recipient);
+                !self.flights.has_pair(origin, recipient)
+                    && ready_moment(last, front.latency) <= now
+            }
+        }
+    }
+
+    /// The first waiting message of the pair starts if it may, and an account follows, whose
+    /// leavers are answered.
+    pub(crate) fn launch(
+        &mut self,
+        origin: &P,
+        recipient: &P,
+        now: u64,
+    ) -> Result<VecDeque<Message<P>>, Error>
+        ensures launches { IfOk result (λ leavers. Launches P.cmp now (planned P.cmp self.old) (first_of P.cmp (planned P.cmp self.old).waiting origin.now recipient.now) (goes (messages leavers.items) (planned P.cmp self.new))) }
+        ensures refused { IfErr result (IsRefusedFor (λ fault. Launches P.cmp now (planned P.cmp self.old)
+            (first_of P.cmp (planned P.cmp self.old).waiting origin.now recipient.now) (meets fault))) }
+    {
+        if !self.may_launch(origin, recipient, now) {
+            return Ok(VecDeque::new(self.alloc));
+        }
+        if self.next_id == u64::MAX {
+            return Err(Error::FlowIdsUsedUp);
+        }
+        let Some(message) = self.pairs.take_first(origin, recipient) else {
+            return Ok(VecDeque::new(self.alloc));
+        };
+        let id = self.next_id;
+        self.next_id += 1;
+        self.flights.push(message, id, now)?;
+        self.account(now)
+    }
+
+    /// A message that is done completes, and its pair's first waiting one starts if it may. What is
+    /// done then is answered.
+    fn complete(
+        &mut self,
+        message: Message<P>,
+        now: u64,
+        completions: &mut Vec<Completion<P>>,
+    ) -> Result<VecDeque<Message<P>>, Error>
+        ensures in_time { IfOk result (λ more. is_late P.cmp now (message_of message) ≡ false) }
+        ensures completion { IfOk result (λ more. map completed_of completions.new.items ≡ map completed_of completions.old.items ++ completed P.cmp now (message_of message) ∷ []) }
+        ensures launches { IfOk result (λ more. Launches P.cmp now (landed P.cmp now (planned P.cmp self.old) (message_of message)) (next_of P.cmp (planned P.cmp self.old) (message_of message)) (goes (messages more.items) (planned P.cmp self.new))) }
+        ensures refused { IfErr result (λ e. (ms : List (AnyMessage P)) →
+            IsRefusedFor (λ fault. Finishes P.cmp now (message_of message ∷ ms) (planned P.cmp self.old) (meets fault)) e) }
+    {
+        let arrival = message.arrival(now)?;
+        let deliver_at = message.is_delivered().then_some(arrival);
+        self.pairs
+            .raise(self.alloc, &message.origin, &message.recipient, arrival)?;
+        let more = self.launch(&message.origin, &message.recipient, now)?;
+        completions.push(Completion::of(message, deliver_at))?;
+        Ok(more)
+    }
+
+    /// A queue of messages that are done completes; what is done on the way joins its end. Then the
+    /// start is planned anew.
+    fn finish(
+        &mut self,
+        mut queue: VecDeque<Message<P>>,
+        now: u64,
+        completions: &mut Vec<Completion<P>>,
+    ) -> Result<(), Error>
+        ensures finishes { IfOk result (λ done. (cs : List (Completed P)) × (map completed_of completions.new.items ≡ map completed_of completions.old.items ++ cs)
+            × Finishes P.cmp now (messages queue.items) (planned P.cmp self.old) (goes cs (planned P.cmp self.new))) }
+        ensures refused { IfErr result (IsRefusedFor
+            (λ fault. Finishes P.cmp now (messages queue.items) (planned P.cmp self.old) (meets fault))) }
+    {
+        while let Some(message) = queue.pop_front() {
+            let mut more = self.complete(message, now, completions)?;
+            queue.append(&mut more)?;
+        }
+        self.look(now);
+        Ok(())
+    }
+
+    /// An account, and the finishes of what left.
+    fn settle(&mut self, now: u64, completions: &mut Vec<Completion<P>>) -> Result<(), Error>
+        ensures settles { IfOk result (λ done. (cs : List (Completed P)) × (map completed_of completions.new.items ≡ map completed_of completions.old.items ++ cs)
+            × Settles P.cmp now (planned P.cmp self.old) (goes cs (planned P.cmp self.new))) }
+        ensures refused { IfErr result (IsRefusedFor (λ fault. Settles P.cmp now (planned P.cmp self.old) (meets fault))) }
+    {
+        let queue = self.account(now)?;
+        self.finish(queue, now, completions)
+    }
+
+    /// The pairs that are ready start, in the order of pairs, each with its finishes.
+    fn wake(&mut self, now: u64, completions: &mut Vec<Completion<P>>) -> Result<(), Error>
+        ensures wakes { IfOk result (λ done. (cs : List (Completed P)) × (map completed_of completions.new.items ≡ map completed_of completions.old.items ++ cs)
+            × Wakes P.cmp now (planned P.cmp self.old) (goes cs (planned P.cmp self.new))) }
+        ensures refused { IfErr result (IsRefusedFor (λ fault. Wakes P.cmp now (planned P.cmp self.old) (meets fault))) }
+    {
+        let ready = self.ready(now)?;
+        for pair in &ready {
+            let queue = self.launch(&pair.origin, &pair.recipient, now)?;
+            self.finish(queue, now, completions)?;
+        }
+        self.look(now);
+        Ok(())
+    }
+
+    /// What is done under new caps completes.
+    pub(crate) fn recap(&mut self, now: u64) -> Result<Vec<Completion<P>>, Error>
+        requires { (planned P.cmp self.old).limited ≡ true }
+        ensures recaps { IfOk result (λ completions. Recaps P.cmp now (planned P.cmp self.old).caps (planned P.cmp self.old) (goes (map completed_of completions.items) (planned P.cmp self.new))) }
+        ensures refused { IfErr result (IsRefusedFor
+            (λ fault. Recaps P.cmp now (planned P.cmp self.old).caps (planned P.cmp self.old) (meets fault))) }
+    {
+        let mut completions = Vec::new(self.alloc);
+        if self.flights.is_empty() {
+            self.look(now);
+        } else {
+            self.settle(now, &mut completions)?;
+        }
+        Ok(completions)
+    }
+
+    /// A message is sent.
+    pub(crate) fn enqueue(
+        &mut self,
+        now: u64,
+        message: Message<P>,
+    ) -> Result<Vec<Completion<P>>, Error>
+        ensures enqueues { IfOk result (λ completions. Enqueues P.cmp now (message_of message) (planned P.cmp self.old) (goes (map completed_of completions.items) (planned P.cmp self.new))) }
+        ensures refused { IfErr result (IsRefusedFor
+            (λ fault. Enqueues P.cmp now (message_of message) (planned P.cmp self.old) (meets fault))) }
+    {
+        let mut completions = Vec::new(self.alloc);
+        if !self.limited {
+            self.complete_at_once(now, message, &mut completions)?;
+            return Ok(completions);
+        }
+        let pair = Key::new(&message.origin, &message.recipient)?;
+        self.pairs.push(self.alloc, message)?;
+        let queue = self.launch(&pair.origin, &pair.recipient, now)?;
+        self.finish(queue, now, &mut completions)?;
+        Ok(completions)
+    }
+
+    /// Whether a message of the pair has to wait: limits hold, and one of the pair is in flight.
+    pub(crate) fn has_to_wait(&self, origin: &P, recipient: &P) -> bool
+        ensures { result ≡ ((planned P.cmp self.now).limited && is_sending P.cmp (planned P.cmp self.now) origin.now recipient.now) }
+    {
+        self.limited && self.flights.has_pair(origin, recipient)
+    }
+
+    /// A message waits behind the one of its pair that is in flight.
+    pub(crate) fn wait(&mut self, now: u64, message: Message<P>) -> Result<(), Error>
+        requires limited { (planned P.cmp self.old).limited ≡ true }
+        requires busy { is_sending P.cmp (planned P.cmp self.old) message.origin message.recipient ≡ true }
+        ensures enqueues { OnOk result (Enqueues P.cmp now (message_of message) (planned P.cmp self.old) (goes [] (planned P.cmp self.new))) }
+        ensures unchanged { OnErr result (planned P.cmp self.new ≡ planned P.cmp self.old) }
+        ensures refused { IfErr result (λ e. e ≡ Error.OutOfMemory) }
+    {
+        self.pairs.push(self.alloc, message)?;
+        self.look(now);
+        Ok(())
+    }
+
+    /// The moment at which a message arrives that completes at once: no earlier than its pair's
+    /// last one; or `now`, if it is to be dropped.
+    fn arrival_at_once(&self, message: &Message<P>, now: u64) -> Result<u64, Error>
+        ensures in_time { IfOk result (λ moment. (message.now.should_deliver && nat_lt last_moment (now + message.now.latency)) ≡ false) }
+        ensures moment { IfOk result (λ moment. moment ≡ (if message.now.should_deliver
+            then latest (arrival_of P.cmp self.now.pairs.entries.items message.now.origin message.now.recipient) (now + message.now.latency) else now)) }
+        ensures refused { IfErr result (λ e. (e ≡ Error.MomentTooLate) × ((message.now.should_deliver && nat_lt last_moment (now + message.now.latency)) ≡ true)) }
+    {
+        if !message.should_deliver {
+            return Ok(now);
+        }
+        let earliest = now
+            .checked_add(message.latency)
+            .ok_or(Error::MomentTooLate)?;
+        let last = self.pairs.last_arrival(&message.origin, &message.recipient);
+        Ok(later_of(last, earliest))
+    }
+
+    /// Before any limit a message completes at once, and arrives no earlier than its pair's last
+    /// one.
+    fn complete_at_once(
+        &mut self,
+        now: u64,
+        message: Message<P>,
+        completions: &mut Vec<Completion<P>>,
+    ) -> Result<(), Error>
+        ensures completes { IfOk result (λ done. (c : Completed P) × (map completed_of completions.new.items ≡ map completed_of completions.old.items ++ c ∷ [])
+            × (completed_at_once P.cmp now (planned P.cmp self.old) (message_of message) ≡ goes (c ∷ []) (planned P.cmp self.new))) }
+        ensures refused { IfErr result (IsRefusedFor
+            (λ fault. completed_at_once P.cmp now (planned P.cmp self.old) (message_of message) ≡ meets fault)) }
+    {
+        let arrival = self.arrival_at_once(&message, now)?;
+        self.pairs
+            .raise(self.alloc, &message.origin, &message.recipient, arrival)?;
+        let deliver_at = message.should_deliver.then_some(arrival);
+        completions.push(Completion::of(message, deliver_at))?;
+        Ok(())
+    }
+
+    /// The planned finish or start that comes first, if it is due; the finish on a tie.
+    fn due(&self, now: u64) -> Option<Event>
+        ensures { IsDue now (planned P.cmp self.now) result }
+    {
+        let event = match (self.finish, self.start) {
+            (Some(finish), Some(start)) => {
+                if finish <= start {
+                    Event::Finish(finish)
+                } else {
+                    Event::Start(start)
+                }
+            }
+            (Some(finish), None) => Event::Finish(finish),
+            (None, Some(start)) => Event::Start(start),
+            (None, None) => return None,
+        };
+        if event.moment() <= now {
+            Some(event)
+        } else {
+            None
+        }
+    }
+
+    /// An event happens, and is planned no more.
+    fn happen(&mut self, event: Event, completions: &mut Vec<Completion<P>>) -> Result<(), Error>
+        ensures happens { IfOk result (λ done. (cs : List (Completed P)) × (map completed_of completions.new.items ≡ map completed_of completions.old.items ++ cs)
+            × Happens P.cmp event (planned P.cmp self.old) (goes cs (planned P.cmp self.new))) }
+        ensures refused { IfErr result (IsRefusedFor (λ fault. Happens P.cmp event (planned P.cmp self.old) (meets fault))) }
+    {
+        match event {
+            Event::Finish(moment) => {
+                self.finish = None;
+                self.settle(moment, completions)
+            }
+            Event::Start(moment) => {
+                self.start = None;
+                self.wake(moment, completions)
+            }
+        }
+    }
+
+    /// All events up to `now` happen, and what is ready then starts. Answers the number of events,
+    /// too.
+    pub(crate) fn advance(&mut self, now: u64) -> Result<(Vec<Completion<P>>, u128), Error>
+        ensures advances { IfOk result (λ answer. Advances P.cmp now (planned P.cmp self.old) answer.1 (goes (map completed_of answer.0.items) (planned P.cmp self.new))) }
+        ensures refused { IfErr result (IsRefusedFor
+            (λ fault. (n : ℕ) × Advances P.cmp now (planned P.cmp self.old) n (meets fault))) }
+    {
+        let mut completions = Vec::new(self.alloc);
+        let mut events = 0u128;
+        while let Some(event) = self.due(now) {
+            self.happen(event, &mut completions)?;
+            events += 1;
+        }
+        self.wake(now, &mut completions)?;
+        Ok((completions, events))
+    }
+}

@@ -1,0 +1,64 @@
+//! A message that waits or is in flight.
+ghost use Rattle.std.specs.Prelude.{◌≡◌, true, false, IfOk, IfErr};
+
+use bytes::Bytes;
+use fair_rates::error::Error;
+use fair_rates::peer::Peer;
+use std::alloc::AllocError;
+
+/// What one peer sends to another.
+#[derive(Drop)]
+pub(crate) struct Message<P> {
+    pub(crate) origin: P,
+    pub(crate) recipient: P,
+    pub(crate) channel: u64,
+    pub(crate) bytes: Bytes,
+    /// In nanoseconds.
+    pub(crate) latency: u64,
+    pub(crate) should_deliver: bool,
+}
+
+impl<P: Peer> Message<P> {
+    ghost use Rattle.link_simulation.specs.WorldMessages.{is_delivered};
+    ghost use Rattle.link_simulation.specs.World.{is_late, arrival};
+    ghost use Rattle.link_scheduler.specs.Message.{message_of};
+
+    /// Whether it arrives, under limits: a message to oneself does not.
+    pub(crate) fn is_delivered(&self) -> bool
+        ensures { result ≡ is_delivered P.cmp (message_of self.now) }
+    {
+        self.should_deliver && self.origin.cmp(&self.recipient).is_ne()
+    }
+
+    /// The moment at which it arrives if it is done at `now`, or `now` if it does not arrive.
+    pub(crate) fn arrival(&self, now: u64) -> Result<u64, Error>
+        ensures in_time { IfOk result (λ moment. is_late P.cmp now (message_of self.now) ≡ false) }
+        ensures moment { IfOk result (λ moment. moment ≡ arrival P.cmp now (message_of self.now)) }
+        ensures refused { IfErr result (λ e. (e ≡ Error.MomentTooLate) × (is_late P.cmp now (message_of self.now) ≡ true)) }
+    {
+        if self.is_delivered() {
+            now.checked_add(self.latency).ok_or(Error::MomentTooLate)
+        } else {
+            Ok(now)
+        }
+    }
+}
+
+impl<P: Peer> Clone for Message<P> {
+    ghost use Rattle.link_simulation.specs.WorldMessages.{SameMessage};
+    ghost use Rattle.link_scheduler.specs.Message.{message_of};
+
+    ghost is_clone = { λ message copy. SameMessage P.cmp (message_of message) (message_of copy) };
+
+    /// The same message, its peers cloned. It shares the bytes.
+    fn clone(&self) -> Result<Message<P>, AllocError> {
+        Ok(Message {
+            origin: self.origin.clone_peer().ok_or(AllocError)?,
+            recipient: self.recipient.clone_peer().ok_or(AllocError)?,
+            channel: self.channel,
+            bytes: self.bytes.slice(..)?,
+            latency: self.latency,
+            should_deliver: self.should_deliver,
+        })
+    }
+}

@@ -1,0 +1,56 @@
+-- What is printed line by line.
+use Rattle.std.proofs.Common.{◌≡◌, ℕ, List, [], ◌∷◌, ◌++◌, Option, None, Some, map, refl, sym, ap, ◌∙◌, subst, append_assoc, append-nil, codes, decimal, length}
+use denote.Ref.{Bor}
+use Rattle.std.specs.Io.KnownBytes.{Appends}
+use Rattle.std.specs.Map.Iter.{deref_pair}
+use Rattle.std.proofs.lemmas.List.{map-append}
+use Rattle.std.proofs.lemmas.List.Concat.{flat_map-append}
+use Rattle.fair_rates.specs.declared.bandwidth.Rate.{Rate}
+use Rattle.link_scheduler.specs.declared.transmitter.completion.Completion.{Completion}
+use Rattle.link_scripts.specs.Answer.{rate_line, rates_text, moment_word, done_line, done_text}
+
+-- what is printed of a completion before its moment, where its message has that length
+abbrev pub done_front : Completion ℕ → ℕ → List ℕ
+done_front c n = codes "done " ++ (decimal c.origin ++ (codes " " ++ (decimal c.recipient ++ (codes " " ++ (decimal c.channel ++ (codes " " ++ (decimal n ++ codes " ")))))))
+
+-- one text after another
+Appends-append : (before between after : Option (List ℕ)) (first second : List ℕ) → Appends before between first → Appends between after second → Appends before after (first ++ second)
+Appends-append None between after first second h k = tt
+Appends-append (Some xs) None after first second h k = absurd h
+Appends-append (Some xs) (Some ys) None first second h k = absurd k
+Appends-append (Some xs) (Some ys) (Some zs) first second h k = k ∙ ap (λ front. front ++ second) h ∙ append_assoc xs first second
+
+-- the text of one entry more
+rates_text-push : (entries : List (ℕ × Rate)) (id : ℕ) (rate : Rate) → rates_text (entries ++ (id, rate) ∷ []) ≡ rates_text entries ++ rate_line id rate
+rates_text-push entries id rate =
+    flat_map-append (λ entry. rate_line entry.0 entry.1) entries ((id, rate) ∷ []) ∙ ap (λ last. rates_text entries ++ last) (append-nil (rate_line id rate))
+
+-- the line of the next entry, after those so far
+pub next_rate : (before between after : Option (List ℕ)) (done : List (Bor ℕ × Bor Rate)) (id : Bor ℕ) (rate : Bor Rate)
+    → Appends before between (rates_text (map deref_pair done)) → Appends between after (rate_line id.now rate.now)
+    → Appends before after (rates_text (map deref_pair (done ++ (id, rate) ∷ [])))
+next_rate before between after done id rate h k =
+    let text = ap rates_text (map-append deref_pair done ((id, rate) ∷ [])) ∙ rates_text-push (map deref_pair done) id.now rate.now in
+    subst (Appends before after) (sym text) (Appends-append before between after _ _ h k)
+
+-- words with spaces between them, cut before the last but one
+cut_words : (d o r h l m end sp : List ℕ) → d ++ o ++ sp ++ r ++ sp ++ h ++ sp ++ l ++ sp ++ m ++ end ≡ (d ++ (o ++ (sp ++ (r ++ (sp ++ (h ++ (sp ++ (l ++ sp)))))))) ++ (m ++ end)
+cut_words d o r h l m end sp = simp append_assoc refl
+
+-- the line of a completion is that, and then its moment
+done_line_parts : (c : Completion ℕ) (n : ℕ) → n ≡ length c.message → done_line c ≡ done_front c n ++ (moment_word c.deliver_at ++ 10 ∷ [])
+done_line_parts c n is = rw is (cut_words (codes "done ") (decimal c.origin) (decimal c.recipient) (decimal c.channel) (decimal (length c.message)) (moment_word c.deliver_at) (10 ∷ []) (codes " "))
+
+pub done_parts : (before between after : Option (List ℕ)) (c : Completion ℕ) (n : ℕ) → n ≡ length c.message → Appends before between (done_front c n) → Appends between after (moment_word c.deliver_at ++ 10 ∷ []) → Appends before after (done_line c)
+done_parts before between after c n is h k = subst (Appends before after) (sym (done_line_parts c n is)) (Appends-append before between after (done_front c n) (moment_word c.deliver_at ++ 10 ∷ []) h k)
+
+-- the text of one completion more
+done_text-push : (completions : List (Completion ℕ)) (c : Completion ℕ) → done_text (completions ++ c ∷ []) ≡ done_text completions ++ done_line c
+done_text-push completions c = flat_map-append done_line completions (c ∷ []) ∙ ap (λ last. done_text completions ++ last) (append-nil (done_line c))
+
+-- the line of the next completion, after those so far
+pub next_done : (before between after : Option (List ℕ)) (done more : List (Completion ℕ)) (c : Completion ℕ) → more ≡ done ++ c ∷ [] → Appends before between (done_text done) → Appends between after (done_line c)
+    → Appends before after (done_text more)
+next_done before between after done more c is h k =
+    let text = ap done_text is ∙ done_text-push done c in
+    subst (Appends before after) (sym text) (Appends-append before between after _ _ h k)

@@ -1,0 +1,7 @@
+pub mod Answer
+pub mod Lines
+pub mod Outcome
+pub mod Schedule
+pub mod Script
+pub mod Session
+pub mod Words

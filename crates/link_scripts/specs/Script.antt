@@ -1,0 +1,103 @@
+-- The language of scripts: the line of each command. A line and a word are lists of bytes.
+use Rattle.std.specs.Prelude.{◌≡◌, ℕ, ◌^◌, ◌<◌, ◌≤◌, Bool, true, false, List, [], ◌∷◌, ◌++◌, Option, Some, None, IfSome, codes, decimal}
+use Rattle.std.specs.List.{join_with_byte}
+use Rattle.fair_rates.specs.declared.bandwidth.Flow.{Flow}
+use Rattle.link_scripts.specs.declared.linkrun.command.Call.{Call}
+use Rattle.link_scripts.specs.declared.linkrun.command.Call.TheVariants as calls
+use Rattle.link_scripts.specs.declared.linkrun.command.Command.{Command}
+use Rattle.link_scripts.specs.declared.linkrun.command.Command.TheVariants as commands
+use Rattle.link_scripts.specs.declared.linkrun.command.Parcel.{Parcel}
+
+-- a number is its decimal digits, with no sign, and with no zero in front of another digit
+abbrev pub number_word : ℕ → List ℕ
+number_word n = decimal n
+
+-- a cap is a number, and no cap is `-`
+abbrev pub cap_word : Option ℕ → List ℕ
+cap_word None = codes "-"
+cap_word (Some cap) = number_word cap
+
+-- a flag is `0` or `1`
+abbrev pub flag_word : Bool → List ℕ
+flag_word false = codes "0"
+flag_word true = codes "1"
+
+-- a flow: its id, its origin, its recipient, and whether it is delivered
+abbrev pub flow_words : Flow ℕ → List (List ℕ)
+flow_words f = number_word f.id ∷ number_word f.origin ∷ number_word f.recipient ∷ flag_word f.delivered ∷ []
+
+-- a message: when it is sent, its origin, its recipient, its channel, its length, its latency, and whether it should be delivered
+abbrev pub parcel_words : Parcel → List (List ℕ)
+parcel_words p =
+    number_word p.now ∷ number_word p.origin ∷ number_word p.recipient ∷ number_word p.channel ∷ number_word p.length ∷ number_word p.latency ∷ flag_word p.should_deliver ∷ []
+
+-- the words of a call of the scheduler; its moment comes first
+abbrev pub call_words : Call → List (List ℕ)
+call_words (calls.Limit now peer egress ingress) = codes "limit" ∷ number_word now ∷ number_word peer ∷ cap_word egress ∷ cap_word ingress ∷ []
+call_words (calls.LimitLink now origin recipient cap) = codes "limitlink" ∷ number_word now ∷ number_word origin ∷ number_word recipient ∷ cap_word cap ∷ []
+call_words (calls.Enqueue parcel) = codes "enqueue" ∷ parcel_words parcel
+call_words (calls.Advance now) = codes "advance" ∷ number_word now ∷ []
+call_words calls.Next = codes "next" ∷ []
+
+-- the words of a command
+abbrev pub command_words : Command → List (List ℕ)
+command_words (commands.Flow flow) = codes "flow" ∷ flow_words flow
+command_words (commands.Egress peer cap) = codes "egress" ∷ number_word peer ∷ cap_word cap ∷ []
+command_words (commands.Ingress peer cap) = codes "ingress" ∷ number_word peer ∷ cap_word cap ∷ []
+command_words (commands.Link origin recipient cap) = codes "link" ∷ number_word origin ∷ number_word recipient ∷ cap_word cap ∷ []
+command_words commands.Rates = codes "rates" ∷ []
+command_words (commands.Schedule call) = call_words call
+
+-- the line of a command: its words, with one space between each two
+abbrev pub line_of : Command → List ℕ
+line_of command = join_with_byte 32 (command_words command)
+
+-- ---- the ranges of the columns
+
+-- ids, peers, channels, moments and latencies have 64 bits
+abbrev pub IsNumberInRange : ℕ → Type 0
+IsNumberInRange n = n < 2 ^ 64
+
+-- a cap has 128 bits
+abbrev pub IsCapInRange : Option ℕ → Type 0
+IsCapInRange cap = IfSome cap (λ c. c < 2 ^ 128)
+
+-- a cap of the scheduler has 64 bits
+abbrev pub IsSmallCapInRange : Option ℕ → Type 0
+IsSmallCapInRange cap = IfSome cap (λ c. c < 2 ^ 64)
+
+-- a message has at most 67108864 bytes
+abbrev pub IsLengthInRange : ℕ → Type 0
+IsLengthInRange n = n ≤ 67108864
+
+-- each number of a flow
+abbrev pub IsFlowInRange : Flow ℕ → Type 0
+IsFlowInRange f = IsNumberInRange f.id × IsNumberInRange f.origin × IsNumberInRange f.recipient
+
+-- each number of a message
+abbrev pub IsParcelInRange : Parcel → Type 0
+IsParcelInRange p = IsNumberInRange p.now × IsNumberInRange p.origin × IsNumberInRange p.recipient × IsNumberInRange p.channel × IsLengthInRange p.length × IsNumberInRange p.latency
+
+-- each number of a call
+abbrev pub IsCallInRange : Call → Type 0
+IsCallInRange (calls.Limit now peer egress ingress) = IsNumberInRange now × IsNumberInRange peer × IsSmallCapInRange egress × IsSmallCapInRange ingress
+IsCallInRange (calls.LimitLink now origin recipient cap) = IsNumberInRange now × IsNumberInRange origin × IsNumberInRange recipient × IsSmallCapInRange cap
+IsCallInRange (calls.Enqueue parcel) = IsParcelInRange parcel
+IsCallInRange (calls.Advance now) = IsNumberInRange now
+IsCallInRange calls.Next = Unit {0}
+
+-- each number of a command
+abbrev pub IsInRange : Command → Type 0
+IsInRange (commands.Flow flow) = IsFlowInRange flow
+IsInRange (commands.Egress peer cap) = IsNumberInRange peer × IsCapInRange cap
+IsInRange (commands.Ingress peer cap) = IsNumberInRange peer × IsCapInRange cap
+IsInRange (commands.Link origin recipient cap) = IsNumberInRange origin × IsNumberInRange recipient × IsCapInRange cap
+IsInRange commands.Rates = Unit {0}
+IsInRange (commands.Schedule call) = IsCallInRange call
+
+-- ---- words, taken one by one
+
+-- the words of a value were taken from the front, and there is no answer where no value in range stands there
+pub record Takes {V : Type 0} (words_of : V → List (List ℕ)) (InRange : V → Type 0) (before : List (List ℕ)) (answer : Option V) (after : List (List ℕ)) : Type 0 where
+  pub taken : IfSome answer (λ v. (before ≡ words_of v ++ after) × InRange v)
+  pub missed : (v : V) (rest : List (List ℕ)) → InRange v → before ≡ words_of v ++ rest → answer ≡ Some v

@@ -1,0 +1,109 @@
+-- What a script has said so far.
+use Rattle.std.specs.Prelude.{◌≡◌, ◌⊎◌, ℕ, ◌<◌, ◌==◌, ◌&&◌, List, [], ◌∷◌, ◌++◌, Option, length, map, if◌then◌else◌}
+use Rattle.std.specs.Ordering.{nat_cmp}
+use Rattle.std.specs.BTreeMap.{get}
+use Rattle.fair_rates.specs.declared.bandwidth.Flow.{Flow}
+use Rattle.fair_rates.specs.declared.error.Error.{Error}
+use Rattle.fair_rates.specs.declared.error.Error.TheVariants.{OutOfMemory, NumberTooLarge}
+use Rattle.link_scripts.specs.declared.linkrun.answer.Answer.{Answer}
+use Rattle.link_scripts.specs.declared.linkrun.answer.Answer.TheVariants as answers
+use Rattle.link_scripts.specs.declared.linkrun.command.Command.{Command}
+use Rattle.link_scripts.specs.declared.linkrun.command.Command.TheVariants as commands
+use Rattle.link_scripts.specs.declared.linkrun.session.Session.{Session}
+use Rattle.fair_rates.specs.Caps.{Caps}
+use Rattle.link_scheduler.specs.Pairs.{pair_cmp}
+use Rattle.fair_rates.specs.PeerCaps.{answered_under, sides_under, IsFairById}
+use Rattle.link_scripts.specs.Schedule.{Makes, MayRefuseCall}
+use Rattle.link_scheduler.specs.State.{planned_of}
+use Rattle.fair_rates.specs.Size.{FairRatesFit}
+use Rattle.fair_rates.specs.TooLarge.{HasLargeAnswer}
+
+-- the cap on what a peer sends
+abbrev pub egress_of : Session → ℕ → Option ℕ
+egress_of s peer = get nat_cmp s.egress peer
+
+-- the cap on what it receives
+abbrev pub ingress_of : Session → ℕ → Option ℕ
+ingress_of s peer = get nat_cmp s.ingress peer
+
+-- the cap on what goes from one peer to another
+abbrev pub link_of : Session → ℕ → ℕ → Option ℕ
+link_of s origin recipient = get (pair_cmp nat_cmp) s.links (origin, recipient)
+
+-- the caps that are said
+abbrev pub caps_of : Session → Caps ℕ
+caps_of s = record { egress = egress_of s; ingress = ingress_of s; link = link_of s }
+
+-- the flows are those, in order, and the caps are these
+pub record Says (s : Session) (flows : List (Flow ℕ)) (caps : Caps ℕ) : Type 0 where
+  pub flows_are : s.flows.items ≡ flows
+  pub egress_is : (peer : ℕ) → egress_of s peer ≡ caps.egress peer
+  pub ingress_is : (peer : ℕ) → ingress_of s peer ≡ caps.ingress peer
+  pub link_is : (origin recipient : ℕ) → link_of s origin recipient ≡ caps.link origin recipient
+
+-- the caps with that of one peer set
+abbrev pub with_cap : (ℕ → Option ℕ) → ℕ → Option ℕ → ℕ → Option ℕ
+with_cap caps peer cap p = if p == peer then cap else caps p
+
+-- the caps of ordered pairs with that of one pair set
+abbrev pub with_link : (ℕ → ℕ → Option ℕ) → ℕ → ℕ → Option ℕ → ℕ → ℕ → Option ℕ
+with_link caps origin recipient cap p q = if (p == origin) && (q == recipient) then cap else caps p q
+
+-- the same is said
+abbrev pub SaysSame : Session → Session → Type 0
+SaysSame old new = Says new old.flows.items (caps_of old)
+
+-- the scheduler is as it was
+abbrev pub KeepsScheduler : Session → Session → Type 0
+KeepsScheduler old new = new.scheduler ≡ old.scheduler
+
+-- what the scheduler knows and plans is as it was
+abbrev pub KeepsPlanned : Session → Session → Type 0
+KeepsPlanned old new = planned_of new.scheduler ≡ planned_of old.scheduler
+
+-- what is said after a command: its flow at the end, or its cap in the place of that of the peer or of the pair
+abbrev pub SaysAfter : Command → Session → Session → Type 0
+SaysAfter (commands.Flow flow) old new = Says new (old.flows.items ++ flow ∷ []) (caps_of old)
+SaysAfter (commands.Egress peer cap) old new = Says new old.flows.items (record (caps_of old) { egress = with_cap (egress_of old) peer cap })
+SaysAfter (commands.Ingress peer cap) old new = Says new old.flows.items (record (caps_of old) { ingress = with_cap (ingress_of old) peer cap })
+SaysAfter (commands.Link origin recipient cap) old new = Says new old.flows.items (record (caps_of old) { link = with_link (link_of old) origin recipient cap })
+SaysAfter commands.Rates old new = SaysSame old new
+SaysAfter (commands.Schedule call) old new = SaysSame old new
+
+-- ---- what a command answers
+
+-- those are the rates of the flows under the caps
+abbrev pub AnswersRates : Session → Answer → Type 0
+AnswersRates s (answers.Rates rates) = IsFairById nat_cmp (caps_of s) s.flows.items (get nat_cmp rates)
+AnswersRates s answers.Nothing = ⊥
+AnswersRates s (answers.Done completions) = ⊥
+AnswersRates s (answers.Next moment) = ⊥
+
+-- a command for the rates answers those, a call what the scheduler answers, which it alone may change; any other says nothing
+abbrev pub AnswersTo : Command → Session → Answer → Session → Type 0
+AnswersTo commands.Rates old answer new = AnswersRates old answer × KeepsScheduler old new
+AnswersTo (commands.Schedule call) old answer new = Makes call old.scheduler answer new.scheduler
+AnswersTo (commands.Flow flow) old answer new = (answer ≡ answers.Nothing) × KeepsScheduler old new
+AnswersTo (commands.Egress peer cap) old answer new = (answer ≡ answers.Nothing) × KeepsScheduler old new
+AnswersTo (commands.Ingress peer cap) old answer new = (answer ≡ answers.Nothing) × KeepsScheduler old new
+AnswersTo (commands.Link origin recipient cap) old answer new = (answer ≡ answers.Nothing) × KeepsScheduler old new
+
+-- ---- when a command is refused
+
+-- no fair rates of the flows under the caps fit; so there are more than sixteen flows, or a flow has a cap of 2^64 or more
+pub record AreTooLargeUnder (caps : Caps ℕ) (flows : List (Flow ℕ)) : Type 0 where
+  pub nothing_fits : ¬ FairRatesFit (sides_under nat_cmp caps flows) (length flows)
+  pub many_or_large : (16 < length flows) ⊎ HasLargeAnswer (map (answered_under caps) flows)
+
+-- rates are refused for want of memory, or for a number where they are too large
+abbrev pub MayRefuseRates : Caps ℕ → List (Flow ℕ) → Error → Type 0
+MayRefuseRates caps flows why = (why ≡ OutOfMemory) ⊎ ((why ≡ NumberTooLarge) × AreTooLargeUnder caps flows)
+
+-- a command for the rates is refused so, a call as the scheduler refuses it, and any other only for want of memory
+abbrev pub MayRefuse : Command → Session → Error → Type 0
+MayRefuse commands.Rates s why = MayRefuseRates (caps_of s) s.flows.items why
+MayRefuse (commands.Schedule call) s why = MayRefuseCall call s.scheduler why
+MayRefuse (commands.Flow flow) s why = why ≡ OutOfMemory
+MayRefuse (commands.Egress peer cap) s why = why ≡ OutOfMemory
+MayRefuse (commands.Ingress peer cap) s why = why ≡ OutOfMemory
+MayRefuse (commands.Link origin recipient cap) s why = why ≡ OutOfMemory

@@ -1,0 +1,118 @@
+//! Scripts of flows and caps, run line by line.
+ghost use Rattle.std.specs.Prelude.{◌≡◌, Some, IfOk};
+ghost use Rattle.link_scripts.specs.Outcome.{status_of, message_of, CountsFromOne};
+
+mod answer;
+mod command;
+mod line;
+mod schedule;
+mod session;
+mod word;
+
+use crate::linkrun::command::Command;
+use crate::linkrun::line::LineEnd;
+use crate::linkrun::session::Session;
+use std::alloc::Global;
+use std::io::{BufRead, BufReader, BufWriter, Read, Write};
+use std::{fmt, io};
+
+/// How the run of a script came to its end.
+#[derive(Clone, Copy, Debug, PartialEq, Eq)]
+pub enum Outcome {
+    /// The script was read to its end.
+    Whole,
+    /// The line of that number, counted from 1, is not of the language. Nothing of it was done, and
+    /// nothing after it was read as a command. The number stays at 18446744073709551615 once it is
+    /// reached.
+    BadLine(u64),
+    /// A read or a write failed.
+    InputOutput,
+    /// No memory was left outside a command.
+    NoMemory,
+}
+
+impl Outcome {
+    /// The status with which a program ends after this outcome.
+    pub fn status(self) -> u8
+        ensures { result ≡ status_of self }
+    {
+        match self {
+            Outcome::Whole => 0,
+            Outcome::InputOutput | Outcome::NoMemory => 1,
+            Outcome::BadLine(_) => 2,
+        }
+    }
+}
+
+/// What a program says of the outcome, without a byte at its end, and nothing after a whole script.
+impl fmt::Display for Outcome {
+    ghost output = { λ outcome. Some (message_of outcome) };
+
+    fn fmt<W: fmt::Write>(&self, f: &mut fmt::Formatter<W>) -> fmt::Result {
+        match self {
+            Outcome::Whole => write!(f, ""),
+            Outcome::BadLine(number) => write!(f, "bad line {number}"),
+            Outcome::InputOutput => write!(f, "input or output fault"),
+            Outcome::NoMemory => write!(f, "out of memory"),
+        }
+    }
+}
+
+/// Runs the script that `input` gives, and prints its answers on `output`.
+///
+/// The script is read as a stream, and what is kept of it are its flows and its caps. What is
+/// printed is written to `output` and flushed before this returns, whatever the outcome.
+///
+/// - `Whole` where the script was read to its end.
+/// - `BadLine` where a line is not of the language.
+/// - `InputOutput` where a read, a write or the flush failed. A read that was interrupted is made
+///   again. It comes also after 2^128 - 1 lines, which no reader gives.
+/// - `NoMemory` where there is none for a line, for reading ahead or for printing. Nothing is read
+///   or printed then. A command that finds no memory is refused, and the script goes on.
+pub fn run<R: Read, W: Write>(alloc: Global, input: &mut R, output: &mut W) -> Outcome
+    ensures { CountsFromOne result }
+{
+    let Ok(mut line) = Vec::with_capacity(alloc, line::MOST_READ) else {
+        return Outcome::NoMemory;
+    };
+    let Ok(mut reader) = BufReader::new(alloc, input) else {
+        return Outcome::NoMemory;
+    };
+    let Ok(mut writer) = BufWriter::new(alloc, output) else {
+        return Outcome::NoMemory;
+    };
+    let outcome = run_lines(Session::new(alloc), &mut reader, &mut writer, &mut line);
+    match writer.flush() {
+        Ok(()) => outcome.unwrap_or(Outcome::InputOutput),
+        Err(_) => Outcome::InputOutput,
+    }
+}
+
+/// Runs the lines of `input` in order, up to its end or to a bad line. `line` is room for one.
+fn run_lines<B: BufRead, W: Write>(
+    mut session: Session,
+    input: &mut B,
+    output: &mut W,
+    line: &mut Vec<u8>,
+) -> io::Result<Outcome>
+    ensures { IfOk result CountsFromOne }
+{
+    let mut number = 0u64;
+    for _ in 0..u128::MAX {
+        number = number.saturating_add(1);
+        let end = line::read_line(input, line)?;
+        if end == LineEnd::TooLong {
+            return Ok(Outcome::BadLine(number));
+        }
+        if !line.is_empty() {
+            let Some(command) = Command::parse(line) else {
+                return Ok(Outcome::BadLine(number));
+            };
+            answer::print(output, session.perform(command))?;
+        }
+        if end == LineEnd::Input {
+            return Ok(Outcome::Whole);
+        }
+    }
+    Ok(Outcome::InputOutput)
+}

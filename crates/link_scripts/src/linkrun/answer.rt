@@ -1,0 +1,117 @@
+//! What a script prints.
+ghost use Rattle.std.specs.Prelude.{◌≡◌, [], ◌∷◌, ◌++◌, IfOk, IfErr, OnOk};
+ghost use Rattle.std.specs.Io.KnownBytes.{Appends};
+ghost use Rattle.link_scripts.specs.Answer.{rate_line, rates_text, moment_word, done_line, done_text, next_line, answer_text, refusal_line};
+ghost use Rattle.fair_rates.specs.Refusal.{refusal_number};
+
+use fair_rates::bandwidth::Rate;
+use fair_rates::error::Error;
+use link_scheduler::transmitter::Completion;
+use std::collections::BTreeMap;
+use std::io;
+use std::io::Write;
+
+/// What a command answers.
+#[derive(Drop)]
+pub(crate) enum Answer {
+    Nothing,
+    /// Rates in bytes a second, by the ids of the flows.
+    Rates(BTreeMap<u64, Rate>),
+    /// What became of messages, in order.
+    Done(Vec<Completion<u64>>),
+    /// The moment of the scheduler's next event, in nanoseconds since the start.
+    Next(Option<u64>),
+}
+
+/// Prints what a command answered, or why it was refused, a line each.
+pub(crate) fn print<W: Write>(output: &mut W, answer: Result<Answer, Error>) -> io::Result<()>
+    ensures answered { IfOk answer (λ a. OnOk result (Appends (W.contents output.old) (W.contents output.new) (answer_text a))) }
+    ensures refused { IfErr answer (λ e. OnOk result (Appends (W.contents output.old) (W.contents output.new) (refusal_line e))) }
+{
+    match answer {
+        Ok(Answer::Nothing) => Ok(()),
+        Ok(Answer::Rates(rates)) => print_rates(output, &rates),
+        Ok(Answer::Done(completions)) => print_completions(output, &completions),
+        Ok(Answer::Next(moment)) => print_next(output, moment),
+        Err(error) => {
+            let number = number_of(error);
+            writeln!(output, "refused {number} {error}")
+        }
+    }
+}
+
+/// Prints the rates by ascending id.
+fn print_rates<W: Write>(output: &mut W, rates: &BTreeMap<u64, Rate>) -> io::Result<()>
+    ensures { OnOk result (Appends (W.contents output.old) (W.contents output.new) (rates_text rates.now.entries)) }
+{
+    for (id, rate) in rates {
+        print_rate(output, *id, *rate)?;
+    }
+    Ok(())
+}
+
+/// Prints the rate of a flow.
+fn print_rate<W: Write>(output: &mut W, id: u64, rate: Rate) -> io::Result<()>
+    ensures { OnOk result (Appends (W.contents output.old) (W.contents output.new) (rate_line id rate)) }
+{
+    match rate {
+        Rate::Unlimited => writeln!(output, "rate {id} unlimited"),
+        Rate::Finite(ratio) => {
+            let numerator = ratio.numerator();
+            let denominator = ratio.denominator();
+            writeln!(output, "rate {id} {numerator}/{denominator}")
+        }
+    }
+}
+
+/// Prints what became of messages, a line each.
+fn print_completions<W: Write>(output: &mut W, completions: &[Completion<u64>]) -> io::Result<()>
+    ensures { OnOk result (Appends (W.contents output.old) (W.contents output.new) (done_text completions.now)) }
+{
+    for completion in completions {
+        print_completion(output, completion)?;
+    }
+    Ok(())
+}
+
+/// Prints what became of a message.
+fn print_completion<W: Write>(output: &mut W, completion: &Completion<u64>) -> io::Result<()>
+    ensures { OnOk result (Appends (W.contents output.old) (W.contents output.new) (done_line completion.now)) }
+{
+    let origin = completion.origin;
+    let recipient = completion.recipient;
+    let channel = completion.channel;
+    let length = completion.message.len();
+    write!(output, "done {origin} {recipient} {channel} {length} ")?;
+    print_moment(output, completion.deliver_at)
+}
+
+/// Prints the moment of the next event.
+fn print_next<W: Write>(output: &mut W, moment: Option<u64>) -> io::Result<()>
+    ensures { OnOk result (Appends (W.contents output.old) (W.contents output.new) (next_line moment)) }
+{
+    write!(output, "next ")?;
+    print_moment(output, moment)
+}
+
+/// Prints a moment at the end of a line, or that there is none.
+fn print_moment<W: Write>(output: &mut W, moment: Option<u64>) -> io::Result<()>
+    ensures { OnOk result (Appends (W.contents output.old) (W.contents output.new) (moment_word moment ++ 10 ∷ [])) }
+{
+    match moment {
+        Some(moment) => writeln!(output, "{moment}"),
+        None => writeln!(output, "-"),
+    }
+}
+
+/// The number of a refusal.
+fn number_of(error: Error) -> u8
+    ensures { result ≡ refusal_number error }
+{
+    match error {
+        Error::OutOfMemory => 1,
+        Error::NumberTooLarge => 2,
+        Error::MomentTooLate => 3,
+        Error::FlowIdsUsedUp => 4,
+    }
+}

@@ -1,0 +1,56 @@
+//! The lines of a script, read as a stream.
+ghost use Rattle.std.specs.Prelude.{IfOk, IfSome, length};
+ghost use Rattle.link_scripts.specs.Lines.{IsLengthOf, LacksEndByte, IsFrontOf, IsCut};
+
+use std::io;
+use std::io::{BufRead, Read};
+
+/// The most bytes that a line has, its end byte not counted.
+const MOST_BYTES: usize = 256;
+
+/// The most bytes that are read of a line.
+pub(crate) const MOST_READ: usize = MOST_BYTES + 1;
+
+/// The byte that ends a line.
+const NEWLINE: u8 = b'\n';
+
+/// What ended a line.
+#[derive(Clone, Copy, Debug, PartialEq, Eq)]
+pub(crate) enum LineEnd {
+    /// The end byte.
+    Newline,
+    /// The end of the input.
+    Input,
+    /// The line is longer than a line may be, and its rest is not read.
+    TooLong,
+}
+
+/// Reads the next line, without its end byte, in the place of what `line` held. It takes memory
+/// only where `line` has no room for 257 bytes.
+pub(crate) fn read_line<B: BufRead>(input: &mut B, line: &mut Vec<u8>) -> io::Result<LineEnd>
+    ensures length { IfOk result (λ end. IsLengthOf end (length line.new.items)) }
+    ensures one_line { IfOk result (λ _. LacksEndByte line.new.items) }
+    ensures front { IfOk result (λ end. IfSome (B.remaining input.old) (IsFrontOf end line.new.items)) }
+{
+    line.clear();
+    let mut front = (&mut *input).take(MOST_READ as u64);
+    front.read_until(NEWLINE, line)?;
+    let end = cut_end(line);
+    if line.len() > MOST_BYTES {
+        Ok(LineEnd::TooLong)
+    } else {
+        Ok(end)
+    }
+}
+
+/// Takes the end byte off what was read of a line, if it is there.
+fn cut_end(line: &mut Vec<u8>) -> LineEnd
+    ensures { IsCut result line.old.items line.new.items }
+{
+    if line.ends_with(&[NEWLINE]) {
+        line.pop();
+        LineEnd::Newline
+    } else {
+        LineEnd::Input
+    }
+}

@@ -1,0 +1,125 @@
+//! What a script has said so far.
+ghost use Rattle.std.specs.Prelude.{◌≡◌, ℕ, [], IfOk, IfErr, OnOk, OnErr};
+ghost use Rattle.std.specs.Ordering.{nat_cmp};
+ghost use Rattle.std.specs.BTreeMap.{get, IsUnchanged};
+ghost use Rattle.fair_rates.specs.Caps.{no_caps};
+ghost use Rattle.link_scheduler.specs.Pairs.{pair_cmp};
+ghost use Rattle.fair_rates.specs.PeerCaps.{IsFairById};
+ghost use Rattle.link_scheduler.specs.State.{planned_of};
+ghost use Rattle.link_scripts.specs.Session.{Says, SaysSame, KeepsPlanned, SaysAfter, AnswersTo, MayRefuse, MayRefuseRates, caps_of, with_cap, with_link};
+ghost use Rattle.link_simulation.specs.WorldPlanned.{new_planned};
+
+use crate::linkrun::answer::Answer;
+use crate::linkrun::command::Command;
+use crate::linkrun::schedule;
+use fair_rates::bandwidth;
+use fair_rates::bandwidth::{Flow, Rate};
+use fair_rates::error::Error;
+use link_scheduler::transmitter::State;
+use std::alloc::Global;
+use std::collections::BTreeMap;
+
+/// What a script has said so far: its flows in order, the caps of peers and links for their rates,
+/// in bytes a second, and its scheduler, which has caps of its own.
+#[derive(Drop)]
+pub(crate) struct Session {
+    alloc: Global,
+    flows: Vec<Flow<u64>>,
+    egress: BTreeMap<u64, u128>,
+    ingress: BTreeMap<u64, u128>,
+    /// By origin and recipient.
+    links: BTreeMap<(u64, u64), u128>,
+    scheduler: State<u64>,
+}
+
+impl Session {
+    /// Nothing is said.
+    pub(crate) fn new(alloc: Global) -> Session
+        ensures said { Says result [] no_caps }
+        ensures scheduler { planned_of result.scheduler ≡ new_planned 0 }
+    {
+        Session {
+            alloc,
+            flows: Vec::new(alloc),
+            egress: BTreeMap::new(alloc),
+            ingress: BTreeMap::new(alloc),
+            links: BTreeMap::new(alloc),
+            scheduler: State::new(alloc),
+        }
+    }
+
+    /// Does what a command says. A command that is refused changes nothing.
+    pub(crate) fn perform(&mut self, command: Command) -> Result<Answer, Error>
+        ensures answer { IfOk result (λ answer. AnswersTo command self.old answer self.new) }
+        ensures done { OnOk result (SaysAfter command self.old self.new) }
+        ensures kept { OnErr result (SaysSame self.old self.new × KeepsPlanned self.old self.new) }
+        ensures refused { IfErr result (MayRefuse command self.old) }
+    {
+        match command {
+            Command::Flow(flow) => self.flows.push(flow)?,
+            Command::Egress { peer, cap } => set_cap(&mut self.egress, peer, cap)?,
+            Command::Ingress { peer, cap } => set_cap(&mut self.ingress, peer, cap)?,
+            Command::Link {
+                origin,
+                recipient,
+                cap,
+            } => set_link(&mut self.links, origin, recipient, cap)?,
+            Command::Rates => return Ok(Answer::Rates(self.rates()?)),
+            Command::Schedule(call) => return schedule::make(self.alloc, &mut self.scheduler, call),
+        }
+        Ok(Answer::Nothing)
+    }
+
+    /// The rates of the flows, by id.
+    fn rates(&self) -> Result<BTreeMap<u64, Rate>, Error>
+        ensures fair { IfOk result (λ rates. IsFairById nat_cmp (caps_of self.now) self.now.flows.items (get nat_cmp rates)) }
+        ensures refused { IfErr result (MayRefuseRates (caps_of self.now) self.now.flows.items) }
+    {
+        bandwidth::allocate_linked(
+            self.alloc,
+            &self.flows,
+            |peer| self.egress.get(peer).copied(),
+            |peer| self.ingress.get(peer).copied(),
+            |origin, recipient| self.links.get(&(*origin, *recipient)).copied(),
+        )
+    }
+}
+
+/// Sets a peer's cap, or removes it.
+fn set_cap(caps: &mut BTreeMap<u64, u128>, peer: u64, cap: Option<u128>) -> Result<(), Error>
+    ensures set { OnOk result ((p : ℕ) → get nat_cmp caps.new p ≡ with_cap (get nat_cmp caps.old) peer cap p) }
+    ensures kept { OnErr result (IsUnchanged caps.old caps.new) }
+    ensures refused { IfErr result (λ e. e ≡ Error.OutOfMemory) }
+{
+    match cap {
+        Some(cap) => {
+            caps.insert(peer, cap)?;
+        }
+        None => {
+            caps.remove(&peer);
+        }
+    }
+    Ok(())
+}
+
+/// Sets the cap of what goes from one peer to another, or removes it.
+fn set_link(
+    caps: &mut BTreeMap<(u64, u64), u128>,
+    origin: u64,
+    recipient: u64,
+    cap: Option<u128>,
+) -> Result<(), Error>
+    ensures set { OnOk result ((p q : ℕ) → get (pair_cmp nat_cmp) caps.new (p, q) ≡ with_link (λ r s. get (pair_cmp nat_cmp) caps.old (r, s)) origin recipient cap p q) }
+    ensures kept { OnErr result (IsUnchanged caps.old caps.new) }
+    ensures refused { IfErr result (λ e. e ≡ Error.OutOfMemory) }
+{
+    match cap {
+        Some(cap) => {
+            caps.insert((origin, recipient), cap)?;
+        }
+        None => {
+            caps.remove(&(origin, recipient));
+        }
+    }
+    Ok(())
+}

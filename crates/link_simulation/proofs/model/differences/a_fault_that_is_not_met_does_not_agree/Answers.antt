@@ -1,0 +1,43 @@
+use Rattle.std.proofs.Common.{[], ◌∷◌, None, refl}
+use Rattle.std.specs.Ordering.{nat_cmp}
+use Rattle.std.proofs.lemmas.Cmp.{nat_cmp_total}
+use Rattle.fair_rates.specs.declared.error.Error.TheVariants.{MomentTooLate, FlowIdsUsedUp}
+use Rattle.fair_rates.specs.Amount.{reduced, gcd_within}
+use Rattle.link_simulation.specs.WorldCalls.{call_limit, call_enqueue}
+use Rattle.link_simulation.specs.WorldReplies.{reply_done, reply_refused}
+use Rattle.link_simulation.specs.WorldRows.{message, dropped, a_byte_a_nanosecond}
+use Rattle.link_simulation.proofs.World.ComputedReplies.{evenly}
+use Rattle.link_simulation.proofs.World.ComputedDifferences.{never_agree}
+use Rattle.link_simulation.proofs.model.differences.a_fault_that_is_not_met_does_not_agree.Goals as goal
+
+pub returns-clause-moment : goal.returns-clause-moment
+unfolding reduced gcd_within
+returns-clause-moment c =
+    never_agree nat_cmp nat_cmp_total (evenly 1_000_000_000) 20 0
+    (call_enqueue 0 (message 1 2 1 0) ∷ [])
+    (reply_refused MomentTooLate ∷ [])
+    refl
+
+pub returns-clause-dropped : goal.returns-clause-dropped
+unfolding reduced gcd_within
+returns-clause-dropped c =
+    never_agree nat_cmp nat_cmp_total (evenly 1_000_000_000) 20 0
+    (call_enqueue 1 (dropped 1 2 1 18_446_744_073_709_551_615) ∷ [])
+    (reply_refused MomentTooLate ∷ [])
+    refl
+
+pub returns-clause-id : goal.returns-clause-id
+unfolding reduced gcd_within
+returns-clause-id c =
+    never_agree nat_cmp nat_cmp_total (evenly 1_000_000_000) 20 0
+    (call_limit 0 1 a_byte_a_nanosecond None ∷ call_enqueue 0 (message 1 2 1 0) ∷ [])
+    (reply_done [] ∷ reply_refused FlowIdsUsedUp ∷ [])
+    refl
+
+pub returns-clause-another : goal.returns-clause-another
+unfolding reduced gcd_within
+returns-clause-another c =
+    never_agree nat_cmp nat_cmp_total (evenly 1_000_000_000) 20 0
+    (call_enqueue 1 (message 1 2 1 18_446_744_073_709_551_615) ∷ [])
+    (reply_refused FlowIdsUsedUp ∷ [])
+    refl

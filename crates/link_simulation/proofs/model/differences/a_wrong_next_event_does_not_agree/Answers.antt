@@ -1,0 +1,14 @@
+use Rattle.std.proofs.Common.{[], ◌∷◌, Some, None, refl}
+use Rattle.std.specs.Ordering.{nat_cmp}
+use Rattle.std.proofs.lemmas.Cmp.{nat_cmp_total}
+use Rattle.fair_rates.specs.Amount.{reduced, gcd_within}
+use Rattle.link_simulation.specs.WorldCalls.{call_limit, call_enqueue, call_next}
+use Rattle.link_simulation.specs.WorldReplies.{reply_done, reply_next}
+use Rattle.link_simulation.specs.WorldRows.{message, a_byte_a_nanosecond}
+use Rattle.link_simulation.proofs.World.ComputedReplies.{evenly}
+use Rattle.link_simulation.proofs.World.ComputedDifferences.{never_agree}
+use Rattle.link_simulation.proofs.model.differences.a_wrong_next_event_does_not_agree.Goals as goal
+
+pub returns : goal.returns
+unfolding reduced gcd_within
+returns c = never_agree nat_cmp nat_cmp_total (evenly 1_000_000_000) 20 0 (call_limit 0 1 a_byte_a_nanosecond None ∷ call_enqueue 0 (message 1 2 3 2) ∷ call_next ∷ []) (reply_done [] ∷ reply_done [] ∷ reply_next (Some 4) ∷ []) refl

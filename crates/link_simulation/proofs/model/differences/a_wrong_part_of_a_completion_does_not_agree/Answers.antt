@@ -1,0 +1,58 @@
+use Rattle.std.proofs.Common.{[], ◌∷◌, None, refl}
+use Rattle.std.specs.Ordering.{nat_cmp}
+use Rattle.std.proofs.lemmas.Cmp.{nat_cmp_total}
+use Rattle.fair_rates.specs.Amount.{reduced, gcd_within}
+use Rattle.link_simulation.specs.WorldCalls.{call_limit, call_enqueue, call_advance}
+use Rattle.link_simulation.specs.WorldReplies.{reply_done}
+use Rattle.link_simulation.specs.WorldRows.{message, arrives, is_gone, a_byte_a_nanosecond}
+use Rattle.link_simulation.proofs.World.ComputedReplies.{evenly}
+use Rattle.link_simulation.proofs.World.ComputedDifferences.{never_agree}
+use Rattle.link_simulation.proofs.model.differences.a_wrong_part_of_a_completion_does_not_agree.Goals as goal
+
+pub returns-clause-origin : goal.returns-clause-origin
+unfolding reduced gcd_within
+returns-clause-origin c =
+    never_agree nat_cmp nat_cmp_total (evenly 1_000_000_000) 20 0
+    (call_limit 0 1 a_byte_a_nanosecond None ∷ call_enqueue 0 (message 1 2 3 2) ∷ call_advance 3 ∷ [])
+    (reply_done [] ∷ reply_done [] ∷ reply_done (arrives (message 3 2 3 2) 5 ∷ []) ∷ [])
+    refl
+
+pub returns-clause-recipient : goal.returns-clause-recipient
+unfolding reduced gcd_within
+returns-clause-recipient c =
+    never_agree nat_cmp nat_cmp_total (evenly 1_000_000_000) 20 0
+    (call_limit 0 1 a_byte_a_nanosecond None ∷ call_enqueue 0 (message 1 2 3 2) ∷ call_advance 3 ∷ [])
+    (reply_done [] ∷ reply_done [] ∷ reply_done (arrives (message 1 3 3 2) 5 ∷ []) ∷ [])
+    refl
+
+pub returns-clause-channel : goal.returns-clause-channel
+unfolding reduced gcd_within
+returns-clause-channel c =
+    never_agree nat_cmp nat_cmp_total (evenly 1_000_000_000) 20 0
+    (call_limit 0 1 a_byte_a_nanosecond None ∷ call_enqueue 0 (message 1 2 3 2) ∷ call_advance 3 ∷ [])
+    (reply_done [] ∷ reply_done [] ∷ reply_done (arrives (record (message 1 2 3 2) { channel = 1 }) 5 ∷ []) ∷ [])
+    refl
+
+pub returns-clause-bytes : goal.returns-clause-bytes
+unfolding reduced gcd_within
+returns-clause-bytes c =
+    never_agree nat_cmp nat_cmp_total (evenly 1_000_000_000) 20 0
+    (call_limit 0 1 a_byte_a_nanosecond None ∷ call_enqueue 0 (message 1 2 3 2) ∷ call_advance 3 ∷ [])
+    (reply_done [] ∷ reply_done [] ∷ reply_done (arrives (message 1 2 2 2) 5 ∷ []) ∷ [])
+    refl
+
+pub returns-clause-gone : goal.returns-clause-gone
+unfolding reduced gcd_within
+returns-clause-gone c =
+    never_agree nat_cmp nat_cmp_total (evenly 1_000_000_000) 20 0
+    (call_limit 0 1 a_byte_a_nanosecond None ∷ call_enqueue 0 (message 1 2 3 2) ∷ call_advance 3 ∷ [])
+    (reply_done [] ∷ reply_done [] ∷ reply_done (is_gone (message 1 2 3 2) ∷ []) ∷ [])
+    refl
+
+pub returns-clause-twice : goal.returns-clause-twice
+unfolding reduced gcd_within
+returns-clause-twice c =
+    never_agree nat_cmp nat_cmp_total (evenly 1_000_000_000) 20 0
+    (call_limit 0 1 a_byte_a_nanosecond None ∷ call_enqueue 0 (message 1 2 3 2) ∷ call_advance 3 ∷ [])
+    (reply_done [] ∷ reply_done [] ∷ reply_done (arrives (message 1 2 3 2) 5 ∷ arrives (message 1 2 3 2) 5 ∷ []) ∷ [])
+    refl

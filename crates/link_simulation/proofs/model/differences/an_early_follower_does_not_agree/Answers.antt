@@ -1,0 +1,14 @@
+use Rattle.std.proofs.Common.{[], ◌∷◌, None, refl}
+use Rattle.std.specs.Ordering.{nat_cmp}
+use Rattle.std.proofs.lemmas.Cmp.{nat_cmp_total}
+use Rattle.fair_rates.specs.Amount.{reduced, gcd_within}
+use Rattle.link_simulation.specs.WorldCalls.{call_limit, call_enqueue, call_advance}
+use Rattle.link_simulation.specs.WorldReplies.{reply_done}
+use Rattle.link_simulation.specs.WorldRows.{message, arrives, a_byte_a_nanosecond}
+use Rattle.link_simulation.proofs.World.ComputedReplies.{evenly}
+use Rattle.link_simulation.proofs.World.ComputedDifferences.{never_agree}
+use Rattle.link_simulation.proofs.model.differences.an_early_follower_does_not_agree.Goals as goal
+
+pub returns : goal.returns
+unfolding reduced gcd_within
+returns c = never_agree nat_cmp nat_cmp_total (evenly 1_000_000_000) 20 0 (call_limit 0 1 a_byte_a_nanosecond None ∷ call_enqueue 0 (message 1 2 4 3) ∷ call_enqueue 0 (message 1 2 2 1) ∷ call_advance 6 ∷ []) (reply_done [] ∷ reply_done [] ∷ reply_done [] ∷ reply_done (arrives (message 1 2 4 3) 7 ∷ arrives (message 1 2 2 1) 7 ∷ []) ∷ []) refl

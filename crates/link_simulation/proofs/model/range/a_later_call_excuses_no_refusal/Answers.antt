@@ -1,0 +1,17 @@
+use Rattle.std.proofs.Common.{◌≡◌, ℕ, ◌<◌, ◌^◌, [], ◌∷◌, arith}
+use Rattle.std.specs.Prelude.{IfSome}
+use Rattle.std.proofs.lemmas.List.Elements.{All-nil}
+use Rattle.fair_rates.specs.declared.error.Error.TheVariants.{OutOfMemory, MomentTooLate}
+use Rattle.link_simulation.specs.WorldMessages.{Message}
+use Rattle.link_simulation.specs.WorldCalls.{Call, call_advance, moment_of}
+use Rattle.link_simulation.proofs.Each.{all_of_each}
+use Rattle.link_simulation.proofs.model.range.a_later_call_excuses_no_refusal.Goals as goal
+
+pub returns : goal.returns
+returns c refuses =
+    let memory : MomentTooLate ≡ OutOfMemory = refuses.0 (record {
+      moments = all_of_each (λ (call : Call ℕ). IfSome (moment_of call) (λ now. now < 2 ^ 63)) (call_advance 0 ∷ []) (omega arith, tt);
+      latencies = All-nil (λ (m : Message ℕ). m.latency < 2 ^ 63);
+      messages = omega arith;
+    }) in
+    cc

@@ -1,0 +1,18 @@
+use Rattle.std.proofs.Common.{ℕ, cond, [], ◌∷◌, Some, None, refl}
+use Rattle.std.specs.Prelude.{◌==◌}
+use Rattle.std.specs.Ordering.{nat_cmp}
+use Rattle.std.proofs.lemmas.Cmp.{nat_cmp_total}
+use Rattle.fair_rates.specs.Amount.{reduced, gcd_within}
+use Rattle.link_simulation.specs.World.{World, new_world}
+use Rattle.link_simulation.specs.WorldCalls.{call_limit, call_limit_link, call_enqueue, call_advance, call_next}
+use Rattle.link_simulation.specs.WorldRows.{message, a_byte_a_nanosecond}
+use Rattle.link_simulation.proofs.World.ComputedReplies.{Shares, answers_agree}
+use Rattle.link_simulation.proofs.model.rows.a_link_leaves_the_rest_to_others.Goals as goal
+
+-- the first message has what its link allows
+abbrev one_and_nine : World ℕ → Shares
+one_and_nine w = record { per = 1; parts = λ place. cond (place == 0) 1_000_000_000 9_000_000_000 }
+
+pub returns : goal.returns
+unfolding reduced gcd_within
+returns c = answers_agree nat_cmp nat_cmp_total one_and_nine 20 (call_limit 0 1 (Some 10_000_000_000) None ∷ call_limit_link 0 1 2 a_byte_a_nanosecond ∷ call_enqueue 0 (message 1 2 10 0) ∷ call_enqueue 0 (message 1 3 9 0) ∷ call_next ∷ call_advance 1 ∷ call_next ∷ call_advance 10 ∷ call_next ∷ []) (new_world 0) refl

@@ -1,0 +1,14 @@
+use Rattle.std.proofs.Common.{[], ◌∷◌, refl}
+use Rattle.std.specs.Ordering.{nat_cmp}
+use Rattle.std.proofs.lemmas.Cmp.{nat_cmp_total}
+use Rattle.fair_rates.specs.Amount.{reduced, gcd_within}
+use Rattle.link_simulation.specs.World.{new_world}
+use Rattle.link_simulation.specs.WorldCalls.{call_enqueue, call_next}
+use Rattle.link_simulation.specs.WorldRows.{message}
+use Rattle.link_simulation.proofs.World.ComputedReplies.{answers_agree, evenly}
+use Rattle.link_simulation.proofs.model.rows.a_refused_call_counts_as_not_made.Goals as goal
+
+pub returns : goal.returns
+unfolding reduced gcd_within
+returns c = λ turn.
+    (tt, answers_agree nat_cmp nat_cmp_total (evenly 1_000_000_000) 20 (call_enqueue 0 (message 1 2 1 0) ∷ call_next ∷ []) (new_world 0) refl)

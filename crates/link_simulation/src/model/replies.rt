@@ -1,0 +1,70 @@
+//! What follows for a list of calls and the replies to it.
+ghost use Rattle.std.specs.Prelude.{[], ◌∷◌, List, Some, None};
+ghost use Rattle.std.specs.Ordering.{nat_cmp};
+ghost use Rattle.std.specs.List.{Contains};
+ghost use Rattle.fair_rates.specs.declared.error.Error.TheVariants.{NumberTooLarge};
+ghost use Rattle.link_simulation.specs.World.{new_world};
+ghost use Rattle.link_simulation.specs.WorldCalls.{Call, call_limit, call_enqueue, call_advance, call_next};
+ghost use Rattle.link_simulation.specs.WorldPlanned.{Planned, new_planned};
+ghost use Rattle.link_simulation.specs.WorldRefusals.{Obeyed};
+ghost use Rattle.link_simulation.specs.WorldReplies.{Reply, reply_done, reply_next, reply_refused, Agrees};
+ghost use Rattle.link_simulation.specs.WorldRows.{message, arrives, a_byte_a_nanosecond};
+ghost use Rattle.link_simulation.specs.WorldIsolation.{InTime};
+ghost use Rattle.link_simulation.specs.ReplayLaws.{AlwaysSoFar, RefusesForMemoryAlone, AreInTurn, AreAdvancedFirst, GoByNext, CompletesInOrder, CompletePairsInOrder, IsolateSets};
+
+/// Replies by the event rule refuse a call for memory alone where it is in the range, with the calls that were made before it.
+pub fn calls_in_the_range_are_answered<P: Ord>()
+    ensures { (calls : List (Call P)) (replies : List (Reply P)) → Obeyed P.cmp (new_planned 0) calls replies → RefusesForMemoryAlone [] calls replies }
+{}
+
+/// By the event rule no call is refused for a number, at any moments.
+pub fn no_call_is_refused_for_a_number<P: Ord>()
+    ensures { (p : Planned P) (calls : List (Call P)) (replies : List (Reply P)) → Obeyed P.cmp p calls replies →
+        ¬ Contains replies (reply_refused NumberTooLarge) }
+{}
+
+/// Calls that come after time is advanced are in turn.
+pub fn calls_are_in_turn_after_an_advance<P: Ord>()
+    ensures { (calls : List (Call P)) (replies : List (Reply P)) → AreAdvancedFirst 0 calls replies → AreInTurn P.cmp (new_world 0) calls replies }
+{}
+
+/// Of replies that agree with the simulation: calls that go by what `next` answers are in turn.
+pub fn calls_by_next_are_in_turn<P: Ord>()
+    ensures { (calls : List (Call P)) (replies : List (Reply P)) → Agrees P.cmp (new_world 0) calls replies →
+        GoByNext 0 (Some 1) calls replies → AreInTurn P.cmp (new_world 0) calls replies }
+{}
+
+/// In replies that agree with the simulation, as long as the calls are in turn, the messages of each pair complete in the order of their `enqueue` calls, and the delivery moments of a pair never go down.
+pub fn replies_keep_pairs_in_order<P: Ord>()
+    ensures { (calls : List (Call P)) (replies : List (Reply P)) → Agrees P.cmp (new_world 0) calls replies → AlwaysSoFar (CompletePairsInOrder P.cmp) calls replies }
+{}
+
+/// In replies that agree with the simulation, as long as the calls are in turn, a set of peers that keeps to itself completes what it completes alone. A refused call counts as not made.
+pub fn replies_isolate_sets<P: Ord>()
+    ensures { (calls : List (Call P)) (replies : List (Reply P)) → InTime calls → Agrees P.cmp (new_world 0) calls replies → AlwaysSoFar (IsolateSets P.cmp) calls replies }
+{}
+
+/// A pair whose arrivals go down is not in order, and neither is one whose second message comes first.
+pub fn a_pair_out_of_order_is_told()
+    ensures arrivals { ¬ CompletesInOrder nat_cmp (message 1 2 1 0) (message 1 2 1 2 ∷ message 1 2 1 0 ∷ [])
+        (arrives (message 1 2 1 2) 5 ∷ arrives (message 1 2 1 0) 4 ∷ []) }
+    ensures messages { ¬ CompletesInOrder nat_cmp (message 1 2 1 0) (message 1 2 1 0 ∷ message 1 2 2 0 ∷ [])
+        (arrives (message 1 2 2 0) 5 ∷ []) }
+{}
+
+/// These calls go by what `next` answers: half of the cap is taken before the event that it told, and another message is sent at the moment of an advance.
+pub fn calls_may_go_by_next()
+    ensures { GoByNext 0 (Some 1)
+        (call_limit 0 1 a_byte_a_nanosecond None ∷ call_enqueue 0 (message 1 2 4 0) ∷ call_next
+        ∷ call_limit 3 1 (Some 500_000_000) None ∷ call_next ∷ call_advance 5 ∷ call_enqueue 5 (message 1 2 1 0) ∷ [])
+        (reply_done [] ∷ reply_done [] ∷ reply_next (Some 4)
+        ∷ reply_done [] ∷ reply_next (Some 5) ∷ reply_done (arrives (message 1 2 4 0) 5 ∷ []) ∷ reply_done [] ∷ []) }
+{}
+
+/// These advance first.
+pub fn calls_may_advance_first()
+    ensures { AreAdvancedFirst 0
+        (call_limit 0 1 a_byte_a_nanosecond None ∷ call_enqueue 0 (message 1 2 4 0) ∷ call_advance 3
+        ∷ call_limit 3 1 (Some 500_000_000) None ∷ [])
+        (reply_done [] ∷ reply_done [] ∷ reply_done [] ∷ reply_done [] ∷ []) }
+{}

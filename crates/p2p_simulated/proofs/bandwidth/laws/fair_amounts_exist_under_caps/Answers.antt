@@ -1,5 +1,0 @@
-use Rattle.p2p_simulated.proofs.Size.UnderCaps.{exist_under_caps}
-use Rattle.p2p_simulated.proofs.bandwidth.laws.fair_amounts_exist_under_caps.Goals as goal
-
-pub returns : goal.returns
-returns g c = exist_under_caps g.P.Ord.cmp g.met.P.Ord.total

@@ -1,5 +1,0 @@
-use Rattle.p2p_simulated.proofs.Draining.{left_after_twice}
-use Rattle.p2p_simulated.proofs.bandwidth.time.draining_splits.Goals as goal
-
-pub returns : goal.returns
-returns c = left_after_twice

@@ -1,5 +1,0 @@
-use Rattle.p2p_simulated.proofs.World.AlikeMessages.{fair_alike}
-use Rattle.p2p_simulated.proofs.model.events.alike_messages_have_the_same_rates.Goals as goal
-
-pub returns : goal.returns
-returns g c = λ caps others ms ns per rates same all fair. fair_alike g.P.Ord.cmp g.met.P.Ord.total caps others same ms ns per rates all fair

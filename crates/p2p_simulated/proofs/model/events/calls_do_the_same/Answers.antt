@@ -1,5 +1,0 @@
-use Rattle.p2p_simulated.proofs.World.Obeys.{obeys_alike}
-use Rattle.p2p_simulated.proofs.model.events.calls_do_the_same.Goals as goal
-
-pub returns : goal.returns
-returns g c = obeys_alike g.P.Ord.cmp g.met.P.Ord.total

@@ -1,5 +1,0 @@
-use Rattle.p2p_simulated.proofs.World.Settling.{settles_alike}
-use Rattle.p2p_simulated.proofs.model.events.settling_is_finishing.Goals as goal
-
-pub returns : goal.returns
-returns g c = λ t p w course same event. settles_alike g.P.Ord.cmp g.met.P.Ord.total event w same

@@ -1,8 +1,0 @@
-use Rattle.p2p_simulated.specs.WorldPass.{IsUnchangedFor}
-use Rattle.p2p_simulated.specs.World.{turn}
-use Rattle.p2p_simulated.proofs.World.OtherPairs.{Leaves, ends_more, start_settles, others_see_nothing}
-use Rattle.p2p_simulated.proofs.model.instants.a_turn_keeps_other_pairs.Goals as goal
-
-pub returns : goal.returns
-returns g c = λ t w m k none apart. ends_more g.P.Ord.cmp g.met.P.Ord.total (Leaves g.P.Ord.cmp g.met.P.Ord.total t m w) (IsUnchangedFor g.P.Ord.cmp k w) (turn g.P.Ord.cmp t w m)
-    (λ v l. others_see_nothing g.P.Ord.cmp g.met.P.Ord.total m k w v l.others apart) (start_settles g.P.Ord.cmp g.met.P.Ord.total t w m none)

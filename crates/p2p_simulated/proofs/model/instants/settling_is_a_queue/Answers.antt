@@ -1,5 +1,0 @@
-use Rattle.p2p_simulated.proofs.World.Settling.{settle_is_finish}
-use Rattle.p2p_simulated.proofs.model.instants.settling_is_a_queue.Goals as goal
-
-pub returns : goal.returns
-returns g c = settle_is_finish g.P.Ord.cmp g.met.P.Ord.total

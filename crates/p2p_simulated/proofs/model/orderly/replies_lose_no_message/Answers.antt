@@ -1,5 +1,0 @@
-use Rattle.p2p_simulated.proofs.World.ConservedSoFar.{conserved_so_far}
-use Rattle.p2p_simulated.proofs.model.orderly.replies_lose_no_message.Goals as goal
-
-pub returns : goal.returns
-returns g c = conserved_so_far g.P.Ord.cmp g.met.P.Ord.total

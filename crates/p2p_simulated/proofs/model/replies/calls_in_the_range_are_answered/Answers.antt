@@ -1,5 +1,0 @@
-use Rattle.p2p_simulated.proofs.World.RepliesInRange.{refuses_for_memory}
-use Rattle.p2p_simulated.proofs.model.replies.calls_in_the_range_are_answered.Goals as goal
-
-pub returns : goal.returns
-returns g c = refuses_for_memory g.P.Ord.cmp g.met.P.Ord.total

@@ -1,5 +1,0 @@
-use Rattle.std.proofs.Common.{arith, refl}
-use Rattle.p2p_simulated.proofs.model.replies.calls_may_advance_first.Goals as goal
-
-pub returns : goal.returns
-returns c = (refl, (refl, (omega arith, (refl, tt))))

@@ -1,5 +1,0 @@
-use Rattle.p2p_simulated.proofs.World.RepliesInOrder.{sets_are_isolated}
-use Rattle.p2p_simulated.proofs.model.replies.replies_isolate_sets.Goals as goal
-
-pub returns : goal.returns
-returns g c = sets_are_isolated g.P.Ord.cmp g.met.P.Ord.total

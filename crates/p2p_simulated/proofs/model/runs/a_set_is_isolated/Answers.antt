@@ -1,5 +1,0 @@
-use Rattle.p2p_simulated.proofs.World.IsolatedCalls.{isolation}
-use Rattle.p2p_simulated.proofs.model.runs.a_set_is_isolated.Goals as goal
-
-pub returns : goal.returns
-returns g c = λ inside id calls css together apart in_time answered. isolation g.P.Ord.cmp g.met.P.Ord.total inside together id calls css answered apart in_time

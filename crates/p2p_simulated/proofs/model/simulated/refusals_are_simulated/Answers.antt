@@ -1,5 +1,0 @@
-use Rattle.p2p_simulated.proofs.World.Simulated.{refusals_simulated}
-use Rattle.p2p_simulated.proofs.model.simulated.refusals_are_simulated.Goals as goal
-
-pub returns : goal.returns
-returns g c = refusals_simulated g.P.Ord.cmp g.met.P.Ord.total

@@ -1,5 +1,0 @@
-use Rattle.p2p_simulated.proofs.Ratios.{one_ratio}
-use Rattle.p2p_simulated.proofs.ratio.laws.each_value_has_one_fraction.Goals as goal
-
-pub returns : goal.returns
-returns c = one_ratio

@@ -1,4 +1,0 @@
-use Rattle.p2p_simulated.proofs.ratio.numbers.+gcd.Given as goal
-
-abbrev pub decreases-gcd : goal.decreases-gcd
-decreases-gcd l = l.b

@@ -1,9 +1,0 @@
-use Rattle.std.proofs.Common.{◌∙◌, sym, arith}
-use Rattle.p2p_simulated.specs.Laws.Gcd.{gcd-mod, gcd-zero}
-use Rattle.p2p_simulated.proofs.ratio.numbers.gcd_of_narrow.Goals as goal
-
-pub loop-rest-preserved : goal.loop-rest-preserved
-loop-rest-preserved c = gcd-mod _ _ (omega arith) ∙ c.loop-rest.invariant
-
-pub returns : goal.returns
-returns c = sym (gcd-zero _ _ (omega arith)) ∙ c.loop-rest.invariant

@@ -1,6 +1,0 @@
-use Rattle.std.proofs.Common.{◌∙◌}
-use Rattle.p2p_simulated.specs.Laws.FractionOrder.{over_one_denominator}
-use Rattle.p2p_simulated.proofs.ratio.numbers.order.Goals as goal
-
-pub returns-then-b-d : goal.returns-then-b-d
-returns-then-b-d c = c.cmp.ensures ∙ over_one_denominator _ _ _ _ c.requires.left c.if-b-d.true

@@ -1,6 +1,0 @@
-use Rattle.p2p_simulated.specs.Working.{planned}
-use Rattle.p2p_simulated.proofs.Promises.{next_simulated}
-use Rattle.p2p_simulated.proofs.transmitter.State.next.Goals as goal
-
-pub returns : goal.returns
-returns g c = record { next = record { planned = c.next_event.ensures; simulated = next_simulated g.P.Ord.cmp g.met.P.Ord.total (planned g.P.Ord.cmp c.args.self.now.kept) c.next_event.result c.next_event.ensures } }

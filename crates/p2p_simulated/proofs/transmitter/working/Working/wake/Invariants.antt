@@ -1,9 +1,0 @@
-use Rattle.std.proofs.Common.{map}
-use Rattle.p2p_simulated.specs.Working.{planned, ready_messages}
-use Rattle.p2p_simulated.specs.Message.{completed_of}
-use Rattle.p2p_simulated.proofs.Finishing.{WakesAt}
-use Rattle.p2p_simulated.proofs.transmitter.working.Working.wake.Given as goal
-
-abbrev pub invariant-loop-pair : goal.invariant-loop-pair
-invariant-loop-pair g l = WakesAt g.P.Ord.cmp l.now (ready_messages g.P.Ord.cmp l.now (planned g.P.Ord.cmp l.initial.self)) (planned g.P.Ord.cmp l.initial.self) (map completed_of l.initial.completions.items)
-    l.pair-items l.pair-index (planned g.P.Ord.cmp l.self) (map completed_of l.completions.items)
