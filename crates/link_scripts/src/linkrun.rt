@@ -8,6 +8,7 @@ mod line;
 mod schedule;
 mod session;
 mod word;
+mod zeros;
 
 use crate::linkrun::command::Command;
 use crate::linkrun::line::LineEnd;

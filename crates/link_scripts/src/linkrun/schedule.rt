@@ -6,13 +6,18 @@ ghost use Rattle.link_simulation.specs.WorldCalls.{call_enqueue};
 
 use crate::linkrun::answer::Answer;
 use crate::linkrun::command::{Call, Parcel};
-use bytes::Bytes;
+use crate::linkrun::zeros::Zeros;
 use fair_rates::error::Error;
 use link_scheduler::transmitter::{Completion, State};
 use std::alloc::Global;
 
 /// Makes a call of the scheduler. A call that is refused changes nothing.
-pub(crate) fn make(alloc: Global, scheduler: &mut State<u64>, call: Call) -> Result<Answer, Error>
+pub(crate) fn make(
+    alloc: Global,
+    zeros: &mut Zeros,
+    scheduler: &mut State<u64>,
+    call: Call,
+) -> Result<Answer, Error>
     ensures answer { IfOk result (λ answer. Makes call scheduler.old answer scheduler.new) }
     ensures refused { IfErr result (MayRefuseCall call scheduler.old) }
     ensures unchanged { OnErr result (planned_of scheduler.new ≡ planned_of scheduler.old) }
@@ -30,7 +35,7 @@ pub(crate) fn make(alloc: Global, scheduler: &mut State<u64>, call: Call) -> Res
             recipient,
             cap,
         } => Ok(Answer::Done(scheduler.limit_link(now, &origin, &recipient, cap)?)),
-        Call::Enqueue(parcel) => Ok(Answer::Done(enqueue(alloc, scheduler, parcel)?)),
+        Call::Enqueue(parcel) => Ok(Answer::Done(enqueue(alloc, zeros, scheduler, parcel)?)),
         Call::Advance { now } => Ok(Answer::Done(scheduler.advance(now)?)),
         Call::Next => Ok(Answer::Next(scheduler.next())),
     }
@@ -39,6 +44,7 @@ pub(crate) fn make(alloc: Global, scheduler: &mut State<u64>, call: Call) -> Res
 /// Sends a message of zero bytes.
 fn enqueue(
     alloc: Global,
+    zeros: &mut Zeros,
     scheduler: &mut State<u64>,
     parcel: Parcel,
 ) -> Result<Vec<Completion<u64>>, Error>
@@ -47,7 +53,7 @@ fn enqueue(
     ensures refused { IfErr result (IsRefused scheduler.old (call_enqueue parcel.now (message_of parcel))) }
     ensures unchanged { OnErr result (planned_of scheduler.new ≡ planned_of scheduler.old) }
 {
-    let message = zeros(alloc, parcel.length)?;
+    let message = zeros.part(alloc, parcel.length)?;
     scheduler.enqueue(
         parcel.now,
         parcel.origin,
@@ -57,13 +63,4 @@ fn enqueue(
         parcel.latency,
         parcel.should_deliver,
     )
-}
-
-/// So many zero bytes.
-fn zeros(alloc: Global, length: usize) -> Result<Bytes, Error>
-    ensures bytes { IfOk result (λ bytes. bytes ≡ replicate length 0) }
-    ensures refused { IfErr result (λ e. e ≡ Error.OutOfMemory) }
-{
-    let bytes = vec![in alloc; 0u8; length]?;
-    Ok(Bytes::from_vec(bytes)?)
 }

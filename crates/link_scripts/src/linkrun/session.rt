@@ -12,6 +12,7 @@ ghost use Rattle.link_simulation.specs.WorldPlanned.{new_planned};
 use crate::linkrun::answer::Answer;
 use crate::linkrun::command::Command;
 use crate::linkrun::schedule;
+use crate::linkrun::zeros::Zeros;
 use fair_rates::bandwidth;
 use fair_rates::bandwidth::{Flow, Rate};
 use fair_rates::error::Error;
@@ -30,6 +31,8 @@ pub(crate) struct Session {
     /// By origin and recipient.
     links: BTreeMap<(u64, u64), u128>,
     scheduler: State<u64>,
+    /// The bytes of its messages.
+    zeros: Zeros,
 }
 
 impl Session {
@@ -45,6 +48,7 @@ impl Session {
             ingress: BTreeMap::new(alloc),
             links: BTreeMap::new(alloc),
             scheduler: State::new(alloc),
+            zeros: Zeros::new(),
         }
     }
 
@@ -65,7 +69,9 @@ impl Session {
                 cap,
             } => set_link(&mut self.links, origin, recipient, cap)?,
             Command::Rates => return Ok(Answer::Rates(self.rates()?)),
-            Command::Schedule(call) => return schedule::make(self.alloc, &mut self.scheduler, call),
+            Command::Schedule(call) => {
+                return schedule::make(self.alloc, &mut self.zeros, &mut self.scheduler, call);
+            }
         }
         Ok(Answer::Nothing)
     }
