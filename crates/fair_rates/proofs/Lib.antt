@@ -20,3 +20,4 @@ pub mod SideUsers
 pub mod Size
 pub mod Subjects
 pub mod Taken
+pub mod UnderCaps

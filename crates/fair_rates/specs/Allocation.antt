@@ -4,7 +4,9 @@ use Rattle.std.specs.declared.cmp.Ordering.{Ordering}
 use Rattle.fair_rates.specs.declared.bandwidth.Flow.{Flow}
 use Rattle.fair_rates.specs.declared.bandwidth.Rate.{Rate}
 use Rattle.fair_rates.specs.Answers.{Calls, PairCalls, States, Answered, AnswerInOrder}
+use Rattle.fair_rates.specs.Caps.{Caps}
 use Rattle.fair_rates.specs.FairLaws.{IsTheOnlyFair, AreMaxMin, AreZeroWhereClosed}
+use Rattle.fair_rates.specs.PeerCaps.{AnswerBy, IsFairById}
 use Rattle.fair_rates.specs.Rates.{AreFairRates, HasDifferentRates, last_rate}
 use Rattle.fair_rates.specs.Sides.{sides_of}
 use Rattle.fair_rates.specs.Size.{AreWholeOver}
@@ -27,3 +29,8 @@ pub record IsCountedAllocation {P E I L : Type 0} (cmp : P → P → Ordering) (
   pub allocation : IsAllocation cmp egress ingress link first flows rate_of
   pub different : HasDifferentRates allocation.rates rounds
   pub few : rounds ≤ length (sides_of cmp allocation.answered)
+
+-- whatever caps the closures answer by, the rates are fair by id under these
+abbrev pub IsFairUnderCaps : {P E I L : Type 0} → (P → P → Ordering) → Calls E P → Calls I P → PairCalls L P → States E I L → List (Flow P) → (ℕ → Option Rate) → Type 0
+IsFairUnderCaps {P} cmp egress ingress link first flows rate_of =
+    (caps : Caps P) → AnswerBy egress ingress link first flows caps → IsFairById cmp caps flows rate_of

@@ -1,10 +1,12 @@
 -- When flows are refused because a number is too large.
-use Rattle.std.specs.Prelude.{◌≡◌, ◌⊎◌, ℕ, ◌^◌, ◌<◌, ◌≤◌, List, length, Some, Contains}
+use Rattle.std.specs.Prelude.{◌≡◌, ◌⊎◌, ℕ, ◌^◌, ◌<◌, ◌≤◌, List, length, map, Some, Contains}
 use Rattle.std.specs.declared.cmp.Ordering.{Ordering}
 use Rattle.fair_rates.specs.Amount.{parts_over}
 use Rattle.fair_rates.specs.Answers.{Answered, Calls, PairCalls, States, AnswerInOrder}
+use Rattle.fair_rates.specs.Caps.{Caps}
 use Rattle.fair_rates.specs.Fair.{Side, IsLimited, IsFair}
 use Rattle.fair_rates.specs.Fits.{ReducedFits}
+use Rattle.fair_rates.specs.PeerCaps.{AnswerBy, answered_under, sides_under}
 use Rattle.fair_rates.specs.Sides.{sides_of}
 use Rattle.fair_rates.specs.Size.{FairRatesFit}
 use Rattle.fair_rates.specs.declared.bandwidth.Flow.{Flow}
@@ -37,3 +39,14 @@ pub record IsTooLarge {P E I L : Type 0} (cmp : P → P → Ordering) (egress : 
   pub large_rate : HasLargeRate (sides_of cmp answered)
   pub nothing_fits : ¬ FairRatesFit (sides_of cmp answered) (length flows)
   pub many_or_large : (16 < length flows) ⊎ HasLargeAnswer answered
+
+-- under these caps a fair rate is no fraction of 128 bits; so no fair rates fit, and there are more than sixteen flows, or a cap is large
+pub record AreTooLarge {P : Type 0} (cmp : P → P → Ordering) (caps : Caps P) (flows : List (Flow P)) : Type 0 where
+  pub large_rate : HasLargeRate (sides_under cmp caps flows)
+  pub nothing_fits : ¬ FairRatesFit (sides_under cmp caps flows) (length flows)
+  pub many_or_large : (16 < length flows) ⊎ HasLargeAnswer (map (answered_under caps) flows)
+
+-- whatever caps the closures answer by, the flows are too large under these
+abbrev pub AreTooLargeUnderCaps : {P E I L : Type 0} → (P → P → Ordering) → Calls E P → Calls I P → PairCalls L P → States E I L → List (Flow P) → Type 0
+AreTooLargeUnderCaps {P} cmp egress ingress link first flows =
+    (caps : Caps P) → AnswerBy egress ingress link first flows caps → AreTooLarge cmp caps flows

@@ -5,10 +5,10 @@ ghost use Rattle.std.specs.Ordering.{nat_cmp};
 ghost use Rattle.std.specs.declared.cmp.Ordering.TheVariants.{Equal};
 ghost use Rattle.std.specs.BTreeMap.{get};
 ghost use Rattle.fair_rates.specs.Answers.{NoLink, CallableOnEach, CallableOnEachPair, origins, recipients, pairs};
-ghost use Rattle.fair_rates.specs.Allocation.{IsAllocation, IsCountedAllocation};
+ghost use Rattle.fair_rates.specs.Allocation.{IsAllocation, IsCountedAllocation, IsFairUnderCaps};
 ghost use Rattle.fair_rates.specs.FairParts.{AreFairParts};
 ghost use Rattle.fair_rates.specs.Rates.{last_rate};
-ghost use Rattle.fair_rates.specs.TooLarge.{IsTooLarge};
+ghost use Rattle.fair_rates.specs.TooLarge.{IsTooLarge, AreTooLargeUnderCaps};
 
 mod equality;
 mod filling;
@@ -116,9 +116,14 @@ where
     requires ingress { CallableOnEach (TakesAt I.FnMut) (CalledAt I.FnMut) ingress_cap (recipients flows.now) }
     ensures fair { IfOk result (λ rates. IsAllocation P.cmp (CalledAt E.FnMut) (CalledAt I.FnMut) NoLink
         (record { egress = egress_cap; ingress = ingress_cap; link = tt }) flows.now (get nat_cmp rates)) }
+    ensures under_caps { IfOk result (λ rates. IsFairUnderCaps P.cmp (CalledAt E.FnMut) (CalledAt I.FnMut) NoLink
+        (record { egress = egress_cap; ingress = ingress_cap; link = tt }) flows.now (get nat_cmp rates)) }
     ensures refused { IfErr result (λ e. (e ≡ Error.OutOfMemory)
         ⊎ ((e ≡ Error.NumberTooLarge) × IsTooLarge P.cmp (CalledAt E.FnMut) (CalledAt I.FnMut) NoLink
         (record { egress = egress_cap; ingress = ingress_cap; link = tt }) flows.now)) }
+    ensures refused_under_caps { IfErr result (λ e. e ≡ Error.NumberTooLarge
+        → AreTooLargeUnderCaps P.cmp (CalledAt E.FnMut) (CalledAt I.FnMut) NoLink
+        (record { egress = egress_cap; ingress = ingress_cap; link = tt }) flows.now) }
 {
     allocate_linked(
         alloc,
@@ -157,9 +162,14 @@ where
     requires link { CallableOnEachPair (TakesAtTwo L.FnMut) (CalledAtTwo L.FnMut) link_cap (pairs flows.now) }
     ensures fair { IfOk result (λ rates. IsAllocation P.cmp (CalledAt E.FnMut) (CalledAt I.FnMut) (CalledAtTwo L.FnMut)
         (record { egress = egress_cap; ingress = ingress_cap; link = link_cap }) flows.now (get nat_cmp rates)) }
+    ensures under_caps { IfOk result (λ rates. IsFairUnderCaps P.cmp (CalledAt E.FnMut) (CalledAt I.FnMut) (CalledAtTwo L.FnMut)
+        (record { egress = egress_cap; ingress = ingress_cap; link = link_cap }) flows.now (get nat_cmp rates)) }
     ensures refused { IfErr result (λ e. (e ≡ Error.OutOfMemory)
         ⊎ ((e ≡ Error.NumberTooLarge) × IsTooLarge P.cmp (CalledAt E.FnMut) (CalledAt I.FnMut) (CalledAtTwo L.FnMut)
         (record { egress = egress_cap; ingress = ingress_cap; link = link_cap }) flows.now)) }
+    ensures refused_under_caps { IfErr result (λ e. e ≡ Error.NumberTooLarge
+        → AreTooLargeUnderCaps P.cmp (CalledAt E.FnMut) (CalledAt I.FnMut) (CalledAtTwo L.FnMut)
+        (record { egress = egress_cap; ingress = ingress_cap; link = link_cap }) flows.now) }
 {
     let (rates, _rounds) = allocate_linked_counted(
         alloc,

@@ -1,6 +1,7 @@
 use Rattle.std.proofs.Common.{rules, of_calls}
 use Rattle.std.proofs.lemmas.Result.{IfOk-weaker}
 use Rattle.fair_rates.proofs.Callable.{callable_on_each_pair}
+use Rattle.fair_rates.proofs.UnderCaps.{fair_under_caps, refused_under_caps}
 use Rattle.fair_rates.proofs.NoLinks.{without_links, refused_without_links}
 use Rattle.fair_rates.proofs.bandwidth.allocate.Goals as goal
 
@@ -12,3 +13,9 @@ returns-clause-fair g c = IfOk-weaker c.allocate_linked.result _ _ (λ rates h. 
 
 pub returns-clause-refused : goal.returns-clause-refused
 returns-clause-refused g c = refused_without_links _ _ _ (λ l p q a l' k. search rules) g.P.Ord.cmp _ _ c.allocate_linked.result c.allocate_linked.ensures.refused
+
+pub returns-clause-under_caps : goal.returns-clause-under_caps
+returns-clause-under_caps g c = fair_under_caps g.P.Ord.cmp _ _ _ _ _ _ _ (returns-clause-fair g c)
+
+pub returns-clause-refused_under_caps : goal.returns-clause-refused_under_caps
+returns-clause-refused_under_caps g c = refused_under_caps g.P.Ord.cmp _ _ _ _ _ _ (returns-clause-refused g c)
