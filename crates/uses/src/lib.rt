@@ -2,3 +2,7 @@
 #![tactic(auto)]
 
 pub mod events;
+pub mod messages;
+pub mod peers;
+pub mod replies;
+pub mod worlds;

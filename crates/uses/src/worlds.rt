@@ -1,0 +1,27 @@
+//! A scheduler that stands for a world of the simulation.
+ghost use Rattle.std.specs.Prelude.{IfOk};
+ghost use Rattle.std.specs.Ordering.{nat_cmp};
+ghost use Rattle.p2p_simulated.specs.State.{planned_of};
+ghost use Rattle.uses.specs.Worlds.{IsAWorldAt};
+
+use bytes::Bytes;
+use p2p_simulated::error::Error;
+use p2p_simulated::model::simulated::calls_before_the_next_event_are_in_turn;
+use p2p_simulated::transmitter::State;
+use std::alloc::Global;
+
+/// A new scheduler in which peer 1 is limited and has sent a message to peer 2: both calls came in
+/// turn, so it stands for a world of the simulation, and its next calls answer what that does.
+///
+/// # Errors
+///
+/// As of `State::limit` and `State::enqueue`.
+pub fn with_one_message(alloc: Global, cap: usize, message: Bytes) -> Result<State<u64>, Error>
+    ensures stands { IfOk result (λ state. IsAWorldAt nat_cmp (planned_of state) 0) }
+{
+    calls_before_the_next_event_are_in_turn::<u64>();
+    let mut state = State::new(alloc);
+    state.limit(0, &1, Some(cap), None)?;
+    state.enqueue(0, 1, 2, 0, message, 0, true)?;
+    Ok(state)
+}
