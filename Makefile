@@ -16,11 +16,12 @@ bin/linkrun: FORCE
 test:
 	rt ci
 
-# Runs each example and compares what it prints.
+# Runs each example and compares what it prints, and the partner that asks line by line.
 examples: bin/linkrun
 	@for script in examples/*.link examples/generated/*.link; do \
 		./bin/linkrun < $$script 2>/dev/null | cmp - $${script%.link}.out && echo $$script || exit 1; \
 	done
+	@python3 examples/partner.py | cmp - examples/partner.out && echo examples/partner.py
 
 # Times of one allocation and of one message beside those of the Rust original. `make bench work="NAME .."` runs those alone.
 bench: bin/linkrun

@@ -1,8 +1,9 @@
 -- What a bounded read up to the end byte gives.
-use Rattle.std.proofs.Common.{◌≡◌, ◌≢◌, ℕ, ◌-◌, ◌<◌, ◌≤◌, suc, Bool, true, false, cond, eqb, List, [], ◌∷◌, ◌++◌}
+use Rattle.std.proofs.Common.{◌≡◌, ◌≢◌, ℕ, ◌+◌, ◌-◌, ◌<◌, ◌≤◌, suc, Bool, true, false, cond, eqb, List, [], ◌∷◌, ◌++◌}
 use Rattle.std.proofs.Common.{length, get_or, take, drop, refl, sym, ap, ◌∙◌, subst, arith, append_assoc, length-append, length-take, take-append-drop, Option, None, Some, ⊎_elim}
 use Rattle.std.proofs.lemmas.Bool.{cases_lt}
 use borrow.Author.Tests.{eqb-true}
+use Rattle.std.proofs.Math.Seq.{drop-append-add}
 use Rattle.std.specs.List.{All}
 use Rattle.std.specs.Io.{StopsAt}
 use Rattle.std.specs.Io.BufRead.{take_through, drop_through}
@@ -86,6 +87,10 @@ module _ (bytes read line : List ℕ) (is_read : read ≡ take_through 10 (take 
   front_of_long Newline cut = (_, line_in_front cut)
   front_of_long Input cut = (_, read_in_front ∙ ap (λ front. front ++ (drop_through 10 (take 257 bytes) ++ drop 257 bytes)) (sym cut.0))
   front_of_long TooLong cut = absurd cut
+
+-- what is left where a line and its end byte were taken from the front of the bytes
+pub taken_line : (bytes line left : List ℕ) → IsFrontOf Newline line bytes → left ≡ drop (length line + 1) bytes → bytes ≡ line ++ 10 ∷ left
+taken_line bytes line left front is = front.1 ∙ ap (λ rest. line ++ 10 ∷ rest) (sym (is ∙ ap (drop (length line + 1)) front.1 ∙ drop-append-add line (10 ∷ front.0) 1))
 
 -- ---- where the bytes may not be known
 

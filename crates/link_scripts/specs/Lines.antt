@@ -1,5 +1,8 @@
 -- How a line is read from the bytes of a script.
-use Rattle.std.specs.Prelude.{◌≡◌, ◌≢◌, ℕ, ◌<◌, ◌≤◌, List, ◌∷◌, ◌++◌, [], All, length, slice_index, ◌-◌}
+use Rattle.std.specs.Prelude.{◌≡◌, ◌≢◌, ℕ, ◌<◌, ◌≤◌, List, ◌∷◌, ◌++◌, [], All, length, slice_index, ◌-◌, ◌⊎◌}
+use Rattle.std.specs.Io.Buffered.{reader_inner, reader_buffer, writer_buffer}
+use Rattle.std.specs.declared.io.buffered.BufReader.{BufReader}
+use Rattle.std.specs.declared.io.buffered.BufWriter.{BufWriter}
 use Rattle.link_scripts.specs.declared.linkrun.line.LineEnd.{LineEnd}
 use Rattle.link_scripts.specs.declared.linkrun.line.LineEnd.TheVariants.{Newline, Input, TooLong}
 
@@ -24,3 +27,11 @@ abbrev pub IsCut : LineEnd → List ℕ → List ℕ → Type 0
 IsCut Newline read line = read ≡ line ++ 10 ∷ []
 IsCut Input read line = (line ≡ read) × (slice_index read (length read - 1) ≢ 10)
 IsCut TooLong read line = ⊥
+
+-- the line and its end byte were taken from the front of what was read ahead, and the reader behind was not asked
+abbrev pub IsTaken : {R A : Type 0} → BufReader R A → List ℕ → BufReader R A → Type 0
+IsTaken old line new = (reader_inner new ≡ reader_inner old) × (reader_buffer old ≡ line ++ 10 ∷ reader_buffer new)
+
+-- the reader behind was not asked, or all that was written before went on to the writer behind
+abbrev pub AsksAfterWriting : {R W A B : Type 0} → BufReader R A → BufReader R A → BufWriter W B → Type 0
+AsksAfterWriting old new output = (reader_inner new ≡ reader_inner old) ⊎ (writer_buffer output ≡ [])

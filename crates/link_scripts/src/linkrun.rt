@@ -14,7 +14,7 @@ use crate::linkrun::command::Command;
 use crate::linkrun::line::LineEnd;
 use crate::linkrun::session::Session;
 use std::alloc::Global;
-use std::io::{BufRead, BufReader, BufWriter, Read, Write};
+use std::io::{BufReader, BufWriter, Read, Write};
 use std::{fmt, io};
 
 /// How the run of a script came to its end.
@@ -62,7 +62,8 @@ impl fmt::Display for Outcome {
 /// Runs the script that `input` gives, and prints its answers on `output`.
 ///
 /// The script is read as a stream, and what is kept of it are its flows and its caps. What is
-/// printed is written to `output` and flushed before this returns, whatever the outcome.
+/// printed is written to `output` and flushed before `input` is asked for more, and before this
+/// returns, whatever the outcome. So who asks line by line has each answer before the next line.
 ///
 /// - `Whole` where the script was read to its end.
 /// - `BadLine` where a line is not of the language.
@@ -90,10 +91,10 @@ pub fn run<R: Read, W: Write>(alloc: Global, input: &mut R, output: &mut W) -> O
 }
 
 /// Runs the lines of `input` in order, up to its end or to a bad line. `line` is room for one.
-fn run_lines<B: BufRead, W: Write>(
+fn run_lines<R: Read, W: Write + Drop>(
     mut session: Session,
-    input: &mut B,
-    output: &mut W,
+    input: &mut BufReader<R>,
+    output: &mut BufWriter<W>,
     line: &mut Vec<u8>,
 ) -> io::Result<Outcome>
     ensures { IfOk result CountsFromOne }
@@ -101,7 +102,7 @@ fn run_lines<B: BufRead, W: Write>(
     let mut number = 0u64;
     for _ in 0..u128::MAX {
         number = number.saturating_add(1);
-        let end = line::read_line(input, line)?;
+        let end = line::next_line(input, output, line)?;
         if end == LineEnd::TooLong {
             return Ok(Outcome::BadLine(number));
         }

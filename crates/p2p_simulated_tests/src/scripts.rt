@@ -1,5 +1,6 @@
 //! Scripts, what they print, and how they end.
 mod broadcasts;
+mod partner;
 mod schedules;
 
 use p2p_simulated::linkrun::{Outcome, run};

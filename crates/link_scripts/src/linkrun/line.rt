@@ -1,9 +1,11 @@
 //! The lines of a script, read as a stream.
-ghost use Rattle.std.specs.Prelude.{IfOk, IfSome, length};
-ghost use Rattle.link_scripts.specs.Lines.{IsLengthOf, LacksEndByte, IsFrontOf, IsCut};
+ghost use Rattle.std.specs.Prelude.{◌≡◌, ◌⊎◌, [], IfOk, IfSome, OnOk, length};
+ghost use Rattle.std.specs.Io.Buffered.{reader_remaining, writer_buffer, writer_contents};
+ghost use Rattle.std.specs.Io.KnownBytes.{Keeps};
+ghost use Rattle.link_scripts.specs.Lines.{IsLengthOf, LacksEndByte, IsFrontOf, IsCut, IsTaken, AsksAfterWriting};
 
 use std::io;
-use std::io::{BufRead, Read};
+use std::io::{BufRead, BufReader, BufWriter, Read, Write};
 
 /// The most bytes that a line has, its end byte not counted.
 const MOST_BYTES: usize = 256;
@@ -23,6 +25,33 @@ pub(crate) enum LineEnd {
     Input,
     /// The line is longer than a line may be, and its rest is not read.
     TooLong,
+}
+
+/// Reads the next line as `read_line` does. Before the reader behind `input` is asked for more,
+/// which is where no whole line was read ahead, `output` is flushed.
+#[tactic(auto, using(crate::proofs::Reading::taken_line))]
+pub(crate) fn next_line<R: Read, W: Write + Drop>(
+    input: &mut BufReader<R>,
+    output: &mut BufWriter<W>,
+    line: &mut Vec<u8>,
+) -> io::Result<LineEnd>
+    ensures length { IfOk result (λ end. IsLengthOf end (length line.new.items)) }
+    ensures one_line { IfOk result (λ _. LacksEndByte line.new.items) }
+    ensures front { IfOk result (λ end. IfSome (reader_remaining R.remaining input.old) (IsFrontOf end line.new.items)) }
+    ensures taken { OnOk result (IsTaken input.old line.new.items input.new ⊎ (writer_buffer output.new ≡ [])) }
+    ensures written { AsksAfterWriting input.old input.new output.new }
+    ensures contents { Keeps (writer_contents W.contents output.old) (writer_contents W.contents output.new) }
+{
+    match read_line(&mut input.buffer(), line)? {
+        LineEnd::Newline => {
+            input.consume(line.len() + 1);
+            Ok(LineEnd::Newline)
+        }
+        LineEnd::Input | LineEnd::TooLong => {
+            output.flush()?;
+            read_line(input, line)
+        }
+    }
 }
 
 /// Reads the next line, without its end byte, in the place of what `line` held. It takes memory
