@@ -27,8 +27,7 @@ fn text(alloc: Global, n: &Natural) -> Result<String, Fail> {
 
 /// Whether the sum is this, and less `b` is `a` again.
 fn adds(alloc: Global, a: &str, b: &str, sum: &str) -> Result<bool, Fail> {
-    let other = natural(alloc, b)?;
-    let mut n = natural(alloc, a)?;
+    let (mut n, other) = (natural(alloc, a)?, natural(alloc, b)?);
     n.add_assign(&other)?;
     let is_sum = text(alloc, &n)?.as_str() == sum;
     n.sub_assign(&other);
