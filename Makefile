@@ -1,7 +1,7 @@
 # `rt` is the command of the Rattle kit.
 script = examples/left_over.link
 
-.PHONY: run test examples bench clean
+.PHONY: run test examples bindings bench clean
 
 # Proves the library and the program, builds the program as bin/linkrun, and runs it on a script.
 run: bin/linkrun
@@ -22,6 +22,11 @@ examples: bin/linkrun
 		./bin/linkrun < $$script 2>/dev/null | cmp - $${script%.link}.out && echo $$script || exit 1; \
 	done
 	@python3 examples/partner.py | cmp - examples/partner.out && echo examples/partner.py
+
+# The library for C, Rust and Python, in bin/bindings, and the tests of each language whose tools are there.
+bindings:
+	@cd crates/p2p_simulated_c && rt lib > /dev/null
+	@bindings/check.sh
 
 # Times of one allocation and of one message beside those of the Rust original. `make bench work="NAME .."` runs those alone.
 bench: bin/linkrun

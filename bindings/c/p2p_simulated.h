@@ -1,0 +1,158 @@
+/* The simulated link scheduler and its planner: who sends how fast, and when each message arrives.
+ *
+ * Units     Moments and latencies are nanoseconds since the start, caps are bytes a second, and
+ *           lengths are bytes. Peers, channels and flow ids are numbers of the caller's choice.
+ * Status    Each call that can be refused answers one of the numbers below. After any but P2P_OK
+ *           the scheduler is as it was, and the next call finds it so.
+ * Ownership A p2p_scheduler belongs to the caller, who keeps it where it is while it is open. What
+ *           it points to belongs to the library, until p2p_close. All that a call is given is read
+ *           or written during that call alone: no pointer of the caller is kept, and none of the
+ *           library is handed out.
+ * Pointers  None may be NULL, those to arrays of no items among them. An array is given with the
+ *           number of its items, and what is written may not overlap what is read.
+ * Threads   A scheduler may move from one thread to another. One call at a time may use it; calls
+ *           on different schedulers need no order. No call may come from a signal handler.
+ * Memory    The program defines rattle_alloc, rattle_realloc and rattle_dealloc: heap.c does so
+ *           over malloc. Where these answer that there is no memory, the call is refused.
+ */
+#ifndef P2P_SIMULATED_H
+#define P2P_SIMULATED_H
+
+#include <stddef.h>
+#include <stdint.h>
+
+#ifdef __cplusplus
+extern "C" {
+#define P2P_ASSERT(holds) static_assert(holds, #holds)
+#else
+#define P2P_ASSERT(holds) _Static_assert(holds, #holds)
+#endif
+
+/* How a call ended. 1 to 4 are the refusals that a script prints, under the same numbers. */
+enum {
+    P2P_OK = 0,
+    P2P_OUT_OF_MEMORY = 1,
+    P2P_NUMBER_TOO_LARGE = 2, /* by p2p_allocate alone: a rate is no fraction of 128 bits */
+    P2P_MOMENT_TOO_LATE = 3,  /* a message would arrive past the moment 2^64 - 1 */
+    P2P_FLOW_IDS_USED_UP = 4, /* a message would start, and 2^64 - 1 flow ids were given */
+    P2P_CLOSED = 5            /* the scheduler is not open */
+};
+
+/* A scheduler, or none. Let it begin as P2P_SCHEDULER_INIT, and neither copy nor change it: the
+ * calls below open and close it. Closing one that is not open does nothing. */
+typedef struct p2p_scheduler {
+    void *place;
+    uint8_t is_open;
+} p2p_scheduler;
+#define P2P_SCHEDULER_INIT {NULL, 0}
+
+/* A cap in bytes a second; none where is_some is 0. */
+typedef struct p2p_cap {
+    size_t bytes;
+    uint8_t is_some;
+} p2p_cap;
+
+static inline p2p_cap p2p_bytes(size_t bytes) {
+    p2p_cap cap = {bytes, 1};
+    return cap;
+}
+
+static inline p2p_cap p2p_no_cap(void) {
+    p2p_cap cap = {0, 0};
+    return cap;
+}
+
+/* A moment in nanoseconds since the start; none where is_some is 0. */
+typedef struct p2p_moment {
+    uint64_t at;
+    uint8_t is_some;
+} p2p_moment;
+
+/* low + 2^64 * high. */
+typedef struct p2p_wide {
+    uint64_t low;
+    uint64_t high;
+} p2p_wide;
+
+/* A message that is done. It arrives at deliver_at, or not at all. */
+typedef struct p2p_done {
+    uint64_t origin;
+    uint64_t recipient;
+    uint64_t channel;
+    size_t length;
+    p2p_moment deliver_at;
+} p2p_done;
+
+P2P_ASSERT(sizeof(size_t) == 8 && sizeof(void *) == 8);
+P2P_ASSERT(sizeof(p2p_scheduler) == 16 && offsetof(p2p_scheduler, is_open) == 8);
+P2P_ASSERT(sizeof(p2p_cap) == 16 && offsetof(p2p_cap, is_some) == 8);
+P2P_ASSERT(sizeof(p2p_moment) == 16 && offsetof(p2p_moment, is_some) == 8);
+P2P_ASSERT(sizeof(p2p_wide) == 16 && offsetof(p2p_wide, high) == 8);
+P2P_ASSERT(sizeof(p2p_done) == 48 && offsetof(p2p_done, length) == 24 && offsetof(p2p_done, deliver_at) == 32);
+
+/* ---- The scheduler.
+ *
+ * At most one message of each ordered pair of peers is in flight, the others of the pair wait
+ * behind it, and those in flight share the caps max-min fairly. Before the first cap a message is
+ * done as it is sent.
+ *
+ * What a call completes stays with the scheduler until the next call that is made: `count` is set
+ * to how many messages that are (0 where the call is refused), and p2p_completions and p2p_message
+ * copy them out. First advance to a moment, and then set caps and send messages at it: so each call
+ * does what the nanosecond by nanosecond simulation does. */
+
+/* Opens a scheduler at moment 0, with no cap and nothing sent; what the handle had before is
+ * closed first. Flow ids begin at first_id, which is 0 but in tests. P2P_OUT_OF_MEMORY leaves the
+ * handle not open. */
+uint32_t p2p_open(p2p_scheduler *scheduler, uint64_t first_id);
+
+/* Closes a scheduler, and frees all that it has. */
+void p2p_close(p2p_scheduler *scheduler);
+
+/* Sets what a peer may send and what it may receive in all, from `now` on. */
+uint32_t p2p_limit(p2p_scheduler *scheduler, uint64_t now, uint64_t peer, p2p_cap egress, p2p_cap ingress, size_t *count);
+
+/* Sets what may go from one peer to another, from `now` on. */
+uint32_t p2p_limit_link(p2p_scheduler *scheduler, uint64_t now, uint64_t origin, uint64_t recipient, p2p_cap cap, size_t *count);
+
+/* Sends a message of `length` bytes, which are copied. Where should_deliver is 0 it is lost on the
+ * way: it takes of what its origin may send, nothing of what its recipient may receive, and does
+ * not arrive. */
+uint32_t p2p_enqueue(p2p_scheduler *scheduler, uint64_t now, uint64_t origin, uint64_t recipient, uint64_t channel,
+                     const uint8_t *message, size_t length, uint64_t latency, uint8_t should_deliver, size_t *count);
+
+/* The same with `length` zero bytes. */
+uint32_t p2p_enqueue_zeros(p2p_scheduler *scheduler, uint64_t now, uint64_t origin, uint64_t recipient, uint64_t channel,
+                           size_t length, uint64_t latency, uint8_t should_deliver, size_t *count);
+
+/* Lets time go on to `now`. What completes up to then and at it is completed in order. */
+uint32_t p2p_advance(p2p_scheduler *scheduler, uint64_t now, size_t *count);
+
+/* The same, and tells how many events it went through: finishes and starts of messages. */
+uint32_t p2p_advance_counted(p2p_scheduler *scheduler, uint64_t now, size_t *count, p2p_wide *events);
+
+/* The moment of the next event, if one comes. P2P_OK or P2P_CLOSED. */
+uint32_t p2p_next(p2p_scheduler *scheduler, p2p_moment *next);
+
+/* Copies what the last call that was made completed, from the completion `first` on, as many as
+ * there is room for, and answers how many; 0 where the scheduler is not open. */
+size_t p2p_completions(p2p_scheduler *scheduler, size_t first, p2p_done *out, size_t room);
+
+/* Copies the bytes of the completion `index`, from the byte `from` on, as many as there is room
+ * for, and answers how many. */
+size_t p2p_message(p2p_scheduler *scheduler, size_t index, size_t from, uint8_t *out, size_t room);
+
+/* ---- Scripts.
+ *
+ * Runs a script of docs/SCRIPT.md, whose lines end with byte 10, and writes what it prints into
+ * out, as much as there is room for. `printed` is the length of all that it prints, so that more
+ * room can be given to a second run. `bad_line` is the number of the line that is not of the
+ * language, counted from 1, or 0. The answer is that of the program linkrun: 0 where the script was
+ * read to its end, 1 where there was no memory outside a command, 2 at a bad line. */
+uint32_t p2p_run(const uint8_t *script, size_t length, uint8_t *out, size_t room, size_t *printed, uint64_t *bad_line);
+
+#ifdef __cplusplus
+}
+#endif
+
+#endif

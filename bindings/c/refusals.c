@@ -1,0 +1,106 @@
+/* Each allocation of each call is refused in turn: the call says so, the scheduler is as it was, and
+ * the call then goes through. At the end all memory is given back. */
+#include "p2p_simulated.h"
+
+#include <stdbool.h>
+#include <stdio.h>
+#include <stdlib.h>
+
+typedef struct block {
+    bool ok;
+    void *at;
+} block;
+
+static char nowhere;
+static long until_refusal = -1; /* so many allocations still go through; none is refused below 0 */
+static long blocks;
+
+static bool is_refused(void) { return until_refusal >= 0 && until_refusal-- == 0; }
+
+static block block_of(void *at) {
+    block made = {at != NULL, at != NULL ? at : &nowhere};
+    return made;
+}
+
+block rattle_alloc(size_t size, size_t align) {
+    if (is_refused()) return block_of(NULL);
+    blocks++;
+    return block_of(malloc(size != 0 ? size : align));
+}
+
+block rattle_realloc(void *at, size_t kept, size_t size, size_t align) {
+    (void)kept;
+    return is_refused() ? block_of(NULL) : block_of(realloc(at, size != 0 ? size : align));
+}
+
+void rattle_dealloc(void *at) {
+    blocks--;
+    free(at);
+}
+
+static p2p_scheduler s = P2P_SCHEDULER_INIT;
+static long refusals;
+
+/* Makes the call with its first allocation refused, then with its second, and so on until it goes
+ * through. A refused one leaves the next event and what is kept of completions as they were. */
+#define EACH(call)                                                                                            \
+    for (long n = 0;; n++) {                                                                                  \
+        p2p_moment before, after;                                                                             \
+        p2p_done kept[64];                                                                                    \
+        size_t many = p2p_completions(&s, 0, kept, 64);                                                       \
+        p2p_next(&s, &before);                                                                                \
+        until_refusal = n;                                                                                    \
+        uint32_t status = (call);                                                                             \
+        until_refusal = -1;                                                                                   \
+        if (status == P2P_OK) break;                                                                          \
+        refusals++;                                                                                           \
+        p2p_next(&s, &after);                                                                                 \
+        if (status != P2P_OUT_OF_MEMORY || before.at != after.at || before.is_some != after.is_some ||        \
+            p2p_completions(&s, 0, kept, 64) != many) {                                                       \
+            fprintf(stderr, "refusals.c:%d: status %u at allocation %ld\n", __LINE__, (unsigned)status, n);   \
+            return 1;                                                                                         \
+        }                                                                                                     \
+    }
+
+int main(void) {
+    static uint8_t bytes[100];
+    size_t count, completed = 0, sent = 0;
+    uint64_t now = 0;
+    EACH(p2p_open(&s, 0));
+    for (uint64_t peer = 0; peer < 4; peer++) EACH(p2p_limit(&s, now, peer, p2p_bytes(1000), p2p_bytes(700), &count));
+    EACH(p2p_limit_link(&s, now, 0, 1, p2p_bytes(300), &count));
+    for (uint64_t turn = 0; turn < 20; turn++) {
+        for (uint64_t peer = 0; peer < 4; peer++) {
+            EACH(p2p_enqueue(&s, now, peer, (peer + turn) % 4, 7, bytes, sizeof bytes, 5, turn % 5 != 0, &count));
+            completed += count;
+            EACH(p2p_enqueue_zeros(&s, now, peer, (peer + 1) % 4, 8, 50 + turn, 5, 1, &count));
+            completed += count;
+            sent += 2;
+        }
+        now += 50000000;
+        EACH(p2p_advance(&s, now, &count));
+        completed += count;
+    }
+    now += 1000000000000;
+    EACH(p2p_advance(&s, now, &count));
+    completed += count;
+    p2p_close(&s);
+    static const char script[] = "flow 1 1 2 1\nrates\n";
+    uint8_t out[100];
+    size_t printed;
+    uint64_t bad_line;
+    for (until_refusal = 0; until_refusal >= 0;) { /* a script may go on after a refusal, and never aborts */
+        long n = until_refusal;
+        p2p_run((const uint8_t *)script, sizeof script - 1, out, sizeof out, &printed, &bad_line);
+        if (until_refusal >= 0) break;
+        until_refusal = n + 1;
+        refusals++;
+    }
+    until_refusal = -1;
+    if (completed != sent || blocks != 0) {
+        fprintf(stderr, "refusals.c: %zu of %zu messages completed, %ld blocks were not given back\n", completed, sent, blocks);
+        return 1;
+    }
+    printf("c: %ld allocations refused in turn, nothing lost, nothing leaked\n", refusals);
+    return 0;
+}

@@ -1,0 +1,114 @@
+/* What the header says, call by call. */
+#include "p2p_simulated.h"
+
+#include <stdio.h>
+#include <string.h>
+
+static int failures;
+
+#define CHECK(holds)                                              \
+    do {                                                          \
+        if (!(holds)) {                                           \
+            fprintf(stderr, "test.c:%d: %s\n", __LINE__, #holds); \
+            failures++;                                           \
+        }                                                         \
+    } while (0)
+
+static void a_handle_is_safe_whatever_its_state(void) {
+    p2p_scheduler s = P2P_SCHEDULER_INIT;
+    size_t count = 7;
+    p2p_moment next = {7, 1};
+    p2p_wide events = {7, 7};
+    p2p_done done;
+    uint8_t byte = 7;
+    CHECK(p2p_limit(&s, 0, 1, p2p_no_cap(), p2p_no_cap(), &count) == P2P_CLOSED && count == 0);
+    CHECK(p2p_limit_link(&s, 0, 1, 2, p2p_no_cap(), &count) == P2P_CLOSED);
+    CHECK(p2p_enqueue(&s, 0, 1, 2, 3, &byte, 1, 0, 1, &count) == P2P_CLOSED);
+    CHECK(p2p_enqueue_zeros(&s, 0, 1, 2, 3, 1, 0, 1, &count) == P2P_CLOSED);
+    CHECK(p2p_advance(&s, 0, &count) == P2P_CLOSED);
+    CHECK(p2p_advance_counted(&s, 0, &count, &events) == P2P_CLOSED && events.low == 0 && events.high == 0);
+    CHECK(p2p_next(&s, &next) == P2P_CLOSED && next.is_some == 0);
+    CHECK(p2p_completions(&s, 0, &done, 1) == 0 && p2p_message(&s, 0, 0, &byte, 1) == 0 && byte == 7);
+    p2p_close(&s);
+    CHECK(p2p_open(&s, 0) == P2P_OK && s.is_open == 1);
+    CHECK(p2p_limit(&s, 0, 1, p2p_bytes(1), p2p_no_cap(), &count) == P2P_OK);
+    CHECK(p2p_enqueue_zeros(&s, 0, 1, 2, 3, 1, 0, 1, &count) == P2P_OK);
+    CHECK(p2p_next(&s, &next) == P2P_OK && next.is_some == 1 && next.at == 1000000000);
+    CHECK(p2p_open(&s, 0) == P2P_OK); /* the old one is closed, and this one has no message */
+    CHECK(p2p_next(&s, &next) == P2P_OK && next.is_some == 0);
+    p2p_close(&s);
+    p2p_close(&s);
+    CHECK(s.is_open == 0 && p2p_advance(&s, 1, &count) == P2P_CLOSED);
+}
+
+static void two_messages_share_a_cap(void) {
+    p2p_scheduler s = P2P_SCHEDULER_INIT;
+    size_t count;
+    p2p_moment next;
+    p2p_wide events;
+    p2p_done done[3];
+    uint8_t sent[1000], got[1000];
+    for (size_t i = 0; i < sizeof sent; i++) sent[i] = (uint8_t)(i % 251);
+    CHECK(p2p_open(&s, 0) == P2P_OK);
+    CHECK(p2p_limit(&s, 0, 1, p2p_bytes(1000), p2p_no_cap(), &count) == P2P_OK && count == 0);
+    CHECK(p2p_enqueue(&s, 0, 1, 2, 7, sent, 1000, 500000000, 1, &count) == P2P_OK && count == 0);
+    CHECK(p2p_enqueue(&s, 0, 1, 3, 7, sent, 500, 0, 1, &count) == P2P_OK && count == 0);
+    CHECK(p2p_next(&s, &next) == P2P_OK && next.is_some && next.at == 1000000000);
+    CHECK(p2p_advance_counted(&s, 1000000000, &count, &events) == P2P_OK && count == 1 && events.low == 1);
+    CHECK(p2p_completions(&s, 0, done, 3) == 1 && p2p_completions(&s, 1, done, 3) == 0);
+    CHECK(done[0].origin == 1 && done[0].recipient == 3 && done[0].channel == 7 && done[0].length == 500);
+    CHECK(done[0].deliver_at.is_some == 1 && done[0].deliver_at.at == 1000000000);
+    memset(got, 255, sizeof got);
+    CHECK(p2p_message(&s, 0, 0, got, sizeof got) == 500 && memcmp(got, sent, 500) == 0 && got[500] == 255);
+    CHECK(p2p_message(&s, 0, 400, got, 50) == 50 && memcmp(got, sent + 400, 50) == 0);
+    CHECK(p2p_message(&s, 0, 500, got, 1) == 0 && p2p_message(&s, 0, 501, got, 1) == 0);
+    CHECK(p2p_message(&s, 1, 0, got, 1) == 0);
+    CHECK(p2p_advance(&s, 1500000000, &count) == P2P_OK && count == 1);
+    CHECK(p2p_completions(&s, 0, done, 3) == 1 && done[0].recipient == 2 && done[0].deliver_at.at == 2000000000);
+    p2p_close(&s);
+}
+
+static void a_lost_message_does_not_arrive(void) {
+    p2p_scheduler s = P2P_SCHEDULER_INIT;
+    size_t count;
+    p2p_done done[1];
+    CHECK(p2p_open(&s, 0) == P2P_OK);
+    CHECK(p2p_enqueue_zeros(&s, 3, 1, 2, 9, 8, 5, 0, &count) == P2P_OK && count == 1);
+    CHECK(p2p_completions(&s, 0, done, 1) == 1 && done[0].deliver_at.is_some == 0 && done[0].length == 8);
+    p2p_close(&s);
+}
+
+static void a_refused_call_changes_nothing(void) {
+    p2p_scheduler s = P2P_SCHEDULER_INIT;
+    size_t count;
+    p2p_done done[1];
+    CHECK(p2p_open(&s, UINT64_MAX) == P2P_OK);
+    CHECK(p2p_enqueue_zeros(&s, 1, 1, 2, 9, 8, 5, 1, &count) == P2P_OK && count == 1);
+    CHECK(p2p_enqueue_zeros(&s, 1, 1, 2, 9, 8, UINT64_MAX, 1, &count) == P2P_MOMENT_TOO_LATE && count == 0);
+    CHECK(p2p_completions(&s, 0, done, 1) == 1 && done[0].deliver_at.at == 6); /* what the call before completed */
+    CHECK(p2p_limit_link(&s, 1, 1, 2, p2p_bytes(1), &count) == P2P_OK && count == 0);
+    CHECK(p2p_enqueue_zeros(&s, 1, 1, 2, 9, 8, 5, 1, &count) == P2P_FLOW_IDS_USED_UP);
+    p2p_close(&s);
+}
+
+static void a_script_prints_what_linkrun_prints(void) {
+    static const char script[] = "egress 1 50000\ningress 2 1000\nflow 1 1 2 1\nflow 2 1 3 1\nrates\nrates 7\n";
+    static const char wanted[] = "rate 1 1000/1\nrate 2 49000/1\n";
+    uint8_t out[100];
+    size_t printed;
+    uint64_t bad_line;
+    CHECK(p2p_run((const uint8_t *)script, strlen(script), out, sizeof out, &printed, &bad_line) == 2);
+    CHECK(bad_line == 6 && printed == strlen(wanted) && memcmp(out, wanted, printed) == 0);
+    CHECK(p2p_run((const uint8_t *)script, strlen(script), out, 0, &printed, &bad_line) == 2 && printed == strlen(wanted));
+    CHECK(p2p_run((const uint8_t *)script, 15, out, sizeof out, &printed, &bad_line) == 0 && printed == 0 && bad_line == 0);
+}
+
+int main(void) {
+    a_handle_is_safe_whatever_its_state();
+    two_messages_share_a_cap();
+    a_lost_message_does_not_arrive();
+    a_refused_call_changes_nothing();
+    a_script_prints_what_linkrun_prints();
+    if (failures == 0) puts("c: calls as the header says");
+    return failures != 0;
+}

@@ -1,0 +1,23 @@
+//! A simulated link scheduler, and the max-min fair rates behind it, over a library whose every
+//! function is proved to meet its contract.
+//!
+//! - [`State`] schedules messages between capped peers, and tells when each arrives.
+//! - [`allocate`] and [`allocate_linked`] plan: who sends how fast.
+//! - [`run`] runs a script, as the program `linkrun` does.
+//!
+//! The proofs end where C begins. This crate upholds what is owed there: each pointer goes with the
+//! length of its slice, none is kept, and one call at a time uses a scheduler.
+#![warn(missing_docs)]
+
+mod bandwidth;
+mod error;
+#[allow(missing_docs)]
+mod raw;
+mod script;
+#[allow(missing_docs)]
+mod transmitter;
+
+pub use bandwidth::{allocate, allocate_linked, Flow, Rate, Ratio};
+pub use error::Error;
+pub use script::{run, Outcome};
+pub use transmitter::{Completion, State};

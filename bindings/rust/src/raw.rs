@@ -1,0 +1,83 @@
+//! The declarations of `bindings/c/p2p_simulated.h`.
+use std::ffi::c_void;
+use std::mem::size_of;
+
+#[repr(C)]
+pub struct Scheduler {
+    pub place: *mut c_void,
+    pub is_open: u8,
+}
+
+#[repr(C)]
+#[derive(Clone, Copy)]
+pub struct Cap {
+    pub bytes: usize,
+    pub is_some: u8,
+}
+
+#[repr(C)]
+#[derive(Clone, Copy)]
+pub struct Moment {
+    pub at: u64,
+    pub is_some: u8,
+}
+
+#[repr(C)]
+#[derive(Clone, Copy)]
+pub struct Wide {
+    pub low: u64,
+    pub high: u64,
+}
+
+#[repr(C)]
+#[derive(Clone, Copy)]
+pub struct Done {
+    pub origin: u64,
+    pub recipient: u64,
+    pub channel: u64,
+    pub length: usize,
+    pub deliver_at: Moment,
+}
+
+const _: () = assert!(size_of::<usize>() == 8);
+const _: () = assert!(size_of::<Scheduler>() == 16);
+const _: () = assert!(size_of::<Cap>() == 16);
+const _: () = assert!(size_of::<Moment>() == 16);
+const _: () = assert!(size_of::<Wide>() == 16);
+const _: () = assert!(size_of::<Done>() == 48);
+
+extern "C" {
+    pub fn p2p_open(scheduler: *mut Scheduler, first_id: u64) -> u32;
+    pub fn p2p_close(scheduler: *mut Scheduler);
+    pub fn p2p_limit(scheduler: *mut Scheduler, now: u64, peer: u64, egress: Cap, ingress: Cap, count: *mut usize) -> u32;
+    pub fn p2p_limit_link(scheduler: *mut Scheduler, now: u64, origin: u64, recipient: u64, cap: Cap, count: *mut usize) -> u32;
+    pub fn p2p_enqueue(
+        scheduler: *mut Scheduler,
+        now: u64,
+        origin: u64,
+        recipient: u64,
+        channel: u64,
+        message: *const u8,
+        length: usize,
+        latency: u64,
+        should_deliver: u8,
+        count: *mut usize,
+    ) -> u32;
+    pub fn p2p_enqueue_zeros(
+        scheduler: *mut Scheduler,
+        now: u64,
+        origin: u64,
+        recipient: u64,
+        channel: u64,
+        length: usize,
+        latency: u64,
+        should_deliver: u8,
+        count: *mut usize,
+    ) -> u32;
+    pub fn p2p_advance(scheduler: *mut Scheduler, now: u64, count: *mut usize) -> u32;
+    pub fn p2p_advance_counted(scheduler: *mut Scheduler, now: u64, count: *mut usize, events: *mut Wide) -> u32;
+    pub fn p2p_next(scheduler: *mut Scheduler, next: *mut Moment) -> u32;
+    pub fn p2p_completions(scheduler: *mut Scheduler, first: usize, out: *mut Done, room: usize) -> usize;
+    pub fn p2p_message(scheduler: *mut Scheduler, index: usize, from: usize, out: *mut u8, room: usize) -> usize;
+    pub fn p2p_run(script: *const u8, length: usize, out: *mut u8, room: usize, printed: *mut usize, bad_line: *mut u64) -> u32;
+}

@@ -1,0 +1,3 @@
+pub mod Boxed
+pub mod Copying
+pub mod Ending
