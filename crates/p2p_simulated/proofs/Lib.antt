@@ -1,1 +1,2 @@
+pub mod Callers
 pub use Rattle.fair_rates.proofs.Callable

@@ -4,5 +4,6 @@
 pub mod events;
 pub mod messages;
 pub mod peers;
+pub mod rates;
 pub mod replies;
 pub mod worlds;
