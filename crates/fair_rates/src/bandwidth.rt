@@ -45,7 +45,11 @@ pub struct Flow<P> {
 }
 
 impl<P: Peer> Flow<P> {
-    /// The same flow, with a clone of each peer. Refused only where memory was refused for one.
+    /// The same flow, with a clone of each peer.
+    ///
+    /// # Errors
+    ///
+    /// `OutOfMemory` where a peer's clone answered none. The flow itself stays as it is.
     pub fn clone(&self) -> Result<Flow<P>, Error>
         ensures id { IfOk result (λ copy. copy.id ≡ self.now.id) }
         ensures origin { IfOk result (λ copy. P.cmp copy.origin self.now.origin ≡ Equal) }
@@ -85,8 +89,8 @@ pub enum Rate {
 ///
 /// A flow for which no cap holds is `Unlimited`. The rates of the others are max-min fair: the
 /// flows under a cap have no more than it together, and each flow is under a cap that is used up
-/// and that leaves none of its flows more than this one has. A flow under a cap of zero has rate
-/// zero.
+/// and that leaves none of its flows more than this one has. This is the bottleneck condition of
+/// Bertsekas and Gallager, Data Networks, section 6.5.2. A flow under a cap of zero has rate zero.
 ///
 /// The map has an entry for each id that occurs. Of flows with one id the last decides, but each of
 /// them is given its share.

@@ -7,16 +7,17 @@ use std::alloc::{AllocError, AllocFailed};
 use std::fmt;
 
 /// Why a call was refused. What a call leaves after a refusal is said at the call.
+///
+/// - `OutOfMemory`: no memory was left for a list, a map or a clone.
+/// - `NumberTooLarge`: a fraction, or a number on the way to it, does not fit in 128 bits. Each call
+///   says exactly when; those of `State` never answer it.
+/// - `MomentTooLate`: an arrival would lie past the last moment, 18446744073709551615 nanoseconds.
+/// - `FlowIdsUsedUp`: a message would start, and no flow id is left for it.
 #[derive(Debug, Clone, Copy, PartialEq, Eq, thiserror::Error)]
 pub enum Error {
-    /// No memory was left for a list, a map or a clone.
     OutOfMemory,
-    /// A fraction, or a number on the way to it, does not fit in 128 bits. Each call says exactly
-    /// when; those of `State` never answer it.
     NumberTooLarge,
-    /// An arrival would lie past the last moment, 18446744073709551615 nanoseconds.
     MomentTooLate,
-    /// A message would start and no flow id is left for it.
     FlowIdsUsedUp,
 }
 

@@ -18,8 +18,10 @@ const BILLION: u128 = 1_000_000_000;
 /// That is zero at no limit, also where nothing remains. `None` stands for never and for a time
 /// past 18446744073709551615: at rate zero always, also where nothing remains.
 ///
-/// `NumberTooLarge` comes exactly where the rate is finite and above zero and the time in seconds
-/// or the time in nanoseconds, each as a fraction in lowest terms, does not fit in a `Ratio`.
+/// # Errors
+///
+/// `NumberTooLarge` exactly where the rate is finite and above zero and the time in seconds or the
+/// time in nanoseconds, each as a fraction in lowest terms, does not fit in a `Ratio`.
 pub fn duration(rate: &Rate, remaining: &Ratio) -> Result<Option<u64>, Error>
     ensures fits { IsOk result ↔ TimeFits rate.now (amount_of remaining.now) }
     ensures value { IfOk result (λ time. IsDuration rate.now (amount_of remaining.now) time) }
@@ -49,9 +51,11 @@ fn least_time(rate: Ratio, remaining: Ratio) -> Option<u128>
 /// What is left of `remaining` bytes after `elapsed` nanoseconds at the rate, exactly, or nothing
 /// where they would take more. At no limit nothing is left, also after no time.
 ///
-/// `NumberTooLarge` comes exactly where `remaining`, the rate and `elapsed` are above zero, the
-/// rate is finite, and either what it takes in that time does not fit in a `Ratio`, or that is
-/// less than `remaining` and `checked_sub` refuses to take it off.
+/// # Errors
+///
+/// `NumberTooLarge` exactly where `remaining`, the rate and `elapsed` are above zero, the rate is
+/// finite, and either what it takes in that time does not fit in a `Ratio`, or that is less than
+/// `remaining` and `checked_sub` refuses to take it off.
 pub fn transfer(rate: &Rate, elapsed: u64, remaining: Ratio) -> Result<Ratio, Error>
     ensures fits { IsOk result ↔ TransferFits rate.now elapsed (amount_of remaining) }
     ensures value { IfOk result (λ rest.
