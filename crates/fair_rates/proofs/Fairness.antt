@@ -16,3 +16,4 @@ pub mod SameSides
 pub mod Subjects
 pub mod Sums
 pub mod Uncapped
+pub mod WithinCap

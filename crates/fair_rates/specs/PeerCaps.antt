@@ -1,5 +1,5 @@
 -- Caps that are functions of the peer, and of the ordered pair: the sides that they make, and what follows for the rates.
-use Rattle.std.specs.Prelude.{◌≡◌, ℕ, ◌==◌, ◌≤◌, ◌↔◌, Bool, true, cond, ◌&&◌, List, [], ◌∷◌, Option, Some, None, All, Contains, length, map, count_by, slice_get}
+use Rattle.std.specs.Prelude.{◌≡◌, ℕ, ◌*◌, ◌==◌, ◌≤◌, ◌↔◌, Bool, true, cond, ◌&&◌, List, [], ◌∷◌, Option, Some, None, All, Contains, length, map, count_by, sum_by, slice_get}
 use Rattle.std.specs.List.{filter, list_any}
 use Rattle.std.specs.List.Sorted.{IsPermutation}
 use Rattle.std.specs.declared.cmp.Ordering.{Ordering}
@@ -106,6 +106,16 @@ module _ {P : Type 0} (cmp : P → P → Ordering) where
     pub by_id : (id : ℕ) → rate_of id ≡ last_rate id flows rates
 
   -- ---- what follows for the rates
+
+  -- the flows that a side of that subject limits get no more than its cap together, in parts of which `per` are one byte a second
+  abbrev pub KeepsToItsCap : Type 0
+  KeepsToItsCap =
+      (caps : Caps P) (flows : List (Flow P)) (rates : List Rate)
+      → AreOfPeers caps
+      → (fair : AreFairUnder caps flows rates)
+      → (subject : Subject P) (cap : ℕ)
+      → cap_of caps subject ≡ Some cap
+      → sum_by fair.parts (places_from 0 (limits subject) flows) ≤ cap * fair.per
 
   -- a flow is unlimited exactly where it uses no capped side
   abbrev pub UnlimitedWhereUncapped : Type 0

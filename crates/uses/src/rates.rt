@@ -3,8 +3,9 @@ ghost use Rattle.std.specs.Prelude.{IfOk};
 ghost use Rattle.std.specs.BTreeMap.{get};
 ghost use Rattle.std.specs.Ordering.{nat_cmp};
 ghost use Rattle.p2p_simulated.specs.PeerCaps.{IsFairById};
-ghost use Rattle.uses.specs.Senders.{sending};
+ghost use Rattle.uses.specs.Senders.{sending, SendersKeepToCaps};
 
+use p2p_simulated::bandwidth::laws::a_side_keeps_to_its_cap;
 use p2p_simulated::bandwidth::{Flow, Rate, allocate};
 use p2p_simulated::error::Error;
 use std::alloc::Global;
@@ -24,4 +25,21 @@ pub fn rates_of_senders(
     ensures fair { IfOk result (λ rates. IsFairById nat_cmp (sending (get nat_cmp egress.now)) flows.now (get nat_cmp rates)) }
 {
     allocate(alloc, flows, |peer| egress.get(peer).copied(), |_peer| None)
+}
+
+/// The same rates, for whoever plans by senders: the flows of one get no more than its cap
+/// together.
+///
+/// # Errors
+///
+/// As of `allocate`.
+pub fn rates_within_caps(
+    alloc: Global,
+    flows: &[Flow<u64>],
+    egress: &BTreeMap<u64, u128>,
+) -> Result<BTreeMap<u64, Rate>, Error>
+    ensures kept { IfOk result (λ rates. SendersKeepToCaps (get nat_cmp egress.now) flows.now (get nat_cmp rates)) }
+{
+    a_side_keeps_to_its_cap::<u64>();
+    rates_of_senders(alloc, flows, egress)
 }

@@ -12,7 +12,7 @@ ghost use Rattle.fair_rates.specs.FairExample.{HalfExists, HalvesAreFair, LessIs
 ghost use Rattle.fair_rates.specs.FairExists.{IsLeastMultiple, AreLeastMultiplesFrom, FairAmountsExist, FairAmountsExistUnderCaps, FairRatesAreWhole};
 ghost use Rattle.fair_rates.specs.FairLaws.{FairIsMaxMin, FairRatesAreMaxMin, OneAllocation, FairRatesAreZeroWhereClosed, FairnessIsOfTheSet};
 ghost use Rattle.fair_rates.specs.FairPart.{FlowsApartAreFair};
-ghost use Rattle.fair_rates.specs.PeerCaps.{AnswersAreThoseOfTheCaps, SidesAreOfTheCaps, UnlimitedWhereUncapped, UnlimitedByIdWhereUncapped, OrderDoesNotMatter, PartIsFair, OthersDoNotMatter};
+ghost use Rattle.fair_rates.specs.PeerCaps.{AnswersAreThoseOfTheCaps, SidesAreOfTheCaps, UnlimitedWhereUncapped, UnlimitedByIdWhereUncapped, OrderDoesNotMatter, PartIsFair, OthersDoNotMatter, KeepsToItsCap};
 
 use crate::peer::Peer;
 
@@ -102,6 +102,12 @@ pub fn sides_are_of_the_caps<P: Peer>()
 /// Caps by peer leave fair amounts to every list of flows.
 pub fn fair_amounts_exist_under_caps<P: Peer>()
     ensures { FairAmountsExistUnderCaps P.cmp }
+{}
+
+/// Under caps by peer the flows of a sender, of a receiver or of a link get no more than its cap
+/// together.
+pub fn a_side_keeps_to_its_cap<P: Peer>()
+    ensures { KeepsToItsCap P.cmp }
 {}
 
 /// Under caps by peer a flow is unlimited exactly where it uses no capped side: by place, and with
