@@ -111,7 +111,7 @@ def bad_scripts(chance):
 
 
 def needs_no_more(program, lines, most):
-    """Whether a script, told by its lines and how often they come, is done within so many megabytes of address space."""
+    """Whether a script, so many times over, is done within so many megabytes of address space."""
     script, times = lines
     with tempfile.TemporaryFile() as file:
         file.write(script * times)
@@ -141,6 +141,9 @@ def main():
     for name in SCRIPTS:
         with open(os.path.join(FOLDER, name + ".link"), "rb") as file:
             scripts[name] = file.read()
+        with open(os.path.join(FOLDER, name + ".out"), "rb") as file:
+            if whole(scripts[name]) != file.read():
+                raise plain.Wrong("plain.py does not print what %s.out has" % name)
     faults = 0
     for name, script in scripts.items():
         run, _ = program.run(script)

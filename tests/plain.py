@@ -57,7 +57,7 @@ def command(line):
 
 
 def fair(users, caps):
-    """The max-min fair rates: `users` has the sides that each flow uses, `caps` those of the sides. None is unlimited."""
+    """The max-min fair rates: `users` has the sides of each flow, `caps` the caps of the sides. None is unlimited."""
     rates = [None] * len(users)
     left = {side: Fraction(cap) for side, cap in caps.items()}
     rising = {flow for flow, sides in enumerate(users) if sides}
