@@ -1,7 +1,8 @@
 # `rt` is the command of the Rattle kit.
 script = examples/left_over.link
+seconds = 60
 
-.PHONY: run test examples bindings bench clean
+.PHONY: run test examples bindings bench hostile torture clean
 
 # Proves the library and the program, builds the program as bin/linkrun, and runs it on a script.
 run: bin/linkrun
@@ -31,6 +32,19 @@ bindings:
 # Times of one allocation and of one message beside those of the Rust original. `make bench work="NAME .."` runs those alone.
 bench: bin/linkrun
 	python3 bench/run.py bin/linkrun $(work)
+
+# Refuses allocations, reads and writes one by one, and runs bad scripts. Takes a minute or two (docs/HOSTILE.md).
+hostile: bin/linkrun bin/refuse.so
+	cd crates/p2p_simulated_hostile && rt test > /dev/null
+	python3 tests/hostile.py bin/linkrun bin/refuse.so crates/p2p_simulated_hostile/out/p2p_simulated_hostile_tests
+
+# Compares random scripts with a plain scheduler, for a minute. `make torture seconds=3600 seed=7` does so for an hour.
+torture: bin/linkrun bin/refuse.so
+	python3 tests/torture.py bin/linkrun bin/refuse.so $(seconds) $(seed)
+
+bin/refuse.so: tests/refuse.c
+	@mkdir -p bin
+	cc -O2 -shared -fPIC -o $@ $<
 
 clean:
 	rm -rf bin crates/*/out

@@ -1,0 +1,18 @@
+//! Tests under hostile use: what is needed is refused, one thing after another, and the calls, the
+//! numbers and the scripts are those that nobody means well with.
+#![tactic(auto)]
+
+#[cfg(test)]
+mod calls;
+#[cfg(test)]
+mod ends;
+#[cfg(test)]
+mod peers;
+#[cfg(test)]
+mod rates;
+#[cfg(test)]
+mod refusals;
+#[cfg(test)]
+mod rows;
+#[cfg(test)]
+mod streams;
