@@ -31,7 +31,7 @@ build() { # NAME [sanitizer flags or libraries]
     $CC $flags "$@" $c/"$name".c $heap $out/libp2p_simulated_c.a -pthread -o $out/"$name"
 }
 
-for name in test refusals threads example script bench; do build $name; done
+for name in test refusals threads example script speed; do build $name; done
 $out/test
 $out/refusals
 $out/threads

@@ -32,7 +32,7 @@ extern "C" {
 enum {
     P2P_OK = 0,
     P2P_OUT_OF_MEMORY = 1,
-    P2P_NUMBER_TOO_LARGE = 2, /* by p2p_allocate alone: a rate is no fraction of 128 bits */
+    P2P_NUMBER_TOO_LARGE = 2, /* by scripts alone: a rate is no fraction of 128 bits */
     P2P_MOMENT_TOO_LATE = 3,  /* a message would arrive past the moment 2^64 - 1 */
     P2P_FLOW_IDS_USED_UP = 4, /* a message would start, and 2^64 - 1 flow ids were given */
     P2P_CLOSED = 5            /* the scheduler is not open */

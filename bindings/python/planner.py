@@ -86,7 +86,8 @@ def main() -> None:
         gains = ", ".join(f"flow {flow} {float(gain):+.0f}" for flow, gain in doubled(plan, word, peer).items())
         print(f"{word} of {peer} holds flows {held}; doubled: {gains}")
     scenarios = [Plan(plan.flows, {**plan.egress, "lima": 10_000 * n}, plan.ingress) for n in range(1, 101)]
-    best = max(range(100), key=lambda n: min(swept[n].values())) if (swept := sweep(scenarios)) else 0
+    slowest = [min(rates.values()) for rates in sweep(scenarios)]
+    best = slowest.index(max(slowest))
     print(f"of 100 egress caps of lima, {scenarios[best].egress['lima']} is the least that gives the slowest flow most")
 
 

@@ -7,11 +7,15 @@ fn main() {
     println!("cargo:rerun-if-env-changed=P2P_SIMULATED_LIB");
     let folder = match env::var_os("P2P_SIMULATED_LIB") {
         Some(folder) => PathBuf::from(folder),
-        None => PathBuf::from(env::var_os("CARGO_MANIFEST_DIR").expect("cargo sets it")).join("../../bin/bindings"),
+        None => PathBuf::from(env::var_os("CARGO_MANIFEST_DIR").expect("cargo sets it"))
+            .join("../../bin/bindings"),
     };
     let archive = folder.join("libp2p_simulated_c.a");
     if !archive.exists() {
-        panic!("{} is not there: run `make bindings` first, or set P2P_SIMULATED_LIB", archive.display());
+        panic!(
+            "{} is not there: run `make bindings` first, or set P2P_SIMULATED_LIB",
+            archive.display()
+        );
     }
     println!("cargo:rerun-if-changed={}", archive.display());
     println!("cargo:rustc-link-search=native={}", folder.display());

@@ -75,14 +75,31 @@ pub fn allocate_linked<P: Ord + Clone>(
     mut ingress_cap: impl FnMut(&P) -> Option<u128>,
     mut link_cap: impl FnMut(&P, &P) -> Option<u128>,
 ) -> Result<BTreeMap<u64, Rate>, Error> {
-    let mut peers: Vec<&P> = flows.iter().flat_map(|flow| [&flow.origin, &flow.recipient]).collect();
+    let mut peers: Vec<&P> = flows
+        .iter()
+        .flat_map(|flow| [&flow.origin, &flow.recipient])
+        .collect();
     peers.sort();
     peers.dedup_by(|a, b| a.cmp(&b).is_eq());
-    let number = |peer: &P| peers.binary_search(&peer).expect("each peer of a flow is listed");
-    let mut pairs: Vec<(usize, usize)> = flows.iter().map(|flow| (number(&flow.origin), number(&flow.recipient))).collect();
+    let number = |peer: &P| {
+        peers
+            .binary_search(&peer)
+            .expect("each peer of a flow is listed")
+    };
+    let mut pairs: Vec<(usize, usize)> = flows
+        .iter()
+        .map(|flow| (number(&flow.origin), number(&flow.recipient)))
+        .collect();
     let mut script = String::new();
     for (flow, (origin, recipient)) in flows.iter().zip(&pairs) {
-        line(&mut script, format_args!("flow {} {origin} {recipient} {}", flow.id, u8::from(flow.delivered)));
+        line(
+            &mut script,
+            format_args!(
+                "flow {} {origin} {recipient} {}",
+                flow.id,
+                u8::from(flow.delivered)
+            ),
+        );
     }
     for (place, peer) in peers.iter().enumerate() {
         if let Some(cap) = egress_cap(peer) {
@@ -121,7 +138,10 @@ fn rates_of(printed: &str) -> Result<BTreeMap<u64, Rate>, Error> {
         }
         let rate = match words[2].split_once('/') {
             None => Rate::Unlimited,
-            Some((numerator, denominator)) => Rate::Finite(Ratio { numerator: number(numerator), denominator: number(denominator) }),
+            Some((numerator, denominator)) => Rate::Finite(Ratio {
+                numerator: number(numerator),
+                denominator: number(denominator),
+            }),
         };
         rates.insert(number(words[1]) as u64, rate);
     }
@@ -129,5 +149,6 @@ fn rates_of(printed: &str) -> Result<BTreeMap<u64, Rate>, Error> {
 }
 
 fn number(word: &str) -> u128 {
-    word.parse().expect("the library prints numbers of 128 bits")
+    word.parse()
+        .expect("the library prints numbers of 128 bits")
 }

@@ -11,10 +11,8 @@
 
 mod bandwidth;
 mod error;
-#[allow(missing_docs)]
 mod raw;
 mod script;
-#[allow(missing_docs)]
 mod transmitter;
 
 pub use bandwidth::{allocate, allocate_linked, Flow, Rate, Ratio};

@@ -49,8 +49,22 @@ const _: () = assert!(size_of::<Done>() == 48);
 extern "C" {
     pub fn p2p_open(scheduler: *mut Scheduler, first_id: u64) -> u32;
     pub fn p2p_close(scheduler: *mut Scheduler);
-    pub fn p2p_limit(scheduler: *mut Scheduler, now: u64, peer: u64, egress: Cap, ingress: Cap, count: *mut usize) -> u32;
-    pub fn p2p_limit_link(scheduler: *mut Scheduler, now: u64, origin: u64, recipient: u64, cap: Cap, count: *mut usize) -> u32;
+    pub fn p2p_limit(
+        scheduler: *mut Scheduler,
+        now: u64,
+        peer: u64,
+        egress: Cap,
+        ingress: Cap,
+        count: *mut usize,
+    ) -> u32;
+    pub fn p2p_limit_link(
+        scheduler: *mut Scheduler,
+        now: u64,
+        origin: u64,
+        recipient: u64,
+        cap: Cap,
+        count: *mut usize,
+    ) -> u32;
     pub fn p2p_enqueue(
         scheduler: *mut Scheduler,
         now: u64,
@@ -75,9 +89,32 @@ extern "C" {
         count: *mut usize,
     ) -> u32;
     pub fn p2p_advance(scheduler: *mut Scheduler, now: u64, count: *mut usize) -> u32;
-    pub fn p2p_advance_counted(scheduler: *mut Scheduler, now: u64, count: *mut usize, events: *mut Wide) -> u32;
+    pub fn p2p_advance_counted(
+        scheduler: *mut Scheduler,
+        now: u64,
+        count: *mut usize,
+        events: *mut Wide,
+    ) -> u32;
     pub fn p2p_next(scheduler: *mut Scheduler, next: *mut Moment) -> u32;
-    pub fn p2p_completions(scheduler: *mut Scheduler, first: usize, out: *mut Done, room: usize) -> usize;
-    pub fn p2p_message(scheduler: *mut Scheduler, index: usize, from: usize, out: *mut u8, room: usize) -> usize;
-    pub fn p2p_run(script: *const u8, length: usize, out: *mut u8, room: usize, printed: *mut usize, bad_line: *mut u64) -> u32;
+    pub fn p2p_completions(
+        scheduler: *mut Scheduler,
+        first: usize,
+        out: *mut Done,
+        room: usize,
+    ) -> usize;
+    pub fn p2p_message(
+        scheduler: *mut Scheduler,
+        index: usize,
+        from: usize,
+        out: *mut u8,
+        room: usize,
+    ) -> usize;
+    pub fn p2p_run(
+        script: *const u8,
+        length: usize,
+        out: *mut u8,
+        room: usize,
+        printed: *mut usize,
+        bad_line: *mut u64,
+    ) -> u32;
 }

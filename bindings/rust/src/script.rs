@@ -24,7 +24,16 @@ pub fn run(script: &[u8]) -> (Vec<u8>, Outcome) {
     loop {
         let (mut printed, mut bad_line) = (0, 0);
         // SAFETY: each pointer and its length are those of one slice, and all is lent for the call alone.
-        let status = unsafe { raw::p2p_run(script.as_ptr(), script.len(), out.as_mut_ptr(), out.len(), &mut printed, &mut bad_line) };
+        let status = unsafe {
+            raw::p2p_run(
+                script.as_ptr(),
+                script.len(),
+                out.as_mut_ptr(),
+                out.len(),
+                &mut printed,
+                &mut bad_line,
+            )
+        };
         if printed > out.len() {
             out = vec![0; printed];
             continue;

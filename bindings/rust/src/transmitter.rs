@@ -6,9 +6,13 @@ use std::ptr;
 /// What became of a message.
 #[derive(Debug, Clone, PartialEq, Eq)]
 pub struct Completion<P> {
+    /// Who sent it.
     pub origin: P,
+    /// To whom.
     pub recipient: P,
+    /// The channel that was given with it.
     pub channel: u64,
+    /// Its bytes.
     pub message: Vec<u8>,
     /// The moment at which it arrives, in nanoseconds since the start, or `None` for a lost message.
     pub deliver_at: Option<u64>,
@@ -44,7 +48,10 @@ pub struct State<P> {
 unsafe impl<P: Send> Send for State<P> {}
 
 fn cap_of(cap: Option<usize>) -> raw::Cap {
-    raw::Cap { bytes: cap.unwrap_or(0), is_some: cap.is_some().into() }
+    raw::Cap {
+        bytes: cap.unwrap_or(0),
+        is_some: cap.is_some().into(),
+    }
 }
 
 impl<P: Ord + Clone> State<P> {
@@ -54,11 +61,20 @@ impl<P: Ord + Clone> State<P> {
     }
 
     /// As `new`, with flow ids from `first`. Each message that starts under caps takes the next.
-    pub fn with_first_id(peers: impl IntoIterator<Item = P>, first: u64) -> Result<State<P>, Error> {
+    pub fn with_first_id(
+        peers: impl IntoIterator<Item = P>,
+        first: u64,
+    ) -> Result<State<P>, Error> {
         let mut peers: Vec<P> = peers.into_iter().collect();
         peers.sort();
         peers.dedup_by(|a, b| a.cmp(&b).is_eq());
-        let mut state = State { peers, handle: raw::Scheduler { place: ptr::null_mut(), is_open: 0 } };
+        let mut state = State {
+            peers,
+            handle: raw::Scheduler {
+                place: ptr::null_mut(),
+                is_open: 0,
+            },
+        };
         // SAFETY: the handle is not open, and is lent for the call alone.
         result_of(unsafe { raw::p2p_open(&mut state.handle, first) })?;
         Ok(state)
@@ -66,20 +82,50 @@ impl<P: Ord + Clone> State<P> {
 
     /// Sets what a peer may send and what it may receive in all from `now` on, in bytes a second.
     /// `None` is no cap.
-    pub fn limit(&mut self, now: u64, peer: &P, egress: Option<usize>, ingress: Option<usize>) -> Result<Vec<Completion<P>>, Error> {
+    pub fn limit(
+        &mut self,
+        now: u64,
+        peer: &P,
+        egress: Option<usize>,
+        ingress: Option<usize>,
+    ) -> Result<Vec<Completion<P>>, Error> {
         let peer = self.number(peer)?;
         let mut count = 0;
         // SAFETY: the handle is as the last call left it, and lent with `count` for the call alone.
-        result_of(unsafe { raw::p2p_limit(&mut self.handle, now, peer, cap_of(egress), cap_of(ingress), &mut count) })?;
+        result_of(unsafe {
+            raw::p2p_limit(
+                &mut self.handle,
+                now,
+                peer,
+                cap_of(egress),
+                cap_of(ingress),
+                &mut count,
+            )
+        })?;
         Ok(self.completions(count))
     }
 
     /// Sets what may go from one peer to another from `now` on, in bytes a second.
-    pub fn limit_link(&mut self, now: u64, origin: &P, recipient: &P, cap: Option<usize>) -> Result<Vec<Completion<P>>, Error> {
+    pub fn limit_link(
+        &mut self,
+        now: u64,
+        origin: &P,
+        recipient: &P,
+        cap: Option<usize>,
+    ) -> Result<Vec<Completion<P>>, Error> {
         let (origin, recipient) = (self.number(origin)?, self.number(recipient)?);
         let mut count = 0;
         // SAFETY: as in `limit`.
-        result_of(unsafe { raw::p2p_limit_link(&mut self.handle, now, origin, recipient, cap_of(cap), &mut count) })?;
+        result_of(unsafe {
+            raw::p2p_limit_link(
+                &mut self.handle,
+                now,
+                origin,
+                recipient,
+                cap_of(cap),
+                &mut count,
+            )
+        })?;
         Ok(self.completions(count))
     }
 
@@ -100,7 +146,20 @@ impl<P: Ord + Clone> State<P> {
         let (at, length, flag) = (message.as_ptr(), message.len(), should_deliver.into());
         let mut count = 0;
         // SAFETY: as in `limit`; the pointer and the length are those of one slice.
-        result_of(unsafe { raw::p2p_enqueue(&mut self.handle, now, origin, recipient, channel, at, length, latency, flag, &mut count) })?;
+        result_of(unsafe {
+            raw::p2p_enqueue(
+                &mut self.handle,
+                now,
+                origin,
+                recipient,
+                channel,
+                at,
+                length,
+                latency,
+                flag,
+                &mut count,
+            )
+        })?;
         Ok(self.completions(count))
     }
 
@@ -120,7 +179,19 @@ impl<P: Ord + Clone> State<P> {
         let flag = should_deliver.into();
         let mut count = 0;
         // SAFETY: as in `limit`.
-        result_of(unsafe { raw::p2p_enqueue_zeros(&mut self.handle, now, origin, recipient, channel, length, latency, flag, &mut count) })?;
+        result_of(unsafe {
+            raw::p2p_enqueue_zeros(
+                &mut self.handle,
+                now,
+                origin,
+                recipient,
+                channel,
+                length,
+                latency,
+                flag,
+                &mut count,
+            )
+        })?;
         Ok(self.completions(count))
     }
 
@@ -137,8 +208,13 @@ impl<P: Ord + Clone> State<P> {
         let mut count = 0;
         let mut events = raw::Wide { low: 0, high: 0 };
         // SAFETY: as in `limit`.
-        result_of(unsafe { raw::p2p_advance_counted(&mut self.handle, now, &mut count, &mut events) })?;
-        Ok((self.completions(count), u128::from(events.high) << 64 | u128::from(events.low)))
+        result_of(unsafe {
+            raw::p2p_advance_counted(&mut self.handle, now, &mut count, &mut events)
+        })?;
+        Ok((
+            self.completions(count),
+            u128::from(events.high) << 64 | u128::from(events.low),
+        ))
     }
 
     /// The moment of the next event, unless a cap changes or a message is sent before.
@@ -151,21 +227,40 @@ impl<P: Ord + Clone> State<P> {
 
     /// The number of a peer: its place in the order of its type.
     fn number(&self, peer: &P) -> Result<u64, Error> {
-        self.peers.binary_search(peer).map(|place| place as u64).map_err(|_| Error::UnknownPeer)
+        self.peers
+            .binary_search(peer)
+            .map(|place| place as u64)
+            .map_err(|_| Error::UnknownPeer)
     }
 
     /// What the last call that was made completed.
     fn completions(&mut self, count: usize) -> Vec<Completion<P>> {
-        let none = raw::Done { origin: 0, recipient: 0, channel: 0, length: 0, deliver_at: raw::Moment { at: 0, is_some: 0 } };
+        let none = raw::Done {
+            origin: 0,
+            recipient: 0,
+            channel: 0,
+            length: 0,
+            deliver_at: raw::Moment { at: 0, is_some: 0 },
+        };
         let mut records = vec![none; count];
         // SAFETY: as in `limit`; the pointer and the length are those of one vector.
-        let written = unsafe { raw::p2p_completions(&mut self.handle, 0, records.as_mut_ptr(), records.len()) };
+        let written = unsafe {
+            raw::p2p_completions(&mut self.handle, 0, records.as_mut_ptr(), records.len())
+        };
         records.truncate(written);
         let mut all = Vec::with_capacity(records.len());
         for (index, record) in records.iter().enumerate() {
             let mut message = vec![0; record.length];
             // SAFETY: as above.
-            let length = unsafe { raw::p2p_message(&mut self.handle, index, 0, message.as_mut_ptr(), message.len()) };
+            let length = unsafe {
+                raw::p2p_message(
+                    &mut self.handle,
+                    index,
+                    0,
+                    message.as_mut_ptr(),
+                    message.len(),
+                )
+            };
             message.truncate(length);
             all.push(Completion {
                 origin: self.peers[record.origin as usize].clone(),

@@ -6,10 +6,12 @@ use Rattle.p2p_simulated.specs.WorldCalls.{Call}
 use Rattle.p2p_simulated.specs.declared.error.Error.{Error}
 use Rattle.p2p_simulated_c.specs.declared.opened.Opened.{Opened}
 
--- a handle that is not open stays so, and the call answers so; an open one stays open, and the call does this to the scheduler that is there
+-- a handle that is not open stays so, and the call answers so; an open one stays open, and the call does this to the
+-- scheduler that is there
 pub data OnHandle (if_closed : Type 0) (if_open : Opened → Opened → Type 0) (old new : Option Opened) : Type 0 where
   at_closed : old ≡ None → new ≡ None → if_closed → OnHandle if_closed if_open old new
-  at_open : (before after : Opened) → old ≡ Some before → new ≡ Some after → if_open before after → OnHandle if_closed if_open old new
+  at_open : (before after : Opened) → old ≡ Some before → new ≡ Some after → if_open before after
+      → OnHandle if_closed if_open old new
 
 -- the call was made: the scheduler did it, and has what it completed, which is so many
 pub record Made (call : Call ℕ) (count : ℕ) (old new : Opened) : Type 0 where

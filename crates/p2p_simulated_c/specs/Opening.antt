@@ -6,5 +6,6 @@ use Rattle.p2p_simulated_c.specs.declared.opened.Opened.{Opened}
 -- a scheduler at its start, which has completed nothing, with status 0; or none, with that of too little memory
 abbrev pub IsOpened : ℕ → ℕ → Option Opened → Type 0
 IsOpened first_id status there =
-    ((status ≡ 0) × (opened : Opened) × (there ≡ Some opened) × IsNew opened.state first_id × (opened.completed.items ≡ []))
+    ((status ≡ 0) × (opened : Opened) × (there ≡ Some opened)
+    × IsNew opened.state first_id × (opened.completed.items ≡ []))
     ⊎ ((status ≡ 1) × (there ≡ None))

@@ -29,4 +29,10 @@ value_of w = w.high * 2 ^ 64 + w.low
 
 -- the record of a completion
 abbrev pub done_of : Completion ℕ → Done
-done_of c = record { origin = c.origin; recipient = c.recipient; channel = c.channel; length = length c.message; deliver_at = of_moment c.deliver_at }
+done_of c = record {
+  origin = c.origin;
+  recipient = c.recipient;
+  channel = c.channel;
+  length = length c.message;
+  deliver_at = of_moment c.deliver_at;
+}

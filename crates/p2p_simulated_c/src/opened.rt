@@ -39,7 +39,8 @@ impl Opened {
     fn keep(&mut self, answer: Result<Vec<Completion<u64>>, Error>, count: &mut usize) -> u32
         ensures state { self.new.state ≡ self.old.state }
         ensures status { MatchResult answer (λ done. result ≡ 0) (λ why. result ≡ refusal_number why) }
-        ensures completed { MatchResult answer (λ done. self.new.completed.items ≡ done.items) (λ why. self.new.completed ≡ self.old.completed) }
+        ensures completed { MatchResult answer (λ done. self.new.completed.items ≡ done.items)
+            (λ why. self.new.completed ≡ self.old.completed) }
         ensures counted { MatchResult answer (λ done. count.new ≡ length done.items) (λ why. count.new ≡ 0) }
     {
         match answer {
@@ -98,7 +99,8 @@ impl Opened {
         should_deliver: bool,
         count: &mut usize,
     ) -> u32
-        ensures { Ended (call_enqueue now (sent origin recipient channel message.now latency should_deliver)) result count.new self.old self.new }
+        ensures { Ended (call_enqueue now (sent origin recipient channel message.now latency should_deliver))
+            result count.new self.old self.new }
     {
         let Ok(bytes) = Bytes::copy_from_slice(alloc, message) else {
             *count = 0;
@@ -129,7 +131,8 @@ impl Opened {
         should_deliver: bool,
         count: &mut usize,
     ) -> u32
-        ensures { Ended (call_enqueue now (sent origin recipient channel (replicate length 0) latency should_deliver)) result count.new self.old self.new }
+        ensures { Ended (call_enqueue now (sent origin recipient channel (replicate length 0) latency should_deliver))
+            result count.new self.old self.new }
     {
         let Ok(bytes) = zeros(alloc, length) else {
             *count = 0;

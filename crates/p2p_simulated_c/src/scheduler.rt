@@ -48,7 +48,8 @@ pub extern "C" fn p2p_limit(
     ingress: Cap,
     count: &mut usize,
 ) -> u32
-    ensures { OnHandle ((result ≡ 5) × (count.new ≡ 0)) (Ended (call_limit now peer (cap_of egress) (cap_of ingress)) result count.new)
+    ensures { OnHandle ((result ≡ 5) × (count.new ≡ 0))
+        (Ended (call_limit now peer (cap_of egress) (cap_of ingress)) result count.new)
         scheduler.old.place.opened scheduler.new.place.opened }
 {
     *count = 0;
@@ -73,7 +74,8 @@ pub extern "C" fn p2p_limit_link(
     cap: Cap,
     count: &mut usize,
 ) -> u32
-    ensures { OnHandle ((result ≡ 5) × (count.new ≡ 0)) (Ended (call_limit_link now origin recipient (cap_of cap)) result count.new)
+    ensures { OnHandle ((result ≡ 5) × (count.new ≡ 0))
+        (Ended (call_limit_link now origin recipient (cap_of cap)) result count.new)
         scheduler.old.place.opened scheduler.new.place.opened }
 {
     *count = 0;
@@ -101,7 +103,8 @@ pub extern "C" fn p2p_enqueue(
     count: &mut usize,
 ) -> u32
     ensures { OnHandle ((result ≡ 5) × (count.new ≡ 0))
-        (Ended (call_enqueue now (sent origin recipient channel message.now latency (is_set should_deliver))) result count.new)
+        (Ended (call_enqueue now (sent origin recipient channel message.now latency (is_set should_deliver)))
+        result count.new)
         scheduler.old.place.opened scheduler.new.place.opened }
 {
     *count = 0;
@@ -138,7 +141,8 @@ pub extern "C" fn p2p_enqueue_zeros(
     count: &mut usize,
 ) -> u32
     ensures { OnHandle ((result ≡ 5) × (count.new ≡ 0))
-        (Ended (call_enqueue now (sent origin recipient channel (replicate length 0) latency (is_set should_deliver))) result count.new)
+        (Ended (call_enqueue now (sent origin recipient channel (replicate length 0) latency (is_set should_deliver)))
+        result count.new)
         scheduler.old.place.opened scheduler.new.place.opened }
 {
     *count = 0;
@@ -191,7 +195,8 @@ pub extern "C" fn p2p_advance_counted(
     events: &mut Wide,
 ) -> u32
     ensures { OnHandle ((result ≡ 5) × (count.new ≡ 0) × (value_of events.new ≡ 0))
-        (λ old new. Ended (call_advance now) result count.new old new × Advanced now result old new × Counted now result (value_of events.new) old new)
+        (λ old new. Ended (call_advance now) result count.new old new × Advanced now result old new
+        × Counted now result (value_of events.new) old new)
         scheduler.old.place.opened scheduler.new.place.opened }
 {
     *count = 0;
@@ -230,7 +235,8 @@ pub extern "C" fn p2p_completions(
     out: &mut [Done],
 ) -> usize
     ensures { OnHandle ((result ≡ 0) × (out.new ≡ out.old))
-        (λ old new. (new ≡ old) × (result ≡ min (length (records_from old first)) (length out.old)) × (out.new ≡ written (records_from old first) out.old))
+        (λ old new. (new ≡ old) × (result ≡ min (length (records_from old first)) (length out.old))
+        × (out.new ≡ written (records_from old first) out.old))
         scheduler.old.place.opened scheduler.new.place.opened }
 {
     let Some(opened) = scheduler.take(alloc) else {
@@ -252,7 +258,8 @@ pub extern "C" fn p2p_message(
     out: &mut [u8],
 ) -> usize
     ensures { OnHandle ((result ≡ 0) × (out.new ≡ out.old))
-        (λ old new. (new ≡ old) × (result ≡ min (length (bytes_from old index from)) (length out.old)) × (out.new ≡ written (bytes_from old index from) out.old))
+        (λ old new. (new ≡ old) × (result ≡ min (length (bytes_from old index from)) (length out.old))
+        × (out.new ≡ written (bytes_from old index from) out.old))
         scheduler.old.place.opened scheduler.new.place.opened }
 {
     let Some(opened) = scheduler.take(alloc) else {
