@@ -60,7 +60,7 @@ fn enqueue(
 }
 
 /// So many zero bytes.
-fn zeros(alloc: Global, length: usize) -> Result<Bytes, Error>
+pub(crate) fn zeros(alloc: Global, length: usize) -> Result<Bytes, Error>
     ensures bytes { IfOk result (λ bytes. bytes ≡ replicate length 0) }
     ensures refused { IfErr result (λ e. e ≡ Error.OutOfMemory) }
 {
