@@ -1,5 +1,5 @@
 -- Traces, call by call.
-use Rattle.std.proofs.Common.{◌≡◌, ◌⊎◌, ℕ, ◌-◌, ◌≤◌, List, [], ◌∷◌, ◌++◌, length, map, take, refl, sym, ap, ◌∙◌, arith, append_assoc, append-nil, replicate, ⊎_elim}
+use Rattle.std.proofs.Common.{◌≡◌, ◌⊎◌, ℕ, ◌-◌, ◌≤◌, List, [], ◌∷◌, ◌++◌, length, map, take, drop, Option, None, Some, subst, take-append-drop, refl, sym, ap, ◌∙◌, arith, append_assoc, append-nil, replicate, ⊎_elim}
 use Rattle.std.specs.List.{flat_map, slice_range}
 use Rattle.std.proofs.lemmas.List.{map-append, take-replicate}
 use Rattle.link_scheduler.specs.Message.{completed_of}
@@ -8,7 +8,8 @@ use Rattle.link_scheduler.specs.declared.replay.Call as replay_call
 use Rattle.link_scheduler.specs.declared.replay.Reply as replay_reply
 use Rattle.link_scheduler.specs.declared.transmitter.completion.Completion.{Completion}
 use Rattle.link_scripts.specs.Answer.{done_text, done_line}
-use Rattle.link_scripts.specs.Trace.{call_in, call_line, world_call, completed_line, reply_text, transcript_of}
+use Rattle.std.specs.Option.{IfSome}
+use Rattle.link_scripts.specs.Trace.{IsClosed, call_in, call_line, world_call, completed_line, reply_text, transcript_of}
 use Rattle.link_scripts.specs.declared.linkcheck.asked.Asked.{Asked}
 
 -- the lines of completions in the code are those of the completions
@@ -49,3 +50,15 @@ none_told (a ∷ xs) = refl
 pub all_told : (xs : List Asked) (rs : List (replay_reply.Reply ℕ)) (old all : List ℕ) → (xs ≡ []) ⊎ (rs ≡ []) → old ++ told_of xs rs ≡ all → old ≡ all
 all_told xs rs old all over h =
     sym (append-nil old) ∙ ap (λ text. old ++ text) (sym (⊎_elim (λ e. ap (λ l. told_of l rs) e) (λ e. ap (told_of xs) e ∙ none_told xs) over)) ∙ h
+
+-- ---- the text of a trace
+
+-- the front of a text and its rest
+pub front_and_rest : (text front rest head : List ℕ) (k : ℕ) → front ≡ take k text → rest ≡ drop k text → front ≡ head → text ≡ head ++ rest
+front_and_rest text front rest head k first second is =
+    sym (take-append-drop k text) ∙ ap (λ xs. xs ++ drop k text) (sym first ∙ is) ∙ ap (λ xs. head ++ xs) (sym second)
+
+-- what was read after nothing, closed
+pub closed_of_known : (known : Option (List ℕ)) (start read text : List ℕ) → start ≡ [] → IfSome known (λ xs. read ≡ start ++ xs) → IsClosed text read → IfSome known (IsClosed text)
+closed_of_known None start read text empty gave closed = tt
+closed_of_known (Some xs) start read text empty gave closed = subst (IsClosed text) (gave ∙ ap (λ front. front ++ xs) empty) closed

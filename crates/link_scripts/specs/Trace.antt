@@ -1,5 +1,5 @@
 -- Traces: the calls of a scheduler, each with the lines that answer it. A trace and a line are lists of bytes.
-use Rattle.std.specs.Prelude.{◌≡◌, ⊤, ℕ, ◌≤◌, List, [], ◌∷◌, ◌++◌, length, map, codes, decimal, Result, Ok, Err}
+use Rattle.std.specs.Prelude.{◌≡◌, ◌⊎◌, ⊤, ℕ, ◌≤◌, List, [], ◌∷◌, ◌++◌, length, map, codes, decimal, Option, None, Some, Result, Ok, Err}
 use Rattle.std.specs.List.{flat_map}
 use Rattle.std.specs.Ordering.{nat_cmp}
 use Rattle.link_scripts.specs.declared.linkcheck.asked.Asked.{Asked}
@@ -15,6 +15,8 @@ use Rattle.link_scripts.specs.declared.linkcheck.Verdict.{Verdict}
 use Rattle.link_scripts.specs.declared.linkcheck.Verdict.TheVariants as verdicts
 use Rattle.link_simulation.specs.World.{Completed, new_world}
 use Rattle.link_simulation.specs.WorldCalls as world
+use Rattle.link_simulation.specs.WorldPlanned.{new_planned}
+use Rattle.link_simulation.specs.WorldRefusals.{Obeyed}
 use Rattle.link_simulation.specs.WorldReplies.{Reply, reply_done, reply_next, reply_refused, Agrees}
 
 -- the call of a line
@@ -55,6 +57,34 @@ pub record IsTranscript (trace : List ℕ) : Type 0 where
   pub replies : List (Reply ℕ)
   pub written : trace ≡ transcript_of calls replies
   pub agrees : Agrees nat_cmp (new_world 0) (map world_call calls) replies
+  -- and keep to the event rule, at any moments
+  pub obeys : Obeyed nat_cmp (new_planned 0) (map world_call calls) replies
+
+-- the line that sets a tolerance, with its end byte
+abbrev pub tolerance_line : ℕ → List ℕ
+tolerance_line n = codes "tolerance " ++ (decimal n ++ 10 ∷ [])
+
+-- the trace is what stands after the line of the tolerance, if there is one
+abbrev pub IsAfterTolerance : List ℕ → Option ℕ → List ℕ → Type 0
+IsAfterTolerance text None trace = trace ≡ text
+IsAfterTolerance text (Some tolerance) trace = text ≡ tolerance_line tolerance ++ trace
+
+-- the text is a transcript, after the line of a tolerance or with none
+pub record IsHeadedTranscript (text : List ℕ) : Type 0 where
+  pub tolerance : Option ℕ
+  pub trace : List ℕ
+  pub after : IsAfterTolerance text tolerance trace
+  pub transcript : IsTranscript trace
+
+-- the text is the bytes, or the bytes and the end byte that the last line lacks
+abbrev pub IsClosed : List ℕ → List ℕ → Type 0
+IsClosed text bytes = (text ≡ bytes) ⊎ (text ≡ bytes ++ 10 ∷ [])
+
+-- the bytes are a transcript so
+pub record IsAgreed (bytes : List ℕ) : Type 0 where
+  pub text : List ℕ
+  pub closed : IsClosed text bytes
+  pub headed : IsHeadedTranscript text
 
 -- moments are off by no more than the tolerance
 abbrev pub IsWithin : Verdict → ℕ → Type 0

@@ -1,7 +1,7 @@
 //! Whether a trace is what the simulation does: the calls of a scheduler, and the lines that
 //! another simulator answered to each.
-ghost use Rattle.std.specs.Prelude.{◌≡◌, IfOk, Some};
-ghost use Rattle.link_scripts.specs.Trace.{IsTranscript, IsWithin, fault_text, verdict_status};
+ghost use Rattle.std.specs.Prelude.{◌≡◌, IfOk, IfSome, OnOk, Some};
+ghost use Rattle.link_scripts.specs.Trace.{IsTranscript, IsWithin, IsHeadedTranscript, IsClosed, IsAgreed, fault_text, verdict_status};
 
 mod asked;
 mod calls;
@@ -115,31 +115,73 @@ pub fn run<R: Read, W: Write>(
     alloc: Global,
     input: &mut R,
     output: &mut W,
-) -> Result<Verdict, Fault> {
-    let mut text = Vec::new(alloc);
-    input.read_to_end(&mut text).map_err(fault_of)?;
-    if text.last().is_some_and(|byte| *byte != asked::NEWLINE) {
-        text.push(asked::NEWLINE).map_err(|_| Fault::NoMemory)?;
-    }
-    let (tolerance, trace) = tolerance::split(&text);
-    let before = u64::from(tolerance.is_some());
-    let verdict = match check(alloc, trace, tolerance.unwrap_or(0)) {
-        Ok(Verdict::Differs(difference)) => Verdict::Differs(difference.after(before)),
-        Ok(verdict) => verdict,
-        Err(Fault::BadLine(line)) => return Err(Fault::BadLine(line.saturating_add(before))),
-        Err(fault) => return Err(fault),
-    };
+) -> Result<Verdict, Fault>
+    ensures agrees { IfOk result (λ verdict.
+        verdict ≡ Verdict.Agrees → IfSome (R.remaining input.old) IsAgreed) }
+{
+    let text = read(alloc, input)?;
+    let verdict = judge(alloc, &text)?;
     match print(output, &verdict) {
         Ok(()) => Ok(verdict),
         Err(_) => Err(Fault::InputOutput),
     }
 }
 
+/// Reads to the end. Where the last line lacks its end byte, that one is there too.
+#[tactic(auto, using(crate::proofs::Tracing::closed_of_known))]
+fn read<R: Read>(alloc: Global, input: &mut R) -> Result<Vec<u8>, Fault>
+    ensures { IfOk result (λ text. IfSome (R.remaining input.old) (IsClosed text.items)) }
+{
+    let mut text = Vec::new(alloc);
+    match input.read_to_end(&mut text) {
+        Ok(_) => (),
+        Err(error) => return Err(fault_of(&error)),
+    }
+    close(&mut text)?;
+    Ok(text)
+}
+
+/// Gives the last line its end byte, where it lacks that.
+fn close(text: &mut Vec<u8>) -> Result<(), Fault>
+    ensures { OnOk result (IsClosed text.new.items text.old.items) }
+{
+    if text.is_empty() || text.ends_with(&[asked::NEWLINE]) {
+        return Ok(());
+    }
+    match text.push(asked::NEWLINE) {
+        Ok(()) => Ok(()),
+        Err(_) => Err(Fault::NoMemory),
+    }
+}
+
 /// The fault of a read.
-fn fault_of(error: io::Error) -> Fault {
+fn fault_of(error: &io::Error) -> Fault {
     match error.kind() {
         io::ErrorKind::OutOfMemory => Fault::NoMemory,
         _ => Fault::InputOutput,
+    }
+}
+
+/// Compares the trace with the simulation, within the tolerance that the first line may set.
+fn judge(alloc: Global, text: &[u8]) -> Result<Verdict, Fault>
+    ensures { IfOk result (λ verdict. verdict ≡ Verdict.Agrees → IsHeadedTranscript text.now) }
+{
+    let (tolerance, trace) = tolerance::split(alloc, text)?;
+    let before = u64::from(tolerance.is_some());
+    match check(alloc, trace, tolerance.unwrap_or(0)) {
+        Ok(verdict) => Ok(after(verdict, before)),
+        Err(Fault::BadLine(line)) => Err(Fault::BadLine(line.saturating_add(before))),
+        Err(fault) => Err(fault),
+    }
+}
+
+/// The same verdict, with so many lines before the trace.
+fn after(verdict: Verdict, lines: u64) -> Verdict
+    ensures { result ≡ Verdict.Agrees → verdict ≡ Verdict.Agrees }
+{
+    match verdict {
+        Verdict::Differs(difference) => Verdict::Differs(difference.after(lines)),
+        verdict => verdict,
     }
 }
 

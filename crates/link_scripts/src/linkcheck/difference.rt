@@ -69,10 +69,9 @@ pub(crate) fn compare(
     ensures not_agreed { IfOk result (λ verdict. verdict ≢ Verdict.Agrees) }
 {
     let mut off = 0u64;
-    let mut line = 0u64;
+    let mut line = 1u64;
     let (mut said, mut told) = (trace, simulated);
     for _ in 0..trace.len() {
-        line = line.saturating_add(1);
         let (first, second) = (split_line(said), split_line(told));
         let (Some((first, said_after)), Some((second, told_after))) = (first, second) else {
             break;
@@ -85,10 +84,11 @@ pub(crate) fn compare(
         }
         said = said_after;
         told = told_after;
+        line = line.saturating_add(1);
     }
     match (first_line(said), first_line(told)) {
         (None, None) => Ok(Verdict::Within(off)),
-        (first, second) => differs(alloc, line.saturating_add(1), first, second, None),
+        (first, second) => differs(alloc, line, first, second, None),
     }
 }
 
