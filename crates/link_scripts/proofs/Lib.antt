@@ -5,4 +5,5 @@ pub mod Numerals
 pub mod Printing
 pub mod Reading
 pub mod Splitting
+pub mod Tracing
 pub mod Wording

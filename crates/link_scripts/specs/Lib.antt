@@ -4,4 +4,5 @@ pub mod Outcome
 pub mod Schedule
 pub mod Script
 pub mod Session
+pub mod Trace
 pub mod Words

@@ -1,4 +1,5 @@
 //! The language of `linkrun`: scripts of flows, caps, messages and moments.
 #![tactic(auto)]
 
+pub mod linkcheck;
 pub mod linkrun;

@@ -2,13 +2,13 @@
 ghost use Rattle.std.specs.Prelude.{◌≡◌, Some, IfOk};
 ghost use Rattle.link_scripts.specs.Outcome.{status_of, message_of, CountsFromOne};
 
-mod answer;
-mod command;
+pub(crate) mod answer;
+pub(crate) mod command;
 mod line;
-mod schedule;
+pub(crate) mod schedule;
 mod session;
-mod word;
-mod zeros;
+pub(crate) mod word;
+pub(crate) mod zeros;
 
 use crate::linkrun::command::Command;
 use crate::linkrun::line::LineEnd;

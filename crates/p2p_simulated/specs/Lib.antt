@@ -70,4 +70,5 @@ pub use Rattle.link_scripts.specs.Outcome
 pub use Rattle.link_scripts.specs.Schedule
 pub use Rattle.link_scripts.specs.Script
 pub use Rattle.link_scripts.specs.Session
+pub use Rattle.link_scripts.specs.Trace
 pub use Rattle.link_scripts.specs.Words

@@ -33,11 +33,16 @@ pub(crate) fn print<W: Write>(output: &mut W, answer: Result<Answer, Error>) -> 
         Ok(Answer::Rates(rates)) => print_rates(output, &rates),
         Ok(Answer::Done(completions)) => print_completions(output, &completions),
         Ok(Answer::Next(moment)) => print_next(output, moment),
-        Err(error) => {
-            let number = number_of(error);
-            writeln!(output, "refused {number} {error}")
-        }
+        Err(error) => print_refusal(output, error),
     }
+}
+
+/// Prints why a command was refused.
+pub(crate) fn print_refusal<W: Write>(output: &mut W, error: Error) -> io::Result<()>
+    ensures { OnOk result (Appends (W.contents output.old) (W.contents output.new) (refusal_line error)) }
+{
+    let number = number_of(error);
+    writeln!(output, "refused {number} {error}")
 }
 
 /// Prints the rates by ascending id.
@@ -65,7 +70,10 @@ fn print_rate<W: Write>(output: &mut W, id: u64, rate: Rate) -> io::Result<()>
 }
 
 /// Prints what became of messages, a line each.
-fn print_completions<W: Write>(output: &mut W, completions: &[Completion<u64>]) -> io::Result<()>
+pub(crate) fn print_completions<W: Write>(
+    output: &mut W,
+    completions: &[Completion<u64>],
+) -> io::Result<()>
     ensures { OnOk result (Appends (W.contents output.old) (W.contents output.new) (done_text completions.now)) }
 {
     for completion in completions {
@@ -87,7 +95,7 @@ fn print_completion<W: Write>(output: &mut W, completion: &Completion<u64>) -> i
 }
 
 /// Prints the moment of the next event.
-fn print_next<W: Write>(output: &mut W, moment: Option<u64>) -> io::Result<()>
+pub(crate) fn print_next<W: Write>(output: &mut W, moment: Option<u64>) -> io::Result<()>
     ensures { OnOk result (Appends (W.contents output.old) (W.contents output.new) (next_line moment)) }
 {
     write!(output, "next ")?;

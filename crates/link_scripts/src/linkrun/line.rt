@@ -38,7 +38,8 @@ pub(crate) fn next_line<R: Read, W: Write + Drop>(
     ensures length { IfOk result (λ end. IsLengthOf end (length line.new.items)) }
     ensures one_line { IfOk result (λ _. LacksEndByte line.new.items) }
     ensures front { IfOk result (λ end. IfSome (reader_remaining R.remaining input.old) (IsFrontOf end line.new.items)) }
-    ensures taken { OnOk result (IsTaken input.old line.new.items input.new ⊎ (writer_buffer output.new ≡ [])) }
+    ensures taken { OnOk result
+        (IsTaken input.old line.new.items input.new ⊎ (writer_buffer output.new ≡ [])) }
     ensures written { AsksAfterWriting input.old input.new output.new }
     ensures contents { Keeps (writer_contents W.contents output.old) (writer_contents W.contents output.new) }
 {

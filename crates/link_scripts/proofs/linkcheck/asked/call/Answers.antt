@@ -1,0 +1,8 @@
+use Rattle.std.proofs.Common.{rules, ◌≡◌, Some}
+use Rattle.link_scripts.specs.declared.linkrun.command.Command.TheVariants as commands
+use Rattle.link_scripts.proofs.linkcheck.asked.call.Goals as goal
+
+pub invariant_of-result : goal.invariant_of-result
+invariant_of-result c =
+    let says : c.parse.result ≡ Some (commands.Schedule c.in-Some-Schedule.call) = search rules in
+    record { written = ((c.parse.ensures (commands.Schedule c.in-Some-Schedule.call)).0 says).0 }

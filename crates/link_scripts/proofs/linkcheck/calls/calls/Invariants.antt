@@ -1,0 +1,8 @@
+use Rattle.std.proofs.Common.{◌≡◌, map, take}
+use Rattle.link_scheduler.specs.Replay.{call_of}
+use Rattle.link_scripts.specs.Trace.{world_call, call_in}
+use Rattle.link_scripts.proofs.linkcheck.calls.calls.Given as goal
+
+-- the calls so far
+abbrev pub invariant-loop-one : goal.invariant-loop-one
+invariant-loop-one l = map call_of l.calls.items ≡ map world_call (map call_in (take l.one-index l.asked))

@@ -1,0 +1,108 @@
+-- Traces: the calls of a scheduler, each with the lines that answer it. A trace and a line are lists of bytes.
+use Rattle.std.specs.Prelude.{◌≡◌, ◌⊎◌, ⊤, ℕ, ◌≤◌, List, [], ◌∷◌, ◌++◌, length, map, codes, decimal, Option, None, Some, Result, Ok, Err}
+use Rattle.std.specs.List.{flat_map}
+use Rattle.std.specs.Ordering.{nat_cmp}
+use Rattle.link_scripts.specs.declared.linkcheck.asked.Asked.{Asked}
+use Rattle.link_scripts.specs.declared.linkrun.command.Call.{Call}
+use Rattle.link_scripts.specs.declared.linkrun.command.Call.TheVariants as calls
+use Rattle.link_scripts.specs.declared.linkrun.command.Command.TheVariants as commands
+use Rattle.link_scripts.specs.Answer.{moment_word, next_line, refusal_line}
+use Rattle.link_scripts.specs.Schedule.{message_of}
+use Rattle.link_scripts.specs.Script.{line_of}
+use Rattle.link_scripts.specs.declared.linkcheck.Fault.{Fault}
+use Rattle.link_scripts.specs.declared.linkcheck.Fault.TheVariants as faults
+use Rattle.link_scripts.specs.declared.linkcheck.Verdict.{Verdict}
+use Rattle.link_scripts.specs.declared.linkcheck.Verdict.TheVariants as verdicts
+use Rattle.link_simulation.specs.World.{Completed, new_world}
+use Rattle.link_simulation.specs.WorldCalls as world
+use Rattle.link_simulation.specs.WorldPlanned.{new_planned}
+use Rattle.link_simulation.specs.WorldRefusals.{Obeyed}
+use Rattle.link_simulation.specs.WorldReplies.{Reply, reply_done, reply_next, reply_refused, Agrees}
+
+-- the call of a line
+abbrev pub call_in : Asked → Call
+call_in asked = asked.call
+
+-- a call as it is made of the world
+abbrev pub world_call : Call → world.Call ℕ
+world_call (calls.Limit now peer egress ingress) = world.call_limit now peer egress ingress
+world_call (calls.LimitLink now origin recipient cap) = world.call_limit_link now origin recipient cap
+world_call (calls.Enqueue parcel) = world.call_enqueue parcel.now (message_of parcel)
+world_call (calls.Advance now) = world.call_advance now
+world_call calls.Next = world.call_next
+
+-- the line of a call, with its end byte
+abbrev pub call_line : Call → List ℕ
+call_line call = line_of (commands.Schedule call) ++ 10 ∷ []
+
+-- the line of a completion: its origin, its recipient, its channel, its length, and when it arrives
+abbrev pub completed_line : Completed ℕ → List ℕ
+completed_line c = codes "done " ++ decimal c.origin ++ codes " " ++ decimal c.recipient ++ codes " " ++ decimal c.channel ++ codes " " ++ decimal (length c.bytes) ++ codes " " ++ moment_word c.deliver_at ++ 10 ∷ []
+
+-- the lines of a reply: one for each completion, the next event, or the refusal
+abbrev pub reply_text : Reply ℕ → List ℕ
+reply_text (reply_done completions) = flat_map completed_line completions
+reply_text (reply_next moment) = next_line moment
+reply_text (reply_refused why) = refusal_line why
+
+-- the line of each call, and after it the lines of its reply
+abbrev pub transcript_of : List Call → List (Reply ℕ) → List ℕ
+transcript_of [] replies = []
+transcript_of (call ∷ calls) [] = []
+transcript_of (call ∷ calls) (reply ∷ replies) = call_line call ++ (reply_text reply ++ transcript_of calls replies)
+
+-- the trace is the transcript of calls and of the replies that the simulation gives to them
+pub record IsTranscript (trace : List ℕ) : Type 0 where
+  pub calls : List Call
+  pub replies : List (Reply ℕ)
+  pub written : trace ≡ transcript_of calls replies
+  pub agrees : Agrees nat_cmp (new_world 0) (map world_call calls) replies
+  -- and keep to the event rule, at any moments
+  pub obeys : Obeyed nat_cmp (new_planned 0) (map world_call calls) replies
+
+-- the line that sets a tolerance, with its end byte
+abbrev pub tolerance_line : ℕ → List ℕ
+tolerance_line n = codes "tolerance " ++ (decimal n ++ 10 ∷ [])
+
+-- the trace is what stands after the line of the tolerance, if there is one
+abbrev pub IsAfterTolerance : List ℕ → Option ℕ → List ℕ → Type 0
+IsAfterTolerance text None trace = trace ≡ text
+IsAfterTolerance text (Some tolerance) trace = text ≡ tolerance_line tolerance ++ trace
+
+-- the text is a transcript, after the line of a tolerance or with none
+pub record IsHeadedTranscript (text : List ℕ) : Type 0 where
+  pub tolerance : Option ℕ
+  pub trace : List ℕ
+  pub after : IsAfterTolerance text tolerance trace
+  pub transcript : IsTranscript trace
+
+-- the text is the bytes, or the bytes and the end byte that the last line lacks
+abbrev pub IsClosed : List ℕ → List ℕ → Type 0
+IsClosed text bytes = (text ≡ bytes) ⊎ (text ≡ bytes ++ 10 ∷ [])
+
+-- the bytes are a transcript so
+pub record IsAgreed (bytes : List ℕ) : Type 0 where
+  pub text : List ℕ
+  pub closed : IsClosed text bytes
+  pub headed : IsHeadedTranscript text
+
+-- moments are off by no more than the tolerance
+abbrev pub IsWithin : Verdict → ℕ → Type 0
+IsWithin verdicts.Agrees tolerance = ⊤
+IsWithin (verdicts.Within off) tolerance = off ≤ tolerance
+IsWithin (verdicts.Differs difference) tolerance = ⊤
+
+-- what the program says of a fault, without the byte that ends a line
+abbrev pub fault_text : Fault → List ℕ
+fault_text (faults.BadLine number) = codes "bad line " ++ decimal number
+fault_text faults.InputOutput = codes "input or output fault"
+fault_text faults.NoMemory = codes "out of memory"
+
+-- the status with which the program ends
+abbrev pub verdict_status : Result Verdict Fault → ℕ
+verdict_status (Ok verdicts.Agrees) = 0
+verdict_status (Ok (verdicts.Within off)) = 0
+verdict_status (Ok (verdicts.Differs difference)) = 3
+verdict_status (Err faults.InputOutput) = 1
+verdict_status (Err faults.NoMemory) = 1
+verdict_status (Err (faults.BadLine number)) = 2

@@ -1,0 +1,47 @@
+//! The transcript of calls and replies.
+ghost use Rattle.std.specs.Prelude.{◌≡◌, ◌++◌, map, IfOk, OnOk};
+ghost use Rattle.std.specs.Io.KnownBytes.{Appends};
+ghost use Rattle.link_scheduler.specs.Replay.{reply_of};
+ghost use Rattle.link_scripts.specs.Trace.{transcript_of, call_in, call_line, reply_text};
+
+use crate::linkcheck::asked::{Asked, NEWLINE};
+use crate::linkrun::answer;
+use link_scheduler::replay::Reply;
+use std::alloc::Global;
+use std::io;
+use std::io::Write;
+
+/// The line of each call, and after it what a script prints of the reply.
+pub(crate) fn transcript(
+    alloc: Global,
+    asked: &[Asked<'_>],
+    replies: &[Reply<u64>],
+) -> io::Result<Vec<u8>>
+    ensures { IfOk result (λ text. text.items ≡ transcript_of (map call_in asked.now) (map reply_of replies.now)) }
+{
+    let mut text = Vec::new(alloc);
+    for (one, reply) in asked.iter().zip(replies) {
+        tell(&mut text, one, reply)?;
+    }
+    Ok(text)
+}
+
+/// Prints the line of a call, and what it is replied.
+fn tell(text: &mut Vec<u8>, asked: &Asked<'_>, reply: &Reply<u64>) -> io::Result<()>
+    ensures { OnOk result (text.new.items ≡ text.old.items ++ (call_line asked.now.call ++ reply_text (reply_of reply.now))) }
+{
+    text.extend_from_slice(asked.line)?;
+    text.push(NEWLINE)?;
+    print(text, reply)
+}
+
+/// Prints a reply, a line each.
+fn print<W: Write>(output: &mut W, reply: &Reply<u64>) -> io::Result<()>
+    ensures { OnOk result (Appends (W.contents output.old) (W.contents output.new) (reply_text (reply_of reply.now))) }
+{
+    match reply {
+        Reply::Done(completions) => answer::print_completions(output, completions),
+        Reply::Next(moment) => answer::print_next(output, *moment),
+        Reply::Refused(error) => answer::print_refusal(output, *error),
+    }
+}
