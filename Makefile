@@ -13,16 +13,24 @@ bin/linkrun: FORCE
 	cd crates/linkrun && rt run < /dev/null > /dev/null
 	cp crates/linkrun/out/linkrun bin/linkrun
 
+bin/linkcheck: FORCE
+	@mkdir -p bin
+	cd crates/linkcheck && rt run < /dev/null > /dev/null
+	cp crates/linkcheck/out/linkcheck bin/linkcheck
+
 # The gate: every proof from nothing, the edits that must fail, the tests and the program.
 test:
 	rt ci
 
-# Runs each example and compares what it prints, and the partner that asks line by line.
-examples: bin/linkrun
+# Runs each example and compares what it prints: scripts, the partner that asks line by line, and traces.
+examples: bin/linkrun bin/linkcheck
 	@for script in examples/*.link examples/generated/*.link; do \
 		./bin/linkrun < $$script 2>/dev/null | cmp - $${script%.link}.out && echo $$script || exit 1; \
 	done
 	@python3 examples/partner.py | cmp - examples/partner.out && echo examples/partner.py
+	@for trace in examples/traces/*.trace; do \
+		./bin/linkcheck < $$trace | cmp - $${trace%.trace}.out && echo $$trace || exit 1; \
+	done
 
 # The library for C, Rust and Python, in bin/bindings, and the tests of each language whose tools are there.
 bindings:
