@@ -10,26 +10,26 @@ use p2p_simulated::error::Error;
 use p2p_simulated::model::orderly::calls_lose_no_message;
 use p2p_simulated::transmitter::{Completion, State};
 
-/// Sends a request and a reply at one moment, and answers what completes at once. Each of the two
+/// Sends a question and a reply at one moment, and answers what completes at once. Each of the two
 /// is done, in flight or waiting, and just one of these, as is all that was there before.
 ///
 /// # Errors
 ///
-/// As of `State::enqueue`. The request may have been sent then.
+/// As of `State::enqueue`. The question may have been sent then.
 pub fn ask_and_answer(
     state: &mut State<u64>,
     now: u64,
     client: u64,
     server: u64,
-    request: Bytes,
+    question: Bytes,
     reply: Bytes,
 ) -> Result<Vec<Completion<u64>>, Error>
     ensures conserved { IfOk result (λ done. ∥ IsConserved nat_cmp (planned_of state.old)
-        (sent client server 0 request 0 true ∷ sent server client 0 reply 0 true ∷ [])
+        (sent client server 0 question 0 true ∷ sent server client 0 reply 0 true ∷ [])
         (map completed_of done.items) (planned_of state.new) ∥₁) }
 {
     calls_lose_no_message::<u64>();
-    let mut done = state.enqueue(now, client, server, 0, request, 0, true)?;
+    let mut done = state.enqueue(now, client, server, 0, question, 0, true)?;
     let mut more = state.enqueue(now, server, client, 0, reply, 0, true)?;
     done.append(&mut more)?;
     Ok(done)
