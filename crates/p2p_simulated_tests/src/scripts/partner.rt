@@ -45,6 +45,8 @@ impl Write for Counting<'_> {
 struct Asking<'a> {
     seen: &'a Seen,
     pieces: &'a [&'a str],
+    /// How many of the pieces were handed out.
+    given: usize,
     /// Flushed before each read.
     before: Vec<usize>,
 }
@@ -52,11 +54,12 @@ struct Asking<'a> {
 impl Read for Asking<'_> {
     fn read(&mut self, buf: &mut [u8]) -> io::Result<usize> {
         self.before.push(self.seen.flushed.get())?;
-        let Some((piece, rest)) = self.pieces.split_first() else {
-            return Ok(0);
-        };
-        self.pieces = rest;
-        piece.as_bytes().read(buf)
+        let place = self.given;
+        self.given = place.wrapping_add(1);
+        match self.pieces.get(place) {
+            Some(piece) => piece.as_bytes().read(buf),
+            None => Ok(0),
+        }
     }
 }
 
@@ -82,6 +85,7 @@ fn expect(
     let mut input = Asking {
         seen: &seen,
         pieces,
+        given: 0,
         before: Vec::new(rt.alloc()),
     };
     assert_eq!(rt; run(rt.alloc(), &mut input, &mut output), outcome);
