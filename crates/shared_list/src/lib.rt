@@ -1,0 +1,9 @@
+//! Lists whose clones share what they have in common.
+#![tactic(auto)]
+
+mod list;
+mod node;
+mod seek;
+
+pub use list::SharedList;
+pub use seek::Seek;
