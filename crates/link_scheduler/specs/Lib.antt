@@ -10,4 +10,5 @@ pub mod Progress
 pub mod Replay
 pub mod Starts
 pub mod State
+pub mod Waiting
 pub mod Working

@@ -7,14 +7,8 @@ use Rattle.link_simulation.specs.Sorted.{value_at}
 
 -- the cap on all that a peer sends
 abbrev pub egress_of : {P : Type 0} → (P → P → Ordering) → List (PeerCaps P) → P → Option ℕ
-egress_of cmp entries = value_at cmp (λ entry. entry.peer) (λ entry. entry.egress) None entries
+egress_of cmp entries = value_at cmp (λ entry. entry.peer.value) (λ entry. entry.egress) None entries
 
 -- the cap on all that a peer receives
 abbrev pub ingress_of : {P : Type 0} → (P → P → Ordering) → List (PeerCaps P) → P → Option ℕ
-ingress_of cmp entries = value_at cmp (λ entry. entry.peer) (λ entry. entry.ingress) None entries
-
--- the same caps, of an equal peer
-pub record IsSameEntry {P : Type 0} (cmp : P → P → Ordering) (a b : PeerCaps P) : Type 0 where
-  pub peer : cmp b.peer a.peer ≡ Equal
-  pub egress : b.egress ≡ a.egress
-  pub ingress : b.ingress ≡ a.ingress
+ingress_of cmp entries = value_at cmp (λ entry. entry.peer.value) (λ entry. entry.ingress) None entries

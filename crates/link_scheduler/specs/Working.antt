@@ -2,6 +2,8 @@
 use Rattle.std.specs.Prelude.{◌≡◌, ℕ, ◌*◌, Bool, false, ◌&&◌, List, length, map, Option, Some, None}
 use Rattle.std.specs.List.{filter, list_any}
 use Rattle.std.specs.declared.cmp.Ordering.{Ordering}
+use Rattle.std.specs.declared.rc.Rc.{Rc}
+use Rattle.std.specs.declared.alloc.Global.{Global}
 use Rattle.fair_rates.specs.declared.bandwidth.Flow.{Flow}
 use Rattle.fair_rates.specs.declared.bandwidth.parts.FairParts.{FairParts}
 use Rattle.fair_rates.specs.Fair.{IsFair}
@@ -18,29 +20,29 @@ use Rattle.link_simulation.specs.WorldMessages.{Message}
 use Rattle.link_simulation.specs.WorldPlanned.{Planned, paced_flows, may_launch}
 use Rattle.link_scheduler.specs.Message.{message_of}
 use Rattle.link_scheduler.specs.Peers.{egress_of, ingress_of}
-use Rattle.link_scheduler.specs.Pairs.{link_of, arrival_of, waiting_of}
+use Rattle.link_scheduler.specs.Pairs.{link_of, arrival_of}
 use Rattle.link_scheduler.specs.InFlight.{in_flight}
 
 -- the caps of peers and of ordered pairs
 abbrev pub caps_of : {P : Type 0} → (P → P → Ordering) → List (PeerCaps P) → List (Pair P) → Caps P
 caps_of cmp peers pairs = record { egress = egress_of cmp peers; ingress = ingress_of cmp peers; link = link_of cmp pairs }
 
+-- messages in the code
+abbrev pub messages : {P : Type 0} → List (Rc (code.Message P) Global) → List (Message P)
+messages ms = map (λ m. message_of m.value) ms
+
 -- a scheduler's state as a planned world
 abbrev pub planned : {P : Type 0} {a : _} {b : _} {c : _} → (P → P → Ordering) → Working P a b c → Planned P
 planned cmp w = record {
-  caps = caps_of cmp w.peers.entries.items w.pairs.entries.items;
+  caps = caps_of cmp w.peers.entries w.pairs.entries;
   limited = w.limited;
   sending = in_flight w.flights;
-  waiting = waiting_of w.pairs.entries.items;
-  last_arrival = arrival_of cmp w.pairs.entries.items;
+  waiting = map message_of w.waiting.messages;
+  last_arrival = arrival_of cmp w.pairs.entries;
   next_id = w.next_id;
   finish = w.finish;
   start = w.start;
 }
-
--- messages in the code
-abbrev pub messages : {P : Type 0} → List (code.Message P) → List (Message P)
-messages ms = map message_of ms
 
 -- whether a pair's first waiting message, if there is one, may start
 abbrev pub may_launch_first : {P : Type 0} → (P → P → Ordering) → ℕ → Planned P → Option (Message P) → Bool

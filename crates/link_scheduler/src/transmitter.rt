@@ -12,16 +12,20 @@ mod drain;
 mod event;
 mod events;
 mod flights;
+mod idle;
 mod look;
 mod message;
+mod moves;
 mod pairs;
 mod peers;
 mod progress;
 mod rate;
+mod waiting;
 mod working;
 
 use bytes::Bytes;
 pub use completion::Completion;
+use completion::answers_of;
 use fair_rates::error::Error;
 use fair_rates::peer::Peer;
 use message::Message;
@@ -138,7 +142,8 @@ impl<P: Peer> State<P> {
     {
         let mut working = self.kept.clone()?;
         working.limit_peer(peer, egress, ingress)?;
-        let completions = working.recap(now)?;
+        let ended = working.recap(now)?;
+        let completions = answers_of(working.alloc, &ended)?;
         self.kept = working;
         Ok(completions)
     }
@@ -175,7 +180,8 @@ impl<P: Peer> State<P> {
     {
         let mut working = self.kept.clone()?;
         working.limit_pair(origin, recipient, cap)?;
-        let completions = working.recap(now)?;
+        let ended = working.recap(now)?;
+        let completions = answers_of(working.alloc, &ended)?;
         self.kept = working;
         Ok(completions)
     }
@@ -242,7 +248,8 @@ impl<P: Peer> State<P> {
             return Ok(Vec::new(self.kept.alloc));
         }
         let mut working = self.kept.clone()?;
-        let completions = working.enqueue(now, message)?;
+        let ended = working.enqueue(now, message)?;
+        let completions = answers_of(working.alloc, &ended)?;
         self.kept = working;
         Ok(completions)
     }
@@ -293,7 +300,8 @@ impl<P: Peer> State<P> {
         ensures unchanged { OnErr result (self.new ≡ self.old) }
     {
         let mut working = self.kept.clone()?;
-        let (completions, events) = working.advance(now)?;
+        let (ended, events) = working.advance(now)?;
+        let completions = answers_of(working.alloc, &ended)?;
         self.kept = working;
         Ok((completions, events))
     }

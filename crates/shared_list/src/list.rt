@@ -68,6 +68,17 @@ impl<T: Drop> SharedList<T> {
         }
     }
 
+    /// The item at that place.
+    pub fn at(&self, at: usize) -> &T
+        requires { at < length self.now }
+        ensures { slice_get self.now at ≡ Some result.now }
+    {
+        match self.get(at) {
+            Some(item) => item,
+            None => unreachable!(),
+        }
+    }
+
     /// An item comes to stand at that place, before those from there on.
     ///
     /// # Errors

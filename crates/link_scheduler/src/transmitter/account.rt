@@ -4,12 +4,13 @@ ghost use Rattle.std.specs.List.{filter, list_all};
 ghost use Rattle.fair_rates.specs.declared.bandwidth.Flow.{Flow as AnyFlow};
 ghost use Rattle.link_simulation.specs.WorldPlanned.{Paced, paced_flows, drained_to, IsLeastMoment, SomeSpentAt, is_spent};
 ghost use Rattle.link_scheduler.specs.Message.{message_of};
-ghost use Rattle.link_scheduler.specs.Peers.{egress_of, ingress_of};
-ghost use Rattle.link_scheduler.specs.Pairs.{link_of};
+ghost use Rattle.link_scheduler.specs.Working.{caps_of, messages};
+ghost use Rattle.link_simulation.specs.WorldRates.{is_unlimited as is_free};
 ghost use Rattle.link_simulation.specs.WorldEvents.{Accounts};
 
 use super::drain::drain_all;
 use super::flights::Flights;
+use super::look::idle_from;
 use super::message::Message;
 use super::pairs::Pairs;
 use super::peers::Peers;
@@ -21,23 +22,21 @@ use fair_rates::peer::Peer;
 use natural::Natural;
 use std::alloc::Global;
 use std::collections::VecDeque;
+use std::rc::Rc;
 
-/// Whether the flow uses no capped side.
-fn is_unlimited<P: Peer>(flow: &Flow<P>, peers: &Peers<P>, pairs: &Pairs<P>) -> bool
-    ensures { result ≡ (is_none (egress_of P.cmp peers.now.entries.items flow.now.origin)
-        && (not flow.now.delivered || is_none (ingress_of P.cmp peers.now.entries.items flow.now.recipient))
-        && is_none (link_of P.cmp pairs.now.entries.items flow.now.origin flow.now.recipient)) }
+/// Whether the message uses no capped side.
+fn is_unlimited<P: Peer>(message: &Message<P>, peers: &Peers<P>, pairs: &Pairs<P>) -> bool
+    ensures { result ≡ is_free P.cmp (caps_of P.cmp peers.now.entries pairs.now.entries) (message_of message.now) }
 {
-    peers.egress(&flow.origin).is_none()
-        && (!flow.delivered || peers.ingress(&flow.recipient).is_none())
-        && pairs.cap(&flow.origin, &flow.recipient).is_none()
+    peers.egress(&message.origin).is_none()
+        && (!message.is_delivered() || peers.ingress(&message.recipient).is_none())
+        && pairs.cap(&message.origin, &message.recipient).is_none()
 }
 
 impl<P: Peer> Flights<P> {
     ghost use Rattle.link_scheduler.specs.Flights.{rated_by};
     ghost use Rattle.link_scheduler.specs.InFlight.{in_flight};
     ghost use Rattle.fair_rates.specs.FairParts.{product};
-    ghost use Rattle.link_scheduler.specs.Working.{caps_of};
 
     /// All drain to that moment.
     fn drain(&mut self, now: u64)
@@ -50,10 +49,10 @@ impl<P: Peer> Flights<P> {
     /// Whether the message at that place is done: nothing is left of it, or it uses no capped side.
     fn is_done(&self, at: usize, peers: &Peers<P>, pairs: &Pairs<P>) -> bool
         requires { at < length self.now.flows.items }
-        ensures { (d : Paced P) → result ≡ is_spent P.cmp (caps_of P.cmp peers.now.entries.items pairs.now.entries.items)
+        ensures { (d : Paced P) → result ≡ is_spent P.cmp (caps_of P.cmp peers.now.entries pairs.now.entries)
             (slice_index_or (in_flight self.now) at d) }
     {
-        self.progress[at].left.is_zero() || is_unlimited(&self.flows[at], peers, pairs)
+        self.progress[at].left.is_zero() || is_unlimited(&self.progress[at].message, peers, pairs)
     }
 
     /// Takes those that are done, in order of start.
@@ -62,10 +61,10 @@ impl<P: Peer> Flights<P> {
         alloc: Global,
         peers: &Peers<P>,
         pairs: &Pairs<P>,
-    ) -> Result<VecDeque<Message<P>>, Error>
-        ensures done { IfOk result (λ done. map message_of done.items ≡ paced_flows (filter (is_spent P.cmp (caps_of P.cmp peers.now.entries.items pairs.now.entries.items))
+    ) -> Result<VecDeque<Rc<Message<P>>>, Error>
+        ensures done { IfOk result (λ done. messages done.items ≡ paced_flows (filter (is_spent P.cmp (caps_of P.cmp peers.now.entries pairs.now.entries))
             (in_flight self.old))) }
-        ensures rest { OnOk result (in_flight self.new ≡ filter (λ f. not (is_spent P.cmp (caps_of P.cmp peers.now.entries.items pairs.now.entries.items) f))
+        ensures rest { OnOk result (in_flight self.new ≡ filter (λ f. not (is_spent P.cmp (caps_of P.cmp peers.now.entries pairs.now.entries) f))
             (in_flight self.old)) }
         ensures others { (test : AnyFlow P → Bool) → list_all test self.old.flows.items ≡ true → list_all test self.new.flows.items ≡ true }
         ensures refused { IfErr result (λ e. e ≡ Error.OutOfMemory) }
@@ -115,11 +114,11 @@ impl<P: Peer> Flights<P> {
 }
 
 impl<P: Peer> Working<P> {
-    ghost use Rattle.link_scheduler.specs.Working.{planned, messages, caps_of, AreFairPartsUnder};
+    ghost use Rattle.link_scheduler.specs.Working.{planned, AreFairPartsUnder};
 
     /// All that is in flight drains to that moment. What is done leaves, in order of start, and the
     /// rest gets its fair rates. The finish is planned anew.
-    pub(crate) fn account(&mut self, now: u64) -> Result<VecDeque<Message<P>>, Error>
+    pub(crate) fn account(&mut self, now: u64) -> Result<VecDeque<Rc<Message<P>>>, Error>
         ensures accounts { IfOk result (λ leavers. Accounts P.cmp now (planned P.cmp self.old) (messages leavers.items) (planned P.cmp self.new)) }
         ensures refused { IfErr result (λ e. e ≡ Error.OutOfMemory) }
     {
@@ -127,6 +126,18 @@ impl<P: Peer> Working<P> {
         let done = self
             .flights
             .take_done(self.alloc, &self.peers, &self.pairs)?;
+        for message in &done {
+            let (origin, recipient) = (&message.origin, &message.recipient);
+            if let Some(moment) = idle_from(
+                &self.flights,
+                &self.waiting,
+                &self.pairs,
+                origin,
+                recipient,
+            ) {
+                self.idle.add(self.alloc, origin, recipient, moment)?;
+            }
+        }
         self.flights.renew_units();
         let rates = self.rates()?;
         self.finish = self.flights.set_rates(rates, now)?;
@@ -135,7 +146,7 @@ impl<P: Peer> Working<P> {
 
     /// The fair rate of each flow in flight.
     fn rates(&self) -> Result<FairParts, Error>
-        ensures fair { IfOk result (AreFairPartsUnder P.cmp (caps_of P.cmp self.now.peers.entries.items self.now.pairs.entries.items) self.now.flights.flows.items self.now.flights.scale) }
+        ensures fair { IfOk result (AreFairPartsUnder P.cmp (caps_of P.cmp self.now.peers.entries self.now.pairs.entries) self.now.flights.flows.items self.now.flights.scale) }
         ensures refused { IfErr result (λ e. e ≡ Error.OutOfMemory) }
     {
         fair_parts(

@@ -1,11 +1,16 @@
 //! What is answered of a message.
-ghost use Rattle.std.specs.Prelude.{◌≡◌, IfOk, IfErr};
+ghost use Rattle.std.specs.Prelude.{◌≡◌, map, IfOk, IfErr};
+ghost use Rattle.std.specs.List.{AllZip};
 ghost use Rattle.std.specs.declared.cmp.Ordering.TheVariants.{Equal};
+ghost use Rattle.link_simulation.specs.WorldReplies.{SameCompletion};
+ghost use Rattle.link_scheduler.specs.Message.{completed_of, ended_of};
 
 use super::message::Message;
 use bytes::Bytes;
 use fair_rates::error::Error;
 use fair_rates::peer::Peer;
+use std::alloc::Global;
+use std::rc::Rc;
 
 /// What became of a message.
 #[derive(Drop)]
@@ -19,23 +24,46 @@ pub struct Completion<P> {
     pub deliver_at: Option<u64>,
 }
 
-impl<P: Peer> Completion<P> {
-    ghost use Rattle.link_simulation.specs.World.{completion_of};
-    ghost use Rattle.link_scheduler.specs.Message.{message_of, completed_of};
+/// A message that is done, with the moment at which it arrives.
+#[derive(Drop)]
+pub(crate) struct Ended<P> {
+    pub(crate) message: Rc<Message<P>>,
+    pub(crate) deliver_at: Option<u64>,
+}
 
-    /// The completion of a message.
-    pub(crate) fn of(message: Message<P>, deliver_at: Option<u64>) -> Completion<P>
-        ensures { completed_of result ≡ completion_of (message_of message) deliver_at }
+impl<P: Peer> Ended<P> {
+    /// What is answered of it: its peers are cloned, the bytes shared.
+    fn answer(&self) -> Result<Completion<P>, Error>
+        ensures same { IfOk result (λ answer. SameCompletion P.cmp (completed_of answer) (ended_of self.now)) }
+        ensures refused { IfErr result (λ e. e ≡ Error.OutOfMemory) }
     {
-        Completion {
-            origin: message.origin,
-            recipient: message.recipient,
+        let message = &self.message;
+        Ok(Completion {
+            origin: message.origin.clone_peer().ok_or(Error::OutOfMemory)?,
+            recipient: message.recipient.clone_peer().ok_or(Error::OutOfMemory)?,
             channel: message.channel,
-            message: message.bytes,
-            deliver_at,
-        }
+            message: message.bytes.slice(..)?,
+            deliver_at: self.deliver_at,
+        })
     }
+}
 
+/// What is answered of messages that are done.
+pub(crate) fn answers_of<P: Peer>(
+    alloc: Global,
+    ended: &[Ended<P>],
+) -> Result<Vec<Completion<P>>, Error>
+    ensures same { IfOk result (λ answers. AllZip (SameCompletion P.cmp) (map completed_of answers.items) (map ended_of ended.now)) }
+    ensures refused { IfErr result (λ e. e ≡ Error.OutOfMemory) }
+{
+    let mut answers = Vec::with_capacity(alloc, ended.len())?;
+    for one in ended {
+        answers.push(one.answer()?)?;
+    }
+    Ok(answers)
+}
+
+impl<P: Peer> Completion<P> {
     /// The same completion, its peers cloned. It shares the bytes.
     ///
     /// Its only error is `OutOfMemory`.

@@ -5,19 +5,20 @@ ghost use Rattle.link_simulation.specs.WorldMessages.{Message as AnyMessage};
 ghost use Rattle.link_simulation.specs.WorldPlanned.{next_of};
 ghost use Rattle.link_simulation.specs.WorldEvents.{Launches, Finishes, Settles, Wakes, Recaps, Enqueues, Advances, landed, completed_at_once};
 ghost use Rattle.link_simulation.specs.Refusing.{IsRefusedFor};
-ghost use Rattle.link_scheduler.specs.Message.{message_of, completed_of};
+ghost use Rattle.link_scheduler.specs.Message.{message_of, ended_of};
 ghost use Rattle.link_scheduler.specs.Pairs.{first_of, arrival_of};
 ghost use Rattle.link_scheduler.specs.Events.{IsDue, Happens};
 
-use super::completion::Completion;
+use super::completion::Ended;
 use super::event::Event;
-use super::look::{Key, ready_moment};
+use super::look::{Key, idle_from};
 use super::message::Message;
 use super::pairs::later_of;
 use super::working::Working;
 use fair_rates::error::Error;
 use fair_rates::peer::Peer;
 use std::collections::VecDeque;
+use std::rc::Rc;
 
 impl<P: Peer> Working<P> {
     ghost use Rattle.link_scheduler.specs.Working.{planned, messages, is_sending, may_launch_first, ready_messages};
@@ -27,13 +28,9 @@ impl<P: Peer> Working<P> {
     fn may_launch(&self, origin: &P, recipient: &P, now: u64) -> bool
         ensures { result ≡ may_launch_first P.cmp now (planned P.cmp self.now) (first_of P.cmp (planned P.cmp self.now).waiting origin.now recipient.now) }
     {
-        match self.pairs.first(origin, recipient) {
+        match idle_from(&self.flights, &self.waiting, &self.pairs, origin, recipient) {
+            Some(moment) => moment <= now,
             None => false,
-            Some(front) => {
-                let last = self.pairs.last_arrival(origin, recipient);
-                !self.flights.has_pair(origin, recipient)
-                    && ready_moment(last, front.latency) <= now
-            }
         }
     }
 
@@ -44,7 +41,7 @@ impl<P: Peer> Working<P> {
         origin: &P,
         recipient: &P,
         now: u64,
-    ) -> Result<VecDeque<Message<P>>, Error>
+    ) -> Result<VecDeque<Rc<Message<P>>>, Error>
         ensures launches { IfOk result (λ leavers. Launches P.cmp now (planned P.cmp self.old) (first_of P.cmp (planned P.cmp self.old).waiting origin.now recipient.now) (goes (messages leavers.items) (planned P.cmp self.new))) }
         ensures refused { IfErr result (IsRefusedFor (λ fault. Launches P.cmp now (planned P.cmp self.old)
             (first_of P.cmp (planned P.cmp self.old).waiting origin.now recipient.now) (meets fault))) }
@@ -55,12 +52,7 @@ impl<P: Peer> Working<P> {
         if self.next_id == u64::MAX {
             return Err(Error::FlowIdsUsedUp);
         }
-        let Some(message) = self.pairs.take_first(origin, recipient) else {
-            return Ok(VecDeque::new(self.alloc));
-        };
-        let id = self.next_id;
-        self.next_id += 1;
-        self.flights.push(message, id, now)?;
+        self.depart(origin, recipient, now)?;
         self.account(now)
     }
 
@@ -68,22 +60,25 @@ impl<P: Peer> Working<P> {
     /// done then is answered.
     fn complete(
         &mut self,
-        message: Message<P>,
+        message: Rc<Message<P>>,
         now: u64,
-        completions: &mut Vec<Completion<P>>,
-    ) -> Result<VecDeque<Message<P>>, Error>
-        ensures in_time { IfOk result (λ more. is_late P.cmp now (message_of message) ≡ false) }
-        ensures completion { IfOk result (λ more. map completed_of completions.new.items ≡ map completed_of completions.old.items ++ completed P.cmp now (message_of message) ∷ []) }
-        ensures launches { IfOk result (λ more. Launches P.cmp now (landed P.cmp now (planned P.cmp self.old) (message_of message)) (next_of P.cmp (planned P.cmp self.old) (message_of message)) (goes (messages more.items) (planned P.cmp self.new))) }
+        ended: &mut Vec<Ended<P>>,
+    ) -> Result<VecDeque<Rc<Message<P>>>, Error>
+        ensures in_time { IfOk result (λ more. is_late P.cmp now (message_of message.value) ≡ false) }
+        ensures completion { IfOk result (λ more. map ended_of ended.new.items ≡ map ended_of ended.old.items ++ completed P.cmp now (message_of message.value) ∷ []) }
+        ensures launches { IfOk result (λ more. Launches P.cmp now (landed P.cmp now (planned P.cmp self.old) (message_of message.value))
+            (next_of P.cmp (planned P.cmp self.old) (message_of message.value)) (goes (messages more.items) (planned P.cmp self.new))) }
         ensures refused { IfErr result (λ e. (ms : List (AnyMessage P)) →
-            IsRefusedFor (λ fault. Finishes P.cmp now (message_of message ∷ ms) (planned P.cmp self.old) (meets fault)) e) }
+            IsRefusedFor (λ fault. Finishes P.cmp now (message_of message.value ∷ ms) (planned P.cmp self.old) (meets fault)) e) }
     {
         let arrival = message.arrival(now)?;
         let deliver_at = message.is_delivered().then_some(arrival);
-        self.pairs
-            .raise(self.alloc, &message.origin, &message.recipient, arrival)?;
+        self.raise(&message.origin, &message.recipient, arrival)?;
         let more = self.launch(&message.origin, &message.recipient, now)?;
-        completions.push(Completion::of(message, deliver_at))?;
+        ended.push(Ended {
+            message,
+            deliver_at,
+        })?;
         Ok(more)
     }
 
@@ -91,17 +86,17 @@ impl<P: Peer> Working<P> {
     /// start is planned anew.
     fn finish(
         &mut self,
-        mut queue: VecDeque<Message<P>>,
+        mut queue: VecDeque<Rc<Message<P>>>,
         now: u64,
-        completions: &mut Vec<Completion<P>>,
+        ended: &mut Vec<Ended<P>>,
     ) -> Result<(), Error>
-        ensures finishes { IfOk result (λ done. (cs : List (Completed P)) × (map completed_of completions.new.items ≡ map completed_of completions.old.items ++ cs)
+        ensures finishes { IfOk result (λ done. (cs : List (Completed P)) × (map ended_of ended.new.items ≡ map ended_of ended.old.items ++ cs)
             × Finishes P.cmp now (messages queue.items) (planned P.cmp self.old) (goes cs (planned P.cmp self.new))) }
         ensures refused { IfErr result (IsRefusedFor
             (λ fault. Finishes P.cmp now (messages queue.items) (planned P.cmp self.old) (meets fault))) }
     {
         while let Some(message) = queue.pop_front() {
-            let mut more = self.complete(message, now, completions)?;
+            let mut more = self.complete(message, now, ended)?;
             queue.append(&mut more)?;
         }
         self.look(now);
@@ -109,66 +104,62 @@ impl<P: Peer> Working<P> {
     }
 
     /// An account, and the finishes of what left.
-    fn settle(&mut self, now: u64, completions: &mut Vec<Completion<P>>) -> Result<(), Error>
-        ensures settles { IfOk result (λ done. (cs : List (Completed P)) × (map completed_of completions.new.items ≡ map completed_of completions.old.items ++ cs)
+    fn settle(&mut self, now: u64, ended: &mut Vec<Ended<P>>) -> Result<(), Error>
+        ensures settles { IfOk result (λ done. (cs : List (Completed P)) × (map ended_of ended.new.items ≡ map ended_of ended.old.items ++ cs)
             × Settles P.cmp now (planned P.cmp self.old) (goes cs (planned P.cmp self.new))) }
         ensures refused { IfErr result (IsRefusedFor (λ fault. Settles P.cmp now (planned P.cmp self.old) (meets fault))) }
     {
         let queue = self.account(now)?;
-        self.finish(queue, now, completions)
+        self.finish(queue, now, ended)
     }
 
     /// The pairs that are ready start, in the order of pairs, each with its finishes.
-    fn wake(&mut self, now: u64, completions: &mut Vec<Completion<P>>) -> Result<(), Error>
-        ensures wakes { IfOk result (λ done. (cs : List (Completed P)) × (map completed_of completions.new.items ≡ map completed_of completions.old.items ++ cs)
+    fn wake(&mut self, now: u64, ended: &mut Vec<Ended<P>>) -> Result<(), Error>
+        ensures wakes { IfOk result (λ done. (cs : List (Completed P)) × (map ended_of ended.new.items ≡ map ended_of ended.old.items ++ cs)
             × Wakes P.cmp now (planned P.cmp self.old) (goes cs (planned P.cmp self.new))) }
         ensures refused { IfErr result (IsRefusedFor (λ fault. Wakes P.cmp now (planned P.cmp self.old) (meets fault))) }
     {
         let ready = self.ready(now)?;
         for pair in &ready {
             let queue = self.launch(&pair.origin, &pair.recipient, now)?;
-            self.finish(queue, now, completions)?;
+            self.finish(queue, now, ended)?;
         }
         self.look(now);
         Ok(())
     }
 
     /// What is done under new caps completes.
-    pub(crate) fn recap(&mut self, now: u64) -> Result<Vec<Completion<P>>, Error>
+    pub(crate) fn recap(&mut self, now: u64) -> Result<Vec<Ended<P>>, Error>
         requires { (planned P.cmp self.old).limited ≡ true }
-        ensures recaps { IfOk result (λ completions. Recaps P.cmp now (planned P.cmp self.old).caps (planned P.cmp self.old) (goes (map completed_of completions.items) (planned P.cmp self.new))) }
+        ensures recaps { IfOk result (λ ended. Recaps P.cmp now (planned P.cmp self.old).caps (planned P.cmp self.old) (goes (map ended_of ended.items) (planned P.cmp self.new))) }
         ensures refused { IfErr result (IsRefusedFor
             (λ fault. Recaps P.cmp now (planned P.cmp self.old).caps (planned P.cmp self.old) (meets fault))) }
     {
-        let mut completions = Vec::new(self.alloc);
+        let mut ended = Vec::new(self.alloc);
         if self.flights.is_empty() {
             self.look(now);
         } else {
-            self.settle(now, &mut completions)?;
+            self.settle(now, &mut ended)?;
         }
-        Ok(completions)
+        Ok(ended)
     }
 
     /// A message is sent.
-    pub(crate) fn enqueue(
-        &mut self,
-        now: u64,
-        message: Message<P>,
-    ) -> Result<Vec<Completion<P>>, Error>
-        ensures enqueues { IfOk result (λ completions. Enqueues P.cmp now (message_of message) (planned P.cmp self.old) (goes (map completed_of completions.items) (planned P.cmp self.new))) }
+    pub(crate) fn enqueue(&mut self, now: u64, message: Message<P>) -> Result<Vec<Ended<P>>, Error>
+        ensures enqueues { IfOk result (λ ended. Enqueues P.cmp now (message_of message) (planned P.cmp self.old) (goes (map ended_of ended.items) (planned P.cmp self.new))) }
         ensures refused { IfErr result (IsRefusedFor
             (λ fault. Enqueues P.cmp now (message_of message) (planned P.cmp self.old) (meets fault))) }
     {
-        let mut completions = Vec::new(self.alloc);
+        let mut ended = Vec::new(self.alloc);
         if !self.limited {
-            self.complete_at_once(now, message, &mut completions)?;
-            return Ok(completions);
+            self.complete_at_once(now, message, &mut ended)?;
+            return Ok(ended);
         }
         let pair = Key::new(&message.origin, &message.recipient)?;
-        self.pairs.push(self.alloc, message)?;
+        self.queue(&pair, message)?;
         let queue = self.launch(&pair.origin, &pair.recipient, now)?;
-        self.finish(queue, now, &mut completions)?;
-        Ok(completions)
+        self.finish(queue, now, &mut ended)?;
+        Ok(ended)
     }
 
     /// Whether a message of the pair has to wait: limits hold, and one of the pair is in flight.
@@ -178,25 +169,12 @@ impl<P: Peer> Working<P> {
         self.limited && self.flights.has_pair(origin, recipient)
     }
 
-    /// A message waits behind the one of its pair that is in flight.
-    pub(crate) fn wait(&mut self, now: u64, message: Message<P>) -> Result<(), Error>
-        requires limited { (planned P.cmp self.old).limited ≡ true }
-        requires busy { is_sending P.cmp (planned P.cmp self.old) message.origin message.recipient ≡ true }
-        ensures enqueues { OnOk result (Enqueues P.cmp now (message_of message) (planned P.cmp self.old) (goes [] (planned P.cmp self.new))) }
-        ensures unchanged { OnErr result (planned P.cmp self.new ≡ planned P.cmp self.old) }
-        ensures refused { IfErr result (λ e. e ≡ Error.OutOfMemory) }
-    {
-        self.pairs.push(self.alloc, message)?;
-        self.look(now);
-        Ok(())
-    }
-
     /// The moment at which a message arrives that completes at once: no earlier than its pair's
     /// last one; or `now`, if it is to be dropped.
     fn arrival_at_once(&self, message: &Message<P>, now: u64) -> Result<u64, Error>
         ensures in_time { IfOk result (λ moment. (message.now.should_deliver && nat_lt last_moment (now + message.now.latency)) ≡ false) }
         ensures moment { IfOk result (λ moment. moment ≡ (if message.now.should_deliver
-            then latest (arrival_of P.cmp self.now.pairs.entries.items message.now.origin message.now.recipient) (now + message.now.latency) else now)) }
+            then latest (arrival_of P.cmp self.now.pairs.entries message.now.origin message.now.recipient) (now + message.now.latency) else now)) }
         ensures refused { IfErr result (λ e. (e ≡ Error.MomentTooLate) × ((message.now.should_deliver && nat_lt last_moment (now + message.now.latency)) ≡ true)) }
     {
         if !message.should_deliver {
@@ -215,18 +193,21 @@ impl<P: Peer> Working<P> {
         &mut self,
         now: u64,
         message: Message<P>,
-        completions: &mut Vec<Completion<P>>,
+        ended: &mut Vec<Ended<P>>,
     ) -> Result<(), Error>
-        ensures completes { IfOk result (λ done. (c : Completed P) × (map completed_of completions.new.items ≡ map completed_of completions.old.items ++ c ∷ [])
+        ensures completes { IfOk result (λ done. (c : Completed P) × (map ended_of ended.new.items ≡ map ended_of ended.old.items ++ c ∷ [])
             × (completed_at_once P.cmp now (planned P.cmp self.old) (message_of message) ≡ goes (c ∷ []) (planned P.cmp self.new))) }
         ensures refused { IfErr result (IsRefusedFor
             (λ fault. completed_at_once P.cmp now (planned P.cmp self.old) (message_of message) ≡ meets fault)) }
     {
         let arrival = self.arrival_at_once(&message, now)?;
-        self.pairs
-            .raise(self.alloc, &message.origin, &message.recipient, arrival)?;
+        self.raise(&message.origin, &message.recipient, arrival)?;
         let deliver_at = message.should_deliver.then_some(arrival);
-        completions.push(Completion::of(message, deliver_at))?;
+        let message = Rc::new(self.alloc, message)?;
+        ended.push(Ended {
+            message,
+            deliver_at,
+        })?;
         Ok(())
     }
 
@@ -254,37 +235,37 @@ impl<P: Peer> Working<P> {
     }
 
     /// An event happens, and is planned no more.
-    fn happen(&mut self, event: Event, completions: &mut Vec<Completion<P>>) -> Result<(), Error>
-        ensures happens { IfOk result (λ done. (cs : List (Completed P)) × (map completed_of completions.new.items ≡ map completed_of completions.old.items ++ cs)
+    fn happen(&mut self, event: Event, ended: &mut Vec<Ended<P>>) -> Result<(), Error>
+        ensures happens { IfOk result (λ done. (cs : List (Completed P)) × (map ended_of ended.new.items ≡ map ended_of ended.old.items ++ cs)
             × Happens P.cmp event (planned P.cmp self.old) (goes cs (planned P.cmp self.new))) }
         ensures refused { IfErr result (IsRefusedFor (λ fault. Happens P.cmp event (planned P.cmp self.old) (meets fault))) }
     {
         match event {
             Event::Finish(moment) => {
                 self.finish = None;
-                self.settle(moment, completions)
+                self.settle(moment, ended)
             }
             Event::Start(moment) => {
                 self.start = None;
-                self.wake(moment, completions)
+                self.wake(moment, ended)
             }
         }
     }
 
     /// All events up to `now` happen, and what is ready then starts. Answers the number of events,
     /// too.
-    pub(crate) fn advance(&mut self, now: u64) -> Result<(Vec<Completion<P>>, u128), Error>
-        ensures advances { IfOk result (λ answer. Advances P.cmp now (planned P.cmp self.old) answer.1 (goes (map completed_of answer.0.items) (planned P.cmp self.new))) }
+    pub(crate) fn advance(&mut self, now: u64) -> Result<(Vec<Ended<P>>, u128), Error>
+        ensures advances { IfOk result (λ answer. Advances P.cmp now (planned P.cmp self.old) answer.1 (goes (map ended_of answer.0.items) (planned P.cmp self.new))) }
         ensures refused { IfErr result (IsRefusedFor
             (λ fault. (n : ℕ) × Advances P.cmp now (planned P.cmp self.old) n (meets fault))) }
     {
-        let mut completions = Vec::new(self.alloc);
+        let mut ended = Vec::new(self.alloc);
         let mut events = 0u128;
         while let Some(event) = self.due(now) {
-            self.happen(event, &mut completions)?;
+            self.happen(event, &mut ended)?;
             events += 1;
         }
-        self.wake(now, &mut completions)?;
-        Ok((completions, events))
+        self.wake(now, &mut ended)?;
+        Ok((ended, events))
     }
 }

@@ -1,9 +1,9 @@
 //! The messages in flight.
 ghost use Rattle.std.specs.Prelude.{◌≡◌, ℕ, ◌+◌, ◌<◌, [], ◌∷◌, ◌++◌, ◌&&◌, ◌==◌, Bool, true, map, length, nat_lt, Some, IfOk, IfErr, OnOk, slice_index_or};
-ghost use Rattle.std.specs.List.{list_all, list_any, remove};
+ghost use Rattle.std.specs.List.{AllZip, list_all, list_any, remove};
 ghost use Rattle.std.specs.Ordering.{nat_cmp};
 ghost use Rattle.link_simulation.specs.Sorted.{are_ascending};
-ghost use Rattle.link_scheduler.specs.Flights.{are_marked};
+ghost use Rattle.link_scheduler.specs.Flights.{StandsForSent};
 
 use super::message::Message;
 use super::progress::Progress;
@@ -12,6 +12,7 @@ use fair_rates::error::Error;
 use fair_rates::peer::Peer;
 use natural::Natural;
 use std::alloc::{AllocError, Global};
+use std::rc::Rc;
 
 /// Units of what is left in a byte, for each unit of a rate in a byte a second: nanoseconds in a
 /// second.
@@ -25,12 +26,12 @@ const UNITS_A_BYTE: u128 = 1_000_000_000;
 #[derive(Drop)]
 pub(crate) struct Flights<P: Peer> {
     pub(crate) flows: Vec<Flow<P>>,
-    pub(crate) progress: Vec<Progress>,
+    pub(crate) progress: Vec<Progress<P>>,
     pub(crate) scale: Natural,
     /// The different rates.
     pub(crate) levels: Vec<Natural>,
     pub ghost parallel: { length flows.items ≡ length progress.items },
-    pub ghost marked: { are_marked P.cmp flows.items progress.items ≡ true },
+    pub ghost stand: { AllZip (StandsForSent P.cmp) flows.items progress.items },
     pub ghost apart: { are_ascending nat_cmp (map (λ flow. flow.id) flows.items) ≡ true },
     pub ghost scaled: { 0 < scale },
 }
@@ -64,36 +65,34 @@ impl<P: Peer> Flights<P> {
 
     /// Whether a message of the pair is in flight.
     pub(crate) fn has_pair(&self, origin: &P, recipient: &P) -> bool
-        ensures { result ≡ list_any (λ flow. same_peer P.cmp origin.now flow.origin && same_peer P.cmp recipient.now flow.recipient) self.now.flows.items }
+        ensures { result ≡ list_any (λ s. same_peer P.cmp origin.now s.message.value.origin && same_peer P.cmp recipient.now s.message.value.recipient) self.now.progress.items }
     {
-        self.flows.iter().any(|flow| origin.cmp(&flow.origin).is_eq()
-            && recipient.cmp(&flow.recipient).is_eq())
+        self.progress.iter().any(|one| {
+            origin.cmp(&one.message.origin).is_eq() && recipient.cmp(&one.message.recipient).is_eq()
+        })
     }
 
     /// The message is in flight from now on, under an id above those of the others.
-    pub(crate) fn push(&mut self, message: Message<P>, id: u64, now: u64) -> Result<(), Error>
+    pub(crate) fn push(&mut self, message: Rc<Message<P>>, id: u64, now: u64) -> Result<(), Error>
         requires { list_all (λ flow. nat_lt flow.id id) self.old.flows.items ≡ true }
         ensures sending { OnOk result (in_flight self.new ≡ in_flight self.old
-            ++ record { message = message_of message; left = whole (length message.bytes); rate = Some (whole 0); updated = now } ∷ []) }
+            ++ record { message = message_of message.value; left = whole (length message.value.bytes); rate = Some (whole 0); updated = now } ∷ []) }
         ensures flow { (test : AnyFlow P → Bool) → list_all test self.old.flows.items ≡ true
             → ((flow : AnyFlow P) → flow.id ≡ id → test flow ≡ true) → list_all test self.new.flows.items ≡ true }
         ensures refused { IfErr result (λ e. e ≡ Error.OutOfMemory) }
     {
-        let delivered = message.is_delivered();
         let units = message.bytes.len() as u128 * UNITS_A_BYTE;
         let left = self.scale.product(units)?;
-        self.progress.reserve(1)?;
-        self.flows.push(Flow {
+        let flow = Flow {
             id,
-            origin: message.origin,
-            recipient: message.recipient,
-            delivered,
-        })?;
+            origin: message.origin.clone_peer().ok_or(Error::OutOfMemory)?,
+            recipient: message.recipient.clone_peer().ok_or(Error::OutOfMemory)?,
+            delivered: message.is_delivered(),
+        };
+        self.progress.reserve(1)?;
+        self.flows.push(flow)?;
         let progress = Progress {
-            channel: message.channel,
-            bytes: message.bytes,
-            latency: message.latency,
-            should_deliver: message.should_deliver,
+            message,
             left,
             level: None,
             updated: now,
@@ -103,23 +102,15 @@ impl<P: Peer> Flights<P> {
     }
 
     /// Takes the message at that place.
-    pub(crate) fn remove(&mut self, at: usize) -> Message<P>
+    pub(crate) fn remove(&mut self, at: usize) -> Rc<Message<P>>
         requires { at < length self.old.flows.items }
         ensures sending { in_flight self.new ≡ remove (in_flight self.old) at }
-        ensures taken { (d : Paced P) → message_of result ≡ (slice_index_or (in_flight self.old) at d).message }
+        ensures taken { (d : Paced P) → message_of result.value ≡ (slice_index_or (in_flight self.old) at d).message }
         ensures length { length self.new.flows.items + 1 ≡ length self.old.flows.items }
         ensures others { (test : AnyFlow P → Bool) → list_all test self.old.flows.items ≡ true → list_all test self.new.flows.items ≡ true }
     {
-        let flow = self.flows.remove(at);
-        let progress = self.progress.remove(at);
-        Message {
-            origin: flow.origin,
-            recipient: flow.recipient,
-            channel: progress.channel,
-            bytes: progress.bytes,
-            latency: progress.latency,
-            should_deliver: progress.should_deliver,
-        }
+        self.flows.remove(at);
+        self.progress.remove(at).message
     }
 }
 

@@ -1,17 +1,20 @@
 //! Which pairs are ready, and when the next one is.
-ghost use Rattle.std.specs.Prelude.{◌≡◌, ◌≤◌, true, IfOk, IfErr, IfSome};
-ghost use Rattle.std.specs.List.{AllZip};
+ghost use Rattle.std.specs.Prelude.{◌≡◌, ◌≤◌, ◌&&◌, true, map, IfOk, IfErr, IfSome};
+ghost use Rattle.std.specs.List.{AllZip, list_any};
 ghost use Rattle.fair_rates.specs.Sides.{same_peer};
 ghost use Rattle.link_simulation.specs.WorldEvents.{Looks};
-ghost use Rattle.link_simulation.specs.World.{last_moment};
-ghost use Rattle.link_scheduler.specs.Starts.{start_at, is_moment};
+ghost use Rattle.link_scheduler.specs.Message.{message_of};
 ghost use Rattle.link_scheduler.specs.Moments.{first_moment};
+ghost use Rattle.link_scheduler.specs.Pairs.{pair_cmp, arrival_of};
+ghost use Rattle.link_scheduler.specs.Starts.{idle_moment};
 
-use super::event::earlier;
-use super::pairs::Pair;
+use super::flights::Flights;
+use super::pairs::Pairs;
+use super::waiting::Waiting;
 use super::working::Working;
 use fair_rates::error::Error;
 use fair_rates::peer::Peer;
+use std::cmp::Ordering;
 
 /// An ordered pair of peers.
 #[derive(Drop)]
@@ -21,6 +24,15 @@ pub(crate) struct Key<P> {
 }
 
 impl<P: Peer> Key<P> {
+    /// How the pair stands to that of two peers: by origin, then by recipient.
+    pub(crate) fn compare(&self, origin: &P, recipient: &P) -> Ordering
+        ensures { result ≡ pair_cmp P.cmp (self.now.origin, self.now.recipient) (origin.now, recipient.now) }
+    {
+        self.origin
+            .cmp(origin)
+            .then_with(|| self.recipient.cmp(recipient))
+    }
+
     /// The pair of two peers, which are cloned.
     pub(crate) fn new(origin: &P, recipient: &P) -> Result<Key<P>, Error>
         ensures origin { IfOk result (λ key. same_peer P.cmp origin.now key.origin ≡ true) }
@@ -45,42 +57,34 @@ pub(crate) fn ready_moment(last_arrival: Option<u64>, latency: u64) -> u64
     }
 }
 
+/// The moment from which on the first waiting message of the pair may start, if one waits and the
+/// pair is idle.
+pub(crate) fn idle_from<P: Peer>(
+    flights: &Flights<P>,
+    waiting: &Waiting<P>,
+    pairs: &Pairs<P>,
+    origin: &P,
+    recipient: &P,
+) -> Option<u64>
+    ensures { result ≡ idle_moment P.cmp (map message_of waiting.now.messages) (arrival_of P.cmp pairs.now.entries) (list_any (λ flow. same_peer P.cmp origin.now flow.origin && same_peer P.cmp recipient.now flow.recipient) flights.now.flows.items) origin.now recipient.now }
+{
+    let front = waiting.first(origin, recipient)?;
+    if flights.has_pair(origin, recipient) {
+        return None;
+    }
+    let last = pairs.last_arrival(origin, recipient);
+    Some(ready_moment(last, front.latency))
+}
+
 impl<P: Peer> Working<P> {
     ghost use Rattle.link_scheduler.specs.Working.{planned, ready_messages};
     ghost use Rattle.link_scheduler.specs.Keys.{IsKeyOf};
-
-    /// The first moment from `now` on at which the pair's first waiting message may start, if one
-    /// waits and none is in flight.
-    fn start_of(&self, pair: &Pair<P>, now: u64) -> Option<u64>
-        ensures start { result ≡ start_at P.cmp now (planned P.cmp self.now) pair.now }
-        ensures moment { IfSome result (λ moment. moment ≤ last_moment) }
-    {
-        let front = pair.waiting.front()?;
-        if self.flights.has_pair(&pair.origin, &pair.recipient) {
-            return None;
-        }
-        Some(now.max(ready_moment(pair.last_arrival, front.latency)))
-    }
-
-    /// Whether the pair's first waiting message may start now.
-    fn is_ready(&self, pair: &Pair<P>, now: u64) -> bool
-        ensures { result ≡ is_moment now (start_at P.cmp now (planned P.cmp self.now) pair.now) }
-    {
-        match self.start_of(pair, now) {
-            Some(moment) => moment == now,
-            None => false,
-        }
-    }
 
     /// Plans the start anew: the least moment from `now` on at which an idle pair is ready.
     pub(crate) fn look(&mut self, now: u64)
         ensures { Looks P.cmp now (planned P.cmp self.old) (planned P.cmp self.new) }
     {
-        let mut start = None;
-        for pair in self.pairs.all() {
-            start = earlier(start, self.start_of(pair, now));
-        }
-        self.start = start;
+        self.start = self.idle.first().map(|moment| now.max(moment));
     }
 
     /// The idle pairs that are ready, in the order of pairs.
@@ -88,12 +92,6 @@ impl<P: Peer> Working<P> {
         ensures ready { IfOk result (λ keys. AllZip (IsKeyOf P.cmp) keys.items (ready_messages P.cmp now (planned P.cmp self.now))) }
         ensures refused { IfErr result (λ e. e ≡ Error.OutOfMemory) }
     {
-        let mut ready = Vec::new(self.alloc);
-        for pair in self.pairs.all() {
-            if self.is_ready(pair, now) {
-                ready.push(Key::new(&pair.origin, &pair.recipient)?)?;
-            }
-        }
-        Ok(ready)
+        self.idle.ready(self.alloc, now)
     }
 }

@@ -1,15 +1,19 @@
 //! The caps of each peer.
-ghost use Rattle.std.specs.Prelude.{◌≡◌, ◌<◌, ◌^◌, true, map, IfSome, IfOk, IfErr};
+ghost use Rattle.std.specs.Prelude.{◌≡◌, ◌<◌, ◌^◌, true, map, option_map, IfSome, IfOk, IfErr};
+ghost use Rattle.std.specs.List.{find};
+ghost use Rattle.std.specs.Ordering.{is_lt, is_eq};
 ghost use Rattle.link_simulation.specs.Sorted.{are_ascending, IsPlace, IsGap};
 
 use fair_rates::error::Error;
 use fair_rates::peer::Peer;
+use shared_list::{Seek, SharedList};
 use std::alloc::{AllocError, Global};
+use std::rc::Rc;
 
 /// The caps of one peer, in bytes a second.
 #[derive(Drop)]
 pub(crate) struct PeerCaps<P> {
-    peer: P,
+    peer: Rc<P>,
     egress: Option<usize>,
     ingress: Option<usize>,
 }
@@ -17,8 +21,22 @@ pub(crate) struct PeerCaps<P> {
 /// The peers that have been limited, in their order.
 #[derive(Drop)]
 pub(crate) struct Peers<P: Peer> {
-    entries: Vec<PeerCaps<P>>,
-    pub ghost ascending: { are_ascending P.cmp (map (λ entry. entry.peer) entries.items) ≡ true },
+    entries: SharedList<PeerCaps<P>>,
+    pub ghost ascending: { are_ascending P.cmp (map (λ entry. entry.peer.value) entries) ≡ true },
+}
+
+/// Where a peer stands among those that have been limited.
+#[derive(Drop)]
+struct PlaceOfPeer<'a, P> {
+    peer: &'a P,
+}
+
+impl<P: Peer> Seek<PeerCaps<P>> for PlaceOfPeer<'_, P> {
+    ghost is_before = { λ place caps. is_lt (P.cmp caps.peer.value place.peer.now) };
+
+    fn is_before(&self, caps: &PeerCaps<P>) -> bool {
+        Rc::as_ref(&caps.peer).cmp(self.peer).is_lt()
+    }
 }
 
 impl<P: Peer> Peers<P> {
@@ -26,64 +44,80 @@ impl<P: Peer> Peers<P> {
     ghost use Rattle.link_simulation.specs.WorldMessages.{with_cap};
     ghost use Rattle.link_scheduler.specs.Peers.{egress_of, ingress_of};
 
-    pub(crate) fn new(alloc: Global) -> Self
-        ensures { result.entries.items ≡ [] }
+    pub(crate) fn new() -> Self
+        ensures { result.entries ≡ [] }
     {
         Peers {
-            entries: Vec::new(alloc),
+            entries: SharedList::new(),
         }
     }
 
     /// Where the peer stands, or where it would.
     fn search(&self, peer: &P) -> Result<usize, usize>
-        ensures found { IfOk result (IsPlace P.cmp (λ entry. entry.peer) self.now.entries.items peer.now) }
-        ensures absent { IfErr result (IsGap P.cmp (λ entry. entry.peer) self.now.entries.items peer.now) }
+        ensures found { IfOk result (IsPlace P.cmp (λ entry. entry.peer.value) self.now.entries peer.now) }
+        ensures absent { IfErr result (IsGap P.cmp (λ entry. entry.peer.value) self.now.entries peer.now) }
     {
-        self.entries.binary_search_by(|entry| entry.peer.cmp(peer))
+        let at = self.entries.place(&PlaceOfPeer { peer });
+        match self.entries.get(at) {
+            Some(entry) if Rc::as_ref(&entry.peer).cmp(peer).is_eq() => Ok(at),
+            _ => Err(at),
+        }
+    }
+
+    /// The entry of the peer, if it has one.
+    fn find(&self, peer: &P) -> Option<&PeerCaps<P>>
+        ensures { option_map (λ entry. entry.now) result ≡ find (λ entry. is_eq (P.cmp entry.peer.value peer.now)) self.now.entries }
+    {
+        let at = self.search(peer).ok()?;
+        self.entries.get(at)
     }
 
     /// The cap on all that the peer sends.
     pub(crate) fn egress(&self, peer: &P) -> Option<u128>
-        ensures cap { result ≡ egress_of P.cmp self.now.entries.items peer.now }
+        ensures cap { result ≡ egress_of P.cmp self.now.entries peer.now }
         ensures small { IfSome result (λ cap. cap < 2 ^ 64) }
     {
-        match self.search(peer) {
-            Ok(at) => self.entries[at].egress.map(|cap| cap as u128),
-            Err(_) => None,
-        }
+        self.find(peer)?.egress.map(|cap| cap as u128)
     }
 
     /// The cap on all that the peer receives.
     pub(crate) fn ingress(&self, peer: &P) -> Option<u128>
-        ensures cap { result ≡ ingress_of P.cmp self.now.entries.items peer.now }
+        ensures cap { result ≡ ingress_of P.cmp self.now.entries peer.now }
         ensures small { IfSome result (λ cap. cap < 2 ^ 64) }
     {
-        match self.search(peer) {
-            Ok(at) => self.entries[at].ingress.map(|cap| cap as u128),
-            Err(_) => None,
-        }
+        self.find(peer)?.ingress.map(|cap| cap as u128)
     }
 
     /// Sets both caps of the peer.
     pub(crate) fn set(
         &mut self,
+        alloc: Global,
         peer: &P,
         egress: Option<usize>,
         ingress: Option<usize>,
     ) -> Result<(), Error>
-        ensures egress { OnOk result (egress_of P.cmp self.new.entries.items ≡ with_cap P.cmp (egress_of P.cmp self.old.entries.items) peer.now egress) }
-        ensures ingress { OnOk result (ingress_of P.cmp self.new.entries.items ≡ with_cap P.cmp (ingress_of P.cmp self.old.entries.items) peer.now ingress) }
+        ensures egress { OnOk result (egress_of P.cmp self.new.entries ≡ with_cap P.cmp (egress_of P.cmp self.old.entries) peer.now egress) }
+        ensures ingress { OnOk result (ingress_of P.cmp self.new.entries ≡ with_cap P.cmp (ingress_of P.cmp self.old.entries) peer.now ingress) }
         ensures refused { IfErr result (λ e. e ≡ Error.OutOfMemory) }
     {
         match self.search(peer) {
             Ok(at) => {
-                let entry = &mut self.entries[at];
-                entry.egress = egress;
-                entry.ingress = ingress;
+                let peer = self.entries.at(at).peer.clone()?;
+                self.entries.replace(
+                    alloc,
+                    at,
+                    PeerCaps {
+                        peer,
+                        egress,
+                        ingress,
+                    },
+                )?;
             }
             Err(at) => {
                 let peer = peer.clone_peer().ok_or(Error::OutOfMemory)?;
+                let peer = Rc::new(alloc, peer)?;
                 self.entries.insert(
+                    alloc,
                     at,
                     PeerCaps {
                         peer,
@@ -97,26 +131,10 @@ impl<P: Peer> Peers<P> {
     }
 }
 
-impl<P: Peer> Clone for PeerCaps<P> {
-    ghost use Rattle.link_scheduler.specs.Peers.{IsSameEntry};
-
-    ghost is_clone = { λ caps copy. IsSameEntry P.cmp caps copy };
-
-    fn clone(&self) -> Result<PeerCaps<P>, AllocError> {
-        Ok(PeerCaps {
-            peer: self.peer.clone_peer().ok_or(AllocError)?,
-            egress: self.egress,
-            ingress: self.ingress,
-        })
-    }
-}
-
 impl<P: Peer> Clone for Peers<P> {
-    ghost use Rattle.std.specs.List.{AllZip};
-    ghost use Rattle.link_scheduler.specs.Peers.{IsSameEntry};
+    ghost is_clone = { λ peers copy. copy.entries ≡ peers.entries };
 
-    ghost is_clone = { λ peers copy. AllZip (IsSameEntry P.cmp) peers.entries.items copy.entries.items };
-
+    /// The same caps. No peer is cloned.
     fn clone(&self) -> Result<Peers<P>, AllocError> {
         let entries = self.entries.clone()?;
         Ok(Peers { entries })

@@ -2,19 +2,18 @@
 ghost use Rattle.std.specs.Prelude.{◌≡◌, ◌≢◌, ◌-◌, ◌*◌, ◌<◌, ◌≤◌, IfErr, OnOk, MatchOption};
 ghost use Rattle.fair_rates.specs.FairParts.{product, parts_of_level};
 
-use bytes::Bytes;
+use super::message::Message;
 use fair_rates::error::Error;
+use fair_rates::peer::Peer;
 use natural::Natural;
 use std::alloc::AllocError;
+use std::rc::Rc;
 
 /// What is known of a message in flight beside its flow. What is left, and the rates, are whole
 /// numbers of the units that all messages in flight share.
 #[derive(Drop)]
-pub(crate) struct Progress {
-    pub(crate) channel: u64,
-    pub(crate) bytes: Bytes,
-    pub(crate) latency: u64,
-    pub(crate) should_deliver: bool,
+pub(crate) struct Progress<P> {
+    pub(crate) message: Rc<Message<P>>,
     /// The units that were left at the moment of the last update.
     pub(crate) left: Natural,
     /// The place of its rate since then. None is a rate of zero, from its start to the account that
@@ -23,15 +22,15 @@ pub(crate) struct Progress {
     pub(crate) updated: u64,
 }
 
-impl Clone for Progress {
-    ghost is_clone = { λ progress copy. copy ≡ progress };
+impl<P: Peer> Clone for Progress<P> {
+    ghost use Rattle.link_scheduler.specs.Progress.{IsSameProgress};
 
-    fn clone(&self) -> Result<Progress, AllocError> {
+    ghost is_clone = { IsSameProgress };
+
+    /// The same progress. It shares the message.
+    fn clone(&self) -> Result<Progress<P>, AllocError> {
         Ok(Progress {
-            channel: self.channel,
-            bytes: self.bytes.slice(..)?,
-            latency: self.latency,
-            should_deliver: self.should_deliver,
+            message: self.message.clone()?,
             left: self.left.clone()?,
             level: self.level,
             updated: self.updated,
@@ -46,7 +45,7 @@ fn rate_at(levels: &[Natural], level: Option<usize>) -> Option<&Natural>
     levels.get(level?)
 }
 
-impl Progress {
+impl<P: Peer> Progress<P> {
     ghost use Rattle.link_simulation.specs.WorldPlanned.{IsLeastMoment};
     ghost use Rattle.link_scheduler.specs.Progress.{DrainsTo, GrowsBy};
 

@@ -10,12 +10,13 @@ use super::event::earlier;
 use super::progress::Progress;
 use fair_rates::bandwidth::FairParts;
 use fair_rates::error::Error;
+use fair_rates::peer::Peer;
 use natural::Natural;
 
 /// Gives each message in flight, of which something is left, the rate of its level from `now` on.
 /// Answers the first moment at which nothing is left of one.
-fn rate_all(
-    progress: &mut [Progress],
+fn rate_all<P: Peer>(
+    progress: &mut [Progress<P>],
     level_of: &[Option<usize>],
     levels: &[Natural],
     now: u64,
@@ -34,8 +35,8 @@ fn rate_all(
 
 /// Gives each message in flight, of which something is left, its rate from `now` on, in the units
 /// of the rates. Answers the first moment at which nothing is left of one.
-pub(crate) fn rerate_all(
-    progress: &mut [Progress],
+pub(crate) fn rerate_all<P: Peer>(
+    progress: &mut [Progress<P>],
     rates: &FairParts,
     now: u64,
 ) -> Result<Option<u64>, Error>

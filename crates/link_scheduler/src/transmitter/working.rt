@@ -3,8 +3,10 @@ ghost use Rattle.std.specs.Prelude.{◌≡◌, true, nat_lt, OnOk, IfErr};
 ghost use Rattle.std.specs.List.{list_all};
 
 use super::flights::Flights;
+use super::idle::IdlePairs;
 use super::pairs::Pairs;
 use super::peers::Peers;
+use super::waiting::Waiting;
 use fair_rates::error::Error;
 use fair_rates::peer::Peer;
 use std::alloc::{AllocError, Global};
@@ -15,6 +17,8 @@ pub(crate) struct Working<P: Peer> {
     pub(crate) alloc: Global,
     pub(crate) peers: Peers<P>,
     pub(crate) pairs: Pairs<P>,
+    pub(crate) waiting: Waiting<P>,
+    pub(crate) idle: IdlePairs<P>,
     pub(crate) flights: Flights<P>,
     /// Whether a limit has come.
     pub(crate) limited: bool,
@@ -37,8 +41,10 @@ impl<P: Peer> Working<P> {
     {
         Working {
             alloc,
-            peers: Peers::new(alloc),
-            pairs: Pairs::new(alloc),
+            peers: Peers::new(),
+            pairs: Pairs::new(),
+            waiting: Waiting::new(),
+            idle: IdlePairs::new(),
             flights: Flights::new(alloc),
             limited: false,
             next_id: first,
@@ -58,7 +64,7 @@ impl<P: Peer> Working<P> {
         ensures refused { IfErr result (λ e. e ≡ Error.OutOfMemory) }
     {
         self.limited = true;
-        self.peers.set(peer, egress, ingress)
+        self.peers.set(self.alloc, peer, egress, ingress)
     }
 
     /// Sets the cap of an ordered pair.
@@ -91,7 +97,7 @@ impl<P: Peer> Clone for Working<P> {
     ghost use Rattle.link_scheduler.specs.Working.{planned};
     ghost use Rattle.link_simulation.specs.SamePlanned.{IsSamePlanned};
 
-    ghost is_clone = { λ working copy. IsSamePlanned P.cmp (planned P.cmp working) (planned P.cmp copy) };
+    ghost is_clone = { λ working copy. planned P.cmp copy ≡ planned P.cmp working };
 
     /// The same state, the peers cloned.
     fn clone(&self) -> Result<Working<P>, AllocError> {
@@ -99,6 +105,8 @@ impl<P: Peer> Clone for Working<P> {
             alloc: self.alloc,
             peers: self.peers.clone()?,
             pairs: self.pairs.clone()?,
+            waiting: self.waiting.clone()?,
+            idle: self.idle.clone()?,
             flights: self.flights.clone()?,
             limited: self.limited,
             next_id: self.next_id,

@@ -1,0 +1,76 @@
+//! Changes of what is known of one pair, and of its place among the idle pairs.
+ghost use Rattle.std.specs.Prelude.{◌≡◌, ◌<◌, true, [], OnOk, OnErr, IfErr};
+ghost use Rattle.link_simulation.specs.World.{goes};
+ghost use Rattle.link_simulation.specs.WorldEvents.{Enqueues, with_queued};
+ghost use Rattle.link_scheduler.specs.Message.{message_of};
+ghost use Rattle.link_scheduler.specs.Keys.{IsKeyOf};
+ghost use Rattle.link_scheduler.specs.Pairs.{first_of, raised_at};
+ghost use Rattle.link_scheduler.specs.Starts.{HasDeparted};
+
+use super::look::{Key, idle_from};
+use super::message::Message;
+use super::working::Working;
+use fair_rates::error::Error;
+use fair_rates::peer::Peer;
+
+impl<P: Peer> Working<P> {
+    ghost use Rattle.link_scheduler.specs.Working.{planned, is_sending, may_launch_first};
+
+    /// From now on no message of the pair arrives before that moment.
+    pub(crate) fn raise(&mut self, origin: &P, recipient: &P, moment: u64) -> Result<(), Error>
+        ensures raised { OnOk result (planned P.cmp self.new ≡ record (planned P.cmp self.old) { last_arrival = raised_at P.cmp (planned P.cmp self.old).last_arrival origin.now recipient.now moment }) }
+        ensures refused { IfErr result (λ e. e ≡ Error.OutOfMemory) }
+    {
+        let before = idle_from(&self.flights, &self.waiting, &self.pairs, origin, recipient);
+        self.pairs.raise(self.alloc, origin, recipient, moment)?;
+        let after = idle_from(&self.flights, &self.waiting, &self.pairs, origin, recipient);
+        self.idle
+            .change(self.alloc, origin, recipient, before, after)
+    }
+
+    /// The message joins those that wait for its pair, as the last one.
+    pub(crate) fn queue(&mut self, pair: &Key<P>, message: Message<P>) -> Result<(), Error>
+        requires { IsKeyOf P.cmp pair.now (message_of message) }
+        ensures queued { OnOk result (planned P.cmp self.new ≡ with_queued P.cmp (planned P.cmp self.old) (message_of message)) }
+        ensures refused { IfErr result (λ e. e ≡ Error.OutOfMemory) }
+    {
+        let (origin, recipient) = (&pair.origin, &pair.recipient);
+        let before = idle_from(&self.flights, &self.waiting, &self.pairs, origin, recipient);
+        self.waiting.push(self.alloc, message)?;
+        let after = idle_from(&self.flights, &self.waiting, &self.pairs, origin, recipient);
+        self.idle
+            .change(self.alloc, origin, recipient, before, after)
+    }
+
+    /// The first message that waits for the pair is in flight from now on, under the next flow id.
+    pub(crate) fn depart(&mut self, origin: &P, recipient: &P, now: u64) -> Result<(), Error>
+        requires ready { may_launch_first P.cmp now (planned P.cmp self.old) (first_of P.cmp (planned P.cmp self.old).waiting origin.now recipient.now) ≡ true }
+        requires id { self.old.next_id < 18446744073709551615 }
+        ensures departed { OnOk result (HasDeparted P.cmp now (planned P.cmp self.old) origin.now recipient.now (planned P.cmp self.new)) }
+        ensures refused { IfErr result (λ e. e ≡ Error.OutOfMemory) }
+    {
+        let before = idle_from(&self.flights, &self.waiting, &self.pairs, origin, recipient);
+        let Some(message) = self.waiting.take_first(origin, recipient)? else {
+            return Ok(());
+        };
+        let id = self.next_id;
+        self.next_id += 1;
+        self.flights.push(message, id, now)?;
+        let after = idle_from(&self.flights, &self.waiting, &self.pairs, origin, recipient);
+        self.idle
+            .change(self.alloc, origin, recipient, before, after)
+    }
+
+    /// A message waits behind the one of its pair that is in flight.
+    pub(crate) fn wait(&mut self, now: u64, message: Message<P>) -> Result<(), Error>
+        requires limited { (planned P.cmp self.old).limited ≡ true }
+        requires busy { is_sending P.cmp (planned P.cmp self.old) message.origin message.recipient ≡ true }
+        ensures enqueues { OnOk result (Enqueues P.cmp now (message_of message) (planned P.cmp self.old) (goes [] (planned P.cmp self.new))) }
+        ensures unchanged { OnErr result (planned P.cmp self.new ≡ planned P.cmp self.old) }
+        ensures refused { IfErr result (λ e. e ≡ Error.OutOfMemory) }
+    {
+        self.waiting.push(self.alloc, message)?;
+        self.look(now);
+        Ok(())
+    }
+}
