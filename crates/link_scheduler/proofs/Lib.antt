@@ -22,6 +22,7 @@ pub mod Promises
 pub mod Rating
 pub mod Readying
 pub mod Replaying
+pub mod Searching
 pub mod Settling
 pub mod Starting
 pub mod Units

@@ -1,9 +1,24 @@
-use Rattle.std.proofs.Common.{rules}
-use Rattle.std.proofs.lemmas.Fn.{always_returns_same}
-use Rattle.link_simulation.proofs.Sorted.{searched}
+use Rattle.std.proofs.Common.{◌≡◌, true, false, None, slice_get, sym, ap, ◌∙◌, rules}
+use Rattle.std.specs.Ordering.{is_lt, is_eq}
+use Rattle.std.specs.Option.{option_map}
+use Rattle.shared_list.specs.Places.{IsParting}
+use Rattle.link_scheduler.proofs.Searching.{parted, parting_place, parting_gap, parting_end}
 use Rattle.link_scheduler.proofs.transmitter.peers.Peers.search.Goals as goal
 
-pub returns : goal.returns
-returns g c = searched g.P.Ord.cmp g.met.P.Ord.total (λ entry. entry.peer) c.args.self.now.entries.items c.args.peer.now c.binary_search_by.result c.args.self.now.ascending
-    (rw (← c.deref.ensures.value) c.binary_search_by.ensures.bound)
-    (rw (← c.deref.ensures.value) (c.binary_search_by.ensures.position (λ e. g.P.Ord.cmp e.peer c.args.peer.now) (always_returns_same _ _ _ (λ a r f called. (search rules, search rules)))))
+pub returns-in-Some-clause-found : goal.returns-in-Some-clause-found
+returns-in-Some-clause-found g c =
+    let same : is_eq (g.P.Ord.cmp c.in-Some.entry.now.peer.value c.args.peer.now) ≡ true = search rules in
+    parting_place g.P.Ord.cmp g.met.P.Ord.total (λ entry. entry.peer.value) c.args.peer.now c.args.self.now.entries c.place-at.result c.args.self.now.ascending
+        (c.place-at.ensures.parting (parted g.P.Ord.cmp g.met.P.Ord.total (λ entry. entry.peer.value) c.args.peer.now c.args.self.now.entries c.args.self.now.ascending)) c.in-Some.entry.now c.in-Some.ensures same
+
+pub returns-in_default-clause-absent : goal.returns-in_default-clause-absent
+returns-in_default-clause-absent g c =
+    let other : is_eq (g.P.Ord.cmp c.in-Some.entry.now.peer.value c.args.peer.now) ≡ false = search rules in
+    parting_gap g.P.Ord.cmp g.met.P.Ord.total (λ entry. entry.peer.value) c.args.peer.now c.args.self.now.entries c.place-at.result c.args.self.now.ascending
+        (c.place-at.ensures.parting (parted g.P.Ord.cmp g.met.P.Ord.total (λ entry. entry.peer.value) c.args.peer.now c.args.self.now.entries c.args.self.now.ascending)) c.in-Some.entry.now c.in-Some.ensures other
+
+pub returns-in_default-2-clause-absent : goal.returns-in_default-2-clause-absent
+returns-in_default-2-clause-absent g c =
+    parting_end g.P.Ord.cmp g.met.P.Ord.total (λ entry. entry.peer.value) c.args.peer.now c.args.self.now.entries c.place-at.result c.args.self.now.ascending
+        (c.place-at.ensures.parting (parted g.P.Ord.cmp g.met.P.Ord.total (λ entry. entry.peer.value) c.args.peer.now c.args.self.now.entries c.args.self.now.ascending))
+        (sym (ap (option_map (λ b. b.now)) c.in_default.is) ∙ c.get.ensures)
