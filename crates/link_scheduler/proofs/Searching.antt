@@ -1,6 +1,7 @@
 -- Searches in lists that stand in the order of keys.
-use Rattle.std.proofs.Common.{◌≡◌, ℕ, Bool, true, false, not, List, [], ◌∷◌, ◌++◌, length, map, slice_get, Option, Some, None, refl, sym, ◌∙◌, ap}
+use Rattle.std.proofs.Common.{◌≡◌, ℕ, Bool, true, false, not, List, [], ◌∷◌, ◌++◌, length, map, slice_get, Option, Some, None, Result, Ok, Err, IfOk, IfErr, refl, sym, ◌∙◌, ap}
 use Rattle.std.specs.List.{list_all, find}
+use Rattle.std.specs.Result.{result_ok}
 use Rattle.std.specs.declared.cmp.Ordering.{Ordering}
 use Rattle.std.specs.declared.cmp.Ordering.TheVariants.{Less, Equal, Greater}
 use Rattle.std.specs.Ordering.{is_lt, is_eq, is_gt}
@@ -123,6 +124,14 @@ module _ {K : Type 0} (cmp : K → K → Ordering) (total : IsTotalOrder cmp) wh
     pub find_gap : (es : List E) (at : ℕ) → IsGap cmp key es k at → find (λ e. is_eq (cmp (key e) k)) es ≡ None
     find_gap es at g = ap (find (λ e. is_eq (cmp (key e) k))) g.split ∙ find-skip (λ e. is_eq (cmp (key e) k)) g.before g.after (list_all-mono _ _ (λ e h. lt_not_eq _ h) g.before g.below)
         ∙ find-none (λ e. is_eq (cmp (key e) k)) g.after (list_all-mono _ _ (λ e h. gt_not_eq _ h) g.after g.above)
+
+    pub find_ok : (es : List E) (r : Result ℕ ℕ) → IfOk r (IsPlace cmp key es k) → (at : ℕ) → Some at ≡ result_ok r → find (λ e. is_eq (cmp (key e) k)) es ≡ slice_get es at
+    find_ok es (Ok a) p at is = let this : a ≡ at = cc in find_place es a p ∙ ap (slice_get es) this
+    find_ok es (Err a) p at is = cc
+
+    pub find_err : (es : List E) (r : Result ℕ ℕ) → IfErr r (IsGap cmp key es k) → None ≡ result_ok r → find (λ e. is_eq (cmp (key e) k)) es ≡ None
+    find_err es (Ok a) g is = cc
+    find_err es (Err a) g is = find_gap es a g
 
     module _ {V : Type 0} (says : E → V) (none : V) where
       pub found_says : (es : List E) (e : E) → Some e ≡ find (λ e. is_eq (cmp (key e) k)) es → says e ≡ value_at cmp key says none es k

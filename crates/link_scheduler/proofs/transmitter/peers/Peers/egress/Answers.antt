@@ -1,11 +1,12 @@
-use Rattle.std.proofs.Common.{◌≡◌, None, ap, ◌∙◌, sym, rules}
-use Rattle.link_simulation.proofs.Sorted.{value_there, at_gap}
+use Rattle.std.proofs.Common.{◌≡◌, None, ◌∙◌, rules}
+use Rattle.link_scheduler.proofs.Searching.{found_says, absent_says}
 use Rattle.link_scheduler.proofs.transmitter.peers.Peers.egress.Goals as goal
 
-pub returns-in-Ok-clause-cap : goal.returns-in-Ok-clause-cap
-returns-in-Ok-clause-cap g c =
-    let same : c.map.result ≡ c.index.result.now.egress = search rules in
-    same ∙ ap (λ entry. entry.egress) c.index.ensures ∙ value_there g.P.Ord.cmp g.met.P.Ord.total (λ entry. entry.peer) (λ entry. entry.egress) None _ _ _ c.in-Ok.ensures.found c.index.result.now
+pub returns-in_err-find-clause-cap : goal.returns-in_err-find-clause-cap
+returns-in_err-find-clause-cap g c = c.from_residual.ensures
+    ∙ absent_says g.P.Ord.cmp g.met.P.Ord.total (λ entry. entry.peer.value) c.args.peer.now (λ entry. entry.egress) None c.args.self.now.entries c.in_err-find.ensures
 
-pub returns-in-Err-clause-cap : goal.returns-in-Err-clause-cap
-returns-in-Err-clause-cap g c = sym (at_gap g.P.Ord.cmp g.met.P.Ord.total (λ entry. entry.peer) (λ entry. entry.egress) None _ _ _ c.in-Err.ensures.absent)
+pub returns-clause-cap : goal.returns-clause-cap
+returns-clause-cap g c =
+    let same : c.map.result ≡ c.in_ok-find.field-0.now.egress = search rules in
+    same ∙ found_says g.P.Ord.cmp g.met.P.Ord.total (λ entry. entry.peer.value) c.args.peer.now (λ entry. entry.egress) None c.args.self.now.entries c.in_ok-find.field-0.now c.in_ok-find.ensures
