@@ -52,7 +52,8 @@ impl<P: Peer> Flights<P> {
         ensures { (d : Paced P) → result ≡ is_spent P.cmp (caps_of P.cmp peers.now.entries pairs.now.entries)
             (slice_index_or (in_flight self.now) at d) }
     {
-        self.progress[at].left.is_zero() || is_unlimited(&self.progress[at].message, peers, pairs)
+        let one = &self.progress[at];
+        one.left.is_zero() || is_unlimited(&one.message, peers, pairs)
     }
 
     /// Takes those that are done, in order of start.

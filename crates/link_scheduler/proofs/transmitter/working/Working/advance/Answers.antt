@@ -17,9 +17,9 @@ overflow_add-events g c =
     let h = c.in_ok-happen.ensures.happens in
     let fewer : events_left g.P.Ord.cmp (planned g.P.Ord.cmp c.happen.new.self) + 1 ≤ events_left g.P.Ord.cmp (planned g.P.Ord.cmp c.loop-event.self) = happens_fewer g.P.Ord.cmp g.met.P.Ord.total c.args.now c.in-Some.event (planned g.P.Ord.cmp c.loop-event.self) (planned g.P.Ord.cmp c.happen.new.self) h.0 c.in-Some.ensures h.2 in
     let few : c.loop-event.events + events_left g.P.Ord.cmp (planned g.P.Ord.cmp c.loop-event.self) ≤ events_left g.P.Ord.cmp (planned g.P.Ord.cmp c.args.self.now) = c.loop-event.invariant.few in
-    let entries : length c.args.self.now.pairs.entries.items < 9223372036854775808 = omega (arith, c.args.self.now.pairs.entries.small, c.args.self.now.pairs.entries.ok) in
+    let entries : length c.args.self.now.pairs.entries < 9223372036854775808 = omega (arith, c.args.self.now.pairs.entries.small, c.args.self.now.pairs.entries.ok) in
     let flows : length c.args.self.now.flights.flows.items < 9223372036854775808 = omega (arith, c.args.self.now.flights.flows.small, c.args.self.now.flights.flows.ok) in
-    let all : events_left g.P.Ord.cmp (planned g.P.Ord.cmp c.args.self.now) < 340282366920938463463374607431768211456 = events_few g.P.Ord.cmp (planned g.P.Ord.cmp c.args.self.now) c.args.self.now.pairs.entries.items refl entries
+    let all : events_left g.P.Ord.cmp (planned g.P.Ord.cmp c.args.self.now) < 340282366920938463463374607431768211456 = events_few g.P.Ord.cmp (planned g.P.Ord.cmp c.args.self.now) c.args.self.now.pairs.entries refl entries
     (let same : length (planned g.P.Ord.cmp c.args.self.now).sending ≡ length c.args.self.now.flights.flows.items = length-sending c.args.self.now.flights.scale c.args.self.now.flights.levels.items c.args.self.now.flights.flows.items c.args.self.now.flights.progress.items c.args.self.now.flights.parallel in omega (arith, same, flows)) in
     omega (arith, fewer, few, all)
 

@@ -6,7 +6,7 @@ use Rattle.link_scheduler.specs.Pairs.{arrival_of, raised_at}
 use Rattle.link_scheduler.specs.Peers.{egress_of, ingress_of}
 use Rattle.link_scheduler.specs.InFlight.{in_flight}
 use Rattle.link_scheduler.specs.Working.{planned}
-use Rattle.link_scheduler.proofs.Waiting.{map-push}
+use Rattle.std.proofs.lemmas.List.{map-append}
 use Rattle.link_scheduler.proofs.Finishing.{refused_late, refused_launch, launches_landed, then_some_is}
 use Rattle.link_scheduler.proofs.transmitter.working.Working.complete.Goals as goal
 
@@ -21,11 +21,11 @@ returns-in_err-more-clause-refused g c =
     let p = err_from_is_err_and c.from_residual-in_err-more.result c.from_residual-in_err-more.ensures.1 in
     rw (p.1, p.2) (λ ms. refused_launch g.P.Ord.cmp c.args.now (message_of c.args.message) ms (planned g.P.Ord.cmp c.args.self.now) _ c.in_ok-arrival.ensures.in_time
     (λ i. record {
-      caps = record { egress = egress_of g.P.Ord.cmp c.args.self.now.peers.entries.items; ingress = ingress_of g.P.Ord.cmp c.args.self.now.peers.entries.items; link = c.in_ok-raise.ensures.link i };
+      caps = record { egress = egress_of g.P.Ord.cmp c.args.self.now.peers.entries; ingress = ingress_of g.P.Ord.cmp c.args.self.now.peers.entries; link = c.in_ok-raise.ensures.link i };
       limited = c.args.self.now.limited;
       sending = in_flight c.args.self.now.flights;
       waiting = c.in_ok-raise.ensures.waiting i;
-      last_arrival = (c.in_ok-raise.ensures.arrival ∙ ap (raised_at g.P.Ord.cmp (arrival_of g.P.Ord.cmp c.args.self.now.pairs.entries.items) c.args.message.origin c.args.message.recipient) c.in_ok-arrival.ensures.moment) i;
+      last_arrival = (c.in_ok-raise.ensures.arrival ∙ ap (raised_at g.P.Ord.cmp (arrival_of g.P.Ord.cmp c.args.self.now.pairs.entries) c.args.message.origin c.args.message.recipient) c.in_ok-arrival.ensures.moment) i;
       next_id = c.args.self.now.next_id;
       finish = c.args.self.now.finish;
       start = c.args.self.now.start;
@@ -42,11 +42,11 @@ pub returns-clause-launches : goal.returns-clause-launches
 returns-clause-launches g c =
     launches_landed g.P.Ord.cmp c.args.now (message_of c.args.message) (planned g.P.Ord.cmp c.args.self.now) _ _
     (λ i. record {
-      caps = record { egress = egress_of g.P.Ord.cmp c.args.self.now.peers.entries.items; ingress = ingress_of g.P.Ord.cmp c.args.self.now.peers.entries.items; link = c.in_ok-raise.ensures.link i };
+      caps = record { egress = egress_of g.P.Ord.cmp c.args.self.now.peers.entries; ingress = ingress_of g.P.Ord.cmp c.args.self.now.peers.entries; link = c.in_ok-raise.ensures.link i };
       limited = c.args.self.now.limited;
       sending = in_flight c.args.self.now.flights;
       waiting = c.in_ok-raise.ensures.waiting i;
-      last_arrival = (c.in_ok-raise.ensures.arrival ∙ ap (raised_at g.P.Ord.cmp (arrival_of g.P.Ord.cmp c.args.self.now.pairs.entries.items) c.args.message.origin c.args.message.recipient) c.in_ok-arrival.ensures.moment) i;
+      last_arrival = (c.in_ok-raise.ensures.arrival ∙ ap (raised_at g.P.Ord.cmp (arrival_of g.P.Ord.cmp c.args.self.now.pairs.entries) c.args.message.origin c.args.message.recipient) c.in_ok-arrival.ensures.moment) i;
       next_id = c.args.self.now.next_id;
       finish = c.args.self.now.finish;
       start = c.args.self.now.start;
