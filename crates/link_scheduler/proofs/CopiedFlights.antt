@@ -10,6 +10,8 @@ use Rattle.fair_rates.specs.declared.bandwidth.Flow.{Flow}
 use Rattle.link_scheduler.specs.declared.transmitter.progress.Progress.{Progress}
 use Rattle.link_scheduler.specs.Flights.{sending_of, are_standing, IsSameFlow}
 use Rattle.link_scheduler.specs.Progress.{IsSameProgress}
+use Rattle.link_scheduler.specs.declared.transmitter.flights.Flights.{Flights}
+use Rattle.link_scheduler.specs.InFlight.{in_flight, IsSameFlights}
 use Rattle.link_scheduler.proofs.InFlight.{StandsForSent, standing_zip, zip_standing}
 
 module _ {P : Type 0} (cmp : P → P → Ordering) where
@@ -61,3 +63,6 @@ sending_alike scale levels [] [] z = refl
 sending_alike scale levels [] (t ∷ ts) z = absurd z
 sending_alike scale levels (s ∷ ss) [] z = absurd z
 sending_alike scale levels (s ∷ ss) (t ∷ ts) z = rw (z.0.message, z.0.left, z.0.level, z.0.updated, sending_alike scale levels ss ts z.1) refl
+
+pub in_flight_alike : {P : Type 0} {a : _} {b : _} {c : _} (cmp : P → P → Ordering) (flights copy : Flights P a b c) → IsSameFlights cmp flights copy → in_flight copy ≡ in_flight flights
+in_flight_alike cmp flights copy same = rw (same.scale, same.levels) (sending_alike flights.scale flights.levels.items flights.progress.items copy.progress.items same.progress)

@@ -1,7 +1,7 @@
 use Rattle.std.proofs.Common.{[], ◌∷◌, ◌++◌, map, ap, ◌∙◌}
 use Rattle.std.proofs.lemmas.Result.{err_from_is_err_and}
 use Rattle.link_simulation.specs.World.{completion_of}
-use Rattle.link_scheduler.specs.Message.{message_of, completed_of}
+use Rattle.link_scheduler.specs.Message.{message_of, ended_of}
 use Rattle.link_scheduler.specs.Pairs.{arrival_of, raised_at}
 use Rattle.link_scheduler.specs.Peers.{egress_of, ingress_of}
 use Rattle.link_scheduler.specs.InFlight.{in_flight}
@@ -34,8 +34,8 @@ returns-in_err-more-clause-refused g c =
 
 pub returns-clause-completion : goal.returns-clause-completion
 returns-clause-completion g c =
-    ap (map completed_of) c.in_ok-push.ensures.items ∙ map-push completed_of c.args.completions.now.items c.of.result
-    ∙ ap (λ x. map completed_of c.args.completions.now.items ++ x ∷ [])
+    ap (map ended_of) c.in_ok-push.ensures.items ∙ map-push ended_of c.args.completions.now.items c.of.result
+    ∙ ap (λ x. map ended_of c.args.completions.now.items ++ x ∷ [])
     (c.of.ensures ∙ ap (completion_of (message_of c.args.message)) (c.then_some-deliver_at.ensures ∙ then_some_is _ _ _ _ c.is_delivered.ensures c.in_ok-arrival.ensures.moment))
 
 pub returns-clause-launches : goal.returns-clause-launches

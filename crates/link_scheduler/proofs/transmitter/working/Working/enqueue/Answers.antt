@@ -1,6 +1,6 @@
 use Rattle.std.proofs.Common.{[], ◌∷◌, ◌++◌, map, ap, ◌∙◌}
 use Rattle.std.proofs.lemmas.Result.{err_from_is_err_and}
-use Rattle.link_scheduler.specs.Message.{message_of, completed_of}
+use Rattle.link_scheduler.specs.Message.{message_of, ended_of}
 use Rattle.link_scheduler.specs.Peers.{egress_of, ingress_of}
 use Rattle.link_scheduler.specs.InFlight.{in_flight}
 use Rattle.link_scheduler.specs.Working.{planned, messages}
@@ -16,7 +16,7 @@ pub returns-then-not-self-clause-enqueues : goal.returns-then-not-self-clause-en
 returns-then-not-self-clause-enqueues g c =
     let h = c.in_ok-complete_at_once.ensures.completes in
     enqueues_at_once g.P.Ord.cmp c.args.now (message_of c.args.message) (planned g.P.Ord.cmp c.args.self.now) (planned g.P.Ord.cmp c.complete_at_once.new.self) h.0 _ c.if-not-self.true h.2
-    (h.1 ∙ ap (λ l. map completed_of l ++ h.0 ∷ []) c.new-completions.ensures.items)
+    (h.1 ∙ ap (λ l. map ended_of l ++ h.0 ∷ []) c.new-completions.ensures.items)
 
 pub returns-in_err-queue-clause-refused : goal.returns-in_err-queue-clause-refused
 returns-in_err-queue-clause-refused g c =
@@ -65,4 +65,4 @@ returns-clause-enqueues g c =
       start = c.args.self.now.start;
     })
     (record { origin = c.in_ok-pair.ensures.origin; recipient = c.in_ok-pair.ensures.recipient }) c.in_ok-queue.ensures.launches h.2
-    (h.1 ∙ ap (λ l. map completed_of l ++ h.0) c.new-completions.ensures.items)
+    (h.1 ∙ ap (λ l. map ended_of l ++ h.0) c.new-completions.ensures.items)

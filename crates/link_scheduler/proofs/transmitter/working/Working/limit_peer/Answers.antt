@@ -14,7 +14,7 @@ returns-clause-limited g c =
       };
       limited = true;
       sending = in_flight c.args.self.now.flights;
-      waiting = waiting_of c.args.self.now.pairs.entries;
+      waiting = map message_of c.args.self.now.waiting.messages;
       last_arrival = arrival_of g.P.Ord.cmp c.args.self.now.pairs.entries;
       next_id = c.args.self.now.next_id;
       finish = c.args.self.now.finish;
