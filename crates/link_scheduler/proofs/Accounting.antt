@@ -16,14 +16,14 @@ use Rattle.fair_rates.specs.FairLaws.{AreTheSameSides}
 use Rattle.fair_rates.specs.FairParts.{flow_parts, parts_of_level}
 use Rattle.link_scheduler.specs.Flights.{paced_of, sending_of, are_standing, rated_by}
 use Rattle.fair_rates.specs.PeerCaps.{AreOfPeers, sides_under}
-use Rattle.link_scheduler.specs.Pairs.{pair_cmp, key_of, arrival_of}
+use Rattle.link_scheduler.specs.Pairs.{arrival_of}
 use Rattle.link_scheduler.specs.Working.{caps_of, AreFairPartsUnder}
 use Rattle.link_simulation.specs.WorldEvents.{Accounts}
 use Rattle.link_simulation.specs.WorldMessages.{Message, is_delivered, PairsAlike}
 use Rattle.link_simulation.specs.WorldPlanned.{Planned, Paced, IsLeastMoment, SomeSpentAt, paced_flows, drained_to, is_spent}
 use Rattle.link_simulation.specs.WorldRates.{AreFair, capped_sides, is_unlimited, rate_of, rates_from}
 use Rattle.link_scheduler.proofs.InFlight.{length-read, nothing_is_done, StandsForSent, standing_zip, standing_length}
-use Rattle.link_scheduler.proofs.Pairs.{pair_total, is_eq-then}
+use Rattle.link_scheduler.proofs.PairEntries.{links_alike, arrivals_alike}
 use Rattle.link_simulation.proofs.Sorted.{and_left, and_right, and_both, is_eq_equal, value_respects}
 use Rattle.link_scheduler.proofs.Fairness.Messages.{StandsForMessage, same_sides}
 use Rattle.fair_rates.proofs.Fairness.SameSides.{still_fair}
@@ -34,16 +34,14 @@ use Rattle.fair_rates.proofs.Fairness.Subjects.{same_peer_itself}
 -- they are those of the peers
 pub looked_up : {P : Type 0} (cmp : P → P → Ordering) → IsTotalOrder cmp → (peers : List (PeerCaps P)) (pairs : List (Pair P)) → AreOfPeers cmp (caps_of cmp peers pairs)
 looked_up {P} cmp order peers pairs = record {
-  egress = λ p q same. value_respects cmp order (λ (entry : PeerCaps P). entry.peer) (λ (entry : PeerCaps P). entry.egress) None peers p q (is_eq_equal _ same);
-  ingress = λ p q same. value_respects cmp order (λ (entry : PeerCaps P). entry.peer) (λ (entry : PeerCaps P). entry.ingress) None peers p q (is_eq_equal _ same);
-  link = λ p q r s same_p same_r.
-      value_respects (pair_cmp cmp) (pair_total cmp order) key_of (λ (pair : Pair P). pair.cap) None pairs (p, r) (q, s) (is_eq_equal _ (is_eq-then (cmp p q) (cmp r s) ∙ and_both _ _ same_p same_r));
+  egress = λ p q same. value_respects cmp order (λ (entry : PeerCaps P). entry.peer.value) (λ (entry : PeerCaps P). entry.egress) None peers p q (is_eq_equal _ same);
+  ingress = λ p q same. value_respects cmp order (λ (entry : PeerCaps P). entry.peer.value) (λ (entry : PeerCaps P). entry.ingress) None peers p q (is_eq_equal _ same);
+  link = links_alike cmp order pairs;
 }
 
 -- the last arrivals of equal pairs are the same
 pub arrivals_looked_up : {P : Type 0} (cmp : P → P → Ordering) → IsTotalOrder cmp → (es : List (Pair P)) → PairsAlike cmp (arrival_of cmp es) (arrival_of cmp es)
-arrivals_looked_up {P} cmp order es p q r s same_p same_r =
-    value_respects (pair_cmp cmp) (pair_total cmp order) key_of (λ (pair : Pair P). pair.last_arrival) None es (p, r) (q, s) (is_eq_equal _ (is_eq-then (cmp p q) (cmp r s) ∙ and_both _ _ same_p same_r))
+arrivals_looked_up cmp order es = arrivals_alike cmp order es
 
 -- ---- what is in flight, and what it becomes
 

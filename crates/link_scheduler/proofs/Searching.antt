@@ -20,11 +20,11 @@ get-seam {X} xs ys at is = ap (slice_get (xs ++ ys)) is ∙ there xs
     there [] = refl
     there (x ∷ xs) = there xs
 
-fails : (b : Bool) → not b ≡ true → b ≡ false
+pub fails : (b : Bool) → not b ≡ true → b ≡ false
 fails true h = sym h
 fails false h = refl
 
-passes : (b : Bool) → b ≡ false → not b ≡ true
+pub passes : (b : Bool) → b ≡ false → not b ≡ true
 passes true h = sym h
 passes false h = refl
 

@@ -1,234 +1,286 @@
--- What waits, pair by pair: the first message of a pair, and the list after a message joins it or leaves it.
-use Rattle.std.proofs.Common.{◌≡◌, ℕ, ◌<◌, Bool, true, false, not, ◌&&◌, List, [], ◌∷◌, ◌++◌, length, map, set, drop, slice_get, Option, Some, None, refl, sym, ◌∙◌, ap, subst, arith, append_assoc}
-use Rattle.std.specs.List.{list_all, find, insert}
-use Rattle.std.specs.Slice.{IsItemAt}
-use Rattle.std.specs.Option.{option_map, option_to_list, IsSome}
+-- What waits: the first message of a pair, and the list after a message joins it or leaves it.
+use Rattle.std.proofs.Common.{◌≡◌, ℕ, ◌<◌, Bool, true, false, not, ◌&&◌, List, [], ◌∷◌, ◌++◌, length, map, slice_get, Option, Some, None, refl, sym, ◌∙◌, ap}
+use Rattle.std.specs.List.{list_all, list_any, insert, remove}
+use Rattle.std.specs.Option.{option_map}
 use Rattle.std.specs.Borrow.{Bor}
 use Rattle.std.specs.declared.cmp.Ordering.{Ordering}
-use Rattle.std.specs.declared.cmp.Ordering.TheVariants.{Equal}
+use Rattle.std.specs.declared.cmp.Ordering.TheVariants.{Less, Equal, Greater}
 use Rattle.std.specs.Ordering.{is_lt, is_eq, is_gt, ordering_reverse}
 use Rattle.std.specs.Cmp.{IsTotalOrder}
-use Rattle.link_scheduler.specs.declared.transmitter.pairs.Pair.{Pair}
+use Rattle.std.proofs.lemmas.Cmp.{alike_right}
+use Rattle.std.proofs.lemmas.List.{map-append}
+use Rattle.std.proofs.lemmas.Option.{slice_get_within}
 use Rattle.fair_rates.specs.Sides.{same_peer}
+use Rattle.shared_list.specs.Places.{are_parted, IsParting}
 use Rattle.link_simulation.specs.WorldMessages.{Message, pair_before}
 use Rattle.link_simulation.specs.World.{without_first}
-use Rattle.link_simulation.specs.WorldPlanned.{queued}
-use Rattle.link_simulation.specs.Sorted.{IsPlace, IsGap}
-use Rattle.link_scheduler.specs.Pairs.{pair_cmp, key_of, messages_of, waiting_of, are_own, first_of}
-use Rattle.link_simulation.proofs.Sorted.{and_left, and_right, and_both, list_all-append, list_all-left, list_all-right, list_all-mono, is_eq_equal, is_lt_less, is_gt_greater, set_place, insert_gap}
+use Rattle.link_simulation.specs.WorldPlanned.{queued, AreInPairOrder}
+use Rattle.link_scheduler.specs.declared.transmitter.message.Message as code
+use Rattle.link_scheduler.specs.Message.{message_of}
+use Rattle.link_scheduler.specs.Pairs.{pair_cmp, first_of}
+use Rattle.link_scheduler.specs.Waiting.{pair_of, are_in_order, IsFirstAt, IsFirstPlace}
+use Rattle.shared_list.proofs.Edits.{remove_here}
+use Rattle.link_simulation.proofs.Sorted.{by_bool, and_left, and_right, and_both, list_all-append, list_all-left, list_all-right, list_all-mono, list_all-map, is_eq_equal, is_lt_less, is_gt_greater, insert-seam}
 use Rattle.link_scheduler.proofs.Pairs.{pair_total, is_eq-then}
+use Rattle.link_scheduler.proofs.Searching.{fails, passes, get-seam, find-skip, find-none, lt_not_eq, gt_not_eq, neither}
 
 -- ---- lists
 
 module _ {X : Type 0} (t : X → Bool) where
-  pub find-skip : (xs ys : List X) → list_all (λ x. not (t x)) xs ≡ true → find t (xs ++ ys) ≡ find t ys
-  find-skip [] ys h = refl
-  find-skip (x ∷ xs) ys h = rw (fails x (and_left (not (t x)) _ h)) (find-skip xs ys (and_right (not (t x)) _ h))
-    where
-      fails : (x : X) → not (t x) ≡ true → t x ≡ false
-      fails x h = by_value (t x) h
-        where
-          by_value : (b : Bool) → not b ≡ true → b ≡ false
-          by_value true h = sym h
-          by_value false h = refl
-
-  pub find-none : (xs : List X) → list_all (λ x. not (t x)) xs ≡ true → find t xs ≡ None
-  find-none [] h = refl
-  find-none (x ∷ xs) h = rw (fails (t x) (and_left (not (t x)) _ h)) (find-none xs (and_right (not (t x)) _ h))
-    where
-      fails : (b : Bool) → not b ≡ true → b ≡ false
-      fails true h = sym h
-      fails false h = refl
-
   pub without-skip : (xs ys : List X) → list_all (λ x. not (t x)) xs ≡ true → without_first t (xs ++ ys) ≡ xs ++ without_first t ys
   without-skip [] ys h = refl
   without-skip (x ∷ xs) ys h = rw (fails (t x) (and_left (not (t x)) _ h)) (ap (λ l. x ∷ l) (without-skip xs ys (and_right (not (t x)) _ h)))
-    where
-      fails : (b : Bool) → not b ≡ true → b ≡ false
-      fails true h = sym h
-      fails false h = refl
 
   pub without-none : (xs : List X) → list_all (λ x. not (t x)) xs ≡ true → without_first t xs ≡ xs
   without-none [] h = refl
   without-none (x ∷ xs) h = rw (fails (t x) (and_left (not (t x)) _ h)) (ap (λ l. x ∷ l) (without-none xs (and_right (not (t x)) _ h)))
-    where
-      fails : (b : Bool) → not b ≡ true → b ≡ false
-      fails true h = sym h
-      fails false h = refl
+
+  none_does : (xs : List X) → list_all (λ x. not (t x)) xs ≡ true → list_any t xs ≡ false
+  none_does [] h = refl
+  none_does (x ∷ xs) h = rw (fails (t x) (and_left (not (t x)) _ h)) (none_does xs (and_right (not (t x)) _ h))
+
+pub map-push : {X Y : Type 0} (f : X → Y) (xs : List X) (x : X) → map f (xs ++ x ∷ []) ≡ map f xs ++ f x ∷ []
+map-push f [] x = refl
+map-push f (y ∷ xs) x = ap (λ l. f y ∷ l) (map-push f xs x)
+
+-- what is read of what is borrowed
+pub read_twice : {X Y : Type 0} (f : X → Y) (r : Option (Bor X)) → option_map (λ b. f b.now) r ≡ option_map f (option_map (λ b. b.now) r)
+read_twice f None = refl
+read_twice f (Some b) = refl
 
 module _ {P : Type 0} (cmp : P → P → Ordering) where
   pub queued-skip : (m : Message P) (xs ys : List (Message P)) → list_all (λ n. not (pair_before cmp m n)) xs ≡ true → queued cmp m (xs ++ ys) ≡ xs ++ queued cmp m ys
   queued-skip m [] ys h = refl
   queued-skip m (x ∷ xs) ys h = rw (fails (pair_before cmp m x) (and_left (not (pair_before cmp m x)) _ h)) (ap (λ l. x ∷ l) (queued-skip m xs ys (and_right (not (pair_before cmp m x)) _ h)))
-    where
-      fails : (b : Bool) → not b ≡ true → b ≡ false
-      fails true h = sym h
-      fails false h = refl
 
   pub queued-stop : (m : Message P) (ys : List (Message P)) → list_all (pair_before cmp m) ys ≡ true → queued cmp m ys ≡ m ∷ ys
   queued-stop m [] h = refl
   queued-stop m (y ∷ ys) h = rw (and_left (pair_before cmp m y) _ h) refl
 
--- ---- groups
+  -- what waits in the code stands in the order of pairs
+  pub in_pair_order : (ms : List (code.Message P)) → are_in_order cmp ms ≡ true → AreInPairOrder cmp (map message_of ms)
+  in_pair_order [] h = tt
+  in_pair_order (m ∷ ms) h = (
+    none_does (λ n. pair_before cmp n (message_of m)) (map message_of ms) (list_all-map (λ n. not (pair_before cmp n (message_of m))) message_of ms ∙ and_left _ _ h),
+    in_pair_order ms (and_right (list_all (λ n. not (is_lt (pair_cmp cmp (pair_of n) (pair_of m)))) ms) _ h),
+  )
 
-pub waiting-append : {P : Type 0} (xs ys : List (Pair P)) → waiting_of (xs ++ ys) ≡ waiting_of xs ++ waiting_of ys
-waiting-append [] ys = refl
-waiting-append (x ∷ xs) ys = ap (λ l. messages_of x ++ l) (waiting-append xs ys) ∙ sym (append_assoc (messages_of x) (waiting_of xs) (waiting_of ys))
+  order_right : (xs ys : List (code.Message P)) → are_in_order cmp (xs ++ ys) ≡ true → are_in_order cmp ys ≡ true
+  order_right [] ys h = h
+  order_right (x ∷ xs) ys h = order_right xs ys (and_right (list_all (λ n. not (is_lt (pair_cmp cmp (pair_of n) (pair_of x)))) (xs ++ ys)) _ h)
+
+  -- without one of them the others are in order
+  order_without : (xs ys : List (code.Message P)) (m : code.Message P) → are_in_order cmp (xs ++ m ∷ ys) ≡ true → are_in_order cmp (xs ++ ys) ≡ true
+  order_without [] ys m h = and_right (list_all (λ n. not (is_lt (pair_cmp cmp (pair_of n) (pair_of m)))) ys) _ h
+  order_without (x ∷ xs) ys m h =
+      let first : list_all (λ n. not (is_lt (pair_cmp cmp (pair_of n) (pair_of x)))) (xs ++ m ∷ ys) ≡ true = and_left _ _ h in
+      and_both _ _ (list_all-append _ xs ys (list_all-left _ xs (m ∷ ys) first) (and_right (not (is_lt (pair_cmp cmp (pair_of m) (pair_of x)))) _ (list_all-right _ xs (m ∷ ys) first)))
+      (order_without xs ys m (and_right (list_all (λ n. not (is_lt (pair_cmp cmp (pair_of n) (pair_of x)))) (xs ++ m ∷ ys)) _ h))
+
+-- ---- keys
+
+module _ {K : Type 0} (cmp : K → K → Ordering) (total : IsTotalOrder cmp) where
+  -- what is no lower than another that is not below a key is not below it
+  still_not_below : (n m k : K) → is_lt (cmp m k) ≡ false → not (is_lt (cmp n m)) ≡ true → not (is_lt (cmp n k)) ≡ true
+  still_not_below n m k other h = by_order (cmp m k) (cmp n k) refl refl
+    where
+      by_order : (o p : Ordering) → cmp m k ≡ o → cmp n k ≡ p → not (is_lt p) ≡ true
+      by_order o Equal e f = refl
+      by_order o Greater e f = refl
+      by_order Less Less e f = let no : false ≡ true = sym other ∙ ap is_lt e in cc
+      by_order Equal Less e f =
+          let less : cmp n m ≡ Less = alike_right total m k n e ∙ f in
+          let no : false ≡ true = sym (ap (λ o. not (is_lt o)) less) ∙ h in cc
+      by_order Greater Less e f =
+          let down : cmp k m ≡ Less = rw (total.antisymm k m, e) refl in
+          let less : cmp n m ≡ Less = total.trans n k m f down in
+          let no : false ≡ true = sym (ap (λ o. not (is_lt o)) less) ∙ h in cc
+
+  -- what is no lower than another that is above a key is above it
+  still_above : (n m k : K) → is_gt (cmp m k) ≡ true → not (is_lt (cmp n m)) ≡ true → is_gt (cmp n k) ≡ true
+  still_above n m k above h = by_order (cmp n m) refl
+    where
+      down : cmp k m ≡ Less
+      down = rw (total.antisymm k m, is_gt_greater _ above) refl
+
+      by_order : (o : Ordering) → cmp n m ≡ o → is_gt (cmp n k) ≡ true
+      by_order Less e = let no : false ≡ true = sym (ap (λ o. not (is_lt o)) e) ∙ h in cc
+      by_order Equal e = ap is_gt (total.congr n m k e) ∙ above
+      by_order Greater e =
+          let up : cmp m n ≡ Less = rw (total.antisymm m n, e) refl in
+          let less : cmp k n ≡ Less = total.trans k m n down up in
+          rw (total.antisymm n k, less) refl
+
+  not_above_back : (j m : K) → not (is_gt (cmp j m)) ≡ true → not (is_lt (cmp m j)) ≡ true
+  not_above_back j m h = rw (total.antisymm m j) (by_order (cmp j m) h)
+    where
+      by_order : (o : Ordering) → not (is_gt o) ≡ true → not (is_lt (ordering_reverse o)) ≡ true
+      by_order Less h = refl
+      by_order Equal h = refl
+      by_order Greater h = cc
+
+  above_not_below : (n m : K) → is_gt (cmp n m) ≡ true → not (is_lt (cmp n m)) ≡ true
+  above_not_below n m h = rw (is_gt_greater _ h) refl
+
+doubly : (b : Bool) → not (not b) ≡ true → b ≡ true
+doubly true h = refl
+doubly false h = cc
+
+doubled : (b : Bool) → b ≡ true → not (not b) ≡ true
+doubled b h = rw h refl
+
+is_so : (b : Bool) → not b ≡ false → b ≡ true
+is_so true h = refl
+is_so false h = cc
 
 module _ {P : Type 0} (cmp : P → P → Ordering) (total : IsTotalOrder cmp) where
-  -- how a message stands to a pair is how its own pair does
-  of_pair : (e : Pair P) (n : Message P) (k : P × P) (p : Ordering → Bool) → (same_peer cmp e.origin n.origin && same_peer cmp e.recipient n.recipient) ≡ true → p (pair_cmp cmp (key_of e) k) ≡ true → p (pair_cmp cmp (n.origin, n.recipient) k) ≡ true
-  of_pair e n k p own h =
-      let same : pair_cmp cmp (key_of e) (n.origin, n.recipient) ≡ Equal = is_eq_equal _ (is_eq-then (cmp e.origin n.origin) (cmp e.recipient n.recipient) ∙ own) in
-      ap p (sym ((pair_total cmp total).congr (key_of e) (n.origin, n.recipient) k same)) ∙ h
-
-  of_group : (e : Pair P) (ns : List (Message P)) (k : P × P) (p : Ordering → Bool) → list_all (λ (n : Message P). same_peer cmp e.origin n.origin && same_peer cmp e.recipient n.recipient) ns ≡ true → p (pair_cmp cmp (key_of e) k) ≡ true → list_all (λ (n : Message P). p (pair_cmp cmp (n.origin, n.recipient) k)) ns ≡ true
-  of_group e ns k p own h = list_all-mono (λ (n : Message P). same_peer cmp e.origin n.origin && same_peer cmp e.recipient n.recipient) (λ n. p (pair_cmp cmp (n.origin, n.recipient) k)) (λ n o. of_pair e n k p o h) ns own
-
-  pub of_groups : (es : List (Pair P)) (k : P × P) (p : Ordering → Bool) → are_own cmp es ≡ true → list_all (λ (e : Pair P). p (pair_cmp cmp (key_of e) k)) es ≡ true → list_all (λ (n : Message P). p (pair_cmp cmp (n.origin, n.recipient) k)) (waiting_of es) ≡ true
-  of_groups [] k p own h = refl
-  of_groups (e ∷ es) k p own h = list_all-append _ (messages_of e) (waiting_of es) (of_group e (messages_of e) k p (and_left _ _ own) (and_left (p (pair_cmp cmp (key_of e) k)) _ h)) (of_groups es k p (and_right _ _ own) (and_right (p (pair_cmp cmp (key_of e) k)) _ h))
-
   -- the test whether a message is of a pair
   tested : (k : P × P) (n : Message P) → (same_peer cmp k.0 n.origin && same_peer cmp k.1 n.recipient) ≡ is_eq (ordering_reverse (pair_cmp cmp (n.origin, n.recipient) k))
   tested k n = sym (is_eq-then (cmp k.0 n.origin) (cmp k.1 n.recipient)) ∙ ap is_eq ((pair_total cmp total).antisymm k (n.origin, n.recipient))
 
-  lesser : (k : P × P) (n : Message P) → is_lt (pair_cmp cmp (n.origin, n.recipient) k) ≡ true → not (same_peer cmp k.0 n.origin && same_peer cmp k.1 n.recipient) ≡ true
-  lesser k n h = rw (tested k n, is_lt_less _ h) refl
+  pub other : (k : P × P) (n : Message P) → not (is_eq (pair_cmp cmp (n.origin, n.recipient) k)) ≡ true → not (same_peer cmp k.0 n.origin && same_peer cmp k.1 n.recipient) ≡ true
+  other k n h = rw (tested k n) (by_order (pair_cmp cmp (n.origin, n.recipient) k) h)
+    where
+      by_order : (o : Ordering) → not (is_eq o) ≡ true → not (is_eq (ordering_reverse o)) ≡ true
+      by_order Less h = refl
+      by_order Equal h = cc
+      by_order Greater h = refl
 
   pub greater : (k : P × P) (n : Message P) → is_gt (pair_cmp cmp (n.origin, n.recipient) k) ≡ true → not (same_peer cmp k.0 n.origin && same_peer cmp k.1 n.recipient) ≡ true
-  greater k n h = rw (tested k n, is_gt_greater _ h) refl
+  greater k n h = other k n (gt_not_eq _ h)
 
-  equal : (k : P × P) (n : Message P) → is_eq (pair_cmp cmp (n.origin, n.recipient) k) ≡ true → (same_peer cmp k.0 n.origin && same_peer cmp k.1 n.recipient) ≡ true
+  pub equal : (k : P × P) (n : Message P) → is_eq (pair_cmp cmp (n.origin, n.recipient) k) ≡ true → (same_peer cmp k.0 n.origin && same_peer cmp k.1 n.recipient) ≡ true
   equal k n h = rw (tested k n, is_eq_equal _ h) refl
-
-  not_before_lesser : (m n : Message P) → is_lt (pair_cmp cmp (n.origin, n.recipient) (m.origin, m.recipient)) ≡ true → not (pair_before cmp m n) ≡ true
-  not_before_lesser m n h = rw ((pair_total cmp total).antisymm (m.origin, m.recipient) (n.origin, n.recipient), is_lt_less _ h) refl
-
-  not_before_equal : (m n : Message P) → is_eq (pair_cmp cmp (n.origin, n.recipient) (m.origin, m.recipient)) ≡ true → not (pair_before cmp m n) ≡ true
-  not_before_equal m n h = rw ((pair_total cmp total).antisymm (m.origin, m.recipient) (n.origin, n.recipient), is_eq_equal _ h) refl
 
   before_greater : (m n : Message P) → is_gt (pair_cmp cmp (n.origin, n.recipient) (m.origin, m.recipient)) ≡ true → pair_before cmp m n ≡ true
   before_greater m n h = rw ((pair_total cmp total).antisymm (m.origin, m.recipient) (n.origin, n.recipient), is_gt_greater _ h) refl
 
-  module _ (before after : List (Pair P)) (entry : Pair P) (k : P × P) (own : are_own cmp (before ++ entry ∷ after) ≡ true)
-      (below : list_all (λ e. is_lt (pair_cmp cmp (key_of e) k)) before ≡ true) (same : is_eq (pair_cmp cmp (key_of entry) k) ≡ true) (above : list_all (λ e. is_gt (pair_cmp cmp (key_of e) k)) after ≡ true) where
-    own_here : list_all (λ (n : Message P). same_peer cmp entry.origin n.origin && same_peer cmp entry.recipient n.recipient) (messages_of entry) ≡ true
-    own_here = and_left _ _ (list_all-right _ before (entry ∷ after) own)
+  module _ (k : P × P) where
+    -- ---- places
 
-    before_are : list_all (λ (n : Message P). is_lt (pair_cmp cmp (n.origin, n.recipient) k)) (waiting_of before) ≡ true
-    before_are = of_groups before k is_lt (list_all-left _ before (entry ∷ after) own) below
+    -- those of lesser pairs stand before all others
+    pub parted_first : (ms : List (code.Message P)) → are_in_order cmp ms ≡ true → are_parted (λ m. is_lt (pair_cmp cmp (pair_of m) k)) ms ≡ true
+    parted_first [] h = refl
+    parted_first (m ∷ ms) h = by_bool (is_lt (pair_cmp cmp (pair_of m) k))
+        (λ t. rw t (parted_first ms (and_right (list_all (λ n. not (is_lt (pair_cmp cmp (pair_of n) (pair_of m)))) ms) _ h)))
+        (λ f. rw f (list_all-mono (λ n. not (is_lt (pair_cmp cmp (pair_of n) (pair_of m)))) (λ n. not (is_lt (pair_cmp cmp (pair_of n) k))) (λ n low. still_not_below (pair_cmp cmp) (pair_total cmp total) (pair_of n) (pair_of m) k f low) ms (and_left _ _ h)))
 
-    here_are : list_all (λ (n : Message P). is_eq (pair_cmp cmp (n.origin, n.recipient) k)) (messages_of entry) ≡ true
-    here_are = of_group entry (messages_of entry) k is_eq own_here same
+    -- so do those of pairs that are not greater
+    pub parted_next : (ms : List (code.Message P)) → are_in_order cmp ms ≡ true → are_parted (λ m. not (is_gt (pair_cmp cmp (pair_of m) k))) ms ≡ true
+    parted_next [] h = refl
+    parted_next (m ∷ ms) h = by_bool (not (is_gt (pair_cmp cmp (pair_of m) k)))
+        (λ t. rw t (parted_next ms (and_right (list_all (λ n. not (is_lt (pair_cmp cmp (pair_of n) (pair_of m)))) ms) _ h)))
+        (λ f. rw f (list_all-mono (λ n. not (is_lt (pair_cmp cmp (pair_of n) (pair_of m)))) (λ n. not (not (is_gt (pair_cmp cmp (pair_of n) k))))
+        (λ n low. doubled _ (still_above (pair_cmp cmp) (pair_total cmp total) (pair_of n) (pair_of m) k (is_so _ f) low)) ms (and_left _ _ h)))
 
-    after_are : list_all (λ (n : Message P). is_gt (pair_cmp cmp (n.origin, n.recipient) k)) (waiting_of after) ≡ true
-    after_are = of_groups after k is_gt (and_right _ _ (list_all-right _ before (entry ∷ after) own)) above
+    module _ (ms : List (code.Message P)) (at : ℕ) (ordered : are_in_order cmp ms ≡ true) (p : IsParting (λ m. is_lt (pair_cmp cmp (pair_of m) k)) ms at) where
+      there : slice_get ms at ≡ slice_get p.after 0
+      there = ap (λ l. slice_get l at) p.split ∙ get-seam p.before p.after at p.is_at
 
-    first_here : (ms : List (Message P)) → list_all (λ (n : Message P). is_eq (pair_cmp cmp (n.origin, n.recipient) k)) ms ≡ true → first_of cmp (ms ++ waiting_of after) k.0 k.1 ≡ slice_get ms 0
-    first_here [] h = find-none _ (waiting_of after) (list_all-mono _ _ (greater k) (waiting_of after) after_are)
-    first_here (m ∷ ms) h = rw (equal k m (and_left (is_eq (pair_cmp cmp (m.origin, m.recipient) k)) _ h)) refl
+      -- the message there is the first one of the pair
+      pub first_place : (m : code.Message P) → Some m ≡ slice_get ms at → is_eq (pair_cmp cmp (pair_of m) k) ≡ true → IsFirstAt cmp ms k at
+      first_place m is same = by_after p.after p.split (is ∙ there)
+        where
+          by_after : (after : List (code.Message P)) → ms ≡ p.before ++ after → Some m ≡ slice_get after 0 → IsFirstAt cmp ms k at
+          by_after [] split is = cc
+          by_after (x ∷ xs) split is =
+              let this : m ≡ x = cc in
+              record { before = p.before; message = x; after = xs; split = split; is_at = p.is_at; below = p.below; same = ap (λ n. is_eq (pair_cmp cmp (pair_of n) k)) (sym this) ∙ same }
 
-    -- the first message of the pair is the first one of its entry
-    pub first_there : first_of cmp (waiting_of (before ++ entry ∷ after)) k.0 k.1 ≡ slice_get (messages_of entry) 0
-    first_there = ap (λ l. first_of cmp l k.0 k.1) (waiting-append before (entry ∷ after)) ∙ find-skip _ (waiting_of before) _ (list_all-mono _ _ (lesser k) (waiting_of before) before_are) ∙ first_here (messages_of entry) here_are
+      before_others : list_all (λ m. not (is_eq (pair_cmp cmp (pair_of m) k))) p.before ≡ true
+      before_others = list_all-mono (λ m. is_lt (pair_cmp cmp (pair_of m) k)) (λ m. not (is_eq (pair_cmp cmp (pair_of m) k))) (λ m h. lt_not_eq _ h) p.before p.below
 
-    without_here : (ms : List (Message P)) → list_all (λ (n : Message P). is_eq (pair_cmp cmp (n.origin, n.recipient) k)) ms ≡ true
-        → without_first (λ m. same_peer cmp k.0 m.origin && same_peer cmp k.1 m.recipient) (ms ++ waiting_of after) ≡ drop 1 ms ++ waiting_of after
-    without_here [] h = without-none _ (waiting_of after) (list_all-mono _ _ (greater k) (waiting_of after) after_are)
-    without_here (m ∷ ms) h = rw (equal k m (and_left (is_eq (pair_cmp cmp (m.origin, m.recipient) k)) _ h)) refl
+      -- the message there is of a greater pair
+      pub no_first : (m : code.Message P) → Some m ≡ slice_get ms at → is_eq (pair_cmp cmp (pair_of m) k) ≡ false → IsFirstPlace cmp ms k None
+      no_first m is differs = by_after p.after p.split p.above (is ∙ there)
+        where
+          by_after : (after : List (code.Message P)) → ms ≡ p.before ++ after → list_all (λ m. not (is_lt (pair_cmp cmp (pair_of m) k))) after ≡ true → Some m ≡ slice_get after 0 → IsFirstPlace cmp ms k None
+          by_after [] split above is = cc
+          by_after (x ∷ xs) split above is =
+              let this : m ≡ x = cc in
+              let here : is_gt (pair_cmp cmp (pair_of x) k) ≡ true = neither (pair_cmp cmp (pair_of x) k) (and_left _ _ above) (ap (λ n. is_eq (pair_cmp cmp (pair_of n) k)) (sym this) ∙ differs) in
+              let after_it : are_in_order cmp (x ∷ xs) ≡ true = order_right cmp p.before (x ∷ xs) (ap (are_in_order cmp) (sym split) ∙ ordered) in
+              ap (list_all (λ m. not (is_eq (pair_cmp cmp (pair_of m) k)))) split
+              ∙ list_all-append (λ m. not (is_eq (pair_cmp cmp (pair_of m) k))) p.before (x ∷ xs) before_others (and_both _ _ (gt_not_eq _ here)
+              (list_all-mono (λ n. not (is_lt (pair_cmp cmp (pair_of n) (pair_of x)))) (λ n. not (is_eq (pair_cmp cmp (pair_of n) k)))
+              (λ n low. gt_not_eq _ (still_above (pair_cmp cmp) (pair_total cmp total) (pair_of n) (pair_of x) k here low)) xs (and_left _ _ after_it)))
 
-    -- without it, its entry has the others
-    pub without_there : without_first (λ m. same_peer cmp k.0 m.origin && same_peer cmp k.1 m.recipient) (waiting_of (before ++ entry ∷ after)) ≡ waiting_of before ++ (drop 1 (messages_of entry) ++ waiting_of after)
-    without_there = ap (without_first (λ m. same_peer cmp k.0 m.origin && same_peer cmp k.1 m.recipient)) (waiting-append before (entry ∷ after))
-        ∙ without-skip _ (waiting_of before) _ (list_all-mono _ _ (lesser k) (waiting_of before) before_are)
-        ∙ ap (λ l. waiting_of before ++ l) (without_here (messages_of entry) here_are)
+      -- no message is there
+      pub no_first_at_end : None ≡ slice_get ms at → IsFirstPlace cmp ms k None
+      no_first_at_end is = by_after p.after p.split (is ∙ there)
+        where
+          by_after : (after : List (code.Message P)) → ms ≡ p.before ++ after → None ≡ slice_get after 0 → IsFirstPlace cmp ms k None
+          by_after [] split is = ap (list_all (λ m. not (is_eq (pair_cmp cmp (pair_of m) k)))) split ∙ list_all-append (λ m. not (is_eq (pair_cmp cmp (pair_of m) k))) p.before [] before_others refl
+          by_after (x ∷ xs) split is = cc
 
-    -- with another message of the pair, its entry has it as the last one
-    pub queued_there : (m : Message P) → (m.origin, m.recipient) ≡ k → queued cmp m (waiting_of (before ++ entry ∷ after)) ≡ waiting_of before ++ ((messages_of entry ++ m ∷ []) ++ waiting_of after)
-    queued_there m is =
-        let less = subst (λ j. list_all (λ (n : Message P). is_lt (pair_cmp cmp (n.origin, n.recipient) j)) (waiting_of before) ≡ true) (sym is) before_are in
-        let alike = subst (λ j. list_all (λ (n : Message P). is_eq (pair_cmp cmp (n.origin, n.recipient) j)) (messages_of entry) ≡ true) (sym is) here_are in
-        let more = subst (λ j. list_all (λ (n : Message P). is_gt (pair_cmp cmp (n.origin, n.recipient) j)) (waiting_of after) ≡ true) (sym is) after_are in
-        ap (queued cmp m) (waiting-append before (entry ∷ after))
-        ∙ queued-skip cmp m (waiting_of before) _ (list_all-mono _ _ (not_before_lesser m) (waiting_of before) less)
-        ∙ ap (λ l. waiting_of before ++ l) (queued-skip cmp m (messages_of entry) (waiting_of after) (list_all-mono _ _ (not_before_equal m) (messages_of entry) alike)
-        ∙ ap (λ l. messages_of entry ++ l) (queued-stop cmp m (waiting_of after) (list_all-mono _ _ (before_greater m) (waiting_of after) more))
-        ∙ sym (append_assoc (messages_of entry) (m ∷ []) (waiting_of after)))
+    -- ---- the first message
 
-  -- ---- by place
+    others_read : (ms : List (code.Message P)) → list_all (λ m. not (is_eq (pair_cmp cmp (pair_of m) k))) ms ≡ true → list_all (λ m. not (same_peer cmp k.0 m.origin && same_peer cmp k.1 m.recipient)) (map message_of ms) ≡ true
+    others_read ms h = list_all-map (λ m. not (same_peer cmp k.0 m.origin && same_peer cmp k.1 m.recipient)) message_of ms
+        ∙ list_all-mono (λ m. not (is_eq (pair_cmp cmp (pair_of m) k))) (λ m. not (same_peer cmp k.0 m.origin && same_peer cmp k.1 m.recipient)) (λ m d. other k (message_of m) d) ms h
 
-  module _ (es : List (Pair P)) (k : P × P) (at : ℕ) (p : IsPlace (pair_cmp cmp) key_of es k at) (own : are_own cmp es ≡ true) where
-    own_split : are_own cmp (p.before ++ p.entry ∷ p.after) ≡ true
-    own_split = ap (are_own cmp) (sym p.split) ∙ own
+    pub first_missing : (ms : List (code.Message P)) → IsFirstPlace cmp ms k None → first_of cmp (map message_of ms) k.0 k.1 ≡ None
+    first_missing ms h = find-none (λ m. same_peer cmp k.0 m.origin && same_peer cmp k.1 m.recipient) (map message_of ms) (others_read ms h)
 
-    pub first_at_place : first_of cmp (waiting_of es) k.0 k.1 ≡ slice_get (messages_of p.entry) 0
-    first_at_place = ap (λ l. first_of cmp (waiting_of l) k.0 k.1) p.split ∙ first_there p.before p.after p.entry k own_split p.below p.same p.above
+    pub without_missing : (ms : List (code.Message P)) → IsFirstPlace cmp ms k None → without_first (λ m. same_peer cmp k.0 m.origin && same_peer cmp k.1 m.recipient) (map message_of ms) ≡ map message_of ms
+    without_missing ms h = without-none (λ m. same_peer cmp k.0 m.origin && same_peer cmp k.1 m.recipient) (map message_of ms) (others_read ms h)
 
-    waiting_set : (e : Pair P) → waiting_of (set es at e) ≡ waiting_of p.before ++ (messages_of e ++ waiting_of p.after)
-    waiting_set e = ap waiting_of (set_place (pair_cmp cmp) (pair_total cmp total) key_of es k at p e) ∙ waiting-append p.before (e ∷ p.after)
+    module _ (ms : List (code.Message P)) (at : ℕ) (p : IsFirstAt cmp ms k at) where
+      skipped : list_all (λ m. not (same_peer cmp k.0 m.origin && same_peer cmp k.1 m.recipient)) (map message_of p.before) ≡ true
+      skipped = others_read p.before (list_all-mono (λ m. is_lt (pair_cmp cmp (pair_of m) k)) (λ m. not (is_eq (pair_cmp cmp (pair_of m) k))) (λ m h. lt_not_eq _ h) p.before p.below)
 
-    pub without_at_place : (e : Pair P) → messages_of e ≡ drop 1 (messages_of p.entry) → waiting_of (set es at e) ≡ without_first (λ m. same_peer cmp k.0 m.origin && same_peer cmp k.1 m.recipient) (waiting_of es)
-    without_at_place e rest = waiting_set e ∙ ap (λ l. waiting_of p.before ++ (l ++ waiting_of p.after)) rest
-        ∙ sym (ap (λ l. without_first (λ m. same_peer cmp k.0 m.origin && same_peer cmp k.1 m.recipient) (waiting_of l)) p.split ∙ without_there p.before p.after p.entry k own_split p.below p.same p.above)
+      read : map message_of ms ≡ map message_of p.before ++ message_of p.message ∷ map message_of p.after
+      read = ap (map message_of) p.split ∙ map-append message_of p.before (p.message ∷ p.after)
 
-    pub queued_at_place : (e : Pair P) (m : Message P) → (m.origin, m.recipient) ≡ k → messages_of e ≡ messages_of p.entry ++ m ∷ [] → waiting_of (set es at e) ≡ queued cmp m (waiting_of es)
-    queued_at_place e m is more = waiting_set e ∙ ap (λ l. waiting_of p.before ++ (l ++ waiting_of p.after)) more
-        ∙ sym (ap (λ l. queued cmp m (waiting_of l)) p.split ∙ queued_there p.before p.after p.entry k own_split p.below p.same p.above m is)
+      got : slice_get ms at ≡ Some p.message
+      got = ap (λ l. slice_get l at) p.split ∙ get-seam p.before (p.message ∷ p.after) at p.is_at
 
-    pub same_at_place : (e : Pair P) → messages_of e ≡ messages_of p.entry → waiting_of (set es at e) ≡ waiting_of es
-    same_at_place e same = waiting_set e ∙ ap (λ l. waiting_of p.before ++ (l ++ waiting_of p.after)) same ∙ sym (ap waiting_of p.split ∙ waiting-append p.before (p.entry ∷ p.after))
+      pub within : at < length ms
+      within = slice_get_within ms at p.message got
 
-    pub own_set : (e : Pair P) → list_all (λ (n : Message P). same_peer cmp e.origin n.origin && same_peer cmp e.recipient n.recipient) (messages_of e) ≡ true → are_own cmp (set es at e) ≡ true
-    own_set e h = ap (are_own cmp) (set_place (pair_cmp cmp) (pair_total cmp total) key_of es k at p e)
-        ∙ list_all-append _ p.before (e ∷ p.after) (list_all-left _ p.before (p.entry ∷ p.after) own_split) (and_both _ _ h (and_right _ _ (list_all-right _ p.before (p.entry ∷ p.after) own_split)))
+      pub first_there : first_of cmp (map message_of ms) k.0 k.1 ≡ option_map message_of (slice_get ms at)
+      first_there = ap (λ l. first_of cmp l k.0 k.1) read
+          ∙ find-skip (λ m. same_peer cmp k.0 m.origin && same_peer cmp k.1 m.recipient) (map message_of p.before) (message_of p.message ∷ map message_of p.after) skipped
+          ∙ rw (equal k (message_of p.message) p.same) refl ∙ sym (ap (option_map message_of) got)
 
-    pub own_at_place : list_all (λ (n : Message P). same_peer cmp p.entry.origin n.origin && same_peer cmp p.entry.recipient n.recipient) (messages_of p.entry) ≡ true
-    own_at_place = and_left _ _ (list_all-right _ p.before (p.entry ∷ p.after) own_split)
+      removed : remove ms at ≡ p.before ++ p.after
+      removed = ap (λ l. remove l at) p.split ∙ remove_here p.before p.message p.after at p.is_at
 
-  module _ (es : List (Pair P)) (k : P × P) (at : ℕ) (g : IsGap (pair_cmp cmp) key_of es k at) (own : are_own cmp es ≡ true) where
-    own_cut : are_own cmp (g.before ++ g.after) ≡ true
-    own_cut = ap (are_own cmp) (sym g.split) ∙ own
+      pub without_there : map message_of (remove ms at) ≡ without_first (λ m. same_peer cmp k.0 m.origin && same_peer cmp k.1 m.recipient) (map message_of ms)
+      without_there = ap (map message_of) removed ∙ map-append message_of p.before p.after
+          ∙ sym (ap (without_first (λ m. same_peer cmp k.0 m.origin && same_peer cmp k.1 m.recipient)) read
+          ∙ without-skip (λ m. same_peer cmp k.0 m.origin && same_peer cmp k.1 m.recipient) (map message_of p.before) (message_of p.message ∷ map message_of p.after) skipped
+          ∙ ap (λ l. map message_of p.before ++ l) (rw (equal k (message_of p.message) p.same) refl))
 
-    pub first_at_gap : first_of cmp (waiting_of es) k.0 k.1 ≡ None
-    first_at_gap = ap (λ l. first_of cmp l k.0 k.1) (ap waiting_of g.split ∙ waiting-append g.before g.after)
-        ∙ find-skip _ (waiting_of g.before) _ (list_all-mono _ _ (lesser k) (waiting_of g.before) (of_groups g.before k is_lt (list_all-left _ g.before g.after own_cut) g.below))
-        ∙ find-none _ (waiting_of g.after) (list_all-mono _ _ (greater k) (waiting_of g.after) (of_groups g.after k is_gt (list_all-right _ g.before g.after own_cut) g.above))
+      pub order_removed : are_in_order cmp ms ≡ true → are_in_order cmp (remove ms at) ≡ true
+      order_removed h = ap (are_in_order cmp) removed ∙ order_without cmp p.before p.after p.message (ap (are_in_order cmp) (sym p.split) ∙ h)
 
-    pub without_at_gap : without_first (λ m. same_peer cmp k.0 m.origin && same_peer cmp k.1 m.recipient) (waiting_of es) ≡ waiting_of es
-    without_at_gap = ap (without_first _) (ap waiting_of g.split ∙ waiting-append g.before g.after)
-        ∙ without-none _ (waiting_of g.before ++ waiting_of g.after) (list_all-append _ (waiting_of g.before) (waiting_of g.after)
-        (list_all-mono _ _ (lesser k) (waiting_of g.before) (of_groups g.before k is_lt (list_all-left _ g.before g.after own_cut) g.below))
-        (list_all-mono _ _ (greater k) (waiting_of g.after) (of_groups g.after k is_gt (list_all-right _ g.before g.after own_cut) g.above)))
-        ∙ sym (ap waiting_of g.split ∙ waiting-append g.before g.after)
+  -- ---- a message more
 
-    pub waiting_insert : (e : Pair P) → messages_of e ≡ [] → waiting_of (insert es at e) ≡ waiting_of es
-    waiting_insert e none = ap waiting_of (insert_gap (pair_cmp cmp) (pair_total cmp total) key_of es k at g e) ∙ waiting-append g.before (e ∷ g.after) ∙ ap (λ l. waiting_of g.before ++ (l ++ waiting_of g.after)) none ∙ sym (ap waiting_of g.split ∙ waiting-append g.before g.after)
+  order_with : (xs ys : List (code.Message P)) (m : code.Message P) → are_in_order cmp (xs ++ ys) ≡ true → list_all (λ n. not (is_gt (pair_cmp cmp (pair_of n) (pair_of m)))) xs ≡ true
+      → list_all (λ n. is_gt (pair_cmp cmp (pair_of n) (pair_of m))) ys ≡ true → are_in_order cmp (xs ++ m ∷ ys) ≡ true
+  order_with [] ys m h below above = and_both _ _ (list_all-mono (λ n. is_gt (pair_cmp cmp (pair_of n) (pair_of m))) (λ n. not (is_lt (pair_cmp cmp (pair_of n) (pair_of m)))) (λ n g. above_not_below (pair_cmp cmp) (pair_total cmp total) (pair_of n) (pair_of m) g) ys above) h
+  order_with (x ∷ xs) ys m h below above =
+      let first : list_all (λ n. not (is_lt (pair_cmp cmp (pair_of n) (pair_of x)))) (xs ++ ys) ≡ true = and_left _ _ h in
+      and_both _ _
+      (list_all-append (λ n. not (is_lt (pair_cmp cmp (pair_of n) (pair_of x)))) xs (m ∷ ys) (list_all-left _ xs ys first)
+      (and_both _ _ (not_above_back (pair_cmp cmp) (pair_total cmp total) (pair_of x) (pair_of m) (and_left (not (is_gt (pair_cmp cmp (pair_of x) (pair_of m)))) _ below)) (list_all-right _ xs ys first)))
+      (order_with xs ys m (and_right (list_all (λ n. not (is_lt (pair_cmp cmp (pair_of n) (pair_of x)))) (xs ++ ys)) _ h) (and_right (not (is_gt (pair_cmp cmp (pair_of x) (pair_of m)))) _ below) above)
 
-    pub own_insert : (e : Pair P) → messages_of e ≡ [] → are_own cmp (insert es at e) ≡ true
-    own_insert e none = ap (are_own cmp) (insert_gap (pair_cmp cmp) (pair_total cmp total) key_of es k at g e)
-        ∙ list_all-append _ g.before (e ∷ g.after) (list_all-left _ g.before g.after own_cut) (and_both _ _ (ap (list_all _) none) (list_all-right _ g.before g.after own_cut))
+  module _ (ms : List (code.Message P)) (at : ℕ) (m : code.Message P) (p : IsParting (λ n. not (is_gt (pair_cmp cmp (pair_of n) (pair_of m)))) ms at) where
+    inserted : insert ms at m ≡ p.before ++ m ∷ p.after
+    inserted = ap (λ l. insert l at m) p.split ∙ ap (λ n. insert (p.before ++ p.after) n m) p.is_at ∙ insert-seam p.before p.after m
 
--- ---- the first of a queue
+    above : list_all (λ n. is_gt (pair_cmp cmp (pair_of n) (pair_of m))) p.after ≡ true
+    above = list_all-mono (λ n. not (not (is_gt (pair_cmp cmp (pair_of n) (pair_of m))))) (λ n. is_gt (pair_cmp cmp (pair_of n) (pair_of m))) (λ n h. doubly _ h) p.after p.above
 
--- what is read of the first element, if there is one
-pub front_is : {X Y : Type 0} (f : X → Y) (xs : List X) (r : Option (Bor X)) → IsItemAt xs 0 r → option_map (λ b. f b.now) r ≡ slice_get (map f xs) 0
-front_is f [] None h = refl
-front_is f [] (Some b) h = cc h.0
-front_is f (x ∷ xs) None h = cc (h.2 (omega arith))
-front_is f (x ∷ xs) (Some b) h = ap (λ y. Some (f y)) h.1
+    pub order_inserted : are_in_order cmp ms ≡ true → are_in_order cmp (insert ms at m) ≡ true
+    order_inserted h = ap (are_in_order cmp) inserted ∙ order_with p.before p.after m (ap (are_in_order cmp) (sym p.split) ∙ h) p.below above
 
--- what is taken is the first element, if there is one
-pub popped_is : {X Y : Type 0} (f : X → Y) (xs ys : List X) (r : Option X) → xs ≡ option_to_list r ++ ys → (0 < length xs → IsSome r) → option_map f r ≡ slice_get (map f xs) 0
-popped_is f [] ys None h some = refl
-popped_is f [] ys (Some x) h some = cc h
-popped_is f (x ∷ xs) ys None h some = cc (some (omega arith))
-popped_is f (x ∷ xs) ys (Some y) h some = ap (λ l. slice_get (map f l) 0) (sym h)
-
-pub drop-map : {X Y : Type 0} (f : X → Y) (xs : List X) → map f (drop 1 xs) ≡ drop 1 (map f xs)
-drop-map f [] = refl
-drop-map f (x ∷ xs) = refl
-
-pub map-push : {X Y : Type 0} (f : X → Y) (xs : List X) (x : X) → map f (xs ++ x ∷ []) ≡ map f xs ++ f x ∷ []
-map-push f [] x = refl
-map-push f (y ∷ xs) x = ap (λ l. f y ∷ l) (map-push f xs x)
+    pub queued_there : map message_of (insert ms at m) ≡ queued cmp (message_of m) (map message_of ms)
+    queued_there = ap (map message_of) inserted ∙ map-append message_of p.before (m ∷ p.after)
+        ∙ sym (ap (λ l. queued cmp (message_of m) (map message_of l)) p.split ∙ ap (queued cmp (message_of m)) (map-append message_of p.before p.after)
+        ∙ queued-skip cmp (message_of m) (map message_of p.before) (map message_of p.after) (list_all-map (λ n. not (pair_before cmp (message_of m) n)) message_of p.before
+        ∙ list_all-mono (λ n. not (is_gt (pair_cmp cmp (pair_of n) (pair_of m)))) (λ n. not (pair_before cmp (message_of m) (message_of n))) (λ n h. not_above_back (pair_cmp cmp) (pair_total cmp total) (pair_of n) (pair_of m) h) p.before p.below)
+        ∙ ap (λ l. map message_of p.before ++ l) (queued-stop cmp (message_of m) (map message_of p.after) (list_all-map (pair_before cmp (message_of m)) message_of p.after
+        ∙ list_all-mono (λ n. is_gt (pair_cmp cmp (pair_of n) (pair_of m))) (λ n. pair_before cmp (message_of m) (message_of n)) (λ n h. before_greater (message_of m) (message_of n) h) p.after above)))
