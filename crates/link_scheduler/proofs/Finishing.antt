@@ -10,9 +10,9 @@ use Rattle.fair_rates.specs.declared.error.Error.TheVariants.{MomentTooLate}
 use Rattle.link_scheduler.specs.declared.transmitter.look.Key.{Key}
 use Rattle.link_scheduler.specs.Keys.{IsKeyOf}
 use Rattle.fair_rates.specs.Sides.{same_peer}
-use Rattle.link_scheduler.specs.Pairs.{first_of}
+use Rattle.link_scheduler.specs.Pairs.{first_of, raised_at}
 use Rattle.link_simulation.specs.WorldMessages.{Message, same_pair}
-use Rattle.link_simulation.specs.World.{Completed, Course, goes, meets, preceded, is_late, completed}
+use Rattle.link_simulation.specs.World.{Completed, Course, goes, meets, preceded, is_late, arrival, completed}
 use Rattle.link_simulation.specs.WorldPlanned.{Planned, next_of}
 use Rattle.link_simulation.specs.WorldEvents.{Looks, Launches, Finishes, all_completed, late, stopped, completes, landed, WakesEach, all_started, no_start, no_finish, starts_one}
 use Rattle.link_simulation.specs.Refusing.{IsRefusedFor}
@@ -47,6 +47,10 @@ module _ {P : Type 0} (cmp : P → P → Ordering) where
       (λ fault. Finishes cmp t (m ∷ ms) p (meets fault)) (λ fault h. stopped in_time h) e
       (subst (λ (q : Planned P). IsRefusedFor (λ fault. Launches cmp t q (first_of cmp q.waiting m.origin m.recipient)
       (meets fault)) e) is refused)
+
+  -- the pair's last arrival is raised as where the message lands
+  pub landed_so : (t : ℕ) (p mid : Planned P) (m : Message P) (at : ℕ) → at ≡ arrival cmp t m → mid ≡ record p { last_arrival = raised_at cmp p.last_arrival m.origin m.recipient at } → mid ≡ landed cmp t p m
+  landed_so t p mid m at is mid_is = mid_is ∙ ap (λ (n : ℕ). record p { last_arrival = raised_at cmp p.last_arrival m.origin m.recipient n }) is
 
   pub launches_landed : (t : ℕ) (m : Message P) (p mid : Planned P) (course : Course (Message P) (Planned P)) → mid ≡ landed cmp t p m → Launches cmp t mid (first_of cmp mid.waiting m.origin m.recipient) course
       → Launches cmp t (landed cmp t p m) (next_of cmp p m) course

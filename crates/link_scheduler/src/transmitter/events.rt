@@ -71,10 +71,11 @@ impl<P: Peer> Working<P> {
         ensures refused { IfErr result (λ e. (ms : List (AnyMessage P)) →
             IsRefusedFor (λ fault. Finishes P.cmp now (message_of message.value ∷ ms) (planned P.cmp self.old) (meets fault)) e) }
     {
-        let arrival = message.arrival(now)?;
-        let deliver_at = message.is_delivered().then_some(arrival);
-        self.raise(&message.origin, &message.recipient, arrival)?;
-        let more = self.launch(&message.origin, &message.recipient, now)?;
+        let sent = Rc::as_ref(&message);
+        let arrival = sent.arrival(now)?;
+        let deliver_at = sent.is_delivered().then_some(arrival);
+        self.raise(&sent.origin, &sent.recipient, arrival)?;
+        let more = self.launch(&sent.origin, &sent.recipient, now)?;
         ended.push(Ended {
             message,
             deliver_at,

@@ -10,7 +10,7 @@ use Rattle.link_scheduler.proofs.transmitter.working.Working.advance.Goals as go
 pub returns-in_err-happen-clause-refused : goal.returns-in_err-happen-clause-refused
 returns-in_err-happen-clause-refused g c =
     let p = err_from_is_err_and c.from_residual.result c.from_residual.ensures.1 in
-    rw (p.1, p.2) (event_refused g.P.Ord.cmp c.args.now (planned g.P.Ord.cmp c.args.self.now) (planned g.P.Ord.cmp c.loop-event.self) (map ended_of c.loop-event.completions.items) c.loop-event.events c.in-Some.event c.loop-event.invariant.so c.in-Some.ensures _ c.in_err-happen.ensures.refused)
+    rw (p.1, p.2) (event_refused g.P.Ord.cmp c.args.now (planned g.P.Ord.cmp c.args.self.now) (planned g.P.Ord.cmp c.loop-event.self) (map ended_of c.loop-event.ended.items) c.loop-event.events c.in-Some.event c.loop-event.invariant.so c.in-Some.ensures _ c.in_err-happen.ensures.refused)
 
 pub overflow_add-events : goal.overflow_add-events
 overflow_add-events g c =
@@ -35,16 +35,16 @@ loop-event-preserved g c =
     let fewer : events_left g.P.Ord.cmp (planned g.P.Ord.cmp c.happen.new.self) + 1 ≤ events_left g.P.Ord.cmp (planned g.P.Ord.cmp c.loop-event.self) = happens_fewer g.P.Ord.cmp g.met.P.Ord.total c.args.now c.in-Some.event (planned g.P.Ord.cmp c.loop-event.self) (planned g.P.Ord.cmp c.happen.new.self) h.0 c.in-Some.ensures h.2 in
     let few : c.loop-event.events + events_left g.P.Ord.cmp (planned g.P.Ord.cmp c.loop-event.self) ≤ events_left g.P.Ord.cmp (planned g.P.Ord.cmp c.args.self.now) = c.loop-event.invariant.few in
     record {
-      so = advances_step g.P.Ord.cmp c.args.now (planned g.P.Ord.cmp c.args.self.now) (planned g.P.Ord.cmp c.loop-event.self) (planned g.P.Ord.cmp c.happen.new.self) (map ended_of c.loop-event.completions.items) (map ended_of c.happen.new.completions.items) h.0 c.loop-event.events c.in-Some.event c.loop-event.invariant.so c.in-Some.ensures h.2 h.1;
+      so = advances_step g.P.Ord.cmp c.args.now (planned g.P.Ord.cmp c.args.self.now) (planned g.P.Ord.cmp c.loop-event.self) (planned g.P.Ord.cmp c.happen.new.self) (map ended_of c.loop-event.ended.items) (map ended_of c.happen.new.ended.items) h.0 c.loop-event.events c.in-Some.event c.loop-event.invariant.so c.in-Some.ensures h.2 h.1;
       few = omega (arith, fewer, few);
     }
 
 pub returns-in_err-wake-clause-refused : goal.returns-in_err-wake-clause-refused
 returns-in_err-wake-clause-refused g c =
     let p = err_from_is_err_and c.from_residual-in_err-wake.result c.from_residual-in_err-wake.ensures.1 in
-    rw (p.1, p.2) (wake_refused g.P.Ord.cmp c.args.now (planned g.P.Ord.cmp c.args.self.now) (planned g.P.Ord.cmp c.loop-event.self) (map ended_of c.loop-event.completions.items) c.loop-event.events c.loop-event.invariant.so c.in_default.ensures _ c.in_err-wake.ensures.refused)
+    rw (p.1, p.2) (wake_refused g.P.Ord.cmp c.args.now (planned g.P.Ord.cmp c.args.self.now) (planned g.P.Ord.cmp c.loop-event.self) (map ended_of c.loop-event.ended.items) c.loop-event.events c.loop-event.invariant.so c.in_default.ensures _ c.in_err-wake.ensures.refused)
 
 pub returns-clause-advances : goal.returns-clause-advances
 returns-clause-advances g c =
     let h = c.in_ok-wake.ensures.wakes in
-    advances_end g.P.Ord.cmp c.args.now (planned g.P.Ord.cmp c.args.self.now) (planned g.P.Ord.cmp c.loop-event.self) (planned g.P.Ord.cmp c.wake.new.self) (map ended_of c.loop-event.completions.items) (map ended_of c.wake.new.completions.items) h.0 c.loop-event.events c.loop-event.invariant.so c.in_default.ensures h.2 h.1
+    advances_end g.P.Ord.cmp c.args.now (planned g.P.Ord.cmp c.args.self.now) (planned g.P.Ord.cmp c.loop-event.self) (planned g.P.Ord.cmp c.wake.new.self) (map ended_of c.loop-event.ended.items) (map ended_of c.wake.new.ended.items) h.0 c.loop-event.events c.loop-event.invariant.so c.in_default.ensures h.2 h.1

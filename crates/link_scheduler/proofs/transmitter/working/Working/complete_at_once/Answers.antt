@@ -17,7 +17,7 @@ returns-in_err-arrival-clause-refused g c =
 pub returns-clause-completes : goal.returns-clause-completes
 returns-clause-completes g c = (
   ended_of c.of.result,
-  ap (map ended_of) c.in_ok-push.ensures.items ∙ map-push ended_of c.args.completions.now.items c.of.result,
+  ap (map ended_of) c.in_ok-push.ensures.items ∙ map-push ended_of c.args.ended.now.items c.of.result,
   completes_so g.P.Ord.cmp c.args.now (planned g.P.Ord.cmp c.args.self.now) _ (message_of c.args.message) c.in_ok-arrival.arrival (ended_of c.of.result) c.in_ok-arrival.ensures.in_time c.in_ok-arrival.ensures.moment
       (c.of.ensures ∙ ap (completion_of (message_of c.args.message)) c.then_some-deliver_at.ensures)
       (λ i. record {

@@ -6,8 +6,8 @@ use Rattle.link_scheduler.proofs.MessageCounts.{in_system}
 use Rattle.link_scheduler.proofs.transmitter.working.Working.finish.Given as goal
 
 abbrev pub invariant-loop-message : goal.invariant-loop-message
-invariant-loop-message g l = FinishesSo g.P.Ord.cmp l.now (messages l.initial.queue.items) (planned g.P.Ord.cmp l.initial.self) (map ended_of l.initial.completions.items)
-    (messages l.queue.items) (planned g.P.Ord.cmp l.self) (map ended_of l.completions.items)
+invariant-loop-message g l = FinishesSo g.P.Ord.cmp l.now (messages l.initial.queue.items) (planned g.P.Ord.cmp l.initial.self) (map ended_of l.initial.ended.items)
+    (messages l.queue.items) (planned g.P.Ord.cmp l.self) (map ended_of l.ended.items)
 
 abbrev pub decreases-loop-message : goal.decreases-loop-message
 decreases-loop-message g l = length (messages l.queue.items) + in_system (planned g.P.Ord.cmp l.self)

@@ -1,5 +1,6 @@
-use Rattle.std.proofs.Common.{true}
-use Rattle.link_scheduler.specs.Pairs.{link_of, arrival_of, waiting_of}
+use Rattle.std.proofs.Common.{true, map}
+use Rattle.link_scheduler.specs.Pairs.{link_of, arrival_of}
+use Rattle.link_scheduler.specs.Message.{message_of}
 use Rattle.link_scheduler.specs.InFlight.{in_flight}
 use Rattle.link_scheduler.proofs.Settling.{on_ok_both}
 use Rattle.link_scheduler.proofs.transmitter.working.Working.limit_peer.Goals as goal
