@@ -14,7 +14,7 @@ use Rattle.fair_rates.specs.Amount.{reduced}
 use Rattle.fair_rates.specs.Caps.{Caps}
 use Rattle.fair_rates.specs.FairLaws.{AreTheSameSides}
 use Rattle.fair_rates.specs.FairParts.{flow_parts, parts_of_level}
-use Rattle.link_scheduler.specs.Flights.{message_in, sending_of, are_marked, rated_by}
+use Rattle.link_scheduler.specs.Flights.{paced_of, sending_of, are_standing, rated_by}
 use Rattle.fair_rates.specs.PeerCaps.{AreOfPeers, sides_under}
 use Rattle.link_scheduler.specs.Pairs.{arrival_of}
 use Rattle.link_scheduler.specs.Working.{caps_of, AreFairPartsUnder}
@@ -22,7 +22,7 @@ use Rattle.link_simulation.specs.WorldEvents.{Accounts}
 use Rattle.link_simulation.specs.WorldMessages.{Message, is_delivered, PairsAlike}
 use Rattle.link_simulation.specs.WorldPlanned.{Planned, Paced, IsLeastMoment, SomeSpentAt, paced_flows, drained_to, is_spent}
 use Rattle.link_simulation.specs.WorldRates.{AreFair, capped_sides, is_unlimited, rate_of, rates_from}
-use Rattle.link_scheduler.proofs.InFlight.{length-sending, nothing_is_done}
+use Rattle.link_scheduler.proofs.InFlight.{length-read, nothing_is_done, StandsForSent, standing_zip, standing_length}
 use Rattle.link_scheduler.proofs.PairEntries.{links_alike, arrivals_alike}
 use Rattle.link_simulation.proofs.Sorted.{and_left, and_right, and_both, is_eq_equal, value_respects}
 use Rattle.link_scheduler.proofs.Fairness.Messages.{StandsForMessage, same_sides}
@@ -44,12 +44,6 @@ pub arrivals_looked_up : {P : Type 0} (cmp : P → P → Ordering) → IsTotalOr
 arrivals_looked_up cmp order es = arrivals_alike cmp order es
 
 -- ---- what is in flight, and what it becomes
-
-mark : (a b : Bool) → (if b then a else not a) ≡ true → a ≡ b
-mark true true h = refl
-mark true false h = sym h
-mark false true h = h
-mark false false h = refl
 
 module _ {P : Type 0} (now scale : ℕ) (levels : List ℕ) where
   stayed_so : (os : List (Option ℕ)) (fs : List (Paced P)) → length os ≡ length fs → AllZip (λ f g. (g.message ≡ f.message) × (g.left ≡ f.left) × (g.updated ≡ now)) fs (rated_by now scale levels os fs)
@@ -73,13 +67,11 @@ module _ {P : Type 0} (cmp : P → P → Ordering) where
       passes f none stays = let spent : is_spent cmp p.caps f ≡ true = nothing_is_done f.left.num _ none in cc
 
   -- each flow stands for its message
-  pub flows_stand : IsTotalOrder cmp → (scale : ℕ) (levels : List ℕ) (fs : List (Flow P)) (ss : List Progress) → length fs ≡ length ss → are_marked cmp fs ss ≡ true → AllZip (StandsForMessage cmp) fs (paced_flows (sending_of scale levels fs ss))
-  flows_stand order scale levels [] ss same marked = tt
-  flows_stand order scale levels (f ∷ fs) [] same marked = absurd (omega arith)
-  flows_stand order scale levels (f ∷ fs) (s ∷ ss) same marked = (
-    record { origin = same_peer_itself cmp order f.origin; recipient = same_peer_itself cmp order f.recipient; delivered = mark f.delivered (is_delivered cmp (message_in f s)) (and_left _ _ marked) },
-    flows_stand order scale levels fs ss (omega arith) (and_right (if is_delivered cmp (message_in f s) then f.delivered else not f.delivered) _ marked),
-  )
+  pub flows_stand : (scale : ℕ) (levels : List ℕ) (fs : List (Flow P)) (ss : List (Progress P)) → AllZip (StandsForSent cmp) fs ss → AllZip (StandsForMessage cmp) fs (paced_flows (sending_of scale levels ss))
+  flows_stand scale levels [] [] stand = tt
+  flows_stand scale levels [] (s ∷ ss) stand = absurd stand
+  flows_stand scale levels (f ∷ fs) [] stand = absurd stand
+  flows_stand scale levels (f ∷ fs) (s ∷ ss) stand = (record { origin = stand.0.origin; recipient = stand.0.recipient; delivered = stand.0.delivered }, flows_stand scale levels fs ss stand.1)
 
   -- what stays uses a capped side
   abbrev all_limited : Caps P → List (Paced P) → Bool
@@ -120,19 +112,19 @@ module _ {P : Type 0} (cmp : P → P → Ordering) where
 
 -- ---- the account
 
-module _ {P : Type 0} (cmp : P → P → Ordering) (order : IsTotalOrder cmp) (now : ℕ) (old : Planned P) (of : AreOfPeers cmp old.caps) (scale : ℕ) (levels : List ℕ) (fs : List (Flow P)) (ss : List Progress)
-    (parallel : length fs ≡ length ss) (marked : are_marked cmp fs ss ≡ true) (rest : sending_of scale levels fs ss ≡ filter (λ f. not (is_spent cmp old.caps f)) (drained_to now old.sending)) where
+module _ {P : Type 0} (cmp : P → P → Ordering) (order : IsTotalOrder cmp) (now : ℕ) (old : Planned P) (of : AreOfPeers cmp old.caps) (scale : ℕ) (levels : List ℕ) (fs : List (Flow P)) (ss : List (Progress P))
+    (stand : are_standing cmp fs ss ≡ true) (rest : sending_of scale levels ss ≡ filter (λ f. not (is_spent cmp old.caps f)) (drained_to now old.sending)) where
   -- with fair rates, and a finish, this is an account
   pub accounts_so : (leavers : List (Message P)) (found : FairParts) (finish : Option ℕ) → leavers ≡ paced_flows (filter (is_spent cmp old.caps) (drained_to now old.sending))
-      → AreFairPartsUnder cmp old.caps fs scale found → IsLeastMoment (λ s. SomeSpentAt (rated_by now found.scale found.levels.items found.level_of.items (sending_of scale levels fs ss)) s) finish
-      → Accounts cmp now old leavers (record old { sending = rated_by now found.scale found.levels.items found.level_of.items (sending_of scale levels fs ss); finish = finish })
+      → AreFairPartsUnder cmp old.caps fs scale found → IsLeastMoment (λ s. SomeSpentAt (rated_by now found.scale found.levels.items found.level_of.items (sending_of scale levels ss)) s) finish
+      → Accounts cmp now old leavers (record old { sending = rated_by now found.scale found.levels.items found.level_of.items (sending_of scale levels ss); finish = finish })
   accounts_so leavers found finish left fair least =
-      let stay : List (Paced P) = sending_of scale levels fs ss in
+      let stay : List (Paced P) = sending_of scale levels ss in
       let rated : List (Paced P) = rated_by now found.scale found.levels.items found.level_of.items stay in
       let parts : ℕ → ℕ = flow_parts found.levels.items found.level_of.items in
-      let one_each : length found.level_of.items ≡ length stay = fair.one_each ∙ sym (length-sending scale levels fs ss parallel) in
+      let one_each : length found.level_of.items ≡ length stay = fair.one_each ∙ standing_length cmp fs ss stand ∙ sym (length-read (paced_of scale levels) ss) in
       let limited : all_limited cmp old.caps stay ≡ true = ap (all_limited cmp old.caps) rest ∙ stays_limited cmp old.caps (drained_to now old.sending) in
-      let same : AreTheSameSides (sides_under cmp old.caps fs) (capped_sides cmp old.caps (paced_flows stay)) = same_sides cmp order old.caps of fs (paced_flows stay) (flows_stand cmp order scale levels fs ss parallel marked) in
+      let same : AreTheSameSides (sides_under cmp old.caps fs) (capped_sides cmp old.caps (paced_flows stay)) = same_sides cmp order old.caps of fs (paced_flows stay) (flows_stand cmp scale levels fs ss (standing_zip cmp fs ss stand)) in
       record {
         per = found.scale;
         rates = rates_from cmp old.caps parts 0 (paced_flows stay);

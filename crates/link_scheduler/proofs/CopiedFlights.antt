@@ -1,18 +1,18 @@
 -- Copies of the messages in flight.
-use Rattle.std.proofs.Common.{◌≡◌, List, [], ◌∷◌, map, ℕ, nat_lt, Result, Ok, Err, is_ok, IfOk, refl, sym, ap, subst}
+use Rattle.std.proofs.Common.{◌≡◌, true, List, [], ◌∷◌, map, ℕ, nat_lt, Result, Ok, Err, is_ok, IfOk, refl, sym, ◌∙◌, ap, subst}
 use Rattle.std.specs.Result.{MatchResult}
 use Rattle.std.specs.List.{AllZip, list_all}
 use Rattle.std.specs.declared.cmp.Ordering.{Ordering}
 use Rattle.std.specs.declared.cmp.Ordering.TheVariants.{Equal}
 use Rattle.std.specs.Ordering.{is_eq}
 use Rattle.std.specs.Cmp.{IsTotalOrder}
-use Rattle.std.proofs.lemmas.Cmp.{tied_back}
 use Rattle.fair_rates.specs.declared.bandwidth.Flow.{Flow}
 use Rattle.link_scheduler.specs.declared.transmitter.progress.Progress.{Progress}
-use Rattle.link_simulation.specs.WorldMessages.{SameMessage, is_delivered}
-use Rattle.link_simulation.specs.SamePlanned.{IsSamePaced}
-use Rattle.link_scheduler.specs.Flights.{message_in, sending_of, are_marked, IsSameFlow}
-use Rattle.link_simulation.proofs.World.AlikeMessages.{delivered_alike}
+use Rattle.link_scheduler.specs.Flights.{sending_of, are_standing, IsSameFlow}
+use Rattle.link_scheduler.specs.Progress.{IsSameProgress}
+use Rattle.link_scheduler.specs.declared.transmitter.flights.Flights.{Flights}
+use Rattle.link_scheduler.specs.InFlight.{in_flight, IsSameFlights}
+use Rattle.link_scheduler.proofs.InFlight.{StandsForSent, standing_zip, zip_standing}
 
 module _ {P : Type 0} (cmp : P → P → Ordering) where
   -- a copy of a flow, where an error would have become another
@@ -37,28 +37,32 @@ module _ {P : Type 0} (cmp : P → P → Ordering) where
   below_alike next (x ∷ xs) (y ∷ ys) z = rw (z.0.id, below_alike next xs ys z.1) refl
 
   module _ (total : IsTotalOrder cmp) where
-    in_alike : (x y : Flow P) (s : Progress) → IsSameFlow cmp x y → SameMessage cmp (message_in x s) (message_in y s)
-    in_alike x y s h = record {
-      origin = ap is_eq (tied_back total y.origin x.origin h.origin);
-      recipient = ap is_eq (tied_back total y.recipient x.recipient h.recipient);
-      channel = refl;
-      bytes = refl;
-      latency = refl;
-      should_deliver = refl;
-    }
+    stands_alike : (x y : Flow P) (s t : Progress P) → IsSameFlow cmp x y → IsSameProgress s t → StandsForSent cmp x s → StandsForSent cmp y t
+    stands_alike x y s t same progress stands = rw progress.message (record {
+      origin = ap is_eq (total.congr y.origin x.origin s.message.value.origin same.origin) ∙ stands.origin;
+      recipient = ap is_eq (total.congr y.recipient x.recipient s.message.value.recipient same.recipient) ∙ stands.recipient;
+      delivered = same.delivered ∙ stands.delivered;
+    })
 
-    pub sending_alike : (scale : ℕ) (levels : List ℕ) (xs ys : List (Flow P)) (ss : List Progress) → AllZip (IsSameFlow cmp) xs ys → AllZip (IsSamePaced cmp) (sending_of scale levels xs ss) (sending_of scale levels ys ss)
-    sending_alike scale levels [] [] ss z = tt
-    sending_alike scale levels [] (y ∷ ys) ss z = absurd z
-    sending_alike scale levels (x ∷ xs) [] ss z = absurd z
-    sending_alike scale levels (x ∷ xs) (y ∷ ys) [] z = tt
-    sending_alike scale levels (x ∷ xs) (y ∷ ys) (s ∷ ss) z = (record { message = in_alike x y s z.0; left = refl; rate = refl; updated = refl }, sending_alike scale levels xs ys ss z.1)
+    stand_alike : (xs ys : List (Flow P)) (ss ts : List (Progress P)) → AllZip (IsSameFlow cmp) xs ys → AllZip IsSameProgress ss ts → AllZip (StandsForSent cmp) xs ss → AllZip (StandsForSent cmp) ys ts
+    stand_alike [] [] [] [] flows progress stand = tt
+    stand_alike [] [] [] (t ∷ ts) flows progress stand = absurd progress
+    stand_alike [] [] (s ∷ ss) ts flows progress stand = absurd stand
+    stand_alike [] (y ∷ ys) ss ts flows progress stand = absurd flows
+    stand_alike (x ∷ xs) [] ss ts flows progress stand = absurd flows
+    stand_alike (x ∷ xs) (y ∷ ys) [] ts flows progress stand = absurd stand
+    stand_alike (x ∷ xs) (y ∷ ys) (s ∷ ss) [] flows progress stand = absurd progress
+    stand_alike (x ∷ xs) (y ∷ ys) (s ∷ ss) (t ∷ ts) flows progress stand = (stands_alike x y s t flows.0 progress.0 stand.0, stand_alike xs ys ss ts flows.1 progress.1 stand.1)
 
-    pub marked_alike : (xs ys : List (Flow P)) (ss : List Progress) → AllZip (IsSameFlow cmp) xs ys → are_marked cmp ys ss ≡ are_marked cmp xs ss
-    marked_alike [] [] ss z = refl
-    marked_alike [] (y ∷ ys) ss z = absurd z
-    marked_alike (x ∷ xs) [] ss z = absurd z
-    marked_alike (x ∷ xs) (y ∷ ys) [] z = refl
-    marked_alike (x ∷ xs) (y ∷ ys) (s ∷ ss) z =
-        let same : is_delivered cmp (message_in x s) ≡ is_delivered cmp (message_in y s) = delivered_alike cmp total (message_in x s) (message_in y s) (in_alike x y s z.0) in
-        rw (← same, z.0.delivered, marked_alike xs ys ss z.1) refl
+    pub standing_alike : (xs ys : List (Flow P)) (ss ts : List (Progress P)) → AllZip (IsSameFlow cmp) xs ys → AllZip IsSameProgress ss ts → are_standing cmp xs ss ≡ true → are_standing cmp ys ts ≡ true
+    standing_alike xs ys ss ts flows progress h = zip_standing cmp ys ts (stand_alike xs ys ss ts flows progress (standing_zip cmp xs ss h))
+
+-- a copy is in flight as what it is of
+pub sending_alike : {P : Type 0} (scale : ℕ) (levels : List ℕ) (ss ts : List (Progress P)) → AllZip IsSameProgress ss ts → sending_of scale levels ts ≡ sending_of scale levels ss
+sending_alike scale levels [] [] z = refl
+sending_alike scale levels [] (t ∷ ts) z = absurd z
+sending_alike scale levels (s ∷ ss) [] z = absurd z
+sending_alike scale levels (s ∷ ss) (t ∷ ts) z = rw (z.0.message, z.0.left, z.0.level, z.0.updated, sending_alike scale levels ss ts z.1) refl
+
+pub in_flight_alike : {P : Type 0} {a : _} {b : _} {c : _} (cmp : P → P → Ordering) (flights copy : Flights P a b c) → IsSameFlights cmp flights copy → in_flight copy ≡ in_flight flights
+in_flight_alike cmp flights copy same = rw (same.scale, same.levels) (sending_alike flights.scale flights.levels.items flights.progress.items copy.progress.items same.progress)

@@ -7,7 +7,6 @@ use Rattle.fair_rates.specs.Amount.{billion}
 use Rattle.fair_rates.specs.FairParts.{parts_of_level}
 use Rattle.link_simulation.specs.World.{last_moment}
 use Rattle.link_simulation.specs.WorldPlanned.{Paced, IsLeastMoment, SomeSpentAt, left_at, earlier}
-use Rattle.fair_rates.specs.declared.bandwidth.Flow.{Flow}
 use Rattle.link_scheduler.specs.declared.transmitter.progress.Progress.{Progress}
 use Rattle.link_scheduler.specs.Flights.{paced_of, sending_of}
 use Rattle.link_scheduler.specs.Progress.{SomeRunsOutAt, levelled}
@@ -74,25 +73,25 @@ get_either [] v (suc i) x is = absurd (none-some x is)
 get_either (u ∷ us) v zero x is = inl is
 get_either (u ∷ us) v (suc i) x is = get_either us v i x is
 
-module _ (levels : List ℕ) where
-  out_before : (ss : List Progress) (g : Progress) (t : ℕ) → SomeRunsOutAt levels ss t → SomeRunsOutAt levels (ss ++ g ∷ []) t
+module _ {P : Type 0} (levels : List ℕ) where
+  out_before : (ss : List (Progress P)) (g : Progress P) (t : ℕ) → SomeRunsOutAt levels ss t → SomeRunsOutAt levels (ss ++ g ∷ []) t
   out_before ss g t h = (h.0, h.1, get_before ss (g ∷ []) h.0 h.1 h.2, h.3, h.4)
 
-  out_last : (ss : List Progress) (g : Progress) (t : ℕ) → RunsOutFrom (parts_of_level levels g.level) g.updated g.left t → SomeRunsOutAt levels (ss ++ g ∷ []) t
+  out_last : (ss : List (Progress P)) (g : Progress P) (t : ℕ) → RunsOutFrom (parts_of_level levels g.level) g.updated g.left t → SomeRunsOutAt levels (ss ++ g ∷ []) t
   out_last ss g t h = (length ss, g, get-seam ss [] g, h.0, h.1)
 
-  out_either : (ss : List Progress) (g : Progress) (t : ℕ) → SomeRunsOutAt levels (ss ++ g ∷ []) t → SomeRunsOutAt levels ss t ⊎ RunsOutFrom (parts_of_level levels g.level) g.updated g.left t
+  out_either : (ss : List (Progress P)) (g : Progress P) (t : ℕ) → SomeRunsOutAt levels (ss ++ g ∷ []) t → SomeRunsOutAt levels ss t ⊎ RunsOutFrom (parts_of_level levels g.level) g.updated g.left t
   out_either ss g t h = elim (get_either ss g h.0 h.1 h.2) [
     | inl there ↦ inl (h.0, h.1, there, h.3, h.4)
-    | inr is ↦ inr (subst (λ (s : Progress). RunsOutFrom (parts_of_level levels s.level) s.updated s.left t) is (h.3, h.4))
+    | inr is ↦ inr (subst (λ (s : Progress P). RunsOutFrom (parts_of_level levels s.level) s.updated s.left t) is (h.3, h.4))
   ]
 
-  first_of_more : (ss : List Progress) (g : Progress) (a b : Option ℕ) → IsLeastMoment (SomeRunsOutAt levels ss) a → IsLeastMoment (RunsOutFrom (parts_of_level levels g.level) g.updated g.left) b
+  first_of_more : (ss : List (Progress P)) (g : Progress P) (a b : Option ℕ) → IsLeastMoment (SomeRunsOutAt levels ss) a → IsLeastMoment (RunsOutFrom (parts_of_level levels g.level) g.updated g.left) b
       → IsLeastMoment (SomeRunsOutAt levels (ss ++ g ∷ [])) (earlier a b)
   first_of_more ss g a b m n = least_of_both (SomeRunsOutAt levels ss) (RunsOutFrom (parts_of_level levels g.level) g.updated g.left) (SomeRunsOutAt levels (ss ++ g ∷ []))
       (λ t h. out_before ss g t h) (λ t h. out_last ss g t h) (λ t h. out_either ss g t h) a b m n
 
-levelled-append : (now : ℕ) (os ps : List (Option ℕ)) (ss ts : List Progress) → length os ≡ length ss → levelled now (os ++ ps) (ss ++ ts) ≡ levelled now os ss ++ levelled now ps ts
+levelled-append : {P : Type 0} (now : ℕ) (os ps : List (Option ℕ)) (ss ts : List (Progress P)) → length os ≡ length ss → levelled now (os ++ ps) (ss ++ ts) ≡ levelled now os ss ++ levelled now ps ts
 levelled-append now [] ps [] ts same = refl
 levelled-append now [] ps (s ∷ ss) ts same = absurd (omega arith)
 levelled-append now (o ∷ os) ps [] ts same = absurd (omega arith)
@@ -100,14 +99,14 @@ levelled-append now (o ∷ os) ps (s ∷ ss) ts same = ap (λ l. record s { leve
 
 -- ---- the levels of all, one after another
 
-module _ (now : ℕ) (levels : List ℕ) (level_of : List (Option ℕ)) (old : List Progress) where
+module _ {P : Type 0} (now : ℕ) (levels : List ℕ) (level_of : List (Option ℕ)) (old : List (Progress P)) where
   -- up to a place each has its level, from there on nothing has changed, and this is the first moment at which nothing is left of one before it
-  pub record AreLevelledUpTo (new : List Progress) (at : ℕ) (finish : Option ℕ) : Type 0 where
+  pub record AreLevelledUpTo (new : List (Progress P)) (at : ℕ) (finish : Option ℕ) : Type 0 where
     pub done : List (Option ℕ)
     pub coming : List (Option ℕ)
-    pub from : List Progress
-    pub to : List Progress
-    pub rest : List Progress
+    pub from : List (Progress P)
+    pub to : List (Progress P)
+    pub rest : List (Progress P)
     pub levels_are : level_of ≡ done ++ coming
     pub old_are : old ≡ from ++ rest
     pub new_are : new ≡ to ++ rest
@@ -118,26 +117,26 @@ module _ (now : ℕ) (levels : List ℕ) (level_of : List (Option ℕ)) (old : L
     pub first : IsLeastMoment (SomeRunsOutAt levels to) finish
 
   -- all have their levels
-  pub record AreLevelled (new : List Progress) (finish : Option ℕ) : Type 0 where
+  pub record AreLevelled (new : List (Progress P)) (finish : Option ℕ) : Type 0 where
     pub all : new ≡ levelled now level_of old
     pub first : IsLeastMoment (SomeRunsOutAt levels new) finish
 
   pub none_levelled : AreLevelledUpTo old 0 None
   none_levelled = record { done = []; coming = level_of; from = []; to = []; rest = old; levels_are = refl; old_are = refl; new_are = refl; done_at = refl; from_at = refl; to_at = refl; levelled_to = refl; first = λ t le out. none-some out.1 out.2 }
 
-  module _ (new : List Progress) (at : ℕ) (finish : Option ℕ) (h : AreLevelledUpTo new at finish) where
+  module _ (new : List (Progress P)) (at : ℕ) (finish : Option ℕ) (h : AreLevelledUpTo new at finish) where
     -- what stands at the place
-    pub record IsNext (level : Option ℕ) (s : Progress) : Type 0 where
+    pub record IsNext (level : Option ℕ) (s : Progress P) : Type 0 where
       pub coming : List (Option ℕ)
-      pub rest : List Progress
+      pub rest : List (Progress P)
       pub levels_are : level_of ≡ h.done ++ level ∷ coming
       pub old_are : old ≡ h.from ++ s ∷ rest
       pub new_are : new ≡ h.to ++ s ∷ rest
 
-    pub next : length level_of ≡ length old → at < length new → (level : Option ℕ) (s : Progress) → level ≡ get_or level_of at level → s ≡ get_or new at s → IsNext level s
+    pub next : length level_of ≡ length old → at < length new → (level : Option ℕ) (s : Progress P) → level ≡ get_or level_of at level → s ≡ get_or new at s → IsNext level s
     next parallel lt level s level_is s_is = by_rest h.coming h.rest h.levels_are h.old_are h.new_are
       where
-        by_rest : (coming : List (Option ℕ)) (rest : List Progress) → level_of ≡ h.done ++ coming → old ≡ h.from ++ rest → new ≡ h.to ++ rest → IsNext level s
+        by_rest : (coming : List (Option ℕ)) (rest : List (Progress P)) → level_of ≡ h.done ++ coming → old ≡ h.from ++ rest → new ≡ h.to ++ rest → IsNext level s
         by_rest coming [] levels_are old_are new_are = absurd (omega (arith, h.to_at, ap length new_are, length-append h.to []))
         by_rest [] (t ∷ rest) levels_are old_are new_are = absurd (omega (arith, h.done_at, h.from_at, ap length levels_are, ap length old_are, length-append h.done [], length-append h.from (t ∷ rest)))
         by_rest (o ∷ coming) (t ∷ rest) levels_are old_are new_are =
@@ -151,17 +150,17 @@ module _ (now : ℕ) (levels : List ℕ) (level_of : List (Option ℕ)) (old : L
               new_are = new_are ∙ ap (λ t. h.to ++ t ∷ rest) (sym there);
             }
 
-    module _ (level : Option ℕ) (s : Progress) (next : IsNext level s) where
+    module _ (level : Option ℕ) (s : Progress P) (next : IsNext level s) where
       pub old_there : slice_get old at ≡ Some s
       old_there = ap (λ l. slice_get l at) next.old_are ∙ ap (slice_get (h.from ++ s ∷ next.rest)) h.from_at ∙ get-seam h.from next.rest s
 
-      set_there : (t : Progress) → set new at t ≡ h.to ++ t ∷ next.rest
+      set_there : (t : Progress P) → set new at t ≡ h.to ++ t ∷ next.rest
       set_there t = ap (λ l. set l at t) next.new_are ∙ ap (λ n. set (h.to ++ s ∷ next.rest) n t) h.to_at ∙ set-seam h.to next.rest s t
 
-      pub one_levelled : (t : Progress) (o both : Option ℕ) → t ≡ record s { level = level; updated = now } → IsLeastMoment (RunsOutFrom (parts_of_level levels level) now s.left) o → both ≡ earlier finish o
+      pub one_levelled : (t : Progress P) (o both : Option ℕ) → t ≡ record s { level = level; updated = now } → IsLeastMoment (RunsOutFrom (parts_of_level levels level) now s.left) o → both ≡ earlier finish o
           → AreLevelledUpTo (set new at t) (at + 1) both
       one_levelled t o both is first both_is =
-          let own : IsLeastMoment (RunsOutFrom (parts_of_level levels t.level) t.updated t.left) o = subst (λ (x : Progress). IsLeastMoment (RunsOutFrom (parts_of_level levels x.level) x.updated x.left) o) (sym is) first in
+          let own : IsLeastMoment (RunsOutFrom (parts_of_level levels t.level) t.updated t.left) o = subst (λ (x : Progress P). IsLeastMoment (RunsOutFrom (parts_of_level levels x.level) x.updated x.left) o) (sym is) first in
           record {
             done = h.done ++ level ∷ [];
             coming = next.coming;
@@ -174,14 +173,14 @@ module _ (now : ℕ) (levels : List ℕ) (level_of : List (Option ℕ)) (old : L
             done_at = ap (λ n. n + 1) h.done_at ∙ sym (length-append h.done (level ∷ []));
             from_at = ap (λ n. n + 1) h.from_at ∙ sym (length-append h.from (s ∷ []));
             to_at = ap (λ n. n + 1) h.to_at ∙ sym (length-append h.to (t ∷ []));
-            levelled_to = ap (λ l. l ++ t ∷ []) h.levelled_to ∙ ap (λ (x : Progress). levelled now h.done h.from ++ x ∷ []) is ∙ sym (levelled-append now h.done (level ∷ []) h.from (s ∷ []) (sym h.done_at ∙ h.from_at));
+            levelled_to = ap (λ l. l ++ t ∷ []) h.levelled_to ∙ ap (λ (x : Progress P). levelled now h.done h.from ++ x ∷ []) is ∙ sym (levelled-append now h.done (level ∷ []) h.from (s ∷ []) (sym h.done_at ∙ h.from_at));
             first = rw both_is (first_of_more levels h.to t finish o h.first own);
           }
 
     pub all_levelled : length level_of ≡ length old → length new ≤ at → AreLevelled new finish
     all_levelled parallel le = by_rest h.coming h.rest h.levels_are h.old_are h.new_are
       where
-        by_rest : (coming : List (Option ℕ)) (rest : List Progress) → level_of ≡ h.done ++ coming → old ≡ h.from ++ rest → new ≡ h.to ++ rest → AreLevelled new finish
+        by_rest : (coming : List (Option ℕ)) (rest : List (Progress P)) → level_of ≡ h.done ++ coming → old ≡ h.from ++ rest → new ≡ h.to ++ rest → AreLevelled new finish
         by_rest coming (t ∷ rest) levels_are old_are new_are = absurd (omega (arith, h.to_at, ap length new_are, length-append h.to (t ∷ rest)))
         by_rest (o ∷ coming) [] levels_are old_are new_are = absurd (omega (arith, h.done_at, h.from_at, ap length levels_are, ap length old_are, length-append h.done (o ∷ coming), length-append h.from []))
         by_rest [] [] levels_are old_are new_are =
@@ -198,26 +197,26 @@ least_alike A B there back (Some t) m = (m.0, there t m.1, λ s b. m.2 s (back s
 
 module _ {P : Type 0} (scale : ℕ) (levels : List ℕ) (some : 0 < scale) where
   -- where something is left of each message in flight, there are units in each place
-  pub left_there : (fs : List (Flow P)) (ss : List Progress) → length fs ≡ length ss → All (λ (f : Paced P). f.left.num ≢ 0) (sending_of scale levels fs ss) → All (λ (s : Progress). s.left ≢ 0) ss
-  left_there fs ss same all k d lt none =
+  pub left_there : (ss : List (Progress P)) → All (λ (f : Paced P). f.left.num ≢ 0) (sending_of scale levels ss) → All (λ (s : Progress P). s.left ≢ 0) ss
+  left_there ss all k d lt none =
       let s = get_or ss k d in
-      let there = sending_there scale levels fs ss k s same (slice_get-get_or ss k d lt) in
-      let here : get_or (sending_of scale levels fs ss) k (paced_of scale levels there.0 s) ≡ paced_of scale levels there.0 s = get_or_from_slice_get (sending_of scale levels fs ss) k (paced_of scale levels there.0 s) (paced_of scale levels there.0 s) there.1 in
-      subst (λ (f : Paced P). f.left.num ≢ 0) here (all k (paced_of scale levels there.0 s) (slice_get_within (sending_of scale levels fs ss) k (paced_of scale levels there.0 s) there.1)) (nothing_left s.left (scale * billion) (units_positive scale some) none)
+      let there = sending_there scale levels ss k s (slice_get-get_or ss k d lt) in
+      let here : get_or (sending_of scale levels ss) k (paced_of scale levels s) ≡ paced_of scale levels s = get_or_from_slice_get (sending_of scale levels ss) k (paced_of scale levels s) (paced_of scale levels s) there in
+      subst (λ (f : Paced P). f.left.num ≢ 0) here (all k (paced_of scale levels s) (slice_get_within (sending_of scale levels ss) k (paced_of scale levels s) there)) (nothing_left s.left (scale * billion) (units_positive scale some) none)
 
   -- nothing is left of a message where its units run out
-  out_if_spent : (f : Flow P) (s : Progress) (t : ℕ) → (left_at t (paced_of scale levels f s)).num ≡ 0 → s.left ≤ parts_of_level levels s.level * (t - s.updated)
-  out_if_spent f s t spent =
+  out_if_spent : (s : Progress P) (t : ℕ) → (left_at t (paced_of scale levels s)).num ≡ 0 → s.left ≤ parts_of_level levels s.level * (t - s.updated)
+  out_if_spent s t spent =
       let none : s.left - parts_of_level levels s.level * (t - s.updated) ≡ 0 = no_units_left _ (scale * billion) (units_positive scale some) (sym (ap (λ a. a.num) (drained_units s.left (parts_of_level levels s.level) scale (t - s.updated) some)) ∙ spent) in
       omega arith
 
-  spent_if_out : (f : Flow P) (s : Progress) (t : ℕ) → s.left ≤ parts_of_level levels s.level * (t - s.updated) → (left_at t (paced_of scale levels f s)).num ≡ 0
-  spent_if_out f s t out = ap (λ a. a.num) (drained_units s.left (parts_of_level levels s.level) scale (t - s.updated) some) ∙ nothing_left _ (scale * billion) (units_positive scale some) (omega arith)
+  spent_if_out : (s : Progress P) (t : ℕ) → s.left ≤ parts_of_level levels s.level * (t - s.updated) → (left_at t (paced_of scale levels s)).num ≡ 0
+  spent_if_out s t out = ap (λ a. a.num) (drained_units s.left (parts_of_level levels s.level) scale (t - s.updated) some) ∙ nothing_left _ (scale * billion) (units_positive scale some) (omega arith)
 
-  pub first_spent : (fs : List (Flow P)) (ss : List Progress) (o : Option ℕ) → length fs ≡ length ss → IsLeastMoment (SomeRunsOutAt levels ss) o → IsLeastMoment (λ s. SomeSpentAt (sending_of scale levels fs ss) s) o
-  first_spent fs ss o same = least_alike (SomeRunsOutAt levels ss) (λ s. SomeSpentAt (sending_of scale levels fs ss) s)
-      (λ t h. let there = sending_there scale levels fs ss h.0 h.1 same h.2 in (h.0, paced_of scale levels there.0 h.1, there.1, h.3, spent_if_out there.0 h.1 t h.4))
+  pub first_spent : (ss : List (Progress P)) (o : Option ℕ) → IsLeastMoment (SomeRunsOutAt levels ss) o → IsLeastMoment (λ s. SomeSpentAt (sending_of scale levels ss) s) o
+  first_spent ss o = least_alike (SomeRunsOutAt levels ss) (λ s. SomeSpentAt (sending_of scale levels ss) s)
+      (λ t h. (h.0, paced_of scale levels h.1, sending_there scale levels ss h.0 h.1 h.2, h.3, spent_if_out h.1 t h.4))
       (λ t h.
-      let from = sending_from scale levels fs ss h.0 h.1 h.2 in
-      (h.0, from.1, from.2, subst (λ (g : Paced P). g.updated ≤ t) (sym from.3) h.3, out_if_spent from.0 from.1 t (subst (λ (g : Paced P). (left_at t g).num ≡ 0) (sym from.3) h.4)))
+      let from = sending_from scale levels ss h.0 h.1 h.2 in
+      (h.0, from.0, from.1, subst (λ (g : Paced P). g.updated ≤ t) (sym from.2) h.3, out_if_spent from.0 t (subst (λ (g : Paced P). (left_at t g).num ≡ 0) (sym from.2) h.4)))
       o

@@ -83,7 +83,7 @@ module _ {K : Type 0} (cmp : K → K → Ordering) (total : IsTotalOrder cmp) wh
         where
           by_after : (after : List E) → es ≡ p.before ++ after → Some e ≡ slice_get after 0 → IsPlace cmp key es k at
           by_after [] split is = cc
-          by_after (x ∷ xs) split is = 
+          by_after (x ∷ xs) split is =
               let this : e ≡ x = cc in
               place cmp total key es p.before xs x k at split p.is_at ascending (ap (λ d. cmp (key d) k) (sym this) ∙ is_eq_equal _ same)
 

@@ -1,5 +1,5 @@
 -- How the messages in flight are read.
-use Rattle.std.specs.Prelude.{◌≡◌, ℕ, Bool, true, not, ◌&&◌, if◌then◌else◌, List, [], ◌∷◌, Option, Some, ◌*◌}
+use Rattle.std.specs.Prelude.{◌≡◌, ℕ, Bool, true, false, not, ◌&&◌, if◌then◌else◌, List, [], ◌∷◌, map, Option, Some, ◌*◌}
 use Rattle.std.specs.declared.cmp.Ordering.{Ordering}
 use Rattle.std.specs.declared.cmp.Ordering.TheVariants.{Equal}
 use Rattle.fair_rates.specs.declared.bandwidth.Flow.{Flow}
@@ -22,8 +22,7 @@ paced_of scale levels s = record {
 
 -- the messages in flight
 abbrev pub sending_of : {P : Type 0} → ℕ → List ℕ → List (Progress P) → List (Paced P)
-sending_of scale levels [] = []
-sending_of scale levels (s ∷ ss) = paced_of scale levels s ∷ sending_of scale levels ss
+sending_of scale levels ss = map (paced_of scale levels) ss
 
 -- the messages in flight, each with the rate of the level at its place from a moment on
 abbrev pub rated_by : {P : Type 0} → ℕ → ℕ → List ℕ → List (Option ℕ) → List (Paced P) → List (Paced P)
@@ -31,11 +30,17 @@ rated_by now scale levels [] fs = []
 rated_by now scale levels (level ∷ level_of) [] = []
 rated_by now scale levels (level ∷ level_of) (f ∷ fs) = record f { rate = Some (reduced (parts_of_level levels level) scale); updated = now } ∷ rated_by now scale levels level_of fs
 
--- the flow is of the message's peers, by their order, and is delivered as the message is
-pub record StandsForSent {P : Type 0} (cmp : P → P → Ordering) (flow : Flow P) (s : Progress P) : Type 0 where
-  pub origin : same_peer cmp flow.origin s.message.value.origin ≡ true
-  pub recipient : same_peer cmp flow.recipient s.message.value.recipient ≡ true
-  pub delivered : flow.delivered ≡ is_delivered cmp (message_of s.message.value)
+-- whether the flow is of the message's peers, by their order, and delivered as the message is
+abbrev pub stands_for : {P : Type 0} → (P → P → Ordering) → Flow P → Progress P → Bool
+stands_for cmp flow s = same_peer cmp flow.origin s.message.value.origin && same_peer cmp flow.recipient s.message.value.recipient
+    && (if is_delivered cmp (message_of s.message.value) then flow.delivered else not flow.delivered)
+
+-- whether each flow stands for the message at its place
+abbrev pub are_standing : {P : Type 0} → (P → P → Ordering) → List (Flow P) → List (Progress P) → Bool
+are_standing cmp [] [] = true
+are_standing cmp [] (s ∷ ss) = false
+are_standing cmp (flow ∷ flows) [] = false
+are_standing cmp (flow ∷ flows) (s ∷ ss) = stands_for cmp flow s && are_standing cmp flows ss
 
 -- the same flow, of equal peers
 pub record IsSameFlow {P : Type 0} (cmp : P → P → Ordering) (a b : Flow P) : Type 0 where

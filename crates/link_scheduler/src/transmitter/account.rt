@@ -10,7 +10,7 @@ ghost use Rattle.link_simulation.specs.WorldEvents.{Accounts};
 
 use super::drain::drain_all;
 use super::flights::Flights;
-use super::look::idle_from;
+use super::look::rest_all;
 use super::message::Message;
 use super::pairs::Pairs;
 use super::peers::Peers;
@@ -52,7 +52,8 @@ impl<P: Peer> Flights<P> {
         ensures { (d : Paced P) → result ≡ is_spent P.cmp (caps_of P.cmp peers.now.entries pairs.now.entries)
             (slice_index_or (in_flight self.now) at d) }
     {
-        self.progress[at].left.is_zero() || is_unlimited(&self.progress[at].message, peers, pairs)
+        let one = &self.progress[at];
+        one.left.is_zero() || is_unlimited(&one.message, peers, pairs)
     }
 
     /// Takes those that are done, in order of start.
@@ -126,18 +127,14 @@ impl<P: Peer> Working<P> {
         let done = self
             .flights
             .take_done(self.alloc, &self.peers, &self.pairs)?;
-        for message in &done {
-            let (origin, recipient) = (&message.origin, &message.recipient);
-            if let Some(moment) = idle_from(
-                &self.flights,
-                &self.waiting,
-                &self.pairs,
-                origin,
-                recipient,
-            ) {
-                self.idle.add(self.alloc, origin, recipient, moment)?;
-            }
-        }
+        rest_all(
+            self.alloc,
+            &mut self.idle,
+            &self.flights,
+            &self.waiting,
+            &self.pairs,
+            &done,
+        )?;
         self.flights.renew_units();
         let rates = self.rates()?;
         self.finish = self.flights.set_rates(rates, now)?;

@@ -1,9 +1,9 @@
 //! The messages in flight.
 ghost use Rattle.std.specs.Prelude.{◌≡◌, ℕ, ◌+◌, ◌<◌, [], ◌∷◌, ◌++◌, ◌&&◌, ◌==◌, Bool, true, map, length, nat_lt, Some, IfOk, IfErr, OnOk, slice_index_or};
-ghost use Rattle.std.specs.List.{AllZip, list_all, list_any, remove};
+ghost use Rattle.std.specs.List.{list_all, list_any, remove};
 ghost use Rattle.std.specs.Ordering.{nat_cmp};
 ghost use Rattle.link_simulation.specs.Sorted.{are_ascending};
-ghost use Rattle.link_scheduler.specs.Flights.{StandsForSent};
+ghost use Rattle.link_scheduler.specs.Flights.{are_standing};
 
 use super::message::Message;
 use super::progress::Progress;
@@ -30,8 +30,8 @@ pub(crate) struct Flights<P: Peer> {
     pub(crate) scale: Natural,
     /// The different rates.
     pub(crate) levels: Vec<Natural>,
-    pub ghost parallel: { length flows.items ≡ length progress.items },
-    pub ghost stand: { AllZip (StandsForSent P.cmp) flows.items progress.items },
+
+    pub ghost stand: { are_standing P.cmp flows.items progress.items ≡ true },
     pub ghost apart: { are_ascending nat_cmp (map (λ flow. flow.id) flows.items) ≡ true },
     pub ghost scaled: { 0 < scale },
 }

@@ -1,5 +1,5 @@
 //! Idle pairs.
-ghost use Rattle.std.specs.Prelude.{◌≡◌};
+ghost use Rattle.std.specs.Prelude.{◌≡◌, IfErr};
 
 use super::look::Key;
 use fair_rates::error::Error;
@@ -30,7 +30,9 @@ impl<P: Peer> IdlePairs<P> {
         Some(self.entries.get(0)?.moment)
     }
 
-    pub(crate) fn ready(&self, alloc: Global, _now: u64) -> Result<Vec<Key<P>>, Error> {
+    pub(crate) fn ready(&self, alloc: Global, _now: u64) -> Result<Vec<Key<P>>, Error>
+        ensures refused { IfErr result (λ e. e ≡ Error.OutOfMemory) }
+    {
         Ok(Vec::new(alloc))
     }
 
@@ -41,7 +43,9 @@ impl<P: Peer> IdlePairs<P> {
         _recipient: &P,
         _old: Option<u64>,
         _new: Option<u64>,
-    ) -> Result<(), Error> {
+    ) -> Result<(), Error>
+        ensures refused { IfErr result (λ e. e ≡ Error.OutOfMemory) }
+    {
         Ok(())
     }
 
@@ -51,7 +55,9 @@ impl<P: Peer> IdlePairs<P> {
         _origin: &P,
         _recipient: &P,
         _moment: u64,
-    ) -> Result<(), Error> {
+    ) -> Result<(), Error>
+        ensures refused { IfErr result (λ e. e ≡ Error.OutOfMemory) }
+    {
         Ok(())
     }
 }

@@ -9,12 +9,17 @@ ghost use Rattle.link_scheduler.specs.Pairs.{pair_cmp, arrival_of};
 ghost use Rattle.link_scheduler.specs.Starts.{idle_moment};
 
 use super::flights::Flights;
+use super::idle::IdlePairs;
+use super::message::Message;
 use super::pairs::Pairs;
 use super::waiting::Waiting;
 use super::working::Working;
 use fair_rates::error::Error;
 use fair_rates::peer::Peer;
+use std::alloc::Global;
 use std::cmp::Ordering;
+use std::collections::VecDeque;
+use std::rc::Rc;
 
 /// An ordered pair of peers.
 #[derive(Drop)]
@@ -74,6 +79,26 @@ pub(crate) fn idle_from<P: Peer>(
     }
     let last = pairs.last_arrival(origin, recipient);
     Some(ready_moment(last, front.latency))
+}
+
+/// The pairs of messages that are done are idle from now on.
+pub(crate) fn rest_all<P: Peer>(
+    alloc: Global,
+    idle: &mut IdlePairs<P>,
+    flights: &Flights<P>,
+    waiting: &Waiting<P>,
+    pairs: &Pairs<P>,
+    done: &VecDeque<Rc<Message<P>>>,
+) -> Result<(), Error>
+    ensures refused { IfErr result (λ e. e ≡ Error.OutOfMemory) }
+{
+    for message in done {
+        let (origin, recipient) = (&message.origin, &message.recipient);
+        if let Some(moment) = idle_from(flights, waiting, pairs, origin, recipient) {
+            idle.add(alloc, origin, recipient, moment)?;
+        }
+    }
+    Ok(())
 }
 
 impl<P: Peer> Working<P> {

@@ -13,10 +13,10 @@ use Rattle.link_scheduler.proofs.transmitter.State.send.Goals as goal
 -- where the message waits
 
 pub invariant_of-self-clause-caps : goal.invariant_of-self-clause-caps
-invariant_of-self-clause-caps g c = looked_up g.P.Ord.cmp g.met.P.Ord.total c.wait.new.self.peers.entries.items c.wait.new.self.pairs.entries.items
+invariant_of-self-clause-caps g c = looked_up g.P.Ord.cmp g.met.P.Ord.total c.wait.new.self.peers.entries c.wait.new.self.pairs.entries
 
 pub invariant_of-self-clause-arrivals : goal.invariant_of-self-clause-arrivals
-invariant_of-self-clause-arrivals g c = arrivals_looked_up g.P.Ord.cmp g.met.P.Ord.total c.wait.new.self.pairs.entries.items
+invariant_of-self-clause-arrivals g c = arrivals_looked_up g.P.Ord.cmp g.met.P.Ord.total c.wait.new.self.pairs.entries
 
 pub invariant_of-self-clause-right : goal.invariant_of-self-clause-right
 invariant_of-self-clause-right g c = (kept_at_once g.P.Ord.cmp g.met.P.Ord.total c.wait.result (planned g.P.Ord.cmp c.args.self.now.kept) (planned g.P.Ord.cmp c.wait.new.self) (call_enqueue c.args.now (message_of c.args.message)) [] c.wait.ensures.enqueues c.wait.ensures.unchanged c.args.self.now.right c.args.self.now.orderly).right
@@ -44,10 +44,10 @@ returns-in_err-completions-clause-refused g c =
     (enqueue_refused g.P.Ord.cmp g.met.P.Ord.total c.args.now (message_of c.args.message) (planned g.P.Ord.cmp c.args.self.now.kept) (planned g.P.Ord.cmp c.in_ok-working.working) c.in_ok-working.ensures.cases _ c.in_err-completions.ensures.refused))
 
 pub invariant_of-self-2-clause-caps : goal.invariant_of-self-2-clause-caps
-invariant_of-self-2-clause-caps g c = looked_up g.P.Ord.cmp g.met.P.Ord.total c.enqueue.new.self.peers.entries.items c.enqueue.new.self.pairs.entries.items
+invariant_of-self-2-clause-caps g c = looked_up g.P.Ord.cmp g.met.P.Ord.total c.enqueue.new.self.peers.entries c.enqueue.new.self.pairs.entries
 
 pub invariant_of-self-2-clause-arrivals : goal.invariant_of-self-2-clause-arrivals
-invariant_of-self-2-clause-arrivals g c = arrivals_looked_up g.P.Ord.cmp g.met.P.Ord.total c.enqueue.new.self.pairs.entries.items
+invariant_of-self-2-clause-arrivals g c = arrivals_looked_up g.P.Ord.cmp g.met.P.Ord.total c.enqueue.new.self.pairs.entries
 
 pub invariant_of-self-2-clause-right : goal.invariant_of-self-2-clause-right
 invariant_of-self-2-clause-right g c = planned_on g.P.Ord.cmp g.met.P.Ord.total (planned g.P.Ord.cmp c.args.self.now.kept) (planned g.P.Ord.cmp c.in_ok-working.working) (planned g.P.Ord.cmp c.enqueue.new.self)

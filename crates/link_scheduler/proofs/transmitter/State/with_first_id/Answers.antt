@@ -7,10 +7,10 @@ use Rattle.link_scheduler.proofs.Promises.{new_one_stands, new_one_in_range, new
 use Rattle.link_scheduler.proofs.transmitter.State.with_first_id.Goals as goal
 
 pub invariant_of-result-clause-caps : goal.invariant_of-result-clause-caps
-invariant_of-result-clause-caps g c = looked_up g.P.Ord.cmp g.met.P.Ord.total c.new.result.peers.entries.items c.new.result.pairs.entries.items
+invariant_of-result-clause-caps g c = looked_up g.P.Ord.cmp g.met.P.Ord.total c.new.result.peers.entries c.new.result.pairs.entries
 
 pub invariant_of-result-clause-arrivals : goal.invariant_of-result-clause-arrivals
-invariant_of-result-clause-arrivals g c = arrivals_looked_up g.P.Ord.cmp g.met.P.Ord.total c.new.result.pairs.entries.items
+invariant_of-result-clause-arrivals g c = arrivals_looked_up g.P.Ord.cmp g.met.P.Ord.total c.new.result.pairs.entries
 
 pub invariant_of-result-clause-right : goal.invariant_of-result-clause-right
 invariant_of-result-clause-right g c = ∣ subst (IsPlanned g.P.Ord.cmp) (sym c.new.ensures) (new_is_planned g.P.Ord.cmp g.met.P.Ord.total c.args.first) ∣₁

@@ -3,4 +3,4 @@ use Rattle.link_scheduler.proofs.InPlace.{IsChangedUpTo}
 use Rattle.link_scheduler.proofs.transmitter.drain.drain_all.Given as goal
 
 abbrev pub invariant-loop-one : goal.invariant-loop-one
-invariant-loop-one l = IsChangedUpTo (DrainsTo l.levels l.now) l.initial.progress l.progress l.one-index
+invariant-loop-one g l = IsChangedUpTo (DrainsTo l.levels l.now) l.initial.progress l.progress l.one-index

@@ -4,4 +4,4 @@ use Rattle.link_scheduler.proofs.InPlace.{IsChangedUpTo}
 use Rattle.link_scheduler.proofs.transmitter.drain.grow_all.Given as goal
 
 abbrev pub invariant-loop-one : goal.invariant-loop-one
-invariant-loop-one l = IsChangedUpTo (GrowsBy (product l.growth)) l.initial.progress l.progress l.one-index
+invariant-loop-one g l = IsChangedUpTo (GrowsBy (product l.growth)) l.initial.progress l.progress l.one-index

@@ -5,10 +5,10 @@ use Rattle.link_scheduler.proofs.Rating.{none_levelled, next, old_there, one_lev
 use Rattle.link_scheduler.proofs.transmitter.rate.rate_all.Goals as goal
 
 pub loop-place-init : goal.loop-place-init
-loop-place-init c = none_levelled c.args.now c.args.levels.now c.args.level_of.now c.args.progress.now
+loop-place-init g c = none_levelled c.args.now c.args.levels.now c.args.level_of.now c.args.progress.now
 
 pub set_level-requires : goal.set_level-requires
-set_level-requires c =
+set_level-requires g c =
     let lt : c.loop-place.place < length c.loop-place.progress = omega arith in
     let within : c.loop-place.place < length c.args.level_of.now = omega arith in
     let s = get_or c.loop-place.progress c.loop-place.place c.index-progress-place.result in
@@ -17,7 +17,7 @@ set_level-requires c =
     rw (← get_or_from_slice_get c.args.progress.now c.loop-place.place s s (old_there _ _ _ _ _ _ _ c.loop-place.invariant level s here)) (c.requires.left c.loop-place.place s (omega arith))
 
 pub loop-place-preserved : goal.loop-place-preserved
-loop-place-preserved c =
+loop-place-preserved g c =
     let lt : c.loop-place.place < length c.loop-place.progress = omega arith in
     let within : c.loop-place.place < length c.args.level_of.now = omega arith in
     let s = get_or c.loop-place.progress c.loop-place.place c.index-progress-place.result in
@@ -26,7 +26,7 @@ loop-place-preserved c =
     one_levelled _ _ _ _ _ _ _ c.loop-place.invariant level s here c.set_level.new.self c.set_level.result c.earlier-finish.result c.set_level.ensures.after c.set_level.ensures.finish c.earlier-finish.ensures
 
 pub returns-clause-levelled : goal.returns-clause-levelled
-returns-clause-levelled c = (all_levelled _ _ _ _ _ _ _ c.loop-place.invariant c.requires.parallel (omega arith)).all
+returns-clause-levelled g c = (all_levelled _ _ _ _ _ _ _ c.loop-place.invariant c.requires.parallel (omega arith)).all
 
 pub returns-clause-finish : goal.returns-clause-finish
-returns-clause-finish c = (all_levelled _ _ _ _ _ _ _ c.loop-place.invariant c.requires.parallel (omega arith)).first
+returns-clause-finish g c = (all_levelled _ _ _ _ _ _ _ c.loop-place.invariant c.requires.parallel (omega arith)).first

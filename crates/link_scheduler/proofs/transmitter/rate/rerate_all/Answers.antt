@@ -9,10 +9,10 @@ use Rattle.link_simulation.proofs.Zips.{zip_chain}
 use Rattle.link_scheduler.proofs.transmitter.rate.rerate_all.Goals as goal
 
 pub rate_all-requires-clause-left : goal.rate_all-requires-clause-left
-rate_all-requires-clause-left c = still_some (product c.deref.result.now) c.args.progress.now c.grow_all.new.progress (subst (λ (ns : List ℕ). 0 < product ns) (sym c.deref.ensures.value) c.requires.growth) c.in_ok-grow_all.ensures.grown c.requires.left
+rate_all-requires-clause-left g c = still_some (product c.deref.result.now) c.args.progress.now c.grow_all.new.progress (subst (λ (ns : List ℕ). 0 < product ns) (sym c.deref.ensures.value) c.requires.growth) c.in_ok-grow_all.ensures.grown c.requires.left
 
 pub returns : goal.returns
-returns c =
+returns g c =
     let levels : c.rate_all.new.progress ≡ levelled c.args.now c.args.rates.now.level_of.items c.grow_all.new.progress = c.rate_all.ensures.levelled ∙ ap (λ (os : List (Option ℕ)). levelled c.args.now os c.grow_all.new.progress) c.deref-2.ensures.value in
     let as_many : length c.args.rates.now.level_of.items ≡ length c.grow_all.new.progress = omega arith in
     record {

@@ -2,8 +2,8 @@ use Rattle.std.proofs.Common.{◌≡◌, ◌++◌, List, length, take, drop, sym
 use Rattle.std.specs.List.{AllZip}
 use Rattle.link_scheduler.specs.declared.transmitter.progress.Progress.{Progress}
 use Rattle.link_scheduler.specs.Progress.{DrainsTo, IsSameSent}
-use Rattle.link_scheduler.specs.Flights.{sending_of, are_marked}
-use Rattle.link_scheduler.proofs.Progressing.{drained_sending, drained_is_same, marked_same, written_back}
+use Rattle.link_scheduler.specs.Flights.{sending_of, are_standing}
+use Rattle.link_scheduler.proofs.Progressing.{drained_sending, drained_is_same, stand_same, written_back}
 use Rattle.link_simulation.proofs.Zips.{zip_weaker}
 use Rattle.link_scheduler.proofs.transmitter.flights.Flights.drain.Goals as goal
 
@@ -12,11 +12,10 @@ invariant_of-self g c =
     let old = c.args.self.now in
     let lengths : length c.drain_all.new.progress ≡ length old.progress.items = omega arith in
     let items : take old.progress.len (c.drain_all.new.progress ++ drop (length c.drain_all.new.progress) old.progress.items) ≡ c.drain_all.new.progress = written_back old.progress.len old.progress.items c.drain_all.new.progress old.progress.ok.0 lengths in
-    let drained : AllZip (DrainsTo c.deref.result.now c.args.now) old.progress.items c.drain_all.new.progress = subst (λ (l : List Progress). AllZip (DrainsTo c.deref.result.now c.args.now) l c.drain_all.new.progress) c.deref_mut.ensures.value c.drain_all.ensures in
+    let drained : AllZip (DrainsTo c.deref.result.now c.args.now) old.progress.items c.drain_all.new.progress = subst (λ (l : List (Progress g.row.P.Denot)). AllZip (DrainsTo c.deref.result.now c.args.now) l c.drain_all.new.progress) c.deref_mut.ensures.value c.drain_all.ensures in
     let same : AllZip IsSameSent old.progress.items c.drain_all.new.progress = zip_weaker (DrainsTo c.deref.result.now c.args.now) IsSameSent (drained_is_same c.deref.result.now c.args.now) old.progress.items c.drain_all.new.progress drained in
     record {
-      parallel = old.parallel ∙ sym (ap length items ∙ lengths);
-      marked = ap (are_marked g.P.Ord.cmp old.flows.items) items ∙ marked_same g.P.Ord.cmp old.flows.items old.progress.items c.drain_all.new.progress same ∙ old.marked;
+      stand = ap (are_standing g.P.Ord.cmp old.flows.items) items ∙ stand_same g.P.Ord.cmp old.flows.items old.progress.items c.drain_all.new.progress same ∙ old.stand;
       apart = old.apart;
       scaled = old.scaled;
     }
@@ -27,4 +26,4 @@ returns-clause-sending g c =
     let lengths : length c.drain_all.new.progress ≡ length old.progress.items = omega arith in
     let items : take old.progress.len (c.drain_all.new.progress ++ drop (length c.drain_all.new.progress) old.progress.items) ≡ c.drain_all.new.progress = written_back old.progress.len old.progress.items c.drain_all.new.progress old.progress.ok.0 lengths in
     let drained : AllZip (DrainsTo old.levels.items c.args.now) old.progress.items c.drain_all.new.progress = rw (← c.deref.ensures.value, ← c.deref_mut.ensures.value) c.drain_all.ensures in
-    ap (sending_of old.scale old.levels.items old.flows.items) items ∙ drained_sending old.scale old.levels.items c.args.now old.flows.items old.progress.items c.drain_all.new.progress old.scaled drained
+    ap (sending_of old.scale old.levels.items) items ∙ drained_sending old.scale old.levels.items c.args.now old.progress.items c.drain_all.new.progress old.scaled drained

@@ -3,17 +3,18 @@ use Rattle.link_scheduler.specs.declared.transmitter.progress.Progress.{Progress
 use Rattle.std.specs.List.{AllZip}
 use Rattle.link_scheduler.specs.Progress.{GrowsBy}
 use Rattle.fair_rates.specs.FairParts.{product}
-use Rattle.link_scheduler.specs.Flights.{sending_of, are_marked}
+use Rattle.link_scheduler.specs.Flights.{sending_of, are_standing}
 use Rattle.link_simulation.specs.WorldPlanned.{IsLeastMoment, SomeSpentAt}
-use Rattle.link_scheduler.proofs.Progressing.{marked_same, rated_sending, written_back}
+use Rattle.link_scheduler.proofs.Progressing.{stand_same, rated_sending, written_back}
 use Rattle.link_scheduler.proofs.Rating.{left_there, first_spent}
+use Rattle.link_scheduler.proofs.InFlight.{standing_length}
 use Rattle.link_scheduler.proofs.Units.{other_factor}
 use Rattle.link_scheduler.proofs.transmitter.flights.Flights.set_rates.Goals as goal
 
 pub rerate_all-requires-clause-left : goal.rerate_all-requires-clause-left
 rerate_all-requires-clause-left g c =
     let old = c.args.self.now in
-    subst (All (λ (s : Progress). s.left ≢ 0)) (sym c.deref_mut.ensures.value) (left_there old.scale old.levels.items old.scaled old.flows.items old.progress.items old.parallel c.requires.left)
+    subst (All (λ (s : Progress g.row.P.Denot). s.left ≢ 0)) (sym c.deref_mut.ensures.value) (left_there old.scale old.levels.items old.scaled old.progress.items c.requires.left)
 
 pub rerate_all-requires-clause-growth : goal.rerate_all-requires-clause-growth
 rerate_all-requires-clause-growth g c = other_factor c.args.self.now.scale (product c.args.rates.growth.items) c.args.rates.scale c.requires.grown c.requires.scaled
@@ -24,8 +25,7 @@ invariant_of-self g c =
     let lengths : length c.rerate_all.new.progress ≡ length old.progress.items = omega arith in
     let items : take old.progress.len (c.rerate_all.new.progress ++ drop (length c.rerate_all.new.progress) old.progress.items) ≡ c.rerate_all.new.progress = written_back old.progress.len old.progress.items c.rerate_all.new.progress old.progress.ok.0 lengths in
     record {
-      parallel = old.parallel ∙ sym (ap length items ∙ lengths);
-      marked = ap (are_marked g.P.Ord.cmp old.flows.items) items ∙ marked_same g.P.Ord.cmp old.flows.items old.progress.items c.rerate_all.new.progress (rw (← c.deref_mut.ensures.value) c.rerate_all.ensures.same) ∙ old.marked;
+      stand = ap (are_standing g.P.Ord.cmp old.flows.items) items ∙ stand_same g.P.Ord.cmp old.flows.items old.progress.items c.rerate_all.new.progress (rw (← c.deref_mut.ensures.value) c.rerate_all.ensures.same) ∙ old.stand;
       apart = old.apart;
       scaled = old.scaled;
     }
@@ -36,8 +36,7 @@ invariant_of-self-2 g c =
     let lengths : length c.rerate_all.new.progress ≡ length old.progress.items = omega arith in
     let items : take old.progress.len (c.rerate_all.new.progress ++ drop (length c.rerate_all.new.progress) old.progress.items) ≡ c.rerate_all.new.progress = written_back old.progress.len old.progress.items c.rerate_all.new.progress old.progress.ok.0 lengths in
     record {
-      parallel = old.parallel ∙ sym (ap length items ∙ lengths);
-      marked = ap (are_marked g.P.Ord.cmp old.flows.items) items ∙ marked_same g.P.Ord.cmp old.flows.items old.progress.items c.rerate_all.new.progress (rw (← c.deref_mut.ensures.value) c.rerate_all.ensures.same) ∙ old.marked;
+      stand = ap (are_standing g.P.Ord.cmp old.flows.items) items ∙ stand_same g.P.Ord.cmp old.flows.items old.progress.items c.rerate_all.new.progress (rw (← c.deref_mut.ensures.value) c.rerate_all.ensures.same) ∙ old.stand;
       apart = old.apart;
       scaled = c.requires.scaled;
     }
@@ -49,9 +48,9 @@ returns-clause-sending g c =
     let lengths : length c.rerate_all.new.progress ≡ length old.progress.items = omega arith in
     let items : take old.progress.len (c.rerate_all.new.progress ++ drop (length c.rerate_all.new.progress) old.progress.items) ≡ c.rerate_all.new.progress = written_back old.progress.len old.progress.items c.rerate_all.new.progress old.progress.ok.0 lengths in
     let r = c.in_ok-finish.ensures.rerated in
-    let grows : AllZip (GrowsBy (product rates.growth.items)) old.progress.items r.grown = subst (λ (l : List Progress). AllZip (GrowsBy (product rates.growth.items)) l r.grown) c.deref_mut.ensures.value r.grows in
-    ap (sending_of rates.scale rates.levels.items old.flows.items) (items ∙ r.levels)
-    ∙ rated_sending old.scale (product rates.growth.items) rates.scale old.levels.items rates.levels.items c.args.now rates.level_of.items old.flows.items old.progress.items r.grown old.scaled c.requires.scaled c.requires.grown old.parallel c.requires.one_each grows
+    let grows : AllZip (GrowsBy (product rates.growth.items)) old.progress.items r.grown = subst (λ (l : List (Progress g.row.P.Denot)). AllZip (GrowsBy (product rates.growth.items)) l r.grown) c.deref_mut.ensures.value r.grows in
+    ap (sending_of rates.scale rates.levels.items) (items ∙ r.levels)
+    ∙ rated_sending old.scale (product rates.growth.items) rates.scale old.levels.items rates.levels.items c.args.now rates.level_of.items old.progress.items r.grown old.scaled c.requires.scaled c.requires.grown (c.requires.one_each ∙ standing_length g.P.Ord.cmp old.flows.items old.progress.items old.stand) grows
 
 pub returns-clause-finish : goal.returns-clause-finish
 returns-clause-finish g c =
@@ -59,5 +58,8 @@ returns-clause-finish g c =
     let rates = c.args.rates in
     let lengths : length c.rerate_all.new.progress ≡ length old.progress.items = omega arith in
     let items : take old.progress.len (c.rerate_all.new.progress ++ drop (length c.rerate_all.new.progress) old.progress.items) ≡ c.rerate_all.new.progress = written_back old.progress.len old.progress.items c.rerate_all.new.progress old.progress.ok.0 lengths in
-    subst (λ (ss : List Progress). IsLeastMoment (λ s. SomeSpentAt (sending_of rates.scale rates.levels.items old.flows.items ss) s) c.in_ok-finish.finish) (sym items)
-    (first_spent rates.scale rates.levels.items c.requires.scaled old.flows.items c.rerate_all.new.progress c.in_ok-finish.finish (old.parallel ∙ sym lengths) c.in_ok-finish.ensures.finish)
+    subst (λ (ss : List (Progress g.row.P.Denot)). IsLeastMoment (λ s. SomeSpentAt (sending_of rates.scale rates.levels.items ss) s) c.in_ok-finish.finish) (sym items)
+    (first_spent rates.scale rates.levels.items c.requires.scaled c.rerate_all.new.progress c.in_ok-finish.finish c.in_ok-finish.ensures.finish)
+
+pub rerate_all-requires-clause-parallel : goal.rerate_all-requires-clause-parallel
+rerate_all-requires-clause-parallel g c = c.requires.one_each ∙ standing_length g.P.Ord.cmp c.args.self.now.flows.items c.args.self.now.progress.items c.args.self.now.stand ∙ sym (ap length c.deref_mut.ensures.value)

@@ -3,14 +3,14 @@ use Rattle.std.specs.List.{list_all}
 use Rattle.fair_rates.specs.declared.bandwidth.Flow.{Flow}
 use Rattle.link_scheduler.specs.Message.{message_of}
 use Rattle.link_scheduler.specs.InFlight.{in_flight}
-use Rattle.link_scheduler.specs.Working.{caps_of}
+use Rattle.link_scheduler.specs.Working.{caps_of, messages}
 use Rattle.link_scheduler.proofs.InFlight.{HaveLeft}
 use Rattle.link_scheduler.proofs.transmitter.flights.Flights.take_done.Given as goal
 use Rattle.link_simulation.specs.WorldPlanned.{is_spent}
 
 abbrev pub invariant-loop-at : goal.invariant-loop-at
 invariant-loop-at g l =
-    HaveLeft (is_spent g.P.Ord.cmp (caps_of g.P.Ord.cmp l.peers.entries.items l.pairs.entries.items)) (in_flight l.initial.self) (in_flight l.self) (map message_of l.done.items) l.at
+    HaveLeft (is_spent g.P.Ord.cmp (caps_of g.P.Ord.cmp l.peers.entries l.pairs.entries)) (in_flight l.initial.self) (in_flight l.self) (messages l.done.items) l.at
     × ((test : Flow g.row.P.Denot → Bool) → list_all test l.initial.self.flows.items ≡ true → list_all test l.self.flows.items ≡ true)
 
 abbrev pub decreases-loop-at : goal.decreases-loop-at

@@ -1,11 +1,10 @@
 use Rattle.std.proofs.Common.{◌≡◌, ◌<◌, length, get_or, sym, ◌∙◌, ap, subst, arith}
 use Rattle.std.specs.List.{AllZip, each_same}
 use Rattle.std.specs.Ordering.{nat_cmp}
-use Rattle.std.proofs.lemmas.Slice.Zip.{AllZip-long}
 use Rattle.link_simulation.specs.Sorted.{are_ascending}
 use Rattle.link_scheduler.specs.Flights.{IsSameFlow}
 use Rattle.link_scheduler.proofs.Copies.{copied_more, copied_all}
-use Rattle.link_scheduler.proofs.CopiedFlights.{copied_flow, ids_alike, marked_alike}
+use Rattle.link_scheduler.proofs.CopiedFlights.{copied_flow, ids_alike, standing_alike}
 use Rattle.link_scheduler.proofs.transmitter.flights.FlightsClone.clone.Goals as goal
 
 pub loop-flow-preserved : goal.loop-flow-preserved
@@ -19,10 +18,8 @@ pub invariant_of-result : goal.invariant_of-result
 invariant_of-result g c =
     let old = c.args.self.now in
     let same : AllZip (IsSameFlow g.P.Ord.cmp) old.flows.items c.loop-flow.flows.items = copied_all (IsSameFlow g.P.Ord.cmp) old.flows.items c.loop-flow.flows.items c.loop-flow.flow-index (omega arith) c.loop-flow.invariant in
-    let rest : c.in_ok-clone.field-0.items ≡ old.progress.items = each_same old.progress.items c.in_ok-clone.field-0.items c.in_ok-clone.ensures.cases.0 in
     record {
-      parallel = AllZip-long (IsSameFlow g.P.Ord.cmp) old.flows.items c.loop-flow.flows.items same ∙ old.parallel ∙ sym (ap length rest);
-      marked = rw rest (marked_alike g.P.Ord.cmp g.met.P.Ord.total old.flows.items c.loop-flow.flows.items old.progress.items same ∙ old.marked);
+      stand = standing_alike g.P.Ord.cmp g.met.P.Ord.total old.flows.items c.loop-flow.flows.items old.progress.items c.in_ok-clone.field-0.items same c.in_ok-clone.ensures.cases.0 old.stand;
       scaled = subst (λ n. 0 < n) (sym c.in_ok-clone-2.ensures.value) old.scaled;
       apart = ap (are_ascending nat_cmp) (ids_alike g.P.Ord.cmp old.flows.items c.loop-flow.flows.items same) ∙ old.apart;
     }
@@ -31,7 +28,7 @@ pub returns : goal.returns
 returns g c = record {
   cases = record {
     flows = copied_all (IsSameFlow g.P.Ord.cmp) c.args.self.now.flows.items c.loop-flow.flows.items c.loop-flow.flow-index (omega arith) c.loop-flow.invariant;
-    progress = each_same c.args.self.now.progress.items c.in_ok-clone.field-0.items c.in_ok-clone.ensures.cases.0;
+    progress = c.in_ok-clone.ensures.cases.0;
     scale = c.in_ok-clone-2.ensures.value;
     levels = each_same c.args.self.now.levels.items c.in_ok-clone-3.field-0.items c.in_ok-clone-3.ensures.cases.0;
   };

@@ -12,7 +12,7 @@ use Rattle.link_scheduler.proofs.transmitter.pairs.Pairs.raise.Goals as goal
 pub returns-clause-arrival : goal.returns-clause-arrival
 returns-clause-arrival g c =
     let known : c.match-find.cap.1 ≡ arrival_of g.P.Ord.cmp c.args.self.now.entries c.args.origin.now c.args.recipient.now = elim c.match-find.branch [
-        in-Some w ↦ ap (λ t. t.1) w.cap-is ∙ found_says (pair_cmp g.P.Ord.cmp) (pair_total g.P.Ord.cmp g.met.P.Ord.total) key_of (c.args.origin.now, c.args.recipient.now) (λ pair. pair.last_arrival) None c.args.self.now.entries w.in-Some.pair.now w.in-Some.ensures
+      | in-Some w ↦ ap (λ t. t.1) w.cap-is ∙ found_says (pair_cmp g.P.Ord.cmp) (pair_total g.P.Ord.cmp g.met.P.Ord.total) key_of (c.args.origin.now, c.args.recipient.now) (λ pair. pair.last_arrival) None c.args.self.now.entries w.in-Some.pair.now w.in-Some.ensures
       | in-None w ↦ ap (λ t. t.1) w.cap-is ∙ absent_says (pair_cmp g.P.Ord.cmp) (pair_total g.P.Ord.cmp g.met.P.Ord.total) key_of (c.args.origin.now, c.args.recipient.now) (λ pair. pair.last_arrival) None c.args.self.now.entries w.in-None.ensures
     ] in
     on_ok_weaker c.set.result
@@ -23,7 +23,7 @@ returns-clause-arrival g c =
 pub returns-clause-link : goal.returns-clause-link
 returns-clause-link g c =
     let known : c.match-find.cap.0 ≡ link_of g.P.Ord.cmp c.args.self.now.entries c.args.origin.now c.args.recipient.now = elim c.match-find.branch [
-        in-Some w ↦ ap (λ t. t.0) w.cap-is ∙ found_says (pair_cmp g.P.Ord.cmp) (pair_total g.P.Ord.cmp g.met.P.Ord.total) key_of (c.args.origin.now, c.args.recipient.now) (λ pair. pair.cap) None c.args.self.now.entries w.in-Some.pair.now w.in-Some.ensures
+      | in-Some w ↦ ap (λ t. t.0) w.cap-is ∙ found_says (pair_cmp g.P.Ord.cmp) (pair_total g.P.Ord.cmp g.met.P.Ord.total) key_of (c.args.origin.now, c.args.recipient.now) (λ pair. pair.cap) None c.args.self.now.entries w.in-Some.pair.now w.in-Some.ensures
       | in-None w ↦ ap (λ t. t.0) w.cap-is ∙ absent_says (pair_cmp g.P.Ord.cmp) (pair_total g.P.Ord.cmp g.met.P.Ord.total) key_of (c.args.origin.now, c.args.recipient.now) (λ pair. pair.cap) None c.args.self.now.entries w.in-None.ensures
     ] in
     on_ok_weaker c.set.result

@@ -4,4 +4,4 @@ use Rattle.link_scheduler.specs.Progress.{GrowsBy}
 use Rattle.link_scheduler.proofs.transmitter.progress.Progress.grow.Given as goal
 
 abbrev pub invariant-loop-factor : goal.invariant-loop-factor
-invariant-loop-factor l = GrowsBy (product (take l.factor-index l.growth)) l.initial.self l.self
+invariant-loop-factor g l = GrowsBy (product (take l.factor-index l.growth)) l.initial.self l.self

@@ -27,7 +27,7 @@ returns-clause-accounts g c =
     let flying = c.renew_units.new.self in
     let found = c.in_ok-rates.rates in
     subst (λ (fs : List (Paced g.row.P.Denot)). Accounts g.P.Ord.cmp c.args.now old (messages c.in_ok-done.done.items) (record old { sending = fs; finish = c.in_ok-self.field-0 })) (sym c.in_ok-self.ensures.sending)
-    (accounts_so g.P.Ord.cmp g.met.P.Ord.total c.args.now old (looked_up g.P.Ord.cmp g.met.P.Ord.total c.args.self.now.peers.entries.items c.args.self.now.pairs.entries.items)
-    flying.scale flying.levels.items flying.flows.items flying.progress.items flying.parallel flying.marked rest (messages c.in_ok-done.done.items) found c.in_ok-self.field-0
+    (accounts_so g.P.Ord.cmp g.met.P.Ord.total c.args.now old (looked_up g.P.Ord.cmp g.met.P.Ord.total c.args.self.now.peers.entries c.args.self.now.pairs.entries)
+    flying.scale flying.levels.items flying.flows.items flying.progress.items flying.stand rest (messages c.in_ok-done.done.items) found c.in_ok-self.field-0
     (c.in_ok-done.ensures.done ∙ ap (λ (fs : List (Paced g.row.P.Denot)). paced_flows (filter (is_spent g.P.Ord.cmp old.caps) fs)) c.drain.ensures.sending) c.in_ok-rates.ensures.fair
     (subst (λ (fs : List (Paced g.row.P.Denot)). IsLeastMoment (λ s. SomeSpentAt fs s) c.in_ok-self.field-0) c.in_ok-self.ensures.sending c.in_ok-self.ensures.finish))

@@ -1,7 +1,7 @@
 use Rattle.std.proofs.Common.{◌≡◌, ◌+◌, ◌<◌, ◌≤◌, map, length, refl, arith}
 use Rattle.std.proofs.lemmas.Result.{err_from_is_err_and}
 use Rattle.link_scheduler.specs.Working.{planned}
-use Rattle.link_scheduler.specs.Message.{completed_of}
+use Rattle.link_scheduler.specs.Message.{ended_of}
 use Rattle.link_scheduler.proofs.InFlight.{length-sending}
 use Rattle.link_scheduler.proofs.Advancing.{advances_step, advances_end, event_refused, wake_refused}
 use Rattle.link_scheduler.proofs.Lightening.{events_left, happens_fewer, events_few}
@@ -10,16 +10,16 @@ use Rattle.link_scheduler.proofs.transmitter.working.Working.advance.Goals as go
 pub returns-in_err-happen-clause-refused : goal.returns-in_err-happen-clause-refused
 returns-in_err-happen-clause-refused g c =
     let p = err_from_is_err_and c.from_residual.result c.from_residual.ensures.1 in
-    rw (p.1, p.2) (event_refused g.P.Ord.cmp c.args.now (planned g.P.Ord.cmp c.args.self.now) (planned g.P.Ord.cmp c.loop-event.self) (map completed_of c.loop-event.completions.items) c.loop-event.events c.in-Some.event c.loop-event.invariant.so c.in-Some.ensures _ c.in_err-happen.ensures.refused)
+    rw (p.1, p.2) (event_refused g.P.Ord.cmp c.args.now (planned g.P.Ord.cmp c.args.self.now) (planned g.P.Ord.cmp c.loop-event.self) (map ended_of c.loop-event.completions.items) c.loop-event.events c.in-Some.event c.loop-event.invariant.so c.in-Some.ensures _ c.in_err-happen.ensures.refused)
 
 pub overflow_add-events : goal.overflow_add-events
 overflow_add-events g c =
     let h = c.in_ok-happen.ensures.happens in
     let fewer : events_left g.P.Ord.cmp (planned g.P.Ord.cmp c.happen.new.self) + 1 ≤ events_left g.P.Ord.cmp (planned g.P.Ord.cmp c.loop-event.self) = happens_fewer g.P.Ord.cmp g.met.P.Ord.total c.args.now c.in-Some.event (planned g.P.Ord.cmp c.loop-event.self) (planned g.P.Ord.cmp c.happen.new.self) h.0 c.in-Some.ensures h.2 in
     let few : c.loop-event.events + events_left g.P.Ord.cmp (planned g.P.Ord.cmp c.loop-event.self) ≤ events_left g.P.Ord.cmp (planned g.P.Ord.cmp c.args.self.now) = c.loop-event.invariant.few in
-    let entries : length c.args.self.now.pairs.entries.items < 9223372036854775808 = omega (arith, c.args.self.now.pairs.entries.small, c.args.self.now.pairs.entries.ok) in
+    let entries : length c.args.self.now.pairs.entries < 9223372036854775808 = omega (arith, c.args.self.now.pairs.entries.small, c.args.self.now.pairs.entries.ok) in
     let flows : length c.args.self.now.flights.flows.items < 9223372036854775808 = omega (arith, c.args.self.now.flights.flows.small, c.args.self.now.flights.flows.ok) in
-    let all : events_left g.P.Ord.cmp (planned g.P.Ord.cmp c.args.self.now) < 340282366920938463463374607431768211456 = events_few g.P.Ord.cmp (planned g.P.Ord.cmp c.args.self.now) c.args.self.now.pairs.entries.items refl entries
+    let all : events_left g.P.Ord.cmp (planned g.P.Ord.cmp c.args.self.now) < 340282366920938463463374607431768211456 = events_few g.P.Ord.cmp (planned g.P.Ord.cmp c.args.self.now) c.args.self.now.pairs.entries refl entries
     (let same : length (planned g.P.Ord.cmp c.args.self.now).sending ≡ length c.args.self.now.flights.flows.items = length-sending c.args.self.now.flights.scale c.args.self.now.flights.levels.items c.args.self.now.flights.flows.items c.args.self.now.flights.progress.items c.args.self.now.flights.parallel in omega (arith, same, flows)) in
     omega (arith, fewer, few, all)
 
@@ -35,16 +35,16 @@ loop-event-preserved g c =
     let fewer : events_left g.P.Ord.cmp (planned g.P.Ord.cmp c.happen.new.self) + 1 ≤ events_left g.P.Ord.cmp (planned g.P.Ord.cmp c.loop-event.self) = happens_fewer g.P.Ord.cmp g.met.P.Ord.total c.args.now c.in-Some.event (planned g.P.Ord.cmp c.loop-event.self) (planned g.P.Ord.cmp c.happen.new.self) h.0 c.in-Some.ensures h.2 in
     let few : c.loop-event.events + events_left g.P.Ord.cmp (planned g.P.Ord.cmp c.loop-event.self) ≤ events_left g.P.Ord.cmp (planned g.P.Ord.cmp c.args.self.now) = c.loop-event.invariant.few in
     record {
-      so = advances_step g.P.Ord.cmp c.args.now (planned g.P.Ord.cmp c.args.self.now) (planned g.P.Ord.cmp c.loop-event.self) (planned g.P.Ord.cmp c.happen.new.self) (map completed_of c.loop-event.completions.items) (map completed_of c.happen.new.completions.items) h.0 c.loop-event.events c.in-Some.event c.loop-event.invariant.so c.in-Some.ensures h.2 h.1;
+      so = advances_step g.P.Ord.cmp c.args.now (planned g.P.Ord.cmp c.args.self.now) (planned g.P.Ord.cmp c.loop-event.self) (planned g.P.Ord.cmp c.happen.new.self) (map ended_of c.loop-event.completions.items) (map ended_of c.happen.new.completions.items) h.0 c.loop-event.events c.in-Some.event c.loop-event.invariant.so c.in-Some.ensures h.2 h.1;
       few = omega (arith, fewer, few);
     }
 
 pub returns-in_err-wake-clause-refused : goal.returns-in_err-wake-clause-refused
 returns-in_err-wake-clause-refused g c =
     let p = err_from_is_err_and c.from_residual-in_err-wake.result c.from_residual-in_err-wake.ensures.1 in
-    rw (p.1, p.2) (wake_refused g.P.Ord.cmp c.args.now (planned g.P.Ord.cmp c.args.self.now) (planned g.P.Ord.cmp c.loop-event.self) (map completed_of c.loop-event.completions.items) c.loop-event.events c.loop-event.invariant.so c.in_default.ensures _ c.in_err-wake.ensures.refused)
+    rw (p.1, p.2) (wake_refused g.P.Ord.cmp c.args.now (planned g.P.Ord.cmp c.args.self.now) (planned g.P.Ord.cmp c.loop-event.self) (map ended_of c.loop-event.completions.items) c.loop-event.events c.loop-event.invariant.so c.in_default.ensures _ c.in_err-wake.ensures.refused)
 
 pub returns-clause-advances : goal.returns-clause-advances
 returns-clause-advances g c =
     let h = c.in_ok-wake.ensures.wakes in
-    advances_end g.P.Ord.cmp c.args.now (planned g.P.Ord.cmp c.args.self.now) (planned g.P.Ord.cmp c.loop-event.self) (planned g.P.Ord.cmp c.wake.new.self) (map completed_of c.loop-event.completions.items) (map completed_of c.wake.new.completions.items) h.0 c.loop-event.events c.loop-event.invariant.so c.in_default.ensures h.2 h.1
+    advances_end g.P.Ord.cmp c.args.now (planned g.P.Ord.cmp c.args.self.now) (planned g.P.Ord.cmp c.loop-event.self) (planned g.P.Ord.cmp c.wake.new.self) (map ended_of c.loop-event.completions.items) (map ended_of c.wake.new.completions.items) h.0 c.loop-event.events c.loop-event.invariant.so c.in_default.ensures h.2 h.1

@@ -1,13 +1,13 @@
 use Rattle.std.proofs.Common.{◌+◌, ◌≤◌, map}
 use Rattle.link_scheduler.specs.Working.{planned}
-use Rattle.link_scheduler.specs.Message.{completed_of}
+use Rattle.link_scheduler.specs.Message.{ended_of}
 use Rattle.link_scheduler.proofs.Advancing.{AdvancesSo}
 use Rattle.link_scheduler.proofs.Lightening.{events_left}
 use Rattle.link_scheduler.proofs.transmitter.working.Working.advance.Given as goal
 
 abbrev pub invariant-loop-event : goal.invariant-loop-event
 invariant-loop-event g l = record {
-  so : AdvancesSo g.P.Ord.cmp l.now (planned g.P.Ord.cmp l.initial.self) (planned g.P.Ord.cmp l.self) (map completed_of l.completions.items) l.events;
+  so : AdvancesSo g.P.Ord.cmp l.now (planned g.P.Ord.cmp l.initial.self) (planned g.P.Ord.cmp l.self) (map ended_of l.completions.items) l.events;
   few : l.events + events_left g.P.Ord.cmp (planned g.P.Ord.cmp l.self) ≤ events_left g.P.Ord.cmp (planned g.P.Ord.cmp l.initial.self);
 }
 

@@ -1,11 +1,11 @@
 use Rattle.std.proofs.Common.{map, ap, ◌∙◌}
 use Rattle.std.proofs.lemmas.Result.{err_from_is_err_and}
 use Rattle.link_simulation.specs.World.{completion_of}
-use Rattle.link_scheduler.specs.Message.{message_of, completed_of}
+use Rattle.link_scheduler.specs.Message.{message_of, ended_of}
 use Rattle.link_scheduler.specs.Peers.{egress_of, ingress_of}
 use Rattle.link_scheduler.specs.InFlight.{in_flight}
 use Rattle.link_scheduler.specs.Working.{planned}
-use Rattle.link_scheduler.proofs.Waiting.{map-push}
+use Rattle.std.proofs.lemmas.List.{map-append}
 use Rattle.link_scheduler.proofs.Settling.{completes_so, too_late_refused}
 use Rattle.link_scheduler.proofs.transmitter.working.Working.complete_at_once.Goals as goal
 
@@ -16,12 +16,12 @@ returns-in_err-arrival-clause-refused g c =
 
 pub returns-clause-completes : goal.returns-clause-completes
 returns-clause-completes g c = (
-  completed_of c.of.result,
-  ap (map completed_of) c.in_ok-push.ensures.items ∙ map-push completed_of c.args.completions.now.items c.of.result,
-  completes_so g.P.Ord.cmp c.args.now (planned g.P.Ord.cmp c.args.self.now) _ (message_of c.args.message) c.in_ok-arrival.arrival (completed_of c.of.result) c.in_ok-arrival.ensures.in_time c.in_ok-arrival.ensures.moment
+  ended_of c.of.result,
+  ap (map ended_of) c.in_ok-push.ensures.items ∙ map-push ended_of c.args.completions.now.items c.of.result,
+  completes_so g.P.Ord.cmp c.args.now (planned g.P.Ord.cmp c.args.self.now) _ (message_of c.args.message) c.in_ok-arrival.arrival (ended_of c.of.result) c.in_ok-arrival.ensures.in_time c.in_ok-arrival.ensures.moment
       (c.of.ensures ∙ ap (completion_of (message_of c.args.message)) c.then_some-deliver_at.ensures)
       (λ i. record {
-        caps = record { egress = egress_of g.P.Ord.cmp c.args.self.now.peers.entries.items; ingress = ingress_of g.P.Ord.cmp c.args.self.now.peers.entries.items; link = c.in_ok-raise.ensures.link i };
+        caps = record { egress = egress_of g.P.Ord.cmp c.args.self.now.peers.entries; ingress = ingress_of g.P.Ord.cmp c.args.self.now.peers.entries; link = c.in_ok-raise.ensures.link i };
         limited = c.args.self.now.limited;
         sending = in_flight c.args.self.now.flights;
         waiting = c.in_ok-raise.ensures.waiting i;

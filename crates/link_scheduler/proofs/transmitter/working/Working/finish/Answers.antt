@@ -1,7 +1,7 @@
 use Rattle.std.proofs.Common.{◌≡◌, ◌+◌, List, [], ◌∷◌, ◌++◌, map, length, refl, sym, ap, ◌∙◌, subst, arith, length-append, rules}
 use Rattle.std.proofs.lemmas.Result.{err_from_is_err_and}
 use Rattle.link_simulation.specs.WorldMessages.{Message, same_pair}
-use Rattle.link_scheduler.specs.Message.{message_of, completed_of}
+use Rattle.link_scheduler.specs.Message.{message_of, ended_of}
 use Rattle.link_scheduler.specs.Working.{planned, messages}
 use Rattle.link_scheduler.proofs.Finishing.{FinishesSo, finishes_start, finishes_step, finishes_end, finishes_refused}
 use Rattle.link_scheduler.proofs.MessageCounts.{in_system, launch_keeps, length-map}
@@ -9,15 +9,15 @@ use Rattle.link_scheduler.proofs.transmitter.working.Working.finish.Goals as goa
 use Rattle.std.proofs.lemmas.List.{map-append}
 
 pub loop-message-init : goal.loop-message-init
-loop-message-init g c = finishes_start g.P.Ord.cmp c.args.now (messages c.args.queue.items) (planned g.P.Ord.cmp c.args.self.now) (map completed_of c.args.completions.now.items)
+loop-message-init g c = finishes_start g.P.Ord.cmp c.args.now (messages c.args.queue.items) (planned g.P.Ord.cmp c.args.self.now) (map ended_of c.args.completions.now.items)
 
 pub returns-in_err-more-clause-refused : goal.returns-in_err-more-clause-refused
 returns-in_err-more-clause-refused g c =
     let p = err_from_is_err_and c.from_residual.result c.from_residual.ensures.1 in
-    let so = subst (λ (ms : List (Message g.row.P.Denot)). FinishesSo g.P.Ord.cmp c.args.now (messages c.args.queue.items) (planned g.P.Ord.cmp c.args.self.now) (map completed_of c.args.completions.now.items) ms (planned g.P.Ord.cmp c.loop-message.self) (map completed_of c.loop-message.completions.items))
+    let so = subst (λ (ms : List (Message g.row.P.Denot)). FinishesSo g.P.Ord.cmp c.args.now (messages c.args.queue.items) (planned g.P.Ord.cmp c.args.self.now) (map ended_of c.args.completions.now.items) ms (planned g.P.Ord.cmp c.loop-message.self) (map ended_of c.loop-message.completions.items))
     (ap messages c.in-Some.ensures.items) c.loop-message.invariant in
-    rw (p.1, p.2) (finishes_refused g.P.Ord.cmp c.args.now (messages c.args.queue.items) (planned g.P.Ord.cmp c.args.self.now) (map completed_of c.args.completions.now.items)
-    (message_of c.in-Some.message ∷ messages c.pop_front.new.self.items) (planned g.P.Ord.cmp c.loop-message.self) (map completed_of c.loop-message.completions.items) so _
+    rw (p.1, p.2) (finishes_refused g.P.Ord.cmp c.args.now (messages c.args.queue.items) (planned g.P.Ord.cmp c.args.self.now) (map ended_of c.args.completions.now.items)
+    (message_of c.in-Some.message ∷ messages c.pop_front.new.self.items) (planned g.P.Ord.cmp c.loop-message.self) (map ended_of c.loop-message.completions.items) so _
     (c.in_err-more.ensures.refused (messages c.pop_front.new.self.items)))
 
 pub loop-message-smaller : goal.loop-message-smaller
@@ -34,17 +34,17 @@ loop-message-smaller g c =
 
 pub loop-message-preserved : goal.loop-message-preserved
 loop-message-preserved g c =
-    let so = subst (λ (ms : List (Message g.row.P.Denot)). FinishesSo g.P.Ord.cmp c.args.now (messages c.args.queue.items) (planned g.P.Ord.cmp c.args.self.now) (map completed_of c.args.completions.now.items) ms (planned g.P.Ord.cmp c.loop-message.self) (map completed_of c.loop-message.completions.items))
+    let so = subst (λ (ms : List (Message g.row.P.Denot)). FinishesSo g.P.Ord.cmp c.args.now (messages c.args.queue.items) (planned g.P.Ord.cmp c.args.self.now) (map ended_of c.args.completions.now.items) ms (planned g.P.Ord.cmp c.loop-message.self) (map ended_of c.loop-message.completions.items))
     (ap messages c.in-Some.ensures.items) c.loop-message.invariant in
     let joined : messages c.append.new.self.items ≡ messages c.pop_front.new.self.items ++ messages c.in_ok-more.more.items = ap messages c.in_ok-append.ensures.items ∙ map-append message_of c.pop_front.new.self.items c.in_ok-more.more.items in
-    subst (λ (ms : List (Message g.row.P.Denot)). FinishesSo g.P.Ord.cmp c.args.now (messages c.args.queue.items) (planned g.P.Ord.cmp c.args.self.now) (map completed_of c.args.completions.now.items) ms (planned g.P.Ord.cmp c.complete.new.self) (map completed_of c.complete.new.completions.items))
+    subst (λ (ms : List (Message g.row.P.Denot)). FinishesSo g.P.Ord.cmp c.args.now (messages c.args.queue.items) (planned g.P.Ord.cmp c.args.self.now) (map ended_of c.args.completions.now.items) ms (planned g.P.Ord.cmp c.complete.new.self) (map ended_of c.complete.new.completions.items))
     (sym joined)
-    (finishes_step g.P.Ord.cmp c.args.now (messages c.args.queue.items) (planned g.P.Ord.cmp c.args.self.now) (map completed_of c.args.completions.now.items) (message_of c.in-Some.message) (messages c.pop_front.new.self.items) (messages c.in_ok-more.more.items)
-    (planned g.P.Ord.cmp c.loop-message.self) (planned g.P.Ord.cmp c.complete.new.self) (map completed_of c.loop-message.completions.items) (map completed_of c.complete.new.completions.items) so c.in_ok-more.ensures.in_time c.in_ok-more.ensures.completion c.in_ok-more.ensures.launches)
+    (finishes_step g.P.Ord.cmp c.args.now (messages c.args.queue.items) (planned g.P.Ord.cmp c.args.self.now) (map ended_of c.args.completions.now.items) (message_of c.in-Some.message) (messages c.pop_front.new.self.items) (messages c.in_ok-more.more.items)
+    (planned g.P.Ord.cmp c.loop-message.self) (planned g.P.Ord.cmp c.complete.new.self) (map ended_of c.loop-message.completions.items) (map ended_of c.complete.new.completions.items) so c.in_ok-more.ensures.in_time c.in_ok-more.ensures.completion c.in_ok-more.ensures.launches)
 
 pub returns-clause-finishes : goal.returns-clause-finishes
 returns-clause-finishes g c =
     let none : c.loop-message.queue.items ≡ [] = search rules in
-    let w = finishes_end g.P.Ord.cmp c.args.now (messages c.args.queue.items) (planned g.P.Ord.cmp c.args.self.now) (map completed_of c.args.completions.now.items) (messages c.loop-message.queue.items) (planned g.P.Ord.cmp c.loop-message.self) (planned g.P.Ord.cmp c.look.new.self) (map completed_of c.loop-message.completions.items)
+    let w = finishes_end g.P.Ord.cmp c.args.now (messages c.args.queue.items) (planned g.P.Ord.cmp c.args.self.now) (map ended_of c.args.completions.now.items) (messages c.loop-message.queue.items) (planned g.P.Ord.cmp c.loop-message.self) (planned g.P.Ord.cmp c.look.new.self) (map ended_of c.loop-message.completions.items)
     c.loop-message.invariant (ap messages none) c.look.ensures in
     (w.done, w.out, w.finishes)

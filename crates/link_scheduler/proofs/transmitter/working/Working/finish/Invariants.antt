@@ -1,13 +1,13 @@
 use Rattle.std.proofs.Common.{◌+◌, map, length}
 use Rattle.link_scheduler.specs.Working.{planned, messages}
-use Rattle.link_scheduler.specs.Message.{completed_of}
+use Rattle.link_scheduler.specs.Message.{ended_of}
 use Rattle.link_scheduler.proofs.Finishing.{FinishesSo}
 use Rattle.link_scheduler.proofs.MessageCounts.{in_system}
 use Rattle.link_scheduler.proofs.transmitter.working.Working.finish.Given as goal
 
 abbrev pub invariant-loop-message : goal.invariant-loop-message
-invariant-loop-message g l = FinishesSo g.P.Ord.cmp l.now (messages l.initial.queue.items) (planned g.P.Ord.cmp l.initial.self) (map completed_of l.initial.completions.items)
-    (messages l.queue.items) (planned g.P.Ord.cmp l.self) (map completed_of l.completions.items)
+invariant-loop-message g l = FinishesSo g.P.Ord.cmp l.now (messages l.initial.queue.items) (planned g.P.Ord.cmp l.initial.self) (map ended_of l.initial.completions.items)
+    (messages l.queue.items) (planned g.P.Ord.cmp l.self) (map ended_of l.completions.items)
 
 abbrev pub decreases-loop-message : goal.decreases-loop-message
 decreases-loop-message g l = length (messages l.queue.items) + in_system (planned g.P.Ord.cmp l.self)

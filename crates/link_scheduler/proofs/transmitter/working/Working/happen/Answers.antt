@@ -4,12 +4,12 @@ use Rattle.link_simulation.specs.World.{Completed, goes, meets}
 use Rattle.link_scheduler.specs.Events.{Happens}
 use Rattle.link_simulation.specs.Refusing.{IsRefusedFor}
 use Rattle.link_scheduler.specs.Working.{planned}
-use Rattle.link_scheduler.specs.Message.{completed_of}
+use Rattle.link_scheduler.specs.Message.{ended_of}
 use Rattle.link_scheduler.proofs.transmitter.working.Working.happen.Goals as goal
 
 pub returns-in-Finish-clause-happens : goal.returns-in-Finish-clause-happens
 returns-in-Finish-clause-happens g c =
-    subst (λ (event : Event). IfOk c.settle.result (λ done. (cs : List (Completed g.row.P.Denot)) × (map completed_of c.settle.new.completions.items ≡ map completed_of c.args.completions.now.items ++ cs)
+    subst (λ (event : Event). IfOk c.settle.result (λ done. (cs : List (Completed g.row.P.Denot)) × (map ended_of c.settle.new.completions.items ≡ map ended_of c.args.completions.now.items ++ cs)
     × Happens g.P.Ord.cmp event (planned g.P.Ord.cmp c.args.self.now) (goes cs (planned g.P.Ord.cmp c.settle.new.self)))) (sym c.in-Finish.is) c.settle.ensures.settles
 
 pub returns-in-Finish-clause-refused : goal.returns-in-Finish-clause-refused

@@ -29,7 +29,7 @@ returns-clause-launches g c =
     launched_so g.P.Ord.cmp g.met.P.Ord.total c.args.now (planned g.P.Ord.cmp c.args.self.now) _ c.args.origin.now c.args.recipient.now (message_of c.in-Some.message)
     (sym c.may_launch.ensures ∙ c.if-not-may_launch.false) (omega arith) (sym c.in-Some.ensures.taken)
     (λ i. record {
-      caps = record { egress = egress_of g.P.Ord.cmp c.args.self.now.peers.entries.items; ingress = ingress_of g.P.Ord.cmp c.args.self.now.peers.entries.items; link = c.in-Some.ensures.link i };
+      caps = record { egress = egress_of g.P.Ord.cmp c.args.self.now.peers.entries; ingress = ingress_of g.P.Ord.cmp c.args.self.now.peers.entries; link = c.in-Some.ensures.link i };
       limited = c.args.self.now.limited;
       sending = c.in_ok-push.ensures.sending i;
       waiting = c.in-Some.ensures.waiting i;

@@ -10,12 +10,12 @@ returns-clause-limited g c =
       caps = record {
         egress = e i;
         ingress = f i;
-        link = link_of g.P.Ord.cmp c.args.self.now.pairs.entries.items;
+        link = link_of g.P.Ord.cmp c.args.self.now.pairs.entries;
       };
       limited = true;
       sending = in_flight c.args.self.now.flights;
-      waiting = waiting_of c.args.self.now.pairs.entries.items;
-      last_arrival = arrival_of g.P.Ord.cmp c.args.self.now.pairs.entries.items;
+      waiting = map message_of c.args.self.now.waiting.messages;
+      last_arrival = arrival_of g.P.Ord.cmp c.args.self.now.pairs.entries;
       next_id = c.args.self.now.next_id;
       finish = c.args.self.now.finish;
       start = c.args.self.now.start;

@@ -17,10 +17,10 @@ fair_parts-requires-clause-link g c = search (of_calls, callable_on_each_pair)
 
 pub returns-clause-fair : goal.returns-clause-fair
 returns-clause-fair g c =
-    fair_if_ok _ _ _ _ _ _ (caps_of g.P.Ord.cmp c.args.self.now.peers.entries.items c.args.self.now.pairs.entries.items)
-    (λ peer answer after k. let h : answer ≡ egress_of g.P.Ord.cmp c.args.self.now.peers.entries.items k.shown.now = search rules in (h ∙ ap (egress_of g.P.Ord.cmp c.args.self.now.peers.entries.items) k.shows, search rules))
-    (λ peer answer after k. let h : answer ≡ ingress_of g.P.Ord.cmp c.args.self.now.peers.entries.items k.shown.now = search rules in (h ∙ ap (ingress_of g.P.Ord.cmp c.args.self.now.peers.entries.items) k.shows, search rules))
+    fair_if_ok _ _ _ _ _ _ (caps_of g.P.Ord.cmp c.args.self.now.peers.entries c.args.self.now.pairs.entries)
+    (λ peer answer after k. let h : answer ≡ egress_of g.P.Ord.cmp c.args.self.now.peers.entries k.shown.now = search rules in (h ∙ ap (egress_of g.P.Ord.cmp c.args.self.now.peers.entries) k.shows, search rules))
+    (λ peer answer after k. let h : answer ≡ ingress_of g.P.Ord.cmp c.args.self.now.peers.entries k.shown.now = search rules in (h ∙ ap (ingress_of g.P.Ord.cmp c.args.self.now.peers.entries) k.shows, search rules))
     (λ p q answer after k.
-    let h : answer ≡ link_of g.P.Ord.cmp c.args.self.now.pairs.entries.items k.first.now k.second.now = search rules in
-    (h ∙ ap (λ x. link_of g.P.Ord.cmp c.args.self.now.pairs.entries.items x k.second.now) k.shows.0 ∙ ap (link_of g.P.Ord.cmp c.args.self.now.pairs.entries.items p) k.shows.1, search rules))
+    let h : answer ≡ link_of g.P.Ord.cmp c.args.self.now.pairs.entries k.first.now k.second.now = search rules in
+    (h ∙ ap (λ x. link_of g.P.Ord.cmp c.args.self.now.pairs.entries x k.second.now) k.shows.0 ∙ ap (link_of g.P.Ord.cmp c.args.self.now.pairs.entries p) k.shows.1, search rules))
     g.P.Ord.cmp c.fair_parts.result _ _ _ c.deref.ensures.value c.fair_parts.ensures.fair

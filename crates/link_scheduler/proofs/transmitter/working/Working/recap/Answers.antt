@@ -4,7 +4,7 @@ use Rattle.link_simulation.specs.World.{goes}
 use Rattle.link_simulation.specs.WorldPlanned.{Planned}
 use Rattle.link_simulation.specs.WorldEvents.{Recaps}
 use Rattle.link_scheduler.specs.Working.{planned}
-use Rattle.link_scheduler.specs.Message.{completed_of}
+use Rattle.link_scheduler.specs.Message.{ended_of}
 use Rattle.link_scheduler.proofs.Settling.{recap_refused, recaps_settled, recaps_looked}
 use Rattle.link_scheduler.proofs.MessageCounts.{none_flies, some_fly}
 use Rattle.link_scheduler.proofs.transmitter.working.Working.recap.Goals as goal
@@ -19,14 +19,14 @@ returns-in_err-settle-clause-refused g c =
 pub returns-clause-recaps : goal.returns-clause-recaps
 returns-clause-recaps g c =
     let p : Planned g.row.P.Denot = planned g.P.Ord.cmp c.args.self.now in
-    let out = map completed_of c.if-is_empty.completions.items in
+    let out = map ended_of c.if-is_empty.completions.items in
     elim c.if-is_empty.branch [
       | then-is_empty w ↦ subst (λ (q : Planned g.row.P.Denot). Recaps g.P.Ord.cmp c.args.now p.caps p (goes out q)) (sym (ap (planned g.P.Ord.cmp) w.self-is))
           (recaps_looked g.P.Ord.cmp c.args.now p (planned g.P.Ord.cmp w.look.new.self) out c.requires
           (none_flies c.args.self.now.flights.scale c.args.self.now.flights.levels.items c.args.self.now.flights.flows.items c.args.self.now.flights.progress.items (sym c.is_empty.ensures ∙ w.if-is_empty.true)) w.look.ensures
-          (ap (λ v. map completed_of v.items) w.completions-is ∙ ap (map completed_of) c.new-completions.ensures.items))
+          (ap (λ v. map ended_of v.items) w.completions-is ∙ ap (map ended_of) c.new-completions.ensures.items))
       | else-is_empty+in_ok-settle w ↦ subst (λ (q : Planned g.row.P.Denot). Recaps g.P.Ord.cmp c.args.now p.caps p (goes out q)) (sym (ap (planned g.P.Ord.cmp) w.self-is))
           (recaps_settled g.P.Ord.cmp c.args.now p (planned g.P.Ord.cmp w.settle.new.self) w.in_ok-settle.ensures.settles.0 out c.requires
           (some_fly c.args.self.now.flights.scale c.args.self.now.flights.levels.items c.args.self.now.flights.flows.items c.args.self.now.flights.progress.items c.args.self.now.flights.parallel (sym c.is_empty.ensures ∙ w.if-is_empty.false)) w.in_ok-settle.ensures.settles.2
-          (ap (λ v. map completed_of v.items) w.completions-is ∙ w.in_ok-settle.ensures.settles.1 ∙ ap (λ l. map completed_of l ++ w.in_ok-settle.ensures.settles.0) c.new-completions.ensures.items))
+          (ap (λ v. map ended_of v.items) w.completions-is ∙ w.in_ok-settle.ensures.settles.1 ∙ ap (λ l. map ended_of l ++ w.in_ok-settle.ensures.settles.0) c.new-completions.ensures.items))
     ]

@@ -1,7 +1,7 @@
 use Rattle.std.proofs.Common.{map}
 use Rattle.std.proofs.lemmas.Result.{err_from_is_err_and}
 use Rattle.link_scheduler.specs.Working.{planned, messages}
-use Rattle.link_scheduler.specs.Message.{completed_of}
+use Rattle.link_scheduler.specs.Message.{ended_of}
 use Rattle.link_simulation.specs.World.{meets}
 use Rattle.link_simulation.specs.WorldEvents.{Settles}
 use Rattle.link_simulation.proofs.Refusals.{refused_memory}
@@ -17,7 +17,7 @@ returns-in_err-queue-clause-refused g c =
 pub returns-clause-settles : goal.returns-clause-settles
 returns-clause-settles g c =
     settles_so g.P.Ord.cmp c.args.now (planned g.P.Ord.cmp c.args.self.now) (planned g.P.Ord.cmp c.account.new.self) (planned g.P.Ord.cmp c.finish.new.self) (messages c.in_ok-queue.queue.items)
-    (map completed_of c.args.completions.now.items) (map completed_of c.finish.new.completions.items) c.in_ok-queue.ensures.accounts c.finish.result c.finish.ensures.finishes
+    (map ended_of c.args.completions.now.items) (map ended_of c.finish.new.completions.items) c.in_ok-queue.ensures.accounts c.finish.result c.finish.ensures.finishes
 
 pub returns-clause-refused : goal.returns-clause-refused
 returns-clause-refused g c =

@@ -8,7 +8,7 @@ use Rattle.link_scheduler.proofs.transmitter.working.Working.wait.Goals as goal
 pub returns-clause-enqueues : goal.returns-clause-enqueues
 returns-clause-enqueues g c = enqueue_waits g.P.Ord.cmp g.met.P.Ord.total c.args.now (message_of c.args.message) (planned g.P.Ord.cmp c.args.self.now) _ (planned g.P.Ord.cmp c.look.new.self) c.requires.limited c.requires.busy
     (λ i. record {
-      caps = record { egress = egress_of g.P.Ord.cmp c.args.self.now.peers.entries.items; ingress = ingress_of g.P.Ord.cmp c.args.self.now.peers.entries.items; link = c.push.ensures.link i };
+      caps = record { egress = egress_of g.P.Ord.cmp c.args.self.now.peers.entries; ingress = ingress_of g.P.Ord.cmp c.args.self.now.peers.entries; link = c.push.ensures.link i };
       limited = c.args.self.now.limited;
       sending = in_flight c.args.self.now.flights;
       waiting = c.in_ok-push.ensures.waiting i;

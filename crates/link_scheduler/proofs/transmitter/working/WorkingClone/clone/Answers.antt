@@ -1,25 +1,32 @@
-use Rattle.std.proofs.Common.{refl, ◌∙◌}
-use Rattle.link_scheduler.proofs.CopiedFlights.{below_alike, sending_alike}
-use Rattle.link_scheduler.proofs.CopiedWorking.{copy_caps, copy_arrival, copy_waiting}
+use Rattle.std.proofs.Common.{map, ◌∙◌}
+use Rattle.link_scheduler.specs.Message.{message_of}
+use Rattle.link_scheduler.specs.Pairs.{link_of, arrival_of}
+use Rattle.link_scheduler.specs.Peers.{egress_of, ingress_of}
+use Rattle.link_scheduler.proofs.CopiedFlights.{below_alike, in_flight_alike}
 use Rattle.link_scheduler.proofs.transmitter.working.WorkingClone.clone.Goals as goal
 
 pub invariant_of-result : goal.invariant_of-result
 invariant_of-result g c = record {
-  fresh = below_alike g.P.Ord.cmp c.args.self.now.next_id c.args.self.now.flights.flows.items c.in_ok-clone-3.field-0.flows.items c.in_ok-clone-3.ensures.cases.flows ∙ c.args.self.now.fresh;
+  fresh = below_alike g.P.Ord.cmp c.args.self.now.next_id c.args.self.now.flights.flows.items c.in_ok-clone-5.field-0.flows.items c.in_ok-clone-5.ensures.cases.flows ∙ c.args.self.now.fresh;
 }
 
 pub returns : goal.returns
 returns g c =
+    let cmp = g.P.Ord.cmp in
     let old = c.args.self.now in
     record {
-      cases = record {
-        caps = copy_caps g.P.Ord.cmp g.met.P.Ord.total old.peers.entries.items c.in_ok-clone.field-0.entries.items old.pairs.entries.items c.in_ok-clone-2.field-0.entries.items c.in_ok-clone.ensures.cases c.in_ok-clone-2.ensures.cases;
-        limited = refl;
-        sending = rw (c.in_ok-clone-3.ensures.cases.progress, c.in_ok-clone-3.ensures.cases.scale, c.in_ok-clone-3.ensures.cases.levels) (sending_alike g.P.Ord.cmp g.met.P.Ord.total old.flights.scale old.flights.levels.items old.flights.flows.items c.in_ok-clone-3.field-0.flows.items old.flights.progress.items c.in_ok-clone-3.ensures.cases.flows);
-        waiting = copy_waiting g.P.Ord.cmp g.met.P.Ord.total old.pairs.entries.items c.in_ok-clone-2.field-0.entries.items c.in_ok-clone-2.ensures.cases;
-        last_arrival = copy_arrival g.P.Ord.cmp g.met.P.Ord.total old.pairs.entries.items c.in_ok-clone-2.field-0.entries.items c.in_ok-clone-2.ensures.cases;
-        next_id = refl;
-        finish = refl;
-        start = refl;
+      cases = λ i. record {
+        caps = record {
+          egress = egress_of cmp (c.in_ok-clone.ensures.cases i);
+          ingress = ingress_of cmp (c.in_ok-clone.ensures.cases i);
+          link = link_of cmp (c.in_ok-clone-2.ensures.cases i);
+        };
+        limited = old.limited;
+        sending = in_flight_alike cmp old.flights c.in_ok-clone-5.field-0 c.in_ok-clone-5.ensures.cases i;
+        waiting = map message_of (c.in_ok-clone-3.ensures.cases i);
+        last_arrival = arrival_of cmp (c.in_ok-clone-2.ensures.cases i);
+        next_id = old.next_id;
+        finish = old.finish;
+        start = old.start;
       };
     }
