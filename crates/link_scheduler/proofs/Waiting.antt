@@ -39,10 +39,6 @@ module _ {X : Type 0} (t : X → Bool) where
   none_does [] h = refl
   none_does (x ∷ xs) h = rw (fails (t x) (and_left (not (t x)) _ h)) (none_does xs (and_right (not (t x)) _ h))
 
-pub map-push : {X Y : Type 0} (f : X → Y) (xs : List X) (x : X) → map f (xs ++ x ∷ []) ≡ map f xs ++ f x ∷ []
-map-push f [] x = refl
-map-push f (y ∷ xs) x = ap (λ l. f y ∷ l) (map-push f xs x)
-
 -- what is read of what is borrowed
 pub read_twice : {X Y : Type 0} (f : X → Y) (r : Option (Bor X)) → option_map (λ b. f b.now) r ≡ option_map f (option_map (λ b. b.now) r)
 read_twice f None = refl
