@@ -20,9 +20,9 @@ use Rattle.link_scheduler.specs.Message.{message_of}
 use Rattle.link_scheduler.specs.Pairs.{pair_cmp, first_of}
 use Rattle.link_scheduler.specs.Waiting.{pair_of, are_in_order, IsFirstAt, IsFirstPlace}
 use Rattle.shared_list.proofs.Edits.{remove_here}
-use Rattle.link_simulation.proofs.Sorted.{by_bool, and_left, and_right, and_both, list_all-append, list_all-left, list_all-right, list_all-mono, list_all-map, is_eq_equal, is_lt_less, is_gt_greater, insert-seam}
+use Rattle.link_simulation.proofs.Sorted.{by_bool, and_left, and_right, and_both, list_all-append, list_all-left, list_all-right, list_all-mono, list_all-map, is_eq_equal, is_gt_greater, insert-seam}
 use Rattle.link_scheduler.proofs.Pairs.{pair_total, is_eq-then}
-use Rattle.link_scheduler.proofs.Searching.{fails, passes, get-seam, find-skip, find-none, lt_not_eq, gt_not_eq, neither}
+use Rattle.link_scheduler.proofs.Searching.{fails, get-seam, find-skip, find-none, lt_not_eq, gt_not_eq, neither}
 
 -- ---- lists
 
