@@ -4,8 +4,6 @@ pub mod Busy
 pub mod Calling
 pub mod CapCalls
 pub mod CopiedFlights
-pub mod CopiedPairs
-pub mod CopiedWorking
 pub mod Copies
 pub mod Fairness
 pub mod Finishing

@@ -20,9 +20,9 @@ use Rattle.link_scheduler.specs.Message.{message_of}
 use Rattle.link_scheduler.specs.Pairs.{pair_cmp, first_of}
 use Rattle.link_scheduler.specs.Waiting.{pair_of, are_in_order, IsFirstAt, IsFirstPlace}
 use Rattle.shared_list.proofs.Edits.{remove_here}
-use Rattle.link_simulation.proofs.Sorted.{by_bool, and_left, and_right, and_both, list_all-append, list_all-left, list_all-right, list_all-mono, list_all-map, is_eq_equal, is_lt_less, is_gt_greater, insert-seam}
+use Rattle.link_simulation.proofs.Sorted.{by_bool, and_left, and_right, and_both, list_all-append, list_all-left, list_all-right, list_all-mono, list_all-map, is_eq_equal, is_gt_greater, insert-seam}
 use Rattle.link_scheduler.proofs.Pairs.{pair_total, is_eq-then}
-use Rattle.link_scheduler.proofs.Searching.{fails, passes, get-seam, find-skip, find-none, lt_not_eq, gt_not_eq, neither}
+use Rattle.link_scheduler.proofs.Searching.{fails, get-seam, find-skip, find-none, lt_not_eq, gt_not_eq, neither}
 
 -- ---- lists
 
@@ -38,10 +38,6 @@ module _ {X : Type 0} (t : X → Bool) where
   none_does : (xs : List X) → list_all (λ x. not (t x)) xs ≡ true → list_any t xs ≡ false
   none_does [] h = refl
   none_does (x ∷ xs) h = rw (fails (t x) (and_left (not (t x)) _ h)) (none_does xs (and_right (not (t x)) _ h))
-
-pub map-push : {X Y : Type 0} (f : X → Y) (xs : List X) (x : X) → map f (xs ++ x ∷ []) ≡ map f xs ++ f x ∷ []
-map-push f [] x = refl
-map-push f (y ∷ xs) x = ap (λ l. f y ∷ l) (map-push f xs x)
 
 -- what is read of what is borrowed
 pub read_twice : {X Y : Type 0} (f : X → Y) (r : Option (Bor X)) → option_map (λ b. f b.now) r ≡ option_map f (option_map (λ b. b.now) r)

@@ -1,7 +1,6 @@
 -- The caps of peers, as a list in the order of peers.
-use Rattle.std.specs.Prelude.{◌≡◌, ℕ, List, Option, None}
+use Rattle.std.specs.Prelude.{ℕ, List, Option, None}
 use Rattle.std.specs.declared.cmp.Ordering.{Ordering}
-use Rattle.std.specs.declared.cmp.Ordering.TheVariants.{Equal}
 use Rattle.link_scheduler.specs.declared.transmitter.peers.PeerCaps.{PeerCaps}
 use Rattle.link_simulation.specs.Sorted.{value_at}
 

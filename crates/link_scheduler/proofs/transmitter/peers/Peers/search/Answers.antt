@@ -1,7 +1,6 @@
-use Rattle.std.proofs.Common.{◌≡◌, true, false, None, slice_get, sym, ap, ◌∙◌, rules}
-use Rattle.std.specs.Ordering.{is_lt, is_eq}
+use Rattle.std.proofs.Common.{◌≡◌, true, false, sym, ap, ◌∙◌, rules}
+use Rattle.std.specs.Ordering.{is_eq}
 use Rattle.std.specs.Option.{option_map}
-use Rattle.shared_list.specs.Places.{IsParting}
 use Rattle.link_scheduler.proofs.Searching.{parted, parting_place, parting_gap, parting_end}
 use Rattle.link_scheduler.proofs.transmitter.peers.Peers.search.Goals as goal
 

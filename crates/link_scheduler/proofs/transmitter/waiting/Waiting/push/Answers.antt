@@ -6,8 +6,10 @@ use Rattle.link_scheduler.proofs.Waiting.{parted_next, order_inserted, queued_th
 use Rattle.link_scheduler.proofs.transmitter.waiting.Waiting.push.Goals as goal
 
 pub invariant_of-self : goal.invariant_of-self
-invariant_of-self g c = record { ordered = rw c.insert.ensures.items (either (λ ms. are_in_order g.P.Ord.cmp ms ≡ true) _
-    (order_inserted g.P.Ord.cmp g.met.P.Ord.total c.args.self.now.messages c.place-at.result c.args.message (c.place-at.ensures.parting (parted_next g.P.Ord.cmp g.met.P.Ord.total (pair_of c.args.message) c.args.self.now.messages c.args.self.now.ordered)) c.args.self.now.ordered) c.args.self.now.ordered) }
+invariant_of-self g c = record {
+  ordered = rw c.insert.ensures.items (either (λ ms. are_in_order g.P.Ord.cmp ms ≡ true) _
+      (order_inserted g.P.Ord.cmp g.met.P.Ord.total c.args.self.now.messages c.place-at.result c.args.message (c.place-at.ensures.parting (parted_next g.P.Ord.cmp g.met.P.Ord.total (pair_of c.args.message) c.args.self.now.messages c.args.self.now.ordered)) c.args.self.now.ordered) c.args.self.now.ordered);
+}
 
 pub returns-clause-waiting : goal.returns-clause-waiting
 returns-clause-waiting g c = ap (map message_of) c.in_ok-insert.ensures.items

@@ -13,8 +13,10 @@ pub returns-in_default-clause-rest : goal.returns-in_default-clause-rest
 returns-in_default-clause-rest g c = sym (without_missing g.P.Ord.cmp g.met.P.Ord.total (c.args.origin.now, c.args.recipient.now) c.args.self.now.messages c.in_default.ensures)
 
 pub invariant_of-self : goal.invariant_of-self
-invariant_of-self g c = record { ordered = rw c.remove.ensures.items (either (λ ms. are_in_order g.P.Ord.cmp ms ≡ true) _
-    (order_removed g.P.Ord.cmp g.met.P.Ord.total (c.args.origin.now, c.args.recipient.now) c.args.self.now.messages c.in-Some.at c.in-Some.ensures c.args.self.now.ordered) c.args.self.now.ordered) }
+invariant_of-self g c = record {
+  ordered = rw c.remove.ensures.items (either (λ ms. are_in_order g.P.Ord.cmp ms ≡ true) _
+      (order_removed g.P.Ord.cmp g.met.P.Ord.total (c.args.origin.now, c.args.recipient.now) c.args.self.now.messages c.in-Some.at c.in-Some.ensures c.args.self.now.ordered) c.args.self.now.ordered);
+}
 
 pub returns-clause-taken : goal.returns-clause-taken
 returns-clause-taken g c = sym (first_there g.P.Ord.cmp g.met.P.Ord.total (c.args.origin.now, c.args.recipient.now) c.args.self.now.messages c.in-Some.at c.in-Some.ensures ∙ ap (option_map message_of) c.in_ok-remove.ensures.item)
