@@ -9,6 +9,8 @@ pub mod CopiedWorking
 pub mod Copies
 pub mod Fairness
 pub mod Finishing
+pub mod Idle
+pub mod IdlePlaces
 pub mod InFlight
 pub mod InPlace
 pub mod Lightening

@@ -1,5 +1,6 @@
 pub mod Events
 pub mod Flights
+pub mod Idle
 pub mod InFlight
 pub mod Keys
 pub mod Message

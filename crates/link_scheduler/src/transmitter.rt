@@ -12,6 +12,7 @@ mod drain;
 mod event;
 mod events;
 mod flights;
+mod idle;
 mod look;
 mod message;
 mod pairs;

@@ -1,0 +1,130 @@
+//! The idle pairs, by the moment from which on they may start.
+ghost use Rattle.std.specs.Prelude.{◌≡◌, ◌&&◌, ℕ, Bool, List, true, false, if◌then◌else◌, map, option_map, slice_get, [], OnOk, IfErr};
+ghost use Rattle.std.specs.Ordering.{is_lt, is_eq};
+ghost use Rattle.fair_rates.specs.Sides.{same_peer};
+ghost use Rattle.link_simulation.specs.Sorted.{are_ascending};
+ghost use Rattle.link_scheduler.specs.Idle.{idle_cmp, idle_key, is_listed};
+ghost use Rattle.link_scheduler.specs.Starts.{is_moment};
+
+use fair_rates::error::Error;
+use fair_rates::peer::Peer;
+use shared_list::{Seek, SharedList};
+use std::alloc::{AllocError, Global};
+
+/// An idle pair for which a message waits.
+#[derive(Drop)]
+pub(crate) struct IdlePair<P> {
+    /// From which moment on the pair's first waiting message may start.
+    pub(crate) moment: u64,
+    pub(crate) origin: P,
+    pub(crate) recipient: P,
+}
+
+/// Idle pairs in the order of moments, and those of one moment in the order of pairs.
+#[derive(Drop)]
+pub(crate) struct IdlePairs<P: Peer> {
+    entries: SharedList<IdlePair<P>>,
+    pub ghost ascending: { are_ascending (idle_cmp P.cmp) (map idle_key entries) ≡ true },
+}
+
+/// The place of a pair under a moment.
+#[derive(Drop)]
+struct IdlePlace<'a, P> {
+    moment: u64,
+    origin: &'a P,
+    recipient: &'a P,
+}
+
+impl<'a, P: Peer> Seek<IdlePair<P>> for IdlePlace<'a, P> {
+    ghost is_before = { λ sought pair. is_lt (idle_cmp P.cmp (idle_key pair) (sought.moment, (sought.origin.now, sought.recipient.now))) };
+
+    fn is_before(&self, item: &IdlePair<P>) -> bool {
+        item.moment
+            .cmp(&self.moment)
+            .then_with(|| item.origin.cmp(self.origin).then_with(|| item.recipient.cmp(self.recipient)))
+            .is_lt()
+    }
+}
+
+impl<P: Peer> IdlePairs<P> {
+    /// No pair.
+    pub(crate) fn new() -> Self
+        ensures { result.entries ≡ [] }
+    {
+        IdlePairs {
+            entries: SharedList::new(),
+        }
+    }
+
+    /// The first moment from which on a pair may start.
+    pub(crate) fn first(&self) -> Option<u64>
+        ensures { result ≡ option_map (λ pair. pair.moment) (slice_get self.now.entries 0) }
+    {
+        Some(self.entries.get(0)?.moment)
+    }
+
+    /// The pair is not listed under that moment any more.
+    fn take(&mut self, moment: u64, origin: &P, recipient: &P) -> Result<(), Error>
+        requires { is_listed P.cmp self.old.entries moment origin.now recipient.now ≡ true }
+        ensures listed { OnOk result ((t : ℕ) (o r : P) → is_listed P.cmp self.new.entries t o r
+            ≡ (if is_eq (idle_cmp P.cmp (moment, (origin.now, recipient.now)) (t, (o, r))) then false else is_listed P.cmp self.old.entries t o r)) }
+        ensures refused { IfErr result (λ e. e ≡ Error.OutOfMemory) }
+    {
+        let at = self.entries.place(&IdlePlace { moment, origin, recipient });
+        self.entries.remove(at)?;
+        Ok(())
+    }
+
+    /// The pair is listed under that moment from now on.
+    fn put(&mut self, alloc: Global, moment: u64, origin: &P, recipient: &P) -> Result<(), Error>
+        requires { is_listed P.cmp self.old.entries moment origin.now recipient.now ≡ false }
+        ensures listed { OnOk result ((t : ℕ) (o r : P) → is_listed P.cmp self.new.entries t o r
+            ≡ (if is_eq (idle_cmp P.cmp (moment, (origin.now, recipient.now)) (t, (o, r))) then true else is_listed P.cmp self.old.entries t o r)) }
+        ensures refused { IfErr result (λ e. e ≡ Error.OutOfMemory) }
+    {
+        let at = self.entries.place(&IdlePlace { moment, origin, recipient });
+        let pair = IdlePair {
+            moment,
+            origin: origin.clone_peer().ok_or(Error::OutOfMemory)?,
+            recipient: recipient.clone_peer().ok_or(Error::OutOfMemory)?,
+        };
+        self.entries.insert(alloc, at, pair)?;
+        Ok(())
+    }
+
+    /// The pair, which is listed under the old moment alone, is listed under the new one alone.
+    pub(crate) fn change(
+        &mut self,
+        alloc: Global,
+        origin: &P,
+        recipient: &P,
+        old: Option<u64>,
+        new: Option<u64>,
+    ) -> Result<(), Error>
+        requires { (t : ℕ) → is_listed P.cmp self.old.entries t origin.now recipient.now ≡ is_moment t old }
+        ensures listed { OnOk result ((t : ℕ) (o r : P) → is_listed P.cmp self.new.entries t o r
+            ≡ (if same_peer P.cmp origin.now o && same_peer P.cmp recipient.now r then is_moment t new else is_listed P.cmp self.old.entries t o r)) }
+        ensures refused { IfErr result (λ e. e ≡ Error.OutOfMemory) }
+    {
+        if old == new {
+            return Ok(());
+        }
+        if let Some(moment) = old {
+            self.take(moment, origin, recipient)?;
+        }
+        if let Some(moment) = new {
+            self.put(alloc, moment, origin, recipient)?;
+        }
+        Ok(())
+    }
+}
+
+impl<P: Peer> Clone for IdlePairs<P> {
+    ghost is_clone = { λ pairs copy. copy.entries ≡ pairs.entries };
+
+    /// The same pairs. No peer is cloned.
+    fn clone(&self) -> Result<IdlePairs<P>, AllocError> {
+        let entries = self.entries.clone()?;
+        Ok(IdlePairs { entries })
+    }
+}
