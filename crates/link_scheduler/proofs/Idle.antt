@@ -1,13 +1,13 @@
 -- Idle pairs in the order of moments, and what of them is listed after a change.
 use Rattle.std.proofs.Common.{◌≡◌, ℕ, ◌<◌, ◌≤◌, Bool, true, false, not, ◌&&◌, if◌then◌else◌, List, [], ◌∷◌, length, map, Option, Some, None, refl, sym, ◌∙◌, ap, subst, arith}
-use Rattle.std.specs.Prelude.{◌==◌}
+use Rattle.std.specs.Prelude.{◌==◌, nat_lt}
 use Rattle.std.specs.List.{insert, remove}
 use Rattle.std.specs.declared.cmp.Ordering.{Ordering}
 use Rattle.std.specs.declared.cmp.Ordering.TheVariants.{Less, Equal, Greater}
-use Rattle.std.specs.Ordering.{is_lt, is_eq, is_gt, nat_cmp}
+use Rattle.std.specs.Ordering.{is_lt, is_eq, is_gt, nat_cmp, ordering_then}
 use Rattle.std.specs.Cmp.{IsTotalOrder, ranks}
-use Rattle.std.proofs.lemmas.Bool.{eqb-true, eq-eqb}
-use Rattle.std.proofs.lemmas.Cmp.{on_total, then_total, nat_cmp_total, by_ranked}
+use Rattle.std.proofs.lemmas.Bool.{eqb-true, eq-eqb, ltb-true, ltb-false}
+use Rattle.std.proofs.lemmas.Cmp.{on_total, then_total, nat_cmp_total, by_ranked, tied_itself}
 use Rattle.link_scheduler.specs.declared.transmitter.idle.IdlePair.{IdlePair}
 use Rattle.fair_rates.specs.Sides.{same_peer}
 use Rattle.link_scheduler.specs.Idle.{idle_cmp, idle_key, is_listed}
@@ -16,7 +16,7 @@ use Rattle.link_scheduler.specs.Starts.{is_moment}
 use Rattle.link_simulation.specs.Sorted.{are_ascending, IsPlace, IsGap}
 use Rattle.link_simulation.proofs.Sorted.{by_bool, and_left, and_right, and_both, is_eq_equal, value_respects, value_insert_at, ascending_insert_at}
 use Rattle.shared_list.specs.Places.{are_parted, IsParting}
-use Rattle.link_scheduler.proofs.IdlePlaces.{parted, place_of, gap_of, place_within, ascending_remove_at, in_removed}
+use Rattle.link_scheduler.proofs.IdlePlaces.{parted, place_of, gap_of, place_within, ascending_remove_at, in_removed, none_below}
 use Rattle.link_scheduler.proofs.Pairs.{pair_total, is_eq-then}
 
 -- moments and pairs are ordered totally
@@ -28,6 +28,9 @@ same_moment s t = by_ranked (s < t) (s ≡ t) (t < s) (nat_cmp s t) (ranks s t)
     (λ is less. ap is_eq is ∙ by_bool (s == t) (λ h. let same : s ≡ t = eqb-true s t h in absurd (omega arith)) (λ h. sym h))
     (λ is same. ap is_eq is ∙ sym (eq-eqb s t same))
     (λ is more. ap is_eq is ∙ by_bool (s == t) (λ h. let same : s ≡ t = eqb-true s t h in absurd (omega arith)) (λ h. sym h))
+
+later_moment : (s t : ℕ) → t < s → nat_cmp s t ≡ Greater
+later_moment s t late = by_ranked (s < t) (s ≡ t) (t < s) (nat_cmp s t) (ranks s t) (λ is less. absurd (omega arith)) (λ is same. absurd (omega arith)) (λ is more. is)
 
 module _ {P : Type 0} (cmp : P → P → Ordering) where
   abbrev pub same_two : P → P → P → P → Bool
@@ -45,6 +48,17 @@ module _ {P : Type 0} (cmp : P → P → Ordering) where
     pub listed_respects : (es : List (IdlePair P)) (t : ℕ) (o r a b : P) → same_two o r a b ≡ true → is_listed cmp es t o r ≡ is_listed cmp es t a b
     listed_respects es t o r a b same =
         value_respects (idle_cmp cmp) (idle_total cmp total) idle_key (λ (e : IdlePair P). true) false es (t, (o, r)) (t, (a, b)) (is_eq_equal _ (same_idle t t o r a b ∙ and_both (t == t) (same_two o r a b) (eq-eqb t t refl) same))
+
+    -- the first pair that is listed
+    pub first_listed : (e : IdlePair P) (es : List (IdlePair P)) → is_listed cmp (e ∷ es) e.moment e.origin e.recipient ≡ true
+    first_listed e es = ap (λ o. if is_eq o then true else is_listed cmp es e.moment e.origin e.recipient) (tied_itself (idle_total cmp total) (idle_key e))
+
+    -- no pair is listed under an earlier moment than the first one
+    pub first_least : (e : IdlePair P) (es : List (IdlePair P)) (t : ℕ) (o r : P) → are_ascending (idle_cmp cmp) (map idle_key (e ∷ es)) ≡ true → is_listed cmp (e ∷ es) t o r ≡ true → e.moment ≤ t
+    first_least e es t o r ascending listed = by_bool (nat_lt t e.moment)
+        (λ h. let early : t < e.moment = ltb-true t e.moment h in
+        let none : is_listed cmp (e ∷ es) t o r ≡ false = none_below (idle_cmp cmp) (idle_total cmp total) idle_key e es (t, (o, r)) ascending (ap (λ c. ordering_then c (pair_cmp cmp (e.origin, e.recipient) (o, r))) (later_moment e.moment t early)) in cc)
+        (λ h. let late : e.moment ≤ t = ltb-false t e.moment h in omega arith)
 
     -- ---- the place of a pair
 

@@ -75,6 +75,19 @@ module _ {K : Type 0} (cmp : K → K → Ordering) (total : IsTotalOrder cmp) wh
     pub gap_of : (es : List E) (k : K) (at : ℕ) → are_ascending cmp (map key es) ≡ true → IsParting (λ e. is_lt (cmp (key e) k)) es at → is_in es k ≡ false → IsGap cmp key es k at
     gap_of es k at ascending parting listed = by_parting es k at ascending parting (λ p. let found : is_in es k ≡ true = at_place cmp total key (λ e. true) false es k at p in cc) (λ g. g)
 
+    -- a key below the first one has no entry
+    pub none_below : (e : E) (es : List E) (k : K) → are_ascending cmp (map key (e ∷ es)) ≡ true → cmp (key e) k ≡ Greater → is_in (e ∷ es) k ≡ false
+    none_below e es k ascending above =
+        let gap : IsGap cmp key (e ∷ es) k 0 = record {
+          before = [];
+          after = e ∷ es;
+          split = refl;
+          is_at = refl;
+          below = refl;
+          above = and_both _ _ (ap is_gt above) (list_all-mono (λ f. is_lt (cmp (key e) (key f))) (λ f. is_gt (cmp (key f) k)) (λ f low. above_chain (key e) (key f) k low above) es (later_rise [] es e ascending));
+        } in
+        at_gap cmp total key (λ e. true) false (e ∷ es) k 0 gap
+
     module _ (es : List E) (k : K) (at : ℕ) (p : IsPlace cmp key es k at) where
       pub place_within : at < length es
       place_within = omega (arith, p.is_at, ap length p.split, length-append p.before (p.entry ∷ p.after))

@@ -10,6 +10,8 @@ pub mod Copies
 pub mod Fairness
 pub mod Finishing
 pub mod Idle
+pub mod IdleChanges
+pub mod IdleLooks
 pub mod IdlePlaces
 pub mod InFlight
 pub mod InPlace
