@@ -23,7 +23,7 @@ use Rattle.link_scheduler.proofs.Pairs.{pair_total, is_eq-then}
 pub idle_total : {P : Type 0} (cmp : P → P → Ordering) → IsTotalOrder cmp → IsTotalOrder (idle_cmp cmp)
 idle_total {P} cmp total = then_total (on_total (λ (k : ℕ × (P × P)). k.0) nat_cmp_total) (on_total (λ (k : ℕ × (P × P)). k.1) (pair_total cmp total))
 
-same_moment : (s t : ℕ) → is_eq (nat_cmp s t) ≡ (s == t)
+pub same_moment : (s t : ℕ) → is_eq (nat_cmp s t) ≡ (s == t)
 same_moment s t = by_ranked (s < t) (s ≡ t) (t < s) (nat_cmp s t) (ranks s t)
     (λ is less. ap is_eq is ∙ by_bool (s == t) (λ h. let same : s ≡ t = eqb-true s t h in absurd (omega arith)) (λ h. sym h))
     (λ is same. ap is_eq is ∙ sym (eq-eqb s t same))

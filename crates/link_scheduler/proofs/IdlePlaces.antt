@@ -88,6 +88,19 @@ module _ {K : Type 0} (cmp : K → K → Ordering) (total : IsTotalOrder cmp) wh
         } in
         at_gap cmp total key (λ e. true) false (e ∷ es) k 0 gap
 
+    -- a key has one entry at most
+    pub none_again : (e : E) (es : List E) (k : K) → are_ascending cmp (map key (e ∷ es)) ≡ true → cmp (key e) k ≡ Equal → is_in es k ≡ false
+    none_again e es k ascending same =
+        let gap : IsGap cmp key es k 0 = record {
+          before = [];
+          after = es;
+          split = refl;
+          is_at = refl;
+          below = refl;
+          above = list_all-mono (λ f. is_lt (cmp (key e) (key f))) (λ f. is_gt (cmp (key f) k)) (λ f low. ap is_gt (total.antisymm (key f) k ∙ ap ordering_reverse (sym (total.congr (key e) k (key f) same) ∙ is_lt_less _ low))) es (later_rise [] es e ascending);
+        } in
+        at_gap cmp total key (λ e. true) false es k 0 gap
+
     module _ (es : List E) (k : K) (at : ℕ) (p : IsPlace cmp key es k at) where
       pub place_within : at < length es
       place_within = omega (arith, p.is_at, ap length p.split, length-append p.before (p.entry ∷ p.after))

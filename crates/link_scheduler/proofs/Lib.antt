@@ -7,6 +7,9 @@ pub mod CopiedFlights
 pub mod CopiedPairs
 pub mod CopiedWorking
 pub mod Copies
+pub mod Due
+pub mod DueCounts
+pub mod DueMessages
 pub mod Fairness
 pub mod Finishing
 pub mod Idle

@@ -1,11 +1,12 @@
 //! The idle pairs, by the moment from which on they may start.
-ghost use Rattle.std.specs.Prelude.{◌≡◌, ◌&&◌, ℕ, Bool, List, true, false, if◌then◌else◌, map, option_map, slice_get, [], OnOk, IfErr};
+ghost use Rattle.std.specs.Prelude.{◌≡◌, ◌&&◌, ℕ, Bool, List, true, false, if◌then◌else◌, map, nat_le, option_map, slice_get, [], OnOk, IfErr};
 ghost use Rattle.std.specs.Ordering.{is_lt, is_eq};
 ghost use Rattle.fair_rates.specs.Sides.{same_peer};
 ghost use Rattle.link_simulation.specs.Sorted.{are_ascending};
 ghost use Rattle.link_scheduler.specs.Idle.{idle_cmp, idle_key, is_listed};
 ghost use Rattle.link_scheduler.specs.Starts.{is_moment};
 
+use super::look::Key;
 use fair_rates::error::Error;
 use fair_rates::peer::Peer;
 use shared_list::{Seek, SharedList};
@@ -46,7 +47,25 @@ impl<'a, P: Peer> Seek<IdlePair<P>> for IdlePlace<'a, P> {
     }
 }
 
+/// What comes after a moment.
+#[derive(Drop)]
+struct After {
+    moment: u64,
+}
+
+impl<P: Peer> Seek<IdlePair<P>> for After {
+    ghost is_before = { λ sought pair. nat_le pair.moment sought.moment };
+
+    fn is_before(&self, item: &IdlePair<P>) -> bool {
+        item.moment <= self.moment
+    }
+}
+
 impl<P: Peer> IdlePairs<P> {
+    ghost use Rattle.std.specs.Prelude.{IfOk};
+    ghost use Rattle.std.specs.List.{AllZip, filter};
+    ghost use Rattle.link_scheduler.specs.Due.{IsKeyOfIdle, AreDue};
+
     /// No pair.
     pub(crate) fn new() -> Self
         ensures { result.entries ≡ [] }
@@ -61,6 +80,34 @@ impl<P: Peer> IdlePairs<P> {
         ensures { result ≡ option_map (λ pair. pair.moment) (slice_get self.now.entries 0) }
     {
         Some(self.entries.get(0)?.moment)
+    }
+
+    /// The pairs that may start by now, by the moments from which on they may, the peers cloned.
+    fn due(&self, alloc: Global, now: u64) -> Result<Vec<Key<P>>, Error>
+        ensures due { IfOk result (λ keys. AllZip (IsKeyOfIdle P.cmp) keys.items (filter (λ pair. nat_le pair.moment now) self.now.entries)) }
+        ensures refused { IfErr result (λ e. e ≡ Error.OutOfMemory) }
+    {
+        let mut due = Vec::new(alloc);
+        for at in 0..self.entries.place(&After { moment: now }) {
+            if let Some(pair) = self.entries.get(at) {
+                due.push(Key::new(&pair.origin, &pair.recipient)?)?;
+            }
+        }
+        Ok(due)
+    }
+
+    /// The pairs that may start by now, in the order of pairs, the peers cloned.
+    pub(crate) fn ready(&self, alloc: Global, now: u64) -> Result<Vec<Key<P>>, Error>
+        ensures ready { IfOk result (λ keys. AreDue P.cmp now self.now.entries keys.items) }
+        ensures refused { IfErr result (λ e. e ≡ Error.OutOfMemory) }
+    {
+        let mut ready = self.due(alloc, now)?;
+        ready.sort_by(|key, other| {
+            key.origin
+                .cmp(&other.origin)
+                .then_with(|| key.recipient.cmp(&other.recipient))
+        })?;
+        Ok(ready)
     }
 
     /// The pair is not listed under that moment any more.
