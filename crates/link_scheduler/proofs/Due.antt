@@ -1,19 +1,18 @@
 -- The idle pairs that may start by a moment stand at the front.
-use Rattle.std.proofs.Common.{◌≡◌, ℕ, zero, suc, ◌+◌, ◌<◌, ◌≤◌, Bool, true, false, not, ◌&&◌, cond, if◌then◌else◌, List, [], ◌∷◌, ◌++◌, length, map, take, slice_get, Option, Some, None, refl, sym, ◌∙◌, ap, subst, arith}
+use Rattle.std.proofs.Common.{◌≡◌, ℕ, zero, suc, ◌+◌, ◌<◌, ◌≤◌, Bool, true, false, not, List, [], ◌∷◌, ◌++◌, length, map, take, slice_get, Some, None, refl, sym, ◌∙◌, ap, arith}
 use Rattle.std.specs.Prelude.{nat_le}
 use Rattle.std.specs.List.{list_all, filter}
 use Rattle.std.specs.declared.cmp.Ordering.{Ordering}
-use Rattle.std.specs.declared.cmp.Ordering.TheVariants.{Less, Equal, Greater}
 use Rattle.std.specs.Ordering.{is_lt, nat_cmp, ordering_then}
 use Rattle.std.specs.Cmp.{ranks}
-use Rattle.std.proofs.lemmas.Bool.{leb-true, leb-false, le-leb}
+use Rattle.std.proofs.lemmas.Bool.{leb-true, leb-false}
 use Rattle.std.proofs.lemmas.Cmp.{by_ranked}
 use Rattle.shared_list.specs.Places.{are_parted, IsParting}
 use Rattle.link_scheduler.specs.declared.transmitter.idle.IdlePair.{IdlePair}
 use Rattle.link_simulation.specs.Sorted.{are_ascending}
 use Rattle.link_scheduler.specs.Idle.{idle_cmp, idle_key}
 use Rattle.link_scheduler.specs.Pairs.{pair_cmp}
-use Rattle.link_simulation.proofs.Sorted.{by_bool, and_left, and_right, and_both, list_all-map, list_all-mono}
+use Rattle.link_simulation.proofs.Sorted.{by_bool, and_left, and_right, list_all-map, list_all-mono}
 
 -- ---- lists
 

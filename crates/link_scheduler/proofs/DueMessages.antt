@@ -1,12 +1,12 @@
 -- The pairs that may start by now are those of the messages that may.
-use Rattle.std.proofs.Common.{◌≡◌, ℕ, zero, suc, ◌+◌, ◌≤◌, Bool, true, false, not, ◌&&◌, cond, if◌then◌else◌, List, [], ◌∷◌, map, Option, Some, None, refl, sym, ◌∙◌, ap, subst, arith}
+use Rattle.std.proofs.Common.{◌≡◌, ℕ, suc, Bool, true, false, not, ◌&&◌, cond, if◌then◌else◌, List, [], ◌∷◌, map, Option, Some, None, refl, sym, ◌∙◌, ap}
 use Rattle.std.specs.Prelude.{nat_le, ◌==◌, option_map}
 use Rattle.std.specs.List.{AllZip, filter, find, list_all, list_any}
 use Rattle.std.specs.declared.cmp.Ordering.{Ordering}
-use Rattle.std.specs.declared.cmp.Ordering.TheVariants.{Less, Equal, Greater}
+use Rattle.std.specs.declared.cmp.Ordering.TheVariants.{Equal}
 use Rattle.std.specs.Ordering.{is_lt, is_eq, nat_cmp}
 use Rattle.std.specs.Cmp.{IsTotalOrder}
-use Rattle.std.proofs.lemmas.Bool.{eqb-true, eq-eqb}
+use Rattle.std.proofs.lemmas.Bool.{eq-eqb}
 use Rattle.link_scheduler.specs.declared.transmitter.idle.IdlePair.{IdlePair}
 use Rattle.link_scheduler.specs.declared.transmitter.look.Key.{Key}
 use Rattle.fair_rates.specs.Sides.{same_peer}
@@ -24,10 +24,10 @@ use Rattle.link_scheduler.specs.Working.{is_sending, ready_messages}
 use Rattle.fair_rates.proofs.Subjects.{peer_sym}
 use Rattle.link_simulation.proofs.Sorted.{by_bool, and_left, and_right, and_both, is_eq_equal}
 use Rattle.link_simulation.proofs.Zips.{zip_weaker}
-use Rattle.link_simulation.proofs.World.Queue.{pair_like, pair_sym, peer_like}
-use Rattle.link_scheduler.proofs.DueCounts.{how_many, none_many, same_many, never_many, filter_many, permuted_many, zipped_many, is_rising, of_key, rising_sorted, rising_same}
+use Rattle.link_simulation.proofs.World.Queue.{pair_like, pair_sym}
+use Rattle.link_scheduler.proofs.DueCounts.{how_many, same_many, never_many, filter_many, permuted_many, zipped_many, is_rising, of_key, rising_sorted, rising_same}
 use Rattle.link_scheduler.proofs.Idle.{idle_total, same_moment}
-use Rattle.link_scheduler.proofs.IdleLooks.{moment_is, is_its_moment, may_from}
+use Rattle.link_scheduler.proofs.IdleLooks.{moment_is, may_from}
 use Rattle.link_scheduler.proofs.IdlePlaces.{none_again}
 use Rattle.link_scheduler.proofs.Pairs.{pair_total, is_eq-then}
 

@@ -1,10 +1,10 @@
 -- Idle pairs in the order of moments, and what of them is listed after a change.
-use Rattle.std.proofs.Common.{◌≡◌, ℕ, ◌<◌, ◌≤◌, Bool, true, false, not, ◌&&◌, if◌then◌else◌, List, [], ◌∷◌, length, map, Option, Some, None, refl, sym, ◌∙◌, ap, subst, arith}
+use Rattle.std.proofs.Common.{◌≡◌, ℕ, ◌<◌, ◌≤◌, Bool, true, false, ◌&&◌, if◌then◌else◌, List, ◌∷◌, length, map, slice_get, Option, Some, None, refl, sym, ◌∙◌, ap, arith}
 use Rattle.std.specs.Prelude.{◌==◌, nat_lt}
 use Rattle.std.specs.List.{insert, remove}
 use Rattle.std.specs.declared.cmp.Ordering.{Ordering}
-use Rattle.std.specs.declared.cmp.Ordering.TheVariants.{Less, Equal, Greater}
-use Rattle.std.specs.Ordering.{is_lt, is_eq, is_gt, nat_cmp, ordering_then}
+use Rattle.std.specs.declared.cmp.Ordering.TheVariants.{Equal, Greater}
+use Rattle.std.specs.Ordering.{is_lt, is_eq, nat_cmp, ordering_then}
 use Rattle.std.specs.Cmp.{IsTotalOrder, ranks}
 use Rattle.std.proofs.lemmas.Bool.{eqb-true, eq-eqb, ltb-true, ltb-false}
 use Rattle.std.proofs.lemmas.Cmp.{on_total, then_total, nat_cmp_total, by_ranked, tied_itself}
@@ -14,9 +14,9 @@ use Rattle.link_scheduler.specs.Idle.{idle_cmp, idle_key, is_listed}
 use Rattle.link_scheduler.specs.Pairs.{pair_cmp}
 use Rattle.link_scheduler.specs.Starts.{is_moment}
 use Rattle.link_simulation.specs.Sorted.{are_ascending, IsPlace, IsGap}
-use Rattle.link_simulation.proofs.Sorted.{by_bool, and_left, and_right, and_both, is_eq_equal, value_respects, value_insert_at, ascending_insert_at}
+use Rattle.link_simulation.proofs.Sorted.{by_bool, and_both, is_eq_equal, value_respects, value_insert_at, ascending_insert_at}
 use Rattle.shared_list.specs.Places.{are_parted, IsParting}
-use Rattle.link_scheduler.proofs.IdlePlaces.{parted, place_of, gap_of, place_within, ascending_remove_at, in_removed, none_below}
+use Rattle.link_scheduler.proofs.IdlePlaces.{has_key, found_is, parted, place_of, gap_of, place_within, ascending_remove_at, in_removed, none_below}
 use Rattle.link_scheduler.proofs.Pairs.{pair_total, is_eq-then}
 
 -- moments and pairs are ordered totally
@@ -73,6 +73,9 @@ module _ {P : Type 0} (cmp : P → P → Ordering) where
       gap_listed : is_listed cmp es t o r ≡ false → IsGap (idle_cmp cmp) idle_key es (t, (o, r)) at
       gap_listed listed = gap_of (idle_cmp cmp) (idle_total cmp total) idle_key es (t, (o, r)) at ascending parting listed
 
+      pub has_listed : has_key (idle_cmp cmp) (idle_total cmp total) idle_key (slice_get es at) (t, (o, r)) ≡ is_listed cmp es t o r
+      has_listed = found_is (idle_cmp cmp) (idle_total cmp total) idle_key es (t, (o, r)) at ascending parting
+
       pub take_within : is_listed cmp es t o r ≡ true → at < length es
       take_within listed = place_within (idle_cmp cmp) (idle_total cmp total) idle_key es (t, (o, r)) at (place_listed listed)
 
@@ -89,6 +92,12 @@ module _ {P : Type 0} (cmp : P → P → Ordering) where
           → is_listed cmp (insert es at (record { moment = t; origin = c; recipient = d })) s a b ≡ (if is_eq (idle_cmp cmp (t, (o, r)) (s, (a, b))) then true else is_listed cmp es s a b)
       put_listed listed c d first second s a b =
           value_insert_at (idle_cmp cmp) (idle_total cmp total) idle_key (λ (e : IdlePair P). true) false es (t, (o, r)) at (gap_listed listed) (record { moment = t; origin = c; recipient = d }) (same_key t c d o r first second) (s, (a, b))
+
+    -- a pair that is listed is so still
+    pub listed_again : (es : List (IdlePair P)) (t : ℕ) (o r : P) → is_listed cmp es t o r ≡ true → (s : ℕ) (a b : P) → is_listed cmp es s a b ≡ (if is_eq (idle_cmp cmp (t, (o, r)) (s, (a, b))) then true else is_listed cmp es s a b)
+    listed_again es t o r listed s a b = by_bool (is_eq (idle_cmp cmp (t, (o, r)) (s, (a, b))))
+        (λ h. rw h (sym (value_respects (idle_cmp cmp) (idle_total cmp total) idle_key (λ (e : IdlePair P). true) false es (t, (o, r)) (s, (a, b)) (is_eq_equal _ h)) ∙ listed))
+        (λ h. rw h refl)
 
     -- ---- changes
 

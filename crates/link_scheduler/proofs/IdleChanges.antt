@@ -1,15 +1,13 @@
 -- The index of idle pairs after a change of the planned world.
-use Rattle.std.proofs.Common.{◌≡◌, ℕ, ◌+◌, Bool, true, false, not, ◌&&◌, ◌||◌, cond, if◌then◌else◌, List, [], ◌∷◌, ◌++◌, length, map, Option, Some, None, refl, sym, ◌∙◌, ap, subst}
+use Rattle.std.proofs.Common.{◌≡◌, ℕ, ◌+◌, Bool, true, false, not, ◌&&◌, ◌||◌, cond, if◌then◌else◌, List, [], ◌∷◌, ◌++◌, length, Option, Some, None, refl, sym, ◌∙◌, ap}
 use Rattle.std.specs.Prelude.{option_map}
 use Rattle.std.specs.List.{find, filter, list_any, AllZip}
 use Rattle.std.specs.declared.cmp.Ordering.{Ordering}
 use Rattle.std.specs.Cmp.{IsTotalOrder}
-use Rattle.std.proofs.lemmas.List.{map-append}
-use Rattle.std.proofs.lemmas.List.Folds.{list_any-append}
 use Rattle.link_scheduler.specs.declared.transmitter.idle.IdlePair.{IdlePair}
 use Rattle.fair_rates.specs.Amount.{whole}
 use Rattle.fair_rates.specs.Sides.{same_peer}
-use Rattle.link_simulation.specs.WorldMessages.{Message, PairsAlike, same_pair, pair_before}
+use Rattle.link_simulation.specs.WorldMessages.{Message, PairsAlike, pair_before}
 use Rattle.link_simulation.specs.World.{without_first, goes}
 use Rattle.link_simulation.specs.WorldEvents.{Accounts, Launches, nothing_waits, too_early, starts, launched, landed, with_queued}
 use Rattle.link_simulation.specs.WorldPlanned.{Planned, Paced, paced_flows, queued, drained_to, is_spent}

@@ -1,6 +1,6 @@
 -- When idle pairs may start, and the first moment at which one may.
-use Rattle.std.proofs.Common.{◌≡◌, ℕ, ◌+◌, ◌-◌, ◌≤◌, Bool, true, false, not, ◌&&◌, if◌then◌else◌, List, [], ◌∷◌, map, slice_get, Option, Some, None, IfSome, refl, sym, ◌∙◌, ap, subst, arith}
-use Rattle.std.specs.Prelude.{nat_le, max, ◌==◌, option_map}
+use Rattle.std.proofs.Common.{◌≡◌, ℕ, ◌≤◌, Bool, true, false, not, ◌&&◌, if◌then◌else◌, List, [], ◌∷◌, map, slice_get, Option, Some, None, IfSome, refl, sym, ◌∙◌, ap, subst, arith}
+use Rattle.std.specs.Prelude.{nat_le, max, option_map}
 use Rattle.std.specs.List.{find, list_any}
 use Rattle.std.specs.declared.cmp.Ordering.{Ordering}
 use Rattle.std.specs.Cmp.{IsTotalOrder}
@@ -12,12 +12,12 @@ use Rattle.link_simulation.specs.WorldMessages.{Message, PairsAlike, same_pair}
 use Rattle.link_simulation.specs.World.{last_moment}
 use Rattle.link_simulation.specs.WorldEvents.{Looks}
 use Rattle.link_simulation.specs.WorldPlanned.{Planned, paced_flows, IsLeastMoment, SomeReadyAt, next_of, may_launch}
-use Rattle.link_scheduler.specs.Idle.{idle_cmp, idle_key, is_listed, idle_from, IsIndexOf}
+use Rattle.link_scheduler.specs.Idle.{idle_cmp, idle_key, idle_from, IsIndexOf}
 use Rattle.link_scheduler.specs.Moments.{first_moment}
 use Rattle.link_scheduler.specs.Pairs.{first_of}
 use Rattle.link_scheduler.specs.Starts.{is_moment}
 use Rattle.link_scheduler.specs.Working.{is_sending, may_launch_first}
-use Rattle.link_simulation.proofs.Sorted.{by_bool, and_left, and_right, and_both}
+use Rattle.link_simulation.proofs.Sorted.{and_left, and_right, and_both}
 use Rattle.link_simulation.proofs.World.Queue.{find_passes, pair_like, any_like}
 use Rattle.link_scheduler.proofs.Idle.{first_listed, first_least}
 use Rattle.link_scheduler.proofs.Starting.{may_launch_is, of_pair, in_order_from}
@@ -59,8 +59,7 @@ module _ {P : Type 0} (cmp : P → P → Ordering) where
   pub launches_idle : (p : Planned P) (s : ℕ) (m : Message P) → next_of cmp p m ≡ Some m → may_launch cmp s p m ≡ true
       → (idle_from cmp p m.origin m.recipient ≡ Some (first_moment (p.last_arrival m.origin m.recipient) m.latency)) × (first_moment (p.last_arrival m.origin m.recipient) m.latency ≤ s)
   launches_idle p s m next may =
-      let sends : Bool = list_any (same_pair cmp m) (paced_flows p.sending) in
-      (
+      let sends : Bool = list_any (same_pair cmp m) (paced_flows p.sending) in (
         idle_is p m.origin m.recipient m (not_true sends (and_left (not sends) _ may)) next,
         leb-true _ s (sym (in_order_from (p.last_arrival m.origin m.recipient) m.latency s) ∙ and_right (not sends) _ may),
       )

@@ -1,5 +1,5 @@
 -- What a search for a place finds in an ascending list, and the list without an entry.
-use Rattle.std.proofs.Common.{◌≡◌, ℕ, Bool, true, false, not, ◌&&◌, if◌then◌else◌, List, [], ◌∷◌, ◌++◌, ◌<◌, length, map, refl, sym, ◌∙◌, ap, subst, arith, length-append}
+use Rattle.std.proofs.Common.{◌≡◌, ℕ, Bool, true, false, not, if◌then◌else◌, List, [], ◌∷◌, ◌++◌, ◌<◌, length, map, slice_get, Option, Some, None, refl, sym, ◌∙◌, ap, arith, length-append}
 use Rattle.std.specs.List.{list_all, insert, remove}
 use Rattle.std.specs.declared.cmp.Ordering.{Ordering}
 use Rattle.std.specs.declared.cmp.Ordering.TheVariants.{Less, Equal, Greater}
@@ -74,6 +74,30 @@ module _ {K : Type 0} (cmp : K → K → Ordering) (total : IsTotalOrder cmp) wh
     -- and where it has none, the gap for it
     pub gap_of : (es : List E) (k : K) (at : ℕ) → are_ascending cmp (map key es) ≡ true → IsParting (λ e. is_lt (cmp (key e) k)) es at → is_in es k ≡ false → IsGap cmp key es k at
     gap_of es k at ascending parting listed = by_parting es k at ascending parting (λ p. let found : is_in es k ≡ true = at_place cmp total key (λ e. true) false es k at p in cc) (λ g. g)
+
+    -- whether what stands there has the key
+    abbrev pub has_key : Option E → K → Bool
+    has_key None k = false
+    has_key (Some e) k = is_eq (cmp (key e) k)
+
+    -- the key has an entry where what is found has it
+    pub found_is : (es : List E) (k : K) (at : ℕ) → are_ascending cmp (map key es) ≡ true → IsParting (λ e. is_lt (cmp (key e) k)) es at → has_key (slice_get es at) k ≡ is_in es k
+    found_is es k at ascending parting = by_parting es k at ascending parting
+        (λ p. ap (λ o. has_key o k) (ap (λ l. slice_get l at) p.split ∙ ap (slice_get (p.before ++ p.entry ∷ p.after)) p.is_at ∙ seam p.before (p.entry ∷ p.after)) ∙ p.same ∙ sym (at_place cmp total key (λ e. true) false es k at p))
+        (λ g. ap (λ o. has_key o k) (ap (λ l. slice_get l at) g.split ∙ ap (slice_get (g.before ++ g.after)) g.is_at ∙ seam g.before g.after) ∙ first_above g.after g.above ∙ sym (at_gap cmp total key (λ e. true) false es k at g))
+      where
+        seam : (xs ys : List E) → slice_get (xs ++ ys) (length xs) ≡ slice_get ys 0
+        seam [] ys = refl
+        seam (x ∷ xs) ys = seam xs ys
+
+        gt_not_eq : (o : Ordering) → is_gt o ≡ true → is_eq o ≡ false
+        gt_not_eq Less h = cc
+        gt_not_eq Equal h = cc
+        gt_not_eq Greater h = refl
+
+        first_above : (ys : List E) → list_all (λ e. is_gt (cmp (key e) k)) ys ≡ true → has_key (slice_get ys 0) k ≡ false
+        first_above [] h = refl
+        first_above (y ∷ ys) h = gt_not_eq (cmp (key y) k) (and_left (is_gt (cmp (key y) k)) _ h)
 
     -- a key below the first one has no entry
     pub none_below : (e : E) (es : List E) (k : K) → are_ascending cmp (map key (e ∷ es)) ≡ true → cmp (key e) k ≡ Greater → is_in (e ∷ es) k ≡ false

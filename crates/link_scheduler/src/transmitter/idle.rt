@@ -11,6 +11,7 @@ use fair_rates::error::Error;
 use fair_rates::peer::Peer;
 use shared_list::{Seek, SharedList};
 use std::alloc::{AllocError, Global};
+use std::cmp::Ordering;
 
 /// An idle pair for which a message waits.
 #[derive(Drop)]
@@ -28,6 +29,19 @@ pub(crate) struct IdlePairs<P: Peer> {
     pub ghost ascending: { are_ascending (idle_cmp P.cmp) (map idle_key entries) ≡ true },
 }
 
+impl<P: Peer> IdlePair<P> {
+    /// How the pair stands to another under a moment: by moment, then by pair.
+    fn compare(&self, moment: u64, origin: &P, recipient: &P) -> Ordering
+        ensures { result ≡ idle_cmp P.cmp (idle_key self.now) (moment, (origin.now, recipient.now)) }
+    {
+        self.moment.cmp(&moment).then_with(|| {
+            self.origin
+                .cmp(origin)
+                .then_with(|| self.recipient.cmp(recipient))
+        })
+    }
+}
+
 /// The place of a pair under a moment.
 #[derive(Drop)]
 struct IdlePlace<'a, P> {
@@ -40,9 +54,7 @@ impl<'a, P: Peer> Seek<IdlePair<P>> for IdlePlace<'a, P> {
     ghost is_before = { λ sought pair. is_lt (idle_cmp P.cmp (idle_key pair) (sought.moment, (sought.origin.now, sought.recipient.now))) };
 
     fn is_before(&self, item: &IdlePair<P>) -> bool {
-        item.moment
-            .cmp(&self.moment)
-            .then_with(|| item.origin.cmp(self.origin).then_with(|| item.recipient.cmp(self.recipient)))
+        item.compare(self.moment, self.origin, self.recipient)
             .is_lt()
     }
 }
@@ -117,7 +129,11 @@ impl<P: Peer> IdlePairs<P> {
             ≡ (if is_eq (idle_cmp P.cmp (moment, (origin.now, recipient.now)) (t, (o, r))) then false else is_listed P.cmp self.old.entries t o r)) }
         ensures refused { IfErr result (λ e. e ≡ Error.OutOfMemory) }
     {
-        let at = self.entries.place(&IdlePlace { moment, origin, recipient });
+        let at = self.entries.place(&IdlePlace {
+            moment,
+            origin,
+            recipient,
+        });
         self.entries.remove(at)?;
         Ok(())
     }
@@ -129,7 +145,11 @@ impl<P: Peer> IdlePairs<P> {
             ≡ (if is_eq (idle_cmp P.cmp (moment, (origin.now, recipient.now)) (t, (o, r))) then true else is_listed P.cmp self.old.entries t o r)) }
         ensures refused { IfErr result (λ e. e ≡ Error.OutOfMemory) }
     {
-        let at = self.entries.place(&IdlePlace { moment, origin, recipient });
+        let at = self.entries.place(&IdlePlace {
+            moment,
+            origin,
+            recipient,
+        });
         let pair = IdlePair {
             moment,
             origin: origin.clone_peer().ok_or(Error::OutOfMemory)?,
@@ -137,6 +157,39 @@ impl<P: Peer> IdlePairs<P> {
         };
         self.entries.insert(alloc, at, pair)?;
         Ok(())
+    }
+
+    /// Whether the pair is listed under that moment.
+    fn has(&self, moment: u64, origin: &P, recipient: &P) -> bool
+        ensures { result ≡ is_listed P.cmp self.now.entries moment origin.now recipient.now }
+    {
+        let at = self.entries.place(&IdlePlace {
+            moment,
+            origin,
+            recipient,
+        });
+        match self.entries.get(at) {
+            None => false,
+            Some(pair) => pair.compare(moment, origin, recipient).is_eq(),
+        }
+    }
+
+    /// The pair is listed under that moment from now on, if it was not before.
+    pub(crate) fn add(
+        &mut self,
+        alloc: Global,
+        origin: &P,
+        recipient: &P,
+        moment: u64,
+    ) -> Result<(), Error>
+        ensures listed { OnOk result ((t : ℕ) (o r : P) → is_listed P.cmp self.new.entries t o r
+            ≡ (if is_eq (idle_cmp P.cmp (moment, (origin.now, recipient.now)) (t, (o, r))) then true else is_listed P.cmp self.old.entries t o r)) }
+        ensures refused { IfErr result (λ e. e ≡ Error.OutOfMemory) }
+    {
+        if self.has(moment, origin, recipient) {
+            return Ok(());
+        }
+        self.put(alloc, moment, origin, recipient)
     }
 
     /// The pair, which is listed under the old moment alone, is listed under the new one alone.

@@ -1,4 +1,4 @@
-use Rattle.std.proofs.Common.{◌≡◌, None, Some, ap, sym, ◌∙◌, subst, Option, ℕ, rules}
+use Rattle.std.proofs.Common.{◌≡◌, None, ap, sym, ◌∙◌, subst, Option, ℕ, rules}
 use Rattle.link_scheduler.specs.Starts.{is_moment}
 use Rattle.link_scheduler.proofs.Idle.{IsChanged, stays, taken, put}
 use Rattle.link_scheduler.proofs.transmitter.idle.IdlePairs.change.Goals as goal

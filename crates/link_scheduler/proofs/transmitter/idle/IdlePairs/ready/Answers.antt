@@ -1,4 +1,4 @@
-use Rattle.std.proofs.Common.{◌≡◌, rules}
+use Rattle.std.proofs.Common.{rules}
 use Rattle.std.specs.Ordering.{is_lt}
 use Rattle.link_scheduler.specs.declared.transmitter.look.Key.{Key}
 use Rattle.link_scheduler.specs.Pairs.{pair_cmp}
