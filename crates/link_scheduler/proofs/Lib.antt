@@ -5,8 +5,15 @@ pub mod Calling
 pub mod CapCalls
 pub mod CopiedFlights
 pub mod Copies
+pub mod Due
+pub mod DueCounts
+pub mod DueMessages
 pub mod Fairness
 pub mod Finishing
+pub mod Idle
+pub mod IdleChanges
+pub mod IdleLooks
+pub mod IdlePlaces
 pub mod InFlight
 pub mod InPlace
 pub mod Lightening

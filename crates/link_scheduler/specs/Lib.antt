@@ -1,5 +1,7 @@
+pub mod Due
 pub mod Events
 pub mod Flights
+pub mod Idle
 pub mod InFlight
 pub mod Keys
 pub mod Message

@@ -1,0 +1,175 @@
+-- The index of idle pairs after a change of the planned world.
+use Rattle.std.proofs.Common.{◌≡◌, ℕ, ◌+◌, Bool, true, false, not, ◌&&◌, ◌||◌, cond, if◌then◌else◌, List, [], ◌∷◌, ◌++◌, length, Option, Some, None, refl, sym, ◌∙◌, ap}
+use Rattle.std.specs.Prelude.{option_map}
+use Rattle.std.specs.List.{find, filter, list_any, AllZip}
+use Rattle.std.specs.declared.cmp.Ordering.{Ordering}
+use Rattle.std.specs.Cmp.{IsTotalOrder}
+use Rattle.link_scheduler.specs.declared.transmitter.idle.IdlePair.{IdlePair}
+use Rattle.fair_rates.specs.Amount.{whole}
+use Rattle.fair_rates.specs.Sides.{same_peer}
+use Rattle.link_simulation.specs.WorldMessages.{Message, PairsAlike, pair_before}
+use Rattle.link_simulation.specs.World.{without_first, goes}
+use Rattle.link_simulation.specs.WorldEvents.{Accounts, Launches, nothing_waits, too_early, starts, launched, landed, with_queued}
+use Rattle.link_simulation.specs.WorldPlanned.{Planned, Paced, paced_flows, queued, drained_to, is_spent}
+use Rattle.link_scheduler.specs.Idle.{is_listed, idle_from, IsIndexOf}
+use Rattle.link_scheduler.specs.Moments.{first_moment}
+use Rattle.link_scheduler.specs.Pairs.{first_of, raised_at}
+use Rattle.link_scheduler.specs.Starts.{is_moment}
+use Rattle.link_scheduler.specs.Working.{is_sending}
+use Rattle.link_simulation.proofs.Sorted.{by_bool, and_left, and_right, and_both}
+use Rattle.link_simulation.proofs.World.Queue.{find_passes, pair_like, pair_sym}
+use Rattle.fair_rates.proofs.Fairness.Subjects.{same_peer_itself}
+use Rattle.link_scheduler.proofs.Idle.{same_two}
+use Rattle.link_scheduler.proofs.IdleLooks.{idle_respects}
+
+neither : (c d : Bool) → (c || d) ≡ false → (c ≡ false) × (d ≡ false)
+neither true d h = let no : true ≡ false = h in cc
+neither false d h = (refl, h)
+
+or_true : (c : Bool) → (c || true) ≡ true
+or_true true = refl
+or_true false = refl
+
+module _ {P : Type 0} (cmp : P → P → Ordering) where
+  -- two planned worlds that agree on a pair
+  pub alike_from : (p q : Planned P) (a b : P) → is_sending cmp q a b ≡ is_sending cmp p a b → first_of cmp q.waiting a b ≡ first_of cmp p.waiting a b → q.last_arrival a b ≡ p.last_arrival a b → idle_from cmp q a b ≡ idle_from cmp p a b
+  alike_from p q a b sends first last i = if sends i then None else option_map (λ (m : Message P). first_moment (last i) m.latency) (first i)
+
+  -- no earlier arrival of one pair: the others are as they were
+  pub raised_else : (p : Planned P) (o r : P) (at : ℕ) (a b : P) → same_two cmp o r a b ≡ false → idle_from cmp (record p { last_arrival = raised_at cmp p.last_arrival o r at }) a b ≡ idle_from cmp p a b
+  raised_else p o r at a b apart = alike_from p (record p { last_arrival = raised_at cmp p.last_arrival o r at }) a b refl refl (rw apart refl)
+
+  pub landed_else : (p : Planned P) (t : ℕ) (m : Message P) (a b : P) → same_two cmp m.origin m.recipient a b ≡ false → idle_from cmp (landed cmp t p m) a b ≡ idle_from cmp p a b
+  landed_else p t m a b apart = alike_from p (landed cmp t p m) a b refl refl (rw apart refl)
+
+  module _ (order : IsTotalOrder cmp) where
+    -- ---- from one world to another
+
+    -- where one pair alone may start from another moment on, the index in which that pair is changed is that of the new world
+    pub follows : (p q : Planned P) (o r : P) (old new : List (IdlePair P)) → PairsAlike cmp q.last_arrival q.last_arrival → ((a b : P) → same_two cmp o r a b ≡ false → idle_from cmp q a b ≡ idle_from cmp p a b) → IsIndexOf cmp p old
+        → ((t : ℕ) (a b : P) → is_listed cmp new t a b ≡ (if same_peer cmp o a && same_peer cmp r b then is_moment t (idle_from cmp q o r) else is_listed cmp old t a b)) → IsIndexOf cmp q new
+    follows p q o r old new alike others index changed t a b = changed t a b ∙ by_bool (same_two cmp o r a b)
+        (λ h. rw h (ap (is_moment t) (idle_respects cmp order q alike o r a b (and_left (same_peer cmp o a) _ h) (and_right (same_peer cmp o a) _ h))))
+        (λ h. rw h (index t a b ∙ ap (is_moment t) (sym (others a b h))))
+
+    -- where no pair may start from another moment on, the index stays
+    pub stays_index : (p q : Planned P) (es : List (IdlePair P)) → ((a b : P) → idle_from cmp q a b ≡ idle_from cmp p a b) → IsIndexOf cmp p es → IsIndexOf cmp q es
+    stays_index p q es same index t a b = index t a b ∙ ap (is_moment t) (sym (same a b))
+
+    -- ---- messages of one pair, and those of another
+
+    module _ (o r a b : P) (apart : same_two cmp o r a b ≡ false) where
+      abbrev of_one : Message P → Bool
+      of_one n = same_peer cmp o n.origin && same_peer cmp r n.recipient
+
+      abbrev of_other : Message P → Bool
+      of_other n = same_peer cmp a n.origin && same_peer cmp b n.recipient
+
+      -- what is of the one is not of the other
+      not_other : (n : Message P) → of_one n ≡ true → of_other n ≡ false
+      not_other n is =
+          let k : Message P = record n { origin = o; recipient = r } in
+          let l : Message P = record n { origin = a; recipient = b } in
+          pair_sym cmp order l n ∙ pair_like cmp order k n l is ∙ apart
+
+      first_without : (ns : List (Message P)) → find of_other (without_first of_one ns) ≡ find of_other ns
+      first_without [] = refl
+      first_without (n ∷ ns) = by_bool (of_one n)
+          (λ h. rw h (sym (ap (λ c. cond c (Some n) (find of_other ns)) (not_other n h))))
+          (λ h. rw h (ap (λ f. cond (of_other n) (Some n) f) (first_without ns)))
+
+      first_queued : (m : Message P) → of_one m ≡ true → (ns : List (Message P)) → find of_other (queued cmp m ns) ≡ find of_other ns
+      first_queued m is [] = ap (λ c. cond c (Some m) None) (not_other m is)
+      first_queued m is (n ∷ ns) = by_bool (pair_before cmp m n)
+          (λ h. rw h (ap (λ c. cond c (Some m) (find of_other (n ∷ ns))) (not_other m is)))
+          (λ h. rw h (ap (λ f. cond (of_other n) (Some n) f) (first_queued m is ns)))
+
+      sends_more : (fs : List (Paced P)) (f : Paced P) → of_one f.message ≡ true → list_any of_other (paced_flows (fs ++ f ∷ [])) ≡ list_any of_other (paced_flows fs)
+      sends_more [] f is = ap (λ c. c || false) (not_other f.message is)
+      sends_more (g ∷ fs) f is = ap (λ c. of_other g.message || c) (sends_more fs f is)
+
+      -- the first message of a pair starts: the other pairs are as they were
+      pub pushed_else : (p : Planned P) (f : Paced P) (id : ℕ) → same_two cmp o r f.message.origin f.message.recipient ≡ true
+          → idle_from cmp (record p { sending = p.sending ++ f ∷ []; waiting = without_first (λ (n : Message P). same_peer cmp o n.origin && same_peer cmp r n.recipient) p.waiting; next_id = id }) a b ≡ idle_from cmp p a b
+      pushed_else p f id is = alike_from p (record p { sending = p.sending ++ f ∷ []; waiting = without_first (λ (n : Message P). same_peer cmp o n.origin && same_peer cmp r n.recipient) p.waiting; next_id = id }) a b (sends_more p.sending f is) (first_without p.waiting) refl
+
+      -- a message of a pair joins those that wait: the other pairs are as they were
+      pub queued_else : (p : Planned P) (m : Message P) → same_two cmp o r m.origin m.recipient ≡ true → idle_from cmp (with_queued cmp p m) a b ≡ idle_from cmp p a b
+      queued_else p m is = alike_from p (with_queued cmp p m) a b refl (first_queued m is p.waiting) refl
+
+  -- ---- an account
+
+  module _ (u : Message P → Bool) where
+    -- nothing that left is of the pair, so it is what stays that is
+    left_else : (spent : Paced P → Bool) (fs : List (Paced P)) → list_any u (paced_flows (filter spent fs)) ≡ false → list_any u (paced_flows (filter (λ f. not (spent f)) fs)) ≡ list_any u (paced_flows fs)
+    left_else spent [] none = refl
+    left_else spent (f ∷ fs) none = by_test (spent f) refl none (left_else spent fs)
+      where
+        by_test : (c : Bool) → spent f ≡ c → list_any u (paced_flows (cond c (f ∷ filter spent fs) (filter spent fs))) ≡ false → (list_any u (paced_flows (filter spent fs)) ≡ false → list_any u (paced_flows (filter (λ g. not (spent g)) fs)) ≡ list_any u (paced_flows fs))
+            → list_any u (paced_flows (cond (not (spent f)) (f ∷ filter (λ g. not (spent g)) fs) (filter (λ g. not (spent g)) fs))) ≡ (u f.message || list_any u (paced_flows fs))
+        by_test true is none ih =
+            let parts : (u f.message ≡ false) × (list_any u (paced_flows (filter spent fs)) ≡ false) = neither (u f.message) (list_any u (paced_flows (filter spent fs))) none in
+            rw (is, parts.0) (ih parts.1)
+        by_test false is none ih = rw is (ap (λ c. u f.message || c) (ih none))
+
+    drained_else : (t : ℕ) (fs : List (Paced P)) → list_any u (paced_flows (drained_to t fs)) ≡ list_any u (paced_flows fs)
+    drained_else t [] = refl
+    drained_else t (f ∷ fs) = ap (λ c. u f.message || c) (drained_else t fs)
+
+    stayed_else : (t : ℕ) (fs gs : List (Paced P)) → AllZip (λ f g. (g.message ≡ f.message) × (g.left ≡ f.left) × (g.updated ≡ t)) fs gs → list_any u (paced_flows gs) ≡ list_any u (paced_flows fs)
+    stayed_else t [] [] zip = refl
+    stayed_else t [] (g ∷ gs) zip = absurd zip
+    stayed_else t (f ∷ fs) [] zip = absurd zip
+    stayed_else t (f ∷ fs) (g ∷ gs) zip = rw (zip.0.0, stayed_else t fs gs zip.1) refl
+
+    -- what left was in flight
+    left_in_flight : (spent : Paced P → Bool) (fs : List (Paced P)) → list_any u (paced_flows (filter spent fs)) ≡ true → list_any u (paced_flows fs) ≡ true
+    left_in_flight spent [] some = some
+    left_in_flight spent (f ∷ fs) some = by_test (spent f) some (left_in_flight spent fs)
+      where
+        by_test : (c : Bool) → list_any u (paced_flows (cond c (f ∷ filter spent fs) (filter spent fs))) ≡ true → (list_any u (paced_flows (filter spent fs)) ≡ true → list_any u (paced_flows fs) ≡ true) → (u f.message || list_any u (paced_flows fs)) ≡ true
+        by_test true some ih = either_true (u f.message) some ih
+          where
+            either_true : (c : Bool) → (c || list_any u (paced_flows (filter spent fs))) ≡ true → (list_any u (paced_flows (filter spent fs)) ≡ true → list_any u (paced_flows fs) ≡ true) → (c || list_any u (paced_flows fs)) ≡ true
+            either_true true h on = refl
+            either_true false h on = on h
+        by_test false some ih = rw (ih some) (or_true (u f.message))
+
+  -- whether a message is of the pair
+  abbrev pub is_of : P → P → Message P → Bool
+  is_of a b m = same_peer cmp a m.origin && same_peer cmp b m.recipient
+
+  -- the pairs of which nothing left are as they were
+  pub accounts_else : (t : ℕ) (p q : Planned P) (leavers : List (Message P)) → Accounts cmp t p leavers q → (a b : P) → list_any (is_of a b) leavers ≡ false → idle_from cmp q a b ≡ idle_from cmp p a b
+  accounts_else t p q leavers accounts a b none = alike_from p q a b
+      (stayed_else (is_of a b) t (filter (λ f. not (is_spent cmp p.caps f)) (drained_to t p.sending)) q.sending accounts.stayed
+      ∙ left_else (is_of a b) (is_spent cmp p.caps) (drained_to t p.sending) (ap (list_any (is_of a b)) (sym accounts.left) ∙ none) ∙ drained_else (is_of a b) t p.sending)
+      (ap (λ (w : Planned P). first_of cmp w.waiting a b) accounts.same)
+      (ap (λ (w : Planned P). w.last_arrival a b) accounts.same)
+
+  -- the pairs of which something left were not idle
+  pub leaver_busy : (t : ℕ) (p q : Planned P) (leavers : List (Message P)) → Accounts cmp t p leavers q → (a b : P) → list_any (is_of a b) leavers ≡ true → idle_from cmp p a b ≡ None
+  leaver_busy t p q leavers accounts a b some =
+      let busy : is_sending cmp p a b ≡ true = sym (drained_else (is_of a b) t p.sending) ∙ left_in_flight (is_of a b) (is_spent cmp p.caps) (drained_to t p.sending) (ap (list_any (is_of a b)) (sym accounts.left) ∙ some) in
+      ap (λ (c : Bool). if c then None else option_map (λ (m : Message P). first_moment (p.last_arrival a b) m.latency) (first_of cmp p.waiting a b)) busy
+
+  -- ---- a launch
+
+  module _ (order : IsTotalOrder cmp) where
+    pub launched_else : (t : ℕ) (p : Planned P) (m : Message P) (a b : P) → same_two cmp m.origin m.recipient a b ≡ false → idle_from cmp (launched cmp t p m) a b ≡ idle_from cmp p a b
+    launched_else t p m a b apart = pushed_else order m.origin m.recipient a b apart p (record { message = m; left = whole (length m.bytes); rate = Some (whole 0); updated = t }) (p.next_id + 1)
+        (and_both (same_peer cmp m.origin m.origin) (same_peer cmp m.recipient m.recipient) (same_peer_itself cmp order m.origin) (same_peer_itself cmp order m.recipient))
+
+    -- a pair's launch: the other pairs of which nothing left are as they were
+    pub launches_else : (t : ℕ) (p q : Planned P) (o r : P) (leavers : List (Message P)) → Launches cmp t p (first_of cmp p.waiting o r) (goes leavers q) → (a b : P) → same_two cmp o r a b ≡ false → list_any (is_of a b) leavers ≡ false
+        → idle_from cmp q a b ≡ idle_from cmp p a b
+    launches_else t p q o r leavers launches a b apart none = by_first (first_of cmp p.waiting o r) refl leavers q launches none
+      where
+        by_first : (first : Option (Message P)) → first_of cmp p.waiting o r ≡ first → (leavers : List (Message P)) (q : Planned P) → Launches cmp t p first (goes leavers q) → list_any (is_of a b) leavers ≡ false → idle_from cmp q a b ≡ idle_from cmp p a b
+        by_first None is leavers q nothing_waits none = refl
+        by_first (Some m) is leavers q (too_early early) none = refl
+        by_first (Some m) is leavers q (starts may id accounts) none =
+            let same : same_two cmp o r m.origin m.recipient ≡ true = find_passes (λ (n : Message P). same_peer cmp o n.origin && same_peer cmp r n.recipient) m p.waiting is in
+            let k : Message P = record m { origin = o; recipient = r } in
+            let other : same_two cmp m.origin m.recipient a b ≡ false = pair_like cmp order k m (record m { origin = a; recipient = b }) same ∙ apart in
+            accounts_else t (launched cmp t p m) q leavers accounts a b none ∙ launched_else t p m a b other
