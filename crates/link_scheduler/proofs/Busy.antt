@@ -4,7 +4,7 @@ use Rattle.std.specs.Prelude.{◌&&◌}
 use Rattle.std.specs.List.{list_any}
 use Rattle.std.specs.declared.cmp.Ordering.{Ordering}
 use Rattle.std.specs.Cmp.{IsTotalOrder}
-use Rattle.link_scheduler.specs.Working.{is_sending}
+use Rattle.link_scheduler.specs.AtRest.{is_sending}
 use Rattle.link_simulation.specs.World.{is_in_order, goes}
 use Rattle.link_simulation.specs.WorldMessages.{Message, same_pair}
 use Rattle.link_simulation.specs.WorldPlanned.{Planned, next_of, paced_flows}

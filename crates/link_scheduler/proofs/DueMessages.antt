@@ -20,7 +20,8 @@ use Rattle.link_scheduler.specs.Keys.{IsKeyOf}
 use Rattle.link_scheduler.specs.Moments.{first_moment}
 use Rattle.link_scheduler.specs.Pairs.{pair_cmp, first_of}
 use Rattle.link_scheduler.specs.Starts.{is_moment}
-use Rattle.link_scheduler.specs.Working.{is_sending, ready_messages}
+use Rattle.link_scheduler.specs.Working.{ready_messages}
+use Rattle.link_scheduler.specs.AtRest.{is_sending}
 use Rattle.fair_rates.proofs.Subjects.{peer_sym}
 use Rattle.link_simulation.proofs.Sorted.{by_bool, and_left, and_right, and_both, is_eq_equal}
 use Rattle.link_simulation.proofs.Zips.{zip_weaker}

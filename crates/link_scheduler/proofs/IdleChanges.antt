@@ -1,8 +1,9 @@
 -- The index of idle pairs after a change of the planned world.
-use Rattle.std.proofs.Common.{◌≡◌, ℕ, ◌+◌, Bool, true, false, not, ◌&&◌, ◌||◌, cond, if◌then◌else◌, List, [], ◌∷◌, ◌++◌, length, Option, Some, None, refl, sym, ◌∙◌, ap}
-use Rattle.std.specs.Prelude.{option_map}
+use Rattle.std.proofs.Common.{◌≡◌, ℕ, zero, suc, ◌+◌, ◌<◌, map, get_or, arith, Bool, true, false, not, ◌&&◌, ◌||◌, cond, if◌then◌else◌, List, [], ◌∷◌, ◌++◌, length, Option, Some, None, refl, sym, ◌∙◌, ap}
+use Rattle.std.specs.Prelude.{option_map, ◌==◌}
 use Rattle.std.specs.List.{find, filter, list_any, AllZip}
 use Rattle.std.specs.declared.cmp.Ordering.{Ordering}
+use Rattle.std.specs.Ordering.{is_eq}
 use Rattle.std.specs.Cmp.{IsTotalOrder}
 use Rattle.link_scheduler.specs.declared.transmitter.idle.IdlePair.{IdlePair}
 use Rattle.fair_rates.specs.Amount.{whole}
@@ -11,15 +12,15 @@ use Rattle.link_simulation.specs.WorldMessages.{Message, PairsAlike, pair_before
 use Rattle.link_simulation.specs.World.{without_first, goes}
 use Rattle.link_simulation.specs.WorldEvents.{Accounts, Launches, nothing_waits, too_early, starts, launched, landed, with_queued}
 use Rattle.link_simulation.specs.WorldPlanned.{Planned, Paced, paced_flows, queued, drained_to, is_spent}
-use Rattle.link_scheduler.specs.Idle.{is_listed, idle_from, IsIndexOf}
+use Rattle.link_scheduler.specs.Idle.{idle_cmp, is_listed, idle_from, IsIndexOf, is_of, AreAtRest}
 use Rattle.link_scheduler.specs.Moments.{first_moment}
 use Rattle.link_scheduler.specs.Pairs.{first_of, raised_at}
 use Rattle.link_scheduler.specs.Starts.{is_moment}
-use Rattle.link_scheduler.specs.Working.{is_sending}
+use Rattle.link_scheduler.specs.AtRest.{is_sending}
 use Rattle.link_simulation.proofs.Sorted.{by_bool, and_left, and_right, and_both}
 use Rattle.link_simulation.proofs.World.Queue.{find_passes, pair_like, pair_sym}
 use Rattle.fair_rates.proofs.Fairness.Subjects.{same_peer_itself}
-use Rattle.link_scheduler.proofs.Idle.{same_two}
+use Rattle.link_scheduler.proofs.Idle.{same_two, same_idle}
 use Rattle.link_scheduler.proofs.IdleLooks.{idle_respects}
 
 neither : (c d : Bool) → (c || d) ≡ false → (c ≡ false) × (d ≡ false)
@@ -101,7 +102,7 @@ module _ {P : Type 0} (cmp : P → P → Ordering) where
 
   module _ (u : Message P → Bool) where
     -- nothing that left is of the pair, so it is what stays that is
-    left_else : (spent : Paced P → Bool) (fs : List (Paced P)) → list_any u (paced_flows (filter spent fs)) ≡ false → list_any u (paced_flows (filter (λ f. not (spent f)) fs)) ≡ list_any u (paced_flows fs)
+    pub left_else : (spent : Paced P → Bool) (fs : List (Paced P)) → list_any u (paced_flows (filter spent fs)) ≡ false → list_any u (paced_flows (filter (λ f. not (spent f)) fs)) ≡ list_any u (paced_flows fs)
     left_else spent [] none = refl
     left_else spent (f ∷ fs) none = by_test (spent f) refl none (left_else spent fs)
       where
@@ -112,7 +113,7 @@ module _ {P : Type 0} (cmp : P → P → Ordering) where
             rw (is, parts.0) (ih parts.1)
         by_test false is none ih = rw is (ap (λ c. u f.message || c) (ih none))
 
-    drained_else : (t : ℕ) (fs : List (Paced P)) → list_any u (paced_flows (drained_to t fs)) ≡ list_any u (paced_flows fs)
+    pub drained_else : (t : ℕ) (fs : List (Paced P)) → list_any u (paced_flows (drained_to t fs)) ≡ list_any u (paced_flows fs)
     drained_else t [] = refl
     drained_else t (f ∷ fs) = ap (λ c. u f.message || c) (drained_else t fs)
 
@@ -123,7 +124,7 @@ module _ {P : Type 0} (cmp : P → P → Ordering) where
     stayed_else t (f ∷ fs) (g ∷ gs) zip = rw (zip.0.0, stayed_else t fs gs zip.1) refl
 
     -- what left was in flight
-    left_in_flight : (spent : Paced P → Bool) (fs : List (Paced P)) → list_any u (paced_flows (filter spent fs)) ≡ true → list_any u (paced_flows fs) ≡ true
+    pub left_in_flight : (spent : Paced P → Bool) (fs : List (Paced P)) → list_any u (paced_flows (filter spent fs)) ≡ true → list_any u (paced_flows fs) ≡ true
     left_in_flight spent [] some = some
     left_in_flight spent (f ∷ fs) some = by_test (spent f) some (left_in_flight spent fs)
       where
@@ -135,22 +136,18 @@ module _ {P : Type 0} (cmp : P → P → Ordering) where
             either_true false h on = on h
         by_test false some ih = rw (ih some) (or_true (u f.message))
 
-  -- whether a message is of the pair
-  abbrev pub is_of : P → P → Message P → Bool
-  is_of a b m = same_peer cmp a m.origin && same_peer cmp b m.recipient
-
   -- the pairs of which nothing left are as they were
-  pub accounts_else : (t : ℕ) (p q : Planned P) (leavers : List (Message P)) → Accounts cmp t p leavers q → (a b : P) → list_any (is_of a b) leavers ≡ false → idle_from cmp q a b ≡ idle_from cmp p a b
+  pub accounts_else : (t : ℕ) (p q : Planned P) (leavers : List (Message P)) → Accounts cmp t p leavers q → (a b : P) → list_any (is_of cmp a b) leavers ≡ false → idle_from cmp q a b ≡ idle_from cmp p a b
   accounts_else t p q leavers accounts a b none = alike_from p q a b
-      (stayed_else (is_of a b) t (filter (λ f. not (is_spent cmp p.caps f)) (drained_to t p.sending)) q.sending accounts.stayed
-      ∙ left_else (is_of a b) (is_spent cmp p.caps) (drained_to t p.sending) (ap (list_any (is_of a b)) (sym accounts.left) ∙ none) ∙ drained_else (is_of a b) t p.sending)
+      (stayed_else (is_of cmp a b) t (filter (λ f. not (is_spent cmp p.caps f)) (drained_to t p.sending)) q.sending accounts.stayed
+      ∙ left_else (is_of cmp a b) (is_spent cmp p.caps) (drained_to t p.sending) (ap (list_any (is_of cmp a b)) (sym accounts.left) ∙ none) ∙ drained_else (is_of cmp a b) t p.sending)
       (ap (λ (w : Planned P). first_of cmp w.waiting a b) accounts.same)
       (ap (λ (w : Planned P). w.last_arrival a b) accounts.same)
 
   -- the pairs of which something left were not idle
-  pub leaver_busy : (t : ℕ) (p q : Planned P) (leavers : List (Message P)) → Accounts cmp t p leavers q → (a b : P) → list_any (is_of a b) leavers ≡ true → idle_from cmp p a b ≡ None
+  pub leaver_busy : (t : ℕ) (p q : Planned P) (leavers : List (Message P)) → Accounts cmp t p leavers q → (a b : P) → list_any (is_of cmp a b) leavers ≡ true → idle_from cmp p a b ≡ None
   leaver_busy t p q leavers accounts a b some =
-      let busy : is_sending cmp p a b ≡ true = sym (drained_else (is_of a b) t p.sending) ∙ left_in_flight (is_of a b) (is_spent cmp p.caps) (drained_to t p.sending) (ap (list_any (is_of a b)) (sym accounts.left) ∙ some) in
+      let busy : is_sending cmp p a b ≡ true = sym (drained_else (is_of cmp a b) t p.sending) ∙ left_in_flight (is_of cmp a b) (is_spent cmp p.caps) (drained_to t p.sending) (ap (list_any (is_of cmp a b)) (sym accounts.left) ∙ some) in
       ap (λ (c : Bool). if c then None else option_map (λ (m : Message P). first_moment (p.last_arrival a b) m.latency) (first_of cmp p.waiting a b)) busy
 
   -- ---- a launch
@@ -161,11 +158,11 @@ module _ {P : Type 0} (cmp : P → P → Ordering) where
         (and_both (same_peer cmp m.origin m.origin) (same_peer cmp m.recipient m.recipient) (same_peer_itself cmp order m.origin) (same_peer_itself cmp order m.recipient))
 
     -- a pair's launch: the other pairs of which nothing left are as they were
-    pub launches_else : (t : ℕ) (p q : Planned P) (o r : P) (leavers : List (Message P)) → Launches cmp t p (first_of cmp p.waiting o r) (goes leavers q) → (a b : P) → same_two cmp o r a b ≡ false → list_any (is_of a b) leavers ≡ false
+    pub launches_else : (t : ℕ) (p q : Planned P) (o r : P) (leavers : List (Message P)) → Launches cmp t p (first_of cmp p.waiting o r) (goes leavers q) → (a b : P) → same_two cmp o r a b ≡ false → list_any (is_of cmp a b) leavers ≡ false
         → idle_from cmp q a b ≡ idle_from cmp p a b
     launches_else t p q o r leavers launches a b apart none = by_first (first_of cmp p.waiting o r) refl leavers q launches none
       where
-        by_first : (first : Option (Message P)) → first_of cmp p.waiting o r ≡ first → (leavers : List (Message P)) (q : Planned P) → Launches cmp t p first (goes leavers q) → list_any (is_of a b) leavers ≡ false → idle_from cmp q a b ≡ idle_from cmp p a b
+        by_first : (first : Option (Message P)) → first_of cmp p.waiting o r ≡ first → (leavers : List (Message P)) (q : Planned P) → Launches cmp t p first (goes leavers q) → list_any (is_of cmp a b) leavers ≡ false → idle_from cmp q a b ≡ idle_from cmp p a b
         by_first None is leavers q nothing_waits none = refl
         by_first (Some m) is leavers q (too_early early) none = refl
         by_first (Some m) is leavers q (starts may id accounts) none =
@@ -173,3 +170,84 @@ module _ {P : Type 0} (cmp : P → P → Ordering) where
             let k : Message P = record m { origin = o; recipient = r } in
             let other : same_two cmp m.origin m.recipient a b ≡ false = pair_like cmp order k m (record m { origin = a; recipient = b }) same ∙ apart in
             accounts_else t (launched cmp t p m) q leavers accounts a b none ∙ launched_else t p m a b other
+
+-- ---- the pairs of what left are at rest
+
+either : (c d : Bool) → c ≡ true → (c || d) ≡ true
+either c d h = rw h refl
+
+or_else : (c d : Bool) → c ≡ false → (d || c) ≡ d
+or_else c true h = refl
+or_else c false h = h
+
+and_false : (c : Bool) → (c && false) ≡ false
+and_false true = refl
+and_false false = refl
+
+any_more : {X : Type 0} (u : X → Bool) (xs : List X) (x : X) → list_any u (xs ++ x ∷ []) ≡ (list_any u xs || u x)
+any_more u [] x = or_else false (u x) refl
+any_more u (y ∷ xs) x = ap (λ c. u y || c) (any_more u xs x) ∙ sym (or_assoc (u y) (list_any u xs) (u x))
+  where
+    or_assoc : (a b c : Bool) → ((a || b) || c) ≡ (a || (b || c))
+    or_assoc true b c = refl
+    or_assoc false b c = refl
+
+module _ {P : Type 0} (cmp : P → P → Ordering) (order : IsTotalOrder cmp) (q : Planned P) (alike : PairsAlike cmp q.last_arrival q.last_arrival) (old : List (IdlePair P)) where
+  pub rests_first : AreAtRest cmp q [] old old
+  rests_first t a b = refl
+
+  module _ (done : List (Message P)) (m : Message P) (es : List (IdlePair P)) (so : AreAtRest cmp q done old es)
+      (busy : (t : ℕ) (a b : P) → is_of cmp a b m ≡ true → is_listed cmp old t a b ≡ false) where
+    -- what the rest says of the pair of the message
+    own : (t : ℕ) (a b : P) → is_of cmp a b m ≡ true → idle_from cmp q a b ≡ idle_from cmp q m.origin m.recipient
+    own t a b h = idle_respects cmp order q alike a b m.origin m.recipient (and_left (same_peer cmp a m.origin) _ h) (and_right (same_peer cmp a m.origin) _ h)
+
+    -- before, it is listed under its moment or not at all
+    listed_so : (t : ℕ) (a b : P) → is_of cmp a b m ≡ true → is_moment t (idle_from cmp q m.origin m.recipient) ≡ false → is_listed cmp es t a b ≡ false
+    listed_so t a b h other = so t a b ∙ by_bool (list_any (is_of cmp a b) done) (λ k. rw k (ap (is_moment t) (own t a b h) ∙ other)) (λ k. rw k (busy t a b h))
+
+    more_true : (a b : P) → is_of cmp a b m ≡ true → list_any (is_of cmp a b) (done ++ m ∷ []) ≡ true
+    more_true a b h = any_more (is_of cmp a b) done m ∙ rw h (or_true (list_any (is_of cmp a b) done))
+
+    more_false : (a b : P) → is_of cmp a b m ≡ false → list_any (is_of cmp a b) (done ++ m ∷ []) ≡ list_any (is_of cmp a b) done
+    more_false a b h = any_more (is_of cmp a b) done m ∙ or_else (is_of cmp a b m) (list_any (is_of cmp a b) done) h
+
+    pub rests_none : idle_from cmp q m.origin m.recipient ≡ None → AreAtRest cmp q (done ++ m ∷ []) old es
+    rests_none none t a b = by_bool (is_of cmp a b m)
+        (λ h. rw (more_true a b h) (listed_so t a b h (ap (is_moment t) none) ∙ sym (ap (is_moment t) (own t a b h ∙ none))))
+        (λ h. rw (more_false a b h) (so t a b))
+
+    pub rests_more : (k : ℕ) (new : List (IdlePair P)) → idle_from cmp q m.origin m.recipient ≡ Some k
+        → ((t : ℕ) (a b : P) → is_listed cmp new t a b ≡ (if is_eq (idle_cmp cmp (k, (m.origin, m.recipient)) (t, (a, b))) then true else is_listed cmp es t a b)) → AreAtRest cmp q (done ++ m ∷ []) old new
+    rests_more k new is added t a b = by_bool (is_of cmp a b m) (λ h. rw (more_true a b h) (here h)) (λ h. rw (more_false a b h) (there h))
+      where
+        test : is_eq (idle_cmp cmp (k, (m.origin, m.recipient)) (t, (a, b))) ≡ ((k == t) && is_of cmp a b m)
+        test = same_idle cmp k t m.origin m.recipient a b ∙ ap (λ c. (k == t) && c) (turned a b)
+          where
+            turned : (a b : P) → same_two cmp m.origin m.recipient a b ≡ is_of cmp a b m
+            turned a b = pair_sym cmp order m (record m { origin = a; recipient = b })
+
+        here : is_of cmp a b m ≡ true → is_listed cmp new t a b ≡ is_moment t (idle_from cmp q a b)
+        here h =
+            let moment : is_moment t (idle_from cmp q a b) ≡ (k == t) = ap (is_moment t) (own t a b h ∙ is) in
+            added t a b ∙ ap (λ c. if c then true else is_listed cmp es t a b) (test ∙ ap (λ c. (k == t) && c) h) ∙ by_bool (k == t)
+            (λ same. rw same (sym (moment ∙ same)))
+            (λ other. rw other (listed_so t a b h (ap (is_moment t) is ∙ other) ∙ sym (moment ∙ other)))
+
+        there : is_of cmp a b m ≡ false → is_listed cmp new t a b ≡ (if list_any (is_of cmp a b) done then is_moment t (idle_from cmp q a b) else is_listed cmp old t a b)
+        there h =
+            let apart : is_eq (idle_cmp cmp (k, (m.origin, m.recipient)) (t, (a, b))) ≡ false = test ∙ ap (λ c. (k == t) && c) h ∙ and_false (k == t) in
+            added t a b ∙ ap (λ c. if c then true else is_listed cmp es t a b) apart ∙ so t a b
+
+  -- all that left is at rest, so the index is that of what stays
+  pub rests_index : (p : Planned P) (leavers : List (Message P)) (new : List (IdlePair P)) → ((a b : P) → list_any (is_of cmp a b) leavers ≡ false → idle_from cmp q a b ≡ idle_from cmp p a b)
+      → IsIndexOf cmp p old → AreAtRest cmp q leavers old new → IsIndexOf cmp q new
+  rests_index p leavers new others index rests t a b = rests t a b ∙ by_bool (list_any (is_of cmp a b) leavers)
+      (λ h. rw h refl)
+      (λ h. rw h (index t a b ∙ ap (is_moment t) (sym (others a b h))))
+
+-- what passes at a place passes somewhere
+pub any_at : {X Y : Type 0} (u : Y → Bool) (f : X → Y) (xs : List X) (at : ℕ) (x : X) → at < length xs → x ≡ get_or xs at x → u (f x) ≡ true → list_any u (map f xs) ≡ true
+any_at u f [] at x lt is h = absurd (omega (arith, lt))
+any_at u f (y ∷ xs) zero x lt is h = either (u (f y)) (list_any u (map f xs)) (ap (λ z. u (f z)) (sym is) ∙ h)
+any_at u f (y ∷ xs) (suc at) x lt is h = rw (any_at u f xs at x (omega (arith, lt)) is h) (or_true (u (f y)))

@@ -16,7 +16,8 @@ use Rattle.link_scheduler.specs.Idle.{idle_cmp, idle_key, idle_from, IsIndexOf}
 use Rattle.link_scheduler.specs.Moments.{first_moment}
 use Rattle.link_scheduler.specs.Pairs.{first_of}
 use Rattle.link_scheduler.specs.Starts.{is_moment}
-use Rattle.link_scheduler.specs.Working.{is_sending, may_launch_first}
+use Rattle.link_scheduler.specs.Working.{may_launch_first}
+use Rattle.link_scheduler.specs.AtRest.{is_sending}
 use Rattle.link_simulation.proofs.Sorted.{and_left, and_right, and_both}
 use Rattle.link_simulation.proofs.World.Queue.{find_passes, pair_like, any_like}
 use Rattle.link_scheduler.proofs.Idle.{first_listed, first_least}

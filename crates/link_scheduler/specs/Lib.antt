@@ -1,3 +1,4 @@
+pub mod AtRest
 pub mod Due
 pub mod Events
 pub mod Flights

@@ -14,10 +14,6 @@ abbrev pub is_moment : ℕ → Option ℕ → Bool
 is_moment t None = false
 is_moment t (Some s) = s == t
 
--- the moment from which on the first waiting message of a pair may start, if one waits, and none of the pair is in flight
-abbrev pub idle_moment : {P : Type 0} → (P → P → Ordering) → List (Message P) → (P → P → Option ℕ) → Bool → P → P → Option ℕ
-idle_moment cmp waiting last_arrival is_sending o r = if is_sending then None else option_map (λ m. first_moment (last_arrival o r) m.latency) (first_of cmp waiting o r)
-
 -- the first waiting message of a pair is in flight from t on, under the next flow id
 pub record HasDeparted {P : Type 0} (cmp : P → P → Ordering) (t : ℕ) (p : Planned P) (o r : P) (q : Planned P) : Type 0 where
   pub message : Message P

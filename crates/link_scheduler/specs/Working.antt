@@ -17,7 +17,7 @@ use Rattle.fair_rates.specs.Caps.{Caps}
 use Rattle.fair_rates.specs.Sides.{same_peer}
 use Rattle.link_simulation.specs.World.{fronts}
 use Rattle.link_simulation.specs.WorldMessages.{Message}
-use Rattle.link_simulation.specs.WorldPlanned.{Planned, paced_flows, may_launch}
+use Rattle.link_simulation.specs.WorldPlanned.{Planned, may_launch}
 use Rattle.link_scheduler.specs.Message.{message_of}
 use Rattle.link_scheduler.specs.Peers.{egress_of, ingress_of}
 use Rattle.link_scheduler.specs.Pairs.{link_of, arrival_of}
@@ -58,7 +58,3 @@ pub record AreFairPartsUnder {P : Type 0} (cmp : P → P → Ordering) (caps : C
   pub grown : found.scale ≡ scale * product found.growth.items
   pub one_each : length found.level_of.items ≡ length flows
   pub fair : IsFair (sides_under cmp caps flows) found.scale (flow_parts found.levels.items found.level_of.items)
-
--- whether a message from the one peer to the other is in flight
-abbrev pub is_sending : {P : Type 0} → (P → P → Ordering) → Planned P → P → P → Bool
-is_sending cmp p origin recipient = list_any (λ m. same_peer cmp origin m.origin && same_peer cmp recipient m.recipient) (paced_flows p.sending)

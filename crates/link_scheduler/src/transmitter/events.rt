@@ -21,7 +21,8 @@ use std::collections::VecDeque;
 use std::rc::Rc;
 
 impl<P: Peer> Working<P> {
-    ghost use Rattle.link_scheduler.specs.Working.{planned, messages, is_sending, may_launch_first, ready_messages};
+    ghost use Rattle.link_scheduler.specs.Working.{planned, messages, may_launch_first, ready_messages};
+    ghost use Rattle.link_scheduler.specs.AtRest.{is_sending};
 
     /// Whether the first waiting message of the pair may start: the pair is idle, and the message
     /// arrives no earlier than the pair's last one.

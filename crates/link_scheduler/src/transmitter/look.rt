@@ -1,12 +1,14 @@
 //! Which pairs are ready, and when the next one is.
-ghost use Rattle.std.specs.Prelude.{◌≡◌, ◌≤◌, ◌&&◌, true, map, IfOk, IfErr, IfSome};
+ghost use Rattle.std.specs.Prelude.{◌≡◌, ℕ, true, false, IfOk, IfErr, OnOk};
 ghost use Rattle.std.specs.List.{AllZip, list_any};
 ghost use Rattle.fair_rates.specs.Sides.{same_peer};
 ghost use Rattle.link_simulation.specs.WorldEvents.{Looks};
-ghost use Rattle.link_scheduler.specs.Message.{message_of};
+ghost use Rattle.link_scheduler.specs.Idle.{is_listed, is_of, AreAtRest, idle_from as idle_since};
+ghost use Rattle.link_scheduler.specs.InFlight.{in_flight};
 ghost use Rattle.link_scheduler.specs.Moments.{first_moment};
-ghost use Rattle.link_scheduler.specs.Pairs.{pair_cmp, arrival_of};
-ghost use Rattle.link_scheduler.specs.Starts.{idle_moment};
+ghost use Rattle.link_scheduler.specs.Pairs.{pair_cmp};
+ghost use Rattle.link_scheduler.specs.Working.{messages};
+ghost use Rattle.link_scheduler.specs.AtRest.{of_pairs};
 
 use super::flights::Flights;
 use super::idle::IdlePairs;
@@ -71,7 +73,7 @@ pub(crate) fn idle_from<P: Peer>(
     origin: &P,
     recipient: &P,
 ) -> Option<u64>
-    ensures { result ≡ idle_moment P.cmp (map message_of waiting.now.messages) (arrival_of P.cmp pairs.now.entries) (list_any (λ flow. same_peer P.cmp origin.now flow.origin && same_peer P.cmp recipient.now flow.recipient) flights.now.flows.items) origin.now recipient.now }
+    ensures { result ≡ idle_since P.cmp (of_pairs P.cmp pairs.now.entries waiting.now.messages (in_flight flights.now)) origin.now recipient.now }
 {
     let front = waiting.first(origin, recipient)?;
     if flights.has_pair(origin, recipient) {
@@ -90,9 +92,12 @@ pub(crate) fn rest_all<P: Peer>(
     pairs: &Pairs<P>,
     done: &VecDeque<Rc<Message<P>>>,
 ) -> Result<(), Error>
+    requires busy { (t : ℕ) (a b : P) → list_any (is_of P.cmp a b) (messages done.now.items) ≡ true → is_listed P.cmp idle.old.entries t a b ≡ false }
+    ensures listed { OnOk result (AreAtRest P.cmp (of_pairs P.cmp pairs.now.entries waiting.now.messages (in_flight flights.now)) (messages done.now.items) idle.old.entries idle.new.entries) }
     ensures refused { IfErr result (λ e. e ≡ Error.OutOfMemory) }
 {
-    for message in done {
+    for at in 0..done.len() {
+        let message = Rc::as_ref(&done[at]);
         let (origin, recipient) = (&message.origin, &message.recipient);
         if let Some(moment) = idle_from(flights, waiting, pairs, origin, recipient) {
             idle.add(alloc, origin, recipient, moment)?;

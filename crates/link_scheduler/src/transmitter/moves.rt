@@ -14,7 +14,8 @@ use fair_rates::error::Error;
 use fair_rates::peer::Peer;
 
 impl<P: Peer> Working<P> {
-    ghost use Rattle.link_scheduler.specs.Working.{planned, is_sending, may_launch_first};
+    ghost use Rattle.link_scheduler.specs.Working.{planned, may_launch_first};
+    ghost use Rattle.link_scheduler.specs.AtRest.{is_sending};
 
     /// From now on no message of the pair arrives before that moment.
     pub(crate) fn raise(&mut self, origin: &P, recipient: &P, moment: u64) -> Result<(), Error>

@@ -1,6 +1,9 @@
 //! The state that a call works on.
 ghost use Rattle.std.specs.Prelude.{◌≡◌, true, nat_lt, OnOk, IfErr};
 ghost use Rattle.std.specs.List.{list_all};
+ghost use Rattle.link_scheduler.specs.Idle.{IsIndexOf};
+ghost use Rattle.link_scheduler.specs.InFlight.{in_flight};
+ghost use Rattle.link_scheduler.specs.AtRest.{of_pairs};
 
 use super::flights::Flights;
 use super::idle::IdlePairs;
@@ -29,6 +32,7 @@ pub(crate) struct Working<P: Peer> {
     /// The moment at which a waiting message starts next.
     pub(crate) start: Option<u64>,
     pub ghost fresh: { list_all (λ flow. nat_lt flow.id next_id) flights.flows.items ≡ true },
+    pub ghost indexed: { IsIndexOf P.cmp (of_pairs P.cmp pairs.entries waiting.messages (in_flight flights)) idle.entries },
 }
 
 impl<P: Peer> Working<P> {

@@ -1,5 +1,6 @@
 use Rattle.std.proofs.Common.{[], true, Bool, ◌&&◌, sym, ap, ◌∙◌}
-use Rattle.link_scheduler.specs.Working.{planned, is_sending}
+use Rattle.link_scheduler.specs.Working.{planned}
+use Rattle.link_scheduler.specs.AtRest.{is_sending}
 use Rattle.link_scheduler.proofs.InFlight.{any_of_pair}
 use Rattle.link_scheduler.proofs.transmitter.working.Working.has_to_wait.Goals as goal
 
