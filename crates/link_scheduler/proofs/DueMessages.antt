@@ -20,7 +20,7 @@ use Rattle.link_scheduler.specs.Keys.{IsKeyOf}
 use Rattle.link_scheduler.specs.Moments.{first_moment}
 use Rattle.link_scheduler.specs.Pairs.{pair_cmp, first_of}
 use Rattle.link_scheduler.specs.Starts.{is_moment}
-use Rattle.link_scheduler.specs.Working.{ready_messages}
+use Rattle.link_scheduler.specs.Working.{may_launch_first, ready_messages}
 use Rattle.link_scheduler.specs.AtRest.{is_sending}
 use Rattle.fair_rates.proofs.Subjects.{peer_sym}
 use Rattle.link_simulation.proofs.Sorted.{by_bool, and_left, and_right, and_both, is_eq_equal}
@@ -206,6 +206,17 @@ module _ {P : Type 0} (cmp : P → P → Ordering) (order : IsTotalOrder cmp) wh
         by_parts false None sends first = refl
         by_parts true (Some m) sends first = sym (may_from cmp order p alike a b m first now) ∙ ap (λ c. not c && nat_le (first_moment (p.last_arrival a b) m.latency) now) sends
         by_parts false (Some m) sends first = sym (may_from cmp order p alike a b m first now) ∙ ap (λ c. not c && nat_le (first_moment (p.last_arrival a b) m.latency) now) sends
+
+    -- so it is told of the pair's first message
+    pub may_first : (a b : P) → has_come now (idle_from cmp p a b) ≡ may_launch_first cmp now p (first_of cmp p.waiting a b)
+    may_first a b = by_parts (is_sending cmp p a b) (first_of cmp p.waiting a b) refl refl
+      where
+        by_parts : (c : Bool) (o : Option (Message P)) → is_sending cmp p a b ≡ c → first_of cmp p.waiting a b ≡ o
+            → has_come now (if c then None else option_map (λ (m : Message P). first_moment (p.last_arrival a b) m.latency) o) ≡ may_launch_first cmp now p o
+        by_parts true None sends first = refl
+        by_parts false None sends first = refl
+        by_parts true (Some m) sends first = sym (ap (λ c. not c && nat_le (first_moment (p.last_arrival a b) m.latency) now) sends) ∙ may_from cmp order p alike a b m first now
+        by_parts false (Some m) sends first = sym (ap (λ c. not c && nat_le (first_moment (p.last_arrival a b) m.latency) now) sends) ∙ may_from cmp order p alike a b m first now
 
     messages_due : (a b : P) → of_key (pair_cmp cmp) (pair_total cmp order) message_pair (a, b) (ready_messages cmp now p) ≡ one_if (has_come now (idle_from cmp p a b))
     messages_due a b = filter_many (may_launch cmp now p) (of_message now a b) (fronts cmp p.waiting) ∙ fronts_of now a b (may_launch cmp now p) p.waiting ∙ ap one_if (may_by a b)

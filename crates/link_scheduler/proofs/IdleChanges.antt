@@ -14,9 +14,12 @@ use Rattle.link_simulation.specs.WorldEvents.{Accounts, Launches, nothing_waits,
 use Rattle.link_simulation.specs.WorldPlanned.{Planned, Paced, paced_flows, queued, drained_to, is_spent}
 use Rattle.link_scheduler.specs.Idle.{idle_cmp, is_listed, idle_from, IsIndexOf, is_of, AreAtRest}
 use Rattle.link_scheduler.specs.Moments.{first_moment}
-use Rattle.link_scheduler.specs.Pairs.{first_of, raised_at}
+use Rattle.link_scheduler.specs.Pairs.{first_of, arrival_of, raised_at}
 use Rattle.link_scheduler.specs.Starts.{is_moment}
-use Rattle.link_scheduler.specs.AtRest.{is_sending}
+use Rattle.link_scheduler.specs.AtRest.{is_sending, of_pairs}
+use Rattle.link_scheduler.specs.Message.{message_of}
+use Rattle.link_scheduler.specs.declared.transmitter.message.Message as code
+use Rattle.link_scheduler.specs.declared.transmitter.pairs.Pair.{Pair}
 use Rattle.link_simulation.proofs.Sorted.{by_bool, and_left, and_right, and_both}
 use Rattle.link_simulation.proofs.World.Queue.{find_passes, pair_like, pair_sym}
 use Rattle.fair_rates.proofs.Fairness.Subjects.{same_peer_itself}
@@ -251,3 +254,90 @@ pub any_at : {X Y : Type 0} (u : Y → Bool) (f : X → Y) (xs : List X) (at : �
 any_at u f [] at x lt is h = absurd (omega (arith, lt))
 any_at u f (y ∷ xs) zero x lt is h = either (u (f y)) (list_any u (map f xs)) (ap (λ z. u (f z)) (sym is) ∙ h)
 any_at u f (y ∷ xs) (suc at) x lt is h = rw (any_at u f xs at x (omega (arith, lt)) is h) (or_true (u (f y)))
+
+-- ---- the index of what is kept, after a change of one pair
+
+module _ {P : Type 0} (cmp : P → P → Ordering) (order : IsTotalOrder cmp) where
+  pub raised_index : (pairs others : List (Pair P)) (ms : List (code.Message P)) (sending : List (Paced P)) (o r : P) (at : ℕ) (es new : List (IdlePair P)) {after : Option ℕ} → PairsAlike cmp (arrival_of cmp others) (arrival_of cmp others)
+      → arrival_of cmp others ≡ raised_at cmp (arrival_of cmp pairs) o r at → IsIndexOf cmp (of_pairs cmp pairs ms sending) es
+      → ((t : ℕ) (a b : P) → is_listed cmp new t a b ≡ (if same_peer cmp o a && same_peer cmp r b then is_moment t after else is_listed cmp es t a b)) → after ≡ idle_from cmp (of_pairs cmp others ms sending) o r
+      → IsIndexOf cmp (of_pairs cmp others ms sending) new
+  raised_index pairs others ms sending o r at es new {after} alike raised index changed is =
+      let p : Planned P = of_pairs cmp pairs ms sending in
+      let q : Planned P = of_pairs cmp others ms sending in
+      let same : q ≡ record p { last_arrival = raised_at cmp p.last_arrival o r at } = λ i. record p { last_arrival = raised i } in
+      follows cmp order p q o r es new alike (λ a b apart. ap (λ (w : Planned P). idle_from cmp w a b) same ∙ raised_else cmp p o r at a b apart) index
+      (λ t a b. changed t a b ∙ ap (λ (m : Option ℕ). if same_peer cmp o a && same_peer cmp r b then is_moment t m else is_listed cmp es t a b) is)
+
+  pub queued_index : (pairs : List (Pair P)) (ms ns : List (code.Message P)) (sending : List (Paced P)) (o r : P) (m : Message P) (es new : List (IdlePair P)) {after : Option ℕ} → PairsAlike cmp (arrival_of cmp pairs) (arrival_of cmp pairs)
+      → map message_of ns ≡ queued cmp m (map message_of ms) → same_two cmp o r m.origin m.recipient ≡ true → IsIndexOf cmp (of_pairs cmp pairs ms sending) es
+      → ((t : ℕ) (a b : P) → is_listed cmp new t a b ≡ (if same_peer cmp o a && same_peer cmp r b then is_moment t after else is_listed cmp es t a b)) → after ≡ idle_from cmp (of_pairs cmp pairs ns sending) o r
+      → IsIndexOf cmp (of_pairs cmp pairs ns sending) new
+  queued_index pairs ms ns sending o r m es new {after} alike joined own index changed is =
+      let p : Planned P = of_pairs cmp pairs ms sending in
+      let q : Planned P = of_pairs cmp pairs ns sending in
+      let same : q ≡ with_queued cmp p m = λ i. record p { waiting = joined i } in
+      follows cmp order p q o r es new alike (λ a b apart. ap (λ (w : Planned P). idle_from cmp w a b) same ∙ queued_else cmp order o r a b apart p m own) index
+      (λ t a b. changed t a b ∙ ap (λ (m : Option ℕ). if same_peer cmp o a && same_peer cmp r b then is_moment t m else is_listed cmp es t a b) is)
+
+  -- a message joins those that wait behind one that is in flight: no idle pair is another
+  pub waited_index : (pairs : List (Pair P)) (ms ns : List (code.Message P)) (sending : List (Paced P)) (m : Message P) (es : List (IdlePair P))
+      → map message_of ns ≡ queued cmp m (map message_of ms) → is_sending cmp (of_pairs cmp pairs ms sending) m.origin m.recipient ≡ true → PairsAlike cmp (arrival_of cmp pairs) (arrival_of cmp pairs)
+      → IsIndexOf cmp (of_pairs cmp pairs ms sending) es → IsIndexOf cmp (of_pairs cmp pairs ns sending) es
+  waited_index pairs ms ns sending m es joined busy alike index =
+      let p : Planned P = of_pairs cmp pairs ms sending in
+      let q : Planned P = of_pairs cmp pairs ns sending in
+      let same : q ≡ with_queued cmp p m = λ i. record p { waiting = joined i } in
+      let own : same_two cmp m.origin m.recipient m.origin m.recipient ≡ true = and_both (same_peer cmp m.origin m.origin) (same_peer cmp m.recipient m.recipient) (same_peer_itself cmp order m.origin) (same_peer_itself cmp order m.recipient) in
+      stays_index cmp order p q es (λ a b. by_bool (same_two cmp m.origin m.recipient a b)
+      (λ h.
+      let first = and_left (same_peer cmp m.origin a) _ h in
+      let second = and_right (same_peer cmp m.origin a) _ h in
+      sym (idle_respects cmp order q alike m.origin m.recipient a b first second) ∙ busy_none q m.origin m.recipient busy ∙ sym (busy_none p m.origin m.recipient busy) ∙ idle_respects cmp order p alike m.origin m.recipient a b first second)
+      (λ h. ap (λ (w : Planned P). idle_from cmp w a b) same ∙ queued_else cmp order m.origin m.recipient a b h p m own)) index
+    where
+      busy_none : (w : Planned P) (o r : P) → is_sending cmp w o r ≡ true → idle_from cmp w o r ≡ None
+      busy_none w o r h = ap (λ (c : Bool). if c then None else option_map (λ (m : Message P). first_moment (w.last_arrival o r) m.latency) (first_of cmp w.waiting o r)) h
+
+  -- the first message of a pair is in flight: the pair is idle no more
+  pub departed_index : (pairs : List (Pair P)) (ms ns : List (code.Message P)) (sending after : List (Paced P)) (f : Paced P) (o r : P) (es new : List (IdlePair P)) → PairsAlike cmp (arrival_of cmp pairs) (arrival_of cmp pairs)
+      → map message_of ns ≡ without_first (λ (n : Message P). same_peer cmp o n.origin && same_peer cmp r n.recipient) (map message_of ms) → after ≡ sending ++ f ∷ [] → same_two cmp o r f.message.origin f.message.recipient ≡ true
+      → IsIndexOf cmp (of_pairs cmp pairs ms sending) es → ((t : ℕ) (a b : P) → is_listed cmp new t a b ≡ (if same_peer cmp o a && same_peer cmp r b then is_moment t None else is_listed cmp es t a b))
+      → IsIndexOf cmp (of_pairs cmp pairs ns after) new
+  departed_index pairs ms ns sending after f o r es new alike taken pushed own index changed =
+      let p : Planned P = of_pairs cmp pairs ms sending in
+      let q : Planned P = of_pairs cmp pairs ns after in
+      let same : q ≡ record p { sending = p.sending ++ f ∷ []; waiting = without_first (λ (n : Message P). same_peer cmp o n.origin && same_peer cmp r n.recipient) p.waiting; next_id = 0 } = λ i. record p { sending = pushed i; waiting = taken i } in
+      let flies : is_sending cmp q o r ≡ true = ap (λ l. list_any (is_of cmp o r) (paced_flows l)) pushed ∙ last_flies sending in
+      let none : idle_from cmp q o r ≡ None = ap (λ (c : Bool). if c then None else option_map (λ (m : Message P). first_moment (q.last_arrival o r) m.latency) (first_of cmp q.waiting o r)) flies in
+      follows cmp order p q o r es new alike (λ a b apart. ap (λ (w : Planned P). idle_from cmp w a b) same ∙ pushed_else cmp order o r a b apart p f 0 own) index
+      (λ t a b. changed t a b ∙ ap (λ (m : Option ℕ). if same_peer cmp o a && same_peer cmp r b then is_moment t m else is_listed cmp es t a b) (sym none))
+    where
+      last_flies : (fs : List (Paced P)) → list_any (is_of cmp o r) (paced_flows (fs ++ f ∷ [])) ≡ true
+      last_flies [] = either (is_of cmp o r f.message) false own
+      last_flies (g ∷ fs) = rw (last_flies fs) (or_true (is_of cmp o r g.message))
+
+pub flows_drained : {P : Type 0} (t : ℕ) (fs : List (Paced P)) → paced_flows (drained_to t fs) ≡ paced_flows fs
+flows_drained t [] = refl
+flows_drained t (f ∷ fs) = ap (λ l. f.message ∷ l) (flows_drained t fs)
+
+module _ {P : Type 0} (cmp : P → P → Ordering) (order : IsTotalOrder cmp) (pairs : List (Pair P)) (ms : List (code.Message P)) where
+  -- while the same messages are in flight, the same pairs are idle
+  pub same_flights_index : (sending after : List (Paced P)) (es : List (IdlePair P)) → paced_flows after ≡ paced_flows sending → IsIndexOf cmp (of_pairs cmp pairs ms sending) es → IsIndexOf cmp (of_pairs cmp pairs ms after) es
+  same_flights_index sending after es same = stays_index cmp order (of_pairs cmp pairs ms sending) (of_pairs cmp pairs ms after) es
+      (λ a b. alike_from cmp (of_pairs cmp pairs ms sending) (of_pairs cmp pairs ms after) a b (ap (list_any (is_of cmp a b)) same) refl refl)
+
+  module _ (spent : Paced P → Bool) (sending after : List (Paced P)) (leavers : List (Message P)) (es : List (IdlePair P)) (left : leavers ≡ paced_flows (filter spent sending)) (index : IsIndexOf cmp (of_pairs cmp pairs ms sending) es) where
+    -- the pairs of what left were not idle
+    pub left_unlisted : (t : ℕ) (a b : P) → list_any (is_of cmp a b) leavers ≡ true → is_listed cmp es t a b ≡ false
+    left_unlisted t a b some =
+        let p : Planned P = of_pairs cmp pairs ms sending in
+        let busy : is_sending cmp p a b ≡ true = left_in_flight cmp (is_of cmp a b) spent sending (ap (list_any (is_of cmp a b)) (sym left) ∙ some) in
+        index t a b ∙ ap (is_moment t) (ap (λ (c : Bool). if c then None else option_map (λ (m : Message P). first_moment (p.last_arrival a b) m.latency) (first_of cmp p.waiting a b)) busy)
+
+    pub left_index : (new : List (IdlePair P)) → PairsAlike cmp (arrival_of cmp pairs) (arrival_of cmp pairs) → after ≡ filter (λ f. not (spent f)) sending → AreAtRest cmp (of_pairs cmp pairs ms after) leavers es new → IsIndexOf cmp (of_pairs cmp pairs ms after) new
+    left_index new alike stays rests =
+        rests_index cmp order (of_pairs cmp pairs ms after) alike es (of_pairs cmp pairs ms sending) leavers new
+        (λ a b none. alike_from cmp (of_pairs cmp pairs ms sending) (of_pairs cmp pairs ms after) a b
+        (ap (λ l. list_any (is_of cmp a b) (paced_flows l)) stays ∙ left_else cmp (is_of cmp a b) spent sending (ap (list_any (is_of cmp a b)) (sym left) ∙ none)) refl refl)
+        index rests

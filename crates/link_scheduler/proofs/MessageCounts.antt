@@ -10,7 +10,7 @@ use Rattle.std.specs.Prelude.{◌==◌, ◌≢◌}
 use Rattle.std.proofs.lemmas.Bool.{eqb-true, eq-eqb}
 use Rattle.fair_rates.specs.declared.bandwidth.Flow.{Flow}
 use Rattle.link_scheduler.specs.declared.transmitter.progress.Progress.{Progress}
-use Rattle.link_scheduler.specs.Flights.{sending_of}
+use Rattle.link_scheduler.specs.Flights.{sending_of, are_standing}
 use Rattle.fair_rates.specs.Amount.{whole}
 use Rattle.fair_rates.specs.Sides.{same_peer}
 use Rattle.link_simulation.specs.WorldMessages.{Message, same_pair}
@@ -79,11 +79,12 @@ module _ {P : Type 0} (cmp : P → P → Ordering) where
 
 -- ---- whether something is in flight
 
-pub none_flies : {P : Type 0} (scale : ℕ) (levels : List ℕ) (fs : List (Flow P)) (ss : List Progress) → (length fs == 0) ≡ true → sending_of scale levels fs ss ≡ []
-none_flies scale levels [] ss none = refl
-none_flies scale levels (f ∷ fs) ss none = let zero_long : length (f ∷ fs) ≡ 0 = eqb-true (length (f ∷ fs)) 0 none in absurd (omega arith)
+pub none_flies : {P : Type 0} (cmp : P → P → Ordering) (scale : ℕ) (levels : List ℕ) (fs : List (Flow P)) (ss : List (Progress P)) → are_standing cmp fs ss ≡ true → (length fs == 0) ≡ true → sending_of scale levels ss ≡ []
+none_flies cmp scale levels [] [] stand none = refl
+none_flies cmp scale levels [] (s ∷ ss) stand none = cc
+none_flies cmp scale levels (f ∷ fs) ss stand none = let zero_long : length (f ∷ fs) ≡ 0 = eqb-true (length (f ∷ fs)) 0 none in absurd (omega arith)
 
-pub some_fly : {P : Type 0} (scale : ℕ) (levels : List ℕ) (fs : List (Flow P)) (ss : List Progress) → length fs ≡ length ss → (length fs == 0) ≡ false → sending_of scale levels fs ss ≢ []
-some_fly scale levels [] ss long some = cc (eq-eqb 0 0 refl)
-some_fly scale levels (f ∷ fs) [] long some = absurd (omega arith)
-some_fly scale levels (f ∷ fs) (s ∷ ss) long some = λ none. cc
+pub some_fly : {P : Type 0} (cmp : P → P → Ordering) (scale : ℕ) (levels : List ℕ) (fs : List (Flow P)) (ss : List (Progress P)) → are_standing cmp fs ss ≡ true → (length fs == 0) ≡ false → sending_of scale levels ss ≢ []
+some_fly cmp scale levels [] ss stand some = cc (eq-eqb 0 0 refl)
+some_fly cmp scale levels (f ∷ fs) [] stand some = cc
+some_fly cmp scale levels (f ∷ fs) (s ∷ ss) stand some = λ none. cc

@@ -11,7 +11,7 @@ use Rattle.fair_rates.specs.FairParts.{parts_of_level}
 use Rattle.fair_rates.specs.Laws.LowestTerms.{reduced_alike, reduced_scaled}
 use Rattle.fair_rates.specs.Sides.{same_peer}
 use Rattle.link_simulation.specs.WorldMessages.{is_delivered}
-use Rattle.link_simulation.specs.WorldPlanned.{Paced, left_at, drained_to}
+use Rattle.link_simulation.specs.WorldPlanned.{Paced, paced_flows, left_at, drained_to}
 use Rattle.link_scheduler.specs.Flights.{paced_of, sending_of, stands_for, are_standing, rated_by}
 use Rattle.link_scheduler.specs.declared.transmitter.progress.Progress.{Progress}
 use Rattle.link_scheduler.specs.Progress.{DrainsTo, GrowsBy, IsSameSent, levelled}
@@ -107,6 +107,13 @@ module _ {P : Type 0} where
   stand_same cmp (f ∷ fs) (s ∷ ss) [] z = absurd z
   stand_same cmp (f ∷ fs) (s ∷ ss) (t ∷ ts) z =
       ap (λ m. stands_for cmp f (record s { message = m }) && are_standing cmp fs ts) z.0 ∙ ap (λ b. stands_for cmp f s && b) (stand_same cmp fs ss ts z.1)
+
+  -- the same messages are in flight, whatever is left of them
+  pub messages_same : (scale other : ℕ) (levels others : List ℕ) (ss ts : List (Progress P)) → AllZip IsSameSent ss ts → paced_flows (sending_of other others ts) ≡ paced_flows (sending_of scale levels ss)
+  messages_same scale other levels others [] [] z = refl
+  messages_same scale other levels others [] (t ∷ ts) z = absurd z
+  messages_same scale other levels others (s ∷ ss) [] z = absurd z
+  messages_same scale other levels others (s ∷ ss) (t ∷ ts) z = rw (z.0, messages_same scale other levels others ss ts z.1) refl
 
   pub sending_there : (scale : ℕ) (levels : List ℕ) (ss : List (Progress P)) (place : ℕ) (s : Progress P) → slice_get ss place ≡ Some s → slice_get (sending_of scale levels ss) place ≡ Some (paced_of scale levels s)
   sending_there scale levels [] place s is = absurd (none-some s is)

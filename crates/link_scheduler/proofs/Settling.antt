@@ -1,5 +1,5 @@
 -- What an account and its finishes make of a call's parts.
-use Rattle.std.proofs.Common.{◌≡◌, ◌≢◌, ℕ, ◌+◌, List, [], ◌∷◌, ◌++◌, Bool, true, false, cond, ◌&&◌, if◌then◌else◌, Option, Some, None, Result, Ok, Err, IfOk, IfErr, OnOk, refl, sym, ap, ◌∙◌, subst}
+use Rattle.std.proofs.Common.{◌≡◌, ◌≢◌, ℕ, ◌+◌, List, [], ◌∷◌, ◌++◌, Bool, true, false, cond, ◌&&◌, if◌then◌else◌, Option, Some, None, Result, Ok, Err, IfOk, IfErr, OnOk, OnErr, refl, sym, ap, ◌∙◌, subst}
 use Rattle.std.specs.Prelude.{nat_lt}
 use Rattle.std.specs.Bool.{then_some}
 use Rattle.std.specs.declared.cmp.Ordering.{Ordering}
@@ -21,6 +21,16 @@ use Rattle.link_scheduler.proofs.Finishing.{first_of_key, then_some_is}
 pub on_ok_both : {X E A B C : Type 0} (r : Result X E) → (A → B → C) → OnOk r A → OnOk r B → OnOk r C
 on_ok_both (Ok x) f a b = f a b
 on_ok_both (Err e) f a b = tt
+
+-- what follows from an answer and from a refusal
+pub on_either : {X E A B C : Type 0} (r : Result X E) → (A → C) → (B → C) → OnOk r A → OnErr r B → C
+on_either (Ok x) f h a b = f a
+on_either (Err e) f h a b = h b
+
+-- what an answer makes of a fact about it
+pub if_ok : {X E : Type 0} {A B : X → Type 0} (r : Result X E) → ((x : X) → A x → B x) → IfOk r A → IfOk r B
+if_ok (Ok x) f a = f x a
+if_ok (Err e) f a = tt
 
 module _ {P : Type 0} (cmp : P → P → Ordering) where
   -- ---- settling

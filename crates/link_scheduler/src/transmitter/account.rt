@@ -3,6 +3,9 @@ ghost use Rattle.std.specs.Prelude.{◌≡◌, ◌≢◌, ◌*◌, ℕ, All, ◌
 ghost use Rattle.std.specs.List.{filter, list_all};
 ghost use Rattle.fair_rates.specs.declared.bandwidth.Flow.{Flow as AnyFlow};
 ghost use Rattle.link_simulation.specs.WorldPlanned.{Paced, paced_flows, drained_to, IsLeastMoment, SomeSpentAt, is_spent};
+ghost use Rattle.link_scheduler.specs.AtRest.{of_pairs};
+ghost use Rattle.link_scheduler.specs.Idle.{IsIndexOf};
+ghost use Rattle.link_scheduler.specs.InFlight.{in_flight};
 ghost use Rattle.link_scheduler.specs.Message.{message_of};
 ghost use Rattle.link_scheduler.specs.Working.{caps_of, messages};
 ghost use Rattle.link_simulation.specs.WorldRates.{is_unlimited as is_free};
@@ -10,11 +13,13 @@ ghost use Rattle.link_simulation.specs.WorldEvents.{Accounts};
 
 use super::drain::drain_all;
 use super::flights::Flights;
+use super::idle::IdlePairs;
 use super::look::rest_all;
 use super::message::Message;
 use super::pairs::Pairs;
 use super::peers::Peers;
 use super::rate::rerate_all;
+use super::waiting::Waiting;
 use super::working::Working;
 use fair_rates::bandwidth::{FairParts, Flow, fair_parts};
 use fair_rates::error::Error;
@@ -35,7 +40,6 @@ fn is_unlimited<P: Peer>(message: &Message<P>, peers: &Peers<P>, pairs: &Pairs<P
 
 impl<P: Peer> Flights<P> {
     ghost use Rattle.link_scheduler.specs.Flights.{rated_by};
-    ghost use Rattle.link_scheduler.specs.InFlight.{in_flight};
     ghost use Rattle.fair_rates.specs.FairParts.{product};
 
     /// All drain to that moment.
@@ -103,6 +107,7 @@ impl<P: Peer> Flights<P> {
         requires grown { rates.scale ≡ self.old.scale * product rates.growth.items }
         requires scaled { 0 < rates.scale }
         ensures flows { self.new.flows.items ≡ self.old.flows.items }
+        ensures messages { paced_flows (in_flight self.new) ≡ paced_flows (in_flight self.old) }
         ensures sending { OnOk result (in_flight self.new ≡ rated_by now rates.scale rates.levels.items rates.level_of.items (in_flight self.old)) }
         ensures finish { IfOk result (IsLeastMoment (λ s. SomeSpentAt (in_flight self.new) s)) }
         ensures refused { IfErr result (λ e. e ≡ Error.OutOfMemory) }
@@ -112,6 +117,27 @@ impl<P: Peer> Flights<P> {
         self.levels = rates.levels;
         Ok(finish)
     }
+}
+
+/// What is done leaves, in order of start, and its pairs are idle from now on.
+fn leave<P: Peer>(
+    alloc: Global,
+    flights: &mut Flights<P>,
+    idle: &mut IdlePairs<P>,
+    peers: &Peers<P>,
+    pairs: &Pairs<P>,
+    waiting: &Waiting<P>,
+) -> Result<VecDeque<Rc<Message<P>>>, Error>
+    requires indexed { IsIndexOf P.cmp (of_pairs P.cmp pairs.now.entries waiting.now.messages (in_flight flights.old)) idle.old.entries }
+    ensures done { IfOk result (λ done. messages done.items ≡ paced_flows (filter (is_spent P.cmp (caps_of P.cmp peers.now.entries pairs.now.entries)) (in_flight flights.old))) }
+    ensures rest { OnOk result (in_flight flights.new ≡ filter (λ f. not (is_spent P.cmp (caps_of P.cmp peers.now.entries pairs.now.entries) f)) (in_flight flights.old)) }
+    ensures others { (test : AnyFlow P → Bool) → list_all test flights.old.flows.items ≡ true → list_all test flights.new.flows.items ≡ true }
+    ensures indexed { OnOk result (IsIndexOf P.cmp (of_pairs P.cmp pairs.now.entries waiting.now.messages (in_flight flights.new)) idle.new.entries) }
+    ensures refused { IfErr result (λ e. e ≡ Error.OutOfMemory) }
+{
+    let done = flights.take_done(alloc, peers, pairs)?;
+    rest_all(alloc, idle, flights, waiting, pairs, &done)?;
+    Ok(done)
 }
 
 impl<P: Peer> Working<P> {
@@ -124,17 +150,23 @@ impl<P: Peer> Working<P> {
         ensures refused { IfErr result (λ e. e ≡ Error.OutOfMemory) }
     {
         self.flights.drain(now);
-        let done = self
-            .flights
-            .take_done(self.alloc, &self.peers, &self.pairs)?;
-        rest_all(
+        let left = leave(
             self.alloc,
+            &mut self.flights,
             &mut self.idle,
-            &self.flights,
-            &self.waiting,
+            &self.peers,
             &self.pairs,
-            &done,
-        )?;
+            &self.waiting,
+        );
+        let done = match left {
+            Ok(done) => done,
+            Err(error) => {
+                // What stopped half-way is given up.
+                self.waiting = Waiting::new();
+                self.idle = IdlePairs::new();
+                return Err(error);
+            }
+        };
         self.flights.renew_units();
         let rates = self.rates()?;
         self.finish = self.flights.set_rates(rates, now)?;

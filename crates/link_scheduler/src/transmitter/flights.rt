@@ -1,5 +1,5 @@
 //! The messages in flight.
-ghost use Rattle.std.specs.Prelude.{◌≡◌, ℕ, ◌+◌, ◌<◌, [], ◌∷◌, ◌++◌, ◌&&◌, ◌==◌, Bool, true, map, length, nat_lt, Some, IfOk, IfErr, OnOk, slice_index_or};
+ghost use Rattle.std.specs.Prelude.{◌≡◌, ℕ, ◌+◌, ◌<◌, [], ◌∷◌, ◌++◌, ◌&&◌, ◌==◌, Bool, true, map, length, nat_lt, Some, IfOk, IfErr, OnOk, OnErr, slice_index_or};
 ghost use Rattle.std.specs.List.{list_all, list_any, remove};
 ghost use Rattle.std.specs.Ordering.{nat_cmp};
 ghost use Rattle.link_simulation.specs.Sorted.{are_ascending};
@@ -79,6 +79,7 @@ impl<P: Peer> Flights<P> {
             ++ record { message = message_of message.value; left = whole (length message.value.bytes); rate = Some (whole 0); updated = now } ∷ []) }
         ensures flow { (test : AnyFlow P → Bool) → list_all test self.old.flows.items ≡ true
             → ((flow : AnyFlow P) → flow.id ≡ id → test flow ≡ true) → list_all test self.new.flows.items ≡ true }
+        ensures kept { OnErr result ((in_flight self.new ≡ in_flight self.old) × (self.new.flows.items ≡ self.old.flows.items)) }
         ensures refused { IfErr result (λ e. e ≡ Error.OutOfMemory) }
     {
         let units = message.bytes.len() as u128 * UNITS_A_BYTE;

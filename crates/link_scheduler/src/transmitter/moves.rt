@@ -23,10 +23,13 @@ impl<P: Peer> Working<P> {
         ensures refused { IfErr result (λ e. e ≡ Error.OutOfMemory) }
     {
         let before = idle_from(&self.flights, &self.waiting, &self.pairs, origin, recipient);
-        self.pairs.raise(self.alloc, origin, recipient, moment)?;
-        let after = idle_from(&self.flights, &self.waiting, &self.pairs, origin, recipient);
+        let mut pairs = self.pairs.clone()?;
+        pairs.raise(self.alloc, origin, recipient, moment)?;
+        let after = idle_from(&self.flights, &self.waiting, &pairs, origin, recipient);
         self.idle
-            .change(self.alloc, origin, recipient, before, after)
+            .change(self.alloc, origin, recipient, before, after)?;
+        self.pairs = pairs;
+        Ok(())
     }
 
     /// The message joins those that wait for its pair, as the last one.
@@ -37,10 +40,13 @@ impl<P: Peer> Working<P> {
     {
         let (origin, recipient) = (&pair.origin, &pair.recipient);
         let before = idle_from(&self.flights, &self.waiting, &self.pairs, origin, recipient);
-        self.waiting.push(self.alloc, message)?;
-        let after = idle_from(&self.flights, &self.waiting, &self.pairs, origin, recipient);
+        let mut waiting = self.waiting.clone()?;
+        waiting.push(self.alloc, message)?;
+        let after = idle_from(&self.flights, &waiting, &self.pairs, origin, recipient);
         self.idle
-            .change(self.alloc, origin, recipient, before, after)
+            .change(self.alloc, origin, recipient, before, after)?;
+        self.waiting = waiting;
+        Ok(())
     }
 
     /// The first message that waits for the pair is in flight from now on, under the next flow id.
@@ -51,15 +57,17 @@ impl<P: Peer> Working<P> {
         ensures refused { IfErr result (λ e. e ≡ Error.OutOfMemory) }
     {
         let before = idle_from(&self.flights, &self.waiting, &self.pairs, origin, recipient);
-        let Some(message) = self.waiting.take_first(origin, recipient)? else {
+        let mut waiting = self.waiting.clone()?;
+        let Some(message) = waiting.take_first(origin, recipient)? else {
             return Ok(());
         };
-        let id = self.next_id;
+        let mut idle = self.idle.clone()?;
+        idle.change(self.alloc, origin, recipient, before, None)?;
+        self.flights.push(message, self.next_id, now)?;
         self.next_id += 1;
-        self.flights.push(message, id, now)?;
-        let after = idle_from(&self.flights, &self.waiting, &self.pairs, origin, recipient);
-        self.idle
-            .change(self.alloc, origin, recipient, before, after)
+        self.waiting = waiting;
+        self.idle = idle;
+        Ok(())
     }
 
     /// A message waits behind the one of its pair that is in flight.

@@ -4,8 +4,8 @@ use Rattle.std.specs.List.{AllZip}
 use Rattle.link_scheduler.specs.Progress.{GrowsBy}
 use Rattle.fair_rates.specs.FairParts.{product}
 use Rattle.link_scheduler.specs.Flights.{sending_of, are_standing}
-use Rattle.link_simulation.specs.WorldPlanned.{IsLeastMoment, SomeSpentAt}
-use Rattle.link_scheduler.proofs.Progressing.{stand_same, rated_sending, written_back}
+use Rattle.link_simulation.specs.WorldPlanned.{IsLeastMoment, SomeSpentAt, paced_flows}
+use Rattle.link_scheduler.proofs.Progressing.{stand_same, messages_same, rated_sending, written_back}
 use Rattle.link_scheduler.proofs.Rating.{left_there, first_spent}
 use Rattle.link_scheduler.proofs.InFlight.{standing_length}
 use Rattle.link_scheduler.proofs.Units.{other_factor}
@@ -63,3 +63,18 @@ returns-clause-finish g c =
 
 pub rerate_all-requires-clause-parallel : goal.rerate_all-requires-clause-parallel
 rerate_all-requires-clause-parallel g c = c.requires.one_each ∙ standing_length g.P.Ord.cmp c.args.self.now.flows.items c.args.self.now.progress.items c.args.self.now.stand ∙ sym (ap length c.deref_mut.ensures.value)
+
+pub returns-in_err-finish-clause-messages : goal.returns-in_err-finish-clause-messages
+returns-in_err-finish-clause-messages g c =
+    let old = c.args.self.now in
+    let lengths : length c.rerate_all.new.progress ≡ length old.progress.items = omega arith in
+    let items : take old.progress.len (c.rerate_all.new.progress ++ drop (length c.rerate_all.new.progress) old.progress.items) ≡ c.rerate_all.new.progress = written_back old.progress.len old.progress.items c.rerate_all.new.progress old.progress.ok.0 lengths in
+    ap (λ l. paced_flows (sending_of old.scale old.levels.items l)) items ∙ messages_same old.scale old.scale old.levels.items old.levels.items old.progress.items c.rerate_all.new.progress (rw (← c.deref_mut.ensures.value) c.rerate_all.ensures.same)
+
+pub returns-clause-messages : goal.returns-clause-messages
+returns-clause-messages g c =
+    let old = c.args.self.now in
+    let lengths : length c.rerate_all.new.progress ≡ length old.progress.items = omega arith in
+    let items : take old.progress.len (c.rerate_all.new.progress ++ drop (length c.rerate_all.new.progress) old.progress.items) ≡ c.rerate_all.new.progress = written_back old.progress.len old.progress.items c.rerate_all.new.progress old.progress.ok.0 lengths in
+    ap (λ l. paced_flows (sending_of c.args.rates.scale c.args.rates.levels.items l)) items
+    ∙ messages_same old.scale c.args.rates.scale old.levels.items c.args.rates.levels.items old.progress.items c.rerate_all.new.progress (rw (← c.deref_mut.ensures.value) c.rerate_all.ensures.same)

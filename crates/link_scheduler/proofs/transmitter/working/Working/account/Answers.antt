@@ -1,33 +1,34 @@
-use Rattle.std.proofs.Common.{◌≡◌, ◌≢◌, true, List, All, not, sym, ap, ◌∙◌, subst}
-use Rattle.std.specs.Prelude.{nat_lt}
-use Rattle.std.specs.List.{filter, list_all}
-use Rattle.fair_rates.specs.declared.bandwidth.Flow.{Flow}
+use Rattle.std.proofs.Common.{◌≡◌, ◌≢◌, List, All, not, sym, ap, ◌∙◌, subst}
+use Rattle.std.specs.List.{filter}
 use Rattle.link_simulation.specs.WorldPlanned.{Planned, Paced, IsLeastMoment, SomeSpentAt, paced_flows, drained_to, is_spent}
 use Rattle.link_simulation.specs.WorldEvents.{Accounts}
+use Rattle.link_scheduler.specs.InFlight.{in_flight}
 use Rattle.link_scheduler.specs.Working.{planned, messages}
 use Rattle.link_scheduler.proofs.Accounting.{looked_up, accounts_so, some_left}
+use Rattle.link_scheduler.proofs.IdleChanges.{flows_drained, same_flights_index}
 use Rattle.link_scheduler.proofs.transmitter.working.Working.account.Goals as goal
 
-pub invariant_of-self-2 : goal.invariant_of-self-2
-invariant_of-self-2 g c = record {
-  fresh = subst (λ (flows : List (Flow g.row.P.Denot)). list_all (λ flow. nat_lt flow.id c.args.self.now.next_id) flows ≡ true) (sym c.renew_units.ensures.flows)
-      (c.take_done.ensures.others (λ flow. nat_lt flow.id c.args.self.now.next_id) (rw c.drain.ensures.flows c.args.self.now.fresh));
-}
+pub leave-left-requires : goal.leave-left-requires
+leave-left-requires g c =
+    let old = c.args.self.now in
+    record {
+      indexed = same_flights_index g.P.Ord.cmp g.met.P.Ord.total old.pairs.entries old.waiting.messages (in_flight old.flights) (in_flight c.drain.new.self) old.idle.entries (ap paced_flows c.drain.ensures.sending ∙ flows_drained c.args.now (in_flight old.flights)) old.indexed;
+    }
 
 pub set_rates-requires-clause-left : goal.set_rates-requires-clause-left
 set_rates-requires-clause-left g c =
     let old : Planned g.row.P.Denot = planned g.P.Ord.cmp c.args.self.now in
-    let rest = c.renew_units.ensures.sending ∙ c.in_ok-done.ensures.rest ∙ ap (filter (λ (f : Paced g.row.P.Denot). not (is_spent g.P.Ord.cmp old.caps f))) c.drain.ensures.sending in
+    let rest = c.renew_units.ensures.sending ∙ c.in-Ok.ensures.rest ∙ ap (filter (λ (f : Paced g.row.P.Denot). not (is_spent g.P.Ord.cmp old.caps f))) c.drain.ensures.sending in
     subst (λ (fs : List (Paced g.row.P.Denot)). All (λ f. f.left.num ≢ 0) fs) (sym rest) (some_left g.P.Ord.cmp old (drained_to c.args.now old.sending))
 
 pub returns-clause-accounts : goal.returns-clause-accounts
 returns-clause-accounts g c =
     let old : Planned g.row.P.Denot = planned g.P.Ord.cmp c.args.self.now in
-    let rest = c.renew_units.ensures.sending ∙ c.in_ok-done.ensures.rest ∙ ap (filter (λ (f : Paced g.row.P.Denot). not (is_spent g.P.Ord.cmp old.caps f))) c.drain.ensures.sending in
+    let rest = c.renew_units.ensures.sending ∙ c.in-Ok.ensures.rest ∙ ap (filter (λ (f : Paced g.row.P.Denot). not (is_spent g.P.Ord.cmp old.caps f))) c.drain.ensures.sending in
     let flying = c.renew_units.new.self in
     let found = c.in_ok-rates.rates in
-    subst (λ (fs : List (Paced g.row.P.Denot)). Accounts g.P.Ord.cmp c.args.now old (messages c.in_ok-done.done.items) (record old { sending = fs; finish = c.in_ok-self.field-0 })) (sym c.in_ok-self.ensures.sending)
+    subst (λ (fs : List (Paced g.row.P.Denot)). Accounts g.P.Ord.cmp c.args.now old (messages c.in-Ok.done.items) (record old { sending = fs; finish = c.in_ok-self.field-0 })) (sym c.in_ok-self.ensures.sending)
     (accounts_so g.P.Ord.cmp g.met.P.Ord.total c.args.now old (looked_up g.P.Ord.cmp g.met.P.Ord.total c.args.self.now.peers.entries c.args.self.now.pairs.entries)
-    flying.scale flying.levels.items flying.flows.items flying.progress.items flying.stand rest (messages c.in_ok-done.done.items) found c.in_ok-self.field-0
-    (c.in_ok-done.ensures.done ∙ ap (λ (fs : List (Paced g.row.P.Denot)). paced_flows (filter (is_spent g.P.Ord.cmp old.caps) fs)) c.drain.ensures.sending) c.in_ok-rates.ensures.fair
+    flying.scale flying.levels.items flying.flows.items flying.progress.items flying.stand rest (messages c.in-Ok.done.items) found c.in_ok-self.field-0
+    (c.in-Ok.ensures.done ∙ ap (λ (fs : List (Paced g.row.P.Denot)). paced_flows (filter (is_spent g.P.Ord.cmp old.caps) fs)) c.drain.ensures.sending) c.in_ok-rates.ensures.fair
     (subst (λ (fs : List (Paced g.row.P.Denot)). IsLeastMoment (λ s. SomeSpentAt fs s) c.in_ok-self.field-0) c.in_ok-self.ensures.sending c.in_ok-self.ensures.finish))

@@ -1,19 +1,40 @@
+use Rattle.std.proofs.Common.{map, sym, subst}
 use Rattle.link_scheduler.specs.Message.{message_of}
-use Rattle.link_scheduler.specs.Peers.{egress_of, ingress_of}
+use Rattle.link_scheduler.specs.AtRest.{of_pairs}
+use Rattle.link_scheduler.specs.Idle.{IsIndexOf}
 use Rattle.link_scheduler.specs.InFlight.{in_flight}
-use Rattle.link_scheduler.specs.Working.{planned}
+use Rattle.link_scheduler.specs.Pairs.{arrival_of}
+use Rattle.link_scheduler.specs.Working.{planned, caps_of}
+use Rattle.link_scheduler.proofs.Accounting.{arrivals_looked_up}
 use Rattle.link_scheduler.proofs.Busy.{enqueue_waits}
+use Rattle.link_scheduler.proofs.IdleChanges.{waited_index}
+use Rattle.link_scheduler.proofs.Settling.{on_either}
 use Rattle.link_scheduler.proofs.transmitter.working.Working.wait.Goals as goal
 
 pub returns-clause-enqueues : goal.returns-clause-enqueues
-returns-clause-enqueues g c = enqueue_waits g.P.Ord.cmp g.met.P.Ord.total c.args.now (message_of c.args.message) (planned g.P.Ord.cmp c.args.self.now) _ (planned g.P.Ord.cmp c.look.new.self) c.requires.limited c.requires.busy
+returns-clause-enqueues g c =
+    let cmp = g.P.Ord.cmp in
+    let old = c.args.self.now in
+    enqueue_waits cmp g.met.P.Ord.total c.args.now (message_of c.args.message) (planned cmp old) _ (planned cmp c.look.new.self) c.requires.limited c.requires.busy
     (λ i. record {
-      caps = record { egress = egress_of g.P.Ord.cmp c.args.self.now.peers.entries; ingress = ingress_of g.P.Ord.cmp c.args.self.now.peers.entries; link = c.push.ensures.link i };
-      limited = c.args.self.now.limited;
-      sending = in_flight c.args.self.now.flights;
+      caps = caps_of cmp old.peers.entries old.pairs.entries;
+      limited = old.limited;
+      sending = in_flight old.flights;
       waiting = c.in_ok-push.ensures.waiting i;
-      last_arrival = c.push.ensures.arrival i;
-      next_id = c.args.self.now.next_id;
-      finish = c.args.self.now.finish;
-      start = c.args.self.now.start;
+      last_arrival = arrival_of cmp old.pairs.entries;
+      next_id = old.next_id;
+      finish = old.finish;
+      start = old.start;
     }) c.look.ensures
+
+pub invariant_of-self : goal.invariant_of-self
+invariant_of-self g c =
+    let cmp = g.P.Ord.cmp in
+    let old = c.args.self.now in
+    record {
+      fresh = old.fresh;
+      indexed = on_either c.push.result
+          (λ joined. waited_index cmp g.met.P.Ord.total old.pairs.entries old.waiting.messages c.push.new.self.messages (in_flight old.flights) (message_of c.args.message) old.idle.entries joined c.requires.busy (arrivals_looked_up cmp g.met.P.Ord.total old.pairs.entries) old.indexed)
+          (λ same. subst (λ ms. IsIndexOf cmp (of_pairs cmp old.pairs.entries ms (in_flight old.flights)) old.idle.entries) (sym same) old.indexed)
+          c.push.ensures.waiting c.push.ensures.kept;
+    }

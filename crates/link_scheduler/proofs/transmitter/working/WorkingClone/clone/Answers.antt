@@ -7,6 +7,7 @@ use Rattle.link_scheduler.proofs.transmitter.working.WorkingClone.clone.Goals as
 
 pub invariant_of-result : goal.invariant_of-result
 invariant_of-result g c = record {
+  indexed = rw (c.in_ok-clone-4.ensures.cases, c.in_ok-clone-2.ensures.cases, c.in_ok-clone-3.ensures.cases, in_flight_alike g.P.Ord.cmp c.args.self.now.flights c.in_ok-clone-5.field-0 c.in_ok-clone-5.ensures.cases) c.args.self.now.indexed;
   fresh = below_alike g.P.Ord.cmp c.args.self.now.next_id c.args.self.now.flights.flows.items c.in_ok-clone-5.field-0.flows.items c.in_ok-clone-5.ensures.cases.flows ∙ c.args.self.now.fresh;
 }
 
