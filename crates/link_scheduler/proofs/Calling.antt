@@ -1,10 +1,12 @@
 -- The calls of a scheduler, which work on a planned world that is the same as the one kept.
-use Rattle.std.proofs.Common.{◌≡◌, ℕ, List, Option, true, subst}
+use Rattle.std.proofs.Common.{◌≡◌, ℕ, List, Option, true, sym, subst}
+use Rattle.std.specs.List.{AllZip}
 use Rattle.std.specs.declared.cmp.Ordering.{Ordering}
 use Rattle.std.specs.Cmp.{IsTotalOrder}
 use Rattle.fair_rates.specs.declared.error.Error.{Error}
 use Rattle.fair_rates.specs.Caps.{Caps}
-use Rattle.link_simulation.specs.WorldMessages.{Message}
+use Rattle.link_simulation.specs.WorldMessages.{Message, CapsAlike, PairsAlike}
+use Rattle.link_simulation.specs.WorldReplies.{SameCompletion}
 use Rattle.link_simulation.specs.World.{Completed, Course, goes, meets}
 use Rattle.link_simulation.specs.WorldCalls.{Call, call_limit, call_limit_link, call_enqueue, call_advance, limited_by, linked_by}
 use Rattle.link_simulation.specs.WorldPlanned.{Planned}
@@ -14,7 +16,8 @@ use Rattle.link_simulation.specs.WorldEvents.{Obeys}
 use Rattle.link_simulation.specs.WorldRefusals.{MayBeRefused}
 use Rattle.link_simulation.specs.SamePlanned.{IsSamePlanned, IsSameCourse, Goes, GoesCounted}
 use Rattle.link_simulation.proofs.Refusals.{refused_more}
-use Rattle.link_simulation.proofs.World.SameWorlds.{same_turned}
+use Rattle.link_simulation.proofs.World.Agreeing.{all_trans}
+use Rattle.link_simulation.proofs.World.SameWorlds.{same_itself, same_turned}
 use Rattle.link_simulation.proofs.World.SameCourses.{obeys_same, advances_same}
 use Rattle.link_simulation.proofs.World.SameRefusals.{refused_same, call_itself}
 
@@ -34,6 +37,17 @@ module _ {P : Type 0} (cmp : P → P → Ordering) (order : IsTotalOrder cmp) wh
 
   pub advances_on : (now n : ℕ) (p q r : Planned P) (cs : List (Completed P)) → IsSamePlanned cmp p q → Advances cmp now q n (goes cs r) → GoesCounted cmp now p n cs r
   advances_on now n p q r cs same advances = let c = advances_same cmp order q p now n (goes cs r) (same_turned cmp order p q same) advances in advances_as now n p r cs c.0 c.1 c.2
+
+  -- a copy that is read as what it is of
+  pub same_copy : (p q : Planned P) → q ≡ p → CapsAlike cmp p.caps p.caps → PairsAlike cmp p.last_arrival p.last_arrival → IsSamePlanned cmp p q
+  same_copy p q is caps arrivals = subst (λ (r : Planned P). IsSamePlanned cmp p r) (sym is) (same_itself cmp order p caps arrivals)
+
+  -- what goes so is answered with clones of what came out
+  pub goes_answered : (p r : Planned P) (call : Call P) (ds cs : List (Completed P)) → AllZip (SameCompletion cmp) ds cs → Goes cmp p call cs r → Goes cmp p call ds r
+  goes_answered p r call ds cs clones went = record { answers = went.answers; after = went.after; obeys = went.obeys; same_answers = all_trans cmp order ds cs went.answers clones went.same_answers; same_after = went.same_after }
+
+  pub counted_answered : (now n : ℕ) (p r : Planned P) (ds cs : List (Completed P)) → AllZip (SameCompletion cmp) ds cs → GoesCounted cmp now p n cs r → GoesCounted cmp now p n ds r
+  counted_answered now n p r ds cs clones went = record { answers = went.answers; after = went.after; advances = went.advances; same_answers = all_trans cmp order ds cs went.answers clones went.same_answers; same_after = went.same_after }
 
   pub counted_goes : (now n : ℕ) (p r : Planned P) (cs : List (Completed P)) → GoesCounted cmp now p n cs r → Goes cmp p (call_advance now) cs r
   counted_goes now n p r cs counted = record { answers = counted.answers; after = counted.after; obeys = (n, counted.advances); same_answers = counted.same_answers; same_after = counted.same_after }

@@ -11,10 +11,7 @@ use Rattle.link_simulation.specs.WorldMessages.{Message, same_pair}
 use Rattle.link_simulation.specs.World.{Completed, Course, goes, meets, preceded, without_first, fronts}
 use Rattle.link_simulation.specs.WorldPlanned.{Planned, Paced, IsLeastMoment, SomeSpentAt, SomeReadyAt, next_of, left_at, drained_to, is_spent, may_launch}
 use Rattle.link_simulation.specs.WorldEvents.{Accounts, Looks, Launches, nothing_waits, too_early, no_id, starts, launched, landed, Finishes, all_completed, late, stopped, completes, Settles, settling, WakesEach, all_started, no_start, no_finish, starts_one, Wakes}
-use Rattle.link_scheduler.specs.declared.transmitter.pairs.Pair.{Pair}
 use Rattle.fair_rates.specs.Amount.{whole}
-use Rattle.link_scheduler.specs.Message.{message_of}
-use Rattle.link_scheduler.specs.Pairs.{messages_of, waiting_of}
 use Rattle.link_scheduler.specs.Events.{IsDue, Happens}
 use Rattle.link_scheduler.proofs.MessageCounts.{accounts_keep, accounts_waiting, length-without, length-map, same_itself}
 use Rattle.link_simulation.proofs.Sorted.{by_bool}
@@ -262,21 +259,12 @@ module _ {P : Type 0} (cmp : P → P → Ordering) where
 
 -- ---- how many there may be
 
-waiting_most : {P : Type 0} (es : List (Pair P)) → length (waiting_of es) ≤ length es * 9223372036854775807
-waiting_most [] = omega arith
-waiting_most (e ∷ es) =
-    let here : length (messages_of e) < 9223372036854775808 = let m : length (messages_of e) ≡ length e.waiting.items = length-map message_of e.waiting.items in omega (arith, m, e.waiting.small, e.waiting.ok) in
-    let both : length (messages_of e ++ waiting_of es) ≡ length (messages_of e) + length (waiting_of es) = length-append (messages_of e) (waiting_of es) in
-    omega (arith, here, both, waiting_most es)
-
 lack_low : {P : Type 0} (cmp : P → P → Ordering) (b : Bool) → lack cmp b ≤ 1
 lack_low cmp true = omega arith
 lack_low cmp false = omega arith
 
-pub events_few : {P : Type 0} (cmp : P → P → Ordering) (p : Planned P) (es : List (Pair P)) → p.waiting ≡ waiting_of es → length es < 9223372036854775808 → length p.sending < 9223372036854775808 → events_left cmp p < 340282366920938463463374607431768211456
-events_few cmp p es is pairs sends =
-    let waits : length p.waiting ≡ length (waiting_of es) = ap length is in
-    let most : length (waiting_of es) ≤ length es * 9223372036854775807 = waiting_most es in
+pub events_few : {P : Type 0} (cmp : P → P → Ordering) (p : Planned P) → length p.waiting < 18446744073709551616 → length p.sending < 18446744073709551616 → events_left cmp p < 340282366920938463463374607431768211456
+events_few cmp p waits sends =
     let one : lack cmp (spent_at p.sending p.finish) ≤ 1 = lack_low cmp (spent_at p.sending p.finish) in
     let two : lack cmp (ready_at cmp p p.start) ≤ 1 = lack_low cmp (ready_at cmp p p.start) in
-    omega (arith, waits, most, one, two, pairs, sends)
+    omega (arith, waits, one, two, sends)

@@ -1,5 +1,6 @@
 -- What waits: the first message of a pair, and the list after a message joins it or leaves it.
-use Rattle.std.proofs.Common.{◌≡◌, ℕ, ◌<◌, Bool, true, false, not, ◌&&◌, List, [], ◌∷◌, ◌++◌, length, map, slice_get, Option, Some, None, refl, sym, ◌∙◌, ap}
+use Rattle.std.proofs.Common.{◌≡◌, ℕ, zero, suc, ◌<◌, ◌≤◌, Result, Ok, Err, OnOk, if◌then◌else◌, subst, arith, Bool, true, false, not, ◌&&◌, List, [], ◌∷◌, ◌++◌, length, map, slice_get, Option, Some, None, refl, sym, ◌∙◌, ap}
+use Rattle.std.specs.Result.{is_ok}
 use Rattle.std.specs.List.{list_all, list_any, insert, remove}
 use Rattle.std.specs.Option.{option_map}
 use Rattle.std.specs.Borrow.{Bor}
@@ -280,3 +281,19 @@ module _ {P : Type 0} (cmp : P → P → Ordering) (total : IsTotalOrder cmp) wh
         ∙ list_all-mono (λ n. not (is_gt (pair_cmp cmp (pair_of n) (pair_of m)))) (λ n. not (pair_before cmp (message_of m) (message_of n))) (λ n h. not_above_back (pair_cmp cmp) (pair_total cmp total) (pair_of n) (pair_of m) h) p.before p.below)
         ∙ ap (λ l. map message_of p.before ++ l) (queued-stop cmp (message_of m) (map message_of p.after) (list_all-map (pair_before cmp (message_of m)) message_of p.after
         ∙ list_all-mono (λ n. is_gt (pair_cmp cmp (pair_of n) (pair_of m))) (λ n. pair_before cmp (message_of m) (message_of n)) (λ n h. before_greater (message_of m) (message_of n) h) p.after above)))
+
+-- ---- how many wait
+
+pub few_after : {X E A : Type 0} (old new more : List X) (r : Result A E) → OnOk r (length new < 18446744073709551616) → new ≡ (if is_ok r then more else old) → length old < 18446744073709551616 → length new < 18446744073709551616
+few_after old new more (Ok x) fits is few = fits
+few_after old new more (Err e) fits is few = subst (λ l. length l < 18446744073709551616) (sym is) few
+
+pub few_removed : {X E A : Type 0} {new : List X} (r : Result A E) (old : List X) (at : ℕ) → new ≡ (if is_ok r then remove old at else old) → length old < 18446744073709551616 → length new < 18446744073709551616
+few_removed (Ok x) old at is few = subst (λ l. length l < 18446744073709551616) (sym is) (omega (arith, few, fewer old at))
+  where
+    fewer : {X : Type 0} (xs : List X) (at : ℕ) → length (remove xs at) ≤ length xs
+    fewer [] zero = omega arith
+    fewer [] (suc at) = omega arith
+    fewer (x ∷ xs) zero = omega arith
+    fewer (x ∷ xs) (suc at) = let rest : length (remove xs at) ≤ length xs = fewer xs at in omega (arith, rest)
+few_removed (Err e) old at is few = subst (λ l. length l < 18446744073709551616) (sym is) few

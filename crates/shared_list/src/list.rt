@@ -1,5 +1,5 @@
 //! A list as a tree of shared nodes.
-ghost use Rattle.std.specs.Prelude.{◌≡◌, ◌<◌, ◌≤◌, ◌+◌, [], ◌++◌, ◌∷◌, length, if◌then◌else◌, is_ok, slice_get, slice_set, option_map, true, Some, IfOk};
+ghost use Rattle.std.specs.Prelude.{◌≡◌, ◌<◌, ◌≤◌, ◌+◌, [], ◌++◌, ◌∷◌, length, if◌then◌else◌, is_ok, slice_get, slice_set, option_map, true, Some, IfOk, OnOk, ◌^◌};
 ghost use Rattle.std.specs.List.{insert, remove};
 ghost use Rattle.shared_list.specs.Places.{are_parted, IsParting};
 
@@ -88,6 +88,7 @@ impl<T: Drop> SharedList<T> {
     pub fn insert(&mut self, alloc: Global, at: usize, item: T) -> Result<(), AllocError>
         requires { at ≤ length self.old }
         ensures items { self.new ≡ (if is_ok result then insert self.old at item else self.old) }
+        ensures fits { OnOk result (length self.new < 2 ^ 64) }
     {
         let item = Rc::new(alloc, item).map_err(|_refused| AllocError)?;
         self.put(alloc, at, item)
@@ -98,6 +99,7 @@ impl<T: Drop> SharedList<T> {
     pub(crate) fn put(&mut self, alloc: Global, at: usize, item: Rc<T>) -> Result<(), AllocError>
         requires { at ≤ length self.old }
         ensures items { self.new ≡ (if is_ok result then insert self.old at item.value else self.old) }
+        ensures fits { OnOk result (length self.new < 2 ^ 64) }
     {
         match &mut self.root {
             None => {

@@ -1,5 +1,5 @@
 //! The nodes of the tree.
-ghost use Rattle.std.specs.Prelude.{◌≡◌, ◌≢◌, ◌<◌, ◌≤◌, ◌+◌, [], ◌++◌, ◌∷◌, length, if◌then◌else◌, is_ok, slice_get, slice_set, Some, IfOk};
+ghost use Rattle.std.specs.Prelude.{◌≡◌, ◌≢◌, ◌<◌, ◌≤◌, ◌+◌, [], ◌++◌, ◌∷◌, length, if◌then◌else◌, is_ok, slice_get, slice_set, Some, IfOk, OnOk, ◌^◌};
 ghost use Rattle.std.specs.List.{insert, remove};
 ghost use Rattle.shared_list.specs.Tree.{items_in, IsSameNode};
 
@@ -58,6 +58,7 @@ impl<T: Drop> Node<T> {
         requires place { at ≤ length (items_in self.old) }
         ensures items { items_in self.new ≡ (if is_ok result then insert (items_in self.old) at item.value else items_in self.old) }
         ensures len { self.new.len ≡ length (items_in self.new) }
+        ensures fits { OnOk result (length (items_in self.new) < 2 ^ 64) }
     {
         let len = self.len.checked_add(1).ok_or(AllocError)?;
         let middle = self.before.len();

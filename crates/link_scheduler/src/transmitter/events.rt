@@ -158,7 +158,7 @@ impl<P: Peer> Working<P> {
             return Ok(ended);
         }
         let pair = Key::new(&message.origin, &message.recipient)?;
-        self.queue(&pair, message)?;
+        self.join(&pair, message)?;
         let queue = self.launch(&pair.origin, &pair.recipient, now)?;
         self.finish(queue, now, &mut ended)?;
         Ok(ended)

@@ -33,7 +33,7 @@ impl<P: Peer> Working<P> {
     }
 
     /// The message joins those that wait for its pair, as the last one.
-    pub(crate) fn queue(&mut self, pair: &Key<P>, message: Message<P>) -> Result<(), Error>
+    pub(crate) fn join(&mut self, pair: &Key<P>, message: Message<P>) -> Result<(), Error>
         requires { IsKeyOf P.cmp pair.now (message_of message) }
         ensures queued { OnOk result (planned P.cmp self.new ≡ with_queued P.cmp (planned P.cmp self.old) (message_of message)) }
         ensures refused { IfErr result (λ e. e ≡ Error.OutOfMemory) }

@@ -1,5 +1,5 @@
 //! The messages that wait.
-ghost use Rattle.std.specs.Prelude.{◌≡◌, true, not, map, option_map, IfOk, IfErr, OnOk, OnErr};
+ghost use Rattle.std.specs.Prelude.{◌≡◌, ◌<◌, true, not, length, map, option_map, IfOk, IfErr, OnOk, OnErr};
 ghost use Rattle.std.specs.Ordering.{is_lt, is_gt};
 ghost use Rattle.link_scheduler.specs.Pairs.{pair_cmp};
 ghost use Rattle.link_scheduler.specs.Waiting.{pair_of, are_in_order};
@@ -15,6 +15,7 @@ use std::rc::Rc;
 #[derive(Drop)]
 pub(crate) struct Waiting<P: Peer> {
     messages: SharedList<Message<P>>,
+    pub ghost few: { length messages < 18446744073709551616 },
     pub ghost ordered: { are_in_order P.cmp messages ≡ true },
 }
 

@@ -3,19 +3,19 @@ use Rattle.std.proofs.lemmas.Result.{err_from_is_err_and}
 use Rattle.link_simulation.specs.World.{goes}
 use Rattle.link_simulation.specs.WorldCalls.{call_advance}
 use Rattle.link_scheduler.specs.Working.{planned}
-use Rattle.link_scheduler.specs.Message.{completed_of}
+use Rattle.link_scheduler.specs.Message.{completed_of, ended_of}
 use Rattle.link_simulation.specs.SamePlanned.{Goes}
-use Rattle.link_scheduler.proofs.Calling.{advance_refused, advances_on, counted_goes}
+use Rattle.link_scheduler.proofs.Calling.{advance_refused, advances_on, counted_goes, same_copy, goes_answered, counted_answered}
 use Rattle.link_scheduler.proofs.World.SameIsPlanned.{planned_on, few_on}
 use Rattle.link_scheduler.proofs.Accounting.{looked_up, arrivals_looked_up}
 use Rattle.link_scheduler.proofs.Promises.{orderly_on, promised_if, cause_of, split_on, within_caps_on}
 use Rattle.link_scheduler.proofs.transmitter.State.advance_counted.Goals as goal
 
-pub returns-in_err-completions-clause-refused : goal.returns-in_err-completions-clause-refused
-returns-in_err-completions-clause-refused g c =
-    let p = err_from_is_err_and c.from_residual-in_err-completions.result c.from_residual-in_err-completions.ensures.1 in
+pub returns-in_err-ended-clause-refused : goal.returns-in_err-ended-clause-refused
+returns-in_err-ended-clause-refused g c =
+    let p = err_from_is_err_and c.from_residual-in_err-ended.result c.from_residual-in_err-ended.ensures.1 in
     rw (p.1, p.2) (cause_of g.P.Ord.cmp g.met.P.Ord.total (planned g.P.Ord.cmp c.args.self.now.kept) (call_advance c.args.now) c.args.now _ refl c.ranges.now.fits
-    (advance_refused g.P.Ord.cmp g.met.P.Ord.total c.args.now (planned g.P.Ord.cmp c.args.self.now.kept) (planned g.P.Ord.cmp c.in_ok-working.working) c.in_ok-working.ensures.cases _ c.in_err-completions.ensures.refused))
+    (advance_refused g.P.Ord.cmp g.met.P.Ord.total c.args.now (planned g.P.Ord.cmp c.args.self.now.kept) (planned g.P.Ord.cmp c.in_ok-working.working) (same_copy g.P.Ord.cmp g.met.P.Ord.total (planned g.P.Ord.cmp c.args.self.now.kept) (planned g.P.Ord.cmp c.in_ok-working.working) c.in_ok-working.ensures.cases c.args.self.now.caps c.args.self.now.arrivals) _ c.in_err-ended.ensures.refused))
 
 pub invariant_of-self-clause-caps : goal.invariant_of-self-clause-caps
 invariant_of-self-clause-caps g c = looked_up g.P.Ord.cmp g.met.P.Ord.total c.advance.new.self.peers.entries c.advance.new.self.pairs.entries
@@ -26,26 +26,26 @@ invariant_of-self-clause-arrivals g c = arrivals_looked_up g.P.Ord.cmp g.met.P.O
 pub invariant_of-self-clause-right : goal.invariant_of-self-clause-right
 invariant_of-self-clause-right g c = planned_on g.P.Ord.cmp g.met.P.Ord.total (planned g.P.Ord.cmp c.args.self.now.kept) (planned g.P.Ord.cmp c.in_ok-working.working) (planned g.P.Ord.cmp c.advance.new.self)
     (call_advance c.args.now)
-    (map completed_of c.in_ok-completions.completions.items) c.in_ok-working.ensures.cases c.args.self.now.right
-    (c.in_ok-completions.events, c.in_ok-completions.ensures.advances)
+    (map ended_of c.in_ok-ended.ended.items) (same_copy g.P.Ord.cmp g.met.P.Ord.total (planned g.P.Ord.cmp c.args.self.now.kept) (planned g.P.Ord.cmp c.in_ok-working.working) c.in_ok-working.ensures.cases c.args.self.now.caps c.args.self.now.arrivals) c.args.self.now.right
+    (c.in_ok-ended.events, c.in_ok-ended.ensures.advances)
 
 pub invariant_of-self-clause-orderly : goal.invariant_of-self-clause-orderly
 invariant_of-self-clause-orderly g c = orderly_on g.P.Ord.cmp g.met.P.Ord.total (planned g.P.Ord.cmp c.args.self.now.kept) (planned g.P.Ord.cmp c.in_ok-working.working) (planned g.P.Ord.cmp c.advance.new.self)
     (call_advance c.args.now)
-    (map completed_of c.in_ok-completions.completions.items) c.in_ok-working.ensures.cases c.args.self.now.orderly
-    (c.in_ok-completions.events, c.in_ok-completions.ensures.advances)
+    (map ended_of c.in_ok-ended.ended.items) (same_copy g.P.Ord.cmp g.met.P.Ord.total (planned g.P.Ord.cmp c.args.self.now.kept) (planned g.P.Ord.cmp c.in_ok-working.working) c.in_ok-working.ensures.cases c.args.self.now.caps c.args.self.now.arrivals) c.args.self.now.orderly
+    (c.in_ok-ended.events, c.in_ok-ended.ensures.advances)
 
 pub returns-clause-counted : goal.returns-clause-counted
 returns-clause-counted g c = record {
-  by_rule = advances_on g.P.Ord.cmp g.met.P.Ord.total c.args.now c.in_ok-completions.events (planned g.P.Ord.cmp c.args.self.now.kept) (planned g.P.Ord.cmp c.in_ok-working.working) (planned g.P.Ord.cmp c.advance.new.self)
-      (map completed_of c.in_ok-completions.completions.items) c.in_ok-working.ensures.cases c.in_ok-completions.ensures.advances;
-  few = few_on g.P.Ord.cmp g.met.P.Ord.total c.args.now c.in_ok-completions.events (planned g.P.Ord.cmp c.args.self.now.kept) (planned g.P.Ord.cmp c.in_ok-working.working)
-      (goes (map completed_of c.in_ok-completions.completions.items) (planned g.P.Ord.cmp c.advance.new.self)) c.in_ok-working.ensures.cases c.args.self.now.right c.in_ok-completions.ensures.advances;
+  by_rule = counted_answered g.P.Ord.cmp g.met.P.Ord.total c.args.now c.in_ok-ended.events (planned g.P.Ord.cmp c.args.self.now.kept) (planned g.P.Ord.cmp c.advance.new.self) (map completed_of c.in_ok-completions.completions.items) (map ended_of c.in_ok-ended.ended.items) c.in_ok-completions.ensures.same (advances_on g.P.Ord.cmp g.met.P.Ord.total c.args.now c.in_ok-ended.events (planned g.P.Ord.cmp c.args.self.now.kept) (planned g.P.Ord.cmp c.in_ok-working.working) (planned g.P.Ord.cmp c.advance.new.self)
+      (map ended_of c.in_ok-ended.ended.items) (same_copy g.P.Ord.cmp g.met.P.Ord.total (planned g.P.Ord.cmp c.args.self.now.kept) (planned g.P.Ord.cmp c.in_ok-working.working) c.in_ok-working.ensures.cases c.args.self.now.caps c.args.self.now.arrivals) c.in_ok-ended.ensures.advances);
+  few = few_on g.P.Ord.cmp g.met.P.Ord.total c.args.now c.in_ok-ended.events (planned g.P.Ord.cmp c.args.self.now.kept) (planned g.P.Ord.cmp c.in_ok-working.working)
+      (goes (map ended_of c.in_ok-ended.ended.items) (planned g.P.Ord.cmp c.advance.new.self)) (same_copy g.P.Ord.cmp g.met.P.Ord.total (planned g.P.Ord.cmp c.args.self.now.kept) (planned g.P.Ord.cmp c.in_ok-working.working) c.in_ok-working.ensures.cases c.args.self.now.caps c.args.self.now.arrivals) c.args.self.now.right c.in_ok-ended.ensures.advances;
 }
 
 -- the advance goes, as it was counted
 went : (g : _) (c : goal.After-drop-self-6 g) → Goes g.P.Ord.cmp (planned g.P.Ord.cmp c.args.self.now.kept) (call_advance c.args.now) (map completed_of c.in_ok-completions.completions.items) (planned g.P.Ord.cmp c.advance.new.self)
-went g c = counted_goes g.P.Ord.cmp g.met.P.Ord.total c.args.now c.in_ok-completions.events (planned g.P.Ord.cmp c.args.self.now.kept) (planned g.P.Ord.cmp c.advance.new.self) (map completed_of c.in_ok-completions.completions.items) (returns-clause-counted g c).by_rule
+went g c = counted_goes g.P.Ord.cmp g.met.P.Ord.total c.args.now c.in_ok-ended.events (planned g.P.Ord.cmp c.args.self.now.kept) (planned g.P.Ord.cmp c.advance.new.self) (map completed_of c.in_ok-completions.completions.items) (returns-clause-counted g c).by_rule
 
 pub returns-clause-made : goal.returns-clause-made
 returns-clause-made g c = promised_if g.P.Ord.cmp g.met.P.Ord.total (planned g.P.Ord.cmp c.args.self.now.kept) (planned g.P.Ord.cmp c.advance.new.self) (call_advance c.args.now) c.args.now

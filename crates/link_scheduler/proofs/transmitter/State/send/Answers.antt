@@ -2,8 +2,8 @@ use Rattle.std.proofs.Common.{[], map, ap, refl}
 use Rattle.std.proofs.lemmas.Result.{err_from_is_err_and}
 use Rattle.link_simulation.specs.WorldCalls.{call_enqueue}
 use Rattle.link_scheduler.specs.Working.{planned}
-use Rattle.link_scheduler.specs.Message.{message_of, completed_of}
-use Rattle.link_scheduler.proofs.Calling.{enqueue_refused, goes_on}
+use Rattle.link_scheduler.specs.Message.{message_of, completed_of, ended_of}
+use Rattle.link_scheduler.proofs.Calling.{enqueue_refused, goes_on, same_copy, goes_answered}
 use Rattle.link_scheduler.proofs.World.SameIsPlanned.{planned_on}
 use Rattle.link_simulation.proofs.World.SameWorlds.{same_itself}
 use Rattle.link_scheduler.proofs.Accounting.{looked_up, arrivals_looked_up}
@@ -37,11 +37,11 @@ returns-then-has_to_wait-clause-made g c =
 
 -- where it goes on a copy
 
-pub returns-in_err-completions-clause-refused : goal.returns-in_err-completions-clause-refused
-returns-in_err-completions-clause-refused g c =
-    let p = err_from_is_err_and c.from_residual-in_err-completions.result c.from_residual-in_err-completions.ensures.1 in
+pub returns-in_err-ended-clause-refused : goal.returns-in_err-ended-clause-refused
+returns-in_err-ended-clause-refused g c =
+    let p = err_from_is_err_and c.from_residual-in_err-ended.result c.from_residual-in_err-ended.ensures.1 in
     rw (p.1, p.2) (cause_of g.P.Ord.cmp g.met.P.Ord.total (planned g.P.Ord.cmp c.args.self.now.kept) (call_enqueue c.args.now (message_of c.args.message)) c.args.now _ refl c.ranges.now.fits
-    (enqueue_refused g.P.Ord.cmp g.met.P.Ord.total c.args.now (message_of c.args.message) (planned g.P.Ord.cmp c.args.self.now.kept) (planned g.P.Ord.cmp c.in_ok-working.working) c.in_ok-working.ensures.cases _ c.in_err-completions.ensures.refused))
+    (enqueue_refused g.P.Ord.cmp g.met.P.Ord.total c.args.now (message_of c.args.message) (planned g.P.Ord.cmp c.args.self.now.kept) (planned g.P.Ord.cmp c.in_ok-working.working) (same_copy g.P.Ord.cmp g.met.P.Ord.total (planned g.P.Ord.cmp c.args.self.now.kept) (planned g.P.Ord.cmp c.in_ok-working.working) c.in_ok-working.ensures.cases c.args.self.now.caps c.args.self.now.arrivals) _ c.in_err-ended.ensures.refused))
 
 pub invariant_of-self-2-clause-caps : goal.invariant_of-self-2-clause-caps
 invariant_of-self-2-clause-caps g c = looked_up g.P.Ord.cmp g.met.P.Ord.total c.enqueue.new.self.peers.entries c.enqueue.new.self.pairs.entries
@@ -51,14 +51,15 @@ invariant_of-self-2-clause-arrivals g c = arrivals_looked_up g.P.Ord.cmp g.met.P
 
 pub invariant_of-self-2-clause-right : goal.invariant_of-self-2-clause-right
 invariant_of-self-2-clause-right g c = planned_on g.P.Ord.cmp g.met.P.Ord.total (planned g.P.Ord.cmp c.args.self.now.kept) (planned g.P.Ord.cmp c.in_ok-working.working) (planned g.P.Ord.cmp c.enqueue.new.self)
-    (call_enqueue c.args.now (message_of c.args.message)) (map completed_of c.in_ok-completions.completions.items) c.in_ok-working.ensures.cases c.args.self.now.right c.in_ok-completions.ensures.enqueues
+    (call_enqueue c.args.now (message_of c.args.message)) (map ended_of c.in_ok-ended.ended.items) (same_copy g.P.Ord.cmp g.met.P.Ord.total (planned g.P.Ord.cmp c.args.self.now.kept) (planned g.P.Ord.cmp c.in_ok-working.working) c.in_ok-working.ensures.cases c.args.self.now.caps c.args.self.now.arrivals) c.args.self.now.right c.in_ok-ended.ensures.enqueues
 
 pub invariant_of-self-2-clause-orderly : goal.invariant_of-self-2-clause-orderly
 invariant_of-self-2-clause-orderly g c = orderly_on g.P.Ord.cmp g.met.P.Ord.total (planned g.P.Ord.cmp c.args.self.now.kept) (planned g.P.Ord.cmp c.in_ok-working.working) (planned g.P.Ord.cmp c.enqueue.new.self)
-    (call_enqueue c.args.now (message_of c.args.message)) (map completed_of c.in_ok-completions.completions.items) c.in_ok-working.ensures.cases c.args.self.now.orderly c.in_ok-completions.ensures.enqueues
+    (call_enqueue c.args.now (message_of c.args.message)) (map ended_of c.in_ok-ended.ended.items) (same_copy g.P.Ord.cmp g.met.P.Ord.total (planned g.P.Ord.cmp c.args.self.now.kept) (planned g.P.Ord.cmp c.in_ok-working.working) c.in_ok-working.ensures.cases c.args.self.now.caps c.args.self.now.arrivals) c.args.self.now.orderly c.in_ok-ended.ensures.enqueues
 
 pub returns-clause-made : goal.returns-clause-made
 returns-clause-made g c = promised_if g.P.Ord.cmp g.met.P.Ord.total (planned g.P.Ord.cmp c.args.self.now.kept) (planned g.P.Ord.cmp c.enqueue.new.self)
     (call_enqueue c.args.now (message_of c.args.message)) c.args.now (map completed_of c.in_ok-completions.completions.items) refl c.ranges.now.fits c.args.self.now.orderly
+    (goes_answered g.P.Ord.cmp g.met.P.Ord.total (planned g.P.Ord.cmp c.args.self.now.kept) (planned g.P.Ord.cmp c.enqueue.new.self) (call_enqueue c.args.now (message_of c.args.message)) (map completed_of c.in_ok-completions.completions.items) (map ended_of c.in_ok-ended.ended.items) c.in_ok-completions.ensures.same
     (goes_on g.P.Ord.cmp g.met.P.Ord.total (planned g.P.Ord.cmp c.args.self.now.kept) (planned g.P.Ord.cmp c.in_ok-working.working) (planned g.P.Ord.cmp c.enqueue.new.self)
-    (call_enqueue c.args.now (message_of c.args.message)) (map completed_of c.in_ok-completions.completions.items) c.in_ok-working.ensures.cases c.in_ok-completions.ensures.enqueues)
+    (call_enqueue c.args.now (message_of c.args.message)) (map ended_of c.in_ok-ended.ended.items) (same_copy g.P.Ord.cmp g.met.P.Ord.total (planned g.P.Ord.cmp c.args.self.now.kept) (planned g.P.Ord.cmp c.in_ok-working.working) c.in_ok-working.ensures.cases c.args.self.now.caps c.args.self.now.arrivals) c.in_ok-ended.ensures.enqueues))

@@ -3,7 +3,7 @@ use Rattle.std.specs.Option.{option_map}
 use Rattle.link_scheduler.specs.Message.{message_of}
 use Rattle.link_scheduler.specs.Waiting.{are_in_order}
 use Rattle.link_simulation.proofs.Sorted.{either}
-use Rattle.link_scheduler.proofs.Waiting.{first_missing, without_missing, first_there, without_there, order_removed}
+use Rattle.link_scheduler.proofs.Waiting.{few_removed, first_missing, without_missing, first_there, without_there, order_removed}
 use Rattle.link_scheduler.proofs.transmitter.waiting.Waiting.take_first.Goals as goal
 
 pub returns-in_default-clause-taken : goal.returns-in_default-clause-taken
@@ -14,6 +14,7 @@ returns-in_default-clause-rest g c = sym (without_missing g.P.Ord.cmp g.met.P.Or
 
 pub invariant_of-self : goal.invariant_of-self
 invariant_of-self g c = record {
+  few = few_removed c.remove.result c.args.self.now.messages c.in-Some.at c.remove.ensures.items c.args.self.now.few;
   ordered = rw c.remove.ensures.items (either (λ ms. are_in_order g.P.Ord.cmp ms ≡ true) _
       (order_removed g.P.Ord.cmp g.met.P.Ord.total (c.args.origin.now, c.args.recipient.now) c.args.self.now.messages c.in-Some.at c.in-Some.ensures c.args.self.now.ordered) c.args.self.now.ordered);
 }

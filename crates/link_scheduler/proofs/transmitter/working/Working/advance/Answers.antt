@@ -1,8 +1,9 @@
 use Rattle.std.proofs.Common.{◌≡◌, ◌+◌, ◌<◌, ◌≤◌, map, length, refl, arith}
 use Rattle.std.proofs.lemmas.Result.{err_from_is_err_and}
 use Rattle.link_scheduler.specs.Working.{planned}
-use Rattle.link_scheduler.specs.Message.{ended_of}
-use Rattle.link_scheduler.proofs.InFlight.{length-sending}
+use Rattle.link_scheduler.specs.Message.{message_of, ended_of}
+use Rattle.link_scheduler.proofs.InFlight.{length-read}
+use Rattle.link_scheduler.specs.Flights.{paced_of}
 use Rattle.link_scheduler.proofs.Advancing.{advances_step, advances_end, event_refused, wake_refused}
 use Rattle.link_scheduler.proofs.Lightening.{events_left, happens_fewer, events_few}
 use Rattle.link_scheduler.proofs.transmitter.working.Working.advance.Goals as goal
@@ -17,10 +18,10 @@ overflow_add-events g c =
     let h = c.in_ok-happen.ensures.happens in
     let fewer : events_left g.P.Ord.cmp (planned g.P.Ord.cmp c.happen.new.self) + 1 ≤ events_left g.P.Ord.cmp (planned g.P.Ord.cmp c.loop-event.self) = happens_fewer g.P.Ord.cmp g.met.P.Ord.total c.args.now c.in-Some.event (planned g.P.Ord.cmp c.loop-event.self) (planned g.P.Ord.cmp c.happen.new.self) h.0 c.in-Some.ensures h.2 in
     let few : c.loop-event.events + events_left g.P.Ord.cmp (planned g.P.Ord.cmp c.loop-event.self) ≤ events_left g.P.Ord.cmp (planned g.P.Ord.cmp c.args.self.now) = c.loop-event.invariant.few in
-    let entries : length c.args.self.now.pairs.entries < 9223372036854775808 = omega (arith, c.args.self.now.pairs.entries.small, c.args.self.now.pairs.entries.ok) in
-    let flows : length c.args.self.now.flights.flows.items < 9223372036854775808 = omega (arith, c.args.self.now.flights.flows.small, c.args.self.now.flights.flows.ok) in
-    let all : events_left g.P.Ord.cmp (planned g.P.Ord.cmp c.args.self.now) < 340282366920938463463374607431768211456 = events_few g.P.Ord.cmp (planned g.P.Ord.cmp c.args.self.now) c.args.self.now.pairs.entries refl entries
-    (let same : length (planned g.P.Ord.cmp c.args.self.now).sending ≡ length c.args.self.now.flights.flows.items = length-sending c.args.self.now.flights.scale c.args.self.now.flights.levels.items c.args.self.now.flights.flows.items c.args.self.now.flights.progress.items c.args.self.now.flights.parallel in omega (arith, same, flows)) in
+    let old = c.args.self.now in
+    let waits : length (planned g.P.Ord.cmp old).waiting ≡ length old.waiting.messages = length-read message_of old.waiting.messages in
+    let sends : length (planned g.P.Ord.cmp old).sending ≡ length old.flights.progress.items = length-read (paced_of old.flights.scale old.flights.levels.items) old.flights.progress.items in
+    let all : events_left g.P.Ord.cmp (planned g.P.Ord.cmp old) < 340282366920938463463374607431768211456 = events_few g.P.Ord.cmp (planned g.P.Ord.cmp old) (omega (arith, waits, old.waiting.few)) (omega (arith, sends, old.flights.progress.small, old.flights.progress.ok)) in
     omega (arith, fewer, few, all)
 
 pub loop-event-smaller : goal.loop-event-smaller

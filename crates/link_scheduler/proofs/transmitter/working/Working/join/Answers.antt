@@ -8,7 +8,7 @@ use Rattle.link_scheduler.specs.Working.{caps_of}
 use Rattle.link_scheduler.specs.Pairs.{arrival_of}
 use Rattle.link_scheduler.proofs.Accounting.{arrivals_looked_up}
 use Rattle.link_scheduler.proofs.IdleChanges.{queued_index}
-use Rattle.link_scheduler.proofs.transmitter.working.Working.queue.Goals as goal
+use Rattle.link_scheduler.proofs.transmitter.working.Working.join.Goals as goal
 
 pub invariant_of-self-2 : goal.invariant_of-self-2
 invariant_of-self-2 g c =
