@@ -32,9 +32,10 @@ examples: bin/linkrun bin/linkcheck
 		./bin/linkcheck < $$trace | cmp - $${trace%.trace}.out && echo $$trace || exit 1; \
 	done
 
-# The library for C, Rust and Python, in bin/bindings, and the tests of each language whose tools are there.
+# The library for C, Rust and Python, in bin/bindings, and the tests of each language whose tools are there. After the
+# gate, `make bindings over=gate` takes what it proved.
 bindings:
-	@cd crates/p2p_simulated_c && rt lib > /dev/null
+	@bindings/archive.sh $(over)
 	@bindings/check.sh
 
 # Times of one allocation and of one message beside those of the Rust original. `make bench work="NAME .."` runs those alone.
