@@ -7,7 +7,8 @@ ghost use Rattle.p2p_simulated.specs.Answers.{CallableOnEach, CallableOnEachPair
 ghost use Rattle.p2p_simulated.specs.Caps.{Caps as CapsOf};
 ghost use Rattle.p2p_simulated.specs.Pairs.{pair_cmp};
 ghost use Rattle.p2p_simulated.specs.PeerCaps.{AnswerBy};
-ghost use Rattle.p2p_simulated_c.specs.Plan.{IsPlan, IsPlanned, MayRefusePlan, caps_of, flow_of, link_cap, peer_cap, rates_of};
+ghost use Rattle.p2p_simulated_c.specs.Plan.{IsPlan, IsPlanned, MayRefusePlan, caps_of, flow_of};
+ghost use Rattle.p2p_simulated_c.specs.Plan.{link_cap, peer_cap, rates_of};
 ghost use Rattle.p2p_simulated_c.specs.Planning.{caps_in};
 ghost use Rattle.p2p_simulated_c.specs.Records.{value_of};
 ghost use Rattle.p2p_simulated_c.specs.Written.{written};
@@ -34,7 +35,8 @@ pub extern "C" fn p2p_allocate(
     rates: &mut [PlanRate],
     rounds: &mut Wide,
 ) -> u32
-    ensures { IsPlanned (caps_of egress.now ingress.now links.now) flows.now result (value_of rounds.new) rates.old rates.new }
+    ensures { IsPlanned (caps_of egress.now ingress.now links.now) flows.now result (value_of rounds.new)
+        rates.old rates.new }
 {
     match plan(alloc, flows, egress, ingress, links) {
         Ok((by_id, counted)) => {
@@ -57,8 +59,10 @@ fn plan(
     ingress: &[PeerCap],
     links: &[LinkCap],
 ) -> Result<(BTreeMap<u64, Rate>, u128), Error>
-    ensures plan { IfOk result (λ planned. IsPlan (caps_of egress.now ingress.now links.now) (map flow_of flows.now) (get nat_cmp planned.0) planned.1) }
-    ensures refused { IfErr result (MayRefusePlan (caps_of egress.now ingress.now links.now) (map flow_of flows.now)) }
+    ensures plan { IfOk result (λ planned. IsPlan (caps_of egress.now ingress.now links.now) (map flow_of flows.now)
+        (get nat_cmp planned.0) planned.1) }
+    ensures refused { IfErr result (MayRefusePlan (caps_of egress.now ingress.now links.now)
+        (map flow_of flows.now)) }
 {
     let flows = listed(alloc, flows)?;
     let caps = Caps {
