@@ -1,10 +1,10 @@
 -- What is simulated is the one course of the simulation.
-use Rattle.std.proofs.Common.{◌≡◌, ℕ, ◌≤◌, List, ◌++◌, Option, sym, ap, ◌∙◌, subst}
+use Rattle.std.proofs.Common.{◌≡◌, ℕ, ◌≤◌, List, ◌++◌, Option, sym, subst}
 use Rattle.std.specs.List.{AllZip}
 use Rattle.std.specs.declared.cmp.Ordering.{Ordering}
 use Rattle.std.specs.Cmp.{IsTotalOrder}
 use Rattle.fair_rates.specs.declared.error.Error.{Error}
-use Rattle.link_simulation.specs.World.{World, Completed, Course, goes, meets}
+use Rattle.link_simulation.specs.World.{World, Completed, goes}
 use Rattle.link_simulation.specs.WorldTime.{NextIs}
 use Rattle.link_simulation.specs.WorldCalls.{Call, call_advance, Runs}
 use Rattle.link_simulation.specs.WorldReplies.{SameCompletion, Faults}

@@ -1,7 +1,7 @@
 //! What the words of the promises mean: what follows from each, and what it excludes.
 //!
 //! In the examples peers are numbers, and no limit holds unless one is named.
-ghost use Rattle.std.specs.Prelude.{◌≡◌, ℕ, ◌-◌, ◌*◌, ◌≤◌, List, [], ◌∷◌, Bool, true, Option, Some, None};
+ghost use Rattle.std.specs.Prelude.{◌≡◌, ℕ, ◌-◌, ◌*◌, ◌≤◌, List, [], ◌∷◌, Bool, true, Option, Some, None, nat_lt};
 ghost use Rattle.std.specs.List.{AllZip};
 ghost use Rattle.std.specs.Ordering.{nat_cmp};
 ghost use Rattle.fair_rates.specs.Amount.{whole};
@@ -13,11 +13,11 @@ ghost use Rattle.link_simulation.specs.WorldTime.{NextIs};
 ghost use Rattle.link_simulation.specs.WorldCalls.{Call, call_enqueue, call_advance, Runs};
 ghost use Rattle.link_simulation.specs.WorldPlanned.{Planned, new_planned};
 ghost use Rattle.link_simulation.specs.WorldReplies.{Reply, reply_done, SameCompletion, Faults};
-ghost use Rattle.link_simulation.specs.WorldRows.{message, arrives, paced};
+ghost use Rattle.link_simulation.specs.WorldRows.{message, arrives, paced, flying};
 ghost use Rattle.link_simulation.specs.WorldStands.{StandsFor};
 ghost use Rattle.link_simulation.specs.Conserved.{IsConserved, AreConserved};
 ghost use Rattle.link_simulation.specs.Orderly.{IsOrderly};
-ghost use Rattle.link_simulation.specs.ReplayLaws.{AlwaysSoFar, CompletePairsInOrder, IsolateSets};
+ghost use Rattle.link_simulation.specs.ReplayLaws.{AlwaysSoFar, CompletePairsInOrder, IsIsolated, IsolateSets};
 ghost use Rattle.link_simulation.specs.Simulated.{IsCalled, IsSimulated, IsNextInSimulation, KeepsRange};
 ghost use Rattle.link_simulation.specs.Simulated.{IsRefusedInSimulation, IsSplitAnywhere, KeepsToCaps};
 
@@ -47,6 +47,12 @@ pub fn sending_takes_its_time<P: Ord>()
         bytes_from P.cmp origin v ≡ whole 0 → bytes * 1_000_000_000 ≤ cap * (now - w.moment) }
 {}
 
+/// Of an origin both what is in flight and what waits counts, and of others nothing.
+pub fn all_that_an_origin_has_to_send_counts()
+    ensures { bytes_from nat_cmp 1 (record (flying 3 (message 1 2 4 0)) {
+        waiting = message 1 3 2 0 ∷ message 2 3 5 0 ∷ [] }) ≡ whole 6 }
+{}
+
 /// What holds of the first calls, however many, holds of all of them.
 pub fn what_holds_so_far_holds_of_all<P: Ord>()
     ensures { (law : List (Call P) → List (Reply P) → Bool) (calls : List (Call P)) (replies : List (Reply P)) →
@@ -66,9 +72,13 @@ pub fn a_completion_of_another_message_is_not_conserved()
         (arrives (message 1 2 2 0) 1 ∷ []) (new_planned 0) }
 {}
 
-/// A call that is answered without its completion lost a message.
+/// A call that is answered without its completion lost a message, and one that is answered with another arrival did
+/// not go by the event rule.
 pub fn a_lost_completion_is_not_conserved()
-    ensures { ¬ AreConserved nat_cmp (new_planned 0) (call_enqueue 0 (message 1 2 1 0) ∷ []) (reply_done [] ∷ []) }
+    ensures lost { ¬ AreConserved nat_cmp (new_planned 0)
+        (call_enqueue 0 (message 1 2 1 0) ∷ []) (reply_done [] ∷ []) }
+    ensures arrival { ¬ AreConserved nat_cmp (new_planned 0)
+        (call_enqueue 0 (message 1 2 1 0) ∷ []) (reply_done (arrives (message 1 2 1 0) 7 ∷ []) ∷ []) }
 {}
 
 /// A planned world is not in order where a message in flight has a rate that is not its fair one, where two messages
@@ -88,9 +98,11 @@ pub fn a_call_that_leaves_the_range_is_told()
     ensures { ¬ KeepsRange nat_cmp (new_planned 0) (call_advance 0) (new_planned 18_446_744_073_709_551_616) }
 {}
 
-/// An advance of a new scheduler is refused neither for a number, nor for a moment, nor for want of a flow id.
+/// An advance of a new scheduler is refused for a number neither in the range nor outside, and in the range neither
+/// for a moment nor for want of a flow id.
 pub fn a_refusal_without_a_cause_is_told()
-    ensures number { ¬ IsRefusedInSimulation nat_cmp (new_planned 0) (call_advance 0) NumberTooLarge }
+    ensures number { ¬ IsRefusedInSimulation nat_cmp (new_planned 0)
+        (call_advance 9_223_372_036_854_775_808) NumberTooLarge }
     ensures moment { ¬ IsRefusedInSimulation nat_cmp (new_planned 0) (call_advance 0) MomentTooLate }
     ensures id { ¬ IsRefusedInSimulation nat_cmp (new_planned 0) (call_advance 0) FlowIdsUsedUp }
 {}
@@ -99,8 +111,8 @@ pub fn a_refusal_without_a_cause_is_told()
 /// whose message completes with other bytes is not in order.
 pub fn replies_that_break_a_promise_are_told()
     ensures lost { ¬ IsolateSets nat_cmp (call_enqueue 0 (message 1 2 1 0) ∷ []) (reply_done [] ∷ []) }
-    ensures others { ¬ IsolateSets nat_cmp (call_enqueue 0 (message 3 4 1 0) ∷ [])
-        (reply_done (arrives (message 1 2 1 0) 0 ∷ []) ∷ []) }
+    ensures others { ¬ IsIsolated nat_cmp (λ p. nat_lt p 3) (call_enqueue 0 (message 3 4 1 0) ∷ [])
+        ((arrives (message 1 2 1 0) 0 ∷ []) ∷ []) }
     ensures order { ¬ CompletePairsInOrder nat_cmp (call_enqueue 0 (message 1 2 1 0) ∷ [])
         (reply_done (arrives (message 1 2 2 0) 0 ∷ []) ∷ []) }
 {}

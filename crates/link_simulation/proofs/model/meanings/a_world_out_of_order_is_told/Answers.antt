@@ -1,6 +1,5 @@
-use Rattle.std.proofs.Common.{◌≡◌, ℕ, List, [], ◌∷◌, Some, None, refl, subst}
+use Rattle.std.proofs.Common.{◌≡◌, ℕ, [], ◌∷◌, Some, None, refl, subst}
 use Rattle.std.specs.List.{AllZip}
-use Rattle.std.specs.Ordering.{nat_cmp}
 use Rattle.fair_rates.specs.Amount.{whole}
 use Rattle.link_simulation.specs.WorldPlanned.{Paced}
 use Rattle.link_simulation.specs.WorldRates.{Parts, rate_of}

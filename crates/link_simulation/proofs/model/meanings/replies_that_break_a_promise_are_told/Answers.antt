@@ -1,12 +1,7 @@
-use Rattle.std.proofs.Common.{◌≡◌, ℕ, ◌<◌, ◌≤◌, List, [], ◌∷◌, ◌++◌, Bool, true, Some, refl, ap, sym, ◌∙◌, subst}
-use Rattle.std.specs.Prelude.{nat_lt}
-use Rattle.std.specs.List.{AllZip, filter}
+use Rattle.std.proofs.Common.{◌≡◌, ℕ, List, [], ◌∷◌, ◌++◌, Bool, true, Some, refl, ap, sym, ◌∙◌, subst}
+use Rattle.std.specs.List.{AllZip}
 use Rattle.std.specs.Ordering.{nat_cmp}
-use Rattle.std.specs.Cmp.{unsigned_tied}
-use Rattle.std.proofs.lemmas.Bool.{eqb-true}
 use Rattle.std.proofs.lemmas.Cmp.{nat_cmp_total}
-use Rattle.fair_rates.specs.Amount.{reduced, gcd_within}
-use Rattle.fair_rates.specs.Sides.{same_peer}
 use Rattle.link_simulation.specs.WorldMessages.{Message}
 use Rattle.link_simulation.specs.World.{World, Completed, goes, new_world}
 use Rattle.link_simulation.specs.WorldCalls.{Call, call_enqueue, moment_of, Runs}
@@ -53,14 +48,8 @@ returns-clause-lost c h =
     let isolated = h (λ p. true) (λ p q e. refl) (refl, tt) (turns (message 1 2 1 0) []) in
     answers isolated.answers refl refl isolated.same
 
--- whether a peer is 1 or 2
-abbrev inside : ℕ → Bool
-inside p = nat_lt p 3
-
 pub returns-clause-others : goal.returns-clause-others
-returns-clause-others c h =
-    let isolated =
-    h inside (λ p q e. ap inside (eqb-true p q (sym (unsigned_tied p q) ∙ e))) (refl, tt) (turns (message 3 4 1 0) (arrives (message 1 2 1 0) 0 ∷ [])) in
+returns-clause-others c isolated =
     let clash : arrives (message 1 2 1 0) 0 ∷ [] ≡ [] = isolated.nothing_else.0 in
     cc
 

@@ -1,4 +1,4 @@
-use Rattle.std.proofs.Common.{◌≡◌, ℕ, ◌-◌, ◌*◌, ◌≤◌, subst, arith}
+use Rattle.std.proofs.Common.{ℕ, ◌-◌, ◌*◌, ◌≤◌, subst, arith}
 use Rattle.fair_rates.specs.Amount.{Amount, whole, plus}
 use Rattle.fair_rates.specs.FairLaws.{IsAtMost}
 use Rattle.link_simulation.specs.WorldBytes.{bytes_from, allowance}
