@@ -1,5 +1,5 @@
 -- How a call on an open scheduler ends, from what its state answered and what was kept of that.
-use Rattle.std.proofs.Common.{◌≡◌, arith, ℕ, List, length, Option, Some, Result, Ok, Err, IfOk, IfErr, OnErr, MatchResult, inl, inr, sym, ap, subst, ◌∙◌}
+use Rattle.std.proofs.Common.{◌≡◌, arith, ℕ, List, length, Option, Some, Result, Ok, Err, IfOk, IfErr, OnErr, MatchResult, inl, inr, refl, sym, ap, subst, ◌∙◌}
 use Rattle.p2p_simulated.specs.Refusal.{refusal_number}
 use Rattle.p2p_simulated.specs.State.{IsMade, IsRefused, IsAdvanced, planned_of}
 use Rattle.p2p_simulated.specs.WorldCalls.{Call}
@@ -52,6 +52,10 @@ pub advanced : {V : Type 0} (items : V → List (Completion ℕ)) (answer : Resu
 advanced items (Ok done) now status old between new state number kept made is_made =
     subst (λ s. IsAdvanced old.state now new.completed.items s) (sym state) (subst (λ cs. IsAdvanced old.state now cs between.state) (sym kept) made)
 advanced items (Err why) now status old between new state number kept made is_made = absurd (numbered why (sym number ∙ is_made))
+
+-- no memory for the bytes: nothing was asked of the state
+pub no_memory : (call : Call ℕ) (s : Opened) → Ended call 1 0 s s
+no_memory call s = inr (OutOfMemory, refl, record { refused = record { by_rule = tt; simulated = record { cause = tt; in_range = λ _. refl } }; unchanged = refl; kept = refl; counted = refl })
 
 -- the scheduler was taken from the handle, the call was made on it, and it was put back
 pub on_open : {C : Type 0} (does : Opened → Opened → Type 0) (old new : Option Opened) (taken lent left put : Opened)

@@ -50,7 +50,8 @@ pub fn sending_takes_its_time<P: Ord>()
 /// Of an origin both what is in flight and what waits counts, and of others nothing.
 pub fn all_that_an_origin_has_to_send_counts()
     ensures { bytes_from nat_cmp 1 (record (flying 3 (message 1 2 4 0)) {
-        waiting = message 1 3 2 0 ∷ message 2 3 5 0 ∷ [] }) ≡ whole 6 }
+      waiting = message 1 3 2 0 ∷ message 2 3 5 0 ∷ [];
+    }) ≡ whole 6 }
 {}
 
 /// What holds of the first calls, however many, holds of all of them.
@@ -85,11 +86,17 @@ pub fn a_lost_completion_is_not_conserved()
 /// of a pair are in flight, where pairs wait out of order, and where a message waits before any limit.
 pub fn a_world_out_of_order_is_told()
     ensures rate { ¬ IsOrderly nat_cmp (record (new_planned 0) {
-        limited = true; sending = paced (message 1 2 1 0) (Some (whole 1)) ∷ [] }) }
+      limited = true;
+      sending = paced (message 1 2 1 0) (Some (whole 1)) ∷ [];
+    }) }
     ensures pair { ¬ IsOrderly nat_cmp (record (new_planned 0) {
-        limited = true; sending = paced (message 1 2 1 0) None ∷ paced (message 1 2 1 0) None ∷ [] }) }
+      limited = true;
+      sending = paced (message 1 2 1 0) None ∷ paced (message 1 2 1 0) None ∷ [];
+    }) }
     ensures pair_order { ¬ IsOrderly nat_cmp (record (new_planned 0) {
-        limited = true; waiting = message 2 1 1 0 ∷ message 1 2 1 0 ∷ [] }) }
+      limited = true;
+      waiting = message 2 1 1 0 ∷ message 1 2 1 0 ∷ [];
+    }) }
     ensures at_first { ¬ IsOrderly nat_cmp (record (new_planned 0) { waiting = message 1 2 1 0 ∷ [] }) }
 {}
 
