@@ -1,6 +1,7 @@
 //! The commands of a script.
 ghost use Rattle.std.specs.Prelude.{◌≡◌, ◌↔◌, Some};
-ghost use Rattle.link_scripts.specs.Script.{Takes, line_of, command_words, flow_words, parcel_words, IsInRange, IsFlowInRange, IsParcelInRange};
+ghost use Rattle.link_scripts.specs.Script.{Takes, line_of, command_words, flow_words, parcel_words, IsInRange};
+ghost use Rattle.link_scripts.specs.Script.{IsFlowInRange, IsParcelInRange};
 ghost use Rattle.link_scripts.specs.Words.{words_left};
 
 use crate::linkrun::word::Words;

@@ -37,7 +37,8 @@ pub(crate) fn next_line<R: Read, W: Write + Drop>(
 ) -> io::Result<LineEnd>
     ensures length { IfOk result (λ end. IsLengthOf end (length line.new.items)) }
     ensures one_line { IfOk result (λ _. LacksEndByte line.new.items) }
-    ensures front { IfOk result (λ end. IfSome (reader_remaining R.remaining input.old) (IsFrontOf end line.new.items)) }
+    ensures front { IfOk result (λ end. IfSome (reader_remaining R.remaining input.old)
+        (IsFrontOf end line.new.items)) }
     ensures taken { OnOk result
         (IsTaken input.old line.new.items input.new ⊎ (writer_buffer output.new ≡ [])) }
     ensures written { AsksAfterWriting input.old input.new output.new }
