@@ -46,9 +46,13 @@ impl Board {
         }
     }
 
-    /// The upper rate grows by that of each piece where a column begins in it.
-    pub(crate) fn add(&mut self, frame: Frame, pieces: &[Piece]) {
+    /// The upper rate grows by that of each piece where a column begins in it. A message that is to
+    /// be dropped counts where that is said.
+    pub(crate) fn add(&mut self, frame: Frame, pieces: &[Piece], with_lost: bool) {
         for piece in pieces {
+            if !with_lost && !piece.should_deliver {
+                continue;
+            }
             let to = frame.next_column(piece.to);
             for column in frame.next_column(piece.from)..to {
                 if let Some(rate) = self.high.get_mut(column) {

@@ -20,6 +20,15 @@ impl Side {
             Side::Link(from, to) => origin == from && recipient == to,
         }
     }
+
+    /// Whether a message that is to be dropped counts. It takes nothing of what its recipient may
+    /// receive.
+    pub(crate) fn holds_lost(self) -> bool {
+        match self {
+            Side::Egress(_) | Side::Link(_, _) => true,
+            Side::Ingress(_) => false,
+        }
+    }
 }
 
 /// A cap from a moment on, in bytes a second. None is no cap.

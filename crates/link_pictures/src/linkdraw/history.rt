@@ -139,6 +139,7 @@ impl History {
                 let sent = Sent {
                     channel: parcel.channel,
                     length: parcel.length,
+                    should_deliver: parcel.should_deliver,
                     enqueued: self.now,
                     start: None,
                     done: None,

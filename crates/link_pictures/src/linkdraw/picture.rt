@@ -57,7 +57,7 @@ fn open<W: Write>(out: &mut W, foot: u64) -> io::Result<()> {
     writeln!(out, "path{{fill:none}}.g{{stroke:#e4e4e4;stroke-width:2}}")?;
     writeln!(
         out,
-        ".f{{stroke:#999;stroke-width:2}}.s{{fill:#4c78a8}}.i{{stroke:#4c78a8;stroke-width:2}}"
+        ".f{{stroke:#999;stroke-width:2}}.s{{fill:#4c78a8}}.i{{stroke:#4c78a8;stroke-width:2;pointer-events:none}}"
     )?;
     writeln!(
         out,

@@ -35,7 +35,6 @@ pub(crate) fn draw_pair<W: Write>(
     write!(out, "<path class=\"s\" d=\"")?;
     fill(out, frame, board, band)?;
     writeln!(out, "\"/>")?;
-    draw_instants(out, frame, band.foot, track)?;
     draw_waiting(out, frame, band.foot, track)?;
     draw_latency(out, frame, top, track)?;
     draw_ends(out, frame, top, track)?;
@@ -44,7 +43,7 @@ pub(crate) fn draw_pair<W: Write>(
             draw_hover(out, frame, band, pair, message)?;
         }
     }
-    Ok(())
+    draw_instants(out, frame, band.foot, track)
 }
 
 /// The name of the pair, its greatest rate, and the foot of its row.

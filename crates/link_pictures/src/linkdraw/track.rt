@@ -8,6 +8,7 @@ use std::alloc::Global;
 pub(crate) struct Sent {
     pub(crate) channel: u64,
     pub(crate) length: usize,
+    pub(crate) should_deliver: bool,
     pub(crate) enqueued: u64,
     pub(crate) start: Option<u64>,
     /// When nothing was left of it.
@@ -25,6 +26,8 @@ pub(crate) struct Piece {
     pub(crate) to: u64,
     /// In millionths of a byte a second.
     pub(crate) rate: u128,
+    /// Whether the message is not to be dropped.
+    pub(crate) should_deliver: bool,
 }
 
 /// The messages of an ordered pair, in order of enqueue.
@@ -77,6 +80,10 @@ impl Track {
             return Ok(());
         }
         let message = self.done;
+        let should_deliver = match self.messages.get(message) {
+            Some(sent) => sent.should_deliver,
+            None => false,
+        };
         if let Some(last) = self.pieces.last_mut() {
             if last.message == message && last.to == from && last.rate == rate {
                 last.to = to;
@@ -88,6 +95,7 @@ impl Track {
             from,
             to,
             rate,
+            should_deliver,
         })?;
         Ok(())
     }
