@@ -9,6 +9,7 @@ pub mod CopiedWorking
 pub mod Copies
 pub mod Fairness
 pub mod Finishing
+pub mod Fractions
 pub mod InFlight
 pub mod InPlace
 pub mod Lightening

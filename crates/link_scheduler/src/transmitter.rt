@@ -12,12 +12,14 @@ mod drain;
 mod event;
 mod events;
 mod flights;
+mod fraction;
 mod look;
 mod message;
 mod pairs;
 mod peers;
 mod progress;
 mod rate;
+mod reading;
 mod working;
 
 use bytes::Bytes;
@@ -25,6 +27,7 @@ pub use completion::Completion;
 use fair_rates::error::Error;
 use fair_rates::peer::Peer;
 use message::Message;
+pub use reading::{InFlight, Reading};
 use std::alloc::Global;
 use working::Working;
 
