@@ -2,7 +2,7 @@
 script = examples/left_over.link
 seconds = 60
 
-.PHONY: run test examples bindings bench hostile torture clean
+.PHONY: run test examples pictures bindings bench hostile torture clean
 
 # Proves the library and the program, builds the program as bin/linkrun, and runs it on a script.
 run: bin/linkrun
@@ -18,12 +18,17 @@ bin/linkcheck: FORCE
 	cd crates/linkcheck && rt run < /dev/null > /dev/null
 	cp crates/linkcheck/out/linkcheck bin/linkcheck
 
+bin/linkdraw: FORCE
+	@mkdir -p bin
+	cd crates/linkdraw && rt run < /dev/null > /dev/null
+	cp crates/linkdraw/out/linkdraw bin/linkdraw
+
 # The gate: every proof from nothing, the edits that must fail, the tests and the program.
 test:
 	rt ci
 
-# Runs each example and compares what it prints: scripts, the partner that asks line by line, and traces.
-examples: bin/linkrun bin/linkcheck
+# Runs each example and compares what it prints: scripts, the partner that asks line by line, traces and pictures.
+examples: bin/linkrun bin/linkcheck bin/linkdraw
 	@for script in examples/*.link examples/generated/*.link; do \
 		./bin/linkrun < $$script 2>/dev/null | cmp - $${script%.link}.out && echo $$script || exit 1; \
 	done
@@ -31,10 +36,20 @@ examples: bin/linkrun bin/linkcheck
 	@for trace in examples/traces/*.trace; do \
 		./bin/linkcheck < $$trace | cmp - $${trace%.trace}.out && echo $$trace || exit 1; \
 	done
+	@for picture in docs/pictures/*.svg; do \
+		./bin/linkdraw < examples/$$(basename $${picture%.svg}).link | cmp - $$picture && echo $$picture || exit 1; \
+	done
 
-# The library for C, Rust and Python, in bin/bindings, and the tests of each language whose tools are there.
+# Draws the pictures of docs/ anew.
+pictures: bin/linkdraw
+	@for picture in docs/pictures/*.svg; do \
+		./bin/linkdraw < examples/$$(basename $${picture%.svg}).link > $$picture; \
+	done
+
+# The library for C, Rust and Python, in bin/bindings, and the tests of each language whose tools are there. After the
+# gate, `make bindings over=gate` takes what it proved.
 bindings:
-	@cd crates/p2p_simulated_c && rt lib > /dev/null
+	@bindings/archive.sh $(over)
 	@bindings/check.sh
 
 # Times of one allocation and of one message beside those of the Rust original. `make bench work="NAME .."` runs those alone.

@@ -72,7 +72,7 @@ else
 fi
 
 if command -v python3 > /dev/null; then
-    (cd bindings/python && P2P_SIMULATED_SO=../../$out/libp2p_simulated.so python3 -m unittest --quiet)
+    (cd bindings/python && P2P_SIMULATED_SO=../../$out/libp2p_simulated.so python3 -B -m unittest --quiet)
     echo "python: calls and examples as documented"
 else
     skip Python "there is no python3"

@@ -32,7 +32,7 @@ extern "C" {
 enum {
     P2P_OK = 0,
     P2P_OUT_OF_MEMORY = 1,
-    P2P_NUMBER_TOO_LARGE = 2, /* by scripts alone: a rate is no fraction of 128 bits */
+    P2P_NUMBER_TOO_LARGE = 2, /* of the planner alone: a rate is no fraction of 128 bits */
     P2P_MOMENT_TOO_LATE = 3,  /* a message would arrive past the moment 2^64 - 1 */
     P2P_FLOW_IDS_USED_UP = 4, /* a message would start, and 2^64 - 1 flow ids were given */
     P2P_CLOSED = 5            /* the scheduler is not open */
@@ -83,12 +83,51 @@ typedef struct p2p_done {
     p2p_moment deliver_at;
 } p2p_done;
 
+static inline p2p_wide p2p_number(uint64_t number) {
+    p2p_wide wide = {number, 0};
+    return wide;
+}
+
+/* A flow of a plan: something that goes from one peer to another. Where delivered is 0 it takes
+ * nothing of what its recipient may receive. */
+typedef struct p2p_flow {
+    uint64_t id;
+    uint64_t origin;
+    uint64_t recipient;
+    uint8_t delivered;
+} p2p_flow;
+
+/* What a peer may send, or what it may receive, in bytes a second. */
+typedef struct p2p_peer_cap {
+    uint64_t peer;
+    p2p_wide cap;
+} p2p_peer_cap;
+
+/* What may go from one peer to another, in bytes a second. */
+typedef struct p2p_link_cap {
+    uint64_t origin;
+    uint64_t recipient;
+    p2p_wide cap;
+} p2p_link_cap;
+
+/* A rate in bytes a second, as a fraction in lowest terms. Where is_limited is 0 no cap holds, and
+ * the fraction is 0/1. */
+typedef struct p2p_rate {
+    p2p_wide numerator;
+    p2p_wide denominator;
+    uint8_t is_limited;
+} p2p_rate;
+
 P2P_ASSERT(sizeof(size_t) == 8 && sizeof(void *) == 8);
 P2P_ASSERT(sizeof(p2p_scheduler) == 16 && offsetof(p2p_scheduler, is_open) == 8);
 P2P_ASSERT(sizeof(p2p_cap) == 16 && offsetof(p2p_cap, is_some) == 8);
 P2P_ASSERT(sizeof(p2p_moment) == 16 && offsetof(p2p_moment, is_some) == 8);
 P2P_ASSERT(sizeof(p2p_wide) == 16 && offsetof(p2p_wide, high) == 8);
 P2P_ASSERT(sizeof(p2p_done) == 48 && offsetof(p2p_done, length) == 24 && offsetof(p2p_done, deliver_at) == 32);
+P2P_ASSERT(sizeof(p2p_flow) == 32 && offsetof(p2p_flow, recipient) == 16 && offsetof(p2p_flow, delivered) == 24);
+P2P_ASSERT(sizeof(p2p_peer_cap) == 24 && offsetof(p2p_peer_cap, cap) == 8);
+P2P_ASSERT(sizeof(p2p_link_cap) == 32 && offsetof(p2p_link_cap, recipient) == 8 && offsetof(p2p_link_cap, cap) == 16);
+P2P_ASSERT(sizeof(p2p_rate) == 40 && offsetof(p2p_rate, denominator) == 16 && offsetof(p2p_rate, is_limited) == 32);
 
 /* ---- The scheduler.
  *
@@ -141,6 +180,20 @@ size_t p2p_completions(p2p_scheduler *scheduler, size_t first, p2p_done *out, si
 /* Copies the bytes of the completion `index`, from the byte `from` on, as many as there is room
  * for, and answers how many. */
 size_t p2p_message(p2p_scheduler *scheduler, size_t index, size_t from, uint8_t *out, size_t room);
+
+/* ---- The planner.
+ *
+ * Writes the max-min fair rate of each flow, in the order of the flows, as many as there is room
+ * for: the flows under a cap have no more than it together, and each is under a cap that is used up
+ * and that leaves none of its flows more than this one has. Who is in no list of caps has none. Of
+ * several caps of one peer, or of one link, the last counts, and of several flows of one id all are
+ * answered the rate of the last. `rounds` is how many different rates there are.
+ *
+ * P2P_OK, P2P_OUT_OF_MEMORY, or P2P_NUMBER_TOO_LARGE where a rate is no fraction of 128 bits, for
+ * which there have to be more than 16 flows or a cap of 2^64 or more. A refusal writes no rate. */
+uint32_t p2p_allocate(const p2p_flow *flows, size_t flow_count, const p2p_peer_cap *egress, size_t egress_count,
+                      const p2p_peer_cap *ingress, size_t ingress_count, const p2p_link_cap *links, size_t link_count,
+                      p2p_rate *rates, size_t room, p2p_wide *rounds);
 
 /* ---- Scripts.
  *

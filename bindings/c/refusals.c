@@ -84,6 +84,17 @@ int main(void) {
     now += 1000000000000;
     EACH(p2p_advance(&s, now, &count));
     completed += count;
+    p2p_flow flows[20];
+    p2p_peer_cap caps[20];
+    p2p_link_cap links[20];
+    p2p_rate rates[20];
+    p2p_wide rounds;
+    for (uint64_t peer = 0; peer < 20; peer++) {
+        flows[peer] = (p2p_flow){peer, peer, peer * peer % 20, peer % 3 != 0};
+        caps[peer] = (p2p_peer_cap){peer, p2p_number(1000 + peer)};
+        links[peer] = (p2p_link_cap){peer, peer * peer % 20, p2p_number(500 + peer)};
+    }
+    EACH(p2p_allocate(flows, 20, caps, 20, caps, 20, links, 20, rates, 20, &rounds));
     p2p_close(&s);
     static const char script[] = "flow 1 1 2 1\nrates\n";
     uint8_t out[100];

@@ -91,6 +91,44 @@ static void a_refused_call_changes_nothing(void) {
     p2p_close(&s);
 }
 
+static int is_rate(const p2p_rate *rate, uint64_t numerator, uint64_t denominator) {
+    return rate->is_limited == 1 && rate->numerator.low == numerator && rate->numerator.high == 0 &&
+           rate->denominator.low == denominator && rate->denominator.high == 0;
+}
+
+static void rates_are_max_min_fair(void) {
+    const p2p_flow flows[] = {{9, 1, 2, 1}, {2, 1, 3, 1}, {3, 4, 2, 0}, {4, 1, 1, 1}};
+    const p2p_peer_cap egress[] = {{1, {7, 7}}, {5, {0, 0}}, {1, {50000, 0}}}; /* of peer 1 the last counts */
+    const p2p_peer_cap ingress[] = {{2, {1000, 0}}};
+    const p2p_link_cap links[] = {{1, 1, {500, 0}}, {1, 1, {1, 0}}, {1, 4, {0, 0}}};
+    p2p_rate rates[5] = {{{0, 0}, {0, 0}, 7}, {{0, 0}, {0, 0}, 7}, {{0, 0}, {0, 0}, 7}, {{0, 0}, {0, 0}, 7}, {{0, 0}, {0, 0}, 7}};
+    p2p_wide rounds = {7, 7};
+    CHECK(p2p_allocate(flows, 4, egress, 3, ingress, 1, links, 3, rates, 5, &rounds) == P2P_OK);
+    CHECK(is_rate(&rates[0], 1000, 1) && is_rate(&rates[1], 48999, 1) && is_rate(&rates[3], 1, 1));
+    CHECK(rates[2].is_limited == 0 && rates[2].denominator.low == 1 && rates[4].is_limited == 7);
+    CHECK(rounds.low == 3 && rounds.high == 0);
+    rates[1].is_limited = 7;
+    CHECK(p2p_allocate(flows, 2, egress, 3, ingress, 0, links, 0, rates, 1, &rounds) == P2P_OK && rounds.low == 1);
+    CHECK(is_rate(&rates[0], 25000, 1) && rates[1].is_limited == 7); /* there was room for one */
+    const p2p_flow one_id[] = {{1, 1, 2, 1}, {1, 3, 2, 1}, {1, 3, 4, 1}};
+    const p2p_peer_cap two[] = {{3, {2, 0}}, {1, {5, 0}}};
+    CHECK(p2p_allocate(one_id, 3, two, 2, ingress, 0, links, 0, rates, 3, &rounds) == P2P_OK);
+    CHECK(is_rate(&rates[0], 1, 1) && is_rate(&rates[2], 1, 1) && rounds.low == 2); /* the last of an id decides */
+}
+
+static void a_rate_that_is_no_fraction_is_refused(void) {
+    /* the last flow would get a third less than 2^128 - 1 */
+    const p2p_flow flows[] = {{1, 1, 9, 1}, {2, 1, 3, 1}, {3, 1, 4, 1}, {4, 2, 9, 1}};
+    const p2p_peer_cap egress[] = {{1, {1, 0}}}, ingress[] = {{9, {UINT64_MAX, UINT64_MAX}}};
+    const p2p_link_cap none[1] = {{0, 0, {0, 0}}};
+    p2p_rate rates[4] = {{{0, 0}, {0, 0}, 7}};
+    p2p_wide rounds = {7, 7};
+    CHECK(p2p_allocate(flows, 4, egress, 1, ingress, 1, none, 0, rates, 4, &rounds) == P2P_NUMBER_TOO_LARGE);
+    CHECK(rates[0].is_limited == 7 && rounds.low == 0 && rounds.high == 0);
+    CHECK(p2p_allocate(flows + 3, 1, egress, 1, ingress, 1, none, 0, rates, 4, &rounds) == P2P_OK);
+    CHECK(rates[0].numerator.low == UINT64_MAX && rates[0].numerator.high == UINT64_MAX && rates[0].denominator.low == 1);
+}
+
 static void a_script_prints_what_linkrun_prints(void) {
     static const char script[] = "egress 1 50000\ningress 2 1000\nflow 1 1 2 1\nflow 2 1 3 1\nrates\nrates 7\n";
     static const char wanted[] = "rate 1 1000/1\nrate 2 49000/1\n";
@@ -108,6 +146,8 @@ int main(void) {
     two_messages_share_a_cap();
     a_lost_message_does_not_arrive();
     a_refused_call_changes_nothing();
+    rates_are_max_min_fair();
+    a_rate_that_is_no_fraction_is_refused();
     a_script_prints_what_linkrun_prints();
     if (failures == 0) puts("c: calls as the header says");
     return failures != 0;

@@ -36,6 +36,7 @@ __all__ = [
     "Refused",
     "State",
     "allocate",
+    "allocate_counted",
     "run",
 ]
 
@@ -98,7 +99,24 @@ class _Done(Structure):
     ]
 
 
-for _struct, _size in ((_Scheduler, 16), (_Cap, 16), (_Moment, 16), (_Wide, 16), (_Done, 48)):
+class _Flow(Structure):
+    _fields_ = [("id", c_uint64), ("origin", c_uint64), ("recipient", c_uint64), ("delivered", c_uint8)]
+
+
+class _PeerCap(Structure):
+    _fields_ = [("peer", c_uint64), ("cap", _Wide)]
+
+
+class _LinkCap(Structure):
+    _fields_ = [("origin", c_uint64), ("recipient", c_uint64), ("cap", _Wide)]
+
+
+class _Rate(Structure):
+    _fields_ = [("numerator", _Wide), ("denominator", _Wide), ("is_limited", c_uint8)]
+
+
+_SIZES = {_Scheduler: 16, _Cap: 16, _Moment: 16, _Wide: 16, _Done: 48, _Flow: 32, _PeerCap: 24, _LinkCap: 32, _Rate: 40}
+for _struct, _size in _SIZES.items():
     if ctypes.sizeof(_struct) != _size:
         raise ImportError(f"{_struct.__name__} is not of {_size} bytes on this machine")
 
@@ -135,6 +153,21 @@ _declare("p2p_advance_counted", c_uint32, _handle, _u64, _size_out, POINTER(_Wid
 _declare("p2p_next", c_uint32, _handle, POINTER(_Moment))
 _declare("p2p_completions", c_size_t, _handle, c_size_t, POINTER(_Done), c_size_t)
 _declare("p2p_message", c_size_t, _handle, c_size_t, c_size_t, c_void_p, c_size_t)
+_declare(
+    "p2p_allocate",
+    c_uint32,
+    POINTER(_Flow),
+    c_size_t,
+    POINTER(_PeerCap),
+    c_size_t,
+    POINTER(_PeerCap),
+    c_size_t,
+    POINTER(_LinkCap),
+    c_size_t,
+    POINTER(_Rate),
+    c_size_t,
+    POINTER(_Wide),
+)
 _declare("p2p_run", c_uint32, c_char_p, c_size_t, c_void_p, c_size_t, _size_out, POINTER(c_uint64))
 
 _REFUSALS = {
@@ -264,7 +297,7 @@ class State:
         events = _Wide()
         with self._turn:
             _check(_lib.p2p_advance_counted(byref(self._handle), _number(now, "now"), byref(self._count), byref(events)))
-            return self._completions(), events.low + (events.high << 64)
+            return self._completions(), _value(events)
 
     def next(self) -> Optional[int]:
         """The moment of the next event, unless a cap changes or a message is sent before."""
@@ -327,35 +360,67 @@ class Flow(NamedTuple):
     delivered: bool = True
 
 
+Rates = Dict[int, Optional[Fraction]]
+
+
 def allocate(
     flows: Iterable[Flow],
     egress: Optional[Mapping[Any, int]] = None,
     ingress: Optional[Mapping[Any, int]] = None,
     links: Optional[Mapping[Tuple[Any, Any], int]] = None,
-) -> Dict[int, Optional[Fraction]]:
+) -> Rates:
     """The max-min fair rate of each flow, by its id, in bytes a second; None where no cap holds.
 
     Caps are by peer, `links` by pairs of peers; who is not in a mapping has no cap.  Peers are any
     values that can be keys of a dict.
     """
+    return allocate_counted(flows, egress, ingress, links)[0]
+
+
+def allocate_counted(
+    flows: Iterable[Flow],
+    egress: Optional[Mapping[Any, int]] = None,
+    ingress: Optional[Mapping[Any, int]] = None,
+    links: Optional[Mapping[Tuple[Any, Any], int]] = None,
+) -> Tuple[Rates, int]:
+    """As `allocate`, with the number of rounds of filling: how many different rates there are."""
     numbers: Dict[Hashable, int] = {}
-    lines = []
+
+    def number_of(peer: Hashable) -> int:
+        return numbers.setdefault(peer, len(numbers))
+
+    listed = []
     for flow in map(Flow._make, flows):
-        ends = [numbers.setdefault(peer, len(numbers)) for peer in (flow.origin, flow.recipient)]
-        lines.append(f"flow {_number(flow.id, 'id')} {ends[0]} {ends[1]} {int(bool(flow.delivered))}")
-    for word, caps in (("egress", egress or {}), ("ingress", ingress or {})):
-        for peer, cap in caps.items():
-            _number(cap, f"the {word} cap of {peer!r}", 128)
-            if peer in numbers:
-                lines.append(f"{word} {numbers[peer]} {cap}")
-    for (origin, recipient), cap in (links or {}).items():
-        _number(cap, f"the cap from {origin!r} to {recipient!r}", 128)
-        if origin in numbers and recipient in numbers:
-            lines.append(f"link {numbers[origin]} {numbers[recipient]} {cap}")
-    rates: Dict[int, Optional[Fraction]] = {}
-    for line in run("\n".join(lines + ["rates\n"])).splitlines():
-        words = line.split(" ")
-        if words[0] == "refused":
-            _check(int(words[1]))
-        rates[int(words[1])] = None if words[2] == "unlimited" else Fraction(words[2])
-    return rates
+        ends = number_of(flow.origin), number_of(flow.recipient)
+        listed.append(_Flow(_number(flow.id, "id"), *ends, bool(flow.delivered)))
+    peer_caps = [
+        [_PeerCap(number_of(peer), _wide(cap, f"the {word} cap of {peer!r}")) for peer, cap in (caps or {}).items()]
+        for word, caps in (("egress", egress), ("ingress", ingress))
+    ]
+    link_caps = [
+        _LinkCap(number_of(origin), number_of(recipient), _wide(cap, f"the cap from {origin!r} to {recipient!r}"))
+        for (origin, recipient), cap in (links or {}).items()
+    ]
+    lists = [_array(_Flow, listed), *(_array(_PeerCap, caps) for caps in peer_caps), _array(_LinkCap, link_caps)]
+    lengths = [len(listed), *map(len, peer_caps), len(link_caps)]
+    rates, rounds = (_Rate * max(1, len(listed)))(), _Wide()
+    _check(_lib.p2p_allocate(*(it for pair in zip(lists, lengths) for it in pair), rates, len(listed), byref(rounds)))
+    return {flow.id: _rate(rate) for flow, rate in zip(listed, rates)}, _value(rounds)
+
+
+def _array(kind: Any, items: List[Any]) -> Any:
+    """An array of the items.  One of none has room for one, so that there is a pointer to it."""
+    return (kind * max(1, len(items)))(*items)
+
+
+def _wide(value: int, name: str) -> _Wide:
+    _number(value, name, 128)
+    return _Wide(value & (1 << 64) - 1, value >> 64)
+
+
+def _value(wide: _Wide) -> int:
+    return wide.low + (wide.high << 64)
+
+
+def _rate(rate: _Rate) -> Optional[Fraction]:
+    return Fraction(_value(rate.numerator), _value(rate.denominator)) if rate.is_limited else None

@@ -13,9 +13,7 @@ from concurrent.futures import ProcessPoolExecutor
 from fractions import Fraction
 from typing import Any, Callable, Dict, Iterable, List, Mapping, NamedTuple, Optional, Tuple
 
-from p2p_simulated import Flow, allocate
-
-Rates = Dict[int, Optional[Fraction]]
+from p2p_simulated import Flow, Rates, allocate
 
 
 class Plan(NamedTuple):

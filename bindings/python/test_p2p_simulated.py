@@ -9,7 +9,8 @@ from fractions import Fraction
 
 import p2p_simulated
 import planner
-from p2p_simulated import BadLine, Closed, Completion, Flow, FlowIdsUsedUp, MomentTooLate, State, allocate, run
+from p2p_simulated import BadLine, Closed, Completion, Flow, FlowIdsUsedUp, MomentTooLate, NumberTooLarge, State
+from p2p_simulated import allocate, allocate_counted, run
 
 
 class Scheduling(unittest.TestCase):
@@ -98,7 +99,15 @@ class Planning(unittest.TestCase):
         self.assertEqual(allocate(flows, {"a": 1}, links={("a", "b"): 0}), {1: 0, 2: 1, 3: None})
         self.assertEqual(allocate([Flow(i, 0, i + 1) for i in range(3)], {0: 1}), dict.fromkeys(range(3), Fraction(1, 3)))
         self.assertEqual(allocate([]), {})
+        self.assertEqual(allocate([Flow(1, 0, 0, False), Flow(2, 0, 1), Flow(2, 0, 2)], {0: 9}, {0: 0, 2: 1}), {1: 4, 2: 1})
+        self.assertEqual(allocate_counted(flows, {"a": 50000}, {"b": 1000})[1], 2)
         self.assertRaises(OverflowError, allocate, flows, {"a": 2**128})
+
+    def test_rates_of_128_bits(self):
+        most = 2**128 - 1
+        self.assertEqual(allocate([Flow(1, 0, 1)], {0: most}), {1: most})
+        flows = [Flow(1, 1, 9), Flow(2, 1, 3), Flow(3, 1, 4), Flow(4, 2, 9)]
+        self.assertRaises(NumberTooLarge, allocate, flows, {1: 1}, {9: most})
 
     def test_the_planner_finds_what_holds_flows(self):
         plan = planner.example()

@@ -1,8 +1,8 @@
 //! Who sends how fast.
 use crate::error::{result_of, Error};
-use crate::script::{run, Outcome};
+use crate::raw;
 use std::collections::BTreeMap;
-use std::fmt::{self, Write};
+use std::fmt;
 
 /// Something that goes from one peer to another.
 #[derive(Debug, Clone, PartialEq, Eq)]
@@ -71,84 +71,137 @@ pub fn allocate<P: Ord + Clone>(
 /// As [`allocate`], with caps on what goes from one peer to another.
 pub fn allocate_linked<P: Ord + Clone>(
     flows: &[Flow<P>],
-    mut egress_cap: impl FnMut(&P) -> Option<u128>,
-    mut ingress_cap: impl FnMut(&P) -> Option<u128>,
-    mut link_cap: impl FnMut(&P, &P) -> Option<u128>,
+    egress_cap: impl FnMut(&P) -> Option<u128>,
+    ingress_cap: impl FnMut(&P) -> Option<u128>,
+    link_cap: impl FnMut(&P, &P) -> Option<u128>,
 ) -> Result<BTreeMap<u64, Rate>, Error> {
+    let (rates, _rounds) = allocate_linked_counted(flows, egress_cap, ingress_cap, link_cap)?;
+    Ok(rates)
+}
+
+/// As [`allocate`], with the number of rounds of filling: how many different finite rates there are.
+pub fn allocate_counted<P: Ord + Clone>(
+    flows: &[Flow<P>],
+    egress_cap: impl FnMut(&P) -> Option<u128>,
+    ingress_cap: impl FnMut(&P) -> Option<u128>,
+) -> Result<(BTreeMap<u64, Rate>, u128), Error> {
+    allocate_linked_counted(flows, egress_cap, ingress_cap, |_, _| None)
+}
+
+/// As [`allocate_linked`], with the number of rounds of filling.
+pub fn allocate_linked_counted<P: Ord + Clone>(
+    flows: &[Flow<P>],
+    egress_cap: impl FnMut(&P) -> Option<u128>,
+    ingress_cap: impl FnMut(&P) -> Option<u128>,
+    mut link_cap: impl FnMut(&P, &P) -> Option<u128>,
+) -> Result<(BTreeMap<u64, Rate>, u128), Error> {
+    let peers = peers_of(flows);
+    let listed = listed(flows, &peers);
+    let egress = caps_of(&peers, egress_cap);
+    let ingress = caps_of(&peers, ingress_cap);
+    let links = links_of(&listed, |origin, recipient| {
+        link_cap(peers[origin], peers[recipient])
+    });
+    let unlimited = raw::Rate {
+        numerator: raw::Wide::of(0),
+        denominator: raw::Wide::of(1),
+        is_limited: 0,
+    };
+    let mut rates = vec![unlimited; listed.len()];
+    let mut rounds = raw::Wide::of(0);
+    // SAFETY: each pointer and its length are those of one vector, and all is lent for the call alone.
+    result_of(unsafe {
+        raw::p2p_allocate(
+            listed.as_ptr(),
+            listed.len(),
+            egress.as_ptr(),
+            egress.len(),
+            ingress.as_ptr(),
+            ingress.len(),
+            links.as_ptr(),
+            links.len(),
+            rates.as_mut_ptr(),
+            rates.len(),
+            &mut rounds,
+        )
+    })?;
+    let by_id = listed
+        .iter()
+        .zip(&rates)
+        .map(|(flow, rate)| (flow.id, rate_of(rate)))
+        .collect();
+    Ok((by_id, rounds.get()))
+}
+
+/// The peers of the flows, each once, in order. A peer goes by its place.
+fn peers_of<P: Ord>(flows: &[Flow<P>]) -> Vec<&P> {
     let mut peers: Vec<&P> = flows
         .iter()
         .flat_map(|flow| [&flow.origin, &flow.recipient])
         .collect();
     peers.sort();
-    peers.dedup_by(|a, b| a.cmp(&b).is_eq());
+    peers.dedup_by(|a, b| (*a).cmp(b).is_eq());
+    peers
+}
+
+fn listed<P: Ord>(flows: &[Flow<P>], peers: &[&P]) -> Vec<raw::Flow> {
     let number = |peer: &P| {
         peers
             .binary_search(&peer)
-            .expect("each peer of a flow is listed")
+            .expect("each peer of a flow is listed") as u64
     };
-    let mut pairs: Vec<(usize, usize)> = flows
+    flows
         .iter()
-        .map(|flow| (number(&flow.origin), number(&flow.recipient)))
+        .map(|flow| raw::Flow {
+            id: flow.id,
+            origin: number(&flow.origin),
+            recipient: number(&flow.recipient),
+            delivered: flow.delivered.into(),
+        })
+        .collect()
+}
+
+fn caps_of<P>(peers: &[&P], mut cap: impl FnMut(&P) -> Option<u128>) -> Vec<raw::PeerCap> {
+    (0..)
+        .zip(peers)
+        .filter_map(|(number, peer)| {
+            Some(raw::PeerCap {
+                peer: number,
+                cap: raw::Wide::of(cap(peer)?),
+            })
+        })
+        .collect()
+}
+
+/// The cap of each pair of peers that has flows, asked for once.
+fn links_of(
+    flows: &[raw::Flow],
+    mut cap: impl FnMut(usize, usize) -> Option<u128>,
+) -> Vec<raw::LinkCap> {
+    let mut pairs: Vec<(u64, u64)> = flows
+        .iter()
+        .map(|flow| (flow.origin, flow.recipient))
         .collect();
-    let mut script = String::new();
-    for (flow, (origin, recipient)) in flows.iter().zip(&pairs) {
-        line(
-            &mut script,
-            format_args!(
-                "flow {} {origin} {recipient} {}",
-                flow.id,
-                u8::from(flow.delivered)
-            ),
-        );
-    }
-    for (place, peer) in peers.iter().enumerate() {
-        if let Some(cap) = egress_cap(peer) {
-            line(&mut script, format_args!("egress {place} {cap}"));
-        }
-        if let Some(cap) = ingress_cap(peer) {
-            line(&mut script, format_args!("ingress {place} {cap}"));
-        }
-    }
     pairs.sort_unstable();
     pairs.dedup();
-    for (origin, recipient) in pairs {
-        if let Some(cap) = link_cap(peers[origin], peers[recipient]) {
-            line(&mut script, format_args!("link {origin} {recipient} {cap}"));
-        }
-    }
-    script.push_str("rates\n");
-    let (printed, outcome) = run(script.as_bytes());
-    if outcome != Outcome::Whole {
-        return Err(Error::OutOfMemory);
-    }
-    rates_of(&String::from_utf8_lossy(&printed))
+    pairs
+        .into_iter()
+        .filter_map(|(origin, recipient)| {
+            Some(raw::LinkCap {
+                origin,
+                recipient,
+                cap: raw::Wide::of(cap(origin as usize, recipient as usize)?),
+            })
+        })
+        .collect()
 }
 
-fn line(script: &mut String, words: fmt::Arguments<'_>) {
-    writeln!(script, "{words}").expect("a String takes all that is written");
-}
-
-/// What the lines `rate ID N/D`, `rate ID unlimited` and `refused N TEXT` say.
-fn rates_of(printed: &str) -> Result<BTreeMap<u64, Rate>, Error> {
-    let mut rates = BTreeMap::new();
-    for line in printed.lines() {
-        let words: Vec<&str> = line.split(' ').collect();
-        if words[0] == "refused" {
-            result_of(number(words[1]) as u32)?;
-        }
-        let rate = match words[2].split_once('/') {
-            None => Rate::Unlimited,
-            Some((numerator, denominator)) => Rate::Finite(Ratio {
-                numerator: number(numerator),
-                denominator: number(denominator),
-            }),
-        };
-        rates.insert(number(words[1]) as u64, rate);
+fn rate_of(rate: &raw::Rate) -> Rate {
+    if rate.is_limited == 0 {
+        return Rate::Unlimited;
     }
-    Ok(rates)
-}
-
-fn number(word: &str) -> u128 {
-    word.parse()
-        .expect("the library prints numbers of 128 bits")
+    Rate::Finite(Ratio {
+        numerator: rate.numerator.get(),
+        denominator: rate.denominator.get(),
+    })
 }

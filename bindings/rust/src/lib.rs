@@ -15,7 +15,9 @@ mod raw;
 mod script;
 mod transmitter;
 
-pub use bandwidth::{allocate, allocate_linked, Flow, Rate, Ratio};
+pub use bandwidth::{
+    allocate, allocate_counted, allocate_linked, allocate_linked_counted, Flow, Rate, Ratio,
+};
 pub use error::Error;
 pub use script::{run, Outcome};
 pub use transmitter::{Completion, State};

@@ -39,12 +39,61 @@ pub struct Done {
     pub deliver_at: Moment,
 }
 
+#[repr(C)]
+#[derive(Clone, Copy)]
+pub struct Flow {
+    pub id: u64,
+    pub origin: u64,
+    pub recipient: u64,
+    pub delivered: u8,
+}
+
+#[repr(C)]
+#[derive(Clone, Copy)]
+pub struct PeerCap {
+    pub peer: u64,
+    pub cap: Wide,
+}
+
+#[repr(C)]
+#[derive(Clone, Copy)]
+pub struct LinkCap {
+    pub origin: u64,
+    pub recipient: u64,
+    pub cap: Wide,
+}
+
+#[repr(C)]
+#[derive(Clone, Copy)]
+pub struct Rate {
+    pub numerator: Wide,
+    pub denominator: Wide,
+    pub is_limited: u8,
+}
+
+impl Wide {
+    pub fn of(value: u128) -> Wide {
+        Wide {
+            low: value as u64,
+            high: (value >> 64) as u64,
+        }
+    }
+
+    pub fn get(self) -> u128 {
+        u128::from(self.high) << 64 | u128::from(self.low)
+    }
+}
+
 const _: () = assert!(size_of::<usize>() == 8);
 const _: () = assert!(size_of::<Scheduler>() == 16);
 const _: () = assert!(size_of::<Cap>() == 16);
 const _: () = assert!(size_of::<Moment>() == 16);
 const _: () = assert!(size_of::<Wide>() == 16);
 const _: () = assert!(size_of::<Done>() == 48);
+const _: () = assert!(size_of::<Flow>() == 32);
+const _: () = assert!(size_of::<PeerCap>() == 24);
+const _: () = assert!(size_of::<LinkCap>() == 32);
+const _: () = assert!(size_of::<Rate>() == 40);
 
 extern "C" {
     pub fn p2p_open(scheduler: *mut Scheduler, first_id: u64) -> u32;
@@ -109,6 +158,19 @@ extern "C" {
         out: *mut u8,
         room: usize,
     ) -> usize;
+    pub fn p2p_allocate(
+        flows: *const Flow,
+        flow_count: usize,
+        egress: *const PeerCap,
+        egress_count: usize,
+        ingress: *const PeerCap,
+        ingress_count: usize,
+        links: *const LinkCap,
+        link_count: usize,
+        rates: *mut Rate,
+        room: usize,
+        rounds: *mut Wide,
+    ) -> u32;
     pub fn p2p_run(
         script: *const u8,
         length: usize,

@@ -206,15 +206,12 @@ impl<P: Ord + Clone> State<P> {
     /// As `advance`, with the number of events on the way: finishes and starts of messages.
     pub fn advance_counted(&mut self, now: u64) -> Result<(Vec<Completion<P>>, u128), Error> {
         let mut count = 0;
-        let mut events = raw::Wide { low: 0, high: 0 };
+        let mut events = raw::Wide::of(0);
         // SAFETY: as in `limit`.
         result_of(unsafe {
             raw::p2p_advance_counted(&mut self.handle, now, &mut count, &mut events)
         })?;
-        Ok((
-            self.completions(count),
-            u128::from(events.high) << 64 | u128::from(events.low),
-        ))
+        Ok((self.completions(count), events.get()))
     }
 
     /// The moment of the next event, unless a cap changes or a message is sent before.

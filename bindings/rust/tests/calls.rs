@@ -1,5 +1,7 @@
 //! What the scheduler, the planner and scripts answer through the crate.
-use p2p_simulated::{allocate, allocate_linked, run, Error, Flow, Outcome, Rate, Ratio, State};
+use p2p_simulated::{
+    allocate, allocate_counted, allocate_linked, run, Error, Flow, Outcome, Rate, Ratio, State,
+};
 use std::thread;
 
 fn whole(numerator: u128) -> Rate {
@@ -82,6 +84,8 @@ fn rates_are_max_min_fair() {
     )
     .unwrap();
     assert_eq!((rates[&1], rates[&2]), (whole(49999), whole(1)));
+    let (rates, rounds) = allocate_counted(&flows, |_| Some(u128::MAX), |_| None).unwrap();
+    assert_eq!((rates[&3], rounds), (whole(u128::MAX), 2));
     let all: Vec<_> = (0..200).map(|id| flow(id, "a", "b")).collect();
     let one_third = allocate(&all[..3], |_| Some(1), |_| None).unwrap();
     assert_eq!(

@@ -54,7 +54,8 @@ billion = 1_000_000_000
 
 -- what is left after n nanoseconds at that rate: nothing, where they would take more
 abbrev pub drained : Amount → Amount → ℕ → Amount
-drained left rate n = reduced (left.num * (rate.den * billion) - n * (rate.num * left.den)) (left.den * (rate.den * billion))
+drained left rate n =
+    reduced (left.num * (rate.den * billion) - n * (rate.num * left.den)) (left.den * (rate.den * billion))
 
 -- n nanoseconds at that rate take all that is left
 abbrev pub Covers : Amount → ℕ → Amount → Type 0

@@ -33,14 +33,19 @@ pub record States (E I L : Type 0) : Type 0 where
   pub ingress : I
   pub link : L
 
--- the calls for one flow: of egress with its origin, of ingress with its recipient if it is delivered, of link with both
-pub record CallsFor {P E I L : Type 0} (egress : Calls E P) (ingress : Calls I P) (link : PairCalls L P) (before : States E I L) (answered : Answered P) (after : States E I L) : Type 0 where
+-- the calls for one flow: of egress with its origin, of ingress with its recipient if it is delivered, of link with
+-- both
+pub record CallsFor {P E I L : Type 0} (egress : Calls E P) (ingress : Calls I P) (link : PairCalls L P)
+    (before : States E I L) (answered : Answered P) (after : States E I L) : Type 0 where
   pub origin : egress before.egress answered.flow.origin answered.egress after.egress
-  pub recipient : CalledIfDelivered ingress answered.flow.delivered before.ingress answered.flow.recipient answered.ingress after.ingress
+  pub recipient : CalledIfDelivered ingress answered.flow.delivered
+      before.ingress answered.flow.recipient answered.ingress after.ingress
   pub pair : link before.link answered.flow.origin answered.flow.recipient answered.link after.link
 
--- the closures were called flow by flow in the order of the list, each in the state that its call before left, and answered so
-pub record AnswerInOrder {P E I L : Type 0} (egress : Calls E P) (ingress : Calls I P) (link : PairCalls L P) (first : States E I L) (flows : List (Flow P)) (answered : List (Answered P)) : Type 0 where
+-- the closures were called flow by flow in the order of the list, each in the state that its call before left, and
+-- answered so
+pub record AnswerInOrder {P E I L : Type 0} (egress : Calls E P) (ingress : Calls I P) (link : PairCalls L P)
+    (first : States E I L) (flows : List (Flow P)) (answered : List (Answered P)) : Type 0 where
   pub flows_are : map (λ a. a.flow) answered ≡ flows
   pub last : States E I L
   pub calls : FoldsTo (CallsFor egress ingress link) first answered last
@@ -50,7 +55,8 @@ pub record AnswerInOrder {P E I L : Type 0} (egress : Calls E P) (ingress : Call
 -- a closure may be called on each peer of the list in turn, in whatever state the calls before left it
 abbrev pub CallableOnEach : {P F : Type 0} → (F → P → Type 0) → Calls F P → F → List P → Type 0
 CallableOnEach may call f [] = Unit {0}
-CallableOnEach {P} {F} may call f (p ∷ peers) = may f p × ((a : Option ℕ) (g : F) → call f p a g → CallableOnEach may call g peers)
+CallableOnEach {P} {F} may call f (p ∷ peers) =
+    may f p × ((a : Option ℕ) (g : F) → call f p a g → CallableOnEach may call g peers)
 
 -- the origins of the flows
 abbrev pub origins : {P : Type 0} → List (Flow P) → List P
@@ -65,7 +71,8 @@ recipients (f ∷ flows) = cond f.delivered (f.recipient ∷ []) [] ++ recipient
 -- a closure may be called on each ordered pair of the list in turn, in whatever state the calls before left it
 abbrev pub CallableOnEachPair : {P F : Type 0} → (F → P → P → Type 0) → PairCalls F P → F → List (P × P) → Type 0
 CallableOnEachPair may call f [] = Unit {0}
-CallableOnEachPair {P} {F} may call f ((p, q) ∷ pairs) = may f p q × ((a : Option ℕ) (g : F) → call f p q a g → CallableOnEachPair may call g pairs)
+CallableOnEachPair {P} {F} may call f ((p, q) ∷ pairs) =
+    may f p q × ((a : Option ℕ) (g : F) → call f p q a g → CallableOnEachPair may call g pairs)
 
 -- the ordered pairs of the flows
 abbrev pub pairs : {P : Type 0} → List (Flow P) → List (P × P)

@@ -3,7 +3,8 @@ use Rattle.std.specs.Prelude.{◌≡◌, ℕ, true, ◌&&◌, if◌then◌else�
 use Rattle.std.specs.declared.cmp.Ordering.{Ordering}
 use Rattle.fair_rates.specs.Sides.{same_peer}
 
--- the caps in bytes a second: on all that a peer sends, on all that a peer receives, and on what goes from one peer to another
+-- the caps in bytes a second: on all that a peer sends, on all that a peer receives, and on what goes from one peer
+-- to another
 pub record Caps (P : Type 0) : Type 0 where
   pub egress : P → Option ℕ
   pub ingress : P → Option ℕ
@@ -20,7 +21,8 @@ module _ {P : Type 0} (cmp : P → P → Ordering) where
 
   -- the caps of ordered pairs, with a new one
   abbrev pub with_link : (P → P → Option ℕ) → P → P → Option ℕ → P → P → Option ℕ
-  with_link links origin recipient cap p q = if same_peer cmp origin p && same_peer cmp recipient q then cap else links p q
+  with_link links origin recipient cap p q =
+      if same_peer cmp origin p && same_peer cmp recipient q then cap else links p q
 
   -- two look-ups by peer that answer alike for equal peers
   abbrev pub AnswerAlike : {X : Type 0} → (P → X) → (P → X) → Type 0

@@ -35,11 +35,13 @@ HalvesAreFair = (first second : Ratio) → IsHalf first → IsHalf second → Ar
 
 -- less for the first is not fair, whatever the second gets
 abbrev pub LessIsUnfair : Type 0
-LessIsUnfair = (first second : Ratio) → IsLess (amount_of first) half → ¬ AreFair (Finite first) (Finite second) Unlimited
+LessIsUnfair =
+    (first second : Ratio) → IsLess (amount_of first) half → ¬ AreFair (Finite first) (Finite second) Unlimited
 
 -- nor is more
 abbrev pub MoreIsUnfair : Type 0
-MoreIsUnfair = (first second : Ratio) → IsLess half (amount_of first) → ¬ AreFair (Finite first) (Finite second) Unlimited
+MoreIsUnfair =
+    (first second : Ratio) → IsLess half (amount_of first) → ¬ AreFair (Finite first) (Finite second) Unlimited
 
 -- nor is no limit for a flow that uses the side
 abbrev pub NoLimitIsUnfair : Type 0

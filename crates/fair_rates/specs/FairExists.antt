@@ -47,14 +47,18 @@ AreLeastMultiplesFrom n (m ∷ ms) = IsLeastMultiple n m × AreLeastMultiplesFro
 
 -- on sides with so many flows, none of which uses a side twice, some amounts over that denominator are fair
 abbrev pub FairAmountsExist : Type 0
-FairAmountsExist = (n per : ℕ) → IsLeastMultiple n per → (sides : List Side) → HaveUsersBelow n sides → HaveDistinctUsers sides → (parts : ℕ → ℕ) × IsFair sides per parts
+FairAmountsExist =
+    (n per : ℕ) → IsLeastMultiple n per → (sides : List Side) → HaveUsersBelow n sides → HaveDistinctUsers sides
+    → (parts : ℕ → ℕ) × IsFair sides per parts
 
 -- and each fair rate is whole over it
 abbrev pub FairRatesAreWhole : Type 0
 FairRatesAreWhole =
-    (n per : ℕ) → IsLeastMultiple n per → (sides : List Side) (rates : List Rate) → HaveUsersBelow n sides → HaveDistinctUsers sides → AreFairRates sides n rates → AreWholeOver per rates
+    (n per : ℕ) → IsLeastMultiple n per → (sides : List Side) (rates : List Rate) → HaveUsersBelow n sides
+    → HaveDistinctUsers sides → AreFairRates sides n rates → AreWholeOver per rates
 
 -- the flows have fair amounts under caps by peer
 abbrev pub FairAmountsExistUnderCaps : {P : Type 0} → (P → P → Ordering) → Type 0
 FairAmountsExistUnderCaps {P} cmp =
-    (caps : Caps P) (flows : List (Flow P)) (per : ℕ) → AreOfPeers cmp caps → IsLeastMultiple (length flows) per → (parts : ℕ → ℕ) × IsFair (sides_under cmp caps flows) per parts
+    (caps : Caps P) (flows : List (Flow P)) (per : ℕ) → AreOfPeers cmp caps → IsLeastMultiple (length flows) per
+    → (parts : ℕ → ℕ) × IsFair (sides_under cmp caps flows) per parts

@@ -1,4 +1,5 @@
--- What follows from fairness. It is max-min, there is one fair list of rates at most, and the rate is zero at a cap of zero.
+-- What follows from fairness. It is max-min, there is one fair list of rates at most, and the rate is zero at a cap
+-- of zero.
 use Rattle.std.specs.Prelude.{◌≡◌, ℕ, ◌*◌, ◌<◌, ◌≤◌, ◌↔◌, List, All, Contains, Some, slice_get}
 use Rattle.fair_rates.specs.declared.bandwidth.Rate.{Rate}
 use Rattle.fair_rates.specs.declared.bandwidth.Rate.TheVariants.{Finite}
@@ -69,7 +70,9 @@ AreMaxMin sides rates =
 
 -- fair rates are max-min
 abbrev pub FairRatesAreMaxMin : Type 0
-FairRatesAreMaxMin = (sides : List Side) (flows : ℕ) (rates : List Rate) → HaveUsersBelow flows sides → AreFairRates sides flows rates → AreMaxMin sides rates
+FairRatesAreMaxMin =
+    (sides : List Side) (flows : ℕ) (rates : List Rate) → HaveUsersBelow flows sides → AreFairRates sides flows rates
+    → AreMaxMin sides rates
 
 -- ---- one allocation
 
@@ -79,7 +82,9 @@ IsTheOnlyFair sides flows rates = (others : List Rate) → AreFairRates sides fl
 
 -- there is one list of fair rates at most
 abbrev pub OneAllocation : Type 0
-OneAllocation = (sides : List Side) (flows : ℕ) (rates : List Rate) → AreFairRates sides flows rates → IsTheOnlyFair sides flows rates
+OneAllocation =
+    (sides : List Side) (flows : ℕ) (rates : List Rate) → AreFairRates sides flows rates
+    → IsTheOnlyFair sides flows rates
 
 -- ---- caps of zero
 
@@ -91,11 +96,14 @@ pub record UsesClosedSide (sides : List Side) (flow : ℕ) : Type 0 where
 
 -- a finite rate is zero exactly where the flow uses a side of cap zero
 abbrev pub AreZeroWhereClosed : List Side → List Rate → Type 0
-AreZeroWhereClosed sides rates = (flow : ℕ) (rate : Ratio) → HasRate rates flow rate → ((amount_of rate).num ≡ 0) ↔ UsesClosedSide sides flow
+AreZeroWhereClosed sides rates =
+    (flow : ℕ) (rate : Ratio) → HasRate rates flow rate → ((amount_of rate).num ≡ 0) ↔ UsesClosedSide sides flow
 
 -- fair rates are
 abbrev pub FairRatesAreZeroWhereClosed : Type 0
-FairRatesAreZeroWhereClosed = (sides : List Side) (flows : ℕ) (rates : List Rate) → AreFairRates sides flows rates → AreZeroWhereClosed sides rates
+FairRatesAreZeroWhereClosed =
+    (sides : List Side) (flows : ℕ) (rates : List Rate) → AreFairRates sides flows rates
+    → AreZeroWhereClosed sides rates
 
 -- ---- the set of sides
 
@@ -105,4 +113,6 @@ AreTheSameSides xs ys = (side : Side) → Contains xs side ↔ Contains ys side
 
 -- fairness depends on the set of sides alone
 abbrev pub FairnessIsOfTheSet : Type 0
-FairnessIsOfTheSet = (xs ys : List Side) (flows : ℕ) (rates : List Rate) → AreTheSameSides xs ys → AreFairRates xs flows rates → AreFairRates ys flows rates
+FairnessIsOfTheSet =
+    (xs ys : List Side) (flows : ℕ) (rates : List Rate) → AreTheSameSides xs ys → AreFairRates xs flows rates
+    → AreFairRates ys flows rates

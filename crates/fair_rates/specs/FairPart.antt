@@ -1,5 +1,7 @@
--- A part of the flows that shares no side with the rest. Its flows are those with the flag `true`, of one flag for each flow.
-use Rattle.std.specs.Prelude.{◌≡◌, ◌⊎◌, ℕ, Bool, true, false, cond, List, [], ◌∷◌, ◌++◌, All, count_by, length, map, take, slice_index_or}
+-- A part of the flows that shares no side with the rest. Its flows are those with the flag `true`, of one flag for
+-- each flow.
+use Rattle.std.specs.Prelude.{◌≡◌, ◌⊎◌, ℕ, Bool, true, false, cond, List, [], ◌∷◌, ◌++◌, All, count_by, length, map}
+use Rattle.std.specs.Prelude.{take, slice_index_or}
 use Rattle.std.specs.List.{list_any}
 use Rattle.fair_rates.specs.declared.bandwidth.Rate.{Rate}
 use Rattle.fair_rates.specs.Fair.{Side}
@@ -22,11 +24,15 @@ place_in flags flow = count_by (λ flag. flag) (take flow flags)
 -- the sides that flows of the part use, with the places that these have among themselves
 abbrev pub sides_in : List Bool → List Side → List Side
 sides_in flags [] = []
-sides_in flags (side ∷ sides) = cond (list_any (is_in flags) side.users) (record { cap = side.cap; users = map (place_in flags) side.users } ∷ []) [] ++ sides_in flags sides
+sides_in flags (side ∷ sides) =
+    cond (list_any (is_in flags) side.users)
+    (record { cap = side.cap; users = map (place_in flags) side.users } ∷ []) []
+    ++ sides_in flags sides
 
 -- no side has users of the part and others
 abbrev pub SharesNoSide : List Bool → List Side → Type 0
-SharesNoSide flags sides = All (λ side. All (λ user. is_in flags user ≡ true) side.users ⊎ All (λ user. is_in flags user ≡ false) side.users) sides
+SharesNoSide flags sides = All (λ side.
+    All (λ user. is_in flags user ≡ true) side.users ⊎ All (λ user. is_in flags user ≡ false) side.users) sides
 
 -- the rates of the part's flows are fair for these flows alone
 abbrev pub FlowsApartAreFair : Type 0

@@ -1,5 +1,6 @@
 -- Fair rates as whole parts of one byte a second, so many at a scale. Equal rates share a level.
-use Rattle.std.specs.Prelude.{◌≡◌, ◌↔◌, ℕ, ◌*◌, ◌<◌, List, [], ◌∷◌, All, length, Option, Some, None, IsSome, IfSome, slice_index, slice_index_or}
+use Rattle.std.specs.Prelude.{◌≡◌, ◌↔◌, ℕ, ◌*◌, ◌<◌, List, [], ◌∷◌, All, length, Option, Some, None, IsSome, IfSome}
+use Rattle.std.specs.Prelude.{slice_index, slice_index_or}
 use Rattle.std.specs.declared.cmp.Ordering.{Ordering}
 use Rattle.fair_rates.specs.Amount.{parts_over}
 use Rattle.fair_rates.specs.Answers.{Answered, Calls, PairCalls, States, AnswerInOrder}
@@ -36,19 +37,22 @@ flow_parts levels level_of flow = parts_of_level levels (level_at level_of flow)
 -- one fraction for each of the levels
 pub record AreLevelRates (scale : ℕ) (levels : List ℕ) (fractions : List Ratio) : Type 0 where
   pub one_each : length fractions ≡ length levels
-  pub worth : (place : ℕ) (d : Ratio) → place < length fractions → IsWorth (slice_index_or fractions place d) (parts_over scale (slice_index levels place))
+  pub worth : (place : ℕ) (d : Ratio) → place < length fractions
+      → IsWorth (slice_index_or fractions place d) (parts_over scale (slice_index levels place))
 
 -- the rate at the place of a level: its fraction, or no limit where there is no place
 abbrev pub IsRateAt : List Ratio → Option ℕ → Rate → Type 0
 IsRateAt fractions None rate = rate ≡ Unlimited
-IsRateAt fractions (Some place) rate = (place < length fractions) × ((d : Ratio) → rate ≡ Finite (slice_index_or fractions place d))
+IsRateAt fractions (Some place) rate =
+    (place < length fractions) × ((d : Ratio) → rate ≡ Finite (slice_index_or fractions place d))
 
 -- each flow has the rate of its level
 pub record AreRatesAt (found : FairParts) (rates : List Rate) : Type 0 where
   pub fractions : List Ratio
   pub levels : AreLevelRates found.scale found.levels.items fractions
   pub one_each : length rates ≡ length found.level_of.items
-  pub rated : (flow : ℕ) (d : Rate) → flow < length rates → IsRateAt fractions (level_at found.level_of.items flow) (slice_index_or rates flow d)
+  pub rated : (flow : ℕ) (d : Rate) → flow < length rates
+      → IsRateAt fractions (level_at found.level_of.items flow) (slice_index_or rates flow d)
 
 -- one of the levels, in lowest terms, is no fraction of 128 bits
 pub record HasLargeLevel (found : FairParts) : Type 0 where
@@ -58,8 +62,10 @@ pub record HasLargeLevel (found : FairParts) : Type 0 where
 
 -- ---- what is answered
 
--- the closures gave some answers, and on the sides that these make the flows' levels are fair: the scale is the one before, grown by each factor in turn
-pub record AreFairParts {P E I L : Type 0} (cmp : P → P → Ordering) (egress : Calls E P) (ingress : Calls I P) (link : PairCalls L P) (first : States E I L) (flows : List (Flow P)) (scale : ℕ) (found : FairParts) : Type 0 where
+-- the closures gave some answers, and on the sides that these make the flows' levels are fair: the scale is the one
+-- before, grown by each factor in turn
+pub record AreFairParts {P E I L : Type 0} (cmp : P → P → Ordering) (egress : Calls E P) (ingress : Calls I P)
+    (link : PairCalls L P) (first : States E I L) (flows : List (Flow P)) (scale : ℕ) (found : FairParts) : Type 0 where
   pub answered : List (Answered P)
   pub in_order : AnswerInOrder egress ingress link first flows answered
   pub grown : found.scale ≡ scale * product found.growth.items

@@ -1,6 +1,9 @@
 -- Filling: the flows rise together, and the users of a side that is full stay where they are.
--- All is in whole parts, `scale` of which are one byte a second. `frozen` says at how many a flow stays, and None of a flow that still rises.
-use Rattle.std.specs.Prelude.{◌≡◌, ◌≢◌, ◌↔◌, ℕ, ◌+◌, ◌-◌, ◌*◌, ◌<◌, ◌≤◌, ◌⊎◌, List, [], ◌∷◌, ◌++◌, All, AllPairs, Contains, length, map, sum_by, IsPermutation, Option, Some, None, IsSome, IfSome, slice_index, unwrap_or, option_map}
+-- All is in whole parts, `scale` of which are one byte a second. `frozen` says at how many a flow stays, and None of
+-- a flow that still rises.
+use Rattle.std.specs.Prelude.{◌≡◌, ◌≢◌, ◌↔◌, ℕ, ◌+◌, ◌-◌, ◌*◌, ◌<◌, ◌≤◌, ◌⊎◌, List, [], ◌∷◌, ◌++◌, All, AllPairs}
+use Rattle.std.specs.Prelude.{Contains, length, map, sum_by, IsPermutation, Option, Some, None, IsSome, IfSome}
+use Rattle.std.specs.Prelude.{slice_index, unwrap_or, option_map}
 use Rattle.std.specs.BinaryHeap.{IsHeap}
 use Rattle.std.specs.declared.cmp.Ordering.{Ordering}
 use Rattle.std.specs.declared.cmp.Reverse.{Reverse}
@@ -79,21 +82,26 @@ pub record KeepsAccount (side : Side) (scale : ℕ) (frozen : ℕ → Option ℕ
 
 -- the open side keeps account of one of the sides
 abbrev pub IsOpen : List Side → ℕ → (ℕ → Option ℕ) → Reverse OpenSide → Type 0
-IsOpen sides scale frozen open_side = (side : Side) × Contains sides side × KeepsAccount side scale frozen open_side.0.slack open_side.0.rising.items
+IsOpen sides scale frozen open_side =
+    (side : Side) × Contains sides side × KeepsAccount side scale frozen open_side.0.slack open_side.0.rising.items
 
 -- the users of the side are all frozen, or one of the open sides keeps account of it
 abbrev pub IsCovered : ℕ → (ℕ → Option ℕ) → List (Reverse OpenSide) → Side → Type 0
-IsCovered scale frozen opens side = AllFrozen frozen side.users ⊎ ((open_side : Reverse OpenSide) × Contains opens open_side × KeepsAccount side scale frozen open_side.0.slack open_side.0.rising.items)
+IsCovered scale frozen opens side =
+    AllFrozen frozen side.users ⊎ ((open_side : Reverse OpenSide) × Contains opens open_side
+    × KeepsAccount side scale frozen open_side.0.slack open_side.0.rising.items)
 
 -- the open sides are of some sides, and each side with rising users has one
-pub record IsQueue (sides : List Side) (scale : ℕ) (frozen : ℕ → Option ℕ) (opens : List (Reverse OpenSide)) : Type 0 where
+pub record IsQueue (sides : List Side) (scale : ℕ) (frozen : ℕ → Option ℕ)
+    (opens : List (Reverse OpenSide)) : Type 0 where
   pub each : All (IsOpen sides scale frozen) opens
   pub covered : All (IsCovered scale frozen opens) sides
 
 -- the open sides are of these sides, whoever is frozen, and their users are users of these
 pub record AreOpened (scale : ℕ) (sides : List declared.Side) (opens : List (Reverse OpenSide)) : Type 0 where
   pub queue : (frozen : ℕ → Option ℕ) → IsQueue (map side_of sides) scale frozen opens
-  pub users : (flows : ℕ) → All (λ side. All (λ flow. flow < flows) side.users.items) sides → All (λ open_side. All (λ flow. flow < flows) open_side.0.rising.items) opens
+  pub users : (flows : ℕ) → All (λ side. All (λ flow. flow < flows) side.users.items) sides
+      → All (λ open_side. All (λ flow. flow < flows) open_side.0.rising.items) opens
 
 -- the users are flows, none has more than the share, and the least share is on top
 pub record IsSound (flows : ℕ) (frozen : ℕ → Option ℕ) (opens : List (Reverse OpenSide)) : Type 0 where
@@ -108,7 +116,8 @@ AreAbove parts opens = All (λ open_side. IsWithin parts open_side.0.slack open_
 -- the share of this open side is no greater than those of the others, and none of its users is frozen
 pub record IsLeast (frozen : ℕ → Option ℕ) (next : OpenSide) (opens : List (Reverse OpenSide)) : Type 0 where
   pub rise : AllRise frozen next.rising.items
-  pub least : All (λ open_side. next.slack * length open_side.0.rising.items ≤ open_side.0.slack * length next.rising.items) opens
+  pub least : All (λ open_side. next.slack * length open_side.0.rising.items
+      ≤ open_side.0.slack * length next.rising.items) opens
 
 -- all users of all sides are frozen
 abbrev pub AllFilled : List Side → (ℕ → Option ℕ) → Type 0
@@ -135,5 +144,6 @@ pub record AreFilled (sides : List Side) (flows scale : ℕ) (found : FairParts)
   pub fair : IsFair sides found.scale (flow_parts found.levels.items found.level_of.items)
   pub limited : (flow : ℕ) → IsSome (level_at found.level_of.items flow) ↔ IsLimited sides flow
   pub rising : AllPairs (λ a b. a < b) found.levels.items
-  pub reached : (place : ℕ) → place < length found.levels.items → (flow : ℕ) × (level_at found.level_of.items flow ≡ Some place)
+  pub reached : (place : ℕ) → place < length found.levels.items
+      → (flow : ℕ) × (level_at found.level_of.items flow ≡ Some place)
   pub few : length found.levels.items ≤ length sides

@@ -1,5 +1,7 @@
--- Caps that are functions of the peer, and of the ordered pair: the sides that they make, and what follows for the rates.
-use Rattle.std.specs.Prelude.{◌≡◌, ℕ, ◌*◌, ◌==◌, ◌≤◌, ◌↔◌, Bool, true, cond, ◌&&◌, List, [], ◌∷◌, Option, Some, None, All, Contains, length, map, count_by, sum_by, slice_get}
+-- Caps that are functions of the peer, and of the ordered pair: the sides that they make, and what follows for the
+-- rates.
+use Rattle.std.specs.Prelude.{◌≡◌, ℕ, ◌*◌, ◌==◌, ◌≤◌, ◌↔◌, Bool, true, cond, ◌&&◌, List, [], ◌∷◌, Option, Some, None}
+use Rattle.std.specs.Prelude.{All, Contains, length, map, count_by, sum_by, slice_get}
 use Rattle.std.specs.List.{filter, list_any}
 use Rattle.std.specs.List.Sorted.{IsPermutation}
 use Rattle.std.specs.declared.cmp.Ordering.{Ordering}
@@ -31,18 +33,22 @@ answered_under caps f = record {
 
 -- ---- closures that answer by a function
 
--- called on each peer of the list in turn, in whatever state the calls before left it, the closure answers by that function of the peer
+-- called on each peer of the list in turn, in whatever state the calls before left it, the closure answers by that
+-- function of the peer
 abbrev pub AnswersOnEach : {P F : Type 0} → Calls F P → (P → Option ℕ) → F → List P → Type 0
 AnswersOnEach call cap f [] = Unit {0}
-AnswersOnEach {P} {F} call cap f (p ∷ peers) = (a : Option ℕ) (g : F) → call f p a g → (a ≡ cap p) × AnswersOnEach call cap g peers
+AnswersOnEach {P} {F} call cap f (p ∷ peers) =
+    (a : Option ℕ) (g : F) → call f p a g → (a ≡ cap p) × AnswersOnEach call cap g peers
 
 -- the same on each ordered pair of the list
 abbrev pub AnswersOnEachPair : {P F : Type 0} → PairCalls F P → (P → P → Option ℕ) → F → List (P × P) → Type 0
 AnswersOnEachPair call cap f [] = Unit {0}
-AnswersOnEachPair {P} {F} call cap f ((p, q) ∷ pairs) = (a : Option ℕ) (g : F) → call f p q a g → (a ≡ cap p q) × AnswersOnEachPair call cap g pairs
+AnswersOnEachPair {P} {F} call cap f ((p, q) ∷ pairs) =
+    (a : Option ℕ) (g : F) → call f p q a g → (a ≡ cap p q) × AnswersOnEachPair call cap g pairs
 
 -- the closures, beginning in these states, answer for the flows by the caps
-pub record AnswerBy {P E I L : Type 0} (egress : Calls E P) (ingress : Calls I P) (link : PairCalls L P) (first : States E I L) (flows : List (Flow P)) (caps : Caps P) : Type 0 where
+pub record AnswerBy {P E I L : Type 0} (egress : Calls E P) (ingress : Calls I P) (link : PairCalls L P)
+    (first : States E I L) (flows : List (Flow P)) (caps : Caps P) : Type 0 where
   pub by_egress : AnswersOnEach egress caps.egress first.egress (origins flows)
   pub by_ingress : AnswersOnEach ingress caps.ingress first.ingress (recipients flows)
   pub by_link : AnswersOnEachPair link caps.link first.link (pairs flows)
@@ -55,7 +61,8 @@ AnswersAreThoseOfTheCaps {P} {E} {I} {L} egress ingress link =
     → AnswerInOrder egress ingress link first flows answered
     → answered ≡ map (answered_under caps) flows
 
--- the flow uses no capped side: nothing limits what its origin sends, what its recipient receives, or what goes between them
+-- the flow uses no capped side: nothing limits what its origin sends, what its recipient receives, or what goes
+-- between them
 pub record UsesNoCap {P : Type 0} (caps : Caps P) (flow : Flow P) : Type 0 where
   pub origin : caps.egress flow.origin ≡ None
   pub recipient : flow.delivered ≡ true → caps.ingress flow.recipient ≡ None
@@ -97,7 +104,9 @@ module _ {P : Type 0} (cmp : P → P → Ordering) where
 
   -- the sides are exactly these
   abbrev pub SidesAreOfTheCaps : Type 0
-  SidesAreOfTheCaps = (caps : Caps P) (flows : List (Flow P)) (side : Side) → AreOfPeers caps → Contains (sides_under caps flows) side ↔ IsCappedSide caps flows side
+  SidesAreOfTheCaps =
+      (caps : Caps P) (flows : List (Flow P)) (side : Side) → AreOfPeers caps
+      → Contains (sides_under caps flows) side ↔ IsCappedSide caps flows side
 
   -- what is answered for each id: the rate of the last flow that has it, where the rates are fair under the caps
   pub record IsFairById (caps : Caps P) (flows : List (Flow P)) (rate_of : ℕ → Option Rate) : Type 0 where
@@ -107,7 +116,8 @@ module _ {P : Type 0} (cmp : P → P → Ordering) where
 
   -- ---- what follows for the rates
 
-  -- the flows that a side of that subject limits get no more than its cap together, in parts of which `per` are one byte a second
+  -- the flows that a side of that subject limits get no more than its cap together, in parts of which `per` are one
+  -- byte a second
   abbrev pub KeepsToItsCap : Type 0
   KeepsToItsCap =
       (caps : Caps P) (flows : List (Flow P)) (rates : List Rate)

@@ -18,11 +18,13 @@ pub record Ask (P : Type 0) : Type 0 where
   pub subject : Subject P
   pub answer : Option ℕ
 
--- what the flow at a place asks for: the egress of its origin, the ingress of its recipient if it is delivered, and the link
+-- what the flow at a place asks for: the egress of its origin, the ingress of its recipient if it is delivered, and
+-- the link
 abbrev pub asks_of_one : {P : Type 0} → ℕ → Answered P → List (Ask P)
 asks_of_one place a =
     record { place = place; subject = sent_by a.flow.origin; answer = a.egress } ∷ []
-    ++ cond a.flow.delivered (record { place = place; subject = received_by a.flow.recipient; answer = a.ingress } ∷ []) []
+    ++ cond a.flow.delivered
+    (record { place = place; subject = received_by a.flow.recipient; answer = a.ingress } ∷ []) []
     ++ record { place = place; subject = sent_between a.flow.origin a.flow.recipient; answer = a.link } ∷ []
 
 -- what all flows ask for, in the order of the list, of which the first has that place
@@ -55,7 +57,8 @@ module _ {P : Type 0} (cmp : P → P → Ordering) where
   abbrev pub is_open : List (Ask P) → Ask P → Bool
   is_open earlier a = list_any (λ b. is_some b.answer && is_same b a) earlier
 
-  -- the side that comes into being with a number: it is the cap, and the users are that flow and those that ask for the side later
+  -- the side that comes into being with a number: it is the cap, and the users are that flow and those that ask for
+  -- the side later
   abbrev pub opened : Ask P → List (Ask P) → Option ℕ → List Side
   opened a later None = []
   opened a later (Some cap) = record { cap = cap; users = a.place ∷ map (λ b. b.place) (filter (is_same a) later) } ∷ []
@@ -63,7 +66,8 @@ module _ {P : Type 0} (cmp : P → P → Ordering) where
   -- the sides that come into being with the later ones, after the earlier ones
   abbrev pub sides_after : List (Ask P) → List (Ask P) → List Side
   sides_after earlier [] = []
-  sides_after earlier (a ∷ later) = cond (is_open earlier a) [] (opened a later a.answer) ++ sides_after (a ∷ earlier) later
+  sides_after earlier (a ∷ later) =
+      cond (is_open earlier a) [] (opened a later a.answer) ++ sides_after (a ∷ earlier) later
 
   -- the sides of the flows, each from the first flow on for which a number was answered
   abbrev pub sides_of : List (Answered P) → List Side

@@ -6,7 +6,8 @@ use Rattle.fair_rates.specs.declared.bandwidth.Rate.{Rate}
 use Rattle.fair_rates.specs.declared.bandwidth.Rate.TheVariants.{Unlimited, Finite}
 use Rattle.fair_rates.specs.Amount.{parts_over}
 
--- the fair rates are whole numbers of parts, and the parts that make one, times the number of flows and the greatest cap, are below 2^128
+-- the fair rates are whole numbers of parts, and the parts that make one, times the number of flows and the greatest
+-- cap, are below 2^128
 pub record FairRatesFit (sides : List Side) (flows : ℕ) : Type 0 where
   pub per : ℕ
   pub parts : ℕ → ℕ

@@ -32,21 +32,25 @@ pub record HasLargeRate (sides : List Side) : Type 0 where
   pub limited : IsLimited sides flow
   pub large : ¬ ReducedFits (parts_over per (parts flow))
 
--- what the closures answered makes sides on which a fair rate is no fraction of 128 bits; so no fair rates fit, and there are more than sixteen flows, or a cap is large
-pub record IsTooLarge {P E I L : Type 0} (cmp : P → P → Ordering) (egress : Calls E P) (ingress : Calls I P) (link : PairCalls L P) (first : States E I L) (flows : List (Flow P)) : Type 0 where
+-- what the closures answered makes sides on which a fair rate is no fraction of 128 bits; so no fair rates fit, and
+-- there are more than sixteen flows, or a cap is large
+pub record IsTooLarge {P E I L : Type 0} (cmp : P → P → Ordering) (egress : Calls E P) (ingress : Calls I P)
+    (link : PairCalls L P) (first : States E I L) (flows : List (Flow P)) : Type 0 where
   pub answered : List (Answered P)
   pub in_order : AnswerInOrder egress ingress link first flows answered
   pub large_rate : HasLargeRate (sides_of cmp answered)
   pub nothing_fits : ¬ FairRatesFit (sides_of cmp answered) (length flows)
   pub many_or_large : (16 < length flows) ⊎ HasLargeAnswer answered
 
--- under these caps a fair rate is no fraction of 128 bits; so no fair rates fit, and there are more than sixteen flows, or a cap is large
+-- under these caps a fair rate is no fraction of 128 bits; so no fair rates fit, and there are more than sixteen
+-- flows, or a cap is large
 pub record AreTooLarge {P : Type 0} (cmp : P → P → Ordering) (caps : Caps P) (flows : List (Flow P)) : Type 0 where
   pub large_rate : HasLargeRate (sides_under cmp caps flows)
   pub nothing_fits : ¬ FairRatesFit (sides_under cmp caps flows) (length flows)
   pub many_or_large : (16 < length flows) ⊎ HasLargeAnswer (map (answered_under caps) flows)
 
 -- whatever caps the closures answer by, the flows are too large under these
-abbrev pub AreTooLargeUnderCaps : {P E I L : Type 0} → (P → P → Ordering) → Calls E P → Calls I P → PairCalls L P → States E I L → List (Flow P) → Type 0
+abbrev pub AreTooLargeUnderCaps : {P E I L : Type 0} → (P → P → Ordering) → Calls E P → Calls I P → PairCalls L P
+    → States E I L → List (Flow P) → Type 0
 AreTooLargeUnderCaps {P} cmp egress ingress link first flows =
     (caps : Caps P) → AnswerBy egress ingress link first flows caps → AreTooLarge cmp caps flows

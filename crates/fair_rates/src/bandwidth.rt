@@ -166,7 +166,8 @@ where
     requires link { CallableOnEachPair (TakesAtTwo L.FnMut) (CalledAtTwo L.FnMut) link_cap (pairs flows.now) }
     ensures fair { IfOk result (λ rates. IsAllocation P.cmp (CalledAt E.FnMut) (CalledAt I.FnMut) (CalledAtTwo L.FnMut)
         (record { egress = egress_cap; ingress = ingress_cap; link = link_cap }) flows.now (get nat_cmp rates)) }
-    ensures under_caps { IfOk result (λ rates. IsFairUnderCaps P.cmp (CalledAt E.FnMut) (CalledAt I.FnMut) (CalledAtTwo L.FnMut)
+    ensures under_caps { IfOk result (λ rates. IsFairUnderCaps P.cmp
+        (CalledAt E.FnMut) (CalledAt I.FnMut) (CalledAtTwo L.FnMut)
         (record { egress = egress_cap; ingress = ingress_cap; link = link_cap }) flows.now (get nat_cmp rates)) }
     ensures refused { IfErr result (λ e. (e ≡ Error.OutOfMemory)
         ⊎ ((e ≡ Error.NumberTooLarge) × IsTooLarge P.cmp (CalledAt E.FnMut) (CalledAt I.FnMut) (CalledAtTwo L.FnMut)
@@ -207,7 +208,8 @@ where
     requires egress { CallableOnEach (TakesAt E.FnMut) (CalledAt E.FnMut) egress_cap (origins flows.now) }
     requires ingress { CallableOnEach (TakesAt I.FnMut) (CalledAt I.FnMut) ingress_cap (recipients flows.now) }
     ensures counted { IfOk result (λ counted. IsCountedAllocation P.cmp (CalledAt E.FnMut) (CalledAt I.FnMut) NoLink
-        (record { egress = egress_cap; ingress = ingress_cap; link = tt }) flows.now (get nat_cmp counted.0) counted.1) }
+        (record { egress = egress_cap; ingress = ingress_cap; link = tt }) flows.now
+        (get nat_cmp counted.0) counted.1) }
     ensures refused { IfErr result (λ e. (e ≡ Error.OutOfMemory)
         ⊎ ((e ≡ Error.NumberTooLarge) × IsTooLarge P.cmp (CalledAt E.FnMut) (CalledAt I.FnMut) NoLink
         (record { egress = egress_cap; ingress = ingress_cap; link = tt }) flows.now)) }
@@ -241,8 +243,10 @@ where
     requires egress { CallableOnEach (TakesAt E.FnMut) (CalledAt E.FnMut) egress_cap (origins flows.now) }
     requires ingress { CallableOnEach (TakesAt I.FnMut) (CalledAt I.FnMut) ingress_cap (recipients flows.now) }
     requires link { CallableOnEachPair (TakesAtTwo L.FnMut) (CalledAtTwo L.FnMut) link_cap (pairs flows.now) }
-    ensures counted { IfOk result (λ counted. IsCountedAllocation P.cmp (CalledAt E.FnMut) (CalledAt I.FnMut) (CalledAtTwo L.FnMut)
-        (record { egress = egress_cap; ingress = ingress_cap; link = link_cap }) flows.now (get nat_cmp counted.0) counted.1) }
+    ensures counted { IfOk result (λ counted. IsCountedAllocation P.cmp
+        (CalledAt E.FnMut) (CalledAt I.FnMut) (CalledAtTwo L.FnMut)
+        (record { egress = egress_cap; ingress = ingress_cap; link = link_cap }) flows.now
+        (get nat_cmp counted.0) counted.1) }
     ensures refused { IfErr result (λ e. (e ≡ Error.OutOfMemory)
         ⊎ ((e ≡ Error.NumberTooLarge) × IsTooLarge P.cmp (CalledAt E.FnMut) (CalledAt I.FnMut) (CalledAtTwo L.FnMut)
         (record { egress = egress_cap; ingress = ingress_cap; link = link_cap }) flows.now)) }

@@ -1,16 +1,21 @@
 -- The events of an advance, one after another.
-use Rattle.std.proofs.Common.{◌≡◌, ℕ, ◌+◌, ◌<◌, List, ◌++◌, Some, IfSome, sym, ap, ◌∙◌, subst, arith}
+use Rattle.std.proofs.Common.{◌≡◌, ℕ, ◌+◌, ◌<◌, Bool, true, false, if◌then◌else◌, List, [], ◌∷◌, ◌++◌, Some, IfSome, refl, sym, ap, ◌∙◌, subst, arith}
+use Rattle.std.specs.List.{Each, filter, find}
+use Rattle.std.specs.Cmp.{IsTotalOrder}
 use Rattle.std.specs.declared.cmp.Ordering.{Ordering}
 use Rattle.fair_rates.specs.declared.error.Error.{Error}
 use Rattle.link_scheduler.specs.declared.transmitter.event.Event.{Event}
 use Rattle.link_scheduler.specs.declared.transmitter.event.Event.TheVariants.{Finish, Start}
-use Rattle.link_simulation.specs.World.{Completed, Course, goes, meets, preceded}
-use Rattle.link_simulation.specs.WorldPlanned.{Planned, next_event}
-use Rattle.link_simulation.specs.WorldEvents.{Wakes, Advances, no_more, at_finish, at_start, finish_stops, start_stops}
+use Rattle.link_simulation.specs.World.{Completed, Course, fronts, goes, meets, preceded}
+use Rattle.link_simulation.specs.WorldMessages.{Message, same_pair}
+use Rattle.link_simulation.specs.WorldPlanned.{Planned, SomeReadyAt, may_launch, next_event}
+use Rattle.link_simulation.specs.WorldEvents.{Looks, Wakes, WakesEach, all_started, Advances, no_more, at_finish, at_start, finish_stops, start_stops}
 use Rattle.link_scheduler.specs.Events.{IsDue, Happens}
+use Rattle.link_scheduler.specs.Working.{IsQuiet}
 use Rattle.link_simulation.specs.Refusing.{IsRefusedFor}
 use Rattle.link_scheduler.proofs.Finishing.{preceded_both}
 use Rattle.link_simulation.proofs.Refusals.{refused_more}
+use Rattle.link_simulation.proofs.World.OtherPairs.{fronts_are_first}
 
 module _ {P : Type 0} (cmp : P → P → Ordering) where
   -- so far so many events happened, and this came out
@@ -54,3 +59,18 @@ module _ {P : Type 0} (cmp : P → P → Ordering) where
   wake_refused now p here out events so none =
       refused_more (λ fault. Wakes cmp now here (meets fault)) (λ fault. (n : ℕ) × Advances cmp now p n (meets fault))
       (λ fault h. (0 + events, so.advances 0 (meets fault) (no_more none h)))
+
+  -- where no message may start, none starts
+  module _ (order : IsTotalOrder cmp) where
+    none_pass : (t : ℕ) (p : Planned P) (ms : List (Message P)) → Each (λ (m : Message P). find (same_pair cmp m) p.waiting ≡ Some m) ms → ¬ SomeReadyAt cmp p t → filter (may_launch cmp t p) ms ≡ []
+    none_pass t p [] firsts no = refl
+    none_pass t p (m ∷ ms) firsts no = by_test (may_launch cmp t p m) refl
+      where
+        by_test : (may : Bool) → may_launch cmp t p m ≡ may → (if may then m ∷ filter (may_launch cmp t p) ms else filter (may_launch cmp t p) ms) ≡ []
+        by_test true is = absurd (no (m, firsts.0, is))
+        by_test false is = none_pass t p ms firsts.1 no
+
+    pub rests : (now : ℕ) (p q : Planned P) → IsQuiet cmp p now → Looks cmp now p q → Advances cmp now p 0 (goes [] q)
+    rests now p q quiet looks =
+        no_more quiet.none_due (subst (λ (ms : List (Message P)). WakesEach cmp now ms p (goes [] q))
+        (sym (none_pass now p (fronts cmp p.waiting) (fronts_are_first cmp order p.waiting) quiet.none_ready)) (all_started looks))

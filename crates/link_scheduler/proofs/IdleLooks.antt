@@ -1,6 +1,6 @@
 -- When idle pairs may start, and the first moment at which one may.
 use Rattle.std.proofs.Common.{◌≡◌, ℕ, ◌≤◌, Bool, true, false, not, ◌&&◌, if◌then◌else◌, List, [], ◌∷◌, map, slice_get, Option, Some, None, IfSome, refl, sym, ◌∙◌, ap, subst, arith}
-use Rattle.std.specs.Prelude.{nat_le, max, option_map}
+use Rattle.std.specs.Prelude.{◌↔◌, nat_le, max, option_map}
 use Rattle.std.specs.List.{find, list_any}
 use Rattle.std.specs.declared.cmp.Ordering.{Ordering}
 use Rattle.std.specs.Cmp.{IsTotalOrder}
@@ -127,3 +127,38 @@ module _ {P : Type 0} (cmp : P → P → Ordering) where
         twice : (o : Option (IdlePair P)) → option_map (λ t. max now t) (option_map (λ (e : IdlePair P). e.moment) o) ≡ option_map (λ (e : IdlePair P). max now e.moment) o
         twice None = refl
         twice (Some e) = refl
+
+    -- where no pair is listed, none is ready
+    pub none_listed : (es : List (IdlePair P)) (now : ℕ) → IsIndexOf cmp p es → option_map (λ (e : IdlePair P). e.moment) (slice_get es 0) ≡ None → ¬ SomeReadyAt cmp p now
+    none_listed [] now index is ready =
+        let m = ready.0 in
+        let from = launches_idle p now m ready.1 ready.2 in
+        let listed : false ≡ true = index (first_moment (p.last_arrival m.origin m.recipient) m.latency) m.origin m.recipient ∙ is_its_moment _ _ from.0 in
+        cc
+    none_listed (e ∷ es) now index is ready = cc
+
+    -- some pair is ready just where the first listed one may start
+    pub ready_first : (es : List (IdlePair P)) (now t : ℕ) (may : Bool) → are_ascending (idle_cmp cmp) (map idle_key es) ≡ true → IsIndexOf cmp p es → option_map (λ (e : IdlePair P). e.moment) (slice_get es 0) ≡ Some t
+        → may ≡ nat_le t now → (may ≡ true) ↔ SomeReadyAt cmp p now
+    ready_first [] now t may ascending index is tested = cc
+    ready_first (e ∷ es) now t may ascending index is tested = (if_may, if_ready)
+      where
+        moment : e.moment ≡ t
+        moment = cc
+
+        first : idle_from cmp p e.origin e.recipient ≡ Some e.moment
+        first = moment_is e.moment _ (sym (index e.moment e.origin e.recipient) ∙ first_listed cmp order e es)
+
+        if_may : may ≡ true → SomeReadyAt cmp p now
+        if_may yes =
+            let le : t ≤ now = leb-true t now (sym tested ∙ yes) in
+            idle_ready e.origin e.recipient e.moment now first (omega (arith, moment))
+
+        if_ready : SomeReadyAt cmp p now → may ≡ true
+        if_ready ready =
+            let m = ready.0 in
+            let from = launches_idle p now m ready.1 ready.2 in
+            let late : ℕ = first_moment (p.last_arrival m.origin m.recipient) m.latency in
+            let early : e.moment ≤ late = first_least cmp order e es late m.origin m.recipient ascending (index late m.origin m.recipient ∙ is_its_moment late _ from.0) in
+            let le : t ≤ now = omega (arith, moment, early, from.1) in
+            tested ∙ le-leb t now le

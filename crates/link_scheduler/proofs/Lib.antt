@@ -10,6 +10,7 @@ pub mod DueCounts
 pub mod DueMessages
 pub mod Fairness
 pub mod Finishing
+pub mod Fractions
 pub mod Idle
 pub mod IdleChanges
 pub mod IdleLooks

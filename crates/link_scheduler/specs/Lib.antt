@@ -10,6 +10,7 @@ pub mod Moments
 pub mod Pairs
 pub mod Peers
 pub mod Progress
+pub mod Readings
 pub mod Replay
 pub mod Starts
 pub mod State

@@ -9,7 +9,7 @@ use Rattle.link_simulation.specs.Conserved.{IsConserved}
 use Rattle.link_scheduler.specs.Message.{completed_of}
 use Rattle.link_simulation.specs.SamePlanned.{Goes, GoesCounted}
 use Rattle.link_simulation.specs.Simulated.{IsSimulated, KeepsRange, IsRefusedInSimulation, IsNextInSimulation, IsSplitAnywhere, KeepsToCaps}
-use Rattle.link_scheduler.specs.Working.{planned}
+use Rattle.link_scheduler.specs.Working.{planned, IsQuiet}
 use Rattle.link_simulation.specs.World.{Completed, new_world}
 use Rattle.link_simulation.specs.WorldCalls.{Call, call_advance}
 use Rattle.link_simulation.specs.WorldMessages.{Message}
@@ -76,6 +76,10 @@ module _ {P : Type 0} {order : Ghosts P} {b : _} {c : _} where
   pub record IsCounted (old : State P order b c) (now : ℕ) (events : ℕ) (done : List (Completion P)) (new : State P order b c) : Type 0 where
     pub by_rule : GoesCounted order.cmp now (planned_of old) events (map completed_of done) (planned_of new)
     pub few : events ≤ 2 * length (planned_of old).waiting + length (planned_of old).sending
+
+  -- no event is due up to that moment, and no waiting message may start at it
+  abbrev pub IsQuietUntil : ℕ → State P order b c → Type 0
+  IsQuietUntil now s = IsQuiet order.cmp (planned_of s) now
 
   -- that is the moment of the next event: the planned one, and the simulation's
   pub record IsNextOf (s : State P order b c) (next : Option ℕ) : Type 0 where

@@ -1,5 +1,5 @@
 -- How a scheduler is read as a planned world.
-use Rattle.std.specs.Prelude.{◌≡◌, ℕ, ◌*◌, Bool, false, ◌&&◌, List, length, map, Option, Some, None}
+use Rattle.std.specs.Prelude.{◌≡◌, ℕ, ◌*◌, ◌<◌, IfSome, Bool, false, ◌&&◌, List, length, map, Option, Some, None}
 use Rattle.std.specs.List.{filter, list_any}
 use Rattle.std.specs.declared.cmp.Ordering.{Ordering}
 use Rattle.std.specs.declared.rc.Rc.{Rc}
@@ -17,7 +17,7 @@ use Rattle.fair_rates.specs.Caps.{Caps}
 use Rattle.fair_rates.specs.Sides.{same_peer}
 use Rattle.link_simulation.specs.World.{fronts}
 use Rattle.link_simulation.specs.WorldMessages.{Message}
-use Rattle.link_simulation.specs.WorldPlanned.{Planned, may_launch}
+use Rattle.link_simulation.specs.WorldPlanned.{Planned, SomeReadyAt, may_launch, next_event}
 use Rattle.link_scheduler.specs.Message.{message_of}
 use Rattle.link_scheduler.specs.Peers.{egress_of, ingress_of}
 use Rattle.link_scheduler.specs.Pairs.{link_of, arrival_of}
@@ -52,6 +52,11 @@ may_launch_first cmp t p (Some m) = may_launch cmp t p m
 -- the first waiting messages of the pairs that are ready, in the order of pairs
 abbrev pub ready_messages : {P : Type 0} → (P → P → Ordering) → ℕ → Planned P → List (Message P)
 ready_messages cmp t p = filter (may_launch cmp t p) (fronts cmp p.waiting)
+
+-- no event is due up to a moment, and no waiting message may start at it
+pub record IsQuiet {P : Type 0} (cmp : P → P → Ordering) (p : Planned P) (now : ℕ) : Type 0 where
+  pub none_due : IfSome (next_event p) (λ t. now < t)
+  pub none_ready : ¬ SomeReadyAt cmp p now
 
 -- parts of a scale, which has grown from another, are the fair rates of the flows on the sides that the caps make for them
 pub record AreFairPartsUnder {P : Type 0} (cmp : P → P → Ordering) (caps : Caps P) (flows : List (Flow P)) (scale : ℕ) (found : FairParts) : Type 0 where

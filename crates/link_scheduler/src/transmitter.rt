@@ -1,5 +1,5 @@
 //! When each message arrives: a scheduler of messages over capped peers.
-ghost use Rattle.std.specs.Prelude.{◌≡◌, IfOk, IfErr, OnErr};
+ghost use Rattle.std.specs.Prelude.{◌≡◌, IfOk, IfErr, IsOk, OnErr};
 ghost use Rattle.link_simulation.specs.Orderly.{IsOrderly};
 ghost use Rattle.link_scheduler.specs.Working.{planned};
 ghost use Rattle.link_simulation.specs.WorldCalls.{call_limit, call_limit_link, call_enqueue, call_advance};
@@ -12,6 +12,7 @@ mod drain;
 mod event;
 mod events;
 mod flights;
+mod fraction;
 mod idle;
 mod look;
 mod message;
@@ -20,6 +21,7 @@ mod pairs;
 mod peers;
 mod progress;
 mod rate;
+mod reading;
 mod waiting;
 mod working;
 
@@ -29,6 +31,7 @@ use completion::answers_of;
 use fair_rates::error::Error;
 use fair_rates::peer::Peer;
 use message::Message;
+pub use reading::{InFlight, Reading};
 use std::alloc::Global;
 use working::Working;
 
@@ -87,7 +90,7 @@ pub struct State<P: Peer> {
 
 impl<P: Peer> State<P> {
     ghost use Rattle.link_scheduler.specs.Message.{message_of};
-    ghost use Rattle.link_scheduler.specs.State.{planned_of, sent, IsNew, IsMade, IsRefused, IsAdvanced, IsCounted, IsNextOf};
+    ghost use Rattle.link_scheduler.specs.State.{planned_of, sent, IsNew, IsMade, IsRefused, IsAdvanced, IsCounted, IsNextOf, IsQuietUntil};
 
     /// A scheduler at the start, moment 0, without limits and with nothing sent. Flow ids begin
     /// at 0.
@@ -265,6 +268,9 @@ impl<P: Peer> State<P> {
     /// completes the same (`advanced.split`), and an origin sends no more than its egress cap lets go
     /// in the time between (`advanced.within_caps`).
     ///
+    /// Where no event is due up to `now` and no waiting message may start at it, it takes no memory
+    /// and is never refused (`quiet`).
+    ///
     /// # Errors
     ///
     /// The scheduler then stays as it was.
@@ -276,6 +282,7 @@ impl<P: Peer> State<P> {
     pub fn advance(&mut self, now: u64) -> Result<Vec<Completion<P>>, Error>
         ensures made { IfOk result (λ done. IsMade self.old (call_advance now) done.items self.new) }
         ensures advanced { IfOk result (λ done. IsAdvanced self.old now done.items self.new) }
+        ensures quiet { IsQuietUntil now self.old → IsOk result }
         ensures refused { IfErr result (IsRefused self.old (call_advance now)) }
         ensures unchanged { OnErr result (self.new ≡ self.old) }
     {
@@ -293,6 +300,22 @@ impl<P: Peer> State<P> {
     ///
     /// Those of `advance`, and the scheduler then stays as it was.
     pub fn advance_counted(&mut self, now: u64) -> Result<(Vec<Completion<P>>, u128), Error>
+        ensures made { IfOk result (λ answer. IsMade self.old (call_advance now) answer.0.items self.new) }
+        ensures advanced { IfOk result (λ answer. IsAdvanced self.old now answer.0.items self.new) }
+        ensures counted { IfOk result (λ answer. IsCounted self.old now answer.1 answer.0.items self.new) }
+        ensures quiet { IsQuietUntil now self.old → IsOk result }
+        ensures refused { IfErr result (IsRefused self.old (call_advance now)) }
+        ensures unchanged { OnErr result (self.new ≡ self.old) }
+    {
+        if self.kept.is_quiet(now) {
+            self.kept.rest(now);
+            return Ok((Vec::new(self.kept.alloc), 0));
+        }
+        self.handle_events(now)
+    }
+
+    /// Handles the events up to `now`, and what may start then starts.
+    fn handle_events(&mut self, now: u64) -> Result<(Vec<Completion<P>>, u128), Error>
         ensures made { IfOk result (λ answer. IsMade self.old (call_advance now) answer.0.items self.new) }
         ensures advanced { IfOk result (λ answer. IsAdvanced self.old now answer.0.items self.new) }
         ensures counted { IfOk result (λ answer. IsCounted self.old now answer.1 answer.0.items self.new) }

@@ -13,7 +13,14 @@ use Rattle.link_simulation.specs.WorldMessages.{Message}
 
 -- a message of so many zero bytes
 abbrev pub message_of : Parcel → Message ℕ
-message_of p = record { origin = p.origin; recipient = p.recipient; channel = p.channel; bytes = replicate p.length 0; latency = p.latency; should_deliver = p.should_deliver }
+message_of p = record {
+  origin = p.origin;
+  recipient = p.recipient;
+  channel = p.channel;
+  bytes = replicate p.length 0;
+  latency = p.latency;
+  should_deliver = p.should_deliver;
+}
 
 -- the rest is over any scheduler of numbered peers
 module _ {a : _} {b : _} {c : _} where
@@ -42,7 +49,8 @@ module _ {a : _} {b : _} {c : _} where
   -- it is refused as the scheduler may refuse it; the next event is always answered
   abbrev pub MayRefuseCall : script.Call → State ℕ a b c → Error → Type 0
   MayRefuseCall (calls.Limit now peer egress ingress) s why = IsRefused s (call_limit now peer egress ingress) why
-  MayRefuseCall (calls.LimitLink now origin recipient cap) s why = IsRefused s (call_limit_link now origin recipient cap) why
+  MayRefuseCall (calls.LimitLink now origin recipient cap) s why =
+      IsRefused s (call_limit_link now origin recipient cap) why
   MayRefuseCall (calls.Enqueue parcel) s why = IsRefused s (call_enqueue parcel.now (message_of parcel)) why
   MayRefuseCall (calls.Advance now) s why = IsRefused s (call_advance now) why
   MayRefuseCall calls.Next s why = ⊥

@@ -1,5 +1,6 @@
 -- The language of scripts: the line of each command. A line and a word are lists of bytes.
-use Rattle.std.specs.Prelude.{◌≡◌, ℕ, ◌^◌, ◌<◌, ◌≤◌, Bool, true, false, List, [], ◌∷◌, ◌++◌, Option, Some, None, IfSome, codes, decimal}
+use Rattle.std.specs.Prelude.{◌≡◌, ℕ, ◌^◌, ◌<◌, ◌≤◌, Bool, true, false, List, [], ◌∷◌, ◌++◌, Option, Some, None}
+use Rattle.std.specs.Prelude.{IfSome, codes, decimal}
 use Rattle.std.specs.List.{join_with_byte}
 use Rattle.fair_rates.specs.declared.bandwidth.Flow.{Flow}
 use Rattle.link_scripts.specs.declared.linkrun.command.Call.{Call}
@@ -26,15 +27,19 @@ flag_word true = codes "1"
 abbrev pub flow_words : Flow ℕ → List (List ℕ)
 flow_words f = number_word f.id ∷ number_word f.origin ∷ number_word f.recipient ∷ flag_word f.delivered ∷ []
 
--- a message: when it is sent, its origin, its recipient, its channel, its length, its latency, and whether it should be delivered
+-- a message: when it is sent, its origin, its recipient, its channel, its length, its latency, and whether it should
+-- be delivered
 abbrev pub parcel_words : Parcel → List (List ℕ)
 parcel_words p =
-    number_word p.now ∷ number_word p.origin ∷ number_word p.recipient ∷ number_word p.channel ∷ number_word p.length ∷ number_word p.latency ∷ flag_word p.should_deliver ∷ []
+    number_word p.now ∷ number_word p.origin ∷ number_word p.recipient ∷ number_word p.channel ∷ number_word p.length
+    ∷ number_word p.latency ∷ flag_word p.should_deliver ∷ []
 
 -- the words of a call of the scheduler; its moment comes first
 abbrev pub call_words : Call → List (List ℕ)
-call_words (calls.Limit now peer egress ingress) = codes "limit" ∷ number_word now ∷ number_word peer ∷ cap_word egress ∷ cap_word ingress ∷ []
-call_words (calls.LimitLink now origin recipient cap) = codes "limitlink" ∷ number_word now ∷ number_word origin ∷ number_word recipient ∷ cap_word cap ∷ []
+call_words (calls.Limit now peer egress ingress) =
+    codes "limit" ∷ number_word now ∷ number_word peer ∷ cap_word egress ∷ cap_word ingress ∷ []
+call_words (calls.LimitLink now origin recipient cap) =
+    codes "limitlink" ∷ number_word now ∷ number_word origin ∷ number_word recipient ∷ cap_word cap ∷ []
 call_words (calls.Enqueue parcel) = codes "enqueue" ∷ parcel_words parcel
 call_words (calls.Advance now) = codes "advance" ∷ number_word now ∷ []
 call_words calls.Next = codes "next" ∷ []
@@ -44,7 +49,8 @@ abbrev pub command_words : Command → List (List ℕ)
 command_words (commands.Flow flow) = codes "flow" ∷ flow_words flow
 command_words (commands.Egress peer cap) = codes "egress" ∷ number_word peer ∷ cap_word cap ∷ []
 command_words (commands.Ingress peer cap) = codes "ingress" ∷ number_word peer ∷ cap_word cap ∷ []
-command_words (commands.Link origin recipient cap) = codes "link" ∷ number_word origin ∷ number_word recipient ∷ cap_word cap ∷ []
+command_words (commands.Link origin recipient cap) =
+    codes "link" ∷ number_word origin ∷ number_word recipient ∷ cap_word cap ∷ []
 command_words commands.Rates = codes "rates" ∷ []
 command_words (commands.Schedule call) = call_words call
 
@@ -76,12 +82,16 @@ IsFlowInRange f = IsNumberInRange f.id × IsNumberInRange f.origin × IsNumberIn
 
 -- each number of a message
 abbrev pub IsParcelInRange : Parcel → Type 0
-IsParcelInRange p = IsNumberInRange p.now × IsNumberInRange p.origin × IsNumberInRange p.recipient × IsNumberInRange p.channel × IsLengthInRange p.length × IsNumberInRange p.latency
+IsParcelInRange p =
+    IsNumberInRange p.now × IsNumberInRange p.origin × IsNumberInRange p.recipient × IsNumberInRange p.channel
+    × IsLengthInRange p.length × IsNumberInRange p.latency
 
 -- each number of a call
 abbrev pub IsCallInRange : Call → Type 0
-IsCallInRange (calls.Limit now peer egress ingress) = IsNumberInRange now × IsNumberInRange peer × IsSmallCapInRange egress × IsSmallCapInRange ingress
-IsCallInRange (calls.LimitLink now origin recipient cap) = IsNumberInRange now × IsNumberInRange origin × IsNumberInRange recipient × IsSmallCapInRange cap
+IsCallInRange (calls.Limit now peer egress ingress) =
+    IsNumberInRange now × IsNumberInRange peer × IsSmallCapInRange egress × IsSmallCapInRange ingress
+IsCallInRange (calls.LimitLink now origin recipient cap) =
+    IsNumberInRange now × IsNumberInRange origin × IsNumberInRange recipient × IsSmallCapInRange cap
 IsCallInRange (calls.Enqueue parcel) = IsParcelInRange parcel
 IsCallInRange (calls.Advance now) = IsNumberInRange now
 IsCallInRange calls.Next = Unit {0}
@@ -98,6 +108,7 @@ IsInRange (commands.Schedule call) = IsCallInRange call
 -- ---- words, taken one by one
 
 -- the words of a value were taken from the front, and there is no answer where no value in range stands there
-pub record Takes {V : Type 0} (words_of : V → List (List ℕ)) (InRange : V → Type 0) (before : List (List ℕ)) (answer : Option V) (after : List (List ℕ)) : Type 0 where
+pub record Takes {V : Type 0} (words_of : V → List (List ℕ)) (InRange : V → Type 0) (before : List (List ℕ))
+    (answer : Option V) (after : List (List ℕ)) : Type 0 where
   pub taken : IfSome answer (λ v. (before ≡ words_of v ++ after) × InRange v)
   pub missed : (v : V) (rest : List (List ℕ)) → InRange v → before ≡ words_of v ++ rest → answer ≡ Some v

@@ -1,5 +1,5 @@
 -- What a script has said so far.
-use Rattle.std.specs.Prelude.{◌≡◌, ◌⊎◌, ℕ, ◌<◌, ◌==◌, ◌&&◌, List, [], ◌∷◌, ◌++◌, Option, length, map, if◌then◌else◌}
+use Rattle.std.specs.Prelude.{◌≡◌, ◌⊎◌, ℕ, ◌==◌, ◌&&◌, List, [], ◌∷◌, ◌++◌, Option, if◌then◌else◌}
 use Rattle.std.specs.Ordering.{nat_cmp}
 use Rattle.std.specs.BTreeMap.{get}
 use Rattle.fair_rates.specs.declared.bandwidth.Flow.{Flow}
@@ -12,11 +12,10 @@ use Rattle.link_scripts.specs.declared.linkrun.command.Command.TheVariants as co
 use Rattle.link_scripts.specs.declared.linkrun.session.Session.{Session}
 use Rattle.fair_rates.specs.Caps.{Caps}
 use Rattle.link_scheduler.specs.Pairs.{pair_cmp}
-use Rattle.fair_rates.specs.PeerCaps.{answered_under, sides_under, IsFairById}
+use Rattle.fair_rates.specs.PeerCaps.{IsFairById}
 use Rattle.link_scripts.specs.Schedule.{Makes, MayRefuseCall}
 use Rattle.link_scheduler.specs.State.{planned_of}
-use Rattle.fair_rates.specs.Size.{FairRatesFit}
-use Rattle.fair_rates.specs.TooLarge.{HasLargeAnswer}
+use Rattle.fair_rates.specs.TooLarge.{AreTooLarge}
 
 -- the cap on what a peer sends
 abbrev pub egress_of : Session → ℕ → Option ℕ
@@ -64,9 +63,12 @@ KeepsPlanned old new = planned_of new.scheduler ≡ planned_of old.scheduler
 -- what is said after a command: its flow at the end, or its cap in the place of that of the peer or of the pair
 abbrev pub SaysAfter : Command → Session → Session → Type 0
 SaysAfter (commands.Flow flow) old new = Says new (old.flows.items ++ flow ∷ []) (caps_of old)
-SaysAfter (commands.Egress peer cap) old new = Says new old.flows.items (record (caps_of old) { egress = with_cap (egress_of old) peer cap })
-SaysAfter (commands.Ingress peer cap) old new = Says new old.flows.items (record (caps_of old) { ingress = with_cap (ingress_of old) peer cap })
-SaysAfter (commands.Link origin recipient cap) old new = Says new old.flows.items (record (caps_of old) { link = with_link (link_of old) origin recipient cap })
+SaysAfter (commands.Egress peer cap) old new =
+    Says new old.flows.items (record (caps_of old) { egress = with_cap (egress_of old) peer cap })
+SaysAfter (commands.Ingress peer cap) old new =
+    Says new old.flows.items (record (caps_of old) { ingress = with_cap (ingress_of old) peer cap })
+SaysAfter (commands.Link origin recipient cap) old new =
+    Says new old.flows.items (record (caps_of old) { link = with_link (link_of old) origin recipient cap })
 SaysAfter commands.Rates old new = SaysSame old new
 SaysAfter (commands.Schedule call) old new = SaysSame old new
 
@@ -79,7 +81,8 @@ AnswersRates s answers.Nothing = ⊥
 AnswersRates s (answers.Done completions) = ⊥
 AnswersRates s (answers.Next moment) = ⊥
 
--- a command for the rates answers those, a call what the scheduler answers, which it alone may change; any other says nothing
+-- a command for the rates answers those, a call what the scheduler answers, which it alone may change; any other says
+-- nothing
 abbrev pub AnswersTo : Command → Session → Answer → Session → Type 0
 AnswersTo commands.Rates old answer new = AnswersRates old answer × KeepsScheduler old new
 AnswersTo (commands.Schedule call) old answer new = Makes call old.scheduler answer new.scheduler
@@ -90,18 +93,11 @@ AnswersTo (commands.Link origin recipient cap) old answer new = (answer ≡ answ
 
 -- ---- when a command is refused
 
--- no fair rates of the flows under the caps fit; so there are more than sixteen flows, or a flow has a cap of 2^64 or more
-pub record AreTooLargeUnder (caps : Caps ℕ) (flows : List (Flow ℕ)) : Type 0 where
-  pub nothing_fits : ¬ FairRatesFit (sides_under nat_cmp caps flows) (length flows)
-  pub many_or_large : (16 < length flows) ⊎ HasLargeAnswer (map (answered_under caps) flows)
-
--- rates are refused for want of memory, or for a number where they are too large
-abbrev pub MayRefuseRates : Caps ℕ → List (Flow ℕ) → Error → Type 0
-MayRefuseRates caps flows why = (why ≡ OutOfMemory) ⊎ ((why ≡ NumberTooLarge) × AreTooLargeUnder caps flows)
-
--- a command for the rates is refused so, a call as the scheduler refuses it, and any other only for want of memory
+-- a command for the rates is refused for want of memory, or for a number where they are too large, a call as the
+-- scheduler refuses it, and any other only for want of memory
 abbrev pub MayRefuse : Command → Session → Error → Type 0
-MayRefuse commands.Rates s why = MayRefuseRates (caps_of s) s.flows.items why
+MayRefuse commands.Rates s why =
+    (why ≡ OutOfMemory) ⊎ ((why ≡ NumberTooLarge) × AreTooLarge nat_cmp (caps_of s) s.flows.items)
 MayRefuse (commands.Schedule call) s why = MayRefuseCall call s.scheduler why
 MayRefuse (commands.Flow flow) s why = why ≡ OutOfMemory
 MayRefuse (commands.Egress peer cap) s why = why ≡ OutOfMemory

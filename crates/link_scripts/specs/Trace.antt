@@ -1,5 +1,6 @@
 -- Traces: the calls of a scheduler, each with the lines that answer it. A trace and a line are lists of bytes.
-use Rattle.std.specs.Prelude.{◌≡◌, ◌⊎◌, ⊤, ℕ, ◌≤◌, List, [], ◌∷◌, ◌++◌, length, map, codes, decimal, Option, None, Some, Result, Ok, Err}
+use Rattle.std.specs.Prelude.{◌≡◌, ◌⊎◌, ⊤, ℕ, ◌≤◌, List, [], ◌∷◌, ◌++◌, length, map, codes, decimal, Option, None}
+use Rattle.std.specs.Prelude.{Some, Result, Ok, Err}
 use Rattle.std.specs.List.{flat_map}
 use Rattle.std.specs.Ordering.{nat_cmp}
 use Rattle.link_scripts.specs.declared.linkcheck.asked.Asked.{Asked}
@@ -37,7 +38,9 @@ call_line call = line_of (commands.Schedule call) ++ 10 ∷ []
 
 -- the line of a completion: its origin, its recipient, its channel, its length, and when it arrives
 abbrev pub completed_line : Completed ℕ → List ℕ
-completed_line c = codes "done " ++ decimal c.origin ++ codes " " ++ decimal c.recipient ++ codes " " ++ decimal c.channel ++ codes " " ++ decimal (length c.bytes) ++ codes " " ++ moment_word c.deliver_at ++ 10 ∷ []
+completed_line c =
+    codes "done " ++ decimal c.origin ++ codes " " ++ decimal c.recipient ++ codes " " ++ decimal c.channel
+    ++ codes " " ++ decimal (length c.bytes) ++ codes " " ++ moment_word c.deliver_at ++ 10 ∷ []
 
 -- the lines of a reply: one for each completion, the next event, or the refusal
 abbrev pub reply_text : Reply ℕ → List ℕ

@@ -3,12 +3,12 @@ ghost use Rattle.std.specs.Prelude.{◌≡◌, Some, IfOk};
 ghost use Rattle.link_scripts.specs.Outcome.{status_of, message_of, CountsFromOne};
 
 pub(crate) mod answer;
-pub(crate) mod command;
-mod line;
+pub mod command;
+pub mod line;
 pub(crate) mod schedule;
 mod session;
 pub(crate) mod word;
-pub(crate) mod zeros;
+pub mod zeros;
 
 use crate::linkrun::command::Command;
 use crate::linkrun::line::LineEnd;

@@ -34,11 +34,13 @@ pub mod Limit
 pub mod LongRow
 pub mod LowestTerms
 pub mod MadeCalls
+pub mod NewInRange
 pub mod NextEvent
 pub mod NoNumbers
 pub mod NoneReadied
 pub mod Obeys
 pub mod OneCourse
+pub mod OneMeaning
 pub mod OneNext
 pub mod OnePair
 pub mod OnePass

@@ -6,7 +6,8 @@ use Rattle.link_simulation.specs.WorldMessages.{Message, SameMessage, same_pair}
 use Rattle.link_simulation.specs.World.{Completed, goes}
 use Rattle.link_simulation.specs.WorldCalls.{Call}
 use Rattle.link_simulation.specs.WorldOrder.{enqueued, answered, IsCompletionOf}
-use Rattle.link_simulation.specs.WorldReplies.{Reply, reply_done, reply_next, reply_refused, made, completions_in, SameCompletion}
+use Rattle.link_simulation.specs.WorldReplies.{Reply, reply_done, reply_next, reply_refused, made, completions_in}
+use Rattle.link_simulation.specs.WorldReplies.{SameCompletion}
 use Rattle.link_simulation.specs.WorldPlanned.{Planned, paced_flows}
 use Rattle.link_simulation.specs.WorldEvents.{Obeys}
 use Rattle.link_simulation.specs.Orderly.{IsOrderly}
@@ -20,11 +21,14 @@ module _ {P : Type 0} (cmp : P → P → Ordering) where
   abbrev pub held_of : Message P → Planned P → List (Message P)
   held_of k p = of_pair k (paced_flows p.sending) ++ of_pair k p.waiting
 
-  -- from the planned world p to q, with those messages enqueued, those completions came out: for each pair what is done, then what is in flight, then what waits are what was in flight, then what waited, then what was enqueued
-  pub record IsConserved (p : Planned P) (messages : List (Message P)) (completions : List (Completed P)) (q : Planned P) : Type 0 where
+  -- from the planned world p to q, with those messages enqueued, those completions came out: for each pair what is
+  -- done, then what is in flight, then what waits are what was in flight, then what waited, then what was enqueued
+  pub record IsConserved (p : Planned P) (messages : List (Message P)) (completions : List (Completed P))
+      (q : Planned P) : Type 0 where
     pub done : List (Message P)
     pub completions_are : AllZip IsCompletionOf completions done
-    pub each_pair : (k : Message P) → AllZip (SameMessage cmp) (of_pair k done ++ held_of k q) (held_of k p ++ of_pair k messages)
+    pub each_pair : (k : Message P) → AllZip (SameMessage cmp) (of_pair k done ++ held_of k q)
+        (held_of k p ++ of_pair k messages)
 
   -- by the event rule the calls that were made lead from the planned world p to the last one
   abbrev pub LeadTo : Planned P → List (Call P) → List (Reply P) → Planned P → Type 0
@@ -33,9 +37,12 @@ module _ {P : Type 0} (cmp : P → P → Ordering) where
   LeadTo p (call ∷ calls) [] last = ⊥
   LeadTo p (call ∷ calls) (reply_next t ∷ replies) last = LeadTo p calls replies last
   LeadTo p (call ∷ calls) (reply_refused why ∷ replies) last = LeadTo p calls replies last
-  LeadTo p (call ∷ calls) (reply_done cs ∷ replies) last = (ds : List (Completed P)) × (q : Planned P) × Obeys cmp p call (goes ds q) × AllZip (SameCompletion cmp) cs ds × LeadTo q calls replies last
+  LeadTo p (call ∷ calls) (reply_done cs ∷ replies) last =
+      (ds : List (Completed P)) × (q : Planned P) × Obeys cmp p call (goes ds q) × AllZip (SameCompletion cmp) cs ds
+      × LeadTo q calls replies last
 
-  -- the calls lead from the planned world p to a last one in order, and what they enqueue is completed in the replies, in flight there, or waits there
+  -- the calls lead from the planned world p to a last one in order, and what they enqueue is completed in the
+  -- replies, in flight there, or waits there
   pub record AreConserved (p : Planned P) (calls : List (Call P)) (replies : List (Reply P)) : Type 0 where
     pub last : Planned P
     pub led : LeadTo p calls replies last

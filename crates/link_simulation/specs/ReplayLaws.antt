@@ -5,8 +5,10 @@ use Rattle.std.specs.declared.cmp.Ordering.{Ordering}
 use Rattle.fair_rates.specs.declared.error.Error.TheVariants.{OutOfMemory}
 use Rattle.link_simulation.specs.WorldMessages.{Message, same_pair}
 use Rattle.link_simulation.specs.World.{World, new_world, Completed, completion_of, goes}
-use Rattle.link_simulation.specs.WorldCalls.{Call, call_limit, call_limit_link, call_enqueue, call_advance, call_next, moment_of, Runs, IsInTurn}
-use Rattle.link_simulation.specs.WorldReplies.{Reply, reply_done, reply_next, reply_refused, made, completions_in, SameCompletion}
+use Rattle.link_simulation.specs.WorldCalls.{Call, call_limit, call_limit_link, call_enqueue, call_advance, call_next}
+use Rattle.link_simulation.specs.WorldCalls.{moment_of, Runs, IsInTurn}
+use Rattle.link_simulation.specs.WorldReplies.{Reply, reply_done, reply_next, reply_refused, made, completions_in}
+use Rattle.link_simulation.specs.WorldReplies.{SameCompletion}
 use Rattle.link_simulation.specs.WorldRange.{AreInRange}
 use Rattle.link_simulation.specs.WorldOrder.{enqueued, answered, NeverGoDown, completes_pair}
 use Rattle.link_simulation.specs.WorldIsolation.{Answers, IsSet, KeepsApart, is_kept, kept_completions, NothingElse}
@@ -15,15 +17,21 @@ use Rattle.link_simulation.specs.WorldIsolation.{Answers, IsSet, KeepsApart, is_
 abbrev pub AreAdvancedFirst : {P : Type 0} → ℕ → List (Call P) → List (Reply P) → Type 0
 AreAdvancedFirst at [] replies = ⊤
 AreAdvancedFirst at (call ∷ calls) [] = ⊤
-AreAdvancedFirst at (call_limit now peer egress ingress ∷ calls) (reply ∷ replies) = (now ≡ at) × AreAdvancedFirst at calls replies
-AreAdvancedFirst at (call_limit_link now origin recipient cap ∷ calls) (reply ∷ replies) = (now ≡ at) × AreAdvancedFirst at calls replies
+AreAdvancedFirst at (call_limit now peer egress ingress ∷ calls) (reply ∷ replies) =
+    (now ≡ at) × AreAdvancedFirst at calls replies
+AreAdvancedFirst at (call_limit_link now origin recipient cap ∷ calls) (reply ∷ replies) =
+    (now ≡ at) × AreAdvancedFirst at calls replies
 AreAdvancedFirst at (call_enqueue now m ∷ calls) (reply ∷ replies) = (now ≡ at) × AreAdvancedFirst at calls replies
-AreAdvancedFirst at (call_advance now ∷ calls) (reply_done cs ∷ replies) = (at ≤ now) × AreAdvancedFirst now calls replies
-AreAdvancedFirst at (call_advance now ∷ calls) (reply_next next ∷ replies) = (at ≤ now) × AreAdvancedFirst at calls replies
-AreAdvancedFirst at (call_advance now ∷ calls) (reply_refused why ∷ replies) = (at ≤ now) × AreAdvancedFirst at calls replies
+AreAdvancedFirst at (call_advance now ∷ calls) (reply_done cs ∷ replies) =
+    (at ≤ now) × AreAdvancedFirst now calls replies
+AreAdvancedFirst at (call_advance now ∷ calls) (reply_next next ∷ replies) =
+    (at ≤ now) × AreAdvancedFirst at calls replies
+AreAdvancedFirst at (call_advance now ∷ calls) (reply_refused why ∷ replies) =
+    (at ≤ now) × AreAdvancedFirst at calls replies
 AreAdvancedFirst at (call_next ∷ calls) (reply ∷ replies) = AreAdvancedFirst at calls replies
 
--- a call comes no earlier than the one moment and, if it changes caps or adds a message, before the other, if there is one
+-- a call comes no earlier than the one moment and, if it changes caps or adds a message, before the other, if there
+-- is one
 abbrev pub IsBetween : {P : Type 0} → ℕ → Option ℕ → Call P → Type 0
 IsBetween from before (call_limit now peer egress ingress) = (from ≤ now) × IfSome before (λ t. now < t)
 IsBetween from before (call_limit_link now origin recipient cap) = (from ≤ now) × IfSome before (λ t. now < t)
@@ -31,17 +39,20 @@ IsBetween from before (call_enqueue now m) = (from ≤ now) × IfSome before (λ
 IsBetween from before (call_advance now) = from ≤ now
 IsBetween from before call_next = ⊤
 
--- the calls go by what is answered: a call comes no earlier than the last that was made and, if it changes caps or adds a message, at that moment, or before what `next` has answered since
+-- the calls go by what is answered: a call comes no earlier than the last that was made and, if it changes caps or
+-- adds a message, at that moment, or before what `next` has answered since
 abbrev pub GoByNext : {P : Type 0} → ℕ → Option ℕ → List (Call P) → List (Reply P) → Type 0
 GoByNext from before [] replies = ⊤
 GoByNext from before (call ∷ calls) [] = ⊤
 GoByNext from before (call ∷ calls) (reply_done cs ∷ replies) =
     IsBetween from before call × IfSome (moment_of call) (λ now. GoByNext now (Some (now + 1)) calls replies)
 GoByNext from before (call ∷ calls) (reply_next next ∷ replies) = GoByNext from next calls replies
-GoByNext from before (call ∷ calls) (reply_refused why ∷ replies) = IsBetween from before call × GoByNext from before calls replies
+GoByNext from before (call ∷ calls) (reply_refused why ∷ replies) =
+    IsBetween from before call × GoByNext from before calls replies
 
 -- a law holds of the first calls, however many, and their replies
-abbrev pub AlwaysSoFar : {P : Type 0} → (List (Call P) → List (Reply P) → Type 0) → List (Call P) → List (Reply P) → Type 0
+abbrev pub AlwaysSoFar : {P : Type 0} → (List (Call P) → List (Reply P) → Type 0) → List (Call P) → List (Reply P)
+    → Type 0
 AlwaysSoFar Law calls replies = (n : ℕ) → Law (take n calls) (take n replies)
 
 -- a call that is in the range, with those that were made before it, is refused for memory alone
@@ -59,7 +70,9 @@ module _ {P : Type 0} (cmp : P → P → Ordering) where
   abbrev pub AreInTurn : World P → List (Call P) → List (Reply P) → Type 0
   AreInTurn w [] replies = ⊤
   AreInTurn w (call ∷ calls) [] = ⊤
-  AreInTurn w (call ∷ calls) (reply_done cs ∷ replies) = IsInTurn cmp w call × ((now : ℕ) (ds : List (Completed P)) (v : World P) → moment_of call ≡ Some now → Runs cmp w call now (goes ds v) → AreInTurn v calls replies)
+  AreInTurn w (call ∷ calls) (reply_done cs ∷ replies) =
+      IsInTurn cmp w call × ((now : ℕ) (ds : List (Completed P)) (v : World P) → moment_of call ≡ Some now
+      → Runs cmp w call now (goes ds v) → AreInTurn v calls replies)
   AreInTurn w (call ∷ calls) (reply_next next ∷ replies) = IsInTurn cmp w call × AreInTurn w calls replies
   AreInTurn w (call ∷ calls) (reply_refused why ∷ replies) = IsInTurn cmp w call × AreInTurn w calls replies
 
@@ -67,8 +80,10 @@ module _ {P : Type 0} (cmp : P → P → Ordering) where
   abbrev pub Completes : Completed P → Message P → Type 0
   Completes c m = (deliver_at : Option ℕ) × SameCompletion cmp c (completion_of m deliver_at)
 
-  -- the completions of the message's pair are those of the messages of the pair that were enqueued first, in their order, and their delivery moments never go down
-  pub record CompletesInOrder (k : Message P) (messages : List (Message P)) (completions : List (Completed P)) : Type 0 where
+  -- the completions of the message's pair are those of the messages of the pair that were enqueued first, in their
+  -- order, and their delivery moments never go down
+  pub record CompletesInOrder (k : Message P) (messages : List (Message P))
+      (completions : List (Completed P)) : Type 0 where
     pub done : List (Message P)
     pub rest : List (Message P)
     pub messages_are : filter (same_pair cmp k) messages ≡ done ++ rest
@@ -77,17 +92,23 @@ module _ {P : Type 0} (cmp : P → P → Ordering) where
 
   -- of calls in turn, the messages of each pair that were handed over complete in their order
   abbrev pub CompletePairsInOrder : List (Call P) → List (Reply P) → Type 0
-  CompletePairsInOrder calls replies = (k : Message P) → AreInTurn (new_world 0) calls replies → CompletesInOrder k (enqueued (made calls replies)) (answered (completions_in replies))
+  CompletePairsInOrder calls replies =
+      (k : Message P) → AreInTurn (new_world 0) calls replies
+      → CompletesInOrder k (enqueued (made calls replies)) (answered (completions_in replies))
 
-  -- what a set of peers completes is what the calls complete without the messages of others, and these messages complete nothing of the set
-  pub record IsIsolated (inside : P → Bool) (calls : List (Call P)) (completions : List (List (Completed P))) : Type 0 where
+  -- what a set of peers completes is what the calls complete without the messages of others, and these messages
+  -- complete nothing of the set
+  pub record IsIsolated (inside : P → Bool) (calls : List (Call P))
+      (completions : List (List (Completed P))) : Type 0 where
     pub alone : List (List (Completed P))
     pub answers : Answers cmp (new_world 0) (filter (is_kept inside) calls) alone
     pub same : AllZip (AllZip (SameCompletion cmp)) (kept_completions inside calls completions) alone
     pub nothing_else : NothingElse inside calls completions
 
-  -- of calls in turn, of which each message that was handed over has both ends in a set of peers or neither, the set is isolated
+  -- of calls in turn, of which each message that was handed over has both ends in a set of peers or neither, the set
+  -- is isolated
   abbrev pub IsolateSets : List (Call P) → List (Reply P) → Type 0
   IsolateSets calls replies =
-      (inside : P → Bool) → IsSet cmp inside → KeepsApart inside (made calls replies) → AreInTurn (new_world 0) calls replies →
+      (inside : P → Bool) → IsSet cmp inside → KeepsApart inside (made calls replies)
+      → AreInTurn (new_world 0) calls replies →
       IsIsolated inside (made calls replies) (completions_in replies)

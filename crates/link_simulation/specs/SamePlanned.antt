@@ -31,9 +31,13 @@ module _ {P : Type 0} (cmp : P → P → Ordering) where
 
   -- the same call
   pub data IsSameCall : Call P → Call P → Type 0 where
-    same_limit : {now : ℕ} {peer other : P} {egress ingress : Option ℕ} → same_peer cmp peer other ≡ true → IsSameCall (call_limit now peer egress ingress) (call_limit now other egress ingress)
-    same_limit_link : {now : ℕ} {origin recipient o r : P} {cap : Option ℕ} → same_peer cmp origin o ≡ true → same_peer cmp recipient r ≡ true → IsSameCall (call_limit_link now origin recipient cap) (call_limit_link now o r cap)
-    same_enqueue : {now : ℕ} {m n : Message P} → SameMessage cmp m n → IsSameCall (call_enqueue now m) (call_enqueue now n)
+    same_limit : {now : ℕ} {peer other : P} {egress ingress : Option ℕ} → same_peer cmp peer other ≡ true
+        → IsSameCall (call_limit now peer egress ingress) (call_limit now other egress ingress)
+    same_limit_link : {now : ℕ} {origin recipient o r : P} {cap : Option ℕ} → same_peer cmp origin o ≡ true
+        → same_peer cmp recipient r ≡ true
+        → IsSameCall (call_limit_link now origin recipient cap) (call_limit_link now o r cap)
+    same_enqueue : {now : ℕ} {m n : Message P} → SameMessage cmp m n
+        → IsSameCall (call_enqueue now m) (call_enqueue now n)
     same_advance : {now : ℕ} → IsSameCall (call_advance now) (call_advance now)
     same_next : IsSameCall call_next call_next
 
@@ -44,7 +48,8 @@ module _ {P : Type 0} (cmp : P → P → Ordering) where
   IsSameCourse (meets fault) (goes ds q) = ⊥
   IsSameCourse (meets fault) (meets other) = fault ≡ other
 
-  -- by the event rule the call on the planned world p is answered with those completions and leads to q, peers taken as equal by their order
+  -- by the event rule the call on the planned world p is answered with those completions and leads to q, peers taken
+  -- as equal by their order
   pub record Goes (p : Planned P) (call : Call P) (completions : List (Completed P)) (q : Planned P) : Type 0 where
     pub answers : List (Completed P)
     pub after : Planned P
@@ -53,7 +58,8 @@ module _ {P : Type 0} (cmp : P → P → Ordering) where
     pub same_after : IsSamePlanned after q
 
   -- the same for an advance, with that many events
-  pub record GoesCounted (now : ℕ) (p : Planned P) (events : ℕ) (completions : List (Completed P)) (q : Planned P) : Type 0 where
+  pub record GoesCounted (now : ℕ) (p : Planned P) (events : ℕ) (completions : List (Completed P))
+      (q : Planned P) : Type 0 where
     pub answers : List (Completed P)
     pub after : Planned P
     pub advances : Advances cmp now p events (goes answers after)

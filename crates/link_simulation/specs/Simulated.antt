@@ -23,8 +23,10 @@ module _ {P : Type 0} (cmp : P → P → Ordering) where
     pub moment : moment_of call ≡ Some now
     pub turn : IsInTurn cmp w call
 
-  -- the call runs from w to its moment with the same completions, and meets no fault; q stands for the world that it leads to, and the next event comes after its moment
-  pub record IsRun (w : World P) (call : Call P) (now : ℕ) (completions : List (Completed P)) (q : Planned P) : Type 0 where
+  -- the call runs from w to its moment with the same completions, and meets no fault; q stands for the world that it
+  -- leads to, and the next event comes after its moment
+  pub record IsRun (w : World P) (call : Call P) (now : ℕ) (completions : List (Completed P))
+      (q : Planned P) : Type 0 where
     pub answers : List (Completed P)
     pub after : World P
     pub runs : Runs cmp w call now (goes answers after)
@@ -34,7 +36,8 @@ module _ {P : Type 0} (cmp : P → P → Ordering) where
     pub next : IfSome (next_event q) (λ t. now < t)
     pub no_fault : (fault : Error) → ¬ Faults cmp w call fault
 
-  -- in each world that p stands for, a call in its turn does what it did to p: it has these completions, and leads to a world that q stands for
+  -- in each world that p stands for, a call in its turn does what it did to p: it has these completions, and leads to
+  -- a world that q stands for
   abbrev pub IsSimulated : Planned P → Call P → List (Completed P) → Planned P → Type 0
   IsSimulated p call completions q = (w : World P) (now : ℕ) → IsCalled p call now w → IsRun w call now completions q
 
@@ -55,8 +58,10 @@ module _ {P : Type 0} (cmp : P → P → Ordering) where
     pub cause : IsRefusedFor (MeetsFault p call) why
     pub in_range : IsCallInRange p call → why ≡ OutOfMemory
 
-  -- time goes on from w to the first moment, and from there to the second; both together have the same completions, and q stands for the world at the end
-  pub record RunsInTwo (w : World P) (first second : ℕ) (completions : List (Completed P)) (q : Planned P) : Type 0 where
+  -- time goes on from w to the first moment, and from there to the second; both together have the same completions,
+  -- and q stands for the world at the end
+  pub record RunsInTwo (w : World P) (first second : ℕ) (completions : List (Completed P))
+      (q : Planned P) : Type 0 where
     pub first_answers : List (Completed P)
     pub between : World P
     pub runs_first : Runs cmp w (call_advance first) first (goes first_answers between)
@@ -68,10 +73,14 @@ module _ {P : Type 0} (cmp : P → P → Ordering) where
 
   -- to advance is to advance to any moment on the way, and then on
   abbrev pub IsSplitAnywhere : Planned P → ℕ → List (Completed P) → Planned P → Type 0
-  IsSplitAnywhere p now completions q = (w : World P) (between : ℕ) → StandsFor cmp p w → w.moment ≤ between → between ≤ now → RunsInTwo w between now completions q
+  IsSplitAnywhere p now completions q =
+      (w : World P) (between : ℕ) → StandsFor cmp p w → w.moment ≤ between → between ≤ now
+      → RunsInTwo w between now completions q
 
-  -- from a world that p stands for to one that q stands for, the bytes that an origin still has to send go down by no more than its egress cap lets go in the time between
+  -- from a world that p stands for to one that q stands for, the bytes that an origin still has to send go down by no
+  -- more than its egress cap lets go in the time between
   abbrev pub KeepsToCaps : Planned P → ℕ → Planned P → Type 0
   KeepsToCaps p now q =
-      (w v : World P) (origin : P) (cap : ℕ) → StandsFor cmp p w → StandsFor cmp q v → w.moment ≤ now → v.moment ≡ now → p.caps.egress origin ≡ Some cap →
+      (w v : World P) (origin : P) (cap : ℕ) → StandsFor cmp p w → StandsFor cmp q v → w.moment ≤ now → v.moment ≡ now
+      → p.caps.egress origin ≡ Some cap →
       IsAtMost (bytes_from cmp origin w) (plus (bytes_from cmp origin v) (allowance cap (now - w.moment)))

@@ -1,5 +1,6 @@
 -- The world of the simulation, and what happens in it at one instant.
-use Rattle.std.specs.Prelude.{⊤, ◌≡◌, ℕ, zero, suc, ◌+◌, max, List, [], ◌∷◌, ◌++◌, length, map, Bool, true, false, not, ◌&&◌, ◌||◌, cond, if◌then◌else◌, Option, Some, None, nat_lt, nat_le, ◌==◌}
+use Rattle.std.specs.Prelude.{⊤, ◌≡◌, ℕ, zero, suc, ◌+◌, max, List, [], ◌∷◌, ◌++◌, length, map, Bool, true, false}
+use Rattle.std.specs.Prelude.{not, ◌&&◌, ◌||◌, cond, if◌then◌else◌, Option, Some, None, nat_lt, nat_le, ◌==◌}
 use Rattle.std.specs.List.{filter, find, list_any}
 use Rattle.std.specs.declared.cmp.Ordering.{Ordering}
 use Rattle.fair_rates.specs.declared.error.Error.{Error}
@@ -28,7 +29,13 @@ pub record Completed (P : Type 0) : Type 0 where
 
 -- the completion of a message
 abbrev pub completion_of : {P : Type 0} → Message P → Option ℕ → Completed P
-completion_of m deliver_at = record { origin = m.origin; recipient = m.recipient; channel = m.channel; bytes = m.bytes; deliver_at = deliver_at }
+completion_of m deliver_at = record {
+  origin = m.origin;
+  recipient = m.recipient;
+  channel = m.channel;
+  bytes = m.bytes;
+  deliver_at = deliver_at;
+}
 
 -- all that is known at a moment: the messages in flight stand in order of start, the waiting ones in order of enqueue
 pub record World (P : Type 0) : Type 0 where
@@ -81,7 +88,15 @@ later_of (Some last) at = max last at
 
 -- a new world, whose first flow has this id
 abbrev pub new_world : {P : Type 0} → ℕ → World P
-new_world id = record { caps = no_caps; limited = false; sending = []; waiting = []; last_arrival = λ p q. None; next_id = id; moment = 0 }
+new_world id = record {
+  caps = no_caps;
+  limited = false;
+  sending = [];
+  waiting = [];
+  last_arrival = λ p q. None;
+  next_id = id;
+  moment = 0;
+}
 
 -- the messages in flight
 abbrev pub flows : {P : Type 0} → World P → List (Message P)
@@ -98,14 +113,19 @@ module _ {P : Type 0} (cmp : P → P → Ordering) where
   abbrev pub first_waiting : World P → Message P → Option (Message P)
   first_waiting w m = find (same_pair cmp m) w.waiting
 
-  -- whether a pair's first waiting message may start at t: the pair is idle, and it arrives no earlier than the pair's last one
+  -- whether a pair's first waiting message may start at t: the pair is idle, and it arrives no earlier than the
+  -- pair's last one
   abbrev pub may_start : ℕ → World P → Message P → Bool
   may_start t w m = is_idle w m && is_in_order (w.last_arrival m.origin m.recipient) (t + m.latency)
 
   -- the pair's first waiting message starts, under the next flow id
   abbrev pub start : World P → Message P → Course (Completed P) (World P)
   start w m = cond (nat_le last_moment w.next_id) (meets FlowIdsUsedUp)
-      (goes [] (record w { sending = w.sending ++ flight_of m ∷ []; waiting = without_first (same_pair cmp m) w.waiting; next_id = w.next_id + 1 }))
+      (goes [] (record w {
+        sending = w.sending ++ flight_of m ∷ [];
+        waiting = without_first (same_pair cmp m) w.waiting;
+        next_id = w.next_id + 1;
+      }))
 
   -- it starts if it may
   abbrev pub start_next : ℕ → World P → Option (Message P) → Course (Completed P) (World P)
@@ -120,7 +140,8 @@ module _ {P : Type 0} (cmp : P → P → Ordering) where
 
   -- no arrival of this message's pair is before that moment from now on
   abbrev pub raised : (P → P → Option ℕ) → Message P → ℕ → P → P → Option ℕ
-  raised last m at p q = cond (same_peer cmp m.origin p && same_peer cmp m.recipient q) (Some (later_of (last p q) at)) (last p q)
+  raised last m at p q =
+      cond (same_peer cmp m.origin p && same_peer cmp m.recipient q) (Some (later_of (last p q) at)) (last p q)
 
   -- when a message that is finished at t arrives, or counts as arrived if it is not delivered
   abbrev pub arrival : ℕ → Message P → ℕ
@@ -136,18 +157,24 @@ module _ {P : Type 0} (cmp : P → P → Ordering) where
 
   -- the world in which the first message that is done is out of flight, and that message has arrived
   abbrev pub out_of_flight : ℕ → World P → Message P → World P
-  out_of_flight t w m = record w { sending = without_first (is_done w) w.sending; last_arrival = raised w.last_arrival m (arrival t m) }
+  out_of_flight t w m =
+      record w { sending = without_first (is_done w) w.sending; last_arrival = raised w.last_arrival m (arrival t m) }
 
   -- a message in flight completes at t, and its pair's first waiting one starts if it may
   abbrev pub complete : ℕ → World P → Message P → Course (Completed P) (World P)
   complete t w m =
       let landed : World P = out_of_flight t w m in
-      cond (is_late t m) (meets MomentTooLate) (preceded (completed t m ∷ []) (start_next t landed (first_waiting landed m)))
+      cond (is_late t m) (meets MomentTooLate)
+      (preceded (completed t m ∷ []) (start_next t landed (first_waiting landed m)))
 
   -- while a message in flight is done, the first one in the list completes; each makes one message fewer
   abbrev pub settle_within : ℕ → ℕ → World P → Course (Completed P) (World P)
   settle_within zero t w = goes [] w
-  settle_within (suc messages) t w = elim (find (is_done w) w.sending) [ None ↦ goes [] w | Some f ↦ and_then (complete t w f.message) (settle_within messages t) ]
+  settle_within (suc messages) t w =
+      elim (find (is_done w) w.sending) [
+        | None ↦ goes [] w
+        | Some f ↦ and_then (complete t w f.message) (settle_within messages t)
+      ]
 
   -- all that is done at t completes
   abbrev pub settle : ℕ → World P → Course (Completed P) (World P)
@@ -176,7 +203,11 @@ module _ {P : Type 0} (cmp : P → P → Ordering) where
   -- while a message may start, that of the least pair has its turn; each makes one waiting message fewer
   abbrev pub wake_within : ℕ → ℕ → World P → Course (Completed P) (World P)
   wake_within zero t w = goes [] w
-  wake_within (suc waiting) t w = elim (least_pair (ready t w)) [ None ↦ goes [] w | Some m ↦ and_then (turn t w m) (wake_within waiting t) ]
+  wake_within (suc waiting) t w =
+      elim (least_pair (ready t w)) [
+        | None ↦ goes [] w
+        | Some m ↦ and_then (turn t w m) (wake_within waiting t)
+      ]
 
   -- all that may start at t starts
   abbrev pub wake : ℕ → World P → Course (Completed P) (World P)

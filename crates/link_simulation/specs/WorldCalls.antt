@@ -1,9 +1,11 @@
 -- Calls on the world of the simulation.
-use Rattle.std.specs.Prelude.{◌≡◌, ⊤, ℕ, ◌+◌, ◌-◌, ◌<◌, ◌≤◌, [], ◌∷◌, ◌++◌, true, ◌&&◌, cond, if◌then◌else◌, Option, Some, None, nat_lt, IfSome}
+use Rattle.std.specs.Prelude.{◌≡◌, ⊤, ℕ, ◌+◌, ◌-◌, ◌<◌, ◌≤◌, [], ◌∷◌, ◌++◌, true, ◌&&◌, cond, if◌then◌else◌, Option}
+use Rattle.std.specs.Prelude.{Some, None, nat_lt, IfSome}
 use Rattle.std.specs.declared.cmp.Ordering.{Ordering}
 use Rattle.fair_rates.specs.declared.error.Error.TheVariants.{MomentTooLate}
 use Rattle.link_simulation.specs.WorldMessages.{Message, Caps, with_cap, with_link}
-use Rattle.link_simulation.specs.World.{World, Completed, completion_of, Course, goes, meets, last_moment, and_then, raised, later_of, settle, start_next, first_waiting}
+use Rattle.link_simulation.specs.World.{World, Completed, completion_of, Course, goes, meets, last_moment, and_then}
+use Rattle.link_simulation.specs.World.{raised, later_of, settle, start_next, first_waiting}
 use Rattle.link_simulation.specs.WorldTime.{Ticks, NextIs}
 
 -- what can be asked of the world, each at a moment but for the last
@@ -25,7 +27,8 @@ moment_of call_next = None
 module _ {P : Type 0} (cmp : P → P → Ordering) where
   -- the caps with new ones for a peer
   abbrev pub limited_by : Caps P → P → Option ℕ → Option ℕ → Caps P
-  limited_by caps peer egress ingress = record caps { egress = with_cap cmp caps.egress peer egress; ingress = with_cap cmp caps.ingress peer ingress }
+  limited_by caps peer egress ingress =
+      record caps { egress = with_cap cmp caps.egress peer egress; ingress = with_cap cmp caps.ingress peer ingress }
 
   -- the caps with a new one for an ordered pair
   abbrev pub linked_by : Caps P → P → P → Option ℕ → Caps P
@@ -37,7 +40,8 @@ module _ {P : Type 0} (cmp : P → P → Ordering) where
       let wanted = m.should_deliver in
       let at = if wanted then later_of (w.last_arrival m.origin m.recipient) (now + m.latency) else now in
       cond (wanted && nat_lt last_moment (now + m.latency)) (meets MomentTooLate)
-      (goes (completion_of m (if wanted then Some at else None) ∷ []) (record w { last_arrival = raised cmp w.last_arrival m at }))
+      (goes (completion_of m (if wanted then Some at else None) ∷ [])
+      (record w { last_arrival = raised cmp w.last_arrival m at }))
 
   -- new caps from now on: the unlimited mode ends, and what is done under them completes
   abbrev pub recap : ℕ → World P → Caps P → Course (Completed P) (World P)
@@ -67,7 +71,8 @@ module _ {P : Type 0} (cmp : P → P → Ordering) where
   abbrev pub IsBeforeNext : ℕ → World P → Type 0
   IsBeforeNext now w = (next : Option ℕ) → NextIs cmp w next → IfSome next (λ t. now < t)
 
-  -- a call comes no earlier than the one before it, and one that changes caps or adds a message comes before the next event
+  -- a call comes no earlier than the one before it, and one that changes caps or adds a message comes before the next
+  -- event
   abbrev pub IsInTurn : World P → Call P → Type 0
   IsInTurn w (call_limit now peer egress ingress) = (w.moment ≤ now) × IsBeforeNext now w
   IsInTurn w (call_limit_link now origin recipient cap) = (w.moment ≤ now) × IsBeforeNext now w

@@ -4,7 +4,8 @@ use Rattle.std.specs.List.{filter}
 use Rattle.std.specs.declared.cmp.Ordering.{Ordering}
 use Rattle.fair_rates.specs.Sides.{same_peer}
 use Rattle.link_simulation.specs.World.{World, Completed, goes, last_moment}
-use Rattle.link_simulation.specs.WorldCalls.{Call, call_limit, call_limit_link, call_enqueue, call_advance, call_next, moment_of, IsInTurn, Runs}
+use Rattle.link_simulation.specs.WorldCalls.{Call, call_limit, call_limit_link, call_enqueue, call_advance, call_next}
+use Rattle.link_simulation.specs.WorldCalls.{moment_of, IsInTurn, Runs}
 
 -- a message that is enqueued has both ends in the set or neither
 abbrev pub IsApart : {P : Type 0} → (P → Bool) → Call P → Type 0
@@ -32,16 +33,20 @@ abbrev pub inside_alone : {P : Type 0} → (P → Bool) → List (Completed P) �
 inside_alone inside cs = filter (λ c. inside c.origin) cs
 
 -- the set's completions, call by call, at the calls that stay
-abbrev pub kept_completions : {P : Type 0} → (P → Bool) → List (Call P) → List (List (Completed P)) → List (List (Completed P))
+abbrev pub kept_completions : {P : Type 0} → (P → Bool) → List (Call P) → List (List (Completed P))
+    → List (List (Completed P))
 kept_completions inside [] css = []
 kept_completions inside (call ∷ calls) [] = []
-kept_completions inside (call ∷ calls) (cs ∷ css) = cond (is_kept inside call) (inside_alone inside cs ∷ kept_completions inside calls css) (kept_completions inside calls css)
+kept_completions inside (call ∷ calls) (cs ∷ css) =
+    cond (is_kept inside call) (inside_alone inside cs ∷ kept_completions inside calls css)
+    (kept_completions inside calls css)
 
 -- the other calls complete nothing of the set
 abbrev pub NothingElse : {P : Type 0} → (P → Bool) → List (Call P) → List (List (Completed P)) → Type 0
 NothingElse inside [] css = ⊤
 NothingElse inside (call ∷ calls) [] = ⊤
-NothingElse inside (call ∷ calls) (cs ∷ css) = cond (is_kept inside call) ⊤ (inside_alone inside cs ≡ []) × NothingElse inside calls css
+NothingElse inside (call ∷ calls) (cs ∷ css) =
+    cond (is_kept inside call) ⊤ (inside_alone inside cs ≡ []) × NothingElse inside calls css
 
 -- each call comes at a moment that there is
 abbrev pub InTime : {P : Type 0} → List (Call P) → Type 0
@@ -52,13 +57,15 @@ module _ {P : Type 0} (cmp : P → P → Ordering) where
   -- calls that are made one after another, with the completions that each answers
   pub data Answers : World P → List (Call P) → List (List (Completed P)) → Type 0 where
     no_calls : {w : World P} → Answers w [] []
-    call_answers : {w u : World P} {call : Call P} {now : ℕ} {calls : List (Call P)} {cs : List (Completed P)} {css : List (List (Completed P))} → moment_of call ≡ Some now
+    call_answers : {w u : World P} {call : Call P} {now : ℕ} {calls : List (Call P)} {cs : List (Completed P)}
+        {css : List (List (Completed P))} → moment_of call ≡ Some now
         → w.moment ≤ now → Runs cmp w call now (goes cs u) → Answers u calls css → Answers w (call ∷ calls) (cs ∷ css)
 
   -- and each comes in its turn
   pub data AnswersInTurn : World P → List (Call P) → List (List (Completed P)) → Type 0 where
     no_calls_in_turn : {w : World P} → AnswersInTurn w [] []
-    answers_in_turn : {w u : World P} {call : Call P} {now : ℕ} {calls : List (Call P)} {cs : List (Completed P)} {css : List (List (Completed P))} → moment_of call ≡ Some now
+    answers_in_turn : {w u : World P} {call : Call P} {now : ℕ} {calls : List (Call P)} {cs : List (Completed P)}
+        {css : List (List (Completed P))} → moment_of call ≡ Some now
         → IsInTurn cmp w call → Runs cmp w call now (goes cs u) → AnswersInTurn u calls css
         → AnswersInTurn w (call ∷ calls) (cs ∷ css)
 

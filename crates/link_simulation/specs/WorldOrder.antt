@@ -40,8 +40,10 @@ module _ {P : Type 0} (cmp : P → P → Ordering) where
   abbrev pub completes_pair : Message P → Completed P → Bool
   completes_pair k c = same_peer cmp k.origin c.origin && same_peer cmp k.recipient c.recipient
 
-  -- the completions of the message's pair are those of the messages of the pair that were enqueued first, in their order, and their delivery moments never go down
-  pub record IsInPairOrder (k : Message P) (messages : List (Message P)) (completions : List (Completed P)) : Type 0 where
+  -- the completions of the message's pair are those of the messages of the pair that were enqueued first, in their
+  -- order, and their delivery moments never go down
+  pub record IsInPairOrder (k : Message P) (messages : List (Message P))
+      (completions : List (Completed P)) : Type 0 where
     pub done : List (Message P)
     pub rest : List (Message P)
     pub messages_are : filter (same_pair cmp k) messages ≡ done ++ rest

@@ -3,7 +3,8 @@ use Rattle.std.specs.Prelude.{⊤, ◌≡◌, ℕ, List, [], ◌∷◌, true, fa
 use Rattle.std.specs.List.{filter, find}
 use Rattle.std.specs.declared.cmp.Ordering.{Ordering}
 use Rattle.link_simulation.specs.WorldMessages.{Message, same_pair, pair_before}
-use Rattle.link_simulation.specs.World.{World, Flight, Completed, Course, goes, and_then, turn, may_start, first_waiting}
+use Rattle.link_simulation.specs.World.{World, Flight, Completed, Course, goes, and_then, turn, may_start}
+use Rattle.link_simulation.specs.World.{first_waiting}
 
 module _ {P : Type 0} (cmp : P → P → Ordering) where
   -- what a pair sees of a world does not change
@@ -12,7 +13,8 @@ module _ {P : Type 0} (cmp : P → P → Ordering) where
     pub last_arrival : v.last_arrival k.origin k.recipient ≡ w.last_arrival k.origin k.recipient
     pub waiting : filter (same_pair cmp k) v.waiting ≡ filter (same_pair cmp k) w.waiting
     pub first : first_waiting cmp v k ≡ first_waiting cmp w k
-    pub sending : filter (λ (f : Flight P). same_pair cmp k f.message) v.sending ≡ filter (λ (f : Flight P). same_pair cmp k f.message) w.sending
+    pub sending : filter (λ (f : Flight P). same_pair cmp k f.message) v.sending
+        ≡ filter (λ (f : Flight P). same_pair cmp k f.message) w.sending
 
   -- no message waits first for the pair that may start at t
   abbrev pub MayNotStart : ℕ → Message P → World P → Type 0

@@ -1,5 +1,6 @@
 -- The planned world: what is kept between events, and what is planned.
-use Rattle.std.specs.Prelude.{⊤, ◌≡◌, ℕ, ◌+◌, ◌-◌, ◌≤◌, min, List, [], ◌∷◌, map, Bool, true, false, not, ◌&&◌, ◌||◌, if◌then◌else◌, Option, Some, None, ◌==◌, MatchOption, slice_get}
+use Rattle.std.specs.Prelude.{⊤, ◌≡◌, ℕ, ◌+◌, ◌-◌, ◌≤◌, min, List, [], ◌∷◌, map, Bool, true, false, not, ◌&&◌, ◌||◌}
+use Rattle.std.specs.Prelude.{if◌then◌else◌, Option, Some, None, ◌==◌, MatchOption, slice_get}
 use Rattle.std.specs.List.{find, list_any, AllZip}
 use Rattle.std.specs.declared.cmp.Ordering.{Ordering}
 use Rattle.fair_rates.specs.Amount.{Amount}
@@ -14,7 +15,8 @@ pub record Paced (P : Type 0) : Type 0 where
   pub rate : Option Amount
   pub updated : ℕ
 
--- the messages in flight stand in order of start, and the waiting ones in the order of pairs, those of a pair in order of enqueue; some message finishes next at one moment, and some starts next at another
+-- the messages in flight stand in order of start, and the waiting ones in the order of pairs, those of a pair in
+-- order of enqueue; some message finishes next at one moment, and some starts next at another
 pub record Planned (P : Type 0) : Type 0 where
   pub caps : Caps P
   pub limited : Bool
@@ -27,7 +29,16 @@ pub record Planned (P : Type 0) : Type 0 where
 
 -- an empty planned world, whose first flow has this id
 abbrev pub new_planned : {P : Type 0} → ℕ → Planned P
-new_planned id = record { caps = no_caps; limited = false; sending = []; waiting = []; last_arrival = λ p q. None; next_id = id; finish = None; start = None }
+new_planned id = record {
+  caps = no_caps;
+  limited = false;
+  sending = [];
+  waiting = [];
+  last_arrival = λ p q. None;
+  next_id = id;
+  finish = None;
+  start = None;
+}
 
 -- the earlier of two moments, each of which may be missing
 abbrev pub earlier : Option ℕ → Option ℕ → Option ℕ
@@ -37,7 +48,8 @@ earlier (Some a) (Some b) = Some (min a b)
 
 -- the least moment up to the last one at which Q holds, or none
 abbrev pub IsLeastMoment : (ℕ → Type 0) → Option ℕ → Type 0
-IsLeastMoment Q moment = MatchOption moment ((t : ℕ) → t ≤ last_moment → ¬ Q t) (λ t. (t ≤ last_moment) × Q t × ((s : ℕ) → Q s → t ≤ s))
+IsLeastMoment Q moment =
+    MatchOption moment ((t : ℕ) → t ≤ last_moment → ¬ Q t) (λ t. (t ≤ last_moment) × Q t × ((s : ℕ) → Q s → t ≤ s))
 
 -- the earlier of the planned finish and the planned start
 abbrev pub next_event : {P : Type 0} → Planned P → Option ℕ
@@ -81,7 +93,9 @@ module _ {P : Type 0} (cmp : P → P → Ordering) where
 
   -- whether the first waiting message of a pair may start at t
   abbrev pub may_launch : ℕ → Planned P → Message P → Bool
-  may_launch t p m = not (list_any (same_pair cmp m) (paced_flows p.sending)) && is_in_order (p.last_arrival m.origin m.recipient) (t + m.latency)
+  may_launch t p m =
+      not (list_any (same_pair cmp m) (paced_flows p.sending))
+      && is_in_order (p.last_arrival m.origin m.recipient) (t + m.latency)
 
   -- the first waiting message of some idle pair may start at t
   abbrev pub SomeReadyAt : Planned P → ℕ → Type 0
@@ -98,7 +112,8 @@ module _ {P : Type 0} (cmp : P → P → Ordering) where
     pub fair : AreFair cmp p.caps (paced_flows p.sending) per rates
     pub rated : AllZip (λ rate f. f.rate ≡ rate_of per rate) rates p.sending
 
-  -- what is planned is right: the finish is the least moment at which something in flight has nothing left, and the start the least one, from some moment on, at which a pair is ready; before any limit nothing waits
+  -- what is planned is right: the finish is the least moment at which something in flight has nothing left, and the
+  -- start the least one, from some moment on, at which a pair is ready; before any limit nothing waits
   pub record IsPlanned (p : Planned P) : Type 0 where
     pub finish : IsLeastMoment (SomeSpentAt p.sending) p.finish
     pub from : ℕ

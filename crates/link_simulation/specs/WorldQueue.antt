@@ -1,10 +1,13 @@
--- Settling as a queue: what is done leaves in order of start, and a message that starts and is done at once joins the end.
+-- Settling as a queue: what is done leaves in order of start, and a message that starts and is done at once joins the
+-- end.
 use Rattle.std.specs.Prelude.{ℕ, zero, suc, ◌+◌, List, [], ◌∷◌, ◌++◌, not, cond, Option, Some, None, nat_le}
 use Rattle.std.specs.List.{filter}
 use Rattle.std.specs.declared.cmp.Ordering.{Ordering}
 use Rattle.fair_rates.specs.declared.error.Error.TheVariants.{MomentTooLate, FlowIdsUsedUp}
 use Rattle.link_simulation.specs.WorldMessages.{Message, same_pair}
-use Rattle.link_simulation.specs.World.{World, Flight, Completed, Course, goes, meets, last_moment, preceded, without_first, raised, may_start, first_waiting, is_done, arrival, is_late, completed, flight_of}
+use Rattle.link_simulation.specs.World.{World, Flight, Completed, Course, goes, meets, last_moment, preceded}
+use Rattle.link_simulation.specs.World.{without_first, raised, may_start, first_waiting, is_done, arrival, is_late}
+use Rattle.link_simulation.specs.World.{completed, flight_of}
 
 module _ {P : Type 0} (cmp : P → P → Ordering) where
   -- the messages in flight that are done, in order of start
@@ -28,11 +31,13 @@ module _ {P : Type 0} (cmp : P → P → Ordering) where
   joined w m = record (taken w m) { sending = w.sending ++ flight_of m ∷ [] }
 
   -- the first that waits for a pair starts if it may: if it is done at once it joins the queue's end
-  unfoldable pub launch_then : (List (Flight P) → World P → Course (Completed P) (World P)) → ℕ → List (Flight P) → World P → Option (Message P) → Course (Completed P) (World P)
+  unfoldable pub launch_then : (List (Flight P) → World P → Course (Completed P) (World P)) → ℕ → List (Flight P)
+      → World P → Option (Message P) → Course (Completed P) (World P)
   launch_then next t queue w None = next queue w
   launch_then next t queue w (Some m) =
       cond (may_start cmp t w m)
-      (cond (nat_le last_moment w.next_id) (meets FlowIdsUsedUp) (cond (is_done cmp w (flight_of m)) (next (queue ++ flight_of m ∷ []) (taken w m)) (next queue (joined w m))))
+      (cond (nat_le last_moment w.next_id) (meets FlowIdsUsedUp)
+      (cond (is_done cmp w (flight_of m)) (next (queue ++ flight_of m ∷ []) (taken w m)) (next queue (joined w m))))
       (next queue w)
 
   -- the first of the queue completes, and its pair's next starts; so many complete at most
@@ -41,4 +46,6 @@ module _ {P : Type 0} (cmp : P → P → Ordering) where
   finish_within (suc n) t [] w = goes [] w
   finish_within (suc n) t (f ∷ queue) w =
       cond (is_late cmp t f.message) (meets MomentTooLate)
-      (preceded (completed cmp t f.message ∷ []) (launch_then (finish_within n t) t queue (arrived t w f.message) (first_waiting cmp (arrived t w f.message) f.message)))
+      (preceded (completed cmp t f.message ∷ [])
+      (launch_then (finish_within n t) t queue (arrived t w f.message)
+      (first_waiting cmp (arrived t w f.message) f.message)))

@@ -1,4 +1,5 @@
--- The range, in which a call is refused for memory alone. A moment and a latency in it are together no later than the last moment.
+-- The range, in which a call is refused for memory alone. A moment and a latency in it are together no later than the
+-- last moment.
 use Rattle.std.specs.Prelude.{ℕ, ◌+◌, ◌<◌, ◌^◌, List, [], ◌∷◌, length, All, IfSome}
 use Rattle.link_simulation.specs.WorldCalls.{Call, moment_of}
 use Rattle.link_simulation.specs.WorldOrder.{enqueued}

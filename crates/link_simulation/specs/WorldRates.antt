@@ -1,5 +1,6 @@
 -- The sides that limit messages in flight, the rates that are fair for them, and how they drain.
-use Rattle.std.specs.Prelude.{◌≡◌, ℕ, ◌+◌, ◌<◌, List, [], ◌∷◌, ◌++◌, Bool, not, ◌&&◌, ◌||◌, if◌then◌else◌, Option, Some, None, is_none}
+use Rattle.std.specs.Prelude.{◌≡◌, ℕ, ◌+◌, ◌<◌, List, [], ◌∷◌, ◌++◌, Bool, not, ◌&&◌, ◌||◌, if◌then◌else◌, Option}
+use Rattle.std.specs.Prelude.{Some, None, is_none}
 use Rattle.std.specs.List.{flat_map}
 use Rattle.std.specs.declared.cmp.Ordering.{Ordering}
 use Rattle.fair_rates.specs.Amount.{Amount, whole, reduced, drained}
@@ -39,11 +40,15 @@ module _ {P : Type 0} (cmp : P → P → Ordering) where
 
   -- and if it is delivered the ingress of its recipient, with all messages that are delivered there
   abbrev pub ingress_side : Caps P → List (Message P) → Message P → List Side
-  ingress_side caps messages m = capped_side (if is_delivered cmp m then caps.ingress m.recipient else None) (λ n. is_delivered cmp n && same_peer cmp m.recipient n.recipient) messages
+  ingress_side caps messages m =
+      capped_side (if is_delivered cmp m then caps.ingress m.recipient else None)
+      (λ n. is_delivered cmp n && same_peer cmp m.recipient n.recipient) messages
 
   -- and the link of its pair, with all messages of the pair, delivered or not
   abbrev pub link_side : Caps P → List (Message P) → Message P → List Side
-  link_side caps messages m = capped_side (caps.link m.origin m.recipient) (λ n. same_peer cmp m.origin n.origin && same_peer cmp m.recipient n.recipient) messages
+  link_side caps messages m =
+      capped_side (caps.link m.origin m.recipient)
+      (λ n. same_peer cmp m.origin n.origin && same_peer cmp m.recipient n.recipient) messages
 
   -- the capped sides that one message uses, at most three
   abbrev pub sides_for : Caps P → List (Message P) → Message P → List Side
@@ -55,12 +60,16 @@ module _ {P : Type 0} (cmp : P → P → Ordering) where
 
   -- whether a message uses no capped side
   abbrev pub is_unlimited : Caps P → Message P → Bool
-  is_unlimited caps m = is_none (caps.egress m.origin) && (not (is_delivered cmp m) || is_none (caps.ingress m.recipient)) && is_none (caps.link m.origin m.recipient)
+  is_unlimited caps m =
+      is_none (caps.egress m.origin) && (not (is_delivered cmp m) || is_none (caps.ingress m.recipient))
+      && is_none (caps.link m.origin m.recipient)
 
-  -- the rate of each message: none without a capped side, and else the parts of its place, where the first has that place
+  -- the rate of each message: none without a capped side, and else the parts of its place, where the first has that
+  -- place
   abbrev pub rates_from : Caps P → (ℕ → ℕ) → ℕ → List (Message P) → Parts
   rates_from caps parts place [] = []
-  rates_from caps parts place (m ∷ ms) = (if is_unlimited caps m then None else Some (parts place)) ∷ rates_from caps parts (place + 1) ms
+  rates_from caps parts place (m ∷ ms) =
+      (if is_unlimited caps m then None else Some (parts place)) ∷ rates_from caps parts (place + 1) ms
 
   -- these are the max-min fair rates of the messages under the caps, in parts of which so many are one byte a second
   pub record AreFair (caps : Caps P) (messages : List (Message P)) (per : ℕ) (rates : Parts) : Type 0 where

@@ -15,7 +15,8 @@ module _ {P : Type 0} (cmp : P → P → Ordering) where
   abbrev pub MayBeRefused : Planned P → Call P → Error → Type 0
   MayBeRefused p call why = IsRefusedFor (λ fault. Obeys cmp p call (meets fault)) why
 
-  -- the replies are those of the event rule, call by call, at any moments; a refused call leaves the planned world as it was
+  -- the replies are those of the event rule, call by call, at any moments; a refused call leaves the planned world as
+  -- it was
   abbrev pub Obeyed : Planned P → List (Call P) → List (Reply P) → Type 0
   Obeyed p [] [] = ⊤
   Obeyed p [] (reply ∷ replies) = ⊥
@@ -25,4 +26,6 @@ module _ {P : Type 0} (cmp : P → P → Ordering) where
   Obeyed p (call_next ∷ calls) (reply_refused why ∷ replies) = ⊥
   Obeyed p (call ∷ calls) (reply_next t ∷ replies) = ⊥
   Obeyed p (call ∷ calls) (reply_refused why ∷ replies) = MayBeRefused p call why × Obeyed p calls replies
-  Obeyed p (call ∷ calls) (reply_done cs ∷ replies) = (ds : List (Completed P)) × (q : Planned P) × Obeys cmp p call (goes ds q) × AllZip (SameCompletion cmp) cs ds × Obeyed q calls replies
+  Obeyed p (call ∷ calls) (reply_done cs ∷ replies) =
+      (ds : List (Completed P)) × (q : Planned P) × Obeys cmp p call (goes ds q) × AllZip (SameCompletion cmp) cs ds
+      × Obeyed q calls replies

@@ -7,7 +7,8 @@ use Rattle.link_simulation.specs.Refusing.{IsRefusedFor}
 use Rattle.fair_rates.specs.Sides.{same_peer}
 use Rattle.link_simulation.specs.World.{World, Completed, goes, meets}
 use Rattle.link_simulation.specs.WorldTime.{NextIs}
-use Rattle.link_simulation.specs.WorldCalls.{Call, call_limit, call_limit_link, call_enqueue, call_advance, call_next, moment_of, Runs, IsInTurn}
+use Rattle.link_simulation.specs.WorldCalls.{Call, call_limit, call_limit_link, call_enqueue, call_advance, call_next}
+use Rattle.link_simulation.specs.WorldCalls.{moment_of, Runs, IsInTurn}
 
 -- what a call is answered
 pub data Reply (P : Type 0) : Type 0 where
@@ -47,7 +48,8 @@ module _ {P : Type 0} (cmp : P → P → Ordering) where
   abbrev pub MayRefuse : World P → Call P → Error → Type 0
   MayRefuse w call why = IsRefusedFor (Faults w call) why
 
-  -- the replies are those of the simulation, up to the first call that is out of turn; a refused call counts as not made
+  -- the replies are those of the simulation, up to the first call that is out of turn; a refused call counts as not
+  -- made
   abbrev pub Agrees : World P → List (Call P) → List (Reply P) → Type 0
   Agrees w [] [] = ⊤
   Agrees w [] (reply ∷ replies) = ⊥
@@ -56,6 +58,9 @@ module _ {P : Type 0} (cmp : P → P → Ordering) where
   Agrees w (call_next ∷ calls) (reply_done cs ∷ replies) = ⊥
   Agrees w (call_next ∷ calls) (reply_refused why ∷ replies) = ⊥
   Agrees w (call ∷ calls) (reply_next t ∷ replies) = ⊥
-  Agrees w (call ∷ calls) (reply_refused why ∷ replies) = IsInTurn cmp w call → MayRefuse w call why × Agrees w calls replies
-  Agrees w (call ∷ calls) (reply_done cs ∷ replies) = IsInTurn cmp w call → (now : ℕ) × (ds : List (Completed P)) × (v : World P)
-      × (moment_of call ≡ Some now) × Runs cmp w call now (goes ds v) × AllZip SameCompletion cs ds × Agrees v calls replies
+  Agrees w (call ∷ calls) (reply_refused why ∷ replies) =
+      IsInTurn cmp w call → MayRefuse w call why × Agrees w calls replies
+  Agrees w (call ∷ calls) (reply_done cs ∷ replies) =
+      IsInTurn cmp w call → (now : ℕ) × (ds : List (Completed P)) × (v : World P)
+      × (moment_of call ≡ Some now) × Runs cmp w call now (goes ds v) × AllZip SameCompletion cs ds
+      × Agrees v calls replies

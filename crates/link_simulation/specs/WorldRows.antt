@@ -4,6 +4,8 @@ use Rattle.std.specs.Ordering.{nat_cmp}
 use Rattle.link_simulation.specs.WorldMessages.{Message, no_caps}
 use Rattle.link_simulation.specs.World.{World, Completed, completion_of, flight_of}
 use Rattle.link_simulation.specs.WorldCalls.{limited_by}
+use Rattle.link_simulation.specs.WorldPlanned.{Paced}
+use Rattle.fair_rates.specs.Amount.{Amount, whole}
 
 -- so many bytes
 abbrev pub bytes : ℕ → List ℕ
@@ -12,7 +14,14 @@ bytes (suc n) = 0 ∷ bytes n
 
 -- a message to be delivered: so many bytes from one peer to another, with a latency
 abbrev pub message : ℕ → ℕ → ℕ → ℕ → Message ℕ
-message origin recipient length latency = record { origin = origin; recipient = recipient; channel = 0; bytes = bytes length; latency = latency; should_deliver = true }
+message origin recipient length latency = record {
+  origin = origin;
+  recipient = recipient;
+  channel = 0;
+  bytes = bytes length;
+  latency = latency;
+  should_deliver = true;
+}
 
 -- the same, not to be delivered
 abbrev pub dropped : ℕ → ℕ → ℕ → ℕ → Message ℕ
@@ -29,6 +38,10 @@ is_gone m = completion_of m None
 -- one byte a nanosecond
 abbrev pub a_byte_a_nanosecond : Option ℕ
 a_byte_a_nanosecond = Some 1_000_000_000
+
+-- as it is planned: the message has just started at moment 0, and has that rate
+abbrev pub paced : Message ℕ → Option Amount → Paced ℕ
+paced m rate = record { message = m; left = whole (length m.bytes); rate = rate; updated = 0 }
 
 -- at moment 0, the first peer has that egress cap, and the message has just started
 abbrev pub flying : ℕ → Message ℕ → World ℕ

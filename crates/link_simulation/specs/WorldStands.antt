@@ -6,7 +6,8 @@ use Rattle.link_simulation.specs.WorldMessages.{Message, SameMessage, same_pair,
 use Rattle.link_simulation.specs.WorldRates.{IsLowest}
 use Rattle.link_simulation.specs.World.{World, Flight, Completed, Course, goes, meets, flows, is_done, IsQuiet}
 use Rattle.link_simulation.specs.WorldReplies.{SameCompletion}
-use Rattle.link_simulation.specs.WorldPlanned.{Planned, Paced, IsLeastMoment, paced_flows, left_at, SomeSpentAt, SomeReadyAt, AreInPairOrder, IsRated}
+use Rattle.link_simulation.specs.WorldPlanned.{Planned, Paced, IsLeastMoment, paced_flows, left_at, SomeSpentAt}
+use Rattle.link_simulation.specs.WorldPlanned.{SomeReadyAt, AreInPairOrder, IsRated}
 
 module _ {P : Type 0} (cmp : P → P → Ordering) where
   -- a message in flight, as it is planned and as it is at t
@@ -24,7 +25,8 @@ module _ {P : Type 0} (cmp : P → P → Ordering) where
     pub limited : p.limited ≡ w.limited
     pub last_arrival : PairsAlike cmp p.last_arrival w.last_arrival
     pub next_id : p.next_id ≡ w.next_id
-    pub waiting : (m : Message P) → AllZip (SameMessage cmp) (filter (same_pair cmp m) p.waiting) (filter (same_pair cmp m) w.waiting)
+    pub waiting : (m : Message P) → AllZip (SameMessage cmp) (filter (same_pair cmp m) p.waiting)
+        (filter (same_pair cmp m) w.waiting)
     pub pair_order : AreInPairOrder cmp p.waiting
     pub sending : AllZip (IsSameFlight t) p.sending w.sending
     pub one_each : OneForEachPair cmp (flows w)
@@ -42,14 +44,16 @@ module _ {P : Type 0} (cmp : P → P → Ordering) where
     pub none_done : list_any (is_done cmp w) w.sending ≡ false
     pub start : IsLeastMoment (λ s. (t ≤ s) × SomeReadyAt cmp p s) p.start
 
-  -- between events: the same at the world's moment, nothing is done and nothing may start, and the next finish and start are planned
+  -- between events: the same at the world's moment, nothing is done and nothing may start, and the next finish and
+  -- start are planned
   pub record StandsFor (p : Planned P) (w : World P) : Type 0 where
     pub follows : Follows w.moment p w
     pub quiet : IsQuiet cmp w.moment w
     pub start : IsLeastMoment (SomeReadyAt cmp p) p.start
 
   -- the same completions, element by element, and worlds that correspond; or the same fault
-  abbrev pub CoursesAlike : (Planned P → World P → Type 0) → Course (Completed P) (Planned P) → Course (Completed P) (World P) → Type 0
+  abbrev pub CoursesAlike : (Planned P → World P → Type 0) → Course (Completed P) (Planned P)
+      → Course (Completed P) (World P) → Type 0
   CoursesAlike R (goes cs p) (goes ds w) = AllZip (SameCompletion cmp) cs ds × R p w
   CoursesAlike R (goes cs p) (meets fault) = ⊥
   CoursesAlike R (meets fault) (goes ds w) = ⊥

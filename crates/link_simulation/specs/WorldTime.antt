@@ -4,13 +4,15 @@ use Rattle.std.specs.declared.cmp.Ordering.{Ordering}
 use Rattle.fair_rates.specs.declared.error.Error.{Error}
 use Rattle.link_simulation.specs.WorldMessages.{CapsAlike, PairsAlike, OneForEachPair}
 use Rattle.link_simulation.specs.WorldRates.{Parts, rate_of, drained_by, AreFair}
-use Rattle.link_simulation.specs.World.{World, Flight, Completed, Course, goes, meets, last_moment, preceded, flows, instant, IsQuiet}
+use Rattle.link_simulation.specs.World.{World, Flight, Completed, Course, goes, meets, last_moment, preceded, flows}
+use Rattle.link_simulation.specs.World.{instant, IsQuiet}
 
 -- each message in flight drains for n nanoseconds at its rate
 abbrev pub drain_each : {P : Type 0} → ℕ → Parts → ℕ → List (Flight P) → List (Flight P)
 drain_each per rates n [] = []
 drain_each per [] n (f ∷ fs) = f ∷ fs
-drain_each per (rate ∷ rates) n (f ∷ fs) = record { message = f.message; left = drained_by (rate_of per rate) n f.left } ∷ drain_each per rates n fs
+drain_each per (rate ∷ rates) n (f ∷ fs) =
+    record { message = f.message; left = drained_by (rate_of per rate) n f.left } ∷ drain_each per rates n fs
 
 -- the world n nanoseconds on, if nothing completes or starts
 abbrev pub drifted : {P : Type 0} → World P → ℕ → Parts → ℕ → World P
@@ -32,12 +34,15 @@ module _ {P : Type 0} (cmp : P → P → Ordering) where
   -- n nanoseconds go by: in each, all drains, what is done completes, and what may start starts
   pub data Ticks : ℕ → World P → Course (Completed P) (World P) → Type 0 where
     no_tick : {w : World P} → Ticks zero w (goes [] w)
-    one_tick : {n : ℕ} {w v u : World P} {cs : List (Completed P)} {rest : Course (Completed P) (World P)} → Drains w v → instant cmp v ≡ goes cs u → Ticks n u rest → Ticks (suc n) w (preceded cs rest)
-    tick_faults : {n : ℕ} {w v : World P} {fault : Error} → Drains w v → instant cmp v ≡ meets fault → Ticks (suc n) w (meets fault)
+    one_tick : {n : ℕ} {w v u : World P} {cs : List (Completed P)} {rest : Course (Completed P) (World P)}
+        → Drains w v → instant cmp v ≡ goes cs u → Ticks n u rest → Ticks (suc n) w (preceded cs rest)
+    tick_faults : {n : ℕ} {w v : World P} {fault : Error} → Drains w v → instant cmp v ≡ meets fault
+        → Ticks (suc n) w (meets fault)
 
   -- a course and then n more nanoseconds, if it goes
   abbrev pub Continues : ℕ → Course (Completed P) (World P) → Course (Completed P) (World P) → Type 0
-  Continues n (goes cs v) course = (rest : Course (Completed P) (World P)) × Ticks n v rest × (course ≡ preceded cs rest)
+  Continues n (goes cs v) course =
+      (rest : Course (Completed P) (World P)) × Ticks n v rest × (course ≡ preceded cs rest)
   Continues n (meets fault) course = course ≡ meets fault
 
   -- n nanoseconds go by in which nothing completes or starts
@@ -48,7 +53,8 @@ module _ {P : Type 0} (cmp : P → P → Ordering) where
   -- the next event, at which something completes or starts, comes at that moment, or never
   pub data NextIs (w : World P) : Option ℕ → Type 0 where
     never_comes : {v : World P} → Passes (last_moment - w.moment) w v → NextIs w None
-    comes_next : {n : ℕ} {v u : World P} → Passes n w v → Drains v u → ¬ IsQuiet cmp u.moment u → u.moment ≤ last_moment → NextIs w (Some u.moment)
+    comes_next : {n : ℕ} {v u : World P} → Passes n w v → Drains v u → ¬ IsQuiet cmp u.moment u
+        → u.moment ≤ last_moment → NextIs w (Some u.moment)
 
   -- what holds of each world that calls lead to, and of each on the way there
   pub record IsSound (w : World P) : Type 0 where

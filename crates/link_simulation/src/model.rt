@@ -9,6 +9,7 @@ pub mod alone;
 pub mod differences;
 pub mod events;
 pub mod instants;
+pub mod meanings;
 pub mod orderly;
 pub mod progress;
 pub mod range;

@@ -60,6 +60,7 @@ pub use Rattle.link_scheduler.specs.Moments
 pub use Rattle.link_scheduler.specs.Pairs
 pub use Rattle.link_scheduler.specs.Peers
 pub use Rattle.link_scheduler.specs.Progress
+pub use Rattle.link_scheduler.specs.Readings
 pub use Rattle.link_scheduler.specs.Replay
 pub use Rattle.link_scheduler.specs.Starts
 pub use Rattle.link_scheduler.specs.State

@@ -1,3 +1,4 @@
 pub mod Boxed
 pub mod Copying
 pub mod Ending
+pub mod Planning

@@ -2,6 +2,8 @@ pub mod Asked
 pub mod Completions
 pub mod Opening
 pub mod Place
+pub mod Plan
+pub mod Planning
 pub mod Ran
 pub mod Records
 pub mod Written

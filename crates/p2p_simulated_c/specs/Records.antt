@@ -1,5 +1,5 @@
 -- How the records that cross to C are read.
-use Rattle.std.specs.Prelude.{ℕ, ◌+◌, ◌*◌, ◌^◌, ◌==◌, if◌then◌else◌, Bool, not, length, Option, Some, None}
+use Rattle.std.specs.Prelude.{ℕ, ◌+◌, ◌*◌, ◌/◌, ◌%◌, ◌^◌, ◌==◌, if◌then◌else◌, Bool, not, length, Option, Some, None}
 use Rattle.p2p_simulated.specs.declared.transmitter.Completion.{Completion}
 use Rattle.p2p_simulated_c.specs.declared.records.Cap.{Cap}
 use Rattle.p2p_simulated_c.specs.declared.records.Done.{Done}
@@ -26,6 +26,10 @@ of_moment (Some at) = record { at = at; is_some = 1 }
 -- the number
 abbrev pub value_of : Wide → ℕ
 value_of w = w.high * 2 ^ 64 + w.low
+
+-- the record of a number
+abbrev pub wide_of : ℕ → Wide
+wide_of n = record { low = n % 2 ^ 64; high = n / 2 ^ 64 }
 
 -- the record of a completion
 abbrev pub done_of : Completion ℕ → Done

@@ -7,6 +7,7 @@
 pub mod handle;
 pub mod opened;
 pub mod place;
+pub mod planner;
 pub mod records;
 pub mod scheduler;
 pub mod script;

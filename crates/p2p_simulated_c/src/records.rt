@@ -1,7 +1,10 @@
-//! What crosses to C by value: a cap, a moment, a wide number and a completion.
-ghost use Rattle.std.specs.Prelude.{◌≡◌, ◌<◌, ◌^◌};
-ghost use Rattle.p2p_simulated_c.specs.Records.{cap_of, moment_of, of_moment, value_of, done_of};
+//! What crosses to C by value: a cap, a moment, a wide number, a completion, and what a plan is made
+//! of.
+ghost use Rattle.std.specs.Prelude.{◌≡◌, ◌<◌, ◌^◌, Option};
+ghost use Rattle.p2p_simulated_c.specs.Plan.{flow_of, rate_of};
+ghost use Rattle.p2p_simulated_c.specs.Records.{cap_of, moment_of, of_moment, value_of, wide_of, done_of};
 
+use p2p_simulated::bandwidth::{Flow, Rate};
 use p2p_simulated::transmitter::Completion;
 
 /// A cap in bytes a second, or none where `is_some` is 0.
@@ -57,12 +60,19 @@ const HALF: u128 = 18446744073709551616;
 
 impl Wide {
     pub fn of(value: u128) -> Wide
-        ensures { value_of result ≡ value }
+        ensures record { result ≡ wide_of value }
+        ensures value { value_of result ≡ value }
     {
         Wide {
             low: (value % HALF) as u64,
             high: (value / HALF) as u64,
         }
+    }
+
+    pub fn get(self) -> u128
+        ensures { result ≡ value_of self }
+    {
+        self.high as u128 * HALF + self.low as u128
     }
 }
 
@@ -87,6 +97,75 @@ impl Done {
             channel: completion.channel,
             length: completion.message.len(),
             deliver_at: Moment::of(completion.deliver_at),
+        }
+    }
+}
+
+/// A flow of a plan. It is not delivered where `delivered` is 0.
+#[repr(C)]
+#[derive(Clone, Copy)]
+pub struct PlanFlow {
+    pub id: u64,
+    pub origin: u64,
+    pub recipient: u64,
+    pub delivered: u8,
+}
+
+impl PlanFlow {
+    pub fn get(self) -> Flow<u64>
+        ensures { result ≡ flow_of self }
+    {
+        Flow {
+            id: self.id,
+            origin: self.origin,
+            recipient: self.recipient,
+            delivered: self.delivered != 0,
+        }
+    }
+}
+
+/// What a peer may send, or what it may receive, in bytes a second.
+#[repr(C)]
+#[derive(Clone, Copy)]
+pub struct PeerCap {
+    pub peer: u64,
+    pub cap: Wide,
+}
+
+/// What may go from one peer to another, in bytes a second.
+#[repr(C)]
+#[derive(Clone, Copy)]
+pub struct LinkCap {
+    pub origin: u64,
+    pub recipient: u64,
+    pub cap: Wide,
+}
+
+/// A rate in bytes a second, as a fraction in lowest terms, or no limit where `is_limited` is 0.
+#[repr(C)]
+#[derive(Clone, Copy)]
+pub struct PlanRate {
+    pub numerator: Wide,
+    pub denominator: Wide,
+    pub is_limited: u8,
+}
+
+impl PlanRate {
+    /// The record of the rate of a flow. Of a flow without one it is that of no limit.
+    pub fn of(rate: Option<Rate>) -> PlanRate
+        ensures { result ≡ rate_of rate }
+    {
+        match rate {
+            Some(Rate::Finite(ratio)) => PlanRate {
+                numerator: Wide::of(ratio.numerator()),
+                denominator: Wide::of(ratio.denominator()),
+                is_limited: 1,
+            },
+            Some(Rate::Unlimited) | None => PlanRate {
+                numerator: Wide::of(0),
+                denominator: Wide::of(1),
+                is_limited: 0,
+            },
         }
     }
 }

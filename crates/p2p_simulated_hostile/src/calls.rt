@@ -34,7 +34,8 @@ fn peer<P: Numbered>(
     P::numbered(alloc, (number(words) % 256) as u8, fuse)
 }
 
-fn contents(alloc: Global, channel: u64, length: u64) -> Result<Bytes, AllocError> {
+/// So many bytes, each of which is the channel.
+pub fn contents(alloc: Global, channel: u64, length: u64) -> Result<Bytes, AllocError> {
     let bytes = vec![in alloc; (channel % 256) as u8; length as usize]?;
     Ok(Bytes::from_vec(bytes)?)
 }
@@ -85,7 +86,7 @@ fn call_of<P: Numbered>(alloc: Global, line: &str, fuse: &Fuse) -> Result<Call<P
 }
 
 /// Makes a call.
-fn make<P: Numbered>(state: &mut State<P>, call: Call<P>) -> Result<Reply<P>, Error> {
+pub fn make<P: Numbered>(state: &mut State<P>, call: Call<P>) -> Result<Reply<P>, Error> {
     Ok(match call {
         Call::Limit {
             now,

@@ -7,6 +7,8 @@ mod calls;
 #[cfg(test)]
 mod ends;
 #[cfg(test)]
+mod kinds;
+#[cfg(test)]
 mod peers;
 #[cfg(test)]
 mod rates;

@@ -22,7 +22,8 @@ use std::alloc::Global;
 /// before have led it.
 pub fn finish<P: Peer>(alloc: Global, state: &mut State<P>) -> Result<Vec<Completion<P>>, Error>
     ensures finished { IfOk result (λ completions. next_event (planned_of state.new) ≡ None) }
-    ensures conserved { IfOk result (λ completions. ∥ IsConserved P.cmp (planned_of state.old) [] (map completed_of completions.items) (planned_of state.new) ∥₁) }
+    ensures conserved { IfOk result (λ completions. ∥ IsConserved P.cmp (planned_of state.old) []
+        (map completed_of completions.items) (planned_of state.new) ∥₁) }
 {
     events_end::<P>();
     calls_lose_no_message::<P>();

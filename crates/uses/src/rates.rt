@@ -22,7 +22,8 @@ pub fn rates_of_senders(
     flows: &[Flow<u64>],
     egress: &BTreeMap<u64, u128>,
 ) -> Result<BTreeMap<u64, Rate>, Error>
-    ensures fair { IfOk result (λ rates. IsFairById nat_cmp (sending (get nat_cmp egress.now)) flows.now (get nat_cmp rates)) }
+    ensures fair { IfOk result (λ rates. IsFairById nat_cmp (sending (get nat_cmp egress.now)) flows.now
+        (get nat_cmp rates)) }
 {
     allocate(alloc, flows, |peer| egress.get(peer).copied(), |_peer| None)
 }

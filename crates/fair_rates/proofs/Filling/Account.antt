@@ -12,12 +12,6 @@ use Rattle.fair_rates.proofs.Filling.Sums.{sum_by_same}
 
 -- ---- of a share
 
--- who has no more than the share may be counted
-pub below_slack : (parts n slack : ℕ) → 0 < n → parts * n ≤ slack → parts ≤ slack
-below_slack parts n slack some le =
-    let one : 1 * parts ≤ n * parts = mul-le-mul_right parts some in
-    omega (arith, one, le)
-
 -- and then no share is lower
 pub still_within : (parts had slack rest n m : ℕ) → m + 1 ≡ n → rest + had ≡ slack → parts * n ≤ slack → had * n ≤ slack → parts * m ≤ rest
 still_within parts had slack rest n m fewer left le had_le =

@@ -1,8 +1,7 @@
 -- What a frozen flow has, and what one that rises.
 use Rattle.std.proofs.Common.{◌≡◌, ℕ, ◌⊎◌, inl, inr, Option, Some, None, IsSome, refl, sym, ap, subst, ◌∙◌}
 use Rattle.std.specs.Option.{ok_or}
-use Rattle.std.specs.Bool.{MatchBool}
-use Rattle.std.specs.Prelude.{Bool, true, false, OnOk, OnSome, Result, Ok, Err, IfErr, IsErrAnd, unwrap_or, IfSome, IfNone, MatchOption}
+use Rattle.std.specs.Prelude.{OnOk, OnSome, Result, Ok, Err, IfErr, IsErrAnd, unwrap_or, IfSome, MatchOption}
 use Rattle.fair_rates.specs.Filling.{at_level}
 use Rattle.fair_rates.specs.declared.error.Error.{Error}
 
@@ -29,11 +28,6 @@ module _ (frozen : ℕ → Option ℕ) (level : ℕ) where
 pub at_any : (frozen : ℕ → Option ℕ) (level other i : ℕ) → IsSome (frozen i) → at_level frozen level i ≡ at_level frozen other i
 at_any frozen level other i h = let v = some_value (frozen i) h in at_some frozen level i v.0 v.1 ∙ sym (at_some frozen other i v.0 v.1)
 
--- what holds of the value, if there is one
-pub if_some : {X : Type 0} (P Q : X → Type 0) (o : Option X) → IfSome o P → ((x : X) → P x → Q x) → IfSome o Q
-if_some P Q None h f = tt
-if_some P Q (Some x) h f = f x h
-
 pub some_of_if : {X : Type 0} (P : X → Type 0) (o : Option X) → IfSome o P → (x : X) → o ≡ Some x → P x
 some_of_if P o h x e = let at : IfSome (Some x) P = subst (λ o. IfSome o P) e h in at
 
@@ -43,17 +37,9 @@ match_some P Q o h x e = let at : MatchOption (Some x) P Q = subst (λ o. MatchO
 pub match_none : {X : Type 0} (P : Type 0) (Q : X → Type 0) (o : Option X) → MatchOption o P Q → o ≡ None → P
 match_none {X} P Q o h e = let at : MatchOption {T = X} None P Q = subst (λ o. MatchOption o P Q) e h in at
 
-pub if_none : {X P : Type 0} (o : Option X) → P → IfNone o P
-if_none None p = p
-if_none (Some x) p = tt
-
 pub not_some : {X : Type 0} (o : Option X) → o ≡ None → IsSome o → ⊥
 not_some None e s = cc
 not_some (Some x) e s = cc
-
-pub if_none_unless : {X P : Type 0} (o : Option X) → ((IsSome o → ⊥) → P) → IfNone o P
-if_none_unless None f = f (λ s. cc)
-if_none_unless (Some x) f = tt
 
 -- ---- results
 
@@ -73,10 +59,6 @@ ok_by (Some x) value error e = cc
 pub on_some_of : {X P : Type 0} (o : Option X) → OnSome o P → (x : X) → o ≡ Some x → P
 on_some_of None h x e = cc
 on_some_of (Some y) h x e = h
-
-pub match_false : (P Q : Type 0) (b : Bool) → b ≡ false → MatchBool b P Q → Q
-match_false P Q true e h = cc
-match_false P Q false e h = h
 
 pub on_ok : {X E P : Type 0} (r : Result X E) → P → OnOk r P
 on_ok (Ok x) p = p

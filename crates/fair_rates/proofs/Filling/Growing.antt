@@ -2,10 +2,10 @@
 use Rattle.std.proofs.Common.{◌≡◌, ℕ, ◌*◌, ◌<◌, ◌≤◌, inl, inr, List, [], ◌∷◌, ◌++◌, length, All, Contains, sum_by, Option, Some, None, IsSome, refl, sym, ap, subst, ◌∙◌, arith, mul-le-mul_right}
 use Rattle.std.specs.Prelude.{IsPermutation, option_map, unwrap_or}
 use Rattle.std.specs.declared.cmp.Reverse.{Reverse}
-use Rattle.std.proofs.lemmas.List.Elements.{All-nil, All-cons, All-push, All-weaker, All-contains, All-contains_itself, Contains-append_left, Contains-push}
+use Rattle.std.proofs.lemmas.List.Elements.{All-cons, All-push, All-weaker, All-contains, All-contains_itself, Contains-append_left, Contains-push}
 use Rattle.std.proofs.lemmas.List.Sorted.{All-permutation, Contains-permutation}
 use Rattle.fair_rates.specs.Fair.{Side, load}
-use Rattle.fair_rates.specs.Filling.{at_level, AllRise, IsWithin, HaveNoMore, KeepsAccount, IsOpen, IsCovered, IsQueue, AreAbove, IsGrown, AreGrown}
+use Rattle.fair_rates.specs.Filling.{at_level, AllRise, HaveNoMore, KeepsAccount, IsOpen, IsCovered, IsQueue, IsGrown, AreGrown}
 use Rattle.fair_rates.specs.declared.bandwidth.filling.open.OpenSide.{OpenSide}
 use Rattle.fair_rates.proofs.Fairness.Sums.{sum_by-scaled}
 use Rattle.fair_rates.proofs.Filling.States.{IsFilledTo}
@@ -23,12 +23,6 @@ grown_once factor opens one = record {
   where
     itself : (o : OpenSide) → IsGrown factor o o
     itself o = record { slack = omega (arith, ap (λ n. o.slack * n) one); rising = refl }
-
-pub grown_none : (factor : ℕ) → AreGrown factor [] []
-grown_none factor = record {
-  each = All-nil (λ b. (a : Reverse OpenSide) × Contains [] a × IsGrown factor a.0 b.0);
-  all = All-nil (λ a. (b : Reverse OpenSide) × Contains [] b × IsGrown factor a.0 b.0);
-}
 
 pub grown_more : (factor : ℕ) (old new later : List (Reverse OpenSide)) (x y : Reverse OpenSide) → IsPermutation (y ∷ new) later → IsGrown factor x.0 y.0 → AreGrown factor old new
     → AreGrown factor (old ++ x ∷ []) later
@@ -157,14 +151,6 @@ module _ (factor : ℕ) (frozen after : ℕ → Option ℕ) (scaled : AreScaled 
       (λ b (a, c, g).
       let was = All-contains (λ (o : Reverse OpenSide). HaveNoMore frozen o.0.slack o.0.rising.items) old a no_more c in
       subst (λ n. HaveNoMore after n b.0.rising.items) (sym g.slack) (subst (λ xs. HaveNoMore after (a.0.slack * factor) xs) (sym g.rising) (no_more_scaled a.0.slack a.0.rising.items was))) new grown.each
-
--- so many parts are within the shares, and so many times as much within the new ones
-pub above_grown : (factor parts : ℕ) (old new : List (Reverse OpenSide)) → AreGrown factor old new → AreAbove parts old → AreAbove (parts * factor) new
-above_grown factor parts old new grown above =
-    All-weaker (λ b. (a : Reverse OpenSide) × Contains old a × IsGrown factor a.0 b.0) (λ b. IsWithin (parts * factor) b.0.slack b.0.rising.items)
-    (λ b (a, c, g).
-    let was = All-contains (λ (o : Reverse OpenSide). IsWithin parts o.0.slack o.0.rising.items) old a above c in
-    omega (arith, mul-le-mul_right factor was, g.slack, ap (λ xs. parts * factor * length xs) g.rising)) new grown.each
 
 pub least_grown : (factor slack n : ℕ) (old new : List (Reverse OpenSide)) → AreGrown factor old new → All (λ o. slack * length o.0.rising.items ≤ o.0.slack * n) old
     → All (λ o. slack * factor * length o.0.rising.items ≤ o.0.slack * n) new

@@ -116,9 +116,6 @@ module _ (users : List ℕ) (levels after : List ℕ) (level_of later : List (Op
     | inr new ↦ ap (λ xs. slice_index xs place) new.0 ∙ get_or_append_left levels (level ∷ []) 0 place inside
   ]
 
-  pub one_each_on : length later ≡ length level_of
-  one_each_on = at_top.one_each
-
   same_frozen : (inside : AreInside levels level_of) (flow : ℕ) (o : Option ℕ) → level_at level_of flow ≡ o → level_at later flow ≡ level_at level_of flow
       → frozen_at after later flow ≡ frozen_at levels level_of flow
   same_frozen inside flow None e same = ap (option_map (slice_index after)) (same ∙ e) ∙ sym (ap (option_map (slice_index levels)) e)

@@ -1,5 +1,5 @@
 -- The promises: sixteen flows with caps below 2^64 fit, and of what the rates of a few flows are whole.
-use Rattle.std.proofs.Common.{◌⊎◌, inl, inr, refl, [], ◌∷◌, AllPairs, ℕ, ◌*◌, ◌^◌, ◌<◌, ◌≤◌, List, length, get_or, All, Contains, subst, arith, lit<, mul-le-mul, le_of_lt}
+use Rattle.std.proofs.Common.{◌⊎◌, inl, inr, refl, [], ◌∷◌, AllPairs, ℕ, ◌*◌, ◌^◌, ◌<◌, ◌≤◌, List, get_or, All, Contains, subst, arith, lit<, mul-le-mul, le_of_lt}
 use Rattle.std.proofs.Math.Nat.{lt_of_le_of_lt}
 use Rattle.std.specs.Prelude.{map}
 use Rattle.fair_rates.specs.Code.{side_of}
@@ -11,15 +11,10 @@ use Rattle.fair_rates.specs.Size.{FairRatesFit, AreWholeOver}
 use Rattle.fair_rates.specs.declared.bandwidth.Rate.{Rate}
 use Rattle.fair_rates.proofs.Denominators.{denominator_of, of_four, of_sixteen, at_most}
 use Rattle.std.proofs.lemmas.Bool.{cases_lt}
-use Rattle.std.proofs.lemmas.List.Elements.{All-contains, All-nil, All-cons, All-map, Contains-append_left, Contains-append_right}
+use Rattle.std.proofs.lemmas.List.Elements.{All-nil, All-cons, All-map, Contains-append_left, Contains-append_right}
 use Rattle.fair_rates.proofs.Size.Exists.{fair_parts}
 use Rattle.fair_rates.proofs.Size.WholeRates.{whole_rates}
-use Rattle.fair_rates.proofs.Size.Users.{AreDistinct, distinct_length, HaveDistinctUsers}
-
--- no side has more users than there are flows
-pub few_users : (flows : ℕ) (sides : List Side) (side : Side) → HaveUsersBelow flows sides → HaveDistinctUsers sides → Contains sides side → length side.users ≤ flows
-few_users flows sides side among distinct listed =
-    distinct_length flows side.users (All-contains (λ s. AreDistinct s.users) sides side distinct listed) (All-contains (λ s. All (λ user. user < flows) s.users) sides side among listed)
+use Rattle.fair_rates.proofs.Size.Users.{AreDistinct, HaveDistinctUsers}
 
 -- ---- sixteen flows
 

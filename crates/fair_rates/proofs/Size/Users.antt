@@ -63,14 +63,6 @@ ones : (xs : List ℕ) → sum_by (λ _. 1) xs ≡ length xs
 ones [] = refl
 ones (x ∷ xs) = omega (arith, sum_by-cons (λ _. 1) x xs, ones xs)
 
-ones_below : (n : ℕ) → sum_below (λ _. 1) n ≡ n
-ones_below zero = refl
-ones_below (suc n) = omega (arith, ones_below n)
-
--- there are no more of them
-pub distinct_length : (n : ℕ) (xs : List ℕ) → AreDistinct xs → All (λ x. x < n) xs → length xs ≤ n
-distinct_length n xs apart among = omega (arith, ones xs, ones_below n, distinct_at_most n xs (λ _. 1) apart among)
-
 -- ---- what changes where each has less
 
 pub below_difference : (f g : ℕ → ℕ) → ((i : ℕ) → g i ≤ f i) → (n : ℕ) → sum_below (λ i. f i - g i) n + sum_below g n ≡ sum_below f n

@@ -7,11 +7,13 @@
 //!
 //! All numbers are whole parts of one byte a second. Where the least share is not whole, the scale
 //! grows, and all that is kept with it.
-ghost use Rattle.std.specs.Prelude.{◌≡◌, ◌<◌, ◌≤◌, ℕ, IfOk, IfSome, OnSome, MatchOption, Option, All, List, ◌∷◌, map, length};
+ghost use Rattle.std.specs.Prelude.{◌≡◌, ◌<◌, ◌≤◌, ℕ, IfOk, IfSome, OnSome, MatchOption, Option, All, List, ◌∷◌, map};
+ghost use Rattle.std.specs.Prelude.{length};
 ghost use Rattle.std.specs.BinaryHeap.{heap_items, heap_len, IsHeap};
 ghost use Rattle.fair_rates.specs.Code.{side_of};
 ghost use Rattle.fair_rates.specs.Fair.{Side as WholeSide};
-ghost use Rattle.fair_rates.specs.Filling.{frozen_at, AreInside, AreAbove, IsQueue, IsSound, IsLeast, AllFilled, AreOpened, AreGrown, AreFilled, queue_cmp};
+ghost use Rattle.fair_rates.specs.Filling.{frozen_at, AreInside, AreAbove, IsQueue, IsSound, IsLeast, AllFilled};
+ghost use Rattle.fair_rates.specs.Filling.{AreOpened, AreGrown, AreFilled, queue_cmp};
 
 mod open;
 mod share;
@@ -55,13 +57,17 @@ fn next_side(
 ) -> Result<Option<OpenSide>, AllocError>
     requires inside { AreInside levels.now level_of.now }
     requires sound { IsSound (length level_of.now) (frozen_at levels.now level_of.now) (heap_items queue.old) }
-    ensures sound { IfOk result (λ next. IfSome next (λ side. IsSound (length level_of.now) (frozen_at levels.now level_of.now) (heap_items queue.new))) }
-    ensures users { IfOk result (λ next. IfSome next (λ side. All (λ flow. flow < length level_of.now) side.rising.items)) }
-    ensures least { IfOk result (λ next. IfSome next (λ side. IsLeast (frozen_at levels.now level_of.now) side (heap_items queue.new))) }
+    ensures sound { IfOk result (λ next. IfSome next
+        (λ side. IsSound (length level_of.now) (frozen_at levels.now level_of.now) (heap_items queue.new))) }
+    ensures users { IfOk result (λ next. IfSome next
+        (λ side. All (λ flow. flow < length level_of.now) side.rising.items)) }
+    ensures least { IfOk result (λ next. IfSome next
+        (λ side. IsLeast (frozen_at levels.now level_of.now) side (heap_items queue.new))) }
     ensures queue { IfOk result (λ next. (sides : List WholeSide) (scale : ℕ)
         → IsQueue sides scale (frozen_at levels.now level_of.now) (heap_items queue.old)
         → MatchOption next (AllFilled sides (frozen_at levels.now level_of.now))
-        (λ side. IsQueue sides scale (frozen_at levels.now level_of.now) (record { 0 = side } ∷ heap_items queue.new))) }
+        (λ side. IsQueue sides scale (frozen_at levels.now level_of.now)
+        (record { 0 = side } ∷ heap_items queue.new))) }
     ensures no_lower { IfOk result (λ next. IfSome next (λ side. (parts : ℕ)
         → AreAbove parts (heap_items queue.old) → AreAbove parts (record { 0 = side } ∷ heap_items queue.new))) }
     ensures fewer { IfOk result (λ next. OnSome next (heap_len queue.new < heap_len queue.old)) }

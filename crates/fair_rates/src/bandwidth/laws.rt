@@ -8,11 +8,16 @@ ghost use Rattle.std.specs.Prelude.{ℕ, ◌≡◌, ◌∷◌, []};
 ghost use Rattle.std.specs.Fn.{CalledAt, CalledAtTwo};
 ghost use Rattle.fair_rates.specs.AllocationLaws.{AllocatesUnderCaps};
 ghost use Rattle.fair_rates.specs.Answers.{NoLink};
-ghost use Rattle.fair_rates.specs.FairExample.{HalfExists, HalvesAreFair, LessIsUnfair, MoreIsUnfair, NoLimitIsUnfair, LimitIsUnfair};
-ghost use Rattle.fair_rates.specs.FairExists.{IsLeastMultiple, AreLeastMultiplesFrom, FairAmountsExist, FairAmountsExistUnderCaps, FairRatesAreWhole};
-ghost use Rattle.fair_rates.specs.FairLaws.{FairIsMaxMin, FairRatesAreMaxMin, OneAllocation, FairRatesAreZeroWhereClosed, FairnessIsOfTheSet};
+ghost use Rattle.fair_rates.specs.FairExample.{HalfExists, HalvesAreFair, LessIsUnfair, MoreIsUnfair};
+ghost use Rattle.fair_rates.specs.FairExample.{NoLimitIsUnfair, LimitIsUnfair};
+ghost use Rattle.fair_rates.specs.FairExists.{IsLeastMultiple, AreLeastMultiplesFrom, FairAmountsExist};
+ghost use Rattle.fair_rates.specs.FairExists.{FairAmountsExistUnderCaps, FairRatesAreWhole};
+ghost use Rattle.fair_rates.specs.FairLaws.{FairIsMaxMin, FairRatesAreMaxMin, OneAllocation};
+ghost use Rattle.fair_rates.specs.FairLaws.{FairRatesAreZeroWhereClosed, FairnessIsOfTheSet};
 ghost use Rattle.fair_rates.specs.FairPart.{FlowsApartAreFair};
-ghost use Rattle.fair_rates.specs.PeerCaps.{AnswersAreThoseOfTheCaps, SidesAreOfTheCaps, UnlimitedWhereUncapped, UnlimitedByIdWhereUncapped, OrderDoesNotMatter, PartIsFair, OthersDoNotMatter, KeepsToItsCap};
+ghost use Rattle.fair_rates.specs.PeerCaps.{AnswersAreThoseOfTheCaps, SidesAreOfTheCaps, UnlimitedWhereUncapped};
+ghost use Rattle.fair_rates.specs.PeerCaps.{UnlimitedByIdWhereUncapped, OrderDoesNotMatter, PartIsFair};
+ghost use Rattle.fair_rates.specs.PeerCaps.{OthersDoNotMatter, KeepsToItsCap};
 
 use crate::peer::Peer;
 

@@ -1,5 +1,6 @@
 //! Fair rates as whole parts.
-ghost use Rattle.std.specs.Prelude.{◌≡◌, ℕ, ◌*◌, ◌<◌, ◌⊎◌, IfOk, IfErr, OnOk, All, Contains, Some, None, [], map, length, replicate};
+ghost use Rattle.std.specs.Prelude.{◌≡◌, ℕ, ◌*◌, ◌<◌, ◌⊎◌, IfOk, IfErr, OnOk, All, Contains, Some, None, [], map};
+ghost use Rattle.std.specs.Prelude.{length, replicate};
 ghost use Rattle.fair_rates.specs.Amount.{parts_over};
 ghost use Rattle.fair_rates.specs.FairParts.{product, level_at, AreRatesAt, HasLargeLevel, AreLevelRates};
 ghost use Rattle.fair_rates.specs.Filling.{AreInside, IsRaised, AreAtTop};
@@ -47,7 +48,8 @@ impl FairParts {
         requires { 0 < factor }
         ensures scale { OnOk result (self.new.scale ≡ self.old.scale * factor) }
         ensures growth { OnOk result (product self.new.growth.items ≡ product self.old.growth.items * factor) }
-        ensures factors { OnOk result (All (λ n. 0 < n) self.old.growth.items → All (λ n. 0 < n) self.new.growth.items) }
+        ensures factors { OnOk result (All (λ n. 0 < n) self.old.growth.items →
+            All (λ n. 0 < n) self.new.growth.items) }
         ensures levels { OnOk result (self.new.levels.items ≡ map (λ level. level * factor) self.old.levels.items) }
         ensures level_of { OnOk result (self.new.level_of.items ≡ self.old.level_of.items) }
     {
@@ -63,7 +65,8 @@ impl FairParts {
     pub(crate) fn freeze(&mut self, users: &[usize], level: Natural) -> Result<(), AllocError>
         requires { All (λ flow. flow < length self.old.level_of.items) users.now }
         ensures raised { OnOk result (IsRaised self.old.levels.items self.new.levels.items level) }
-        ensures at_top { OnOk result (AreAtTop users.now self.old.level_of.items self.new.level_of.items self.new.levels.items) }
+        ensures at_top { OnOk result
+            (AreAtTop users.now self.old.level_of.items self.new.level_of.items self.new.levels.items) }
         ensures scale { OnOk result (self.new.scale ≡ self.old.scale) }
         ensures growth { OnOk result (self.new.growth.items ≡ self.old.growth.items) }
     {
@@ -81,7 +84,8 @@ impl FairParts {
         requires factors { All (λ factor. 0 < factor) self.now.growth.items }
         requires inside { AreInside self.now.levels.items self.now.level_of.items }
         ensures rates { IfOk result (λ rates. AreRatesAt self.now rates.items) }
-        ensures refused { IfErr result (λ e. (e ≡ Error.OutOfMemory) ⊎ ((e ≡ Error.NumberTooLarge) × HasLargeLevel self.now)) }
+        ensures refused { IfErr result (λ e. (e ≡ Error.OutOfMemory)
+            ⊎ ((e ≡ Error.NumberTooLarge) × HasLargeLevel self.now)) }
     {
         let fractions = self.fractions(alloc)?;
         let mut rates = Vec::with_capacity(alloc, self.level_of.len())?;
@@ -99,7 +103,8 @@ impl FairParts {
         requires scale { self.now.scale ≡ product self.now.growth.items }
         requires factors { All (λ factor. 0 < factor) self.now.growth.items }
         ensures levels { IfOk result (λ fractions. AreLevelRates self.now.scale self.now.levels.items fractions.items) }
-        ensures refused { IfErr result (λ e. (e ≡ Error.OutOfMemory) ⊎ ((e ≡ Error.NumberTooLarge) × HasLargeLevel self.now)) }
+        ensures refused { IfErr result (λ e. (e ≡ Error.OutOfMemory)
+            ⊎ ((e ≡ Error.NumberTooLarge) × HasLargeLevel self.now)) }
     {
         let mut fractions = Vec::with_capacity(alloc, self.levels.len())?;
         for level in &self.levels {

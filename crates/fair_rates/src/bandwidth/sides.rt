@@ -1,7 +1,8 @@
 //! What limits flows: the sides that the caps make.
 ghost use Rattle.std.specs.Prelude.{◌≡◌, OnOk, ◌<◌, List, Some, IfOk, IfErr, map, All, AllPairs, length};
 ghost use Rattle.std.specs.Fn.{CalledAt, TakesAt, CalledAtTwo, TakesAtTwo};
-ghost use Rattle.fair_rates.specs.Answers.{Answered, AnswerInOrder, CallableOnEach, CallableOnEachPair, origins, recipients, pairs};
+ghost use Rattle.fair_rates.specs.Answers.{Answered, AnswerInOrder, CallableOnEach, CallableOnEachPair, origins};
+ghost use Rattle.fair_rates.specs.Answers.{recipients, pairs};
 ghost use Rattle.fair_rates.specs.Sides.{sides_of};
 ghost use Rattle.fair_rates.specs.Code.{side_of};
 ghost use Rattle.fair_rates.specs.Registering.{FindsSides, Registers};
@@ -82,9 +83,11 @@ where
     requires ingress { CallableOnEach (TakesAt I.FnMut) (CalledAt I.FnMut) ingress_cap (recipients flows.now) }
     requires link { CallableOnEachPair (TakesAtTwo L.FnMut) (CalledAtTwo L.FnMut) link_cap (pairs flows.now) }
     ensures sides { IfOk result (λ sides. (answered : List (Answered P))
-        × AnswerInOrder (CalledAt E.FnMut) (CalledAt I.FnMut) (CalledAtTwo L.FnMut) (record { egress = egress_cap; ingress = ingress_cap; link = link_cap }) flows.now answered
+        × AnswerInOrder (CalledAt E.FnMut) (CalledAt I.FnMut) (CalledAtTwo L.FnMut)
+        (record { egress = egress_cap; ingress = ingress_cap; link = link_cap }) flows.now answered
         × (map side_of sides.items ≡ sides_of P.cmp answered)) }
-    ensures users_are_flows { IfOk result (λ sides. All (λ side. All (λ flow. flow < length flows.now) side.users.items) sides.items) }
+    ensures users_are_flows { IfOk result (λ sides. All
+        (λ side. All (λ flow. flow < length flows.now) side.users.items) sides.items) }
     ensures users_rise { IfOk result (λ sides. All (λ side. AllPairs (λ a b. a < b) side.users.items) sides.items) }
     ensures refused { IfErr result (λ e. e ≡ Error.OutOfMemory) }
 {

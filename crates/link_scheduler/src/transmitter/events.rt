@@ -1,5 +1,5 @@
 //! The event rule: what calls do, at any moments.
-ghost use Rattle.std.specs.Prelude.{◌≡◌, ℕ, ◌+◌, nat_lt, if◌then◌else◌, List, [], ◌∷◌, ◌++◌, map, true, false, IfOk, IfErr, OnOk, OnErr, IsTrue, ◌&&◌, is_some};
+ghost use Rattle.std.specs.Prelude.{◌≡◌, ◌↔◌, ℕ, ◌+◌, nat_lt, if◌then◌else◌, List, [], ◌∷◌, ◌++◌, map, true, false, IfOk, IfErr, OnOk, OnErr, IsTrue, ◌&&◌, is_some};
 ghost use Rattle.link_simulation.specs.World.{Completed, goes, meets, last_moment, later_of as latest, is_late, completed};
 ghost use Rattle.link_simulation.specs.WorldMessages.{Message as AnyMessage};
 ghost use Rattle.link_simulation.specs.WorldPlanned.{next_of};
@@ -21,7 +21,7 @@ use std::collections::VecDeque;
 use std::rc::Rc;
 
 impl<P: Peer> Working<P> {
-    ghost use Rattle.link_scheduler.specs.Working.{planned, messages, may_launch_first, ready_messages};
+    ghost use Rattle.link_scheduler.specs.Working.{planned, messages, may_launch_first, ready_messages, IsQuiet};
     ghost use Rattle.link_scheduler.specs.AtRest.{is_sending};
 
     /// Whether the first waiting message of the pair may start: the pair is idle, and the message
@@ -252,6 +252,21 @@ impl<P: Peer> Working<P> {
                 self.wake(moment, ended)
             }
         }
+    }
+
+    /// Whether no event is due up to `now`, and no waiting message may start at it.
+    pub(crate) fn is_quiet(&self, now: u64) -> bool
+        ensures quiet { (result ≡ true) ↔ IsQuiet P.cmp (planned P.cmp self.now) now }
+    {
+        self.due(now).is_none() && !self.is_ready(now)
+    }
+
+    /// Time goes on to `now`, up to which nothing happens: the start is planned anew.
+    pub(crate) fn rest(&mut self, now: u64)
+        requires { IsQuiet P.cmp (planned P.cmp self.old) now }
+        ensures { Advances P.cmp now (planned P.cmp self.old) 0 (goes [] (planned P.cmp self.new)) }
+    {
+        self.look(now);
     }
 
     /// All events up to `now` happen, and what is ready then starts. Answers the number of events,

@@ -1,8 +1,9 @@
 //! Which pairs are ready, and when the next one is.
-ghost use Rattle.std.specs.Prelude.{◌≡◌, ℕ, true, false, IfOk, IfErr, OnOk};
+ghost use Rattle.std.specs.Prelude.{◌≡◌, ◌↔◌, ℕ, true, false, IfOk, IfErr, OnOk};
 ghost use Rattle.std.specs.List.{AllZip, list_any};
 ghost use Rattle.fair_rates.specs.Sides.{same_peer};
 ghost use Rattle.link_simulation.specs.WorldEvents.{Looks};
+ghost use Rattle.link_simulation.specs.WorldPlanned.{SomeReadyAt};
 ghost use Rattle.link_scheduler.specs.Idle.{is_listed, is_of, AreAtRest, idle_from as idle_since};
 ghost use Rattle.link_scheduler.specs.InFlight.{in_flight};
 ghost use Rattle.link_scheduler.specs.Moments.{first_moment};
@@ -115,6 +116,16 @@ impl<P: Peer> Working<P> {
         ensures { Looks P.cmp now (planned P.cmp self.old) (planned P.cmp self.new) }
     {
         self.start = self.idle.first().map(|moment| now.max(moment));
+    }
+
+    /// Whether some waiting message may start at `now`.
+    pub(crate) fn is_ready(&self, now: u64) -> bool
+        ensures ready { (result ≡ true) ↔ SomeReadyAt P.cmp (planned P.cmp self.now) now }
+    {
+        match self.idle.first() {
+            Some(moment) => moment <= now,
+            None => false,
+        }
     }
 
     /// The idle pairs that are ready, in the order of pairs.

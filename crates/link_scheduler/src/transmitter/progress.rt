@@ -39,7 +39,7 @@ impl<P: Peer> Clone for Progress<P> {
 }
 
 /// The rate at that place. None is a rate of zero.
-fn rate_at(levels: &[Natural], level: Option<usize>) -> Option<&Natural>
+pub(super) fn rate_at(levels: &[Natural], level: Option<usize>) -> Option<&Natural>
     ensures { MatchOption result (parts_of_level levels.now level ≡ 0) (λ rate. rate.now ≡ parts_of_level levels.now level) }
 {
     levels.get(level?)

@@ -28,7 +28,8 @@ pub(crate) fn transcript(
 
 /// Prints the line of a call, and what it is replied.
 fn tell(text: &mut Vec<u8>, asked: &Asked<'_>, reply: &Reply<u64>) -> io::Result<()>
-    ensures { OnOk result (text.new.items ≡ text.old.items ++ (call_line asked.now.call ++ reply_text (reply_of reply.now))) }
+    ensures { OnOk result (text.new.items ≡ text.old.items
+        ++ (call_line asked.now.call ++ reply_text (reply_of reply.now))) }
 {
     text.extend_from_slice(asked.line)?;
     text.push(NEWLINE)?;

@@ -1,7 +1,8 @@
 //! What a script prints.
 ghost use Rattle.std.specs.Prelude.{◌≡◌, [], ◌∷◌, ◌++◌, IfOk, IfErr, OnOk};
 ghost use Rattle.std.specs.Io.KnownBytes.{Appends};
-ghost use Rattle.link_scripts.specs.Answer.{rate_line, rates_text, moment_word, done_line, done_text, next_line, answer_text, refusal_line};
+ghost use Rattle.link_scripts.specs.Answer.{rate_line, rates_text, moment_word, done_line, done_text, next_line};
+ghost use Rattle.link_scripts.specs.Answer.{answer_text, refusal_line};
 ghost use Rattle.fair_rates.specs.Refusal.{refusal_number};
 
 use fair_rates::bandwidth::Rate;
@@ -25,8 +26,10 @@ pub(crate) enum Answer {
 
 /// Prints what a command answered, or why it was refused, a line each.
 pub(crate) fn print<W: Write>(output: &mut W, answer: Result<Answer, Error>) -> io::Result<()>
-    ensures answered { IfOk answer (λ a. OnOk result (Appends (W.contents output.old) (W.contents output.new) (answer_text a))) }
-    ensures refused { IfErr answer (λ e. OnOk result (Appends (W.contents output.old) (W.contents output.new) (refusal_line e))) }
+    ensures answered { IfOk answer (λ a. OnOk result
+        (Appends (W.contents output.old) (W.contents output.new) (answer_text a))) }
+    ensures refused { IfErr answer (λ e. OnOk result
+        (Appends (W.contents output.old) (W.contents output.new) (refusal_line e))) }
 {
     match answer {
         Ok(Answer::Nothing) => Ok(()),

@@ -1,6 +1,7 @@
 //! The commands of a script.
 ghost use Rattle.std.specs.Prelude.{◌≡◌, ◌↔◌, Some};
-ghost use Rattle.link_scripts.specs.Script.{Takes, line_of, command_words, flow_words, parcel_words, IsInRange, IsFlowInRange, IsParcelInRange};
+ghost use Rattle.link_scripts.specs.Script.{Takes, line_of, command_words, flow_words, parcel_words, IsInRange};
+ghost use Rattle.link_scripts.specs.Script.{IsFlowInRange, IsParcelInRange};
 ghost use Rattle.link_scripts.specs.Words.{words_left};
 
 use crate::linkrun::word::Words;
@@ -8,7 +9,7 @@ use fair_rates::bandwidth::Flow;
 
 /// A command of a script.
 #[derive(Debug, Drop)]
-pub(crate) enum Command {
+pub enum Command {
     /// Adds a flow to the end of the list.
     Flow(Flow<u64>),
     /// From now on a peer's egress has this cap, in bytes a second.
@@ -36,7 +37,7 @@ pub(crate) enum Command {
 /// What a script asks of the scheduler. Moments are in nanoseconds since the start, and caps in
 /// bytes a second.
 #[derive(Debug, Drop)]
-pub(crate) enum Call {
+pub enum Call {
     /// Sets the caps of a peer.
     Limit {
         now: u64,
@@ -63,20 +64,20 @@ pub(crate) enum Call {
 
 /// A message of zero bytes that is sent.
 #[derive(Debug, Drop)]
-pub(crate) struct Parcel {
-    pub(crate) now: u64,
-    pub(crate) origin: u64,
-    pub(crate) recipient: u64,
-    pub(crate) channel: u64,
-    pub(crate) length: usize,
+pub struct Parcel {
+    pub now: u64,
+    pub origin: u64,
+    pub recipient: u64,
+    pub channel: u64,
+    pub length: usize,
     /// In nanoseconds.
-    pub(crate) latency: u64,
-    pub(crate) should_deliver: bool,
+    pub latency: u64,
+    pub should_deliver: bool,
 }
 
 impl Command {
     /// The command that a line says, where the line is of the language.
-    pub(crate) fn parse(line: &[u8]) -> Option<Command>
+    pub fn parse(line: &[u8]) -> Option<Command>
         ensures { (command : Command) → (result ≡ Some command) ↔ ((line.now ≡ line_of command) × IsInRange command) }
     {
         let mut words = Words::of(str::from_utf8(line).ok()?);

@@ -11,14 +11,14 @@ use std::io::{BufRead, BufReader, BufWriter, Read, Write};
 const MOST_BYTES: usize = 256;
 
 /// The most bytes that are read of a line.
-pub(crate) const MOST_READ: usize = MOST_BYTES + 1;
+pub const MOST_READ: usize = MOST_BYTES + 1;
 
 /// The byte that ends a line.
 const NEWLINE: u8 = b'\n';
 
 /// What ended a line.
 #[derive(Clone, Copy, Debug, PartialEq, Eq)]
-pub(crate) enum LineEnd {
+pub enum LineEnd {
     /// The end byte.
     Newline,
     /// The end of the input.
@@ -37,7 +37,8 @@ pub(crate) fn next_line<R: Read, W: Write + Drop>(
 ) -> io::Result<LineEnd>
     ensures length { IfOk result (λ end. IsLengthOf end (length line.new.items)) }
     ensures one_line { IfOk result (λ _. LacksEndByte line.new.items) }
-    ensures front { IfOk result (λ end. IfSome (reader_remaining R.remaining input.old) (IsFrontOf end line.new.items)) }
+    ensures front { IfOk result (λ end. IfSome (reader_remaining R.remaining input.old)
+        (IsFrontOf end line.new.items)) }
     ensures taken { OnOk result
         (IsTaken input.old line.new.items input.new ⊎ (writer_buffer output.new ≡ [])) }
     ensures written { AsksAfterWriting input.old input.new output.new }
@@ -57,7 +58,7 @@ pub(crate) fn next_line<R: Read, W: Write + Drop>(
 
 /// Reads the next line, without its end byte, in the place of what `line` held. It takes memory
 /// only where `line` has no room for 257 bytes.
-pub(crate) fn read_line<B: BufRead>(input: &mut B, line: &mut Vec<u8>) -> io::Result<LineEnd>
+pub fn read_line<B: BufRead>(input: &mut B, line: &mut Vec<u8>) -> io::Result<LineEnd>
     ensures length { IfOk result (λ end. IsLengthOf end (length line.new.items)) }
     ensures one_line { IfOk result (λ _. LacksEndByte line.new.items) }
     ensures front { IfOk result (λ end. IfSome (B.remaining input.old) (IsFrontOf end line.new.items)) }

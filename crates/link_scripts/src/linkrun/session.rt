@@ -1,12 +1,14 @@
 //! What a script has said so far.
-ghost use Rattle.std.specs.Prelude.{◌≡◌, ℕ, [], IfOk, IfErr, OnOk, OnErr};
+ghost use Rattle.std.specs.Prelude.{◌≡◌, ◌⊎◌, ℕ, [], IfOk, IfErr, OnOk, OnErr};
 ghost use Rattle.std.specs.Ordering.{nat_cmp};
 ghost use Rattle.std.specs.BTreeMap.{get, IsUnchanged};
 ghost use Rattle.fair_rates.specs.Caps.{no_caps};
 ghost use Rattle.link_scheduler.specs.Pairs.{pair_cmp};
 ghost use Rattle.fair_rates.specs.PeerCaps.{IsFairById};
+ghost use Rattle.fair_rates.specs.TooLarge.{AreTooLarge};
 ghost use Rattle.link_scheduler.specs.State.{planned_of};
-ghost use Rattle.link_scripts.specs.Session.{Says, SaysSame, KeepsPlanned, SaysAfter, AnswersTo, MayRefuse, MayRefuseRates, caps_of, with_cap, with_link};
+ghost use Rattle.link_scripts.specs.Session.{Says, SaysSame, KeepsPlanned, SaysAfter, AnswersTo, MayRefuse, caps_of};
+ghost use Rattle.link_scripts.specs.Session.{with_cap, with_link};
 ghost use Rattle.link_simulation.specs.WorldPlanned.{new_planned};
 
 use crate::linkrun::answer::Answer;
@@ -78,8 +80,10 @@ impl Session {
 
     /// The rates of the flows, by id.
     fn rates(&self) -> Result<BTreeMap<u64, Rate>, Error>
-        ensures fair { IfOk result (λ rates. IsFairById nat_cmp (caps_of self.now) self.now.flows.items (get nat_cmp rates)) }
-        ensures refused { IfErr result (MayRefuseRates (caps_of self.now) self.now.flows.items) }
+        ensures fair { IfOk result (λ rates. IsFairById nat_cmp (caps_of self.now) self.now.flows.items
+            (get nat_cmp rates)) }
+        ensures refused { IfErr result (λ e. (e ≡ Error.OutOfMemory)
+            ⊎ ((e ≡ Error.NumberTooLarge) × AreTooLarge nat_cmp (caps_of self.now) self.now.flows.items)) }
     {
         bandwidth::allocate_linked(
             self.alloc,
@@ -115,7 +119,8 @@ fn set_link(
     recipient: u64,
     cap: Option<u128>,
 ) -> Result<(), Error>
-    ensures set { OnOk result ((p q : ℕ) → get (pair_cmp nat_cmp) caps.new (p, q) ≡ with_link (λ r s. get (pair_cmp nat_cmp) caps.old (r, s)) origin recipient cap p q) }
+    ensures set { OnOk result ((p q : ℕ) → get (pair_cmp nat_cmp) caps.new (p, q)
+        ≡ with_link (λ r s. get (pair_cmp nat_cmp) caps.old (r, s)) origin recipient cap p q) }
     ensures kept { OnErr result (IsUnchanged caps.old caps.new) }
     ensures refused { IfErr result (λ e. e ≡ Error.OutOfMemory) }
 {

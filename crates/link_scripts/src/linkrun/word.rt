@@ -2,7 +2,8 @@
 ghost use Rattle.std.specs.Prelude.{◌≡◌, ◌↔◌, ℕ, ◌^◌, ◌<◌, ◌++◌, [], ◌∷◌, Some, IfNone, option_to_list};
 ghost use Rattle.std.specs.Option.{option_copied};
 ghost use Rattle.std.specs.Str.Iter.{split_pattern};
-ghost use Rattle.link_scripts.specs.Script.{Takes, number_word, cap_word, flag_word, IsNumberInRange, IsCapInRange, IsSmallCapInRange, IsLengthInRange};
+ghost use Rattle.link_scripts.specs.Script.{Takes, number_word, cap_word, flag_word, IsNumberInRange, IsCapInRange};
+ghost use Rattle.link_scripts.specs.Script.{IsSmallCapInRange, IsLengthInRange};
 
 use std::str::Split;
 
@@ -56,7 +57,8 @@ impl<'a> Words<'a> {
 
     /// Takes the next word, a cap in bytes a second of 64 bits or `-` for none.
     pub(crate) fn small_cap(&mut self) -> Option<Option<usize>>
-        ensures { Takes (λ cap. cap_word cap ∷ []) IsSmallCapInRange (words_left self.old) result (words_left self.new) }
+        ensures { Takes (λ cap. cap_word cap ∷ []) IsSmallCapInRange (words_left self.old) result
+            (words_left self.new) }
     {
         match self.cap()? {
             None => Some(None),
@@ -77,7 +79,8 @@ impl<'a> Words<'a> {
 
     /// Takes the next word, `0` or `1`.
     pub(crate) fn flag(&mut self) -> Option<bool>
-        ensures { Takes (λ flag. flag_word flag ∷ []) (λ _. Unit {0}) (words_left self.old) result (words_left self.new) }
+        ensures { Takes (λ flag. flag_word flag ∷ []) (λ _. Unit {0})
+            (words_left self.old) result (words_left self.new) }
     {
         match self.next()? {
             "0" => Some(false),

@@ -8,21 +8,21 @@ use std::alloc::Global;
 /// As many zero bytes as the longest message so far. Each message sees a part of them, so a
 /// script of many long messages takes the memory of one.
 #[derive(Drop)]
-pub(crate) struct Zeros {
+pub struct Zeros {
     bytes: Bytes,
     pub ghost zeros: { bytes ≡ replicate (length bytes) 0 },
 }
 
 impl Zeros {
     /// No bytes yet.
-    pub(crate) fn new() -> Zeros {
+    pub fn new() -> Zeros {
         Zeros {
             bytes: Bytes::new(),
         }
     }
 
     /// So many zero bytes.
-    pub(crate) fn part(&mut self, alloc: Global, length: usize) -> Result<Bytes, Error>
+    pub fn part(&mut self, alloc: Global, length: usize) -> Result<Bytes, Error>
         ensures bytes { IfOk result (λ bytes. bytes ≡ replicate length 0) }
         ensures refused { IfErr result (λ e. e ≡ Error.OutOfMemory) }
     {

@@ -1,5 +1,5 @@
 -- Replies that do not agree with the simulation, found by computing: for worked examples.
-use Rattle.std.proofs.Common.{◌≡◌, ℕ, ◌-◌, ◌<◌, ◌≤◌, List, [], ◌∷◌, ◌++◌, Bool, true, false, not, Option, Some, None, refl, sym, ◌∙◌, subst}
+use Rattle.std.proofs.Common.{◌≡◌, ℕ, ◌-◌, ◌<◌, ◌≤◌, List, [], ◌∷◌, Bool, true, false, not, Option, Some, None, refl, sym, ◌∙◌, subst}
 use Rattle.std.specs.Prelude.{◌&&◌, ◌||◌, ◌==◌, nat_le, nat_lt, IfSome}
 use Rattle.std.specs.List.{AllZip}
 use Rattle.std.specs.declared.cmp.Ordering.{Ordering}
@@ -138,7 +138,8 @@ module _ {P : Type 0} (cmp : P → P → Ordering) (order : IsTotalOrder cmp) (p
   either true false e is next = cc
   either false b e is next = cc
 
-  in_turn : (n : ℕ) (w : World P) (now : ℕ) → IsSound cmp w → before_next n w now ≡ true → (w.moment ≤ now)
+  -- a call before the next event is in turn
+  pub in_turn : (n : ℕ) (w : World P) (now : ℕ) → IsSound cmp w → before_next n w now ≡ true → (w.moment ≤ now)
       × IsBeforeNext cmp now w
   in_turn n w now sound e =
       let two : ((nat_le w.moment now && may_seek cmp order plan n w) ≡ true)

@@ -149,10 +149,6 @@ module _ {P : Type 0} (cmp : P → P → Ordering) (order : IsTotalOrder cmp) wh
       let a : Accounted t (launched cmp t q n) leavers new = accounts_same t (launched cmp t p m) (launched cmp t q n) leavers new (launched_same cmp order p q same t m n alike) account in
       (goes a.0 a.1, starts (sym (may_same cmp order p q same t m n alike) ∙ may) (subst (λ (k : ℕ). k < last_moment) same.next_id below) a.2, (a.3, a.4))
 
-  pub launches_same : (t : ℕ) (p q : Planned P) (o r : Option (Message P)) (course : Course (Message P) (Planned P)) → IsSamePlanned cmp p q → OptionsAlike (SameMessage cmp) o r
-      → Launches cmp t p o course → (c : Course (Message P) (Planned P)) × Launches cmp t q r c × IsSameLaunch cmp order course c
-  launches_same t p q o r course same next launch = launch_same launch q r same next
-
   pub preceded_same : (cs ds : List (Completed P)) (x y : Course (Completed P) (Planned P)) → AllZip (SameCompletion cmp) cs ds → IsSameCourse cmp x y
       → IsSameCourse cmp (preceded cs x) (preceded ds y)
   preceded_same cs ds (goes es p) (goes fs q) all same = (zip-append (SameCompletion cmp) cs es ds fs all same.0, same.1)
@@ -178,10 +174,6 @@ module _ {P : Type 0} (cmp : P → P → Ordering) (order : IsTotalOrder cmp) wh
       let later : (c : Course (Completed P) (Planned P)) × Finishes cmp t (ns ++ went.0) went.1 c × IsSameCourse cmp rest c
       = finish_same finishes (ns ++ went.0) went.1 went.4 (zip-append (SameMessage cmp) ms more ns went.0 all.1 went.3) in
       (preceded (completed cmp t n ∷ []) later.0, completes {rest = later.0} (sym (late_alike cmp order t m n all.0) ∙ is) went.2 later.1, preceded_same (completed cmp t m ∷ []) (completed cmp t n ∷ []) rest later.0 (completed_alike cmp order t m n all.0, tt) later.2)
-
-  pub finishes_same : (t : ℕ) (ms ns : List (Message P)) (p q : Planned P) (course : Course (Completed P) (Planned P)) → IsSamePlanned cmp p q → AllZip (SameMessage cmp) ms ns
-      → Finishes cmp t ms p course → (c : Course (Completed P) (Planned P)) × Finishes cmp t ns q c × IsSameCourse cmp course c
-  finishes_same t ms ns p q course same all finishes = finish_same finishes ns q same all
 
   -- ---- waking and settling
 
@@ -221,10 +213,6 @@ module _ {P : Type 0} (cmp : P → P → Ordering) (order : IsTotalOrder cmp) wh
       let a : Accounted t q leavers mid = accounts_same t p q leavers mid same accounts in
       let done : (c : Course (Completed P) (Planned P)) × Finishes cmp t a.0 a.1 c × IsSameCourse cmp course c = finish_same finishes a.0 a.1 a.4 a.3 in
       (done.0, settling a.2 done.1, done.2)
-
-  pub settles_same : (t : ℕ) (p q : Planned P) (course : Course (Completed P) (Planned P)) → IsSamePlanned cmp p q → Settles cmp t p course
-      → (c : Course (Completed P) (Planned P)) × Settles cmp t q c × IsSameCourse cmp course c
-  settles_same t p q course same settles = settle_same settles q same
 
   -- ---- calls
 

@@ -26,8 +26,10 @@ pub fn a_lost_completion_does_not_agree()
 /// Nor does one with the completions of an instant in another order.
 pub fn a_wrong_order_does_not_agree()
     ensures { ¬ Agrees nat_cmp (new_world 0)
-        (call_limit 0 1 a_byte_a_nanosecond None ∷ call_enqueue 0 (message 1 3 1 0) ∷ call_enqueue 0 (message 1 2 1 0) ∷ call_advance 2 ∷ [])
-        (reply_done [] ∷ reply_done [] ∷ reply_done [] ∷ reply_done (arrives (message 1 2 1 0) 2 ∷ arrives (message 1 3 1 0) 2 ∷ []) ∷ []) }
+        (call_limit 0 1 a_byte_a_nanosecond None ∷ call_enqueue 0 (message 1 3 1 0) ∷ call_enqueue 0 (message 1 2 1 0)
+        ∷ call_advance 2 ∷ [])
+        (reply_done [] ∷ reply_done [] ∷ reply_done []
+        ∷ reply_done (arrives (message 1 2 1 0) 2 ∷ arrives (message 1 3 1 0) 2 ∷ []) ∷ []) }
 {}
 
 /// Nor does a wrong next event.
@@ -40,8 +42,10 @@ pub fn a_wrong_next_event_does_not_agree()
 /// Nor does a follower that starts too early, and so is done at 6.
 pub fn an_early_follower_does_not_agree()
     ensures { ¬ Agrees nat_cmp (new_world 0)
-        (call_limit 0 1 a_byte_a_nanosecond None ∷ call_enqueue 0 (message 1 2 4 3) ∷ call_enqueue 0 (message 1 2 2 1) ∷ call_advance 6 ∷ [])
-        (reply_done [] ∷ reply_done [] ∷ reply_done [] ∷ reply_done (arrives (message 1 2 4 3) 7 ∷ arrives (message 1 2 2 1) 7 ∷ []) ∷ []) }
+        (call_limit 0 1 a_byte_a_nanosecond None ∷ call_enqueue 0 (message 1 2 4 3) ∷ call_enqueue 0 (message 1 2 2 1)
+        ∷ call_advance 6 ∷ [])
+        (reply_done [] ∷ reply_done [] ∷ reply_done []
+        ∷ reply_done (arrives (message 1 2 4 3) 7 ∷ arrives (message 1 2 2 1) 7 ∷ []) ∷ []) }
 {}
 
 /// Nor does one that takes no notice of new caps between two events.

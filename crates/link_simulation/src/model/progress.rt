@@ -9,15 +9,21 @@ ghost use Rattle.link_simulation.specs.WorldPlanned.{Planned, next_event, IsPlan
 ghost use Rattle.link_simulation.specs.WorldRates.{Parts, AreFair};
 ghost use Rattle.link_simulation.specs.WorldTime.{NextIs};
 
-/// All messages have fair rates under all caps. So in each world each call has a course at each moment, and some event comes next or none ever does.
+/// All messages have fair rates under all caps. So in each world each call has a course at each moment, and some
+/// event comes next or none ever does.
 pub fn the_simulation_never_stops<P: Ord>()
-    ensures rates { (caps : Caps P) (messages : List (Message P)) → (per : ℕ) × (rates : Parts) × AreFair P.cmp caps messages per rates }
-    ensures course { (w : World P) (call : Call P) (now : ℕ) → (course : Course (Completed P) (World P)) × Runs P.cmp w call now course }
+    ensures rates { (caps : Caps P) (messages : List (Message P)) →
+        (per : ℕ) × (rates : Parts) × AreFair P.cmp caps messages per rates }
+    ensures course { (w : World P) (call : Call P) (now : ℕ) →
+        (course : Course (Completed P) (World P)) × Runs P.cmp w call now course }
     ensures next { (w : World P) → (next : Option ℕ) × NextIs P.cmp w next }
 {}
 
-/// Each event of an advance leaves fewer that may come, so a loop that advances to the next event, as long as there is one, ends.
+/// Each event of an advance leaves fewer that may come, so a loop that advances to the next event, as long as there
+/// is one, ends.
 pub fn events_end<P: Ord>()
-    ensures counted { (p q : Planned P) (now events : ℕ) (cs : List (Completed P)) → ∥ IsPlanned P.cmp p ∥₁ → GoesCounted P.cmp now p events cs q → events + most_events q ≤ most_events p }
-    ensures falls { (p q : Planned P) (now : ℕ) (cs : List (Completed P)) → ∥ IsPlanned P.cmp p ∥₁ → next_event p ≡ Some now → Goes P.cmp p (call_advance now) cs q → most_events q < most_events p }
+    ensures counted { (p q : Planned P) (now events : ℕ) (cs : List (Completed P)) → ∥ IsPlanned P.cmp p ∥₁ →
+        GoesCounted P.cmp now p events cs q → events + most_events q ≤ most_events p }
+    ensures falls { (p q : Planned P) (now : ℕ) (cs : List (Completed P)) → ∥ IsPlanned P.cmp p ∥₁ →
+        next_event p ≡ Some now → Goes P.cmp p (call_advance now) cs q → most_events q < most_events p }
 {}

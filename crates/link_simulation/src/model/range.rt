@@ -2,7 +2,8 @@
 ghost use Rattle.std.specs.Prelude.{◌≡◌, ℕ, ◌<◌, ◌^◌, List, [], ◌∷◌, None, replicate};
 ghost use Rattle.std.specs.Ordering.{nat_cmp};
 ghost use Rattle.link_simulation.specs.World.{Completed, Course, goes, new_world};
-ghost use Rattle.link_simulation.specs.WorldCalls.{Call, call_limit, call_limit_link, call_enqueue, call_advance, call_next};
+ghost use Rattle.link_simulation.specs.WorldCalls.{Call, call_limit, call_limit_link, call_enqueue, call_advance};
+ghost use Rattle.link_simulation.specs.WorldCalls.{call_next};
 ghost use Rattle.fair_rates.specs.declared.error.Error.{Error as AnyError};
 ghost use Rattle.fair_rates.specs.declared.error.Error.TheVariants.{OutOfMemory, MomentTooLate};
 ghost use Rattle.link_simulation.specs.WorldPlanned.{Planned, new_planned};
@@ -13,7 +14,8 @@ ghost use Rattle.link_simulation.specs.WorldReplies.{reply_done, reply_refused, 
 ghost use Rattle.link_simulation.specs.WorldRows.{message};
 ghost use Rattle.link_simulation.specs.ReplayLaws.{RefusesForMemoryAlone};
 
-/// A call in the range on a planned world in the range, its own message counted, goes and leaves it in the range, and may be refused for want of memory alone. A new planned world is in the range.
+/// A call in the range on a planned world in the range, its own message counted, goes and leaves it in the range, and
+/// may be refused for want of memory alone. A new planned world is in the range.
 pub fn calls_in_the_range_are_not_refused<P: Ord>()
     ensures new { (id : ℕ) → id < 2 ^ 64 → IsInRange {P = P} (new_planned id) }
     ensures kept { (p : Planned P) (call : Call P) (course : Course (Completed P) (Planned P)) → IsCallInRange p call →
@@ -24,7 +26,8 @@ pub fn calls_in_the_range_are_not_refused<P: Ord>()
 
 /// The range reaches to the last nanosecond before 2^63, to as many messages as there are flow ids, and to the last id.
 pub fn the_range_reaches_so_far()
-    ensures calls { AreInRange (call_limit 9_223_372_036_854_775_807 1 None None ∷ call_limit_link 9_223_372_036_854_775_807 1 2 None
+    ensures calls { AreInRange (call_limit 9_223_372_036_854_775_807 1 None None
+        ∷ call_limit_link 9_223_372_036_854_775_807 1 2 None
         ∷ call_enqueue 9_223_372_036_854_775_807 (message 1 2 0 9_223_372_036_854_775_807)
         ∷ call_advance 9_223_372_036_854_775_807 ∷ call_next ∷ []) }
     ensures messages { (n : ℕ) → n < 2 ^ 64 → AreInRange (replicate n (call_enqueue 0 (message 1 2 0 0))) }

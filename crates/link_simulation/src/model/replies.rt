@@ -10,11 +10,14 @@ ghost use Rattle.link_simulation.specs.WorldRefusals.{Obeyed};
 ghost use Rattle.link_simulation.specs.WorldReplies.{Reply, reply_done, reply_next, reply_refused, Agrees};
 ghost use Rattle.link_simulation.specs.WorldRows.{message, arrives, a_byte_a_nanosecond};
 ghost use Rattle.link_simulation.specs.WorldIsolation.{InTime};
-ghost use Rattle.link_simulation.specs.ReplayLaws.{AlwaysSoFar, RefusesForMemoryAlone, AreInTurn, AreAdvancedFirst, GoByNext, CompletesInOrder, CompletePairsInOrder, IsolateSets};
+ghost use Rattle.link_simulation.specs.ReplayLaws.{AlwaysSoFar, RefusesForMemoryAlone, AreInTurn, AreAdvancedFirst};
+ghost use Rattle.link_simulation.specs.ReplayLaws.{GoByNext, CompletesInOrder, CompletePairsInOrder, IsolateSets};
 
-/// Replies by the event rule refuse a call for memory alone where it is in the range, with the calls that were made before it.
+/// Replies by the event rule refuse a call for memory alone where it is in the range, with the calls that were made
+/// before it.
 pub fn calls_in_the_range_are_answered<P: Ord>()
-    ensures { (calls : List (Call P)) (replies : List (Reply P)) → Obeyed P.cmp (new_planned 0) calls replies → RefusesForMemoryAlone [] calls replies }
+    ensures { (calls : List (Call P)) (replies : List (Reply P)) → Obeyed P.cmp (new_planned 0) calls replies →
+        RefusesForMemoryAlone [] calls replies }
 {}
 
 /// By the event rule no call is refused for a number, at any moments.
@@ -25,7 +28,8 @@ pub fn no_call_is_refused_for_a_number<P: Ord>()
 
 /// Calls that come after time is advanced are in turn.
 pub fn calls_are_in_turn_after_an_advance<P: Ord>()
-    ensures { (calls : List (Call P)) (replies : List (Reply P)) → AreAdvancedFirst 0 calls replies → AreInTurn P.cmp (new_world 0) calls replies }
+    ensures { (calls : List (Call P)) (replies : List (Reply P)) → AreAdvancedFirst 0 calls replies →
+        AreInTurn P.cmp (new_world 0) calls replies }
 {}
 
 /// Of replies that agree with the simulation: calls that go by what `next` answers are in turn.
@@ -34,14 +38,18 @@ pub fn calls_by_next_are_in_turn<P: Ord>()
         GoByNext 0 (Some 1) calls replies → AreInTurn P.cmp (new_world 0) calls replies }
 {}
 
-/// In replies that agree with the simulation, as long as the calls are in turn, the messages of each pair complete in the order of their `enqueue` calls, and the delivery moments of a pair never go down.
+/// In replies that agree with the simulation, as long as the calls are in turn, the messages of each pair complete in
+/// the order of their `enqueue` calls, and the delivery moments of a pair never go down.
 pub fn replies_keep_pairs_in_order<P: Ord>()
-    ensures { (calls : List (Call P)) (replies : List (Reply P)) → Agrees P.cmp (new_world 0) calls replies → AlwaysSoFar (CompletePairsInOrder P.cmp) calls replies }
+    ensures { (calls : List (Call P)) (replies : List (Reply P)) → Agrees P.cmp (new_world 0) calls replies →
+        AlwaysSoFar (CompletePairsInOrder P.cmp) calls replies }
 {}
 
-/// In replies that agree with the simulation, as long as the calls are in turn, a set of peers that keeps to itself completes what it completes alone. A refused call counts as not made.
+/// In replies that agree with the simulation, as long as the calls are in turn, a set of peers that keeps to itself
+/// completes what it completes alone. A refused call counts as not made.
 pub fn replies_isolate_sets<P: Ord>()
-    ensures { (calls : List (Call P)) (replies : List (Reply P)) → InTime calls → Agrees P.cmp (new_world 0) calls replies → AlwaysSoFar (IsolateSets P.cmp) calls replies }
+    ensures { (calls : List (Call P)) (replies : List (Reply P)) → InTime calls →
+        Agrees P.cmp (new_world 0) calls replies → AlwaysSoFar (IsolateSets P.cmp) calls replies }
 {}
 
 /// A pair whose arrivals go down is not in order, and neither is one whose second message comes first.
@@ -52,7 +60,8 @@ pub fn a_pair_out_of_order_is_told()
         (arrives (message 1 2 2 0) 5 ∷ []) }
 {}
 
-/// These calls go by what `next` answers: half of the cap is taken before the event that it told, and another message is sent at the moment of an advance.
+/// These calls go by what `next` answers: half of the cap is taken before the event that it told, and another message
+/// is sent at the moment of an advance.
 pub fn calls_may_go_by_next()
     ensures { GoByNext 0 (Some 1)
         (call_limit 0 1 a_byte_a_nanosecond None ∷ call_enqueue 0 (message 1 2 4 0) ∷ call_next

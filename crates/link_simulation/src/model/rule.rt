@@ -1,4 +1,5 @@
-//! Worked examples of the event rule, with moments that go back and with faults: lists of calls, and the replies to them.
+//! Worked examples of the event rule, with moments that go back and with faults: lists of calls, and the replies to
+//! them.
 //!
 //! The first peer sends at one byte a nanosecond unless another cap is named.
 ghost use Rattle.std.specs.Prelude.{◌∷◌, [], Some, None};
@@ -10,7 +11,8 @@ ghost use Rattle.link_simulation.specs.WorldRefusals.{Obeyed};
 ghost use Rattle.fair_rates.specs.declared.error.Error.TheVariants.{MomentTooLate, FlowIdsUsedUp};
 ghost use Rattle.link_simulation.specs.WorldRows.{message, arrives, a_byte_a_nanosecond};
 
-/// At moments in their order the replies are the simulation's: a follower starts when it cannot arrive before the message ahead of it.
+/// At moments in their order the replies are the simulation's: a follower starts when it cannot arrive before the
+/// message ahead of it.
 pub fn a_follower_starts_as_planned()
     ensures { Obeyed nat_cmp (new_planned 0)
         (call_limit 0 1 a_byte_a_nanosecond None ∷ call_enqueue 0 (message 1 2 4 3) ∷ call_enqueue 0 (message 1 2 2 1)
@@ -23,49 +25,65 @@ pub fn a_follower_starts_as_planned()
 /// One advance over all of it comes to the same completions.
 pub fn one_advance_meets_all_events()
     ensures { Obeyed nat_cmp (new_planned 0)
-        (call_limit 0 1 a_byte_a_nanosecond None ∷ call_enqueue 0 (message 1 2 4 3) ∷ call_enqueue 0 (message 1 2 2 1) ∷ call_advance 8 ∷ call_next ∷ [])
-        (reply_done [] ∷ reply_done [] ∷ reply_done [] ∷ reply_done (arrives (message 1 2 4 3) 7 ∷ arrives (message 1 2 2 1) 9 ∷ []) ∷ reply_next None ∷ []) }
+        (call_limit 0 1 a_byte_a_nanosecond None ∷ call_enqueue 0 (message 1 2 4 3) ∷ call_enqueue 0 (message 1 2 2 1)
+        ∷ call_advance 8 ∷ call_next ∷ [])
+        (reply_done [] ∷ reply_done [] ∷ reply_done []
+        ∷ reply_done (arrives (message 1 2 4 3) 7 ∷ arrives (message 1 2 2 1) 9 ∷ []) ∷ reply_next None ∷ []) }
 {}
 
-/// A message that is enqueued at a moment before the last completion starts no earlier than it may arrive: after an arrival at 7, one without latency starts at 7.
+/// A message that is enqueued at a moment before the last completion starts no earlier than it may arrive: after an
+/// arrival at 7, one without latency starts at 7.
 pub fn a_moment_may_go_back()
     ensures { Obeyed nat_cmp (new_planned 0)
-        (call_limit 0 1 a_byte_a_nanosecond None ∷ call_enqueue 0 (message 1 2 3 4) ∷ call_advance 3 ∷ call_enqueue 0 (message 1 2 3 0) ∷ call_advance 0
+        (call_limit 0 1 a_byte_a_nanosecond None ∷ call_enqueue 0 (message 1 2 3 4) ∷ call_advance 3
+        ∷ call_enqueue 0 (message 1 2 3 0) ∷ call_advance 0
         ∷ call_next ∷ call_advance 7 ∷ call_next ∷ call_advance 10 ∷ call_next ∷ [])
         (reply_done [] ∷ reply_done [] ∷ reply_done (arrives (message 1 2 3 4) 7 ∷ []) ∷ reply_done [] ∷ reply_done []
-        ∷ reply_next (Some 7) ∷ reply_done [] ∷ reply_next (Some 10) ∷ reply_done (arrives (message 1 2 3 0) 10 ∷ []) ∷ reply_next None ∷ []) }
+        ∷ reply_next (Some 7) ∷ reply_done [] ∷ reply_next (Some 10) ∷ reply_done (arrives (message 1 2 3 0) 10 ∷ [])
+        ∷ reply_next None ∷ []) }
 {}
 
 /// Nothing drains while moments go back: advancing again to a past moment does nothing.
 pub fn a_past_moment_does_nothing()
     ensures { Obeyed nat_cmp (new_planned 0)
-        (call_limit 0 1 a_byte_a_nanosecond None ∷ call_enqueue 0 (message 1 2 3 0) ∷ call_advance 3 ∷ call_advance 3 ∷ call_advance 0 ∷ call_next ∷ [])
-        (reply_done [] ∷ reply_done [] ∷ reply_done (arrives (message 1 2 3 0) 3 ∷ []) ∷ reply_done [] ∷ reply_done [] ∷ reply_next None ∷ []) }
+        (call_limit 0 1 a_byte_a_nanosecond None ∷ call_enqueue 0 (message 1 2 3 0) ∷ call_advance 3 ∷ call_advance 3
+        ∷ call_advance 0 ∷ call_next ∷ [])
+        (reply_done [] ∷ reply_done [] ∷ reply_done (arrives (message 1 2 3 0) 3 ∷ []) ∷ reply_done [] ∷ reply_done []
+        ∷ reply_next None ∷ []) }
 {}
 
 /// A message that finishes at the last moment arrives then. One that finishes later never does.
 pub fn the_last_moment_counts()
     ensures { Obeyed nat_cmp (new_planned 0)
-        (call_limit 0 1 a_byte_a_nanosecond None ∷ call_enqueue 18_446_744_073_709_551_614 (message 1 2 1 0) ∷ call_next ∷ call_advance 18_446_744_073_709_551_615
-        ∷ call_enqueue 18_446_744_073_709_551_615 (message 1 2 1 0) ∷ call_next ∷ call_advance 18_446_744_073_709_551_615 ∷ [])
-        (reply_done [] ∷ reply_done [] ∷ reply_next (Some 18_446_744_073_709_551_615) ∷ reply_done (arrives (message 1 2 1 0) 18_446_744_073_709_551_615 ∷ [])
+        (call_limit 0 1 a_byte_a_nanosecond None ∷ call_enqueue 18_446_744_073_709_551_614 (message 1 2 1 0)
+        ∷ call_next ∷ call_advance 18_446_744_073_709_551_615
+        ∷ call_enqueue 18_446_744_073_709_551_615 (message 1 2 1 0) ∷ call_next
+        ∷ call_advance 18_446_744_073_709_551_615 ∷ [])
+        (reply_done [] ∷ reply_done [] ∷ reply_next (Some 18_446_744_073_709_551_615)
+        ∷ reply_done (arrives (message 1 2 1 0) 18_446_744_073_709_551_615 ∷ [])
         ∷ reply_done [] ∷ reply_next None ∷ reply_done [] ∷ []) }
 {}
 
-/// A call that meets a fault changes nothing, though another message was done before it: the next event stays, and new caps at an earlier moment complete both.
+/// A call that meets a fault changes nothing, though another message was done before it: the next event stays, and
+/// new caps at an earlier moment complete both.
 pub fn a_fault_leaves_all_as_it_was()
     ensures { Obeyed nat_cmp (new_planned 0)
-        (call_limit 0 1 (Some 2_000_000_000) None ∷ call_enqueue 18_446_744_073_709_551_614 (message 1 2 1 0) ∷ call_enqueue 18_446_744_073_709_551_614 (message 1 3 1 1)
-        ∷ call_advance 18_446_744_073_709_551_615 ∷ call_next ∷ call_limit 18_446_744_073_709_551_614 1 None None ∷ call_next ∷ [])
+        (call_limit 0 1 (Some 2_000_000_000) None ∷ call_enqueue 18_446_744_073_709_551_614 (message 1 2 1 0)
+        ∷ call_enqueue 18_446_744_073_709_551_614 (message 1 3 1 1)
+        ∷ call_advance 18_446_744_073_709_551_615 ∷ call_next ∷ call_limit 18_446_744_073_709_551_614 1 None None
+        ∷ call_next ∷ [])
         (reply_done [] ∷ reply_done [] ∷ reply_done []
         ∷ reply_refused MomentTooLate ∷ reply_next (Some 18_446_744_073_709_551_615)
-        ∷ reply_done (arrives (message 1 2 1 0) 18_446_744_073_709_551_614 ∷ arrives (message 1 3 1 1) 18_446_744_073_709_551_615 ∷ []) ∷ reply_next None ∷ []) }
+        ∷ reply_done (arrives (message 1 2 1 0) 18_446_744_073_709_551_614
+        ∷ arrives (message 1 3 1 1) 18_446_744_073_709_551_615 ∷ []) ∷ reply_next None ∷ []) }
 {}
 
-/// With one flow id left, one message starts. Another pair is refused, one of the same pair waits, and an advance to where it would start is refused and changes nothing.
+/// With one flow id left, one message starts. Another pair is refused, one of the same pair waits, and an advance to
+/// where it would start is refused and changes nothing.
 pub fn used_up_ids_stop_the_next_start()
     ensures { Obeyed nat_cmp (new_planned 18_446_744_073_709_551_614)
-        (call_limit 0 1 a_byte_a_nanosecond None ∷ call_enqueue 0 (message 1 2 4 0) ∷ call_next ∷ call_enqueue 0 (message 1 3 1 0) ∷ call_next
+        (call_limit 0 1 a_byte_a_nanosecond None ∷ call_enqueue 0 (message 1 2 4 0) ∷ call_next
+        ∷ call_enqueue 0 (message 1 3 1 0) ∷ call_next
         ∷ call_enqueue 0 (message 1 2 1 0) ∷ call_advance 2 ∷ call_advance 4 ∷ call_next ∷ [])
         (reply_done [] ∷ reply_done [] ∷ reply_next (Some 4) ∷ reply_refused FlowIdsUsedUp ∷ reply_next (Some 4)
         ∷ reply_done [] ∷ reply_done [] ∷ reply_refused FlowIdsUsedUp ∷ reply_next (Some 4) ∷ []) }
@@ -74,11 +92,14 @@ pub fn used_up_ids_stop_the_next_start()
 /// A link limits its own pair alone: a message to another peer goes at once.
 pub fn a_link_limits_its_own_pair()
     ensures { Obeyed nat_cmp (new_planned 0)
-        (call_limit_link 0 1 2 a_byte_a_nanosecond ∷ call_enqueue 0 (message 1 2 2 0) ∷ call_enqueue 0 (message 1 3 2 0) ∷ call_next ∷ call_advance 2 ∷ call_next ∷ [])
-        (reply_done [] ∷ reply_done [] ∷ reply_done (arrives (message 1 3 2 0) 0 ∷ []) ∷ reply_next (Some 2) ∷ reply_done (arrives (message 1 2 2 0) 2 ∷ []) ∷ reply_next None ∷ []) }
+        (call_limit_link 0 1 2 a_byte_a_nanosecond ∷ call_enqueue 0 (message 1 2 2 0)
+        ∷ call_enqueue 0 (message 1 3 2 0) ∷ call_next ∷ call_advance 2 ∷ call_next ∷ [])
+        (reply_done [] ∷ reply_done [] ∷ reply_done (arrives (message 1 3 2 0) 0 ∷ []) ∷ reply_next (Some 2)
+        ∷ reply_done (arrives (message 1 2 2 0) 2 ∷ []) ∷ reply_next None ∷ []) }
 {}
 
-/// Where a moment goes back, the interval since then drains twice: of four bytes two went by 2, one more goes from 1 to 2, and the last one by 3.
+/// Where a moment goes back, the interval since then drains twice: of four bytes two went by 2, one more goes from 1
+/// to 2, and the last one by 3.
 pub fn an_interval_may_be_drained_twice()
     ensures { Obeyed nat_cmp (new_planned 0)
         (call_limit 0 1 a_byte_a_nanosecond None ∷ call_enqueue 0 (message 1 2 4 0)

@@ -1,4 +1,5 @@
-//! What holds over whole lists of calls: the order of a pair, the bytes of an origin, and a set of peers that keeps to itself.
+//! What holds over whole lists of calls: the order of a pair, the bytes of an origin, and a set of peers that keeps
+//! to itself.
 ghost use Rattle.std.specs.Prelude.{◌≡◌, ℕ, ◌-◌, Bool, Contains, List, Some, map};
 ghost use Rattle.std.specs.List.{filter};
 ghost use Rattle.fair_rates.specs.Amount.{plus};
@@ -11,30 +12,39 @@ ghost use Rattle.link_simulation.specs.WorldTime.{IsSound};
 ghost use Rattle.link_simulation.specs.WorldCalls.{Call, call_advance, Runs};
 ghost use Rattle.link_simulation.specs.WorldOrder.{enqueued, answered, IsInPairOrder};
 ghost use Rattle.link_simulation.specs.WorldBytes.{bytes_from, allowance};
-ghost use Rattle.link_simulation.specs.WorldIsolation.{Answers, AnswersInTurn, IsSet, KeepsApart, InTime, is_kept, kept_completions, NothingElse};
+ghost use Rattle.link_simulation.specs.WorldIsolation.{Answers, AnswersInTurn, IsSet, KeepsApart, InTime, is_kept};
+ghost use Rattle.link_simulation.specs.WorldIsolation.{kept_completions, NothingElse};
 
 /// The completions of a pair come in the order of its `enqueue` calls, and its delivery moments never go down.
 pub fn a_pair_keeps_its_order<P: Ord>()
-    ensures { (k : Message P) (id : ℕ) (calls : List (Call P)) (css : List (List (Completed P))) → Answers P.cmp (new_world id) calls css →
+    ensures { (k : Message P) (id : ℕ) (calls : List (Call P)) (css : List (List (Completed P))) →
+        Answers P.cmp (new_world id) calls css →
         IsInPairOrder P.cmp k (enqueued calls) (answered css) }
 {}
 
 /// In one `advance` the bytes left of an origin go down by no more than its egress cap lets go.
 pub fn an_origin_keeps_to_its_cap<P: Ord>()
-    ensures { (w v : World P) (p : P) (cap now : ℕ) (cs : List (Completed P)) → IsSound P.cmp w → w.caps.egress p ≡ Some cap → Runs P.cmp w (call_advance now) now (goes cs v) →
+    ensures { (w v : World P) (p : P) (cap now : ℕ) (cs : List (Completed P)) → IsSound P.cmp w →
+        w.caps.egress p ≡ Some cap → Runs P.cmp w (call_advance now) now (goes cs v) →
         IsAtMost (bytes_from P.cmp p w) (plus (bytes_from P.cmp p v) (allowance cap (now - w.moment))) }
 {}
 
-/// For a set of peers of which each message has both ends or neither, the fair rates of its messages are fair for these alone.
+/// For a set of peers of which each message has both ends or neither, the fair rates of its messages are fair for
+/// these alone.
 pub fn a_set_is_fair_alone<P: Ord>()
-    ensures { (inside : P → Bool) (caps : Caps P) (ms : List (Message P)) (per : ℕ) (rates : Parts) → IsSet P.cmp inside →
+    ensures { (inside : P → Bool) (caps : Caps P) (ms : List (Message P)) (per : ℕ) (rates : Parts) →
+        IsSet P.cmp inside →
         ((m : Message P) → Contains ms m → inside m.origin ≡ inside m.recipient) →
-        AreFair P.cmp caps ms per rates → AreFair P.cmp caps (filter (λ m. inside m.origin) ms) per (kept (map (λ m. inside m.origin) ms) rates) }
+        AreFair P.cmp caps ms per rates → AreFair P.cmp caps (filter (λ m. inside m.origin) ms) per
+        (kept (map (λ m. inside m.origin) ms) rates) }
 {}
 
-/// Where each message that is enqueued has both ends in a set of peers or neither, the completions of the set's messages are those of the calls without the messages of others.
+/// Where each message that is enqueued has both ends in a set of peers or neither, the completions of the set's
+/// messages are those of the calls without the messages of others.
 pub fn a_set_is_isolated<P: Ord>()
-    ensures { (inside : P → Bool) (id : ℕ) (calls : List (Call P)) (css : List (List (Completed P))) → IsSet P.cmp inside → KeepsApart inside calls → InTime calls →
+    ensures { (inside : P → Bool) (id : ℕ) (calls : List (Call P)) (css : List (List (Completed P))) →
+        IsSet P.cmp inside → KeepsApart inside calls → InTime calls →
         AnswersInTurn P.cmp (new_world id) calls css →
-        Answers P.cmp (new_world id) (filter (is_kept inside) calls) (kept_completions inside calls css) × NothingElse inside calls css }
+        Answers P.cmp (new_world id) (filter (is_kept inside) calls) (kept_completions inside calls css)
+        × NothingElse inside calls css }
 {}

@@ -7,36 +7,47 @@ ghost use Rattle.link_simulation.specs.WorldPlanned.{Planned, next_event};
 ghost use Rattle.link_simulation.specs.WorldRefusals.{MayBeRefused};
 ghost use Rattle.link_simulation.specs.WorldStands.{StandsFor};
 ghost use Rattle.link_simulation.specs.SamePlanned.{Goes};
-ghost use Rattle.link_simulation.specs.Simulated.{IsCalled, IsRun, IsSimulated, IsNextInSimulation, KeepsRange, IsRefusedInSimulation, IsSplitAnywhere, KeepsToCaps};
+ghost use Rattle.link_simulation.specs.Simulated.{IsCalled, IsRun, IsSimulated, IsNextInSimulation, KeepsRange};
+ghost use Rattle.link_simulation.specs.Simulated.{IsRefusedInSimulation, IsSplitAnywhere, KeepsToCaps};
 
-/// A call that goes by the event rule runs in the simulation with the same completions and without a fault, and leaves the next event later than its moment. In the range it stays in the range. The next event is that of the simulation.
+/// A call that goes by the event rule runs in the simulation with the same completions and without a fault, and
+/// leaves the next event later than its moment. In the range it stays in the range. The next event is that of the
+/// simulation.
 pub fn calls_that_go_are_simulated<P: Ord>()
-    ensures calls { (p q : Planned P) (call : Call P) (completions : List (Completed P)) → ((now : ℕ) → moment_of call ≡ Some now → now ≤ last_moment) →
+    ensures calls { (p q : Planned P) (call : Call P) (completions : List (Completed P)) →
+        ((now : ℕ) → moment_of call ≡ Some now → now ≤ last_moment) →
         Goes P.cmp p call completions q → IsSimulated P.cmp p call completions q }
-    ensures range { (p q : Planned P) (call : Call P) (completions : List (Completed P)) → Goes P.cmp p call completions q → KeepsRange P.cmp p call q }
+    ensures range { (p q : Planned P) (call : Call P) (completions : List (Completed P)) →
+        Goes P.cmp p call completions q → KeepsRange P.cmp p call q }
     ensures next { (p : Planned P) → IsNextInSimulation P.cmp p (next_event p) }
 {}
 
-/// A call that the event rule refuses is refused for memory or for a fault that the simulation meets. In the range it is refused for memory alone.
+/// A call that the event rule refuses is refused for memory or for a fault that the simulation meets. In the range it
+/// is refused for memory alone.
 pub fn refusals_are_simulated<P: Ord>()
-    ensures { (p : Planned P) (call : Call P) (why : AnyError) → ((now : ℕ) → moment_of call ≡ Some now → now ≤ last_moment) → MayBeRefused P.cmp p call why →
+    ensures { (p : Planned P) (call : Call P) (why : AnyError) →
+        ((now : ℕ) → moment_of call ≡ Some now → now ≤ last_moment) → MayBeRefused P.cmp p call why →
         IsRefusedInSimulation P.cmp p call why }
 {}
 
 /// An advance may be split at any moment on the way.
 pub fn an_advance_is_split_anywhere<P: Ord>()
-    ensures { (p q : Planned P) (now : ℕ) (completions : List (Completed P)) → now ≤ last_moment → Goes P.cmp p (call_advance now) completions q → IsSplitAnywhere P.cmp p now completions q }
+    ensures { (p q : Planned P) (now : ℕ) (completions : List (Completed P)) → now ≤ last_moment →
+        Goes P.cmp p (call_advance now) completions q → IsSplitAnywhere P.cmp p now completions q }
 {}
 
 /// In an advance the bytes that an origin still has to send go down by no more than its egress cap lets go.
 pub fn an_advance_keeps_to_caps<P: Ord>()
-    ensures { (p q : Planned P) (now : ℕ) (completions : List (Completed P)) → now ≤ last_moment → Goes P.cmp p (call_advance now) completions q → KeepsToCaps P.cmp p now q }
+    ensures { (p q : Planned P) (now : ℕ) (completions : List (Completed P)) → now ≤ last_moment →
+        Goes P.cmp p (call_advance now) completions q → KeepsToCaps P.cmp p now q }
 {}
 
-/// A call before the planned next event comes in its turn, so it is known from what `next` answers. And so does one at the moment of a call that has just run: after it the next event is later.
+/// A call before the planned next event comes in its turn, so it is known from what `next` answers. And so does one
+/// at the moment of a call that has just run: after it the next event is later.
 pub fn calls_before_the_next_event_are_in_turn<P: Ord>()
     ensures before { (p : Planned P) (w : World P) (call : Call P) (now : ℕ) → StandsFor P.cmp p w →
         moment_of call ≡ Some now → w.moment ≤ now → IfSome (next_event p) (λ t. now < t) → IsInTurn P.cmp w call }
     ensures at_once { (w : World P) (q : Planned P) (call other : Call P) (now : ℕ) (completions : List (Completed P)) →
-        moment_of other ≡ Some now → (run : IsRun P.cmp w call now completions q) → IsCalled P.cmp q other now run.after }
+        moment_of other ≡ Some now → (run : IsRun P.cmp w call now completions q) →
+        IsCalled P.cmp q other now run.after }
 {}

@@ -24,7 +24,8 @@ pub(crate) struct OpenSide {
 impl PartialEq for OpenSide {
     ghost eq = { eq_by_cmp (λ x y. fraction_cmp x.slack (length x.rising.items) y.slack (length y.rising.items)) };
 
-    ghost laws = { partial_equiv_from_equiv (eq_by_cmp_equiv (fraction_total (λ x. x.slack) (λ x. length x.rising.items) (λ x. x.some))) };
+    ghost laws = { partial_equiv_from_equiv (eq_by_cmp_equiv
+        (fraction_total (λ x. x.slack) (λ x. length x.rising.items) (λ x. x.some))) };
 
     fn eq(&self, other: &OpenSide) -> bool {
         self.cmp(other).is_eq()
@@ -38,7 +39,8 @@ impl Eq for OpenSide {
 impl PartialOrd for OpenSide {
     ghost partial_cmp = { λ x y. Some (fraction_cmp x.slack (length x.rising.items) y.slack (length y.rising.items)) };
 
-    ghost laws = { partial_order_from_total (fraction_total (λ x. x.slack) (λ x. length x.rising.items) (λ x. x.some)) };
+    ghost laws = { partial_order_from_total (fraction_total (λ x. x.slack) (λ x. length x.rising.items)
+        (λ x. x.some)) };
 
     fn partial_cmp(&self, other: &OpenSide) -> Option<Ordering> {
         Some(self.cmp(other))
@@ -64,7 +66,8 @@ impl Ord for OpenSide {
 impl OpenSide {
     ghost use Rattle.std.specs.Prelude.{◌≡◌, ℕ, ◌⊎◌, All, IfSome, IfOk, MatchOption};
     ghost use Rattle.fair_rates.specs.Fair.{Side as WholeSide};
-    ghost use Rattle.fair_rates.specs.Filling.{frozen_at, AllRise, AllFrozen, AreInside, HaveNoMore, IsWithin, KeepsAccount, IsGrown};
+    ghost use Rattle.fair_rates.specs.Filling.{frozen_at, AllRise, AllFrozen, AreInside, HaveNoMore, IsWithin};
+    ghost use Rattle.fair_rates.specs.Filling.{KeepsAccount, IsGrown};
 
     /// Counts the users that froze since. `None` where all are frozen now.
     pub(crate) fn count_frozen(

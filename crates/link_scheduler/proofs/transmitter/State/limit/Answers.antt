@@ -37,7 +37,7 @@ invariant_of-self-clause-orderly g c = orderly_on g.P.Ord.cmp g.met.P.Ord.total 
 pub returns-clause-made : goal.returns-clause-made
 returns-clause-made g c = promised_if g.P.Ord.cmp g.met.P.Ord.total (planned g.P.Ord.cmp c.args.self.now.kept) (planned g.P.Ord.cmp c.recap.new.self) (call_limit c.args.now c.args.peer.now c.args.egress c.args.ingress) c.args.now
     (map completed_of c.in_ok-completions.completions.items) refl c.ranges.now.fits c.args.self.now.orderly
-    (goes_answered g.P.Ord.cmp g.met.P.Ord.total (planned g.P.Ord.cmp c.args.self.now.kept) (planned g.P.Ord.cmp c.recap.new.self) (call_limit c.args.now c.args.peer.now c.args.egress c.args.ingress) (map completed_of c.in_ok-completions.completions.items) (map ended_of c.in_ok-ended.ended.items) c.in_ok-completions.ensures.same
+    (goes_answered g.P.Ord.cmp g.met.P.Ord.total (planned g.P.Ord.cmp c.args.self.now.kept) (planned g.P.Ord.cmp c.recap.new.self) (call_limit c.args.now c.args.peer.now c.args.egress c.args.ingress) (map completed_of c.in_ok-completions.completions.items) (map ended_of c.in_ok-ended.ended.items) (rw (← c.deref.ensures.value) c.in_ok-completions.ensures.same)
     (goes_on g.P.Ord.cmp g.met.P.Ord.total (planned g.P.Ord.cmp c.args.self.now.kept) (planned g.P.Ord.cmp c.in_ok-working.working) (planned g.P.Ord.cmp c.recap.new.self)
     (call_limit c.args.now c.args.peer.now c.args.egress c.args.ingress)
     (map ended_of c.in_ok-ended.ended.items) (same_copy g.P.Ord.cmp g.met.P.Ord.total (planned g.P.Ord.cmp c.args.self.now.kept) (planned g.P.Ord.cmp c.in_ok-working.working) c.in_ok-working.ensures.cases c.args.self.now.caps c.args.self.now.arrivals)

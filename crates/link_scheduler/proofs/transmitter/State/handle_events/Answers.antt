@@ -4,12 +4,11 @@ use Rattle.link_simulation.specs.World.{goes}
 use Rattle.link_simulation.specs.WorldCalls.{call_advance}
 use Rattle.link_scheduler.specs.Working.{planned}
 use Rattle.link_scheduler.specs.Message.{completed_of, ended_of}
-use Rattle.link_simulation.specs.SamePlanned.{Goes}
 use Rattle.link_scheduler.proofs.Calling.{advance_refused, advances_on, counted_goes, same_copy, goes_answered, counted_answered}
 use Rattle.link_scheduler.proofs.World.SameIsPlanned.{planned_on, few_on}
 use Rattle.link_scheduler.proofs.Accounting.{looked_up, arrivals_looked_up}
 use Rattle.link_scheduler.proofs.Promises.{orderly_on, promised_if, cause_of, split_on, within_caps_on}
-use Rattle.link_scheduler.proofs.transmitter.State.advance_counted.Goals as goal
+use Rattle.link_scheduler.proofs.transmitter.State.handle_events.Goals as goal
 
 pub returns-in_err-ended-clause-refused : goal.returns-in_err-ended-clause-refused
 returns-in_err-ended-clause-refused g c =
@@ -37,22 +36,18 @@ invariant_of-self-clause-orderly g c = orderly_on g.P.Ord.cmp g.met.P.Ord.total 
 
 pub returns-clause-counted : goal.returns-clause-counted
 returns-clause-counted g c = record {
-  by_rule = counted_answered g.P.Ord.cmp g.met.P.Ord.total c.args.now c.in_ok-ended.events (planned g.P.Ord.cmp c.args.self.now.kept) (planned g.P.Ord.cmp c.advance.new.self) (map completed_of c.in_ok-completions.completions.items) (map ended_of c.in_ok-ended.ended.items) c.in_ok-completions.ensures.same (advances_on g.P.Ord.cmp g.met.P.Ord.total c.args.now c.in_ok-ended.events (planned g.P.Ord.cmp c.args.self.now.kept) (planned g.P.Ord.cmp c.in_ok-working.working) (planned g.P.Ord.cmp c.advance.new.self)
+  by_rule = counted_answered g.P.Ord.cmp g.met.P.Ord.total c.args.now c.in_ok-ended.events (planned g.P.Ord.cmp c.args.self.now.kept) (planned g.P.Ord.cmp c.advance.new.self) (map completed_of c.in_ok-completions.completions.items) (map ended_of c.in_ok-ended.ended.items) (rw (← c.deref.ensures.value) c.in_ok-completions.ensures.same) (advances_on g.P.Ord.cmp g.met.P.Ord.total c.args.now c.in_ok-ended.events (planned g.P.Ord.cmp c.args.self.now.kept) (planned g.P.Ord.cmp c.in_ok-working.working) (planned g.P.Ord.cmp c.advance.new.self)
       (map ended_of c.in_ok-ended.ended.items) (same_copy g.P.Ord.cmp g.met.P.Ord.total (planned g.P.Ord.cmp c.args.self.now.kept) (planned g.P.Ord.cmp c.in_ok-working.working) c.in_ok-working.ensures.cases c.args.self.now.caps c.args.self.now.arrivals) c.in_ok-ended.ensures.advances);
   few = few_on g.P.Ord.cmp g.met.P.Ord.total c.args.now c.in_ok-ended.events (planned g.P.Ord.cmp c.args.self.now.kept) (planned g.P.Ord.cmp c.in_ok-working.working)
       (goes (map ended_of c.in_ok-ended.ended.items) (planned g.P.Ord.cmp c.advance.new.self)) (same_copy g.P.Ord.cmp g.met.P.Ord.total (planned g.P.Ord.cmp c.args.self.now.kept) (planned g.P.Ord.cmp c.in_ok-working.working) c.in_ok-working.ensures.cases c.args.self.now.caps c.args.self.now.arrivals) c.args.self.now.right c.in_ok-ended.ensures.advances;
 }
 
--- the advance goes, as it was counted
-went : (g : _) (c : goal.After-drop-self-6 g) → Goes g.P.Ord.cmp (planned g.P.Ord.cmp c.args.self.now.kept) (call_advance c.args.now) (map completed_of c.in_ok-completions.completions.items) (planned g.P.Ord.cmp c.advance.new.self)
-went g c = counted_goes g.P.Ord.cmp g.met.P.Ord.total c.args.now c.in_ok-ended.events (planned g.P.Ord.cmp c.args.self.now.kept) (planned g.P.Ord.cmp c.advance.new.self) (map completed_of c.in_ok-completions.completions.items) (returns-clause-counted g c).by_rule
-
 pub returns-clause-made : goal.returns-clause-made
 returns-clause-made g c = promised_if g.P.Ord.cmp g.met.P.Ord.total (planned g.P.Ord.cmp c.args.self.now.kept) (planned g.P.Ord.cmp c.advance.new.self) (call_advance c.args.now) c.args.now
-    (map completed_of c.in_ok-completions.completions.items) refl c.ranges.now.fits c.args.self.now.orderly (went g c)
+    (map completed_of c.in_ok-completions.completions.items) refl c.ranges.now.fits c.args.self.now.orderly (counted_goes g.P.Ord.cmp g.met.P.Ord.total c.args.now c.in_ok-ended.events (planned g.P.Ord.cmp c.args.self.now.kept) (planned g.P.Ord.cmp c.advance.new.self) (map completed_of c.in_ok-completions.completions.items) (returns-clause-counted g c).by_rule)
 
 pub returns-clause-advanced : goal.returns-clause-advanced
 returns-clause-advanced g c = record {
-  split = split_on g.P.Ord.cmp g.met.P.Ord.total (planned g.P.Ord.cmp c.args.self.now.kept) (planned g.P.Ord.cmp c.advance.new.self) c.args.now (map completed_of c.in_ok-completions.completions.items) c.ranges.now.fits (went g c);
-  within_caps = within_caps_on g.P.Ord.cmp g.met.P.Ord.total (planned g.P.Ord.cmp c.args.self.now.kept) (planned g.P.Ord.cmp c.advance.new.self) c.args.now (map completed_of c.in_ok-completions.completions.items) c.ranges.now.fits (went g c);
+  split = split_on g.P.Ord.cmp g.met.P.Ord.total (planned g.P.Ord.cmp c.args.self.now.kept) (planned g.P.Ord.cmp c.advance.new.self) c.args.now (map completed_of c.in_ok-completions.completions.items) c.ranges.now.fits (counted_goes g.P.Ord.cmp g.met.P.Ord.total c.args.now c.in_ok-ended.events (planned g.P.Ord.cmp c.args.self.now.kept) (planned g.P.Ord.cmp c.advance.new.self) (map completed_of c.in_ok-completions.completions.items) (returns-clause-counted g c).by_rule);
+  within_caps = within_caps_on g.P.Ord.cmp g.met.P.Ord.total (planned g.P.Ord.cmp c.args.self.now.kept) (planned g.P.Ord.cmp c.advance.new.self) c.args.now (map completed_of c.in_ok-completions.completions.items) c.ranges.now.fits (counted_goes g.P.Ord.cmp g.met.P.Ord.total c.args.now c.in_ok-ended.events (planned g.P.Ord.cmp c.args.self.now.kept) (planned g.P.Ord.cmp c.advance.new.self) (map completed_of c.in_ok-completions.completions.items) (returns-clause-counted g c).by_rule);
 }

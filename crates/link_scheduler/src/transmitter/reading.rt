@@ -1,0 +1,126 @@
+//! What is in flight, for who looks from outside.
+ghost use Rattle.std.specs.Prelude.{◌≡◌, ◌<◌, IfOk, IfErr};
+ghost use Rattle.std.specs.List.{AllZip};
+ghost use Rattle.std.specs.declared.cmp.Ordering.TheVariants.{Equal};
+ghost use Rattle.fair_rates.specs.Amount.{reduced};
+ghost use Rattle.fair_rates.specs.FairParts.{parts_of_level};
+ghost use Rattle.link_scheduler.specs.Readings.{IsReadingOf};
+
+use super::State;
+use super::flights::Flights;
+use super::fraction::read_fraction;
+use super::progress::{Progress, rate_at};
+use fair_rates::error::Error;
+use fair_rates::peer::Peer;
+use fair_rates::ratio::Ratio;
+use natural::Natural;
+
+/// Nanoseconds in a second.
+const BILLION: u128 = 1_000_000_000;
+
+/// An amount of bytes, or of bytes a second, as it is read.
+#[derive(Clone, Copy, Debug, PartialEq, Eq)]
+pub struct Reading {
+    /// The amount itself where the reading is exact, and else the greatest whole number of 128
+    /// bits that is not above it.
+    pub amount: Ratio,
+    /// Whether the reading is exact. It is just where the amount in lowest terms has a numerator
+    /// and a denominator of 128 bits each.
+    pub is_exact: bool,
+}
+
+/// A message in flight, as it is read.
+#[derive(Debug, Drop)]
+pub struct InFlight<P> {
+    pub origin: P,
+    pub recipient: P,
+    /// What was left of it at the moment `since`, in bytes.
+    pub left: Reading,
+    /// What it has sent since then, in bytes a second.
+    pub rate: Reading,
+    /// In nanoseconds since the start.
+    pub since: u64,
+}
+
+impl<P: Peer> State<P> {
+    ghost use Rattle.link_scheduler.specs.State.{planned_of};
+    ghost use Rattle.link_scheduler.specs.Readings.{IsReadAs};
+
+    /// What is in flight, in order of start: of each message its pair, what is left of it in bytes,
+    /// its rate in bytes a second, and since when.
+    ///
+    /// What was left of a message at the moment `since` drains at its rate from then on, until it
+    /// is done or the next event or call changes the rates. The peers are cloned. An amount is
+    /// exact where its fraction fits in 128 bits, and else rounded down to a whole number;
+    /// `Reading` says which.
+    ///
+    /// It changes nothing. It takes memory for the list and on the way, and time that grows with
+    /// the number of messages in flight and with the length of their numbers.
+    ///
+    /// # Errors
+    ///
+    /// `OutOfMemory` where memory was refused, for the list or for the clone of a peer.
+    pub fn in_flight(&self) -> Result<Vec<InFlight<P>>, Error>
+        ensures read { IfOk result (λ readings. AllZip (IsReadAs P.cmp) (planned_of self.now).sending readings.items) }
+        ensures refused { IfErr result (λ e. e ≡ Error.OutOfMemory) }
+    {
+        self.kept.flights.read()
+    }
+}
+
+impl<P: Peer> Flights<P> {
+    ghost use Rattle.link_scheduler.specs.InFlight.{in_flight};
+    ghost use Rattle.link_scheduler.specs.Readings.{IsReadAs};
+
+    /// Each as it is read, in order of start.
+    fn read(&self) -> Result<Vec<InFlight<P>>, Error>
+        ensures read { IfOk result (λ readings. AllZip (IsReadAs P.cmp) (in_flight self.now) readings.items) }
+        ensures refused { IfErr result (λ e. e ≡ Error.OutOfMemory) }
+    {
+        let unit = self.scale.product(BILLION)?;
+        let mut readings = Vec::with_capacity(*self.flows.allocator(), self.progress.len())?;
+        for one in &self.progress {
+            let rate = read_rate(&self.levels, one.level, &self.scale)?;
+            readings.push(read_one(one, &unit, rate)?)?;
+        }
+        Ok(readings)
+    }
+}
+
+/// A message in flight at that rate, as it is read.
+fn read_one<P: Peer>(
+    progress: &Progress<P>,
+    unit: &Natural,
+    rate: Reading,
+) -> Result<InFlight<P>, Error>
+    requires { 0 < unit.now }
+    ensures origin { IfOk result (λ r. P.cmp r.origin progress.now.message.value.origin ≡ Equal) }
+    ensures recipient { IfOk result (λ r. P.cmp r.recipient progress.now.message.value.recipient ≡ Equal) }
+    ensures left { IfOk result (λ r. IsReadingOf (reduced progress.now.left unit.now) r.left) }
+    ensures rate { IfOk result (λ r. r.rate ≡ rate) }
+    ensures since { IfOk result (λ r. r.since ≡ progress.now.updated) }
+    ensures refused { IfErr result (λ e. e ≡ Error.OutOfMemory) }
+{
+    Ok(InFlight {
+        origin: progress.message.origin.clone_peer().ok_or(Error::OutOfMemory)?,
+        recipient: progress.message.recipient.clone_peer().ok_or(Error::OutOfMemory)?,
+        left: read_fraction(&progress.left, unit)?,
+        rate,
+        since: progress.updated,
+    })
+}
+
+/// The rate at that place, of whose units `scale` are a byte a second. None is a rate of zero.
+fn read_rate(levels: &[Natural], level: Option<usize>, scale: &Natural) -> Result<Reading, Error>
+    requires { 0 < scale.now }
+    ensures read { IfOk result (IsReadingOf (reduced (parts_of_level levels.now level) scale.now)) }
+    ensures refused { IfErr result (λ e. e ≡ Error.OutOfMemory) }
+{
+    match rate_at(levels, level) {
+        Some(rate) => read_fraction(rate, scale),
+        None => Ok(Reading {
+            amount: Ratio::zero(),
+            is_exact: true,
+        }),
+    }
+}

@@ -1,0 +1,58 @@
+use Rattle.std.proofs.Common.{◌≡◌, ℕ, List, [], ◌∷◌, ◌++◌, Bool, true, false, cond, sym, ap, ◌∙◌, subst, arith}
+use Rattle.std.specs.List.{AllZip}
+use Rattle.std.specs.Ordering.{nat_cmp}
+use Rattle.fair_rates.specs.Sides.{same_peer}
+use Rattle.link_simulation.specs.WorldMessages.{Message, SameMessage, same_pair}
+use Rattle.link_simulation.specs.World.{Completed}
+use Rattle.link_simulation.specs.WorldOrder.{IsCompletionOf}
+use Rattle.link_simulation.specs.WorldPlanned.{new_planned}
+use Rattle.link_simulation.specs.WorldRows.{message, arrives, bytes}
+use Rattle.link_simulation.specs.Conserved.{IsConserved, of_pair, held_of}
+use Rattle.link_simulation.proofs.model.meanings.a_completion_of_another_message_is_not_conserved.Goals as goal
+
+abbrev m : Message ℕ
+m = message 1 2 1 0
+
+-- the message whose completion that is stands for the one that was enqueued
+the_same : (c : Completed ℕ) → IsConserved nat_cmp (new_planned 0) (m ∷ []) (c ∷ []) (new_planned 0)
+    → (d : Message ℕ) × IsCompletionOf c d × SameMessage nat_cmp d m
+the_same c h = by_done h.done h.completions_are (h.each_pair m)
+  where
+    first : (b : Bool) (d : Message ℕ)
+        → AllZip (SameMessage nat_cmp) (cond b (d ∷ []) [] ++ held_of nat_cmp m (new_planned 0)) (m ∷ []) → SameMessage nat_cmp d m
+    first true d all = all.0
+    first false d all = absurd all
+
+    by_done : (done : List (Message ℕ)) → AllZip IsCompletionOf (c ∷ []) done
+        → AllZip (SameMessage nat_cmp) (of_pair nat_cmp m done ++ held_of nat_cmp m (new_planned 0)) (m ∷ [])
+        → (d : Message ℕ) × IsCompletionOf c d × SameMessage nat_cmp d m
+    by_done [] all make = absurd all
+    by_done (d ∷ []) all make = (d, all.0, first (same_pair nat_cmp m d) d make)
+    by_done (d ∷ e ∷ ds) all make = absurd all.1
+
+pub returns-clause-origin : goal.returns-clause-origin
+returns-clause-origin c h =
+    let (d, (t, is), same) = the_same (arrives (message 3 2 1 0) 1) h in
+    let origin : 3 ≡ d.origin = ap (λ (x : Completed ℕ). x.origin) is in
+    let clash : same_peer nat_cmp 3 1 ≡ true = subst (λ (p : ℕ). same_peer nat_cmp p 1 ≡ true) (sym origin) same.origin in
+    cc
+
+pub returns-clause-recipient : goal.returns-clause-recipient
+returns-clause-recipient c h =
+    let (d, (t, is), same) = the_same (arrives (message 1 3 1 0) 1) h in
+    let recipient : 3 ≡ d.recipient = ap (λ (x : Completed ℕ). x.recipient) is in
+    let clash : same_peer nat_cmp 3 2 ≡ true = subst (λ (p : ℕ). same_peer nat_cmp p 2 ≡ true) (sym recipient) same.recipient in
+    cc
+
+pub returns-clause-channel : goal.returns-clause-channel
+returns-clause-channel c h =
+    let (d, (t, is), same) = the_same (arrives (record m { channel = 1 }) 1) h in
+    let one : 1 ≡ d.channel = ap (λ (x : Completed ℕ). x.channel) is in
+    let none : d.channel ≡ 0 = same.channel in
+    absurd (omega arith)
+
+pub returns-clause-bytes : goal.returns-clause-bytes
+returns-clause-bytes c h =
+    let (d, (t, is), same) = the_same (arrives (message 1 2 2 0) 1) h in
+    let clash : bytes 2 ≡ bytes 1 = ap (λ (x : Completed ℕ). x.bytes) is ∙ same.bytes in
+    cc

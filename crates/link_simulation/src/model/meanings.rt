@@ -1,0 +1,125 @@
+//! What the words of the promises mean: what follows from each, and what it excludes.
+//!
+//! In the examples peers are numbers, and no limit holds unless one is named.
+ghost use Rattle.std.specs.Prelude.{◌≡◌, ℕ, ◌-◌, ◌*◌, ◌≤◌, List, [], ◌∷◌, Bool, true, Option, Some, None, nat_lt};
+ghost use Rattle.std.specs.List.{AllZip};
+ghost use Rattle.std.specs.Ordering.{nat_cmp};
+ghost use Rattle.fair_rates.specs.Amount.{whole};
+ghost use Rattle.fair_rates.specs.declared.error.Error.{Error as AnyError};
+ghost use Rattle.fair_rates.specs.declared.error.Error.TheVariants.{NumberTooLarge, MomentTooLate, FlowIdsUsedUp};
+ghost use Rattle.link_simulation.specs.World.{World, Completed, goes};
+ghost use Rattle.link_simulation.specs.WorldBytes.{bytes_from};
+ghost use Rattle.link_simulation.specs.WorldTime.{NextIs};
+ghost use Rattle.link_simulation.specs.WorldCalls.{Call, call_enqueue, call_advance, Runs};
+ghost use Rattle.link_simulation.specs.WorldPlanned.{Planned, new_planned};
+ghost use Rattle.link_simulation.specs.WorldReplies.{Reply, reply_done, SameCompletion, Faults};
+ghost use Rattle.link_simulation.specs.WorldRows.{message, arrives, paced, flying};
+ghost use Rattle.link_simulation.specs.WorldStands.{StandsFor};
+ghost use Rattle.link_simulation.specs.Conserved.{IsConserved, AreConserved};
+ghost use Rattle.link_simulation.specs.Orderly.{IsOrderly};
+ghost use Rattle.link_simulation.specs.ReplayLaws.{AlwaysSoFar, CompletePairsInOrder, IsIsolated, IsolateSets};
+ghost use Rattle.link_simulation.specs.Simulated.{IsCalled, IsSimulated, IsNextInSimulation, KeepsRange};
+ghost use Rattle.link_simulation.specs.Simulated.{IsRefusedInSimulation, IsSplitAnywhere, KeepsToCaps};
+
+/// However a call runs in the simulation, it has the completions that were answered, leads to a world that the new
+/// planned world stands for, and meets no fault. So does an advance that is split. And the next event is the one that
+/// was told.
+pub fn what_is_simulated_is_the_one_course<P: Ord>()
+    ensures runs { (p q : Planned P) (w v : World P) (call : Call P) (now : ℕ) (cs ds : List (Completed P)) →
+        IsSimulated P.cmp p call cs q → IsCalled P.cmp p call now w → Runs P.cmp w call now (goes ds v) →
+        AllZip (SameCompletion P.cmp) cs ds × StandsFor P.cmp q v }
+    ensures no_fault { (p q : Planned P) (w : World P) (call : Call P) (now : ℕ) (cs : List (Completed P)) →
+        IsSimulated P.cmp p call cs q → IsCalled P.cmp p call now w → (fault : AnyError) → ¬ Faults P.cmp w call fault }
+    ensures split { (p q : Planned P) (w v : World P) (between now : ℕ) (cs ds : List (Completed P)) →
+        IsSplitAnywhere P.cmp p now cs q → StandsFor P.cmp p w → w.moment ≤ between → between ≤ now →
+        Runs P.cmp w (call_advance now) now (goes ds v) →
+        AllZip (SameCompletion P.cmp) cs ds × StandsFor P.cmp q v }
+    ensures next { (p : Planned P) (w : World P) (told next : Option ℕ) →
+        IsNextInSimulation P.cmp p told → StandsFor P.cmp p w → NextIs P.cmp w next → told ≡ next }
+{}
+
+/// An origin that keeps to its cap, has so many bytes to send, and then has none left, took as long as the cap needs
+/// for them.
+pub fn sending_takes_its_time<P: Ord>()
+    ensures { (p q : Planned P) (w v : World P) (origin : P) (bytes cap now : ℕ) → KeepsToCaps P.cmp p now q →
+        StandsFor P.cmp p w → StandsFor P.cmp q v → w.moment ≤ now → v.moment ≡ now →
+        p.caps.egress origin ≡ Some cap → bytes_from P.cmp origin w ≡ whole bytes →
+        bytes_from P.cmp origin v ≡ whole 0 → bytes * 1_000_000_000 ≤ cap * (now - w.moment) }
+{}
+
+/// Of an origin both what is in flight and what waits counts, and of others nothing.
+pub fn all_that_an_origin_has_to_send_counts()
+    ensures { bytes_from nat_cmp 1 (record (flying 3 (message 1 2 4 0)) {
+      waiting = message 1 3 2 0 ∷ message 2 3 5 0 ∷ [];
+    }) ≡ whole 6 }
+{}
+
+/// What holds of the first calls, however many, holds of all of them.
+pub fn what_holds_so_far_holds_of_all<P: Ord>()
+    ensures { (law : List (Call P) → List (Reply P) → Bool) (calls : List (Call P)) (replies : List (Reply P)) →
+        AlwaysSoFar (λ cs rs. law cs rs ≡ true) calls replies → law calls replies ≡ true }
+{}
+
+/// A completion with another origin, recipient or channel, or with other bytes, is not one of the message that was
+/// enqueued.
+pub fn a_completion_of_another_message_is_not_conserved()
+    ensures origin { ¬ IsConserved nat_cmp (new_planned 0) (message 1 2 1 0 ∷ [])
+        (arrives (message 3 2 1 0) 1 ∷ []) (new_planned 0) }
+    ensures recipient { ¬ IsConserved nat_cmp (new_planned 0) (message 1 2 1 0 ∷ [])
+        (arrives (message 1 3 1 0) 1 ∷ []) (new_planned 0) }
+    ensures channel { ¬ IsConserved nat_cmp (new_planned 0) (message 1 2 1 0 ∷ [])
+        (arrives (record (message 1 2 1 0) { channel = 1 }) 1 ∷ []) (new_planned 0) }
+    ensures bytes { ¬ IsConserved nat_cmp (new_planned 0) (message 1 2 1 0 ∷ [])
+        (arrives (message 1 2 2 0) 1 ∷ []) (new_planned 0) }
+{}
+
+/// A call that is answered without its completion lost a message, and one that is answered with another arrival did
+/// not go by the event rule.
+pub fn a_lost_completion_is_not_conserved()
+    ensures lost { ¬ AreConserved nat_cmp (new_planned 0)
+        (call_enqueue 0 (message 1 2 1 0) ∷ []) (reply_done [] ∷ []) }
+    ensures arrival { ¬ AreConserved nat_cmp (new_planned 0)
+        (call_enqueue 0 (message 1 2 1 0) ∷ []) (reply_done (arrives (message 1 2 1 0) 7 ∷ []) ∷ []) }
+{}
+
+/// A planned world is not in order where a message in flight has a rate that is not its fair one, where two messages
+/// of a pair are in flight, where pairs wait out of order, and where a message waits before any limit.
+pub fn a_world_out_of_order_is_told()
+    ensures rate { ¬ IsOrderly nat_cmp (record (new_planned 0) {
+      limited = true;
+      sending = paced (message 1 2 1 0) (Some (whole 1)) ∷ [];
+    }) }
+    ensures pair { ¬ IsOrderly nat_cmp (record (new_planned 0) {
+      limited = true;
+      sending = paced (message 1 2 1 0) None ∷ paced (message 1 2 1 0) None ∷ [];
+    }) }
+    ensures pair_order { ¬ IsOrderly nat_cmp (record (new_planned 0) {
+      limited = true;
+      waiting = message 2 1 1 0 ∷ message 1 2 1 0 ∷ [];
+    }) }
+    ensures at_first { ¬ IsOrderly nat_cmp (record (new_planned 0) { waiting = message 1 2 1 0 ∷ [] }) }
+{}
+
+/// A call in the range that leads out of it does not keep it.
+pub fn a_call_that_leaves_the_range_is_told()
+    ensures { ¬ KeepsRange nat_cmp (new_planned 0) (call_advance 0) (new_planned 18_446_744_073_709_551_616) }
+{}
+
+/// An advance of a new scheduler is refused for a number neither in the range nor outside, and in the range neither
+/// for a moment nor for want of a flow id.
+pub fn a_refusal_without_a_cause_is_told()
+    ensures number { ¬ IsRefusedInSimulation nat_cmp (new_planned 0)
+        (call_advance 9_223_372_036_854_775_808) NumberTooLarge }
+    ensures moment { ¬ IsRefusedInSimulation nat_cmp (new_planned 0) (call_advance 0) MomentTooLate }
+    ensures id { ¬ IsRefusedInSimulation nat_cmp (new_planned 0) (call_advance 0) FlowIdsUsedUp }
+{}
+
+/// A set that loses its completion is not isolated, nor one of which another's call completes something. And a pair
+/// whose message completes with other bytes is not in order.
+pub fn replies_that_break_a_promise_are_told()
+    ensures lost { ¬ IsolateSets nat_cmp (call_enqueue 0 (message 1 2 1 0) ∷ []) (reply_done [] ∷ []) }
+    ensures others { ¬ IsIsolated nat_cmp (λ p. nat_lt p 3) (call_enqueue 0 (message 3 4 1 0) ∷ [])
+        ((arrives (message 1 2 1 0) 0 ∷ []) ∷ []) }
+    ensures order { ¬ CompletePairsInOrder nat_cmp (call_enqueue 0 (message 1 2 1 0) ∷ [])
+        (reply_done (arrives (message 1 2 2 0) 0 ∷ []) ∷ []) }
+{}
