@@ -1,6 +1,7 @@
 -- The events of an advance, one after another.
-use Rattle.std.proofs.Common.{◌≡◌, ℕ, ◌+◌, ◌<◌, Bool, true, false, if◌then◌else◌, List, [], ◌∷◌, ◌++◌, Some, IfSome, refl, sym, ap, ◌∙◌, subst, arith}
-use Rattle.std.specs.List.{Each, filter, find}
+use Rattle.std.proofs.Common.{◌≡◌, ℕ, ◌+◌, ◌<◌, Bool, true, false, cond, List, [], ◌∷◌, ◌++◌, Some, IfSome, refl, sym, ap, ◌∙◌, subst, arith}
+use Rattle.std.specs.List.{filter, find}
+use Rattle.link_simulation.proofs.Each.{Each}
 use Rattle.std.specs.Cmp.{IsTotalOrder}
 use Rattle.std.specs.declared.cmp.Ordering.{Ordering}
 use Rattle.fair_rates.specs.declared.error.Error.{Error}
@@ -63,12 +64,12 @@ module _ {P : Type 0} (cmp : P → P → Ordering) where
   -- where no message may start, none starts
   module _ (order : IsTotalOrder cmp) where
     none_pass : (t : ℕ) (p : Planned P) (ms : List (Message P)) → Each (λ (m : Message P). find (same_pair cmp m) p.waiting ≡ Some m) ms → ¬ SomeReadyAt cmp p t → filter (may_launch cmp t p) ms ≡ []
-    none_pass t p [] firsts no = refl
-    none_pass t p (m ∷ ms) firsts no = by_test (may_launch cmp t p m) refl
+    none_pass t p [] firsts none = refl
+    none_pass t p (m ∷ ms) firsts none = by_test (may_launch cmp t p m) refl (none_pass t p ms firsts.1 none)
       where
-        by_test : (may : Bool) → may_launch cmp t p m ≡ may → (if may then m ∷ filter (may_launch cmp t p) ms else filter (may_launch cmp t p) ms) ≡ []
-        by_test true is = absurd (no (m, firsts.0, is))
-        by_test false is = none_pass t p ms firsts.1 no
+        by_test : (may : Bool) → may_launch cmp t p m ≡ may → filter (may_launch cmp t p) ms ≡ [] → cond may (m ∷ filter (may_launch cmp t p) ms) (filter (may_launch cmp t p) ms) ≡ []
+        by_test true is rest = absurd (none (m, firsts.0, is))
+        by_test false is rest = rest
 
     pub rests : (now : ℕ) (p q : Planned P) → IsQuiet cmp p now → Looks cmp now p q → Advances cmp now p 0 (goes [] q)
     rests now p q quiet looks =

@@ -150,8 +150,8 @@ module _ {P : Type 0} (cmp : P → P → Ordering) where
         first = moment_is e.moment _ (sym (index e.moment e.origin e.recipient) ∙ first_listed cmp order e es)
 
         if_may : may ≡ true → SomeReadyAt cmp p now
-        if_may yes =
-            let le : t ≤ now = leb-true t now (sym tested ∙ yes) in
+        if_may so =
+            let le : t ≤ now = leb-true t now (sym tested ∙ so) in
             idle_ready e.origin e.recipient e.moment now first (omega (arith, moment))
 
         if_ready : SomeReadyAt cmp p now → may ≡ true

@@ -26,7 +26,6 @@ pub mod Peers
 pub mod Progressing
 pub mod Promises
 pub mod Rating
-pub mod Readying
 pub mod Replaying
 pub mod Searching
 pub mod Settling

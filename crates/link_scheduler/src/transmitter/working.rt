@@ -81,8 +81,11 @@ impl<P: Peer> Working<P> {
         ensures limited { OnOk result (planned P.cmp self.new ≡ record (planned P.cmp self.old) { caps = linked_by P.cmp (planned P.cmp self.old).caps origin.now recipient.now cap; limited = true }) }
         ensures refused { IfErr result (λ e. e ≡ Error.OutOfMemory) }
     {
+        let mut pairs = self.pairs.clone()?;
+        pairs.set_cap(self.alloc, origin, recipient, cap)?;
         self.limited = true;
-        self.pairs.set_cap(self.alloc, origin, recipient, cap)
+        self.pairs = pairs;
+        Ok(())
     }
 
     /// The earlier of the planned finish and the planned start.
