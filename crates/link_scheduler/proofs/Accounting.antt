@@ -19,7 +19,7 @@ use Rattle.fair_rates.specs.PeerCaps.{AreOfPeers, sides_under}
 use Rattle.link_scheduler.specs.Pairs.{arrival_of}
 use Rattle.link_scheduler.specs.Working.{caps_of, AreFairPartsUnder}
 use Rattle.link_simulation.specs.WorldEvents.{Accounts}
-use Rattle.link_simulation.specs.WorldMessages.{Message, is_delivered, PairsAlike}
+use Rattle.link_simulation.specs.WorldMessages.{Message, PairsAlike}
 use Rattle.link_simulation.specs.WorldPlanned.{Planned, Paced, IsLeastMoment, SomeSpentAt, paced_flows, drained_to, is_spent}
 use Rattle.link_simulation.specs.WorldRates.{AreFair, capped_sides, is_unlimited, rate_of, rates_from}
 use Rattle.link_scheduler.proofs.InFlight.{length-read, nothing_is_done, StandsForSent, standing_zip, standing_length}
@@ -27,7 +27,6 @@ use Rattle.link_scheduler.proofs.PairEntries.{links_alike, arrivals_alike}
 use Rattle.link_simulation.proofs.Sorted.{and_left, and_right, and_both, is_eq_equal, value_respects}
 use Rattle.link_scheduler.proofs.Fairness.Messages.{StandsForMessage, same_sides}
 use Rattle.fair_rates.proofs.Fairness.SameSides.{still_fair}
-use Rattle.fair_rates.proofs.Fairness.Subjects.{same_peer_itself}
 
 -- ---- the caps that are looked up
 

@@ -1,5 +1,5 @@
 -- The messages in flight: a list of flows, and beside it a list of what is known of their messages.
-use Rattle.std.proofs.Common.{◌≡◌, ℕ, zero, suc, ◌+◌, ◌*◌, ◌<◌, ◌≤◌, Bool, true, false, not, if◌then◌else◌, ◌&&◌, ◌||◌, List, [], ◌∷◌, ◌++◌, length, map, get_or, nat_lt, refl, sym, ◌∙◌, ap, arith, append_assoc}
+use Rattle.std.proofs.Common.{◌≡◌, ℕ, zero, suc, ◌+◌, ◌<◌, ◌≤◌, Bool, true, false, not, if◌then◌else◌, ◌&&◌, ◌||◌, List, [], ◌∷◌, ◌++◌, length, map, get_or, nat_lt, refl, sym, ◌∙◌, ap, arith, append_assoc}
 use Rattle.std.specs.List.{AllZip, list_all, list_any, remove, filter}
 use Rattle.std.specs.declared.cmp.Ordering.{Ordering}
 use Rattle.std.specs.Ordering.{is_lt, nat_cmp}
@@ -12,10 +12,10 @@ use Rattle.link_simulation.specs.WorldMessages.{Message, is_delivered, same_pair
 use Rattle.link_simulation.specs.WorldPlanned.{Paced, paced_flows}
 use Rattle.std.proofs.lemmas.List.{length-append, append-nil, map-append}
 use Rattle.link_simulation.specs.Sorted.{are_ascending}
-use Rattle.link_scheduler.specs.Flights.{paced_of, sending_of, stands_for, are_standing}
+use Rattle.link_scheduler.specs.Flights.{sending_of, stands_for, are_standing}
 use Rattle.link_scheduler.specs.Message.{message_of}
 use Rattle.link_simulation.proofs.Zips.{zip-length, zip-push}
-use Rattle.link_simulation.proofs.Sorted.{and_left, and_right, and_both, list_all-append, list_all-left, list_all-right, list_all-map, get_or-seam, IsCut, cut}
+use Rattle.link_simulation.proofs.Sorted.{and_left, and_right, and_both, list_all-append, list_all-map, get_or-seam}
 
 -- ---- a list of what is read
 

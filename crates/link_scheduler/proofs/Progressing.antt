@@ -1,5 +1,5 @@
 -- What becomes of what is known of messages in flight.
-use Rattle.std.proofs.Common.{◌≡◌, ◌≢◌, All, ℕ, zero, suc, ◌+◌, ◌-◌, ◌*◌, ◌<◌, ◌≤◌, not, if◌then◌else◌, ◌&&◌, List, [], ◌∷◌, ◌++◌, length, get_or, take, drop, Option, slice_get, Some, refl, ap, sym, ◌∙◌, arith}
+use Rattle.std.proofs.Common.{◌≡◌, ◌≢◌, All, ℕ, zero, suc, ◌-◌, ◌*◌, ◌<◌, ◌≤◌, ◌&&◌, List, [], ◌∷◌, ◌++◌, length, get_or, take, drop, Option, slice_get, Some, refl, ap, sym, ◌∙◌, arith}
 use Rattle.std.specs.List.{AllZip}
 use Rattle.std.proofs.lemmas.Option.{none-some, same_Some}
 use Rattle.std.proofs.lemmas.List.{append-nil}
@@ -9,8 +9,6 @@ use Rattle.fair_rates.specs.declared.bandwidth.Flow.{Flow}
 use Rattle.fair_rates.specs.Amount.{Amount, reduced, billion}
 use Rattle.fair_rates.specs.FairParts.{parts_of_level}
 use Rattle.fair_rates.specs.Laws.LowestTerms.{reduced_alike, reduced_scaled}
-use Rattle.fair_rates.specs.Sides.{same_peer}
-use Rattle.link_simulation.specs.WorldMessages.{is_delivered}
 use Rattle.link_simulation.specs.WorldPlanned.{Paced, paced_flows, left_at, drained_to}
 use Rattle.link_scheduler.specs.Flights.{paced_of, sending_of, stands_for, are_standing, rated_by}
 use Rattle.link_scheduler.specs.declared.transmitter.progress.Progress.{Progress}

@@ -1,22 +1,20 @@
 -- What a scheduler promises of a call, from what it keeps.
-use Rattle.std.proofs.Common.{◌≡◌, ℕ, ◌<◌, ◌≤◌, ◌^◌, List, [], ◌∷◌, length, Option, Some, Result, Ok, Err, IfOk, IfErr, OnOk, OnErr, refl, sym, subst}
+use Rattle.std.proofs.Common.{◌≡◌, ℕ, ◌<◌, ◌^◌, List, Option, Some, Result, Ok, Err, IfOk, IfErr, OnOk, OnErr, refl, sym, subst}
 use Rattle.std.specs.declared.cmp.Ordering.{Ordering}
 use Rattle.std.specs.Cmp.{IsTotalOrder}
 use Rattle.std.proofs.Math.Logic.{∥∥₁_map}
 use Rattle.fair_rates.specs.declared.error.Error.{Error}
 use Rattle.link_simulation.specs.World.{Completed, goes, new_world}
 use Rattle.link_simulation.specs.WorldCalls.{Call, call_advance, moment_of}
-use Rattle.link_simulation.specs.WorldOrder.{enqueued}
-use Rattle.link_simulation.specs.WorldPlanned.{Planned, IsPlanned, IsRated, new_planned, next_event}
+use Rattle.link_simulation.specs.WorldPlanned.{Planned, IsPlanned, new_planned, next_event}
 use Rattle.link_simulation.specs.WorldEvents.{Obeys}
 use Rattle.link_simulation.specs.WorldRefusals.{MayBeRefused}
 use Rattle.link_simulation.specs.WorldRange.{IsInRange}
 use Rattle.link_simulation.specs.WorldStands.{StandsFor}
 use Rattle.link_simulation.specs.SamePlanned.{IsSamePlanned, Goes}
 use Rattle.link_simulation.specs.Orderly.{IsOrderly}
-use Rattle.link_simulation.specs.Conserved.{IsConserved}
 use Rattle.link_scheduler.specs.State.{Makes, Refuses}
-use Rattle.link_simulation.specs.Simulated.{IsSimulated, IsNextInSimulation, KeepsRange, IsRefusedInSimulation, IsSplitAnywhere, KeepsToCaps}
+use Rattle.link_simulation.specs.Simulated.{IsNextInSimulation, IsSplitAnywhere, KeepsToCaps}
 use Rattle.link_simulation.proofs.World.RepliesInRange.{new_in_range}
 use Rattle.link_simulation.proofs.World.BytesStand.{advance_keeps_to_caps}
 use Rattle.link_simulation.proofs.World.ConservedAlike.{goes_conserved}

@@ -1,7 +1,6 @@
 -- When idle pairs may start.
-use Rattle.std.specs.Prelude.{◌≡◌, ℕ, ◌+◌, Bool, false, ◌&&◌, ◌==◌, if◌then◌else◌, List, [], ◌∷◌, ◌++◌, length, Option, Some, None, option_map}
+use Rattle.std.specs.Prelude.{◌≡◌, ℕ, ◌+◌, Bool, false, ◌&&◌, ◌==◌, [], ◌∷◌, ◌++◌, length, Option, Some, None}
 use Rattle.std.specs.declared.cmp.Ordering.{Ordering}
-use Rattle.link_scheduler.specs.Moments.{first_moment}
 use Rattle.link_scheduler.specs.Pairs.{first_of}
 use Rattle.fair_rates.specs.Amount.{whole}
 use Rattle.fair_rates.specs.Sides.{same_peer}

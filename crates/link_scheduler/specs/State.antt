@@ -11,7 +11,7 @@ use Rattle.link_simulation.specs.SamePlanned.{Goes, GoesCounted}
 use Rattle.link_simulation.specs.Simulated.{IsSimulated, KeepsRange, IsRefusedInSimulation, IsNextInSimulation, IsSplitAnywhere, KeepsToCaps}
 use Rattle.link_scheduler.specs.Working.{planned, IsQuiet}
 use Rattle.link_simulation.specs.World.{Completed, new_world}
-use Rattle.link_simulation.specs.WorldCalls.{Call, call_advance}
+use Rattle.link_simulation.specs.WorldCalls.{Call}
 use Rattle.link_simulation.specs.WorldMessages.{Message}
 use Rattle.link_simulation.specs.WorldOrder.{enqueued}
 use Rattle.link_simulation.specs.WorldPlanned.{Planned, IsRated, new_planned, next_event}

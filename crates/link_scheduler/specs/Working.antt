@@ -1,6 +1,6 @@
 -- How a scheduler is read as a planned world.
-use Rattle.std.specs.Prelude.{◌≡◌, ℕ, ◌*◌, ◌<◌, IfSome, Bool, false, ◌&&◌, List, length, map, Option, Some, None}
-use Rattle.std.specs.List.{filter, list_any}
+use Rattle.std.specs.Prelude.{◌≡◌, ℕ, ◌*◌, ◌<◌, IfSome, Bool, false, List, length, map, Option, Some, None}
+use Rattle.std.specs.List.{filter}
 use Rattle.std.specs.declared.cmp.Ordering.{Ordering}
 use Rattle.std.specs.declared.rc.Rc.{Rc}
 use Rattle.std.specs.declared.alloc.Global.{Global}
@@ -14,7 +14,6 @@ use Rattle.link_scheduler.specs.declared.transmitter.peers.PeerCaps.{PeerCaps}
 use Rattle.link_scheduler.specs.declared.transmitter.pairs.Pair.{Pair}
 use Rattle.link_scheduler.specs.declared.transmitter.working.Working.{Working}
 use Rattle.fair_rates.specs.Caps.{Caps}
-use Rattle.fair_rates.specs.Sides.{same_peer}
 use Rattle.link_simulation.specs.World.{fronts}
 use Rattle.link_simulation.specs.WorldMessages.{Message}
 use Rattle.link_simulation.specs.WorldPlanned.{Planned, SomeReadyAt, may_launch, next_event}

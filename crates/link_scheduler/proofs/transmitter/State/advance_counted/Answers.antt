@@ -5,7 +5,7 @@ use Rattle.link_scheduler.specs.Working.{planned}
 use Rattle.link_scheduler.specs.Message.{completed_of}
 use Rattle.link_simulation.proofs.World.SameWorlds.{same_itself}
 use Rattle.link_scheduler.proofs.Calling.{advances_on, counted_goes}
-use Rattle.link_scheduler.proofs.World.SameIsPlanned.{planned_on, few_on}
+use Rattle.link_scheduler.proofs.World.SameIsPlanned.{planned_on}
 use Rattle.link_scheduler.proofs.Accounting.{looked_up, arrivals_looked_up}
 use Rattle.link_scheduler.proofs.Promises.{orderly_on, promised_if, split_on, within_caps_on}
 use Rattle.link_scheduler.proofs.transmitter.State.advance_counted.Goals as goal

@@ -4,7 +4,7 @@ use Rattle.link_simulation.specs.World.{goes}
 use Rattle.link_simulation.specs.WorldCalls.{call_advance}
 use Rattle.link_scheduler.specs.Working.{planned}
 use Rattle.link_scheduler.specs.Message.{completed_of, ended_of}
-use Rattle.link_scheduler.proofs.Calling.{advance_refused, advances_on, counted_goes, same_copy, goes_answered, counted_answered}
+use Rattle.link_scheduler.proofs.Calling.{advance_refused, advances_on, counted_goes, same_copy, counted_answered}
 use Rattle.link_scheduler.proofs.World.SameIsPlanned.{planned_on, few_on}
 use Rattle.link_scheduler.proofs.Accounting.{looked_up, arrivals_looked_up}
 use Rattle.link_scheduler.proofs.Promises.{orderly_on, promised_if, cause_of, split_on, within_caps_on}

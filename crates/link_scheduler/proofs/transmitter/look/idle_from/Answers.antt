@@ -2,7 +2,7 @@ use Rattle.std.proofs.Common.{◌≡◌, false, [], if◌then◌else◌, None, S
 use Rattle.std.specs.Prelude.{option_map}
 use Rattle.link_simulation.specs.WorldMessages.{Message}
 use Rattle.link_simulation.specs.WorldPlanned.{Planned}
-use Rattle.link_scheduler.specs.AtRest.{is_sending, of_pairs}
+use Rattle.link_scheduler.specs.AtRest.{of_pairs}
 use Rattle.link_scheduler.specs.InFlight.{in_flight}
 use Rattle.link_scheduler.specs.Message.{message_of}
 use Rattle.link_scheduler.specs.Moments.{first_moment}

@@ -11,8 +11,7 @@ use Rattle.link_scheduler.specs.InFlight.{in_flight}
 use Rattle.link_scheduler.specs.Message.{message_of}
 use Rattle.link_scheduler.specs.Working.{messages}
 use Rattle.link_scheduler.proofs.Accounting.{arrivals_looked_up}
-use Rattle.link_scheduler.proofs.IdleChanges.{any_at, rests_first, rests_more, rests_none}
-use Rattle.link_scheduler.proofs.Copies.{take-whole}
+use Rattle.link_scheduler.proofs.IdleChanges.{any_at, rests_more, rests_none}
 use Rattle.link_scheduler.proofs.transmitter.look.rest_all.Goals as goal
 use Rattle.link_scheduler.proofs.transmitter.look.rest_all.Goals.{in-Some+in_ok-add, in_default}
 

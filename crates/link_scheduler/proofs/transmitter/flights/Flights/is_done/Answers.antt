@@ -1,4 +1,4 @@
-use Rattle.std.proofs.Common.{◌≡◌, ◌<◌, ◌*◌, length, get_or, ap, sym, ◌∙◌, arith, rules}
+use Rattle.std.proofs.Common.{◌≡◌, ◌*◌, get_or, ap, sym, ◌∙◌, arith}
 use Rattle.fair_rates.specs.Amount.{billion}
 use Rattle.link_scheduler.specs.Flights.{paced_of}
 use Rattle.link_scheduler.specs.InFlight.{in_flight}

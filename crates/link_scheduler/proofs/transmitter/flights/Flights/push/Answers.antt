@@ -8,7 +8,7 @@ use Rattle.fair_rates.specs.Amount.{billion}
 use Rattle.link_simulation.specs.WorldMessages.{is_delivered}
 use Rattle.link_scheduler.specs.declared.transmitter.progress.Progress.{Progress}
 use Rattle.link_scheduler.specs.Message.{message_of}
-use Rattle.link_scheduler.specs.Flights.{paced_of, sending_of, are_standing}
+use Rattle.link_scheduler.specs.Flights.{paced_of, sending_of}
 use Rattle.link_scheduler.specs.InFlight.{in_flight}
 use Rattle.link_scheduler.proofs.InFlight.{StandsForSent, standing_with, apart_with}
 use Rattle.link_scheduler.proofs.Units.{units_of_bytes, no_units}

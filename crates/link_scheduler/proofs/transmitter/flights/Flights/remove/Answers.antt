@@ -1,6 +1,6 @@
-use Rattle.std.proofs.Common.{◌≡◌, ◌<◌, length, ap, sym, ◌∙◌, subst, arith}
+use Rattle.std.proofs.Common.{arith}
 use Rattle.link_scheduler.specs.Flights.{paced_of}
-use Rattle.link_scheduler.proofs.InFlight.{read_at, read_without, standing_length, standing_without, apart_without, all_without}
+use Rattle.link_scheduler.proofs.InFlight.{read_without, standing_length, standing_without, apart_without, all_without}
 use Rattle.link_scheduler.proofs.transmitter.flights.Flights.remove.Goals as goal
 
 pub remove-requires-2 : goal.remove-requires-2

@@ -1,4 +1,4 @@
-use Rattle.std.proofs.Common.{◌≡◌, ◌<◌, ◌≤◌, [], ◌++◌, ◌∷◌, length, map, ap, sym, ◌∙◌, subst, arith}
+use Rattle.std.proofs.Common.{◌≡◌, ◌<◌, ◌≤◌, [], ◌++◌, ◌∷◌, length, ap, sym, ◌∙◌, subst, arith}
 use Rattle.link_scheduler.specs.Message.{message_of}
 use Rattle.link_scheduler.specs.InFlight.{in_flight}
 use Rattle.link_scheduler.specs.Working.{caps_of, messages}

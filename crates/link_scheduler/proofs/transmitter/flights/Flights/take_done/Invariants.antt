@@ -1,7 +1,6 @@
-use Rattle.std.proofs.Common.{◌≡◌, ◌-◌, Bool, true, map, length}
+use Rattle.std.proofs.Common.{◌≡◌, ◌-◌, Bool, true, length}
 use Rattle.std.specs.List.{list_all}
 use Rattle.fair_rates.specs.declared.bandwidth.Flow.{Flow}
-use Rattle.link_scheduler.specs.Message.{message_of}
 use Rattle.link_scheduler.specs.InFlight.{in_flight}
 use Rattle.link_scheduler.specs.Working.{caps_of, messages}
 use Rattle.link_scheduler.proofs.InFlight.{HaveLeft}

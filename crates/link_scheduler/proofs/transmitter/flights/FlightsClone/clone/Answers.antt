@@ -1,4 +1,4 @@
-use Rattle.std.proofs.Common.{◌≡◌, ◌<◌, length, get_or, sym, ◌∙◌, ap, subst, arith}
+use Rattle.std.proofs.Common.{◌≡◌, ◌<◌, get_or, sym, ◌∙◌, ap, subst, arith}
 use Rattle.std.specs.List.{AllZip, each_same}
 use Rattle.std.specs.Ordering.{nat_cmp}
 use Rattle.link_simulation.specs.Sorted.{are_ascending}

@@ -1,4 +1,4 @@
-use Rattle.std.proofs.Common.{◌≡◌, false, Option, Some, None, option_map, slice_get, Bor, sym, ap, ◌∙◌, rules}
+use Rattle.std.proofs.Common.{◌≡◌, Some, None, option_map, slice_get, Bor, sym, ap, ◌∙◌, rules}
 use Rattle.std.specs.Ordering.{is_eq}
 use Rattle.link_scheduler.specs.declared.transmitter.idle.IdlePair.{IdlePair}
 use Rattle.link_scheduler.specs.Idle.{idle_cmp, idle_key}

@@ -1,4 +1,4 @@
-use Rattle.std.proofs.Common.{◌≡◌, ◌≢◌, List, All, not, sym, ap, ◌∙◌, subst}
+use Rattle.std.proofs.Common.{◌≢◌, List, All, not, sym, ap, ◌∙◌, subst}
 use Rattle.std.specs.List.{filter}
 use Rattle.link_simulation.specs.WorldPlanned.{Planned, Paced, IsLeastMoment, SomeSpentAt, paced_flows, drained_to, is_spent}
 use Rattle.link_simulation.specs.WorldEvents.{Accounts}

@@ -1,4 +1,4 @@
-use Rattle.std.proofs.Common.{◌≡◌, ◌+◌, [], ◌∷◌, ◌++◌, length, map, if◌then◌else◌, None, Some, true, sym, ap, ◌∙◌, subst}
+use Rattle.std.proofs.Common.{◌≡◌, ◌+◌, length, map, if◌then◌else◌, None, Some, sym, ap, ◌∙◌}
 use Rattle.std.specs.Prelude.{option_map, nat_lt, ◌&&◌}
 use Rattle.fair_rates.specs.Amount.{whole}
 use Rattle.fair_rates.specs.Sides.{same_peer}

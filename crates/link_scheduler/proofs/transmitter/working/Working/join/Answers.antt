@@ -1,4 +1,4 @@
-use Rattle.std.proofs.Common.{◌≡◌, true, map, sym, ap, ◌∙◌}
+use Rattle.std.proofs.Common.{◌≡◌, map, ap, ◌∙◌}
 use Rattle.link_simulation.specs.WorldPlanned.{queued}
 use Rattle.link_simulation.proofs.Sorted.{and_both}
 use Rattle.link_simulation.proofs.World.SameWorlds.{peer_turned}

@@ -1,4 +1,4 @@
-use Rattle.std.proofs.Common.{◌+◌, List, sym, ◌∙◌, subst, arith}
+use Rattle.std.proofs.Common.{List, sym, ◌∙◌, subst, arith}
 use Rattle.std.specs.declared.rc.Rc.{Rc}
 use Rattle.std.specs.declared.alloc.Global.{Global}
 use Rattle.link_scheduler.specs.declared.transmitter.message.Message as code

@@ -1,4 +1,4 @@
-use Rattle.std.proofs.Common.{◌≡◌, map, sym, ap, ◌∙◌, subst}
+use Rattle.std.proofs.Common.{map, sym, ap, ◌∙◌, subst}
 use Rattle.link_simulation.specs.WorldPlanned.{new_planned}
 use Rattle.link_scheduler.specs.Idle.{IsIndexOf}
 use Rattle.link_scheduler.specs.InFlight.{in_flight}

@@ -1,11 +1,10 @@
-use Rattle.std.proofs.Common.{◌≡◌, map, refl, sym, ap, ◌∙◌, subst}
-use Rattle.link_scheduler.specs.AtRest.{of_pairs}
+use Rattle.std.proofs.Common.{map, ap, ◌∙◌}
 use Rattle.link_scheduler.specs.InFlight.{in_flight}
 use Rattle.link_scheduler.specs.Message.{message_of}
 use Rattle.link_scheduler.specs.Pairs.{link_of, arrival_of, raised_at}
 use Rattle.link_scheduler.specs.Peers.{egress_of, ingress_of}
 use Rattle.link_scheduler.proofs.Accounting.{arrivals_looked_up}
-use Rattle.link_scheduler.proofs.IdleChanges.{follows, raised_index}
+use Rattle.link_scheduler.proofs.IdleChanges.{raised_index}
 use Rattle.link_scheduler.proofs.transmitter.working.Working.raise.Goals as goal
 
 pub invariant_of-self-2 : goal.invariant_of-self-2

@@ -1,7 +1,4 @@
-use Rattle.std.proofs.Common.{◌≡◌, Result, Ok, Err, IfOk}
-use Rattle.std.specs.List.{AllZip}
-use Rattle.link_scheduler.specs.Keys.{IsKeyOf}
-use Rattle.link_scheduler.specs.Working.{planned, ready_messages}
+use Rattle.link_scheduler.specs.Working.{planned}
 use Rattle.link_scheduler.proofs.Accounting.{arrivals_looked_up}
 use Rattle.link_scheduler.proofs.DueMessages.{ready_so}
 use Rattle.link_scheduler.proofs.Settling.{if_ok}
