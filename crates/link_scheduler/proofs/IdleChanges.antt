@@ -1,17 +1,16 @@
 -- The index of idle pairs after a change of the planned world.
-use Rattle.std.proofs.Common.{◌≡◌, ℕ, zero, suc, ◌+◌, ◌<◌, map, get_or, arith, Bool, true, false, not, ◌&&◌, ◌||◌, cond, if◌then◌else◌, List, [], ◌∷◌, ◌++◌, length, Option, Some, None, refl, sym, ◌∙◌, ap}
+use Rattle.std.proofs.Common.{◌≡◌, ℕ, zero, suc, ◌<◌, map, get_or, arith, Bool, true, false, not, ◌&&◌, ◌||◌, cond, if◌then◌else◌, List, [], ◌∷◌, ◌++◌, length, Option, Some, None, refl, sym, ◌∙◌, ap}
 use Rattle.std.specs.Prelude.{option_map, ◌==◌}
 use Rattle.std.specs.List.{find, filter, list_any, AllZip}
 use Rattle.std.specs.declared.cmp.Ordering.{Ordering}
 use Rattle.std.specs.Ordering.{is_eq}
 use Rattle.std.specs.Cmp.{IsTotalOrder}
 use Rattle.link_scheduler.specs.declared.transmitter.idle.IdlePair.{IdlePair}
-use Rattle.fair_rates.specs.Amount.{whole}
 use Rattle.fair_rates.specs.Sides.{same_peer}
 use Rattle.link_simulation.specs.WorldMessages.{Message, PairsAlike, pair_before}
-use Rattle.link_simulation.specs.World.{without_first, goes}
-use Rattle.link_simulation.specs.WorldEvents.{Accounts, Launches, nothing_waits, too_early, starts, launched, landed, with_queued}
-use Rattle.link_simulation.specs.WorldPlanned.{Planned, Paced, paced_flows, queued, drained_to, is_spent}
+use Rattle.link_simulation.specs.World.{without_first}
+use Rattle.link_simulation.specs.WorldEvents.{with_queued}
+use Rattle.link_simulation.specs.WorldPlanned.{Planned, Paced, paced_flows, queued, drained_to}
 use Rattle.link_scheduler.specs.Idle.{idle_cmp, is_listed, idle_from, IsIndexOf, is_of, AreAtRest}
 use Rattle.link_scheduler.specs.Moments.{first_moment}
 use Rattle.link_scheduler.specs.Pairs.{first_of, arrival_of, raised_at}
@@ -21,7 +20,7 @@ use Rattle.link_scheduler.specs.Message.{message_of}
 use Rattle.link_scheduler.specs.declared.transmitter.message.Message as code
 use Rattle.link_scheduler.specs.declared.transmitter.pairs.Pair.{Pair}
 use Rattle.link_simulation.proofs.Sorted.{by_bool, and_left, and_right, and_both}
-use Rattle.link_simulation.proofs.World.Queue.{find_passes, pair_like, pair_sym}
+use Rattle.link_simulation.proofs.World.Queue.{pair_like, pair_sym}
 use Rattle.fair_rates.proofs.Fairness.Subjects.{same_peer_itself}
 use Rattle.link_scheduler.proofs.Idle.{same_two, same_idle}
 use Rattle.link_scheduler.proofs.IdleLooks.{idle_respects}
@@ -42,9 +41,6 @@ module _ {P : Type 0} (cmp : P → P → Ordering) where
   -- no earlier arrival of one pair: the others are as they were
   pub raised_else : (p : Planned P) (o r : P) (at : ℕ) (a b : P) → same_two cmp o r a b ≡ false → idle_from cmp (record p { last_arrival = raised_at cmp p.last_arrival o r at }) a b ≡ idle_from cmp p a b
   raised_else p o r at a b apart = alike_from p (record p { last_arrival = raised_at cmp p.last_arrival o r at }) a b refl refl (rw apart refl)
-
-  pub landed_else : (p : Planned P) (t : ℕ) (m : Message P) (a b : P) → same_two cmp m.origin m.recipient a b ≡ false → idle_from cmp (landed cmp t p m) a b ≡ idle_from cmp p a b
-  landed_else p t m a b apart = alike_from p (landed cmp t p m) a b refl refl (rw apart refl)
 
   module _ (order : IsTotalOrder cmp) where
     -- ---- from one world to another
@@ -139,41 +135,6 @@ module _ {P : Type 0} (cmp : P → P → Ordering) where
             either_true false h on = on h
         by_test false some ih = rw (ih some) (or_true (u f.message))
 
-  -- the pairs of which nothing left are as they were
-  pub accounts_else : (t : ℕ) (p q : Planned P) (leavers : List (Message P)) → Accounts cmp t p leavers q → (a b : P) → list_any (is_of cmp a b) leavers ≡ false → idle_from cmp q a b ≡ idle_from cmp p a b
-  accounts_else t p q leavers accounts a b none = alike_from p q a b
-      (stayed_else (is_of cmp a b) t (filter (λ f. not (is_spent cmp p.caps f)) (drained_to t p.sending)) q.sending accounts.stayed
-      ∙ left_else (is_of cmp a b) (is_spent cmp p.caps) (drained_to t p.sending) (ap (list_any (is_of cmp a b)) (sym accounts.left) ∙ none) ∙ drained_else (is_of cmp a b) t p.sending)
-      (ap (λ (w : Planned P). first_of cmp w.waiting a b) accounts.same)
-      (ap (λ (w : Planned P). w.last_arrival a b) accounts.same)
-
-  -- the pairs of which something left were not idle
-  pub leaver_busy : (t : ℕ) (p q : Planned P) (leavers : List (Message P)) → Accounts cmp t p leavers q → (a b : P) → list_any (is_of cmp a b) leavers ≡ true → idle_from cmp p a b ≡ None
-  leaver_busy t p q leavers accounts a b some =
-      let busy : is_sending cmp p a b ≡ true = sym (drained_else (is_of cmp a b) t p.sending) ∙ left_in_flight (is_of cmp a b) (is_spent cmp p.caps) (drained_to t p.sending) (ap (list_any (is_of cmp a b)) (sym accounts.left) ∙ some) in
-      ap (λ (c : Bool). if c then None else option_map (λ (m : Message P). first_moment (p.last_arrival a b) m.latency) (first_of cmp p.waiting a b)) busy
-
-  -- ---- a launch
-
-  module _ (order : IsTotalOrder cmp) where
-    pub launched_else : (t : ℕ) (p : Planned P) (m : Message P) (a b : P) → same_two cmp m.origin m.recipient a b ≡ false → idle_from cmp (launched cmp t p m) a b ≡ idle_from cmp p a b
-    launched_else t p m a b apart = pushed_else order m.origin m.recipient a b apart p (record { message = m; left = whole (length m.bytes); rate = Some (whole 0); updated = t }) (p.next_id + 1)
-        (and_both (same_peer cmp m.origin m.origin) (same_peer cmp m.recipient m.recipient) (same_peer_itself cmp order m.origin) (same_peer_itself cmp order m.recipient))
-
-    -- a pair's launch: the other pairs of which nothing left are as they were
-    pub launches_else : (t : ℕ) (p q : Planned P) (o r : P) (leavers : List (Message P)) → Launches cmp t p (first_of cmp p.waiting o r) (goes leavers q) → (a b : P) → same_two cmp o r a b ≡ false → list_any (is_of cmp a b) leavers ≡ false
-        → idle_from cmp q a b ≡ idle_from cmp p a b
-    launches_else t p q o r leavers launches a b apart none = by_first (first_of cmp p.waiting o r) refl leavers q launches none
-      where
-        by_first : (first : Option (Message P)) → first_of cmp p.waiting o r ≡ first → (leavers : List (Message P)) (q : Planned P) → Launches cmp t p first (goes leavers q) → list_any (is_of cmp a b) leavers ≡ false → idle_from cmp q a b ≡ idle_from cmp p a b
-        by_first None is leavers q nothing_waits none = refl
-        by_first (Some m) is leavers q (too_early early) none = refl
-        by_first (Some m) is leavers q (starts may id accounts) none =
-            let same : same_two cmp o r m.origin m.recipient ≡ true = find_passes (λ (n : Message P). same_peer cmp o n.origin && same_peer cmp r n.recipient) m p.waiting is in
-            let k : Message P = record m { origin = o; recipient = r } in
-            let other : same_two cmp m.origin m.recipient a b ≡ false = pair_like cmp order k m (record m { origin = a; recipient = b }) same ∙ apart in
-            accounts_else t (launched cmp t p m) q leavers accounts a b none ∙ launched_else t p m a b other
-
 -- ---- the pairs of what left are at rest
 
 either : (c d : Bool) → c ≡ true → (c || d) ≡ true
@@ -196,9 +157,6 @@ any_more u (y ∷ xs) x = ap (λ c. u y || c) (any_more u xs x) ∙ sym (or_asso
     or_assoc false b c = refl
 
 module _ {P : Type 0} (cmp : P → P → Ordering) (order : IsTotalOrder cmp) (q : Planned P) (alike : PairsAlike cmp q.last_arrival q.last_arrival) (old : List (IdlePair P)) where
-  pub rests_first : AreAtRest cmp q [] old old
-  rests_first t a b = refl
-
   module _ (done : List (Message P)) (m : Message P) (es : List (IdlePair P)) (so : AreAtRest cmp q done old es)
       (busy : (t : ℕ) (a b : P) → is_of cmp a b m ≡ true → is_listed cmp old t a b ≡ false) where
     -- what the rest says of the pair of the message

@@ -1,5 +1,5 @@
 -- What a scheduler promises of a call, from what it keeps.
-use Rattle.std.proofs.Common.{◌≡◌, ℕ, ◌<◌, ◌^◌, List, Option, Some, Result, Ok, Err, IfOk, IfErr, OnOk, OnErr, refl, sym, subst}
+use Rattle.std.proofs.Common.{◌≡◌, ℕ, ◌<◌, ◌^◌, List, Option, Some, Result, Ok, Err, OnOk, OnErr, refl, sym, subst}
 use Rattle.std.specs.declared.cmp.Ordering.{Ordering}
 use Rattle.std.specs.Cmp.{IsTotalOrder}
 use Rattle.std.proofs.Math.Logic.{∥∥₁_map}
@@ -24,16 +24,6 @@ use Rattle.link_simulation.proofs.World.Orderly.{new_orderly, obeys_orderly}
 use Rattle.link_simulation.proofs.World.OrderlyAlike.{orderly_same, goes_orderly}
 use Rattle.link_simulation.proofs.World.Simulated.{moment_in_time, calls_simulated, call_keeps_range, refusals_simulated, next_in_simulation}
 use Rattle.link_simulation.proofs.World.SplitAnywhere.{advance_split_anywhere}
-
--- what is so of an answer, from what else is
-pub ok_so : {X E : Type 0} (r : Result X E) (Q R : X → Type 0) → ((x : X) → Q x → R x) → IfOk r Q → IfOk r R
-ok_so (Ok x) Q R so h = so x h
-ok_so (Err e) Q R so h = h
-
--- and of a refusal
-pub err_so : {X E : Type 0} (r : Result X E) (Q R : E → Type 0) → ((e : E) → Q e → R e) → IfErr r Q → IfErr r R
-err_so (Ok x) Q R so h = h
-err_so (Err e) Q R so h = so e h
 
 module _ {P : Type 0} (cmp : P → P → Ordering) (order : IsTotalOrder cmp) where
   -- ---- a new scheduler
