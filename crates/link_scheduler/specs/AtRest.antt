@@ -10,9 +10,12 @@ use Rattle.link_scheduler.specs.Message.{message_of}
 use Rattle.link_scheduler.specs.Pairs.{arrival_of}
 
 -- a planned world of which only what is known of pairs is told
-abbrev pub of_pairs : {P : Type 0} → (P → P → Ordering) → List (Pair P) → List (code.Message P) → List (Paced P) → Planned P
-of_pairs cmp pairs waiting sending = record (new_planned 0) { sending = sending; waiting = map message_of waiting; last_arrival = arrival_of cmp pairs }
+abbrev pub of_pairs : {P : Type 0} → (P → P → Ordering) → List (Pair P) → List (code.Message P) → List (Paced P)
+    → Planned P
+of_pairs cmp pairs waiting sending = record (new_planned 0)
+    { sending = sending; waiting = map message_of waiting; last_arrival = arrival_of cmp pairs }
 
 -- whether a message from the one peer to the other is in flight
 abbrev pub is_sending : {P : Type 0} → (P → P → Ordering) → Planned P → P → P → Bool
-is_sending cmp p origin recipient = list_any (λ m. same_peer cmp origin m.origin && same_peer cmp recipient m.recipient) (paced_flows p.sending)
+is_sending cmp p origin recipient = list_any (λ m. same_peer cmp origin m.origin
+    && same_peer cmp recipient m.recipient) (paced_flows p.sending)

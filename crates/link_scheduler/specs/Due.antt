@@ -15,7 +15,8 @@ pub record IsKeyOfIdle {P : Type 0} (cmp : P → P → Ordering) (key : Key P) (
   pub recipient : same_peer cmp pair.recipient key.recipient ≡ true
 
 -- the keys, in the order of pairs, name the pairs that are listed under moments up to now
-pub record AreDue {P : Type 0} (cmp : P → P → Ordering) (now : ℕ) (entries : List (IdlePair P)) (keys : List (Key P)) : Type 0 where
+pub record AreDue {P : Type 0} (cmp : P → P → Ordering) (now : ℕ) (entries : List (IdlePair P))
+    (keys : List (Key P)) : Type 0 where
   pub due : List (Key P)
   pub named : AllZip (IsKeyOfIdle cmp) due (filter (λ pair. nat_le pair.moment now) entries)
   pub same : IsPermutation due keys

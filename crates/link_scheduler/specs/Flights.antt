@@ -1,5 +1,6 @@
 -- How the messages in flight are read.
-use Rattle.std.specs.Prelude.{◌≡◌, ℕ, Bool, true, false, not, ◌&&◌, if◌then◌else◌, List, [], ◌∷◌, map, Option, Some, ◌*◌}
+use Rattle.std.specs.Prelude.{◌≡◌, ℕ, Bool, true, false, not, ◌&&◌, if◌then◌else◌, List, [], ◌∷◌, map, Option}
+use Rattle.std.specs.Prelude.{Some, ◌*◌}
 use Rattle.std.specs.declared.cmp.Ordering.{Ordering}
 use Rattle.std.specs.declared.cmp.Ordering.TheVariants.{Equal}
 use Rattle.fair_rates.specs.declared.bandwidth.Flow.{Flow}
@@ -11,7 +12,8 @@ use Rattle.link_simulation.specs.WorldMessages.{is_delivered}
 use Rattle.link_scheduler.specs.Message.{message_of}
 use Rattle.link_simulation.specs.WorldPlanned.{Paced}
 
--- a message in flight. A rate is so many units of which `scale` are one byte a second, those of the level at its place; and what is left so many of which as many billions are one byte
+-- a message in flight. A rate is so many units of which `scale` are one byte a second, those of the level at its
+-- place; and what is left so many of which as many billions are one byte
 abbrev pub paced_of : {P : Type 0} → ℕ → List ℕ → Progress P → Paced P
 paced_of scale levels s = record {
   message = message_of s.message.value;
@@ -28,11 +30,13 @@ sending_of scale levels ss = map (paced_of scale levels) ss
 abbrev pub rated_by : {P : Type 0} → ℕ → ℕ → List ℕ → List (Option ℕ) → List (Paced P) → List (Paced P)
 rated_by now scale levels [] fs = []
 rated_by now scale levels (level ∷ level_of) [] = []
-rated_by now scale levels (level ∷ level_of) (f ∷ fs) = record f { rate = Some (reduced (parts_of_level levels level) scale); updated = now } ∷ rated_by now scale levels level_of fs
+rated_by now scale levels (level ∷ level_of) (f ∷ fs) = record f
+    { rate = Some (reduced (parts_of_level levels level) scale); updated = now } ∷ rated_by now scale levels level_of fs
 
 -- whether the flow is of the message's peers, by their order, and delivered as the message is
 abbrev pub stands_for : {P : Type 0} → (P → P → Ordering) → Flow P → Progress P → Bool
-stands_for cmp flow s = same_peer cmp flow.origin s.message.value.origin && same_peer cmp flow.recipient s.message.value.recipient
+stands_for cmp flow s = same_peer cmp flow.origin s.message.value.origin
+    && same_peer cmp flow.recipient s.message.value.recipient
     && (if is_delivered cmp (message_of s.message.value) then flow.delivered else not flow.delivered)
 
 -- whether each flow stands for the message at its place

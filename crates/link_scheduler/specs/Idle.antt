@@ -24,15 +24,20 @@ idle_key pair = (pair.moment, (pair.origin, pair.recipient))
 module _ {P : Type 0} (cmp : P → P → Ordering) where
   -- whether the pair is listed under that moment
   abbrev pub is_listed : List (IdlePair P) → ℕ → P → P → Bool
-  is_listed entries moment origin recipient = value_at (idle_cmp cmp) idle_key (λ pair. true) false entries (moment, (origin, recipient))
+  is_listed entries moment origin recipient = value_at (idle_cmp cmp) idle_key (λ pair. true) false entries
+      (moment, (origin, recipient))
 
   -- the moment from which on the first waiting message of the pair may start, if the pair is idle and one waits
   abbrev pub idle_from : Planned P → P → P → Option ℕ
-  idle_from p origin recipient = if is_sending cmp p origin recipient then None else option_map (λ m. first_moment (p.last_arrival origin recipient) m.latency) (first_of cmp p.waiting origin recipient)
+  idle_from p origin recipient = if is_sending cmp p origin recipient then None
+      else option_map (λ m. first_moment (p.last_arrival origin recipient) m.latency)
+      (first_of cmp p.waiting origin recipient)
 
-  -- each idle pair for which a message waits is listed under the moment from which on that one may start, and nothing else is
+  -- each idle pair for which a message waits is listed under the moment from which on that one may start, and nothing
+  -- else is
   abbrev pub IsIndexOf : Planned P → List (IdlePair P) → Type 0
-  IsIndexOf p entries = (moment : ℕ) (origin recipient : P) → is_listed entries moment origin recipient ≡ is_moment moment (idle_from p origin recipient)
+  IsIndexOf p entries = (moment : ℕ) (origin recipient : P)
+      → is_listed entries moment origin recipient ≡ is_moment moment (idle_from p origin recipient)
 
   -- whether a message is of the pair
   abbrev pub is_of : P → P → Message P → Bool
@@ -41,4 +46,5 @@ module _ {P : Type 0} (cmp : P → P → Ordering) where
   -- the pairs of messages that left are listed as they stand now, and the others as before
   abbrev pub AreAtRest : Planned P → List (Message P) → List (IdlePair P) → List (IdlePair P) → Type 0
   AreAtRest p leavers old new = (moment : ℕ) (origin recipient : P)
-      → is_listed new moment origin recipient ≡ (if list_any (is_of origin recipient) leavers then is_moment moment (idle_from p origin recipient) else is_listed old moment origin recipient)
+      → is_listed new moment origin recipient ≡ (if list_any (is_of origin recipient) leavers
+          then is_moment moment (idle_from p origin recipient) else is_listed old moment origin recipient)

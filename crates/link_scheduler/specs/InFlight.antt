@@ -12,7 +12,8 @@ abbrev pub in_flight : {P : Type 0} {a : _} {b : _} {c : _} → Flights P a b c 
 in_flight flights = sending_of flights.scale flights.levels.items flights.progress.items
 
 -- the same flights, of equal peers
-pub record IsSameFlights {P : Type 0} {a : _} {b : _} {c : _} (cmp : P → P → Ordering) (flights copy : Flights P a b c) : Type 0 where
+pub record IsSameFlights {P : Type 0} {a : _} {b : _} {c : _} (cmp : P → P → Ordering)
+    (flights copy : Flights P a b c) : Type 0 where
   pub flows : AllZip (IsSameFlow cmp) flights.flows.items copy.flows.items
   pub progress : AllZip IsSameProgress flights.progress.items copy.progress.items
   pub scale : copy.scale ≡ flights.scale

@@ -24,12 +24,15 @@ module _ {P : Type 0} (cmp : P → P → Ordering) where
 
   -- the moment before which no later message of a pair arrives
   abbrev pub arrival_of : List (Pair P) → P → P → Option ℕ
-  arrival_of pairs origin recipient = value_at (pair_cmp cmp) key_of (λ pair. pair.last_arrival) None pairs (origin, recipient)
+  arrival_of pairs origin recipient = value_at (pair_cmp cmp) key_of (λ pair. pair.last_arrival) None pairs
+      (origin, recipient)
 
   -- the first waiting message of a pair
   abbrev pub first_of : List (Message P) → P → P → Option (Message P)
-  first_of waiting origin recipient = find (λ m. same_peer cmp origin m.origin && same_peer cmp recipient m.recipient) waiting
+  first_of waiting origin recipient = find (λ m. same_peer cmp origin m.origin
+      && same_peer cmp recipient m.recipient) waiting
 
   -- the last arrivals, of which that of one pair is no earlier than that moment
   abbrev pub raised_at : (P → P → Option ℕ) → P → P → ℕ → P → P → Option ℕ
-  raised_at last origin recipient at p q = cond (same_peer cmp origin p && same_peer cmp recipient q) (Some (later_of (last p q) at)) (last p q)
+  raised_at last origin recipient at p q = cond (same_peer cmp origin p && same_peer cmp recipient q)
+      (Some (later_of (last p q) at)) (last p q)

@@ -8,7 +8,8 @@ use Rattle.link_scheduler.specs.declared.transmitter.completion.Completion.{Comp
 use Rattle.link_simulation.specs.Conserved.{IsConserved}
 use Rattle.link_scheduler.specs.Message.{completed_of}
 use Rattle.link_simulation.specs.SamePlanned.{Goes, GoesCounted}
-use Rattle.link_simulation.specs.Simulated.{IsSimulated, KeepsRange, IsRefusedInSimulation, IsNextInSimulation, IsSplitAnywhere, KeepsToCaps}
+use Rattle.link_simulation.specs.Simulated.{IsSimulated, KeepsRange, IsRefusedInSimulation, IsNextInSimulation}
+use Rattle.link_simulation.specs.Simulated.{IsSplitAnywhere, KeepsToCaps}
 use Rattle.link_scheduler.specs.Working.{planned, IsQuiet}
 use Rattle.link_simulation.specs.World.{Completed, new_world}
 use Rattle.link_simulation.specs.WorldCalls.{Call}
@@ -22,7 +23,8 @@ use Rattle.link_simulation.specs.WorldStands.{StandsFor}
 -- the message of an `enqueue`
 abbrev pub sent : {P : Type 0} → P → P → ℕ → List ℕ → ℕ → Bool → Message P
 sent origin recipient channel bytes latency should_deliver =
-    record { origin = origin; recipient = recipient; channel = channel; bytes = bytes; latency = latency; should_deliver = should_deliver }
+    record { origin = origin; recipient = recipient; channel = channel; bytes = bytes; latency = latency;
+        should_deliver = should_deliver }
 
 module _ {P : Type 0} (cmp : P → P → Ordering) where
   -- a call that is made leads from the planned world p to q, with those completions
@@ -67,13 +69,16 @@ module _ {P : Type 0} {order : Ghosts P} {b : _} {c : _} where
   abbrev pub IsRefused : State P order b c → Call P → Error → Type 0
   IsRefused s call why = Refuses order.cmp (planned_of s) call why
 
-  -- what else an advance promises: to advance to any moment on the way, and then on, is the same, and no origin sends more than its cap lets go
-  pub record IsAdvanced (old : State P order b c) (now : ℕ) (done : List (Completion P)) (new : State P order b c) : Type 0 where
+  -- what else an advance promises: to advance to any moment on the way, and then on, is the same, and no origin sends
+  -- more than its cap lets go
+  pub record IsAdvanced (old : State P order b c) (now : ℕ) (done : List (Completion P))
+      (new : State P order b c) : Type 0 where
     pub split : IsSplitAnywhere order.cmp (planned_of old) now (map completed_of done) (planned_of new)
     pub within_caps : KeepsToCaps order.cmp (planned_of old) now (planned_of new)
 
   -- the advance went through so many events: at most two for each message that waited, and one for each in flight
-  pub record IsCounted (old : State P order b c) (now : ℕ) (events : ℕ) (done : List (Completion P)) (new : State P order b c) : Type 0 where
+  pub record IsCounted (old : State P order b c) (now : ℕ) (events : ℕ) (done : List (Completion P))
+      (new : State P order b c) : Type 0 where
     pub by_rule : GoesCounted order.cmp now (planned_of old) events (map completed_of done) (planned_of new)
     pub few : events ≤ 2 * length (planned_of old).waiting + length (planned_of old).sending
 

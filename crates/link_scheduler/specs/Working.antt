@@ -24,7 +24,8 @@ use Rattle.link_scheduler.specs.InFlight.{in_flight}
 
 -- the caps of peers and of ordered pairs
 abbrev pub caps_of : {P : Type 0} → (P → P → Ordering) → List (PeerCaps P) → List (Pair P) → Caps P
-caps_of cmp peers pairs = record { egress = egress_of cmp peers; ingress = ingress_of cmp peers; link = link_of cmp pairs }
+caps_of cmp peers pairs = record { egress = egress_of cmp peers; ingress = ingress_of cmp peers;
+    link = link_of cmp pairs }
 
 -- messages in the code
 abbrev pub messages : {P : Type 0} → List (Rc (code.Message P) Global) → List (Message P)
@@ -57,8 +58,10 @@ pub record IsQuiet {P : Type 0} (cmp : P → P → Ordering) (p : Planned P) (no
   pub none_due : IfSome (next_event p) (λ t. now < t)
   pub none_ready : ¬ SomeReadyAt cmp p now
 
--- parts of a scale, which has grown from another, are the fair rates of the flows on the sides that the caps make for them
-pub record AreFairPartsUnder {P : Type 0} (cmp : P → P → Ordering) (caps : Caps P) (flows : List (Flow P)) (scale : ℕ) (found : FairParts) : Type 0 where
+-- parts of a scale, which has grown from another, are the fair rates of the flows on the sides that the caps make for
+-- them
+pub record AreFairPartsUnder {P : Type 0} (cmp : P → P → Ordering) (caps : Caps P) (flows : List (Flow P)) (scale : ℕ)
+    (found : FairParts) : Type 0 where
   pub grown : found.scale ≡ scale * product found.growth.items
   pub one_each : length found.level_of.items ≡ length flows
   pub fair : IsFair (sides_under cmp caps flows) found.scale (flow_parts found.levels.items found.level_of.items)

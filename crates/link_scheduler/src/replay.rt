@@ -10,7 +10,8 @@ ghost use Rattle.link_simulation.specs.WorldReplies.{reply_refused, Agrees};
 ghost use Rattle.link_simulation.specs.SamePlanned.{IsSameCall};
 ghost use Rattle.link_scheduler.specs.State.{planned_of};
 ghost use Rattle.link_simulation.specs.Conserved.{AreConserved};
-ghost use Rattle.link_simulation.specs.ReplayLaws.{AlwaysSoFar, RefusesForMemoryAlone, CompletePairsInOrder, IsolateSets};
+ghost use Rattle.link_simulation.specs.ReplayLaws.{AlwaysSoFar, RefusesForMemoryAlone, CompletePairsInOrder};
+ghost use Rattle.link_simulation.specs.ReplayLaws.{IsolateSets};
 ghost use Rattle.link_scheduler.specs.Replay.{call_of, reply_of, IsReplyTo};
 
 use crate::transmitter::{Completion, State};
@@ -71,13 +72,19 @@ pub enum Reply<P> {
 /// there. A call that is refused is answered `Refused` and changes nothing, and the calls after it
 /// are made. So is one whose arguments cannot be cloned, which is not made at all.
 pub fn replay<P: Peer>(alloc: Global, calls: &[Call<P>]) -> Result<Vec<Reply<P>>, Error>
-    ensures agrees { IfOk result (λ replies. Agrees P.cmp (new_world 0) (map call_of calls.now) (map reply_of replies.items)) }
-    ensures obeyed { IfOk result (λ replies. Obeyed P.cmp (new_planned 0) (map call_of calls.now) (map reply_of replies.items)) }
+    ensures agrees { IfOk result (λ replies. Agrees P.cmp (new_world 0) (map call_of calls.now)
+        (map reply_of replies.items)) }
+    ensures obeyed { IfOk result (λ replies. Obeyed P.cmp (new_planned 0) (map call_of calls.now)
+        (map reply_of replies.items)) }
     ensures one_each { IfOk result (λ replies. length replies.items ≡ length calls.now) }
-    ensures in_range { IfOk result (λ replies. RefusesForMemoryAlone [] (map call_of calls.now) (map reply_of replies.items)) }
-    ensures conserved { IfOk result (λ replies. AlwaysSoFar (AreConserved P.cmp (new_planned 0)) (map call_of calls.now) (map reply_of replies.items)) }
-    ensures order { IfOk result (λ replies. AlwaysSoFar (CompletePairsInOrder P.cmp) (map call_of calls.now) (map reply_of replies.items)) }
-    ensures isolation { IfOk result (λ replies. AlwaysSoFar (IsolateSets P.cmp) (map call_of calls.now) (map reply_of replies.items)) }
+    ensures in_range { IfOk result (λ replies. RefusesForMemoryAlone [] (map call_of calls.now)
+        (map reply_of replies.items)) }
+    ensures conserved { IfOk result (λ replies. AlwaysSoFar (AreConserved P.cmp (new_planned 0))
+        (map call_of calls.now) (map reply_of replies.items)) }
+    ensures order { IfOk result (λ replies. AlwaysSoFar (CompletePairsInOrder P.cmp) (map call_of calls.now)
+        (map reply_of replies.items)) }
+    ensures isolation { IfOk result (λ replies. AlwaysSoFar (IsolateSets P.cmp) (map call_of calls.now)
+        (map reply_of replies.items)) }
     ensures refused { IfErr result (λ e. e ≡ Error.OutOfMemory) }
 {
     let mut replies = Vec::with_capacity(alloc, calls.len())?;
@@ -92,7 +99,8 @@ impl<P: Peer> Call<P> {
     /// Makes the call, unless it is refused.
     fn answer(&self, state: &mut State<P>) -> Reply<P>
         ensures in_time { InTime (call_of self.now ∷ []) }
-        ensures reply { IsReplyTo P.cmp (planned_of state.old) (call_of self.now) (reply_of result) (planned_of state.new) }
+        ensures reply { IsReplyTo P.cmp (planned_of state.old) (call_of self.now) (reply_of result)
+            (planned_of state.new) }
     {
         match self.copy() {
             Err(error) => Reply::Refused(error),
@@ -156,8 +164,10 @@ impl<P: Peer> Call<P> {
 
     /// Makes the call, which takes its arguments.
     fn make(self, state: &mut State<P>) -> Result<Reply<P>, Error>
-        ensures made { IfOk result (λ reply. IsReplyTo P.cmp (planned_of state.old) (call_of self) (reply_of reply) (planned_of state.new)) }
-        ensures refused { IfErr result (λ e. IsReplyTo P.cmp (planned_of state.old) (call_of self) (reply_refused e) (planned_of state.new)) }
+        ensures made { IfOk result (λ reply. IsReplyTo P.cmp (planned_of state.old) (call_of self) (reply_of reply)
+            (planned_of state.new)) }
+        ensures refused { IfErr result (λ e. IsReplyTo P.cmp (planned_of state.old) (call_of self) (reply_refused e)
+            (planned_of state.new)) }
     {
         let completions = match self {
             Call::Limit {

@@ -90,7 +90,8 @@ pub struct State<P: Peer> {
 
 impl<P: Peer> State<P> {
     ghost use Rattle.link_scheduler.specs.Message.{message_of};
-    ghost use Rattle.link_scheduler.specs.State.{planned_of, sent, IsNew, IsMade, IsRefused, IsAdvanced, IsCounted, IsNextOf, IsQuietUntil};
+    ghost use Rattle.link_scheduler.specs.State.{planned_of, sent, IsNew, IsMade, IsRefused, IsAdvanced, IsCounted};
+    ghost use Rattle.link_scheduler.specs.State.{IsNextOf, IsQuietUntil};
 
     /// A scheduler at the start, moment 0, without limits and with nothing sent. Flow ids begin
     /// at 0.
@@ -139,7 +140,8 @@ impl<P: Peer> State<P> {
         egress: Option<usize>,
         ingress: Option<usize>,
     ) -> Result<Vec<Completion<P>>, Error>
-        ensures made { IfOk result (λ done. IsMade self.old (call_limit now peer.now egress ingress) done.items self.new) }
+        ensures made { IfOk result (λ done. IsMade self.old
+            (call_limit now peer.now egress ingress) done.items self.new) }
         ensures refused { IfErr result (IsRefused self.old (call_limit now peer.now egress ingress)) }
         ensures unchanged { OnErr result (self.new ≡ self.old) }
     {
@@ -177,7 +179,8 @@ impl<P: Peer> State<P> {
         recipient: &P,
         cap: Option<usize>,
     ) -> Result<Vec<Completion<P>>, Error>
-        ensures made { IfOk result (λ done. IsMade self.old (call_limit_link now origin.now recipient.now cap) done.items self.new) }
+        ensures made { IfOk result (λ done. IsMade self.old
+            (call_limit_link now origin.now recipient.now cap) done.items self.new) }
         ensures refused { IfErr result (IsRefused self.old (call_limit_link now origin.now recipient.now cap)) }
         ensures unchanged { OnErr result (self.new ≡ self.old) }
     {
@@ -225,8 +228,10 @@ impl<P: Peer> State<P> {
         should_deliver: bool,
     ) -> Result<Vec<Completion<P>>, Error>
         ensures made { IfOk result (λ done.
-            IsMade self.old (call_enqueue now (sent origin recipient channel message latency should_deliver)) done.items self.new) }
-        ensures refused { IfErr result (IsRefused self.old (call_enqueue now (sent origin recipient channel message latency should_deliver))) }
+            IsMade self.old (call_enqueue now
+                (sent origin recipient channel message latency should_deliver)) done.items self.new) }
+        ensures refused { IfErr result (IsRefused self.old
+            (call_enqueue now (sent origin recipient channel message latency should_deliver))) }
         ensures unchanged { OnErr result (planned_of self.new ≡ planned_of self.old) }
     {
         let message = Message {
@@ -242,7 +247,8 @@ impl<P: Peer> State<P> {
 
     /// Sends a message. Where it only has to wait, nothing is copied.
     fn send(&mut self, now: u64, message: Message<P>) -> Result<Vec<Completion<P>>, Error>
-        ensures made { IfOk result (λ done. IsMade self.old (call_enqueue now (message_of message)) done.items self.new) }
+        ensures made { IfOk result (λ done. IsMade self.old
+            (call_enqueue now (message_of message)) done.items self.new) }
         ensures refused { IfErr result (IsRefused self.old (call_enqueue now (message_of message))) }
         ensures unchanged { OnErr result (planned_of self.new ≡ planned_of self.old) }
     {

@@ -30,7 +30,8 @@ peer_cap (c ∷ caps) peer = or_else (peer_cap caps peer) (cond (c.peer == peer)
 -- the cap of what goes from one peer to another: that of the last record for both
 abbrev pub link_cap : List LinkCap → ℕ → ℕ → Option ℕ
 link_cap [] origin recipient = None
-link_cap (c ∷ caps) origin recipient = or_else (link_cap caps origin recipient) (cond ((c.origin == origin) && (c.recipient == recipient)) (Some (value_of c.cap)) None)
+link_cap (c ∷ caps) origin recipient = or_else (link_cap caps origin recipient)
+    (cond ((c.origin == origin) && (c.recipient == recipient)) (Some (value_of c.cap)) None)
 
 -- the caps of three lists of records: on what is sent, on what is received, and on what goes from one peer to another
 abbrev pub caps_of : List PeerCap → List PeerCap → List LinkCap → Caps ℕ
@@ -40,11 +41,13 @@ caps_of egress ingress links = record { egress = peer_cap egress; ingress = peer
 abbrev pub rate_of : Option Rate → PlanRate
 rate_of None = record { numerator = wide_of 0; denominator = wide_of 1; is_limited = 0 }
 rate_of (Some Unlimited) = record { numerator = wide_of 0; denominator = wide_of 1; is_limited = 0 }
-rate_of (Some (Finite ratio)) = record { numerator = wide_of ratio.numerator; denominator = wide_of ratio.denominator; is_limited = 1 }
+rate_of (Some (Finite ratio)) = record { numerator = wide_of ratio.numerator; denominator = wide_of ratio.denominator;
+    is_limited = 1 }
 
 -- ---- what is answered
 
--- the rates by id are max-min fair under the caps, and there were as many rounds of filling as there are different finite rates
+-- the rates by id are max-min fair under the caps, and there were as many rounds of filling as there are different
+-- finite rates
 pub record IsPlan (caps : Caps ℕ) (flows : List (Flow ℕ)) (rate_by : ℕ → Option Rate) (rounds : ℕ) : Type 0 where
   pub fair : IsFairById nat_cmp caps flows rate_by
   pub different : HasDifferentRates fair.rates rounds
@@ -57,8 +60,11 @@ MayRefusePlan caps flows why = (why ≡ OutOfMemory) ⊎ ((why ≡ NumberTooLarg
 abbrev pub rates_of : List PlanFlow → (ℕ → Option Rate) → List PlanRate
 rates_of flows rate_by = map (λ f. rate_of (rate_by f.id)) flows
 
--- with status 0 the rates were written; with another it was refused for the cause of that number, and nothing was written
+-- with status 0 the rates were written; with another it was refused for the cause of that number, and nothing was
+-- written
 abbrev pub IsPlanned : Caps ℕ → List PlanFlow → ℕ → ℕ → List PlanRate → List PlanRate → Type 0
 IsPlanned caps flows status rounds old new =
-    ((status ≡ 0) × (rate_by : ℕ → Option Rate) × IsPlan caps (map flow_of flows) rate_by rounds × (new ≡ written (rates_of flows rate_by) old))
-    ⊎ ((why : Error) × (status ≡ refusal_number why) × MayRefusePlan caps (map flow_of flows) why × (new ≡ old) × (rounds ≡ 0))
+    ((status ≡ 0) × (rate_by : ℕ → Option Rate) × IsPlan caps (map flow_of flows) rate_by rounds
+        × (new ≡ written (rates_of flows rate_by) old))
+    ⊎ ((why : Error) × (status ≡ refusal_number why) × MayRefusePlan caps (map flow_of flows) why × (new ≡ old)
+        × (rounds ≡ 0))

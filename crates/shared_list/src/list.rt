@@ -1,5 +1,6 @@
 //! A list as a tree of shared nodes.
-ghost use Rattle.std.specs.Prelude.{◌≡◌, ◌<◌, ◌≤◌, ◌+◌, [], ◌++◌, ◌∷◌, length, if◌then◌else◌, is_ok, slice_get, slice_set, option_map, true, Some, IfOk, OnOk, ◌^◌};
+ghost use Rattle.std.specs.Prelude.{◌≡◌, ◌<◌, ◌≤◌, ◌+◌, [], ◌++◌, ◌∷◌, length, if◌then◌else◌, is_ok};
+ghost use Rattle.std.specs.Prelude.{slice_get, slice_set, option_map, true, Some, IfOk, OnOk, ◌^◌};
 ghost use Rattle.std.specs.List.{insert, remove};
 ghost use Rattle.shared_list.specs.Places.{are_parted, IsParting};
 
@@ -169,7 +170,8 @@ impl<T: Drop> SharedList<T> {
     #[tactic(auto, using(crate::proofs::Parting::parting_before, crate::proofs::Parting::parting_after))]
     pub fn place<S: Seek<T>>(&self, sought: &S) -> usize
         ensures bound { result ≤ length self.now }
-        ensures parting { are_parted (S.is_before sought.now) self.now ≡ true → IsParting (S.is_before sought.now) self.now result }
+        ensures parting { are_parted (S.is_before sought.now) self.now ≡ true
+            → IsParting (S.is_before sought.now) self.now result }
     {
         match &self.root {
             None => 0,

@@ -1,5 +1,6 @@
 //! The nodes of the tree.
-ghost use Rattle.std.specs.Prelude.{◌≡◌, ◌≢◌, ◌<◌, ◌≤◌, ◌+◌, [], ◌++◌, ◌∷◌, length, if◌then◌else◌, is_ok, slice_get, slice_set, Some, IfOk, OnOk, ◌^◌};
+ghost use Rattle.std.specs.Prelude.{◌≡◌, ◌≢◌, ◌<◌, ◌≤◌, ◌+◌, [], ◌++◌, ◌∷◌, length};
+ghost use Rattle.std.specs.Prelude.{if◌then◌else◌, is_ok, slice_get, slice_set, Some, IfOk, OnOk, ◌^◌};
 ghost use Rattle.std.specs.List.{insert, remove};
 ghost use Rattle.shared_list.specs.Tree.{items_in, IsSameNode};
 
@@ -56,7 +57,8 @@ impl<T: Drop> Node<T> {
     pub(crate) fn put(&mut self, alloc: Global, at: usize, item: Rc<T>) -> Result<(), AllocError>
         requires counted { self.old.len ≡ length (items_in self.old) }
         requires place { at ≤ length (items_in self.old) }
-        ensures items { items_in self.new ≡ (if is_ok result then insert (items_in self.old) at item.value else items_in self.old) }
+        ensures items { items_in self.new ≡ (if is_ok result then insert (items_in self.old) at item.value
+            else items_in self.old) }
         ensures len { self.new.len ≡ length (items_in self.new) }
         ensures fits { OnOk result (length (items_in self.new) < 2 ^ 64) }
     {
@@ -78,7 +80,8 @@ impl<T: Drop> Node<T> {
     pub(crate) fn set(&mut self, at: usize, item: Rc<T>) -> Result<(), AllocError>
         requires counted { self.old.len ≡ length (items_in self.old) }
         requires place { at < length (items_in self.old) }
-        ensures items { items_in self.new ≡ (if is_ok result then slice_set (items_in self.old) at item.value else items_in self.old) }
+        ensures items { items_in self.new ≡ (if is_ok result then slice_set (items_in self.old) at item.value
+            else items_in self.old) }
         ensures len { self.new.len ≡ length (items_in self.new) }
     {
         let middle = self.before.len();
@@ -99,7 +102,8 @@ impl<T: Drop> Node<T> {
         requires counted { self.old.len ≡ length (items_in self.old) }
         requires place { at < length (items_in self.old) }
         requires other { at ≢ length self.old.before }
-        ensures items { items_in self.new ≡ (if is_ok result then remove (items_in self.old) at else items_in self.old) }
+        ensures items { items_in self.new ≡ (if is_ok result then remove (items_in self.old) at
+            else items_in self.old) }
         ensures item { IfOk result (λ item. slice_get (items_in self.old) at ≡ Some item.value) }
         ensures len { self.new.len ≡ length (items_in self.new) }
     {
@@ -119,7 +123,8 @@ impl<T: Drop> Node<T> {
     pub(crate) fn take_own(&mut self) -> Result<Rc<T>, AllocError>
         requires counted { self.old.len ≡ length (items_in self.old) }
         requires next { self.old.after ≢ [] }
-        ensures items { items_in self.new ≡ (if is_ok result then self.old.before ++ self.old.after else items_in self.old) }
+        ensures items { items_in self.new ≡ (if is_ok result then self.old.before ++ self.old.after
+            else items_in self.old) }
         ensures item { IfOk result (λ item. item.value ≡ self.old.item.value) }
         ensures len { self.new.len ≡ length (items_in self.new) }
     {

@@ -1,8 +1,10 @@
 //! What is in flight, accounted for at a moment.
-ghost use Rattle.std.specs.Prelude.{◌≡◌, ◌≢◌, ◌*◌, ℕ, All, ◌<◌, ◌&&◌, ◌||◌, Bool, true, not, is_none, map, length, slice_index_or, IfOk, IfErr, OnOk};
+ghost use Rattle.std.specs.Prelude.{◌≡◌, ◌≢◌, ◌*◌, ℕ, All, ◌<◌, ◌&&◌, ◌||◌, Bool, true, not, is_none, map};
+ghost use Rattle.std.specs.Prelude.{length, slice_index_or, IfOk, IfErr, OnOk};
 ghost use Rattle.std.specs.List.{filter, list_all};
 ghost use Rattle.fair_rates.specs.declared.bandwidth.Flow.{Flow as AnyFlow};
-ghost use Rattle.link_simulation.specs.WorldPlanned.{Paced, paced_flows, drained_to, IsLeastMoment, SomeSpentAt, is_spent};
+ghost use Rattle.link_simulation.specs.WorldPlanned.{Paced, paced_flows, drained_to, IsLeastMoment, SomeSpentAt};
+ghost use Rattle.link_simulation.specs.WorldPlanned.{is_spent};
 ghost use Rattle.link_scheduler.specs.AtRest.{of_pairs};
 ghost use Rattle.link_scheduler.specs.Idle.{IsIndexOf};
 ghost use Rattle.link_scheduler.specs.InFlight.{in_flight};
@@ -67,11 +69,14 @@ impl<P: Peer> Flights<P> {
         peers: &Peers<P>,
         pairs: &Pairs<P>,
     ) -> Result<VecDeque<Rc<Message<P>>>, Error>
-        ensures done { IfOk result (λ done. messages done.items ≡ paced_flows (filter (is_spent P.cmp (caps_of P.cmp peers.now.entries pairs.now.entries))
+        ensures done { IfOk result (λ done. messages done.items
+            ≡ paced_flows (filter (is_spent P.cmp (caps_of P.cmp peers.now.entries pairs.now.entries))
             (in_flight self.old))) }
-        ensures rest { OnOk result (in_flight self.new ≡ filter (λ f. not (is_spent P.cmp (caps_of P.cmp peers.now.entries pairs.now.entries) f))
+        ensures rest { OnOk result (in_flight self.new ≡ filter
+            (λ f. not (is_spent P.cmp (caps_of P.cmp peers.now.entries pairs.now.entries) f))
             (in_flight self.old)) }
-        ensures others { (test : AnyFlow P → Bool) → list_all test self.old.flows.items ≡ true → list_all test self.new.flows.items ≡ true }
+        ensures others { (test : AnyFlow P → Bool) → list_all test self.old.flows.items ≡ true
+            → list_all test self.new.flows.items ≡ true }
         ensures refused { IfErr result (λ e. e ≡ Error.OutOfMemory) }
     {
         let mut done = VecDeque::new(alloc);
@@ -108,7 +113,8 @@ impl<P: Peer> Flights<P> {
         requires scaled { 0 < rates.scale }
         ensures flows { self.new.flows.items ≡ self.old.flows.items }
         ensures messages { paced_flows (in_flight self.new) ≡ paced_flows (in_flight self.old) }
-        ensures sending { OnOk result (in_flight self.new ≡ rated_by now rates.scale rates.levels.items rates.level_of.items (in_flight self.old)) }
+        ensures sending { OnOk result (in_flight self.new
+            ≡ rated_by now rates.scale rates.levels.items rates.level_of.items (in_flight self.old)) }
         ensures finish { IfOk result (IsLeastMoment (λ s. SomeSpentAt (in_flight self.new) s)) }
         ensures refused { IfErr result (λ e. e ≡ Error.OutOfMemory) }
     {
@@ -128,11 +134,17 @@ fn leave<P: Peer>(
     pairs: &Pairs<P>,
     waiting: &Waiting<P>,
 ) -> Result<VecDeque<Rc<Message<P>>>, Error>
-    requires indexed { IsIndexOf P.cmp (of_pairs P.cmp pairs.now.entries waiting.now.messages (in_flight flights.old)) idle.old.entries }
-    ensures done { IfOk result (λ done. messages done.items ≡ paced_flows (filter (is_spent P.cmp (caps_of P.cmp peers.now.entries pairs.now.entries)) (in_flight flights.old))) }
-    ensures rest { OnOk result (in_flight flights.new ≡ filter (λ f. not (is_spent P.cmp (caps_of P.cmp peers.now.entries pairs.now.entries) f)) (in_flight flights.old)) }
-    ensures others { (test : AnyFlow P → Bool) → list_all test flights.old.flows.items ≡ true → list_all test flights.new.flows.items ≡ true }
-    ensures indexed { OnOk result (IsIndexOf P.cmp (of_pairs P.cmp pairs.now.entries waiting.now.messages (in_flight flights.new)) idle.new.entries) }
+    requires indexed { IsIndexOf P.cmp (of_pairs P.cmp pairs.now.entries waiting.now.messages
+        (in_flight flights.old)) idle.old.entries }
+    ensures done { IfOk result (λ done. messages done.items
+        ≡ paced_flows (filter (is_spent P.cmp (caps_of P.cmp peers.now.entries pairs.now.entries))
+        (in_flight flights.old))) }
+    ensures rest { OnOk result (in_flight flights.new ≡ filter
+        (λ f. not (is_spent P.cmp (caps_of P.cmp peers.now.entries pairs.now.entries) f)) (in_flight flights.old)) }
+    ensures others { (test : AnyFlow P → Bool) → list_all test flights.old.flows.items ≡ true
+        → list_all test flights.new.flows.items ≡ true }
+    ensures indexed { OnOk result (IsIndexOf P.cmp (of_pairs P.cmp pairs.now.entries waiting.now.messages
+        (in_flight flights.new)) idle.new.entries) }
     ensures refused { IfErr result (λ e. e ≡ Error.OutOfMemory) }
 {
     let done = flights.take_done(alloc, peers, pairs)?;
@@ -146,7 +158,8 @@ impl<P: Peer> Working<P> {
     /// All that is in flight drains to that moment. What is done leaves, in order of start, and the
     /// rest gets its fair rates. The finish is planned anew.
     pub(crate) fn account(&mut self, now: u64) -> Result<VecDeque<Rc<Message<P>>>, Error>
-        ensures accounts { IfOk result (λ leavers. Accounts P.cmp now (planned P.cmp self.old) (messages leavers.items) (planned P.cmp self.new)) }
+        ensures accounts { IfOk result (λ leavers. Accounts P.cmp now (planned P.cmp self.old)
+            (messages leavers.items) (planned P.cmp self.new)) }
         ensures refused { IfErr result (λ e. e ≡ Error.OutOfMemory) }
     {
         self.flights.drain(now);
@@ -175,7 +188,9 @@ impl<P: Peer> Working<P> {
 
     /// The fair rate of each flow in flight.
     fn rates(&self) -> Result<FairParts, Error>
-        ensures fair { IfOk result (AreFairPartsUnder P.cmp (caps_of P.cmp self.now.peers.entries self.now.pairs.entries) self.now.flights.flows.items self.now.flights.scale) }
+        ensures fair { IfOk result (AreFairPartsUnder P.cmp
+            (caps_of P.cmp self.now.peers.entries self.now.pairs.entries)
+            self.now.flights.flows.items self.now.flights.scale) }
         ensures refused { IfErr result (λ e. e ≡ Error.OutOfMemory) }
     {
         fair_parts(

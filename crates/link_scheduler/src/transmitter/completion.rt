@@ -53,7 +53,8 @@ pub(crate) fn answers_of<P: Peer>(
     alloc: Global,
     ended: &[Ended<P>],
 ) -> Result<Vec<Completion<P>>, Error>
-    ensures same { IfOk result (λ answers. AllZip (SameCompletion P.cmp) (map completed_of answers.items) (map ended_of ended.now)) }
+    ensures same { IfOk result (λ answers. AllZip (SameCompletion P.cmp) (map completed_of answers.items)
+        (map ended_of ended.now)) }
     ensures refused { IfErr result (λ e. e ≡ Error.OutOfMemory) }
 {
     let mut answers = Vec::with_capacity(alloc, ended.len())?;

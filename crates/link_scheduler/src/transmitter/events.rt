@@ -1,9 +1,12 @@
 //! The event rule: what calls do, at any moments.
-ghost use Rattle.std.specs.Prelude.{◌≡◌, ◌↔◌, ℕ, ◌+◌, nat_lt, if◌then◌else◌, List, [], ◌∷◌, ◌++◌, map, true, false, IfOk, IfErr, OnOk, OnErr, IsTrue, ◌&&◌, is_some};
-ghost use Rattle.link_simulation.specs.World.{Completed, goes, meets, last_moment, later_of as latest, is_late, completed};
+ghost use Rattle.std.specs.Prelude.{◌≡◌, ◌↔◌, ℕ, ◌+◌, nat_lt, if◌then◌else◌, List, [], ◌∷◌, ◌++◌, map};
+ghost use Rattle.std.specs.Prelude.{true, false, IfOk, IfErr, OnOk, OnErr, IsTrue, ◌&&◌, is_some};
+ghost use Rattle.link_simulation.specs.World.{Completed, goes, meets, last_moment, later_of as latest, is_late};
+ghost use Rattle.link_simulation.specs.World.{completed};
 ghost use Rattle.link_simulation.specs.WorldMessages.{Message as AnyMessage};
 ghost use Rattle.link_simulation.specs.WorldPlanned.{next_of};
-ghost use Rattle.link_simulation.specs.WorldEvents.{Launches, Finishes, Settles, Wakes, Recaps, Enqueues, Advances, landed, completed_at_once};
+ghost use Rattle.link_simulation.specs.WorldEvents.{Launches, Finishes, Settles, Wakes, Recaps, Enqueues, Advances};
+ghost use Rattle.link_simulation.specs.WorldEvents.{landed, completed_at_once};
 ghost use Rattle.link_simulation.specs.Refusing.{IsRefusedFor};
 ghost use Rattle.link_scheduler.specs.Message.{message_of, ended_of};
 ghost use Rattle.link_scheduler.specs.Pairs.{first_of, arrival_of};
@@ -27,7 +30,8 @@ impl<P: Peer> Working<P> {
     /// Whether the first waiting message of the pair may start: the pair is idle, and the message
     /// arrives no earlier than the pair's last one.
     fn may_launch(&self, origin: &P, recipient: &P, now: u64) -> bool
-        ensures { result ≡ may_launch_first P.cmp now (planned P.cmp self.now) (first_of P.cmp (planned P.cmp self.now).waiting origin.now recipient.now) }
+        ensures { result ≡ may_launch_first P.cmp now (planned P.cmp self.now)
+            (first_of P.cmp (planned P.cmp self.now).waiting origin.now recipient.now) }
     {
         match idle_from(&self.flights, &self.waiting, &self.pairs, origin, recipient) {
             Some(moment) => moment <= now,
@@ -43,7 +47,9 @@ impl<P: Peer> Working<P> {
         recipient: &P,
         now: u64,
     ) -> Result<VecDeque<Rc<Message<P>>>, Error>
-        ensures launches { IfOk result (λ leavers. Launches P.cmp now (planned P.cmp self.old) (first_of P.cmp (planned P.cmp self.old).waiting origin.now recipient.now) (goes (messages leavers.items) (planned P.cmp self.new))) }
+        ensures launches { IfOk result (λ leavers. Launches P.cmp now (planned P.cmp self.old)
+            (first_of P.cmp (planned P.cmp self.old).waiting origin.now recipient.now)
+            (goes (messages leavers.items) (planned P.cmp self.new))) }
         ensures refused { IfErr result (IsRefusedFor (λ fault. Launches P.cmp now (planned P.cmp self.old)
             (first_of P.cmp (planned P.cmp self.old).waiting origin.now recipient.now) (meets fault))) }
     {
@@ -66,11 +72,15 @@ impl<P: Peer> Working<P> {
         ended: &mut Vec<Ended<P>>,
     ) -> Result<VecDeque<Rc<Message<P>>>, Error>
         ensures in_time { IfOk result (λ more. is_late P.cmp now (message_of message.value) ≡ false) }
-        ensures completion { IfOk result (λ more. map ended_of ended.new.items ≡ map ended_of ended.old.items ++ completed P.cmp now (message_of message.value) ∷ []) }
-        ensures launches { IfOk result (λ more. Launches P.cmp now (landed P.cmp now (planned P.cmp self.old) (message_of message.value))
-            (next_of P.cmp (planned P.cmp self.old) (message_of message.value)) (goes (messages more.items) (planned P.cmp self.new))) }
+        ensures completion { IfOk result (λ more. map ended_of ended.new.items ≡ map ended_of ended.old.items
+            ++ completed P.cmp now (message_of message.value) ∷ []) }
+        ensures launches { IfOk result (λ more. Launches P.cmp now
+            (landed P.cmp now (planned P.cmp self.old) (message_of message.value))
+            (next_of P.cmp (planned P.cmp self.old) (message_of message.value))
+                (goes (messages more.items) (planned P.cmp self.new))) }
         ensures refused { IfErr result (λ e. (ms : List (AnyMessage P)) →
-            IsRefusedFor (λ fault. Finishes P.cmp now (message_of message.value ∷ ms) (planned P.cmp self.old) (meets fault)) e) }
+            IsRefusedFor (λ fault. Finishes P.cmp now (message_of message.value ∷ ms) (planned P.cmp self.old)
+                (meets fault)) e) }
     {
         let sent = Rc::as_ref(&message);
         let arrival = sent.arrival(now)?;
@@ -92,7 +102,8 @@ impl<P: Peer> Working<P> {
         now: u64,
         ended: &mut Vec<Ended<P>>,
     ) -> Result<(), Error>
-        ensures finishes { IfOk result (λ done. (cs : List (Completed P)) × (map ended_of ended.new.items ≡ map ended_of ended.old.items ++ cs)
+        ensures finishes { IfOk result (λ done. (cs : List (Completed P))
+            × (map ended_of ended.new.items ≡ map ended_of ended.old.items ++ cs)
             × Finishes P.cmp now (messages queue.items) (planned P.cmp self.old) (goes cs (planned P.cmp self.new))) }
         ensures refused { IfErr result (IsRefusedFor
             (λ fault. Finishes P.cmp now (messages queue.items) (planned P.cmp self.old) (meets fault))) }
@@ -107,9 +118,11 @@ impl<P: Peer> Working<P> {
 
     /// An account, and the finishes of what left.
     fn settle(&mut self, now: u64, ended: &mut Vec<Ended<P>>) -> Result<(), Error>
-        ensures settles { IfOk result (λ done. (cs : List (Completed P)) × (map ended_of ended.new.items ≡ map ended_of ended.old.items ++ cs)
+        ensures settles { IfOk result (λ done. (cs : List (Completed P))
+            × (map ended_of ended.new.items ≡ map ended_of ended.old.items ++ cs)
             × Settles P.cmp now (planned P.cmp self.old) (goes cs (planned P.cmp self.new))) }
-        ensures refused { IfErr result (IsRefusedFor (λ fault. Settles P.cmp now (planned P.cmp self.old) (meets fault))) }
+        ensures refused { IfErr result (IsRefusedFor (λ fault. Settles P.cmp now (planned P.cmp self.old)
+            (meets fault))) }
     {
         let queue = self.account(now)?;
         self.finish(queue, now, ended)
@@ -117,9 +130,11 @@ impl<P: Peer> Working<P> {
 
     /// The pairs that are ready start, in the order of pairs, each with its finishes.
     fn wake(&mut self, now: u64, ended: &mut Vec<Ended<P>>) -> Result<(), Error>
-        ensures wakes { IfOk result (λ done. (cs : List (Completed P)) × (map ended_of ended.new.items ≡ map ended_of ended.old.items ++ cs)
+        ensures wakes { IfOk result (λ done. (cs : List (Completed P))
+            × (map ended_of ended.new.items ≡ map ended_of ended.old.items ++ cs)
             × Wakes P.cmp now (planned P.cmp self.old) (goes cs (planned P.cmp self.new))) }
-        ensures refused { IfErr result (IsRefusedFor (λ fault. Wakes P.cmp now (planned P.cmp self.old) (meets fault))) }
+        ensures refused { IfErr result (IsRefusedFor (λ fault. Wakes P.cmp now (planned P.cmp self.old)
+            (meets fault))) }
     {
         let ready = self.ready(now)?;
         for pair in &ready {
@@ -133,7 +148,8 @@ impl<P: Peer> Working<P> {
     /// What is done under new caps completes.
     pub(crate) fn recap(&mut self, now: u64) -> Result<Vec<Ended<P>>, Error>
         requires { (planned P.cmp self.old).limited ≡ true }
-        ensures recaps { IfOk result (λ ended. Recaps P.cmp now (planned P.cmp self.old).caps (planned P.cmp self.old) (goes (map ended_of ended.items) (planned P.cmp self.new))) }
+        ensures recaps { IfOk result (λ ended. Recaps P.cmp now (planned P.cmp self.old).caps (planned P.cmp self.old)
+            (goes (map ended_of ended.items) (planned P.cmp self.new))) }
         ensures refused { IfErr result (IsRefusedFor
             (λ fault. Recaps P.cmp now (planned P.cmp self.old).caps (planned P.cmp self.old) (meets fault))) }
     {
@@ -148,7 +164,8 @@ impl<P: Peer> Working<P> {
 
     /// A message is sent.
     pub(crate) fn enqueue(&mut self, now: u64, message: Message<P>) -> Result<Vec<Ended<P>>, Error>
-        ensures enqueues { IfOk result (λ ended. Enqueues P.cmp now (message_of message) (planned P.cmp self.old) (goes (map ended_of ended.items) (planned P.cmp self.new))) }
+        ensures enqueues { IfOk result (λ ended. Enqueues P.cmp now (message_of message) (planned P.cmp self.old)
+            (goes (map ended_of ended.items) (planned P.cmp self.new))) }
         ensures refused { IfErr result (IsRefusedFor
             (λ fault. Enqueues P.cmp now (message_of message) (planned P.cmp self.old) (meets fault))) }
     {
@@ -166,7 +183,8 @@ impl<P: Peer> Working<P> {
 
     /// Whether a message of the pair has to wait: limits hold, and one of the pair is in flight.
     pub(crate) fn has_to_wait(&self, origin: &P, recipient: &P) -> bool
-        ensures { result ≡ ((planned P.cmp self.now).limited && is_sending P.cmp (planned P.cmp self.now) origin.now recipient.now) }
+        ensures { result ≡ ((planned P.cmp self.now).limited
+            && is_sending P.cmp (planned P.cmp self.now) origin.now recipient.now) }
     {
         self.limited && self.flights.has_pair(origin, recipient)
     }
@@ -174,10 +192,13 @@ impl<P: Peer> Working<P> {
     /// The moment at which a message arrives that completes at once: no earlier than its pair's
     /// last one; or `now`, if it is to be dropped.
     fn arrival_at_once(&self, message: &Message<P>, now: u64) -> Result<u64, Error>
-        ensures in_time { IfOk result (λ moment. (message.now.should_deliver && nat_lt last_moment (now + message.now.latency)) ≡ false) }
+        ensures in_time { IfOk result (λ moment. (message.now.should_deliver
+            && nat_lt last_moment (now + message.now.latency)) ≡ false) }
         ensures moment { IfOk result (λ moment. moment ≡ (if message.now.should_deliver
-            then latest (arrival_of P.cmp self.now.pairs.entries message.now.origin message.now.recipient) (now + message.now.latency) else now)) }
-        ensures refused { IfErr result (λ e. (e ≡ Error.MomentTooLate) × ((message.now.should_deliver && nat_lt last_moment (now + message.now.latency)) ≡ true)) }
+            then latest (arrival_of P.cmp self.now.pairs.entries message.now.origin message.now.recipient)
+                (now + message.now.latency) else now)) }
+        ensures refused { IfErr result (λ e. (e ≡ Error.MomentTooLate)
+            × ((message.now.should_deliver && nat_lt last_moment (now + message.now.latency)) ≡ true)) }
     {
         if !message.should_deliver {
             return Ok(now);
@@ -197,8 +218,10 @@ impl<P: Peer> Working<P> {
         message: Message<P>,
         ended: &mut Vec<Ended<P>>,
     ) -> Result<(), Error>
-        ensures completes { IfOk result (λ done. (c : Completed P) × (map ended_of ended.new.items ≡ map ended_of ended.old.items ++ c ∷ [])
-            × (completed_at_once P.cmp now (planned P.cmp self.old) (message_of message) ≡ goes (c ∷ []) (planned P.cmp self.new))) }
+        ensures completes { IfOk result (λ done. (c : Completed P)
+            × (map ended_of ended.new.items ≡ map ended_of ended.old.items ++ c ∷ [])
+            × (completed_at_once P.cmp now (planned P.cmp self.old) (message_of message)
+                ≡ goes (c ∷ []) (planned P.cmp self.new))) }
         ensures refused { IfErr result (IsRefusedFor
             (λ fault. completed_at_once P.cmp now (planned P.cmp self.old) (message_of message) ≡ meets fault)) }
     {
@@ -238,9 +261,11 @@ impl<P: Peer> Working<P> {
 
     /// An event happens, and is planned no more.
     fn happen(&mut self, event: Event, ended: &mut Vec<Ended<P>>) -> Result<(), Error>
-        ensures happens { IfOk result (λ done. (cs : List (Completed P)) × (map ended_of ended.new.items ≡ map ended_of ended.old.items ++ cs)
+        ensures happens { IfOk result (λ done. (cs : List (Completed P))
+            × (map ended_of ended.new.items ≡ map ended_of ended.old.items ++ cs)
             × Happens P.cmp event (planned P.cmp self.old) (goes cs (planned P.cmp self.new))) }
-        ensures refused { IfErr result (IsRefusedFor (λ fault. Happens P.cmp event (planned P.cmp self.old) (meets fault))) }
+        ensures refused { IfErr result (IsRefusedFor (λ fault. Happens P.cmp event (planned P.cmp self.old)
+            (meets fault))) }
     {
         match event {
             Event::Finish(moment) => {
@@ -272,7 +297,8 @@ impl<P: Peer> Working<P> {
     /// All events up to `now` happen, and what is ready then starts. Answers the number of events,
     /// too.
     pub(crate) fn advance(&mut self, now: u64) -> Result<(Vec<Ended<P>>, u128), Error>
-        ensures advances { IfOk result (λ answer. Advances P.cmp now (planned P.cmp self.old) answer.1 (goes (map ended_of answer.0.items) (planned P.cmp self.new))) }
+        ensures advances { IfOk result (λ answer. Advances P.cmp now (planned P.cmp self.old) answer.1
+            (goes (map ended_of answer.0.items) (planned P.cmp self.new))) }
         ensures refused { IfErr result (IsRefusedFor
             (λ fault. (n : ℕ) × Advances P.cmp now (planned P.cmp self.old) n (meets fault))) }
     {

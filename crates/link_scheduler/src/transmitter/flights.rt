@@ -1,5 +1,6 @@
 //! The messages in flight.
-ghost use Rattle.std.specs.Prelude.{◌≡◌, ℕ, ◌+◌, ◌<◌, [], ◌∷◌, ◌++◌, ◌&&◌, ◌==◌, Bool, true, map, length, nat_lt, Some, IfOk, IfErr, OnOk, OnErr, slice_index_or};
+ghost use Rattle.std.specs.Prelude.{◌≡◌, ℕ, ◌+◌, ◌<◌, [], ◌∷◌, ◌++◌, ◌&&◌, ◌==◌, Bool, true, map};
+ghost use Rattle.std.specs.Prelude.{length, nat_lt, Some, IfOk, IfErr, OnOk, OnErr, slice_index_or};
 ghost use Rattle.std.specs.List.{list_all, list_any, remove};
 ghost use Rattle.std.specs.Ordering.{nat_cmp};
 ghost use Rattle.link_simulation.specs.Sorted.{are_ascending};
@@ -65,7 +66,8 @@ impl<P: Peer> Flights<P> {
 
     /// Whether a message of the pair is in flight.
     pub(crate) fn has_pair(&self, origin: &P, recipient: &P) -> bool
-        ensures { result ≡ list_any (λ s. same_peer P.cmp origin.now s.message.value.origin && same_peer P.cmp recipient.now s.message.value.recipient) self.now.progress.items }
+        ensures { result ≡ list_any (λ s. same_peer P.cmp origin.now s.message.value.origin
+            && same_peer P.cmp recipient.now s.message.value.recipient) self.now.progress.items }
     {
         self.progress.iter().any(|one| {
             origin.cmp(&one.message.origin).is_eq() && recipient.cmp(&one.message.recipient).is_eq()
@@ -76,10 +78,12 @@ impl<P: Peer> Flights<P> {
     pub(crate) fn push(&mut self, message: Rc<Message<P>>, id: u64, now: u64) -> Result<(), Error>
         requires { list_all (λ flow. nat_lt flow.id id) self.old.flows.items ≡ true }
         ensures sending { OnOk result (in_flight self.new ≡ in_flight self.old
-            ++ record { message = message_of message.value; left = whole (length message.value.bytes); rate = Some (whole 0); updated = now } ∷ []) }
+            ++ record { message = message_of message.value; left = whole (length message.value.bytes);
+                rate = Some (whole 0); updated = now } ∷ []) }
         ensures flow { (test : AnyFlow P → Bool) → list_all test self.old.flows.items ≡ true
             → ((flow : AnyFlow P) → flow.id ≡ id → test flow ≡ true) → list_all test self.new.flows.items ≡ true }
-        ensures kept { OnErr result ((in_flight self.new ≡ in_flight self.old) × (self.new.flows.items ≡ self.old.flows.items)) }
+        ensures kept { OnErr result ((in_flight self.new ≡ in_flight self.old)
+            × (self.new.flows.items ≡ self.old.flows.items)) }
         ensures refused { IfErr result (λ e. e ≡ Error.OutOfMemory) }
     {
         let units = message.bytes.len() as u128 * UNITS_A_BYTE;
@@ -108,7 +112,8 @@ impl<P: Peer> Flights<P> {
         ensures sending { in_flight self.new ≡ remove (in_flight self.old) at }
         ensures taken { (d : Paced P) → message_of result.value ≡ (slice_index_or (in_flight self.old) at d).message }
         ensures length { length self.new.flows.items + 1 ≡ length self.old.flows.items }
-        ensures others { (test : AnyFlow P → Bool) → list_all test self.old.flows.items ≡ true → list_all test self.new.flows.items ≡ true }
+        ensures others { (test : AnyFlow P → Bool) → list_all test self.old.flows.items ≡ true
+            → list_all test self.new.flows.items ≡ true }
     {
         self.flows.remove(at);
         self.progress.remove(at).message

@@ -1,5 +1,6 @@
 //! The idle pairs, by the moment from which on they may start.
-ghost use Rattle.std.specs.Prelude.{◌≡◌, ◌&&◌, ℕ, Bool, List, true, false, if◌then◌else◌, map, nat_le, option_map, slice_get, [], OnOk, OnErr, IfErr};
+ghost use Rattle.std.specs.Prelude.{◌≡◌, ◌&&◌, ℕ, Bool, List, true, false, if◌then◌else◌, map, nat_le, option_map};
+ghost use Rattle.std.specs.Prelude.{slice_get, [], OnOk, OnErr, IfErr};
 ghost use Rattle.std.specs.Ordering.{is_lt, is_eq};
 ghost use Rattle.fair_rates.specs.Sides.{same_peer};
 ghost use Rattle.link_simulation.specs.Sorted.{are_ascending};
@@ -51,7 +52,8 @@ struct IdlePlace<'a, P> {
 }
 
 impl<'a, P: Peer> Seek<IdlePair<P>> for IdlePlace<'a, P> {
-    ghost is_before = { λ sought pair. is_lt (idle_cmp P.cmp (idle_key pair) (sought.moment, (sought.origin.now, sought.recipient.now))) };
+    ghost is_before = { λ sought pair. is_lt (idle_cmp P.cmp (idle_key pair)
+        (sought.moment, (sought.origin.now, sought.recipient.now))) };
 
     fn is_before(&self, item: &IdlePair<P>) -> bool {
         item.compare(self.moment, self.origin, self.recipient)
@@ -96,7 +98,8 @@ impl<P: Peer> IdlePairs<P> {
 
     /// The pairs that may start by now, by the moments from which on they may, the peers cloned.
     fn due(&self, alloc: Global, now: u64) -> Result<Vec<Key<P>>, Error>
-        ensures due { IfOk result (λ keys. AllZip (IsKeyOfIdle P.cmp) keys.items (filter (λ pair. nat_le pair.moment now) self.now.entries)) }
+        ensures due { IfOk result (λ keys. AllZip (IsKeyOfIdle P.cmp) keys.items
+            (filter (λ pair. nat_le pair.moment now) self.now.entries)) }
         ensures refused { IfErr result (λ e. e ≡ Error.OutOfMemory) }
     {
         let mut due = Vec::new(alloc);
@@ -126,7 +129,8 @@ impl<P: Peer> IdlePairs<P> {
     fn take(&mut self, moment: u64, origin: &P, recipient: &P) -> Result<(), Error>
         requires { is_listed P.cmp self.old.entries moment origin.now recipient.now ≡ true }
         ensures listed { OnOk result ((t : ℕ) (o r : P) → is_listed P.cmp self.new.entries t o r
-            ≡ (if is_eq (idle_cmp P.cmp (moment, (origin.now, recipient.now)) (t, (o, r))) then false else is_listed P.cmp self.old.entries t o r)) }
+            ≡ (if is_eq (idle_cmp P.cmp (moment, (origin.now, recipient.now)) (t, (o, r))) then false
+                else is_listed P.cmp self.old.entries t o r)) }
         ensures refused { IfErr result (λ e. e ≡ Error.OutOfMemory) }
     {
         let at = self.entries.place(&IdlePlace {
@@ -142,7 +146,8 @@ impl<P: Peer> IdlePairs<P> {
     fn put(&mut self, alloc: Global, moment: u64, origin: &P, recipient: &P) -> Result<(), Error>
         requires { is_listed P.cmp self.old.entries moment origin.now recipient.now ≡ false }
         ensures listed { OnOk result ((t : ℕ) (o r : P) → is_listed P.cmp self.new.entries t o r
-            ≡ (if is_eq (idle_cmp P.cmp (moment, (origin.now, recipient.now)) (t, (o, r))) then true else is_listed P.cmp self.old.entries t o r)) }
+            ≡ (if is_eq (idle_cmp P.cmp (moment, (origin.now, recipient.now)) (t, (o, r))) then true
+                else is_listed P.cmp self.old.entries t o r)) }
         ensures refused { IfErr result (λ e. e ≡ Error.OutOfMemory) }
     {
         let at = self.entries.place(&IdlePlace {
@@ -183,7 +188,8 @@ impl<P: Peer> IdlePairs<P> {
         moment: u64,
     ) -> Result<(), Error>
         ensures listed { OnOk result ((t : ℕ) (o r : P) → is_listed P.cmp self.new.entries t o r
-            ≡ (if is_eq (idle_cmp P.cmp (moment, (origin.now, recipient.now)) (t, (o, r))) then true else is_listed P.cmp self.old.entries t o r)) }
+            ≡ (if is_eq (idle_cmp P.cmp (moment, (origin.now, recipient.now)) (t, (o, r))) then true
+                else is_listed P.cmp self.old.entries t o r)) }
         ensures refused { IfErr result (λ e. e ≡ Error.OutOfMemory) }
     {
         if self.has(moment, origin, recipient) {
@@ -204,7 +210,8 @@ impl<P: Peer> IdlePairs<P> {
     ) -> Result<(), Error>
         requires { (t : ℕ) → is_listed P.cmp self.old.entries t origin.now recipient.now ≡ is_moment t old }
         ensures listed { OnOk result ((t : ℕ) (o r : P) → is_listed P.cmp self.new.entries t o r
-            ≡ (if same_peer P.cmp origin.now o && same_peer P.cmp recipient.now r then is_moment t new else is_listed P.cmp self.old.entries t o r)) }
+            ≡ (if same_peer P.cmp origin.now o && same_peer P.cmp recipient.now r then is_moment t new
+                else is_listed P.cmp self.old.entries t o r)) }
         ensures refused { IfErr result (λ e. e ≡ Error.OutOfMemory) }
     {
         if old == new {
@@ -230,7 +237,8 @@ impl<P: Peer> IdlePairs<P> {
     ) -> Result<(), Error>
         requires { (t : ℕ) → is_listed P.cmp self.old.entries t origin.now recipient.now ≡ is_moment t old }
         ensures listed { OnOk result ((t : ℕ) (o r : P) → is_listed P.cmp self.new.entries t o r
-            ≡ (if same_peer P.cmp origin.now o && same_peer P.cmp recipient.now r then is_moment t new else is_listed P.cmp self.old.entries t o r)) }
+            ≡ (if same_peer P.cmp origin.now o && same_peer P.cmp recipient.now r then is_moment t new
+                else is_listed P.cmp self.old.entries t o r)) }
         ensures kept { OnErr result (self.new.entries ≡ self.old.entries) }
         ensures refused { IfErr result (λ e. e ≡ Error.OutOfMemory) }
     {

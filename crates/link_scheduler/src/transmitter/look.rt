@@ -74,7 +74,8 @@ pub(crate) fn idle_from<P: Peer>(
     origin: &P,
     recipient: &P,
 ) -> Option<u64>
-    ensures { result ≡ idle_since P.cmp (of_pairs P.cmp pairs.now.entries waiting.now.messages (in_flight flights.now)) origin.now recipient.now }
+    ensures { result ≡ idle_since P.cmp (of_pairs P.cmp pairs.now.entries waiting.now.messages
+        (in_flight flights.now)) origin.now recipient.now }
 {
     let front = waiting.first(origin, recipient)?;
     if flights.has_pair(origin, recipient) {
@@ -93,8 +94,10 @@ pub(crate) fn rest_all<P: Peer>(
     pairs: &Pairs<P>,
     done: &VecDeque<Rc<Message<P>>>,
 ) -> Result<(), Error>
-    requires busy { (t : ℕ) (a b : P) → list_any (is_of P.cmp a b) (messages done.now.items) ≡ true → is_listed P.cmp idle.old.entries t a b ≡ false }
-    ensures listed { OnOk result (AreAtRest P.cmp (of_pairs P.cmp pairs.now.entries waiting.now.messages (in_flight flights.now)) (messages done.now.items) idle.old.entries idle.new.entries) }
+    requires busy { (t : ℕ) (a b : P) → list_any (is_of P.cmp a b) (messages done.now.items) ≡ true
+        → is_listed P.cmp idle.old.entries t a b ≡ false }
+    ensures listed { OnOk result (AreAtRest P.cmp (of_pairs P.cmp pairs.now.entries waiting.now.messages
+        (in_flight flights.now)) (messages done.now.items) idle.old.entries idle.new.entries) }
     ensures refused { IfErr result (λ e. e ≡ Error.OutOfMemory) }
 {
     for at in 0..done.len() {
@@ -130,7 +133,8 @@ impl<P: Peer> Working<P> {
 
     /// The idle pairs that are ready, in the order of pairs.
     pub(crate) fn ready(&self, now: u64) -> Result<Vec<Key<P>>, Error>
-        ensures ready { IfOk result (λ keys. AllZip (IsKeyOf P.cmp) keys.items (ready_messages P.cmp now (planned P.cmp self.now))) }
+        ensures ready { IfOk result (λ keys. AllZip (IsKeyOf P.cmp) keys.items
+            (ready_messages P.cmp now (planned P.cmp self.now))) }
         ensures refused { IfErr result (λ e. e ≡ Error.OutOfMemory) }
     {
         self.idle.ready(self.alloc, now)

@@ -46,7 +46,8 @@ impl<P: Peer> Message<P> {
     pub(crate) fn arrival(&self, now: u64) -> Result<u64, Error>
         ensures in_time { IfOk result (λ moment. is_late P.cmp now (message_of self.now) ≡ false) }
         ensures moment { IfOk result (λ moment. moment ≡ arrival P.cmp now (message_of self.now)) }
-        ensures refused { IfErr result (λ e. (e ≡ Error.MomentTooLate) × (is_late P.cmp now (message_of self.now) ≡ true)) }
+        ensures refused { IfErr result (λ e. (e ≡ Error.MomentTooLate)
+            × (is_late P.cmp now (message_of self.now) ≡ true)) }
     {
         if self.is_delivered() {
             now.checked_add(self.latency).ok_or(Error::MomentTooLate)

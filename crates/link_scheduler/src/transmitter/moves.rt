@@ -19,7 +19,9 @@ impl<P: Peer> Working<P> {
 
     /// From now on no message of the pair arrives before that moment.
     pub(crate) fn raise(&mut self, origin: &P, recipient: &P, moment: u64) -> Result<(), Error>
-        ensures raised { OnOk result (planned P.cmp self.new ≡ record (planned P.cmp self.old) { last_arrival = raised_at P.cmp (planned P.cmp self.old).last_arrival origin.now recipient.now moment }) }
+        ensures raised { OnOk result (planned P.cmp self.new
+            ≡ record (planned P.cmp self.old) { last_arrival = raised_at P.cmp
+            (planned P.cmp self.old).last_arrival origin.now recipient.now moment }) }
         ensures refused { IfErr result (λ e. e ≡ Error.OutOfMemory) }
     {
         let before = idle_from(&self.flights, &self.waiting, &self.pairs, origin, recipient);
@@ -35,7 +37,8 @@ impl<P: Peer> Working<P> {
     /// The message joins those that wait for its pair, as the last one.
     pub(crate) fn join(&mut self, pair: &Key<P>, message: Message<P>) -> Result<(), Error>
         requires { IsKeyOf P.cmp pair.now (message_of message) }
-        ensures queued { OnOk result (planned P.cmp self.new ≡ with_queued P.cmp (planned P.cmp self.old) (message_of message)) }
+        ensures queued { OnOk result (planned P.cmp self.new
+            ≡ with_queued P.cmp (planned P.cmp self.old) (message_of message)) }
         ensures refused { IfErr result (λ e. e ≡ Error.OutOfMemory) }
     {
         let (origin, recipient) = (&pair.origin, &pair.recipient);
@@ -51,9 +54,11 @@ impl<P: Peer> Working<P> {
 
     /// The first message that waits for the pair is in flight from now on, under the next flow id.
     pub(crate) fn depart(&mut self, origin: &P, recipient: &P, now: u64) -> Result<(), Error>
-        requires ready { may_launch_first P.cmp now (planned P.cmp self.old) (first_of P.cmp (planned P.cmp self.old).waiting origin.now recipient.now) ≡ true }
+        requires ready { may_launch_first P.cmp now (planned P.cmp self.old)
+            (first_of P.cmp (planned P.cmp self.old).waiting origin.now recipient.now) ≡ true }
         requires id { self.old.next_id < 18446744073709551615 }
-        ensures departed { OnOk result (HasDeparted P.cmp now (planned P.cmp self.old) origin.now recipient.now (planned P.cmp self.new)) }
+        ensures departed { OnOk result (HasDeparted P.cmp now (planned P.cmp self.old) origin.now recipient.now
+            (planned P.cmp self.new)) }
         ensures refused { IfErr result (λ e. e ≡ Error.OutOfMemory) }
     {
         let before = idle_from(&self.flights, &self.waiting, &self.pairs, origin, recipient);
@@ -74,7 +79,8 @@ impl<P: Peer> Working<P> {
     pub(crate) fn wait(&mut self, now: u64, message: Message<P>) -> Result<(), Error>
         requires limited { (planned P.cmp self.old).limited ≡ true }
         requires busy { is_sending P.cmp (planned P.cmp self.old) message.origin message.recipient ≡ true }
-        ensures enqueues { OnOk result (Enqueues P.cmp now (message_of message) (planned P.cmp self.old) (goes [] (planned P.cmp self.new))) }
+        ensures enqueues { OnOk result (Enqueues P.cmp now (message_of message) (planned P.cmp self.old)
+            (goes [] (planned P.cmp self.new))) }
         ensures unchanged { OnErr result (planned P.cmp self.new ≡ planned P.cmp self.old) }
         ensures refused { IfErr result (λ e. e ≡ Error.OutOfMemory) }
     {

@@ -83,7 +83,8 @@ impl<P: Peer> Pairs<P> {
 
     /// What is known of the pair, if anything is.
     fn find(&self, origin: &P, recipient: &P) -> Option<&Pair<P>>
-        ensures { option_map (λ pair. pair.now) result ≡ find (λ pair. is_eq (pair_cmp P.cmp (key_of pair) (origin.now, recipient.now))) self.now.entries }
+        ensures { option_map (λ pair. pair.now) result ≡ find
+            (λ pair. is_eq (pair_cmp P.cmp (key_of pair) (origin.now, recipient.now))) self.now.entries }
     {
         let at = self.search(origin, recipient).ok()?;
         self.entries.get(at)
@@ -113,8 +114,10 @@ impl<P: Peer> Pairs<P> {
         cap: Option<usize>,
         last_arrival: Option<u64>,
     ) -> Result<(), Error>
-        ensures link { OnOk result (link_of P.cmp self.new.entries ≡ with_link P.cmp (link_of P.cmp self.old.entries) origin.now recipient.now cap) }
-        ensures arrival { OnOk result (arrival_of P.cmp self.new.entries ≡ with_link P.cmp (arrival_of P.cmp self.old.entries) origin.now recipient.now last_arrival) }
+        ensures link { OnOk result (link_of P.cmp self.new.entries
+            ≡ with_link P.cmp (link_of P.cmp self.old.entries) origin.now recipient.now cap) }
+        ensures arrival { OnOk result (arrival_of P.cmp self.new.entries
+            ≡ with_link P.cmp (arrival_of P.cmp self.old.entries) origin.now recipient.now last_arrival) }
         ensures refused { IfErr result (λ e. e ≡ Error.OutOfMemory) }
     {
         match self.search(origin, recipient) {
@@ -148,7 +151,8 @@ impl<P: Peer> Pairs<P> {
         recipient: &P,
         cap: Option<usize>,
     ) -> Result<(), Error>
-        ensures link { OnOk result (link_of P.cmp self.new.entries ≡ with_link P.cmp (link_of P.cmp self.old.entries) origin.now recipient.now cap) }
+        ensures link { OnOk result (link_of P.cmp self.new.entries
+            ≡ with_link P.cmp (link_of P.cmp self.old.entries) origin.now recipient.now cap) }
         ensures arrival { OnOk result (arrival_of P.cmp self.new.entries ≡ arrival_of P.cmp self.old.entries) }
         ensures refused { IfErr result (λ e. e ≡ Error.OutOfMemory) }
     {
@@ -164,7 +168,8 @@ impl<P: Peer> Pairs<P> {
         recipient: &P,
         moment: u64,
     ) -> Result<(), Error>
-        ensures arrival { OnOk result (arrival_of P.cmp self.new.entries ≡ raised_at P.cmp (arrival_of P.cmp self.old.entries) origin.now recipient.now moment) }
+        ensures arrival { OnOk result (arrival_of P.cmp self.new.entries
+            ≡ raised_at P.cmp (arrival_of P.cmp self.old.entries) origin.now recipient.now moment) }
         ensures link { OnOk result (link_of P.cmp self.new.entries ≡ link_of P.cmp self.old.entries) }
         ensures refused { IfErr result (λ e. e ≡ Error.OutOfMemory) }
     {

@@ -66,7 +66,8 @@ impl<P: Peer> Peers<P> {
 
     /// The entry of the peer, if it has one.
     fn find(&self, peer: &P) -> Option<&PeerCaps<P>>
-        ensures { option_map (λ entry. entry.now) result ≡ find (λ entry. is_eq (P.cmp entry.peer.value peer.now)) self.now.entries }
+        ensures { option_map (λ entry. entry.now) result ≡ find
+            (λ entry. is_eq (P.cmp entry.peer.value peer.now)) self.now.entries }
     {
         let at = self.search(peer).ok()?;
         self.entries.get(at)
@@ -96,8 +97,10 @@ impl<P: Peer> Peers<P> {
         egress: Option<usize>,
         ingress: Option<usize>,
     ) -> Result<(), Error>
-        ensures egress { OnOk result (egress_of P.cmp self.new.entries ≡ with_cap P.cmp (egress_of P.cmp self.old.entries) peer.now egress) }
-        ensures ingress { OnOk result (ingress_of P.cmp self.new.entries ≡ with_cap P.cmp (ingress_of P.cmp self.old.entries) peer.now ingress) }
+        ensures egress { OnOk result (egress_of P.cmp self.new.entries
+            ≡ with_cap P.cmp (egress_of P.cmp self.old.entries) peer.now egress) }
+        ensures ingress { OnOk result (ingress_of P.cmp self.new.entries
+            ≡ with_cap P.cmp (ingress_of P.cmp self.old.entries) peer.now ingress) }
         ensures refused { IfErr result (λ e. e ≡ Error.OutOfMemory) }
     {
         match self.search(peer) {

@@ -40,7 +40,8 @@ impl<P: Peer> Clone for Progress<P> {
 
 /// The rate at that place. None is a rate of zero.
 pub(super) fn rate_at(levels: &[Natural], level: Option<usize>) -> Option<&Natural>
-    ensures { MatchOption result (parts_of_level levels.now level ≡ 0) (λ rate. rate.now ≡ parts_of_level levels.now level) }
+    ensures { MatchOption result (parts_of_level levels.now level ≡ 0)
+        (λ rate. rate.now ≡ parts_of_level levels.now level) }
 {
     levels.get(level?)
 }
@@ -82,7 +83,8 @@ impl<P: Peer> Progress<P> {
     ) -> Option<u64>
         requires { self.old.left ≢ 0 }
         ensures after { self.new ≡ record self.old { level = level; updated = now } }
-        ensures finish { IsLeastMoment (λ s. (now ≤ s) × (self.old.left ≤ parts_of_level levels.now level * (s - now))) result }
+        ensures finish { IsLeastMoment (λ s. (now ≤ s) × (self.old.left ≤ parts_of_level levels.now level *
+            (s - now))) result }
     {
         self.level = level;
         self.updated = now;

@@ -43,7 +43,8 @@ pub(crate) fn rerate_all<P: Peer>(
     requires parallel { length rates.now.level_of.items ≡ length progress.old }
     requires left { All (λ s. s.left ≢ 0) progress.old }
     requires growth { 0 < product rates.now.growth.items }
-    ensures rerated { OnOk result (AreRerated now (product rates.now.growth.items) rates.now.level_of.items progress.old progress.new) }
+    ensures rerated { OnOk result
+        (AreRerated now (product rates.now.growth.items) rates.now.level_of.items progress.old progress.new) }
     ensures same { AllZip IsSameSent progress.old progress.new }
     ensures finish { IfOk result (IsLeastMoment (SomeRunsOutAt rates.now.levels.items progress.new)) }
     ensures refused { IfErr result (λ e. e ≡ Error.OutOfMemory) }

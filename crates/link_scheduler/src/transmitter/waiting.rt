@@ -27,7 +27,8 @@ struct PlaceOfFirst<'a, P> {
 }
 
 impl<P: Peer> Seek<Message<P>> for PlaceOfFirst<'_, P> {
-    ghost is_before = { λ place message. is_lt (pair_cmp P.cmp (pair_of message) (place.origin.now, place.recipient.now)) };
+    ghost is_before = { λ place message. is_lt (pair_cmp P.cmp (pair_of message)
+        (place.origin.now, place.recipient.now)) };
 
     fn is_before(&self, message: &Message<P>) -> bool {
         message.compare(self.origin, self.recipient).is_lt()
@@ -42,7 +43,8 @@ struct PlaceOfNext<'a, P> {
 }
 
 impl<P: Peer> Seek<Message<P>> for PlaceOfNext<'_, P> {
-    ghost is_before = { λ place message. not (is_gt (pair_cmp P.cmp (pair_of message) (place.origin.now, place.recipient.now))) };
+    ghost is_before = { λ place message. not (is_gt (pair_cmp P.cmp (pair_of message)
+        (place.origin.now, place.recipient.now))) };
 
     fn is_before(&self, message: &Message<P>) -> bool {
         message.compare(self.origin, self.recipient).is_le()
@@ -79,7 +81,8 @@ impl<P: Peer> Waiting<P> {
 
     /// The first message that waits for the pair.
     pub(crate) fn first(&self, origin: &P, recipient: &P) -> Option<&Message<P>>
-        ensures { option_map (λ m. message_of m.now) result ≡ first_of P.cmp (map message_of self.now.messages) origin.now recipient.now }
+        ensures { option_map (λ m. message_of m.now) result
+            ≡ first_of P.cmp (map message_of self.now.messages) origin.now recipient.now }
     {
         let at = self.search(origin, recipient)?;
         self.messages.get(at)
@@ -91,9 +94,11 @@ impl<P: Peer> Waiting<P> {
         origin: &P,
         recipient: &P,
     ) -> Result<Option<Rc<Message<P>>>, Error>
-        ensures taken { IfOk result (λ taken. option_map (λ m. message_of m.value) taken ≡ first_of P.cmp (map message_of self.old.messages) origin.now recipient.now) }
+        ensures taken { IfOk result (λ taken. option_map (λ m. message_of m.value) taken
+            ≡ first_of P.cmp (map message_of self.old.messages) origin.now recipient.now) }
         ensures rest { OnOk result (map message_of self.new.messages
-            ≡ without_first (λ m. same_peer P.cmp origin.now m.origin && same_peer P.cmp recipient.now m.recipient) (map message_of self.old.messages)) }
+            ≡ without_first (λ m. same_peer P.cmp origin.now m.origin && same_peer P.cmp recipient.now m.recipient)
+                (map message_of self.old.messages)) }
         ensures refused { IfErr result (λ e. e ≡ Error.OutOfMemory) }
     {
         let Some(at) = self.search(origin, recipient) else {
@@ -104,7 +109,8 @@ impl<P: Peer> Waiting<P> {
 
     /// The message joins those that wait for its pair, as the last one.
     pub(crate) fn push(&mut self, alloc: Global, message: Message<P>) -> Result<(), Error>
-        ensures waiting { OnOk result (map message_of self.new.messages ≡ queued P.cmp (message_of message) (map message_of self.old.messages)) }
+        ensures waiting { OnOk result (map message_of self.new.messages
+            ≡ queued P.cmp (message_of message) (map message_of self.old.messages)) }
         ensures kept { OnErr result (self.new.messages ≡ self.old.messages) }
         ensures refused { IfErr result (λ e. e ≡ Error.OutOfMemory) }
     {

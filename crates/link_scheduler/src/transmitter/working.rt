@@ -32,7 +32,8 @@ pub(crate) struct Working<P: Peer> {
     /// The moment at which a waiting message starts next.
     pub(crate) start: Option<u64>,
     pub ghost fresh: { list_all (λ flow. nat_lt flow.id next_id) flights.flows.items ≡ true },
-    pub ghost indexed: { IsIndexOf P.cmp (of_pairs P.cmp pairs.entries waiting.messages (in_flight flights)) idle.entries },
+    pub ghost indexed: { IsIndexOf P.cmp (of_pairs P.cmp pairs.entries waiting.messages
+        (in_flight flights)) idle.entries },
 }
 
 impl<P: Peer> Working<P> {
@@ -64,7 +65,9 @@ impl<P: Peer> Working<P> {
         egress: Option<usize>,
         ingress: Option<usize>,
     ) -> Result<(), Error>
-        ensures limited { OnOk result (planned P.cmp self.new ≡ record (planned P.cmp self.old) { caps = limited_by P.cmp (planned P.cmp self.old).caps peer.now egress ingress; limited = true }) }
+        ensures limited { OnOk result (planned P.cmp self.new
+            ≡ record (planned P.cmp self.old) { caps = limited_by P.cmp
+            (planned P.cmp self.old).caps peer.now egress ingress; limited = true }) }
         ensures refused { IfErr result (λ e. e ≡ Error.OutOfMemory) }
     {
         self.limited = true;
@@ -78,7 +81,9 @@ impl<P: Peer> Working<P> {
         recipient: &P,
         cap: Option<usize>,
     ) -> Result<(), Error>
-        ensures limited { OnOk result (planned P.cmp self.new ≡ record (planned P.cmp self.old) { caps = linked_by P.cmp (planned P.cmp self.old).caps origin.now recipient.now cap; limited = true }) }
+        ensures limited { OnOk result (planned P.cmp self.new
+            ≡ record (planned P.cmp self.old) { caps = linked_by P.cmp
+            (planned P.cmp self.old).caps origin.now recipient.now cap; limited = true }) }
         ensures refused { IfErr result (λ e. e ≡ Error.OutOfMemory) }
     {
         let mut pairs = self.pairs.clone()?;
