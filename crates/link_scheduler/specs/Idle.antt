@@ -47,4 +47,4 @@ module _ {P : Type 0} (cmp : P → P → Ordering) where
   abbrev pub AreAtRest : Planned P → List (Message P) → List (IdlePair P) → List (IdlePair P) → Type 0
   AreAtRest p leavers old new = (moment : ℕ) (origin recipient : P)
       → is_listed new moment origin recipient ≡ (if list_any (is_of origin recipient) leavers
-          then is_moment moment (idle_from p origin recipient) else is_listed old moment origin recipient)
+      then is_moment moment (idle_from p origin recipient) else is_listed old moment origin recipient)

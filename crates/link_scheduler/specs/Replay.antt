@@ -17,8 +17,14 @@ abbrev pub call_of : {P : Type 0} → call_code.Call P → Call P
 call_of (calls.Limit now peer egress ingress) = call_limit now peer egress ingress
 call_of (calls.LimitLink now origin recipient cap) = call_limit_link now origin recipient cap
 call_of (calls.Enqueue now origin recipient channel message latency should_deliver) = call_enqueue now
-    (record { origin = origin; recipient = recipient; channel = channel; bytes = message; latency = latency;
-    should_deliver = should_deliver })
+    (record {
+      origin = origin;
+      recipient = recipient;
+      channel = channel;
+      bytes = message;
+      latency = latency;
+      should_deliver = should_deliver;
+    })
 call_of (calls.Advance now) = call_advance now
 call_of calls.Next = call_next
 

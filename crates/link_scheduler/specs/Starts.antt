@@ -19,8 +19,12 @@ pub record HasDeparted {P : Type 0} (cmp : P → P → Ordering) (t : ℕ) (p : 
   pub message : Message P
   pub first : first_of cmp p.waiting o r ≡ Some message
   pub is : q ≡ record p {
-    sending = p.sending ++ record { message = message; left = whole (length message.bytes); rate = Some (whole 0);
-        updated = t } ∷ [];
+    sending = p.sending ++ record {
+      message = message;
+      left = whole (length message.bytes);
+      rate = Some (whole 0);
+      updated = t;
+    } ∷ [];
     waiting = without_first (λ m. same_peer cmp o m.origin && same_peer cmp r m.recipient) p.waiting;
     next_id = p.next_id + 1;
   }

@@ -23,8 +23,14 @@ use Rattle.link_simulation.specs.WorldStands.{StandsFor}
 -- the message of an `enqueue`
 abbrev pub sent : {P : Type 0} → P → P → ℕ → List ℕ → ℕ → Bool → Message P
 sent origin recipient channel bytes latency should_deliver =
-    record { origin = origin; recipient = recipient; channel = channel; bytes = bytes; latency = latency;
-        should_deliver = should_deliver }
+    record {
+      origin = origin;
+      recipient = recipient;
+      channel = channel;
+      bytes = bytes;
+      latency = latency;
+      should_deliver = should_deliver;
+    }
 
 module _ {P : Type 0} (cmp : P → P → Ordering) where
   -- a call that is made leads from the planned world p to q, with those completions

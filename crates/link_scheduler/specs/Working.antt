@@ -24,8 +24,11 @@ use Rattle.link_scheduler.specs.InFlight.{in_flight}
 
 -- the caps of peers and of ordered pairs
 abbrev pub caps_of : {P : Type 0} → (P → P → Ordering) → List (PeerCaps P) → List (Pair P) → Caps P
-caps_of cmp peers pairs = record { egress = egress_of cmp peers; ingress = ingress_of cmp peers;
-    link = link_of cmp pairs }
+caps_of cmp peers pairs = record {
+  egress = egress_of cmp peers;
+  ingress = ingress_of cmp peers;
+  link = link_of cmp pairs;
+}
 
 -- messages in the code
 abbrev pub messages : {P : Type 0} → List (Rc (code.Message P) Global) → List (Message P)

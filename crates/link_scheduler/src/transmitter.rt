@@ -229,7 +229,7 @@ impl<P: Peer> State<P> {
     ) -> Result<Vec<Completion<P>>, Error>
         ensures made { IfOk result (λ done.
             IsMade self.old (call_enqueue now
-                (sent origin recipient channel message latency should_deliver)) done.items self.new) }
+            (sent origin recipient channel message latency should_deliver)) done.items self.new) }
         ensures refused { IfErr result (IsRefused self.old
             (call_enqueue now (sent origin recipient channel message latency should_deliver))) }
         ensures unchanged { OnErr result (planned_of self.new ≡ planned_of self.old) }

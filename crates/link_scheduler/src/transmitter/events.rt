@@ -77,10 +77,10 @@ impl<P: Peer> Working<P> {
         ensures launches { IfOk result (λ more. Launches P.cmp now
             (landed P.cmp now (planned P.cmp self.old) (message_of message.value))
             (next_of P.cmp (planned P.cmp self.old) (message_of message.value))
-                (goes (messages more.items) (planned P.cmp self.new))) }
+            (goes (messages more.items) (planned P.cmp self.new))) }
         ensures refused { IfErr result (λ e. (ms : List (AnyMessage P)) →
             IsRefusedFor (λ fault. Finishes P.cmp now (message_of message.value ∷ ms) (planned P.cmp self.old)
-                (meets fault)) e) }
+            (meets fault)) e) }
     {
         let sent = Rc::as_ref(&message);
         let arrival = sent.arrival(now)?;
@@ -196,7 +196,7 @@ impl<P: Peer> Working<P> {
             && nat_lt last_moment (now + message.now.latency)) ≡ false) }
         ensures moment { IfOk result (λ moment. moment ≡ (if message.now.should_deliver
             then latest (arrival_of P.cmp self.now.pairs.entries message.now.origin message.now.recipient)
-                (now + message.now.latency) else now)) }
+            (now + message.now.latency) else now)) }
         ensures refused { IfErr result (λ e. (e ≡ Error.MomentTooLate)
             × ((message.now.should_deliver && nat_lt last_moment (now + message.now.latency)) ≡ true)) }
     {
@@ -221,7 +221,7 @@ impl<P: Peer> Working<P> {
         ensures completes { IfOk result (λ done. (c : Completed P)
             × (map ended_of ended.new.items ≡ map ended_of ended.old.items ++ c ∷ [])
             × (completed_at_once P.cmp now (planned P.cmp self.old) (message_of message)
-                ≡ goes (c ∷ []) (planned P.cmp self.new))) }
+            ≡ goes (c ∷ []) (planned P.cmp self.new))) }
         ensures refused { IfErr result (IsRefusedFor
             (λ fault. completed_at_once P.cmp now (planned P.cmp self.old) (message_of message) ≡ meets fault)) }
     {

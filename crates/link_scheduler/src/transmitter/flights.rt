@@ -78,8 +78,12 @@ impl<P: Peer> Flights<P> {
     pub(crate) fn push(&mut self, message: Rc<Message<P>>, id: u64, now: u64) -> Result<(), Error>
         requires { list_all (λ flow. nat_lt flow.id id) self.old.flows.items ≡ true }
         ensures sending { OnOk result (in_flight self.new ≡ in_flight self.old
-            ++ record { message = message_of message.value; left = whole (length message.value.bytes);
-                rate = Some (whole 0); updated = now } ∷ []) }
+            ++ record {
+              message = message_of message.value;
+              left = whole (length message.value.bytes);
+              rate = Some (whole 0);
+              updated = now;
+            } ∷ []) }
         ensures flow { (test : AnyFlow P → Bool) → list_all test self.old.flows.items ≡ true
             → ((flow : AnyFlow P) → flow.id ≡ id → test flow ≡ true) → list_all test self.new.flows.items ≡ true }
         ensures kept { OnErr result ((in_flight self.new ≡ in_flight self.old)

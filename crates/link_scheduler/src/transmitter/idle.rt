@@ -130,7 +130,7 @@ impl<P: Peer> IdlePairs<P> {
         requires { is_listed P.cmp self.old.entries moment origin.now recipient.now ≡ true }
         ensures listed { OnOk result ((t : ℕ) (o r : P) → is_listed P.cmp self.new.entries t o r
             ≡ (if is_eq (idle_cmp P.cmp (moment, (origin.now, recipient.now)) (t, (o, r))) then false
-                else is_listed P.cmp self.old.entries t o r)) }
+            else is_listed P.cmp self.old.entries t o r)) }
         ensures refused { IfErr result (λ e. e ≡ Error.OutOfMemory) }
     {
         let at = self.entries.place(&IdlePlace {
@@ -147,7 +147,7 @@ impl<P: Peer> IdlePairs<P> {
         requires { is_listed P.cmp self.old.entries moment origin.now recipient.now ≡ false }
         ensures listed { OnOk result ((t : ℕ) (o r : P) → is_listed P.cmp self.new.entries t o r
             ≡ (if is_eq (idle_cmp P.cmp (moment, (origin.now, recipient.now)) (t, (o, r))) then true
-                else is_listed P.cmp self.old.entries t o r)) }
+            else is_listed P.cmp self.old.entries t o r)) }
         ensures refused { IfErr result (λ e. e ≡ Error.OutOfMemory) }
     {
         let at = self.entries.place(&IdlePlace {
@@ -189,7 +189,7 @@ impl<P: Peer> IdlePairs<P> {
     ) -> Result<(), Error>
         ensures listed { OnOk result ((t : ℕ) (o r : P) → is_listed P.cmp self.new.entries t o r
             ≡ (if is_eq (idle_cmp P.cmp (moment, (origin.now, recipient.now)) (t, (o, r))) then true
-                else is_listed P.cmp self.old.entries t o r)) }
+            else is_listed P.cmp self.old.entries t o r)) }
         ensures refused { IfErr result (λ e. e ≡ Error.OutOfMemory) }
     {
         if self.has(moment, origin, recipient) {
@@ -211,7 +211,7 @@ impl<P: Peer> IdlePairs<P> {
         requires { (t : ℕ) → is_listed P.cmp self.old.entries t origin.now recipient.now ≡ is_moment t old }
         ensures listed { OnOk result ((t : ℕ) (o r : P) → is_listed P.cmp self.new.entries t o r
             ≡ (if same_peer P.cmp origin.now o && same_peer P.cmp recipient.now r then is_moment t new
-                else is_listed P.cmp self.old.entries t o r)) }
+            else is_listed P.cmp self.old.entries t o r)) }
         ensures refused { IfErr result (λ e. e ≡ Error.OutOfMemory) }
     {
         if old == new {
@@ -238,7 +238,7 @@ impl<P: Peer> IdlePairs<P> {
         requires { (t : ℕ) → is_listed P.cmp self.old.entries t origin.now recipient.now ≡ is_moment t old }
         ensures listed { OnOk result ((t : ℕ) (o r : P) → is_listed P.cmp self.new.entries t o r
             ≡ (if same_peer P.cmp origin.now o && same_peer P.cmp recipient.now r then is_moment t new
-                else is_listed P.cmp self.old.entries t o r)) }
+            else is_listed P.cmp self.old.entries t o r)) }
         ensures kept { OnErr result (self.new.entries ≡ self.old.entries) }
         ensures refused { IfErr result (λ e. e ≡ Error.OutOfMemory) }
     {

@@ -20,8 +20,10 @@ impl<P: Peer> Working<P> {
     /// From now on no message of the pair arrives before that moment.
     pub(crate) fn raise(&mut self, origin: &P, recipient: &P, moment: u64) -> Result<(), Error>
         ensures raised { OnOk result (planned P.cmp self.new
-            ≡ record (planned P.cmp self.old) { last_arrival = raised_at P.cmp
-            (planned P.cmp self.old).last_arrival origin.now recipient.now moment }) }
+            ≡ record (planned P.cmp self.old) {
+              last_arrival = raised_at P.cmp
+                  (planned P.cmp self.old).last_arrival origin.now recipient.now moment;
+            }) }
         ensures refused { IfErr result (λ e. e ≡ Error.OutOfMemory) }
     {
         let before = idle_from(&self.flights, &self.waiting, &self.pairs, origin, recipient);

@@ -102,8 +102,16 @@ fn read_one<P: Peer>(
     ensures refused { IfErr result (λ e. e ≡ Error.OutOfMemory) }
 {
     Ok(InFlight {
-        origin: progress.message.origin.clone_peer().ok_or(Error::OutOfMemory)?,
-        recipient: progress.message.recipient.clone_peer().ok_or(Error::OutOfMemory)?,
+        origin: progress
+            .message
+            .origin
+            .clone_peer()
+            .ok_or(Error::OutOfMemory)?,
+        recipient: progress
+            .message
+            .recipient
+            .clone_peer()
+            .ok_or(Error::OutOfMemory)?,
         left: read_fraction(&progress.left, unit)?,
         rate,
         since: progress.updated,

@@ -66,8 +66,11 @@ impl<P: Peer> Working<P> {
         ingress: Option<usize>,
     ) -> Result<(), Error>
         ensures limited { OnOk result (planned P.cmp self.new
-            ≡ record (planned P.cmp self.old) { caps = limited_by P.cmp
-            (planned P.cmp self.old).caps peer.now egress ingress; limited = true }) }
+            ≡ record (planned P.cmp self.old) {
+              caps = limited_by P.cmp
+                  (planned P.cmp self.old).caps peer.now egress ingress;
+              limited = true;
+            }) }
         ensures refused { IfErr result (λ e. e ≡ Error.OutOfMemory) }
     {
         self.limited = true;
@@ -82,8 +85,11 @@ impl<P: Peer> Working<P> {
         cap: Option<usize>,
     ) -> Result<(), Error>
         ensures limited { OnOk result (planned P.cmp self.new
-            ≡ record (planned P.cmp self.old) { caps = linked_by P.cmp
-            (planned P.cmp self.old).caps origin.now recipient.now cap; limited = true }) }
+            ≡ record (planned P.cmp self.old) {
+              caps = linked_by P.cmp
+                  (planned P.cmp self.old).caps origin.now recipient.now cap;
+              limited = true;
+            }) }
         ensures refused { IfErr result (λ e. e ≡ Error.OutOfMemory) }
     {
         let mut pairs = self.pairs.clone()?;

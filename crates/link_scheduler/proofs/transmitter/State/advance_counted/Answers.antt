@@ -29,14 +29,14 @@ invariant_of-self-clause-orderly g c = orderly_on g.P.Ord.cmp g.met.P.Ord.total 
 pub returns-then-is_quiet-clause-made : goal.returns-then-is_quiet-clause-made
 returns-then-is_quiet-clause-made g c =
     let rested : GoesCounted g.P.Ord.cmp c.args.now (planned g.P.Ord.cmp c.args.self.now.kept) 0 [] (planned g.P.Ord.cmp c.rest.new.self) = advances_on g.P.Ord.cmp g.met.P.Ord.total c.args.now 0 (planned g.P.Ord.cmp c.args.self.now.kept) (planned g.P.Ord.cmp c.args.self.now.kept) (planned g.P.Ord.cmp c.rest.new.self) []
-        (same_itself g.P.Ord.cmp g.met.P.Ord.total (planned g.P.Ord.cmp c.args.self.now.kept) c.args.self.now.caps c.args.self.now.arrivals) c.rest.ensures in
+    (same_itself g.P.Ord.cmp g.met.P.Ord.total (planned g.P.Ord.cmp c.args.self.now.kept) c.args.self.now.caps c.args.self.now.arrivals) c.rest.ensures in
     rw (ap (map completed_of) c.new.ensures.items) (promised_if g.P.Ord.cmp g.met.P.Ord.total (planned g.P.Ord.cmp c.args.self.now.kept) (planned g.P.Ord.cmp c.rest.new.self) (call_advance c.args.now) c.args.now [] refl c.ranges.now.fits c.args.self.now.orderly
     (counted_goes g.P.Ord.cmp g.met.P.Ord.total c.args.now 0 (planned g.P.Ord.cmp c.args.self.now.kept) (planned g.P.Ord.cmp c.rest.new.self) [] rested))
 
 pub returns-then-is_quiet-clause-advanced : goal.returns-then-is_quiet-clause-advanced
 returns-then-is_quiet-clause-advanced g c =
     let rested : GoesCounted g.P.Ord.cmp c.args.now (planned g.P.Ord.cmp c.args.self.now.kept) 0 [] (planned g.P.Ord.cmp c.rest.new.self) = advances_on g.P.Ord.cmp g.met.P.Ord.total c.args.now 0 (planned g.P.Ord.cmp c.args.self.now.kept) (planned g.P.Ord.cmp c.args.self.now.kept) (planned g.P.Ord.cmp c.rest.new.self) []
-        (same_itself g.P.Ord.cmp g.met.P.Ord.total (planned g.P.Ord.cmp c.args.self.now.kept) c.args.self.now.caps c.args.self.now.arrivals) c.rest.ensures in
+    (same_itself g.P.Ord.cmp g.met.P.Ord.total (planned g.P.Ord.cmp c.args.self.now.kept) c.args.self.now.caps c.args.self.now.arrivals) c.rest.ensures in
     let went : Goes g.P.Ord.cmp (planned g.P.Ord.cmp c.args.self.now.kept) (call_advance c.args.now) [] (planned g.P.Ord.cmp c.rest.new.self) = counted_goes g.P.Ord.cmp g.met.P.Ord.total c.args.now 0 (planned g.P.Ord.cmp c.args.self.now.kept) (planned g.P.Ord.cmp c.rest.new.self) [] rested in
     record {
       split = rw (ap (map completed_of) c.new.ensures.items) (split_on g.P.Ord.cmp g.met.P.Ord.total (planned g.P.Ord.cmp c.args.self.now.kept) (planned g.P.Ord.cmp c.rest.new.self) c.args.now [] c.ranges.now.fits went);
@@ -46,7 +46,7 @@ returns-then-is_quiet-clause-advanced g c =
 pub returns-then-is_quiet-clause-counted : goal.returns-then-is_quiet-clause-counted
 returns-then-is_quiet-clause-counted g c =
     let rested : GoesCounted g.P.Ord.cmp c.args.now (planned g.P.Ord.cmp c.args.self.now.kept) 0 [] (planned g.P.Ord.cmp c.rest.new.self) = advances_on g.P.Ord.cmp g.met.P.Ord.total c.args.now 0 (planned g.P.Ord.cmp c.args.self.now.kept) (planned g.P.Ord.cmp c.args.self.now.kept) (planned g.P.Ord.cmp c.rest.new.self) []
-        (same_itself g.P.Ord.cmp g.met.P.Ord.total (planned g.P.Ord.cmp c.args.self.now.kept) c.args.self.now.caps c.args.self.now.arrivals) c.rest.ensures in
+    (same_itself g.P.Ord.cmp g.met.P.Ord.total (planned g.P.Ord.cmp c.args.self.now.kept) c.args.self.now.caps c.args.self.now.arrivals) c.rest.ensures in
     record {
       by_rule = rw (ap (map completed_of) c.new.ensures.items) rested;
       few = omega arith;

@@ -7,8 +7,10 @@ use Rattle.link_scheduler.proofs.transmitter.working.Working.is_ready.Goals as g
 pub returns-in-Some : goal.returns-in-Some
 returns-in-Some g c =
     let old = c.args.self.now in
-    record { ready = ready_first g.P.Ord.cmp g.met.P.Ord.total (planned g.P.Ord.cmp old) (arrivals_looked_up g.P.Ord.cmp g.met.P.Ord.total old.pairs.entries) old.idle.entries c.args.now _ _ old.idle.ascending old.indexed
-    (sym c.first.ensures ∙ c.in-Some.is) refl }
+    record {
+      ready = ready_first g.P.Ord.cmp g.met.P.Ord.total (planned g.P.Ord.cmp old) (arrivals_looked_up g.P.Ord.cmp g.met.P.Ord.total old.pairs.entries) old.idle.entries c.args.now _ _ old.idle.ascending old.indexed
+          (sym c.first.ensures ∙ c.in-Some.is) refl;
+    }
 
 pub returns-in-None : goal.returns-in-None
 returns-in-None g c =
