@@ -14,6 +14,7 @@ use fair_rates::error::Error;
 use fair_rates::peer::Peer;
 use fair_rates::ratio::Ratio;
 use natural::Natural;
+use std::rc::Rc;
 
 /// Nanoseconds in a second.
 const BILLION: u128 = 1_000_000_000;
@@ -101,17 +102,10 @@ fn read_one<P: Peer>(
     ensures since { IfOk result (λ r. r.since ≡ progress.now.updated) }
     ensures refused { IfErr result (λ e. e ≡ Error.OutOfMemory) }
 {
+    let message = Rc::as_ref(&progress.message);
     Ok(InFlight {
-        origin: progress
-            .message
-            .origin
-            .clone_peer()
-            .ok_or(Error::OutOfMemory)?,
-        recipient: progress
-            .message
-            .recipient
-            .clone_peer()
-            .ok_or(Error::OutOfMemory)?,
+        origin: message.origin.clone_peer().ok_or(Error::OutOfMemory)?,
+        recipient: message.recipient.clone_peer().ok_or(Error::OutOfMemory)?,
         left: read_fraction(&progress.left, unit)?,
         rate,
         since: progress.updated,
