@@ -1,5 +1,5 @@
 //! Lists of flows and caps in a fixed order that looks like none.
-use crate::planner_network::{Cap, Network, Side};
+use super::network::{Cap, Network, Side};
 use p2p_simulated::bandwidth::Flow;
 use std::alloc::Global;
 use std::test::Fail;

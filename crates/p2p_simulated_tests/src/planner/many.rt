@@ -1,5 +1,5 @@
 //! Many flows of one origin, planned by the calls that count no rounds.
-use crate::planner_network::{finite, sent};
+use super::network::{finite, sent};
 use p2p_simulated::bandwidth::{Flow, Rate, allocate, allocate_linked};
 use p2p_simulated::error::Error;
 use std::alloc::Global;

@@ -1,4 +1,4 @@
-//! Types of peers for the tests of the planner.
+//! Types of peers.
 ghost use Rattle.std.proofs.Common.{rules};
 ghost use Rattle.std.specs.Cmp.{partial_order_from_own_ties};
 ghost use Rattle.std.specs.Cmp.Rules.{comparing};

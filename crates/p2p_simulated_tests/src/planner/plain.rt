@@ -1,5 +1,5 @@
 //! A plain judge of rates, and a plain planner.
-use crate::planner_network::{Cap, Network, Side};
+use super::network::{Cap, Network, Side};
 use p2p_simulated::bandwidth::{Flow, Rate};
 use p2p_simulated::error::Error;
 use p2p_simulated::ratio::Ratio;

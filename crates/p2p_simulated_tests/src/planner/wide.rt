@@ -1,5 +1,5 @@
 //! Rates next to 2^128.
-use crate::planner_network::{Cap, Network, Side, expect_rate, plan, plan_linked, sent};
+use super::network::{Cap, Network, Side, expect_rate, plan, plan_linked, sent};
 use p2p_simulated::error::Error;
 use std::test::Fail;
 

@@ -1,5 +1,5 @@
 //! Many flows: which rates fit in fractions of 128 bits, and which do not.
-use crate::planner_network::{Cap, Network, Planned, Side, expect_rate, plan, plan_linked, sent};
+use super::network::{Cap, Network, Planned, Side, expect_rate, plan, plan_linked, sent};
 use p2p_simulated::bandwidth::Flow;
 use p2p_simulated::error::Error;
 use std::alloc::Global;

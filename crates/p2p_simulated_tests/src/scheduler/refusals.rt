@@ -1,6 +1,6 @@
 //! Calls that are refused, and the calls after them.
 use super::{MILLI, SECOND, begin, from_to};
-use crate::planner_peers::Numbered;
+use crate::peers::Numbered;
 use p2p_simulated::error::Error;
 use p2p_simulated::peer::Peer;
 
@@ -53,11 +53,8 @@ fn a_call_that_is_refused_half_way_changes_nothing(rt: HostRuntime) -> Result<()
     let start = u64::MAX - SECOND;
     let mut p = begin::<u64>(rt.alloc());
     p.limit(0, 1, Some(2), None)?;
-    p.done(&[])?;
     p.send(from_to(1, 2).at(start))?;
-    p.done(&[])?;
     p.send(from_to(1, 3).at(start).after(1))?;
-    p.done(&[])?;
     p.advance(u64::MAX)?;
     p.refused(Error::MomentTooLate)?;
     p.next(Some(u64::MAX))?;
@@ -78,11 +75,8 @@ fn calls_go_on_after_refusals(rt: HostRuntime) -> Result<(), Error> {
     p.send(from_to(1, 2).after(u64::MAX))?;
     p.done(&[(1, Some(u64::MAX))])?;
     p.limit(0, 1, Some(1_000_000_000), None)?;
-    p.done(&[])?;
     p.send(from_to(1, 2).after(1))?;
-    p.done(&[])?;
     p.advance(u64::MAX - 1)?;
-    p.done(&[])?;
     p.next(Some(u64::MAX))?;
     p.advance(u64::MAX)?;
     p.refused(Error::MomentTooLate)?;
@@ -106,12 +100,10 @@ fn calls_go_on_after_refusals(rt: HostRuntime) -> Result<(), Error> {
 fn parts_past_128_bits_are_answered(rt: HostRuntime) -> Result<(), Error> {
     let mut p = begin::<u64>(rt.alloc());
     p.limit(0, 1, Some(4_294_967_291), None)?;
-    p.done(&[])?;
     let mut others = Vec::new(rt.alloc());
     for place in 0..60u8 {
         let now = place as u64;
         p.send(from_to(1, 2 + place).of(4096).at(now))?;
-        p.done(&[])?;
         if place > 50 {
             p.next(Some(49_408 + 949 * (now - 51)))?;
         }
@@ -148,7 +140,7 @@ fn a_call_that_cannot_be_cloned_ends_no_unlimited_mode(rt: HostRuntime) -> Resul
     p.send(from_to(1, 2).after(50))?;
     p.done(&[(3, Some(100))])?;
     p.next(None)?;
-    p.expect(&rt);
+    p.expect_list(&rt);
     Ok(())
 }
 
@@ -158,11 +150,8 @@ fn a_call_that_cannot_be_cloned_ends_no_unlimited_mode(rt: HostRuntime) -> Resul
 fn a_call_that_cannot_be_cloned_is_not_made(rt: HostRuntime) -> Result<(), Error> {
     let mut p = begin::<Rare>(rt.alloc());
     p.limit(0, 1, Some(1000), None)?;
-    p.done(&[])?;
     p.link(0, 1, 2, Some(500))?;
-    p.done(&[])?;
     p.send(from_to(1, 2).of(1000))?;
-    p.done(&[])?;
     p.next(Some(2 * SECOND))?;
     p.limit(SECOND, ALONE + 1, Some(250), None)?;
     p.refused(Error::OutOfMemory)?;
@@ -176,11 +165,10 @@ fn a_call_that_cannot_be_cloned_is_not_made(rt: HostRuntime) -> Result<(), Error
     p.refused(Error::OutOfMemory)?;
     p.next(Some(2 * SECOND))?;
     p.send(from_to(1, 3).of(250).at(SECOND))?;
-    p.done(&[])?;
     p.walk(&[
         (1500 * MILLI, [(3, Some(1500 * MILLI))].as_slice()),
         (2 * SECOND, [(0, Some(2 * SECOND))].as_slice()),
     ])?;
-    p.expect(&rt);
+    p.expect_list(&rt);
     Ok(())
 }

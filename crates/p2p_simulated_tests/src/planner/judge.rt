@@ -1,7 +1,7 @@
 //! Rates of many lists, before a plain judge and beside those of a plain planner.
-use crate::planner_lists::{Chance, Kind, next_list};
-use crate::planner_network::{Cap, Network, Planned, Side, finite, lost, plan, plan_linked, sent};
-use crate::planner_plain::{Filled, Verdict, fill, fit, judge};
+use super::lists::{Chance, Kind, next_list};
+use super::network::{Cap, Network, Planned, Side, finite, lost, plan, plan_linked, sent};
+use super::plain::{Filled, Verdict, fill, fit, judge};
 use p2p_simulated::bandwidth::{Flow, Rate};
 use p2p_simulated::error::Error;
 use std::alloc::Global;
