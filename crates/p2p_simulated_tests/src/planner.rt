@@ -1,5 +1,13 @@
 //! Rates of flows, against values worked out by hand.
-use crate::planner_peers::{Backward, Marked, Numbered};
+mod judge;
+mod lists;
+mod many;
+mod network;
+mod plain;
+mod sizes;
+mod wide;
+
+use crate::peers::{Backward, Marked, Numbered};
 use p2p_simulated::bandwidth::{
     Flow, Rate, allocate, allocate_counted, allocate_linked, allocate_linked_counted,
 };
