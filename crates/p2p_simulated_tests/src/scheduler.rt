@@ -1,5 +1,7 @@
 //! The scheduler through its public calls.
+mod clones;
 mod ends;
+mod idle;
 mod lists;
 mod long;
 mod numbers;
