@@ -25,7 +25,8 @@ OWN = {
                            b"limitlink 500000000 1 2 25\nnext\nadvance 2500000000\n",
     "bytes": b"enqueue 0 1 2 0 67108864 5 1\nlimit 0 1 1 1\nenqueue 0 1 2 0 65536 5 1\nlimit 1 1 - -\nnext\n",
 }
-TESTS = ["refusals::calls_with_little_memory", "refusals::lists_with_little_memory", "rates::rates_with_little_memory"]
+TESTS = ["refusals::calls_with_little_memory", "refusals::lists_with_little_memory", "rates::rates_with_little_memory",
+         "quiet::rests_with_little_memory"]
 
 
 class Program:

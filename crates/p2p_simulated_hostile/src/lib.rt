@@ -11,6 +11,8 @@ mod kinds;
 #[cfg(test)]
 mod peers;
 #[cfg(test)]
+mod quiet;
+#[cfg(test)]
 mod rates;
 #[cfg(test)]
 mod refusals;

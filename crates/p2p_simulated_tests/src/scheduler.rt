@@ -1,5 +1,7 @@
 //! The scheduler: lists of calls, each made by itself and all of them by `replay`.
+mod clones;
 mod ends;
+mod idle;
 mod long;
 mod numbers;
 mod orders;
