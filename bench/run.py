@@ -5,12 +5,14 @@
 
 Each script is run three times (once where it takes more than ten seconds), and the least time is divided by the number
 of its allocations or messages, printing included. The original's figures were measured once, on a machine of four cores
-at 2.5 GHz on which other work ran: they move by a factor of two. `-` is not measured.
+at 2.5 GHz on which other work ran: they move by a factor of two. `-` is not measured. Of a script whose messages are
+beside what it sets up first, the two parts are timed apart, and a piece of the first is a line.
 """
 import os
 import subprocess
 import sys
 import tempfile
+import threading
 import time
 
 import workloads
@@ -22,7 +24,8 @@ ORIGINAL = {
     "groups-4-1000": 30, "groups-16-5000": 214, "groups-64-20000": 3300, "pairs-64-2000": 6800,
     "queue-20000": 2.5, "broadcast-8": 475, "broadcast-16": 1940, "broadcast-24": 10000, "broadcast-32": 25600,
 }
-LONG = {"broadcast-64", "broadcast-100", "mixed-64", "mixed-100", "groups-256-20000", "idle-10000"}
+LONG = {"broadcast-64", "broadcast-100", "mixed-64", "mixed-100", "groups-256-20000"}
+BESIDE = {"idle-1000": "idle-100", "idle-10000": "idle-100", "kept-100000": "kept-10"}
 RUNS, SLOW = 3, 10
 
 
@@ -45,6 +48,28 @@ def run(program, script):
     return took, most
 
 
+def run_in_two(program, beginning, rest):
+    """The seconds that each part takes, and the memory. The rest is written once the beginning is answered, and the only
+    line `next` of a part is its last."""
+    took = []
+    with subprocess.Popen([program], stdin=subprocess.PIPE, stdout=subprocess.PIPE) as child:
+        for lines in (beginning, rest):
+            start = time.perf_counter()
+            writer = threading.Thread(target=write, args=(child.stdin, lines))
+            writer.start()
+            while not child.stdout.readline().startswith(b"next"):
+                if child.poll() is not None:
+                    sys.exit(f"{program} ended with {child.returncode}")
+            took.append(time.perf_counter() - start)
+            writer.join()
+        return (*took, memory_of(child.pid))
+
+
+def write(to, lines):
+    to.write(b"".join(lines))
+    to.flush()
+
+
 def memory_of(process):
     """The most memory that the process has held so far, in megabytes, as Linux tells."""
     try:
@@ -54,28 +79,46 @@ def memory_of(process):
         return 0
 
 
-def work_in(name):
-    """How many allocations or messages the script asks for."""
+def pieces_in(name, lines):
+    """How many allocations or messages the lines ask for."""
     wanted = "rates" if name.startswith(("whole", "any")) else "enqueue"
-    return sum(line.startswith(wanted) for line in workloads.lines_of(name))
+    return sum(line.startswith(wanted) for line in lines)
+
+
+def measured(program, name, folder):
+    """The parts of a script: what each is called, its pieces, the least seconds that it took, and the memory."""
+    lines, beginning = list(workloads.lines_of(name)), list(workloads.beginning_of(name))
+    if beginning:
+        parts = [*beginning, "next"], lines[len(beginning):]
+        written = [[f"{line}\n".encode() for line in part] for part in parts]
+        runs = [run_in_two(program, *written) for _ in range(RUNS)]
+        before, least, memory = (min(figures) for figures in zip(*runs))
+        yield f"{name}, first", len(beginning), before, memory
+        yield name, pieces_in(name, parts[1]), least, memory
+        return
+    script = os.path.join(folder, name)
+    with open(script, "w") as file:
+        file.writelines(line + "\n" for line in lines)
+    least, memory = run(program, script)
+    for _ in range(RUNS - 1 if least < SLOW else 0):
+        least = min(least, run(program, script)[0])
+    yield name, pieces_in(name, lines), least, memory
 
 
 def main():
     program, names = sys.argv[1], sys.argv[2:] or [name for name in workloads.SCRIPTS if name not in LONG]
     print(f"{'work':>18} {'pieces':>7} {'seconds':>8} {'us a piece':>11} {'original':>9} {'times as fast':>14} {'MB':>6}")
+    took = {}
     with tempfile.TemporaryDirectory() as folder:
         for name in names:
-            script = os.path.join(folder, name)
-            with open(script, "w") as file:
-                file.writelines(line + "\n" for line in workloads.lines_of(name))
-            least, memory = run(program, script)
-            for _ in range(RUNS - 1 if least < SLOW else 0):
-                least = min(least, run(program, script)[0])
-            pieces = work_in(name)
-            each = least / pieces * 1e6
-            original = ORIGINAL.get(name)
-            beside = f"{original:>9} {original / each:>14.1f}" if original else f"{'-':>9} {'-':>14}"
-            print(f"{name:>18} {pieces:>7} {least:>8.3f} {each:>11.1f} {beside} {memory:>6.1f}", flush=True)
+            for part, pieces, least, memory in measured(program, name, folder):
+                each = took[part] = least / pieces * 1e6
+                original = ORIGINAL.get(part)
+                beside = f"{original:>9} {original / each:>14.1f}" if original else f"{'-':>9} {'-':>14}"
+                print(f"{part:>18} {pieces:>7} {least:>8.3f} {each:>11.1f} {beside} {memory:>6.1f}", flush=True)
+    for name, other in BESIDE.items():
+        if name in took and other in took:
+            print(f"a message of {name} takes {took[name] / took[other]:.2f} times as long as one of {other}")
 
 
 if __name__ == "__main__":

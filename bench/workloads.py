@@ -13,6 +13,7 @@
 | `broadcast-N` | a bench of a consensus protocol: one of N peers sends a block to all others, then all send a vote to all others, twice; all caps are equal |
 | `mixed-N` | the same under caps that differ |
 | `idle-N` | 2000 messages of one pair, beside N pairs whose next message may start only far in the future |
+| `kept-N` | 5000 messages of one pair, each enqueued and done before the next, beside N caps and N last arrivals of others |
 """
 import os
 import sys
@@ -134,18 +135,34 @@ def broadcast(peers, mixed):
     yield "next"
 
 
-def idle(waiting):
+def idle_pairs(waiting):
     for pair in range(waiting):
         yield f"enqueue 0 {pair + 10} 9 0 0 {2**54} 1"
     yield "limit 0 1 1000000 -"
     for pair in range(waiting):
         yield f"enqueue 0 {pair + 10} 9 0 0 0 1"
+
+
+def kept_pairs(kept):
+    for pair in range(kept):
+        yield f"enqueue 0 {pair + 10} {pair + 11} 0 0 {MILLISECOND} 1"
+    for peer in range(kept):
+        yield f"limit 0 {peer + 10} 1000000 1000000"
+    yield "limit 0 1 1000000 -"
+
+
+def one_by_one(messages):
     now = 0
-    for message in range(2000):
+    for message in range(messages):
         yield f"enqueue {now} 1 2 {message} 1000 0 1"
         now += MILLISECOND
         yield f"advance {now}"
     yield "next"
+
+
+def beside(set_up, others, messages):
+    yield from set_up(others)
+    yield from one_by_one(messages)
 
 
 CALLS = {4: 20000, 16: 4000, 64: 500, 256: 30, 1024: 2}
@@ -160,13 +177,20 @@ SCRIPTS = {
     **{f"queue-{messages}": (queue, messages) for messages in (2000, 20000)},
     **{f"broadcast-{peers}": (broadcast, peers, False) for peers in PEERS},
     **{f"mixed-{peers}": (broadcast, peers, True) for peers in PEERS},
-    **{f"idle-{waiting}": (idle, waiting) for waiting in (100, 10000)},
+    **{f"idle-{waiting}": (beside, idle_pairs, waiting, 2000) for waiting in (100, 1000, 10000)},
+    **{f"kept-{others}": (beside, kept_pairs, others, 5000) for others in (10, 100000)},
 }
 
 
 def lines_of(name):
     make, *arguments = SCRIPTS[name]
     return make(*arguments)
+
+
+def beginning_of(name):
+    """The lines of a script that only set up what its messages are beside. Most scripts have none."""
+    make, *arguments = SCRIPTS[name]
+    return arguments[0](arguments[1]) if make is beside else []
 
 
 def main():
