@@ -1,19 +1,20 @@
 -- The laws of max-min fairness.
+pub mod AllocatedRates
 pub mod Allocation
 pub mod Among
-pub mod Answered
+pub mod AnswersUnderCaps
 pub mod Apart
 pub mod ById
-pub mod CapSides
 pub mod ClosedSides
+pub mod Denominators
 pub mod Example
+pub mod ExistUnderCaps
+pub mod LastRate
 pub mod MaxMin
-pub mod Members
 pub mod OneAllocation
 pub mod Order
 pub mod Part
 pub mod SameSides
-pub mod Subjects
-pub mod Sums
 pub mod Uncapped
+pub mod WholeRates
 pub mod WithinCap

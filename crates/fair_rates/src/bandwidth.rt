@@ -4,11 +4,12 @@ ghost use Rattle.std.specs.Fn.{CalledAt, TakesAt, CalledAtTwo, TakesAtTwo};
 ghost use Rattle.std.specs.Ordering.{nat_cmp};
 ghost use Rattle.std.specs.declared.cmp.Ordering.TheVariants.{Equal};
 ghost use Rattle.std.specs.BTreeMap.{get};
-ghost use Rattle.fair_rates.specs.Answers.{NoLink, CallableOnEach, CallableOnEachPair, origins, recipients, pairs};
-ghost use Rattle.fair_rates.specs.Allocation.{IsAllocation, IsCountedAllocation, IsFairUnderCaps};
-ghost use Rattle.fair_rates.specs.FairParts.{AreFairParts};
-ghost use Rattle.fair_rates.specs.Rates.{last_rate};
-ghost use Rattle.fair_rates.specs.TooLarge.{IsTooLarge, AreTooLargeUnderCaps};
+ghost use Rattle.fair_rates.specs.Sides.Answers.{NoLink, CallableOnEach, CallableOnEachPair, origins, recipients};
+ghost use Rattle.fair_rates.specs.Sides.Answers.{pairs};
+ghost use Rattle.fair_rates.specs.Fairness.Allocation.{IsAllocation, IsCountedAllocation, IsFairUnderCaps};
+ghost use Rattle.fair_rates.specs.Filling.FairParts.{AreFairParts};
+ghost use Rattle.fair_rates.specs.Fairness.Rates.{last_rate};
+ghost use Rattle.fair_rates.specs.Refusals.TooLarge.{IsTooLarge, AreTooLargeUnderCaps};
 
 mod equality;
 mod filling;

@@ -1,6 +1,6 @@
 //! Why a call was refused.
 ghost use Rattle.std.specs.Prelude.{◌≡◌, Some};
-ghost use Rattle.fair_rates.specs.Refusal.{refusal_text};
+ghost use Rattle.fair_rates.specs.Refusals.ErrorTexts.{refusal_text};
 ghost use Rattle.fair_rates.specs.declared.error.Error.TheVariants.{OutOfMemory};
 
 use std::alloc::{AllocError, AllocFailed};

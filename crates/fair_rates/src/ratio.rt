@@ -2,8 +2,8 @@
 ghost use Rattle.std.specs.Prelude.{◌≡◌, ℕ, ◌*◌, ◌<◌, ◌≤◌, ◌↔◌, IsTrue, IsSome, IfSome, Some};
 ghost use Rattle.std.specs.Cmp.{partial_order_from_agreeing_total};
 ghost use Rattle.std.proofs.Common.{refl};
-ghost use Rattle.fair_rates.specs.Fraction.{IsReduced, fraction_cmp};
-ghost use Rattle.fair_rates.specs.Laws.FractionOrder.{fraction_total, fraction_cmp-Equal};
+ghost use Rattle.fair_rates.specs.Numbers.Fraction.{IsReduced, fraction_cmp};
+ghost use Rattle.fair_rates.specs.Numbers.FractionOrder.{fraction_total, fraction_cmp-Equal};
 
 mod laws;
 pub(crate) mod numbers;
@@ -72,10 +72,10 @@ struct OverCommon {
 }
 
 impl Ratio {
-    ghost use Rattle.fair_rates.specs.Amount.{whole, plus, minus, times, over, reduced};
-    ghost use Rattle.fair_rates.specs.Fits.{SumFits, DifferenceFits, ReducedFits};
-    ghost use Rattle.fair_rates.specs.Fits.{CommonFits, AreOverCommon};
-    ghost use Rattle.fair_rates.specs.Ratio.{amount_of, IsWorth};
+    ghost use Rattle.fair_rates.specs.Numbers.Amount.{whole, plus, minus, times, over, reduced};
+    ghost use Rattle.fair_rates.specs.Numbers.Fits.{SumFits, DifferenceFits, ReducedFits};
+    ghost use Rattle.fair_rates.specs.Numbers.Fits.{CommonFits, AreOverCommon};
+    ghost use Rattle.fair_rates.specs.Numbers.Ratio.{amount_of, IsWorth};
 
     /// The value of `num / den`, or `None` where `den` is zero.
     pub fn new(num: u128, den: u128) -> Option<Ratio>

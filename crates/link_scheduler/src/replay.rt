@@ -1,18 +1,18 @@
 //! A list of calls on a new scheduler, and what each is answered.
 ghost use Rattle.std.specs.Prelude.{◌≡◌, ◌≢◌, true, length, map, [], ◌∷◌, IfOk, IfErr};
-ghost use Rattle.fair_rates.specs.Sides.{same_peer};
-ghost use Rattle.link_simulation.specs.World.{new_world};
-ghost use Rattle.link_simulation.specs.WorldCalls.{call_next};
-ghost use Rattle.link_simulation.specs.WorldIsolation.{InTime};
-ghost use Rattle.link_simulation.specs.WorldPlanned.{new_planned};
-ghost use Rattle.link_simulation.specs.WorldRefusals.{Obeyed};
-ghost use Rattle.link_simulation.specs.WorldReplies.{reply_refused, Agrees};
-ghost use Rattle.link_simulation.specs.SamePlanned.{IsSameCall};
-ghost use Rattle.link_scheduler.specs.State.{planned_of};
-ghost use Rattle.link_simulation.specs.Conserved.{AreConserved};
-ghost use Rattle.link_simulation.specs.ReplayLaws.{AlwaysSoFar, RefusesForMemoryAlone, CompletePairsInOrder};
-ghost use Rattle.link_simulation.specs.ReplayLaws.{IsolateSets};
-ghost use Rattle.link_scheduler.specs.Replay.{call_of, reply_of, IsReplyTo};
+ghost use Rattle.fair_rates.specs.Sides.Subjects.{same_peer};
+ghost use Rattle.link_simulation.specs.Simulation.World.{new_world};
+ghost use Rattle.link_simulation.specs.Simulation.Calls.{call_next};
+ghost use Rattle.link_simulation.specs.Laws.Isolation.{InTime};
+ghost use Rattle.link_simulation.specs.Rule.Planned.{new_planned};
+ghost use Rattle.link_simulation.specs.Rule.Refusals.{Obeyed};
+ghost use Rattle.link_simulation.specs.Simulation.Replies.{reply_refused, Agrees};
+ghost use Rattle.link_simulation.specs.Rule.SamePlanned.{IsSameCall};
+ghost use Rattle.link_scheduler.specs.Calls.State.{planned_of};
+ghost use Rattle.link_simulation.specs.Laws.Conserved.{AreConserved};
+ghost use Rattle.link_simulation.specs.Laws.Replies.{AlwaysSoFar, RefusesForMemoryAlone, CompletePairsInOrder};
+ghost use Rattle.link_simulation.specs.Laws.Replies.{IsolateSets};
+ghost use Rattle.link_scheduler.specs.Calls.Replay.{call_of, reply_of, IsReplyTo};
 
 use crate::transmitter::{Completion, State};
 use bytes::Bytes;

@@ -1,10 +1,10 @@
 //! When each message arrives: a scheduler of messages over capped peers.
 ghost use Rattle.std.specs.Prelude.{◌≡◌, IfOk, IfErr, IsOk, OnErr};
-ghost use Rattle.link_simulation.specs.Orderly.{IsOrderly};
-ghost use Rattle.link_scheduler.specs.Working.{planned};
-ghost use Rattle.link_simulation.specs.WorldCalls.{call_limit, call_limit_link, call_enqueue, call_advance};
-ghost use Rattle.link_simulation.specs.WorldMessages.{CapsAlike, PairsAlike};
-ghost use Rattle.link_simulation.specs.WorldPlanned.{IsPlanned};
+ghost use Rattle.link_simulation.specs.Laws.Orderly.{IsOrderly};
+ghost use Rattle.link_scheduler.specs.Calls.AsPlanned.{planned};
+ghost use Rattle.link_simulation.specs.Simulation.Calls.{call_limit, call_limit_link, call_enqueue, call_advance};
+ghost use Rattle.link_simulation.specs.Simulation.Messages.{CapsAlike, PairsAlike};
+ghost use Rattle.link_simulation.specs.Rule.Planned.{IsPlanned};
 
 mod account;
 mod completion;
@@ -14,7 +14,7 @@ mod events;
 mod flights;
 mod fraction;
 mod idle;
-mod look;
+mod readiness;
 mod message;
 mod moves;
 mod pairs;
@@ -23,7 +23,7 @@ mod progress;
 mod rate;
 mod reading;
 mod waiting;
-mod working;
+mod ledger;
 
 use bytes::Bytes;
 pub use completion::Completion;
@@ -33,7 +33,7 @@ use fair_rates::peer::Peer;
 use message::Message;
 pub use reading::{InFlight, Reading};
 use std::alloc::Global;
-use working::Working;
+use ledger::Ledger;
 
 /// A scheduler of messages between capped peers: it tells when each completes and arrives.
 ///
@@ -80,18 +80,19 @@ use working::Working;
 /// leaves the scheduler in the range (`made.in_range`).
 #[derive(Drop)]
 pub struct State<P: Peer> {
-    kept: Working<P>,
-    pub ghost caps: { CapsAlike P.cmp (planned P.cmp kept).caps (planned P.cmp kept).caps },
-    pub ghost arrivals: { PairsAlike P.cmp (planned P.cmp kept).last_arrival (planned P.cmp kept).last_arrival },
+    ledger: Ledger<P>,
+    pub ghost caps: { CapsAlike P.cmp (planned P.cmp ledger).caps (planned P.cmp ledger).caps },
+    pub ghost arrivals: { PairsAlike P.cmp (planned P.cmp ledger).last_arrival (planned P.cmp ledger).last_arrival },
     // Here and in the clauses `∥ A ∥₁` reads: there is an `A`.
-    pub ghost right: { ∥ IsPlanned P.cmp (planned P.cmp kept) ∥₁ },
-    pub ghost orderly: { ∥ IsOrderly P.cmp (planned P.cmp kept) ∥₁ },
+    pub ghost right: { ∥ IsPlanned P.cmp (planned P.cmp ledger) ∥₁ },
+    pub ghost orderly: { ∥ IsOrderly P.cmp (planned P.cmp ledger) ∥₁ },
 }
 
 impl<P: Peer> State<P> {
-    ghost use Rattle.link_scheduler.specs.Message.{message_of};
-    ghost use Rattle.link_scheduler.specs.State.{planned_of, sent, IsNew, IsMade, IsRefused, IsAdvanced, IsCounted};
-    ghost use Rattle.link_scheduler.specs.State.{IsNextOf, IsQuietUntil};
+    ghost use Rattle.link_scheduler.specs.Pairs.Messages.{message_of};
+    ghost use Rattle.link_scheduler.specs.Calls.State.{planned_of, sent, IsNew, IsMade, IsRefused, IsAdvanced};
+    ghost use Rattle.link_scheduler.specs.Calls.State.{IsCounted};
+    ghost use Rattle.link_scheduler.specs.Calls.State.{IsNextOf, IsQuietUntil};
 
     /// A scheduler at the start, moment 0, without limits and with nothing sent. Flow ids begin
     /// at 0.
@@ -109,7 +110,7 @@ impl<P: Peer> State<P> {
         ensures new { IsNew result first }
     {
         State {
-            kept: Working::new(alloc, first),
+            ledger: Ledger::new(alloc, first),
         }
     }
 
@@ -145,11 +146,11 @@ impl<P: Peer> State<P> {
         ensures refused { IfErr result (IsRefused self.old (call_limit now peer.now egress ingress)) }
         ensures unchanged { OnErr result (self.new ≡ self.old) }
     {
-        let mut working = self.kept.clone()?;
-        working.limit_peer(peer, egress, ingress)?;
-        let ended = working.recap(now)?;
-        let completions = answers_of(working.alloc, &ended)?;
-        self.kept = working;
+        let mut ledger = self.ledger.clone()?;
+        ledger.limit_peer(peer, egress, ingress)?;
+        let ended = ledger.rebalance(now)?;
+        let completions = answers_of(ledger.alloc, &ended)?;
+        self.ledger = ledger;
         Ok(completions)
     }
 
@@ -184,11 +185,11 @@ impl<P: Peer> State<P> {
         ensures refused { IfErr result (IsRefused self.old (call_limit_link now origin.now recipient.now cap)) }
         ensures unchanged { OnErr result (self.new ≡ self.old) }
     {
-        let mut working = self.kept.clone()?;
-        working.limit_pair(origin, recipient, cap)?;
-        let ended = working.recap(now)?;
-        let completions = answers_of(working.alloc, &ended)?;
-        self.kept = working;
+        let mut ledger = self.ledger.clone()?;
+        ledger.limit_pair(origin, recipient, cap)?;
+        let ended = ledger.rebalance(now)?;
+        let completions = answers_of(ledger.alloc, &ended)?;
+        self.ledger = ledger;
         Ok(completions)
     }
 
@@ -252,14 +253,14 @@ impl<P: Peer> State<P> {
         ensures refused { IfErr result (IsRefused self.old (call_enqueue now (message_of message))) }
         ensures unchanged { OnErr result (planned_of self.new ≡ planned_of self.old) }
     {
-        if self.kept.has_to_wait(&message.origin, &message.recipient) {
-            self.kept.wait(now, message)?;
-            return Ok(Vec::new(self.kept.alloc));
+        if self.ledger.has_to_wait(&message.origin, &message.recipient) {
+            self.ledger.wait(now, message)?;
+            return Ok(Vec::new(self.ledger.alloc));
         }
-        let mut working = self.kept.clone()?;
-        let ended = working.enqueue(now, message)?;
-        let completions = answers_of(working.alloc, &ended)?;
-        self.kept = working;
+        let mut ledger = self.ledger.clone()?;
+        let ended = ledger.enqueue(now, message)?;
+        let completions = answers_of(ledger.alloc, &ended)?;
+        self.ledger = ledger;
         Ok(completions)
     }
 
@@ -313,9 +314,9 @@ impl<P: Peer> State<P> {
         ensures refused { IfErr result (IsRefused self.old (call_advance now)) }
         ensures unchanged { OnErr result (self.new ≡ self.old) }
     {
-        if self.kept.is_quiet(now) {
-            self.kept.rest(now);
-            return Ok((Vec::new(self.kept.alloc), 0));
+        if self.ledger.is_quiet(now) {
+            self.ledger.rest(now);
+            return Ok((Vec::new(self.ledger.alloc), 0));
         }
         self.handle_events(now)
     }
@@ -328,10 +329,10 @@ impl<P: Peer> State<P> {
         ensures refused { IfErr result (IsRefused self.old (call_advance now)) }
         ensures unchanged { OnErr result (self.new ≡ self.old) }
     {
-        let mut working = self.kept.clone()?;
-        let (ended, events) = working.advance(now)?;
-        let completions = answers_of(working.alloc, &ended)?;
-        self.kept = working;
+        let mut ledger = self.ledger.clone()?;
+        let (ended, events) = ledger.advance(now)?;
+        let completions = answers_of(ledger.alloc, &ended)?;
+        self.ledger = ledger;
         Ok((completions, events))
     }
 
@@ -344,6 +345,6 @@ impl<P: Peer> State<P> {
     pub fn next(&self) -> Option<u64>
         ensures next { IsNextOf self.now result }
     {
-        self.kept.next_event()
+        self.ledger.next_event()
     }
 }

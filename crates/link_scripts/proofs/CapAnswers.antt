@@ -5,13 +5,13 @@ use Rattle.fair_rates.specs.declared.bandwidth.Flow.{Flow}
 use Rattle.fair_rates.specs.declared.bandwidth.Rate.{Rate}
 use Rattle.fair_rates.specs.declared.error.Error.{Error}
 use Rattle.fair_rates.specs.declared.error.Error.TheVariants.{OutOfMemory, NumberTooLarge}
-use Rattle.fair_rates.specs.Allocation.{IsFairUnderCaps}
-use Rattle.fair_rates.specs.Answers.{Calls, PairCalls, States, origins, recipients, pairs}
-use Rattle.fair_rates.specs.Caps.{Caps}
-use Rattle.fair_rates.specs.PeerCaps.{AnswerBy, IsFairById}
-use Rattle.fair_rates.specs.TooLarge.{AreTooLarge, AreTooLargeUnderCaps, IsTooLarge}
-use Rattle.link_scheduler.proofs.LookingUp.{LooksUp, LooksUpPairs}
-use Rattle.fair_rates.proofs.Fairness.Answered.{answers_if_unchanged, pair_answers_if_unchanged}
+use Rattle.fair_rates.specs.Fairness.Allocation.{IsFairUnderCaps}
+use Rattle.fair_rates.specs.Sides.Answers.{Calls, PairCalls, States, origins, recipients, pairs}
+use Rattle.fair_rates.specs.Sides.Caps.{Caps}
+use Rattle.fair_rates.specs.Fairness.UnderCaps.{AnswerBy, IsFairById}
+use Rattle.fair_rates.specs.Refusals.TooLarge.{AreTooLarge, AreTooLargeUnderCaps, IsTooLarge}
+use Rattle.link_scheduler.proofs.Pairs.LookingUp.{LooksUp, LooksUpPairs}
+use Rattle.fair_rates.proofs.Sides.Answers.{answers_if_unchanged, pair_answers_if_unchanged}
 
 module _ {E I L : Type 0} (egress : Calls E ℕ) (ingress : Calls I ℕ) (link : PairCalls L ℕ) (e : E) (i : I) (l : L) (under : Caps ℕ)
     (egress_by : LooksUp egress e under.egress) (ingress_by : LooksUp ingress i under.ingress) (link_by : LooksUpPairs link l under.link) where

@@ -4,7 +4,7 @@ use Rattle.link_scripts.specs.declared.linkrun.command.Call.TheVariants as calls
 use Rattle.link_scripts.specs.declared.linkrun.command.Command.{Command}
 use Rattle.link_scripts.specs.declared.linkrun.command.Command.TheVariants as commands
 use Rattle.link_scripts.specs.declared.linkrun.command.Parcel.{Parcel}
-use Rattle.link_scripts.specs.Script.{Takes, number_word, cap_word, flag_word, parcel_words, command_words, IsNumberInRange, IsCapInRange, IsSmallCapInRange, IsLengthInRange, IsParcelInRange, IsInRange}
+use Rattle.link_scripts.specs.Script.{Takes, number_word, cap_word, flag_word, parcel_words, command_words, IsNumberInRange, IsCapInRange, IsSmallCapInRange, IsLengthInRange, IsParcelInRange, IsCommandInRange}
 
 -- one word was taken, or no value in range stands there
 abbrev pub TakesWord : {A : Type 0} → (A → List ℕ) → (A → Type 0) → List (List ℕ) → Option A → List (List ℕ) → Type 0
@@ -145,31 +145,31 @@ abbrev pub AreOfName : {X : Type 0} → List ℕ → (X → Command) → Type 0
 AreOfName {X} name of = (v : Command) (ws rest : List (List ℕ)) → name ∷ ws ≡ command_words v ++ rest → (x : X) × (v ≡ of x)
 
 module _ {X : Type 0} (name : List ℕ) (words : X → List (List ℕ)) (S : X → Type 0) (of : X → Command)
-    (spelled : (x : X) → command_words (of x) ≡ name ∷ words x) (into : (x : X) → IsInRange (of x) → S x) (back : (x : X) → S x → IsInRange (of x)) (only : AreOfName name of) where
+    (spelled : (x : X) → command_words (of x) ≡ name ∷ words x) (into : (x : X) → IsCommandInRange (of x) → S x) (back : (x : X) → S x → IsCommandInRange (of x)) (only : AreOfName name of) where
   module _ {w0 w1 : List (List ℕ)} (named : w0 ≡ name ∷ w1) where
     -- what stands behind the word, where a command is said
-    behind : (v : Command) (rest : List (List ℕ)) → IsInRange v → w0 ≡ command_words v ++ rest → (x : X) × (v ≡ of x) × S x × (w1 ≡ words x ++ rest)
+    behind : (v : Command) (rest : List (List ℕ)) → IsCommandInRange v → w0 ≡ command_words v ++ rest → (x : X) × (v ≡ of x) × S x × (w1 ≡ words x ++ rest)
     behind v rest range said =
         let one = only v w1 rest (sym named ∙ said) in
         let x = one.0 in
-        let in_range = into x (subst IsInRange one.1 range) in
+        let in_range = into x (subst IsCommandInRange one.1 range) in
         let all : name ∷ w1 ≡ (name ∷ words x) ++ rest = sym named ∙ said ∙ ap (λ c. command_words c ++ rest) one.1 ∙ ap (λ ws. ws ++ rest) (spelled x) in
         (x, one.1, in_range, cc all)
 
-    pub takes_command : {w2 : List (List ℕ)} {x : X} → Takes words S w1 (Some x) w2 → Takes command_words IsInRange w0 (Some (of x)) w2
+    pub takes_command : {w2 : List (List ℕ)} {x : X} → Takes words S w1 (Some x) w2 → Takes command_words IsCommandInRange w0 (Some (of x)) w2
     takes_command {w2} {x} takes = record { taken = (named ∙ ap (λ ws. name ∷ ws) takes.taken.0 ∙ ap (λ ws. ws ++ w2) (sym (spelled x)), back x takes.taken.1); missed = missed }
       where
-        missed : (v : Command) (rest : List (List ℕ)) → IsInRange v → w0 ≡ command_words v ++ rest → Some (of x) ≡ Some v
+        missed : (v : Command) (rest : List (List ℕ)) → IsCommandInRange v → w0 ≡ command_words v ++ rest → Some (of x) ≡ Some v
         missed v rest range said =
             let b = behind v rest range said in
             let same : Some x ≡ Some b.0 = takes.missed b.0 rest b.2 b.3 in
             let is : x ≡ b.0 = cc same in
             ap (λ y. Some (of y)) is ∙ ap Some (sym b.1)
 
-    pub takes_no_command : {w2 : List (List ℕ)} → Takes words S w1 None w2 → Takes command_words IsInRange w0 None w2
+    pub takes_no_command : {w2 : List (List ℕ)} → Takes words S w1 None w2 → Takes command_words IsCommandInRange w0 None w2
     takes_no_command {w2} takes = record { taken = tt; missed = missed }
       where
-        missed : (v : Command) (rest : List (List ℕ)) → IsInRange v → w0 ≡ command_words v ++ rest → None ≡ Some v
+        missed : (v : Command) (rest : List (List ℕ)) → IsCommandInRange v → w0 ≡ command_words v ++ rest → None ≡ Some v
         missed v rest range said =
             let b = behind v rest range said in
             let none : None ≡ Some b.0 = takes.missed b.0 rest b.2 b.3 in
@@ -266,24 +266,24 @@ only_limit_link (commands.Schedule calls.Next) ws rest said = absurd (apart (cod
 
 module _ {w0 w1 w2 : List (List ℕ)} where
   -- the columns behind the word are a command
-  pub takes_link : {x : ℕ × (ℕ × Option ℕ)} → w0 ≡ codes "link" ∷ w1 → Takes link_words (IsLinkIn IsCapInRange) w1 (Some x) w2 → Takes command_words IsInRange w0 (Some (link_of x)) w2
+  pub takes_link : {x : ℕ × (ℕ × Option ℕ)} → w0 ≡ codes "link" ∷ w1 → Takes link_words (IsLinkIn IsCapInRange) w1 (Some x) w2 → Takes command_words IsCommandInRange w0 (Some (link_of x)) w2
   takes_link named takes = takes_command (codes "link") link_words (IsLinkIn IsCapInRange) link_of (λ x. refl) (λ x r. (r.0, (r.1, r.2))) (λ x r. (r.0, r.1.0, r.1.1)) only_link named takes
 
-  pub takes_limit : {x : ℕ × (ℕ × (Option ℕ × Option ℕ))} → w0 ≡ codes "limit" ∷ w1 → Takes limit_words IsLimitIn w1 (Some x) w2 → Takes command_words IsInRange w0 (Some (limit_of x)) w2
+  pub takes_limit : {x : ℕ × (ℕ × (Option ℕ × Option ℕ))} → w0 ≡ codes "limit" ∷ w1 → Takes limit_words IsLimitIn w1 (Some x) w2 → Takes command_words IsCommandInRange w0 (Some (limit_of x)) w2
   takes_limit named takes = takes_command (codes "limit") limit_words IsLimitIn limit_of (λ x. refl) (λ x r. (r.0, (r.1, (r.2, r.3)))) (λ x r. (r.0, r.1.0, r.1.1.0, r.1.1.1)) only_limit named takes
 
   pub takes_limit_link : {x : ℕ × (ℕ × (ℕ × Option ℕ))} → w0 ≡ codes "limitlink" ∷ w1 → Takes (word_then number_word link_words) (AreIn IsNumberInRange (IsLinkIn IsSmallCapInRange)) w1 (Some x) w2
-      → Takes command_words IsInRange w0 (Some (limit_link_of x)) w2
+      → Takes command_words IsCommandInRange w0 (Some (limit_link_of x)) w2
   takes_limit_link named takes =
       takes_command (codes "limitlink") (word_then number_word link_words) (AreIn IsNumberInRange (IsLinkIn IsSmallCapInRange)) limit_link_of (λ x. refl) (λ x r. (r.0, (r.1, (r.2, r.3)))) (λ x r. (r.0, r.1.0, r.1.1.0, r.1.1.1)) only_limit_link named takes
 
   -- and where some column is missing there is none
-  pub takes_no_link : w0 ≡ codes "link" ∷ w1 → Takes link_words (IsLinkIn IsCapInRange) w1 None w2 → Takes command_words IsInRange w0 None w2
+  pub takes_no_link : w0 ≡ codes "link" ∷ w1 → Takes link_words (IsLinkIn IsCapInRange) w1 None w2 → Takes command_words IsCommandInRange w0 None w2
   takes_no_link named takes = takes_no_command (codes "link") link_words (IsLinkIn IsCapInRange) link_of (λ x. refl) (λ x r. (r.0, (r.1, r.2))) (λ x r. (r.0, r.1.0, r.1.1)) only_link named takes
 
-  pub takes_no_limit : w0 ≡ codes "limit" ∷ w1 → Takes limit_words IsLimitIn w1 None w2 → Takes command_words IsInRange w0 None w2
+  pub takes_no_limit : w0 ≡ codes "limit" ∷ w1 → Takes limit_words IsLimitIn w1 None w2 → Takes command_words IsCommandInRange w0 None w2
   takes_no_limit named takes = takes_no_command (codes "limit") limit_words IsLimitIn limit_of (λ x. refl) (λ x r. (r.0, (r.1, (r.2, r.3)))) (λ x r. (r.0, r.1.0, r.1.1.0, r.1.1.1)) only_limit named takes
 
-  pub takes_no_limit_link : w0 ≡ codes "limitlink" ∷ w1 → Takes (word_then number_word link_words) (AreIn IsNumberInRange (IsLinkIn IsSmallCapInRange)) w1 None w2 → Takes command_words IsInRange w0 None w2
+  pub takes_no_limit_link : w0 ≡ codes "limitlink" ∷ w1 → Takes (word_then number_word link_words) (AreIn IsNumberInRange (IsLinkIn IsSmallCapInRange)) w1 None w2 → Takes command_words IsCommandInRange w0 None w2
   takes_no_limit_link named takes =
       takes_no_command (codes "limitlink") (word_then number_word link_words) (AreIn IsNumberInRange (IsLinkIn IsSmallCapInRange)) limit_link_of (λ x. refl) (λ x r. (r.0, (r.1, (r.2, r.3)))) (λ x r. (r.0, r.1.0, r.1.1.0, r.1.1.1)) only_limit_link named takes

@@ -2,8 +2,8 @@
 use Rattle.std.proofs.Common.{◌≡◌, ◌⊎◌, ℕ, ◌-◌, ◌≤◌, List, [], ◌∷◌, ◌++◌, length, map, take, drop, Option, None, Some, subst, take-append-drop, refl, sym, ap, ◌∙◌, arith, append_assoc, append-nil, replicate, ⊎_elim}
 use Rattle.std.specs.List.{flat_map, slice_range}
 use Rattle.std.proofs.lemmas.List.{map-append, take-replicate}
-use Rattle.link_scheduler.specs.Message.{completed_of}
-use Rattle.link_scheduler.specs.Replay.{call_of, reply_of}
+use Rattle.link_scheduler.specs.Pairs.Messages.{completed_of}
+use Rattle.link_scheduler.specs.Calls.Replay.{call_of, reply_of}
 use Rattle.link_scheduler.specs.declared.replay.Call as replay_call
 use Rattle.link_scheduler.specs.declared.replay.Reply as replay_reply
 use Rattle.link_scheduler.specs.declared.transmitter.completion.Completion.{Completion}

@@ -12,12 +12,13 @@ use Rattle.std.proofs.lemmas.List.Splits.{slice_split_none, slice_split_at, join
 use Rattle.std.proofs.lemmas.Str.{IsUtf8-from_ascii, IsAscii-append}
 use Rattle.std.proofs.lemmas.Str.Ascii.{IsAscii-from_all, IsAscii-nil}
 use Rattle.std.proofs.lemmas.Str.Parse.{digit_from_value}
+use Rattle.std.proofs.lemmas.Bool.{and_parts}
 use Rattle.fair_rates.specs.declared.bandwidth.Flow.{Flow}
 use Rattle.link_scripts.specs.declared.linkrun.command.Call.{Call}
 use Rattle.link_scripts.specs.declared.linkrun.command.Call.TheVariants as calls
 use Rattle.link_scripts.specs.declared.linkrun.command.Command.{Command}
 use Rattle.link_scripts.specs.declared.linkrun.command.Command.TheVariants as commands
-use Rattle.link_scripts.specs.Script.{Takes, number_word, cap_word, flag_word, flow_words, call_words, command_words, line_of, IsNumberInRange, IsCapInRange, IsSmallCapInRange, IsFlowInRange, IsCallInRange, IsInRange}
+use Rattle.link_scripts.specs.Script.{Takes, number_word, cap_word, flag_word, flow_words, call_words, command_words, line_of, IsNumberInRange, IsCapInRange, IsSmallCapInRange, IsFlowInRange, IsCallOfScriptInRange, IsCommandInRange}
 use Rattle.link_scripts.specs.Words.{parts_of}
 use Rattle.link_scripts.proofs.Columns.{wider}
 use Rattle.link_scripts.proofs.Numerals.{no_dash, digits_of_number}
@@ -63,20 +64,16 @@ graphic b = ltb 32 b && ltb b 128
 abbrev IsWord : List ℕ → Type 0
 IsWord word = list_all graphic word ≡ true
 
-both_pass : (a b : Bool) → (a && b) ≡ true → (a ≡ true) × (b ≡ true)
-both_pass true b h = (refl, h)
-both_pass false b h = absurd (cc)
-
 is_graphic : (b : ℕ) → graphic b ≡ true → (eqb b 32 ≡ false) × (b < 128)
-is_graphic b h = let both = both_pass (ltb 32 b) (ltb b 128) h in let low : 32 < b = ltb-true 32 b both.0 in (ne_eqb b 32 (λ e. omega arith), ltb-true b 128 both.1)
+is_graphic b h = let both = and_parts (ltb 32 b) (ltb b 128) h in let low : 32 < b = ltb-true 32 b both.0 in (ne_eqb b 32 (λ e. omega arith), ltb-true b 128 both.1)
 
 no_space : (word : List ℕ) → IsWord word → All (λ b. eqb b 32 ≡ false) word
 no_space [] is = All-nil (λ b. eqb b 32 ≡ false)
-no_space (b ∷ word) is = let both = both_pass (graphic b) (list_all graphic word) is in All-cons (λ b. eqb b 32 ≡ false) b word (is_graphic b both.0).0 (no_space word both.1)
+no_space (b ∷ word) is = let both = and_parts (graphic b) (list_all graphic word) is in All-cons (λ b. eqb b 32 ≡ false) b word (is_graphic b both.0).0 (no_space word both.1)
 
 below_128 : (word : List ℕ) → IsWord word → All (λ b. b < 128) word
 below_128 [] is = All-nil (λ b. b < 128)
-below_128 (b ∷ word) is = let both = both_pass (graphic b) (list_all graphic word) is in All-cons (λ b. b < 128) b word (is_graphic b both.0).1 (below_128 word both.1)
+below_128 (b ∷ word) is = let both = and_parts (graphic b) (list_all graphic word) is in All-cons (λ b. b < 128) b word (is_graphic b both.0).1 (below_128 word both.1)
 
 IsWord-digits : (ds : List ℕ) → AllDigits 10 ds → IsWord ds
 IsWord-digits [] all = refl
@@ -122,7 +119,7 @@ IsWord-small_cap : (cap : Option ℕ) → IsSmallCapInRange cap → IsWord (cap_
 IsWord-small_cap cap range = IsWord-cap cap (wider cap range)
 
 -- what calls are written with is words
-AreWords-call : (call : Call) → IsCallInRange call → AreWords (call_words call)
+AreWords-call : (call : Call) → IsCallOfScriptInRange call → AreWords (call_words call)
 AreWords-call (calls.Limit now peer egress ingress) range = (refl, (IsWord-small now range.0, (IsWord-small peer range.1, (IsWord-small_cap egress range.2, (IsWord-small_cap ingress range.3, tt)))))
 AreWords-call (calls.LimitLink now origin recipient cap) range = (refl, (IsWord-small now range.0, (IsWord-small origin range.1, (IsWord-small recipient range.2, (IsWord-small_cap cap range.3, tt)))))
 AreWords-call (calls.Enqueue p) range =
@@ -131,7 +128,7 @@ AreWords-call (calls.Advance now) range = (refl, (IsWord-small now range, tt))
 AreWords-call calls.Next range = (refl, tt)
 
 -- what commands are written with is words
-AreWords-command : (command : Command) → IsInRange command → AreWords (command_words command)
+AreWords-command : (command : Command) → IsCommandInRange command → AreWords (command_words command)
 AreWords-command (commands.Flow f) range =
     (refl, (IsWord-number f.id (omega (arith, range.0)), (IsWord-number f.origin (omega (arith, range.1)), (IsWord-number f.recipient (omega (arith, range.2)), (IsWord-flag f.delivered, tt)))))
 AreWords-command (commands.Egress peer cap) range = (refl, (IsWord-number peer (omega (arith, range.0)), (IsWord-cap cap range.1, tt)))
@@ -141,11 +138,11 @@ AreWords-command commands.Rates range = (refl, tt)
 AreWords-command (commands.Schedule call) range = AreWords-call call range
 
 -- the line of a command is text
-pub IsUtf8-line_of : (command : Command) → IsInRange command → IsUtf8 (line_of command)
+pub IsUtf8-line_of : (command : Command) → IsCommandInRange command → IsUtf8 (line_of command)
 IsUtf8-line_of command range = IsUtf8-from_ascii (line_of command) (ascii_line (command_words command) (AreWords-command command range))
 
 -- the parts of the line of a call are its words
-parts_of-call : (call : Call) → IsCallInRange call → parts_of (join_with_byte 32 (call_words call)) ≡ call_words call
+parts_of-call : (call : Call) → IsCallOfScriptInRange call → parts_of (join_with_byte 32 (call_words call)) ≡ call_words call
 parts_of-call (calls.Limit now peer egress ingress) range = parts_of-join _ _ (AreWords-call (calls.Limit now peer egress ingress) range)
 parts_of-call (calls.LimitLink now origin recipient cap) range = parts_of-join _ _ (AreWords-call (calls.LimitLink now origin recipient cap) range)
 parts_of-call (calls.Enqueue parcel) range = parts_of-join _ _ (AreWords-call (calls.Enqueue parcel) range)
@@ -153,7 +150,7 @@ parts_of-call (calls.Advance now) range = parts_of-join _ _ (AreWords-call (call
 parts_of-call calls.Next range = parts_of-join _ _ (AreWords-call calls.Next range)
 
 -- the parts of the line of a command are its words
-parts_of-line_of : (command : Command) → IsInRange command → parts_of (line_of command) ≡ command_words command
+parts_of-line_of : (command : Command) → IsCommandInRange command → parts_of (line_of command) ≡ command_words command
 parts_of-line_of (commands.Flow f) range = parts_of-join _ _ (AreWords-command (commands.Flow f) range)
 parts_of-line_of (commands.Egress peer cap) range = parts_of-join _ _ (AreWords-command (commands.Egress peer cap) range)
 parts_of-line_of (commands.Ingress peer cap) range = parts_of-join _ _ (AreWords-command (commands.Ingress peer cap) range)
@@ -169,23 +166,23 @@ line_said line command after said none =
     sym (join_with_byte-slice_split 32 line) ∙ ap (join_with_byte 32) (said ∙ ap (λ rest. command_words command ++ rest) none ∙ append-nil (command_words command))
 
 -- and a line of a command has its words as its parts
-parts_said : (line : List ℕ) (command : Command) → line ≡ line_of command → IsInRange command → parts_of line ≡ command_words command ++ []
+parts_said : (line : List ℕ) (command : Command) → line ≡ line_of command → IsCommandInRange command → parts_of line ≡ command_words command ++ []
 parts_said line command is range = ap parts_of is ∙ parts_of-line_of command range ∙ sym (append-nil (command_words command))
 
 -- what is taken from the parts of a line, before and after; the words before are the parts
 module _ (line : List ℕ) (before after : List (List ℕ)) (parts : before ≡ parts_of line) where
   abbrev Says : Option Command → Command → Type 0
-  Says answer command = (answer ≡ Some command) ↔ ((line ≡ line_of command) × IsInRange command)
+  Says answer command = (answer ≡ Some command) ↔ ((line ≡ line_of command) × IsCommandInRange command)
 
   abbrev TakesCommand : Option Command → Type 0
-  TakesCommand answer = Takes command_words IsInRange before answer after
+  TakesCommand answer = Takes command_words IsCommandInRange before answer after
 
   -- where a command's words are taken the words before are these words and those after
-  taken_of : (answer : Option Command) (command : Command) → TakesCommand answer → answer ≡ Some command → (before ≡ command_words command ++ after) × IsInRange command
-  taken_of answer command takes e = subst (λ a. IfSome a (λ c. (before ≡ command_words c ++ after) × IsInRange c)) e takes.taken
+  taken_of : (answer : Option Command) (command : Command) → TakesCommand answer → answer ≡ Some command → (before ≡ command_words command ++ after) × IsCommandInRange command
+  taken_of answer command takes e = subst (λ a. IfSome a (λ c. (before ≡ command_words c ++ after) × IsCommandInRange c)) e takes.taken
 
   -- a line of a command gives that command
-  answer_of : (answer : Option Command) (command : Command) → TakesCommand answer → (line ≡ line_of command) × IsInRange command → answer ≡ Some command
+  answer_of : (answer : Option Command) (command : Command) → TakesCommand answer → (line ≡ line_of command) × IsCommandInRange command → answer ≡ Some command
   answer_of answer command takes is = takes.missed command [] is.1 (parts ∙ parts_said line command is.0 is.1)
 
   -- the line says the command that takes all its parts
@@ -208,5 +205,5 @@ module _ (line : List ℕ) (before after : List (List ℕ)) (parts : before ≡ 
   )
 
 -- nor does a line that is no text
-pub says_nothing : (line : List ℕ) → ¬ (IsUtf8 line) → (command : Command) → (None ≡ Some command) ↔ ((line ≡ line_of command) × IsInRange command)
+pub says_nothing : (line : List ℕ) → ¬ (IsUtf8 line) → (command : Command) → (None ≡ Some command) ↔ ((line ≡ line_of command) × IsCommandInRange command)
 says_nothing line is_none command = ((λ e. absurd (cc)), λ is. absurd (is_none (subst IsUtf8 (sym is.0) (IsUtf8-line_of command is.1))))

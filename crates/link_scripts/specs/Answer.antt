@@ -4,7 +4,7 @@ use Rattle.std.specs.List.{flat_map}
 use Rattle.fair_rates.specs.declared.bandwidth.Rate.{Rate}
 use Rattle.fair_rates.specs.declared.bandwidth.Rate.TheVariants.{Unlimited, Finite}
 use Rattle.fair_rates.specs.declared.error.Error.{Error}
-use Rattle.fair_rates.specs.Refusal.{refusal_number, refusal_text}
+use Rattle.fair_rates.specs.Refusals.ErrorTexts.{refusal_number, refusal_text}
 use Rattle.link_scripts.specs.declared.linkrun.answer.Answer.{Answer}
 use Rattle.link_scripts.specs.declared.linkrun.answer.Answer.TheVariants as answers
 use Rattle.link_scheduler.specs.declared.transmitter.completion.Completion.{Completion}

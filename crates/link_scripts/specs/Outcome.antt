@@ -11,11 +11,11 @@ status_of InputOutput = 1
 status_of NoMemory = 1
 
 -- what the program says of it, without the byte that ends a line; of a whole script it says nothing
-abbrev pub message_of : Outcome → List ℕ
-message_of Whole = []
-message_of (BadLine number) = codes "bad line " ++ decimal number
-message_of InputOutput = codes "input or output fault"
-message_of NoMemory = codes "out of memory"
+abbrev pub outcome_text : Outcome → List ℕ
+outcome_text Whole = []
+outcome_text (BadLine number) = codes "bad line " ++ decimal number
+outcome_text InputOutput = codes "input or output fault"
+outcome_text NoMemory = codes "out of memory"
 
 -- lines are counted from 1
 abbrev pub CountsFromOne : Outcome → Type 0

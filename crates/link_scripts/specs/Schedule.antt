@@ -7,13 +7,13 @@ use Rattle.link_scripts.specs.declared.linkrun.command.Call as script
 use Rattle.link_scripts.specs.declared.linkrun.command.Call.TheVariants as calls
 use Rattle.link_scripts.specs.declared.linkrun.command.Parcel.{Parcel}
 use Rattle.link_scheduler.specs.declared.transmitter.State.{State}
-use Rattle.link_scheduler.specs.State.{IsMade, IsRefused, IsNextOf}
-use Rattle.link_simulation.specs.WorldCalls.{Call, call_limit, call_limit_link, call_enqueue, call_advance}
-use Rattle.link_simulation.specs.WorldMessages.{Message}
+use Rattle.link_scheduler.specs.Calls.State.{IsMade, IsRefused, IsNextOf}
+use Rattle.link_simulation.specs.Simulation.Calls.{Call, call_limit, call_limit_link, call_enqueue, call_advance}
+use Rattle.link_simulation.specs.Simulation.Messages.{Message}
 
 -- a message of so many zero bytes
-abbrev pub message_of : Parcel → Message ℕ
-message_of p = record {
+abbrev pub message_of_parcel : Parcel → Message ℕ
+message_of_parcel p = record {
   origin = p.origin;
   recipient = p.recipient;
   channel = p.channel;
@@ -39,18 +39,18 @@ module _ {a : _} {b : _} {c : _} where
   AnswersNext old (answers.Done completions) new = ⊥
 
   -- what the scheduler is asked it does and answers
-  abbrev pub Makes : script.Call → State ℕ a b c → Answer → State ℕ a b c → Type 0
-  Makes (calls.Limit now peer egress ingress) = AnswersDone (call_limit now peer egress ingress)
-  Makes (calls.LimitLink now origin recipient cap) = AnswersDone (call_limit_link now origin recipient cap)
-  Makes (calls.Enqueue parcel) = AnswersDone (call_enqueue parcel.now (message_of parcel))
-  Makes (calls.Advance now) = AnswersDone (call_advance now)
-  Makes calls.Next = AnswersNext
+  abbrev pub AnswersCall : script.Call → State ℕ a b c → Answer → State ℕ a b c → Type 0
+  AnswersCall (calls.Limit now peer egress ingress) = AnswersDone (call_limit now peer egress ingress)
+  AnswersCall (calls.LimitLink now origin recipient cap) = AnswersDone (call_limit_link now origin recipient cap)
+  AnswersCall (calls.Enqueue parcel) = AnswersDone (call_enqueue parcel.now (message_of_parcel parcel))
+  AnswersCall (calls.Advance now) = AnswersDone (call_advance now)
+  AnswersCall calls.Next = AnswersNext
 
   -- it is refused as the scheduler may refuse it; the next event is always answered
   abbrev pub MayRefuseCall : script.Call → State ℕ a b c → Error → Type 0
   MayRefuseCall (calls.Limit now peer egress ingress) s why = IsRefused s (call_limit now peer egress ingress) why
   MayRefuseCall (calls.LimitLink now origin recipient cap) s why =
       IsRefused s (call_limit_link now origin recipient cap) why
-  MayRefuseCall (calls.Enqueue parcel) s why = IsRefused s (call_enqueue parcel.now (message_of parcel)) why
+  MayRefuseCall (calls.Enqueue parcel) s why = IsRefused s (call_enqueue parcel.now (message_of_parcel parcel)) why
   MayRefuseCall (calls.Advance now) s why = IsRefused s (call_advance now) why
   MayRefuseCall calls.Next s why = ⊥

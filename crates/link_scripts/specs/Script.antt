@@ -87,23 +87,23 @@ IsParcelInRange p =
     × IsLengthInRange p.length × IsNumberInRange p.latency
 
 -- each number of a call
-abbrev pub IsCallInRange : Call → Type 0
-IsCallInRange (calls.Limit now peer egress ingress) =
+abbrev pub IsCallOfScriptInRange : Call → Type 0
+IsCallOfScriptInRange (calls.Limit now peer egress ingress) =
     IsNumberInRange now × IsNumberInRange peer × IsSmallCapInRange egress × IsSmallCapInRange ingress
-IsCallInRange (calls.LimitLink now origin recipient cap) =
+IsCallOfScriptInRange (calls.LimitLink now origin recipient cap) =
     IsNumberInRange now × IsNumberInRange origin × IsNumberInRange recipient × IsSmallCapInRange cap
-IsCallInRange (calls.Enqueue parcel) = IsParcelInRange parcel
-IsCallInRange (calls.Advance now) = IsNumberInRange now
-IsCallInRange calls.Next = Unit {0}
+IsCallOfScriptInRange (calls.Enqueue parcel) = IsParcelInRange parcel
+IsCallOfScriptInRange (calls.Advance now) = IsNumberInRange now
+IsCallOfScriptInRange calls.Next = Unit {0}
 
 -- each number of a command
-abbrev pub IsInRange : Command → Type 0
-IsInRange (commands.Flow flow) = IsFlowInRange flow
-IsInRange (commands.Egress peer cap) = IsNumberInRange peer × IsCapInRange cap
-IsInRange (commands.Ingress peer cap) = IsNumberInRange peer × IsCapInRange cap
-IsInRange (commands.Link origin recipient cap) = IsNumberInRange origin × IsNumberInRange recipient × IsCapInRange cap
-IsInRange commands.Rates = Unit {0}
-IsInRange (commands.Schedule call) = IsCallInRange call
+abbrev pub IsCommandInRange : Command → Type 0
+IsCommandInRange (commands.Flow flow) = IsFlowInRange flow
+IsCommandInRange (commands.Egress peer cap) = IsNumberInRange peer × IsCapInRange cap
+IsCommandInRange (commands.Ingress peer cap) = IsNumberInRange peer × IsCapInRange cap
+IsCommandInRange (commands.Link origin recipient cap) = IsNumberInRange origin × IsNumberInRange recipient × IsCapInRange cap
+IsCommandInRange commands.Rates = Unit {0}
+IsCommandInRange (commands.Schedule call) = IsCallOfScriptInRange call
 
 -- ---- words, taken one by one
 

@@ -10,47 +10,47 @@ use Rattle.link_scripts.specs.declared.linkrun.answer.Answer.TheVariants as answ
 use Rattle.link_scripts.specs.declared.linkrun.command.Command.{Command}
 use Rattle.link_scripts.specs.declared.linkrun.command.Command.TheVariants as commands
 use Rattle.link_scripts.specs.declared.linkrun.session.Session.{Session}
-use Rattle.fair_rates.specs.Caps.{Caps}
-use Rattle.link_scheduler.specs.Pairs.{pair_cmp}
-use Rattle.fair_rates.specs.PeerCaps.{IsFairById}
-use Rattle.link_scripts.specs.Schedule.{Makes, MayRefuseCall}
-use Rattle.link_scheduler.specs.State.{planned_of}
-use Rattle.fair_rates.specs.TooLarge.{AreTooLarge}
+use Rattle.fair_rates.specs.Sides.Caps.{Caps}
+use Rattle.link_scheduler.specs.Pairs.Entries.{pair_cmp}
+use Rattle.fair_rates.specs.Fairness.UnderCaps.{IsFairById}
+use Rattle.link_scripts.specs.Schedule.{AnswersCall, MayRefuseCall}
+use Rattle.link_scheduler.specs.Calls.State.{planned_of}
+use Rattle.fair_rates.specs.Refusals.TooLarge.{AreTooLarge}
 
 -- the cap on what a peer sends
-abbrev pub egress_of : Session → ℕ → Option ℕ
-egress_of s peer = get nat_cmp s.egress peer
+abbrev pub said_egress : Session → ℕ → Option ℕ
+said_egress s peer = get nat_cmp s.egress peer
 
 -- the cap on what it receives
-abbrev pub ingress_of : Session → ℕ → Option ℕ
-ingress_of s peer = get nat_cmp s.ingress peer
+abbrev pub said_ingress : Session → ℕ → Option ℕ
+said_ingress s peer = get nat_cmp s.ingress peer
 
 -- the cap on what goes from one peer to another
-abbrev pub link_of : Session → ℕ → ℕ → Option ℕ
-link_of s origin recipient = get (pair_cmp nat_cmp) s.links (origin, recipient)
+abbrev pub said_link : Session → ℕ → ℕ → Option ℕ
+said_link s origin recipient = get (pair_cmp nat_cmp) s.links (origin, recipient)
 
 -- the caps that are said
-abbrev pub caps_of : Session → Caps ℕ
-caps_of s = record { egress = egress_of s; ingress = ingress_of s; link = link_of s }
+abbrev pub said_caps : Session → Caps ℕ
+said_caps s = record { egress = said_egress s; ingress = said_ingress s; link = said_link s }
 
 -- the flows are those, in order, and the caps are these
 pub record Says (s : Session) (flows : List (Flow ℕ)) (caps : Caps ℕ) : Type 0 where
   pub flows_are : s.flows.items ≡ flows
-  pub egress_is : (peer : ℕ) → egress_of s peer ≡ caps.egress peer
-  pub ingress_is : (peer : ℕ) → ingress_of s peer ≡ caps.ingress peer
-  pub link_is : (origin recipient : ℕ) → link_of s origin recipient ≡ caps.link origin recipient
+  pub egress_is : (peer : ℕ) → said_egress s peer ≡ caps.egress peer
+  pub ingress_is : (peer : ℕ) → said_ingress s peer ≡ caps.ingress peer
+  pub link_is : (origin recipient : ℕ) → said_link s origin recipient ≡ caps.link origin recipient
 
 -- the caps with that of one peer set
-abbrev pub with_cap : (ℕ → Option ℕ) → ℕ → Option ℕ → ℕ → Option ℕ
-with_cap caps peer cap p = if p == peer then cap else caps p
+abbrev pub with_said_cap : (ℕ → Option ℕ) → ℕ → Option ℕ → ℕ → Option ℕ
+with_said_cap caps peer cap p = if p == peer then cap else caps p
 
 -- the caps of ordered pairs with that of one pair set
-abbrev pub with_link : (ℕ → ℕ → Option ℕ) → ℕ → ℕ → Option ℕ → ℕ → ℕ → Option ℕ
-with_link caps origin recipient cap p q = if (p == origin) && (q == recipient) then cap else caps p q
+abbrev pub with_said_link : (ℕ → ℕ → Option ℕ) → ℕ → ℕ → Option ℕ → ℕ → ℕ → Option ℕ
+with_said_link caps origin recipient cap p q = if (p == origin) && (q == recipient) then cap else caps p q
 
 -- the same is said
 abbrev pub SaysSame : Session → Session → Type 0
-SaysSame old new = Says new old.flows.items (caps_of old)
+SaysSame old new = Says new old.flows.items (said_caps old)
 
 -- the scheduler is as it was
 abbrev pub KeepsScheduler : Session → Session → Type 0
@@ -62,13 +62,13 @@ KeepsPlanned old new = planned_of new.scheduler ≡ planned_of old.scheduler
 
 -- what is said after a command: its flow at the end, or its cap in the place of that of the peer or of the pair
 abbrev pub SaysAfter : Command → Session → Session → Type 0
-SaysAfter (commands.Flow flow) old new = Says new (old.flows.items ++ flow ∷ []) (caps_of old)
+SaysAfter (commands.Flow flow) old new = Says new (old.flows.items ++ flow ∷ []) (said_caps old)
 SaysAfter (commands.Egress peer cap) old new =
-    Says new old.flows.items (record (caps_of old) { egress = with_cap (egress_of old) peer cap })
+    Says new old.flows.items (record (said_caps old) { egress = with_said_cap (said_egress old) peer cap })
 SaysAfter (commands.Ingress peer cap) old new =
-    Says new old.flows.items (record (caps_of old) { ingress = with_cap (ingress_of old) peer cap })
+    Says new old.flows.items (record (said_caps old) { ingress = with_said_cap (said_ingress old) peer cap })
 SaysAfter (commands.Link origin recipient cap) old new =
-    Says new old.flows.items (record (caps_of old) { link = with_link (link_of old) origin recipient cap })
+    Says new old.flows.items (record (said_caps old) { link = with_said_link (said_link old) origin recipient cap })
 SaysAfter commands.Rates old new = SaysSame old new
 SaysAfter (commands.Schedule call) old new = SaysSame old new
 
@@ -76,7 +76,7 @@ SaysAfter (commands.Schedule call) old new = SaysSame old new
 
 -- those are the rates of the flows under the caps
 abbrev pub AnswersRates : Session → Answer → Type 0
-AnswersRates s (answers.Rates rates) = IsFairById nat_cmp (caps_of s) s.flows.items (get nat_cmp rates)
+AnswersRates s (answers.Rates rates) = IsFairById nat_cmp (said_caps s) s.flows.items (get nat_cmp rates)
 AnswersRates s answers.Nothing = ⊥
 AnswersRates s (answers.Done completions) = ⊥
 AnswersRates s (answers.Next moment) = ⊥
@@ -85,7 +85,7 @@ AnswersRates s (answers.Next moment) = ⊥
 -- nothing
 abbrev pub AnswersTo : Command → Session → Answer → Session → Type 0
 AnswersTo commands.Rates old answer new = AnswersRates old answer × KeepsScheduler old new
-AnswersTo (commands.Schedule call) old answer new = Makes call old.scheduler answer new.scheduler
+AnswersTo (commands.Schedule call) old answer new = AnswersCall call old.scheduler answer new.scheduler
 AnswersTo (commands.Flow flow) old answer new = (answer ≡ answers.Nothing) × KeepsScheduler old new
 AnswersTo (commands.Egress peer cap) old answer new = (answer ≡ answers.Nothing) × KeepsScheduler old new
 AnswersTo (commands.Ingress peer cap) old answer new = (answer ≡ answers.Nothing) × KeepsScheduler old new
@@ -95,11 +95,11 @@ AnswersTo (commands.Link origin recipient cap) old answer new = (answer ≡ answ
 
 -- a command for the rates is refused for want of memory, or for a number where they are too large, a call as the
 -- scheduler refuses it, and any other only for want of memory
-abbrev pub MayRefuse : Command → Session → Error → Type 0
-MayRefuse commands.Rates s why =
-    (why ≡ OutOfMemory) ⊎ ((why ≡ NumberTooLarge) × AreTooLarge nat_cmp (caps_of s) s.flows.items)
-MayRefuse (commands.Schedule call) s why = MayRefuseCall call s.scheduler why
-MayRefuse (commands.Flow flow) s why = why ≡ OutOfMemory
-MayRefuse (commands.Egress peer cap) s why = why ≡ OutOfMemory
-MayRefuse (commands.Ingress peer cap) s why = why ≡ OutOfMemory
-MayRefuse (commands.Link origin recipient cap) s why = why ≡ OutOfMemory
+abbrev pub MayRefuseCommand : Command → Session → Error → Type 0
+MayRefuseCommand commands.Rates s why =
+    (why ≡ OutOfMemory) ⊎ ((why ≡ NumberTooLarge) × AreTooLarge nat_cmp (said_caps s) s.flows.items)
+MayRefuseCommand (commands.Schedule call) s why = MayRefuseCall call s.scheduler why
+MayRefuseCommand (commands.Flow flow) s why = why ≡ OutOfMemory
+MayRefuseCommand (commands.Egress peer cap) s why = why ≡ OutOfMemory
+MayRefuseCommand (commands.Ingress peer cap) s why = why ≡ OutOfMemory
+MayRefuseCommand (commands.Link origin recipient cap) s why = why ≡ OutOfMemory

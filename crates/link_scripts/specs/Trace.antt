@@ -8,17 +8,17 @@ use Rattle.link_scripts.specs.declared.linkrun.command.Call.{Call}
 use Rattle.link_scripts.specs.declared.linkrun.command.Call.TheVariants as calls
 use Rattle.link_scripts.specs.declared.linkrun.command.Command.TheVariants as commands
 use Rattle.link_scripts.specs.Answer.{moment_word, next_line, refusal_line}
-use Rattle.link_scripts.specs.Schedule.{message_of}
+use Rattle.link_scripts.specs.Schedule.{message_of_parcel}
 use Rattle.link_scripts.specs.Script.{line_of}
 use Rattle.link_scripts.specs.declared.linkcheck.Fault.{Fault}
 use Rattle.link_scripts.specs.declared.linkcheck.Fault.TheVariants as faults
 use Rattle.link_scripts.specs.declared.linkcheck.Verdict.{Verdict}
 use Rattle.link_scripts.specs.declared.linkcheck.Verdict.TheVariants as verdicts
-use Rattle.link_simulation.specs.World.{Completed, new_world}
-use Rattle.link_simulation.specs.WorldCalls as world
-use Rattle.link_simulation.specs.WorldPlanned.{new_planned}
-use Rattle.link_simulation.specs.WorldRefusals.{Obeyed}
-use Rattle.link_simulation.specs.WorldReplies.{Reply, reply_done, reply_next, reply_refused, Agrees}
+use Rattle.link_simulation.specs.Simulation.World.{Completed, new_world}
+use Rattle.link_simulation.specs.Simulation.Calls as world
+use Rattle.link_simulation.specs.Rule.Planned.{new_planned}
+use Rattle.link_simulation.specs.Rule.Refusals.{Obeyed}
+use Rattle.link_simulation.specs.Simulation.Replies.{Reply, reply_done, reply_next, reply_refused, Agrees}
 
 -- the call of a line
 abbrev pub call_in : Asked → Call
@@ -28,7 +28,7 @@ call_in asked = asked.call
 abbrev pub world_call : Call → world.Call ℕ
 world_call (calls.Limit now peer egress ingress) = world.call_limit now peer egress ingress
 world_call (calls.LimitLink now origin recipient cap) = world.call_limit_link now origin recipient cap
-world_call (calls.Enqueue parcel) = world.call_enqueue parcel.now (message_of parcel)
+world_call (calls.Enqueue parcel) = world.call_enqueue parcel.now (message_of_parcel parcel)
 world_call (calls.Advance now) = world.call_advance now
 world_call calls.Next = world.call_next
 
@@ -90,10 +90,10 @@ pub record IsAgreed (bytes : List ℕ) : Type 0 where
   pub headed : IsHeadedTranscript text
 
 -- moments are off by no more than the tolerance
-abbrev pub IsWithin : Verdict → ℕ → Type 0
-IsWithin verdicts.Agrees tolerance = ⊤
-IsWithin (verdicts.Within off) tolerance = off ≤ tolerance
-IsWithin (verdicts.Differs difference) tolerance = ⊤
+abbrev pub IsWithinTolerance : Verdict → ℕ → Type 0
+IsWithinTolerance verdicts.Agrees tolerance = ⊤
+IsWithinTolerance (verdicts.Within off) tolerance = off ≤ tolerance
+IsWithinTolerance (verdicts.Differs difference) tolerance = ⊤
 
 -- what the program says of a fault, without the byte that ends a line
 abbrev pub fault_text : Fault → List ℕ

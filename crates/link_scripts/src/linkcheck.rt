@@ -1,7 +1,7 @@
 //! Whether a trace is what the simulation does: the calls of a scheduler, and the lines that
 //! another simulator answered to each.
 ghost use Rattle.std.specs.Prelude.{◌≡◌, IfOk, IfSome, OnOk, Some};
-ghost use Rattle.link_scripts.specs.Trace.{IsTranscript, IsWithin, IsHeadedTranscript, IsClosed, IsAgreed};
+ghost use Rattle.link_scripts.specs.Trace.{IsTranscript, IsWithinTolerance, IsHeadedTranscript, IsClosed, IsAgreed};
 ghost use Rattle.link_scripts.specs.Trace.{fault_text, verdict_status};
 
 mod asked;
@@ -89,7 +89,7 @@ impl From<io::Error> for Fault {
 /// - `NoMemory` where there is none for the calls, the replies or the verdict.
 pub fn check(alloc: Global, trace: &[u8], tolerance: u64) -> Result<Verdict, Fault>
     ensures agrees { IfOk result (λ verdict. verdict ≡ Verdict.Agrees → IsTranscript trace.now) }
-    ensures within { IfOk result (λ verdict. IsWithin verdict tolerance) }
+    ensures within { IfOk result (λ verdict. IsWithinTolerance verdict tolerance) }
 {
     let asked = asked::read_calls(alloc, trace)?;
     let calls = calls::calls(alloc, &asked)?;

@@ -1,6 +1,6 @@
 //! Scripts of flows and caps, run line by line.
 ghost use Rattle.std.specs.Prelude.{◌≡◌, Some, IfOk};
-ghost use Rattle.link_scripts.specs.Outcome.{status_of, message_of, CountsFromOne};
+ghost use Rattle.link_scripts.specs.Outcome.{status_of, outcome_text, CountsFromOne};
 
 pub(crate) mod answer;
 pub mod command;
@@ -47,7 +47,7 @@ impl Outcome {
 
 /// What a program says of the outcome, without a byte at its end, and nothing after a whole script.
 impl fmt::Display for Outcome {
-    ghost output = { λ outcome. Some (message_of outcome) };
+    ghost output = { λ outcome. Some (outcome_text outcome) };
 
     fn fmt<W: fmt::Write>(&self, f: &mut fmt::Formatter<W>) -> fmt::Result {
         match self {

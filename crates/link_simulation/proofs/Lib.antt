@@ -1,6 +1,4 @@
-pub mod Each
-pub mod Filters
-pub mod Refusals
-pub mod Sorted
-pub mod World
-pub mod Zips
+pub mod Examples
+pub mod Laws
+pub mod Rule
+pub mod Simulation

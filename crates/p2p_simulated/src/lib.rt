@@ -3,7 +3,7 @@
 //! The modules are those of the crates that this one passes on: rates of `fair_rates`, the
 //! scheduler of `link_scheduler`, its definitions and their laws of `link_simulation`, scripts and
 //! traces of `link_scripts`, and pictures of `link_pictures`. So are the definitions that contracts
-//! cite: `Rattle.p2p_simulated.specs.State` is that of `link_scheduler`.
+//! cite: `Rattle.p2p_simulated.specs.Calls.State` is that of `link_scheduler`.
 #![tactic(auto)]
 
 pub use fair_rates::{bandwidth, error, peer, ratio};

@@ -1,8 +1,8 @@
 -- How a call on an open scheduler ends, from what its state answered and what was kept of that.
 use Rattle.std.proofs.Common.{◌≡◌, arith, ℕ, List, length, Option, Some, Result, Ok, Err, IfOk, IfErr, OnErr, MatchResult, inl, inr, refl, sym, ap, subst, ◌∙◌}
-use Rattle.p2p_simulated.specs.Refusal.{refusal_number}
-use Rattle.p2p_simulated.specs.State.{IsMade, IsRefused, IsAdvanced, planned_of}
-use Rattle.p2p_simulated.specs.WorldCalls.{Call}
+use Rattle.p2p_simulated.specs.Refusals.ErrorTexts.{refusal_number}
+use Rattle.p2p_simulated.specs.Calls.State.{IsMade, IsRefused, IsAdvanced, planned_of}
+use Rattle.p2p_simulated.specs.Simulation.Calls.{Call}
 use Rattle.p2p_simulated.specs.declared.error.Error.{Error}
 use Rattle.p2p_simulated.specs.declared.error.Error.TheVariants.{OutOfMemory, NumberTooLarge, MomentTooLate, FlowIdsUsedUp}
 use Rattle.p2p_simulated.specs.declared.transmitter.Completion.{Completion}

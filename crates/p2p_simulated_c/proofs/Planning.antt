@@ -4,20 +4,20 @@ use Rattle.std.proofs.lemmas.List.{take_more}
 use Rattle.std.specs.BTreeMap.{get}
 use Rattle.std.specs.Cmp.{tied_then, unsigned_tied}
 use Rattle.std.specs.Ordering.{is_eq, nat_cmp}
-use Rattle.p2p_simulated.specs.Allocation.{IsCountedAllocation}
-use Rattle.p2p_simulated.specs.Answers.{Answered, Calls, PairCalls, States}
-use Rattle.p2p_simulated.specs.Caps.{Caps}
-use Rattle.p2p_simulated.specs.Pairs.{pair_cmp}
-use Rattle.p2p_simulated.specs.PeerCaps.{AnswerBy, AnswersAreThoseOfTheCaps}
-use Rattle.p2p_simulated.specs.Rates.{AreFairRates, or_else}
-use Rattle.p2p_simulated.specs.Sides.{sides_of}
-use Rattle.p2p_simulated.specs.Size.{FairRatesFit}
-use Rattle.p2p_simulated.specs.TooLarge.{HasLargeAnswer, HasLargeRate, IsTooLarge}
+use Rattle.p2p_simulated.specs.Fairness.Allocation.{IsCountedAllocation}
+use Rattle.p2p_simulated.specs.Sides.Answers.{Answered, Calls, PairCalls, States}
+use Rattle.p2p_simulated.specs.Sides.Caps.{Caps}
+use Rattle.p2p_simulated.specs.Pairs.Entries.{pair_cmp}
+use Rattle.p2p_simulated.specs.Fairness.UnderCaps.{AnswerBy, AnswersAreThoseOfTheCaps}
+use Rattle.p2p_simulated.specs.Fairness.Rates.{AreFairRates, or_else}
+use Rattle.p2p_simulated.specs.Sides.Subjects.{sides_of}
+use Rattle.p2p_simulated.specs.Refusals.FairRatesFit.{FairRatesFit}
+use Rattle.p2p_simulated.specs.Refusals.TooLarge.{HasLargeAnswer, HasLargeRate, IsTooLarge}
 use Rattle.p2p_simulated.specs.declared.bandwidth.Flow.{Flow}
 use Rattle.p2p_simulated.specs.declared.bandwidth.Rate.{Rate}
 use Rattle.p2p_simulated.specs.declared.error.Error.{Error}
 use Rattle.p2p_simulated.specs.declared.error.Error.TheVariants.{OutOfMemory, NumberTooLarge}
-use Rattle.p2p_simulated_c.specs.Plan.{IsPlan, MayRefusePlan, caps_of, link_cap, peer_cap}
+use Rattle.p2p_simulated_c.specs.Plan.{IsPlan, MayRefusePlan, caps_of_records, link_cap, peer_cap}
 use Rattle.p2p_simulated_c.specs.Planning.{caps_in}
 use Rattle.p2p_simulated_c.specs.Records.{value_of}
 use Rattle.p2p_simulated_c.specs.declared.planner.Caps as planner
@@ -70,7 +70,7 @@ pub same_caps : (c : planner.Caps) (egress ingress : List PeerCap) (links : List
     → ((peer : ℕ) → get nat_cmp c.egress peer ≡ peer_cap egress peer)
     → ((peer : ℕ) → get nat_cmp c.ingress peer ≡ peer_cap ingress peer)
     → ((origin recipient : ℕ) → get (pair_cmp nat_cmp) c.links (origin, recipient) ≡ link_cap links origin recipient)
-    → caps_in c ≡ caps_of egress ingress links
+    → caps_in c ≡ caps_of_records egress ingress links
 same_caps c egress ingress links by_egress by_ingress by_link =
     λ k. record { egress = λ peer. by_egress peer k; ingress = λ peer. by_ingress peer k; link = λ origin recipient. by_link origin recipient k }
 

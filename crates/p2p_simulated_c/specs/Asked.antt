@@ -1,8 +1,8 @@
 -- What a call through C does to the scheduler that the handle has, if it is open.
 use Rattle.std.specs.Prelude.{◌≡◌, ◌⊎◌, ℕ, length, Option, Some, None}
-use Rattle.p2p_simulated.specs.Refusal.{refusal_number}
-use Rattle.p2p_simulated.specs.State.{IsMade, IsRefused, IsAdvanced, IsCounted, planned_of}
-use Rattle.p2p_simulated.specs.WorldCalls.{Call}
+use Rattle.p2p_simulated.specs.Refusals.ErrorTexts.{refusal_number}
+use Rattle.p2p_simulated.specs.Calls.State.{IsMade, IsRefused, IsAdvanced, IsCounted, planned_of}
+use Rattle.p2p_simulated.specs.Simulation.Calls.{Call}
 use Rattle.p2p_simulated.specs.declared.error.Error.{Error}
 use Rattle.p2p_simulated_c.specs.declared.opened.Opened.{Opened}
 

@@ -10,10 +10,10 @@ abbrev pub records_from : Opened → ℕ → List Done
 records_from s first = map done_of (drop first s.completed.items)
 
 -- the bytes of a completion, and none where there is no completion
-abbrev pub message_of : Option (Completion ℕ) → List ℕ
-message_of None = []
-message_of (Some c) = c.message
+abbrev pub completed_bytes : Option (Completion ℕ) → List ℕ
+completed_bytes None = []
+completed_bytes (Some c) = c.message
 
 -- the bytes of the completion at that index from one of them on
-abbrev pub bytes_from : Opened → ℕ → ℕ → List ℕ
-bytes_from s index from = drop from (message_of (slice_get s.completed.items index))
+abbrev pub completed_bytes_from : Opened → ℕ → ℕ → List ℕ
+completed_bytes_from s index from = drop from (completed_bytes (slice_get s.completed.items index))

@@ -1,11 +1,11 @@
 -- What a plan is: flows and caps as C lists them, and what is answered for them.
 use Rattle.std.specs.Prelude.{◌≡◌, ◌⊎◌, ℕ, ◌==◌, ◌&&◌, cond, List, [], ◌∷◌, map, Option, Some, None}
 use Rattle.std.specs.Ordering.{nat_cmp}
-use Rattle.p2p_simulated.specs.Caps.{Caps}
-use Rattle.p2p_simulated.specs.PeerCaps.{IsFairById}
-use Rattle.p2p_simulated.specs.Rates.{HasDifferentRates, or_else}
-use Rattle.p2p_simulated.specs.Refusal.{refusal_number}
-use Rattle.p2p_simulated.specs.TooLarge.{AreTooLarge}
+use Rattle.p2p_simulated.specs.Sides.Caps.{Caps}
+use Rattle.p2p_simulated.specs.Fairness.UnderCaps.{IsFairById}
+use Rattle.p2p_simulated.specs.Fairness.Rates.{HasDifferentRates, or_else}
+use Rattle.p2p_simulated.specs.Refusals.ErrorTexts.{refusal_number}
+use Rattle.p2p_simulated.specs.Refusals.TooLarge.{AreTooLarge}
 use Rattle.p2p_simulated.specs.declared.bandwidth.Flow.{Flow}
 use Rattle.p2p_simulated.specs.declared.bandwidth.Rate.{Rate}
 use Rattle.p2p_simulated.specs.declared.bandwidth.Rate.TheVariants.{Unlimited, Finite}
@@ -34,14 +34,14 @@ link_cap (c ∷ caps) origin recipient = or_else (link_cap caps origin recipient
     (cond ((c.origin == origin) && (c.recipient == recipient)) (Some (value_of c.cap)) None)
 
 -- the caps of three lists of records: on what is sent, on what is received, and on what goes from one peer to another
-abbrev pub caps_of : List PeerCap → List PeerCap → List LinkCap → Caps ℕ
-caps_of egress ingress links = record { egress = peer_cap egress; ingress = peer_cap ingress; link = link_cap links }
+abbrev pub caps_of_records : List PeerCap → List PeerCap → List LinkCap → Caps ℕ
+caps_of_records egress ingress links = record { egress = peer_cap egress; ingress = peer_cap ingress; link = link_cap links }
 
 -- the record of a rate
-abbrev pub rate_of : Option Rate → PlanRate
-rate_of None = record { numerator = wide_of 0; denominator = wide_of 1; is_limited = 0 }
-rate_of (Some Unlimited) = record { numerator = wide_of 0; denominator = wide_of 1; is_limited = 0 }
-rate_of (Some (Finite ratio)) = record { numerator = wide_of ratio.numerator; denominator = wide_of ratio.denominator;
+abbrev pub record_of_rate : Option Rate → PlanRate
+record_of_rate None = record { numerator = wide_of 0; denominator = wide_of 1; is_limited = 0 }
+record_of_rate (Some Unlimited) = record { numerator = wide_of 0; denominator = wide_of 1; is_limited = 0 }
+record_of_rate (Some (Finite ratio)) = record { numerator = wide_of ratio.numerator; denominator = wide_of ratio.denominator;
     is_limited = 1 }
 
 -- ---- what is answered
@@ -58,7 +58,7 @@ MayRefusePlan caps flows why = (why ≡ OutOfMemory) ⊎ ((why ≡ NumberTooLarg
 
 -- the records of the flows' rates, in the order of the flows
 abbrev pub rates_of : List PlanFlow → (ℕ → Option Rate) → List PlanRate
-rates_of flows rate_by = map (λ f. rate_of (rate_by f.id)) flows
+rates_of flows rate_by = map (λ f. record_of_rate (rate_by f.id)) flows
 
 -- with status 0 the rates were written; with another it was refused for the cause of that number, and nothing was
 -- written

@@ -12,12 +12,12 @@ abbrev pub is_set : ℕ → Bool
 is_set flag = not (flag == 0)
 
 -- the cap, if there is one
-abbrev pub cap_of : Cap → Option ℕ
-cap_of c = if c.is_some == 0 then None else Some c.bytes
+abbrev pub cap_of_record : Cap → Option ℕ
+cap_of_record c = if c.is_some == 0 then None else Some c.bytes
 
 -- the moment, if there is one
-abbrev pub moment_of : Moment → Option ℕ
-moment_of m = if m.is_some == 0 then None else Some m.at
+abbrev pub moment_of_record : Moment → Option ℕ
+moment_of_record m = if m.is_some == 0 then None else Some m.at
 
 -- the record of a moment, or of none
 abbrev pub of_moment : Option ℕ → Moment

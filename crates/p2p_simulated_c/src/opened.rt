@@ -1,11 +1,11 @@
 //! A scheduler that is open, with what its last call completed.
 ghost use Rattle.std.specs.Prelude.{◌≡◌, [], length, min, drop, replicate, IfOk, IfErr, MatchResult};
-ghost use Rattle.p2p_simulated.specs.Refusal.{refusal_number};
-ghost use Rattle.p2p_simulated.specs.State.{IsNew, IsNextOf, sent};
-ghost use Rattle.p2p_simulated.specs.WorldCalls.{call_limit, call_limit_link, call_enqueue, call_advance};
+ghost use Rattle.p2p_simulated.specs.Refusals.ErrorTexts.{refusal_number};
+ghost use Rattle.p2p_simulated.specs.Calls.State.{IsNew, IsNextOf, sent};
+ghost use Rattle.p2p_simulated.specs.Simulation.Calls.{call_limit, call_limit_link, call_enqueue, call_advance};
 ghost use Rattle.p2p_simulated_c.specs.Asked.{Ended, Advanced, Counted};
-ghost use Rattle.p2p_simulated_c.specs.Completions.{records_from, bytes_from};
-ghost use Rattle.p2p_simulated_c.specs.Records.{moment_of, value_of};
+ghost use Rattle.p2p_simulated_c.specs.Completions.{records_from, completed_bytes_from};
+ghost use Rattle.p2p_simulated_c.specs.Records.{moment_of_record, value_of};
 ghost use Rattle.p2p_simulated_c.specs.Written.{written};
 
 use super::records::{Done, Moment, Wide};
@@ -179,7 +179,7 @@ impl Opened {
 
     /// `State::next`.
     pub fn next(&self) -> Moment
-        ensures { IsNextOf self.now.state (moment_of result) }
+        ensures { IsNextOf self.now.state (moment_of_record result) }
     {
         Moment::of(self.state.next())
     }
@@ -199,8 +199,8 @@ impl Opened {
     /// Writes the bytes of a completion from `from` on, as many as there is room for, and tells how
     /// many. There are none of a completion that is not there.
     pub fn message(&self, index: usize, from: usize, out: &mut [u8]) -> usize
-        ensures count { result ≡ min (length (bytes_from self.now index from)) (length out.old) }
-        ensures written { out.new ≡ written (bytes_from self.now index from) out.old }
+        ensures count { result ≡ min (length (completed_bytes_from self.now index from)) (length out.old) }
+        ensures written { out.new ≡ written (completed_bytes_from self.now index from) out.old }
     {
         if index >= self.completed.len() {
             return 0;

@@ -3,11 +3,11 @@ ghost use Rattle.std.specs.Prelude.{◌≡◌, ◌⊎◌, ℕ, map, IfOk, IfErr}
 ghost use Rattle.std.specs.BTreeMap.{get};
 ghost use Rattle.std.specs.Fn.{CalledAt, TakesAt, CalledAtTwo, TakesAtTwo};
 ghost use Rattle.std.specs.Ordering.{nat_cmp};
-ghost use Rattle.p2p_simulated.specs.Answers.{CallableOnEach, CallableOnEachPair, origins, recipients, pairs};
-ghost use Rattle.p2p_simulated.specs.Caps.{Caps as CapsOf};
-ghost use Rattle.p2p_simulated.specs.Pairs.{pair_cmp};
-ghost use Rattle.p2p_simulated.specs.PeerCaps.{AnswerBy};
-ghost use Rattle.p2p_simulated_c.specs.Plan.{IsPlan, IsPlanned, MayRefusePlan, caps_of, flow_of};
+ghost use Rattle.p2p_simulated.specs.Sides.Answers.{CallableOnEach, CallableOnEachPair, origins, recipients, pairs};
+ghost use Rattle.p2p_simulated.specs.Sides.Caps.{Caps as CapsOf};
+ghost use Rattle.p2p_simulated.specs.Pairs.Entries.{pair_cmp};
+ghost use Rattle.p2p_simulated.specs.Fairness.UnderCaps.{AnswerBy};
+ghost use Rattle.p2p_simulated_c.specs.Plan.{IsPlan, IsPlanned, MayRefusePlan, caps_of_records, flow_of};
 ghost use Rattle.p2p_simulated_c.specs.Plan.{link_cap, peer_cap, rates_of};
 ghost use Rattle.p2p_simulated_c.specs.Planning.{caps_in};
 ghost use Rattle.p2p_simulated_c.specs.Records.{value_of};
@@ -35,7 +35,7 @@ pub extern "C" fn p2p_allocate(
     rates: &mut [PlanRate],
     rounds: &mut Wide,
 ) -> u32
-    ensures { IsPlanned (caps_of egress.now ingress.now links.now) flows.now result (value_of rounds.new)
+    ensures { IsPlanned (caps_of_records egress.now ingress.now links.now) flows.now result (value_of rounds.new)
         rates.old rates.new }
 {
     match plan(alloc, flows, egress, ingress, links) {
@@ -59,9 +59,9 @@ fn plan(
     ingress: &[PeerCap],
     links: &[LinkCap],
 ) -> Result<(BTreeMap<u64, Rate>, u128), Error>
-    ensures plan { IfOk result (λ planned. IsPlan (caps_of egress.now ingress.now links.now) (map flow_of flows.now)
+    ensures plan { IfOk result (λ planned. IsPlan (caps_of_records egress.now ingress.now links.now) (map flow_of flows.now)
         (get nat_cmp planned.0) planned.1) }
-    ensures refused { IfErr result (MayRefusePlan (caps_of egress.now ingress.now links.now)
+    ensures refused { IfErr result (MayRefusePlan (caps_of_records egress.now ingress.now links.now)
         (map flow_of flows.now)) }
 {
     let flows = listed(alloc, flows)?;

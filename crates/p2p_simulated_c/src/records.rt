@@ -1,8 +1,8 @@
 //! What crosses to C by value: a cap, a moment, a wide number, a completion, and what a plan is made
 //! of.
 ghost use Rattle.std.specs.Prelude.{◌≡◌, ◌<◌, ◌^◌, Option};
-ghost use Rattle.p2p_simulated_c.specs.Plan.{flow_of, rate_of};
-ghost use Rattle.p2p_simulated_c.specs.Records.{cap_of, moment_of, of_moment, value_of, wide_of, done_of};
+ghost use Rattle.p2p_simulated_c.specs.Plan.{flow_of, record_of_rate};
+ghost use Rattle.p2p_simulated_c.specs.Records.{cap_of_record, moment_of_record, of_moment, value_of, wide_of, done_of};
 
 use p2p_simulated::bandwidth::{Flow, Rate};
 use p2p_simulated::transmitter::Completion;
@@ -17,7 +17,7 @@ pub struct Cap {
 
 impl Cap {
     pub fn get(self) -> Option<usize>
-        ensures { result ≡ cap_of self }
+        ensures { result ≡ cap_of_record self }
     {
         if self.is_some == 0 {
             None
@@ -38,7 +38,7 @@ pub struct Moment {
 impl Moment {
     pub fn of(moment: Option<u64>) -> Moment
         ensures record { result ≡ of_moment moment }
-        ensures moment { moment_of result ≡ moment }
+        ensures moment { moment_of_record result ≡ moment }
     {
         match moment {
             None => Moment { at: 0, is_some: 0 },
@@ -153,7 +153,7 @@ pub struct PlanRate {
 impl PlanRate {
     /// The record of the rate of a flow. Of a flow without one it is that of no limit.
     pub fn of(rate: Option<Rate>) -> PlanRate
-        ensures { result ≡ rate_of rate }
+        ensures { result ≡ record_of_rate rate }
     {
         match rate {
             Some(Rate::Finite(ratio)) => PlanRate {

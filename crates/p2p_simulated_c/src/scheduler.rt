@@ -1,11 +1,11 @@
 //! What C has of a scheduler.
 ghost use Rattle.std.specs.Prelude.{◌≡◌, None, length, min, replicate};
-ghost use Rattle.p2p_simulated.specs.State.{IsNew, IsNextOf, sent};
-ghost use Rattle.p2p_simulated.specs.WorldCalls.{call_limit, call_limit_link, call_enqueue, call_advance};
+ghost use Rattle.p2p_simulated.specs.Calls.State.{IsNew, IsNextOf, sent};
+ghost use Rattle.p2p_simulated.specs.Simulation.Calls.{call_limit, call_limit_link, call_enqueue, call_advance};
 ghost use Rattle.p2p_simulated_c.specs.Asked.{OnHandle, Ended, Advanced, Counted};
-ghost use Rattle.p2p_simulated_c.specs.Completions.{records_from, bytes_from};
+ghost use Rattle.p2p_simulated_c.specs.Completions.{records_from, completed_bytes_from};
 ghost use Rattle.p2p_simulated_c.specs.Opening.{IsOpened};
-ghost use Rattle.p2p_simulated_c.specs.Records.{is_set, cap_of, moment_of, value_of};
+ghost use Rattle.p2p_simulated_c.specs.Records.{is_set, cap_of_record, moment_of_record, value_of};
 ghost use Rattle.p2p_simulated_c.specs.Written.{written};
 
 use super::handle::Scheduler;
@@ -49,7 +49,7 @@ pub extern "C" fn p2p_limit(
     count: &mut usize,
 ) -> u32
     ensures { OnHandle ((result ≡ 5) × (count.new ≡ 0))
-        (Ended (call_limit now peer (cap_of egress) (cap_of ingress)) result count.new)
+        (Ended (call_limit now peer (cap_of_record egress) (cap_of_record ingress)) result count.new)
         scheduler.old.place.opened scheduler.new.place.opened }
 {
     *count = 0;
@@ -75,7 +75,7 @@ pub extern "C" fn p2p_limit_link(
     count: &mut usize,
 ) -> u32
     ensures { OnHandle ((result ≡ 5) × (count.new ≡ 0))
-        (Ended (call_limit_link now origin recipient (cap_of cap)) result count.new)
+        (Ended (call_limit_link now origin recipient (cap_of_record cap)) result count.new)
         scheduler.old.place.opened scheduler.new.place.opened }
 {
     *count = 0;
@@ -212,8 +212,8 @@ pub extern "C" fn p2p_advance_counted(
 /// `State::next`. The moment is none where the scheduler is not open.
 #[unsafe(no_mangle)]
 pub extern "C" fn p2p_next(alloc: Global, scheduler: &mut Scheduler, next: &mut Moment) -> u32
-    ensures { OnHandle ((result ≡ 5) × (moment_of next.new ≡ None))
-        (λ old new. (result ≡ 0) × (new ≡ old) × IsNextOf old.state (moment_of next.new))
+    ensures { OnHandle ((result ≡ 5) × (moment_of_record next.new ≡ None))
+        (λ old new. (result ≡ 0) × (new ≡ old) × IsNextOf old.state (moment_of_record next.new))
         scheduler.old.place.opened scheduler.new.place.opened }
 {
     *next = Moment::of(None);
@@ -258,8 +258,8 @@ pub extern "C" fn p2p_message(
     out: &mut [u8],
 ) -> usize
     ensures { OnHandle ((result ≡ 0) × (out.new ≡ out.old))
-        (λ old new. (new ≡ old) × (result ≡ min (length (bytes_from old index from)) (length out.old))
-        × (out.new ≡ written (bytes_from old index from) out.old))
+        (λ old new. (new ≡ old) × (result ≡ min (length (completed_bytes_from old index from)) (length out.old))
+        × (out.new ≡ written (completed_bytes_from old index from) out.old))
         scheduler.old.place.opened scheduler.new.place.opened }
 {
     let Some(opened) = scheduler.take(alloc) else {

@@ -1,6 +1,6 @@
 //! The number with which a call ends.
 ghost use Rattle.std.specs.Prelude.{◌≡◌};
-ghost use Rattle.p2p_simulated.specs.Refusal.{refusal_number};
+ghost use Rattle.p2p_simulated.specs.Refusals.ErrorTexts.{refusal_number};
 
 use p2p_simulated::error::Error;
 

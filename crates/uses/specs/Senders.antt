@@ -1,10 +1,10 @@
 -- Caps on what peers send, and on nothing else.
 use Rattle.std.specs.Prelude.{◌≡◌, ℕ, ◌*◌, ◌≤◌, Option, Some, None, sum_by}
 use Rattle.std.specs.Ordering.{nat_cmp}
-use Rattle.p2p_simulated.specs.Caps.{Caps}
-use Rattle.p2p_simulated.specs.PeerCaps.{IsFairById, limits}
-use Rattle.p2p_simulated.specs.Places.{places_from}
-use Rattle.p2p_simulated.specs.Sides.{sent_by}
+use Rattle.p2p_simulated.specs.Sides.Caps.{Caps}
+use Rattle.p2p_simulated.specs.Fairness.UnderCaps.{IsFairById, limits}
+use Rattle.p2p_simulated.specs.Lists.Places.{places_from}
+use Rattle.p2p_simulated.specs.Sides.Subjects.{sent_by}
 
 abbrev pub sending : (ℕ → Option ℕ) → Caps ℕ
 sending egress = record { egress = egress; ingress = λ p. None; link = λ p q. None }

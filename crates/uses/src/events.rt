@@ -1,9 +1,9 @@
 //! A scheduler that is run from event to event.
 ghost use Rattle.std.specs.Prelude.{◌≡◌, [], None, IfOk, map};
-ghost use Rattle.p2p_simulated.specs.Conserved.{IsConserved};
-ghost use Rattle.p2p_simulated.specs.Message.{completed_of};
-ghost use Rattle.p2p_simulated.specs.WorldPlanned.{next_event};
-ghost use Rattle.p2p_simulated.specs.State.{planned_of};
+ghost use Rattle.p2p_simulated.specs.Laws.Conserved.{IsConserved};
+ghost use Rattle.p2p_simulated.specs.Pairs.Messages.{completed_of};
+ghost use Rattle.p2p_simulated.specs.Rule.Planned.{next_event};
+ghost use Rattle.p2p_simulated.specs.Calls.State.{planned_of};
 
 use p2p_simulated::error::Error;
 use p2p_simulated::model::orderly::calls_lose_no_message;

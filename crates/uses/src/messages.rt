@@ -1,9 +1,9 @@
 //! Two messages at once, of which none is lost.
 ghost use Rattle.std.specs.Prelude.{[], ◌∷◌, true, map, IfOk};
 ghost use Rattle.std.specs.Ordering.{nat_cmp};
-ghost use Rattle.p2p_simulated.specs.Conserved.{IsConserved};
-ghost use Rattle.p2p_simulated.specs.Message.{completed_of};
-ghost use Rattle.p2p_simulated.specs.State.{planned_of, sent};
+ghost use Rattle.p2p_simulated.specs.Laws.Conserved.{IsConserved};
+ghost use Rattle.p2p_simulated.specs.Pairs.Messages.{completed_of};
+ghost use Rattle.p2p_simulated.specs.Calls.State.{planned_of, sent};
 
 use bytes::Bytes;
 use p2p_simulated::error::Error;

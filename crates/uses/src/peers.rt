@@ -1,6 +1,6 @@
 //! A peer type of the caller's own.
-ghost use Rattle.p2p_simulated.specs.State.{IsMade};
-ghost use Rattle.p2p_simulated.specs.WorldCalls.{call_advance};
+ghost use Rattle.p2p_simulated.specs.Calls.State.{IsMade};
+ghost use Rattle.p2p_simulated.specs.Simulation.Calls.{call_advance};
 ghost use Rattle.std.specs.Prelude.{IfOk};
 
 use p2p_simulated::error::Error;

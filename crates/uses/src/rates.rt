@@ -2,7 +2,7 @@
 ghost use Rattle.std.specs.Prelude.{IfOk};
 ghost use Rattle.std.specs.BTreeMap.{get};
 ghost use Rattle.std.specs.Ordering.{nat_cmp};
-ghost use Rattle.p2p_simulated.specs.PeerCaps.{IsFairById};
+ghost use Rattle.p2p_simulated.specs.Fairness.UnderCaps.{IsFairById};
 ghost use Rattle.uses.specs.Senders.{sending, SendersKeepToCaps};
 
 use p2p_simulated::bandwidth::laws::a_side_keeps_to_its_cap;

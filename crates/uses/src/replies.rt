@@ -1,9 +1,9 @@
 //! A list of calls whose replies are those of the simulation.
 ghost use Rattle.std.specs.Prelude.{map, IfOk};
 ghost use Rattle.std.specs.Ordering.{nat_cmp};
-ghost use Rattle.p2p_simulated.specs.Replay.{reply_of};
-ghost use Rattle.p2p_simulated.specs.World.{new_world};
-ghost use Rattle.p2p_simulated.specs.WorldReplies.{Agrees};
+ghost use Rattle.p2p_simulated.specs.Calls.Replay.{reply_of};
+ghost use Rattle.p2p_simulated.specs.Simulation.World.{new_world};
+ghost use Rattle.p2p_simulated.specs.Simulation.Replies.{Agrees};
 ghost use Rattle.uses.specs.Lists.{one_message};
 
 use bytes::Bytes;

@@ -1,7 +1,7 @@
 //! A scheduler that stands for a world of the simulation.
 ghost use Rattle.std.specs.Prelude.{IfOk};
 ghost use Rattle.std.specs.Ordering.{nat_cmp};
-ghost use Rattle.p2p_simulated.specs.State.{planned_of};
+ghost use Rattle.p2p_simulated.specs.Calls.State.{planned_of};
 ghost use Rattle.uses.specs.Worlds.{IsAWorldAt};
 
 use bytes::Bytes;

@@ -2,13 +2,13 @@
 use Rattle.std.proofs.Common.{ℕ, List, length, subst}
 use Rattle.std.specs.declared.cmp.Ordering.{Ordering}
 use Rattle.fair_rates.specs.declared.bandwidth.Rate.{Rate}
-use Rattle.fair_rates.specs.AllocationLaws.{AllocatesUnderCaps}
-use Rattle.fair_rates.specs.Answers.{Answered, Calls, PairCalls}
-use Rattle.fair_rates.specs.Fair.{Side}
-use Rattle.fair_rates.specs.FairLaws.{HaveUsersBelow, IsTheOnlyFair, AreMaxMin, AreZeroWhereClosed}
-use Rattle.fair_rates.specs.Rates.{AreFairRates}
-use Rattle.fair_rates.specs.Sides.{sides_of}
-use Rattle.fair_rates.proofs.Fairness.Answered.{answers_are_those_of_the_caps}
+use Rattle.fair_rates.specs.Fairness.AllocationUnderCaps.{AllocatesUnderCaps}
+use Rattle.fair_rates.specs.Sides.Answers.{Answered, Calls, PairCalls}
+use Rattle.fair_rates.specs.Fairness.Fair.{Side}
+use Rattle.fair_rates.specs.Fairness.Laws.{HaveUsersBelow, IsTheOnlyFair, AreMaxMin, AreZeroWhereClosed}
+use Rattle.fair_rates.specs.Fairness.Rates.{AreFairRates}
+use Rattle.fair_rates.specs.Sides.Subjects.{sides_of}
+use Rattle.fair_rates.proofs.Sides.Answers.{answers_are_those_of_the_caps}
 use Rattle.fair_rates.proofs.Fairness.ClosedSides.{fair_rates_are_zero_where_closed}
 use Rattle.fair_rates.proofs.Fairness.MaxMin.{fair_rates_are_max_min}
 use Rattle.fair_rates.proofs.Fairness.OneAllocation.{one_allocation}

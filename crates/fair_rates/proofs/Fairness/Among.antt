@@ -10,18 +10,18 @@ use Rattle.std.proofs.lemmas.Option.{get_or_from_slice_get, slice_get-map, same_
 use Rattle.fair_rates.specs.declared.bandwidth.Flow.{Flow}
 use Rattle.fair_rates.specs.declared.bandwidth.Rate.{Rate}
 use Rattle.fair_rates.specs.declared.bandwidth.Rate.TheVariants.{Unlimited, Finite}
-use Rattle.fair_rates.specs.Fair.{Side, load, Uses, IsLimited, IsFair, HasBottleneck}
-use Rattle.fair_rates.specs.Rates.{IsRateOf}
-use Rattle.fair_rates.specs.Ratio.{IsWorth}
-use Rattle.fair_rates.specs.Sides.{Subject}
-use Rattle.fair_rates.specs.Caps.{Caps}
-use Rattle.fair_rates.specs.PeerCaps.{cap_of, AreOfPeers, limits, sides_under, AreFairUnder, IsCappedSide}
-use Rattle.fair_rates.proofs.Fairness.Members.{In, in_map, in_get, get_in, in_from_contains, some_or_none, get_from_map}
-use Rattle.fair_rates.proofs.Fairness.Sums.{All-from_contains}
+use Rattle.fair_rates.specs.Fairness.Fair.{Side, load, Uses, IsLimited, IsFair, HasBottleneck}
+use Rattle.fair_rates.specs.Fairness.Rates.{IsRateOf}
+use Rattle.fair_rates.specs.Numbers.Ratio.{IsWorth}
+use Rattle.fair_rates.specs.Sides.Subjects.{Subject}
+use Rattle.fair_rates.specs.Sides.Caps.{Caps}
+use Rattle.fair_rates.specs.Fairness.UnderCaps.{cap_of, AreOfPeers, limits, sides_under, AreFairUnder, IsCappedSide}
+use Rattle.fair_rates.proofs.Lists.Members.{In, in_map, in_get, get_in, in_from_contains, some_or_none, get_from_map}
+use Rattle.fair_rates.proofs.Lists.SumOrder.{All-from_contains}
 use Rattle.fair_rates.proofs.Fairness.MaxMin.{rate_at}
-use Rattle.fair_rates.proofs.Fairness.CapSides.{capped_from_listed, listed_from_capped, side_of_subject}
-use Rattle.fair_rates.specs.Places.{places_from}
-use Rattle.fair_rates.proofs.Places.{place_here, passes_here}
+use Rattle.fair_rates.proofs.Sides.CapSides.{capped_from_listed, listed_from_capped, side_of_subject}
+use Rattle.fair_rates.specs.Lists.Places.{places_from}
+use Rattle.fair_rates.proofs.Lists.Places.{place_here, passes_here}
 
 -- a flow, its parts and its rate
 pub record Allotted (P : Type 0) : Type 0 where

@@ -8,12 +8,12 @@ use Rattle.std.proofs.lemmas.List.Elements.{All-contains}
 use Rattle.std.proofs.lemmas.List.Sums.{sum_by-cons}
 use Rattle.fair_rates.specs.declared.bandwidth.Rate.{Rate}
 use Rattle.fair_rates.specs.declared.bandwidth.Rate.TheVariants.{Unlimited, Finite}
-use Rattle.fair_rates.specs.Fair.{Side, load, Uses, IsLimited, IsFair, HasBottleneck}
-use Rattle.fair_rates.specs.FairPart.{kept, is_in, place_in, sides_in, SharesNoSide, FlowsApartAreFair}
-use Rattle.fair_rates.specs.Rates.{IsRateOf}
-use Rattle.fair_rates.proofs.Fairness.Members.{In, in_map, from_map, in_left, in_right, in_either, in_from_contains, contains_from_in, some_or_none, any_fails, any_passes}
+use Rattle.fair_rates.specs.Fairness.Fair.{Side, load, Uses, IsLimited, IsFair, HasBottleneck}
+use Rattle.fair_rates.specs.Fairness.Part.{flagged, is_in, place_in, sides_in, SharesNoSide, FlowsApartAreFair}
+use Rattle.fair_rates.specs.Fairness.Rates.{IsRateOf}
+use Rattle.fair_rates.proofs.Lists.Members.{In, in_map, from_map, in_left, in_right, in_either, in_from_contains, contains_from_in, some_or_none, any_fails, any_passes}
 use Rattle.fair_rates.proofs.Fairness.MaxMin.{rate_at}
-use Rattle.fair_rates.proofs.Fairness.Sums.{All-from_contains}
+use Rattle.fair_rates.proofs.Lists.SumOrder.{All-from_contains}
 
 -- where the flow stands that has that place in the part
 abbrev old : List Bool → ℕ → ℕ
@@ -42,7 +42,7 @@ record StoodAt {X : Type 0} (flags : List Bool) (xs : List X) (j : ℕ) (x : X) 
   own : is_in flags (old flags j) ≡ true
   place : place_in flags (old flags j) ≡ j
 
-stood_at : {X : Type 0} (flags : List Bool) (xs : List X) (j : ℕ) (x : X) → slice_get (kept flags xs) j ≡ Some x → StoodAt flags xs j x
+stood_at : {X : Type 0} (flags : List Bool) (xs : List X) (j : ℕ) (x : X) → slice_get (flagged flags xs) j ≡ Some x → StoodAt flags xs j x
 stood_at [] xs j x e = cc
 stood_at (flag ∷ flags) [] j x e = cc
 stood_at (true ∷ flags) (y ∷ xs) zero x e = record { at = e; own = refl; place = refl }
@@ -186,7 +186,7 @@ flows_apart_are_fair flags sides rates apart f = record {
   parts = kept_parts flags sides apart f.per f.parts;
   fair = part_fair flags sides apart f.per f.parts f.fair;
   rated = λ j d within.
-      let x = get_or (kept flags rates) j d in
-      let at = stood_at flags rates j x (slice_get-get_or (kept flags rates) j d within) in
+      let x = get_or (flagged flags rates) j d in
+      let at = stood_at flags rates j x (slice_get-get_or (flagged flags rates) j d within) in
       kept_rate flags sides apart f.per f.parts j x at.own at.place (rate_at sides (length flags) rates f (old flags j) x at.at);
 }

@@ -10,12 +10,12 @@ use Rattle.std.proofs.lemmas.List.Sums.{sum_by-cons}
 use Rattle.fair_rates.specs.declared.bandwidth.Flow.{Flow}
 use Rattle.fair_rates.specs.declared.bandwidth.Rate.{Rate}
 use Rattle.fair_rates.specs.declared.bandwidth.Rate.TheVariants.{Unlimited}
-use Rattle.fair_rates.specs.PeerCaps.{AreOfPeers, sides_under, UsesNoCap, HaveDistinctIds, IsFairById, UnlimitedByIdWhereUncapped, OthersDoNotMatter, is_of}
-use Rattle.fair_rates.specs.FairPart.{kept}
-use Rattle.fair_rates.specs.Rates.{last_rate}
-use Rattle.fair_rates.specs.Caps.{Caps}
+use Rattle.fair_rates.specs.Fairness.UnderCaps.{AreOfPeers, sides_under, UsesNoCap, HaveDistinctIds, IsFairById, UnlimitedByIdWhereUncapped, OthersDoNotMatter, is_of_set}
+use Rattle.fair_rates.specs.Fairness.Part.{flagged}
+use Rattle.fair_rates.specs.Fairness.Rates.{last_rate}
+use Rattle.fair_rates.specs.Sides.Caps.{Caps}
 use Rattle.fair_rates.proofs.Fairness.Among.{Allotted, IsSaidAmong, flows_of, rates_of, among_from, rate_there}
-use Rattle.fair_rates.proofs.Fairness.Members.{In, from_map, from_filter, in_filter, get_in, in_from_contains}
+use Rattle.fair_rates.proofs.Lists.Members.{In, from_map, from_filter, in_filter, get_in, in_from_contains}
 use Rattle.fair_rates.proofs.Fairness.OneAllocation.{one_allocation}
 use Rattle.fair_rates.proofs.Fairness.Order.{own_rate, has}
 use Rattle.fair_rates.proofs.Fairness.Part.{part, flows_of_part, rates_of_part, part_is_fair}
@@ -71,7 +71,7 @@ module _ {P : Type 0} (cmp : P → P → Ordering) (order : IsTotalOrder cmp) wh
 
   pub others_do_not_matter : OthersDoNotMatter cmp
   others_do_not_matter caps peers flows m n of distinct ends a b f contained =
-      let mine = is_of cmp peers in
+      let mine = is_of_set cmp peers in
       let own = filter mine flows in
       let h = from_filter mine flows f (in_from_contains own f contained) in
       let s = said caps of flows m distinct a in
@@ -79,10 +79,10 @@ module _ {P : Type 0} (cmp : P → P → Ordering) (order : IsTotalOrder cmp) wh
       let xs = part cmp caps mine s.all in
       let among : In xs r.x = in_filter (λ (x : Allotted P). mine x.flow) s.all r.x r.among (subst (λ (g : Flow P). mine g ≡ true) (sym r.is) h.1) in
       let flows_is : flows_of xs ≡ own = flows_of_part cmp caps mine s.all ∙ ap (filter mine) s.flows_are in
-      let rates_is : rates_of xs ≡ kept (map mine flows) a.rates = rates_of_part cmp caps mine s.all ∙ ap₂ (λ (fs : List (Flow P)) (rs : List Rate). kept (map mine fs) rs) s.flows_are s.rates_are in
+      let rates_is : rates_of xs ≡ flagged (map mine flows) a.rates = rates_of_part cmp caps mine s.all ∙ ap₂ (λ (fs : List (Flow P)) (rs : List Rate). flagged (map mine fs) rs) s.flows_are s.rates_are in
       let kept_fair = part_is_fair cmp order caps peers flows a.rates of ends a.fair in
-      let one : b.rates ≡ kept (map mine flows) a.rates =
-      one_allocation (sides_under cmp caps own) (length own) (kept (map mine flows) a.rates) kept_fair b.rates b.fair in
+      let one : b.rates ≡ flagged (map mine flows) a.rates =
+      one_allocation (sides_under cmp caps own) (length own) (flagged (map mine flows) a.rates) kept_fair b.rates b.fair in
       let few : HaveDistinctIds own = λ id. omega (arith, distinct id, count_by-filter (has id) mine flows) in
       let rate : last_rate r.x.flow.id (flows_of xs) (rates_of xs) ≡ Some r.x.rate = rate_by_id xs r.x (subst HaveDistinctIds (sym flows_is) few) among in
       b.by_id f.id

@@ -4,10 +4,10 @@ use Rattle.std.proofs.Math.Nat.{eq_of_mul-eq-mul_right, eq-one_of_dvd-one}
 use Rattle.fair_rates.specs.declared.bandwidth.Rate.{Rate}
 use Rattle.fair_rates.specs.declared.bandwidth.Rate.TheVariants.{Unlimited, Finite}
 use Rattle.fair_rates.specs.declared.ratio.Ratio.{Ratio}
-use Rattle.fair_rates.specs.Fair.{Side, load, IsLimited, IsFair}
-use Rattle.fair_rates.specs.Rates.{IsRateOf}
-use Rattle.fair_rates.specs.FairExample.{shared, IsHalf, AreFair, HalfExists, HalvesAreFair, LessIsUnfair, MoreIsUnfair, NoLimitIsUnfair, LimitIsUnfair}
-use Rattle.fair_rates.proofs.Fairness.Sums.{All-from_contains}
+use Rattle.fair_rates.specs.Fairness.Fair.{Side, load, IsLimited, IsFair}
+use Rattle.fair_rates.specs.Fairness.Rates.{IsRateOf}
+use Rattle.fair_rates.specs.Fairness.Example.{shared, IsHalf, AreFairForThree, HalfExists, HalvesAreFair, LessIsUnfair, MoreIsUnfair, NoLimitIsUnfair, LimitIsUnfair}
+use Rattle.fair_rates.proofs.Lists.SumOrder.{All-from_contains}
 use Rattle.fair_rates.proofs.Fairness.OneAllocation.{same_amounts}
 
 -- the one side
@@ -66,7 +66,7 @@ pub halves_are_fair : HalvesAreFair
 halves_are_fair r s e f = record { one_each = refl; per = 2; parts = one; fair = one_is_fair; rated = rated r s e f }
 
 -- a fair rate of the first is a half
-first_is_half : (r s : Ratio) → AreFair (Finite r) (Finite s) Unlimited → IsHalf r
+first_is_half : (r s : Ratio) → AreFairForThree (Finite r) (Finite s) Unlimited → IsHalf r
 first_is_half r s f =
     let is : IsLimited shared 0 × (r.numerator * f.per ≡ f.parts 0 * r.denominator) = f.rated 0 Unlimited (omega arith) in
     let same = same_amounts shared f.per 2 f.parts one f.fair one_is_fair 0 first_uses in

@@ -7,10 +7,10 @@ use Rattle.std.proofs.lemmas.Option.{slice_get-get_or, slice_get_within, get_or_
 use Rattle.fair_rates.specs.declared.bandwidth.Rate.{Rate}
 use Rattle.fair_rates.specs.declared.bandwidth.Rate.TheVariants.{Unlimited, Finite}
 use Rattle.fair_rates.specs.declared.ratio.Ratio.{Ratio}
-use Rattle.fair_rates.specs.Fair.{Side, load, IsLimited}
-use Rattle.fair_rates.specs.Rates.{IsRateOf, AreFairRates}
-use Rattle.fair_rates.specs.FairLaws.{HasRate, FairIsMaxMin, FairRatesAreMaxMin}
-use Rattle.fair_rates.proofs.Fairness.Sums.{sum_by-scaled, sum_by-under, at_most_or_more}
+use Rattle.fair_rates.specs.Fairness.Fair.{Side, load, IsLimited}
+use Rattle.fair_rates.specs.Fairness.Rates.{IsRateOf, AreFairRates}
+use Rattle.fair_rates.specs.Fairness.Laws.{HasRate, FairIsMaxMin, FairRatesAreMaxMin}
+use Rattle.fair_rates.proofs.Lists.SumOrder.{sum_by-scaled, sum_by-under, at_most_or_more}
 
 pub fair_is_max_min : FairIsMaxMin
 fair_is_max_min sides D a fair E b within i limited more =

@@ -5,11 +5,11 @@ use Rattle.std.proofs.lemmas.List.{ext_get_or}
 use Rattle.std.proofs.lemmas.Bool.{cases_order}
 use Rattle.fair_rates.specs.declared.bandwidth.Rate.{Rate}
 use Rattle.fair_rates.specs.declared.bandwidth.Rate.TheVariants.{Unlimited, Finite}
-use Rattle.fair_rates.specs.Amount.{Amount}
-use Rattle.fair_rates.specs.Fair.{Side, IsLimited, IsFair}
-use Rattle.fair_rates.specs.Rates.{IsRateOf}
-use Rattle.fair_rates.specs.FairLaws.{OneAllocation}
-use Rattle.fair_rates.proofs.Ratios.{one_ratio}
+use Rattle.fair_rates.specs.Numbers.Amount.{Amount}
+use Rattle.fair_rates.specs.Fairness.Fair.{Side, IsLimited, IsFair}
+use Rattle.fair_rates.specs.Fairness.Rates.{IsRateOf}
+use Rattle.fair_rates.specs.Fairness.Laws.{OneAllocation}
+use Rattle.fair_rates.proofs.Numbers.Ratio.{one_ratio}
 use Rattle.fair_rates.proofs.Fairness.MaxMin.{fair_is_max_min}
 
 -- of two fair amounts neither is more: who pays for it in the first is paid for in the second by one with less still

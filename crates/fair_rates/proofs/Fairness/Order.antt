@@ -10,11 +10,11 @@ use Rattle.std.proofs.lemmas.List.Sums.{sum_by-cons}
 use Rattle.std.proofs.lemmas.List.Sorted.{IsPermutation-refl, IsPermutation-sym, IsPermutation-trans, IsPermutation-swap, IsPermutation-keeps, sum_by-IsPermutation, Contains-permutation}
 use Rattle.fair_rates.specs.declared.bandwidth.Flow.{Flow}
 use Rattle.fair_rates.specs.declared.bandwidth.Rate.{Rate}
-use Rattle.fair_rates.specs.Sides.{Subject}
-use Rattle.fair_rates.specs.Rates.{last_rate}
-use Rattle.fair_rates.specs.Caps.{Caps}
-use Rattle.fair_rates.specs.PeerCaps.{AreOfPeers, limits, sides_under, AreFairUnder, HaveDistinctIds, OrderDoesNotMatter}
-use Rattle.fair_rates.proofs.Fairness.Members.{In, in_from_contains, contains_from_in, some_or_none}
+use Rattle.fair_rates.specs.Sides.Subjects.{Subject}
+use Rattle.fair_rates.specs.Fairness.Rates.{last_rate}
+use Rattle.fair_rates.specs.Sides.Caps.{Caps}
+use Rattle.fair_rates.specs.Fairness.UnderCaps.{AreOfPeers, limits, sides_under, AreFairUnder, HaveDistinctIds, OrderDoesNotMatter}
+use Rattle.fair_rates.proofs.Lists.Members.{In, in_from_contains, contains_from_in, some_or_none}
 use Rattle.fair_rates.proofs.Fairness.OneAllocation.{one_allocation}
 use Rattle.fair_rates.proofs.Fairness.Among.{Allotted, flows_of, rates_of, total, AreFairAmong, among_from, under_from}
 

@@ -9,11 +9,11 @@ use Rattle.std.proofs.lemmas.List.Elements.{All-contains}
 use Rattle.std.proofs.lemmas.Map.Steps.{list_any_congr}
 use Rattle.fair_rates.specs.declared.bandwidth.Flow.{Flow}
 use Rattle.fair_rates.specs.declared.bandwidth.Rate.{Rate}
-use Rattle.fair_rates.specs.FairPart.{kept}
-use Rattle.fair_rates.specs.Sides.{Subject, sent_by, received_by, sent_between, same_peer}
-use Rattle.fair_rates.specs.Caps.{Caps}
-use Rattle.fair_rates.specs.PeerCaps.{limits, is_among, is_of, HaveBothEndsOrNone, AreFairUnder, PartIsFair}
-use Rattle.fair_rates.proofs.Fairness.Members.{In, in_map, from_filter, contains_from_in}
+use Rattle.fair_rates.specs.Fairness.Part.{flagged}
+use Rattle.fair_rates.specs.Sides.Subjects.{Subject, sent_by, received_by, sent_between, same_peer}
+use Rattle.fair_rates.specs.Sides.Caps.{Caps}
+use Rattle.fair_rates.specs.Fairness.UnderCaps.{limits, is_among, is_of_set, HaveBothEndsOrNone, AreFairUnder, PartIsFair}
+use Rattle.fair_rates.proofs.Lists.Members.{In, in_map, from_filter, contains_from_in}
 use Rattle.fair_rates.proofs.Fairness.Among.{Allotted, flows_of, rates_of, total, total-cons, AreFairAmong, among_from, under_from}
 
 module _ {P : Type 0} (cmp : P → P → Ordering) (caps : Caps P) (mine : Flow P → Bool) where
@@ -29,12 +29,12 @@ module _ {P : Type 0} (cmp : P → P → Ordering) (caps : Caps P) (mine : Flow 
       by_test true ih = ap (λ (fs : List (Flow P)). x.flow ∷ fs) ih
       by_test false ih = ih
 
-  pub rates_of_part : (xs : List (Allotted P)) → rates_of (part xs) ≡ kept (map mine (flows_of xs)) (rates_of xs)
+  pub rates_of_part : (xs : List (Allotted P)) → rates_of (part xs) ≡ flagged (map mine (flows_of xs)) (rates_of xs)
   rates_of_part [] = refl
   rates_of_part (x ∷ xs) = by_test (mine x.flow) (rates_of_part xs)
     where
-      by_test : (b : Bool) → rates_of (part xs) ≡ kept (map mine (flows_of xs)) (rates_of xs)
-          → rates_of (cond b (x ∷ part xs) (part xs)) ≡ cond b (x.rate ∷ kept (map mine (flows_of xs)) (rates_of xs)) (kept (map mine (flows_of xs)) (rates_of xs))
+      by_test : (b : Bool) → rates_of (part xs) ≡ flagged (map mine (flows_of xs)) (rates_of xs)
+          → rates_of (cond b (x ∷ part xs) (part xs)) ≡ cond b (x.rate ∷ flagged (map mine (flows_of xs)) (rates_of xs)) (flagged (map mine (flows_of xs)) (rates_of xs))
       by_test true ih = ap (λ (rs : List Rate). x.rate ∷ rs) ih
       by_test false ih = ih
 
@@ -82,7 +82,7 @@ module _ {P : Type 0} (cmp : P → P → Ordering) (order : IsTotalOrder cmp) (p
 
   -- two flows with a side in common are both of the set or neither
   apart : (s : Subject P) (f g : Flow P) → is_among cmp peers f.origin ≡ is_among cmp peers f.recipient → is_among cmp peers g.origin ≡ is_among cmp peers g.recipient
-      → limits cmp s f ≡ true → limits cmp s g ≡ true → is_of cmp peers f ≡ is_of cmp peers g
+      → limits cmp s f ≡ true → limits cmp s g ≡ true → is_of_set cmp peers f ≡ is_of_set cmp peers g
   apart (sent_by p) f g at_f at_g lf lg = sym (same_among p f.origin lf) ∙ same_among p g.origin lg
   apart (received_by p) f g at_f at_g lf lg =
       at_f
@@ -99,15 +99,15 @@ module _ {P : Type 0} (cmp : P → P → Ordering) (order : IsTotalOrder cmp) (p
         All-contains (λ (f : Flow P). is_among cmp peers f.origin ≡ is_among cmp peers f.recipient) flows x.flow ends
         (contains_from_in flows x.flow (subst (λ (fs : List (Flow P)). In fs x.flow) same (in_map (λ (x : Allotted P). x.flow) xs x h)))
 
-    together : (t : Subject P) (x y : Allotted P) → In xs x → In xs y → limits cmp t x.flow ≡ true → limits cmp t y.flow ≡ true → is_of cmp peers x.flow ≡ is_of cmp peers y.flow
+    together : (t : Subject P) (x y : Allotted P) → In xs x → In xs y → limits cmp t x.flow ≡ true → limits cmp t y.flow ≡ true → is_of_set cmp peers x.flow ≡ is_of_set cmp peers y.flow
     together t x y h g lx ly = apart t x.flow y.flow (both_ends x h) (both_ends y g) lx ly
 
 pub part_is_fair : {P : Type 0} (cmp : P → P → Ordering) → IsTotalOrder cmp → PartIsFair cmp
 part_is_fair {P} cmp order caps peers flows rates of ends fair =
-    let mine = is_of cmp peers in
+    let mine = is_of_set cmp peers in
     let s = among_from cmp caps order of flows rates fair in
     let whole = under_from cmp caps order of s.per (part cmp caps mine s.all) (part_among cmp caps mine s.per s.all s.fair (together cmp order peers caps flows ends s.all s.flows_are)) in
     let flows_is : flows_of (part cmp caps mine s.all) ≡ filter mine flows = flows_of_part cmp caps mine s.all ∙ ap (filter mine) s.flows_are in
-    let rates_is : rates_of (part cmp caps mine s.all) ≡ kept (map mine flows) rates = rates_of_part cmp caps mine s.all
-    ∙ ap₂ (λ (fs : List (Flow P)) (rs : List Rate). kept (map mine fs) rs) s.flows_are s.rates_are in
+    let rates_is : rates_of (part cmp caps mine s.all) ≡ flagged (map mine flows) rates = rates_of_part cmp caps mine s.all
+    ∙ ap₂ (λ (fs : List (Flow P)) (rs : List Rate). flagged (map mine fs) rs) s.flows_are s.rates_are in
     subst₂ (AreFairUnder cmp caps) flows_is rates_is whole

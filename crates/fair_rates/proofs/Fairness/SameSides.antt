@@ -3,10 +3,10 @@ use Rattle.std.proofs.Common.{ℕ, ◌*◌, ◌≤◌, List, get_or}
 use Rattle.std.proofs.lemmas.List.Elements.{All-contains}
 use Rattle.fair_rates.specs.declared.bandwidth.Rate.{Rate}
 use Rattle.fair_rates.specs.declared.bandwidth.Rate.TheVariants.{Unlimited, Finite}
-use Rattle.fair_rates.specs.Fair.{Side, load, IsLimited, IsFair, HasBottleneck}
-use Rattle.fair_rates.specs.Rates.{IsRateOf}
-use Rattle.fair_rates.specs.FairLaws.{AreTheSameSides, FairnessIsOfTheSet}
-use Rattle.fair_rates.proofs.Fairness.Sums.{All-from_contains}
+use Rattle.fair_rates.specs.Fairness.Fair.{Side, load, IsLimited, IsFair, HasBottleneck}
+use Rattle.fair_rates.specs.Fairness.Rates.{IsRateOf}
+use Rattle.fair_rates.specs.Fairness.Laws.{AreTheSameSides, FairnessIsOfTheSet}
+use Rattle.fair_rates.proofs.Lists.SumOrder.{All-from_contains}
 
 module _ (xs ys : List Side) (same : AreTheSameSides xs ys) where
   there : (flow : ℕ) → IsLimited xs flow → IsLimited ys flow

@@ -8,12 +8,12 @@ use Rattle.std.proofs.lemmas.Option.{same_Some}
 use Rattle.fair_rates.specs.declared.bandwidth.Flow.{Flow}
 use Rattle.fair_rates.specs.declared.bandwidth.Rate.{Rate}
 use Rattle.fair_rates.specs.declared.bandwidth.Rate.TheVariants.{Unlimited, Finite}
-use Rattle.fair_rates.specs.Sides.{Subject, sent_by, received_by, sent_between, same_peer}
-use Rattle.fair_rates.specs.Caps.{Caps}
-use Rattle.fair_rates.specs.PeerCaps.{cap_of, AreOfPeers, UsesNoCap, limits, UnlimitedWhereUncapped}
-use Rattle.fair_rates.proofs.Subjects.{same_itself}
-use Rattle.fair_rates.proofs.Fairness.Members.{in_get, get_from_map}
-use Rattle.fair_rates.proofs.Fairness.Subjects.{same_peer_itself, one_cap}
+use Rattle.fair_rates.specs.Sides.Subjects.{Subject, sent_by, received_by, sent_between, same_peer}
+use Rattle.fair_rates.specs.Sides.Caps.{Caps}
+use Rattle.fair_rates.specs.Fairness.UnderCaps.{cap_of, AreOfPeers, UsesNoCap, limits, UnlimitedWhereUncapped}
+use Rattle.fair_rates.proofs.Sides.Subjects.{same_itself}
+use Rattle.fair_rates.proofs.Lists.Members.{in_get, get_from_map}
+use Rattle.fair_rates.proofs.Sides.EqualSubjects.{same_peer_itself, one_cap}
 use Rattle.fair_rates.proofs.Fairness.Among.{Allotted, IsCapped, IsRated, among_from, rate_there}
 
 module _ {P : Type 0} (cmp : P → P → Ordering) (order : IsTotalOrder cmp) (caps : Caps P) where

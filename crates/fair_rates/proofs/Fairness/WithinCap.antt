@@ -5,13 +5,13 @@ use Rattle.std.specs.Cmp.{IsTotalOrder}
 use Rattle.std.specs.declared.cmp.Ordering.{Ordering}
 use Rattle.std.proofs.lemmas.List.Elements.{All-contains}
 use Rattle.fair_rates.specs.declared.bandwidth.Flow.{Flow}
-use Rattle.fair_rates.specs.Caps.{Caps}
-use Rattle.fair_rates.specs.Fair.{Side, load}
-use Rattle.fair_rates.specs.PeerCaps.{cap_of, limits, sides_under, IsCappedSide, KeepsToItsCap}
-use Rattle.fair_rates.specs.Places.{places_from}
-use Rattle.fair_rates.specs.Sides.{Subject}
-use Rattle.fair_rates.proofs.Fairness.CapSides.{sides_are_of_the_caps}
-use Rattle.fair_rates.proofs.Fairness.Members.{In, contains_from_in}
+use Rattle.fair_rates.specs.Sides.Caps.{Caps}
+use Rattle.fair_rates.specs.Fairness.Fair.{Side, load}
+use Rattle.fair_rates.specs.Fairness.UnderCaps.{cap_of, limits, sides_under, IsCappedSide, KeepsToItsCap}
+use Rattle.fair_rates.specs.Lists.Places.{places_from}
+use Rattle.fair_rates.specs.Sides.Subjects.{Subject}
+use Rattle.fair_rates.proofs.Sides.CapSides.{sides_are_of_the_caps}
+use Rattle.fair_rates.proofs.Lists.Members.{In, contains_from_in}
 
 -- no element passes the test, or some does
 some_passes : {X : Type 0} (place : ℕ) (test : X → Bool) (xs : List X) → (places_from place test xs ≡ []) ⊎ ((x : X) × In xs x × (test x ≡ true))

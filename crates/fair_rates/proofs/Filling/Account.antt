@@ -5,10 +5,10 @@ use Rattle.std.proofs.lemmas.Bool.{cases_lt}
 use Rattle.std.proofs.lemmas.List.Elements.{All-nil, All-head, All-push, All-tail, All-append, All-weaker}
 use Rattle.std.proofs.lemmas.List.Sorted.{IsPermutation-refl, IsPermutation-sym, IsPermutation-pop_more, IsPermutation-swap_remove, All-permutation, sum_by-IsPermutation}
 use Rattle.std.proofs.lemmas.List.Sums.{sum_by-append, sum_by-cons}
-use Rattle.fair_rates.specs.Fair.{Side, load}
-use Rattle.fair_rates.specs.Filling.{at_level, AllRise, AllFrozen, IsWithin, HaveNoMore, KeepsAccount}
+use Rattle.fair_rates.specs.Fairness.Fair.{Side, load}
+use Rattle.fair_rates.specs.Filling.States.{at_level, AllRise, AllFrozen, IsWithinSlack, HaveNoMore, KeepsAccount}
 use Rattle.fair_rates.proofs.Filling.Frozen.{none_or_some, some_is, at_some, at_none, at_any}
-use Rattle.fair_rates.proofs.Filling.Sums.{sum_by_same}
+use Rattle.fair_rates.proofs.Lists.Sums.{sum_by_same}
 
 -- ---- of a share
 
@@ -85,7 +85,7 @@ sum_even f level (j ∷ users) all =
 
 module _ (side : Side) (scale : ℕ) (frozen : ℕ → Option ℕ) (slack : ℕ) (rising : List ℕ) (account : KeepsAccount side scale frozen slack rising) (level : ℕ) where
   -- where its rising users stand at a level within the share, the side carries no more than its cap
-  pub has_room : 0 < length rising → IsWithin level slack rising → HaveNoMore frozen slack rising → load (at_level frozen level) side ≤ side.cap * scale
+  pub has_room : 0 < length rising → IsWithinSlack level slack rising → HaveNoMore frozen slack rising → load (at_level frozen level) side ≤ side.cap * scale
   has_room some within no_more =
       let each : All (λ j. at_level frozen level j * length rising ≤ slack) rising = All-weaker (λ j. at_level frozen 0 j * length rising ≤ slack)
       (λ j. at_level frozen level j * length rising ≤ slack)

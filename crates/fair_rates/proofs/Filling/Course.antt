@@ -4,16 +4,16 @@ use Rattle.std.specs.Prelude.{unwrap_or}
 use Rattle.std.specs.declared.cmp.Reverse.{Reverse}
 use Rattle.std.proofs.lemmas.List.Elements.{All-head, All-tail, All-append, All-contains, All-weaker, Contains-append_right}
 use Rattle.std.proofs.lemmas.List.Sorted.{All-permutation, Contains-permutation, IsPermutation-sym}
-use Rattle.fair_rates.specs.Fair.{Side, load}
-use Rattle.fair_rates.specs.Filling.{at_level, AllRise, AllFrozen, IsWithin, HaveNoMore, KeepsAccount, IsOpen, IsCovered, IsQueue, AreAbove}
+use Rattle.fair_rates.specs.Fairness.Fair.{Side, load}
+use Rattle.fair_rates.specs.Filling.States.{at_level, AllRise, AllFrozen, IsWithinSlack, HaveNoMore, KeepsAccount, IsOpen, IsCovered, IsQueue, AreAbove}
 use Rattle.fair_rates.specs.declared.bandwidth.filling.open.OpenSide.{OpenSide}
-use Rattle.fair_rates.proofs.Fairness.Sums.{All-from_contains}
+use Rattle.fair_rates.proofs.Lists.SumOrder.{All-from_contains}
 use Rattle.fair_rates.proofs.Filling.Account.{has_room, is_full}
 use Rattle.fair_rates.proofs.Filling.Frozen.{some_value, some_is, at_some, at_any}
 use Rattle.fair_rates.proofs.Filling.Queue.{first_or_later}
 use Rattle.fair_rates.proofs.Filling.Rounds.{next}
 use Rattle.fair_rates.proofs.Filling.States.{IsFilledTo}
-use Rattle.fair_rates.proofs.Filling.Sums.{sum_by_same}
+use Rattle.fair_rates.proofs.Lists.Sums.{sum_by_same}
 
 -- each of these users is frozen at the level now, and nothing else changes
 pub record Freezes (users : List ℕ) (before after : ℕ → Option ℕ) (level : ℕ) : Type 0 where
@@ -83,7 +83,7 @@ module _ (sides : List Side) (scale : ℕ) (frozen after : ℕ → Option ℕ) (
   pub no_more_on : All (λ o. HaveNoMore after o.0.slack o.0.rising.items) opens
   no_more_on = All-from_contains (λ (o : Reverse OpenSide). HaveNoMore after o.0.slack o.0.rising.items) opens (λ o listed.
       let was = All-contains (λ (o : Reverse OpenSide). HaveNoMore frozen o.0.slack o.0.rising.items) opens o no_more listed in
-      let fits = All-contains (λ (o : Reverse OpenSide). IsWithin level o.0.slack o.0.rising.items) opens o within listed in
+      let fits = All-contains (λ (o : Reverse OpenSide). IsWithinSlack level o.0.slack o.0.rising.items) opens o within listed in
       let n : ℕ = length o.0.rising.items in
       All-weaker (λ j. at_level frozen 0 j * n ≤ o.0.slack) (λ j. at_level after 0 j * n ≤ o.0.slack) (λ j le. elim (freezes.others j) [
         | inl used ↦
@@ -113,7 +113,7 @@ module _ (sides : List Side) (scale : ℕ) (frozen after : ℕ → Option ℕ) (
           omega (arith, is_full side scale frozen x.0.slack x.0.rising.items here level rise share)
       | inr later ↦
           has_room side scale frozen o.0.slack o.0.rising.items account level (some_each o)
-          (All-contains (λ (o : Reverse OpenSide). IsWithin level o.0.slack o.0.rising.items) opens o within later)
+          (All-contains (λ (o : Reverse OpenSide). IsWithinSlack level o.0.slack o.0.rising.items) opens o within later)
           (All-contains (λ (o : Reverse OpenSide). HaveNoMore frozen o.0.slack o.0.rising.items) opens o no_more later)
     ]
 

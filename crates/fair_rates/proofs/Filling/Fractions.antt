@@ -5,12 +5,12 @@ use Rattle.std.proofs.Math.Nat.{div-mul_cancel, mul-pos, dvd-mul_right}
 use Rattle.std.proofs.lemmas.List.{take_more}
 use Rattle.std.proofs.lemmas.List.Elements.{All-head, All-tail}
 use Rattle.std.proofs.lemmas.Nat.Gcd.{dvd_refl}
-use Rattle.fair_rates.specs.Amount.{gcd, parts_over, reduced}
-use Rattle.fair_rates.specs.FairParts.{product}
-use Rattle.fair_rates.specs.Fits.{ReducedFits}
-use Rattle.fair_rates.specs.Fraction.{IsReduced}
-use Rattle.fair_rates.specs.Laws.Gcd.{gcd-IsGcd, gcd-pos, gcd-mod}
-use Rattle.fair_rates.specs.Laws.LowestTerms.{coprime_parts, IsReduced-part, IsReduced-mul, IsReduced-swap, reduced_same, reduced_lowest}
+use Rattle.fair_rates.specs.Fairness.Exists.{product}
+use Rattle.fair_rates.specs.Numbers.Amount.{gcd, parts_over, reduced}
+use Rattle.fair_rates.specs.Numbers.Fits.{ReducedFits}
+use Rattle.fair_rates.specs.Numbers.Fraction.{IsReduced}
+use Rattle.fair_rates.specs.Numbers.Gcd.{gcd-IsGcd, gcd-pos, gcd-mod}
+use Rattle.fair_rates.specs.Numbers.LowestTerms.{coprime_parts, IsReduced-part, IsReduced-mul, IsReduced-swap, reduced_same, reduced_lowest}
 use Rattle.fair_rates.proofs.Filling.Share.{quotient_positive}
 
 -- ---- products

@@ -2,7 +2,7 @@
 use Rattle.std.proofs.Common.{◌≡◌, ℕ, ◌⊎◌, inl, inr, Option, Some, None, IsSome, refl, sym, ap, subst, ◌∙◌}
 use Rattle.std.specs.Option.{ok_or}
 use Rattle.std.specs.Prelude.{OnOk, OnSome, Result, Ok, Err, IfErr, IsErrAnd, unwrap_or, IfSome, MatchOption}
-use Rattle.fair_rates.specs.Filling.{at_level}
+use Rattle.fair_rates.specs.Filling.States.{at_level}
 use Rattle.fair_rates.specs.declared.error.Error.{Error}
 
 pub none_or_some : {X : Type 0} (o : Option X) → (o ≡ None) ⊎ ((x : X) × (o ≡ Some x))

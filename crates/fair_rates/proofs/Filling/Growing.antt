@@ -4,12 +4,12 @@ use Rattle.std.specs.Prelude.{IsPermutation, option_map, unwrap_or}
 use Rattle.std.specs.declared.cmp.Reverse.{Reverse}
 use Rattle.std.proofs.lemmas.List.Elements.{All-cons, All-push, All-weaker, All-contains, All-contains_itself, Contains-append_left, Contains-push}
 use Rattle.std.proofs.lemmas.List.Sorted.{All-permutation, Contains-permutation}
-use Rattle.fair_rates.specs.Fair.{Side, load}
-use Rattle.fair_rates.specs.Filling.{at_level, AllRise, HaveNoMore, KeepsAccount, IsOpen, IsCovered, IsQueue, IsGrown, AreGrown}
+use Rattle.fair_rates.specs.Fairness.Fair.{Side, load}
+use Rattle.fair_rates.specs.Filling.States.{at_level, AllRise, HaveNoMore, KeepsAccount, IsOpen, IsCovered, IsQueue, IsGrown, AreGrown}
 use Rattle.fair_rates.specs.declared.bandwidth.filling.open.OpenSide.{OpenSide}
-use Rattle.fair_rates.proofs.Fairness.Sums.{sum_by-scaled}
+use Rattle.fair_rates.proofs.Lists.SumOrder.{sum_by-scaled}
 use Rattle.fair_rates.proofs.Filling.States.{IsFilledTo}
-use Rattle.fair_rates.proofs.Filling.Sums.{sum_by_same}
+use Rattle.fair_rates.proofs.Lists.Sums.{sum_by_same}
 use Rattle.fair_rates.proofs.Filling.Queue.{is_first, is_later}
 
 -- ---- one open side after another

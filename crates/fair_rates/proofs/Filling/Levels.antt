@@ -7,8 +7,8 @@ use Rattle.std.proofs.lemmas.Bool.{cases_eq, cases_lt}
 use Rattle.std.proofs.lemmas.List.{take_more, get_or-map, get_or_default, get_or_past, get_or_append_left, length-map}
 use Rattle.std.proofs.lemmas.List.Elements.{All-push, All-weaker, All-contains, Contains-push, Contains-append_left}
 use Rattle.std.proofs.lemmas.List.Quantifiers.{all_pairs_push}
-use Rattle.fair_rates.specs.FairParts.{level_at}
-use Rattle.fair_rates.specs.Filling.{frozen_at, top, AreInside, IsRaised, AreAtTop}
+use Rattle.fair_rates.specs.Filling.FairParts.{level_at}
+use Rattle.fair_rates.specs.Filling.States.{frozen_at, top, AreInside, IsRaised, AreAtTop}
 use Rattle.fair_rates.proofs.Filling.Course.{Freezes}
 use Rattle.fair_rates.proofs.Filling.Frozen.{some_of_if}
 use Rattle.fair_rates.proofs.Filling.Growing.{AreScaled}

@@ -11,13 +11,13 @@ use Rattle.std.proofs.lemmas.Bool.{cases_lt}
 use Rattle.std.proofs.lemmas.List.{map_push}
 use Rattle.std.proofs.lemmas.List.Elements.{All-nil, All-head, All-tail, All-cons, All-push, All-from_recursion, All-weaker, All-contains, Contains-append_left, Contains-append_right, Contains-append_cases, Contains-push, Contains-push_cases}
 use Rattle.std.proofs.lemmas.List.Sorted.{All-permutation, Contains-permutation}
-use Rattle.fair_rates.specs.Code.{side_of}
-use Rattle.fair_rates.specs.Fair.{Side}
-use Rattle.fair_rates.specs.Filling.{AllFrozen, KeepsAccount, IsOpen, IsCovered, IsQueue, IsSound, HaveNoMore, AreAbove, IsWithin, AllFilled, AreOpened, queue_cmp}
+use Rattle.fair_rates.specs.Sides.SideOf.{side_of}
+use Rattle.fair_rates.specs.Fairness.Fair.{Side}
+use Rattle.fair_rates.specs.Filling.States.{AllFrozen, KeepsAccount, IsOpen, IsCovered, IsQueue, IsShareQueue, HaveNoMore, AreAbove, IsWithinSlack, AllFilled, AreOpened, queue_cmp}
 use Rattle.fair_rates.specs.declared.bandwidth.filling.open.OpenSide.{OpenSide}
 use Rattle.fair_rates.specs.declared.bandwidth.sides.Side as declared
 use Rattle.fair_rates.proofs.Filling.Account.{account_start}
-use Rattle.fair_rates.proofs.Fairness.Sums.{All-from_contains}
+use Rattle.fair_rates.proofs.Lists.SumOrder.{All-from_contains}
 
 -- ---- lists
 
@@ -130,7 +130,7 @@ module _ (scale : ℕ) (frozen : ℕ → Option ℕ) where
 -- ---- what the code sees
 
 module _ (flows : ℕ) (frozen : ℕ → Option ℕ) where
-  pub sound_popped : (xs rest : List (Reverse OpenSide)) (x : Reverse OpenSide) → IsPermutation xs (x ∷ rest) → IsHeap queue_cmp rest → IsSound flows frozen xs → IsSound flows frozen rest
+  pub sound_popped : (xs rest : List (Reverse OpenSide)) (x : Reverse OpenSide) → IsPermutation xs (x ∷ rest) → IsHeap queue_cmp rest → IsShareQueue flows frozen xs → IsShareQueue flows frozen rest
   sound_popped xs rest x perm order sound = record {
     users = All-tail (λ o. All (λ flow. flow < flows) o.0.rising.items) x rest (All-permutation (λ o. All (λ flow. flow < flows) o.0.rising.items) xs (x ∷ rest) perm sound.users);
     no_more = All-tail (λ o. HaveNoMore frozen o.0.slack o.0.rising.items) x rest (All-permutation (λ o. HaveNoMore frozen o.0.slack o.0.rising.items) xs (x ∷ rest) perm sound.no_more);
@@ -138,7 +138,7 @@ module _ (flows : ℕ) (frozen : ℕ → Option ℕ) where
   }
 
   pub sound_pushed : (rest xs : List (Reverse OpenSide)) (x : Reverse OpenSide) → IsPermutation (x ∷ rest) xs → IsHeap queue_cmp xs → All (λ flow. flow < flows) x.0.rising.items
-      → HaveNoMore frozen x.0.slack x.0.rising.items → IsSound flows frozen rest → IsSound flows frozen xs
+      → HaveNoMore frozen x.0.slack x.0.rising.items → IsShareQueue flows frozen rest → IsShareQueue flows frozen xs
   sound_pushed rest xs x perm order users no_more sound = record {
     users = All-permutation (λ o. All (λ flow. flow < flows) o.0.rising.items) (x ∷ rest) xs perm (All-cons (λ o. All (λ flow. flow < flows) o.0.rising.items) x rest users sound.users);
     no_more = All-permutation (λ o. HaveNoMore frozen o.0.slack o.0.rising.items) (x ∷ rest) xs perm
@@ -148,9 +148,9 @@ module _ (flows : ℕ) (frozen : ℕ → Option ℕ) where
 
 -- what is within the share of the first and of the rest
 pub above_counted : (parts : ℕ) (xs rest : List (Reverse OpenSide)) (x new : Reverse OpenSide) → IsPermutation xs (x ∷ rest)
-    → (IsWithin parts x.0.slack x.0.rising.items → IsWithin parts new.0.slack new.0.rising.items) → AreAbove parts xs → AreAbove parts (new ∷ rest)
+    → (IsWithinSlack parts x.0.slack x.0.rising.items → IsWithinSlack parts new.0.slack new.0.rising.items) → AreAbove parts xs → AreAbove parts (new ∷ rest)
 above_counted parts xs rest x new perm no_lower above =
-    let P : Reverse OpenSide → Type 0 = λ o. IsWithin parts o.0.slack o.0.rising.items in
+    let P : Reverse OpenSide → Type 0 = λ o. IsWithinSlack parts o.0.slack o.0.rising.items in
     let all : All P (x ∷ rest) = All-permutation P xs (x ∷ rest) perm above in
     All-cons P new rest (no_lower (All-head P x rest all)) (All-tail P x rest all)
 

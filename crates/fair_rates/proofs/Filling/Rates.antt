@@ -3,15 +3,15 @@ use Rattle.std.proofs.Common.{◌≡◌, ◌≢◌, ℕ, ◌<◌, inl, inr, List
 use Rattle.std.proofs.Math.Nat.{eq_of_mul-eq-mul_right}
 use Rattle.std.proofs.lemmas.Bool.{cases_eq, cases_lt}
 use Rattle.std.proofs.lemmas.List.{get_or_push, get_or_past, get_or_append_left}
-use Rattle.fair_rates.specs.Amount.{parts_over}
-use Rattle.fair_rates.specs.Fair.{Side}
-use Rattle.fair_rates.specs.FairParts.{level_at, parts_of_level, flow_parts, IsRateAt, AreRatesAt, HasLargeLevel}
-use Rattle.fair_rates.specs.Filling.{AreFilled}
-use Rattle.fair_rates.specs.Fits.{ReducedFits}
-use Rattle.fair_rates.specs.Laws.LowestTerms.{whole_IsReduced}
-use Rattle.fair_rates.specs.Ratio.{IsWorth}
-use Rattle.fair_rates.specs.Rates.{IsRateOf, AreFairRates, HasDifferentRates}
-use Rattle.fair_rates.specs.TooLarge.{HasLargeRate}
+use Rattle.fair_rates.specs.Numbers.Amount.{parts_over}
+use Rattle.fair_rates.specs.Fairness.Fair.{Side}
+use Rattle.fair_rates.specs.Filling.FairParts.{level_at, parts_of_level, flow_parts, IsRateAt, AreRatesAt, HasLargeLevel}
+use Rattle.fair_rates.specs.Filling.States.{AreFilled}
+use Rattle.fair_rates.specs.Numbers.Fits.{ReducedFits}
+use Rattle.fair_rates.specs.Numbers.LowestTerms.{whole_IsReduced}
+use Rattle.fair_rates.specs.Numbers.Ratio.{IsWorth}
+use Rattle.fair_rates.specs.Fairness.Rates.{IsRateOf, AreFairRates, HasDifferentRates}
+use Rattle.fair_rates.specs.Refusals.TooLarge.{HasLargeRate}
 use Rattle.fair_rates.specs.declared.bandwidth.Rate.{Rate}
 use Rattle.fair_rates.specs.declared.bandwidth.Rate.TheVariants.{Finite}
 use Rattle.fair_rates.specs.declared.bandwidth.parts.FairParts.{FairParts}

@@ -7,9 +7,9 @@ use Rattle.std.proofs.Math.Nat.{mul-pos}
 use Rattle.std.proofs.lemmas.Bool.{cases_lt}
 use Rattle.std.proofs.lemmas.List.{get_or-replicate, length-map, length-replicate, get_or_past}
 use Rattle.std.proofs.lemmas.List.Elements.{All-head, All-weaker, All-contains, All-replicate}
-use Rattle.fair_rates.specs.Fair.{Side, IsLimited, IsFair}
-use Rattle.fair_rates.specs.FairParts.{level_at, parts_of_level, flow_parts}
-use Rattle.fair_rates.specs.Filling.{frozen_at, at_level, top, AllRise, AllFrozen, AreInside, IsRaised, AreAtTop, IsWithin, HaveNoMore, IsQueue, IsSound, AreAbove, IsLeast, AllFilled, AreGrown, queue_cmp}
+use Rattle.fair_rates.specs.Fairness.Fair.{Side, IsLimited, IsFair}
+use Rattle.fair_rates.specs.Filling.FairParts.{level_at, parts_of_level, flow_parts}
+use Rattle.fair_rates.specs.Filling.States.{frozen_at, at_level, top, AllRise, AllFrozen, AreInside, IsRaised, AreAtTop, IsWithinSlack, HaveNoMore, IsQueue, IsShareQueue, AreAbove, IsLeast, AllFilled, AreGrown, queue_cmp}
 use Rattle.fair_rates.specs.declared.bandwidth.filling.open.OpenSide.{OpenSide}
 use Rattle.fair_rates.proofs.Filling.Account.{risers_have_no_more}
 use Rattle.fair_rates.proofs.Filling.Course.{Freezes, queue_on, no_more_on, filled_on, share_within}
@@ -31,7 +31,7 @@ pub record IsCourse (sides : List Side) (scale : ℕ) (levels : List ℕ) (level
   pub reached : AreReached levels level_of
   pub filled : IsFilledTo sides scale (frozen_at levels level_of) (top levels)
   pub queue : IsQueue sides scale (frozen_at levels level_of) opens
-  pub sound : IsSound (length level_of) (frozen_at levels level_of) opens
+  pub sound : IsShareQueue (length level_of) (frozen_at levels level_of) opens
   pub above : AreAbove (top levels) opens
 
 -- ---- before the first round
@@ -67,7 +67,7 @@ course_none sides scale count opens some queue users order =
 -- the side with the least share is taken out of the queue
 pub record IsTaken (sides : List Side) (scale : ℕ) (levels : List ℕ) (level_of : List (Option ℕ)) (last : ℕ) (x : OpenSide) (rest : List (Reverse OpenSide)) : Type 0 where
   pub users : All (λ flow. flow < length level_of) x.rising.items
-  pub sound : IsSound (length level_of) (frozen_at levels level_of) rest
+  pub sound : IsShareQueue (length level_of) (frozen_at levels level_of) rest
   pub least : IsLeast (frozen_at levels level_of) x rest
   pub queue : IsQueue sides scale (frozen_at levels level_of) (record { 0 = x } ∷ rest)
   pub above : AreAbove last (record { 0 = x } ∷ rest)
@@ -115,7 +115,7 @@ module _ (sides : List Side) (scale factor : ℕ) (levels after : List ℕ) (lev
 
   no_lower : top scaled_levels ≤ level
   no_lower =
-      let here : top levels * length x.rising.items ≤ x.slack = All-head (λ (o : Reverse OpenSide). IsWithin (top levels) o.0.slack o.0.rising.items) (record { 0 = x }) rest taken.above in
+      let here : top levels * length x.rising.items ≤ x.slack = All-head (λ (o : Reverse OpenSide). IsWithinSlack (top levels) o.0.slack o.0.rising.items) (record { 0 = x }) rest taken.above in
       le_of_mul-le-mul_right {k = length x.rising.items} (omega (arith, share, mul-le-mul_right factor here, ap (λ n. n * length x.rising.items) (top_scaled factor levels))) x.some
 
   scaled_inside : AreInside scaled_levels level_of

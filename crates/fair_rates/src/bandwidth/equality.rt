@@ -1,6 +1,6 @@
 //! When two rates are equal.
 ghost use Rattle.std.specs.Prelude.{◌↔◌, IsTrue};
-ghost use Rattle.fair_rates.specs.RateValue.{HaveOneValue};
+ghost use Rattle.fair_rates.specs.Numbers.OneValue.{HaveOneValue};
 ghost use Rattle.fair_rates.specs.declared.bandwidth.Rate.{Rate as AnyRate};
 
 use crate::bandwidth::Rate;

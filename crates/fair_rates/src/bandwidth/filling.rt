@@ -10,10 +10,11 @@
 ghost use Rattle.std.specs.Prelude.{◌≡◌, ◌<◌, ◌≤◌, ℕ, IfOk, IfSome, OnSome, MatchOption, Option, All, List};
 ghost use Rattle.std.specs.Prelude.{◌∷◌, map, length};
 ghost use Rattle.std.specs.BinaryHeap.{heap_items, heap_len, IsHeap};
-ghost use Rattle.fair_rates.specs.Code.{side_of};
-ghost use Rattle.fair_rates.specs.Fair.{Side as WholeSide};
-ghost use Rattle.fair_rates.specs.Filling.{frozen_at, AreInside, AreAbove, IsQueue, IsSound, IsLeast, AllFilled};
-ghost use Rattle.fair_rates.specs.Filling.{AreOpened, AreGrown, AreFilled, queue_cmp};
+ghost use Rattle.fair_rates.specs.Sides.SideOf.{side_of};
+ghost use Rattle.fair_rates.specs.Fairness.Fair.{Side as WholeSide};
+ghost use Rattle.fair_rates.specs.Filling.States.{frozen_at, AreInside, AreAbove, IsQueue, IsShareQueue, IsLeast};
+ghost use Rattle.fair_rates.specs.Filling.States.{AllFilled};
+ghost use Rattle.fair_rates.specs.Filling.States.{AreOpened, AreGrown, AreFilled, queue_cmp};
 
 mod open;
 mod share;
@@ -56,9 +57,9 @@ fn next_side(
     level_of: &[Option<usize>],
 ) -> Result<Option<OpenSide>, AllocError>
     requires inside { AreInside levels.now level_of.now }
-    requires sound { IsSound (length level_of.now) (frozen_at levels.now level_of.now) (heap_items queue.old) }
+    requires sound { IsShareQueue (length level_of.now) (frozen_at levels.now level_of.now) (heap_items queue.old) }
     ensures sound { IfOk result (λ next. IfSome next
-        (λ side. IsSound (length level_of.now) (frozen_at levels.now level_of.now) (heap_items queue.new))) }
+        (λ side. IsShareQueue (length level_of.now) (frozen_at levels.now level_of.now) (heap_items queue.new))) }
     ensures users { IfOk result (λ next. IfSome next
         (λ side. All (λ flow. flow < length level_of.now) side.rising.items)) }
     ensures least { IfOk result (λ next. IfSome next

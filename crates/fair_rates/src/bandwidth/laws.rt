@@ -6,18 +6,19 @@
 //! one is about `allocate` and the other about `allocate_linked`.
 ghost use Rattle.std.specs.Prelude.{ℕ, ◌≡◌, ◌∷◌, []};
 ghost use Rattle.std.specs.Fn.{CalledAt, CalledAtTwo};
-ghost use Rattle.fair_rates.specs.AllocationLaws.{AllocatesUnderCaps};
-ghost use Rattle.fair_rates.specs.Answers.{NoLink};
-ghost use Rattle.fair_rates.specs.FairExample.{HalfExists, HalvesAreFair, LessIsUnfair, MoreIsUnfair};
-ghost use Rattle.fair_rates.specs.FairExample.{NoLimitIsUnfair, LimitIsUnfair};
-ghost use Rattle.fair_rates.specs.FairExists.{IsLeastMultiple, AreLeastMultiplesFrom, FairAmountsExist};
-ghost use Rattle.fair_rates.specs.FairExists.{FairAmountsExistUnderCaps, FairRatesAreWhole};
-ghost use Rattle.fair_rates.specs.FairLaws.{FairIsMaxMin, FairRatesAreMaxMin, OneAllocation};
-ghost use Rattle.fair_rates.specs.FairLaws.{FairRatesAreZeroWhereClosed, FairnessIsOfTheSet};
-ghost use Rattle.fair_rates.specs.FairPart.{FlowsApartAreFair};
-ghost use Rattle.fair_rates.specs.PeerCaps.{AnswersAreThoseOfTheCaps, SidesAreOfTheCaps, UnlimitedWhereUncapped};
-ghost use Rattle.fair_rates.specs.PeerCaps.{UnlimitedByIdWhereUncapped, OrderDoesNotMatter, PartIsFair};
-ghost use Rattle.fair_rates.specs.PeerCaps.{OthersDoNotMatter, KeepsToItsCap};
+ghost use Rattle.fair_rates.specs.Fairness.AllocationUnderCaps.{AllocatesUnderCaps};
+ghost use Rattle.fair_rates.specs.Sides.Answers.{NoLink};
+ghost use Rattle.fair_rates.specs.Fairness.Example.{HalfExists, HalvesAreFair, LessIsUnfair, MoreIsUnfair};
+ghost use Rattle.fair_rates.specs.Fairness.Example.{NoLimitIsUnfair, LimitIsUnfair};
+ghost use Rattle.fair_rates.specs.Fairness.Exists.{IsLeastMultiple, AreLeastMultiplesFrom, FairAmountsExist};
+ghost use Rattle.fair_rates.specs.Fairness.Exists.{FairAmountsExistUnderCaps, FairRatesAreWhole};
+ghost use Rattle.fair_rates.specs.Fairness.Laws.{FairIsMaxMin, FairRatesAreMaxMin, OneAllocation};
+ghost use Rattle.fair_rates.specs.Fairness.Laws.{FairRatesAreZeroWhereClosed, FairnessIsOfTheSet};
+ghost use Rattle.fair_rates.specs.Fairness.Part.{FlowsApartAreFair};
+ghost use Rattle.fair_rates.specs.Fairness.UnderCaps.{AnswersAreThoseOfTheCaps, SidesAreOfTheCaps};
+ghost use Rattle.fair_rates.specs.Fairness.UnderCaps.{UnlimitedWhereUncapped};
+ghost use Rattle.fair_rates.specs.Fairness.UnderCaps.{UnlimitedByIdWhereUncapped, OrderDoesNotMatter, PartIsFair};
+ghost use Rattle.fair_rates.specs.Fairness.UnderCaps.{OthersDoNotMatter, KeepsToItsCap};
 
 use crate::peer::Peer;
 

@@ -1,11 +1,12 @@
 //! Fair rates as whole parts.
 ghost use Rattle.std.specs.Prelude.{◌≡◌, ℕ, ◌*◌, ◌<◌, ◌⊎◌, IfOk, IfErr, OnOk, All, Contains, Some, None, [], map};
 ghost use Rattle.std.specs.Prelude.{length, replicate};
-ghost use Rattle.fair_rates.specs.Amount.{parts_over};
-ghost use Rattle.fair_rates.specs.FairParts.{product, level_at, AreRatesAt, HasLargeLevel, AreLevelRates};
-ghost use Rattle.fair_rates.specs.Filling.{AreInside, IsRaised, AreAtTop};
-ghost use Rattle.fair_rates.specs.Fits.{ReducedFits};
-ghost use Rattle.fair_rates.specs.Ratio.{IsWorth};
+ghost use Rattle.fair_rates.specs.Numbers.Amount.{parts_over};
+ghost use Rattle.fair_rates.specs.Fairness.Exists.{product};
+ghost use Rattle.fair_rates.specs.Filling.FairParts.{level_at, AreRatesAt, HasLargeLevel, AreLevelRates};
+ghost use Rattle.fair_rates.specs.Filling.States.{AreInside, IsRaised, AreAtTop};
+ghost use Rattle.fair_rates.specs.Numbers.Fits.{ReducedFits};
+ghost use Rattle.fair_rates.specs.Numbers.Ratio.{IsWorth};
 
 use crate::bandwidth::Rate;
 use crate::error::Error;

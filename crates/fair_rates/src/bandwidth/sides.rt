@@ -1,11 +1,11 @@
 //! What limits flows: the sides that the caps make.
 ghost use Rattle.std.specs.Prelude.{◌≡◌, OnOk, ◌<◌, List, Some, IfOk, IfErr, map, All, AllPairs, length};
 ghost use Rattle.std.specs.Fn.{CalledAt, TakesAt, CalledAtTwo, TakesAtTwo};
-ghost use Rattle.fair_rates.specs.Answers.{Answered, AnswerInOrder, CallableOnEach, CallableOnEachPair, origins};
-ghost use Rattle.fair_rates.specs.Answers.{recipients, pairs};
-ghost use Rattle.fair_rates.specs.Sides.{sides_of};
-ghost use Rattle.fair_rates.specs.Code.{side_of};
-ghost use Rattle.fair_rates.specs.Registering.{FindsSides, Registers};
+ghost use Rattle.fair_rates.specs.Sides.Answers.{Answered, AnswerInOrder, CallableOnEach, CallableOnEachPair, origins};
+ghost use Rattle.fair_rates.specs.Sides.Answers.{recipients, pairs};
+ghost use Rattle.fair_rates.specs.Sides.Subjects.{sides_of};
+ghost use Rattle.fair_rates.specs.Sides.SideOf.{side_of};
+ghost use Rattle.fair_rates.specs.Sides.Registry.{FindsSides, Registers};
 
 use crate::bandwidth::Flow;
 use crate::error::Error;

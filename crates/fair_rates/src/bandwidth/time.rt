@@ -1,10 +1,10 @@
 //! How long what is left takes at a rate, and what is left after a time.
 ghost use Rattle.std.specs.Prelude.{◌≡◌, ℕ, ◌+◌, ◌<◌, ◌≤◌, ◌↔◌, IsSome, IfSome, IsOk, IfOk, IfErr};
-ghost use Rattle.fair_rates.specs.Amount.{Amount, drained, IsLeastTime};
-ghost use Rattle.fair_rates.specs.Ratio.{amount_of};
+ghost use Rattle.fair_rates.specs.Numbers.Amount.{Amount, drained, IsLeastTime};
+ghost use Rattle.fair_rates.specs.Numbers.Ratio.{amount_of};
 ghost use Rattle.fair_rates.specs.declared.bandwidth.Rate.{Rate as AnyRate};
-ghost use Rattle.fair_rates.specs.Time.{TimeFits, SecondsFit, IsDuration};
-ghost use Rattle.fair_rates.specs.Time.{TransferFits, TakenFits, left_after};
+ghost use Rattle.fair_rates.specs.Numbers.Draining.{TimeFits, SecondsFit, IsDuration};
+ghost use Rattle.fair_rates.specs.Numbers.Draining.{TransferFits, TakenFits, left_after};
 
 use crate::bandwidth::Rate;
 use crate::error::Error;

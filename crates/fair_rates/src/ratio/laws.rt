@@ -1,8 +1,8 @@
 //! Laws of fractions. The functions do nothing: their contracts are the laws.
 ghost use Rattle.std.specs.Prelude.{◌≡◌, ◌<◌, ◌↔◌, ◌++◌, IsTrue};
 ghost use Rattle.std.specs.Hash as fed;
-ghost use Rattle.fair_rates.specs.Amount.{Amount, AreEqual};
-ghost use Rattle.fair_rates.specs.Ratio.{amount_of, amount_cmp, IsWorth};
+ghost use Rattle.fair_rates.specs.Numbers.Amount.{Amount, AreEqual};
+ghost use Rattle.fair_rates.specs.Numbers.Ratio.{amount_of, amount_cmp, IsWorth};
 ghost use Rattle.fair_rates.specs.declared.ratio.Ratio.{Ratio as Fraction};
 
 use super::Ratio;

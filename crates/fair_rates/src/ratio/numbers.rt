@@ -1,7 +1,7 @@
 //! Whole numbers of 128 bits, handled in 64 bits where they fit: that is many times faster.
 ghost use Rattle.std.specs.Prelude.{◌≡◌, ◌*◌, ◌/◌, ◌<◌};
-ghost use Rattle.fair_rates.specs.Amount.{gcd as greatest_divisor};
-ghost use Rattle.fair_rates.specs.Fraction.{fraction_cmp};
+ghost use Rattle.fair_rates.specs.Numbers.Amount.{gcd as greatest_divisor};
+ghost use Rattle.fair_rates.specs.Numbers.Fraction.{fraction_cmp};
 
 use std::cmp::Ordering;
 

@@ -3,26 +3,27 @@ ghost use Rattle.std.specs.Prelude.{◌≡◌, ◌≢◌, ◌*◌, ℕ, All, ◌
 ghost use Rattle.std.specs.Prelude.{length, slice_index_or, IfOk, IfErr, OnOk};
 ghost use Rattle.std.specs.List.{filter, list_all};
 ghost use Rattle.fair_rates.specs.declared.bandwidth.Flow.{Flow as AnyFlow};
-ghost use Rattle.link_simulation.specs.WorldPlanned.{Paced, paced_flows, drained_to, IsLeastMoment, SomeSpentAt};
-ghost use Rattle.link_simulation.specs.WorldPlanned.{is_spent};
-ghost use Rattle.link_scheduler.specs.AtRest.{of_pairs};
-ghost use Rattle.link_scheduler.specs.Idle.{IsIndexOf};
-ghost use Rattle.link_scheduler.specs.InFlight.{in_flight};
-ghost use Rattle.link_scheduler.specs.Message.{message_of};
-ghost use Rattle.link_scheduler.specs.Working.{caps_of, messages};
-ghost use Rattle.link_simulation.specs.WorldRates.{is_unlimited as is_free};
-ghost use Rattle.link_simulation.specs.WorldEvents.{Accounts};
+ghost use Rattle.link_simulation.specs.Rule.Planned.{RatedFlight, rated_messages, drained_to, IsLeastMoment};
+ghost use Rattle.link_simulation.specs.Rule.Planned.{SomeSpentAt};
+ghost use Rattle.link_simulation.specs.Rule.Planned.{is_spent};
+ghost use Rattle.link_scheduler.specs.Idle.AtRest.{of_pairs};
+ghost use Rattle.link_scheduler.specs.Idle.Index.{IsIndexOf};
+ghost use Rattle.link_scheduler.specs.Flights.InFlight.{in_flight};
+ghost use Rattle.link_scheduler.specs.Pairs.Messages.{message_of};
+ghost use Rattle.link_scheduler.specs.Calls.AsPlanned.{caps_of, messages};
+ghost use Rattle.link_simulation.specs.Simulation.Rates.{is_unlimited as is_free};
+ghost use Rattle.link_simulation.specs.Rule.Events.{Accounts};
 
 use super::drain::drain_all;
 use super::flights::Flights;
 use super::idle::IdlePairs;
-use super::look::rest_all;
+use super::readiness::rest_all;
 use super::message::Message;
 use super::pairs::Pairs;
 use super::peers::Peers;
 use super::rate::rerate_all;
 use super::waiting::Waiting;
-use super::working::Working;
+use super::ledger::Ledger;
 use fair_rates::bandwidth::{FairParts, Flow, fair_parts};
 use fair_rates::error::Error;
 use fair_rates::peer::Peer;
@@ -41,8 +42,8 @@ fn is_unlimited<P: Peer>(message: &Message<P>, peers: &Peers<P>, pairs: &Pairs<P
 }
 
 impl<P: Peer> Flights<P> {
-    ghost use Rattle.link_scheduler.specs.Flights.{rated_by};
-    ghost use Rattle.fair_rates.specs.FairParts.{product};
+    ghost use Rattle.link_scheduler.specs.Flights.RatedFlights.{rated_by};
+    ghost use Rattle.fair_rates.specs.Fairness.Exists.{product};
 
     /// All drain to that moment.
     fn drain(&mut self, now: u64)
@@ -55,7 +56,7 @@ impl<P: Peer> Flights<P> {
     /// Whether the message at that place is done: nothing is left of it, or it uses no capped side.
     fn is_done(&self, at: usize, peers: &Peers<P>, pairs: &Pairs<P>) -> bool
         requires { at < length self.now.flows.items }
-        ensures { (d : Paced P) → result ≡ is_spent P.cmp (caps_of P.cmp peers.now.entries pairs.now.entries)
+        ensures { (d : RatedFlight P) → result ≡ is_spent P.cmp (caps_of P.cmp peers.now.entries pairs.now.entries)
             (slice_index_or (in_flight self.now) at d) }
     {
         let one = &self.progress[at];
@@ -70,7 +71,7 @@ impl<P: Peer> Flights<P> {
         pairs: &Pairs<P>,
     ) -> Result<VecDeque<Rc<Message<P>>>, Error>
         ensures done { IfOk result (λ done. messages done.items
-            ≡ paced_flows (filter (is_spent P.cmp (caps_of P.cmp peers.now.entries pairs.now.entries))
+            ≡ rated_messages (filter (is_spent P.cmp (caps_of P.cmp peers.now.entries pairs.now.entries))
             (in_flight self.old))) }
         ensures rest { OnOk result (in_flight self.new ≡ filter
             (λ f. not (is_spent P.cmp (caps_of P.cmp peers.now.entries pairs.now.entries) f))
@@ -112,7 +113,7 @@ impl<P: Peer> Flights<P> {
         requires grown { rates.scale ≡ self.old.scale * product rates.growth.items }
         requires scaled { 0 < rates.scale }
         ensures flows { self.new.flows.items ≡ self.old.flows.items }
-        ensures messages { paced_flows (in_flight self.new) ≡ paced_flows (in_flight self.old) }
+        ensures messages { rated_messages (in_flight self.new) ≡ rated_messages (in_flight self.old) }
         ensures sending { OnOk result (in_flight self.new
             ≡ rated_by now rates.scale rates.levels.items rates.level_of.items (in_flight self.old)) }
         ensures finish { IfOk result (IsLeastMoment (λ s. SomeSpentAt (in_flight self.new) s)) }
@@ -137,7 +138,7 @@ fn leave<P: Peer>(
     requires indexed { IsIndexOf P.cmp (of_pairs P.cmp pairs.now.entries waiting.now.messages
         (in_flight flights.old)) idle.old.entries }
     ensures done { IfOk result (λ done. messages done.items
-        ≡ paced_flows (filter (is_spent P.cmp (caps_of P.cmp peers.now.entries pairs.now.entries))
+        ≡ rated_messages (filter (is_spent P.cmp (caps_of P.cmp peers.now.entries pairs.now.entries))
         (in_flight flights.old))) }
     ensures rest { OnOk result (in_flight flights.new ≡ filter
         (λ f. not (is_spent P.cmp (caps_of P.cmp peers.now.entries pairs.now.entries) f)) (in_flight flights.old)) }
@@ -152,8 +153,8 @@ fn leave<P: Peer>(
     Ok(done)
 }
 
-impl<P: Peer> Working<P> {
-    ghost use Rattle.link_scheduler.specs.Working.{planned, AreFairPartsUnder};
+impl<P: Peer> Ledger<P> {
+    ghost use Rattle.link_scheduler.specs.Calls.AsPlanned.{planned, AreFairPartsUnder};
 
     /// All that is in flight drains to that moment. What is done leaves, in order of start, and the
     /// rest gets its fair rates. The finish is planned anew.

@@ -2,8 +2,8 @@
 ghost use Rattle.std.specs.Prelude.{◌≡◌, map, IfOk, IfErr};
 ghost use Rattle.std.specs.List.{AllZip};
 ghost use Rattle.std.specs.declared.cmp.Ordering.TheVariants.{Equal};
-ghost use Rattle.link_simulation.specs.WorldReplies.{SameCompletion};
-ghost use Rattle.link_scheduler.specs.Message.{completed_of, ended_of};
+ghost use Rattle.link_simulation.specs.Simulation.Replies.{SameCompletion};
+ghost use Rattle.link_scheduler.specs.Pairs.Messages.{completed_of, ended_of};
 
 use super::message::Message;
 use bytes::Bytes;

@@ -1,8 +1,8 @@
 //! All that is in flight drains, and counts in smaller units.
 ghost use Rattle.std.specs.Prelude.{◌≡◌, OnOk, IfErr};
 ghost use Rattle.std.specs.List.{AllZip};
-ghost use Rattle.fair_rates.specs.FairParts.{product};
-ghost use Rattle.link_scheduler.specs.Progress.{DrainsTo, GrowsBy, IsSameSent};
+ghost use Rattle.fair_rates.specs.Fairness.Exists.{product};
+ghost use Rattle.link_scheduler.specs.Flights.Progress.{DrainsTo, GrowsBy, IsSameSent};
 
 use super::progress::Progress;
 use fair_rates::error::Error;

@@ -1,6 +1,6 @@
 //! What happens next.
 ghost use Rattle.std.specs.Prelude.{◌≡◌};
-ghost use Rattle.link_simulation.specs.WorldPlanned.{earlier as earliest};
+ghost use Rattle.link_simulation.specs.Rule.Planned.{earlier as earliest};
 
 /// What happens next.
 #[derive(Drop)]
@@ -12,10 +12,10 @@ pub(crate) enum Event {
 }
 
 impl Event {
-    ghost use Rattle.link_scheduler.specs.Events.{moment_of};
+    ghost use Rattle.link_scheduler.specs.Calls.Events.{event_moment};
 
     pub(crate) fn moment(&self) -> u64
-        ensures { result ≡ moment_of self.now }
+        ensures { result ≡ event_moment self.now }
     {
         match self {
             Event::Finish(moment) => *moment,

@@ -1,31 +1,33 @@
 //! The event rule: what calls do, at any moments.
 ghost use Rattle.std.specs.Prelude.{◌≡◌, ◌↔◌, ℕ, ◌+◌, nat_lt, if◌then◌else◌, List, [], ◌∷◌, ◌++◌, map};
 ghost use Rattle.std.specs.Prelude.{true, false, IfOk, IfErr, OnOk, OnErr, IsTrue, ◌&&◌, is_some};
-ghost use Rattle.link_simulation.specs.World.{Completed, goes, meets, last_moment, later_of as latest, is_late};
-ghost use Rattle.link_simulation.specs.World.{completed};
-ghost use Rattle.link_simulation.specs.WorldMessages.{Message as AnyMessage};
-ghost use Rattle.link_simulation.specs.WorldPlanned.{next_of};
-ghost use Rattle.link_simulation.specs.WorldEvents.{Launches, Finishes, Settles, Wakes, Recaps, Enqueues, Advances};
-ghost use Rattle.link_simulation.specs.WorldEvents.{landed, completed_at_once};
-ghost use Rattle.link_simulation.specs.Refusing.{IsRefusedFor};
-ghost use Rattle.link_scheduler.specs.Message.{message_of, ended_of};
-ghost use Rattle.link_scheduler.specs.Pairs.{first_of, arrival_of};
-ghost use Rattle.link_scheduler.specs.Events.{IsDue, Happens};
+ghost use Rattle.link_simulation.specs.Simulation.World.{Completed, goes, meets, last_moment, later_of as latest};
+ghost use Rattle.link_simulation.specs.Simulation.World.{is_late};
+ghost use Rattle.link_simulation.specs.Simulation.World.{completed};
+ghost use Rattle.link_simulation.specs.Simulation.Messages.{Message as AnyMessage};
+ghost use Rattle.link_simulation.specs.Rule.Planned.{next_of};
+ghost use Rattle.link_simulation.specs.Rule.Events.{Launches, Finishes, Settles, Wakes, Rebalances, Enqueues, Advances};
+ghost use Rattle.link_simulation.specs.Rule.Events.{landed, completed_at_once};
+ghost use Rattle.link_simulation.specs.Simulation.RefusalCauses.{IsRefusedFor};
+ghost use Rattle.link_scheduler.specs.Pairs.Messages.{message_of, ended_of};
+ghost use Rattle.link_scheduler.specs.Pairs.Entries.{first_of, arrival_of};
+ghost use Rattle.link_scheduler.specs.Calls.Events.{IsDue, Happens};
 
 use super::completion::Ended;
 use super::event::Event;
-use super::look::{Key, idle_from};
+use super::readiness::{PeerPair, idle_from};
 use super::message::Message;
 use super::pairs::later_of;
-use super::working::Working;
+use super::ledger::Ledger;
 use fair_rates::error::Error;
 use fair_rates::peer::Peer;
 use std::collections::VecDeque;
 use std::rc::Rc;
 
-impl<P: Peer> Working<P> {
-    ghost use Rattle.link_scheduler.specs.Working.{planned, messages, may_launch_first, ready_messages, IsQuiet};
-    ghost use Rattle.link_scheduler.specs.AtRest.{is_sending};
+impl<P: Peer> Ledger<P> {
+    ghost use Rattle.link_scheduler.specs.Calls.AsPlanned.{planned, messages, may_launch_first, ready_messages};
+    ghost use Rattle.link_scheduler.specs.Calls.AsPlanned.{HasNothingDue};
+    ghost use Rattle.link_scheduler.specs.Idle.AtRest.{is_sending};
 
     /// Whether the first waiting message of the pair may start: the pair is idle, and the message
     /// arrives no earlier than the pair's last one.
@@ -112,7 +114,7 @@ impl<P: Peer> Working<P> {
             let mut more = self.complete(message, now, ended)?;
             queue.append(&mut more)?;
         }
-        self.look(now);
+        self.plan_start(now);
         Ok(())
     }
 
@@ -141,21 +143,21 @@ impl<P: Peer> Working<P> {
             let queue = self.launch(&pair.origin, &pair.recipient, now)?;
             self.finish(queue, now, ended)?;
         }
-        self.look(now);
+        self.plan_start(now);
         Ok(())
     }
 
     /// What is done under new caps completes.
-    pub(crate) fn recap(&mut self, now: u64) -> Result<Vec<Ended<P>>, Error>
+    pub(crate) fn rebalance(&mut self, now: u64) -> Result<Vec<Ended<P>>, Error>
         requires { (planned P.cmp self.old).limited ≡ true }
-        ensures recaps { IfOk result (λ ended. Recaps P.cmp now (planned P.cmp self.old).caps (planned P.cmp self.old)
+        ensures rebalances { IfOk result (λ ended. Rebalances P.cmp now (planned P.cmp self.old).caps (planned P.cmp self.old)
             (goes (map ended_of ended.items) (planned P.cmp self.new))) }
         ensures refused { IfErr result (IsRefusedFor
-            (λ fault. Recaps P.cmp now (planned P.cmp self.old).caps (planned P.cmp self.old) (meets fault))) }
+            (λ fault. Rebalances P.cmp now (planned P.cmp self.old).caps (planned P.cmp self.old) (meets fault))) }
     {
         let mut ended = Vec::new(self.alloc);
         if self.flights.is_empty() {
-            self.look(now);
+            self.plan_start(now);
         } else {
             self.settle(now, &mut ended)?;
         }
@@ -174,7 +176,7 @@ impl<P: Peer> Working<P> {
             self.complete_at_once(now, message, &mut ended)?;
             return Ok(ended);
         }
-        let pair = Key::new(&message.origin, &message.recipient)?;
+        let pair = PeerPair::new(&message.origin, &message.recipient)?;
         self.join(&pair, message)?;
         let queue = self.launch(&pair.origin, &pair.recipient, now)?;
         self.finish(queue, now, &mut ended)?;
@@ -281,17 +283,17 @@ impl<P: Peer> Working<P> {
 
     /// Whether no event is due up to `now`, and no waiting message may start at it.
     pub(crate) fn is_quiet(&self, now: u64) -> bool
-        ensures quiet { (result ≡ true) ↔ IsQuiet P.cmp (planned P.cmp self.now) now }
+        ensures quiet { (result ≡ true) ↔ HasNothingDue P.cmp (planned P.cmp self.now) now }
     {
         self.due(now).is_none() && !self.is_ready(now)
     }
 
     /// Time goes on to `now`, up to which nothing happens: the start is planned anew.
     pub(crate) fn rest(&mut self, now: u64)
-        requires { IsQuiet P.cmp (planned P.cmp self.old) now }
+        requires { HasNothingDue P.cmp (planned P.cmp self.old) now }
         ensures { Advances P.cmp now (planned P.cmp self.old) 0 (goes [] (planned P.cmp self.new)) }
     {
-        self.look(now);
+        self.plan_start(now);
     }
 
     /// All events up to `now` happen, and what is ready then starts. Answers the number of events,

@@ -3,8 +3,8 @@ ghost use Rattle.std.specs.Prelude.{◌≡◌, ℕ, ◌+◌, ◌<◌, [], ◌∷
 ghost use Rattle.std.specs.Prelude.{length, nat_lt, Some, IfOk, IfErr, OnOk, OnErr, slice_index_or};
 ghost use Rattle.std.specs.List.{list_all, list_any, remove};
 ghost use Rattle.std.specs.Ordering.{nat_cmp};
-ghost use Rattle.link_simulation.specs.Sorted.{are_ascending};
-ghost use Rattle.link_scheduler.specs.Flights.{are_standing};
+ghost use Rattle.fair_rates.specs.Lists.Sorted.{are_ascending};
+ghost use Rattle.link_scheduler.specs.Flights.RatedFlights.{are_standing};
 
 use super::message::Message;
 use super::progress::Progress;
@@ -39,11 +39,11 @@ pub(crate) struct Flights<P: Peer> {
 
 impl<P: Peer> Flights<P> {
     ghost use Rattle.fair_rates.specs.declared.bandwidth.Flow.{Flow as AnyFlow};
-    ghost use Rattle.fair_rates.specs.Amount.{whole};
-    ghost use Rattle.fair_rates.specs.Sides.{same_peer};
-    ghost use Rattle.link_simulation.specs.WorldPlanned.{Paced};
-    ghost use Rattle.link_scheduler.specs.Message.{message_of};
-    ghost use Rattle.link_scheduler.specs.InFlight.{in_flight};
+    ghost use Rattle.fair_rates.specs.Numbers.Amount.{whole};
+    ghost use Rattle.fair_rates.specs.Sides.Subjects.{same_peer};
+    ghost use Rattle.link_simulation.specs.Rule.Planned.{RatedFlight};
+    ghost use Rattle.link_scheduler.specs.Pairs.Messages.{message_of};
+    ghost use Rattle.link_scheduler.specs.Flights.InFlight.{in_flight};
 
     pub(crate) fn new(alloc: Global) -> Self
         ensures flows { result.flows.items ≡ [] }
@@ -114,7 +114,7 @@ impl<P: Peer> Flights<P> {
     pub(crate) fn remove(&mut self, at: usize) -> Rc<Message<P>>
         requires { at < length self.old.flows.items }
         ensures sending { in_flight self.new ≡ remove (in_flight self.old) at }
-        ensures taken { (d : Paced P) → message_of result.value ≡ (slice_index_or (in_flight self.old) at d).message }
+        ensures taken { (d : RatedFlight P) → message_of result.value ≡ (slice_index_or (in_flight self.old) at d).message }
         ensures length { length self.new.flows.items + 1 ≡ length self.old.flows.items }
         ensures others { (test : AnyFlow P → Bool) → list_all test self.old.flows.items ≡ true
             → list_all test self.new.flows.items ≡ true }
@@ -125,7 +125,7 @@ impl<P: Peer> Flights<P> {
 }
 
 impl<P: Peer> Clone for Flights<P> {
-    ghost use Rattle.link_scheduler.specs.InFlight.{IsSameFlights};
+    ghost use Rattle.link_scheduler.specs.Flights.InFlight.{IsSameFlights};
 
     ghost is_clone = { IsSameFlights P.cmp };
 

@@ -2,12 +2,12 @@
 ghost use Rattle.std.specs.Prelude.{◌≡◌, ◌&&◌, ℕ, Bool, List, true, false, if◌then◌else◌, map, nat_le, option_map};
 ghost use Rattle.std.specs.Prelude.{slice_get, [], OnOk, OnErr, IfErr};
 ghost use Rattle.std.specs.Ordering.{is_lt, is_eq};
-ghost use Rattle.fair_rates.specs.Sides.{same_peer};
-ghost use Rattle.link_simulation.specs.Sorted.{are_ascending};
-ghost use Rattle.link_scheduler.specs.Idle.{idle_cmp, idle_key, is_listed};
-ghost use Rattle.link_scheduler.specs.Starts.{is_moment};
+ghost use Rattle.fair_rates.specs.Sides.Subjects.{same_peer};
+ghost use Rattle.fair_rates.specs.Lists.Sorted.{are_ascending};
+ghost use Rattle.link_scheduler.specs.Idle.Index.{idle_cmp, idle_key, is_listed};
+ghost use Rattle.link_scheduler.specs.Idle.Departed.{is_moment};
 
-use super::look::Key;
+use super::readiness::PeerPair;
 use fair_rates::error::Error;
 use fair_rates::peer::Peer;
 use shared_list::{Seek, SharedList};
@@ -78,7 +78,7 @@ impl<P: Peer> Seek<IdlePair<P>> for After {
 impl<P: Peer> IdlePairs<P> {
     ghost use Rattle.std.specs.Prelude.{IfOk};
     ghost use Rattle.std.specs.List.{AllZip, filter};
-    ghost use Rattle.link_scheduler.specs.Due.{IsKeyOfIdle, AreDue};
+    ghost use Rattle.link_scheduler.specs.Idle.Due.{NamesIdlePair, AreDue};
 
     /// No pair.
     pub(crate) fn new() -> Self
@@ -97,22 +97,22 @@ impl<P: Peer> IdlePairs<P> {
     }
 
     /// The pairs that may start by now, by the moments from which on they may, the peers cloned.
-    fn due(&self, alloc: Global, now: u64) -> Result<Vec<Key<P>>, Error>
-        ensures due { IfOk result (λ keys. AllZip (IsKeyOfIdle P.cmp) keys.items
+    fn due(&self, alloc: Global, now: u64) -> Result<Vec<PeerPair<P>>, Error>
+        ensures due { IfOk result (λ keys. AllZip (NamesIdlePair P.cmp) keys.items
             (filter (λ pair. nat_le pair.moment now) self.now.entries)) }
         ensures refused { IfErr result (λ e. e ≡ Error.OutOfMemory) }
     {
         let mut due = Vec::new(alloc);
         for at in 0..self.entries.place(&After { moment: now }) {
             if let Some(pair) = self.entries.get(at) {
-                due.push(Key::new(&pair.origin, &pair.recipient)?)?;
+                due.push(PeerPair::new(&pair.origin, &pair.recipient)?)?;
             }
         }
         Ok(due)
     }
 
     /// The pairs that may start by now, in the order of pairs, the peers cloned.
-    pub(crate) fn ready(&self, alloc: Global, now: u64) -> Result<Vec<Key<P>>, Error>
+    pub(crate) fn ready(&self, alloc: Global, now: u64) -> Result<Vec<PeerPair<P>>, Error>
         ensures ready { IfOk result (λ keys. AreDue P.cmp now self.now.entries keys.items) }
         ensures refused { IfErr result (λ e. e ≡ Error.OutOfMemory) }
     {

@@ -20,11 +20,11 @@ pub(crate) struct Message<P> {
 }
 
 impl<P: Peer> Message<P> {
-    ghost use Rattle.link_simulation.specs.WorldMessages.{is_delivered};
-    ghost use Rattle.link_simulation.specs.World.{is_late, arrival};
-    ghost use Rattle.link_scheduler.specs.Message.{message_of};
-    ghost use Rattle.link_scheduler.specs.Pairs.{pair_cmp};
-    ghost use Rattle.link_scheduler.specs.Waiting.{pair_of};
+    ghost use Rattle.link_simulation.specs.Simulation.Messages.{is_delivered};
+    ghost use Rattle.link_simulation.specs.Simulation.World.{is_late, arrival};
+    ghost use Rattle.link_scheduler.specs.Pairs.Messages.{message_of};
+    ghost use Rattle.link_scheduler.specs.Pairs.Entries.{pair_cmp};
+    ghost use Rattle.link_scheduler.specs.Pairs.Waiting.{pair_of};
 
     /// How its pair stands to that of two peers: by origin, then by recipient.
     pub(crate) fn compare(&self, origin: &P, recipient: &P) -> Ordering
@@ -58,8 +58,8 @@ impl<P: Peer> Message<P> {
 }
 
 impl<P: Peer> Clone for Message<P> {
-    ghost use Rattle.link_simulation.specs.WorldMessages.{SameMessage};
-    ghost use Rattle.link_scheduler.specs.Message.{message_of};
+    ghost use Rattle.link_simulation.specs.Simulation.Messages.{SameMessage};
+    ghost use Rattle.link_scheduler.specs.Pairs.Messages.{message_of};
 
     ghost is_clone = { λ message copy. SameMessage P.cmp (message_of message) (message_of copy) };
 

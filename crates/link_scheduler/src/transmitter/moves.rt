@@ -1,21 +1,21 @@
 //! Changes of what is known of one pair, and of its place among the idle pairs.
 ghost use Rattle.std.specs.Prelude.{◌≡◌, ◌<◌, true, [], OnOk, OnErr, IfErr};
-ghost use Rattle.link_simulation.specs.World.{goes};
-ghost use Rattle.link_simulation.specs.WorldEvents.{Enqueues, with_queued};
-ghost use Rattle.link_scheduler.specs.Message.{message_of};
-ghost use Rattle.link_scheduler.specs.Keys.{IsKeyOf};
-ghost use Rattle.link_scheduler.specs.Pairs.{first_of, raised_at};
-ghost use Rattle.link_scheduler.specs.Starts.{HasDeparted};
+ghost use Rattle.link_simulation.specs.Simulation.World.{goes};
+ghost use Rattle.link_simulation.specs.Rule.Events.{Enqueues, with_queued};
+ghost use Rattle.link_scheduler.specs.Pairs.Messages.{message_of};
+ghost use Rattle.link_scheduler.specs.Idle.PairsOfMessages.{NamesPairOf};
+ghost use Rattle.link_scheduler.specs.Pairs.Entries.{first_of, raised_at};
+ghost use Rattle.link_scheduler.specs.Idle.Departed.{HasDeparted};
 
-use super::look::{Key, idle_from};
+use super::readiness::{PeerPair, idle_from};
 use super::message::Message;
-use super::working::Working;
+use super::ledger::Ledger;
 use fair_rates::error::Error;
 use fair_rates::peer::Peer;
 
-impl<P: Peer> Working<P> {
-    ghost use Rattle.link_scheduler.specs.Working.{planned, may_launch_first};
-    ghost use Rattle.link_scheduler.specs.AtRest.{is_sending};
+impl<P: Peer> Ledger<P> {
+    ghost use Rattle.link_scheduler.specs.Calls.AsPlanned.{planned, may_launch_first};
+    ghost use Rattle.link_scheduler.specs.Idle.AtRest.{is_sending};
 
     /// From now on no message of the pair arrives before that moment.
     pub(crate) fn raise(&mut self, origin: &P, recipient: &P, moment: u64) -> Result<(), Error>
@@ -37,8 +37,8 @@ impl<P: Peer> Working<P> {
     }
 
     /// The message joins those that wait for its pair, as the last one.
-    pub(crate) fn join(&mut self, pair: &Key<P>, message: Message<P>) -> Result<(), Error>
-        requires { IsKeyOf P.cmp pair.now (message_of message) }
+    pub(crate) fn join(&mut self, pair: &PeerPair<P>, message: Message<P>) -> Result<(), Error>
+        requires { NamesPairOf P.cmp pair.now (message_of message) }
         ensures queued { OnOk result (planned P.cmp self.new
             ≡ with_queued P.cmp (planned P.cmp self.old) (message_of message)) }
         ensures refused { IfErr result (λ e. e ≡ Error.OutOfMemory) }
@@ -87,7 +87,7 @@ impl<P: Peer> Working<P> {
         ensures refused { IfErr result (λ e. e ≡ Error.OutOfMemory) }
     {
         self.waiting.push(self.alloc, message)?;
-        self.look(now);
+        self.plan_start(now);
         Ok(())
     }
 }

@@ -2,11 +2,11 @@
 ghost use Rattle.std.specs.Prelude.{◌≡◌, ◌<◌, ◌^◌, true, map, option_map, IfSome, IfOk, IfErr};
 ghost use Rattle.std.specs.List.{find};
 ghost use Rattle.std.specs.Ordering.{is_lt, is_eq};
-ghost use Rattle.link_simulation.specs.Sorted.{are_ascending, IsPlace, IsGap};
-ghost use Rattle.link_simulation.specs.World.{later_of as latest};
-ghost use Rattle.link_scheduler.specs.Pairs.{pair_cmp, key_of};
+ghost use Rattle.fair_rates.specs.Lists.Sorted.{are_ascending, IsPlace, IsGap};
+ghost use Rattle.link_simulation.specs.Simulation.World.{later_of as latest};
+ghost use Rattle.link_scheduler.specs.Pairs.Entries.{pair_cmp, key_of};
 
-use super::look::Key;
+use super::readiness::PeerPair;
 use fair_rates::error::Error;
 use fair_rates::peer::Peer;
 use shared_list::{Seek, SharedList};
@@ -16,7 +16,7 @@ use std::rc::Rc;
 /// What is known of one ordered pair of peers.
 #[derive(Drop)]
 pub(crate) struct Pair<P> {
-    key: Rc<Key<P>>,
+    key: Rc<PeerPair<P>>,
     /// The cap on what goes from the one to the other, in bytes a second.
     cap: Option<usize>,
     /// No later message of the pair arrives before this moment.
@@ -57,9 +57,9 @@ pub(crate) fn later_of(last: Option<u64>, moment: u64) -> u64
 
 impl<P: Peer> Pairs<P> {
     ghost use Rattle.std.specs.Prelude.{[], OnOk, OnErr};
-    ghost use Rattle.fair_rates.specs.Sides.{same_peer};
-    ghost use Rattle.link_simulation.specs.WorldMessages.{with_link};
-    ghost use Rattle.link_scheduler.specs.Pairs.{link_of, arrival_of, raised_at};
+    ghost use Rattle.fair_rates.specs.Sides.Subjects.{same_peer};
+    ghost use Rattle.link_simulation.specs.Simulation.Messages.{with_link};
+    ghost use Rattle.link_scheduler.specs.Pairs.Entries.{link_of, arrival_of, raised_at};
 
     pub(crate) fn new() -> Self
         ensures { result.entries ≡ [] }
@@ -131,7 +131,7 @@ impl<P: Peer> Pairs<P> {
                 self.entries.replace(alloc, at, pair)?;
             }
             Err(at) => {
-                let key = Rc::new(alloc, Key::new(origin, recipient)?)?;
+                let key = Rc::new(alloc, PeerPair::new(origin, recipient)?)?;
                 let pair = Pair {
                     key,
                     cap,

@@ -2,7 +2,7 @@
 ghost use Rattle.std.specs.Prelude.{◌≡◌, ◌<◌, ◌^◌, true, map, option_map, IfSome, IfOk, IfErr};
 ghost use Rattle.std.specs.List.{find};
 ghost use Rattle.std.specs.Ordering.{is_lt, is_eq};
-ghost use Rattle.link_simulation.specs.Sorted.{are_ascending, IsPlace, IsGap};
+ghost use Rattle.fair_rates.specs.Lists.Sorted.{are_ascending, IsPlace, IsGap};
 
 use fair_rates::error::Error;
 use fair_rates::peer::Peer;
@@ -41,8 +41,8 @@ impl<P: Peer> Seek<PeerCaps<P>> for PlaceOfPeer<'_, P> {
 
 impl<P: Peer> Peers<P> {
     ghost use Rattle.std.specs.Prelude.{[], OnOk};
-    ghost use Rattle.link_simulation.specs.WorldMessages.{with_cap};
-    ghost use Rattle.link_scheduler.specs.Peers.{egress_of, ingress_of};
+    ghost use Rattle.link_simulation.specs.Simulation.Messages.{with_cap};
+    ghost use Rattle.link_scheduler.specs.Pairs.PeerCaps.{egress_of, ingress_of};
 
     pub(crate) fn new() -> Self
         ensures { result.entries ≡ [] }

@@ -1,6 +1,7 @@
 //! What is known of a message in flight beside its flow.
 ghost use Rattle.std.specs.Prelude.{◌≡◌, ◌≢◌, ◌-◌, ◌*◌, ◌<◌, ◌≤◌, IfErr, OnOk, MatchOption};
-ghost use Rattle.fair_rates.specs.FairParts.{product, parts_of_level};
+ghost use Rattle.fair_rates.specs.Fairness.Exists.{product};
+ghost use Rattle.fair_rates.specs.Filling.FairParts.{parts_of_level};
 
 use super::message::Message;
 use fair_rates::error::Error;
@@ -23,7 +24,7 @@ pub(crate) struct Progress<P> {
 }
 
 impl<P: Peer> Clone for Progress<P> {
-    ghost use Rattle.link_scheduler.specs.Progress.{IsSameProgress};
+    ghost use Rattle.link_scheduler.specs.Flights.Progress.{IsSameProgress};
 
     ghost is_clone = { IsSameProgress };
 
@@ -47,8 +48,8 @@ pub(super) fn rate_at(levels: &[Natural], level: Option<usize>) -> Option<&Natur
 }
 
 impl<P: Peer> Progress<P> {
-    ghost use Rattle.link_simulation.specs.WorldPlanned.{IsLeastMoment};
-    ghost use Rattle.link_scheduler.specs.Progress.{DrainsTo, GrowsBy};
+    ghost use Rattle.link_simulation.specs.Rule.Planned.{IsLeastMoment};
+    ghost use Rattle.link_scheduler.specs.Flights.Progress.{DrainsTo, GrowsBy};
 
     /// Drains to that moment at the rate since the last update.
     pub(crate) fn drain(&mut self, levels: &[Natural], now: u64)

@@ -1,9 +1,9 @@
 //! All that is in flight gets its rate.
 ghost use Rattle.std.specs.Prelude.{◌≡◌, ◌≢◌, ◌<◌, All, length, OnOk, IfOk, IfErr};
 ghost use Rattle.std.specs.List.{AllZip};
-ghost use Rattle.fair_rates.specs.FairParts.{product};
-ghost use Rattle.link_scheduler.specs.Progress.{levelled, SomeRunsOutAt, AreRerated, IsSameSent};
-ghost use Rattle.link_simulation.specs.WorldPlanned.{IsLeastMoment};
+ghost use Rattle.fair_rates.specs.Fairness.Exists.{product};
+ghost use Rattle.link_scheduler.specs.Flights.Progress.{levelled, SomeRunsOutAt, AreRerated, IsSameSent};
+ghost use Rattle.link_simulation.specs.Rule.Planned.{IsLeastMoment};
 
 use super::drain::grow_all;
 use super::event::earlier;

@@ -2,9 +2,9 @@
 ghost use Rattle.std.specs.Prelude.{◌≡◌, ◌<◌, IfOk, IfErr};
 ghost use Rattle.std.specs.List.{AllZip};
 ghost use Rattle.std.specs.declared.cmp.Ordering.TheVariants.{Equal};
-ghost use Rattle.fair_rates.specs.Amount.{reduced};
-ghost use Rattle.fair_rates.specs.FairParts.{parts_of_level};
-ghost use Rattle.link_scheduler.specs.Readings.{IsReadingOf};
+ghost use Rattle.fair_rates.specs.Numbers.Amount.{reduced};
+ghost use Rattle.fair_rates.specs.Filling.FairParts.{parts_of_level};
+ghost use Rattle.link_scheduler.specs.Flights.Readings.{IsReadingOf};
 
 use super::State;
 use super::flights::Flights;
@@ -44,8 +44,8 @@ pub struct InFlight<P> {
 }
 
 impl<P: Peer> State<P> {
-    ghost use Rattle.link_scheduler.specs.State.{planned_of};
-    ghost use Rattle.link_scheduler.specs.Readings.{IsReadAs};
+    ghost use Rattle.link_scheduler.specs.Calls.State.{planned_of};
+    ghost use Rattle.link_scheduler.specs.Flights.Readings.{IsReadAs};
 
     /// What is in flight, in order of start: of each message its pair, what is left of it in bytes,
     /// its rate in bytes a second, and since when.
@@ -65,13 +65,13 @@ impl<P: Peer> State<P> {
         ensures read { IfOk result (λ readings. AllZip (IsReadAs P.cmp) (planned_of self.now).sending readings.items) }
         ensures refused { IfErr result (λ e. e ≡ Error.OutOfMemory) }
     {
-        self.kept.flights.read()
+        self.ledger.flights.read()
     }
 }
 
 impl<P: Peer> Flights<P> {
-    ghost use Rattle.link_scheduler.specs.InFlight.{in_flight};
-    ghost use Rattle.link_scheduler.specs.Readings.{IsReadAs};
+    ghost use Rattle.link_scheduler.specs.Flights.InFlight.{in_flight};
+    ghost use Rattle.link_scheduler.specs.Flights.Readings.{IsReadAs};
 
     /// Each as it is read, in order of start.
     fn read(&self) -> Result<Vec<InFlight<P>>, Error>

@@ -1,8 +1,8 @@
 //! The messages that wait.
 ghost use Rattle.std.specs.Prelude.{◌≡◌, ◌<◌, true, not, length, map, option_map, IfOk, IfErr, OnOk, OnErr};
 ghost use Rattle.std.specs.Ordering.{is_lt, is_gt};
-ghost use Rattle.link_scheduler.specs.Pairs.{pair_cmp};
-ghost use Rattle.link_scheduler.specs.Waiting.{pair_of, are_in_order};
+ghost use Rattle.link_scheduler.specs.Pairs.Entries.{pair_cmp};
+ghost use Rattle.link_scheduler.specs.Pairs.Waiting.{pair_of, are_in_order};
 
 use super::message::Message;
 use fair_rates::error::Error;
@@ -53,12 +53,12 @@ impl<P: Peer> Seek<Message<P>> for PlaceOfNext<'_, P> {
 
 impl<P: Peer> Waiting<P> {
     ghost use Rattle.std.specs.Prelude.{[], ◌&&◌};
-    ghost use Rattle.fair_rates.specs.Sides.{same_peer};
-    ghost use Rattle.link_simulation.specs.World.{without_first};
-    ghost use Rattle.link_simulation.specs.WorldPlanned.{queued};
-    ghost use Rattle.link_scheduler.specs.Message.{message_of};
-    ghost use Rattle.link_scheduler.specs.Pairs.{first_of};
-    ghost use Rattle.link_scheduler.specs.Waiting.{IsFirstPlace};
+    ghost use Rattle.fair_rates.specs.Sides.Subjects.{same_peer};
+    ghost use Rattle.fair_rates.specs.Lists.WithoutFirst.{without_first};
+    ghost use Rattle.link_simulation.specs.Rule.Planned.{queued};
+    ghost use Rattle.link_scheduler.specs.Pairs.Messages.{message_of};
+    ghost use Rattle.link_scheduler.specs.Pairs.Entries.{first_of};
+    ghost use Rattle.link_scheduler.specs.Pairs.Waiting.{IsFirstPlace};
 
     pub(crate) fn new() -> Self
         ensures { result.messages ≡ [] }

@@ -1,6 +1,6 @@
 //! Calls of a script as `replay` takes them.
 ghost use Rattle.std.specs.Prelude.{◌≡◌, map, IfOk};
-ghost use Rattle.link_scheduler.specs.Replay.{call_of};
+ghost use Rattle.link_scheduler.specs.Calls.Replay.{call_of};
 ghost use Rattle.link_scripts.specs.Trace.{world_call, call_in};
 
 use crate::linkcheck::asked::Asked;

@@ -1,6 +1,6 @@
 //! Where a trace and the simulation differ.
 ghost use Rattle.std.specs.Prelude.{◌≢◌, ℕ, IfOk};
-ghost use Rattle.link_scripts.specs.Trace.{IsWithin};
+ghost use Rattle.link_scripts.specs.Trace.{IsWithinTolerance};
 
 use crate::linkcheck::asked::split_line;
 use crate::linkcheck::said::Said;
@@ -65,7 +65,7 @@ pub(crate) fn compare(
     simulated: &[u8],
     tolerance: u64,
 ) -> Result<Verdict, Fault>
-    ensures within { IfOk result (λ verdict. IsWithin verdict tolerance) }
+    ensures within { IfOk result (λ verdict. IsWithinTolerance verdict tolerance) }
     ensures not_agreed { IfOk result (λ verdict. verdict ≢ Verdict.Agrees) }
 {
     let mut off = 0u64;
@@ -111,7 +111,7 @@ fn differs(
     simulated: Option<&[u8]>,
     off: Option<u64>,
 ) -> Result<Verdict, Fault>
-    ensures within { IfOk result (λ verdict. (t : ℕ) → IsWithin verdict t) }
+    ensures within { IfOk result (λ verdict. (t : ℕ) → IsWithinTolerance verdict t) }
     ensures not_agreed { IfOk result (λ verdict. verdict ≢ Verdict.Agrees) }
 {
     Ok(Verdict::Differs(Difference {

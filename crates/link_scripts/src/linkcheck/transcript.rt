@@ -1,7 +1,7 @@
 //! The transcript of calls and replies.
 ghost use Rattle.std.specs.Prelude.{◌≡◌, ◌++◌, map, IfOk, OnOk};
 ghost use Rattle.std.specs.Io.KnownBytes.{Appends};
-ghost use Rattle.link_scheduler.specs.Replay.{reply_of};
+ghost use Rattle.link_scheduler.specs.Calls.Replay.{reply_of};
 ghost use Rattle.link_scripts.specs.Trace.{transcript_of, call_in, call_line, reply_text};
 
 use crate::linkcheck::asked::{Asked, NEWLINE};

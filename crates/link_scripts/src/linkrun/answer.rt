@@ -3,7 +3,7 @@ ghost use Rattle.std.specs.Prelude.{◌≡◌, [], ◌∷◌, ◌++◌, IfOk, If
 ghost use Rattle.std.specs.Io.KnownBytes.{Appends};
 ghost use Rattle.link_scripts.specs.Answer.{rate_line, rates_text, moment_word, done_line, done_text, next_line};
 ghost use Rattle.link_scripts.specs.Answer.{answer_text, refusal_line};
-ghost use Rattle.fair_rates.specs.Refusal.{refusal_number};
+ghost use Rattle.fair_rates.specs.Refusals.ErrorTexts.{refusal_number};
 
 use fair_rates::bandwidth::Rate;
 use fair_rates::error::Error;

@@ -1,6 +1,6 @@
 //! The commands of a script.
 ghost use Rattle.std.specs.Prelude.{◌≡◌, ◌↔◌, Some};
-ghost use Rattle.link_scripts.specs.Script.{Takes, line_of, command_words, flow_words, parcel_words, IsInRange};
+ghost use Rattle.link_scripts.specs.Script.{Takes, line_of, command_words, flow_words, parcel_words, IsCommandInRange};
 ghost use Rattle.link_scripts.specs.Script.{IsFlowInRange, IsParcelInRange};
 ghost use Rattle.link_scripts.specs.Words.{words_left};
 
@@ -78,7 +78,7 @@ pub struct Parcel {
 impl Command {
     /// The command that a line says, where the line is of the language.
     pub fn parse(line: &[u8]) -> Option<Command>
-        ensures { (command : Command) → (result ≡ Some command) ↔ ((line.now ≡ line_of command) × IsInRange command) }
+        ensures { (command : Command) → (result ≡ Some command) ↔ ((line.now ≡ line_of command) × IsCommandInRange command) }
     {
         let mut words = Words::of(str::from_utf8(line).ok()?);
         let command = Command::take(&mut words)?;
@@ -90,7 +90,7 @@ impl Command {
 
     /// Takes the words of a command.
     fn take(words: &mut Words<'_>) -> Option<Command>
-        ensures { Takes command_words IsInRange (words_left words.old) result (words_left words.new) }
+        ensures { Takes command_words IsCommandInRange (words_left words.old) result (words_left words.new) }
     {
         match words.next()? {
             "flow" => Some(Command::Flow(flow(words)?)),

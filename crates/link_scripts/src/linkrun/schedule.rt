@@ -1,8 +1,8 @@
 //! What a script asks of its scheduler.
 ghost use Rattle.std.specs.Prelude.{◌≡◌, replicate, IfOk, IfErr, OnErr};
-ghost use Rattle.link_scripts.specs.Schedule.{message_of, Makes, MayRefuseCall};
-ghost use Rattle.link_scheduler.specs.State.{planned_of, IsMade, IsRefused};
-ghost use Rattle.link_simulation.specs.WorldCalls.{call_enqueue};
+ghost use Rattle.link_scripts.specs.Schedule.{message_of_parcel, AnswersCall, MayRefuseCall};
+ghost use Rattle.link_scheduler.specs.Calls.State.{planned_of, IsMade, IsRefused};
+ghost use Rattle.link_simulation.specs.Simulation.Calls.{call_enqueue};
 
 use crate::linkrun::answer::Answer;
 use crate::linkrun::command::{Call, Parcel};
@@ -18,7 +18,7 @@ pub(crate) fn make(
     scheduler: &mut State<u64>,
     call: Call,
 ) -> Result<Answer, Error>
-    ensures answer { IfOk result (λ answer. Makes call scheduler.old answer scheduler.new) }
+    ensures answer { IfOk result (λ answer. AnswersCall call scheduler.old answer scheduler.new) }
     ensures refused { IfErr result (MayRefuseCall call scheduler.old) }
     ensures unchanged { OnErr result (planned_of scheduler.new ≡ planned_of scheduler.old) }
 {
@@ -49,8 +49,8 @@ fn enqueue(
     parcel: Parcel,
 ) -> Result<Vec<Completion<u64>>, Error>
     ensures made { IfOk result (λ done.
-        IsMade scheduler.old (call_enqueue parcel.now (message_of parcel)) done.items scheduler.new) }
-    ensures refused { IfErr result (IsRefused scheduler.old (call_enqueue parcel.now (message_of parcel))) }
+        IsMade scheduler.old (call_enqueue parcel.now (message_of_parcel parcel)) done.items scheduler.new) }
+    ensures refused { IfErr result (IsRefused scheduler.old (call_enqueue parcel.now (message_of_parcel parcel))) }
     ensures unchanged { OnErr result (planned_of scheduler.new ≡ planned_of scheduler.old) }
 {
     let message = zeros.part(alloc, parcel.length)?;

@@ -2,14 +2,15 @@
 ghost use Rattle.std.specs.Prelude.{◌≡◌, ◌⊎◌, ℕ, [], IfOk, IfErr, OnOk, OnErr};
 ghost use Rattle.std.specs.Ordering.{nat_cmp};
 ghost use Rattle.std.specs.BTreeMap.{get, IsUnchanged};
-ghost use Rattle.fair_rates.specs.Caps.{no_caps};
-ghost use Rattle.link_scheduler.specs.Pairs.{pair_cmp};
-ghost use Rattle.fair_rates.specs.PeerCaps.{IsFairById};
-ghost use Rattle.fair_rates.specs.TooLarge.{AreTooLarge};
-ghost use Rattle.link_scheduler.specs.State.{planned_of};
-ghost use Rattle.link_scripts.specs.Session.{Says, SaysSame, KeepsPlanned, SaysAfter, AnswersTo, MayRefuse, caps_of};
-ghost use Rattle.link_scripts.specs.Session.{with_cap, with_link};
-ghost use Rattle.link_simulation.specs.WorldPlanned.{new_planned};
+ghost use Rattle.fair_rates.specs.Sides.Caps.{no_caps};
+ghost use Rattle.link_scheduler.specs.Pairs.Entries.{pair_cmp};
+ghost use Rattle.fair_rates.specs.Fairness.UnderCaps.{IsFairById};
+ghost use Rattle.fair_rates.specs.Refusals.TooLarge.{AreTooLarge};
+ghost use Rattle.link_scheduler.specs.Calls.State.{planned_of};
+ghost use Rattle.link_scripts.specs.Session.{Says, SaysSame, KeepsPlanned, SaysAfter, AnswersTo, MayRefuseCommand};
+ghost use Rattle.link_scripts.specs.Session.{said_caps};
+ghost use Rattle.link_scripts.specs.Session.{with_said_cap, with_said_link};
+ghost use Rattle.link_simulation.specs.Rule.Planned.{new_planned};
 
 use crate::linkrun::answer::Answer;
 use crate::linkrun::command::Command;
@@ -59,7 +60,7 @@ impl Session {
         ensures answer { IfOk result (λ answer. AnswersTo command self.old answer self.new) }
         ensures done { OnOk result (SaysAfter command self.old self.new) }
         ensures kept { OnErr result (SaysSame self.old self.new × KeepsPlanned self.old self.new) }
-        ensures refused { IfErr result (MayRefuse command self.old) }
+        ensures refused { IfErr result (MayRefuseCommand command self.old) }
     {
         match command {
             Command::Flow(flow) => self.flows.push(flow)?,
@@ -80,10 +81,10 @@ impl Session {
 
     /// The rates of the flows, by id.
     fn rates(&self) -> Result<BTreeMap<u64, Rate>, Error>
-        ensures fair { IfOk result (λ rates. IsFairById nat_cmp (caps_of self.now) self.now.flows.items
+        ensures fair { IfOk result (λ rates. IsFairById nat_cmp (said_caps self.now) self.now.flows.items
             (get nat_cmp rates)) }
         ensures refused { IfErr result (λ e. (e ≡ Error.OutOfMemory)
-            ⊎ ((e ≡ Error.NumberTooLarge) × AreTooLarge nat_cmp (caps_of self.now) self.now.flows.items)) }
+            ⊎ ((e ≡ Error.NumberTooLarge) × AreTooLarge nat_cmp (said_caps self.now) self.now.flows.items)) }
     {
         bandwidth::allocate_linked(
             self.alloc,
@@ -97,7 +98,7 @@ impl Session {
 
 /// Sets a peer's cap, or removes it.
 fn set_cap(caps: &mut BTreeMap<u64, u128>, peer: u64, cap: Option<u128>) -> Result<(), Error>
-    ensures set { OnOk result ((p : ℕ) → get nat_cmp caps.new p ≡ with_cap (get nat_cmp caps.old) peer cap p) }
+    ensures set { OnOk result ((p : ℕ) → get nat_cmp caps.new p ≡ with_said_cap (get nat_cmp caps.old) peer cap p) }
     ensures kept { OnErr result (IsUnchanged caps.old caps.new) }
     ensures refused { IfErr result (λ e. e ≡ Error.OutOfMemory) }
 {
@@ -120,7 +121,7 @@ fn set_link(
     cap: Option<u128>,
 ) -> Result<(), Error>
     ensures set { OnOk result ((p q : ℕ) → get (pair_cmp nat_cmp) caps.new (p, q)
-        ≡ with_link (λ r s. get (pair_cmp nat_cmp) caps.old (r, s)) origin recipient cap p q) }
+        ≡ with_said_link (λ r s. get (pair_cmp nat_cmp) caps.old (r, s)) origin recipient cap p q) }
     ensures kept { OnErr result (IsUnchanged caps.old caps.new) }
     ensures refused { IfErr result (λ e. e ≡ Error.OutOfMemory) }
 {

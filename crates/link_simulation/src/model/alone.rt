@@ -1,8 +1,8 @@
 //! How long one message takes that is alone under caps.
 ghost use Rattle.std.specs.Prelude.{◌≡◌, ℕ, ◌+◌, ◌<◌, ◌≤◌, Some, length, true, false};
-ghost use Rattle.link_simulation.specs.Alone.{IsTimeFor, IsLeastCap, MayGoAlone, IsDoneAfter};
-ghost use Rattle.link_simulation.specs.World.{World, completion_of, completed, is_late, last_moment};
-ghost use Rattle.link_simulation.specs.WorldMessages.{Message, is_delivered};
+ghost use Rattle.link_simulation.specs.Laws.Alone.{IsTimeFor, IsLeastCap, MayGoAlone, IsDoneAfter};
+ghost use Rattle.link_simulation.specs.Simulation.World.{World, completion_of, completed, is_late, last_moment};
+ghost use Rattle.link_simulation.specs.Simulation.Messages.{Message, is_delivered};
 
 /// A message alone under caps above zero is done after the least time that its bytes take at the least of them, and
 /// if it is delivered it arrives its latency later.

@@ -1,17 +1,18 @@
 //! The event rule stands for the simulation.
 ghost use Rattle.std.specs.Prelude.{◌≡◌, ℕ, ◌+◌, ◌*◌, ◌≤◌, [], List, Some, length};
 ghost use Rattle.std.specs.List.{AllZip};
-ghost use Rattle.link_simulation.specs.WorldMessages.{Message, Caps, CapsAlike, SameMessage};
-ghost use Rattle.link_simulation.specs.WorldRates.{Parts, AreFair};
-ghost use Rattle.link_simulation.specs.World.{World, new_world, Completed, Course, goes, last_moment, settle, IsQuiet};
-ghost use Rattle.link_simulation.specs.WorldTime.{NextIs};
-ghost use Rattle.link_simulation.specs.WorldCalls.{Call, call_advance, moment_of, Runs, IsInTurn};
-ghost use Rattle.link_simulation.specs.WorldPlanned.{Planned, new_planned, next_event, IsPlanned};
-ghost use Rattle.link_simulation.specs.WorldEvents.{Settles, Advances, Obeys};
-ghost use Rattle.link_simulation.specs.WorldIsolation.{InTime};
-ghost use Rattle.link_simulation.specs.WorldRefusals.{Obeyed};
-ghost use Rattle.link_simulation.specs.WorldReplies.{Reply, Agrees};
-ghost use Rattle.link_simulation.specs.WorldStands.{Tallies, IsSettled, CoursesAlike, StandsFor};
+ghost use Rattle.link_simulation.specs.Simulation.Messages.{Message, Caps, CapsAlike, SameMessage};
+ghost use Rattle.link_simulation.specs.Simulation.Rates.{Parts, AreFair};
+ghost use Rattle.link_simulation.specs.Simulation.World.{World, new_world, Completed, Course, goes, last_moment};
+ghost use Rattle.link_simulation.specs.Simulation.World.{settle, IsQuiet};
+ghost use Rattle.link_simulation.specs.Simulation.Time.{NextIs};
+ghost use Rattle.link_simulation.specs.Simulation.Calls.{Call, call_advance, moment_of, Runs, IsInTurn};
+ghost use Rattle.link_simulation.specs.Rule.Planned.{Planned, new_planned, next_event, IsPlanned};
+ghost use Rattle.link_simulation.specs.Rule.Events.{Settles, Advances, Obeys};
+ghost use Rattle.link_simulation.specs.Laws.Isolation.{InTime};
+ghost use Rattle.link_simulation.specs.Rule.Refusals.{Obeyed};
+ghost use Rattle.link_simulation.specs.Simulation.Replies.{Reply, Agrees};
+ghost use Rattle.link_simulation.specs.Rule.StandsFor.{Tallies, IsSettled, CoursesAlike, StandsFor};
 
 /// Messages that are alike up to equal peers have the same fair rates, under caps that are alike.
 pub fn alike_messages_have_the_same_rates<P: Ord>()

@@ -1,11 +1,12 @@
 //! What happens at one instant of the simulation: completions in order of start, and starts in the order of pairs.
 ghost use Rattle.std.specs.Prelude.{◌↔◌, ◌≡◌, ℕ, ◌+◌, ◌≤◌, List, [], length, false, not};
 ghost use Rattle.std.specs.List.{filter, find, list_any};
-ghost use Rattle.link_simulation.specs.WorldMessages.{Message, same_pair, OneForEachPair};
-ghost use Rattle.link_simulation.specs.World.{World, goes, EndsWith, flows, is_done, settle, settle_within, ready};
-ghost use Rattle.link_simulation.specs.World.{turn, wake, wake_within, instant, IsQuiet};
-ghost use Rattle.link_simulation.specs.WorldQueue.{leaving, staying, finish_within};
-ghost use Rattle.link_simulation.specs.WorldPass.{IsUnchangedFor, MayNotStart, wake_each, by_pair, IsByPair};
+ghost use Rattle.link_simulation.specs.Simulation.Messages.{Message, same_pair, OneForEachPair};
+ghost use Rattle.link_simulation.specs.Simulation.World.{World, goes, EndsWith, flows, is_done, settle, settle_within};
+ghost use Rattle.link_simulation.specs.Simulation.World.{ready};
+ghost use Rattle.link_simulation.specs.Simulation.World.{turn, wake, wake_within, instant, IsQuiet};
+ghost use Rattle.link_simulation.specs.Simulation.Queue.{leaving, staying, finish_within};
+ghost use Rattle.link_simulation.specs.Simulation.Pass.{IsUnchangedFor, MayNotStart, wake_each, by_pair, IsByPair};
 
 /// Settling ends with nothing done, and waking with nothing done and nothing that may start.
 pub fn instants_end_in_quiet<P: Ord>()

@@ -5,25 +5,26 @@ ghost use Rattle.std.specs.Prelude.{◌≡◌, ℕ, ◌+◌, ◌-◌, ◌*◌, �
 ghost use Rattle.std.specs.Prelude.{◌∷◌, Bool, true, Option, Some, None, nat_lt};
 ghost use Rattle.std.specs.List.{AllZip};
 ghost use Rattle.std.specs.Ordering.{nat_cmp};
-ghost use Rattle.fair_rates.specs.Amount.{whole};
+ghost use Rattle.fair_rates.specs.Numbers.Amount.{whole};
 ghost use Rattle.fair_rates.specs.declared.error.Error.{Error as AnyError};
 ghost use Rattle.fair_rates.specs.declared.error.Error.TheVariants.{NumberTooLarge, MomentTooLate, FlowIdsUsedUp};
-ghost use Rattle.link_simulation.specs.Alone.{IsTimeFor, IsLeastCap, MayGoAlone, IsDoneAfter};
-ghost use Rattle.link_simulation.specs.World.{World, Completed, new_world, completed, completion_of, goes, EndsWith};
-ghost use Rattle.link_simulation.specs.WorldBytes.{bytes_from};
-ghost use Rattle.link_simulation.specs.WorldTime.{NextIs, IsSound};
-ghost use Rattle.link_simulation.specs.WorldCalls.{Call, call_enqueue, call_advance, Runs, limited_by};
-ghost use Rattle.link_simulation.specs.WorldMessages.{Message, no_caps};
-ghost use Rattle.link_simulation.specs.WorldPlanned.{Planned, new_planned};
-ghost use Rattle.link_simulation.specs.WorldReplies.{Reply, reply_done, SameCompletion, Faults};
-ghost use Rattle.link_simulation.specs.WorldRows.{message, arrives, paced, flying, all_equal};
-ghost use Rattle.link_simulation.specs.WorldStands.{StandsFor};
-ghost use Rattle.link_simulation.specs.Conserved.{IsConserved, AreConserved};
-ghost use Rattle.link_simulation.specs.Orderly.{IsOrderly};
-ghost use Rattle.link_simulation.specs.ReplayLaws.{AlwaysSoFar, CompletePairsInOrder, IsIsolated, IsolateSets};
-ghost use Rattle.link_simulation.specs.SamePlanned.{Goes, GoesCounted};
-ghost use Rattle.link_simulation.specs.Simulated.{IsCalled, IsSimulated, IsNextInSimulation, KeepsRange};
-ghost use Rattle.link_simulation.specs.Simulated.{IsRefusedInSimulation, IsSplitAnywhere, KeepsToCaps};
+ghost use Rattle.link_simulation.specs.Laws.Alone.{IsTimeFor, IsLeastCap, MayGoAlone, IsDoneAfter};
+ghost use Rattle.link_simulation.specs.Simulation.World.{World, Completed, new_world, completed, completion_of, goes};
+ghost use Rattle.link_simulation.specs.Simulation.World.{EndsWith};
+ghost use Rattle.link_simulation.specs.Laws.Bytes.{bytes_from};
+ghost use Rattle.link_simulation.specs.Simulation.Time.{NextIs, IsSound};
+ghost use Rattle.link_simulation.specs.Simulation.Calls.{Call, call_enqueue, call_advance, Runs, limited_by};
+ghost use Rattle.link_simulation.specs.Simulation.Messages.{Message, no_caps};
+ghost use Rattle.link_simulation.specs.Rule.Planned.{Planned, new_planned};
+ghost use Rattle.link_simulation.specs.Simulation.Replies.{Reply, reply_done, SameCompletion, Faults};
+ghost use Rattle.link_simulation.specs.Examples.Rows.{message, arrives, rated_flight, flying, all_equal};
+ghost use Rattle.link_simulation.specs.Rule.StandsFor.{StandsFor};
+ghost use Rattle.link_simulation.specs.Laws.Conserved.{IsConserved, AreConserved};
+ghost use Rattle.link_simulation.specs.Laws.Orderly.{IsOrderly};
+ghost use Rattle.link_simulation.specs.Laws.Replies.{AlwaysSoFar, CompletePairsInOrder, IsIsolated, IsolateSets};
+ghost use Rattle.link_simulation.specs.Rule.SamePlanned.{GoesByRule, AdvancesByRule};
+ghost use Rattle.link_simulation.specs.Rule.Simulated.{IsCalled, IsSimulated, IsNextInSimulation, KeepsRange};
+ghost use Rattle.link_simulation.specs.Rule.Simulated.{IsRefusedInSimulation, IsSplitAnywhere, KeepsToCaps};
 
 /// However a call runs in the simulation, it has the completions that were answered, leads to a world that the new
 /// planned world stands for, and meets no fault. So does an advance that is split. And the next event is the one that
@@ -44,10 +45,10 @@ pub fn what_is_simulated_is_the_one_course<P: Ord>()
 
 /// An advance that is counted goes by the event rule, and has that one number of events.
 pub fn a_counted_advance_goes<P: Ord>()
-    ensures goes { (p q : Planned P) (now events : ℕ) (cs : List (Completed P)) → GoesCounted P.cmp now p events cs q →
-        Goes P.cmp p (call_advance now) cs q }
+    ensures goes { (p q : Planned P) (now events : ℕ) (cs : List (Completed P)) → AdvancesByRule P.cmp now p events cs q →
+        GoesByRule P.cmp p (call_advance now) cs q }
     ensures one { (p q r : Planned P) (now events other : ℕ) (cs ds : List (Completed P)) →
-        GoesCounted P.cmp now p events cs q → GoesCounted P.cmp now p other ds r → events ≡ other }
+        AdvancesByRule P.cmp now p events cs q → AdvancesByRule P.cmp now p other ds r → events ≡ other }
 {}
 
 /// A message that is done after a time is so however the simulation runs: nothing completes as it is sent, the next
@@ -140,11 +141,11 @@ pub fn a_lost_completion_is_not_conserved()
 pub fn a_world_out_of_order_is_told()
     ensures rate { ¬ IsOrderly nat_cmp (record (new_planned 0) {
       limited = true;
-      sending = paced (message 1 2 1 0) (Some (whole 1)) ∷ [];
+      sending = rated_flight (message 1 2 1 0) (Some (whole 1)) ∷ [];
     }) }
     ensures pair { ¬ IsOrderly nat_cmp (record (new_planned 0) {
       limited = true;
-      sending = paced (message 1 2 1 0) None ∷ paced (message 1 2 1 0) None ∷ [];
+      sending = rated_flight (message 1 2 1 0) None ∷ rated_flight (message 1 2 1 0) None ∷ [];
     }) }
     ensures pair_order { ¬ IsOrderly nat_cmp (record (new_planned 0) {
       limited = true;

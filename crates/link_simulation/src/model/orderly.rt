@@ -1,19 +1,19 @@
 //! What each call keeps of a planned world, and what becomes of its messages.
 ghost use Rattle.std.specs.Prelude.{◌≡◌, ℕ, ◌+◌, List, [], ◌∷◌, ◌++◌, length};
-ghost use Rattle.link_simulation.specs.WorldMessages.{Message};
-ghost use Rattle.link_simulation.specs.World.{Completed, goes};
-ghost use Rattle.link_simulation.specs.WorldCalls.{Call};
-ghost use Rattle.link_simulation.specs.WorldOrder.{enqueued};
-ghost use Rattle.link_simulation.specs.WorldPlanned.{Planned, new_planned};
-ghost use Rattle.link_simulation.specs.WorldEvents.{Obeys};
-ghost use Rattle.link_simulation.specs.WorldRefusals.{Obeyed};
-ghost use Rattle.link_simulation.specs.WorldReplies.{Reply};
-ghost use Rattle.link_simulation.specs.SamePlanned.{IsSamePlanned, Goes};
-ghost use Rattle.link_simulation.specs.Orderly.{IsOrderly};
+ghost use Rattle.link_simulation.specs.Simulation.Messages.{Message};
+ghost use Rattle.link_simulation.specs.Simulation.World.{Completed, goes};
+ghost use Rattle.link_simulation.specs.Simulation.Calls.{Call};
+ghost use Rattle.link_simulation.specs.Laws.PairCompletions.{enqueued};
+ghost use Rattle.link_simulation.specs.Rule.Planned.{Planned, new_planned};
+ghost use Rattle.link_simulation.specs.Rule.Events.{Obeys};
+ghost use Rattle.link_simulation.specs.Rule.Refusals.{Obeyed};
+ghost use Rattle.link_simulation.specs.Simulation.Replies.{Reply};
+ghost use Rattle.link_simulation.specs.Rule.SamePlanned.{IsSamePlanned, GoesByRule};
+ghost use Rattle.link_simulation.specs.Laws.Orderly.{IsOrderly};
 ghost use Rattle.std.specs.Ordering.{nat_cmp};
-ghost use Rattle.link_simulation.specs.WorldRows.{message, arrives};
-ghost use Rattle.link_simulation.specs.Conserved.{IsConserved, AreConserved};
-ghost use Rattle.link_simulation.specs.ReplayLaws.{AlwaysSoFar};
+ghost use Rattle.link_simulation.specs.Examples.Rows.{message, arrives};
+ghost use Rattle.link_simulation.specs.Laws.Conserved.{IsConserved, AreConserved};
+ghost use Rattle.link_simulation.specs.Laws.Replies.{AlwaysSoFar};
 
 /// A new planned world is in order, and each call that goes keeps it so.
 pub fn calls_keep_order<P: Ord>()
@@ -25,7 +25,7 @@ pub fn calls_keep_order<P: Ord>()
 /// Planned worlds that are the same up to equal peers are in order alike.
 pub fn the_same_worlds_are_in_order_alike<P: Ord>()
     ensures same { (p q : Planned P) → IsSamePlanned P.cmp p q → IsOrderly P.cmp p → IsOrderly P.cmp q }
-    ensures goes { (p q : Planned P) (call : Call P) (cs : List (Completed P)) → Goes P.cmp p call cs q →
+    ensures goes { (p q : Planned P) (call : Call P) (cs : List (Completed P)) → GoesByRule P.cmp p call cs q →
         IsOrderly P.cmp p → IsOrderly P.cmp q }
 {}
 
@@ -33,7 +33,7 @@ pub fn the_same_worlds_are_in_order_alike<P: Ord>()
 /// what waits are, in this order, what was in flight, then what waited, then what the call enqueued. So it is where
 /// no call is made, and so it goes on over one call after another.
 pub fn calls_lose_no_message<P: Ord>()
-    ensures call { (p q : Planned P) (call : Call P) (cs : List (Completed P)) → Goes P.cmp p call cs q →
+    ensures call { (p q : Planned P) (call : Call P) (cs : List (Completed P)) → GoesByRule P.cmp p call cs q →
         IsOrderly P.cmp p → IsConserved P.cmp p (enqueued (call ∷ [])) cs q }
     ensures none { (p : Planned P) → IsConserved P.cmp p [] [] p }
     ensures on { (p q r : Planned P) (ms ns : List (Message P)) (cs ds : List (Completed P)) →

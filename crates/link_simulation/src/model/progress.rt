@@ -1,13 +1,13 @@
 //! The simulation never stops, and its events end.
 ghost use Rattle.std.specs.Prelude.{◌≡◌, ℕ, ◌+◌, ◌<◌, ◌≤◌, List, Option, Some};
-ghost use Rattle.link_simulation.specs.MostEvents.{most_events};
-ghost use Rattle.link_simulation.specs.SamePlanned.{Goes, GoesCounted};
-ghost use Rattle.link_simulation.specs.World.{World, Completed, Course};
-ghost use Rattle.link_simulation.specs.WorldCalls.{Call, call_advance, Runs};
-ghost use Rattle.link_simulation.specs.WorldMessages.{Message, Caps};
-ghost use Rattle.link_simulation.specs.WorldPlanned.{Planned, next_event, IsPlanned};
-ghost use Rattle.link_simulation.specs.WorldRates.{Parts, AreFair};
-ghost use Rattle.link_simulation.specs.WorldTime.{NextIs};
+ghost use Rattle.link_simulation.specs.Laws.MostEvents.{most_events};
+ghost use Rattle.link_simulation.specs.Rule.SamePlanned.{GoesByRule, AdvancesByRule};
+ghost use Rattle.link_simulation.specs.Simulation.World.{World, Completed, Course};
+ghost use Rattle.link_simulation.specs.Simulation.Calls.{Call, call_advance, Runs};
+ghost use Rattle.link_simulation.specs.Simulation.Messages.{Message, Caps};
+ghost use Rattle.link_simulation.specs.Rule.Planned.{Planned, next_event, IsPlanned};
+ghost use Rattle.link_simulation.specs.Simulation.Rates.{Parts, AreFair};
+ghost use Rattle.link_simulation.specs.Simulation.Time.{NextIs};
 
 /// All messages have fair rates under all caps. So in each world each call has a course at each moment, and some
 /// event comes next or none ever does.
@@ -23,7 +23,7 @@ pub fn the_simulation_never_stops<P: Ord>()
 /// is one, ends.
 pub fn events_end<P: Ord>()
     ensures counted { (p q : Planned P) (now events : ℕ) (cs : List (Completed P)) → ∥ IsPlanned P.cmp p ∥₁ →
-        GoesCounted P.cmp now p events cs q → events + most_events q ≤ most_events p }
+        AdvancesByRule P.cmp now p events cs q → events + most_events q ≤ most_events p }
     ensures falls { (p q : Planned P) (now : ℕ) (cs : List (Completed P)) → ∥ IsPlanned P.cmp p ∥₁ →
-        next_event p ≡ Some now → Goes P.cmp p (call_advance now) cs q → most_events q < most_events p }
+        next_event p ≡ Some now → GoesByRule P.cmp p (call_advance now) cs q → most_events q < most_events p }
 {}

@@ -1,18 +1,18 @@
 //! In the range a call meets no fault, and the range is kept.
 ghost use Rattle.std.specs.Prelude.{◌≡◌, ℕ, ◌<◌, ◌^◌, List, [], ◌∷◌, None, replicate};
 ghost use Rattle.std.specs.Ordering.{nat_cmp};
-ghost use Rattle.link_simulation.specs.World.{Completed, Course, goes, new_world};
-ghost use Rattle.link_simulation.specs.WorldCalls.{Call, call_limit, call_limit_link, call_enqueue, call_advance};
-ghost use Rattle.link_simulation.specs.WorldCalls.{call_next};
+ghost use Rattle.link_simulation.specs.Simulation.World.{Completed, Course, goes, new_world};
+ghost use Rattle.link_simulation.specs.Simulation.Calls.{Call, call_limit, call_limit_link, call_enqueue, call_advance};
+ghost use Rattle.link_simulation.specs.Simulation.Calls.{call_next};
 ghost use Rattle.fair_rates.specs.declared.error.Error.{Error as AnyError};
 ghost use Rattle.fair_rates.specs.declared.error.Error.TheVariants.{OutOfMemory, MomentTooLate};
-ghost use Rattle.link_simulation.specs.WorldPlanned.{Planned, new_planned};
-ghost use Rattle.link_simulation.specs.WorldEvents.{Obeys};
-ghost use Rattle.link_simulation.specs.WorldRange.{AreInRange, IsInRange, IsCallInRange};
-ghost use Rattle.link_simulation.specs.WorldRefusals.{MayBeRefused};
-ghost use Rattle.link_simulation.specs.WorldReplies.{reply_done, reply_refused, Agrees};
-ghost use Rattle.link_simulation.specs.WorldRows.{message};
-ghost use Rattle.link_simulation.specs.ReplayLaws.{RefusesForMemoryAlone};
+ghost use Rattle.link_simulation.specs.Rule.Planned.{Planned, new_planned};
+ghost use Rattle.link_simulation.specs.Rule.Events.{Obeys};
+ghost use Rattle.link_simulation.specs.Rule.Range.{AreInRange, IsInRange, IsCallInRange};
+ghost use Rattle.link_simulation.specs.Rule.Refusals.{MayBeRefused};
+ghost use Rattle.link_simulation.specs.Simulation.Replies.{reply_done, reply_refused, Agrees};
+ghost use Rattle.link_simulation.specs.Examples.Rows.{message};
+ghost use Rattle.link_simulation.specs.Laws.Replies.{RefusesForMemoryAlone};
 
 /// A call in the range on a planned world in the range, its own message counted, goes and leaves it in the range, and
 /// may be refused for want of memory alone. A new planned world is in the range.

@@ -3,16 +3,16 @@ ghost use Rattle.std.specs.Prelude.{[], ◌∷◌, List, Some, None};
 ghost use Rattle.std.specs.Ordering.{nat_cmp};
 ghost use Rattle.std.specs.List.{Contains};
 ghost use Rattle.fair_rates.specs.declared.error.Error.TheVariants.{OutOfMemory, NumberTooLarge};
-ghost use Rattle.link_simulation.specs.World.{new_world};
-ghost use Rattle.link_simulation.specs.WorldCalls.{Call, call_limit, call_limit_link, call_enqueue, call_advance};
-ghost use Rattle.link_simulation.specs.WorldCalls.{call_next};
-ghost use Rattle.link_simulation.specs.WorldPlanned.{Planned, new_planned};
-ghost use Rattle.link_simulation.specs.WorldRefusals.{Obeyed};
-ghost use Rattle.link_simulation.specs.WorldReplies.{Reply, reply_done, reply_next, reply_refused, Agrees};
-ghost use Rattle.link_simulation.specs.WorldRows.{message, arrives, a_byte_a_nanosecond};
-ghost use Rattle.link_simulation.specs.WorldIsolation.{InTime};
-ghost use Rattle.link_simulation.specs.ReplayLaws.{AlwaysSoFar, RefusesForMemoryAlone, AreInTurn, AreAdvancedFirst};
-ghost use Rattle.link_simulation.specs.ReplayLaws.{GoByNext, CompletesInOrder, CompletePairsInOrder, IsolateSets};
+ghost use Rattle.link_simulation.specs.Simulation.World.{new_world};
+ghost use Rattle.link_simulation.specs.Simulation.Calls.{Call, call_limit, call_limit_link, call_enqueue, call_advance};
+ghost use Rattle.link_simulation.specs.Simulation.Calls.{call_next};
+ghost use Rattle.link_simulation.specs.Rule.Planned.{Planned, new_planned};
+ghost use Rattle.link_simulation.specs.Rule.Refusals.{Obeyed};
+ghost use Rattle.link_simulation.specs.Simulation.Replies.{Reply, reply_done, reply_next, reply_refused, Agrees};
+ghost use Rattle.link_simulation.specs.Examples.Rows.{message, arrives, a_byte_a_nanosecond};
+ghost use Rattle.link_simulation.specs.Laws.Isolation.{InTime};
+ghost use Rattle.link_simulation.specs.Laws.Replies.{AlwaysSoFar, RefusesForMemoryAlone, AreInTurn, AreAdvancedFirst};
+ghost use Rattle.link_simulation.specs.Laws.Replies.{GoByNext, CompletesInOrder, CompletePairsInOrder, IsolateSets};
 
 /// Replies by the event rule refuse a call for memory alone where it is in the range, with the calls that were made
 /// before it.

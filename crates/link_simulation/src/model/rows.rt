@@ -3,12 +3,13 @@
 //! The first peer sends at one byte a nanosecond unless another cap is named.
 ghost use Rattle.std.specs.Prelude.{◌∷◌, [], Some, None};
 ghost use Rattle.std.specs.Ordering.{nat_cmp};
-ghost use Rattle.link_simulation.specs.World.{new_world};
-ghost use Rattle.link_simulation.specs.WorldTime.{NextIs};
-ghost use Rattle.link_simulation.specs.WorldCalls.{call_limit, call_limit_link, call_enqueue, call_advance, call_next};
-ghost use Rattle.link_simulation.specs.WorldReplies.{reply_done, reply_next, reply_refused, Agrees};
+ghost use Rattle.link_simulation.specs.Simulation.World.{new_world};
+ghost use Rattle.link_simulation.specs.Simulation.Time.{NextIs};
+ghost use Rattle.link_simulation.specs.Simulation.Calls.{call_limit, call_limit_link, call_enqueue, call_advance};
+ghost use Rattle.link_simulation.specs.Simulation.Calls.{call_next};
+ghost use Rattle.link_simulation.specs.Simulation.Replies.{reply_done, reply_next, reply_refused, Agrees};
 ghost use Rattle.fair_rates.specs.declared.error.Error.TheVariants.{OutOfMemory, MomentTooLate, FlowIdsUsedUp};
-ghost use Rattle.link_simulation.specs.WorldRows.{message, dropped, arrives, is_gone, a_byte_a_nanosecond, flying};
+ghost use Rattle.link_simulation.specs.Examples.Rows.{message, dropped, arrives, is_gone, a_byte_a_nanosecond, flying};
 
 /// Three bytes take three nanoseconds, and arrive their latency later.
 pub fn a_message_takes_its_time()

@@ -4,12 +4,13 @@
 //! The first peer sends at one byte a nanosecond unless another cap is named.
 ghost use Rattle.std.specs.Prelude.{◌∷◌, [], Some, None};
 ghost use Rattle.std.specs.Ordering.{nat_cmp};
-ghost use Rattle.link_simulation.specs.WorldPlanned.{new_planned};
-ghost use Rattle.link_simulation.specs.WorldCalls.{call_limit, call_limit_link, call_enqueue, call_advance, call_next};
-ghost use Rattle.link_simulation.specs.WorldReplies.{reply_done, reply_next, reply_refused};
-ghost use Rattle.link_simulation.specs.WorldRefusals.{Obeyed};
+ghost use Rattle.link_simulation.specs.Rule.Planned.{new_planned};
+ghost use Rattle.link_simulation.specs.Simulation.Calls.{call_limit, call_limit_link, call_enqueue, call_advance};
+ghost use Rattle.link_simulation.specs.Simulation.Calls.{call_next};
+ghost use Rattle.link_simulation.specs.Simulation.Replies.{reply_done, reply_next, reply_refused};
+ghost use Rattle.link_simulation.specs.Rule.Refusals.{Obeyed};
 ghost use Rattle.fair_rates.specs.declared.error.Error.TheVariants.{MomentTooLate, FlowIdsUsedUp};
-ghost use Rattle.link_simulation.specs.WorldRows.{message, arrives, a_byte_a_nanosecond};
+ghost use Rattle.link_simulation.specs.Examples.Rows.{message, arrives, a_byte_a_nanosecond};
 
 /// At moments in their order the replies are the simulation's: a follower starts when it cannot arrive before the
 /// message ahead of it.

@@ -3,19 +3,19 @@
 ghost use Rattle.std.specs.Prelude.{◌≡◌, ℕ, ◌-◌, Bool, Contains, List, [], ◌∷◌, Some, map};
 ghost use Rattle.std.specs.Ordering.{nat_cmp};
 ghost use Rattle.std.specs.List.{filter};
-ghost use Rattle.fair_rates.specs.Amount.{plus};
-ghost use Rattle.fair_rates.specs.FairLaws.{IsAtMost};
-ghost use Rattle.fair_rates.specs.FairPart.{kept};
-ghost use Rattle.link_simulation.specs.WorldMessages.{Message, Caps};
-ghost use Rattle.link_simulation.specs.WorldRates.{Parts, AreFair};
-ghost use Rattle.link_simulation.specs.World.{World, new_world, Completed, goes};
-ghost use Rattle.link_simulation.specs.WorldTime.{IsSound};
-ghost use Rattle.link_simulation.specs.WorldCalls.{Call, call_advance, Runs};
-ghost use Rattle.link_simulation.specs.WorldOrder.{enqueued, answered, IsInPairOrder};
-ghost use Rattle.link_simulation.specs.WorldBytes.{bytes_from, allowance};
-ghost use Rattle.link_simulation.specs.WorldIsolation.{Answers, AnswersInTurn, IsSet, KeepsApart, InTime, is_kept};
-ghost use Rattle.link_simulation.specs.WorldIsolation.{kept_completions, NothingElse};
-ghost use Rattle.link_simulation.specs.WorldRows.{message, arrives};
+ghost use Rattle.fair_rates.specs.Numbers.Amount.{plus};
+ghost use Rattle.fair_rates.specs.Fairness.Laws.{IsAtMost};
+ghost use Rattle.fair_rates.specs.Fairness.Part.{flagged};
+ghost use Rattle.link_simulation.specs.Simulation.Messages.{Message, Caps};
+ghost use Rattle.link_simulation.specs.Simulation.Rates.{Parts, AreFair};
+ghost use Rattle.link_simulation.specs.Simulation.World.{World, new_world, Completed, goes};
+ghost use Rattle.link_simulation.specs.Simulation.Time.{IsSound};
+ghost use Rattle.link_simulation.specs.Simulation.Calls.{Call, call_advance, Runs};
+ghost use Rattle.link_simulation.specs.Laws.PairCompletions.{enqueued, answered, IsInPairOrder};
+ghost use Rattle.link_simulation.specs.Laws.Bytes.{bytes_from, allowance};
+ghost use Rattle.link_simulation.specs.Laws.Isolation.{Answers, AnswersInTurn, IsSet, KeepsApart, InTime, is_kept};
+ghost use Rattle.link_simulation.specs.Laws.Isolation.{kept_completions, NothingElse};
+ghost use Rattle.link_simulation.specs.Examples.Rows.{message, arrives};
 
 /// The completions of a pair come in the order of its `enqueue` calls, and its delivery moments never go down.
 pub fn a_pair_keeps_its_order<P: Ord>()
@@ -47,7 +47,7 @@ pub fn a_set_is_fair_alone<P: Ord>()
         IsSet P.cmp inside →
         ((m : Message P) → Contains ms m → inside m.origin ≡ inside m.recipient) →
         AreFair P.cmp caps ms per rates → AreFair P.cmp caps (filter (λ m. inside m.origin) ms) per
-        (kept (map (λ m. inside m.origin) ms) rates) }
+        (flagged (map (λ m. inside m.origin) ms) rates) }
 {}
 
 /// Where each message that is enqueued has both ends in a set of peers or neither, the completions of the set's

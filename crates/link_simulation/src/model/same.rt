@@ -1,15 +1,15 @@
 //! Planned worlds that are the same up to equal peers.
 ghost use Rattle.std.specs.Prelude.{◌≡◌, List};
 ghost use Rattle.fair_rates.specs.declared.error.Error.{Error as AnyError};
-ghost use Rattle.link_simulation.specs.World.{World, Completed, Course};
-ghost use Rattle.link_simulation.specs.WorldCalls.{Call};
-ghost use Rattle.link_simulation.specs.WorldReplies.{Reply};
-ghost use Rattle.link_simulation.specs.WorldPlanned.{Planned};
-ghost use Rattle.link_simulation.specs.WorldEvents.{Obeys};
-ghost use Rattle.link_simulation.specs.WorldRefusals.{MayBeRefused, Obeyed};
-ghost use Rattle.link_simulation.specs.WorldRange.{IsInRange};
-ghost use Rattle.link_simulation.specs.WorldStands.{StandsFor};
-ghost use Rattle.link_simulation.specs.SamePlanned.{IsSamePlanned, IsSameCall, IsSameCourse};
+ghost use Rattle.link_simulation.specs.Simulation.World.{World, Completed, Course};
+ghost use Rattle.link_simulation.specs.Simulation.Calls.{Call};
+ghost use Rattle.link_simulation.specs.Simulation.Replies.{Reply};
+ghost use Rattle.link_simulation.specs.Rule.Planned.{Planned};
+ghost use Rattle.link_simulation.specs.Rule.Events.{Obeys};
+ghost use Rattle.link_simulation.specs.Rule.Refusals.{MayBeRefused, Obeyed};
+ghost use Rattle.link_simulation.specs.Rule.Range.{IsInRange};
+ghost use Rattle.link_simulation.specs.Rule.StandsFor.{StandsFor};
+ghost use Rattle.link_simulation.specs.Rule.SamePlanned.{IsSamePlanned, IsSameCall, IsSameCourse};
 
 /// On planned worlds that are the same up to equal peers a call has the same course, may be refused alike, and leaves
 /// them the same, so a list of calls may be replied to alike. They stand for the same worlds, and are in the range

@@ -1,14 +1,14 @@
 //! What a call that goes by the event rule, or is refused by it, does in the simulation.
 ghost use Rattle.std.specs.Prelude.{◌≡◌, ℕ, ◌<◌, ◌≤◌, List, Some, IfSome};
 ghost use Rattle.fair_rates.specs.declared.error.Error.{Error as AnyError};
-ghost use Rattle.link_simulation.specs.World.{World, Completed, last_moment};
-ghost use Rattle.link_simulation.specs.WorldCalls.{Call, call_advance, moment_of, IsInTurn};
-ghost use Rattle.link_simulation.specs.WorldPlanned.{Planned, next_event};
-ghost use Rattle.link_simulation.specs.WorldRefusals.{MayBeRefused};
-ghost use Rattle.link_simulation.specs.WorldStands.{StandsFor};
-ghost use Rattle.link_simulation.specs.SamePlanned.{Goes};
-ghost use Rattle.link_simulation.specs.Simulated.{IsCalled, IsRun, IsSimulated, IsNextInSimulation, KeepsRange};
-ghost use Rattle.link_simulation.specs.Simulated.{IsRefusedInSimulation, IsSplitAnywhere, KeepsToCaps};
+ghost use Rattle.link_simulation.specs.Simulation.World.{World, Completed, last_moment};
+ghost use Rattle.link_simulation.specs.Simulation.Calls.{Call, call_advance, moment_of, IsInTurn};
+ghost use Rattle.link_simulation.specs.Rule.Planned.{Planned, next_event};
+ghost use Rattle.link_simulation.specs.Rule.Refusals.{MayBeRefused};
+ghost use Rattle.link_simulation.specs.Rule.StandsFor.{StandsFor};
+ghost use Rattle.link_simulation.specs.Rule.SamePlanned.{GoesByRule};
+ghost use Rattle.link_simulation.specs.Rule.Simulated.{IsCalled, IsRun, IsSimulated, IsNextInSimulation, KeepsRange};
+ghost use Rattle.link_simulation.specs.Rule.Simulated.{IsRefusedInSimulation, IsSplitAnywhere, KeepsToCaps};
 
 /// A call that goes by the event rule runs in the simulation with the same completions and without a fault, and
 /// leaves the next event later than its moment. In the range it stays in the range. The next event is that of the
@@ -16,9 +16,9 @@ ghost use Rattle.link_simulation.specs.Simulated.{IsRefusedInSimulation, IsSplit
 pub fn calls_that_go_are_simulated<P: Ord>()
     ensures calls { (p q : Planned P) (call : Call P) (completions : List (Completed P)) →
         ((now : ℕ) → moment_of call ≡ Some now → now ≤ last_moment) →
-        Goes P.cmp p call completions q → IsSimulated P.cmp p call completions q }
+        GoesByRule P.cmp p call completions q → IsSimulated P.cmp p call completions q }
     ensures range { (p q : Planned P) (call : Call P) (completions : List (Completed P)) →
-        Goes P.cmp p call completions q → KeepsRange P.cmp p call q }
+        GoesByRule P.cmp p call completions q → KeepsRange P.cmp p call q }
     ensures next { (p : Planned P) → IsNextInSimulation P.cmp p (next_event p) }
 {}
 
@@ -33,13 +33,13 @@ pub fn refusals_are_simulated<P: Ord>()
 /// An advance may be split at any moment on the way.
 pub fn an_advance_is_split_anywhere<P: Ord>()
     ensures { (p q : Planned P) (now : ℕ) (completions : List (Completed P)) → now ≤ last_moment →
-        Goes P.cmp p (call_advance now) completions q → IsSplitAnywhere P.cmp p now completions q }
+        GoesByRule P.cmp p (call_advance now) completions q → IsSplitAnywhere P.cmp p now completions q }
 {}
 
 /// In an advance the bytes that an origin still has to send go down by no more than its egress cap lets go.
 pub fn an_advance_keeps_to_caps<P: Ord>()
     ensures { (p q : Planned P) (now : ℕ) (completions : List (Completed P)) → now ≤ last_moment →
-        Goes P.cmp p (call_advance now) completions q → KeepsToCaps P.cmp p now q }
+        GoesByRule P.cmp p (call_advance now) completions q → KeepsToCaps P.cmp p now q }
 {}
 
 /// A call before the planned next event comes in its turn, so it is known from what `next` answers. And so does one

@@ -1,11 +1,12 @@
 //! How nanoseconds add up, and that the simulation has one outcome.
 ghost use Rattle.std.specs.Prelude.{◌↔◌, ◌≡◌, ℕ, ◌+◌, ◌<◌, ◌≤◌, List, Option, Some, IfSome};
-ghost use Rattle.link_simulation.specs.WorldRates.{Parts, AreFair};
-ghost use Rattle.link_simulation.specs.World.{World, new_world, Completed, Course, goes, preceded, flows, IsQuiet};
-ghost use Rattle.link_simulation.specs.World.{EndsWith};
-ghost use Rattle.link_simulation.specs.WorldTime.{ArePositive, drifted, Drains, Passes, Ticks, Continues, NextIs};
-ghost use Rattle.link_simulation.specs.WorldTime.{IsSound};
-ghost use Rattle.link_simulation.specs.WorldCalls.{Call, call_advance, moment_of, Runs};
+ghost use Rattle.link_simulation.specs.Simulation.Rates.{Parts, AreFair};
+ghost use Rattle.link_simulation.specs.Simulation.World.{World, new_world, Completed, Course, goes, preceded, flows};
+ghost use Rattle.link_simulation.specs.Simulation.World.{IsQuiet};
+ghost use Rattle.link_simulation.specs.Simulation.World.{EndsWith};
+ghost use Rattle.link_simulation.specs.Simulation.Time.{ArePositive, drifted, Drains, Passes, Ticks, Continues, NextIs};
+ghost use Rattle.link_simulation.specs.Simulation.Time.{IsSound};
+ghost use Rattle.link_simulation.specs.Simulation.Calls.{Call, call_advance, moment_of, Runs};
 
 /// Ticking quiet nanoseconds one by one is draining once for all of them.
 pub fn a_quiet_stretch_is_one_drain<P: Ord>()

@@ -1,7 +1,7 @@
 use Rattle.std.proofs.Common.{rules, of_calls}
 use Rattle.std.proofs.lemmas.Result.{IfOk-weaker}
-use Rattle.fair_rates.proofs.Callable.{callable_on_each_pair}
-use Rattle.fair_rates.proofs.NoLinks.{counted_without_links, refused_without_links}
+use Rattle.fair_rates.proofs.Sides.Callable.{callable_on_each_pair}
+use Rattle.fair_rates.proofs.Sides.NoLinks.{counted_without_links, refused_without_links}
 use Rattle.fair_rates.proofs.bandwidth.allocate_counted.Goals as goal
 
 pub allocate_linked_counted-requires-clause-link : goal.allocate_linked_counted-requires-clause-link

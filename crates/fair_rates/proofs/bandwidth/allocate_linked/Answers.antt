@@ -1,7 +1,7 @@
 use Rattle.std.proofs.Common.{inl, inr, ◌∙◌}
 use Rattle.fair_rates.proofs.Fairness.Allocation.{allocates_under_caps}
 use Rattle.fair_rates.proofs.Filling.Frozen.{if_err}
-use Rattle.fair_rates.proofs.UnderCaps.{refused_under_caps}
+use Rattle.fair_rates.proofs.Fairness.AnswersUnderCaps.{refused_under_caps}
 use Rattle.fair_rates.proofs.bandwidth.allocate_linked.Goals as goal
 
 pub returns-in_err-rates-clause-refused_under_caps : goal.returns-in_err-rates-clause-refused_under_caps

@@ -1,13 +1,13 @@
 use Rattle.std.proofs.Common.{◌≡◌, ◌*◌, length, inl, inr, subst, sym, ap, ◌∙◌, arith}
 use Rattle.std.proofs.lemmas.Grind.{common_steps}
 use Rattle.std.proofs.lemmas.List.{length-map}
-use Rattle.fair_rates.specs.Code.{side_of}
-use Rattle.fair_rates.specs.FairParts.{product}
-use Rattle.fair_rates.specs.Rates.{HasDifferentRates, last_rate}
-use Rattle.fair_rates.proofs.Allocating.{counted}
+use Rattle.fair_rates.specs.Fairness.Exists.{product}
+use Rattle.fair_rates.specs.Sides.SideOf.{side_of}
+use Rattle.fair_rates.specs.Fairness.Rates.{HasDifferentRates, last_rate}
+use Rattle.fair_rates.proofs.Fairness.AllocatedRates.{counted}
 use Rattle.fair_rates.proofs.Filling.Frozen.{if_err}
 use Rattle.fair_rates.proofs.Filling.Rates.{rates_are_fair, rates_are_different, large_rate}
-use Rattle.fair_rates.proofs.Size.Answered.{too_large}
+use Rattle.fair_rates.proofs.Refusals.AnswersTooLarge.{too_large}
 use Rattle.fair_rates.proofs.bandwidth.allocate_linked_counted.Goals as goal
 
 pub rates-requires-clause-scale : goal.rates-requires-clause-scale

@@ -1,7 +1,7 @@
 use Rattle.std.proofs.Common.{List, subst, IsSome}
 use Rattle.std.specs.Prelude.{◌↔◌}
-use Rattle.fair_rates.specs.Fair.{Side, IsLimited, IsFair}
-use Rattle.fair_rates.specs.FairParts.{level_at, flow_parts}
+use Rattle.fair_rates.specs.Fairness.Fair.{Side, IsLimited, IsFair}
+use Rattle.fair_rates.specs.Filling.FairParts.{level_at, flow_parts}
 use Rattle.fair_rates.proofs.bandwidth.fair_parts.Goals as goal
 
 pub returns-clause-fair : goal.returns-clause-fair

@@ -3,7 +3,7 @@ use Rattle.std.specs.Ordering.{nat_cmp}
 use Rattle.std.specs.BTreeMap.{get}
 use Rattle.std.specs.Iterator.Adapters.{zip_first, zip_second}
 use Rattle.std.specs.Slice.Iter.{iter_rest}
-use Rattle.fair_rates.specs.Rates.{or_else, last_rate}
+use Rattle.fair_rates.specs.Fairness.Rates.{or_else, last_rate}
 use Rattle.fair_rates.proofs.bandwidth.rates_by_id.Given as goal
 
 abbrev pub invariant-loop-flow : goal.invariant-loop-flow

@@ -3,8 +3,8 @@ ghost use Rattle.std.specs.Prelude.{◌<◌, Some, length};
 ghost use Rattle.std.specs.Cmp.{partial_equiv_from_equiv, eq_by_cmp_equiv, partial_order_from_total};
 ghost use Rattle.std.specs.Ordering.{eq_by_cmp};
 ghost use Rattle.std.proofs.Common.{refl};
-ghost use Rattle.fair_rates.specs.Fraction.{fraction_cmp};
-ghost use Rattle.fair_rates.specs.Laws.FractionOrder.{fraction_total};
+ghost use Rattle.fair_rates.specs.Numbers.Fraction.{fraction_cmp};
+ghost use Rattle.fair_rates.specs.Numbers.FractionOrder.{fraction_total};
 
 use natural::Natural;
 use std::alloc::AllocError;
@@ -65,9 +65,10 @@ impl Ord for OpenSide {
 
 impl OpenSide {
     ghost use Rattle.std.specs.Prelude.{◌≡◌, ℕ, ◌⊎◌, All, IfSome, IfOk, MatchOption};
-    ghost use Rattle.fair_rates.specs.Fair.{Side as WholeSide};
-    ghost use Rattle.fair_rates.specs.Filling.{frozen_at, AllRise, AllFrozen, AreInside, HaveNoMore, IsWithin};
-    ghost use Rattle.fair_rates.specs.Filling.{KeepsAccount, IsGrown};
+    ghost use Rattle.fair_rates.specs.Fairness.Fair.{Side as WholeSide};
+    ghost use Rattle.fair_rates.specs.Filling.States.{frozen_at, AllRise, AllFrozen, AreInside, HaveNoMore};
+    ghost use Rattle.fair_rates.specs.Filling.States.{IsWithinSlack};
+    ghost use Rattle.fair_rates.specs.Filling.States.{KeepsAccount, IsGrown};
 
     /// Counts the users that froze since. `None` where all are frozen now.
     pub(crate) fn count_frozen(
@@ -85,7 +86,7 @@ impl OpenSide {
         ensures users { IfSome result (λ new. All (λ flow. flow < length level_of.now) new.rising.items) }
         ensures rise { IfSome result (λ new. AllRise (frozen_at levels.now level_of.now) new.rising.items) }
         ensures no_lower { IfSome result (λ new. (parts : ℕ)
-            → IsWithin parts self.slack self.rising.items → IsWithin parts new.slack new.rising.items) }
+            → IsWithinSlack parts self.slack self.rising.items → IsWithinSlack parts new.slack new.rising.items) }
         ensures changed { IfSome result (λ new. (length new.rising.items < length self.rising.items)
             ⊎ ((new.slack ≡ self.slack) × (length new.rising.items ≡ length self.rising.items))) }
     {

@@ -1,9 +1,9 @@
 use Rattle.std.proofs.Common.{[], map, sym, ap, ◌∙◌, subst}
 use Rattle.std.proofs.Math.Logic.{∥∥₁_map₂}
 use Rattle.std.proofs.lemmas.List.{map-append}
-use Rattle.p2p_simulated.specs.Conserved.{IsConserved}
-use Rattle.p2p_simulated.specs.Message.{completed_of}
-use Rattle.p2p_simulated.specs.State.{planned_of}
+use Rattle.p2p_simulated.specs.Laws.Conserved.{IsConserved}
+use Rattle.p2p_simulated.specs.Pairs.Messages.{completed_of}
+use Rattle.p2p_simulated.specs.Calls.State.{planned_of}
 use Rattle.uses.proofs.events.finish.Goals as goal
 
 -- the law of the measure, at the state before the event and at the one after it

@@ -1,8 +1,8 @@
 use Rattle.std.proofs.Common.{[], map}
-use Rattle.p2p_simulated.specs.Conserved.{IsConserved}
-use Rattle.p2p_simulated.specs.Message.{completed_of}
-use Rattle.p2p_simulated.specs.MostEvents.{most_events}
-use Rattle.p2p_simulated.specs.State.{planned_of}
+use Rattle.p2p_simulated.specs.Laws.Conserved.{IsConserved}
+use Rattle.p2p_simulated.specs.Pairs.Messages.{completed_of}
+use Rattle.p2p_simulated.specs.Laws.MostEvents.{most_events}
+use Rattle.p2p_simulated.specs.Calls.State.{planned_of}
 use Rattle.uses.proofs.events.finish.Given as goal
 
 -- no message is lost so far

@@ -2,9 +2,9 @@ use Rattle.std.proofs.Common.{[], ◌∷◌, true, map, sym, ap, ◌∙◌, subs
 use Rattle.std.proofs.Math.Logic.{∥∥₁_map₂}
 use Rattle.std.proofs.lemmas.List.{map-append}
 use Rattle.std.specs.Ordering.{nat_cmp}
-use Rattle.p2p_simulated.specs.Conserved.{IsConserved}
-use Rattle.p2p_simulated.specs.Message.{completed_of}
-use Rattle.p2p_simulated.specs.State.{planned_of, sent}
+use Rattle.p2p_simulated.specs.Laws.Conserved.{IsConserved}
+use Rattle.p2p_simulated.specs.Pairs.Messages.{completed_of}
+use Rattle.p2p_simulated.specs.Calls.State.{planned_of, sent}
 use Rattle.uses.proofs.messages.ask_and_answer.Goals as goal
 
 -- what each call conserves, one after the other

@@ -4,8 +4,8 @@ use Rattle.std.proofs.lemmas.Result.{IfOk-weaker}
 use Rattle.std.specs.BTreeMap.{get}
 use Rattle.std.specs.Cmp.{unsigned_tied}
 use Rattle.std.specs.Ordering.{nat_cmp}
-use Rattle.p2p_simulated.specs.PeerCaps.{AreOfPeers}
-use Rattle.p2p_simulated.specs.Sides.{sent_by}
+use Rattle.p2p_simulated.specs.Fairness.UnderCaps.{AreOfPeers}
+use Rattle.p2p_simulated.specs.Sides.Subjects.{sent_by}
 use Rattle.uses.specs.Senders.{sending}
 use Rattle.uses.proofs.rates.rates_within_caps.Goals as goal
 

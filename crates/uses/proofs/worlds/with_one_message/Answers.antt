@@ -1,10 +1,10 @@
 use Rattle.std.proofs.Common.{◌≡◌, ◌<◌, ℕ, Some, None, IfSome, true, refl, sym, subst, arith}
 use Rattle.std.specs.Ordering.{nat_cmp}
-use Rattle.p2p_simulated.specs.Simulated.{IsCalled}
-use Rattle.p2p_simulated.specs.State.{planned_of, sent}
-use Rattle.p2p_simulated.specs.World.{new_world}
-use Rattle.p2p_simulated.specs.WorldCalls.{Call, call_limit, call_enqueue}
-use Rattle.p2p_simulated.specs.WorldPlanned.{next_event}
+use Rattle.p2p_simulated.specs.Rule.Simulated.{IsCalled}
+use Rattle.p2p_simulated.specs.Calls.State.{planned_of, sent}
+use Rattle.p2p_simulated.specs.Simulation.World.{new_world}
+use Rattle.p2p_simulated.specs.Simulation.Calls.{Call, call_limit, call_enqueue}
+use Rattle.p2p_simulated.specs.Rule.Planned.{next_event}
 use Rattle.uses.proofs.worlds.with_one_message.Goals as goal
 
 -- the first call comes before any event, and the second at the moment of the first

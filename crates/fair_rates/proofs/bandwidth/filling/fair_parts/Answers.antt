@@ -4,10 +4,10 @@ use Rattle.std.specs.declared.cmp.Reverse.{Reverse}
 use Rattle.std.proofs.lemmas.Grind.{common_steps}
 use Rattle.std.proofs.lemmas.List.{length-map, length-replicate}
 use Rattle.std.proofs.lemmas.List.Elements.{All-nil}
-use Rattle.fair_rates.specs.Code.{side_of}
-use Rattle.fair_rates.specs.Fair.{Side}
-use Rattle.fair_rates.specs.FairParts.{product}
-use Rattle.fair_rates.specs.Filling.{frozen_at, top, IsQueue, IsSound, IsLeast, AreAbove, AllFilled, IsRaised, AreAtTop}
+use Rattle.fair_rates.specs.Fairness.Exists.{product}
+use Rattle.fair_rates.specs.Sides.SideOf.{side_of}
+use Rattle.fair_rates.specs.Fairness.Fair.{Side}
+use Rattle.fair_rates.specs.Filling.States.{frozen_at, top, IsQueue, IsShareQueue, IsLeast, AreAbove, AllFilled, IsRaised, AreAtTop}
 use Rattle.fair_rates.specs.declared.bandwidth.filling.open.OpenSide.{OpenSide}
 use Rattle.fair_rates.proofs.Filling.Frozen.{some_of_if, match_some, match_none, on_some_of}
 use Rattle.fair_rates.proofs.Filling.Levels.{few_more}
@@ -63,7 +63,7 @@ loop-found-preserved c =
     subst (λ xs. IsQueue sides found.scale (frozen_at xs E) old) (sym d) (subst (λ xs. IsQueue sides found.scale (frozen_at levels xs) old) (sym e) course.queue) in
     let there : IsTaken sides found.scale D E (top levels) side rest = record {
       users = some_of_if (λ (s : OpenSide). All (λ flow. flow < length E) s.rising.items) o next.users side is;
-      sound = some_of_if (λ (s : OpenSide). IsSound (length E) (frozen_at D E) rest) o next.sound side is;
+      sound = some_of_if (λ (s : OpenSide). IsShareQueue (length E) (frozen_at D E) rest) o next.sound side is;
       least = some_of_if (λ (s : OpenSide). IsLeast (frozen_at D E) s rest) o next.least side is;
       queue = match_some (AllFilled sides (frozen_at D E)) (λ (s : OpenSide). IsQueue sides found.scale (frozen_at D E) (record { 0 = s } ∷ rest)) o (next.queue sides found.scale queue) side is;
       above = some_of_if (λ (s : OpenSide). (parts : ℕ) → AreAbove parts old → AreAbove parts (record { 0 = s } ∷ rest)) o next.no_lower side is (top levels) course.above;

@@ -4,7 +4,7 @@ use Rattle.std.specs.declared.cmp.Reverse.{Reverse}
 use Rattle.std.proofs.lemmas.Grind.{common_steps}
 use Rattle.std.proofs.lemmas.List.Elements.{All-tail, All-weaker}
 use Rattle.std.proofs.lemmas.List.Sorted.{All-permutation, sum_by_popped, sum_by_pushed}
-use Rattle.fair_rates.specs.Filling.{frozen_at, IsWithin}
+use Rattle.fair_rates.specs.Filling.States.{frozen_at, IsWithinSlack}
 use Rattle.fair_rates.specs.declared.bandwidth.filling.open.OpenSide.{OpenSide}
 use Rattle.fair_rates.proofs.Filling.Account.{risers_have_no_more}
 use Rattle.fair_rates.proofs.Filling.Frozen.{match_none}
@@ -83,7 +83,7 @@ loop-least-preserved-in-Continue-1 c =
       queue = λ sides scale queue. queue_permuted scale frozen sides (new ∷ rest) later pushed
           (queue_counted scale frozen sides x new rest (λ side account. c.in-Some-count_frozen.ensures.account side scale account)
           (queue_permuted scale frozen sides xs (x ∷ rest) popped (c.loop-least.invariant.queue sides scale queue)));
-      no_lower = λ parts above. All-permutation (λ (o : Reverse OpenSide). IsWithin parts o.0.slack o.0.rising.items) (new ∷ rest) later pushed
+      no_lower = λ parts above. All-permutation (λ (o : Reverse OpenSide). IsWithinSlack parts o.0.slack o.0.rising.items) (new ∷ rest) later pushed
           (above_counted parts xs rest x new popped (c.in-Some-count_frozen.ensures.no_lower parts) (c.loop-least.invariant.no_lower parts above));
       fewer = omega (arith, c.loop-least.invariant.fewer, c.in-Some.ensures.len, c.in_ok-push.ensures.len);
     }
@@ -106,7 +106,7 @@ loop-least-preserved c =
       queue = λ sides scale queue. queue_filled scale frozen sides x rest
           (λ side account. match_none _ _ c.count_frozen.result (c.count_frozen.ensures.account side scale account) c.in_default-count_frozen.is)
           (queue_permuted scale frozen sides xs (x ∷ rest) popped (c.loop-least.invariant.queue sides scale queue));
-      no_lower = λ parts above. All-tail (λ (o : Reverse OpenSide). IsWithin parts o.0.slack o.0.rising.items) x rest (All-permutation (λ (o : Reverse OpenSide). IsWithin parts o.0.slack o.0.rising.items) xs (x ∷ rest) popped (c.loop-least.invariant.no_lower parts above));
+      no_lower = λ parts above. All-tail (λ (o : Reverse OpenSide). IsWithinSlack parts o.0.slack o.0.rising.items) x rest (All-permutation (λ (o : Reverse OpenSide). IsWithinSlack parts o.0.slack o.0.rising.items) xs (x ∷ rest) popped (c.loop-least.invariant.no_lower parts above));
       fewer = omega (arith, c.loop-least.invariant.fewer, c.in-Some.ensures.len);
     }
 

@@ -1,12 +1,12 @@
 use Rattle.std.proofs.Common.{ℕ, ◌+◌, ◌≤◌, List, length, sum_by}
 use Rattle.std.specs.BinaryHeap.{heap_items, heap_len}
-use Rattle.fair_rates.specs.Fair.{Side}
-use Rattle.fair_rates.specs.Filling.{frozen_at, IsQueue, IsSound, AreAbove}
+use Rattle.fair_rates.specs.Fairness.Fair.{Side}
+use Rattle.fair_rates.specs.Filling.States.{frozen_at, IsQueue, IsShareQueue, AreAbove}
 use Rattle.fair_rates.proofs.bandwidth.filling.next_side.Given as goal
 
 abbrev pub invariant-loop-least : goal.invariant-loop-least
 invariant-loop-least l = record {
-  sound : IsSound (length l.level_of) (frozen_at l.levels l.level_of) (heap_items l.queue);
+  sound : IsShareQueue (length l.level_of) (frozen_at l.levels l.level_of) (heap_items l.queue);
   queue : (sides : List Side) (scale : ℕ) → IsQueue sides scale (frozen_at l.levels l.level_of) (heap_items l.initial.queue)
       → IsQueue sides scale (frozen_at l.levels l.level_of) (heap_items l.queue);
   no_lower : (parts : ℕ) → AreAbove parts (heap_items l.initial.queue) → AreAbove parts (heap_items l.queue);

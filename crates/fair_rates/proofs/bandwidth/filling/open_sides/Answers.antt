@@ -2,7 +2,7 @@ use Rattle.std.proofs.Common.{◌∷◌, [], refl, subst, sym, length-append, ar
 use Rattle.std.specs.BinaryHeap.{heap_items}
 use Rattle.std.proofs.lemmas.Grind.{common_steps}
 use Rattle.fair_rates.specs.declared.bandwidth.sides.Side.{Side}
-use Rattle.fair_rates.specs.Filling.{AreOpened}
+use Rattle.fair_rates.specs.Filling.States.{AreOpened}
 use Rattle.fair_rates.proofs.Filling.Queue.{opened_none, opened_more, opened_without}
 use Rattle.fair_rates.proofs.bandwidth.filling.open_sides.Goals as goal
 

@@ -1,6 +1,6 @@
 use Rattle.std.specs.Fn.{CalledAt, CalledAtTwo}
-use Rattle.fair_rates.specs.Answers.{NoLink}
-use Rattle.fair_rates.proofs.Fairness.Answered.{answers_are_those_of_the_caps}
+use Rattle.fair_rates.specs.Sides.Answers.{NoLink}
+use Rattle.fair_rates.proofs.Sides.Answers.{answers_are_those_of_the_caps}
 use Rattle.fair_rates.proofs.bandwidth.laws.answers_are_those_of_the_caps.Goals as goal
 
 pub returns-clause-plain : goal.returns-clause-plain

@@ -1,9 +1,9 @@
 use Rattle.std.proofs.Common.{ℕ, subst, le_refl}
-use Rattle.fair_rates.specs.Fair.{IsFair}
-use Rattle.fair_rates.specs.Size.{AreWholeOver}
-use Rattle.fair_rates.proofs.Denominators.{denominator_of, is_least_multiple, one_multiple, first_multiples}
-use Rattle.fair_rates.proofs.Size.Exists.{fair_parts}
-use Rattle.fair_rates.proofs.Size.WholeRates.{whole_rates}
+use Rattle.fair_rates.specs.Fairness.Fair.{IsFair}
+use Rattle.fair_rates.specs.Refusals.FairRatesFit.{AreWholeOver}
+use Rattle.fair_rates.proofs.Fairness.Denominators.{denominator_of, is_least_multiple, one_multiple, first_multiples}
+use Rattle.fair_rates.proofs.Filling.FairPartsExist.{fair_parts}
+use Rattle.fair_rates.proofs.Fairness.WholeRates.{whole_rates}
 use Rattle.fair_rates.proofs.bandwidth.laws.fair_amounts_exist.Goals as goal
 
 pub returns-clause-exist : goal.returns-clause-exist

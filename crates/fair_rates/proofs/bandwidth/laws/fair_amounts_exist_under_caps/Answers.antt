@@ -1,4 +1,4 @@
-use Rattle.fair_rates.proofs.Size.UnderCaps.{exist_under_caps}
+use Rattle.fair_rates.proofs.Fairness.ExistUnderCaps.{exist_under_caps}
 use Rattle.fair_rates.proofs.bandwidth.laws.fair_amounts_exist_under_caps.Goals as goal
 
 pub returns : goal.returns

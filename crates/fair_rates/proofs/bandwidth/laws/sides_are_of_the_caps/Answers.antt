@@ -1,4 +1,4 @@
-use Rattle.fair_rates.proofs.Fairness.CapSides.{sides_are_of_the_caps}
+use Rattle.fair_rates.proofs.Sides.CapSides.{sides_are_of_the_caps}
 use Rattle.fair_rates.proofs.bandwidth.laws.sides_are_of_the_caps.Goals as goal
 
 pub returns : goal.returns

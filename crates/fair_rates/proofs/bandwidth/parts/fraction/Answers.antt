@@ -2,10 +2,10 @@ use Rattle.std.proofs.Common.{◌≡◌, ℕ, Option, None, IsSome, ◌*◌, ◌
 use Rattle.std.specs.Prelude.{◌↔◌}
 use Rattle.std.proofs.lemmas.Grind.{common_steps}
 use Rattle.std.proofs.lemmas.List.{take_all}
-use Rattle.fair_rates.specs.Amount.{gcd}
-use Rattle.fair_rates.specs.FairParts.{product}
-use Rattle.fair_rates.specs.Fraction.{IsReduced}
-use Rattle.fair_rates.specs.Laws.LowestTerms.{whole_IsReduced}
+use Rattle.fair_rates.specs.Fairness.Exists.{product}
+use Rattle.fair_rates.specs.Numbers.Amount.{gcd}
+use Rattle.fair_rates.specs.Numbers.Fraction.{IsReduced}
+use Rattle.fair_rates.specs.Numbers.LowestTerms.{whole_IsReduced}
 use Rattle.fair_rates.proofs.Filling.Fractions.{product_next, product_positive, shared_is, shared_positive, rest_positive, lowest_next, worth_next, large_numerator, large_denominator}
 use Rattle.fair_rates.proofs.Filling.Frozen.{none_by, ok_by, not_some, if_err, some_of_if}
 use Rattle.fair_rates.proofs.bandwidth.parts.fraction.Goals as goal

@@ -1,8 +1,8 @@
 use Rattle.std.proofs.Common.{rules, sym, ◌∙◌, ◌≡◌, refl, ap, cond, length, vec_len, Some, None, ◌++◌, ◌∷◌, []}
-use Rattle.fair_rates.specs.Registering.{subject_of, number_of}
-use Rattle.fair_rates.specs.Sides.{same_subject}
+use Rattle.fair_rates.specs.Sides.Registry.{subject_of, number_of}
+use Rattle.fair_rates.specs.Sides.Subjects.{same_subject}
 use Rattle.fair_rates.specs.declared.bandwidth.sides.Subject.{Subject}
-use Rattle.fair_rates.proofs.Registry.{got, by_subject, found, absent, opens, finds_more}
+use Rattle.fair_rates.proofs.Sides.Registry.{got, by_subject, found, absent, opens, finds_more}
 use Rattle.fair_rates.proofs.bandwidth.sides.register.Goals as goal
 
 pub index_mut-requires : goal.index_mut-requires

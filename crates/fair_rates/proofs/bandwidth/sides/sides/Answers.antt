@@ -1,14 +1,14 @@
 use Rattle.std.proofs.Common.{refl, [], sym, ◌∙◌, ◌≡◌, ◌+◌, arith, subst, take, drop, None, get_or, ◌<◌}
 use Rattle.std.specs.Fn.{CalledAt, TakesAt, CalledAtTwo, TakesAtTwo}
 use Rattle.std.proofs.lemmas.List.{take_all, nil_from_length}
-use Rattle.fair_rates.specs.Answers.{Answered, States, CallsFor, CallableOnEach, recipients}
-use Rattle.fair_rates.specs.Sides.{received_by}
-use Rattle.fair_rates.specs.Registering.{FindsSides}
-use Rattle.fair_rates.proofs.EachLater.{AllPairs-from_later}
-use Rattle.fair_rates.proofs.Registry.{nothing_registered, finds_sides}
-use Rattle.fair_rates.proofs.Asking.{Asked, registers_it, registers_nothing}
-use Rattle.fair_rates.proofs.FlowByFlow.{Passed, passed, called, not_called, origin_next, recipient_next, recipient_skip, pair_next}
-use Rattle.fair_rates.proofs.SideUsers.{users_of}
+use Rattle.fair_rates.specs.Sides.Answers.{Answered, States, CallsFor, CallableOnEach, recipients}
+use Rattle.fair_rates.specs.Sides.Subjects.{received_by}
+use Rattle.fair_rates.specs.Sides.Registry.{FindsSides}
+use Rattle.fair_rates.proofs.Lists.AllPairs.{AllPairs-from_later}
+use Rattle.fair_rates.proofs.Sides.Registry.{nothing_registered, finds_sides}
+use Rattle.fair_rates.proofs.Sides.Asking.{Asked, registers_it, registers_nothing}
+use Rattle.fair_rates.proofs.Sides.FlowByFlow.{Passed, passed, called, not_called, origin_next, recipient_next, recipient_skip, pair_next}
+use Rattle.fair_rates.proofs.Sides.Users.{users_of}
 use Rattle.fair_rates.proofs.bandwidth.sides.sides.Goals.{then-flow+in_ok-register-2, else-flow}
 use Rattle.fair_rates.proofs.bandwidth.sides.sides.Goals as goal
 

@@ -1,7 +1,7 @@
 use Rattle.std.proofs.Common.{drop}
 use Rattle.std.specs.Fn.{CalledAt, TakesAt, CalledAtTwo, TakesAtTwo}
-use Rattle.fair_rates.specs.Answers.{CallableOnEach, CallableOnEachPair, origins, recipients, pairs}
-use Rattle.fair_rates.proofs.FlowByFlow.{Passed}
+use Rattle.fair_rates.specs.Sides.Answers.{CallableOnEach, CallableOnEachPair, origins, recipients, pairs}
+use Rattle.fair_rates.proofs.Sides.FlowByFlow.{Passed}
 use Rattle.fair_rates.proofs.bandwidth.sides.sides.Given as goal
 
 abbrev pub invariant-loop-place : goal.invariant-loop-place

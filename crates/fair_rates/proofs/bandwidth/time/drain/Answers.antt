@@ -1,8 +1,8 @@
 use Rattle.std.proofs.Common.{inl, refl, sym}
 use Rattle.std.proofs.lemmas.Bool.{false≢true}
-use Rattle.fair_rates.specs.Laws.FractionOrder.{le_if_tested, greater_if_tested}
-use Rattle.fair_rates.proofs.FractionFits.{none_iff}
-use Rattle.fair_rates.proofs.Taken.{taking_from_seconds, taking_fits, taken_from_product, covers_iff, leaves_iff, all_drained, drained_to_zero}
+use Rattle.fair_rates.specs.Numbers.FractionOrder.{le_if_tested, greater_if_tested}
+use Rattle.fair_rates.proofs.Numbers.Fits.{none_iff}
+use Rattle.fair_rates.proofs.Numbers.Transfer.{taking_from_seconds, taking_fits, taken_from_product, covers_iff, leaves_iff, all_drained, drained_to_zero}
 use Rattle.fair_rates.proofs.bandwidth.time.drain.Goals as goal
 
 pub returns-in_err-taken-clause-fits : goal.returns-in_err-taken-clause-fits

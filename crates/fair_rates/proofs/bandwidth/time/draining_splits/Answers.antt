@@ -1,4 +1,4 @@
-use Rattle.fair_rates.proofs.Draining.{left_after_twice}
+use Rattle.fair_rates.proofs.Numbers.Draining.{left_after_twice}
 use Rattle.fair_rates.proofs.bandwidth.time.draining_splits.Goals as goal
 
 pub returns : goal.returns

@@ -1,4 +1,4 @@
-use Rattle.fair_rates.proofs.LeastTime.{some_least}
+use Rattle.fair_rates.proofs.Numbers.LeastTime.{some_least}
 use Rattle.fair_rates.proofs.bandwidth.time.there_is_one_least_time.Goals as goal
 
 pub returns-clause-some : goal.returns-clause-some

@@ -1,4 +1,4 @@
-use Rattle.fair_rates.proofs.FractionFits.{sum_worth}
+use Rattle.fair_rates.proofs.Numbers.Fits.{sum_worth}
 use Rattle.fair_rates.proofs.ratio.Ratio.checked_add.Goals as goal
 
 pub returns-clause-value : goal.returns-clause-value

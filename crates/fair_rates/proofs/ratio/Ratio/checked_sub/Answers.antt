@@ -1,5 +1,5 @@
 use Rattle.std.proofs.Common.{refl}
-use Rattle.fair_rates.proofs.FractionFits.{difference_worth, no_greater_is, none_iff}
+use Rattle.fair_rates.proofs.Numbers.Fits.{difference_worth, no_greater_is, none_iff}
 use Rattle.fair_rates.proofs.ratio.Ratio.checked_sub.Goals as goal
 
 pub returns-in_err-rest-clause-fits : goal.returns-in_err-rest-clause-fits

@@ -1,7 +1,7 @@
 use Rattle.std.proofs.Common.{◌≡◌, ◌<◌, ◌∙◌, sym, ap, subst}
-use Rattle.fair_rates.specs.Amount.{Amount, reduced}
-use Rattle.fair_rates.specs.Fraction.{IsReduced}
-use Rattle.fair_rates.specs.Laws.LowestTerms.{amount_is, reduced_is, reduced_lowest, reduced_positive, reduced_IsReduced, whole_IsReduced}
+use Rattle.fair_rates.specs.Numbers.Amount.{Amount, reduced}
+use Rattle.fair_rates.specs.Numbers.Fraction.{IsReduced}
+use Rattle.fair_rates.specs.Numbers.LowestTerms.{amount_is, reduced_is, reduced_lowest, reduced_positive, reduced_IsReduced, whole_IsReduced}
 use Rattle.fair_rates.proofs.ratio.Ratio.lowest.Goals as goal
 
 found : (c : goal.After-quotient-2) → reduced c.args.num c.args.den ≡ record { num = c.quotient.result; den = c.quotient-2.result }

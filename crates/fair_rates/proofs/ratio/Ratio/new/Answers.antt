@@ -1,5 +1,5 @@
 use Rattle.std.proofs.Common.{arith}
-use Rattle.fair_rates.proofs.FractionFits.{worth_if_reduced}
+use Rattle.fair_rates.proofs.Numbers.Fits.{worth_if_reduced}
 use Rattle.fair_rates.proofs.ratio.Ratio.new.Goals as goal
 
 pub returns-clause-value : goal.returns-clause-value

@@ -1,7 +1,7 @@
 use Rattle.std.proofs.Common.{◌^◌, ◌<◌, refl, rules}
-use Rattle.fair_rates.specs.Fits.{AreOverCommon}
-use Rattle.fair_rates.specs.Ratio.{amount_of}
-use Rattle.fair_rates.proofs.FractionFits.{over_equal, over_fits, common-pos}
+use Rattle.fair_rates.specs.Numbers.Fits.{AreOverCommon}
+use Rattle.fair_rates.specs.Numbers.Ratio.{amount_of}
+use Rattle.fair_rates.proofs.Numbers.Fits.{over_equal, over_fits, common-pos}
 use Rattle.fair_rates.proofs.ratio.Ratio.over_common.Goals as goal
 
 over : (c : goal.After-result-1) → AreOverCommon (amount_of c.args.self) (amount_of c.args.other) c.args.self.numerator c.args.other.numerator c.args.self.denominator

@@ -1,10 +1,10 @@
 use Rattle.std.proofs.Common.{◌*◌, ◌<◌, ◌∙◌, sym, refl, subst}
 use Rattle.std.proofs.Math.Nat.{mul-pos}
-use Rattle.fair_rates.specs.Amount.{times}
-use Rattle.fair_rates.specs.Fraction.{IsReduced}
-use Rattle.fair_rates.specs.Ratio.{amount_of}
-use Rattle.fair_rates.specs.Laws.LowestTerms.{amount_is}
-use Rattle.fair_rates.proofs.FractionFits.{reduced_product, fits_if_known, none_iff, worth_if_reduced}
+use Rattle.fair_rates.specs.Numbers.Amount.{times}
+use Rattle.fair_rates.specs.Numbers.Fraction.{IsReduced}
+use Rattle.fair_rates.specs.Numbers.Ratio.{amount_of}
+use Rattle.fair_rates.specs.Numbers.LowestTerms.{amount_is}
+use Rattle.fair_rates.proofs.Numbers.Fits.{reduced_product, fits_if_known, none_iff, worth_if_reduced}
 use Rattle.fair_rates.proofs.ratio.Ratio.product.Goals as goal
 
 pub returns-in_err-numerator-clause-fits : goal.returns-in_err-numerator-clause-fits

@@ -1,4 +1,4 @@
-use Rattle.fair_rates.proofs.Ratios.{one_ratio}
+use Rattle.fair_rates.proofs.Numbers.Ratio.{one_ratio}
 use Rattle.fair_rates.proofs.ratio.laws.each_value_has_one_fraction.Goals as goal
 
 pub returns : goal.returns

@@ -1,5 +1,5 @@
 use Rattle.std.proofs.Common.{◌∙◌}
-use Rattle.fair_rates.specs.Laws.FractionOrder.{over_one_denominator}
+use Rattle.fair_rates.specs.Numbers.FractionOrder.{over_one_denominator}
 use Rattle.fair_rates.proofs.ratio.numbers.order.Goals as goal
 
 pub returns-then-b-d : goal.returns-then-b-d

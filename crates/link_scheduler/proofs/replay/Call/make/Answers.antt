@@ -1,6 +1,6 @@
 use Rattle.std.proofs.Common.{ap}
 use Rattle.std.proofs.lemmas.Result.{err_from_is_err_and}
-use Rattle.link_scheduler.specs.State.{planned_of}
+use Rattle.link_scheduler.specs.Calls.State.{planned_of}
 use Rattle.link_scheduler.proofs.replay.Call.make.Goals as goal
 use Rattle.link_scheduler.proofs.replay.Call.make.Goals.{in-Limit+in_ok-completions-in-Limit, in-LimitLink+in_ok-completions-in-LimitLink, in-Enqueue+in_ok-completions-in-Enqueue, in-Advance+in_ok-completions-in-Advance}
 

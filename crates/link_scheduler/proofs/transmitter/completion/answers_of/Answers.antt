@@ -1,12 +1,12 @@
 use Rattle.std.proofs.Common.{◌≡◌, ◌+◌, List, [], ◌∷◌, ◌++◌, length, map, take, sym, ap, ◌∙◌, subst, arith}
 use Rattle.std.specs.List.{AllZip}
 use Rattle.std.proofs.lemmas.List.{map-append, take_more}
-use Rattle.link_simulation.specs.World.{Completed}
-use Rattle.link_simulation.specs.WorldReplies.{SameCompletion}
-use Rattle.link_simulation.proofs.Zips.{zip-push}
+use Rattle.std.proofs.Math.Seq.{take-length}
+use Rattle.link_simulation.specs.Simulation.World.{Completed}
+use Rattle.link_simulation.specs.Simulation.Replies.{SameCompletion}
+use Rattle.fair_rates.proofs.Lists.Zips.{zip-push}
 use Rattle.link_scheduler.specs.declared.transmitter.completion.Ended.{Ended}
-use Rattle.link_scheduler.specs.Message.{completed_of, ended_of}
-use Rattle.link_scheduler.proofs.Copies.{take-whole}
+use Rattle.link_scheduler.specs.Pairs.Messages.{completed_of, ended_of}
 use Rattle.link_scheduler.proofs.transmitter.completion.answers_of.Goals as goal
 
 pub loop-one-preserved : goal.loop-one-preserved
@@ -23,5 +23,5 @@ loop-one-preserved g c =
 pub returns-clause-same : goal.returns-clause-same
 returns-clause-same g c =
     let whole : c.loop-one.one-index ≡ length c.args.ended.now = omega arith in
-    let all : take c.loop-one.one-index c.args.ended.now ≡ c.args.ended.now = ap (λ n. take n c.args.ended.now) whole ∙ take-whole c.args.ended.now in
+    let all : take c.loop-one.one-index c.args.ended.now ≡ c.args.ended.now = ap (λ n. take n c.args.ended.now) whole ∙ take-length c.args.ended.now in
     subst (λ (l : List (Ended g.row.P.Denot)). AllZip (SameCompletion g.P.Ord.cmp) (map completed_of c.loop-one.answers.items) (map ended_of l)) all c.loop-one.invariant

@@ -1,7 +1,7 @@
 use Rattle.std.proofs.Common.{◌<◌, length, get_or, arith}
 use Rattle.std.proofs.lemmas.List.{get_or_default}
-use Rattle.link_scheduler.specs.Progress.{DrainsTo}
-use Rattle.link_scheduler.proofs.InPlace.{unchanged, one_more, all_changed}
+use Rattle.link_scheduler.specs.Flights.Progress.{DrainsTo}
+use Rattle.fair_rates.proofs.Lists.InPlace.{unchanged, one_more, all_changed}
 use Rattle.link_scheduler.proofs.transmitter.drain.drain_all.Goals as goal
 
 pub loop-one-init : goal.loop-one-init

@@ -1,5 +1,5 @@
-use Rattle.link_scheduler.specs.Progress.{DrainsTo}
-use Rattle.link_scheduler.proofs.InPlace.{IsChangedUpTo}
+use Rattle.link_scheduler.specs.Flights.Progress.{DrainsTo}
+use Rattle.fair_rates.proofs.Lists.InPlace.{IsChangedUpTo}
 use Rattle.link_scheduler.proofs.transmitter.drain.drain_all.Given as goal
 
 abbrev pub invariant-loop-one : goal.invariant-loop-one

@@ -1,9 +1,9 @@
 use Rattle.std.proofs.Common.{◌<◌, length, get_or, arith}
 use Rattle.std.proofs.lemmas.List.{get_or_default}
-use Rattle.fair_rates.specs.FairParts.{product}
-use Rattle.link_scheduler.specs.Progress.{GrowsBy, IsSameSent}
-use Rattle.link_scheduler.proofs.InPlace.{unchanged, one_more, all_changed, weakly_changed, changed_but_one}
-use Rattle.link_scheduler.proofs.Progressing.{same_sent, left_is_same, grown_is_same}
+use Rattle.fair_rates.specs.Fairness.Exists.{product}
+use Rattle.link_scheduler.specs.Flights.Progress.{GrowsBy, IsSameSent}
+use Rattle.fair_rates.proofs.Lists.InPlace.{unchanged, one_more, all_changed, weakly_changed, changed_but_one}
+use Rattle.link_scheduler.proofs.Flights.Progress.{same_sent, left_is_same, grown_is_same}
 use Rattle.link_scheduler.proofs.transmitter.drain.grow_all.Goals as goal
 
 pub loop-one-init : goal.loop-one-init

@@ -1,7 +1,7 @@
 use Rattle.std.proofs.Common.{◌<◌, length, get_or, None, arith}
 use Rattle.std.proofs.lemmas.List.{get_or_default}
 use Rattle.std.proofs.lemmas.Option.{get_or_from_slice_get}
-use Rattle.link_scheduler.proofs.Rating.{none_levelled, next, old_there, one_levelled, all_levelled}
+use Rattle.link_scheduler.proofs.Flights.Rating.{none_levelled, next, old_there, one_levelled, all_levelled}
 use Rattle.link_scheduler.proofs.transmitter.rate.rate_all.Goals as goal
 
 pub loop-place-init : goal.loop-place-init

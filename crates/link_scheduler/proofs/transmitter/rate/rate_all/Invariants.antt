@@ -1,4 +1,4 @@
-use Rattle.link_scheduler.proofs.Rating.{AreLevelledUpTo}
+use Rattle.link_scheduler.proofs.Flights.Rating.{AreLevelledUpTo}
 use Rattle.link_scheduler.proofs.transmitter.rate.rate_all.Given as goal
 
 abbrev pub invariant-loop-place : goal.invariant-loop-place

@@ -1,11 +1,11 @@
 use Rattle.std.proofs.Common.{◌≡◌, ◌<◌, ℕ, List, Option, length, sym, ◌∙◌, ap, subst, arith}
 use Rattle.std.specs.List.{AllZip}
-use Rattle.fair_rates.specs.FairParts.{product}
-use Rattle.link_scheduler.specs.Progress.{GrowsBy, IsSameSent, levelled}
-use Rattle.link_simulation.specs.WorldPlanned.{IsLeastMoment}
-use Rattle.link_scheduler.specs.Progress.{SomeRunsOutAt}
-use Rattle.link_scheduler.proofs.Progressing.{still_some, levelled_is_same, same_sent_trans}
-use Rattle.link_simulation.proofs.Zips.{zip_chain}
+use Rattle.fair_rates.specs.Fairness.Exists.{product}
+use Rattle.link_scheduler.specs.Flights.Progress.{GrowsBy, IsSameSent, levelled}
+use Rattle.link_simulation.specs.Rule.Planned.{IsLeastMoment}
+use Rattle.link_scheduler.specs.Flights.Progress.{SomeRunsOutAt}
+use Rattle.link_scheduler.proofs.Flights.Progress.{still_some, levelled_is_same, same_sent_trans}
+use Rattle.fair_rates.proofs.Lists.Zips.{zip_chain}
 use Rattle.link_scheduler.proofs.transmitter.rate.rerate_all.Goals as goal
 
 pub rate_all-requires-clause-left : goal.rate_all-requires-clause-left

@@ -1,7 +1,7 @@
 use Rattle.std.proofs.Common.{◌≡◌, refl, sym, ap, ◌∙◌, arith}
-use Rattle.fair_rates.specs.Amount.{Amount, reduced}
-use Rattle.link_scheduler.proofs.Fractions.{exact_reading}
-use Rattle.link_scheduler.proofs.Units.{no_units}
+use Rattle.fair_rates.specs.Numbers.Amount.{Amount, reduced}
+use Rattle.link_scheduler.proofs.Flights.ShortTerms.{exact_reading}
+use Rattle.link_scheduler.proofs.Flights.Units.{no_units}
 use Rattle.link_scheduler.proofs.transmitter.reading.read_rate.Goals as goal
 
 pub returns-in-None-clause-read : goal.returns-in-None-clause-read

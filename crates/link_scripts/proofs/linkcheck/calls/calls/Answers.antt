@@ -1,6 +1,6 @@
 use Rattle.std.proofs.Common.{◌≡◌, ◌+◌, ◌∷◌, ◌++◌, [], take, map, rules, ap, ◌∙◌}
 use Rattle.std.proofs.lemmas.List.{take_more}
-use Rattle.link_scheduler.specs.Replay.{call_of}
+use Rattle.link_scheduler.specs.Calls.Replay.{call_of}
 use Rattle.link_scripts.proofs.Tracing.{next_call}
 use Rattle.link_scripts.proofs.linkcheck.calls.calls.Goals as goal
 

@@ -1,7 +1,7 @@
 use Rattle.std.proofs.Common.{ap, sym, subst, ◌∙◌}
 use Rattle.std.proofs.lemmas.Result.{on_ok_weaker}
 use Rattle.std.specs.Io.KnownBytes.{Appends}
-use Rattle.link_scheduler.specs.Replay.{reply_of}
+use Rattle.link_scheduler.specs.Calls.Replay.{reply_of}
 use Rattle.link_scripts.specs.Answer.{done_text}
 use Rattle.link_scripts.specs.Trace.{reply_text}
 use Rattle.link_scripts.proofs.Tracing.{done_text_of}

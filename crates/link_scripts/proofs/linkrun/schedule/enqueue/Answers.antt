@@ -1,12 +1,12 @@
 use Rattle.std.proofs.Common.{ℕ, List, IfOk, IfErr, subst}
-use Rattle.link_scripts.specs.Schedule.{message_of}
-use Rattle.link_scheduler.specs.State.{IsMade, IsRefused}
-use Rattle.link_simulation.specs.WorldCalls.{Call, call_enqueue}
+use Rattle.link_scripts.specs.Schedule.{message_of_parcel}
+use Rattle.link_scheduler.specs.Calls.State.{IsMade, IsRefused}
+use Rattle.link_simulation.specs.Simulation.Calls.{Call, call_enqueue}
 use Rattle.link_scripts.proofs.linkrun.schedule.enqueue.Goals as goal
 
 -- the call with these bytes
 abbrev enqueued : (c : goal.After-enqueue) → List ℕ → Call ℕ
-enqueued c bytes = call_enqueue c.args.parcel.now (record (message_of c.args.parcel) { bytes = bytes })
+enqueued c bytes = call_enqueue c.args.parcel.now (record (message_of_parcel c.args.parcel) { bytes = bytes })
 
 pub returns-clause-made : goal.returns-clause-made
 returns-clause-made c =

@@ -1,4 +1,4 @@
-use Rattle.link_simulation.proofs.World.Alone.{alone, delivered_arrives}
+use Rattle.link_simulation.proofs.Laws.Alone.{alone, delivered_arrives}
 use Rattle.link_simulation.proofs.model.alone.a_message_alone_takes_its_least_time.Goals as goal
 
 pub returns-clause-done : goal.returns-clause-done

@@ -2,12 +2,12 @@ use Rattle.std.proofs.Common.{[], ◌∷◌, None, refl}
 use Rattle.std.specs.Ordering.{nat_cmp}
 use Rattle.std.proofs.lemmas.Cmp.{nat_cmp_total}
 use Rattle.fair_rates.specs.declared.error.Error.TheVariants.{MomentTooLate, FlowIdsUsedUp}
-use Rattle.fair_rates.specs.Amount.{reduced, gcd_within}
-use Rattle.link_simulation.specs.WorldCalls.{call_limit, call_enqueue}
-use Rattle.link_simulation.specs.WorldReplies.{reply_done, reply_refused}
-use Rattle.link_simulation.specs.WorldRows.{message, dropped, a_byte_a_nanosecond}
-use Rattle.link_simulation.proofs.World.ComputedReplies.{evenly}
-use Rattle.link_simulation.proofs.World.ComputedDifferences.{never_agree}
+use Rattle.fair_rates.specs.Numbers.Amount.{reduced, gcd_within}
+use Rattle.link_simulation.specs.Simulation.Calls.{call_limit, call_enqueue}
+use Rattle.link_simulation.specs.Simulation.Replies.{reply_done, reply_refused}
+use Rattle.link_simulation.specs.Examples.Rows.{message, dropped, a_byte_a_nanosecond}
+use Rattle.link_simulation.proofs.Examples.ComputedReplies.{evenly}
+use Rattle.link_simulation.proofs.Examples.ComputedDifferences.{never_agree}
 use Rattle.link_simulation.proofs.model.differences.a_fault_that_is_not_met_does_not_agree.Goals as goal
 
 pub returns-clause-moment : goal.returns-clause-moment

@@ -1,12 +1,12 @@
 use Rattle.std.proofs.Common.{[], ◌∷◌, None, refl}
 use Rattle.std.specs.Ordering.{nat_cmp}
 use Rattle.std.proofs.lemmas.Cmp.{nat_cmp_total}
-use Rattle.fair_rates.specs.Amount.{reduced, gcd_within}
-use Rattle.link_simulation.specs.WorldCalls.{call_limit, call_enqueue, call_advance}
-use Rattle.link_simulation.specs.WorldReplies.{reply_done}
-use Rattle.link_simulation.specs.WorldRows.{message, arrives, is_gone, a_byte_a_nanosecond}
-use Rattle.link_simulation.proofs.World.ComputedReplies.{evenly}
-use Rattle.link_simulation.proofs.World.ComputedDifferences.{never_agree}
+use Rattle.fair_rates.specs.Numbers.Amount.{reduced, gcd_within}
+use Rattle.link_simulation.specs.Simulation.Calls.{call_limit, call_enqueue, call_advance}
+use Rattle.link_simulation.specs.Simulation.Replies.{reply_done}
+use Rattle.link_simulation.specs.Examples.Rows.{message, arrives, is_gone, a_byte_a_nanosecond}
+use Rattle.link_simulation.proofs.Examples.ComputedReplies.{evenly}
+use Rattle.link_simulation.proofs.Examples.ComputedDifferences.{never_agree}
 use Rattle.link_simulation.proofs.model.differences.a_wrong_part_of_a_completion_does_not_agree.Goals as goal
 
 pub returns-clause-origin : goal.returns-clause-origin

@@ -1,15 +1,15 @@
 use Rattle.std.proofs.Common.{◌≡◌, ℕ, [], ◌∷◌, Option, Some, None, refl, arith}
 use Rattle.std.specs.Ordering.{nat_cmp}
 use Rattle.std.proofs.lemmas.Cmp.{nat_cmp_total}
-use Rattle.fair_rates.specs.Amount.{reduced, gcd_within}
-use Rattle.link_simulation.specs.World.{new_world}
-use Rattle.link_simulation.specs.WorldTime.{NextIs}
-use Rattle.link_simulation.specs.WorldCalls.{call_advance, call_next}
-use Rattle.link_simulation.specs.WorldReplies.{reply_done, reply_next}
-use Rattle.link_simulation.proofs.World.ComputedReplies.{evenly, next_so}
-use Rattle.link_simulation.proofs.World.ComputedDifferences.{never_agree}
-use Rattle.link_simulation.proofs.World.OneNext.{next_is_one}
-use Rattle.link_simulation.proofs.World.Sound.{new_world_sound}
+use Rattle.fair_rates.specs.Numbers.Amount.{reduced, gcd_within}
+use Rattle.link_simulation.specs.Simulation.World.{new_world}
+use Rattle.link_simulation.specs.Simulation.Time.{NextIs}
+use Rattle.link_simulation.specs.Simulation.Calls.{call_advance, call_next}
+use Rattle.link_simulation.specs.Simulation.Replies.{reply_done, reply_next}
+use Rattle.link_simulation.proofs.Examples.ComputedReplies.{evenly, next_so}
+use Rattle.link_simulation.proofs.Examples.ComputedDifferences.{never_agree}
+use Rattle.link_simulation.proofs.Simulation.OneNext.{next_is_one}
+use Rattle.link_simulation.proofs.Simulation.Sound.{new_world_sound}
 use Rattle.link_simulation.proofs.model.differences.what_comes_later_counts.Goals as goal
 
 -- in a new world no event comes

@@ -1,4 +1,4 @@
-use Rattle.link_simulation.proofs.World.OneCourse.{course_is_one, advance_is_one}
+use Rattle.link_simulation.proofs.Rule.OneCourse.{course_is_one, advance_is_one}
 use Rattle.link_simulation.proofs.model.events.a_call_has_one_course_by_the_rule.Goals as goal
 
 pub returns-clause-course : goal.returns-clause-course

@@ -1,4 +1,4 @@
-use Rattle.link_simulation.proofs.World.NextEvent.{advance_runs}
+use Rattle.link_simulation.proofs.Rule.NextEvent.{advance_runs}
 use Rattle.link_simulation.proofs.model.events.advancing_is_ticking.Goals as goal
 
 pub returns : goal.returns

@@ -1,4 +1,4 @@
-use Rattle.link_simulation.proofs.World.AlikeMessages.{fair_alike}
+use Rattle.link_simulation.proofs.Simulation.AlikeMessages.{fair_alike}
 use Rattle.link_simulation.proofs.model.events.alike_messages_have_the_same_rates.Goals as goal
 
 pub returns : goal.returns

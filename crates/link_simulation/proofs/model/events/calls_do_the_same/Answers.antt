@@ -1,4 +1,4 @@
-use Rattle.link_simulation.proofs.World.Obeys.{obeys_alike}
+use Rattle.link_simulation.proofs.Rule.Obeys.{obeys_alike}
 use Rattle.link_simulation.proofs.model.events.calls_do_the_same.Goals as goal
 
 pub returns : goal.returns

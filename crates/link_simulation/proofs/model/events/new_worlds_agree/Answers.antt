@@ -1,4 +1,4 @@
-use Rattle.link_simulation.proofs.World.Limit.{new_stands}
+use Rattle.link_simulation.proofs.Rule.Limit.{new_stands}
 use Rattle.link_simulation.proofs.model.events.new_worlds_agree.Goals as goal
 
 pub returns : goal.returns

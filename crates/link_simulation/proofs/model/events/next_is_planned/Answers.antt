@@ -1,4 +1,4 @@
-use Rattle.link_simulation.proofs.World.NextEvent.{next_is_planned}
+use Rattle.link_simulation.proofs.Rule.NextEvent.{next_is_planned}
 use Rattle.link_simulation.proofs.model.events.next_is_planned.Goals as goal
 
 pub returns-clause-quiet : goal.returns-clause-quiet

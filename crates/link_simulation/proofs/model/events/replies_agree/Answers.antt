@@ -1,4 +1,4 @@
-use Rattle.link_simulation.proofs.World.Agreeing.{obeyed_agree}
+use Rattle.link_simulation.proofs.Rule.Agreeing.{obeyed_agree}
 use Rattle.link_simulation.proofs.model.events.replies_agree.Goals as goal
 
 pub returns : goal.returns

@@ -1,4 +1,4 @@
-use Rattle.link_simulation.proofs.World.Settling.{settles_alike}
+use Rattle.link_simulation.proofs.Rule.Settling.{settles_alike}
 use Rattle.link_simulation.proofs.model.events.settling_is_finishing.Goals as goal
 
 pub returns : goal.returns

@@ -1,9 +1,9 @@
 use Rattle.std.proofs.Common.{◌≡◌, not}
 use Rattle.std.specs.List.{filter}
-use Rattle.link_simulation.specs.WorldMessages.{same_pair}
-use Rattle.link_simulation.specs.WorldPass.{MayNotStart}
-use Rattle.link_simulation.specs.World.{turn, ready}
-use Rattle.link_simulation.proofs.World.OtherPairs.{Leaves, ends_more, start_settles, ready_without}
+use Rattle.link_simulation.specs.Simulation.Messages.{same_pair}
+use Rattle.link_simulation.specs.Simulation.Pass.{MayNotStart}
+use Rattle.link_simulation.specs.Simulation.World.{turn, ready}
+use Rattle.link_simulation.proofs.Simulation.OtherPairs.{Leaves, ends_more, start_settles, ready_without}
 use Rattle.link_simulation.proofs.model.instants.a_turn_rests_its_pair.Goals as goal
 
 pub returns-clause-may_not : goal.returns-clause-may_not

@@ -1,11 +1,11 @@
 use Rattle.std.proofs.Common.{◌≡◌, false}
 use Rattle.std.specs.List.{list_any}
-use Rattle.link_simulation.specs.World.{is_done, settle}
-use Rattle.link_simulation.proofs.World.QuietInstants.{instant_ends_quiet, instant_of_quiet, quiet_if_unchanged}
-use Rattle.link_simulation.proofs.World.OnePass.{wake_ends_quiet}
-use Rattle.link_simulation.proofs.World.SettlingEnds.{NoneDone, settle_rests}
-use Rattle.link_simulation.proofs.World.OtherPairs.{any_from_find}
-use Rattle.link_simulation.proofs.World.OtherPairs.{ends_more}
+use Rattle.link_simulation.specs.Simulation.World.{is_done, settle}
+use Rattle.link_simulation.proofs.Simulation.QuietInstants.{instant_ends_quiet, instant_of_quiet, quiet_if_unchanged}
+use Rattle.link_simulation.proofs.Simulation.Pass.{wake_ends_quiet}
+use Rattle.link_simulation.proofs.Simulation.SettlingEnds.{NoneDone, settle_rests}
+use Rattle.link_simulation.proofs.Simulation.OtherPairs.{any_from_find}
+use Rattle.link_simulation.proofs.Simulation.OtherPairs.{ends_more}
 use Rattle.link_simulation.proofs.model.instants.instants_end_in_quiet.Goals as goal
 
 pub returns-clause-settled : goal.returns-clause-settled

@@ -1,4 +1,4 @@
-use Rattle.link_simulation.proofs.World.Settling.{settle_is_finish}
+use Rattle.link_simulation.proofs.Rule.Settling.{settle_is_finish}
 use Rattle.link_simulation.proofs.model.instants.settling_is_a_queue.Goals as goal
 
 pub returns : goal.returns

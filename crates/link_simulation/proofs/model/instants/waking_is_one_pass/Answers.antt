@@ -1,4 +1,4 @@
-use Rattle.link_simulation.proofs.World.OnePass.{wake_is_one_pass, wake_is_pass}
+use Rattle.link_simulation.proofs.Simulation.Pass.{wake_is_one_pass, wake_is_pass}
 use Rattle.link_simulation.proofs.model.instants.waking_is_one_pass.Goals as goal
 
 pub returns-clause-sorted : goal.returns-clause-sorted

@@ -1,4 +1,4 @@
-use Rattle.link_simulation.proofs.World.OneCourse.{advance_is_one}
+use Rattle.link_simulation.proofs.Rule.OneCourse.{advance_is_one}
 use Rattle.link_simulation.proofs.model.meanings.a_counted_advance_goes.Goals as goal
 
 pub returns-clause-goes : goal.returns-clause-goes

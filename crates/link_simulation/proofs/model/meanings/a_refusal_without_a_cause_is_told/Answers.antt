@@ -3,18 +3,18 @@ use Rattle.std.specs.Ordering.{nat_cmp}
 use Rattle.std.proofs.lemmas.Cmp.{nat_cmp_total}
 use Rattle.fair_rates.specs.declared.error.Error.{Error}
 use Rattle.fair_rates.specs.declared.error.Error.TheVariants.{OutOfMemory, MomentTooLate, FlowIdsUsedUp}
-use Rattle.link_simulation.specs.World.{World, Completed, Course, goes, meets, new_world}
-use Rattle.link_simulation.specs.WorldCalls.{Call, call_enqueue, moment_of, Runs}
-use Rattle.link_simulation.specs.WorldPlanned.{new_planned}
-use Rattle.link_simulation.specs.WorldReplies.{Faults}
-use Rattle.link_simulation.specs.WorldRows.{message}
-use Rattle.link_simulation.specs.Simulated.{IsCalled}
-use Rattle.link_simulation.proofs.World.ComputedReplies.{course_of, evenly, runs_so}
-use Rattle.link_simulation.proofs.World.ComputedDifferences.{in_turn}
-use Rattle.link_simulation.proofs.World.Limit.{new_stands}
-use Rattle.link_simulation.proofs.World.NewInRange.{advance_in_range}
-use Rattle.link_simulation.proofs.World.OneRun.{runs_are_one}
-use Rattle.link_simulation.proofs.World.Sound.{new_world_sound}
+use Rattle.link_simulation.specs.Simulation.World.{World, Completed, Course, goes, meets, new_world}
+use Rattle.link_simulation.specs.Simulation.Calls.{Call, call_enqueue, moment_of, Runs}
+use Rattle.link_simulation.specs.Rule.Planned.{new_planned}
+use Rattle.link_simulation.specs.Simulation.Replies.{Faults}
+use Rattle.link_simulation.specs.Examples.Rows.{message}
+use Rattle.link_simulation.specs.Rule.Simulated.{IsCalled}
+use Rattle.link_simulation.proofs.Examples.ComputedReplies.{course_of, evenly, runs_so}
+use Rattle.link_simulation.proofs.Examples.ComputedDifferences.{in_turn}
+use Rattle.link_simulation.proofs.Rule.Limit.{new_stands}
+use Rattle.link_simulation.proofs.Rule.NewInRange.{advance_in_range}
+use Rattle.link_simulation.proofs.Simulation.OneRun.{runs_are_one}
+use Rattle.link_simulation.proofs.Simulation.Sound.{new_world_sound}
 use Rattle.link_simulation.proofs.model.meanings.a_refusal_without_a_cause_is_told.Goals as goal
 
 pub returns-clause-number : goal.returns-clause-number

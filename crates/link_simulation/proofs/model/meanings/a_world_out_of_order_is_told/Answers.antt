@@ -1,16 +1,16 @@
 use Rattle.std.proofs.Common.{◌≡◌, ℕ, [], ◌∷◌, Some, None, refl, subst}
 use Rattle.std.specs.List.{AllZip}
-use Rattle.fair_rates.specs.Amount.{whole}
-use Rattle.link_simulation.specs.WorldPlanned.{Paced}
-use Rattle.link_simulation.specs.WorldRates.{Parts, rate_of}
-use Rattle.link_simulation.specs.WorldRows.{message, paced}
+use Rattle.fair_rates.specs.Numbers.Amount.{whole}
+use Rattle.link_simulation.specs.Rule.Planned.{RatedFlight}
+use Rattle.link_simulation.specs.Simulation.Rates.{Parts, rate_of}
+use Rattle.link_simulation.specs.Examples.Rows.{message, rated_flight}
 use Rattle.link_simulation.proofs.model.meanings.a_world_out_of_order_is_told.Goals as goal
 
 pub returns-clause-rate : goal.returns-clause-rate
 returns-clause-rate c h =
     let per = h.rated.per in
-    let rated : AllZip (λ rate (f : Paced ℕ). f.rate ≡ rate_of per rate) (None ∷ []) (paced (message 1 2 1 0) (Some (whole 1)) ∷ []) =
-    subst (λ (rates : Parts). AllZip (λ rate (f : Paced ℕ). f.rate ≡ rate_of per rate) rates (paced (message 1 2 1 0) (Some (whole 1)) ∷ []))
+    let rated : AllZip (λ rate (f : RatedFlight ℕ). f.rate ≡ rate_of per rate) (None ∷ []) (rated_flight (message 1 2 1 0) (Some (whole 1)) ∷ []) =
+    subst (λ (rates : Parts). AllZip (λ rate (f : RatedFlight ℕ). f.rate ≡ rate_of per rate) rates (rated_flight (message 1 2 1 0) (Some (whole 1)) ∷ []))
     h.rated.fair.rated h.rated.rated in
     let clash : Some (whole 1) ≡ None = rated.0 in
     cc

@@ -2,17 +2,17 @@ use Rattle.std.proofs.Common.{◌≡◌, ℕ, List, [], ◌∷◌, ◌++◌, Boo
 use Rattle.std.specs.List.{AllZip}
 use Rattle.std.specs.Ordering.{nat_cmp}
 use Rattle.std.proofs.lemmas.Cmp.{nat_cmp_total}
-use Rattle.link_simulation.specs.WorldMessages.{Message}
-use Rattle.link_simulation.specs.World.{World, Completed, goes, new_world}
-use Rattle.link_simulation.specs.WorldCalls.{Call, call_enqueue, moment_of, Runs}
-use Rattle.link_simulation.specs.WorldIsolation.{Answers, no_calls, call_answers}
-use Rattle.link_simulation.specs.WorldReplies.{SameCompletion, reply_done}
-use Rattle.link_simulation.specs.WorldRows.{message, arrives, bytes}
-use Rattle.link_simulation.specs.ReplayLaws.{AreInTurn, Completes}
-use Rattle.link_simulation.proofs.World.ComputedReplies.{evenly, runs_so}
-use Rattle.link_simulation.proofs.World.ComputedDifferences.{in_turn}
-use Rattle.link_simulation.proofs.World.OneRun.{runs_are_one}
-use Rattle.link_simulation.proofs.World.Sound.{new_world_sound}
+use Rattle.link_simulation.specs.Simulation.Messages.{Message}
+use Rattle.link_simulation.specs.Simulation.World.{World, Completed, goes, new_world}
+use Rattle.link_simulation.specs.Simulation.Calls.{Call, call_enqueue, moment_of, Runs}
+use Rattle.link_simulation.specs.Laws.Isolation.{Answers, no_calls, call_answers}
+use Rattle.link_simulation.specs.Simulation.Replies.{SameCompletion, reply_done}
+use Rattle.link_simulation.specs.Examples.Rows.{message, arrives, bytes}
+use Rattle.link_simulation.specs.Laws.Replies.{AreInTurn, Completes}
+use Rattle.link_simulation.proofs.Examples.ComputedReplies.{evenly, runs_so}
+use Rattle.link_simulation.proofs.Examples.ComputedDifferences.{in_turn}
+use Rattle.link_simulation.proofs.Simulation.OneRun.{runs_are_one}
+use Rattle.link_simulation.proofs.Simulation.Sound.{new_world_sound}
 use Rattle.link_simulation.proofs.model.meanings.replies_that_break_a_promise_are_told.Goals as goal
 
 abbrev first : Call ℕ

@@ -1,7 +1,7 @@
 use Rattle.std.proofs.Common.{ℕ, ◌-◌, ◌*◌, ◌≤◌, subst, arith}
-use Rattle.fair_rates.specs.Amount.{Amount, whole, plus}
-use Rattle.fair_rates.specs.FairLaws.{IsAtMost}
-use Rattle.link_simulation.specs.WorldBytes.{bytes_from, allowance}
+use Rattle.fair_rates.specs.Numbers.Amount.{Amount, whole, plus}
+use Rattle.fair_rates.specs.Fairness.Laws.{IsAtMost}
+use Rattle.link_simulation.specs.Laws.Bytes.{bytes_from, allowance}
 use Rattle.link_simulation.proofs.model.meanings.sending_takes_its_time.Goals as goal
 
 -- of so many bytes none are left

@@ -1,4 +1,4 @@
-use Rattle.link_simulation.proofs.World.DoneAlone.{is_sent, is_done_alone}
+use Rattle.link_simulation.proofs.Laws.DoneAlone.{is_sent, is_done_alone}
 use Rattle.link_simulation.proofs.model.meanings.what_is_done_after_a_time_is_done_alone.Goals as goal
 
 pub returns-clause-sent : goal.returns-clause-sent

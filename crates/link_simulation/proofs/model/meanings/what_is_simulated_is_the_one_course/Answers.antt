@@ -1,4 +1,4 @@
-use Rattle.link_simulation.proofs.World.OneMeaning.{one_run, no_fault, one_split, one_next}
+use Rattle.link_simulation.proofs.Rule.OneMeaning.{one_run, no_fault, one_split, one_next}
 use Rattle.link_simulation.proofs.model.meanings.what_is_simulated_is_the_one_course.Goals as goal
 
 pub returns-clause-runs : goal.returns-clause-runs

@@ -1,4 +1,4 @@
-use Rattle.link_simulation.proofs.World.Orderly.{new_orderly, obeys_orderly}
+use Rattle.link_simulation.proofs.Laws.Orderly.{new_orderly, obeys_orderly}
 use Rattle.link_simulation.proofs.model.orderly.calls_keep_order.Goals as goal
 
 pub returns-clause-new : goal.returns-clause-new

@@ -1,4 +1,4 @@
-use Rattle.link_simulation.proofs.World.ConservedAlike.{goes_conserved, none_conserved, conserved_then}
+use Rattle.link_simulation.proofs.Laws.ConservedAlike.{goes_conserved, none_conserved, conserved_then}
 use Rattle.link_simulation.proofs.model.orderly.calls_lose_no_message.Goals as goal
 
 pub returns-clause-call : goal.returns-clause-call

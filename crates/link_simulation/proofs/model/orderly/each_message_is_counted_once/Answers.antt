@@ -1,4 +1,4 @@
-use Rattle.link_simulation.proofs.World.ConservedCount.{all_counted}
+use Rattle.link_simulation.proofs.Laws.ConservedCount.{all_counted}
 use Rattle.link_simulation.proofs.model.orderly.each_message_is_counted_once.Goals as goal
 
 pub returns : goal.returns

@@ -1,4 +1,4 @@
-use Rattle.link_simulation.proofs.World.ConservedSoFar.{conserved_so_far}
+use Rattle.link_simulation.proofs.Laws.ConservedSoFar.{conserved_so_far}
 use Rattle.link_simulation.proofs.model.orderly.replies_lose_no_message.Goals as goal
 
 pub returns : goal.returns

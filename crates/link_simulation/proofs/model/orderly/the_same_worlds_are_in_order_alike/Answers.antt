@@ -1,4 +1,4 @@
-use Rattle.link_simulation.proofs.World.OrderlyAlike.{orderly_same, goes_orderly}
+use Rattle.link_simulation.proofs.Laws.OrderlyAlike.{orderly_same, goes_orderly}
 use Rattle.link_simulation.proofs.model.orderly.the_same_worlds_are_in_order_alike.Goals as goal
 
 pub returns-clause-same : goal.returns-clause-same

@@ -1,6 +1,6 @@
 use Rattle.std.proofs.Math.Logic.{∥∥₁_elim}
 use Rattle.std.proofs.Math.Bridge.{le_prop}
-use Rattle.link_simulation.proofs.World.Ending.{counted_events, advance_falls}
+use Rattle.link_simulation.proofs.Laws.FewerEvents.{counted_events, advance_falls}
 use Rattle.link_simulation.proofs.model.progress.events_end.Goals as goal
 
 pub returns-clause-counted : goal.returns-clause-counted

@@ -1,4 +1,4 @@
-use Rattle.link_simulation.proofs.World.Continuing.{rates_exist, runs_on, next_on}
+use Rattle.link_simulation.proofs.Simulation.Continuing.{rates_exist, runs_on, next_on}
 use Rattle.link_simulation.proofs.model.progress.the_simulation_never_stops.Goals as goal
 
 pub returns-clause-rates : goal.returns-clause-rates

@@ -1,4 +1,4 @@
-use Rattle.link_simulation.proofs.World.RepliesInRange.{new_in_range, obeys_in_range, refused_in_range}
+use Rattle.link_simulation.proofs.Rule.RepliesInRange.{new_in_range, obeys_in_range, refused_in_range}
 use Rattle.link_simulation.proofs.model.range.calls_in_the_range_are_not_refused.Goals as goal
 
 pub returns-clause-new : goal.returns-clause-new

@@ -2,11 +2,11 @@ use Rattle.std.proofs.Common.{[], ◌∷◌, refl}
 use Rattle.std.specs.Ordering.{nat_cmp}
 use Rattle.std.proofs.lemmas.Cmp.{nat_cmp_total}
 use Rattle.fair_rates.specs.declared.error.Error.TheVariants.{MomentTooLate}
-use Rattle.fair_rates.specs.Amount.{reduced, gcd_within}
-use Rattle.link_simulation.specs.WorldCalls.{call_enqueue}
-use Rattle.link_simulation.specs.WorldReplies.{reply_refused}
-use Rattle.link_simulation.specs.WorldRows.{message}
-use Rattle.link_simulation.proofs.World.ComputedRule.{agrees_by_rule, no_hint, shared}
+use Rattle.fair_rates.specs.Numbers.Amount.{reduced, gcd_within}
+use Rattle.link_simulation.specs.Simulation.Calls.{call_enqueue}
+use Rattle.link_simulation.specs.Simulation.Replies.{reply_refused}
+use Rattle.link_simulation.specs.Examples.Rows.{message}
+use Rattle.link_simulation.proofs.Examples.ComputedRule.{agrees_by_rule, no_hint, shared}
 use Rattle.link_simulation.proofs.model.range.outside_the_range_a_moment_is_too_late.Goals as goal
 
 pub returns : goal.returns

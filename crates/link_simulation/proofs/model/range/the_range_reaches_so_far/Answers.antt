@@ -2,13 +2,13 @@ use Rattle.std.proofs.Common.{◌≡◌, ℕ, zero, suc, ◌<◌, ◌^◌, List,
 use Rattle.std.specs.Prelude.{IfSome, length}
 use Rattle.std.proofs.lemmas.List.{length-replicate}
 use Rattle.std.proofs.lemmas.List.Elements.{All-nil, All-replicate}
-use Rattle.link_simulation.specs.WorldMessages.{Message}
-use Rattle.link_simulation.specs.WorldCalls.{Call, call_limit, call_limit_link, call_enqueue, call_advance, call_next, moment_of}
-use Rattle.link_simulation.specs.WorldOrder.{enqueued}
-use Rattle.link_simulation.specs.WorldPlanned.{Paced, new_planned}
-use Rattle.link_simulation.specs.WorldRange.{AreInRange}
-use Rattle.link_simulation.specs.WorldRows.{message}
-use Rattle.link_simulation.proofs.Each.{all_of_each}
+use Rattle.link_simulation.specs.Simulation.Messages.{Message}
+use Rattle.link_simulation.specs.Simulation.Calls.{Call, call_limit, call_limit_link, call_enqueue, call_advance, call_next, moment_of}
+use Rattle.link_simulation.specs.Laws.PairCompletions.{enqueued}
+use Rattle.link_simulation.specs.Rule.Planned.{RatedFlight, new_planned}
+use Rattle.link_simulation.specs.Rule.Range.{AreInRange}
+use Rattle.link_simulation.specs.Examples.Rows.{message}
+use Rattle.fair_rates.proofs.Lists.Each.{all_of_each}
 use Rattle.link_simulation.proofs.model.range.the_range_reaches_so_far.Goals as goal
 
 abbrev IsSoon : Call ℕ → Type 0
@@ -53,7 +53,7 @@ pub returns-clause-planned : goal.returns-clause-planned
 returns-clause-planned c = record {
   planned =
       record {
-        sending = All-nil (λ (f : Paced ℕ). f.message.latency < 2 ^ 63);
+        sending = All-nil (λ (f : RatedFlight ℕ). f.message.latency < 2 ^ 63);
         waiting = All-nil IsNear;
         ids = omega
             arith;
@@ -69,8 +69,8 @@ returns-clause-planned c = record {
 pub returns-clause-held : goal.returns-clause-held
 returns-clause-held c p none one id = record {
   sending =
-      subst (λ (fs : List (Paced ℕ)). All (λ f. f.message.latency < 2 ^ 63) fs) (sym none)
-      (All-nil (λ (f : Paced ℕ). f.message.latency < 2 ^ 63));
+      subst (λ (fs : List (RatedFlight ℕ)). All (λ f. f.message.latency < 2 ^ 63) fs) (sym none)
+      (All-nil (λ (f : RatedFlight ℕ). f.message.latency < 2 ^ 63));
   waiting =
       subst (λ (ms : List (Message ℕ)). All IsNear ms) (sym one)
       (all_of_each IsNear (message 1 2 0 edge ∷ []) (omega arith, tt));

@@ -1,4 +1,4 @@
-use Rattle.link_simulation.proofs.World.TurnByNext.{new_by_next}
+use Rattle.link_simulation.proofs.Laws.TurnByNext.{new_by_next}
 use Rattle.link_simulation.proofs.model.replies.calls_by_next_are_in_turn.Goals as goal
 
 pub returns : goal.returns

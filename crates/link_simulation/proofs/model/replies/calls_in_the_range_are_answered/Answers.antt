@@ -1,4 +1,4 @@
-use Rattle.link_simulation.proofs.World.RepliesInRange.{refuses_for_memory}
+use Rattle.link_simulation.proofs.Rule.RepliesInRange.{refuses_for_memory}
 use Rattle.link_simulation.proofs.model.replies.calls_in_the_range_are_answered.Goals as goal
 
 pub returns : goal.returns

@@ -1,4 +1,4 @@
-use Rattle.link_simulation.proofs.World.RepliesInOrder.{sets_are_isolated}
+use Rattle.link_simulation.proofs.Laws.Replies.{sets_are_isolated}
 use Rattle.link_simulation.proofs.model.replies.replies_isolate_sets.Goals as goal
 
 pub returns : goal.returns

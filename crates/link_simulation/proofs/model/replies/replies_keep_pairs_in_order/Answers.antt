@@ -1,4 +1,4 @@
-use Rattle.link_simulation.proofs.World.RepliesInOrder.{pairs_complete_in_order}
+use Rattle.link_simulation.proofs.Laws.Replies.{pairs_complete_in_order}
 use Rattle.link_simulation.proofs.model.replies.replies_keep_pairs_in_order.Goals as goal
 
 pub returns : goal.returns

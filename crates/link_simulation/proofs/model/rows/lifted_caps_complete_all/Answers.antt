@@ -1,11 +1,11 @@
 use Rattle.std.proofs.Common.{[], ◌∷◌, None, refl}
 use Rattle.std.specs.Ordering.{nat_cmp}
 use Rattle.std.proofs.lemmas.Cmp.{nat_cmp_total}
-use Rattle.fair_rates.specs.Amount.{reduced, gcd_within}
-use Rattle.link_simulation.specs.World.{new_world}
-use Rattle.link_simulation.specs.WorldCalls.{call_limit, call_enqueue, call_next}
-use Rattle.link_simulation.specs.WorldRows.{message, a_byte_a_nanosecond}
-use Rattle.link_simulation.proofs.World.ComputedReplies.{answers_agree, evenly}
+use Rattle.fair_rates.specs.Numbers.Amount.{reduced, gcd_within}
+use Rattle.link_simulation.specs.Simulation.World.{new_world}
+use Rattle.link_simulation.specs.Simulation.Calls.{call_limit, call_enqueue, call_next}
+use Rattle.link_simulation.specs.Examples.Rows.{message, a_byte_a_nanosecond}
+use Rattle.link_simulation.proofs.Examples.ComputedReplies.{answers_agree, evenly}
 use Rattle.link_simulation.proofs.model.rows.lifted_caps_complete_all.Goals as goal
 
 pub returns : goal.returns

@@ -2,12 +2,12 @@ use Rattle.std.proofs.Common.{cond, length, ℕ, List, [], ◌∷◌, Some, None
 use Rattle.std.specs.Prelude.{◌==◌}
 use Rattle.std.specs.Ordering.{nat_cmp}
 use Rattle.std.proofs.lemmas.Cmp.{nat_cmp_total}
-use Rattle.fair_rates.specs.Amount.{reduced, gcd_within}
-use Rattle.link_simulation.specs.WorldMessages.{Message}
-use Rattle.link_simulation.specs.WorldCalls.{call_limit, call_enqueue, call_advance, call_next}
-use Rattle.link_simulation.specs.WorldReplies.{reply_done, reply_next}
-use Rattle.link_simulation.specs.WorldRows.{message, arrives}
-use Rattle.link_simulation.proofs.World.ComputedRule.{agrees_by_rule, shared}
+use Rattle.fair_rates.specs.Numbers.Amount.{reduced, gcd_within}
+use Rattle.link_simulation.specs.Simulation.Messages.{Message}
+use Rattle.link_simulation.specs.Simulation.Calls.{call_limit, call_enqueue, call_advance, call_next}
+use Rattle.link_simulation.specs.Simulation.Replies.{reply_done, reply_next}
+use Rattle.link_simulation.specs.Examples.Rows.{message, arrives}
+use Rattle.link_simulation.proofs.Examples.ComputedRule.{agrees_by_rule, shared}
 use Rattle.link_simulation.proofs.model.rows.moments_are_rounded_up.Goals as goal
 
 -- the first byte alone would take a seventh of a second

@@ -2,12 +2,12 @@ use Rattle.std.proofs.Common.{[], ◌∷◌, Some, None, refl}
 use Rattle.std.specs.Ordering.{nat_cmp}
 use Rattle.std.proofs.lemmas.Cmp.{nat_cmp_total}
 use Rattle.fair_rates.specs.declared.error.Error.TheVariants.{FlowIdsUsedUp}
-use Rattle.fair_rates.specs.Amount.{reduced, gcd_within}
-use Rattle.link_simulation.specs.WorldPlanned.{new_planned}
-use Rattle.link_simulation.specs.WorldCalls.{call_limit, call_enqueue, call_advance, call_next}
-use Rattle.link_simulation.specs.WorldReplies.{reply_done, reply_next, reply_refused}
-use Rattle.link_simulation.specs.WorldRows.{message, a_byte_a_nanosecond}
-use Rattle.link_simulation.proofs.World.ComputedRule.{no_hint, obeyed_so, shared}
+use Rattle.fair_rates.specs.Numbers.Amount.{reduced, gcd_within}
+use Rattle.link_simulation.specs.Rule.Planned.{new_planned}
+use Rattle.link_simulation.specs.Simulation.Calls.{call_limit, call_enqueue, call_advance, call_next}
+use Rattle.link_simulation.specs.Simulation.Replies.{reply_done, reply_next, reply_refused}
+use Rattle.link_simulation.specs.Examples.Rows.{message, a_byte_a_nanosecond}
+use Rattle.link_simulation.proofs.Examples.ComputedRule.{no_hint, obeyed_so, shared}
 use Rattle.link_simulation.proofs.model.rule.used_up_ids_stop_the_next_start.Goals as goal
 
 pub returns : goal.returns

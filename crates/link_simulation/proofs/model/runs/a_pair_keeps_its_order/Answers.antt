@@ -1,4 +1,4 @@
-use Rattle.link_simulation.proofs.World.PairHistory.{pair_in_order}
+use Rattle.link_simulation.proofs.Laws.PairCompletions.{pair_in_order}
 use Rattle.link_simulation.proofs.model.runs.a_pair_keeps_its_order.Goals as goal
 
 pub returns : goal.returns

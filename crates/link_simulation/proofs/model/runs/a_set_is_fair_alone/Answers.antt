@@ -1,4 +1,4 @@
-use Rattle.link_simulation.proofs.World.IsolatedCalls.{fair_alone}
+use Rattle.link_simulation.proofs.Laws.IsolatedCalls.{fair_alone}
 use Rattle.link_simulation.proofs.model.runs.a_set_is_fair_alone.Goals as goal
 
 pub returns : goal.returns

@@ -1,4 +1,4 @@
-use Rattle.link_simulation.proofs.World.IsolatedCalls.{isolation}
+use Rattle.link_simulation.proofs.Laws.IsolatedCalls.{isolation}
 use Rattle.link_simulation.proofs.model.runs.a_set_is_isolated.Goals as goal
 
 pub returns : goal.returns

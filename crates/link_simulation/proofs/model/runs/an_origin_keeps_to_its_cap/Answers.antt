@@ -1,5 +1,5 @@
 use Rattle.std.proofs.Common.{sym, ◌∙◌}
-use Rattle.link_simulation.proofs.World.Bytes.{advance_loses}
+use Rattle.link_simulation.proofs.Laws.Bytes.{advance_loses}
 use Rattle.link_simulation.proofs.model.runs.an_origin_keeps_to_its_cap.Goals as goal
 
 pub returns : goal.returns

@@ -1,9 +1,9 @@
 use Rattle.std.proofs.Common.{◌≡◌, ℕ, ◌≤◌, List, [], ◌∷◌, ◌++◌, sym, ap, ◌∙◌, arith}
 use Rattle.std.specs.List.{AllZip}
-use Rattle.link_simulation.specs.WorldMessages.{Message}
-use Rattle.link_simulation.specs.WorldOrder.{IsCompletionOf}
-use Rattle.link_simulation.specs.WorldRows.{message, arrives, bytes}
-use Rattle.link_simulation.specs.World.{Completed}
+use Rattle.link_simulation.specs.Simulation.Messages.{Message}
+use Rattle.link_simulation.specs.Laws.PairCompletions.{IsCompletionOf}
+use Rattle.link_simulation.specs.Examples.Rows.{message, arrives, bytes}
+use Rattle.link_simulation.specs.Simulation.World.{Completed}
 use Rattle.link_simulation.proofs.model.runs.completions_out_of_order_are_told.Goals as goal
 
 pub returns-clause-arrivals : goal.returns-clause-arrivals

@@ -1,6 +1,6 @@
-use Rattle.link_simulation.specs.WorldCalls.{Call, call_limit, call_limit_link, call_enqueue, call_advance, call_next}
-use Rattle.link_simulation.specs.SamePlanned.{same_limit, same_limit_link, same_enqueue, same_advance, same_next}
-use Rattle.link_simulation.proofs.World.AlikeMessages.{same_itself, message_itself}
+use Rattle.link_simulation.specs.Simulation.Calls.{Call, call_limit, call_limit_link, call_enqueue, call_advance, call_next}
+use Rattle.link_simulation.specs.Rule.SamePlanned.{same_limit, same_limit_link, same_enqueue, same_advance, same_next}
+use Rattle.link_simulation.proofs.Simulation.AlikeMessages.{same_itself, message_itself}
 use Rattle.link_simulation.proofs.model.same.a_call_is_the_same_as_itself.Goals as goal
 
 pub returns : goal.returns

@@ -1,6 +1,6 @@
-use Rattle.link_simulation.proofs.World.SameCourses.{obeys_same}
-use Rattle.link_simulation.proofs.World.SameRefusals.{refused_same, obeyed_same}
-use Rattle.link_simulation.proofs.World.SameStands.{stands_same, range_same}
+use Rattle.link_simulation.proofs.Rule.SameCourses.{obeys_same}
+use Rattle.link_simulation.proofs.Rule.SameRefusals.{refused_same, obeyed_same}
+use Rattle.link_simulation.proofs.Rule.SameStands.{stands_same, range_same}
 use Rattle.link_simulation.proofs.model.same.the_same_worlds_do_the_same.Goals as goal
 
 pub returns-clause-goes : goal.returns-clause-goes

@@ -1,4 +1,4 @@
-use Rattle.link_simulation.proofs.World.SplitAnywhere.{advance_split_anywhere}
+use Rattle.link_simulation.proofs.Laws.SplitAnywhere.{advance_split_anywhere}
 use Rattle.link_simulation.proofs.model.simulated.an_advance_is_split_anywhere.Goals as goal
 
 pub returns : goal.returns

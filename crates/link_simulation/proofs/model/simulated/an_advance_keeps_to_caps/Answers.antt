@@ -1,4 +1,4 @@
-use Rattle.link_simulation.proofs.World.BytesStand.{advance_keeps_to_caps}
+use Rattle.link_simulation.proofs.Laws.BytesStand.{advance_keeps_to_caps}
 use Rattle.link_simulation.proofs.model.simulated.an_advance_keeps_to_caps.Goals as goal
 
 pub returns : goal.returns

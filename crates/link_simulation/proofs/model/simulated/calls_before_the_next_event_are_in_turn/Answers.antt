@@ -1,4 +1,4 @@
-use Rattle.link_simulation.proofs.World.TurnByNext.{turn_by_next, called_at_once}
+use Rattle.link_simulation.proofs.Laws.TurnByNext.{turn_by_next, called_at_once}
 use Rattle.link_simulation.proofs.model.simulated.calls_before_the_next_event_are_in_turn.Goals as goal
 
 pub returns-clause-before : goal.returns-clause-before

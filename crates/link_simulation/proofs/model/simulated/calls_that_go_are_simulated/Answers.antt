@@ -1,4 +1,4 @@
-use Rattle.link_simulation.proofs.World.Simulated.{calls_simulated, call_keeps_range, next_in_simulation}
+use Rattle.link_simulation.proofs.Rule.Simulated.{calls_simulated, call_keeps_range, next_in_simulation}
 use Rattle.link_simulation.proofs.model.simulated.calls_that_go_are_simulated.Goals as goal
 
 pub returns-clause-calls : goal.returns-clause-calls

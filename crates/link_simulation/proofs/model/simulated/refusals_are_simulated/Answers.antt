@@ -1,4 +1,4 @@
-use Rattle.link_simulation.proofs.World.Simulated.{refusals_simulated}
+use Rattle.link_simulation.proofs.Rule.Simulated.{refusals_simulated}
 use Rattle.link_simulation.proofs.model.simulated.refusals_are_simulated.Goals as goal
 
 pub returns : goal.returns

@@ -1,11 +1,11 @@
 use Rattle.std.proofs.Common.{◌≡◌, ℕ, ◌<◌, Option, subst}
 use Rattle.std.specs.Prelude.{IfSome}
-use Rattle.link_simulation.specs.World.{IsQuiet}
-use Rattle.link_simulation.specs.WorldTime.{NextIs}
-use Rattle.link_simulation.proofs.World.OtherPairs.{ends_more}
-use Rattle.link_simulation.proofs.World.QuietInstants.{next_is_later, call_ends_quiet, QuietAt}
-use Rattle.link_simulation.proofs.World.Sound.{new_world_sound, call_keeps_sound}
-use Rattle.link_simulation.proofs.World.OneRun.{runs_are_one}
+use Rattle.link_simulation.specs.Simulation.World.{IsQuiet}
+use Rattle.link_simulation.specs.Simulation.Time.{NextIs}
+use Rattle.link_simulation.proofs.Simulation.OtherPairs.{ends_more}
+use Rattle.link_simulation.proofs.Simulation.QuietInstants.{next_is_later, call_ends_quiet, QuietAt}
+use Rattle.link_simulation.proofs.Simulation.Sound.{new_world_sound, call_keeps_sound}
+use Rattle.link_simulation.proofs.Simulation.OneRun.{runs_are_one}
 use Rattle.link_simulation.proofs.model.time.a_call_has_one_course.Goals as goal
 
 pub returns-clause-new : goal.returns-clause-new

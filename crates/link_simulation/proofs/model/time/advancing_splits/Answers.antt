@@ -1,4 +1,4 @@
-use Rattle.link_simulation.proofs.World.AdvanceOnward.{advance_splits}
+use Rattle.link_simulation.proofs.Laws.AdvanceOnward.{advance_splits}
 use Rattle.link_simulation.proofs.model.time.advancing_splits.Goals as goal
 
 pub returns : goal.returns

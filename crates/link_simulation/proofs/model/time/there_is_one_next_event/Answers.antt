@@ -1,5 +1,5 @@
-use Rattle.link_simulation.proofs.World.OneNext.{next_is_one}
-use Rattle.link_simulation.proofs.World.QuietInstants.{next_is_later}
+use Rattle.link_simulation.proofs.Simulation.OneNext.{next_is_one}
+use Rattle.link_simulation.proofs.Simulation.QuietInstants.{next_is_later}
 use Rattle.link_simulation.proofs.model.time.there_is_one_next_event.Goals as goal
 
 pub returns-clause-one : goal.returns-clause-one

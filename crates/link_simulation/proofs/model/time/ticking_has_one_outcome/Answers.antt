@@ -1,6 +1,6 @@
-use Rattle.link_simulation.proofs.World.AlikeMessages.{same_itself}
-use Rattle.link_simulation.proofs.World.OneWorld.{one_world}
-use Rattle.link_simulation.proofs.World.OneRun.{ticks_are_one}
+use Rattle.link_simulation.proofs.Simulation.AlikeMessages.{same_itself}
+use Rattle.link_simulation.proofs.Simulation.OneWorld.{one_world}
+use Rattle.link_simulation.proofs.Simulation.OneRun.{ticks_are_one}
 use Rattle.link_simulation.proofs.model.time.ticking_has_one_outcome.Goals as goal
 
 pub returns-clause-drains : goal.returns-clause-drains

@@ -1,7 +1,7 @@
 use Prim.Native.Nat.{◌∣◌}
 use Rattle.std.proofs.Common.{◌*◌, ◌/◌, ap, subst, sym, arith}
 use Rattle.std.proofs.Math.Nat.{div-mul_cancel}
-use Rattle.fair_rates.specs.Laws.Gcd.{gcd-pos, gcd-IsGcd}
+use Rattle.fair_rates.specs.Numbers.Gcd.{gcd-pos, gcd-IsGcd}
 use Rattle.fair_rates.proofs.Filling.Share.{quotient_positive, whole}
 use Rattle.fair_rates.proofs.bandwidth.filling.share.whole_share.Goals as goal
 

@@ -1,6 +1,6 @@
 use Rattle.std.proofs.Common.{◌≡◌, ◌<◌, ◌∷◌, [], ℕ, Some, None, length, get_or, subst, sym, ap, ◌∙◌, arith, length-append}
 use Rattle.std.proofs.lemmas.List.{get_or_default}
-use Rattle.fair_rates.specs.FairParts.{IsRateAt, level_at}
+use Rattle.fair_rates.specs.Filling.FairParts.{IsRateAt, level_at}
 use Rattle.fair_rates.specs.declared.bandwidth.Rate.{Rate}
 use Rattle.fair_rates.specs.declared.bandwidth.Rate.TheVariants.{Finite}
 use Rattle.fair_rates.proofs.Filling.Frozen.{some_of_if}

@@ -1,10 +1,10 @@
 use Rattle.std.proofs.Common.{◌≡◌, ◌++◌, List, length, take, drop, ◌∙◌, ap, subst, arith}
 use Rattle.std.specs.List.{AllZip}
 use Rattle.link_scheduler.specs.declared.transmitter.progress.Progress.{Progress}
-use Rattle.link_scheduler.specs.Progress.{DrainsTo, IsSameSent}
-use Rattle.link_scheduler.specs.Flights.{sending_of, are_standing}
-use Rattle.link_scheduler.proofs.Progressing.{drained_sending, drained_is_same, stand_same, written_back}
-use Rattle.link_simulation.proofs.Zips.{zip_weaker}
+use Rattle.link_scheduler.specs.Flights.Progress.{DrainsTo, IsSameSent}
+use Rattle.link_scheduler.specs.Flights.RatedFlights.{sending_of, are_standing}
+use Rattle.link_scheduler.proofs.Flights.Progress.{drained_sending, drained_is_same, stand_same, written_back}
+use Rattle.fair_rates.proofs.Lists.Zips.{zip_weaker}
 use Rattle.link_scheduler.proofs.transmitter.flights.Flights.drain.Goals as goal
 
 pub invariant_of-self : goal.invariant_of-self

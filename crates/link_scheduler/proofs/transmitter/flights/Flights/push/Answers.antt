@@ -4,14 +4,14 @@ use Rattle.std.specs.declared.cmp.Ordering.TheVariants.{Equal}
 use Rattle.std.specs.Ordering.{is_eq}
 use Rattle.std.specs.Result.{IsOk}
 use Rattle.fair_rates.specs.declared.bandwidth.Flow.{Flow}
-use Rattle.fair_rates.specs.Amount.{billion}
-use Rattle.link_simulation.specs.WorldMessages.{is_delivered}
+use Rattle.fair_rates.specs.Numbers.Amount.{billion}
+use Rattle.link_simulation.specs.Simulation.Messages.{is_delivered}
 use Rattle.link_scheduler.specs.declared.transmitter.progress.Progress.{Progress}
-use Rattle.link_scheduler.specs.Message.{message_of}
-use Rattle.link_scheduler.specs.Flights.{paced_of, sending_of}
-use Rattle.link_scheduler.specs.InFlight.{in_flight}
-use Rattle.link_scheduler.proofs.InFlight.{StandsForSent, standing_with, apart_with}
-use Rattle.link_scheduler.proofs.Units.{units_of_bytes, no_units}
+use Rattle.link_scheduler.specs.Pairs.Messages.{message_of}
+use Rattle.link_scheduler.specs.Flights.RatedFlights.{rated_flight_of, sending_of}
+use Rattle.link_scheduler.specs.Flights.InFlight.{in_flight}
+use Rattle.link_scheduler.proofs.Flights.InFlight.{StandsForSent, standing_with, apart_with}
+use Rattle.link_scheduler.proofs.Flights.Units.{units_of_bytes, no_units}
 use Rattle.link_scheduler.proofs.transmitter.flights.Flights.push.Goals as goal
 
 pub invariant_of-self-2 : goal.invariant_of-self-2
@@ -40,5 +40,5 @@ returns-clause-sending g c =
     let items : c.push-2.new.self.items ≡ old.progress.items ++ s ∷ [] = c.in_ok-push-2.ensures.items ∙ ap (λ l. l ++ s ∷ []) c.reserve.ensures.items in
     let bytes : c.len.result ≡ length m.value.bytes = c.len.ensures.value ∙ ap (λ x. length x.bytes) c.deref.ensures in
     let left : c.in_ok-left.left ≡ old.scale * (length m.value.bytes * billion) = c.in_ok-left.ensures.value ∙ ap (λ n. old.scale * (n * billion)) bytes in
-    ap (sending_of old.scale old.levels.items) items ∙ map-append (paced_of old.scale old.levels.items) old.progress.items (s ∷ []) ∙ ap (λ x. in_flight old ++ x ∷ [])
+    ap (sending_of old.scale old.levels.items) items ∙ map-append (rated_flight_of old.scale old.levels.items) old.progress.items (s ∷ []) ∙ ap (λ x. in_flight old ++ x ∷ [])
     (λ i. record { message = message_of m.value; left = units_of_bytes old.scale (length m.value.bytes) c.in_ok-left.left old.scaled left i; rate = Some (no_units old.scale old.scaled i); updated = c.args.now })

@@ -1,7 +1,7 @@
 use Rattle.std.proofs.Common.{take}
 use Rattle.std.specs.List.{AllZip}
-use Rattle.link_scheduler.specs.InFlight.{in_flight}
-use Rattle.link_scheduler.specs.Readings.{IsReadAs}
+use Rattle.link_scheduler.specs.Flights.InFlight.{in_flight}
+use Rattle.link_scheduler.specs.Flights.Readings.{IsReadAs}
 use Rattle.link_scheduler.proofs.transmitter.flights.Flights.read.Given as goal
 
 abbrev pub invariant-loop-one : goal.invariant-loop-one

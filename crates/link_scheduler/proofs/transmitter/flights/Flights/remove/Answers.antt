@@ -1,6 +1,6 @@
 use Rattle.std.proofs.Common.{arith}
-use Rattle.link_scheduler.specs.Flights.{paced_of}
-use Rattle.link_scheduler.proofs.InFlight.{read_without, standing_length, standing_without, apart_without, all_without}
+use Rattle.link_scheduler.specs.Flights.RatedFlights.{rated_flight_of}
+use Rattle.link_scheduler.proofs.Flights.InFlight.{read_without, standing_length, standing_without, apart_without, all_without}
 use Rattle.link_scheduler.proofs.transmitter.flights.Flights.remove.Goals as goal
 
 pub remove-requires-2 : goal.remove-requires-2
@@ -14,7 +14,7 @@ invariant_of-self g c = record {
 }
 
 pub returns-clause-sending : goal.returns-clause-sending
-returns-clause-sending g c = rw c.remove-2.ensures.items (read_without (paced_of c.args.self.now.scale c.args.self.now.levels.items) c.args.self.now.progress.items c.args.at)
+returns-clause-sending g c = rw c.remove-2.ensures.items (read_without (rated_flight_of c.args.self.now.scale c.args.self.now.levels.items) c.args.self.now.progress.items c.args.at)
 
 pub returns-clause-others : goal.returns-clause-others
 returns-clause-others g c test h = rw c.remove.ensures.items (all_without test c.args.self.now.flows.items c.args.at h)

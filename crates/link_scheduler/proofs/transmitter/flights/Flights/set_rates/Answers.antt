@@ -1,14 +1,14 @@
 use Rattle.std.proofs.Common.{◌≡◌, ◌≢◌, All, ◌++◌, List, length, take, drop, sym, ◌∙◌, ap, subst, arith}
 use Rattle.link_scheduler.specs.declared.transmitter.progress.Progress.{Progress}
 use Rattle.std.specs.List.{AllZip}
-use Rattle.link_scheduler.specs.Progress.{GrowsBy}
-use Rattle.fair_rates.specs.FairParts.{product}
-use Rattle.link_scheduler.specs.Flights.{sending_of, are_standing}
-use Rattle.link_simulation.specs.WorldPlanned.{IsLeastMoment, SomeSpentAt, paced_flows}
-use Rattle.link_scheduler.proofs.Progressing.{stand_same, messages_same, rated_sending, written_back}
-use Rattle.link_scheduler.proofs.Rating.{left_there, first_spent}
-use Rattle.link_scheduler.proofs.InFlight.{standing_length}
-use Rattle.link_scheduler.proofs.Units.{other_factor}
+use Rattle.fair_rates.specs.Fairness.Exists.{product}
+use Rattle.link_scheduler.specs.Flights.Progress.{GrowsBy}
+use Rattle.link_scheduler.specs.Flights.RatedFlights.{sending_of, are_standing}
+use Rattle.link_simulation.specs.Rule.Planned.{IsLeastMoment, SomeSpentAt, rated_messages}
+use Rattle.link_scheduler.proofs.Flights.Progress.{stand_same, messages_same, rated_sending, written_back}
+use Rattle.link_scheduler.proofs.Flights.Rating.{left_there, first_spent}
+use Rattle.link_scheduler.proofs.Flights.InFlight.{standing_length}
+use Rattle.link_scheduler.proofs.Flights.Units.{other_factor}
 use Rattle.link_scheduler.proofs.transmitter.flights.Flights.set_rates.Goals as goal
 
 pub rerate_all-requires-clause-left : goal.rerate_all-requires-clause-left
@@ -69,12 +69,12 @@ returns-in_err-finish-clause-messages g c =
     let old = c.args.self.now in
     let lengths : length c.rerate_all.new.progress ≡ length old.progress.items = omega arith in
     let items : take old.progress.len (c.rerate_all.new.progress ++ drop (length c.rerate_all.new.progress) old.progress.items) ≡ c.rerate_all.new.progress = written_back old.progress.len old.progress.items c.rerate_all.new.progress old.progress.ok.0 lengths in
-    ap (λ l. paced_flows (sending_of old.scale old.levels.items l)) items ∙ messages_same old.scale old.scale old.levels.items old.levels.items old.progress.items c.rerate_all.new.progress (rw (← c.deref_mut.ensures.value) c.rerate_all.ensures.same)
+    ap (λ l. rated_messages (sending_of old.scale old.levels.items l)) items ∙ messages_same old.scale old.scale old.levels.items old.levels.items old.progress.items c.rerate_all.new.progress (rw (← c.deref_mut.ensures.value) c.rerate_all.ensures.same)
 
 pub returns-clause-messages : goal.returns-clause-messages
 returns-clause-messages g c =
     let old = c.args.self.now in
     let lengths : length c.rerate_all.new.progress ≡ length old.progress.items = omega arith in
     let items : take old.progress.len (c.rerate_all.new.progress ++ drop (length c.rerate_all.new.progress) old.progress.items) ≡ c.rerate_all.new.progress = written_back old.progress.len old.progress.items c.rerate_all.new.progress old.progress.ok.0 lengths in
-    ap (λ l. paced_flows (sending_of c.args.rates.scale c.args.rates.levels.items l)) items
+    ap (λ l. rated_messages (sending_of c.args.rates.scale c.args.rates.levels.items l)) items
     ∙ messages_same old.scale c.args.rates.scale old.levels.items c.args.rates.levels.items old.progress.items c.rerate_all.new.progress (rw (← c.deref_mut.ensures.value) c.rerate_all.ensures.same)

@@ -1,11 +1,11 @@
 use Rattle.std.proofs.Common.{◌≡◌, ◌-◌, Bool, true, length}
 use Rattle.std.specs.List.{list_all}
 use Rattle.fair_rates.specs.declared.bandwidth.Flow.{Flow}
-use Rattle.link_scheduler.specs.InFlight.{in_flight}
-use Rattle.link_scheduler.specs.Working.{caps_of, messages}
-use Rattle.link_scheduler.proofs.InFlight.{HaveLeft}
+use Rattle.link_scheduler.specs.Flights.InFlight.{in_flight}
+use Rattle.link_scheduler.specs.Calls.AsPlanned.{caps_of, messages}
+use Rattle.link_scheduler.proofs.Flights.InFlight.{HaveLeft}
 use Rattle.link_scheduler.proofs.transmitter.flights.Flights.take_done.Given as goal
-use Rattle.link_simulation.specs.WorldPlanned.{is_spent}
+use Rattle.link_simulation.specs.Rule.Planned.{is_spent}
 
 abbrev pub invariant-loop-at : goal.invariant-loop-at
 invariant-loop-at g l =

@@ -1,10 +1,10 @@
 use Rattle.std.proofs.Common.{◌≡◌, ◌<◌, get_or, sym, ◌∙◌, ap, subst, arith}
 use Rattle.std.specs.List.{AllZip, each_same}
 use Rattle.std.specs.Ordering.{nat_cmp}
-use Rattle.link_simulation.specs.Sorted.{are_ascending}
-use Rattle.link_scheduler.specs.Flights.{IsSameFlow}
-use Rattle.link_scheduler.proofs.Copies.{copied_more, copied_all}
-use Rattle.link_scheduler.proofs.CopiedFlights.{copied_flow, ids_alike, standing_alike}
+use Rattle.fair_rates.specs.Lists.Sorted.{are_ascending}
+use Rattle.link_scheduler.specs.Flights.RatedFlights.{IsSameFlow}
+use Rattle.fair_rates.proofs.Lists.Copied.{copied_more, copied_all}
+use Rattle.link_scheduler.proofs.Flights.Copies.{copied_flow, ids_alike, standing_alike}
 use Rattle.link_scheduler.proofs.transmitter.flights.FlightsClone.clone.Goals as goal
 
 pub loop-flow-preserved : goal.loop-flow-preserved

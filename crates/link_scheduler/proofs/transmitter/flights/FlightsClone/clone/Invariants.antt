@@ -1,6 +1,6 @@
 use Rattle.std.proofs.Common.{take}
 use Rattle.std.specs.List.{AllZip}
-use Rattle.link_scheduler.specs.Flights.{IsSameFlow}
+use Rattle.link_scheduler.specs.Flights.RatedFlights.{IsSameFlow}
 use Rattle.link_scheduler.proofs.transmitter.flights.FlightsClone.clone.Given as goal
 
 abbrev pub invariant-loop-flow : goal.invariant-loop-flow

@@ -1,6 +1,6 @@
 use Rattle.std.proofs.Common.{◌≡◌, true, rules}
-use Rattle.link_scheduler.specs.Idle.{is_listed}
-use Rattle.link_scheduler.proofs.Idle.{listed_again}
+use Rattle.link_scheduler.specs.Idle.Index.{is_listed}
+use Rattle.link_scheduler.proofs.Idle.Index.{listed_again}
 use Rattle.link_scheduler.proofs.transmitter.idle.IdlePairs.add.Goals as goal
 
 pub returns-then-has-clause-listed : goal.returns-then-has-clause-listed

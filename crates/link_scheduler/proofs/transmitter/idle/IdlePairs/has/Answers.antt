@@ -1,9 +1,9 @@
 use Rattle.std.proofs.Common.{◌≡◌, Some, None, option_map, slice_get, Bor, sym, ap, ◌∙◌, rules}
 use Rattle.std.specs.Ordering.{is_eq}
 use Rattle.link_scheduler.specs.declared.transmitter.idle.IdlePair.{IdlePair}
-use Rattle.link_scheduler.specs.Idle.{idle_cmp, idle_key}
-use Rattle.link_scheduler.proofs.Idle.{has_listed, idle_total}
-use Rattle.link_scheduler.proofs.IdlePlaces.{has_key}
+use Rattle.link_scheduler.specs.Idle.Index.{idle_cmp, idle_key}
+use Rattle.link_scheduler.proofs.Idle.Index.{has_listed, idle_total}
+use Rattle.link_scheduler.proofs.Idle.Places.{has_key}
 use Rattle.link_scheduler.proofs.transmitter.idle.IdlePairs.has.Goals as goal
 
 pub returns-in-None : goal.returns-in-None

@@ -1,10 +1,10 @@
 use Rattle.std.proofs.Common.{◌≡◌, true, map, rules}
 use Rattle.std.specs.declared.cmp.Ordering.TheVariants.{Equal}
 use Rattle.std.specs.Result.{is_ok}
-use Rattle.link_simulation.specs.Sorted.{are_ascending}
-use Rattle.link_simulation.proofs.Sorted.{either}
-use Rattle.link_scheduler.specs.Idle.{idle_cmp, idle_key}
-use Rattle.link_scheduler.proofs.Idle.{put_ascending, put_listed}
+use Rattle.fair_rates.specs.Lists.Sorted.{are_ascending}
+use Rattle.fair_rates.proofs.Lists.Sorted.{either}
+use Rattle.link_scheduler.specs.Idle.Index.{idle_cmp, idle_key}
+use Rattle.link_scheduler.proofs.Idle.Index.{put_ascending, put_listed}
 use Rattle.link_scheduler.proofs.transmitter.idle.IdlePairs.put.Goals as goal
 
 pub invariant_of-self : goal.invariant_of-self

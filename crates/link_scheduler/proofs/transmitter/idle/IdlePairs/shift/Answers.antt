@@ -1,6 +1,6 @@
 use Rattle.std.proofs.Common.{◌≡◌, None, ap, sym, ◌∙◌, subst, Option, ℕ, rules}
-use Rattle.link_scheduler.specs.Starts.{is_moment}
-use Rattle.link_scheduler.proofs.Idle.{IsChanged, stays, taken, put}
+use Rattle.link_scheduler.specs.Idle.Departed.{is_moment}
+use Rattle.link_scheduler.proofs.Idle.Index.{IsChanged, stays, taken, put}
 use Rattle.link_scheduler.proofs.transmitter.idle.IdlePairs.shift.Goals as goal
 use Rattle.link_scheduler.proofs.transmitter.idle.IdlePairs.shift.Goals.{in-Some+in_ok-take, in_default}
 

@@ -1,9 +1,9 @@
 use Rattle.std.proofs.Common.{◌≡◌, true, map}
 use Rattle.std.specs.Result.{is_ok}
-use Rattle.link_simulation.specs.Sorted.{are_ascending}
-use Rattle.link_simulation.proofs.Sorted.{either}
-use Rattle.link_scheduler.specs.Idle.{idle_cmp, idle_key}
-use Rattle.link_scheduler.proofs.Idle.{take_within, take_ascending, take_listed}
+use Rattle.fair_rates.specs.Lists.Sorted.{are_ascending}
+use Rattle.fair_rates.proofs.Lists.Sorted.{either}
+use Rattle.link_scheduler.specs.Idle.Index.{idle_cmp, idle_key}
+use Rattle.link_scheduler.proofs.Idle.Index.{take_within, take_ascending, take_listed}
 use Rattle.link_scheduler.proofs.transmitter.idle.IdlePairs.take.Goals as goal
 
 pub remove-requires : goal.remove-requires

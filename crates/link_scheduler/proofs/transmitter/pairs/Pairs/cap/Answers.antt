@@ -1,7 +1,7 @@
 use Rattle.std.proofs.Common.{◌≡◌, None, ◌∙◌, rules}
-use Rattle.link_scheduler.specs.Pairs.{pair_cmp, key_of}
-use Rattle.link_scheduler.proofs.Pairs.{pair_total}
-use Rattle.link_scheduler.proofs.Searching.{found_says, absent_says}
+use Rattle.link_scheduler.specs.Pairs.Entries.{pair_cmp, key_of}
+use Rattle.link_scheduler.proofs.Pairs.PairOrder.{pair_total}
+use Rattle.link_scheduler.proofs.Pairs.Searching.{found_says, absent_says}
 use Rattle.link_scheduler.proofs.transmitter.pairs.Pairs.cap.Goals as goal
 
 pub returns-in_err-find-clause-cap : goal.returns-in_err-find-clause-cap

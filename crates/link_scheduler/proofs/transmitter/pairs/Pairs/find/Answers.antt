@@ -1,8 +1,8 @@
 use Rattle.std.proofs.Common.{sym, ap, ◌∙◌}
 use Rattle.std.specs.Option.{option_map}
-use Rattle.link_scheduler.specs.Pairs.{pair_cmp, key_of}
-use Rattle.link_scheduler.proofs.Pairs.{pair_total}
-use Rattle.link_scheduler.proofs.Searching.{find_ok, find_err}
+use Rattle.link_scheduler.specs.Pairs.Entries.{pair_cmp, key_of}
+use Rattle.link_scheduler.proofs.Pairs.PairOrder.{pair_total}
+use Rattle.link_scheduler.proofs.Pairs.Searching.{find_ok, find_err}
 use Rattle.link_scheduler.proofs.transmitter.pairs.Pairs.find.Goals as goal
 
 pub returns-in_err-at : goal.returns-in_err-at

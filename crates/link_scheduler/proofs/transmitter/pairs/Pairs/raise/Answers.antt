@@ -1,11 +1,11 @@
 use Rattle.std.proofs.Common.{◌≡◌, None, Some, ap, ◌∙◌}
 use Rattle.std.proofs.lemmas.Result.{on_ok_weaker}
-use Rattle.link_simulation.specs.World.{later_of}
-use Rattle.link_simulation.specs.WorldMessages.{with_link}
-use Rattle.link_scheduler.specs.Pairs.{pair_cmp, key_of, link_of, arrival_of}
-use Rattle.link_scheduler.proofs.Pairs.{pair_total}
-use Rattle.link_scheduler.proofs.PairEntries.{link_again, link_raised, links_alike, arrivals_alike}
-use Rattle.link_scheduler.proofs.Searching.{found_says, absent_says}
+use Rattle.link_simulation.specs.Simulation.World.{later_of}
+use Rattle.link_simulation.specs.Simulation.Messages.{with_link}
+use Rattle.link_scheduler.specs.Pairs.Entries.{pair_cmp, key_of, link_of, arrival_of}
+use Rattle.link_scheduler.proofs.Pairs.PairOrder.{pair_total}
+use Rattle.link_scheduler.proofs.Pairs.Entries.{link_again, link_raised, links_alike, arrivals_alike}
+use Rattle.link_scheduler.proofs.Pairs.Searching.{found_says, absent_says}
 use Rattle.link_scheduler.proofs.transmitter.pairs.Pairs.raise.Goals.{in-Some, in-None}
 use Rattle.link_scheduler.proofs.transmitter.pairs.Pairs.raise.Goals as goal
 

@@ -1,9 +1,9 @@
 use Rattle.std.proofs.Common.{◌≡◌, true, map, ap, ◌∙◌}
 use Rattle.std.specs.Ordering.{is_eq}
-use Rattle.link_simulation.specs.Sorted.{are_ascending}
-use Rattle.link_scheduler.specs.Pairs.{pair_cmp, key_of}
-use Rattle.link_simulation.proofs.Sorted.{either}
-use Rattle.link_scheduler.proofs.PairEntries.{pair_found, pair_added, same_key}
+use Rattle.fair_rates.specs.Lists.Sorted.{are_ascending}
+use Rattle.link_scheduler.specs.Pairs.Entries.{pair_cmp, key_of}
+use Rattle.fair_rates.proofs.Lists.Sorted.{either}
+use Rattle.link_scheduler.proofs.Pairs.Entries.{pair_found, pair_added, same_key}
 use Rattle.link_scheduler.proofs.transmitter.pairs.Pairs.set.Goals as goal
 
 pub invariant_of-self : goal.invariant_of-self

@@ -1,8 +1,8 @@
 use Rattle.std.proofs.Common.{ap, ◌∙◌}
 use Rattle.std.proofs.lemmas.Result.{on_ok_weaker}
-use Rattle.link_simulation.specs.WorldMessages.{with_link}
-use Rattle.link_scheduler.specs.Pairs.{arrival_of}
-use Rattle.link_scheduler.proofs.PairEntries.{link_again, arrivals_alike}
+use Rattle.link_simulation.specs.Simulation.Messages.{with_link}
+use Rattle.link_scheduler.specs.Pairs.Entries.{arrival_of}
+use Rattle.link_scheduler.proofs.Pairs.Entries.{link_again, arrivals_alike}
 use Rattle.link_scheduler.proofs.transmitter.pairs.Pairs.set_cap.Goals as goal
 
 pub returns-clause-arrival : goal.returns-clause-arrival

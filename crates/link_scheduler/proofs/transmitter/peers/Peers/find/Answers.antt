@@ -1,6 +1,6 @@
 use Rattle.std.proofs.Common.{sym, ap, ◌∙◌}
 use Rattle.std.specs.Option.{option_map}
-use Rattle.link_scheduler.proofs.Searching.{find_ok, find_err}
+use Rattle.link_scheduler.proofs.Pairs.Searching.{find_ok, find_err}
 use Rattle.link_scheduler.proofs.transmitter.peers.Peers.find.Goals as goal
 
 pub returns-in_err-at : goal.returns-in_err-at

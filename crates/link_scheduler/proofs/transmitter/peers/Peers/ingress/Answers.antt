@@ -1,5 +1,5 @@
 use Rattle.std.proofs.Common.{◌≡◌, None, ◌∙◌, rules}
-use Rattle.link_scheduler.proofs.Searching.{found_says, absent_says}
+use Rattle.link_scheduler.proofs.Pairs.Searching.{found_says, absent_says}
 use Rattle.link_scheduler.proofs.transmitter.peers.Peers.ingress.Goals as goal
 
 pub returns-in_err-find-clause-cap : goal.returns-in_err-find-clause-cap

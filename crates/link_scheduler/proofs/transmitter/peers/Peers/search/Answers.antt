@@ -1,7 +1,7 @@
 use Rattle.std.proofs.Common.{◌≡◌, true, false, sym, ap, ◌∙◌, rules}
 use Rattle.std.specs.Ordering.{is_eq}
 use Rattle.std.specs.Option.{option_map}
-use Rattle.link_scheduler.proofs.Searching.{parted, parting_place, parting_gap, parting_end}
+use Rattle.link_scheduler.proofs.Pairs.Searching.{parted, parting_place, parting_gap, parting_end}
 use Rattle.link_scheduler.proofs.transmitter.peers.Peers.search.Goals as goal
 
 pub returns-in-Some-clause-found : goal.returns-in-Some-clause-found

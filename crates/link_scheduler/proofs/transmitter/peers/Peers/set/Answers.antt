@@ -1,8 +1,8 @@
 use Rattle.std.proofs.Common.{◌≡◌, true, map, rules}
 use Rattle.std.specs.declared.cmp.Ordering.TheVariants.{Equal}
-use Rattle.link_simulation.specs.Sorted.{are_ascending}
-use Rattle.link_simulation.proofs.Sorted.{either}
-use Rattle.link_scheduler.proofs.Peers.{sets_found, sets_added}
+use Rattle.fair_rates.specs.Lists.Sorted.{are_ascending}
+use Rattle.fair_rates.proofs.Lists.Sorted.{either}
+use Rattle.link_scheduler.proofs.Pairs.PeerCaps.{sets_found, sets_added}
 use Rattle.link_scheduler.proofs.transmitter.peers.Peers.set.Goals as goal
 
 pub invariant_of-self : goal.invariant_of-self

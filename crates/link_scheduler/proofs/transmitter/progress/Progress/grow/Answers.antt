@@ -1,8 +1,8 @@
 use Rattle.std.proofs.Common.{◌≡◌, ◌*◌, ◌+◌, get_or, take, ap, sym, ◌∙◌, arith}
 use Rattle.std.proofs.Math.Nat.{mul_assoc}
-use Rattle.fair_rates.specs.FairParts.{product}
+use Rattle.fair_rates.specs.Fairness.Exists.{product}
 use Rattle.link_scheduler.specs.declared.transmitter.progress.Progress.{Progress}
-use Rattle.link_scheduler.proofs.Units.{product-take, product-take_all}
+use Rattle.link_scheduler.proofs.Flights.Units.{product-take, product-take_all}
 use Rattle.link_scheduler.proofs.transmitter.progress.Progress.grow.Goals as goal
 
 pub loop-factor-preserved : goal.loop-factor-preserved

@@ -1,6 +1,6 @@
 use Rattle.std.proofs.Common.{take}
-use Rattle.fair_rates.specs.FairParts.{product}
-use Rattle.link_scheduler.specs.Progress.{GrowsBy}
+use Rattle.fair_rates.specs.Fairness.Exists.{product}
+use Rattle.link_scheduler.specs.Flights.Progress.{GrowsBy}
 use Rattle.link_scheduler.proofs.transmitter.progress.Progress.grow.Given as goal
 
 abbrev pub invariant-loop-factor : goal.invariant-loop-factor

@@ -1,7 +1,7 @@
 use Rattle.std.proofs.Common.{sym, ap, ◌∙◌}
 use Rattle.std.specs.Option.{option_map}
-use Rattle.link_scheduler.specs.Message.{message_of}
-use Rattle.link_scheduler.proofs.Waiting.{first_missing, first_there, read_twice}
+use Rattle.link_scheduler.specs.Pairs.Messages.{message_of}
+use Rattle.link_scheduler.proofs.Pairs.Waiting.{first_missing, first_there, read_twice}
 use Rattle.link_scheduler.proofs.transmitter.waiting.Waiting.first.Goals as goal
 
 pub returns-in_err-at : goal.returns-in_err-at

@@ -1,8 +1,8 @@
 use Rattle.std.proofs.Common.{◌≡◌, true, map, ap, ◌∙◌}
-use Rattle.link_scheduler.specs.Message.{message_of}
-use Rattle.link_scheduler.specs.Waiting.{pair_of, are_in_order}
-use Rattle.link_simulation.proofs.Sorted.{either}
-use Rattle.link_scheduler.proofs.Waiting.{few_after, parted_next, order_inserted, queued_there}
+use Rattle.link_scheduler.specs.Pairs.Messages.{message_of}
+use Rattle.link_scheduler.specs.Pairs.Waiting.{pair_of, are_in_order}
+use Rattle.fair_rates.proofs.Lists.Sorted.{either}
+use Rattle.link_scheduler.proofs.Pairs.Waiting.{few_after, parted_next, order_inserted, queued_there}
 use Rattle.link_scheduler.proofs.transmitter.waiting.Waiting.push.Goals as goal
 
 pub invariant_of-self : goal.invariant_of-self

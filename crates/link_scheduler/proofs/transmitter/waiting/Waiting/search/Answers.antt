@@ -1,9 +1,9 @@
 use Rattle.std.proofs.Common.{◌≡◌, true, false, sym, ap, ◌∙◌, rules}
 use Rattle.std.specs.Ordering.{is_eq}
 use Rattle.std.specs.Option.{option_map}
-use Rattle.link_scheduler.specs.Pairs.{pair_cmp}
-use Rattle.link_scheduler.specs.Waiting.{pair_of}
-use Rattle.link_scheduler.proofs.Waiting.{parted_first, first_place, no_first, no_first_at_end}
+use Rattle.link_scheduler.specs.Pairs.Entries.{pair_cmp}
+use Rattle.link_scheduler.specs.Pairs.Waiting.{pair_of}
+use Rattle.link_scheduler.proofs.Pairs.Waiting.{parted_first, first_place, no_first, no_first_at_end}
 use Rattle.link_scheduler.proofs.transmitter.waiting.Waiting.search.Goals as goal
 
 pub returns-in-Some : goal.returns-in-Some

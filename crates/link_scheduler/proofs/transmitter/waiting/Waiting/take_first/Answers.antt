@@ -1,9 +1,9 @@
 use Rattle.std.proofs.Common.{◌≡◌, true, map, sym, ap, ◌∙◌}
 use Rattle.std.specs.Option.{option_map}
-use Rattle.link_scheduler.specs.Message.{message_of}
-use Rattle.link_scheduler.specs.Waiting.{are_in_order}
-use Rattle.link_simulation.proofs.Sorted.{either}
-use Rattle.link_scheduler.proofs.Waiting.{few_removed, first_missing, without_missing, first_there, without_there, order_removed}
+use Rattle.link_scheduler.specs.Pairs.Messages.{message_of}
+use Rattle.link_scheduler.specs.Pairs.Waiting.{are_in_order}
+use Rattle.fair_rates.proofs.Lists.Sorted.{either}
+use Rattle.link_scheduler.proofs.Pairs.Waiting.{few_removed, first_missing, without_missing, first_there, without_there, order_removed}
 use Rattle.link_scheduler.proofs.transmitter.waiting.Waiting.take_first.Goals as goal
 
 pub returns-in_default-clause-taken : goal.returns-in_default-clause-taken

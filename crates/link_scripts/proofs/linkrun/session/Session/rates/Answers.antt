@@ -1,7 +1,7 @@
 use Rattle.std.proofs.Common.{of_calls, rules}
-use Rattle.fair_rates.proofs.Callable.{callable_on_each, callable_on_each_pair}
+use Rattle.fair_rates.proofs.Sides.Callable.{callable_on_each, callable_on_each_pair}
 use Rattle.link_scripts.proofs.CapAnswers.{rates_if_ok, refused_if_err}
-use Rattle.link_scripts.specs.Session.{caps_of}
+use Rattle.link_scripts.specs.Session.{said_caps}
 use Rattle.std.specs.Ordering.{nat_cmp}
 use Rattle.std.specs.BTreeMap.{get}
 use Rattle.link_scripts.proofs.linkrun.session.Session.rates.Goals as goal
@@ -17,10 +17,10 @@ allocate_linked-requires-clause-link c = search (of_calls, callable_on_each_pair
 
 pub returns-clause-fair : goal.returns-clause-fair
 returns-clause-fair c =
-    rates_if_ok _ _ _ _ _ _ (caps_of c.args.self.now) (λ peer answer after k. search rules) (λ peer answer after k. search rules) (λ origin recipient answer after k. search rules) (λ rates. get nat_cmp rates)
+    rates_if_ok _ _ _ _ _ _ (said_caps c.args.self.now) (λ peer answer after k. search rules) (λ peer answer after k. search rules) (λ origin recipient answer after k. search rules) (λ rates. get nat_cmp rates)
     c.allocate_linked.result _ _ c.deref.ensures.value c.allocate_linked.ensures.under_caps
 
 pub returns-clause-refused : goal.returns-clause-refused
 returns-clause-refused c =
-    refused_if_err _ _ _ _ _ _ (caps_of c.args.self.now) (λ peer answer after k. search rules) (λ peer answer after k. search rules) (λ origin recipient answer after k. search rules)
+    refused_if_err _ _ _ _ _ _ (said_caps c.args.self.now) (λ peer answer after k. search rules) (λ peer answer after k. search rules) (λ origin recipient answer after k. search rules)
     c.allocate_linked.result _ _ c.deref.ensures.value c.allocate_linked.ensures.refused c.allocate_linked.ensures.refused_under_caps

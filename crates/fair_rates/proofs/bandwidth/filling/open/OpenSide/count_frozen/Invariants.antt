@@ -1,6 +1,6 @@
 use Rattle.std.proofs.Common.{◌≡◌, ℕ, ◌-◌, ◌<◌, ◌≤◌, ◌⊎◌, None, length, get_or, All}
-use Rattle.fair_rates.specs.Fair.{Side}
-use Rattle.fair_rates.specs.Filling.{frozen_at, HaveNoMore, IsWithin, KeepsAccount}
+use Rattle.fair_rates.specs.Fairness.Fair.{Side}
+use Rattle.fair_rates.specs.Filling.States.{frozen_at, HaveNoMore, IsWithinSlack, KeepsAccount}
 use Rattle.fair_rates.proofs.bandwidth.filling.open.OpenSide.count_frozen.Given as goal
 
 abbrev pub invariant-loop-place : goal.invariant-loop-place
@@ -9,7 +9,7 @@ invariant-loop-place l = record {
       → KeepsAccount side scale (frozen_at l.levels l.level_of) l.slack l.rising.items;
   users : All (λ flow. flow < length l.level_of) l.rising.items;
   no_more : HaveNoMore (frozen_at l.levels l.level_of) l.slack l.rising.items;
-  no_lower : (parts : ℕ) → IsWithin parts l.initial.slack l.initial.rising.items → IsWithin parts l.slack l.rising.items;
+  no_lower : (parts : ℕ) → IsWithinSlack parts l.initial.slack l.initial.rising.items → IsWithinSlack parts l.slack l.rising.items;
   changed : (length l.rising.items < length l.initial.rising.items) ⊎ ((l.slack ≡ l.initial.slack) × (length l.rising.items ≡ length l.initial.rising.items));
   passed : (k d : ℕ) → k < l.place → frozen_at l.levels l.level_of (get_or l.rising.items k d) ≡ None;
   within : l.place ≤ length l.rising.items;

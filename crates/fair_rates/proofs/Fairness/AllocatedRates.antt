@@ -1,0 +1,65 @@
+-- What is answered is the allocation.
+use Rattle.std.proofs.Common.{◌≡◌, ℕ, ◌<◌, ◌≤◌, List, length, map, Option, All, AllPairs, sym, ap, ◌∙◌, subst, arith}
+use Rattle.std.proofs.lemmas.List.{length-map}
+use Rattle.std.specs.declared.cmp.Ordering.{Ordering}
+use Rattle.fair_rates.specs.declared.bandwidth.Flow.{Flow}
+use Rattle.fair_rates.specs.declared.bandwidth.Rate.{Rate}
+use Rattle.fair_rates.specs.declared.bandwidth.sides.Side as declared_side
+use Rattle.fair_rates.specs.Fairness.Allocation.{IsAllocation, IsCountedAllocation}
+use Rattle.fair_rates.specs.Sides.Answers.{Calls, PairCalls, States, Answered, AnswerInOrder}
+use Rattle.fair_rates.specs.Sides.SideOf.{side_of}
+use Rattle.fair_rates.specs.Fairness.Laws.{HaveUsersBelow}
+use Rattle.fair_rates.specs.Fairness.Rates.{AreFairRates, HasDifferentRates, last_rate}
+use Rattle.fair_rates.specs.Sides.Subjects.{sides_of}
+use Rattle.fair_rates.proofs.Sides.UserCounts.{HaveDistinctUsers}
+use Rattle.fair_rates.proofs.Fairness.Allocation.{the_allocation}
+use Rattle.fair_rates.proofs.Refusals.Promise.{distinct_sides, users_below_sides, twelfths, whole_of_sixteen}
+
+-- fair rates on the sides that were registered are the allocation
+pub allocated : {P E I L : Type 0} (cmp : P → P → Ordering) (egress : Calls E P) (ingress : Calls I P) (link : PairCalls L P) (first : States E I L) (flows : List (Flow P)) (rate_of : ℕ → Option Rate)
+    → (answered : List (Answered P)) (sides : List declared_side.Side) (rates : List Rate)
+    → AnswerInOrder egress ingress link first flows answered
+    → map side_of sides ≡ sides_of cmp answered
+    → All (λ side. All (λ flow. flow < length flows) side.users.items) sides
+    → All (λ side. AllPairs (λ a b. a < b) side.users.items) sides
+    → AreFairRates (map side_of sides) (length flows) rates
+    → ((id : ℕ) → rate_of id ≡ last_rate id flows rates)
+    → IsAllocation cmp egress ingress link first flows rate_of
+allocated cmp egress ingress link first flows rate_of answered sides rates in_order registered below rise filled by_id =
+    let fair : AreFairRates (sides_of cmp answered) (length flows) rates = subst (λ s. AreFairRates s (length flows) rates) registered filled in
+    let among : HaveUsersBelow (length flows) (sides_of cmp answered) = subst (HaveUsersBelow (length flows)) registered (users_below_sides (length flows) sides below) in
+    let distinct : HaveDistinctUsers (sides_of cmp answered) = subst HaveDistinctUsers registered (distinct_sides sides rise) in
+    let one = the_allocation (sides_of cmp answered) (length flows) rates among fair in
+    record {
+      answered = answered;
+      in_order = in_order;
+      rates = rates;
+      fair = fair;
+      only = one.only;
+      max_min = one.max_min;
+      zero = one.zero;
+      of_four = λ few. twelfths (sides_of cmp answered) (length flows) rates few among distinct fair;
+      of_sixteen = λ few. whole_of_sixteen (sides_of cmp answered) (length flows) rates few among distinct fair;
+      by_id = by_id;
+    }
+
+-- and the rounds are counted
+pub counted : {P E I L : Type 0} (cmp : P → P → Ordering) (egress : Calls E P) (ingress : Calls I P) (link : PairCalls L P) (first : States E I L) (flows : List (Flow P)) (rate_of : ℕ → Option Rate) (rounds : ℕ)
+    → (answered : List (Answered P)) (sides : List declared_side.Side) (rates : List Rate)
+    → AnswerInOrder egress ingress link first flows answered
+    → map side_of sides ≡ sides_of cmp answered
+    → All (λ side. All (λ flow. flow < length flows) side.users.items) sides
+    → All (λ side. AllPairs (λ a b. a < b) side.users.items) sides
+    → AreFairRates (map side_of sides) (length flows) rates
+    → HasDifferentRates rates rounds
+    → rounds ≤ length sides
+    → ((id : ℕ) → rate_of id ≡ last_rate id flows rates)
+    → IsCountedAllocation cmp egress ingress link first flows rate_of rounds
+unfolding allocated
+counted cmp egress ingress link first flows rate_of rounds answered sides rates in_order registered below rise filled different few by_id =
+    let many : length (sides_of cmp answered) ≡ length sides = ap length (sym registered) ∙ length-map sides side_of in
+    record {
+      allocation = allocated cmp egress ingress link first flows rate_of answered sides rates in_order registered below rise filled by_id;
+      different = different;
+      few = omega (arith, many, few);
+    }

@@ -1,0 +1,61 @@
+-- Registering: the sides that have come into being while flow after flow asks for them.
+use Rattle.std.specs.Prelude.{◌≡◌, ◌↔◌, ℕ, ◌<◌, true, cond, List, [], ◌∷◌, ◌++◌, Option, Some, map, length}
+use Rattle.std.specs.Prelude.{vec_len}
+use Rattle.std.specs.Map.{lookup}
+use Rattle.std.specs.BTreeMap.{BTreeMap}
+use Rattle.std.specs.List.{HoldsAt}
+use Rattle.std.specs.declared.cmp.Ordering.{Ordering}
+use Rattle.fair_rates.specs.Sides.Subjects.{Subject, sent_by, received_by, sent_between, Ask, same_subject, is_open}
+use Rattle.fair_rates.specs.Sides.Subjects.{opened}
+use Rattle.fair_rates.specs.Sides.Subjects.{sides_after}
+use Rattle.fair_rates.specs.Sides.SideOf.{side_of}
+use Rattle.fair_rates.specs.declared.bandwidth.sides.Registry.{Registry}
+use Rattle.fair_rates.specs.declared.bandwidth.sides.Side as declared_side
+use Rattle.fair_rates.specs.declared.bandwidth.sides.Subject as declared
+use Rattle.fair_rates.specs.declared.bandwidth.sides.Subject.TheVariants.{SentBy, ReceivedBy, SentBetween}
+
+-- a subject in the code
+abbrev pub subject_of : {P : Type 0} → declared.Subject P → Subject P
+subject_of (SentBy p) = sent_by p.now
+subject_of (ReceivedBy p) = received_by p.now
+subject_of (SentBetween p q) = sent_between p.now q.now
+
+module _ {P : Type 0} (cmp : P → P → Ordering) where
+  -- the subjects of the sides that come into being with the later ones, after the earlier ones
+  abbrev pub subjects_after : List (Ask P) → List (Ask P) → List (Subject P)
+  subjects_after earlier [] = []
+  subjects_after earlier (a ∷ later) =
+      map (λ side. a.subject) (cond (is_open cmp earlier a) [] (opened cmp a later a.answer))
+      ++ subjects_after (a ∷ earlier) later
+
+  -- the number that a map has for a subject
+  abbrev pub number_of : BTreeMap (declared.Subject P) ℕ → declared.Subject P → Option ℕ
+  number_of numbers s = lookup (λ other. same_subject cmp (subject_of s) (subject_of other)) numbers.entries
+
+  -- that number is the place of the subject in the list
+  pub record IsNumberOf (subjects : List (Subject P)) (s : Subject P) (number : ℕ) : Type 0 where
+    pub within : number < length subjects
+    pub same : HoldsAt (λ other. same_subject cmp s other ≡ true) subjects number
+
+  -- the sides are those that the asks make, and each is found by its subject
+  pub record AreRegistered (asks : List (Ask P)) (sides : List declared_side.Side)
+      (number : declared.Subject P → Option ℕ) : Type 0 where
+    pub sides_are : map side_of sides ≡ sides_after cmp [] asks
+    pub numbers_are : (s : declared.Subject P) (n : ℕ)
+        → (number s ≡ Some n) ↔ IsNumberOf (subjects_after [] asks) (subject_of s) n
+
+  -- so it is in the registry
+  abbrev pub IsRegistryOf : List (Ask P) → Registry P → Type 0
+  IsRegistryOf asks registry = AreRegistered asks registry.sides.items (number_of registry.numbers)
+
+  -- a number that the registry finds is that of a side
+  abbrev pub FindsSides : Registry P → Type 0
+  FindsSides registry =
+      (s : declared.Subject P) (n : ℕ) → number_of registry.numbers s ≡ Some n → n < vec_len registry.sides
+
+-- the flow at a place has asked for the side of a subject
+pub record Registers {P : Type 0} (cmp : P → P → Ordering) (place : ℕ) (s : declared.Subject P) (answer : Option ℕ)
+    (old new : Registry P) : Type 0 where
+  pub asked : (asks : List (Ask P)) → IsRegistryOf cmp asks old
+      → IsRegistryOf cmp (asks ++ record { place = place; subject = subject_of s; answer = answer } ∷ []) new
+  pub finds : FindsSides cmp new

@@ -1,0 +1,90 @@
+-- What a scheduler promises of a call, from what it keeps.
+use Rattle.std.proofs.Common.{◌≡◌, ℕ, ◌<◌, ◌^◌, List, Option, Some, Result, Ok, Err, OnOk, OnErr, refl, sym, subst}
+use Rattle.std.specs.declared.cmp.Ordering.{Ordering}
+use Rattle.std.specs.Cmp.{IsTotalOrder}
+use Rattle.std.proofs.Math.Logic.{∥∥₁_map}
+use Rattle.fair_rates.specs.declared.error.Error.{Error}
+use Rattle.link_simulation.specs.Simulation.World.{Completed, goes, new_world}
+use Rattle.link_simulation.specs.Simulation.Calls.{Call, call_advance, moment_of}
+use Rattle.link_simulation.specs.Rule.Planned.{Planned, IsPlanned, new_planned, next_event}
+use Rattle.link_simulation.specs.Rule.Events.{Obeys}
+use Rattle.link_simulation.specs.Rule.Refusals.{MayBeRefused}
+use Rattle.link_simulation.specs.Rule.Range.{IsInRange}
+use Rattle.link_simulation.specs.Rule.StandsFor.{StandsFor}
+use Rattle.link_simulation.specs.Rule.SamePlanned.{IsSamePlanned, GoesByRule}
+use Rattle.link_simulation.specs.Laws.Orderly.{IsOrderly}
+use Rattle.link_scheduler.specs.Calls.State.{Makes, Refuses}
+use Rattle.link_simulation.specs.Rule.Simulated.{IsNextInSimulation, IsSplitAnywhere, KeepsToCaps}
+use Rattle.link_simulation.proofs.Rule.RepliesInRange.{new_in_range}
+use Rattle.link_simulation.proofs.Laws.BytesStand.{advance_keeps_to_caps}
+use Rattle.link_simulation.proofs.Laws.ConservedAlike.{goes_conserved}
+use Rattle.link_simulation.proofs.Laws.MostEvents.{obeys_right}
+use Rattle.link_simulation.proofs.Rule.Limit.{new_stands}
+use Rattle.link_simulation.proofs.Laws.Orderly.{new_orderly, obeys_orderly}
+use Rattle.link_simulation.proofs.Laws.OrderlyAlike.{orderly_same, goes_orderly}
+use Rattle.link_simulation.proofs.Rule.Simulated.{moment_in_time, calls_simulated, call_keeps_range, refusals_simulated, next_in_simulation}
+use Rattle.link_simulation.proofs.Laws.SplitAnywhere.{advance_split_anywhere}
+
+module _ {P : Type 0} (cmp : P → P → Ordering) (order : IsTotalOrder cmp) where
+  -- ---- a new scheduler
+
+  pub new_one_stands : (p : Planned P) (id : ℕ) → p ≡ new_planned id → StandsFor cmp p (new_world id)
+  new_one_stands p id is = subst (λ (q : Planned P). StandsFor cmp q (new_world id)) (sym is) (new_stands cmp order id)
+
+  pub new_one_in_range : (p : Planned P) (id : ℕ) → p ≡ new_planned id → id < 2 ^ 64 → IsInRange p
+  new_one_in_range p id is fits = subst (λ (q : Planned P). IsInRange q) (sym is) (new_in_range id fits)
+
+  pub new_one_orderly : (p : Planned P) (id : ℕ) → p ≡ new_planned id → ∥ IsOrderly cmp p ∥₁
+  new_one_orderly p id is = ∣ subst (IsOrderly cmp) (sym is) (new_orderly cmp order id) ∣₁
+
+  -- ---- a call that goes
+
+  -- a call on the copy leaves what is planned in order
+  pub orderly_on : (p q r : Planned P) (call : Call P) (cs : List (Completed P)) → IsSamePlanned cmp p q → ∥ IsOrderly cmp p ∥₁ → Obeys cmp q call (goes cs r) → ∥ IsOrderly cmp r ∥₁
+  orderly_on p q r call cs same orderly obeys = ∥∥₁_map orderly (λ h. obeys_orderly cmp order q r call cs obeys (orderly_same cmp order p q same h))
+
+  -- what is kept by a step that does a call at once, or leaves what is planned as it was
+  pub record Kept (q : Planned P) : Type 0 where
+    pub right : ∥ IsPlanned cmp q ∥₁
+    pub orderly : ∥ IsOrderly cmp q ∥₁
+
+  pub kept_at_once : {X E : Type 0} (r : Result X E) (p q : Planned P) (call : Call P) (cs : List (Completed P)) → OnOk r (Obeys cmp p call (goes cs q)) → OnErr r (q ≡ p) → ∥ IsPlanned cmp p ∥₁ → ∥ IsOrderly cmp p ∥₁ → Kept q
+  kept_at_once (Ok x) p q call cs obeys same right orderly = record {
+    right = ∥∥₁_map right (λ h. obeys_right cmp order p call (goes cs q) h obeys cs q refl);
+    orderly = ∥∥₁_map orderly (obeys_orderly cmp order p q call cs obeys);
+  }
+  kept_at_once (Err e) p q call cs obeys same right orderly = record {
+    right = subst (λ (r : Planned P). ∥ IsPlanned cmp r ∥₁) (sym same) right;
+    orderly = subst (λ (r : Planned P). ∥ IsOrderly cmp r ∥₁) (sym same) orderly;
+  }
+
+  -- what is promised of a call that goes from p to q
+  pub promised_if : (p q : Planned P) (call : Call P) (now : ℕ) (cs : List (Completed P)) → moment_of call ≡ Some now → now < 2 ^ 64 → ∥ IsOrderly cmp p ∥₁ → GoesByRule cmp p call cs q → Makes cmp p call cs q
+  promised_if p q call now cs at fits orderly went = record {
+    by_rule = went;
+    simulated = calls_simulated cmp order p q call cs (moment_in_time cmp order call now at fits) went;
+    in_range = call_keeps_range cmp order p q call cs went;
+    conserved = ∥∥₁_map orderly (goes_conserved cmp order p q call cs went);
+    rated = ∥∥₁_map orderly (λ h. (goes_orderly cmp order p q call cs went h).rated);
+  }
+
+  -- ---- an advance
+
+  pub split_on : (p q : Planned P) (now : ℕ) (cs : List (Completed P)) → now < 2 ^ 64 → GoesByRule cmp p (call_advance now) cs q → IsSplitAnywhere cmp p now cs q
+  split_on p q now cs fits went = advance_split_anywhere cmp order p q now cs (moment_in_time cmp order (call_advance now) now refl fits now refl) went
+
+  pub within_caps_on : (p q : Planned P) (now : ℕ) (cs : List (Completed P)) → now < 2 ^ 64 → GoesByRule cmp p (call_advance now) cs q → KeepsToCaps cmp p now q
+  within_caps_on p q now cs fits went = advance_keeps_to_caps cmp order p q now cs (moment_in_time cmp order (call_advance now) now refl fits now refl) went
+
+  -- ---- a call that is refused
+
+  pub cause_of : (p : Planned P) (call : Call P) (now : ℕ) (why : Error) → moment_of call ≡ Some now → now < 2 ^ 64 → MayBeRefused cmp p call why → Refuses cmp p call why
+  cause_of p call now why at fits may = record {
+    by_rule = may;
+    simulated = refusals_simulated cmp order p call why (moment_in_time cmp order call now at fits) may;
+  }
+
+  -- ---- the next event
+
+  pub next_simulated : (p : Planned P) (next : Option ℕ) → next ≡ next_event p → IsNextInSimulation cmp p next
+  next_simulated p next is = subst (IsNextInSimulation cmp p) (sym is) (next_in_simulation cmp order p)

@@ -1,2 +1,0 @@
--- The laws of max-min fairness.
-pub mod Messages

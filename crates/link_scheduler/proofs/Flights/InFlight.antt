@@ -1,0 +1,215 @@
+-- The messages in flight: a list of flows, and beside it a list of what is known of their messages.
+use Rattle.std.proofs.Common.{◌≡◌, ℕ, zero, suc, ◌+◌, ◌<◌, ◌≤◌, Bool, true, false, not, if◌then◌else◌, ◌&&◌, ◌||◌, List, [], ◌∷◌, ◌++◌, length, map, get_or, nat_lt, refl, sym, ◌∙◌, ap, arith, append_assoc}
+use Rattle.std.specs.List.{AllZip, list_all, list_any, remove, filter}
+use Rattle.std.specs.declared.cmp.Ordering.{Ordering}
+use Rattle.std.specs.Ordering.{is_lt, nat_cmp}
+use Rattle.fair_rates.specs.declared.bandwidth.Flow.{Flow}
+use Rattle.link_scheduler.specs.declared.transmitter.progress.Progress.{Progress}
+use Rattle.std.specs.Bool.{◌==◌}
+use Rattle.std.proofs.lemmas.Bool.Decides.{nat_tests}
+use Rattle.fair_rates.specs.Sides.Subjects.{same_peer}
+use Rattle.link_simulation.specs.Simulation.Messages.{Message, is_delivered, same_pair}
+use Rattle.link_simulation.specs.Rule.Planned.{RatedFlight, rated_messages}
+use Rattle.std.proofs.lemmas.List.{length-append, append-nil, map-append}
+use Rattle.std.proofs.lemmas.Bool.{and_from}
+use Rattle.fair_rates.proofs.Lists.Booleans.{first_of_both, second_of_both}
+use Rattle.fair_rates.specs.Lists.Sorted.{are_ascending}
+use Rattle.link_scheduler.specs.Flights.RatedFlights.{sending_of, stands_for, are_standing}
+use Rattle.link_scheduler.specs.Pairs.Messages.{message_of}
+use Rattle.fair_rates.proofs.Lists.Zips.{zip-length, zip-push}
+use Rattle.fair_rates.proofs.Lists.Sorted.{list_all-append, list_all-map, get_or-seam}
+
+-- ---- a list of what is read
+
+pub length-read : {X Y : Type 0} (f : X → Y) (xs : List X) → length (map f xs) ≡ length xs
+length-read f [] = refl
+length-read f (x ∷ xs) = ap suc (length-read f xs)
+
+pub read_at : {X Y : Type 0} (f : X → Y) (xs : List X) (at : ℕ) (x : X) (d : Y) → at < length xs → x ≡ get_or xs at x → get_or (map f xs) at d ≡ f x
+read_at f [] at x d lt is = absurd (omega (arith, lt))
+read_at f (y ∷ xs) zero x d lt is = ap f (sym is)
+read_at f (y ∷ xs) (suc at) x d lt is = read_at f xs at x d (omega (arith, lt)) is
+
+pub read_without : {X Y : Type 0} (f : X → Y) (xs : List X) (at : ℕ) → map f (remove xs at) ≡ remove (map f xs) at
+read_without f [] zero = refl
+read_without f [] (suc at) = refl
+read_without f (x ∷ xs) zero = refl
+read_without f (x ∷ xs) (suc at) = ap (λ l. f x ∷ l) (read_without f xs at)
+
+remove-seam : {X : Type 0} (xs ys : List X) (y : X) → remove (xs ++ y ∷ ys) (length xs) ≡ xs ++ ys
+remove-seam [] ys y = refl
+remove-seam (x ∷ xs) ys y = ap (λ l. x ∷ l) (remove-seam xs ys y)
+
+-- ---- each flow stands for its message
+
+-- the flow is of the message's peers, by their order, and delivered as the message is
+pub record StandsForSent {P : Type 0} (cmp : P → P → Ordering) (flow : Flow P) (s : Progress P) : Type 0 where
+  pub origin : same_peer cmp flow.origin s.message.value.origin ≡ true
+  pub recipient : same_peer cmp flow.recipient s.message.value.recipient ≡ true
+  pub delivered : flow.delivered ≡ is_delivered cmp (message_of s.message.value)
+
+mark : (a b : Bool) → (if b then a else not a) ≡ true → a ≡ b
+mark true true h = refl
+mark true false h = sym h
+mark false true h = h
+mark false false h = refl
+
+marks : (a b : Bool) → a ≡ b → (if b then a else not a) ≡ true
+marks true true h = refl
+marks true false h = cc
+marks false true h = cc
+marks false false h = refl
+
+module _ {P : Type 0} (cmp : P → P → Ordering) where
+  pub stands_so : (f : Flow P) (s : Progress P) → stands_for cmp f s ≡ true → StandsForSent cmp f s
+  stands_so f s h =
+      let peers = first_of_both (same_peer cmp f.origin s.message.value.origin && same_peer cmp f.recipient s.message.value.recipient) _ h in
+      record {
+        origin = first_of_both (same_peer cmp f.origin s.message.value.origin) _ peers;
+        recipient = second_of_both (same_peer cmp f.origin s.message.value.origin) _ peers;
+        delivered = mark f.delivered _ (second_of_both (same_peer cmp f.origin s.message.value.origin && same_peer cmp f.recipient s.message.value.recipient) _ h);
+      }
+
+  pub stands_if : (f : Flow P) (s : Progress P) → StandsForSent cmp f s → stands_for cmp f s ≡ true
+  stands_if f s h = and_from _ _ (and_from _ _ h.origin h.recipient) (marks f.delivered _ h.delivered)
+
+  pub standing_zip : (fs : List (Flow P)) (ss : List (Progress P)) → are_standing cmp fs ss ≡ true → AllZip (StandsForSent cmp) fs ss
+  standing_zip [] [] h = tt
+  standing_zip [] (s ∷ ss) h = cc
+  standing_zip (f ∷ fs) [] h = cc
+  standing_zip (f ∷ fs) (s ∷ ss) h = (stands_so f s (first_of_both (stands_for cmp f s) _ h), standing_zip fs ss (second_of_both (stands_for cmp f s) _ h))
+
+  pub zip_standing : (fs : List (Flow P)) (ss : List (Progress P)) → AllZip (StandsForSent cmp) fs ss → are_standing cmp fs ss ≡ true
+  zip_standing [] [] z = refl
+  zip_standing [] (s ∷ ss) z = absurd z
+  zip_standing (f ∷ fs) [] z = absurd z
+  zip_standing (f ∷ fs) (s ∷ ss) z = and_from _ _ (stands_if f s z.0) (zip_standing fs ss z.1)
+
+  pub standing_length : (fs : List (Flow P)) (ss : List (Progress P)) → are_standing cmp fs ss ≡ true → length fs ≡ length ss
+  standing_length fs ss h = zip-length (StandsForSent cmp) fs ss (standing_zip fs ss h)
+
+-- ---- without one
+
+pub zip_without : {X Y : Type 0} (R : X → Y → Type 0) (xs : List X) (ys : List Y) (at : ℕ) → AllZip R xs ys → AllZip R (remove xs at) (remove ys at)
+zip_without R [] [] zero z = tt
+zip_without R [] [] (suc at) z = tt
+zip_without R [] (y ∷ ys) at z = absurd z
+zip_without R (x ∷ xs) [] at z = absurd z
+zip_without R (x ∷ xs) (y ∷ ys) zero z = z.1
+zip_without R (x ∷ xs) (y ∷ ys) (suc at) z = (z.0, zip_without R xs ys at z.1)
+
+pub all_without : {X : Type 0} (test : X → Bool) (xs : List X) (at : ℕ) → list_all test xs ≡ true → list_all test (remove xs at) ≡ true
+all_without test [] zero h = refl
+all_without test [] (suc at) h = refl
+all_without test (x ∷ xs) zero h = second_of_both (test x) _ h
+all_without test (x ∷ xs) (suc at) h = and_from (test x) _ (first_of_both (test x) _ h) (all_without test xs at (second_of_both (test x) _ h))
+
+pub ascending_without : {K : Type 0} (cmp : K → K → Ordering) (ks : List K) (at : ℕ) → are_ascending cmp ks ≡ true → are_ascending cmp (remove ks at) ≡ true
+ascending_without cmp [] zero h = refl
+ascending_without cmp [] (suc at) h = refl
+ascending_without cmp (k ∷ ks) zero h = second_of_both (list_all (λ l. is_lt (cmp k l)) ks) _ h
+ascending_without cmp (k ∷ ks) (suc at) h = and_from _ _ (all_without (λ l. is_lt (cmp k l)) ks at (first_of_both (list_all (λ l. is_lt (cmp k l)) ks) _ h)) (ascending_without cmp ks at (second_of_both (list_all (λ l. is_lt (cmp k l)) ks) _ h))
+
+pub apart_without : {P : Type 0} (fs : List (Flow P)) (at : ℕ) → are_ascending nat_cmp (map (λ (flow : Flow P). flow.id) fs) ≡ true → are_ascending nat_cmp (map (λ (flow : Flow P). flow.id) (remove fs at)) ≡ true
+apart_without fs at h = ap (are_ascending nat_cmp) (read_without (λ flow. flow.id) fs at) ∙ ascending_without nat_cmp (map (λ flow. flow.id) fs) at h
+
+pub standing_without : {P : Type 0} (cmp : P → P → Ordering) (fs : List (Flow P)) (ss : List (Progress P)) (at : ℕ) → are_standing cmp fs ss ≡ true → are_standing cmp (remove fs at) (remove ss at) ≡ true
+standing_without cmp fs ss at h = zip_standing cmp _ _ (zip_without (StandsForSent cmp) fs ss at (standing_zip cmp fs ss h))
+
+-- whether a message of a pair is in flight
+pub any_of_pair : {P : Type 0} (cmp : P → P → Ordering) (scale : ℕ) (levels : List ℕ) (m : Message P) (ss : List (Progress P))
+    → list_any (λ (s : Progress P). same_peer cmp m.origin s.message.value.origin && same_peer cmp m.recipient s.message.value.recipient) ss ≡ list_any (same_pair cmp m) (rated_messages (sending_of scale levels ss))
+any_of_pair cmp scale levels m [] = refl
+any_of_pair cmp scale levels m (s ∷ ss) = ap (λ b. (same_peer cmp m.origin s.message.value.origin && same_peer cmp m.recipient s.message.value.recipient) || b) (any_of_pair cmp scale levels m ss)
+
+-- ---- with one more
+
+pub ascending_push : (ks : List ℕ) (k : ℕ) → are_ascending nat_cmp ks ≡ true → list_all (λ j. nat_lt j k) ks ≡ true → are_ascending nat_cmp (ks ++ k ∷ []) ≡ true
+ascending_push [] k h below = refl
+ascending_push (j ∷ ks) k h below = and_from _ _ (list_all-append (λ l. is_lt (nat_cmp j l)) ks (k ∷ []) (first_of_both _ _ h) (and_from (is_lt (nat_cmp j k)) true (less j k (first_of_both (nat_lt j k) _ below)) refl))
+    (ascending_push ks k (second_of_both (list_all (λ l. is_lt (nat_cmp j l)) ks) _ h) (second_of_both (nat_lt j k) _ below))
+  where
+    less : (j k : ℕ) → nat_lt j k ≡ true → is_lt (nat_cmp j k) ≡ true
+    less j k h = rw h refl
+
+pub apart_with : {P : Type 0} (fs : List (Flow P)) (f : Flow P) → are_ascending nat_cmp (map (λ (flow : Flow P). flow.id) fs) ≡ true → list_all (λ (flow : Flow P). nat_lt flow.id f.id) fs ≡ true → are_ascending nat_cmp (map (λ (flow : Flow P). flow.id) (fs ++ f ∷ [])) ≡ true
+apart_with fs f apart below = ap (are_ascending nat_cmp) (map-append (λ flow. flow.id) fs (f ∷ [])) ∙ ascending_push (map (λ flow. flow.id) fs) f.id apart (list_all-map (λ j. nat_lt j f.id) (λ flow. flow.id) fs ∙ below)
+
+pub standing_with : {P : Type 0} (cmp : P → P → Ordering) (fs : List (Flow P)) (ss : List (Progress P)) (f : Flow P) (s : Progress P) → are_standing cmp fs ss ≡ true → StandsForSent cmp f s → are_standing cmp (fs ++ f ∷ []) (ss ++ s ∷ []) ≡ true
+standing_with cmp fs ss f s h one = zip_standing cmp _ _ (zip-push (StandsForSent cmp) fs ss f s (standing_zip cmp fs ss h) one)
+
+-- ---- those that are done leave
+
+module _ {P : Type 0} (spent : RatedFlight P → Bool) where
+  -- so far, up to a place: some have left, and the rest is to be looked at
+  pub record HaveLeft (old now : List (RatedFlight P)) (left : List (Message P)) (at : ℕ) : Type 0 where
+    pub before : List (RatedFlight P)
+    pub rest : List (RatedFlight P)
+    pub split : now ≡ before ++ rest
+    pub is_at : at ≡ length before
+    pub leavers : left ++ rated_messages (filter spent rest) ≡ rated_messages (filter spent old)
+    pub stay : before ++ filter (λ f. not (spent f)) rest ≡ filter (λ f. not (spent f)) old
+
+  pub none_left : (old : List (RatedFlight P)) → HaveLeft old old [] 0
+  none_left old = record { before = []; rest = old; split = refl; is_at = refl; leavers = refl; stay = refl }
+
+  filter_yes : {X : Type 0} (t : X → Bool) (x : X) (xs : List X) → t x ≡ true → filter t (x ∷ xs) ≡ x ∷ filter t xs
+  filter_yes t x xs h = rw h refl
+
+  filter_no : {X : Type 0} (t : X → Bool) (x : X) (xs : List X) → t x ≡ false → filter t (x ∷ xs) ≡ filter t xs
+  filter_no t x xs h = rw h refl
+
+  module _ (old now : List (RatedFlight P)) (left : List (Message P)) (at : ℕ) (h : HaveLeft old now left at) where
+    pub step_leaves : (m : Message P) (t : Bool) → at < length now → t ≡ true → ((d : RatedFlight P) → t ≡ spent (get_or now at d)) → ((d : RatedFlight P) → m ≡ (get_or now at d).message) → HaveLeft old (remove now at) (left ++ m ∷ []) at
+    step_leaves m t lt holds test is = by_rest h.rest h.split h.leavers h.stay
+      where
+        by_rest : (rest : List (RatedFlight P)) → now ≡ h.before ++ rest → left ++ rated_messages (filter spent rest) ≡ rated_messages (filter spent old) → h.before ++ filter (λ f. not (spent f)) rest ≡ filter (λ f. not (spent f)) old
+            → HaveLeft old (remove now at) (left ++ m ∷ []) at
+        by_rest [] split leavers stay = absurd (omega (arith, h.is_at, ap length split, length-append h.before []))
+        by_rest (f ∷ tail) split leavers stay =
+            let here : get_or now at f ≡ f = ap (λ l. get_or l at f) split ∙ ap (λ n. get_or (h.before ++ f ∷ tail) n f) h.is_at ∙ get_or-seam h.before tail f f in
+            let passes : spent f ≡ true = ap spent (sym here) ∙ sym (test f) ∙ holds in
+            record {
+              before = h.before;
+              rest = tail;
+              is_at = h.is_at;
+              split = ap (λ l. remove l at) split ∙ ap (remove (h.before ++ f ∷ tail)) h.is_at ∙ remove-seam h.before tail f;
+              leavers = append_assoc left (m ∷ []) (rated_messages (filter spent tail)) ∙ ap (λ x. left ++ x ∷ rated_messages (filter spent tail)) (is f ∙ ap (λ g. g.message) here) ∙ ap (λ l. left ++ rated_messages l) (sym (filter_yes spent f tail passes)) ∙ leavers;
+              stay = ap (λ l. h.before ++ l) (sym (filter_no (λ g. not (spent g)) f tail (ap not passes))) ∙ stay;
+            }
+
+    pub step_stays : (t : Bool) → at < length now → t ≡ false → ((d : RatedFlight P) → t ≡ spent (get_or now at d)) → HaveLeft old now left (at + 1)
+    step_stays t lt fails_here test = by_rest h.rest h.split h.leavers h.stay
+      where
+        by_rest : (rest : List (RatedFlight P)) → now ≡ h.before ++ rest → left ++ rated_messages (filter spent rest) ≡ rated_messages (filter spent old) → h.before ++ filter (λ f. not (spent f)) rest ≡ filter (λ f. not (spent f)) old
+            → HaveLeft old now left (at + 1)
+        by_rest [] split leavers stay = absurd (omega (arith, h.is_at, ap length split, length-append h.before []))
+        by_rest (f ∷ tail) split leavers stay =
+            let here : get_or now at f ≡ f = ap (λ l. get_or l at f) split ∙ ap (λ n. get_or (h.before ++ f ∷ tail) n f) h.is_at ∙ get_or-seam h.before tail f f in
+            let fails : spent f ≡ false = ap spent (sym here) ∙ sym (test f) ∙ fails_here in
+            record {
+              before = h.before ++ f ∷ [];
+              rest = tail;
+              split = split ∙ sym (append_assoc h.before (f ∷ []) tail);
+              is_at = ap (λ n. n + 1) h.is_at ∙ sym (length-append h.before (f ∷ []));
+              leavers = ap (λ l. left ++ rated_messages l) (sym (filter_no spent f tail fails)) ∙ leavers;
+              stay = append_assoc h.before (f ∷ []) (filter (λ g. not (spent g)) tail) ∙ ap (λ l. h.before ++ l) (sym (filter_yes (λ g. not (spent g)) f tail (ap not fails))) ∙ stay;
+            }
+
+    pub all_looked_at : length now ≤ at → record { leavers : left ≡ rated_messages (filter spent old); stay : now ≡ filter (λ f. not (spent f)) old }
+    all_looked_at le = by_rest h.rest h.split h.leavers h.stay
+      where
+        by_rest : (rest : List (RatedFlight P)) → now ≡ h.before ++ rest → left ++ rated_messages (filter spent rest) ≡ rated_messages (filter spent old) → h.before ++ filter (λ f. not (spent f)) rest ≡ filter (λ f. not (spent f)) old
+            → record { leavers : left ≡ rated_messages (filter spent old); stay : now ≡ filter (λ f. not (spent f)) old }
+        by_rest [] split leavers stay = record { leavers = sym (append-nil left) ∙ leavers; stay = split ∙ stay }
+        by_rest (f ∷ tail) split leavers stay = absurd (omega (arith, h.is_at, ap length split, length-append h.before (f ∷ tail)))
+
+pub nothing_is_done : (n : ℕ) (b : Bool) → n ≡ 0 → ((n == 0) || b) ≡ true
+nothing_is_done n b h = rw h refl
+
+pub something_is_not : (n : ℕ) (b : Bool) → (n ≡ 0 → ⊥) → ((n == 0) || b) ≡ b
+something_is_not zero b h = absurd (h refl)
+something_is_not (suc n) b h = rw (differs n) refl
+  where
+    differs : (n : ℕ) → (suc n == 0) ≡ false
+    differs n = grind (arith, nat_tests)

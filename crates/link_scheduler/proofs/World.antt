@@ -1,2 +1,0 @@
--- Why the event rule and the simulation are one.
-pub mod SameIsPlanned

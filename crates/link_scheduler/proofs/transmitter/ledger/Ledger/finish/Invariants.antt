@@ -1,0 +1,13 @@
+use Rattle.std.proofs.Common.{◌+◌, map, length}
+use Rattle.link_scheduler.specs.Calls.AsPlanned.{planned, messages}
+use Rattle.link_scheduler.specs.Pairs.Messages.{ended_of}
+use Rattle.link_scheduler.proofs.Calls.Finishing.{FinishesSo}
+use Rattle.link_scheduler.proofs.Calls.MessageCounts.{in_system}
+use Rattle.link_scheduler.proofs.transmitter.ledger.Ledger.finish.Given as goal
+
+abbrev pub invariant-loop-message : goal.invariant-loop-message
+invariant-loop-message g l = FinishesSo g.P.Ord.cmp l.now (messages l.initial.queue.items) (planned g.P.Ord.cmp l.initial.self) (map ended_of l.initial.ended.items)
+    (messages l.queue.items) (planned g.P.Ord.cmp l.self) (map ended_of l.ended.items)
+
+abbrev pub decreases-loop-message : goal.decreases-loop-message
+decreases-loop-message g l = length (messages l.queue.items) + in_system (planned g.P.Ord.cmp l.self)

@@ -1,0 +1,41 @@
+use Rattle.std.proofs.Common.{◌≡◌, map, ap, ◌∙◌}
+use Rattle.std.proofs.lemmas.Bool.{and_from}
+use Rattle.link_simulation.specs.Rule.Planned.{queued}
+use Rattle.link_simulation.proofs.Rule.SamePlanned.{peer_turned}
+use Rattle.link_scheduler.specs.Flights.InFlight.{in_flight}
+use Rattle.link_scheduler.specs.Pairs.Messages.{message_of}
+use Rattle.link_scheduler.specs.Calls.AsPlanned.{caps_of}
+use Rattle.link_scheduler.specs.Pairs.Entries.{arrival_of}
+use Rattle.link_scheduler.proofs.Flights.Accounts.{arrivals_looked_up}
+use Rattle.link_scheduler.proofs.Idle.IndexChanges.{queued_index}
+use Rattle.link_scheduler.proofs.transmitter.ledger.Ledger.join.Goals as goal
+
+pub invariant_of-self-2 : goal.invariant_of-self-2
+invariant_of-self-2 g c =
+    let cmp = g.P.Ord.cmp in
+    let old = c.args.self.now in
+    let m = message_of c.args.message in
+    let joined : map message_of c.push.new.self.messages ≡ queued cmp m (map message_of old.waiting.messages) = c.in_ok-push.ensures.waiting ∙ ap (λ ms. queued cmp m (map message_of ms)) c.in_ok-waiting.ensures.cases in
+    let own = and_from _ _ (peer_turned cmp g.met.P.Ord.total _ _ c.requires.origin) (peer_turned cmp g.met.P.Ord.total _ _ c.requires.recipient) in
+    record {
+      fresh = old.fresh;
+      indexed = queued_index cmp g.met.P.Ord.total old.pairs.entries old.waiting.messages c.push.new.self.messages (in_flight old.flights) c.args.pair.now.origin c.args.pair.now.recipient m old.idle.entries c.change.new.self.entries
+          (arrivals_looked_up cmp g.met.P.Ord.total old.pairs.entries) joined own old.indexed c.in_ok-change.ensures.listed c.idle_from-after.ensures;
+    }
+
+pub returns-clause-queued : goal.returns-clause-queued
+returns-clause-queued g c =
+    let cmp = g.P.Ord.cmp in
+    let old = c.args.self.now in
+    let m = message_of c.args.message in
+    let joined : map message_of c.push.new.self.messages ≡ queued cmp m (map message_of old.waiting.messages) = c.in_ok-push.ensures.waiting ∙ ap (λ ms. queued cmp m (map message_of ms)) c.in_ok-waiting.ensures.cases in
+    λ i. record {
+      caps = caps_of cmp old.peers.entries old.pairs.entries;
+      limited = old.limited;
+      sending = in_flight old.flights;
+      waiting = joined i;
+      last_arrival = arrival_of cmp old.pairs.entries;
+      next_id = old.next_id;
+      finish = old.finish;
+      start = old.start;
+    }

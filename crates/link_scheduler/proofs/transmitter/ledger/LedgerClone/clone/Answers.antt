@@ -1,0 +1,33 @@
+use Rattle.std.proofs.Common.{map, ◌∙◌}
+use Rattle.link_scheduler.specs.Pairs.Messages.{message_of}
+use Rattle.link_scheduler.specs.Pairs.Entries.{link_of, arrival_of}
+use Rattle.link_scheduler.specs.Pairs.PeerCaps.{egress_of, ingress_of}
+use Rattle.link_scheduler.proofs.Flights.Copies.{below_alike, in_flight_alike}
+use Rattle.link_scheduler.proofs.transmitter.ledger.LedgerClone.clone.Goals as goal
+
+pub invariant_of-result : goal.invariant_of-result
+invariant_of-result g c = record {
+  indexed = rw (c.in_ok-clone-4.ensures.cases, c.in_ok-clone-2.ensures.cases, c.in_ok-clone-3.ensures.cases, in_flight_alike g.P.Ord.cmp c.args.self.now.flights c.in_ok-clone-5.field-0 c.in_ok-clone-5.ensures.cases) c.args.self.now.indexed;
+  fresh = below_alike g.P.Ord.cmp c.args.self.now.next_id c.args.self.now.flights.flows.items c.in_ok-clone-5.field-0.flows.items c.in_ok-clone-5.ensures.cases.flows ∙ c.args.self.now.fresh;
+}
+
+pub returns : goal.returns
+returns g c =
+    let cmp = g.P.Ord.cmp in
+    let old = c.args.self.now in
+    record {
+      cases = λ i. record {
+        caps = record {
+          egress = egress_of cmp (c.in_ok-clone.ensures.cases i);
+          ingress = ingress_of cmp (c.in_ok-clone.ensures.cases i);
+          link = link_of cmp (c.in_ok-clone-2.ensures.cases i);
+        };
+        limited = old.limited;
+        sending = in_flight_alike cmp old.flights c.in_ok-clone-5.field-0 c.in_ok-clone-5.ensures.cases i;
+        waiting = map message_of (c.in_ok-clone-3.ensures.cases i);
+        last_arrival = arrival_of cmp (c.in_ok-clone-2.ensures.cases i);
+        next_id = old.next_id;
+        finish = old.finish;
+        start = old.start;
+      };
+    }

@@ -1,9 +1,0 @@
-use Rattle.std.proofs.Common.{take}
-use Rattle.link_scheduler.specs.AtRest.{of_pairs}
-use Rattle.link_scheduler.specs.Idle.{AreAtRest}
-use Rattle.link_scheduler.specs.InFlight.{in_flight}
-use Rattle.link_scheduler.specs.Working.{messages}
-use Rattle.link_scheduler.proofs.transmitter.look.rest_all.Given as goal
-
-abbrev pub invariant-loop-at : goal.invariant-loop-at
-invariant-loop-at g l = AreAtRest g.P.Ord.cmp (of_pairs g.P.Ord.cmp l.pairs.entries l.waiting.messages (in_flight l.flights)) (messages (take l.at l.done.items)) l.initial.idle.entries l.idle.entries

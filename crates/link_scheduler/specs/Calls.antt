@@ -1,0 +1,5 @@
+-- How a scheduler and its calls are read, and what they promise.
+pub mod AsPlanned
+pub mod Events
+pub mod Replay
+pub mod State

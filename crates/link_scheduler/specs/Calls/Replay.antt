@@ -1,0 +1,46 @@
+-- How a list of calls and its replies are read.
+use Rattle.std.specs.Prelude.{◌≡◌, map}
+use Rattle.std.specs.declared.cmp.Ordering.{Ordering}
+use Rattle.link_scheduler.specs.declared.replay.Call as call_code
+use Rattle.link_scheduler.specs.declared.replay.Call.TheVariants as calls
+use Rattle.link_scheduler.specs.declared.replay.Reply as reply_code
+use Rattle.link_scheduler.specs.declared.replay.Reply.TheVariants as replies
+use Rattle.link_scheduler.specs.Pairs.Messages.{completed_of}
+use Rattle.link_simulation.specs.Simulation.Calls.{Call, call_limit, call_limit_link, call_enqueue, call_advance}
+use Rattle.link_simulation.specs.Simulation.Calls.{call_next}
+use Rattle.link_simulation.specs.Simulation.Replies.{Reply, reply_done, reply_next, reply_refused}
+use Rattle.link_simulation.specs.Rule.Planned.{Planned, next_event}
+use Rattle.link_simulation.specs.Rule.Refusals.{MayBeRefused}
+use Rattle.link_simulation.specs.Rule.SamePlanned.{GoesByRule}
+
+-- a call as it is made of the world
+abbrev pub call_of : {P : Type 0} → call_code.Call P → Call P
+call_of (calls.Limit now peer egress ingress) = call_limit now peer egress ingress
+call_of (calls.LimitLink now origin recipient cap) = call_limit_link now origin recipient cap
+call_of (calls.Enqueue now origin recipient channel message latency should_deliver) = call_enqueue now
+    (record {
+      origin = origin;
+      recipient = recipient;
+      channel = channel;
+      bytes = message;
+      latency = latency;
+      should_deliver = should_deliver;
+    })
+call_of (calls.Advance now) = call_advance now
+call_of calls.Next = call_next
+
+-- a reply as it is given
+abbrev pub reply_of : {P : Type 0} → reply_code.Reply P → Reply P
+reply_of (replies.Done completions) = reply_done (map completed_of completions.items)
+reply_of (replies.Next moment) = reply_next moment
+reply_of (replies.Refused why) = reply_refused why
+
+module _ {P : Type 0} (cmp : P → P → Ordering) where
+  -- the call on the planned world p has that reply by the event rule, and leads to q; a refused call leads nowhere
+  abbrev pub IsReplyTo : Planned P → Call P → Reply P → Planned P → Type 0
+  IsReplyTo p call_next (reply_next moment) q = (moment ≡ next_event p) × (q ≡ p)
+  IsReplyTo p call_next (reply_done cs) q = ⊥
+  IsReplyTo p call_next (reply_refused why) q = ⊥
+  IsReplyTo p call (reply_done cs) q = GoesByRule cmp p call cs q
+  IsReplyTo p call (reply_refused why) q = MayBeRefused cmp p call why × (q ≡ p)
+  IsReplyTo p call (reply_next moment) q = ⊥

@@ -1,0 +1,98 @@
+-- How a scheduler is read, and what its calls promise.
+use Rattle.std.specs.Prelude.{◌≡◌, ℕ, ◌+◌, ◌*◌, ◌≤◌, List, [], ◌∷◌, length, map, Bool, Option}
+use Rattle.std.specs.declared.cmp.Ord.{Ghosts}
+use Rattle.std.specs.declared.cmp.Ordering.{Ordering}
+use Rattle.fair_rates.specs.declared.error.Error.{Error}
+use Rattle.link_scheduler.specs.declared.transmitter.State.{State}
+use Rattle.link_scheduler.specs.declared.transmitter.completion.Completion.{Completion}
+use Rattle.link_simulation.specs.Laws.Conserved.{IsConserved}
+use Rattle.link_scheduler.specs.Pairs.Messages.{completed_of}
+use Rattle.link_simulation.specs.Rule.SamePlanned.{GoesByRule, AdvancesByRule}
+use Rattle.link_simulation.specs.Rule.Simulated.{IsSimulated, KeepsRange, IsRefusedInSimulation, IsNextInSimulation}
+use Rattle.link_simulation.specs.Rule.Simulated.{IsSplitAnywhere, KeepsToCaps}
+use Rattle.link_scheduler.specs.Calls.AsPlanned.{planned, HasNothingDue}
+use Rattle.link_simulation.specs.Simulation.World.{Completed, new_world}
+use Rattle.link_simulation.specs.Simulation.Calls.{Call}
+use Rattle.link_simulation.specs.Simulation.Messages.{Message}
+use Rattle.link_simulation.specs.Laws.PairCompletions.{enqueued}
+use Rattle.link_simulation.specs.Rule.Planned.{Planned, IsRated, new_planned, next_event}
+use Rattle.link_simulation.specs.Rule.Range.{IsInRange}
+use Rattle.link_simulation.specs.Rule.Refusals.{MayBeRefused}
+use Rattle.link_simulation.specs.Rule.StandsFor.{StandsFor}
+
+-- the message of an `enqueue`
+abbrev pub sent : {P : Type 0} → P → P → ℕ → List ℕ → ℕ → Bool → Message P
+sent origin recipient channel bytes latency should_deliver =
+    record {
+      origin = origin;
+      recipient = recipient;
+      channel = channel;
+      bytes = bytes;
+      latency = latency;
+      should_deliver = should_deliver;
+    }
+
+module _ {P : Type 0} (cmp : P → P → Ordering) where
+  -- a call that is made leads from the planned world p to q, with those completions
+  pub record Makes (p : Planned P) (call : Call P) (completions : List (Completed P)) (q : Planned P) : Type 0 where
+    -- by the event rule, at any moments
+    pub by_rule : GoesByRule cmp p call completions q
+    -- and in its turn as the simulation does
+    pub simulated : IsSimulated cmp p call completions q
+    -- no message is lost and none is doubled
+    pub conserved : ∥ IsConserved cmp p (enqueued (call ∷ [])) completions q ∥₁
+    -- what is in flight has its fair rate, under the caps as they are now
+    pub rated : ∥ IsRated cmp q ∥₁
+    -- in the range it stays there
+    pub in_range : KeepsRange cmp p call q
+
+  -- a call on the planned world p is refused
+  pub record Refuses (p : Planned P) (call : Call P) (why : Error) : Type 0 where
+    -- as the event rule allows, at any moments
+    pub by_rule : MayBeRefused cmp p call why
+    -- and in its turn as the simulation allows; in the range for memory alone
+    pub simulated : IsRefusedInSimulation cmp p call why
+
+-- ---- of schedulers
+
+module _ {P : Type 0} {order : Ghosts P} {b : _} {c : _} where
+  -- the planned world that a scheduler is read as
+  abbrev pub planned_of : State P order b c → Planned P
+  planned_of s = planned order.cmp s.ledger
+
+  -- nothing is limited and nothing was sent; flow ids begin at `first`
+  pub record IsNew (s : State P order b c) (first : ℕ) : Type 0 where
+    pub planned : planned_of s ≡ new_planned first
+    -- it stands for the new world of the simulation
+    pub stands : StandsFor order.cmp (planned_of s) (new_world first)
+    pub in_range : IsInRange (planned_of s)
+
+  -- the call was made, and answered so
+  abbrev pub IsMade : State P order b c → Call P → List (Completion P) → State P order b c → Type 0
+  IsMade old call done new = Makes order.cmp (planned_of old) call (map completed_of done) (planned_of new)
+
+  -- the call may be refused so
+  abbrev pub IsRefused : State P order b c → Call P → Error → Type 0
+  IsRefused s call why = Refuses order.cmp (planned_of s) call why
+
+  -- what else an advance promises: to advance to any moment on the way, and then on, is the same, and no origin sends
+  -- more than its cap lets go
+  pub record IsAdvanced (old : State P order b c) (now : ℕ) (done : List (Completion P))
+      (new : State P order b c) : Type 0 where
+    pub split : IsSplitAnywhere order.cmp (planned_of old) now (map completed_of done) (planned_of new)
+    pub within_caps : KeepsToCaps order.cmp (planned_of old) now (planned_of new)
+
+  -- the advance went through so many events: at most two for each message that waited, and one for each in flight
+  pub record IsCounted (old : State P order b c) (now : ℕ) (events : ℕ) (done : List (Completion P))
+      (new : State P order b c) : Type 0 where
+    pub by_rule : AdvancesByRule order.cmp now (planned_of old) events (map completed_of done) (planned_of new)
+    pub few : events ≤ 2 * length (planned_of old).waiting + length (planned_of old).sending
+
+  -- no event is due up to that moment, and no waiting message may start at it
+  abbrev pub IsQuietUntil : ℕ → State P order b c → Type 0
+  IsQuietUntil now s = HasNothingDue order.cmp (planned_of s) now
+
+  -- that is the moment of the next event: the planned one, and the simulation's
+  pub record IsNextOf (s : State P order b c) (next : Option ℕ) : Type 0 where
+    pub planned : next ≡ next_event (planned_of s)
+    pub simulated : IsNextInSimulation order.cmp (planned_of s) next

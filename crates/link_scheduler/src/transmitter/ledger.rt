@@ -1,0 +1,135 @@
+//! The state that a call works on.
+ghost use Rattle.std.specs.Prelude.{◌≡◌, true, nat_lt, OnOk, IfErr};
+ghost use Rattle.std.specs.List.{list_all};
+ghost use Rattle.link_scheduler.specs.Idle.Index.{IsIndexOf};
+ghost use Rattle.link_scheduler.specs.Flights.InFlight.{in_flight};
+ghost use Rattle.link_scheduler.specs.Idle.AtRest.{of_pairs};
+
+use super::flights::Flights;
+use super::idle::IdlePairs;
+use super::pairs::Pairs;
+use super::peers::Peers;
+use super::waiting::Waiting;
+use fair_rates::error::Error;
+use fair_rates::peer::Peer;
+use std::alloc::{AllocError, Global};
+
+/// All that is kept between calls.
+#[derive(Drop)]
+pub(crate) struct Ledger<P: Peer> {
+    pub(crate) alloc: Global,
+    pub(crate) peers: Peers<P>,
+    pub(crate) pairs: Pairs<P>,
+    pub(crate) waiting: Waiting<P>,
+    pub(crate) idle: IdlePairs<P>,
+    pub(crate) flights: Flights<P>,
+    /// Whether a limit has come.
+    pub(crate) limited: bool,
+    /// The id of the next flow.
+    pub(crate) next_id: u64,
+    /// The moment at which a message in flight finishes next.
+    pub(crate) finish: Option<u64>,
+    /// The moment at which a waiting message starts next.
+    pub(crate) start: Option<u64>,
+    pub ghost fresh: { list_all (λ flow. nat_lt flow.id next_id) flights.flows.items ≡ true },
+    pub ghost indexed: { IsIndexOf P.cmp (of_pairs P.cmp pairs.entries waiting.messages
+        (in_flight flights)) idle.entries },
+}
+
+impl<P: Peer> Ledger<P> {
+    ghost use Rattle.link_simulation.specs.Simulation.Calls.{limited_by, linked_by};
+    ghost use Rattle.link_simulation.specs.Rule.Planned.{new_planned, next_event as next_of_planned};
+    ghost use Rattle.link_scheduler.specs.Calls.AsPlanned.{planned};
+
+    pub(crate) fn new(alloc: Global, first: u64) -> Self
+        ensures { planned P.cmp result ≡ new_planned first }
+    {
+        Ledger {
+            alloc,
+            peers: Peers::new(),
+            pairs: Pairs::new(),
+            waiting: Waiting::new(),
+            idle: IdlePairs::new(),
+            flights: Flights::new(alloc),
+            limited: false,
+            next_id: first,
+            finish: None,
+            start: None,
+        }
+    }
+
+    /// Sets the caps of a peer.
+    pub(crate) fn limit_peer(
+        &mut self,
+        peer: &P,
+        egress: Option<usize>,
+        ingress: Option<usize>,
+    ) -> Result<(), Error>
+        ensures limited { OnOk result (planned P.cmp self.new
+            ≡ record (planned P.cmp self.old) {
+              caps = limited_by P.cmp
+                  (planned P.cmp self.old).caps peer.now egress ingress;
+              limited = true;
+            }) }
+        ensures refused { IfErr result (λ e. e ≡ Error.OutOfMemory) }
+    {
+        self.limited = true;
+        self.peers.set(self.alloc, peer, egress, ingress)
+    }
+
+    /// Sets the cap of an ordered pair.
+    pub(crate) fn limit_pair(
+        &mut self,
+        origin: &P,
+        recipient: &P,
+        cap: Option<usize>,
+    ) -> Result<(), Error>
+        ensures limited { OnOk result (planned P.cmp self.new
+            ≡ record (planned P.cmp self.old) {
+              caps = linked_by P.cmp
+                  (planned P.cmp self.old).caps origin.now recipient.now cap;
+              limited = true;
+            }) }
+        ensures refused { IfErr result (λ e. e ≡ Error.OutOfMemory) }
+    {
+        let mut pairs = self.pairs.clone()?;
+        pairs.set_cap(self.alloc, origin, recipient, cap)?;
+        self.limited = true;
+        self.pairs = pairs;
+        Ok(())
+    }
+
+    /// The earlier of the planned finish and the planned start.
+    pub(crate) fn next_event(&self) -> Option<u64>
+        ensures { result ≡ next_of_planned (planned P.cmp self.now) }
+    {
+        match (self.finish, self.start) {
+            (Some(finish), Some(start)) => Some(finish.min(start)),
+            (Some(finish), None) => Some(finish),
+            (None, start) => start,
+        }
+    }
+}
+
+impl<P: Peer> Clone for Ledger<P> {
+    ghost use Rattle.link_scheduler.specs.Calls.AsPlanned.{planned};
+    ghost use Rattle.link_simulation.specs.Rule.SamePlanned.{IsSamePlanned};
+
+    ghost is_clone = { λ ledger copy. planned P.cmp copy ≡ planned P.cmp ledger };
+
+    /// The same state, the peers cloned.
+    fn clone(&self) -> Result<Ledger<P>, AllocError> {
+        Ok(Ledger {
+            alloc: self.alloc,
+            peers: self.peers.clone()?,
+            pairs: self.pairs.clone()?,
+            waiting: self.waiting.clone()?,
+            idle: self.idle.clone()?,
+            flights: self.flights.clone()?,
+            limited: self.limited,
+            next_id: self.next_id,
+            finish: self.finish,
+            start: self.start,
+        })
+    }
+}

@@ -1,0 +1,142 @@
+//! Which pairs are ready, and when the next one is.
+ghost use Rattle.std.specs.Prelude.{◌≡◌, ◌↔◌, ℕ, true, false, IfOk, IfErr, OnOk};
+ghost use Rattle.std.specs.List.{AllZip, list_any};
+ghost use Rattle.fair_rates.specs.Sides.Subjects.{same_peer};
+ghost use Rattle.link_simulation.specs.Rule.Events.{PlansStart};
+ghost use Rattle.link_simulation.specs.Rule.Planned.{SomeReadyAt};
+ghost use Rattle.link_scheduler.specs.Idle.Index.{is_listed, is_of_pair, AreAtRest, idle_from as idle_since};
+ghost use Rattle.link_scheduler.specs.Flights.InFlight.{in_flight};
+ghost use Rattle.link_scheduler.specs.Idle.FirstMoment.{first_moment};
+ghost use Rattle.link_scheduler.specs.Pairs.Entries.{pair_cmp};
+ghost use Rattle.link_scheduler.specs.Calls.AsPlanned.{messages};
+ghost use Rattle.link_scheduler.specs.Idle.AtRest.{of_pairs};
+
+use super::flights::Flights;
+use super::idle::IdlePairs;
+use super::message::Message;
+use super::pairs::Pairs;
+use super::waiting::Waiting;
+use super::ledger::Ledger;
+use fair_rates::error::Error;
+use fair_rates::peer::Peer;
+use std::alloc::Global;
+use std::cmp::Ordering;
+use std::collections::VecDeque;
+use std::rc::Rc;
+
+/// An ordered pair of peers.
+#[derive(Drop)]
+pub(crate) struct PeerPair<P> {
+    pub(crate) origin: P,
+    pub(crate) recipient: P,
+}
+
+impl<P: Peer> PeerPair<P> {
+    /// How the pair stands to that of two peers: by origin, then by recipient.
+    pub(crate) fn compare(&self, origin: &P, recipient: &P) -> Ordering
+        ensures { result ≡ pair_cmp P.cmp (self.now.origin, self.now.recipient) (origin.now, recipient.now) }
+    {
+        self.origin
+            .cmp(origin)
+            .then_with(|| self.recipient.cmp(recipient))
+    }
+
+    /// The pair of two peers, which are cloned.
+    pub(crate) fn new(origin: &P, recipient: &P) -> Result<PeerPair<P>, Error>
+        ensures origin { IfOk result (λ key. same_peer P.cmp origin.now key.origin ≡ true) }
+        ensures recipient { IfOk result (λ key. same_peer P.cmp recipient.now key.recipient ≡ true) }
+        ensures refused { IfErr result (λ e. e ≡ Error.OutOfMemory) }
+    {
+        Ok(PeerPair {
+            origin: origin.clone_peer().ok_or(Error::OutOfMemory)?,
+            recipient: recipient.clone_peer().ok_or(Error::OutOfMemory)?,
+        })
+    }
+}
+
+/// The first moment at which a message of that latency may start, so that it arrives no earlier
+/// than the last one.
+pub(crate) fn ready_moment(last_arrival: Option<u64>, latency: u64) -> u64
+    ensures { result ≡ first_moment last_arrival latency }
+{
+    match last_arrival {
+        None => 0,
+        Some(last) => last.saturating_sub(latency),
+    }
+}
+
+/// The moment from which on the first waiting message of the pair may start, if one waits and the
+/// pair is idle.
+pub(crate) fn idle_from<P: Peer>(
+    flights: &Flights<P>,
+    waiting: &Waiting<P>,
+    pairs: &Pairs<P>,
+    origin: &P,
+    recipient: &P,
+) -> Option<u64>
+    ensures { result ≡ idle_since P.cmp (of_pairs P.cmp pairs.now.entries waiting.now.messages
+        (in_flight flights.now)) origin.now recipient.now }
+{
+    let front = waiting.first(origin, recipient)?;
+    if flights.has_pair(origin, recipient) {
+        return None;
+    }
+    let last = pairs.last_arrival(origin, recipient);
+    Some(ready_moment(last, front.latency))
+}
+
+/// The pairs of messages that are done are idle from now on.
+pub(crate) fn rest_all<P: Peer>(
+    alloc: Global,
+    idle: &mut IdlePairs<P>,
+    flights: &Flights<P>,
+    waiting: &Waiting<P>,
+    pairs: &Pairs<P>,
+    done: &VecDeque<Rc<Message<P>>>,
+) -> Result<(), Error>
+    requires busy { (t : ℕ) (a b : P) → list_any (is_of_pair P.cmp a b) (messages done.now.items) ≡ true
+        → is_listed P.cmp idle.old.entries t a b ≡ false }
+    ensures listed { OnOk result (AreAtRest P.cmp (of_pairs P.cmp pairs.now.entries waiting.now.messages
+        (in_flight flights.now)) (messages done.now.items) idle.old.entries idle.new.entries) }
+    ensures refused { IfErr result (λ e. e ≡ Error.OutOfMemory) }
+{
+    for at in 0..done.len() {
+        let message = Rc::as_ref(&done[at]);
+        let (origin, recipient) = (&message.origin, &message.recipient);
+        if let Some(moment) = idle_from(flights, waiting, pairs, origin, recipient) {
+            idle.add(alloc, origin, recipient, moment)?;
+        }
+    }
+    Ok(())
+}
+
+impl<P: Peer> Ledger<P> {
+    ghost use Rattle.link_scheduler.specs.Calls.AsPlanned.{planned, ready_messages};
+    ghost use Rattle.link_scheduler.specs.Idle.PairsOfMessages.{NamesPairOf};
+
+    /// Plans the start anew: the least moment from `now` on at which an idle pair is ready.
+    pub(crate) fn plan_start(&mut self, now: u64)
+        ensures { PlansStart P.cmp now (planned P.cmp self.old) (planned P.cmp self.new) }
+    {
+        self.start = self.idle.first().map(|moment| now.max(moment));
+    }
+
+    /// Whether some waiting message may start at `now`.
+    pub(crate) fn is_ready(&self, now: u64) -> bool
+        ensures ready { (result ≡ true) ↔ SomeReadyAt P.cmp (planned P.cmp self.now) now }
+    {
+        match self.idle.first() {
+            Some(moment) => moment <= now,
+            None => false,
+        }
+    }
+
+    /// The idle pairs that are ready, in the order of pairs.
+    pub(crate) fn ready(&self, now: u64) -> Result<Vec<PeerPair<P>>, Error>
+        ensures ready { IfOk result (λ keys. AllZip (NamesPairOf P.cmp) keys.items
+            (ready_messages P.cmp now (planned P.cmp self.now))) }
+        ensures refused { IfErr result (λ e. e ≡ Error.OutOfMemory) }
+    {
+        self.idle.ready(self.alloc, now)
+    }
+}

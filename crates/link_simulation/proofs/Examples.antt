@@ -1,0 +1,5 @@
+-- Worked examples, found by computing.
+pub mod ComputedDifferences
+pub mod ComputedReplies
+pub mod ComputedRule
+pub mod LongRow

@@ -1,0 +1,24 @@
+-- The laws: order, bytes, isolation, conservation, few events.
+pub mod AdvanceOnward
+pub mod Alone
+pub mod AmountOrder
+pub mod Bytes
+pub mod BytesStand
+pub mod Conserved
+pub mod ConservedAlike
+pub mod ConservedCount
+pub mod ConservedSoFar
+pub mod DoneAlone
+pub mod FewerEvents
+pub mod IsolatedCalls
+pub mod IsolatedTime
+pub mod Isolation
+pub mod MadeCalls
+pub mod MostEvents
+pub mod Orderly
+pub mod OrderlyAlike
+pub mod PairCompletions
+pub mod PartRates
+pub mod Replies
+pub mod SplitAnywhere
+pub mod TurnByNext

@@ -1,0 +1,229 @@
+-- One message alone under caps takes its least time at the least of them.
+use Rattle.std.proofs.Common.{◌≡◌, ℕ, zero, suc, ◌+◌, ◌-◌, ◌*◌, ◌<◌, ◌≤◌, inl, inr, List, [], ◌∷◌, length, Bool, true, false, not, Option, Some, None, Contains, sum_by, refl, sym, ap, ◌∙◌, subst, arith, add-one, le_refl, ◌↔◌}
+use Rattle.std.specs.Prelude.{◌&&◌, ◌||◌, ◌==◌, is_none, nat_le, if◌then◌else◌}
+use Rattle.std.specs.List.{list_any, find}
+use Rattle.std.specs.declared.cmp.Ordering.{Ordering}
+use Rattle.std.specs.Cmp.{IsTotalOrder}
+use Rattle.std.proofs.lemmas.Bool.{eq-eqb, ne_eqb, lt-leb}
+use Rattle.std.proofs.lemmas.List.Elements.{All-contains}
+use Rattle.link_simulation.specs.Laws.Alone.{IsTimeFor, IsLeastCap, MayGoAlone, IsDoneAfter}
+use Rattle.fair_rates.specs.Numbers.Amount.{Amount, whole, reduced, drained}
+use Rattle.fair_rates.specs.Numbers.LowestTerms.{reduced_lowest, whole_IsReduced}
+use Rattle.fair_rates.specs.Fairness.Fair.{Side, load}
+use Rattle.fair_rates.specs.Sides.Subjects.{same_peer}
+use Rattle.link_simulation.specs.Simulation.World.{World, Flight, Completed, Course, goes, flight_of, last_moment, is_in_order, is_done, is_late, completed, completion_of, instant, settle, wake, IsQuiet, and_then, preceded, out_of_flight}
+use Rattle.link_simulation.specs.Simulation.Calls.{call_advance, Runs, join}
+use Rattle.link_simulation.specs.Simulation.Messages.{Message, Caps, same_pair, is_delivered}
+use Rattle.link_simulation.specs.Simulation.Rates.{AreFair, capped_sides, is_unlimited}
+use Rattle.link_simulation.specs.Simulation.Time.{Drains, Passes, no_time, quiet_tick, Ticks, NextIs, comes_next}
+use Rattle.fair_rates.proofs.Numbers.Draining.{spent_from_least}
+use Rattle.fair_rates.proofs.Lists.Members.{In}
+use Rattle.fair_rates.proofs.Lists.SumOrder.{All-from_contains}
+use Rattle.link_simulation.proofs.Simulation.AlikeMessages.{same_itself}
+use Rattle.link_simulation.proofs.Simulation.Continuing.{rates_exist}
+use Rattle.link_simulation.proofs.Rule.FinishEvent.{settle_quiet, ticks_quiet, ticks_through}
+use Rattle.link_simulation.proofs.Laws.PartRates.{Kind, at_egress, at_ingress, at_link, cap_at, side_at, uses_at, from_sides}
+use Rattle.link_simulation.proofs.Simulation.Queue.{settle_first}
+use Rattle.link_simulation.proofs.Simulation.Stretch.{stretch, drifts_on}
+
+module _ {P : Type 0} (cmp : P → P → Ordering) (order : IsTotalOrder cmp) where
+  -- ---- its rate
+
+  pair_itself : (m : Message P) → same_pair cmp m m ≡ true
+  pair_itself m = rw (same_itself cmp order m.origin, same_itself cmp order m.recipient) refl
+
+  module _ (caps : Caps P) (m : Message P) where
+    abbrev sides : List Side
+    sides = capped_sides cmp caps (m ∷ [])
+
+    uses_own : (k : Kind) (cap : ℕ) → cap_at cmp caps k m ≡ Some cap → uses_at cmp caps k m m ≡ true
+    uses_own at_egress cap is = same_itself cmp order m.origin
+    uses_own at_ingress cap is = by_test (is_delivered cmp m) refl is
+      where
+        by_test : (b : Bool) → is_delivered cmp m ≡ b → (if b then caps.ingress m.recipient else None) ≡ Some cap → (is_delivered cmp m && same_peer cmp m.recipient m.recipient) ≡ true
+        by_test true e is = rw (e, same_itself cmp order m.recipient) refl
+        by_test false e is = cc
+    uses_own at_link cap is = pair_itself m
+
+    limited_by : (k : Kind) (cap : ℕ) → cap_at cmp caps k m ≡ Some cap → is_unlimited cmp caps m ≡ false
+    limited_by k cap is = by_caps k (caps.egress m.origin) (is_delivered cmp m) (caps.ingress m.recipient) (caps.link m.origin m.recipient) is refl refl refl refl
+      where
+        by_caps : (k : Kind) (e : Option ℕ) (d : Bool) (i l : Option ℕ) → cap_at cmp caps k m ≡ Some cap
+            → caps.egress m.origin ≡ e → is_delivered cmp m ≡ d → caps.ingress m.recipient ≡ i → caps.link m.origin m.recipient ≡ l
+            → (is_none e && (not d || is_none i) && is_none l) ≡ false
+        by_caps k (Some e) d i l is egress delivered ingress link = refl
+        by_caps k None true (Some i) l is egress delivered ingress link = refl
+        by_caps k None d i (Some l) is egress delivered ingress link = by_test (not d || is_none i)
+          where
+            by_test : (b : Bool) → (b && false) ≡ false
+            by_test true = refl
+            by_test false = refl
+        by_caps at_egress None d i None is egress delivered ingress link = cc
+        by_caps at_ingress None false i None is egress delivered ingress link = let none : (if is_delivered cmp m then caps.ingress m.recipient else None) ≡ None = rw delivered refl in cc
+        by_caps at_ingress None true None None is egress delivered ingress link = let none : (if is_delivered cmp m then caps.ingress m.recipient else None) ≡ None = rw delivered ingress in cc
+        by_caps at_link None d i None is egress delivered ingress link = cc
+
+    -- it is the one user of each of its sides, and uses some
+    own_side : (s : Side) → Contains sides s → (s.users ≡ 0 ∷ []) × (is_unlimited cmp caps m ≡ false)
+    own_side s has = by_kind (from_sides cmp caps (m ∷ []) s has)
+      where
+        by_own : (k : Kind) (cap : ℕ) → cap_at cmp caps k m ≡ Some cap → s ≡ side_at cmp caps k (m ∷ []) m cap → (s.users ≡ 0 ∷ []) × (is_unlimited cmp caps m ≡ false)
+        by_own k cap is e = (ap (λ (t : Side). t.users) e ∙ rw (uses_own k cap is) refl, limited_by k cap is)
+
+        by_kind : (n : Message P) × In (m ∷ []) n × ((k : Kind) × (cap : ℕ) × (cap_at cmp caps k n ≡ Some cap) × (s ≡ side_at cmp caps k (m ∷ []) n cap)) → (s.users ≡ 0 ∷ []) × (is_unlimited cmp caps m ≡ false)
+        by_kind (n, inl same, (k, cap, is, e)) = by_own k cap (subst (λ (x : Message P). cap_at cmp caps k x ≡ Some cap) (sym same) is) (e ∙ ap (λ (x : Message P). side_at cmp caps k (m ∷ []) x cap) (sym same))
+        by_kind (n, inr none, rest) = absurd none
+
+    alone_load : (cap : ℕ) (s : Side) → Contains sides s → load (λ _. cap) s ≡ cap
+    alone_load cap s has = let one : sum_by {X = ℕ} (λ _. cap) (0 ∷ []) ≡ cap = omega arith in ap (λ (users : List ℕ). sum_by (λ _. cap) users) (own_side s has).0 ∙ one
+
+    alone_rate : (cap : ℕ) → IsLeastCap cmp caps m cap → AreFair cmp caps (m ∷ []) 1 (Some cap ∷ [])
+    alone_rate cap is =
+        let own = own_side is.side is.used in
+        record {
+          parts = λ _. cap;
+          fair = record {
+            some_part = omega arith;
+            within = All-from_contains (λ (t : Side). load (λ _. cap) t ≤ t.cap * 1) sides (λ t has. let all : cap ≤ t.cap = All-contains (λ (t : Side). cap ≤ t.cap) sides t is.least has in rw (alone_load cap t has) (omega arith));
+            held = λ flow limited. record {
+              side = is.side;
+              uses = record { listed = is.used; used = subst (λ users. Contains users flow) ((own_side limited.0 limited.1.listed).0 ∙ sym own.0) limited.1.used };
+              full = alone_load cap is.side is.used ∙ omega (arith, is.own);
+              greatest = λ k d l. le_refl cap;
+            };
+          };
+          rated = rw own.1 refl;
+        }
+
+  -- ---- its course
+
+  -- under limits, with those messages in flight and none that wait
+  abbrev world : Caps P → (P → P → Option ℕ) → ℕ → List (Flight P) → ℕ → World P
+  world caps last id fs t = record { caps = caps; limited = true; sending = fs; waiting = []; last_arrival = last; next_id = id; moment = t }
+
+  -- time goes by where nothing is in flight and nothing waits
+  idle_passes : (n : ℕ) (caps : Caps P) (last : P → P → Option ℕ) (id t : ℕ) → Passes cmp n (world caps last id [] t) (world caps last id [] (t + n))
+  idle_passes zero caps last id t = let same : t + zero ≡ t = omega arith in rw same no_time
+  idle_passes (suc n) caps last id t =
+      let fair = rates_exist cmp order caps [] in
+      let same : t + 1 + n ≡ t + suc n = omega arith in
+      quiet_tick (record { per = fair.0; rates = fair.1; fair = fair.2; world = refl }) (record { none_done = refl; none_ready = refl })
+      (subst (λ k. Passes cmp n (world caps last id [] (t + 1)) (world caps last id [] k)) same (idle_passes n caps last id (t + 1)))
+
+  module _ (caps : Caps P) (last : P → P → Option ℕ) (id : ℕ) (m : Message P) (now cap k : ℕ)
+      (least : IsLeastCap cmp caps m cap) (is_time : IsTimeFor (length m.bytes) cap (suc k)) (some : 0 < length m.bytes) where
+    -- what is left of it after n nanoseconds
+    abbrev left : ℕ → Amount
+    left n = drained (whole (length m.bytes)) (reduced cap 1) n
+
+    spent : (n : ℕ) → ((left n).num ≡ 0) ↔ (suc k ≤ n)
+    spent n = rw (reduced_lowest cap 1 (whole_IsReduced cap)) (spent_from_least (whole (length m.bytes)) (whole cap) (suc k) n (omega arith) (omega arith) is_time)
+
+    -- the world in which it has just started, and the one n nanoseconds later
+    abbrev sent : World P
+    sent = world caps last id (flight_of m ∷ []) now
+
+    abbrev flight : ℕ → Flight P
+    flight n = record { message = m; left = left n }
+
+    abbrev later : ℕ → World P
+    later n = world caps last id (flight n ∷ []) (now + n)
+
+    fair : AreFair cmp caps (m ∷ []) 1 (Some cap ∷ [])
+    fair = alone_rate caps m cap least
+
+    limited : is_unlimited cmp caps m ≡ false
+    limited = (own_side caps m least.side least.used).1
+
+    not_done : (a : Amount) → (a.num ≡ 0 → ⊥) → ((a.num == 0) || is_unlimited cmp caps m) ≡ false
+    not_done a more = rw (ne_eqb a.num 0 more, limited) refl
+
+    not_yet : (n : ℕ) → n < suc k → (left n).num ≡ 0 → ⊥
+    not_yet n less none = absurd (omega (arith, (spent n).0 none))
+
+    quiet : (n : ℕ) → n < suc k → IsQuiet cmp (now + n) (later n)
+    quiet n less = record { none_done = rw (not_done (left n) (not_yet n less)) refl; none_ready = refl }
+
+    reaches : (j : ℕ) → j < suc k → (v : World P) × Passes cmp j sent v × Drains cmp v (later (suc j))
+    reaches zero less = (sent, no_time, record { per = 1; rates = Some cap ∷ []; fair = fair; world = refl })
+    reaches (suc j) less = (
+      later (suc j),
+      stretch cmp sent 1 (Some cap ∷ []) fair (omega arith, tt) j (λ n more le. quiet n (omega arith)),
+      subst (λ n. Drains cmp (later (suc j)) (later n)) (add-one (suc j)) (drifts_on cmp sent 1 (Some cap ∷ []) (suc j) fair (omega arith, tt)),
+    )
+
+    gone : ((left (suc k)).num == 0) ≡ true
+    gone = eq-eqb (left (suc k)).num 0 ((spent (suc k)).1 (omega arith))
+
+    -- the world in which it has arrived
+    abbrev landed : World P
+    landed = out_of_flight cmp (now + suc k) (later (suc k)) m
+
+    completes : is_late cmp (now + suc k) m ≡ false → instant cmp (later (suc k)) ≡ goes (completed cmp (now + suc k) m ∷ []) landed
+    completes in_time =
+        let found : find (is_done cmp (later (suc k))) (later (suc k)).sending ≡ Some (flight (suc k)) = rw gone refl in
+        let settled : settle cmp (now + suc k) (later (suc k)) ≡ goes (completed cmp (now + suc k) m ∷ []) landed = settle_first cmp order 0 (now + suc k) (later (suc k)) (flight (suc k)) found ∙ rw in_time refl in
+        ap (λ (c : Course (Completed P) (World P)). and_then c (λ v. wake cmp v.moment v)) settled
+
+    advances : is_late cmp (now + suc k) m ≡ false → Runs cmp sent (call_advance (now + suc k)) (now + suc k) (goes (completed cmp (now + suc k) m ∷ []) landed)
+    advances in_time =
+        let r = reaches k (omega arith) in
+        let long : suc k ≡ now + suc k - now = omega arith in
+        record {
+          ticked = goes (completed cmp (now + suc k) m ∷ []) landed;
+          ticks = subst (λ n. Ticks cmp n sent (goes (completed cmp (now + suc k) m ∷ []) landed)) long (ticks_through cmp order r.1 (later (suc k)) (goes (completed cmp (now + suc k) m ∷ []) landed) r.2 (completes in_time));
+          acts = refl;
+        }
+
+    comes : now + suc k ≤ last_moment → NextIs cmp sent (Some (now + suc k))
+    comes within =
+        let r = reaches k (omega arith) in
+        comes_next r.1 r.2 (λ quiet. let none : list_any (is_done cmp (later (suc k))) (later (suc k)).sending ≡ false = quiet.none_done in busy none) within
+      where
+        busy : list_any (is_done cmp (later (suc k))) (later (suc k)).sending ≡ false → ⊥
+        busy none = let yes : list_any (is_done cmp (later (suc k))) (later (suc k)).sending ≡ true = rw gone refl in cc
+
+    rests : settle cmp now sent ≡ goes [] sent
+    rests = settle_quiet cmp order 1 now sent (rw (not_done (whole (length m.bytes)) (λ none. absurd (omega arith))) refl)
+
+  -- it starts as it is enqueued
+  starts : (caps : Caps P) (last : P → P → Option ℕ) (id now : ℕ) (m : Message P) → is_in_order (last m.origin m.recipient) (now + m.latency) ≡ true → id < last_moment
+      → settle cmp now (world caps last (id + 1) (flight_of m ∷ []) now) ≡ goes [] (world caps last (id + 1) (flight_of m ∷ []) now)
+      → join cmp now (world caps last id [] now) m ≡ goes [] (world caps last (id + 1) (flight_of m ∷ []) now)
+  starts caps last id now m in_order below rests =
+      let free : nat_le last_moment id ≡ false = lt-leb last_moment id below in
+      rw (pair_itself m, in_order, free, pair_itself m) (ap (preceded []) rests)
+
+  from_idle : (caps : Caps P) (last : P → P → Option ℕ) (id t : ℕ) (m : Message P) (now cap k : ℕ) → is_in_order (last m.origin m.recipient) (now + m.latency) ≡ true → id < last_moment
+      → t ≤ now → IsLeastCap cmp caps m cap → 0 < length m.bytes → IsTimeFor (length m.bytes) cap (suc k) → now + suc k ≤ last_moment → is_late cmp (now + suc k) m ≡ false
+      → IsDoneAfter cmp (world caps last id [] t) now m (suc k)
+  from_idle caps last id t m now cap k in_order below after least some is_time within in_time =
+      let there : t + (now - t) ≡ now = omega arith in
+      let waits : Ticks cmp (now - t) (world caps last id [] t) (goes [] (world caps last id [] now)) =
+      ticks_quiet cmp order (subst (λ s. Passes cmp (now - t) (world caps last id [] t) (world caps last id [] s)) there (idle_passes (now - t) caps last id t)) in
+      record {
+        sent = world caps last (id + 1) (flight_of m ∷ []) now;
+        sends = record {
+          ticked = goes [] (world caps last id [] now);
+          ticks = waits;
+          acts = sym (ap (preceded []) (starts caps last id now m in_order below (rests caps last (id + 1) m now cap k least is_time some)));
+        };
+        next = comes caps last (id + 1) m now cap k least is_time some within;
+        after = landed caps last (id + 1) m now cap k least is_time some;
+        done = advances caps last (id + 1) m now cap k least is_time some in_time;
+      }
+
+  pub alone : (w : World P) (m : Message P) (now cap time : ℕ) → MayGoAlone cmp w now m → w.moment ≤ now → IsLeastCap cmp w.caps m cap → 0 < length m.bytes
+      → IsTimeFor (length m.bytes) cap time → now + time ≤ last_moment → is_late cmp (now + time) m ≡ false → IsDoneAfter cmp w now m time
+  alone w m now cap zero may after least some is_time within in_time = absurd (omega (arith, is_time.covers))
+  alone w m now cap (suc k) may after least some is_time within in_time =
+      subst (λ (v : World P). IsDoneAfter cmp v now m (suc k)) same (from_idle w.caps w.last_arrival w.next_id w.moment m now cap k may.in_order may.has_id after least some is_time within in_time)
+    where
+      made : Bool → List (Flight P) → List (Message P) → World P
+      made limited fs ms = record { caps = w.caps; limited = limited; sending = fs; waiting = ms; last_arrival = w.last_arrival; next_id = w.next_id; moment = w.moment }
+
+      same : world w.caps w.last_arrival w.next_id [] w.moment ≡ w
+      same = rw (← may.limited, ← may.none_sending, ← may.none_waiting) refl
+
+  pub delivered_arrives : (m : Message P) (t : ℕ) → is_delivered cmp m ≡ true → completed cmp t m ≡ completion_of m (Some (t + m.latency))
+  delivered_arrives m t is = rw is refl

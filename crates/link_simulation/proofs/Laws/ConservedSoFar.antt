@@ -1,0 +1,55 @@
+-- Messages are conserved over the first calls of a list, however many.
+use Rattle.std.proofs.Common.{ℕ, zero, suc, List, [], ◌∷◌, take}
+use Rattle.std.specs.declared.cmp.Ordering.{Ordering}
+use Rattle.std.specs.Cmp.{IsTotalOrder}
+use Rattle.link_simulation.specs.Simulation.Calls.{Call, call_limit, call_limit_link, call_enqueue, call_advance, call_next}
+use Rattle.link_simulation.specs.Simulation.Replies.{Reply, reply_done, reply_next, reply_refused}
+use Rattle.link_simulation.specs.Rule.Planned.{Planned, new_planned}
+use Rattle.link_simulation.specs.Rule.Refusals.{Obeyed}
+use Rattle.link_simulation.specs.Laws.Conserved.{AreConserved}
+use Rattle.link_simulation.specs.Laws.Replies.{AlwaysSoFar}
+use Rattle.link_simulation.proofs.Laws.Orderly.{new_orderly}
+use Rattle.link_simulation.proofs.Laws.ConservedAlike.{obeyed_conserved}
+
+module _ {P : Type 0} (cmp : P → P → Ordering) where
+  -- the first replies follow the event rule, too
+  obeyed_so_far : (n : ℕ) (p : Planned P) (calls : List (Call P)) (replies : List (Reply P))
+      → Obeyed cmp p calls replies
+      → Obeyed cmp p (take n calls) (take n replies)
+  obeyed_so_far zero p calls replies obeyed = tt
+  obeyed_so_far (suc n) p [] [] obeyed = tt
+  obeyed_so_far (suc n) p [] (reply ∷ replies) obeyed = absurd obeyed
+  obeyed_so_far (suc n) p (call ∷ calls) [] obeyed = absurd obeyed
+  obeyed_so_far (suc n) p (call_next ∷ calls) (reply_next t ∷ replies) obeyed =
+      (obeyed.0, obeyed_so_far n p calls replies obeyed.1)
+  obeyed_so_far (suc n) p (call_next ∷ calls) (reply_done cs ∷ replies) obeyed = obeyed
+  obeyed_so_far (suc n) p (call_next ∷ calls) (reply_refused why ∷ replies) obeyed = obeyed
+  obeyed_so_far (suc n) p (call_limit now peer egress ingress ∷ calls) (reply_next t ∷ replies) obeyed = obeyed
+  obeyed_so_far (suc n) p (call_limit now peer egress ingress ∷ calls) (reply_refused why ∷ replies) obeyed =
+      (obeyed.0, obeyed_so_far n p calls replies obeyed.1)
+  obeyed_so_far (suc n) p (call_limit now peer egress ingress ∷ calls) (reply_done cs ∷ replies)
+      (ds, q, obeys, same, rest) =
+      (ds, q, obeys, same, obeyed_so_far n q calls replies rest)
+  obeyed_so_far (suc n) p (call_limit_link now origin recipient cap ∷ calls) (reply_next t ∷ replies) obeyed = obeyed
+  obeyed_so_far (suc n) p (call_limit_link now origin recipient cap ∷ calls) (reply_refused why ∷ replies) obeyed =
+      (obeyed.0, obeyed_so_far n p calls replies obeyed.1)
+  obeyed_so_far (suc n) p (call_limit_link now origin recipient cap ∷ calls) (reply_done cs ∷ replies)
+      (ds, q, obeys, same, rest) =
+      (ds, q, obeys, same, obeyed_so_far n q calls replies rest)
+  obeyed_so_far (suc n) p (call_enqueue now m ∷ calls) (reply_next t ∷ replies) obeyed = obeyed
+  obeyed_so_far (suc n) p (call_enqueue now m ∷ calls) (reply_refused why ∷ replies) obeyed =
+      (obeyed.0, obeyed_so_far n p calls replies obeyed.1)
+  obeyed_so_far (suc n) p (call_enqueue now m ∷ calls) (reply_done cs ∷ replies) (ds, q, obeys, same, rest) =
+      (ds, q, obeys, same, obeyed_so_far n q calls replies rest)
+  obeyed_so_far (suc n) p (call_advance now ∷ calls) (reply_next t ∷ replies) obeyed = obeyed
+  obeyed_so_far (suc n) p (call_advance now ∷ calls) (reply_refused why ∷ replies) obeyed =
+      (obeyed.0, obeyed_so_far n p calls replies obeyed.1)
+  obeyed_so_far (suc n) p (call_advance now ∷ calls) (reply_done cs ∷ replies) (ds, q, obeys, same, rest) =
+      (ds, q, obeys, same, obeyed_so_far n q calls replies rest)
+
+pub conserved_so_far : {P : Type 0} (cmp : P → P → Ordering) (order : IsTotalOrder cmp) (id : ℕ) (calls : List (Call P))
+    (replies : List (Reply P))
+    → Obeyed cmp (new_planned id) calls replies → AlwaysSoFar (AreConserved cmp (new_planned id)) calls replies
+conserved_so_far cmp order id calls replies obeyed n =
+    obeyed_conserved cmp order (new_planned id) (take n calls) (take n replies) (new_orderly cmp order id)
+    (obeyed_so_far cmp n (new_planned id) calls replies obeyed)

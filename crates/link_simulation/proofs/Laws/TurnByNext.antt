@@ -1,0 +1,150 @@
+-- Calls before the planned next event, and those that go by what `next` answers, come in their turn.
+use Rattle.std.proofs.Common.{◌≡◌, ℕ, ◌+◌, ◌<◌, ◌≤◌, List, [], ◌∷◌, Option, Some, None, refl, sym, ◌∙◌, subst, arith}
+use Rattle.std.specs.Prelude.{IfSome}
+use Rattle.std.specs.declared.cmp.Ordering.{Ordering}
+use Rattle.std.specs.Cmp.{IsTotalOrder}
+use Rattle.fair_rates.specs.declared.error.Error.{Error}
+use Rattle.link_simulation.specs.Simulation.World.{World, Completed, Course, goes, new_world, EndsWith, IsQuiet}
+use Rattle.link_simulation.specs.Simulation.Time.{NextIs, IsSound}
+use Rattle.link_simulation.specs.Simulation.Calls.{Call, call_limit, call_limit_link, call_enqueue, call_advance, call_next, moment_of, Runs, IsInTurn, IsBeforeNext}
+use Rattle.link_simulation.specs.Simulation.Replies.{Reply, reply_done, reply_next, reply_refused, Agrees}
+use Rattle.link_simulation.specs.Rule.Planned.{Planned, next_event}
+use Rattle.link_simulation.specs.Rule.StandsFor.{StandsFor}
+use Rattle.link_simulation.specs.Rule.Simulated.{IsCalled, IsRun}
+use Rattle.link_simulation.specs.Laws.Replies.{IsBetween, GoByNext, AreInTurn}
+use Rattle.link_simulation.proofs.Rule.Limit.{new_stands}
+use Rattle.link_simulation.proofs.Laws.MadeCalls.{run_ends, turn_later}
+use Rattle.link_simulation.proofs.Rule.NextEvent.{next_is_planned}
+use Rattle.link_simulation.proofs.Simulation.OneNext.{next_is_one}
+use Rattle.link_simulation.proofs.Simulation.OneRun.{runs_are_one}
+use Rattle.link_simulation.proofs.Simulation.QuietInstants.{next_is_later}
+use Rattle.link_simulation.proofs.Rule.Simulated.{sound_of_stands}
+use Rattle.link_simulation.proofs.Simulation.Sound.{call_keeps_sound, new_world_sound}
+use Rattle.link_simulation.proofs.Rule.Stepwise.{agrees_next, agrees_refused, agrees_done, IsMade}
+
+module _ {P : Type 0} (cmp : P → P → Ordering) (order : IsTotalOrder cmp) where
+  -- ---- one call
+
+  -- a call no earlier than the world, and before its next event
+  in_turn : (w : World P) (call : Call P) (now : ℕ) → moment_of call ≡ Some now → w.moment ≤ now
+      → IsBeforeNext cmp now w → IsInTurn cmp w call
+  in_turn w (call_limit t peer egress ingress) now is le before =
+      let same : now ≡ t = cc in (omega arith, subst (λ (s : ℕ). IsBeforeNext cmp s w) same before)
+  in_turn w (call_limit_link t origin recipient cap) now is le before =
+      let same : now ≡ t = cc in (omega arith, subst (λ (s : ℕ). IsBeforeNext cmp s w) same before)
+  in_turn w (call_enqueue t m) now is le before =
+      let same : now ≡ t = cc in (omega arith, subst (λ (s : ℕ). IsBeforeNext cmp s w) same before)
+  in_turn w (call_advance t) now is le before = let same : now ≡ t = cc in omega arith
+  in_turn w call_next now is le before = tt
+
+  pub turn_by_next : (p : Planned P) (w : World P) (call : Call P) (now : ℕ) → StandsFor cmp p w
+      → moment_of call ≡ Some now → w.moment ≤ now
+      → IfSome (next_event p) (λ t. now < t) → IsInTurn cmp w call
+  turn_by_next p w call now stands is le before = in_turn w call now is le
+      (λ next there. subst (λ (o : Option ℕ). IfSome o (λ t. now < t))
+      (next_is_one cmp order w (next_event p) next (sound_of_stands cmp order p w stands).positive
+      (next_is_planned cmp order p w stands) there) before)
+
+  pub called_at_once : (w : World P) (q : Planned P) (call other : Call P) (now : ℕ) (cs : List (Completed P))
+      → moment_of other ≡ Some now
+      → (run : IsRun cmp w call now cs q) → IsCalled cmp q other now run.after
+  called_at_once w q call other now cs is run = record {
+    stands = run.stands;
+    moment = is;
+    turn =
+        let at : run.after.moment ≡ now =
+        run.moment in turn_by_next q run.after other now run.stands is (omega arith) run.next;
+  }
+
+  -- ---- a list of calls
+
+  -- what comes before that moment comes before the next event
+  Known : Option ℕ → World P → Type 0
+  Known before w = (now : ℕ) → IfSome before (λ t. now < t) → IsBeforeNext cmp now w
+
+  known_at_once : (w : World P) (at : ℕ) → w.moment ≡ at → Known (Some (at + 1)) w
+  unfolding Known
+  known_at_once w at same now below next is = by_next next (next_is_later cmp order w next is)
+    where
+      by_next : (o : Option ℕ) → IfSome o (λ t. w.moment < t) → IfSome o (λ t. now < t)
+      by_next None later = tt
+      by_next (Some t) later = omega arith
+
+  known_by_next : (w : World P) (next : Option ℕ) → IsSound cmp w → NextIs cmp w next → Known next w
+  unfolding Known
+  known_by_next w next sound is now below other there =
+      subst (λ (o : Option ℕ). IfSome o (λ t. now < t)) (next_is_one cmp order w next other sound.positive is there)
+      below
+
+  turn_between : (w : World P) (call : Call P) (from : ℕ) (before : Option ℕ) → w.moment ≡ from → Known before w
+      → IsBetween from before call → IsInTurn cmp w call
+  unfolding Known
+  turn_between w (call_limit now peer egress ingress) from before same known between =
+      (let le : from ≤ now = between.0 in omega arith, known now between.1)
+  turn_between w (call_limit_link now origin recipient cap) from before same known between =
+      (let le : from ≤ now = between.0 in omega arith, known now between.1)
+  turn_between w (call_enqueue now m) from before same known between =
+      (let le : from ≤ now = between.0 in omega arith, known now between.1)
+  turn_between w (call_advance now) from before same known between = let le : from ≤ now = between in omega arith
+  turn_between w call_next from before same known between = tt
+
+  asked : (w : World P) (calls : List (Call P)) (replies : List (Reply P)) (call : Call P) (next : Option ℕ)
+      → Agrees cmp w (call ∷ calls) (reply_next next ∷ replies)
+      → IsInTurn cmp w call × NextIs cmp w next
+  asked w calls replies (call_limit now peer egress ingress) next agrees = absurd agrees
+  asked w calls replies (call_limit_link now origin recipient cap) next agrees = absurd agrees
+  asked w calls replies (call_enqueue now m) next agrees = absurd agrees
+  asked w calls replies (call_advance now) next agrees = absurd agrees
+  asked w calls replies call_next next agrees = (tt, agrees.0)
+
+  Follow : List (Call P) → List (Reply P) → Type 0
+  Follow calls replies =
+      (w : World P) (from : ℕ) (before : Option ℕ) → w.moment ≡ from → IsSound cmp w → IsQuiet cmp w.moment w
+      → Known before w → GoByNext from before calls replies → Agrees cmp w calls replies → AreInTurn cmp w calls replies
+
+  by_next_in_turn : (calls : List (Call P)) (replies : List (Reply P)) → Follow calls replies
+  unfolding Follow
+  by_next_in_turn [] replies w from before same sound quiet known go agrees = tt
+  by_next_in_turn (call ∷ calls) [] w from before same sound quiet known go agrees = tt
+  by_next_in_turn (call ∷ calls) (reply_next next ∷ replies) w from before same sound quiet known go agrees =
+      let here : IsInTurn cmp w call × NextIs cmp w next = asked w calls replies call next agrees in (
+        here.0,
+        by_next_in_turn calls replies w from next same sound quiet (known_by_next w next sound here.1) go
+            (agrees_next cmp w calls replies call next agrees),
+      )
+  by_next_in_turn (call ∷ calls) (reply_refused why ∷ replies) w from before same sound quiet known go agrees =
+      let turn : IsInTurn cmp w call = turn_between w call from before same known go.0 in (
+        turn,
+        by_next_in_turn calls replies w from before same sound quiet known go.1
+            (agrees_refused cmp w calls replies call why agrees turn),
+      )
+  by_next_in_turn (call ∷ calls) (reply_done cs ∷ replies) w from before same sound quiet known go agrees =
+      (turn, after (by_next_in_turn calls replies))
+    where
+      turn : IsInTurn cmp w call
+      turn = turn_between w call from before same known go.0
+
+      after : Follow calls replies → (now : ℕ) (ds : List (Completed P)) (v : World P) → moment_of call ≡ Some now
+          → Runs cmp w call now (goes ds v) → AreInTurn cmp v calls replies
+      after ih now ds v is runs =
+          let one : IsMade cmp w calls replies call cs = agrees_done cmp w calls replies call cs agrees turn in
+          let at : now ≡ one.now = cc in
+          let both : goes ds v ≡ goes one.answers one.after
+          =
+          runs_are_one cmp order w call now (goes ds v) (goes one.answers one.after) sound runs
+          (subst (λ (t : ℕ). Runs cmp w call t (goes one.answers one.after)) (sym at) one.runs) in
+          let there : one.after ≡ v = cc in
+          let ends : (v.moment ≡ now) × IsQuiet cmp v.moment v =
+          run_ends cmp order w v call now ds quiet is (turn_later cmp order w call now is turn) runs in
+          let still : IsSound cmp v = call_keeps_sound cmp order w call now (goes ds v) sound runs in
+          ih v now (Some (now + 1)) ends.0 still ends.1 (known_at_once v now ends.0)
+          (subst (λ (o : Option ℕ). IfSome o (λ t. GoByNext t (Some (t + 1)) calls replies)) is go.1)
+          (subst (λ (u : World P). Agrees cmp u calls replies) there one.rest)
+
+  pub new_by_next : (calls : List (Call P)) (replies : List (Reply P)) → Agrees cmp (new_world 0) calls replies
+      → GoByNext 0 (Some 1) calls replies
+      → AreInTurn cmp (new_world 0) calls replies
+  unfolding Follow
+  new_by_next calls replies agrees go =
+      by_next_in_turn calls replies (new_world 0) 0 (Some 1) refl (new_world_sound cmp order 0)
+      (new_stands cmp order 0).quiet (known_at_once (new_world 0) 0 refl) go agrees

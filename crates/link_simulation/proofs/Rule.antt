@@ -1,0 +1,27 @@
+-- Why the event rule and the simulation are one.
+pub mod Accounts
+pub mod Advance
+pub mod Agreeing
+pub mod AtOnce
+pub mod BeforeNext
+pub mod Enqueue
+pub mod FinishEvent
+pub mod Launch
+pub mod Limit
+pub mod NewInRange
+pub mod NextEvent
+pub mod NoNumbers
+pub mod Obeys
+pub mod OneCourse
+pub mod OneMeaning
+pub mod Range
+pub mod RepliesInRange
+pub mod SameCourses
+pub mod SamePlanned
+pub mod SameRefusals
+pub mod SameStands
+pub mod SameSteps
+pub mod Settling
+pub mod Simulated
+pub mod Stepwise
+pub mod Waking

@@ -1,0 +1,92 @@
+-- Before any limit, a message completes at once in both worlds.
+use Rattle.std.proofs.Common.{◌≡◌, ℕ, ◌+◌, ◌<◌, ◌≤◌, [], ◌∷◌, Bool, true, false, cond, Option, Some, None, refl, sym, ap, ◌∙◌, subst}
+use Rattle.std.specs.Prelude.{◌&&◌, nat_lt, IfSome, if◌then◌else◌}
+use Rattle.std.specs.List.{find, list_any}
+use Rattle.std.specs.declared.cmp.Ordering.{Ordering}
+use Rattle.std.specs.Cmp.{IsTotalOrder}
+use Rattle.link_simulation.specs.Simulation.World.{Completed, Course, World, completion_of, goes, is_done, last_moment, later_of, meets, raised, ready}
+use Rattle.link_simulation.specs.Simulation.Calls.{Runs, act, call_enqueue, complete_at_once}
+use Rattle.link_simulation.specs.Rule.Events.{completed_at_once}
+use Rattle.link_simulation.specs.Simulation.Messages.{Message, same_pair}
+use Rattle.link_simulation.specs.Rule.Planned.{IsLeastMoment, Planned, SomeReadyAt, next_event}
+use Rattle.link_simulation.specs.Rule.StandsFor.{CoursesAlike, Follows, StandsFor, Tallies}
+use Rattle.fair_rates.specs.declared.error.Error.TheVariants.{MomentTooLate}
+use Rattle.link_simulation.proofs.Simulation.AlikeMessages.{same_itself, message_itself}
+use Rattle.link_simulation.proofs.Rule.BeforeNext.{none_ready_at}
+use Rattle.link_simulation.proofs.Rule.Settling.{raised_alike}
+use Rattle.link_simulation.proofs.Rule.Limit.{IsReached, reaches}
+use Rattle.link_simulation.proofs.Simulation.Queue.{preceded_none}
+
+module _ {P : Type 0} (cmp : P → P → Ordering) (order : IsTotalOrder cmp) where
+  -- with nothing waiting, nothing is ever ready
+  none_waits : (p : Planned P) (t : ℕ) → p.waiting ≡ [] → SomeReadyAt cmp p t → ⊥
+  none_waits p t empty some = absurd_some (ap (find (same_pair cmp some.0)) (sym empty) ∙ some.1)
+    where
+      absurd_some : None ≡ Some some.0 → ⊥
+      absurd_some e = cc
+
+  start_kept : (p q : Planned P) (o : Option ℕ) → p.waiting ≡ [] → q.waiting ≡ [] → IsLeastMoment (SomeReadyAt cmp p) o → IsLeastMoment (SomeReadyAt cmp q) o
+  start_kept p q None empty bare least = λ t within some. none_waits q t bare some
+  start_kept p q (Some e) empty bare least = absurd (none_waits p e empty least.1)
+
+  at_once : (now : ℕ) (p : Planned P) (u : World P) (m : Message P) → Follows cmp now p u → list_any (is_done cmp u) u.sending ≡ false → p.waiting ≡ [] → IsLeastMoment (SomeReadyAt cmp p) p.start
+      → CoursesAlike cmp (λ q v. StandsFor cmp q v × (v.moment ≡ now)) (completed_at_once cmp now p m) (complete_at_once cmp now u m)
+  at_once now p u m follows none_done empty least = by_late (m.should_deliver && nat_lt last_moment (now + m.latency)) arrivals
+    where
+      at_p : ℕ
+      at_p = if m.should_deliver then later_of (p.last_arrival m.origin m.recipient) (now + m.latency) else now
+
+      at_u : ℕ
+      at_u = if m.should_deliver then later_of (u.last_arrival m.origin m.recipient) (now + m.latency) else now
+
+      arrivals : at_p ≡ at_u
+      arrivals = rw (follows.tallies.last_arrival m.origin m.origin m.recipient m.recipient (same_itself cmp order m.origin) (same_itself cmp order m.recipient)) refl
+
+      landed_p : Planned P
+      landed_p = record p { last_arrival = raised cmp p.last_arrival m at_p }
+
+      landed_u : World P
+      landed_u = record u { last_arrival = raised cmp u.last_arrival m at_u }
+
+      tallied : at_p ≡ at_u → Tallies cmp now landed_p landed_u
+      tallied same = record {
+        moment = follows.tallies.moment;
+        caps = follows.tallies.caps;
+        limited = follows.tallies.limited;
+        last_arrival = raised_alike cmp order p.last_arrival u.last_arrival m m at_p at_u follows.tallies.last_arrival (message_itself cmp order m) same;
+        next_id = follows.tallies.next_id;
+        waiting = follows.tallies.waiting;
+        pair_order = follows.tallies.pair_order;
+        sending = follows.tallies.sending;
+        one_each = follows.tallies.one_each;
+        empty_at_first = follows.tallies.empty_at_first;
+      }
+
+      stands : at_p ≡ at_u → StandsFor cmp landed_p landed_u
+      stands same = record {
+        follows = subst (λ (t : ℕ). Follows cmp t landed_p landed_u) (sym follows.tallies.moment) (record {
+          tallies = tallied same;
+          rated = record { per = follows.rated.per; rates = follows.rated.rates; fair = follows.rated.fair; rated = follows.rated.rated };
+          finish = follows.finish;
+        });
+        quiet = record { none_done = none_done; none_ready = ap (λ (t : ℕ). ready cmp t landed_u) follows.tallies.moment ∙ none_ready_at cmp order now landed_p landed_u (tallied same) (none_waits landed_p now empty) };
+        start = start_kept p landed_p p.start empty empty least;
+      }
+
+      by_late : (b : Bool) → at_p ≡ at_u
+          → CoursesAlike cmp (λ q v. StandsFor cmp q v × (v.moment ≡ now)) (cond b (meets MomentTooLate) (goes (completion_of m (if m.should_deliver then Some at_p else None) ∷ []) landed_p))
+          (cond b (meets MomentTooLate) (goes (completion_of m (if m.should_deliver then Some at_u else None) ∷ []) landed_u))
+      by_late true same = refl
+      by_late false same =
+          ((record { origin = same_itself cmp order m.origin; recipient = same_itself cmp order m.recipient; channel = refl; bytes = refl; deliver_at = ap (λ (t : ℕ). if m.should_deliver then Some t else None) same }, tt), (stands same, follows.tallies.moment))
+
+  -- before any limit a message does in the planned world what it does in the world
+  pub at_once_alike : (p : Planned P) (w : World P) (now : ℕ) (m : Message P) → StandsFor cmp p w → p.limited ≡ false → w.moment ≤ now → now ≤ last_moment → IfSome (next_event p) (λ t. now < t)
+      → (c : Course (Completed P) (World P)) × Runs cmp w (call_enqueue now m) now c × CoursesAlike cmp (λ q v. StandsFor cmp q v × (v.moment ≡ now)) (completed_at_once cmp now p m) c
+  at_once_alike p w now m stands free le within before =
+      let empty : p.waiting ≡ [] = (stands.follows.tallies.empty_at_first free).1 in
+      let there : IsReached cmp order now p w = reaches cmp order now p w stands le within before in
+      let under : there.world.limited ≡ false = sym there.follows.tallies.limited ∙ free in
+      let c : Course (Completed P) (World P) = complete_at_once cmp now there.world m in
+      let acts : act cmp there.world (call_enqueue now m) ≡ c = rw under refl in
+      (c, record { ticked = goes [] there.world; ticks = there.ticks; acts = sym acts ∙ sym (preceded_none (act cmp there.world (call_enqueue now m))) }, at_once now p there.world m there.follows there.none_done empty stands.start)

@@ -1,0 +1,508 @@
+-- By the event rule a call has one course, and an advance one number of events.
+use Rattle.std.proofs.Common.{◌≡◌, ◌≢◌, ℕ, suc, ◌+◌, ◌*◌, ◌<◌, ◌≤◌, List, [], ◌∷◌, ◌++◌, length, true, false, not, Option, Some, None, refl, sym, ap, ◌∙◌, subst, arith, ◌⊎◌, inl, inr}
+use Rattle.std.specs.Prelude.{IfSome, slice_get}
+use Rattle.std.specs.List.{filter, AllZip}
+use Rattle.std.specs.declared.cmp.Ordering.{Ordering}
+use Rattle.std.specs.Cmp.{IsTotalOrder}
+use Rattle.fair_rates.specs.declared.error.Error.{Error}
+use Rattle.fair_rates.specs.declared.error.Error.TheVariants.{MomentTooLate, FlowIdsUsedUp}
+use Rattle.fair_rates.specs.Numbers.Amount.{Amount}
+use Rattle.fair_rates.specs.Numbers.LowestTerms.{reduced_same}
+use Rattle.link_simulation.specs.Simulation.Messages.{Message, Caps}
+use Rattle.link_simulation.specs.Simulation.Rates.{Parts, rate_of, AreFair}
+use Rattle.link_simulation.specs.Simulation.World.{Completed, Course, goes, meets, last_moment, preceded, is_late, completed}
+use Rattle.link_simulation.specs.Simulation.Calls.{Call, call_limit, call_limit_link, call_enqueue, call_advance, call_next}
+use Rattle.link_simulation.specs.Rule.Planned.{Planned, RatedFlight, IsLeastMoment, next_event, rated_messages, SomeSpentAt, drained_to, next_of, may_launch, SomeReadyAt, is_spent}
+use Rattle.link_simulation.specs.Rule.Events.{Accounts, PlansStart, launched, Launches, nothing_waits, too_early, no_id, starts, landed, Finishes, all_completed, late, stopped, completes, WakesEach, all_started, no_start, no_finish, starts_one, Wakes, Settles, settling, Rebalances, none_sending, some_sending, Enqueues, at_once, no_launch, launches, with_queued, Advances, no_more, at_finish, at_start, finish_stops, start_stops, Obeys}
+use Rattle.link_simulation.proofs.Simulation.AlikeMessages.{same_itself}
+use Rattle.link_simulation.proofs.Simulation.Rates.{Match, rates_match}
+
+-- ---- least moments
+
+-- a least moment is one
+pub least_is_one : (Q : ℕ → Type 0) (a b : Option ℕ) → IsLeastMoment Q a → IsLeastMoment Q b → a ≡ b
+least_is_one Q None None e f = refl
+least_is_one Q None (Some t) e f = absurd (e t f.0 f.1)
+least_is_one Q (Some s) None e f = absurd (f s e.0 e.1)
+least_is_one Q (Some s) (Some t) e f =
+    let le : s ≤ t = e.2 t f.1 in
+    let ge : t ≤ s = f.2 s e.1 in
+    let same : s ≡ t = omega arith in
+    ap Some same
+
+-- ---- an account
+
+abbrev Stay : {P : Type 0} → ℕ → RatedFlight P → RatedFlight P → Type 0
+Stay t f g = (g.message ≡ f.message) × (g.left ≡ f.left) × (g.updated ≡ t)
+
+rate_is_one : (x y : Option ℕ) (d e : ℕ) → 0 < d → 0 < e
+    → ((a : ℕ) → x ≡ Some a → (b : ℕ) × (y ≡ Some b) × (a * e ≡ b * d))
+    → ((b : ℕ) → y ≡ Some b → (a : ℕ) × (x ≡ Some a) × (b * d ≡ a * e)) → rate_of d x ≡ rate_of e y
+rate_is_one None None d e i j to from = refl
+rate_is_one None (Some b) d e i j to from = let g : (a : ℕ) × (None ≡ Some a) × (b * d ≡ a * e) = from b refl in cc
+rate_is_one (Some a) None d e i j to from = let g : (b : ℕ) × (None ≡ Some b) × (a * e ≡ b * d) = to a refl in cc
+rate_is_one (Some a) (Some b) d e i j to from =
+    let g : (c : ℕ) × (Some b ≡ Some c) × (a * e ≡ c * d) = to a refl in
+    let same : g.0 ≡ b = cc in
+    ap Some (reduced_same a d b e i j (g.2 ∙ ap (λ c. c * d) same))
+
+-- those that stay, with rates that match
+sending_is_one : {P : Type 0} (t : ℕ) (xs ys : Parts) (d e : ℕ) (bs fs gs : List (RatedFlight P)) → 0 < d → 0 < e
+    → AllZip (Stay t) bs fs → AllZip (Stay t) bs gs
+    → AllZip (λ rate f. f.rate ≡ rate_of d rate) xs fs → AllZip (λ rate f. f.rate ≡ rate_of e rate) ys gs
+    → Match xs ys d e → Match ys xs e d → fs ≡ gs
+sending_is_one t xs ys d e [] [] [] i j h k r s to from = refl
+sending_is_one t xs ys d e [] [] (g ∷ gs) i j h k r s to from = absurd k
+sending_is_one t xs ys d e [] (f ∷ fs) gs i j h k r s to from = absurd h
+sending_is_one t xs ys d e (b ∷ bs) [] gs i j h k r s to from = absurd h
+sending_is_one t xs ys d e (b ∷ bs) (f ∷ fs) [] i j h k r s to from = absurd k
+sending_is_one t [] ys d e (b ∷ bs) (f ∷ fs) (g ∷ gs) i j h k r s to from = absurd r
+sending_is_one t (x ∷ xs) [] d e (b ∷ bs) (f ∷ fs) (g ∷ gs) i j h k r s to from = absurd s
+sending_is_one {P} t (x ∷ xs) (y ∷ ys) d e (b ∷ bs) (f ∷ fs) (g ∷ gs) i j h k r s to from =
+    let rate : rate_of d x ≡ rate_of e y
+    =
+    rate_is_one x y d e i j (λ a is. head x y a e d (to 0 a (ap Some is)))
+    (λ c is. head y x c d e (from 0 c (ap Some is))) in
+    let rest : fs ≡ gs =
+    sending_is_one t xs ys d e bs fs gs i j h.1 k.1 r.1 s.1 (λ n. to (suc n)) (λ n. from (suc n)) in
+    let message : f.message ≡ g.message = h.0.0 ∙ sym k.0.0 in
+    let left : f.left ≡ g.left = h.0.1 ∙ sym k.0.1 in
+    let own : f.rate ≡ g.rate = r.0 ∙ rate ∙ sym s.0 in
+    let updated : f.updated ≡ g.updated = h.0.2 ∙ sym k.0.2 in
+    λ n. record { message = message n; left = left n; rate = own n; updated = updated n } ∷ rest n
+  where
+    head : (x z : Option ℕ) (a p q : ℕ) → (b : ℕ) × (Some z ≡ Some (Some b)) × (a * p ≡ b * q) → (b : ℕ) × (z ≡ Some b)
+        × (a * p ≡ b * q)
+    head x z a p q (b, is, e) = (b, cc, e)
+
+stays_flows : {P : Type 0} (t : ℕ) (bs fs : List (RatedFlight P)) → AllZip (Stay t) bs fs → rated_messages fs ≡ rated_messages bs
+stays_flows t [] [] all = refl
+stays_flows t [] (f ∷ fs) all = absurd all
+stays_flows t (b ∷ bs) [] all = absurd all
+stays_flows t (b ∷ bs) (f ∷ fs) all = rw (all.0.0, stays_flows t bs fs all.1) refl
+
+module _ {P : Type 0} (cmp : P → P → Ordering) (order : IsTotalOrder cmp) where
+  account_is_one : (t : ℕ) (old new other : Planned P) (ls ms : List (Message P)) → Accounts cmp t old ls new
+      → Accounts cmp t old ms other
+      → goes ls new ≡ goes ms other
+  account_is_one t old new other ls ms f g =
+      let flows : rated_messages other.sending ≡ rated_messages new.sending
+      = stays_flows t (filter (λ h. not (is_spent cmp old.caps h)) (drained_to t old.sending)) other.sending g.stayed
+      ∙ sym (stays_flows t (filter (λ h. not (is_spent cmp old.caps h)) (drained_to t old.sending)) new.sending
+      f.stayed) in
+      let fair : AreFair cmp old.caps (rated_messages new.sending) g.per g.rates =
+      subst (λ (fs : List (Message P)). AreFair cmp old.caps fs g.per g.rates) flows g.fair in
+      let sending : new.sending ≡ other.sending
+      =
+      sending_is_one t f.rates g.rates f.per g.per
+      (filter (λ h. not (is_spent cmp old.caps h)) (drained_to t old.sending)) new.sending other.sending
+      f.fair.fair.some_part g.fair.fair.some_part f.stayed g.stayed f.rated g.rated
+      (rates_match cmp (same_itself cmp order) old.caps (rated_messages new.sending) f.per g.per f.rates g.rates f.fair
+      fair)
+      (rates_match cmp (same_itself cmp order) old.caps (rated_messages new.sending) g.per f.per g.rates f.rates fair
+      f.fair) in
+      let finish : new.finish ≡ other.finish
+      =
+      least_is_one (SomeSpentAt new.sending) new.finish other.finish f.finish
+      (subst (λ (fs : List (RatedFlight P)). IsLeastMoment (SomeSpentAt fs) other.finish) (sym sending) g.finish) in
+      let here : record old { sending = new.sending; finish = new.finish } ≡ record old
+      { sending = other.sending; finish = other.finish }
+      = λ i. record old { sending = sending i; finish = finish i } in
+      let world : new ≡ other = f.same ∙ here ∙ sym g.same in
+      let left : ls ≡ ms = f.left ∙ sym g.left in
+      λ i. goes (left i) (world i)
+
+  look_is_one : (t : ℕ) (old new other : Planned P) → PlansStart cmp t old new → PlansStart cmp t old other → new ≡ other
+  look_is_one t old new other f g =
+      let start : new.start ≡ other.start =
+      least_is_one (λ s. (t ≤ s) × SomeReadyAt cmp old s) new.start other.start f.start g.start in
+      let here : record old { start = new.start } ≡ record old { start = other.start } =
+      λ i. record old { start = start i } in
+      f.same ∙ here ∙ sym g.same
+
+  -- ---- a launch
+
+  -- what the launch of that message may be
+  abbrev Launch : ℕ → Planned P → Message P → Course (Message P) (Planned P) → Type 0
+  Launch t old m c =
+      ((may_launch cmp t old m ≡ false) × (c ≡ goes [] old))
+      ⊎ (((may_launch cmp t old m ≡ true) × (last_moment ≤ old.next_id) × (c ≡ meets FlowIdsUsedUp))
+      ⊎ ((may_launch cmp t old m ≡ true) × (old.next_id < last_moment)
+      × ((ls : List (Message P)) × (new : Planned P) × Accounts cmp t (launched cmp t old m) ls new
+      × (c ≡ goes ls new))))
+
+  no_launch_of : {t : ℕ} {old : Planned P} {o : Option (Message P)} {c : Course (Message P) (Planned P)}
+      → Launches cmp t old o c → o ≡ None → c ≡ goes [] old
+  no_launch_of nothing_waits e = refl
+  no_launch_of (too_early may) e = cc
+  no_launch_of (no_id may last) e = cc
+  no_launch_of (starts may below account) e = cc
+
+  launch_of : {t : ℕ} {old : Planned P} {o : Option (Message P)} {c : Course (Message P) (Planned P)}
+      → Launches cmp t old o c → (m : Message P) → o ≡ Some m → Launch t old m c
+  launch_of nothing_waits n e = cc
+  launch_of {t = t} {old = old} (too_early {m = m} may) n e =
+      let same : m ≡ n = cc in inl (subst (λ (k : Message P). may_launch cmp t old k ≡ false) same may, refl)
+  launch_of {t = t} {old = old} (no_id {m = m} may last) n e =
+      let same : m ≡ n = cc in inr (inl (subst (λ (k : Message P). may_launch cmp t old k ≡ true) same may, last, refl))
+  launch_of {t = t} {old = old} (starts {m = m} {leavers = ls} {new = new} may below account) n e =
+      let same : m ≡ n = cc in
+      inr (inr (
+        subst (λ (k : Message P). may_launch cmp t old k ≡ true) same may,
+        below,
+        (ls, new, subst (λ (k : Message P). Accounts cmp t (launched cmp t old k) ls new) same account, refl),
+      ))
+
+  launch_is_one : {t : ℕ} {old : Planned P} {o : Option (Message P)} {c : Course (Message P) (Planned P)}
+      → Launches cmp t old o c
+      → (d : Course (Message P) (Planned P)) → Launches cmp t old o d → c ≡ d
+  launch_is_one nothing_waits d l = sym (no_launch_of l refl)
+  launch_is_one {t = t} {old = old} (too_early {m = m} may) d l = by_case (launch_of l m refl)
+    where
+      by_case : Launch t old m d → goes [] old ≡ d
+      by_case (inl h) = sym h.1
+      by_case (inr (inl h)) = cc
+      by_case (inr (inr h)) = cc
+  launch_is_one {t = t} {old = old} (no_id {m = m} may last) d l = by_case (launch_of l m refl)
+    where
+      by_case : Launch t old m d → meets FlowIdsUsedUp ≡ d
+      by_case (inl h) = cc
+      by_case (inr (inl h)) = sym h.2
+      by_case (inr (inr h)) = absurd (omega (arith, h.1))
+  launch_is_one {t = t} {old = old} (starts {m = m} {leavers = ls} {new = new} may below account) d l =
+      by_case (launch_of l m refl)
+    where
+      by_case : Launch t old m d → goes ls new ≡ d
+      by_case (inl h) = cc
+      by_case (inr (inl h)) = absurd (omega (arith, h.1))
+      by_case (inr (inr h)) = account_is_one t (launched cmp t old m) new h.2.1 ls h.2.0 account h.2.2 ∙ sym h.2.3
+
+  -- ---- finishes
+
+  preceded_alike : (cs : List (Completed P)) (c d : Course (Completed P) (Planned P)) → c ≡ d
+      → preceded cs c ≡ preceded cs d
+  preceded_alike cs c d e = ap (preceded cs) e
+
+  -- what follows the launch after a completion
+  abbrev FinishOn : ℕ → Message P → List (Message P) → Course (Message P) (Planned P) → Course (Completed P) (Planned P)
+      → Type 0
+  FinishOn t m ms (meets fault) c = c ≡ meets fault
+  FinishOn t m ms (goes more q) c =
+      (r : Course (Completed P) (Planned P)) × Finishes cmp t (ms ++ more) q r
+      × (c ≡ preceded (completed cmp t m ∷ []) r)
+
+  abbrev Finish : ℕ → Message P → List (Message P) → Planned P → Course (Completed P) (Planned P) → Type 0
+  Finish t m ms p c =
+      ((is_late cmp t m ≡ true) × (c ≡ meets MomentTooLate))
+      ⊎ ((is_late cmp t m ≡ false) × ((l : Course (Message P) (Planned P))
+      × Launches cmp t (landed cmp t p m) (next_of cmp p m) l × FinishOn t m ms l c))
+
+  no_finish_of : {t : ℕ} {ms : List (Message P)} {p : Planned P} {c : Course (Completed P) (Planned P)}
+      → Finishes cmp t ms p c → ms ≡ []
+      → (q : Planned P) × PlansStart cmp t p q × (c ≡ goes [] q)
+  no_finish_of (all_completed {q = q} looks) e = (q, looks, refl)
+  no_finish_of (late is) e = cc
+  no_finish_of (stopped in_time launch) e = cc
+  no_finish_of (completes in_time launch rest) e = cc
+
+  finish_of : {t : ℕ} {ms : List (Message P)} {p : Planned P} {c : Course (Completed P) (Planned P)}
+      → Finishes cmp t ms p c → (m : Message P) (ns : List (Message P)) → ms ≡ m ∷ ns
+      → Finish t m ns p c
+  finish_of (all_completed looks) n ns e = cc
+  finish_of {t = t} (late {m = m} is) n ns e =
+      let same : m ≡ n = cc in inl (subst (λ (k : Message P). is_late cmp t k ≡ true) same is, refl)
+  finish_of {t = t} {p = p} (stopped {m = m} {fault = fault} in_time launch) n ns e =
+      let same : m ≡ n = cc in
+      inr (
+        subst (λ (k : Message P). is_late cmp t k ≡ false) same in_time,
+        (
+          meets fault,
+          subst (λ (k : Message P). Launches cmp t (landed cmp t p k) (next_of cmp p k) (meets fault))
+              same launch,
+          refl,
+        ),
+      )
+  finish_of {t = t} {p = p} (completes {m = m} {ms = ms} {more = more} {q = q} {rest = rest} in_time launch finishes) n
+      ns e =
+      let same : m ≡ n = cc in
+      let others : ms ≡ ns = cc in
+      inr (
+        subst (λ (k : Message P). is_late cmp t k ≡ false) same in_time,
+        (
+          goes more q,
+          subst (λ (k : Message P). Launches cmp t (landed cmp t p k) (next_of cmp p k) (goes more q)) same
+              launch,
+          (
+            rest,
+            subst (λ (ks : List (Message P)). Finishes cmp t (ks ++ more) q rest) others finishes,
+            ap
+                (λ (k : Message P). preceded (completed cmp t k ∷ []) rest) same,
+          ),
+        ),
+      )
+
+  finish_is_one : {t : ℕ} {ms : List (Message P)} {p : Planned P} {c : Course (Completed P) (Planned P)}
+      → Finishes cmp t ms p c
+      → (d : Course (Completed P) (Planned P)) → Finishes cmp t ms p d → c ≡ d
+  finish_is_one {t = t} {p = p} (all_completed {q = q} looks) d f =
+      let g : (r : Planned P) × PlansStart cmp t p r × (d ≡ goes [] r) = no_finish_of f refl in
+      ap (goes []) (look_is_one t p q g.0 looks g.1) ∙ sym g.2
+  finish_is_one {t = t} {p = p} (late {m = m} {ms = ms} is) d f = by_case (finish_of f m ms refl)
+    where
+      by_case : Finish t m ms p d → meets MomentTooLate ≡ d
+      by_case (inl h) = sym h.1
+      by_case (inr h) = cc
+  finish_is_one {t = t} {p = p} (stopped {m = m} {ms = ms} {fault = fault} in_time launch) d f =
+      by_case (finish_of f m ms refl)
+    where
+      by_case : Finish t m ms p d → meets fault ≡ d
+      by_case (inl h) = cc
+      by_case (inr h) =
+          let same : meets fault ≡ h.1.0 = launch_is_one launch h.1.0 h.1.1 in
+          sym (subst (λ (l : Course (Message P) (Planned P)). FinishOn t m ms l d) (sym same) h.1.2)
+  finish_is_one {t = t} {p = p} (completes {m = m} {ms = ms} {more = more} {q = q} {rest = rest} in_time launch
+      finishes) d f =
+      by_case (finish_is_one finishes) (finish_of f m ms refl)
+    where
+      by_case : ((e : Course (Completed P) (Planned P)) → Finishes cmp t (ms ++ more) q e → rest ≡ e)
+          → Finish t m ms p d → preceded (completed cmp t m ∷ []) rest ≡ d
+      by_case ih (inl h) = cc
+      by_case ih (inr h) =
+          let same : goes more q ≡ h.1.0 = launch_is_one launch h.1.0 h.1.1 in
+          let on : FinishOn t m ms (goes more q) d =
+          subst (λ (l : Course (Message P) (Planned P)). FinishOn t m ms l d) (sym same) h.1.2 in
+          preceded_alike (completed cmp t m ∷ []) rest on.0 (ih on.0 on.1) ∙ sym on.2
+
+  -- ---- wakes
+
+  abbrev WakeOn : ℕ → List (Message P) → Course (Completed P) (Planned P) → Course (Completed P) (Planned P) → Type 0
+  WakeOn t ms (meets fault) c = c ≡ meets fault
+  WakeOn t ms (goes cs r) c =
+      (rest : Course (Completed P) (Planned P)) × WakesEach cmp t ms r rest × (c ≡ preceded cs rest)
+
+  abbrev WakeFrom : ℕ → List (Message P) → Course (Message P) (Planned P) → Course (Completed P) (Planned P) → Type 0
+  WakeFrom t ms (meets fault) c = c ≡ meets fault
+  WakeFrom t ms (goes more q) c = (f : Course (Completed P) (Planned P)) × Finishes cmp t more q f × WakeOn t ms f c
+
+  abbrev Wake : ℕ → Message P → List (Message P) → Planned P → Course (Completed P) (Planned P) → Type 0
+  Wake t m ms p c = (l : Course (Message P) (Planned P)) × Launches cmp t p (next_of cmp p m) l × WakeFrom t ms l c
+
+  no_wake_of : {t : ℕ} {ms : List (Message P)} {p : Planned P} {c : Course (Completed P) (Planned P)}
+      → WakesEach cmp t ms p c → ms ≡ []
+      → (q : Planned P) × PlansStart cmp t p q × (c ≡ goes [] q)
+  no_wake_of (all_started {q = q} looks) e = (q, looks, refl)
+  no_wake_of (no_start launch) e = cc
+  no_wake_of (no_finish launch finishes) e = cc
+  no_wake_of (starts_one launch finishes rest) e = cc
+
+  wake_of : {t : ℕ} {ms : List (Message P)} {p : Planned P} {c : Course (Completed P) (Planned P)}
+      → WakesEach cmp t ms p c → (m : Message P) (ns : List (Message P)) → ms ≡ m ∷ ns
+      → Wake t m ns p c
+  wake_of (all_started looks) n ns e = cc
+  wake_of {t = t} {p = p} (no_start {m = m} {fault = fault} launch) n ns e =
+      let same : m ≡ n =
+      cc in (meets fault, subst (λ (k : Message P). Launches cmp t p (next_of cmp p k) (meets fault)) same launch, refl)
+  wake_of {t = t} {p = p} (no_finish {m = m} {more = more} {q = q} {fault = fault} launch finishes) n ns e =
+      let same : m ≡ n =
+      cc in (
+        goes more q,
+        subst (λ (k : Message P). Launches cmp t p (next_of cmp p k) (goes more q)) same launch,
+        (meets fault, finishes, refl),
+      )
+  wake_of {t = t} {p = p} (starts_one {m = m} {ms = ms} {more = more} {q = q} {r = r} {cs = cs} {rest = rest} launch
+      finishes wakes) n ns e =
+      let same : m ≡ n = cc in
+      let others : ms ≡ ns = cc in (
+        goes more q,
+        subst (λ (k : Message P). Launches cmp t p (next_of cmp p k) (goes more q)) same launch,
+        (goes cs r, finishes, (rest, subst (λ (ks : List (Message P)). WakesEach cmp t ks r rest) others wakes, refl)),
+      )
+
+  wake_is_one : {t : ℕ} {ms : List (Message P)} {p : Planned P} {c : Course (Completed P) (Planned P)}
+      → WakesEach cmp t ms p c
+      → (d : Course (Completed P) (Planned P)) → WakesEach cmp t ms p d → c ≡ d
+  wake_is_one {t = t} {p = p} (all_started {q = q} looks) d w =
+      let g : (r : Planned P) × PlansStart cmp t p r × (d ≡ goes [] r) = no_wake_of w refl in
+      ap (goes []) (look_is_one t p q g.0 looks g.1) ∙ sym g.2
+  wake_is_one {t = t} {p = p} (no_start {m = m} {ms = ms} {fault = fault} launch) d w =
+      let h : Wake t m ms p d = wake_of w m ms refl in
+      let same : meets fault ≡ h.0 = launch_is_one launch h.0 h.1 in
+      sym (subst (λ (l : Course (Message P) (Planned P)). WakeFrom t ms l d) (sym same) h.2)
+  wake_is_one {t = t} {p = p} (no_finish {m = m} {ms = ms} {more = more} {q = q} {fault = fault} launch finishes) d w =
+      let h : Wake t m ms p d = wake_of w m ms refl in
+      let same : goes more q ≡ h.0 = launch_is_one launch h.0 h.1 in
+      let from : WakeFrom t ms (goes more q) d =
+      subst (λ (l : Course (Message P) (Planned P)). WakeFrom t ms l d) (sym same) h.2 in
+      let ends : meets fault ≡ from.0 = finish_is_one finishes from.0 from.1 in
+      sym (subst (λ (f : Course (Completed P) (Planned P)). WakeOn t ms f d) (sym ends) from.2)
+  wake_is_one {t = t} {p = p} (starts_one {m = m} {ms = ms} {more = more} {q = q} {r = r} {cs = cs} {rest = rest} launch
+      finishes wakes) d w =
+      let h : Wake t m ms p d = wake_of w m ms refl in
+      let same : goes more q ≡ h.0 = launch_is_one launch h.0 h.1 in
+      let from : WakeFrom t ms (goes more q) d =
+      subst (λ (l : Course (Message P) (Planned P)). WakeFrom t ms l d) (sym same) h.2 in
+      let ends : goes cs r ≡ from.0 = finish_is_one finishes from.0 from.1 in
+      let on : WakeOn t ms (goes cs r) d =
+      subst (λ (f : Course (Completed P) (Planned P)). WakeOn t ms f d) (sym ends) from.2 in
+      preceded_alike cs rest on.0 (wake_is_one wakes on.0 on.1) ∙ sym on.2
+
+  -- ---- settlings, new caps and messages
+
+  settling_is_one : (t : ℕ) (p : Planned P) (c d : Course (Completed P) (Planned P)) → Settles cmp t p c
+      → Settles cmp t p d → c ≡ d
+  settling_is_one t p c d (settling {leavers = ls} {mid = mid} account finishes)
+      (settling {leavers = ms} {mid = other} account_too finishes_too) =
+      let same : goes ls mid ≡ goes ms other = account_is_one t p mid other ls ms account account_too in
+      let left : ms ≡ ls = cc in
+      let world : other ≡ mid = cc in
+      finish_is_one finishes d (subst (λ (q : Planned P). Finishes cmp t ls q d) world
+      (subst (λ (ks : List (Message P)). Finishes cmp t ks other d) left finishes_too))
+
+  rebalance_is_one : (now : ℕ) (caps : Caps P) (p : Planned P) (c d : Course (Completed P) (Planned P))
+      → Rebalances cmp now caps p c → Rebalances cmp now caps p d → c ≡ d
+  rebalance_is_one now caps p c d (none_sending {new = new} none looks) (none_sending {new = other} none_too looks_too) =
+      ap (goes []) (look_is_one now (record p { caps = caps; limited = true }) new other looks looks_too)
+  rebalance_is_one now caps p c d (none_sending none looks) (some_sending some settles) = absurd (some none)
+  rebalance_is_one now caps p c d (some_sending some settles) (none_sending none looks) = absurd (some none)
+  rebalance_is_one now caps p c d (some_sending some settles) (some_sending some_too settles_too) =
+      settling_is_one now (record p { caps = caps; limited = true }) c d settles settles_too
+
+  enqueue_is_one : (now : ℕ) (m : Message P) (p : Planned P) (c d : Course (Completed P) (Planned P))
+      → Enqueues cmp now m p c → Enqueues cmp now m p d → c ≡ d
+  enqueue_is_one now m p c d (at_once free) (at_once free_too) = refl
+  enqueue_is_one now m p c d (at_once free) (no_launch limited launch) = cc
+  enqueue_is_one now m p c d (at_once free) (launches limited launch finishes) = cc
+  enqueue_is_one now m p c d (no_launch limited launch) (at_once free) = cc
+  enqueue_is_one now m p c d (no_launch {fault = fault} limited launch)
+      (no_launch {fault = other} limited_too launch_too) =
+      let same : ◌≡◌ {A = Course (Message P) (Planned P)} (meets fault) (meets other) =
+      launch_is_one launch (meets other) launch_too in
+      let one : fault ≡ other = cc in
+      ap meets one
+  enqueue_is_one now m p c d (no_launch {fault = fault} limited launch)
+      (launches {leavers = ls} {mid = mid} limited_too launch_too finishes) =
+      let same : meets fault ≡ goes ls mid = launch_is_one launch (goes ls mid) launch_too in
+      cc
+  enqueue_is_one now m p c d (launches limited launch finishes) (at_once free) = cc
+  enqueue_is_one now m p c d (launches {leavers = ls} {mid = mid} limited launch finishes)
+      (no_launch {fault = fault} limited_too launch_too) =
+      let same : goes ls mid ≡ meets fault = launch_is_one launch (meets fault) launch_too in
+      cc
+  enqueue_is_one now m p c d (launches {leavers = ls} {mid = mid} limited launch finishes)
+      (launches {leavers = ms} {mid = other} limited_too launch_too finishes_too) =
+      let same : goes ls mid ≡ goes ms other = launch_is_one launch (goes ms other) launch_too in
+      let left : ms ≡ ls = cc in
+      let world : other ≡ mid = cc in
+      finish_is_one finishes d (subst (λ (q : Planned P). Finishes cmp now ls q d) world
+      (subst (λ (ks : List (Message P)). Finishes cmp now ks other d) left finishes_too))
+
+  -- ---- an advance
+
+  -- the course of the event that is due at t
+  abbrev EventAt : ℕ → Planned P → ℕ → Course (Completed P) (Planned P) → Type 0
+  EventAt now p t e =
+      ((p.finish ≡ Some t) × (next_event p ≡ Some t) × (t ≤ now) × Settles cmp t (record p { finish = None }) e)
+      ⊎ ((p.finish ≢ Some t) × (next_event p ≡ Some t) × (t ≤ now) × Wakes cmp t (record p { start = None }) e)
+
+  event_is_one : (now : ℕ) (p : Planned P) (t s : ℕ) (e f : Course (Completed P) (Planned P)) → EventAt now p t e
+      → EventAt now p s f → e ≡ f
+  event_is_one now p t s e f (inl h) (inl k) =
+      let same : s ≡ t =
+      cc in settling_is_one t (record p { finish = None }) e f h.3
+      (subst (λ (u : ℕ). Settles cmp u (record p { finish = None }) f) same k.3)
+  event_is_one now p t s e f (inl h) (inr k) = let same : s ≡ t = cc in absurd (k.0 (h.0 ∙ ap Some (sym same)))
+  event_is_one now p t s e f (inr h) (inl k) = let same : s ≡ t = cc in absurd (h.0 (k.0 ∙ ap Some same))
+  event_is_one now p t s e f (inr h) (inr k) =
+      let same : s ≡ t = cc in wake_is_one h.3 f (subst (λ (u : ℕ). Wakes cmp u (record p { start = None }) f) same k.3)
+
+  -- what follows an event
+  abbrev AdvanceOn : ℕ → Course (Completed P) (Planned P) → ℕ → Course (Completed P) (Planned P) → Type 0
+  AdvanceOn now (meets fault) n c = (n ≡ 1) × (c ≡ meets fault)
+  AdvanceOn now (goes cs q) n c =
+      (m : ℕ) × (rest : Course (Completed P) (Planned P)) × Advances cmp now q m rest × (n ≡ m + 1)
+      × (c ≡ preceded cs rest)
+
+  abbrev Advance : ℕ → Planned P → ℕ → Course (Completed P) (Planned P) → Type 0
+  Advance now p n c =
+      (IfSome (next_event p) (λ t. now < t) × Wakes cmp now p c × (n ≡ 0))
+      ⊎ ((t : ℕ) × (e : Course (Completed P) (Planned P)) × EventAt now p t e × AdvanceOn now e n c)
+
+  advance_of : {now n : ℕ} {p : Planned P} {c : Course (Completed P) (Planned P)} → Advances cmp now p n c
+      → Advance now p n c
+  advance_of (no_more before wakes) = inl (before, wakes, refl)
+  advance_of (at_finish {q = q} {t = t} {n = n} {cs = cs} {rest = rest} finish next due event more) =
+      inr (t, goes cs q, inl (finish, next, due, event), (n, rest, more, refl, refl))
+  advance_of (at_start {q = q} {t = t} {n = n} {cs = cs} {rest = rest} finish next due event more) =
+      inr (t, goes cs q, inr (finish, next, due, event), (n, rest, more, refl, refl))
+  advance_of (finish_stops {t = t} {fault = fault} finish next due event) =
+      inr (t, meets fault, inl (finish, next, due, event), (refl, refl))
+  advance_of (start_stops {t = t} {fault = fault} finish next due event) =
+      inr (t, meets fault, inr (finish, next, due, event), (refl, refl))
+
+  none_due : (now : ℕ) (p : Planned P) (t : ℕ) → IfSome (next_event p) (λ s. now < s) → next_event p ≡ Some t → t ≤ now
+      → ⊥
+  none_due now p t before is due =
+      let later : now < t = subst (λ (o : Option ℕ). IfSome o (λ s. now < s)) is before in absurd (omega arith)
+
+  due_at : (now : ℕ) (p : Planned P) (t : ℕ) (e : Course (Completed P) (Planned P)) → EventAt now p t e
+      → (next_event p ≡ Some t) × (t ≤ now)
+  due_at now p t e (inl h) = (h.1, h.2)
+  due_at now p t e (inr h) = (h.1, h.2)
+
+  -- so far one event, and then those of the rest
+  after_event : (now : ℕ) (p q : Planned P) (t n m : ℕ) (cs : List (Completed P))
+      (rest d : Course (Completed P) (Planned P)) → EventAt now p t (goes cs q)
+      → ((k : ℕ) (e : Course (Completed P) (Planned P)) → Advances cmp now q k e → (n ≡ k) × (rest ≡ e))
+      → Advance now p m d → (n + 1 ≡ m) × (preceded cs rest ≡ d)
+  after_event now p q t n m cs rest d event ih (inl h) =
+      let due : (next_event p ≡ Some t) × (t ≤ now) =
+      due_at now p t (goes cs q) event in absurd (none_due now p t h.0 due.0 due.1)
+  after_event now p q t n m cs rest d event ih (inr h) =
+      let same : goes cs q ≡ h.1 = event_is_one now p t h.0 (goes cs q) h.1 event h.2 in
+      let on : AdvanceOn now (goes cs q) m d =
+      subst (λ (e : Course (Completed P) (Planned P)). AdvanceOn now e m d) (sym same) h.3 in
+      let both : (n ≡ on.0) × (rest ≡ on.1) = ih on.0 on.1 on.2 in
+      let count : n ≡ on.0 = both.0 in
+      let more : m ≡ on.0 + 1 = on.3 in
+      (omega arith, preceded_alike cs rest on.1 both.1 ∙ sym on.4)
+
+  event_stops : (now : ℕ) (p : Planned P) (t m : ℕ) (fault : Error) (d : Course (Completed P) (Planned P))
+      → EventAt now p t (meets fault) → Advance now p m d → (1 ≡ m) × (meets fault ≡ d)
+  event_stops now p t m fault d event (inl h) =
+      let due : (next_event p ≡ Some t) × (t ≤ now) =
+      due_at now p t (meets fault) event in absurd (none_due now p t h.0 due.0 due.1)
+  event_stops now p t m fault d event (inr h) =
+      let same : meets fault ≡ h.1 = event_is_one now p t h.0 (meets fault) h.1 event h.2 in
+      let on : AdvanceOn now (meets fault) m d =
+      subst (λ (e : Course (Completed P) (Planned P)). AdvanceOn now e m d) (sym same) h.3 in
+      (sym on.0, sym on.1)
+
+  pub advance_is_one : {now n : ℕ} {p : Planned P} {c : Course (Completed P) (Planned P)} → Advances cmp now p n c
+      → (m : ℕ) (d : Course (Completed P) (Planned P)) → Advances cmp now p m d → (n ≡ m) × (c ≡ d)
+  advance_is_one {now = now} {p = p} {c = c} (no_more before wakes) m d a = by_case (advance_of a)
+    where
+      by_case : Advance now p m d → (0 ≡ m) × (c ≡ d)
+      by_case (inl h) = (sym h.2, wake_is_one wakes d h.1)
+      by_case (inr h) =
+          let due : (next_event p ≡ Some h.0) × (h.0 ≤ now) =
+          due_at now p h.0 h.1 h.2 in absurd (none_due now p h.0 before due.0 due.1)
+  advance_is_one {now = now} {p = p} (at_finish {q = q} {t = t} {n = n} {cs = cs} {rest = rest} finish next due event
+      more) m d a =
+      after_event now p q t n m cs rest d (inl (finish, next, due, event)) (advance_is_one more) (advance_of a)
+  advance_is_one {now = now} {p = p} (at_start {q = q} {t = t} {n = n} {cs = cs} {rest = rest} finish next due event
+      more) m d a =
+      after_event now p q t n m cs rest d (inr (finish, next, due, event)) (advance_is_one more) (advance_of a)
+  advance_is_one {now = now} {p = p} (finish_stops {t = t} {fault = fault} finish next due event) m d a =
+      event_stops now p t m fault d (inl (finish, next, due, event)) (advance_of a)
+  advance_is_one {now = now} {p = p} (start_stops {t = t} {fault = fault} finish next due event) m d a =
+      event_stops now p t m fault d (inr (finish, next, due, event)) (advance_of a)
+
+  -- ---- any call
+
+  pub course_is_one : (p : Planned P) (call : Call P) (c d : Course (Completed P) (Planned P)) → Obeys cmp p call c
+      → Obeys cmp p call d → c ≡ d
+  course_is_one p (call_limit now peer egress ingress) c d f g = rebalance_is_one now _ p c d f g
+  course_is_one p (call_limit_link now origin recipient cap) c d f g = rebalance_is_one now _ p c d f g
+  course_is_one p (call_enqueue now m) c d f g = enqueue_is_one now m p c d f g
+  course_is_one p (call_advance now) c d f g = (advance_is_one f.1 g.0 d g.1).1
+  course_is_one p call_next c d f g = f ∙ sym g

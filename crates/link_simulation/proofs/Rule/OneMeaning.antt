@@ -1,0 +1,56 @@
+-- What is simulated is the one course of the simulation.
+use Rattle.std.proofs.Common.{◌≡◌, ℕ, ◌≤◌, List, ◌++◌, Option, sym, subst}
+use Rattle.std.specs.List.{AllZip}
+use Rattle.std.specs.declared.cmp.Ordering.{Ordering}
+use Rattle.std.specs.Cmp.{IsTotalOrder}
+use Rattle.fair_rates.specs.declared.error.Error.{Error}
+use Rattle.link_simulation.specs.Simulation.World.{World, Completed, goes}
+use Rattle.link_simulation.specs.Simulation.Time.{NextIs}
+use Rattle.link_simulation.specs.Simulation.Calls.{Call, call_advance, Runs}
+use Rattle.link_simulation.specs.Simulation.Replies.{SameCompletion, Faults}
+use Rattle.link_simulation.specs.Rule.Planned.{Planned}
+use Rattle.link_simulation.specs.Rule.StandsFor.{StandsFor}
+use Rattle.link_simulation.specs.Rule.Simulated.{IsCalled, IsRun, RunsInTwo, IsSimulated, IsSplitAnywhere, IsNextInSimulation}
+use Rattle.link_simulation.proofs.Laws.AdvanceOnward.{advance_splits}
+use Rattle.link_simulation.proofs.Simulation.OneNext.{next_is_one}
+use Rattle.link_simulation.proofs.Simulation.OneRun.{runs_are_one}
+use Rattle.link_simulation.proofs.Rule.Simulated.{sound_of_stands}
+
+module _ {P : Type 0} (cmp : P → P → Ordering) (order : IsTotalOrder cmp) where
+  -- where two courses go and are one, what holds of the one holds of the other
+  alike : (cs ds es : List (Completed P)) (q : Planned P) (v u : World P) → goes ds v ≡ goes es u → AllZip (SameCompletion cmp) cs es
+      → StandsFor cmp q u → AllZip (SameCompletion cmp) cs ds × StandsFor cmp q v
+  alike cs ds es q v u one same stands =
+      let answers : ds ≡ es = cc in
+      let world : v ≡ u = cc in (
+        subst (λ (xs : List (Completed P)). AllZip (SameCompletion cmp) cs xs) (sym answers) same,
+        subst (λ (x : World P). StandsFor cmp q x) (sym world) stands,
+      )
+
+  pub one_run : (p q : Planned P) (w v : World P) (call : Call P) (now : ℕ) (cs ds : List (Completed P)) → IsSimulated cmp p call cs q
+      → IsCalled cmp p call now w → Runs cmp w call now (goes ds v) → AllZip (SameCompletion cmp) cs ds × StandsFor cmp q v
+  one_run p q w v call now cs ds simulated called runs =
+      let run : IsRun cmp w call now cs q = simulated w now called in
+      alike cs ds run.answers q v run.after
+      (runs_are_one cmp order w call now (goes ds v) (goes run.answers run.after) (sound_of_stands cmp order p w called.stands) runs run.runs)
+      run.same run.stands
+
+  pub no_fault : (p q : Planned P) (w : World P) (call : Call P) (now : ℕ) (cs : List (Completed P)) → IsSimulated cmp p call cs q
+      → IsCalled cmp p call now w → (fault : Error) → ¬ Faults cmp w call fault
+  no_fault p q w call now cs simulated called fault meets_it = (simulated w now called).no_fault fault meets_it
+
+  pub one_split : (p q : Planned P) (w v : World P) (between now : ℕ) (cs ds : List (Completed P)) → IsSplitAnywhere cmp p now cs q
+      → StandsFor cmp p w → w.moment ≤ between → between ≤ now → Runs cmp w (call_advance now) now (goes ds v)
+      → AllZip (SameCompletion cmp) cs ds × StandsFor cmp q v
+  one_split p q w v between now cs ds split stands after before runs =
+      let two : RunsInTwo cmp w between now cs q = split w between stands after before in
+      alike cs ds (two.first_answers ++ two.second_answers) q v two.after
+      (runs_are_one cmp order w (call_advance now) now (goes ds v) (goes (two.first_answers ++ two.second_answers) two.after)
+      (sound_of_stands cmp order p w stands) runs
+      (advance_splits cmp order w two.between between now two.first_answers (goes two.second_answers two.after) after before two.runs_first two.runs_second))
+      two.same two.stands
+
+  pub one_next : (p : Planned P) (w : World P) (told next : Option ℕ) → IsNextInSimulation cmp p told → StandsFor cmp p w
+      → NextIs cmp w next → told ≡ next
+  one_next p w told next simulated stands is =
+      next_is_one cmp order w told next (sound_of_stands cmp order p w stands).positive (simulated w stands) is

@@ -1,0 +1,25 @@
+-- What holds of the simulation itself.
+pub mod AlikeMessages
+pub mod Continuing
+pub mod EveryInstant
+pub mod FilteredFronts
+pub mod InOrder
+pub mod LowestTerms
+pub mod NoneReadied
+pub mod OneNext
+pub mod OnePair
+pub mod OneRun
+pub mod OneWorld
+pub mod OtherPairs
+pub mod PairOrder
+pub mod Pass
+pub mod Queue
+pub mod QuietInstants
+pub mod Rates
+pub mod RefusalCauses
+pub mod SettlingEnds
+pub mod SideUsers
+pub mod Sound
+pub mod Split
+pub mod StepsEnough
+pub mod Stretch

@@ -1,0 +1,223 @@
+-- Going once through the pairs that are ready, in their order, is picking the least pair again and again.
+use Rattle.std.proofs.Common.{◌≡◌, ℕ, List, [], ◌∷◌, Bool, true, false, cond, not, Option, Some, None, refl, sym, ap, ◌∙◌, subst, ◌⊎◌, inl, inr}
+use Rattle.std.specs.Prelude.{⊤, ◌&&◌, if◌then◌else◌}
+use Rattle.std.specs.List.{filter, find}
+use Rattle.std.specs.declared.cmp.Ordering.{Ordering}
+use Rattle.std.specs.declared.cmp.Ordering.TheVariants.{Less, Equal, Greater}
+use Rattle.std.specs.Ordering.{is_eq, is_lt, ordering_then}
+use Rattle.std.specs.Cmp.{IsTotalOrder}
+use Rattle.std.proofs.lemmas.Cmp.{tied_itself, alike_right}
+use Rattle.std.proofs.lemmas.Bool.{not-true, not_from_false}
+use Rattle.link_simulation.specs.Simulation.World.{World, fronts, least_pair, may_start, ready}
+use Rattle.link_simulation.specs.Simulation.Messages.{Message, SameMessage, pair_before, same_pair}
+use Rattle.link_simulation.specs.Rule.Planned.{AreInPairOrder, Planned, SomeReadyAt, may_launch, next_of}
+use Rattle.link_simulation.specs.Rule.StandsFor.{Tallies}
+use Rattle.link_simulation.proofs.Simulation.Queue.{pair_sym, find_passes}
+use Rattle.link_simulation.proofs.Simulation.AlikeMessages.{message_itself, pairs_alike}
+use Rattle.link_simulation.proofs.Rule.BeforeNext.{IsFront, fronts_first, first_found, may_alike, messages_alike}
+use Rattle.link_simulation.proofs.Simulation.SettlingEnds.{find_like}
+use Rattle.fair_rates.proofs.Lists.Each.{Each, each_map, each_filtered}
+use Rattle.link_simulation.proofs.Rule.Launch.{OptionsAlike, next_alike}
+use Rattle.link_simulation.proofs.Simulation.OnePair.{apart}
+use Rattle.link_simulation.proofs.Rule.Waking.{Picks, each_none}
+use Rattle.link_simulation.proofs.Laws.Bytes.{each_least}
+use Rattle.link_simulation.proofs.Simulation.PairOrder.{before_if_not, apart_if_before, pair_cmp, pairs_total}
+use Rattle.link_simulation.proofs.Simulation.FilteredFronts.{none_below}
+use Rattle.fair_rates.proofs.Lists.Sorted.{is_eq_equal}
+
+-- ---- lists
+
+-- Q holds of some
+abbrev pub Somewhere : {X : Type 0} → (X → Type 0) → List X → Type 0
+Somewhere Q [] = ⊥
+Somewhere Q (x ∷ xs) = Q x ⊎ Somewhere Q xs
+
+pub some_map : {X : Type 0} (Q R : X → Type 0) (xs : List X) → ((x : X) → Q x → R x) → Somewhere Q xs → Somewhere R xs
+some_map Q R [] f h = absurd h
+some_map Q R (x ∷ xs) f (inl q) = inl (f x q)
+some_map Q R (x ∷ xs) f (inr h) = inr (some_map Q R xs f h)
+
+pub some_filtered : {X : Type 0} (Q : X → Type 0) (test : X → Bool) (xs : List X) → Somewhere (λ x. Q x × (test x ≡ true)) xs → Somewhere Q (filter test xs)
+some_filtered Q test [] h = absurd h
+some_filtered Q test (x ∷ xs) (inl q) = rw q.1 (inl q.0)
+some_filtered {X} Q test (x ∷ xs) (inr h) = by_test (test x) (some_filtered Q test xs h)
+  where
+    by_test : (b : Bool) → Somewhere Q (filter test xs) → Somewhere Q (cond b (x ∷ filter test xs) (filter test xs))
+    by_test true ih = inr ih
+    by_test false ih = ih
+
+-- what holds of each holds of the one that is found
+some_each : {X : Type 0} (Q R : X → Type 0) (xs : List X) → Each Q xs → Somewhere R xs → (x : X) × Q x × R x
+some_each Q R [] e h = absurd h
+some_each Q R (x ∷ xs) e (inl r) = (x, e.0, r)
+some_each Q R (x ∷ xs) e (inr h) = some_each Q R xs e.1 h
+
+each_in_filter : {X : Type 0} (Q : X → Type 0) (test : X → Bool) (xs : List X) → Each Q xs → Each Q (filter test xs)
+each_in_filter Q test [] h = tt
+each_in_filter {X} Q test (x ∷ xs) h = by_test (test x) (each_in_filter Q test xs h.1)
+  where
+    by_test : (b : Bool) → Each Q (filter test xs) → Each Q (cond b (x ∷ filter test xs) (filter test xs))
+    by_test true ih = (h.0, ih)
+    by_test false ih = ih
+
+module _ {P : Type 0} (cmp : P → P → Ordering) (order : IsTotalOrder cmp) where
+  -- ---- the order of pairs
+
+  both_equal : (a b : Ordering) → (is_eq a && is_eq b) ≡ is_eq (ordering_then a b)
+  both_equal Less b = refl
+  both_equal Equal b = refl
+  both_equal Greater b = refl
+
+  same_is : (m n : Message P) → same_pair cmp m n ≡ is_eq (pair_cmp cmp order m n)
+  same_is m n = both_equal (cmp m.origin n.origin) (cmp m.recipient n.recipient)
+
+  pub before_alike : (m n k l : Message P) → SameMessage cmp m n → SameMessage cmp k l → pair_before cmp m k ≡ pair_before cmp n l
+  before_alike m n k l f g =
+      let first : pair_cmp cmp order m n ≡ Equal = is_eq_equal (pair_cmp cmp order m n) (sym (same_is m n) ∙ rw (f.origin, f.recipient) refl) in
+      let second : pair_cmp cmp order k l ≡ Equal = is_eq_equal (pair_cmp cmp order k l) (sym (same_is k l) ∙ rw (g.origin, g.recipient) refl) in
+      ap is_lt ((pairs_total cmp order).congr m n k first ∙ alike_right (pairs_total cmp order) k l n second)
+
+  -- ---- the least pair
+
+  least_some : (x : Message P) (xs : List (Message P)) → (y : Message P) × (least_pair cmp (x ∷ xs) ≡ Some y)
+  least_some x xs = (elim (least_pair cmp xs) [ None ↦ x | Some n ↦ if pair_before cmp n x then n else x ], refl)
+
+  -- ---- a list in the order of pairs
+
+  abbrev pub IsSorted : List (Message P) → Type 0
+  IsSorted [] = ⊤
+  IsSorted (m ∷ ms) = Each (λ n. pair_before cmp m n ≡ true) ms × IsSorted ms
+
+  sorted_filter : (test : Message P → Bool) (ms : List (Message P)) → IsSorted ms → IsSorted (filter test ms)
+  sorted_filter test [] h = tt
+  sorted_filter test (m ∷ ms) h = by_test (test m) (sorted_filter test ms h.1)
+    where
+      by_test : (b : Bool) → IsSorted (filter test ms) → IsSorted (cond b (m ∷ filter test ms) (filter test ms))
+      by_test true ih = (each_in_filter (λ n. pair_before cmp m n ≡ true) test ms h.0, ih)
+      by_test false ih = ih
+
+  each_front : (Q : Message P → Type 0) (ms : List (Message P)) → Each Q ms → Each Q (fronts cmp ms)
+  each_front Q [] h = tt
+  each_front Q (m ∷ ms) h = (h.0, each_in_filter Q (λ n. not (same_pair cmp m n)) (fronts cmp ms) (each_front Q ms h.1))
+
+  pub fronts_sorted : (ms : List (Message P)) → AreInPairOrder cmp ms → IsSorted (fronts cmp ms)
+  fronts_sorted [] h = tt
+  fronts_sorted (m ∷ ms) h = (
+    each_map (λ n. (pair_before cmp n m ≡ false) × (not (same_pair cmp m n) ≡ true)) (λ n. pair_before cmp m n ≡ true) (filter (λ n. not (same_pair cmp m n)) (fronts cmp ms)) (λ n k. before_if_not cmp order m n k.0 (not-true (same_pair cmp m n) k.1))
+        (each_filtered (λ n. pair_before cmp n m ≡ false) (λ n. not (same_pair cmp m n)) (fronts cmp ms) (each_front (λ n. pair_before cmp n m ≡ false) ms (each_none (λ n. pair_before cmp n m) ms h.0))),
+    sorted_filter (λ n. not (same_pair cmp m n)) (fronts cmp ms) (fronts_sorted ms h.1),
+  )
+
+  abbrev pub HasIn : List (Message P) → Message P → Type 0
+  HasIn xs m = Somewhere (λ y. SameMessage cmp m y) xs
+
+  abbrev pub IsAmong : List (Message P) → Message P → Type 0
+  IsAmong ms y = Somewhere (λ m. SameMessage cmp m y) ms
+
+  -- a sorted list with the same pairs picks them in order
+  pub picks_from : (ms xs : List (Message P)) → IsSorted ms → Each (IsAmong ms) xs → Each (HasIn xs) ms → Picks cmp order xs ms
+  picks_from [] [] sorted among has = refl
+  picks_from [] (x ∷ xs) sorted among has = absurd among.0
+  picks_from (m ∷ ms) [] sorted among has = absurd has.0
+  picks_from (m ∷ ms) (x ∷ xs) sorted among has = (y, least, own, picks_from ms (filter (apart cmp order y) (x ∷ xs)) sorted.1 among_rest has_rest)
+    where
+      y : Message P
+      y = (least_some x xs).0
+
+      least : least_pair cmp (x ∷ xs) ≡ Some y
+      least = (least_some x xs).1
+
+      by_place : SameMessage cmp m y ⊎ IsAmong ms y → SameMessage cmp m y
+      by_place (inl same) = same
+      by_place (inr rest) =
+          let later : (n : Message P) × (pair_before cmp m n ≡ true) × SameMessage cmp n y = some_each (λ n. pair_before cmp m n ≡ true) (λ n. SameMessage cmp n y) ms sorted.0 rest in
+          let there : (z : Message P) × (pair_before cmp z y ≡ false) × SameMessage cmp m z
+          = some_each (λ z. pair_before cmp z y ≡ false) (λ z. SameMessage cmp m z) (x ∷ xs) (none_below cmp order (x ∷ xs) y least) has.0 in
+          let same : pair_before cmp m later.0 ≡ pair_before cmp there.0 y = before_alike m there.0 later.0 y there.2 later.2 in
+          absurd (differ (sym later.1 ∙ same ∙ there.1))
+        where
+          differ : true ≡ false → ⊥
+          differ e = cc
+
+      own : SameMessage cmp m y
+      own = by_place (each_least cmp order (IsAmong (m ∷ ms)) (x ∷ xs) y among least)
+
+      own_pair : same_pair cmp m m ≡ true
+      own_pair = same_is m m ∙ ap is_eq (tied_itself (pairs_total cmp order) m)
+
+      among_rest : Each (IsAmong ms) (filter (apart cmp order y) (x ∷ xs))
+      among_rest =
+          each_map (λ z. IsAmong (m ∷ ms) z × (apart cmp order y z ≡ true)) (IsAmong ms) (filter (apart cmp order y) (x ∷ xs)) (λ z k. by_head z k.0 k.1)
+          (each_filtered (IsAmong (m ∷ ms)) (apart cmp order y) (x ∷ xs) among)
+        where
+          by_head : (z : Message P) → SameMessage cmp m z ⊎ IsAmong ms z → apart cmp order y z ≡ true → IsAmong ms z
+          by_head z (inl same) off =
+              let pair : same_pair cmp y z ≡ true = sym (pairs_alike cmp order m y m z own same) ∙ own_pair in
+              let none : same_pair cmp y z ≡ false = not-true (same_pair cmp y z) off in
+              cc
+          by_head z (inr rest) off = rest
+
+      has_rest : Each (HasIn (filter (apart cmp order y) (x ∷ xs))) ms
+      has_rest =
+          each_map (λ n. HasIn (x ∷ xs) n × (pair_before cmp m n ≡ true)) (HasIn (filter (apart cmp order y) (x ∷ xs))) ms (λ n k. stays n k.0 k.1)
+          (each_both (HasIn (x ∷ xs)) (λ n. pair_before cmp m n ≡ true) ms has.1 sorted.0)
+        where
+          each_both : (Q R : Message P → Type 0) (ns : List (Message P)) → Each Q ns → Each R ns → Each (λ n. Q n × R n) ns
+          each_both Q R [] f g = tt
+          each_both Q R (n ∷ ns) f g = ((f.0, g.0), each_both Q R ns f.1 g.1)
+
+          stays : (n : Message P) → HasIn (x ∷ xs) n → pair_before cmp m n ≡ true → HasIn (filter (apart cmp order y) (x ∷ xs)) n
+          stays n has before = some_filtered (λ z. SameMessage cmp n z) (apart cmp order y) (x ∷ xs)
+              (some_map (λ z. SameMessage cmp n z) (λ z. SameMessage cmp n z × (apart cmp order y z ≡ true)) (x ∷ xs) (λ z same. (same, not_from_false (same_pair cmp y z) (sym (pairs_alike cmp order m y n z own same) ∙ apart_if_before cmp order m n before))) has)
+
+  -- ---- who is ready in the one world is ready in the other
+
+  pub in_fronts : (Q : Message P → Type 0) (x : Message P) (ws : List (Message P)) → find (same_pair cmp x) ws ≡ Some x → Q x → Somewhere Q (fronts cmp ws)
+  in_fronts Q x [] e q = cc
+  in_fronts Q x (z ∷ ws) e q = by_test (same_pair cmp x z) refl e (in_fronts (λ n. Q n × (not (same_pair cmp z n) ≡ true)) x ws)
+    where
+      by_test : (b : Bool) → same_pair cmp x z ≡ b → cond b (Some z) (find (same_pair cmp x) ws) ≡ Some x
+          → (find (same_pair cmp x) ws ≡ Some x → Q x × (not (same_pair cmp z x) ≡ true) → Somewhere (λ n. Q n × (not (same_pair cmp z n) ≡ true)) (fronts cmp ws))
+          → Somewhere Q (z ∷ filter (λ n. not (same_pair cmp z n)) (fronts cmp ws))
+      by_test true is e ih = let same : x ≡ z = cc in inl (subst Q same q)
+      by_test false is e ih = inr (some_filtered Q (λ n. not (same_pair cmp z n)) (fronts cmp ws) (ih e (q, not_from_false (same_pair cmp z x) (pair_sym cmp order z x ∙ is))))
+
+  alike_some : (o : Option (Message P)) (x : Message P) → OptionsAlike (SameMessage cmp) (Some x) o → (y : Message P) × (o ≡ Some y) × SameMessage cmp x y
+  alike_some None x h = absurd h
+  alike_some (Some y) x h = (y, refl, h)
+
+  alike_some_back : (o : Option (Message P)) (y : Message P) → OptionsAlike (SameMessage cmp) o (Some y) → (x : Message P) × (o ≡ Some x) × SameMessage cmp x y
+  alike_some_back None y h = absurd h
+  alike_some_back (Some x) y h = (x, refl, h)
+
+  found_own : (m x : Message P) (ws : List (Message P)) → find (same_pair cmp m) ws ≡ Some x → find (same_pair cmp x) ws ≡ Some x
+  found_own m x ws e = find_like cmp order m x ws (find_passes (same_pair cmp m) x ws e) ∙ e
+
+  pub in_ready : (t : ℕ) (p : Planned P) (w : World P) (m : Message P) → Tallies cmp t p w → next_of cmp p m ≡ Some m → may_launch cmp t p m ≡ true → HasIn (ready cmp t w) m
+  in_ready t p w m same next may =
+      let there : (y : Message P) × (find (same_pair cmp m) w.waiting ≡ Some y) × SameMessage cmp m y
+      = alike_some (find (same_pair cmp m) w.waiting) m
+      (subst (λ (o : Option (Message P)). OptionsAlike (SameMessage cmp) o (find (same_pair cmp m) w.waiting)) next (next_alike cmp order t p w m m same (message_itself cmp order m)))
+      in
+      let may_too : may_start cmp t w there.0 ≡ true = sym (may_alike cmp order t p w m there.0 same.last_arrival (messages_alike cmp order t p.sending w.sending same.sending) there.2) ∙ may in
+      some_filtered (λ y. SameMessage cmp m y) (may_start cmp t w) (fronts cmp w.waiting) (in_fronts (λ y. SameMessage cmp m y × (may_start cmp t w y ≡ true)) there.0 w.waiting (found_own m there.0 w.waiting there.1) (there.2, may_too))
+
+  in_launching : (t : ℕ) (p : Planned P) (w : World P) (y : Message P) → Tallies cmp t p w → find (same_pair cmp y) w.waiting ≡ Some y → may_start cmp t w y ≡ true
+      → IsAmong (filter (may_launch cmp t p) (fronts cmp p.waiting)) y
+  in_launching t p w y same next may =
+      let there : (x : Message P) × (next_of cmp p y ≡ Some x) × SameMessage cmp x y
+      = alike_some_back (next_of cmp p y) y
+      (subst (λ (o : Option (Message P)). OptionsAlike (SameMessage cmp) (next_of cmp p y) o) next (next_alike cmp order t p w y y same (message_itself cmp order y))) in
+      let may_too : may_launch cmp t p there.0 ≡ true = may_alike cmp order t p w there.0 y same.last_arrival (messages_alike cmp order t p.sending w.sending same.sending) there.2 ∙ may in
+      some_filtered (λ x. SameMessage cmp x y) (may_launch cmp t p) (fronts cmp p.waiting) (in_fronts (λ x. SameMessage cmp x y × (may_launch cmp t p x ≡ true)) there.0 p.waiting (found_own y there.0 p.waiting there.1) (there.2, may_too))
+
+  -- the pairs that the planned world finds ready are those that the world picks, in this order
+  pub picks_ready : (t : ℕ) (p : Planned P) (w : World P) → Tallies cmp t p w → Picks cmp order (ready cmp t w) (filter (may_launch cmp t p) (fronts cmp p.waiting))
+  picks_ready t p w same =
+      picks_from (filter (may_launch cmp t p) (fronts cmp p.waiting)) (ready cmp t w) (sorted_filter (may_launch cmp t p) (fronts cmp p.waiting) (fronts_sorted p.waiting same.pair_order))
+      (each_map (λ y. IsFront cmp order w.waiting y × (may_start cmp t w y ≡ true)) (IsAmong (filter (may_launch cmp t p) (fronts cmp p.waiting))) (ready cmp t w) (λ y k. in_launching t p w y same (first_found cmp order (same_pair cmp y) y k.0.0 w.waiting k.0.1) k.1) (each_filtered (IsFront cmp order w.waiting) (may_start cmp t w) (fronts cmp w.waiting) (fronts_first cmp order w.waiting)))
+      (each_map (λ m. IsFront cmp order p.waiting m × (may_launch cmp t p m ≡ true)) (HasIn (ready cmp t w)) (filter (may_launch cmp t p) (fronts cmp p.waiting)) (λ m k. in_ready t p w m same (first_found cmp order (same_pair cmp m) m k.0.0 p.waiting k.0.1) k.1) (each_filtered (IsFront cmp order p.waiting) (may_launch cmp t p) (fronts cmp p.waiting) (fronts_first cmp order p.waiting)))
+
+  -- where nothing is ready in the world, nothing is in the planned world
+  pub none_ready_back : (t : ℕ) (p : Planned P) (w : World P) → Tallies cmp t p w → ready cmp t w ≡ [] → ¬ SomeReadyAt cmp p t
+  none_ready_back t p w same none some = subst (λ (xs : List (Message P)). HasIn xs some.0) none (in_ready t p w some.0 same some.1 some.2)

@@ -1,0 +1,166 @@
+-- The order of pairs, and lists in that order.
+use Rattle.std.proofs.Common.{◌≡◌, List, [], ◌∷◌, Bool, true, false, cond, Option, Some, None, refl, sym, ap, ◌∙◌, subst}
+use Rattle.std.specs.List.{find}
+use Rattle.std.specs.declared.cmp.Ordering.{Ordering}
+use Rattle.std.specs.declared.cmp.Ordering.TheVariants.{Less, Equal, Greater}
+use Rattle.std.specs.Ordering.{is_eq, is_lt, is_gt, ordering_reverse, ordering_then}
+use Rattle.std.specs.Cmp.{IsTotalOrder, then_total, tied_then, upto}
+use Rattle.std.proofs.lemmas.Cmp.{on_total, tied_itself}
+use Rattle.link_simulation.specs.Simulation.World.{least_pair}
+use Rattle.link_simulation.specs.Simulation.Messages.{Message, OneForEachPair, pair_before, same_pair}
+use Rattle.link_simulation.specs.Simulation.Pass.{IsBeforeEach, IsByPair, by_pair, insert_by_pair}
+use Rattle.link_simulation.proofs.Simulation.Queue.{pair_like, pair_sym}
+use Rattle.link_simulation.proofs.Simulation.OtherPairs.{each_more, pair_itself}
+use Rattle.fair_rates.proofs.Lists.Each.{Each}
+use Rattle.fair_rates.proofs.Lists.Filters.{find_from_any}
+use Rattle.fair_rates.proofs.Lists.Sorted.{is_lt_less}
+
+lt_turned : (r : Ordering) → is_lt (ordering_reverse r) ≡ is_gt r
+lt_turned Less = refl
+lt_turned Equal = refl
+lt_turned Greater = refl
+
+not_eq_if_lt : (r : Ordering) → is_lt r ≡ true → is_eq r ≡ false
+not_eq_if_lt Less e = refl
+not_eq_if_lt Equal e = cc
+not_eq_if_lt Greater e = cc
+
+gt_if_neither : (r : Ordering) → is_lt r ≡ false → is_eq r ≡ false → is_gt r ≡ true
+gt_if_neither Less e f = cc
+gt_if_neither Equal e f = cc
+gt_if_neither Greater e f = refl
+
+not_gt_if_lt : (r : Ordering) → is_lt r ≡ true → is_gt r ≡ false
+not_gt_if_lt Less e = refl
+not_gt_if_lt Equal e = refl
+not_gt_if_lt Greater e = cc
+
+module _ {P : Type 0} (cmp : P → P → Ordering) (order : IsTotalOrder cmp) where
+  abbrev pub pair_cmp : Message P → Message P → Ordering
+  pair_cmp m n = ordering_then (cmp m.origin n.origin) (cmp m.recipient n.recipient)
+
+  pub pairs_total : IsTotalOrder pair_cmp
+  pairs_total = then_total (on_total (λ (m : Message P). m.origin) order) (on_total (λ (m : Message P). m.recipient) order)
+
+  turned : (m n : Message P) → pair_before cmp m n ≡ is_gt (pair_cmp n m)
+  turned m n = ap is_lt (pairs_total.antisymm m n) ∙ lt_turned (pair_cmp n m)
+
+  pub not_before_itself : (m : Message P) → pair_before cmp m m ≡ false
+  not_before_itself m = ap is_lt (tied_itself pairs_total m)
+
+  pub not_before_back : (m n : Message P) → pair_before cmp m n ≡ true → pair_before cmp n m ≡ false
+  not_before_back m n e = turned n m ∙ not_gt_if_lt (pair_cmp m n) e
+
+  pub apart_if_before : (m n : Message P) → pair_before cmp m n ≡ true → same_pair cmp m n ≡ false
+  apart_if_before m n e = tied_then (cmp m.origin n.origin) (cmp m.recipient n.recipient) ∙ not_eq_if_lt (pair_cmp m n) e
+
+  pub before_each_other : (m n k : Message P) → pair_before cmp m n ≡ true → pair_before cmp n k ≡ true → pair_before cmp m k ≡ true
+  before_each_other m n k e f = ap is_lt (pairs_total.trans m n k (is_lt_less (pair_cmp m n) e) (is_lt_less (pair_cmp n k) f))
+
+  pub not_before_on : (m n k : Message P) → pair_before cmp m n ≡ false → pair_before cmp n k ≡ false → pair_before cmp m k ≡ false
+  not_before_on m n k e f = turned m k ∙ upto pairs_total k n m (sym (turned n k) ∙ f) (sym (turned m n) ∙ e)
+
+  pub before_if_not : (m n : Message P) → pair_before cmp n m ≡ false → same_pair cmp m n ≡ false → pair_before cmp m n ≡ true
+  before_if_not m n e f = turned m n ∙ gt_if_neither (pair_cmp n m) e (sym (tied_then (cmp n.origin m.origin) (cmp n.recipient m.recipient)) ∙ pair_sym cmp order n m ∙ f)
+
+  -- ---- the least pair
+
+  pub least_none : (ms : List (Message P)) → least_pair cmp ms ≡ None → ms ≡ []
+  least_none [] e = refl
+  least_none (m ∷ ms) e = cc
+
+  abbrev IsLeast : Message P → List (Message P) → Type 0
+  IsLeast l ms = (find (same_pair cmp l) ms ≡ Some l) × Each (λ (n : Message P). pair_before cmp n l ≡ false) ms
+
+  pub least_is : (l : Message P) (ms : List (Message P)) → least_pair cmp ms ≡ Some l → IsLeast l ms
+  least_is l [] e = cc
+  least_is l (m ∷ ms) e = by_rest (least_pair cmp ms) refl e (λ n. least_is n ms)
+    where
+      itself : IsLeast m (m ∷ []) × (cond (same_pair cmp m m) (Some m) (find (same_pair cmp m) ms) ≡ Some m)
+      itself = ((rw (pair_itself cmp order m) refl, (not_before_itself m, tt)), rw (pair_itself cmp order m) refl)
+
+      by_test : (n : Message P) (b : Bool) → pair_before cmp n m ≡ b → IsLeast n ms → IsLeast (cond b n m) (m ∷ ms)
+      by_test n true before least =
+          let apart : same_pair cmp n m ≡ false = apart_if_before n m before in
+          (rw apart least.0, (not_before_back n m before, least.1))
+      by_test n false before least =
+          (itself.1, (not_before_itself m, each_more (λ (k : Message P). pair_before cmp k n ≡ false) (λ (k : Message P). pair_before cmp k m ≡ false) (λ k h. not_before_on k n m h before) ms least.1))
+
+      by_rest : (o : Option (Message P)) → least_pair cmp ms ≡ o → Some (elim o [ None ↦ m | Some n ↦ cond (pair_before cmp n m) n m ]) ≡ Some l
+          → ((n : Message P) → least_pair cmp ms ≡ Some n → IsLeast n ms) → IsLeast l (m ∷ ms)
+      by_rest None is at ih =
+          let same : m ≡ l = cc in
+          let empty : ms ≡ [] = least_none ms is in
+          subst (λ (k : Message P). IsLeast k (m ∷ ms)) same (itself.1, (not_before_itself m, subst (Each (λ (k : Message P). pair_before cmp k m ≡ false)) (sym empty) tt))
+      by_rest (Some n) is at ih =
+          let same : cond (pair_before cmp n m) n m ≡ l = cc in
+          subst (λ (k : Message P). IsLeast k (m ∷ ms)) same (by_test n (pair_before cmp n m) refl (ih n is))
+
+  -- ---- lists by pair
+
+  pub found_in : (Q : Message P → Type 0) (p : Message P → Bool) (x : Message P) (ms : List (Message P)) → Each Q ms → find p ms ≡ Some x → Q x
+  found_in Q p x [] h e = cc
+  found_in Q p x (m ∷ ms) h e = by_test (p m) e (found_in Q p x ms h.1)
+    where
+      by_test : (b : Bool) → cond b (Some m) (find p ms) ≡ Some x → (find p ms ≡ Some x → Q x) → Q x
+      by_test true e ih = let same : m ≡ x = cc in subst Q same h.0
+      by_test false e ih = ih e
+
+  pub as_each : (m : Message P) (ms : List (Message P)) → IsBeforeEach cmp m ms → Each (λ (n : Message P). pair_before cmp m n ≡ true) ms
+  as_each m [] h = tt
+  as_each m (n ∷ ns) h = (h.0, as_each m ns h.1)
+
+  pub find_nowhere : (p : Message P → Bool) (ms : List (Message P)) → Each (λ (n : Message P). p n ≡ false) ms → find p ms ≡ None
+  find_nowhere p [] h = refl
+  find_nowhere p (m ∷ ms) h = rw (h.0) (find_nowhere p ms h.1)
+
+  find_inserted : (k m : Message P) (ns : List (Message P)) → find (same_pair cmp m) ns ≡ None
+      → find (same_pair cmp k) (insert_by_pair cmp m ns) ≡ cond (same_pair cmp k m) (Some m) (find (same_pair cmp k) ns)
+  find_inserted k m [] h = refl
+  find_inserted k m (n ∷ ns) h = by_order (pair_before cmp n m) (same_pair cmp m n) refl h (find_inserted k m ns)
+    where
+      exchanged : (a b : Bool) → same_pair cmp k m ≡ a → same_pair cmp k n ≡ b → same_pair cmp m n ≡ false
+          → cond b (Some n) (cond a (Some m) (find (same_pair cmp k) ns)) ≡ cond a (Some m) (cond b (Some n) (find (same_pair cmp k) ns))
+      exchanged true true e f apart = let both : same_pair cmp m n ≡ true = pair_like cmp order k m n e ∙ f in cc
+      exchanged true false e f apart = refl
+      exchanged false true e f apart = refl
+      exchanged false false e f apart = refl
+
+      by_order : (a b : Bool) → same_pair cmp m n ≡ b → cond b (Some n) (find (same_pair cmp m) ns) ≡ None
+          → (find (same_pair cmp m) ns ≡ None → find (same_pair cmp k) (insert_by_pair cmp m ns) ≡ cond (same_pair cmp k m) (Some m) (find (same_pair cmp k) ns))
+          → find (same_pair cmp k) (cond a (n ∷ insert_by_pair cmp m ns) (m ∷ n ∷ ns)) ≡ cond (same_pair cmp k m) (Some m) (cond (same_pair cmp k n) (Some n) (find (same_pair cmp k) ns))
+      by_order a true is none ih = cc
+      by_order true false is none ih = ap (λ (o : Option (Message P)). cond (same_pair cmp k n) (Some n) o) (ih none) ∙ exchanged (same_pair cmp k m) (same_pair cmp k n) refl refl is
+      by_order false false is none ih = refl
+
+  -- ordering finds what was there
+  pub find_by_pair : (ms : List (Message P)) → OneForEachPair cmp ms → (k : Message P) → find (same_pair cmp k) (by_pair cmp ms) ≡ find (same_pair cmp k) ms
+  find_by_pair [] one k = refl
+  find_by_pair (m ∷ ms) one k =
+      find_inserted k m (by_pair cmp ms) (find_by_pair ms one.1 m ∙ find_from_any (same_pair cmp m) ms one.0) ∙ ap (λ (o : Option (Message P)). cond (same_pair cmp k m) (Some m) o) (find_by_pair ms one.1 k)
+
+  before_inserted : (k m : Message P) (ns : List (Message P)) → pair_before cmp k m ≡ true → IsBeforeEach cmp k ns → IsBeforeEach cmp k (insert_by_pair cmp m ns)
+  before_inserted k m [] e h = (e, tt)
+  before_inserted k m (n ∷ ns) e h = by_order (pair_before cmp n m) (before_inserted k m ns e h.1)
+    where
+      by_order : (b : Bool) → IsBeforeEach cmp k (insert_by_pair cmp m ns) → IsBeforeEach cmp k (cond b (n ∷ insert_by_pair cmp m ns) (m ∷ n ∷ ns))
+      by_order true ih = (h.0, ih)
+      by_order false ih = (e, h)
+
+  before_all : (m n : Message P) (ks : List (Message P)) → pair_before cmp m n ≡ true → IsBeforeEach cmp n ks → IsBeforeEach cmp m ks
+  before_all m n [] e h = tt
+  before_all m n (k ∷ ks) e h = (before_each_other m n k e h.0, before_all m n ks e h.1)
+
+  inserted_by_pair : (m : Message P) (ns : List (Message P)) → find (same_pair cmp m) ns ≡ None → IsByPair cmp ns → IsByPair cmp (insert_by_pair cmp m ns)
+  inserted_by_pair m [] none h = (tt, tt)
+  inserted_by_pair m (n ∷ ns) none h = by_order (pair_before cmp n m) (same_pair cmp m n) refl refl none (λ e. inserted_by_pair m ns e h.1)
+    where
+      by_order : (a b : Bool) → pair_before cmp n m ≡ a → same_pair cmp m n ≡ b → cond b (Some n) (find (same_pair cmp m) ns) ≡ None
+          → (find (same_pair cmp m) ns ≡ None → IsByPair cmp (insert_by_pair cmp m ns)) → IsByPair cmp (cond a (n ∷ insert_by_pair cmp m ns) (m ∷ n ∷ ns))
+      by_order a true before is e ih = cc
+      by_order true false before is e ih = (before_inserted n m ns before h.0, ih e)
+      by_order false false before is e ih = let first : pair_before cmp m n ≡ true = before_if_not m n before is in ((first, before_all m n ns first h.0), h)
+
+  pub ordered_by_pair : (ms : List (Message P)) → OneForEachPair cmp ms → IsByPair cmp (by_pair cmp ms)
+  ordered_by_pair [] one = tt
+  ordered_by_pair (m ∷ ms) one = inserted_by_pair m (by_pair cmp ms) (find_by_pair ms one.1 m ∙ find_from_any (same_pair cmp m) ms one.0) (ordered_by_pair ms one.1)

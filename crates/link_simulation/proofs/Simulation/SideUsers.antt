@@ -1,0 +1,29 @@
+-- The users of the capped sides of messages are places of messages, each once on a side.
+use Rattle.std.proofs.Common.{◌≡◌, ℕ, ◌<◌, ◌≤◌, List, length, true, Option, Some, All, Contains, sym, subst}
+use Rattle.std.specs.Prelude.{◌≢◌}
+use Rattle.std.specs.List.{AllPairs}
+use Rattle.std.specs.declared.cmp.Ordering.{Ordering}
+use Rattle.std.specs.Cmp.{IsTotalOrder}
+use Rattle.fair_rates.specs.Fairness.Fair.{Side}
+use Rattle.fair_rates.specs.Fairness.Laws.{HaveUsersBelow}
+use Rattle.fair_rates.specs.Sides.Subjects.{same_peer}
+use Rattle.link_simulation.specs.Simulation.Messages.{Message, Caps}
+use Rattle.link_simulation.specs.Simulation.Rates.{capped_sides}
+use Rattle.fair_rates.proofs.Lists.Members.{In}
+use Rattle.fair_rates.proofs.Lists.SumOrder.{All-from_contains}
+use Rattle.fair_rates.proofs.Lists.Places.{places_apart, places_below}
+use Rattle.fair_rates.proofs.Sides.UserCounts.{HaveDistinctUsers}
+use Rattle.link_simulation.proofs.Laws.PartRates.{Kind, cap_at, side_at, from_sides}
+
+module _ {P : Type 0} (cmp : P → P → Ordering) (order : IsTotalOrder cmp) (itself : (p : P) → same_peer cmp p p ≡ true) where
+  pub users_below : (caps : Caps P) (ms : List (Message P)) (n : ℕ) → length ms ≤ n → HaveUsersBelow n (capped_sides cmp caps ms)
+  users_below caps ms n few = All-from_contains (λ side. All (λ user. user < n) side.users) (capped_sides cmp caps ms) (λ s has. by_side s (from_sides cmp caps ms s has))
+    where
+      by_side : (s : Side) → (m : Message P) × In ms m × ((k : Kind) × (cap : ℕ) × (cap_at cmp caps k m ≡ Some cap) × (s ≡ side_at cmp caps k ms m cap)) → All (λ user. user < n) s.users
+      by_side s (m, has, (k, cap, is, e)) = subst (λ (z : Side). All (λ user. user < n) z.users) (sym e) (places_below _ ms n few)
+
+  pub users_distinct : (caps : Caps P) (ms : List (Message P)) → HaveDistinctUsers (capped_sides cmp caps ms)
+  users_distinct caps ms = All-from_contains (λ side. AllPairs (λ user other. user ≢ other) side.users) (capped_sides cmp caps ms) (λ s has. by_side s (from_sides cmp caps ms s has))
+    where
+      by_side : (s : Side) → (m : Message P) × In ms m × ((k : Kind) × (cap : ℕ) × (cap_at cmp caps k m ≡ Some cap) × (s ≡ side_at cmp caps k ms m cap)) → AllPairs (λ user other. user ≢ other) s.users
+      by_side s (m, has, (k, cap, is, e)) = subst (λ (z : Side). AllPairs (λ user other. user ≢ other) z.users) (sym e) (places_apart 0 _ ms)

@@ -1,0 +1,2 @@
+-- Words for worked examples.
+pub mod Rows
