@@ -14,26 +14,26 @@ mod events;
 mod flights;
 mod fraction;
 mod idle;
-mod readiness;
+mod ledger;
 mod message;
 mod moves;
 mod pairs;
 mod peers;
 mod progress;
 mod rate;
+mod readiness;
 mod reading;
 mod waiting;
-mod ledger;
 
 use bytes::Bytes;
 pub use completion::Completion;
 use completion::answers_of;
 use fair_rates::error::Error;
 use fair_rates::peer::Peer;
+use ledger::Ledger;
 use message::Message;
 pub use reading::{InFlight, Reading};
 use std::alloc::Global;
-use ledger::Ledger;
 
 /// A scheduler of messages between capped peers: it tells when each completes and arrives.
 ///

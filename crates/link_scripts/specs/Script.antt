@@ -101,7 +101,8 @@ abbrev pub IsCommandInRange : Command → Type 0
 IsCommandInRange (commands.Flow flow) = IsFlowInRange flow
 IsCommandInRange (commands.Egress peer cap) = IsNumberInRange peer × IsCapInRange cap
 IsCommandInRange (commands.Ingress peer cap) = IsNumberInRange peer × IsCapInRange cap
-IsCommandInRange (commands.Link origin recipient cap) = IsNumberInRange origin × IsNumberInRange recipient × IsCapInRange cap
+IsCommandInRange (commands.Link origin recipient cap) = IsNumberInRange origin × IsNumberInRange recipient
+    × IsCapInRange cap
 IsCommandInRange commands.Rates = Unit {0}
 IsCommandInRange (commands.Schedule call) = IsCallOfScriptInRange call
 

@@ -35,14 +35,21 @@ link_cap (c ∷ caps) origin recipient = or_else (link_cap caps origin recipient
 
 -- the caps of three lists of records: on what is sent, on what is received, and on what goes from one peer to another
 abbrev pub caps_of_records : List PeerCap → List PeerCap → List LinkCap → Caps ℕ
-caps_of_records egress ingress links = record { egress = peer_cap egress; ingress = peer_cap ingress; link = link_cap links }
+caps_of_records egress ingress links = record {
+  egress = peer_cap egress;
+  ingress = peer_cap ingress;
+  link = link_cap links;
+}
 
 -- the record of a rate
 abbrev pub record_of_rate : Option Rate → PlanRate
 record_of_rate None = record { numerator = wide_of 0; denominator = wide_of 1; is_limited = 0 }
 record_of_rate (Some Unlimited) = record { numerator = wide_of 0; denominator = wide_of 1; is_limited = 0 }
-record_of_rate (Some (Finite ratio)) = record { numerator = wide_of ratio.numerator; denominator = wide_of ratio.denominator;
-    is_limited = 1 }
+record_of_rate (Some (Finite ratio)) = record {
+  numerator = wide_of ratio.numerator;
+  denominator = wide_of ratio.denominator;
+  is_limited = 1;
+}
 
 -- ---- what is answered
 
@@ -65,6 +72,6 @@ rates_of flows rate_by = map (λ f. record_of_rate (rate_by f.id)) flows
 abbrev pub IsPlanned : Caps ℕ → List PlanFlow → ℕ → ℕ → List PlanRate → List PlanRate → Type 0
 IsPlanned caps flows status rounds old new =
     ((status ≡ 0) × (rate_by : ℕ → Option Rate) × IsPlan caps (map flow_of flows) rate_by rounds
-        × (new ≡ written (rates_of flows rate_by) old))
+    × (new ≡ written (rates_of flows rate_by) old))
     ⊎ ((why : Error) × (status ≡ refusal_number why) × MayRefusePlan caps (map flow_of flows) why × (new ≡ old)
-        × (rounds ≡ 0))
+    × (rounds ≡ 0))

@@ -59,7 +59,8 @@ fn plan(
     ingress: &[PeerCap],
     links: &[LinkCap],
 ) -> Result<(BTreeMap<u64, Rate>, u128), Error>
-    ensures plan { IfOk result (λ planned. IsPlan (caps_of_records egress.now ingress.now links.now) (map flow_of flows.now)
+    ensures plan { IfOk result (λ planned. IsPlan (caps_of_records egress.now ingress.now links.now)
+        (map flow_of flows.now)
         (get nat_cmp planned.0) planned.1) }
     ensures refused { IfErr result (MayRefusePlan (caps_of_records egress.now ingress.now links.now)
         (map flow_of flows.now)) }

@@ -31,7 +31,8 @@ AreFairForThree first second third = AreFairRates shared 3 (first ∷ second ∷
 
 -- a half each is fair, with no limit for the third
 abbrev pub HalvesAreFair : Type 0
-HalvesAreFair = (first second : Ratio) → IsHalf first → IsHalf second → AreFairForThree (Finite first) (Finite second) Unlimited
+HalvesAreFair = (first second : Ratio) → IsHalf first → IsHalf second
+    → AreFairForThree (Finite first) (Finite second) Unlimited
 
 -- less for the first is not fair, whatever the second gets
 abbrev pub LessIsUnfair : Type 0

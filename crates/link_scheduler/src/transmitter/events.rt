@@ -15,10 +15,10 @@ ghost use Rattle.link_scheduler.specs.Calls.Events.{IsDue, Happens};
 
 use super::completion::Ended;
 use super::event::Event;
-use super::readiness::{PeerPair, idle_from};
+use super::ledger::Ledger;
 use super::message::Message;
 use super::pairs::later_of;
-use super::ledger::Ledger;
+use super::readiness::{PeerPair, idle_from};
 use fair_rates::error::Error;
 use fair_rates::peer::Peer;
 use std::collections::VecDeque;
@@ -150,7 +150,8 @@ impl<P: Peer> Ledger<P> {
     /// What is done under new caps completes.
     pub(crate) fn rebalance(&mut self, now: u64) -> Result<Vec<Ended<P>>, Error>
         requires { (planned P.cmp self.old).limited ≡ true }
-        ensures rebalances { IfOk result (λ ended. Rebalances P.cmp now (planned P.cmp self.old).caps (planned P.cmp self.old)
+        ensures rebalances { IfOk result (λ ended. Rebalances P.cmp now (planned P.cmp self.old).caps
+            (planned P.cmp self.old)
             (goes (map ended_of ended.items) (planned P.cmp self.new))) }
         ensures refused { IfErr result (IsRefusedFor
             (λ fault. Rebalances P.cmp now (planned P.cmp self.old).caps (planned P.cmp self.old) (meets fault))) }

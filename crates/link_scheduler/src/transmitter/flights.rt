@@ -114,7 +114,8 @@ impl<P: Peer> Flights<P> {
     pub(crate) fn remove(&mut self, at: usize) -> Rc<Message<P>>
         requires { at < length self.old.flows.items }
         ensures sending { in_flight self.new ≡ remove (in_flight self.old) at }
-        ensures taken { (d : RatedFlight P) → message_of result.value ≡ (slice_index_or (in_flight self.old) at d).message }
+        ensures taken { (d : RatedFlight P) → message_of result.value
+            ≡ (slice_index_or (in_flight self.old) at d).message }
         ensures length { length self.new.flows.items + 1 ≡ length self.old.flows.items }
         ensures others { (test : AnyFlow P → Bool) → list_all test self.old.flows.items ≡ true
             → list_all test self.new.flows.items ≡ true }

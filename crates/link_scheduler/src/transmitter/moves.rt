@@ -7,9 +7,9 @@ ghost use Rattle.link_scheduler.specs.Idle.PairsOfMessages.{NamesPairOf};
 ghost use Rattle.link_scheduler.specs.Pairs.Entries.{first_of, raised_at};
 ghost use Rattle.link_scheduler.specs.Idle.Departed.{HasDeparted};
 
-use super::readiness::{PeerPair, idle_from};
-use super::message::Message;
 use super::ledger::Ledger;
+use super::message::Message;
+use super::readiness::{PeerPair, idle_from};
 use fair_rates::error::Error;
 use fair_rates::peer::Peer;
 

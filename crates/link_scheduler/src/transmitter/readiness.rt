@@ -13,10 +13,10 @@ ghost use Rattle.link_scheduler.specs.Idle.AtRest.{of_pairs};
 
 use super::flights::Flights;
 use super::idle::IdlePairs;
+use super::ledger::Ledger;
 use super::message::Message;
 use super::pairs::Pairs;
 use super::waiting::Waiting;
-use super::ledger::Ledger;
 use fair_rates::error::Error;
 use fair_rates::peer::Peer;
 use std::alloc::Global;

@@ -78,7 +78,8 @@ pub struct Parcel {
 impl Command {
     /// The command that a line says, where the line is of the language.
     pub fn parse(line: &[u8]) -> Option<Command>
-        ensures { (command : Command) → (result ≡ Some command) ↔ ((line.now ≡ line_of command) × IsCommandInRange command) }
+        ensures { (command : Command) → (result ≡ Some command)
+            ↔ ((line.now ≡ line_of command) × IsCommandInRange command) }
     {
         let mut words = Words::of(str::from_utf8(line).ok()?);
         let command = Command::take(&mut words)?;

@@ -106,7 +106,8 @@ module _ {P : Type 0} (cmp : P → P → Ordering) where
 
   -- new caps: what is in flight is accounted for anew, and where nothing is, the start is planned anew
   pub data Rebalances (now : ℕ) (caps : Caps P) (old : Planned P) : Course (Completed P) (Planned P) → Type 0 where
-    none_sending : {new : Planned P} → old.sending ≡ [] → PlansStart now (record old { caps = caps; limited = true }) new
+    none_sending : {new : Planned P} → old.sending ≡ []
+        → PlansStart now (record old { caps = caps; limited = true }) new
         → Rebalances now caps old (goes [] new)
     some_sending : {course : Course (Completed P) (Planned P)} → old.sending ≢ []
         → Settles now (record old { caps = caps; limited = true }) course → Rebalances now caps old course
@@ -154,7 +155,8 @@ module _ {P : Type 0} (cmp : P → P → Ordering) where
 
   -- the course of a call
   abbrev pub Obeys : Planned P → Call P → Course (Completed P) (Planned P) → Type 0
-  Obeys p (call_limit now peer egress ingress) course = Rebalances now (limited_by cmp p.caps peer egress ingress) p course
+  Obeys p (call_limit now peer egress ingress) course = Rebalances now
+      (limited_by cmp p.caps peer egress ingress) p course
   Obeys p (call_limit_link now origin recipient cap) course =
       Rebalances now (linked_by cmp p.caps origin recipient cap) p course
   Obeys p (call_enqueue now m) course = Enqueues now m p course

@@ -69,7 +69,8 @@ IsSpentAt t f = (left_at t f).num ≡ 0
 
 -- at t nothing is left of some message in flight
 abbrev pub SomeSpentAt : {P : Type 0} → List (RatedFlight P) → ℕ → Type 0
-SomeSpentAt {P} sending t = (i : ℕ) × (f : RatedFlight P) × (slice_get sending i ≡ Some f) × (f.updated ≤ t) × IsSpentAt t f
+SomeSpentAt {P} sending t = (i : ℕ) × (f : RatedFlight P) × (slice_get sending i ≡ Some f) × (f.updated ≤ t)
+    × IsSpentAt t f
 
 -- the messages in flight after they have drained to t, which becomes their update
 abbrev pub drained_to : {P : Type 0} → ℕ → List (RatedFlight P) → List (RatedFlight P)

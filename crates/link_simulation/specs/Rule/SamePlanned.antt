@@ -51,7 +51,8 @@ module _ {P : Type 0} (cmp : P → P → Ordering) where
 
   -- by the event rule the call on the planned world p is answered with those completions and leads to q, peers taken
   -- as equal by their order
-  pub record GoesByRule (p : Planned P) (call : Call P) (completions : List (Completed P)) (q : Planned P) : Type 0 where
+  pub record GoesByRule (p : Planned P) (call : Call P) (completions : List (Completed P))
+      (q : Planned P) : Type 0 where
     pub answers : List (Completed P)
     pub after : Planned P
     pub obeys : Obeys cmp p call (goes answers after)

@@ -38,7 +38,8 @@ module _ {P : Type 0} (cmp : P → P → Ordering) where
   launch_then next t queue w (Some m) =
       cond (may_start cmp t w m)
       (cond (nat_le last_moment w.next_id) (meets FlowIdsUsedUp)
-      (cond (is_done cmp w (flight_of m)) (next (queue ++ flight_of m ∷ []) (out_of_waiting w m)) (next queue (joined w m))))
+      (cond (is_done cmp w (flight_of m)) (next (queue ++ flight_of m ∷ []) (out_of_waiting w m))
+      (next queue (joined w m))))
       (next queue w)
 
   -- the first of the queue completes, and its pair's next starts; so many complete at most

@@ -45,7 +45,8 @@ pub fn what_is_simulated_is_the_one_course<P: Ord>()
 
 /// An advance that is counted goes by the event rule, and has that one number of events.
 pub fn a_counted_advance_goes<P: Ord>()
-    ensures goes { (p q : Planned P) (now events : ℕ) (cs : List (Completed P)) → AdvancesByRule P.cmp now p events cs q →
+    ensures goes { (p q : Planned P) (now events : ℕ) (cs : List (Completed P))
+        → AdvancesByRule P.cmp now p events cs q →
         GoesByRule P.cmp p (call_advance now) cs q }
     ensures one { (p q r : Planned P) (now events other : ℕ) (cs ds : List (Completed P)) →
         AdvancesByRule P.cmp now p events cs q → AdvancesByRule P.cmp now p other ds r → events ≡ other }
