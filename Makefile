@@ -23,8 +23,10 @@ bin/linkdraw: FORCE
 	cd crates/linkdraw && rt run < /dev/null > /dev/null
 	cp crates/linkdraw/out/linkdraw bin/linkdraw
 
-# The gate: every proof from nothing, the edits that must fail, the tests and the program.
+# The gate: every proof from nothing, the edits that must fail, the tests and the program. What stood in out/ before, it
+# puts back: the libraries of a gate before this one, which have no stamp, go first, so that those of this one stay.
 test:
+	@for rlib in crates/*/out/rlib; do [ -e $$rlib/stamp ] || rm -rf $$rlib; done
 	rt ci
 
 # Runs each example and compares what it prints: scripts, the partner that asks line by line, traces and pictures.
@@ -47,7 +49,7 @@ pictures: bin/linkdraw
 	done
 
 # The library for C, Rust and Python, in bin/bindings, and the tests of each language whose tools are there. After the
-# gate, `make bindings over=gate` takes what it proved.
+# gate, `make bindings over=gate` takes the libraries that it proved.
 bindings:
 	@bindings/archive.sh $(over)
 	@bindings/check.sh

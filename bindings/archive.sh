@@ -1,8 +1,11 @@
 #!/bin/sh
 # Makes crates/p2p_simulated_c/out/libp2p_simulated_c.a, which is proved before. `rt lib` first proves
-# the libraries below it, where they have changed. With the word `gate` it is proved over these as the
-# gate, which ran just before, proved them and left them in out/rlib. Where `rt lib` or `rt check` left
-# theirs before, they stand there again after the gate, with a stamp, and `rt lib` takes them.
+# the libraries below it, where they have changed.
+#
+# With the word `gate` the archive is proved over the libraries that a gate left in out/rlib, and none
+# of them is proved anew. They have no stamp: `rt lib` would not take them. Where a crate was changed
+# after it, or where `rt check` or `rt lib` left libraries with stamps, which a gate puts back, the
+# archive is made by `rt lib` all the same.
 set -eu
 cd "$(dirname "$0")/../crates/p2p_simulated_c"
 mkdir -p out
@@ -14,17 +17,26 @@ made_by() {
     fi
 }
 
-if [ "${1:-}" != gate ] || ls ../*/out/rlib/stamp > /dev/null 2>&1; then
+has_libraries_of_a_gate() {
+    [ -d ../p2p_simulated/out/rlib/p2p_simulated.rlib ] || return 1
+    for rlib in ../*/out/rlib/*.rlib; do
+        crate=${rlib%/out/rlib/*}
+        [ ! -e "$crate/out/rlib/stamp" ] || return 1
+        ! find "$crate/src" "$crate/specs" "$crate/proofs" -newer "$rlib/format" 2> /dev/null | grep -q . || return 1
+    done
+}
+
+if [ "${1:-}" != gate ] || ! has_libraries_of_a_gate; then
     made_by rt lib
     exit 0
 fi
-kit=$(dirname "$(rt doc)")
+kit=$(dirname "$(dirname "$(readlink -f "$(command -v rt)")")")
 set -- --extern p2p_simulated=../p2p_simulated/out/rlib/p2p_simulated.rlib -L dependency="$kit/rlibs"
 for library in std bytes std_heap std_alloc core; do
     set -- "$@" --extern $library="$kit/rlibs/$library.rlib"
 done
-for library in shared_list natural fair_rates link_simulation link_scheduler link_scripts link_pictures p2p_simulated; do
-    set -- "$@" -L dependency=../$library/out/rlib
+for folder in ../*/out/rlib; do
+    set -- "$@" -L dependency="$folder"
 done
 made_by "$kit/bin/rattle" build --crate-name p2p_simulated_c src/lib.rt --crate-type staticlib "$@" \
     --links p2p_simulated_c= --antt-project "$kit/rattle/logic/antt-project.json" \

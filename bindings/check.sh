@@ -11,8 +11,13 @@ mkdir -p $out
 
 skip() { echo "bindings: $1 skipped: $2"; }
 
-if ! command -v "$CC" > /dev/null; then
-    skip "C, Rust and Python" "there is no C compiler ($CC)"
+# whether the C compiler makes a program, with these flags, that runs
+compiles() {
+    echo "int main(void) { return 0; }" | $CC "$@" -x c - -o $out/empty 2> /dev/null && $out/empty 2> /dev/null
+}
+
+if ! compiles -pthread || ! command -v ar > /dev/null; then
+    skip "C, Rust and Python" "there is no C compiler ($CC) with ar"
     exit 0
 fi
 
@@ -37,10 +42,7 @@ $out/refusals
 $out/threads
 $out/example > $out/example.out
 cmp $out/example.out $c/example.out
-if $CC -fsanitize=address,undefined -x c - -o $out/empty 2> /dev/null << 'END'
-int main(void) { return 0; }
-END
-then
+if compiles -fsanitize=address,undefined; then
     for name in test refusals; do
         build $name -g -fsanitize=address,undefined -fno-sanitize-recover=all
         $out/$name > /dev/null
@@ -48,7 +50,7 @@ then
     done
     echo "c: the sanitizers found nothing"
 else
-    skip "the sanitizers" "the C compiler lacks them"
+    skip "the sanitizers" "the C compiler lacks them, or they do not run here"
 fi
 
 # beside the program: what it prints of each example, and its status
@@ -61,19 +63,19 @@ for script in examples/*.link examples/generated/*.link; do
 done
 echo "c: each example prints what linkrun prints, by p2p_run and call by call"
 
-if command -v cargo > /dev/null; then
+if cargo --version > /dev/null 2>&1 && minor=$(rustc --version 2> /dev/null | sed 's/^rustc 1\.\([0-9]*\).*/\1/') && [ "$minor" -ge 63 ]; then
     if ! (cd bindings/rust && cargo test --quiet --offline --target-dir ../../$out/rust) > $out/rust.out 2>&1; then
         cat $out/rust.out
         exit 1
     fi
     echo "rust: calls and examples as documented"
 else
-    skip Rust "there is no cargo"
+    skip Rust "there is no cargo with rustc, 1.63 or later"
 fi
 
-if command -v python3 > /dev/null; then
+if python3 -c "import ctypes, sys; sys.exit(sys.version_info < (3, 8))" 2> /dev/null; then
     (cd bindings/python && P2P_SIMULATED_SO=../../$out/libp2p_simulated.so python3 -B -m unittest --quiet)
     echo "python: calls and examples as documented"
 else
-    skip Python "there is no python3"
+    skip Python "there is no python3, 3.8 or later"
 fi

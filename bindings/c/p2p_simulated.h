@@ -83,6 +83,7 @@ typedef struct p2p_done {
     p2p_moment deliver_at;
 } p2p_done;
 
+/* The number as a wide one: a cap of the planner below 2^64. */
 static inline p2p_wide p2p_number(uint64_t number) {
     p2p_wide wide = {number, 0};
     return wide;
@@ -167,7 +168,8 @@ uint32_t p2p_enqueue_zeros(p2p_scheduler *scheduler, uint64_t now, uint64_t orig
 /* Lets time go on to `now`. What completes up to then and at it is completed in order. */
 uint32_t p2p_advance(p2p_scheduler *scheduler, uint64_t now, size_t *count);
 
-/* The same, and tells how many events it went through: finishes and starts of messages. */
+/* The same, and tells how many events it went through: finishes and starts of messages. There are
+ * none where the call is refused. */
 uint32_t p2p_advance_counted(p2p_scheduler *scheduler, uint64_t now, size_t *count, p2p_wide *events);
 
 /* The moment of the next event, if one comes. P2P_OK or P2P_CLOSED. */
@@ -184,10 +186,11 @@ size_t p2p_message(p2p_scheduler *scheduler, size_t index, size_t from, uint8_t 
 /* ---- The planner.
  *
  * Writes the max-min fair rate of each flow, in the order of the flows, as many as there is room
- * for: the flows under a cap have no more than it together, and each is under a cap that is used up
- * and that leaves none of its flows more than this one has. Who is in no list of caps has none. Of
- * several caps of one peer, or of one link, the last counts, and of several flows of one id all are
- * answered the rate of the last. `rounds` is how many different rates there are.
+ * for: the flows under a cap have no more than it together, and each flow that is under any is under
+ * one that is used up and that leaves none of its flows more than this one has. Who is in no list of
+ * caps has none. Of several caps of one peer, or of one link, the last counts, and of several flows
+ * of one id all are answered the rate of the last. `rounds` is how many different rates there are,
+ * but for no limit, and 0 after a refusal.
  *
  * P2P_OK, P2P_OUT_OF_MEMORY, or P2P_NUMBER_TOO_LARGE where a rate is no fraction of 128 bits, for
  * which there have to be more than 16 flows or a cap of 2^64 or more. A refusal writes no rate. */
