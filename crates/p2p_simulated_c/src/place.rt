@@ -56,5 +56,3 @@ impl Place {
         }
     }
 }
-
-unsafe impl Send for Place {}
