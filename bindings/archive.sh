@@ -10,13 +10,6 @@ set -eu
 cd "$(dirname "$0")/../crates/p2p_simulated_c"
 mkdir -p out
 
-made_by() {
-    if ! "$@" > out/archive.log 2>&1; then
-        tail -n 40 out/archive.log
-        exit 1
-    fi
-}
-
 has_libraries_of_a_gate() {
     [ -d ../p2p_simulated/out/rlib/p2p_simulated.rlib ] || return 1
     for rlib in ../*/out/rlib/*.rlib; do
@@ -26,18 +19,28 @@ has_libraries_of_a_gate() {
     done
 }
 
-if [ "${1:-}" != gate ] || ! has_libraries_of_a_gate; then
-    made_by rt lib
-    exit 0
+build_over_these() {
+    kit=$(dirname "$(dirname "$(readlink -f "$(command -v rt)")")")
+    set -- --extern p2p_simulated=../p2p_simulated/out/rlib/p2p_simulated.rlib -L dependency="$kit/rlibs"
+    for library in std bytes std_heap std_alloc core; do
+        set -- "$@" --extern $library="$kit/rlibs/$library.rlib"
+    done
+    for folder in ../*/out/rlib; do
+        set -- "$@" -L dependency="$folder"
+    done
+    "$kit/bin/rattle" build --crate-name p2p_simulated_c src/lib.rt --crate-type staticlib "$@" \
+        --links p2p_simulated_c= --antt-project "$kit/rattle/logic/antt-project.json" \
+        --logic-built "$kit/logic_built" --toolchain "$kit/toolchain" --jobs 4 -o out/libp2p_simulated_c.a
+}
+
+if [ "${1:-}" = gate ] && has_libraries_of_a_gate; then
+    if build_over_these > out/gate.log 2>&1; then
+        exit 0
+    fi
+    echo "bindings: the archive was not made over the libraries of the gate, so they are proved once more:"
+    tail -n 4 out/gate.log
 fi
-kit=$(dirname "$(dirname "$(readlink -f "$(command -v rt)")")")
-set -- --extern p2p_simulated=../p2p_simulated/out/rlib/p2p_simulated.rlib -L dependency="$kit/rlibs"
-for library in std bytes std_heap std_alloc core; do
-    set -- "$@" --extern $library="$kit/rlibs/$library.rlib"
-done
-for folder in ../*/out/rlib; do
-    set -- "$@" -L dependency="$folder"
-done
-made_by "$kit/bin/rattle" build --crate-name p2p_simulated_c src/lib.rt --crate-type staticlib "$@" \
-    --links p2p_simulated_c= --antt-project "$kit/rattle/logic/antt-project.json" \
-    --logic-built "$kit/logic_built" --toolchain "$kit/toolchain" --jobs 4 -o out/libp2p_simulated_c.a
+if ! rt lib > out/archive.log 2>&1; then
+    tail -n 40 out/archive.log
+    exit 1
+fi

@@ -189,8 +189,8 @@ size_t p2p_message(p2p_scheduler *scheduler, size_t index, size_t from, uint8_t 
  * for: the flows under a cap have no more than it together, and each flow that is under any is under
  * one that is used up and that leaves none of its flows more than this one has. Who is in no list of
  * caps has none. Of several caps of one peer, or of one link, the last counts, and of several flows
- * of one id all are answered the rate of the last. `rounds` is how many different rates there are,
- * but for no limit, and 0 after a refusal.
+ * of one id all are answered the rate of the last. `rounds` is how many different finite rates there
+ * are, and 0 after a refusal.
  *
  * P2P_OK, P2P_OUT_OF_MEMORY, or P2P_NUMBER_TOO_LARGE where a rate is no fraction of 128 bits, for
  * which there have to be more than 16 flows or a cap of 2^64 or more. A refusal writes no rate. */

@@ -383,7 +383,7 @@ def allocate_counted(
     ingress: Optional[Mapping[Any, int]] = None,
     links: Optional[Mapping[Tuple[Any, Any], int]] = None,
 ) -> Tuple[Rates, int]:
-    """As `allocate`, with the number of rounds of filling: how many different rates there are."""
+    """As `allocate`, with the number of rounds of filling: how many different finite rates there are."""
     numbers: Dict[Hashable, int] = {}
 
     def number_of(peer: Hashable) -> int:
