@@ -27,10 +27,13 @@ impl Peer for Name {
     fn clone_peer(&self) -> Option<Name> {
         let clones = self.count.get();
         self.count.set(clones.saturating_add(1));
-        Some(Name {
-            text: self.text.clone().ok()?,
-            count: self.count.clone().ok()?,
-        })
+        let Ok(text) = self.text.clone() else {
+            return None;
+        };
+        let Ok(count) = self.count.clone() else {
+            return None;
+        };
+        Some(Name { text, count })
     }
 }
 
