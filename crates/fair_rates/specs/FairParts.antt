@@ -1,6 +1,6 @@
 -- Fair rates as whole parts of one byte a second, so many at a scale. Equal rates share a level.
-use Rattle.std.specs.Prelude.{◌≡◌, ◌↔◌, ℕ, ◌*◌, ◌<◌, List, [], ◌∷◌, All, length, Option, Some, None, IsSome, IfSome}
-use Rattle.std.specs.Prelude.{slice_index, slice_index_or}
+use Rattle.std.specs.Prelude.{◌≡◌, ◌↔◌, ℕ, ◌*◌, ◌<◌, List, [], ◌∷◌, All, length, Option, Some, None, IsSome}
+use Rattle.std.specs.Prelude.{IfSome, slice_index, slice_index_or}
 use Rattle.std.specs.declared.cmp.Ordering.{Ordering}
 use Rattle.fair_rates.specs.Amount.{parts_over}
 use Rattle.fair_rates.specs.Answers.{Answered, Calls, PairCalls, States, AnswerInOrder}

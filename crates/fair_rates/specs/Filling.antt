@@ -1,9 +1,9 @@
 -- Filling: the flows rise together, and the users of a side that is full stay where they are.
 -- All is in whole parts, `scale` of which are one byte a second. `frozen` says at how many a flow stays, and None of
 -- a flow that still rises.
-use Rattle.std.specs.Prelude.{◌≡◌, ◌≢◌, ◌↔◌, ℕ, ◌+◌, ◌-◌, ◌*◌, ◌<◌, ◌≤◌, ◌⊎◌, List, [], ◌∷◌, ◌++◌, All, AllPairs}
-use Rattle.std.specs.Prelude.{Contains, length, map, sum_by, IsPermutation, Option, Some, None, IsSome, IfSome}
-use Rattle.std.specs.Prelude.{slice_index, unwrap_or, option_map}
+use Rattle.std.specs.Prelude.{◌≡◌, ◌≢◌, ◌↔◌, ℕ, ◌+◌, ◌-◌, ◌*◌, ◌<◌, ◌≤◌, ◌⊎◌, List, []}
+use Rattle.std.specs.Prelude.{◌∷◌, ◌++◌, All, AllPairs, Contains, length, map, sum_by, IsPermutation, Option, Some}
+use Rattle.std.specs.Prelude.{None, IsSome, IfSome, slice_index, unwrap_or, option_map}
 use Rattle.std.specs.BinaryHeap.{IsHeap}
 use Rattle.std.specs.declared.cmp.Ordering.{Ordering}
 use Rattle.std.specs.declared.cmp.Reverse.{Reverse}

@@ -1,6 +1,6 @@
 -- Lists of rates: which of them are fair, and which rate is an id's.
-use Rattle.std.specs.Prelude.{◌≡◌, ◌≢◌, ◌↔◌, ℕ, ◌<◌, ◌==◌, cond, List, [], ◌∷◌, length, AllPairs, Contains, Option}
-use Rattle.std.specs.Prelude.{Some, None, slice_index_or}
+use Rattle.std.specs.Prelude.{◌≡◌, ◌≢◌, ◌↔◌, ℕ, ◌<◌, ◌==◌, cond, List, [], ◌∷◌, length, AllPairs}
+use Rattle.std.specs.Prelude.{Contains, Option, Some, None, slice_index_or}
 use Rattle.fair_rates.specs.declared.bandwidth.Flow.{Flow}
 use Rattle.fair_rates.specs.declared.bandwidth.Rate.{Rate}
 use Rattle.fair_rates.specs.declared.bandwidth.Rate.TheVariants.{Unlimited, Finite}

@@ -1,5 +1,6 @@
 -- How a line is read from the bytes of a script.
-use Rattle.std.specs.Prelude.{◌≡◌, ◌≢◌, ℕ, ◌<◌, ◌≤◌, List, ◌∷◌, ◌++◌, [], All, length, slice_index, ◌-◌, ◌⊎◌}
+use Rattle.std.specs.Prelude.{◌≡◌, ◌≢◌, ℕ, ◌<◌, ◌≤◌, List, ◌∷◌, ◌++◌, [], All, length, slice_index}
+use Rattle.std.specs.Prelude.{◌-◌, ◌⊎◌}
 use Rattle.std.specs.Io.Buffered.{reader_inner, reader_buffer, writer_buffer}
 use Rattle.std.specs.declared.io.buffered.BufReader.{BufReader}
 use Rattle.std.specs.declared.io.buffered.BufWriter.{BufWriter}

@@ -1,6 +1,6 @@
 -- The language of scripts: the line of each command. A line and a word are lists of bytes.
-use Rattle.std.specs.Prelude.{◌≡◌, ℕ, ◌^◌, ◌<◌, ◌≤◌, Bool, true, false, List, [], ◌∷◌, ◌++◌, Option, Some, None}
-use Rattle.std.specs.Prelude.{IfSome, codes, decimal}
+use Rattle.std.specs.Prelude.{◌≡◌, ℕ, ◌^◌, ◌<◌, ◌≤◌, Bool, true, false, List, [], ◌∷◌, ◌++◌, Option}
+use Rattle.std.specs.Prelude.{Some, None, IfSome, codes, decimal}
 use Rattle.std.specs.List.{join_with_byte}
 use Rattle.fair_rates.specs.declared.bandwidth.Flow.{Flow}
 use Rattle.link_scripts.specs.declared.linkrun.command.Call.{Call}

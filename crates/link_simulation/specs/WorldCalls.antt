@@ -1,6 +1,6 @@
 -- Calls on the world of the simulation.
-use Rattle.std.specs.Prelude.{◌≡◌, ⊤, ℕ, ◌+◌, ◌-◌, ◌<◌, ◌≤◌, [], ◌∷◌, ◌++◌, true, ◌&&◌, cond, if◌then◌else◌, Option}
-use Rattle.std.specs.Prelude.{Some, None, nat_lt, IfSome}
+use Rattle.std.specs.Prelude.{◌≡◌, ⊤, ℕ, ◌+◌, ◌-◌, ◌<◌, ◌≤◌, [], ◌∷◌, ◌++◌, true, ◌&&◌, cond}
+use Rattle.std.specs.Prelude.{if◌then◌else◌, Option, Some, None, nat_lt, IfSome}
 use Rattle.std.specs.declared.cmp.Ordering.{Ordering}
 use Rattle.fair_rates.specs.declared.error.Error.TheVariants.{MomentTooLate}
 use Rattle.link_simulation.specs.WorldMessages.{Message, Caps, with_cap, with_link}

@@ -1,6 +1,6 @@
 -- The event rule: what calls do to a planned world, at any moments.
-use Rattle.std.specs.Prelude.{◌≡◌, ◌≢◌, ℕ, ◌+◌, ◌<◌, ◌≤◌, List, [], ◌∷◌, ◌++◌, length, true, false, not, ◌&&◌, cond}
-use Rattle.std.specs.Prelude.{if◌then◌else◌, Option, Some, None, nat_lt, IfSome}
+use Rattle.std.specs.Prelude.{◌≡◌, ◌≢◌, ℕ, ◌+◌, ◌<◌, ◌≤◌, List, [], ◌∷◌, ◌++◌, length, true}
+use Rattle.std.specs.Prelude.{false, not, ◌&&◌, cond, if◌then◌else◌, Option, Some, None, nat_lt, IfSome}
 use Rattle.std.specs.List.{filter, AllZip}
 use Rattle.std.specs.declared.cmp.Ordering.{Ordering}
 use Rattle.fair_rates.specs.declared.error.Error.{Error}

@@ -7,8 +7,8 @@
 //!
 //! All numbers are whole parts of one byte a second. Where the least share is not whole, the scale
 //! grows, and all that is kept with it.
-ghost use Rattle.std.specs.Prelude.{◌≡◌, ◌<◌, ◌≤◌, ℕ, IfOk, IfSome, OnSome, MatchOption, Option, All, List, ◌∷◌, map};
-ghost use Rattle.std.specs.Prelude.{length};
+ghost use Rattle.std.specs.Prelude.{◌≡◌, ◌<◌, ◌≤◌, ℕ, IfOk, IfSome, OnSome, MatchOption, Option, All, List};
+ghost use Rattle.std.specs.Prelude.{◌∷◌, map, length};
 ghost use Rattle.std.specs.BinaryHeap.{heap_items, heap_len, IsHeap};
 ghost use Rattle.fair_rates.specs.Code.{side_of};
 ghost use Rattle.fair_rates.specs.Fair.{Side as WholeSide};

@@ -1,4 +1,5 @@
-//! A bench of a consensus protocol: one of 24 peers sends a block to all others, then all send a vote to all others, twice.
+//! A bench of a consensus protocol: one of 24 peers sends a block to all others, then all send a vote to all others,
+//! twice.
 //!
 //! What is to be printed was printed by the Rust original. It stands in `examples/`, and here by its length and a hash.
 use p2p_simulated::linkrun::{Outcome, run};
