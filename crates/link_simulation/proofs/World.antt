@@ -18,6 +18,7 @@ pub mod ConservedCount
 pub mod ConservedSoFar
 pub mod Continuing
 pub mod Counting
+pub mod DoneAlone
 pub mod Ending
 pub mod Enqueue
 pub mod EveryInstant

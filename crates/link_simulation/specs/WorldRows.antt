@@ -1,11 +1,17 @@
 -- For worked examples: peers are numbers, and a cap of a billion is one byte a nanosecond.
 use Rattle.std.specs.Prelude.{ℕ, zero, suc, List, [], ◌∷◌, true, false, length, Option, Some, None}
 use Rattle.std.specs.Ordering.{nat_cmp}
+use Rattle.std.specs.declared.cmp.Ordering.{Ordering}
+use Rattle.std.specs.declared.cmp.Ordering.TheVariants.{Equal}
 use Rattle.link_simulation.specs.WorldMessages.{Message, no_caps}
 use Rattle.link_simulation.specs.World.{World, Completed, completion_of, flight_of}
 use Rattle.link_simulation.specs.WorldCalls.{limited_by}
 use Rattle.link_simulation.specs.WorldPlanned.{Paced}
 use Rattle.fair_rates.specs.Amount.{Amount, whole}
+
+-- an order by which all peers are equal
+abbrev pub all_equal : ℕ → ℕ → Ordering
+all_equal p q = Equal
 
 -- so many bytes
 abbrev pub bytes : ℕ → List ℕ

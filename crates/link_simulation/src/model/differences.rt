@@ -6,7 +6,8 @@ ghost use Rattle.std.specs.Ordering.{nat_cmp};
 ghost use Rattle.link_simulation.specs.World.{new_world};
 ghost use Rattle.link_simulation.specs.WorldCalls.{call_limit, call_limit_link, call_enqueue, call_advance, call_next};
 ghost use Rattle.link_simulation.specs.WorldReplies.{reply_done, reply_next, reply_refused, Agrees};
-ghost use Rattle.fair_rates.specs.declared.error.Error.TheVariants.{NumberTooLarge, MomentTooLate, FlowIdsUsedUp};
+ghost use Rattle.fair_rates.specs.declared.error.Error.TheVariants.{OutOfMemory, NumberTooLarge};
+ghost use Rattle.fair_rates.specs.declared.error.Error.TheVariants.{MomentTooLate, FlowIdsUsedUp};
 ghost use Rattle.link_simulation.specs.WorldRows.{message, dropped, arrives, is_gone, a_byte_a_nanosecond};
 
 /// A reply with a wrong arrival does not agree.
@@ -119,6 +120,30 @@ pub fn a_wrong_part_of_a_completion_does_not_agree()
         (call_limit 0 1 a_byte_a_nanosecond None ∷ call_enqueue 0 (message 1 2 3 2) ∷ call_advance 3 ∷ [])
         (reply_done [] ∷ reply_done [] ∷ reply_done (arrives (message 1 2 3 2) 5 ∷ arrives (message 1 2 3 2) 5 ∷ [])
         ∷ []) }
+{}
+
+/// Nor does a reply of another kind: completions in the place of a next event, or the other way round. And a next event
+/// is never refused.
+pub fn a_reply_of_another_kind_does_not_agree()
+    ensures next_done { ¬ Agrees nat_cmp (new_world 0) (call_next ∷ []) (reply_done [] ∷ []) }
+    ensures next_refused { ¬ Agrees nat_cmp (new_world 0) (call_next ∷ []) (reply_refused OutOfMemory ∷ []) }
+    ensures call_next { ¬ Agrees nat_cmp (new_world 0) (call_advance 0 ∷ []) (reply_next None ∷ []) }
+{}
+
+/// There is one reply to each call.
+pub fn replies_are_as_many_as_calls()
+    ensures more { ¬ Agrees nat_cmp (new_world 0) [] (reply_next None ∷ []) }
+    ensures fewer { ¬ Agrees nat_cmp (new_world 0) (call_next ∷ []) [] }
+{}
+
+/// What comes after a refusal, after completions or after a next event counts too.
+pub fn what_comes_later_counts()
+    ensures refused { ¬ Agrees nat_cmp (new_world 0) (call_advance 0 ∷ call_next ∷ [])
+        (reply_refused OutOfMemory ∷ reply_next (Some 1) ∷ []) }
+    ensures done { ¬ Agrees nat_cmp (new_world 0) (call_advance 0 ∷ call_next ∷ [])
+        (reply_done [] ∷ reply_next (Some 1) ∷ []) }
+    ensures next { ¬ Agrees nat_cmp (new_world 0) (call_next ∷ call_next ∷ [])
+        (reply_next None ∷ reply_next (Some 1) ∷ []) }
 {}
 
 /// No call is refused for a number.

@@ -1,23 +1,27 @@
 //! What the words of the promises mean: what follows from each, and what it excludes.
 //!
 //! In the examples peers are numbers, and no limit holds unless one is named.
-ghost use Rattle.std.specs.Prelude.{◌≡◌, ℕ, ◌-◌, ◌*◌, ◌≤◌, List, [], ◌∷◌, Bool, true, Option, Some, None, nat_lt};
+ghost use Rattle.std.specs.Prelude.{◌≡◌, ℕ, ◌+◌, ◌-◌, ◌*◌, ◌≤◌, ◌==◌, if◌then◌else◌, List, []};
+ghost use Rattle.std.specs.Prelude.{◌∷◌, Bool, true, Option, Some, None, nat_lt};
 ghost use Rattle.std.specs.List.{AllZip};
 ghost use Rattle.std.specs.Ordering.{nat_cmp};
 ghost use Rattle.fair_rates.specs.Amount.{whole};
 ghost use Rattle.fair_rates.specs.declared.error.Error.{Error as AnyError};
 ghost use Rattle.fair_rates.specs.declared.error.Error.TheVariants.{NumberTooLarge, MomentTooLate, FlowIdsUsedUp};
-ghost use Rattle.link_simulation.specs.World.{World, Completed, goes};
+ghost use Rattle.link_simulation.specs.Alone.{IsTimeFor, IsLeastCap, MayGoAlone, IsDoneAfter};
+ghost use Rattle.link_simulation.specs.World.{World, Completed, new_world, completed, completion_of, goes, EndsWith};
 ghost use Rattle.link_simulation.specs.WorldBytes.{bytes_from};
-ghost use Rattle.link_simulation.specs.WorldTime.{NextIs};
-ghost use Rattle.link_simulation.specs.WorldCalls.{Call, call_enqueue, call_advance, Runs};
+ghost use Rattle.link_simulation.specs.WorldTime.{NextIs, IsSound};
+ghost use Rattle.link_simulation.specs.WorldCalls.{Call, call_enqueue, call_advance, Runs, limited_by};
+ghost use Rattle.link_simulation.specs.WorldMessages.{Message, no_caps};
 ghost use Rattle.link_simulation.specs.WorldPlanned.{Planned, new_planned};
 ghost use Rattle.link_simulation.specs.WorldReplies.{Reply, reply_done, SameCompletion, Faults};
-ghost use Rattle.link_simulation.specs.WorldRows.{message, arrives, paced, flying};
+ghost use Rattle.link_simulation.specs.WorldRows.{message, arrives, paced, flying, all_equal};
 ghost use Rattle.link_simulation.specs.WorldStands.{StandsFor};
 ghost use Rattle.link_simulation.specs.Conserved.{IsConserved, AreConserved};
 ghost use Rattle.link_simulation.specs.Orderly.{IsOrderly};
 ghost use Rattle.link_simulation.specs.ReplayLaws.{AlwaysSoFar, CompletePairsInOrder, IsIsolated, IsolateSets};
+ghost use Rattle.link_simulation.specs.SamePlanned.{Goes, GoesCounted};
 ghost use Rattle.link_simulation.specs.Simulated.{IsCalled, IsSimulated, IsNextInSimulation, KeepsRange};
 ghost use Rattle.link_simulation.specs.Simulated.{IsRefusedInSimulation, IsSplitAnywhere, KeepsToCaps};
 
@@ -38,6 +42,38 @@ pub fn what_is_simulated_is_the_one_course<P: Ord>()
         IsNextInSimulation P.cmp p told → StandsFor P.cmp p w → NextIs P.cmp w next → told ≡ next }
 {}
 
+/// An advance that is counted goes by the event rule, and has that one number of events.
+pub fn a_counted_advance_goes<P: Ord>()
+    ensures goes { (p q : Planned P) (now events : ℕ) (cs : List (Completed P)) → GoesCounted P.cmp now p events cs q →
+        Goes P.cmp p (call_advance now) cs q }
+    ensures one { (p q r : Planned P) (now events other : ℕ) (cs ds : List (Completed P)) →
+        GoesCounted P.cmp now p events cs q → GoesCounted P.cmp now p other ds r → events ≡ other }
+{}
+
+/// A message that is done after a time is so however the simulation runs: nothing completes as it is sent, the next
+/// event is the one at which it is done, and there it alone completes.
+pub fn what_is_done_after_a_time_is_done_alone<P: Ord>()
+    ensures sent { (w v : World P) (m : Message P) (now time : ℕ) (cs : List (Completed P)) → IsSound P.cmp w →
+        IsDoneAfter P.cmp w now m time → Runs P.cmp w (call_enqueue now m) now (goes cs v) →
+        (cs ≡ []) × ((next : Option ℕ) → NextIs P.cmp v next → next ≡ Some (now + time)) }
+    ensures done { (w v u : World P) (m : Message P) (now time : ℕ) (cs ds : List (Completed P)) → IsSound P.cmp w →
+        IsDoneAfter P.cmp w now m time → Runs P.cmp w (call_enqueue now m) now (goes cs v) →
+        Runs P.cmp v (call_advance (now + time)) (now + time) (goes ds u) →
+        ds ≡ completed P.cmp (now + time) m ∷ [] }
+{}
+
+/// A message may go alone also where its pair had an arrival before and one flow id is left. The least of two caps
+/// counts, and a byte takes a third of a second, rounded up, at three bytes a second.
+pub fn a_message_may_go_alone()
+    ensures alone { MayGoAlone nat_cmp (record (new_world 18_446_744_073_709_551_614) {
+      limited = true;
+      last_arrival = λ p q. Some 5;
+    }) 3 (message 1 2 1 2) }
+    ensures least { IsLeastCap nat_cmp
+        (limited_by nat_cmp (limited_by nat_cmp no_caps 1 (Some 3) None) 2 None (Some 7)) (message 1 2 1 2) 3 }
+    ensures time { IsTimeFor 1 3 333_333_334 }
+{}
+
 /// An origin that keeps to its cap, has so many bytes to send, and then has none left, took as long as the cap needs
 /// for them.
 pub fn sending_takes_its_time<P: Ord>()
@@ -54,10 +90,27 @@ pub fn all_that_an_origin_has_to_send_counts()
     }) ≡ whole 6 }
 {}
 
+/// What a course ends with holds of the world that it goes to.
+pub fn a_course_ends_with_what_holds_there<P: Ord>()
+    ensures { (law : World P → Bool) (cs : List (Completed P)) (w : World P) →
+        EndsWith (λ v. law v ≡ true) (goes cs w) → law w ≡ true }
+{}
+
 /// What holds of the first calls, however many, holds of all of them.
 pub fn what_holds_so_far_holds_of_all<P: Ord>()
     ensures { (law : List (Call P) → List (Reply P) → Bool) (calls : List (Call P)) (replies : List (Reply P)) →
         AlwaysSoFar (λ cs rs. law cs rs ≡ true) calls replies → law calls replies ≡ true }
+{}
+
+/// A completion has the origin, the recipient, the channel and the bytes of its message, and the moment of its arrival.
+pub fn a_completion_is_of_its_message()
+    ensures { completion_of (record (message 1 2 3 4) { channel = 5 }) (Some 6) ≡ record {
+      origin = 1;
+      recipient = 2;
+      channel = 5;
+      bytes = 0 ∷ 0 ∷ 0 ∷ [];
+      deliver_at = Some 6;
+    } }
 {}
 
 /// A completion with another origin, recipient or channel, or with other bytes, is not one of the message that was
@@ -100,18 +153,33 @@ pub fn a_world_out_of_order_is_told()
     ensures at_first { ¬ IsOrderly nat_cmp (record (new_planned 0) { waiting = message 1 2 1 0 ∷ [] }) }
 {}
 
+/// Nor is it in order where equal peers have different caps, or equal pairs different arrivals; here all peers are
+/// equal.
+pub fn a_world_that_tells_equal_peers_apart_is_told()
+    ensures caps { ¬ IsOrderly all_equal (record (new_planned 0) {
+      caps = record no_caps { egress = λ p. if p == 1 then Some 1 else None };
+    }) }
+    ensures arrivals { ¬ IsOrderly all_equal (record (new_planned 0) {
+      last_arrival = λ p q. if p == 1 then Some 1 else None;
+    }) }
+{}
+
 /// A call in the range that leads out of it does not keep it.
 pub fn a_call_that_leaves_the_range_is_told()
     ensures { ¬ KeepsRange nat_cmp (new_planned 0) (call_advance 0) (new_planned 18_446_744_073_709_551_616) }
 {}
 
-/// An advance of a new scheduler is refused for a number neither in the range nor outside, and in the range neither
-/// for a moment nor for want of a flow id.
+/// A new scheduler refuses no call for a number, in the range or outside. In the range it refuses an advance neither
+/// for a moment nor for want of a flow id, and outside it so refuses no message that is in time.
 pub fn a_refusal_without_a_cause_is_told()
     ensures number { ¬ IsRefusedInSimulation nat_cmp (new_planned 0)
         (call_advance 9_223_372_036_854_775_808) NumberTooLarge }
     ensures moment { ¬ IsRefusedInSimulation nat_cmp (new_planned 0) (call_advance 0) MomentTooLate }
     ensures id { ¬ IsRefusedInSimulation nat_cmp (new_planned 0) (call_advance 0) FlowIdsUsedUp }
+    ensures moment_outside { ¬ IsRefusedInSimulation nat_cmp (new_planned 0)
+        (call_enqueue 0 (message 1 2 1 9_223_372_036_854_775_808)) MomentTooLate }
+    ensures id_outside { ¬ IsRefusedInSimulation nat_cmp (new_planned 0)
+        (call_enqueue 0 (message 1 2 1 9_223_372_036_854_775_808)) FlowIdsUsedUp }
 {}
 
 /// A set that loses its completion is not isolated, nor one of which another's call completes something. And a pair

@@ -44,8 +44,13 @@ pub fn outside_the_range_a_moment_is_too_late()
         (reply_refused MomentTooLate ∷ []) }
 {}
 
-/// Calls are judged one by one: one that is in the range is refused for memory alone, though a later one is outside.
+/// Calls are judged one by one: one that is in the range is refused for memory alone, though a later one is outside,
+/// and though calls before it were made or refused.
 pub fn a_later_call_excuses_no_refusal()
-    ensures { ¬ RefusesForMemoryAlone {P = ℕ} [] (call_advance 0 ∷ call_advance 18_446_744_073_709_551_615 ∷ [])
+    ensures after_done { ¬ RefusesForMemoryAlone {P = ℕ} [] (call_advance 0 ∷ call_advance 0 ∷ [])
+        (reply_done [] ∷ reply_refused MomentTooLate ∷ []) }
+    ensures after_refusal { ¬ RefusesForMemoryAlone {P = ℕ} [] (call_advance 0 ∷ call_advance 0 ∷ [])
+        (reply_refused OutOfMemory ∷ reply_refused MomentTooLate ∷ []) }
+    ensures later { ¬ RefusesForMemoryAlone {P = ℕ} [] (call_advance 0 ∷ call_advance 18_446_744_073_709_551_615 ∷ [])
         (reply_refused MomentTooLate ∷ reply_done [] ∷ []) }
 {}

@@ -2,9 +2,10 @@
 ghost use Rattle.std.specs.Prelude.{[], ◌∷◌, List, Some, None};
 ghost use Rattle.std.specs.Ordering.{nat_cmp};
 ghost use Rattle.std.specs.List.{Contains};
-ghost use Rattle.fair_rates.specs.declared.error.Error.TheVariants.{NumberTooLarge};
+ghost use Rattle.fair_rates.specs.declared.error.Error.TheVariants.{OutOfMemory, NumberTooLarge};
 ghost use Rattle.link_simulation.specs.World.{new_world};
-ghost use Rattle.link_simulation.specs.WorldCalls.{Call, call_limit, call_enqueue, call_advance, call_next};
+ghost use Rattle.link_simulation.specs.WorldCalls.{Call, call_limit, call_limit_link, call_enqueue, call_advance};
+ghost use Rattle.link_simulation.specs.WorldCalls.{call_next};
 ghost use Rattle.link_simulation.specs.WorldPlanned.{Planned, new_planned};
 ghost use Rattle.link_simulation.specs.WorldRefusals.{Obeyed};
 ghost use Rattle.link_simulation.specs.WorldReplies.{Reply, reply_done, reply_next, reply_refused, Agrees};
@@ -61,18 +62,30 @@ pub fn a_pair_out_of_order_is_told()
 {}
 
 /// These calls go by what `next` answers: half of the cap is taken before the event that it told, and another message
-/// is sent at the moment of an advance.
+/// is sent at the moment of an advance. In the others a call is refused, a message and the cap of a link come before
+/// the event, and another message comes at the moment of that call.
 pub fn calls_may_go_by_next()
-    ensures { GoByNext 0 (Some 1)
+    ensures others { GoByNext 0 (Some 1)
+        (call_limit 0 1 a_byte_a_nanosecond None ∷ call_enqueue 0 (message 1 2 4 0) ∷ call_next ∷ call_advance 2
+        ∷ call_enqueue 3 (message 1 3 1 0) ∷ call_next ∷ call_limit_link 4 1 2 a_byte_a_nanosecond
+        ∷ call_enqueue 4 (message 1 4 1 0) ∷ [])
+        (reply_done [] ∷ reply_done [] ∷ reply_next (Some 4) ∷ reply_refused OutOfMemory
+        ∷ reply_done [] ∷ reply_next (Some 5) ∷ reply_done [] ∷ reply_done [] ∷ []) }
+    ensures limits { GoByNext 0 (Some 1)
         (call_limit 0 1 a_byte_a_nanosecond None ∷ call_enqueue 0 (message 1 2 4 0) ∷ call_next
         ∷ call_limit 3 1 (Some 500_000_000) None ∷ call_next ∷ call_advance 5 ∷ call_enqueue 5 (message 1 2 1 0) ∷ [])
         (reply_done [] ∷ reply_done [] ∷ reply_next (Some 4)
         ∷ reply_done [] ∷ reply_next (Some 5) ∷ reply_done (arrives (message 1 2 4 0) 5 ∷ []) ∷ reply_done [] ∷ []) }
 {}
 
-/// These advance first.
+/// These advance first. In the others an advance is refused and so is a message, and a link has a cap.
 pub fn calls_may_advance_first()
-    ensures { AreAdvancedFirst 0
+    ensures others { AreAdvancedFirst 0
+        (call_limit_link 0 1 2 a_byte_a_nanosecond ∷ call_enqueue 0 (message 1 2 4 0) ∷ call_advance 3 ∷ call_next
+        ∷ call_advance 2 ∷ call_enqueue 2 (message 1 3 1 0) ∷ call_limit_link 2 1 2 None ∷ [])
+        (reply_done [] ∷ reply_done [] ∷ reply_refused OutOfMemory ∷ reply_next (Some 4)
+        ∷ reply_done [] ∷ reply_refused OutOfMemory ∷ reply_done (arrives (message 1 2 4 0) 2 ∷ []) ∷ []) }
+    ensures limits { AreAdvancedFirst 0
         (call_limit 0 1 a_byte_a_nanosecond None ∷ call_enqueue 0 (message 1 2 4 0) ∷ call_advance 3
         ∷ call_limit 3 1 (Some 500_000_000) None ∷ [])
         (reply_done [] ∷ reply_done [] ∷ reply_done [] ∷ reply_done [] ∷ []) }

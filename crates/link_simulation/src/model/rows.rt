@@ -43,6 +43,19 @@ pub fn a_finish_comes_before_a_start()
         ∷ reply_next None ∷ []) }
 {}
 
+/// At one moment the next message of a pair whose message finishes starts before one that waited for that moment: at 2
+/// the second message to peer 2, and then the one to peer 3, which may not arrive before 2. Both are done at 4.
+pub fn a_follower_starts_before_those_that_wake()
+    ensures { Agrees nat_cmp (new_world 0)
+        (call_limit 0 1 a_byte_a_nanosecond None ∷ call_enqueue 0 (message 1 3 1 1) ∷ call_enqueue 0 (message 1 3 1 0)
+        ∷ call_advance 1 ∷ call_enqueue 1 (message 1 2 1 0) ∷ call_enqueue 1 (message 1 2 1 0)
+        ∷ call_next ∷ call_advance 2 ∷ call_next ∷ call_advance 4 ∷ call_next ∷ [])
+        (reply_done [] ∷ reply_done [] ∷ reply_done []
+        ∷ reply_done (arrives (message 1 3 1 1) 2 ∷ []) ∷ reply_done [] ∷ reply_done []
+        ∷ reply_next (Some 2) ∷ reply_done (arrives (message 1 2 1 0) 2 ∷ []) ∷ reply_next (Some 4)
+        ∷ reply_done (arrives (message 1 2 1 0) 4 ∷ arrives (message 1 3 1 0) 4 ∷ []) ∷ reply_next None ∷ []) }
+{}
+
 /// Of two pairs with a message each in flight, both finish at 2; the second message of the first pair starts only
 /// then, and has all of the cap.
 pub fn a_pair_sends_one_message_at_a_time()
@@ -62,6 +75,16 @@ pub fn nothing_waits_before_any_limit()
         ∷ call_next ∷ [])
         (reply_done (arrives (message 1 2 1 100) 100 ∷ []) ∷ reply_done (is_gone (dropped 1 2 1 0) ∷ [])
         ∷ reply_done (arrives (message 1 2 1 50) 100 ∷ []) ∷ reply_next None ∷ []) }
+{}
+
+/// Each ordered pair has its own order: an arrival at 100 holds back no message to another peer, nor one on the way
+/// back.
+pub fn each_pair_has_its_own_order()
+    ensures { Agrees nat_cmp (new_world 0)
+        (call_enqueue 0 (message 1 2 1 100) ∷ call_enqueue 0 (message 1 3 1 50) ∷ call_enqueue 0 (message 2 1 1 50)
+        ∷ call_enqueue 0 (message 3 2 1 50) ∷ [])
+        (reply_done (arrives (message 1 2 1 100) 100 ∷ []) ∷ reply_done (arrives (message 1 3 1 50) 50 ∷ [])
+        ∷ reply_done (arrives (message 2 1 1 50) 50 ∷ []) ∷ reply_done (arrives (message 3 2 1 50) 50 ∷ []) ∷ []) }
 {}
 
 /// A message to oneself is delivered before any limit, and dropped after one, also after a limit of nothing.

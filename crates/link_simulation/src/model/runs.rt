@@ -1,6 +1,7 @@
 //! What holds over whole lists of calls: the order of a pair, the bytes of an origin, and a set of peers that keeps
 //! to itself.
-ghost use Rattle.std.specs.Prelude.{◌≡◌, ℕ, ◌-◌, Bool, Contains, List, Some, map};
+ghost use Rattle.std.specs.Prelude.{◌≡◌, ℕ, ◌-◌, Bool, Contains, List, [], ◌∷◌, Some, map};
+ghost use Rattle.std.specs.Ordering.{nat_cmp};
 ghost use Rattle.std.specs.List.{filter};
 ghost use Rattle.fair_rates.specs.Amount.{plus};
 ghost use Rattle.fair_rates.specs.FairLaws.{IsAtMost};
@@ -14,12 +15,22 @@ ghost use Rattle.link_simulation.specs.WorldOrder.{enqueued, answered, IsInPairO
 ghost use Rattle.link_simulation.specs.WorldBytes.{bytes_from, allowance};
 ghost use Rattle.link_simulation.specs.WorldIsolation.{Answers, AnswersInTurn, IsSet, KeepsApart, InTime, is_kept};
 ghost use Rattle.link_simulation.specs.WorldIsolation.{kept_completions, NothingElse};
+ghost use Rattle.link_simulation.specs.WorldRows.{message, arrives};
 
 /// The completions of a pair come in the order of its `enqueue` calls, and its delivery moments never go down.
 pub fn a_pair_keeps_its_order<P: Ord>()
     ensures { (k : Message P) (id : ℕ) (calls : List (Call P)) (css : List (List (Completed P))) →
         Answers P.cmp (new_world id) calls css →
         IsInPairOrder P.cmp k (enqueued calls) (answered css) }
+{}
+
+/// Completions of a pair whose arrivals go down are not in its order, and neither is its second message where it comes
+/// first.
+pub fn completions_out_of_order_are_told()
+    ensures arrivals { ¬ IsInPairOrder nat_cmp (message 1 2 1 0) (message 1 2 1 2 ∷ message 1 2 1 0 ∷ [])
+        (arrives (message 1 2 1 2) 5 ∷ arrives (message 1 2 1 0) 4 ∷ []) }
+    ensures messages { ¬ IsInPairOrder nat_cmp (message 1 2 1 0) (message 1 2 1 0 ∷ message 1 2 2 0 ∷ [])
+        (arrives (message 1 2 2 0) 5 ∷ []) }
 {}
 
 /// In one `advance` the bytes left of an origin go down by no more than its egress cap lets go.

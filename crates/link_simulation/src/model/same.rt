@@ -26,3 +26,8 @@ pub fn the_same_worlds_do_the_same<P: Ord>()
         StandsFor P.cmp q w }
     ensures range { (p q : Planned P) → IsSamePlanned P.cmp p q → IsInRange p → IsInRange q }
 {}
+
+/// Each call is the same as itself.
+pub fn a_call_is_the_same_as_itself<P: Ord>()
+    ensures { (call : Call P) → IsSameCall P.cmp call call }
+{}

@@ -1,6 +1,20 @@
-use Rattle.std.proofs.Common.{◌≡◌}
+use Rattle.std.proofs.Common.{◌≡◌, ℕ, [], ◌∷◌, refl, subst}
+use Rattle.std.specs.Ordering.{nat_cmp}
+use Rattle.std.proofs.lemmas.Cmp.{nat_cmp_total}
+use Rattle.fair_rates.specs.declared.error.Error.{Error}
 use Rattle.fair_rates.specs.declared.error.Error.TheVariants.{OutOfMemory, MomentTooLate, FlowIdsUsedUp}
+use Rattle.link_simulation.specs.World.{World, Completed, Course, goes, meets, new_world}
+use Rattle.link_simulation.specs.WorldCalls.{Call, call_enqueue, moment_of, Runs}
+use Rattle.link_simulation.specs.WorldPlanned.{new_planned}
+use Rattle.link_simulation.specs.WorldReplies.{Faults}
+use Rattle.link_simulation.specs.WorldRows.{message}
+use Rattle.link_simulation.specs.Simulated.{IsCalled}
+use Rattle.link_simulation.proofs.World.ComputedReplies.{course_of, evenly, runs_so}
+use Rattle.link_simulation.proofs.World.ComputedDifferences.{in_turn}
+use Rattle.link_simulation.proofs.World.Limit.{new_stands}
 use Rattle.link_simulation.proofs.World.NewInRange.{advance_in_range}
+use Rattle.link_simulation.proofs.World.OneRun.{runs_are_one}
+use Rattle.link_simulation.proofs.World.Sound.{new_world_sound}
 use Rattle.link_simulation.proofs.model.meanings.a_refusal_without_a_cause_is_told.Goals as goal
 
 pub returns-clause-number : goal.returns-clause-number
@@ -11,3 +25,29 @@ returns-clause-moment c h = let clash : MomentTooLate ≡ OutOfMemory = h.in_ran
 
 pub returns-clause-id : goal.returns-clause-id
 returns-clause-id c h = let clash : FlowIdsUsedUp ≡ OutOfMemory = h.in_range advance_in_range in cc
+
+-- a message that arrives at 2^63, enqueued in the new world
+abbrev in_time : Call ℕ
+in_time = call_enqueue 0 (message 1 2 1 9_223_372_036_854_775_808)
+
+called : IsCalled nat_cmp (new_planned 0) in_time 0 (new_world 0)
+called = record {
+  stands = new_stands nat_cmp nat_cmp_total 0;
+  moment = refl;
+  turn = in_turn nat_cmp nat_cmp_total (evenly 1_000_000_000) 0 (new_world 0) 0 (new_world_sound nat_cmp nat_cmp_total 0) refl;
+}
+
+no_fault : (fault : Error) → ¬ Faults nat_cmp (new_world 0) in_time fault
+no_fault fault (now, at, runs) =
+    let here : now ≡ 0 = cc in
+    let one : course_of nat_cmp nat_cmp_total (evenly 1_000_000_000) (new_world 0) in_time 0 ≡ meets fault =
+    runs_are_one nat_cmp nat_cmp_total (new_world 0) in_time 0 _ (meets fault) (new_world_sound nat_cmp nat_cmp_total 0)
+    (runs_so nat_cmp nat_cmp_total (evenly 1_000_000_000) (new_world 0) in_time 0 refl)
+    (subst (λ (t : ℕ). Runs nat_cmp (new_world 0) in_time t (meets fault)) here runs) in
+    cc
+
+pub returns-clause-moment_outside : goal.returns-clause-moment_outside
+returns-clause-moment_outside c h = no_fault MomentTooLate (h.cause (new_world 0) 0 called)
+
+pub returns-clause-id_outside : goal.returns-clause-id_outside
+returns-clause-id_outside c h = no_fault FlowIdsUsedUp (h.cause (new_world 0) 0 called)

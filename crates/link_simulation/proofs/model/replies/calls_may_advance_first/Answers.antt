@@ -1,5 +1,8 @@
 use Rattle.std.proofs.Common.{arith, refl}
 use Rattle.link_simulation.proofs.model.replies.calls_may_advance_first.Goals as goal
 
-pub returns : goal.returns
-returns c = (refl, (refl, (omega arith, (refl, tt))))
+pub returns-clause-others : goal.returns-clause-others
+returns-clause-others c = (refl, (refl, (omega arith, (omega arith, (refl, (refl, tt))))))
+
+pub returns-clause-limits : goal.returns-clause-limits
+returns-clause-limits c = (refl, (refl, (omega arith, (refl, tt))))

@@ -1,8 +1,17 @@
 use Rattle.std.proofs.Common.{arith}
 use Rattle.link_simulation.proofs.model.replies.calls_may_go_by_next.Goals as goal
 
-pub returns : goal.returns
-returns c = (
+pub returns-clause-others : goal.returns-clause-others
+returns-clause-others c = (
+  (omega arith, omega arith),
+  (
+    (omega arith, omega arith),
+    (omega arith, ((omega arith, omega arith), ((omega arith, omega arith), ((omega arith, omega arith), tt)))),
+  ),
+)
+
+pub returns-clause-limits : goal.returns-clause-limits
+returns-clause-limits c = (
   (omega arith, omega arith),
   (
     (omega arith, omega arith),

@@ -1,0 +1,45 @@
+-- A message that is done after a time is done alone, however the simulation runs.
+use Rattle.std.proofs.Common.{◌≡◌, ℕ, ◌+◌, List, [], ◌∷◌, Option, Some, sym, subst}
+use Rattle.std.specs.declared.cmp.Ordering.{Ordering}
+use Rattle.std.specs.Cmp.{IsTotalOrder}
+use Rattle.link_simulation.specs.Alone.{IsDoneAfter}
+use Rattle.link_simulation.specs.World.{World, Completed, goes, completed}
+use Rattle.link_simulation.specs.WorldCalls.{call_enqueue, call_advance, Runs}
+use Rattle.link_simulation.specs.WorldMessages.{Message}
+use Rattle.link_simulation.specs.WorldTime.{NextIs, IsSound}
+use Rattle.link_simulation.proofs.World.OneNext.{next_is_one}
+use Rattle.link_simulation.proofs.World.OneRun.{runs_are_one}
+use Rattle.link_simulation.proofs.World.Sound.{call_keeps_sound}
+
+module _ {P : Type 0} (cmp : P → P → Ordering) (order : IsTotalOrder cmp) where
+  -- where two courses go and are one, they answer the same and lead to the same world
+  same_answers : (cs ds : List (Completed P)) (v u : World P) → goes cs v ≡ goes ds u → cs ≡ ds
+  same_answers cs ds v u one = cc
+
+  same_world : (cs ds : List (Completed P)) (v u : World P) → goes cs v ≡ goes ds u → v ≡ u
+  same_world cs ds v u one = cc
+
+  pub is_sent : (w v : World P) (m : Message P) (now time : ℕ) (cs : List (Completed P)) → IsSound cmp w
+      → IsDoneAfter cmp w now m time → Runs cmp w (call_enqueue now m) now (goes cs v)
+      → (cs ≡ []) × ((next : Option ℕ) → NextIs cmp v next → next ≡ Some (now + time))
+  is_sent w v m now time cs sound alone runs =
+      let one = runs_are_one cmp order w (call_enqueue now m) now (goes cs v) (goes [] alone.sent) sound runs alone.sends in
+      let same : v ≡ alone.sent = same_world cs [] v alone.sent one in
+      let sound_v : IsSound cmp v = call_keeps_sound cmp order w (call_enqueue now m) now (goes cs v) sound runs in (
+        same_answers cs [] v alone.sent one,
+        λ next is. next_is_one cmp order v next (Some (now + time)) sound_v.positive is
+            (subst (λ (x : World P). NextIs cmp x (Some (now + time))) (sym same) alone.next),
+      )
+
+  pub is_done_alone : (w v u : World P) (m : Message P) (now time : ℕ) (cs ds : List (Completed P)) → IsSound cmp w
+      → IsDoneAfter cmp w now m time → Runs cmp w (call_enqueue now m) now (goes cs v)
+      → Runs cmp v (call_advance (now + time)) (now + time) (goes ds u) → ds ≡ completed cmp (now + time) m ∷ []
+  is_done_alone w v u m now time cs ds sound alone runs advances =
+      let one = runs_are_one cmp order w (call_enqueue now m) now (goes cs v) (goes [] alone.sent) sound runs alone.sends in
+      let same : v ≡ alone.sent = same_world cs [] v alone.sent one in
+      let sound_v : IsSound cmp v = call_keeps_sound cmp order w (call_enqueue now m) now (goes cs v) sound runs in
+      same_answers ds (completed cmp (now + time) m ∷ []) u alone.after
+      (runs_are_one cmp order v (call_advance (now + time)) (now + time) (goes ds u)
+      (goes (completed cmp (now + time) m ∷ []) alone.after) sound_v advances
+      (subst (λ (x : World P). Runs cmp x (call_advance (now + time)) (now + time)
+      (goes (completed cmp (now + time) m ∷ []) alone.after)) (sym same) alone.done))

@@ -1,0 +1,33 @@
+use Rattle.std.proofs.Common.{◌≡◌, ℕ, [], ◌∷◌, Option, Some, None, refl, arith}
+use Rattle.std.specs.Ordering.{nat_cmp}
+use Rattle.std.proofs.lemmas.Cmp.{nat_cmp_total}
+use Rattle.fair_rates.specs.Amount.{reduced, gcd_within}
+use Rattle.link_simulation.specs.World.{new_world}
+use Rattle.link_simulation.specs.WorldTime.{NextIs}
+use Rattle.link_simulation.specs.WorldCalls.{call_advance, call_next}
+use Rattle.link_simulation.specs.WorldReplies.{reply_done, reply_next}
+use Rattle.link_simulation.proofs.World.ComputedReplies.{evenly, next_so}
+use Rattle.link_simulation.proofs.World.ComputedDifferences.{never_agree}
+use Rattle.link_simulation.proofs.World.OneNext.{next_is_one}
+use Rattle.link_simulation.proofs.World.Sound.{new_world_sound}
+use Rattle.link_simulation.proofs.model.differences.what_comes_later_counts.Goals as goal
+
+-- in a new world no event comes
+none_comes : NextIs nat_cmp (new_world 0) (Some 1) → ⊥
+none_comes is =
+    let clash : ◌≡◌ {A = Option ℕ} None (Some 1) =
+    next_is_one nat_cmp nat_cmp_total (new_world 0) None (Some 1) (new_world_sound nat_cmp nat_cmp_total 0).positive
+    (next_so nat_cmp nat_cmp_total (evenly 1_000_000_000) 0 (new_world 0) refl) is in
+    cc
+
+pub returns-clause-refused : goal.returns-clause-refused
+returns-clause-refused c agrees = none_comes (agrees (omega arith)).1.0
+
+pub returns-clause-done : goal.returns-clause-done
+unfolding reduced gcd_within
+returns-clause-done c =
+    never_agree nat_cmp nat_cmp_total (evenly 1_000_000_000) 20 0 (call_advance 0 ∷ call_next ∷ [])
+    (reply_done [] ∷ reply_next (Some 1) ∷ []) refl
+
+pub returns-clause-next : goal.returns-clause-next
+returns-clause-next c agrees = none_comes agrees.1.0
