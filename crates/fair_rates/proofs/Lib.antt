@@ -12,6 +12,7 @@ pub mod FractionFits
 pub mod LastRates
 pub mod LeastTime
 pub mod NoLinks
+pub mod OneNumber
 pub mod Places
 pub mod Ratios
 pub mod Registry

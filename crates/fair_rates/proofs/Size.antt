@@ -6,6 +6,7 @@ pub mod Least
 pub mod Level
 pub mod Promise
 pub mod UnderCaps
+pub mod Unfair
 pub mod Users
 pub mod Whole
 pub mod WholeRates
