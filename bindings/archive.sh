@@ -23,7 +23,7 @@ set -- --extern p2p_simulated=../p2p_simulated/out/rlib/p2p_simulated.rlib -L de
 for library in std bytes std_heap std_alloc core; do
     set -- "$@" --extern $library="$kit/rlibs/$library.rlib"
 done
-for library in natural fair_rates link_simulation link_scheduler link_scripts link_pictures p2p_simulated; do
+for library in shared_list natural fair_rates link_simulation link_scheduler link_scripts link_pictures p2p_simulated; do
     set -- "$@" -L dependency=../$library/out/rlib
 done
 made_by "$kit/bin/rattle" build --crate-name p2p_simulated_c src/lib.rt --crate-type staticlib "$@" \
