@@ -184,6 +184,19 @@ impl<T: Drop> SharedList<T> {
         }
     }
 
+    /// The first item that is not before what is sought, where those that are before it stand before
+    /// all others.
+    pub fn first_from<S: Seek<T>>(&self, sought: &S) -> Option<&T> {
+        let node = self.root.as_ref()?;
+        if sought.is_before(&node.item) {
+            return node.after.first_from(sought);
+        }
+        match node.before.first_from(sought) {
+            None => Some(&node.item),
+            item => item,
+        }
+    }
+
     /// No more items come after the middle than before it, where memory allows. The list stays.
     pub(crate) fn lean_left(&mut self)
         ensures { self.new ≡ self.old }

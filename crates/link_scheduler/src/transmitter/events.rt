@@ -157,6 +157,19 @@ impl<P: Peer> Working<P> {
             self.complete_at_once(now, message, &mut ended)?;
             return Ok(ended);
         }
+        let (origin, recipient) = (&message.origin, &message.recipient);
+        let ready = super::look::ready_moment(self.pairs.last_arrival(origin, recipient), message.latency);
+        if ready <= now && self.waiting.first(origin, recipient).is_none() && !self.flights.has_pair(origin, recipient) {
+            if self.next_id == u64::MAX {
+                return Err(Error::FlowIdsUsedUp);
+            }
+            let message = Rc::new(self.alloc, message)?;
+            self.flights.push(message, self.next_id, now)?;
+            self.next_id += 1;
+            let queue = self.account(now)?;
+            self.finish(queue, now, &mut ended)?;
+            return Ok(ended);
+        }
         let pair = Key::new(&message.origin, &message.recipient)?;
         self.join(&pair, message)?;
         let queue = self.launch(&pair.origin, &pair.recipient, now)?;

@@ -163,12 +163,11 @@ impl<P: Peer> IdlePairs<P> {
     fn has(&self, moment: u64, origin: &P, recipient: &P) -> bool
         ensures { result ≡ is_listed P.cmp self.now.entries moment origin.now recipient.now }
     {
-        let at = self.entries.place(&IdlePlace {
+        match self.entries.first_from(&IdlePlace {
             moment,
             origin,
             recipient,
-        });
-        match self.entries.get(at) {
+        }) {
             None => false,
             Some(pair) => pair.compare(moment, origin, recipient).is_eq(),
         }
@@ -234,10 +233,7 @@ impl<P: Peer> IdlePairs<P> {
         ensures kept { OnErr result (self.new.entries ≡ self.old.entries) }
         ensures refused { IfErr result (λ e. e ≡ Error.OutOfMemory) }
     {
-        let mut pairs = self.clone()?;
-        pairs.shift(alloc, origin, recipient, old, new)?;
-        *self = pairs;
-        Ok(())
+        self.shift(alloc, origin, recipient, old, new)
     }
 }
 

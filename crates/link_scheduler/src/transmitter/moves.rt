@@ -23,12 +23,10 @@ impl<P: Peer> Working<P> {
         ensures refused { IfErr result (λ e. e ≡ Error.OutOfMemory) }
     {
         let before = idle_from(&self.flights, &self.waiting, &self.pairs, origin, recipient);
-        let mut pairs = self.pairs.clone()?;
-        pairs.raise(self.alloc, origin, recipient, moment)?;
-        let after = idle_from(&self.flights, &self.waiting, &pairs, origin, recipient);
+        self.pairs.raise(self.alloc, origin, recipient, moment)?;
+        let after = idle_from(&self.flights, &self.waiting, &self.pairs, origin, recipient);
         self.idle
             .change(self.alloc, origin, recipient, before, after)?;
-        self.pairs = pairs;
         Ok(())
     }
 
@@ -40,12 +38,10 @@ impl<P: Peer> Working<P> {
     {
         let (origin, recipient) = (&pair.origin, &pair.recipient);
         let before = idle_from(&self.flights, &self.waiting, &self.pairs, origin, recipient);
-        let mut waiting = self.waiting.clone()?;
-        waiting.push(self.alloc, message)?;
-        let after = idle_from(&self.flights, &waiting, &self.pairs, origin, recipient);
+        self.waiting.push(self.alloc, message)?;
+        let after = idle_from(&self.flights, &self.waiting, &self.pairs, origin, recipient);
         self.idle
             .change(self.alloc, origin, recipient, before, after)?;
-        self.waiting = waiting;
         Ok(())
     }
 
@@ -57,16 +53,12 @@ impl<P: Peer> Working<P> {
         ensures refused { IfErr result (λ e. e ≡ Error.OutOfMemory) }
     {
         let before = idle_from(&self.flights, &self.waiting, &self.pairs, origin, recipient);
-        let mut waiting = self.waiting.clone()?;
-        let Some(message) = waiting.take_first(origin, recipient)? else {
+        let Some(message) = self.waiting.take_first(origin, recipient)? else {
             return Ok(());
         };
-        let mut idle = self.idle.clone()?;
-        idle.change(self.alloc, origin, recipient, before, None)?;
+        self.idle.change(self.alloc, origin, recipient, before, None)?;
         self.flights.push(message, self.next_id, now)?;
         self.next_id += 1;
-        self.waiting = waiting;
-        self.idle = idle;
         Ok(())
     }
 

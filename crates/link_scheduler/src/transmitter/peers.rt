@@ -68,8 +68,8 @@ impl<P: Peer> Peers<P> {
     fn find(&self, peer: &P) -> Option<&PeerCaps<P>>
         ensures { option_map (λ entry. entry.now) result ≡ find (λ entry. is_eq (P.cmp entry.peer.value peer.now)) self.now.entries }
     {
-        let at = self.search(peer).ok()?;
-        self.entries.get(at)
+        let entry = self.entries.first_from(&PlaceOfPeer { peer })?;
+        if Rc::as_ref(&entry.peer).cmp(peer).is_eq() { Some(entry) } else { None }
     }
 
     /// The cap on all that the peer sends.
