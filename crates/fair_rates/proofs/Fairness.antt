@@ -15,6 +15,7 @@ pub mod OneAllocation
 pub mod Order
 pub mod Part
 pub mod SameSides
+pub mod Sharing
 pub mod Uncapped
 pub mod WholeRates
 pub mod WithinCap

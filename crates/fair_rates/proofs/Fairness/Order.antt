@@ -16,7 +16,8 @@ use Rattle.fair_rates.specs.Sides.Caps.{Caps}
 use Rattle.fair_rates.specs.Fairness.UnderCaps.{AreOfPeers, limits, sides_under, AreFairUnder, HaveDistinctIds, OrderDoesNotMatter}
 use Rattle.fair_rates.proofs.Lists.Members.{In, in_from_contains, contains_from_in, some_or_none}
 use Rattle.fair_rates.proofs.Fairness.OneAllocation.{one_allocation}
-use Rattle.fair_rates.proofs.Fairness.Among.{Allotted, flows_of, rates_of, total, AreFairAmong, among_from, under_from}
+use Rattle.fair_rates.proofs.Fairness.Among.{Allotted, flow_of, parts_of, flows_of, rates_of, AreFairAmong, among_from, under_from}
+use Rattle.fair_rates.proofs.Fairness.Sharing.{total}
 
 map-swap : {X Y : Type 0} (f : X → Y) (xs : List X) (i j : ℕ) → i < length xs → j < length xs → map f (swap xs i j) ≡ swap (map f xs) i j
 map-swap f [] i j il jl = refl
@@ -93,19 +94,21 @@ module _ {P : Type 0} (id : ℕ) where
 -- ---- fairness
 
 module _ {P : Type 0} (cmp : P → P → Ordering) (caps : Caps P) where
-  total_permuted : (s : Subject P) (xs ys : List (Allotted P)) → IsPermutation xs ys → total cmp caps s ys ≡ total cmp caps s xs
+  total_permuted : (s : Subject P) (xs ys : List (Allotted P)) → IsPermutation xs ys → total cmp caps flow_of parts_of s ys ≡ total cmp caps flow_of parts_of s xs
   total_permuted s xs ys p = sum_by-IsPermutation (λ (x : Allotted P). cond (limits cmp s x.flow) x.parts 0) xs ys p
 
   pub permuted_among : (per : ℕ) (xs ys : List (Allotted P)) → IsPermutation xs ys → AreFairAmong cmp caps per xs → AreFairAmong cmp caps per ys
   permuted_among per xs ys p f = record {
-    some_part = f.some_part;
-    within = λ s cap has. omega (arith, total_permuted s xs ys p, f.within s cap has);
-    held = λ x h c.
-        let b = f.held x (back x h) c in record {
-          by = b.by;
-          full = total_permuted b.by.subject xs ys p ∙ b.full;
-          greatest = λ y among l. b.greatest y (back y among) l;
-        };
+    shared = record {
+      some_part = f.shared.some_part;
+      within = λ s cap has. omega (arith, total_permuted s xs ys p, f.shared.within s cap has);
+      held = λ x h c.
+          let b = f.shared.held x (back x h) c in record {
+            by = b.by;
+            full = total_permuted b.by.subject xs ys p ∙ b.full;
+            greatest = λ y among l. b.greatest y (back y among) l;
+          };
+    };
     rated = λ x h. f.rated x (back x h);
   }
     where

@@ -14,7 +14,8 @@ use Rattle.fair_rates.specs.Sides.Subjects.{Subject, sent_by, received_by, sent_
 use Rattle.fair_rates.specs.Sides.Caps.{Caps}
 use Rattle.fair_rates.specs.Fairness.UnderCaps.{limits, is_among, is_of_set, HaveBothEndsOrNone, AreFairUnder, PartIsFair}
 use Rattle.fair_rates.proofs.Lists.Members.{In, in_map, from_filter, contains_from_in}
-use Rattle.fair_rates.proofs.Fairness.Among.{Allotted, flows_of, rates_of, total, total-cons, AreFairAmong, among_from, under_from}
+use Rattle.fair_rates.proofs.Fairness.Among.{Allotted, flow_of, parts_of, flows_of, rates_of, AreFairAmong, among_from, under_from}
+use Rattle.fair_rates.proofs.Fairness.Sharing.{part_shared}
 
 module _ {P : Type 0} (cmp : P → P → Ordering) (caps : Caps P) (mine : Flow P → Bool) where
   -- what the test passes
@@ -38,41 +39,12 @@ module _ {P : Type 0} (cmp : P → P → Ordering) (caps : Caps P) (mine : Flow 
       by_test true ih = ap (λ (rs : List Rate). x.rate ∷ rs) ih
       by_test false ih = ih
 
-  total_at_most : (s : Subject P) (xs : List (Allotted P)) → total cmp caps s (part xs) ≤ total cmp caps s xs
-  total_at_most s [] = omega arith
-  total_at_most s (x ∷ xs) = by_test (mine x.flow) (total_at_most s xs)
-    where
-      by_test : (b : Bool) → total cmp caps s (part xs) ≤ total cmp caps s xs → total cmp caps s (cond b (x ∷ part xs) (part xs)) ≤ total cmp caps s (x ∷ xs)
-      by_test true ih = omega (arith, ih, total-cons cmp caps s x (part xs), total-cons cmp caps s x xs)
-      by_test false ih = omega (arith, ih, total-cons cmp caps s x xs)
-
-  -- where all that a side limits pass, their total is the same
-  total_same : (s : Subject P) (xs : List (Allotted P)) → ((x : Allotted P) → In xs x → limits cmp s x.flow ≡ true → mine x.flow ≡ true) → total cmp caps s (part xs) ≡ total cmp caps s xs
-  total_same s [] all = refl
-  total_same s (x ∷ xs) all = by_test (mine x.flow) (limits cmp s x.flow) refl refl (total_same s xs (λ y h. all y (inr h)))
-    where
-      by_test : (b l : Bool) → mine x.flow ≡ b → limits cmp s x.flow ≡ l → total cmp caps s (part xs) ≡ total cmp caps s xs
-          → total cmp caps s (cond b (x ∷ part xs) (part xs)) ≡ total cmp caps s (x ∷ xs)
-      by_test true l own is ih = omega (arith, ih, total-cons cmp caps s x (part xs), total-cons cmp caps s x xs)
-      by_test false true own is ih = let passes : mine x.flow ≡ true = all x (inl refl) is in cc
-      by_test false false own is ih =
-          let nothing : cond (limits cmp s x.flow) x.parts 0 ≡ 0 = rw is refl in
-          omega (arith, ih, total-cons cmp caps s x xs, nothing)
-
   -- fairness of the part
   pub part_among : (per : ℕ) (xs : List (Allotted P)) → AreFairAmong cmp caps per xs
       → ((s : Subject P) (x y : Allotted P) → In xs x → In xs y → limits cmp s x.flow ≡ true → limits cmp s y.flow ≡ true → mine x.flow ≡ mine y.flow)
       → AreFairAmong cmp caps per (part xs)
   part_among per xs f apart = record {
-    some_part = f.some_part;
-    within = λ s cap has. omega (arith, total_at_most s xs, f.within s cap has);
-    held = λ x h c.
-        let own = from_filter (λ (x : Allotted P). mine x.flow) xs x h in
-        let b = f.held x own.0 c in record {
-          by = b.by;
-          full = total_same b.by.subject xs (λ y among l. apart b.by.subject y x among own.0 l b.by.limited ∙ own.1) ∙ b.full;
-          greatest = λ y among l. b.greatest y (from_filter (λ (x : Allotted P). mine x.flow) xs y among).0 l;
-        };
+    shared = part_shared cmp caps flow_of parts_of (λ (x : Allotted P). mine x.flow) per xs f.shared (λ s cap x y has. apart s x y);
     rated = λ x h. f.rated x (from_filter (λ (x : Allotted P). mine x.flow) xs x h).0;
   }
 

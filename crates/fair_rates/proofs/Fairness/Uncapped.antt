@@ -14,7 +14,8 @@ use Rattle.fair_rates.specs.Fairness.UnderCaps.{cap_of, AreOfPeers, UsesNoCap, l
 use Rattle.fair_rates.proofs.Sides.Subjects.{same_itself}
 use Rattle.fair_rates.proofs.Lists.Members.{in_get, get_from_map}
 use Rattle.fair_rates.proofs.Sides.EqualSubjects.{same_peer_itself, one_cap}
-use Rattle.fair_rates.proofs.Fairness.Among.{Allotted, IsCapped, IsRated, among_from, rate_there}
+use Rattle.fair_rates.proofs.Fairness.Among.{Allotted, IsRated, among_from, rate_there}
+use Rattle.fair_rates.proofs.Fairness.Sharing.{IsCapped}
 
 module _ {P : Type 0} (cmp : P → P → Ordering) (order : IsTotalOrder cmp) (caps : Caps P) where
   -- a subject that limits the flow has no cap
