@@ -6,6 +6,7 @@ pub mod AnswersUnderCaps
 pub mod Apart
 pub mod ById
 pub mod ClosedSides
+pub mod Decided
 pub mod Denominators
 pub mod Example
 pub mod ExistUnderCaps

@@ -1,4 +1,5 @@
 -- What is known of peers and of ordered pairs of them, their messages, and what waits.
+pub mod CapsOf
 pub mod Entries
 pub mod Messages
 pub mod PeerCaps

@@ -8,6 +8,7 @@ ghost use Rattle.link_simulation.specs.Rule.Planned.{IsPlanned};
 
 mod account;
 mod completion;
+mod component;
 mod drain;
 mod event;
 mod events;
@@ -21,6 +22,7 @@ mod pairs;
 mod peers;
 mod progress;
 mod rate;
+mod rates;
 mod readiness;
 mod reading;
 mod waiting;

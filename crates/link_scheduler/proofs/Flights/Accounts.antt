@@ -19,7 +19,8 @@ use Rattle.fair_rates.specs.Filling.FairParts.{flow_parts, parts_of_level}
 use Rattle.link_scheduler.specs.Flights.RatedFlights.{rated_flight_of, sending_of, are_standing, rated_by}
 use Rattle.fair_rates.specs.Fairness.UnderCaps.{AreOfPeers, sides_under}
 use Rattle.link_scheduler.specs.Pairs.Entries.{arrival_of}
-use Rattle.link_scheduler.specs.Calls.AsPlanned.{caps_of, AreFairPartsUnder}
+use Rattle.link_scheduler.specs.Calls.AsPlanned.{AreFairPartsUnder}
+use Rattle.link_scheduler.specs.Pairs.CapsOf.{caps_of}
 use Rattle.link_simulation.specs.Rule.Events.{Accounts}
 use Rattle.link_simulation.specs.Simulation.Messages.{Message, PairsAlike}
 use Rattle.link_simulation.specs.Rule.Planned.{Planned, RatedFlight, IsLeastMoment, SomeSpentAt, rated_messages, drained_to, is_spent}

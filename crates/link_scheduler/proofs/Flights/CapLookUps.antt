@@ -27,6 +27,7 @@ module _ {P E I L : Type 0} (egress : Calls E P) (ingress : Calls I P) (link : P
       record {
         grown = h.grown;
         one_each = h.one_each;
+        inside = h.inside;
         fair = subst (λ (bs : List (Answered P)). IsFair (sides_of cmp bs) found.scale (flow_parts found.levels.items found.level_of.items)) answered h.fair;
       }
 

@@ -140,17 +140,17 @@ standing_with cmp fs ss f s h one = zip_standing cmp _ _ (zip-push (StandsForSen
 
 -- ---- those that are done leave
 
-module _ {P : Type 0} (spent : RatedFlight P → Bool) where
+module _ {P X : Type 0} (message : X → Message P) (spent : X → Bool) where
   -- so far, up to a place: some have left, and the rest is to be looked at
-  pub record HaveLeft (old now : List (RatedFlight P)) (left : List (Message P)) (at : ℕ) : Type 0 where
-    pub before : List (RatedFlight P)
-    pub rest : List (RatedFlight P)
+  pub record HaveLeft (old now : List X) (left : List (Message P)) (at : ℕ) : Type 0 where
+    pub before : List X
+    pub rest : List X
     pub split : now ≡ before ++ rest
     pub is_at : at ≡ length before
-    pub leavers : left ++ rated_messages (filter spent rest) ≡ rated_messages (filter spent old)
+    pub leavers : left ++ map message (filter spent rest) ≡ map message (filter spent old)
     pub stay : before ++ filter (λ f. not (spent f)) rest ≡ filter (λ f. not (spent f)) old
 
-  pub none_left : (old : List (RatedFlight P)) → HaveLeft old old [] 0
+  pub none_left : (old : List X) → HaveLeft old old [] 0
   none_left old = record { before = []; rest = old; split = refl; is_at = refl; leavers = refl; stay = refl }
 
   filter_yes : {X : Type 0} (t : X → Bool) (x : X) (xs : List X) → t x ≡ true → filter t (x ∷ xs) ≡ x ∷ filter t xs
@@ -159,11 +159,11 @@ module _ {P : Type 0} (spent : RatedFlight P → Bool) where
   filter_no : {X : Type 0} (t : X → Bool) (x : X) (xs : List X) → t x ≡ false → filter t (x ∷ xs) ≡ filter t xs
   filter_no t x xs h = rw h refl
 
-  module _ (old now : List (RatedFlight P)) (left : List (Message P)) (at : ℕ) (h : HaveLeft old now left at) where
-    pub step_leaves : (m : Message P) (t : Bool) → at < length now → t ≡ true → ((d : RatedFlight P) → t ≡ spent (get_or now at d)) → ((d : RatedFlight P) → m ≡ (get_or now at d).message) → HaveLeft old (remove now at) (left ++ m ∷ []) at
+  module _ (old now : List X) (left : List (Message P)) (at : ℕ) (h : HaveLeft old now left at) where
+    pub step_leaves : (m : Message P) (t : Bool) → at < length now → t ≡ true → ((d : X) → t ≡ spent (get_or now at d)) → ((d : X) → m ≡ message (get_or now at d)) → HaveLeft old (remove now at) (left ++ m ∷ []) at
     step_leaves m t lt holds test is = by_rest h.rest h.split h.leavers h.stay
       where
-        by_rest : (rest : List (RatedFlight P)) → now ≡ h.before ++ rest → left ++ rated_messages (filter spent rest) ≡ rated_messages (filter spent old) → h.before ++ filter (λ f. not (spent f)) rest ≡ filter (λ f. not (spent f)) old
+        by_rest : (rest : List X) → now ≡ h.before ++ rest → left ++ map message (filter spent rest) ≡ map message (filter spent old) → h.before ++ filter (λ f. not (spent f)) rest ≡ filter (λ f. not (spent f)) old
             → HaveLeft old (remove now at) (left ++ m ∷ []) at
         by_rest [] split leavers stay = absurd (omega (arith, h.is_at, ap length split, length-append h.before []))
         by_rest (f ∷ tail) split leavers stay =
@@ -174,14 +174,14 @@ module _ {P : Type 0} (spent : RatedFlight P → Bool) where
               rest = tail;
               is_at = h.is_at;
               split = ap (λ l. remove l at) split ∙ ap (remove (h.before ++ f ∷ tail)) h.is_at ∙ remove-seam h.before tail f;
-              leavers = append_assoc left (m ∷ []) (rated_messages (filter spent tail)) ∙ ap (λ x. left ++ x ∷ rated_messages (filter spent tail)) (is f ∙ ap (λ g. g.message) here) ∙ ap (λ l. left ++ rated_messages l) (sym (filter_yes spent f tail passes)) ∙ leavers;
+              leavers = append_assoc left (m ∷ []) (map message (filter spent tail)) ∙ ap (λ x. left ++ x ∷ map message (filter spent tail)) (is f ∙ ap message here) ∙ ap (λ l. left ++ map message l) (sym (filter_yes spent f tail passes)) ∙ leavers;
               stay = ap (λ l. h.before ++ l) (sym (filter_no (λ g. not (spent g)) f tail (ap not passes))) ∙ stay;
             }
 
-    pub step_stays : (t : Bool) → at < length now → t ≡ false → ((d : RatedFlight P) → t ≡ spent (get_or now at d)) → HaveLeft old now left (at + 1)
+    pub step_stays : (t : Bool) → at < length now → t ≡ false → ((d : X) → t ≡ spent (get_or now at d)) → HaveLeft old now left (at + 1)
     step_stays t lt fails_here test = by_rest h.rest h.split h.leavers h.stay
       where
-        by_rest : (rest : List (RatedFlight P)) → now ≡ h.before ++ rest → left ++ rated_messages (filter spent rest) ≡ rated_messages (filter spent old) → h.before ++ filter (λ f. not (spent f)) rest ≡ filter (λ f. not (spent f)) old
+        by_rest : (rest : List X) → now ≡ h.before ++ rest → left ++ map message (filter spent rest) ≡ map message (filter spent old) → h.before ++ filter (λ f. not (spent f)) rest ≡ filter (λ f. not (spent f)) old
             → HaveLeft old now left (at + 1)
         by_rest [] split leavers stay = absurd (omega (arith, h.is_at, ap length split, length-append h.before []))
         by_rest (f ∷ tail) split leavers stay =
@@ -192,15 +192,15 @@ module _ {P : Type 0} (spent : RatedFlight P → Bool) where
               rest = tail;
               split = split ∙ sym (append_assoc h.before (f ∷ []) tail);
               is_at = ap (λ n. n + 1) h.is_at ∙ sym (length-append h.before (f ∷ []));
-              leavers = ap (λ l. left ++ rated_messages l) (sym (filter_no spent f tail fails)) ∙ leavers;
+              leavers = ap (λ l. left ++ map message l) (sym (filter_no spent f tail fails)) ∙ leavers;
               stay = append_assoc h.before (f ∷ []) (filter (λ g. not (spent g)) tail) ∙ ap (λ l. h.before ++ l) (sym (filter_yes (λ g. not (spent g)) f tail (ap not fails))) ∙ stay;
             }
 
-    pub all_looked_at : length now ≤ at → record { leavers : left ≡ rated_messages (filter spent old); stay : now ≡ filter (λ f. not (spent f)) old }
+    pub all_looked_at : length now ≤ at → record { leavers : left ≡ map message (filter spent old); stay : now ≡ filter (λ f. not (spent f)) old }
     all_looked_at le = by_rest h.rest h.split h.leavers h.stay
       where
-        by_rest : (rest : List (RatedFlight P)) → now ≡ h.before ++ rest → left ++ rated_messages (filter spent rest) ≡ rated_messages (filter spent old) → h.before ++ filter (λ f. not (spent f)) rest ≡ filter (λ f. not (spent f)) old
-            → record { leavers : left ≡ rated_messages (filter spent old); stay : now ≡ filter (λ f. not (spent f)) old }
+        by_rest : (rest : List X) → now ≡ h.before ++ rest → left ++ map message (filter spent rest) ≡ map message (filter spent old) → h.before ++ filter (λ f. not (spent f)) rest ≡ filter (λ f. not (spent f)) old
+            → record { leavers : left ≡ map message (filter spent old); stay : now ≡ filter (λ f. not (spent f)) old }
         by_rest [] split leavers stay = record { leavers = sym (append-nil left) ∙ leavers; stay = split ∙ stay }
         by_rest (f ∷ tail) split leavers stay = absurd (omega (arith, h.is_at, ap length split, length-append h.before (f ∷ tail)))
 

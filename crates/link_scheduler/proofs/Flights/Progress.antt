@@ -1,5 +1,5 @@
 -- What becomes of what is known of messages in flight.
-use Rattle.std.proofs.Common.{◌≡◌, ◌≢◌, All, ℕ, zero, suc, ◌-◌, ◌*◌, ◌<◌, ◌≤◌, ◌&&◌, List, [], ◌∷◌, ◌++◌, length, get_or, take, drop, Option, slice_get, Some, refl, ap, sym, ◌∙◌, arith}
+use Rattle.std.proofs.Common.{◌≡◌, ◌≢◌, All, ℕ, zero, suc, ◌-◌, ◌*◌, ◌<◌, ◌≤◌, ◌&&◌, List, [], ◌∷◌, ◌++◌, length, get_or, take, drop, true, Option, slice_get, Some, refl, ap, sym, ◌∙◌, arith}
 use Rattle.std.specs.List.{AllZip}
 use Rattle.std.proofs.lemmas.Option.{none-some, same_Some}
 use Rattle.std.proofs.lemmas.List.{append-nil}
@@ -89,7 +89,7 @@ module _ {P : Type 0} where
   rated_sending scale times grown levels others now (o ∷ os) [] ts some more is one z = absurd (omega arith)
   rated_sending scale times grown levels others now (o ∷ os) (s ∷ ss) [] some more is one z = absurd z
   rated_sending scale times grown levels others now (o ∷ os) (s ∷ ss) (t ∷ ts) some more is one z =
-      ap (λ (x : Progress P). rated_flight_of grown others (record x { level = o; updated = now }) ∷ sending_of grown others (levelled now os ts)) z.0
+      ap (λ (x : Progress P). rated_flight_of grown others (record x { level = o; updated = now; rated = true }) ∷ sending_of grown others (levelled now os ts)) z.0
       ∙ ap (λ (a : Amount). record (rated_flight_of scale levels s) { left = a; rate = Some (reduced (parts_of_level others o) grown); updated = now } ∷ sending_of grown others (levelled now os ts)) (grown_left scale times grown s.left some more is)
       ∙ ap (λ l. record (rated_flight_of scale levels s) { rate = Some (reduced (parts_of_level others o) grown); updated = now } ∷ l)
       (rated_sending scale times grown levels others now os ss ts some more is (omega arith) z.1)

@@ -1,5 +1,5 @@
 -- Rates from a moment on, and the first moment at which nothing is left.
-use Rattle.std.proofs.Common.{◌≡◌, ◌≢◌, All, ◌⊎◌, inl, inr, ℕ, zero, suc, ◌+◌, ◌-◌, ◌*◌, ◌<◌, ◌≤◌, List, [], ◌∷◌, ◌++◌, length, get_or, set, slice_get, min, Option, Some, None, refl, sym, ap, ◌∙◌, subst, arith, append_assoc}
+use Rattle.std.proofs.Common.{◌≡◌, ◌≢◌, All, ◌⊎◌, inl, inr, ℕ, zero, suc, ◌+◌, ◌-◌, ◌*◌, ◌<◌, ◌≤◌, List, [], ◌∷◌, ◌++◌, length, get_or, set, slice_get, min, true, Option, Some, None, refl, sym, ap, ◌∙◌, subst, arith, append_assoc}
 use Rattle.std.proofs.lemmas.Bool.{cases_lt}
 use Rattle.std.proofs.lemmas.List.{length-append, append-nil}
 use Rattle.std.proofs.lemmas.Option.{none-some, same_Some, slice_get-get_or, slice_get_within, get_or_from_slice_get}
@@ -95,7 +95,7 @@ levelled-append : {P : Type 0} (now : ℕ) (os ps : List (Option ℕ)) (ss ts : 
 levelled-append now [] ps [] ts same = refl
 levelled-append now [] ps (s ∷ ss) ts same = absurd (omega arith)
 levelled-append now (o ∷ os) ps [] ts same = absurd (omega arith)
-levelled-append now (o ∷ os) ps (s ∷ ss) ts same = ap (λ l. record s { level = o; updated = now } ∷ l) (levelled-append now os ps ss ts (omega arith))
+levelled-append now (o ∷ os) ps (s ∷ ss) ts same = ap (λ l. record s { level = o; updated = now; rated = true } ∷ l) (levelled-append now os ps ss ts (omega arith))
 
 -- ---- the levels of all, one after another
 
@@ -157,7 +157,7 @@ module _ {P : Type 0} (now : ℕ) (levels : List ℕ) (level_of : List (Option �
       set_there : (t : Progress P) → set new at t ≡ h.to ++ t ∷ next.rest
       set_there t = ap (λ l. set l at t) next.new_are ∙ ap (λ n. set (h.to ++ s ∷ next.rest) n t) h.to_at ∙ set-seam h.to next.rest s t
 
-      pub one_levelled : (t : Progress P) (o both : Option ℕ) → t ≡ record s { level = level; updated = now } → IsLeastMoment (RunsOutFrom (parts_of_level levels level) now s.left) o → both ≡ earlier finish o
+      pub one_levelled : (t : Progress P) (o both : Option ℕ) → t ≡ record s { level = level; updated = now; rated = true } → IsLeastMoment (RunsOutFrom (parts_of_level levels level) now s.left) o → both ≡ earlier finish o
           → AreLevelledUpTo (set new at t) (at + 1) both
       one_levelled t o both is first both_is =
           let own : IsLeastMoment (RunsOutFrom (parts_of_level levels t.level) t.updated t.left) o = subst (λ (x : Progress P). IsLeastMoment (RunsOutFrom (parts_of_level levels x.level) x.updated x.left) o) (sym is) first in

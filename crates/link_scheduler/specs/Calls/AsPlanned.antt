@@ -1,5 +1,5 @@
 -- How a scheduler is read as a planned world.
-use Rattle.std.specs.Prelude.{◌≡◌, ℕ, ◌*◌, ◌<◌, IfSome, Bool, false, List, length, map, Option, Some, None}
+use Rattle.std.specs.Prelude.{All, ◌≡◌, ℕ, ◌*◌, ◌<◌, IfSome, Bool, false, List, length, map, Option, Some, None}
 use Rattle.std.specs.List.{filter}
 use Rattle.std.specs.declared.cmp.Ordering.{Ordering}
 use Rattle.std.specs.declared.rc.Rc.{Rc}
@@ -11,25 +11,15 @@ use Rattle.fair_rates.specs.Fairness.Fair.{IsFair}
 use Rattle.fair_rates.specs.Filling.FairParts.{flow_parts}
 use Rattle.fair_rates.specs.Fairness.UnderCaps.{sides_under}
 use Rattle.link_scheduler.specs.declared.transmitter.message.Message as code
-use Rattle.link_scheduler.specs.declared.transmitter.peers.PeerCaps.{PeerCaps}
-use Rattle.link_scheduler.specs.declared.transmitter.pairs.Pair.{Pair}
 use Rattle.link_scheduler.specs.declared.transmitter.ledger.Ledger.{Ledger}
 use Rattle.fair_rates.specs.Sides.Caps.{Caps}
 use Rattle.link_simulation.specs.Simulation.World.{fronts}
 use Rattle.link_simulation.specs.Simulation.Messages.{Message}
 use Rattle.link_simulation.specs.Rule.Planned.{Planned, SomeReadyAt, may_launch, next_event}
 use Rattle.link_scheduler.specs.Pairs.Messages.{message_of}
-use Rattle.link_scheduler.specs.Pairs.PeerCaps.{egress_of, ingress_of}
-use Rattle.link_scheduler.specs.Pairs.Entries.{link_of, arrival_of}
+use Rattle.link_scheduler.specs.Pairs.CapsOf.{caps_of}
+use Rattle.link_scheduler.specs.Pairs.Entries.{arrival_of}
 use Rattle.link_scheduler.specs.Flights.InFlight.{in_flight}
-
--- the caps of peers and of ordered pairs
-abbrev pub caps_of : {P : Type 0} → (P → P → Ordering) → List (PeerCaps P) → List (Pair P) → Caps P
-caps_of cmp peers pairs = record {
-  egress = egress_of cmp peers;
-  ingress = ingress_of cmp peers;
-  link = link_of cmp pairs;
-}
 
 -- messages in the code
 abbrev pub messages : {P : Type 0} → List (Rc (code.Message P) Global) → List (Message P)
@@ -68,4 +58,5 @@ pub record AreFairPartsUnder {P : Type 0} (cmp : P → P → Ordering) (caps : C
     (found : FairParts) : Type 0 where
   pub grown : found.scale ≡ scale * product found.growth.items
   pub one_each : length found.level_of.items ≡ length flows
+  pub inside : All (λ level. IfSome level (λ place. place < length found.levels.items)) found.level_of.items
   pub fair : IsFair (sides_under cmp caps flows) found.scale (flow_parts found.levels.items found.level_of.items)

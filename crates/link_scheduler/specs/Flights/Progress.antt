@@ -1,5 +1,5 @@
 -- What becomes of what is known of a message in flight.
-use Rattle.std.specs.Prelude.{◌≡◌, ℕ, ◌-◌, ◌*◌, ◌≤◌, List, [], ◌∷◌, Option, Some, slice_get}
+use Rattle.std.specs.Prelude.{◌≡◌, ℕ, ◌-◌, ◌*◌, ◌≤◌, true, List, [], ◌∷◌, Option, Some, slice_get}
 use Rattle.std.specs.List.{AllZip}
 use Rattle.link_scheduler.specs.declared.transmitter.progress.Progress.{Progress}
 use Rattle.fair_rates.specs.Filling.FairParts.{parts_of_level}
@@ -17,7 +17,11 @@ GrowsBy times old new = new ≡ record old { left = old.left * times }
 abbrev pub levelled : {P : Type 0} → ℕ → List (Option ℕ) → List (Progress P) → List (Progress P)
 levelled now [] ss = []
 levelled now (level ∷ level_of) [] = []
-levelled now (level ∷ level_of) (s ∷ ss) = record s { level = level; updated = now } ∷ levelled now level_of ss
+levelled now (level ∷ level_of) (s ∷ ss) = record s {
+  level = level;
+  updated = now;
+  rated = true;
+} ∷ levelled now level_of ss
 
 -- what is left of each counts in units of which so many times as many are needed, and each has the level at its place
 -- from a moment on
@@ -42,3 +46,4 @@ pub record IsSameProgress {P : Type 0} (s copy : Progress P) : Type 0 where
   pub left : copy.left ≡ s.left
   pub level : copy.level ≡ s.level
   pub updated : copy.updated ≡ s.updated
+  pub rated : copy.rated ≡ s.rated

@@ -1,7 +1,7 @@
 //! What is in flight, accounted for at a moment.
 ghost use Rattle.std.specs.Prelude.{◌≡◌, ◌≢◌, ◌*◌, ℕ, All, ◌<◌, ◌&&◌, ◌||◌, Bool, true, not, is_none, map};
 ghost use Rattle.std.specs.Prelude.{length, slice_index_or, IfOk, IfErr, OnOk};
-ghost use Rattle.std.specs.List.{filter, list_all};
+ghost use Rattle.std.specs.List.{filter, list_all, AllZip};
 ghost use Rattle.fair_rates.specs.declared.bandwidth.Flow.{Flow as AnyFlow};
 ghost use Rattle.link_simulation.specs.Rule.Planned.{RatedFlight, rated_messages, drained_to, IsLeastMoment};
 ghost use Rattle.link_simulation.specs.Rule.Planned.{SomeSpentAt};
@@ -9,8 +9,10 @@ ghost use Rattle.link_simulation.specs.Rule.Planned.{is_spent};
 ghost use Rattle.link_scheduler.specs.Idle.AtRest.{of_pairs};
 ghost use Rattle.link_scheduler.specs.Idle.Index.{IsIndexOf};
 ghost use Rattle.link_scheduler.specs.Flights.InFlight.{in_flight};
+ghost use Rattle.link_scheduler.specs.Flights.Rated.{HaveSameUnits, HaveLevels, IsAsRated, ArePartedBy, is_out};
 ghost use Rattle.link_scheduler.specs.Pairs.Messages.{message_of};
-ghost use Rattle.link_scheduler.specs.Calls.AsPlanned.{caps_of, messages};
+ghost use Rattle.link_scheduler.specs.Calls.AsPlanned.{messages};
+ghost use Rattle.link_scheduler.specs.Pairs.CapsOf.{caps_of};
 ghost use Rattle.link_simulation.specs.Simulation.Rates.{is_unlimited as is_free};
 ghost use Rattle.link_simulation.specs.Rule.Events.{Accounts};
 
@@ -21,10 +23,11 @@ use super::ledger::Ledger;
 use super::message::Message;
 use super::pairs::Pairs;
 use super::peers::Peers;
+use super::progress::Progress;
 use super::rate::rerate_all;
 use super::readiness::rest_all;
 use super::waiting::Waiting;
-use fair_rates::bandwidth::{FairParts, Flow, fair_parts};
+use fair_rates::bandwidth::FairParts;
 use fair_rates::error::Error;
 use fair_rates::peer::Peer;
 use natural::Natural;
@@ -49,6 +52,8 @@ impl<P: Peer> Flights<P> {
     fn drain(&mut self, now: u64)
         ensures sending { in_flight self.new ≡ drained_to now (in_flight self.old) }
         ensures flows { self.new.flows.items ≡ self.old.flows.items }
+        ensures units { HaveSameUnits self.old self.new }
+        ensures levels { AllZip IsAsRated self.old.progress.items self.new.progress.items }
     {
         drain_all(&mut self.progress, &self.levels, now);
     }
@@ -56,8 +61,8 @@ impl<P: Peer> Flights<P> {
     /// Whether the message at that place is done: nothing is left of it, or it uses no capped side.
     fn is_done(&self, at: usize, peers: &Peers<P>, pairs: &Pairs<P>) -> bool
         requires { at < length self.now.flows.items }
-        ensures { (d : RatedFlight P) → result ≡ is_spent P.cmp (caps_of P.cmp peers.now.entries pairs.now.entries)
-            (slice_index_or (in_flight self.now) at d) }
+        ensures { (d : Progress P) → result ≡ is_out P.cmp (caps_of P.cmp peers.now.entries pairs.now.entries)
+            self.now.scale self.now.levels.items (slice_index_or self.now.progress.items at d) }
     {
         let one = &self.progress[at];
         one.left.is_zero() || is_unlimited(&one.message, peers, pairs)
@@ -76,6 +81,10 @@ impl<P: Peer> Flights<P> {
         ensures rest { OnOk result (in_flight self.new ≡ filter
             (λ f. not (is_spent P.cmp (caps_of P.cmp peers.now.entries pairs.now.entries) f))
             (in_flight self.old)) }
+        ensures units { HaveSameUnits self.old self.new }
+        ensures parted { IfOk result (λ done. ArePartedBy (is_out P.cmp
+            (caps_of P.cmp peers.now.entries pairs.now.entries) self.old.scale self.old.levels.items)
+            self.old.progress.items (messages done.items) self.new.progress.items) }
         ensures others { (test : AnyFlow P → Bool) → list_all test self.old.flows.items ≡ true
             → list_all test self.new.flows.items ≡ true }
         ensures refused { IfErr result (λ e. e ≡ Error.OutOfMemory) }
@@ -98,6 +107,7 @@ impl<P: Peer> Flights<P> {
         ensures flows { self.new.flows.items ≡ self.old.flows.items }
         ensures progress { self.new.progress.items ≡ self.old.progress.items }
         ensures one { length self.new.flows.items ≡ 0 → self.new.scale ≡ 1 }
+        ensures units { length self.new.flows.items ≢ 0 → HaveSameUnits self.old self.new }
     {
         if self.flows.is_empty() {
             self.scale = Natural::from_u64(*self.flows.allocator(), 1);
@@ -116,6 +126,7 @@ impl<P: Peer> Flights<P> {
         ensures messages { rated_messages (in_flight self.new) ≡ rated_messages (in_flight self.old) }
         ensures sending { OnOk result (in_flight self.new
             ≡ rated_by now rates.scale rates.levels.items rates.level_of.items (in_flight self.old)) }
+        ensures levels { OnOk result (HaveLevels rates self.old self.new) }
         ensures finish { IfOk result (IsLeastMoment (λ s. SomeSpentAt (in_flight self.new) s)) }
         ensures refused { IfErr result (λ e. e ≡ Error.OutOfMemory) }
     {
@@ -142,6 +153,10 @@ fn leave<P: Peer>(
         (in_flight flights.old))) }
     ensures rest { OnOk result (in_flight flights.new ≡ filter
         (λ f. not (is_spent P.cmp (caps_of P.cmp peers.now.entries pairs.now.entries) f)) (in_flight flights.old)) }
+    ensures units { HaveSameUnits flights.old flights.new }
+    ensures parted { IfOk result (λ done. ArePartedBy (is_out P.cmp
+        (caps_of P.cmp peers.now.entries pairs.now.entries) flights.old.scale flights.old.levels.items)
+        flights.old.progress.items (messages done.items) flights.new.progress.items) }
     ensures others { (test : AnyFlow P → Bool) → list_all test flights.old.flows.items ≡ true
         → list_all test flights.new.flows.items ≡ true }
     ensures indexed { OnOk result (IsIndexOf P.cmp (of_pairs P.cmp pairs.now.entries waiting.now.messages
@@ -154,7 +169,7 @@ fn leave<P: Peer>(
 }
 
 impl<P: Peer> Ledger<P> {
-    ghost use Rattle.link_scheduler.specs.Calls.AsPlanned.{planned, AreFairPartsUnder};
+    ghost use Rattle.link_scheduler.specs.Calls.AsPlanned.{planned};
 
     /// All that is in flight drains to that moment. What is done leaves, in order of start, and the
     /// rest gets its fair rates. The finish is planned anew.
@@ -163,6 +178,8 @@ impl<P: Peer> Ledger<P> {
             (messages leavers.items) (planned P.cmp self.new)) }
         ensures refused { IfErr result (λ e. e ≡ Error.OutOfMemory) }
     {
+        let was_stale = self.stale;
+        self.stale = true;
         self.flights.drain(now);
         let left = leave(
             self.alloc,
@@ -181,26 +198,13 @@ impl<P: Peer> Ledger<P> {
                 return Err(error);
             }
         };
+        let were_rated = !was_stale && !self.flights.is_empty();
         self.flights.renew_units();
-        let rates = self.rates()?;
+        let rates = self
+            .flights
+            .rates(&self.peers, &self.pairs, &done, were_rated)?;
         self.finish = self.flights.set_rates(rates, now)?;
+        self.stale = false;
         Ok(done)
-    }
-
-    /// The fair rate of each flow in flight.
-    fn rates(&self) -> Result<FairParts, Error>
-        ensures fair { IfOk result (AreFairPartsUnder P.cmp
-            (caps_of P.cmp self.now.peers.entries self.now.pairs.entries)
-            self.now.flights.flows.items self.now.flights.scale) }
-        ensures refused { IfErr result (λ e. e ≡ Error.OutOfMemory) }
-    {
-        fair_parts(
-            self.alloc,
-            &self.flights.flows,
-            |peer| self.peers.egress(peer),
-            |peer| self.peers.ingress(peer),
-            |origin, recipient| self.pairs.cap(origin, recipient),
-            &self.flights.scale,
-        )
     }
 }

@@ -44,6 +44,7 @@ impl<P: Peer> Flights<P> {
     ghost use Rattle.link_simulation.specs.Rule.Planned.{RatedFlight};
     ghost use Rattle.link_scheduler.specs.Pairs.Messages.{message_of};
     ghost use Rattle.link_scheduler.specs.Flights.InFlight.{in_flight};
+    ghost use Rattle.link_scheduler.specs.Flights.Rated.{KeepsRates, HaveSameUnits};
 
     pub(crate) fn new(alloc: Global) -> Self
         ensures flows { result.flows.items ≡ [] }
@@ -86,18 +87,14 @@ impl<P: Peer> Flights<P> {
             } ∷ []) }
         ensures flow { (test : AnyFlow P → Bool) → list_all test self.old.flows.items ≡ true
             → ((flow : AnyFlow P) → flow.id ≡ id → test flow ≡ true) → list_all test self.new.flows.items ≡ true }
+        ensures rates { KeepsRates self.old self.new }
         ensures kept { OnErr result ((in_flight self.new ≡ in_flight self.old)
             × (self.new.flows.items ≡ self.old.flows.items)) }
         ensures refused { IfErr result (λ e. e ≡ Error.OutOfMemory) }
     {
         let units = message.bytes.len() as u128 * UNITS_A_BYTE;
         let left = self.scale.product(units)?;
-        let flow = Flow {
-            id,
-            origin: message.origin.clone_peer().ok_or(Error::OutOfMemory)?,
-            recipient: message.recipient.clone_peer().ok_or(Error::OutOfMemory)?,
-            delivered: message.is_delivered(),
-        };
+        let flow = message.flow(id)?;
         self.progress.reserve(1)?;
         self.flows.push(flow)?;
         let progress = Progress {
@@ -105,6 +102,7 @@ impl<P: Peer> Flights<P> {
             left,
             level: None,
             updated: now,
+            rated: false,
         };
         self.progress.push(progress)?;
         Ok(())
@@ -116,6 +114,10 @@ impl<P: Peer> Flights<P> {
         ensures sending { in_flight self.new ≡ remove (in_flight self.old) at }
         ensures taken { (d : RatedFlight P) → message_of result.value
             ≡ (slice_index_or (in_flight self.old) at d).message }
+        ensures units { HaveSameUnits self.old self.new }
+        ensures rest { self.new.progress.items ≡ remove self.old.progress.items at }
+        ensures message { (d : Progress P) → result.value
+            ≡ (slice_index_or self.old.progress.items at d).message.value }
         ensures length { length self.new.flows.items + 1 ≡ length self.old.flows.items }
         ensures others { (test : AnyFlow P → Bool) → list_all test self.old.flows.items ≡ true
             → list_all test self.new.flows.items ≡ true }

@@ -1,9 +1,11 @@
 //! The state that a call works on.
-ghost use Rattle.std.specs.Prelude.{◌≡◌, true, nat_lt, OnOk, IfErr};
+ghost use Rattle.std.specs.Prelude.{◌≡◌, true, false, nat_lt, OnOk, IfErr};
 ghost use Rattle.std.specs.List.{list_all};
 ghost use Rattle.link_scheduler.specs.Idle.Index.{IsIndexOf};
 ghost use Rattle.link_scheduler.specs.Flights.InFlight.{in_flight};
 ghost use Rattle.link_scheduler.specs.Idle.AtRest.{of_pairs};
+ghost use Rattle.link_scheduler.specs.Pairs.CapsOf.{caps_of};
+ghost use Rattle.link_scheduler.specs.Flights.Rated.{AreRated, rated_ones};
 
 use super::flights::Flights;
 use super::idle::IdlePairs;
@@ -32,8 +34,12 @@ pub(crate) struct Ledger<P: Peer> {
     /// The moment at which a waiting message starts next.
     pub(crate) start: Option<u64>,
     pub ghost fresh: { list_all (λ flow. nat_lt flow.id next_id) flights.flows.items ≡ true },
+    /// Whether the caps have changed since the last account, or that one was refused.
+    pub(crate) stale: bool,
     pub ghost indexed: { IsIndexOf P.cmp (of_pairs P.cmp pairs.entries waiting.messages
         (in_flight flights)) idle.entries },
+    pub ghost rated: { stale ≡ false → ∥ AreRated P.cmp (caps_of P.cmp peers.entries pairs.entries)
+        flights.scale flights.levels.items (rated_ones flights.progress.items) ∥₁ },
 }
 
 impl<P: Peer> Ledger<P> {
@@ -55,6 +61,7 @@ impl<P: Peer> Ledger<P> {
             next_id: first,
             finish: None,
             start: None,
+            stale: true,
         }
     }
 
@@ -74,6 +81,7 @@ impl<P: Peer> Ledger<P> {
         ensures refused { IfErr result (λ e. e ≡ Error.OutOfMemory) }
     {
         self.limited = true;
+        self.stale = true;
         self.peers.set(self.alloc, peer, egress, ingress)
     }
 
@@ -95,6 +103,7 @@ impl<P: Peer> Ledger<P> {
         let mut pairs = self.pairs.clone()?;
         pairs.set_cap(self.alloc, origin, recipient, cap)?;
         self.limited = true;
+        self.stale = true;
         self.pairs = pairs;
         Ok(())
     }
@@ -130,6 +139,7 @@ impl<P: Peer> Clone for Ledger<P> {
             next_id: self.next_id,
             finish: self.finish,
             start: self.start,
+            stale: self.stale,
         })
     }
 }

@@ -1,5 +1,5 @@
 //! What is known of a message in flight beside its flow.
-ghost use Rattle.std.specs.Prelude.{◌≡◌, ◌≢◌, ◌-◌, ◌*◌, ◌<◌, ◌≤◌, IfErr, OnOk, MatchOption};
+ghost use Rattle.std.specs.Prelude.{◌≡◌, ◌≢◌, ◌-◌, ◌*◌, ◌<◌, ◌≤◌, true, IfErr, OnOk, MatchOption};
 ghost use Rattle.fair_rates.specs.Fairness.Exists.{product};
 ghost use Rattle.fair_rates.specs.Filling.FairParts.{parts_of_level};
 
@@ -21,6 +21,8 @@ pub(crate) struct Progress<P> {
     /// follows.
     pub(crate) level: Option<usize>,
     pub(crate) updated: u64,
+    /// Whether an account has given it a rate since its start.
+    pub(crate) rated: bool,
 }
 
 impl<P: Peer> Clone for Progress<P> {
@@ -35,6 +37,7 @@ impl<P: Peer> Clone for Progress<P> {
             left: self.left.clone()?,
             level: self.level,
             updated: self.updated,
+            rated: self.rated,
         })
     }
 }
@@ -83,12 +86,13 @@ impl<P: Peer> Progress<P> {
         now: u64,
     ) -> Option<u64>
         requires { self.old.left ≢ 0 }
-        ensures after { self.new ≡ record self.old { level = level; updated = now } }
+        ensures after { self.new ≡ record self.old { level = level; updated = now; rated = true } }
         ensures finish { IsLeastMoment (λ s. (now ≤ s) × (self.old.left ≤ parts_of_level levels.now level *
             (s - now))) result }
     {
         self.level = level;
         self.updated = now;
+        self.rated = true;
         let rate = rate_at(levels, level)?;
         let time = self.left.least_multiple(rate)?;
         now.checked_add(time)

@@ -1,6 +1,7 @@
 use Rattle.link_simulation.specs.Rule.Planned.{is_spent}
 use Rattle.link_scheduler.specs.Flights.InFlight.{in_flight}
-use Rattle.link_scheduler.specs.Calls.AsPlanned.{caps_of, messages}
+use Rattle.link_scheduler.specs.Calls.AsPlanned.{messages}
+use Rattle.link_scheduler.specs.Pairs.CapsOf.{caps_of}
 use Rattle.link_scheduler.proofs.Flights.Accounts.{arrivals_looked_up}
 use Rattle.link_scheduler.proofs.Idle.IndexChanges.{left_unlisted, left_index}
 use Rattle.link_scheduler.proofs.transmitter.account.leave.Goals as goal

@@ -1,4 +1,4 @@
-use Rattle.std.proofs.Common.{◌≡◌, ◌≢◌, All, ◌++◌, List, length, take, drop, sym, ◌∙◌, ap, subst, arith}
+use Rattle.std.proofs.Common.{◌≡◌, ◌≢◌, All, ◌++◌, List, length, take, drop, refl, sym, ◌∙◌, ap, subst, arith}
 use Rattle.link_scheduler.specs.declared.transmitter.progress.Progress.{Progress}
 use Rattle.std.specs.List.{AllZip}
 use Rattle.fair_rates.specs.Fairness.Exists.{product}
@@ -9,6 +9,10 @@ use Rattle.link_scheduler.proofs.Flights.Progress.{stand_same, messages_same, ra
 use Rattle.link_scheduler.proofs.Flights.Rating.{left_there, first_spent}
 use Rattle.link_scheduler.proofs.Flights.InFlight.{standing_length}
 use Rattle.link_scheduler.proofs.Flights.Units.{other_factor}
+use Rattle.link_scheduler.specs.Flights.Rated.{rated_ones, sent_messages}
+use Rattle.link_scheduler.proofs.Flights.Components.{levels_of}
+use Rattle.link_scheduler.proofs.Flights.Rated.{all_have_rates, levels_given, sent_alike}
+use Rattle.fair_rates.proofs.Lists.Zips.{zip-length}
 use Rattle.link_scheduler.proofs.transmitter.flights.Flights.set_rates.Goals as goal
 
 pub rerate_all-requires-clause-left : goal.rerate_all-requires-clause-left
@@ -78,3 +82,22 @@ returns-clause-messages g c =
     let items : take old.progress.len (c.rerate_all.new.progress ++ drop (length c.rerate_all.new.progress) old.progress.items) ≡ c.rerate_all.new.progress = written_back old.progress.len old.progress.items c.rerate_all.new.progress old.progress.ok.0 lengths in
     ap (λ l. rated_messages (sending_of c.args.rates.scale c.args.rates.levels.items l)) items
     ∙ messages_same old.scale c.args.rates.scale old.levels.items c.args.rates.levels.items old.progress.items c.rerate_all.new.progress (rw (← c.deref_mut.ensures.value) c.rerate_all.ensures.same)
+
+pub returns-clause-levels : goal.returns-clause-levels
+returns-clause-levels g c =
+    let old = c.args.self.now in
+    let rates = c.args.rates in
+    let lengths : length c.rerate_all.new.progress ≡ length old.progress.items = omega arith in
+    let items : take old.progress.len (c.rerate_all.new.progress ++ drop (length c.rerate_all.new.progress) old.progress.items) ≡ c.rerate_all.new.progress = written_back old.progress.len old.progress.items c.rerate_all.new.progress old.progress.ok.0 lengths in
+    let r = c.in_ok-finish.ensures.rerated in
+    let grows : AllZip (GrowsBy (product rates.growth.items)) old.progress.items r.grown = subst (λ (l : List (Progress g.row.P.Denot)). AllZip (GrowsBy (product rates.growth.items)) l r.grown) c.deref_mut.ensures.value r.grows in
+    let is = items ∙ r.levels in
+    let one_each : length rates.level_of.items ≡ length r.grown =
+    c.requires.one_each ∙ standing_length g.P.Ord.cmp old.flows.items old.progress.items old.stand ∙ zip-length (GrowsBy (product rates.growth.items)) old.progress.items r.grown grows in
+    record {
+      scale = refl;
+      levels = refl;
+      rated = ap rated_ones is ∙ all_have_rates c.args.now rates.level_of.items r.grown one_each ∙ sym is;
+      level_of = ap levels_of is ∙ levels_given c.args.now rates.level_of.items r.grown one_each;
+      messages = ap sent_messages items ∙ sent_alike old.progress.items c.rerate_all.new.progress (rw (← c.deref_mut.ensures.value) c.rerate_all.ensures.same);
+    }

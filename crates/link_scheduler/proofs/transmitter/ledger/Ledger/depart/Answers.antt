@@ -1,4 +1,6 @@
-use Rattle.std.proofs.Common.{◌≡◌, ◌+◌, length, map, if◌then◌else◌, None, Some, sym, ap, ◌∙◌}
+use Rattle.std.proofs.Common.{◌≡◌, ◌+◌, true, subst, length, map, if◌then◌else◌, None, Some, sym, ap, ◌∙◌}
+use Rattle.std.specs.List.{list_all}
+use Rattle.link_scheduler.specs.Idle.AtRest.{of_pairs}
 use Rattle.std.specs.Prelude.{option_map, nat_lt, ◌&&◌}
 use Rattle.fair_rates.specs.Lists.WithoutFirst.{without_first}
 use Rattle.fair_rates.specs.Numbers.Amount.{whole}
@@ -6,12 +8,12 @@ use Rattle.fair_rates.specs.Sides.Subjects.{same_peer}
 use Rattle.link_simulation.specs.Simulation.Messages.{Message}
 use Rattle.link_simulation.specs.Rule.Planned.{RatedFlight}
 use Rattle.link_simulation.proofs.Simulation.Queue.{find_passes}
-use Rattle.link_scheduler.specs.Idle.Index.{is_listed}
+use Rattle.link_scheduler.specs.Idle.Index.{is_listed, IsIndexOf}
 use Rattle.link_scheduler.specs.Flights.InFlight.{in_flight}
 use Rattle.link_scheduler.specs.Idle.Departed.{is_moment}
 use Rattle.link_scheduler.specs.Pairs.Messages.{message_of}
 use Rattle.link_scheduler.specs.Pairs.Entries.{first_of, arrival_of}
-use Rattle.link_scheduler.specs.Calls.AsPlanned.{caps_of}
+use Rattle.link_scheduler.specs.Pairs.CapsOf.{caps_of}
 use Rattle.link_scheduler.proofs.Flights.Accounts.{arrivals_looked_up}
 use Rattle.link_scheduler.proofs.Idle.IndexChanges.{departed_index}
 use Rattle.link_scheduler.proofs.Idle.Starting.{ids_later, id_below}
@@ -30,6 +32,9 @@ invariant_of-self-2 g c =
     let taken = c.in_ok-message.ensures.rest ∙ ap (λ ms. without_first (λ (n : Message g.row.P.Denot). same_peer cmp o n.origin && same_peer cmp r n.recipient) (map message_of ms)) c.in_ok-waiting.ensures.cases in
     let own = find_passes (λ (n : Message g.row.P.Denot). same_peer cmp o n.origin && same_peer cmp r n.recipient) m (map message_of old.waiting.messages) found in
     record {
+      rated = λ e.
+          let kept = c.push.ensures.rates in
+          rw (kept.rated, kept.units.scale, kept.units.levels) (old.rated e);
       fresh = c.push.ensures.flow (λ flow. nat_lt flow.id (old.next_id + 1)) (ids_later old.flights.flows.items old.next_id old.fresh) (λ flow is. id_below flow.id old.next_id is);
       indexed = departed_index cmp g.met.P.Ord.total old.pairs.entries old.waiting.messages c.take_first.new.self.messages (in_flight old.flights) (in_flight c.push.new.self) f o r old.idle.entries c.change.new.self.entries
           (arrivals_looked_up cmp g.met.P.Ord.total old.pairs.entries) taken c.in_ok-push.ensures.sending own old.indexed
@@ -59,4 +64,14 @@ returns-clause-departed g c =
         finish = old.finish;
         start = old.start;
       };
+    }
+
+pub invariant_of-self-in-Break-branch-6 : goal.invariant_of-self-in-Break-branch-6
+invariant_of-self-in-Break-branch-6 g c =
+    let rates = c.push.ensures.rates in
+    let old = c.args.self.now in
+    record {
+      rated = λ e. rw (rates.rated, rates.units.scale, rates.units.levels) (old.rated e);
+      fresh = subst (λ fs. list_all (λ flow. nat_lt flow.id old.next_id) fs ≡ true) (sym c.in_err-push.ensures.kept.1) old.fresh;
+      indexed = subst (λ fs. IsIndexOf g.P.Ord.cmp (of_pairs g.P.Ord.cmp old.pairs.entries old.waiting.messages fs) old.idle.entries) (sym c.in_err-push.ensures.kept.0) old.indexed;
     }

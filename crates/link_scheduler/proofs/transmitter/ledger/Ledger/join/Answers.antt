@@ -4,7 +4,7 @@ use Rattle.link_simulation.specs.Rule.Planned.{queued}
 use Rattle.link_simulation.proofs.Rule.SamePlanned.{peer_turned}
 use Rattle.link_scheduler.specs.Flights.InFlight.{in_flight}
 use Rattle.link_scheduler.specs.Pairs.Messages.{message_of}
-use Rattle.link_scheduler.specs.Calls.AsPlanned.{caps_of}
+use Rattle.link_scheduler.specs.Pairs.CapsOf.{caps_of}
 use Rattle.link_scheduler.specs.Pairs.Entries.{arrival_of}
 use Rattle.link_scheduler.proofs.Flights.Accounts.{arrivals_looked_up}
 use Rattle.link_scheduler.proofs.Idle.IndexChanges.{queued_index}
@@ -19,6 +19,7 @@ invariant_of-self-2 g c =
     let own = and_from _ _ (peer_turned cmp g.met.P.Ord.total _ _ c.requires.origin) (peer_turned cmp g.met.P.Ord.total _ _ c.requires.recipient) in
     record {
       fresh = old.fresh;
+      rated = old.rated;
       indexed = queued_index cmp g.met.P.Ord.total old.pairs.entries old.waiting.messages c.push.new.self.messages (in_flight old.flights) c.args.pair.now.origin c.args.pair.now.recipient m old.idle.entries c.change.new.self.entries
           (arrivals_looked_up cmp g.met.P.Ord.total old.pairs.entries) joined own old.indexed c.in_ok-change.ensures.listed c.idle_from-after.ensures;
     }

@@ -1,7 +1,9 @@
-use Rattle.std.proofs.Common.{map, ap, ◌∙◌}
+use Rattle.std.proofs.Common.{map, ap, sym, subst, ◌∙◌}
 use Rattle.link_scheduler.specs.Flights.InFlight.{in_flight}
 use Rattle.link_scheduler.specs.Pairs.Messages.{message_of}
 use Rattle.link_scheduler.specs.Pairs.Entries.{link_of, arrival_of, raised_at}
+use Rattle.link_scheduler.specs.Pairs.CapsOf.{caps_of}
+use Rattle.link_scheduler.specs.Flights.Rated.{AreRated, rated_ones}
 use Rattle.link_scheduler.specs.Pairs.PeerCaps.{egress_of, ingress_of}
 use Rattle.link_scheduler.proofs.Flights.Accounts.{arrivals_looked_up}
 use Rattle.link_scheduler.proofs.Idle.IndexChanges.{raised_index}
@@ -12,6 +14,8 @@ invariant_of-self-2 g c =
     let old = c.args.self.now in
     record {
       fresh = old.fresh;
+      rated = λ e. subst (λ l. ∥ AreRated g.P.Ord.cmp (record (caps_of g.P.Ord.cmp old.peers.entries old.pairs.entries) { link = l }) old.flights.scale old.flights.levels.items (rated_ones old.flights.progress.items) ∥₁)
+          (sym (c.in_ok-raise.ensures.link ∙ ap (link_of g.P.Ord.cmp) c.in_ok-pairs.ensures.cases)) (old.rated e);
       indexed = raised_index g.P.Ord.cmp g.met.P.Ord.total old.pairs.entries c.raise.new.self.entries old.waiting.messages (in_flight old.flights) c.args.origin.now c.args.recipient.now c.args.moment old.idle.entries c.change.new.self.entries
           (arrivals_looked_up g.P.Ord.cmp g.met.P.Ord.total c.raise.new.self.entries) (c.in_ok-raise.ensures.arrival ∙ ap (λ es. raised_at g.P.Ord.cmp (arrival_of g.P.Ord.cmp es) c.args.origin.now c.args.recipient.now c.args.moment) c.in_ok-pairs.ensures.cases) old.indexed c.in_ok-change.ensures.listed c.idle_from-after.ensures;
     }

@@ -4,7 +4,8 @@ use Rattle.link_scheduler.specs.Idle.AtRest.{of_pairs}
 use Rattle.link_scheduler.specs.Idle.Index.{IsIndexOf}
 use Rattle.link_scheduler.specs.Flights.InFlight.{in_flight}
 use Rattle.link_scheduler.specs.Pairs.Entries.{arrival_of}
-use Rattle.link_scheduler.specs.Calls.AsPlanned.{planned, caps_of}
+use Rattle.link_scheduler.specs.Calls.AsPlanned.{planned}
+use Rattle.link_scheduler.specs.Pairs.CapsOf.{caps_of}
 use Rattle.link_scheduler.proofs.Flights.Accounts.{arrivals_looked_up}
 use Rattle.link_scheduler.proofs.Calls.OnlyWaiting.{enqueue_waits}
 use Rattle.link_scheduler.proofs.Idle.IndexChanges.{waited_index}
@@ -33,6 +34,7 @@ invariant_of-self g c =
     let old = c.args.self.now in
     record {
       fresh = old.fresh;
+      rated = old.rated;
       indexed = on_either c.push.result
           (λ joined. waited_index cmp g.met.P.Ord.total old.pairs.entries old.waiting.messages c.push.new.self.messages (in_flight old.flights) (message_of c.args.message) old.idle.entries joined c.requires.busy (arrivals_looked_up cmp g.met.P.Ord.total old.pairs.entries) old.indexed)
           (λ same. subst (λ ms. IsIndexOf cmp (of_pairs cmp old.pairs.entries ms (in_flight old.flights)) old.idle.entries) (sym same) old.indexed)

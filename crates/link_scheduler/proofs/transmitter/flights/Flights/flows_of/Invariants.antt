@@ -1,0 +1,7 @@
+use Rattle.std.proofs.Common.{◌≡◌, true, take}
+use Rattle.link_scheduler.specs.Flights.Components.{those_of}
+use Rattle.link_scheduler.specs.Flights.RatedFlights.{are_standing}
+use Rattle.link_scheduler.proofs.transmitter.flights.Flights.flows_of.Given as goal
+
+abbrev pub invariant-loop-one : goal.invariant-loop-one
+invariant-loop-one g l = are_standing g.P.Ord.cmp l.flows.items (those_of g.P.Ord.cmp l.component (take l.one-index l.one-items)) ≡ true
