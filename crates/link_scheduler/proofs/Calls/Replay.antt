@@ -1,5 +1,6 @@
 -- Replies in turn, and the replies to a list of calls.
 use Rattle.std.proofs.Common.{◌≡◌, ℕ, suc, ◌+◌, ◌-◌, ◌<◌, ◌≤◌, List, [], ◌∷◌, ◌++◌, length, get_or, refl, sym, ap, ◌∙◌, subst, arith, append_assoc, append-nil, drop, drop-cons, length-drop}
+use Rattle.std.specs.declared.cmp.Ord.{Ghosts}
 use Rattle.std.specs.declared.cmp.Ordering.{Ordering}
 use Rattle.std.specs.Cmp.{IsTotalOrder}
 use Rattle.fair_rates.specs.declared.error.Error.{Error}
@@ -10,7 +11,11 @@ use Rattle.link_simulation.specs.Rule.Planned.{Planned}
 use Rattle.link_simulation.specs.Rule.Events.{Obeys}
 use Rattle.link_simulation.specs.Simulation.World.{Completed, goes}
 use Rattle.link_simulation.specs.Rule.Refusals.{MayBeRefused, Obeyed}
-use Rattle.link_scheduler.specs.Calls.Replay.{IsReplyTo}
+use Rattle.link_scheduler.specs.declared.replay.Reply as reply_code
+use Rattle.link_scheduler.specs.declared.replay.Reply.TheVariants as replies
+use Rattle.link_scheduler.specs.declared.transmitter.State.{State}
+use Rattle.link_scheduler.specs.Calls.State.{planned_of}
+use Rattle.link_scheduler.specs.Calls.Replay.{reply_of, IsAnswered, MayRefuseCall, IsReplyTo}
 use Rattle.link_simulation.specs.Rule.SamePlanned.{IsSamePlanned, GoesByRule, IsSameCall, same_limit, same_limit_link, same_enqueue, same_advance, same_next}
 use Rattle.link_simulation.proofs.Rule.SamePlanned.{same_turned, same_chain, peer_turned, message_turned}
 use Rattle.link_simulation.proofs.Rule.SameSteps.{course_went}
@@ -144,3 +149,29 @@ module _ {P : Type 0} (cmp : P → P → Ordering) (order : IsTotalOrder cmp) wh
   one_for_each p (call_advance now ∷ calls) (reply_done cs ∷ replies) h = ap suc (one_for_each h.1 calls replies h.4)
   one_for_each p (call_advance now ∷ calls) (reply_refused why ∷ replies) h = ap suc (one_for_each p calls replies h.1)
   one_for_each p (call_advance now ∷ calls) (reply_next t ∷ replies) h = absurd h
+
+-- what a scheduler answers, or refuses, is a reply by the event rule
+module _ {P : Type 0} {order : Ghosts P} {b : _} {c : _} (old new : State P order b c) where
+  pub answered_by_rule : (call : Call P) (reply : reply_code.Reply P) → IsAnswered old call reply new → IsReplyTo order.cmp (planned_of old) call (reply_of reply) (planned_of new)
+  answered_by_rule call_next (replies.Next moment) h = (h.0.planned, ap planned_of h.1)
+  answered_by_rule call_next (replies.Done completions) h = h
+  answered_by_rule call_next (replies.Refused why) h = h
+  answered_by_rule (call_limit now peer egress ingress) (replies.Done completions) h = h.by_rule
+  answered_by_rule (call_limit now peer egress ingress) (replies.Next moment) h = h
+  answered_by_rule (call_limit now peer egress ingress) (replies.Refused why) h = absurd h
+  answered_by_rule (call_limit_link now origin recipient cap) (replies.Done completions) h = h.by_rule
+  answered_by_rule (call_limit_link now origin recipient cap) (replies.Next moment) h = h
+  answered_by_rule (call_limit_link now origin recipient cap) (replies.Refused why) h = absurd h
+  answered_by_rule (call_enqueue now m) (replies.Done completions) h = h.by_rule
+  answered_by_rule (call_enqueue now m) (replies.Next moment) h = h
+  answered_by_rule (call_enqueue now m) (replies.Refused why) h = absurd h
+  answered_by_rule (call_advance now) (replies.Done completions) h = h.by_rule
+  answered_by_rule (call_advance now) (replies.Next moment) h = h
+  answered_by_rule (call_advance now) (replies.Refused why) h = absurd h
+
+  pub refused_by_rule : (call : Call P) (why : Error) → MayRefuseCall old call why → planned_of new ≡ planned_of old → IsReplyTo order.cmp (planned_of old) call (reply_refused why) (planned_of new)
+  refused_by_rule call_next why h same = h
+  refused_by_rule (call_limit now peer egress ingress) why h same = (h.by_rule, same)
+  refused_by_rule (call_limit_link now origin recipient cap) why h same = (h.by_rule, same)
+  refused_by_rule (call_enqueue now m) why h same = (h.by_rule, same)
+  refused_by_rule (call_advance now) why h same = (h.by_rule, same)

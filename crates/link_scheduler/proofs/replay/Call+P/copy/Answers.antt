@@ -1,7 +1,7 @@
 use Rattle.std.proofs.Common.{refl, sym}
 use Rattle.link_simulation.specs.Rule.SamePlanned.{same_limit, same_limit_link, same_enqueue, same_advance, same_next}
-use Rattle.link_scheduler.proofs.replay.Call.copy.Goals as goal
-use Rattle.link_scheduler.proofs.replay.Call.copy.Goals.{in-Limit+in_ok-copy_of-in-Limit, in-LimitLink+in_ok-copy_of-in-LimitLink+in_ok-copy_of-in-LimitLink-2, in-Enqueue+in_ok-copy_of-in-Enqueue+in_ok-copy_of-in-Enqueue-2+in_ok-share-in-Enqueue, in-Advance, in-Next}
+use Rattle.link_scheduler.proofs.replay.Call+P.copy.Goals as goal
+use Rattle.link_scheduler.proofs.replay.Call+P.copy.Goals.{in-Limit+in_ok-copy_of-in-Limit, in-LimitLink+in_ok-copy_of-in-LimitLink+in_ok-copy_of-in-LimitLink-2, in-Enqueue+in_ok-copy_of-in-Enqueue+in_ok-copy_of-in-Enqueue-2+in_ok-share-in-Enqueue, in-Advance, in-Next}
 
 pub returns-clause-same : goal.returns-clause-same
 returns-clause-same g c = elim c.match-self.branch [
