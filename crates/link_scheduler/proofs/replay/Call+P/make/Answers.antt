@@ -1,6 +1,9 @@
 use Rattle.std.proofs.lemmas.Result.{err_from_is_err_and}
 use Rattle.link_scheduler.proofs.replay.Call+P.make.Goals as goal
-use Rattle.link_scheduler.proofs.replay.Call+P.make.Goals.{in-Limit+in_ok-completions-in-Limit, in-LimitLink+in_ok-completions-in-LimitLink, in-Enqueue+in_ok-completions-in-Enqueue, in-Advance+in_ok-completions-in-Advance}
+use Rattle.link_scheduler.proofs.replay.Call+P.make.Goals.{in-Limit+in_ok-completions-in-Limit}
+use Rattle.link_scheduler.proofs.replay.Call+P.make.Goals.{in-LimitLink+in_ok-completions-in-LimitLink}
+use Rattle.link_scheduler.proofs.replay.Call+P.make.Goals.{in-Enqueue+in_ok-completions-in-Enqueue}
+use Rattle.link_scheduler.proofs.replay.Call+P.make.Goals.{in-Advance+in_ok-completions-in-Advance}
 
 pub returns-clause-made : goal.returns-clause-made
 returns-clause-made g c = elim c.match-self.branch [
