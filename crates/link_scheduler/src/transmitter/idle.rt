@@ -168,12 +168,11 @@ impl<P: Peer> IdlePairs<P> {
     fn has(&self, moment: u64, origin: &P, recipient: &P) -> bool
         ensures { result ≡ is_listed P.cmp self.now.entries moment origin.now recipient.now }
     {
-        let at = self.entries.place(&IdlePlace {
+        match self.entries.first_from(&IdlePlace {
             moment,
             origin,
             recipient,
-        });
-        match self.entries.get(at) {
+        }) {
             None => false,
             Some(pair) => pair.compare(moment, origin, recipient).is_eq(),
         }

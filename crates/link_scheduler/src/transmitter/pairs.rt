@@ -86,8 +86,14 @@ impl<P: Peer> Pairs<P> {
         ensures { option_map (λ pair. pair.now) result ≡ find
             (λ pair. is_eq (pair_cmp P.cmp (key_of pair) (origin.now, recipient.now))) self.now.entries }
     {
-        let at = self.search(origin, recipient).ok()?;
-        self.entries.get(at)
+        let pair = self
+            .entries
+            .first_from(&PlaceOfPair { origin, recipient })?;
+        if pair.key.compare(origin, recipient).is_eq() {
+            Some(pair)
+        } else {
+            None
+        }
     }
 
     /// The cap on what goes from the one to the other.
