@@ -105,6 +105,7 @@ impl<P: Peer> Waiting<P> {
         ensures rest { OnOk result (map message_of self.new.messages
             ≡ without_first (λ m. same_peer P.cmp origin.now m.origin && same_peer P.cmp recipient.now m.recipient)
             (map message_of self.old.messages)) }
+        ensures kept { OnErr result (self.new.messages ≡ self.old.messages) }
         ensures refused { IfErr result (λ e. e ≡ Error.OutOfMemory) }
     {
         let Some(at) = self.search(origin, recipient) else {
