@@ -1,7 +1,7 @@
 //! Changes of what is known of one pair, and of its place among the idle pairs.
-ghost use Rattle.std.specs.Prelude.{◌≡◌, ◌<◌, true, [], OnOk, OnErr, IfErr};
+ghost use Rattle.std.specs.Prelude.{◌≡◌, ◌<◌, true, [], None, OnOk, OnErr, IfErr};
 ghost use Rattle.link_simulation.specs.Simulation.World.{goes};
-ghost use Rattle.link_simulation.specs.Rule.Events.{Enqueues, with_queued};
+ghost use Rattle.link_simulation.specs.Rule.Events.{Enqueues, with_queued, launched};
 ghost use Rattle.link_scheduler.specs.Pairs.Messages.{message_of};
 ghost use Rattle.link_scheduler.specs.Idle.PairsOfMessages.{NamesPairOf};
 ghost use Rattle.link_scheduler.specs.Pairs.Entries.{first_of, raised_at};
@@ -14,6 +14,7 @@ use super::readiness::{PeerPair, idle_from};
 use super::waiting::Waiting;
 use fair_rates::error::Error;
 use fair_rates::peer::Peer;
+use std::rc::Rc;
 
 impl<P: Peer> Ledger<P> {
     ghost use Rattle.link_scheduler.specs.Calls.AsPlanned.{planned, may_launch_first};
@@ -95,6 +96,21 @@ impl<P: Peer> Ledger<P> {
             return Err(error);
         }
         self.next_id += 1;
+        Ok(())
+    }
+
+    /// A message of a pair of which none waits is in flight from now on, under the next flow id.
+    pub(crate) fn start(&mut self, message: Message<P>, now: u64) -> Result<(), Error>
+        requires alone { first_of P.cmp (planned P.cmp self.old).waiting message.origin message.recipient ≡ None }
+        requires id { self.old.next_id < 18446744073709551615 }
+        ensures started { OnOk result (planned P.cmp self.new ≡ launched P.cmp now
+            (with_queued P.cmp (planned P.cmp self.old) (message_of message)) (message_of message)) }
+        ensures refused { IfErr result (λ e. e ≡ Error.OutOfMemory) }
+    {
+        let id = self.next_id;
+        let message = Rc::new(self.alloc, message)?;
+        self.flights.push(message, id, now)?;
+        self.next_id = id + 1;
         Ok(())
     }
 
