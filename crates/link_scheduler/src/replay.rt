@@ -1,18 +1,18 @@
 //! A list of calls on a new scheduler, and what each is answered.
-ghost use Rattle.std.specs.Prelude.{◌≡◌, ◌≢◌, true, length, map, [], ◌∷◌, IfOk, IfErr};
+ghost use Rattle.std.specs.Prelude.{◌≡◌, ◌≢◌, true, length, map, [], ◌∷◌, IfOk, IfErr, OnErr};
 ghost use Rattle.fair_rates.specs.Sides.Subjects.{same_peer};
 ghost use Rattle.link_simulation.specs.Simulation.World.{new_world};
 ghost use Rattle.link_simulation.specs.Simulation.Calls.{call_next};
 ghost use Rattle.link_simulation.specs.Laws.Isolation.{InTime};
 ghost use Rattle.link_simulation.specs.Rule.Planned.{new_planned};
 ghost use Rattle.link_simulation.specs.Rule.Refusals.{Obeyed};
-ghost use Rattle.link_simulation.specs.Simulation.Replies.{reply_refused, Agrees};
+ghost use Rattle.link_simulation.specs.Simulation.Replies.{Agrees};
 ghost use Rattle.link_simulation.specs.Rule.SamePlanned.{IsSameCall};
 ghost use Rattle.link_scheduler.specs.Calls.State.{planned_of};
 ghost use Rattle.link_simulation.specs.Laws.Conserved.{AreConserved};
 ghost use Rattle.link_simulation.specs.Laws.Replies.{AlwaysSoFar, RefusesForMemoryAlone, CompletePairsInOrder};
 ghost use Rattle.link_simulation.specs.Laws.Replies.{IsolateSets};
-ghost use Rattle.link_scheduler.specs.Calls.Replay.{call_of, reply_of, IsReplyTo};
+ghost use Rattle.link_scheduler.specs.Calls.Replay.{call_of, reply_of, IsAnswered, MayRefuseCall, IsReplyTo};
 
 use crate::transmitter::{Completion, State};
 use bytes::Bytes;
@@ -21,8 +21,11 @@ use fair_rates::peer::Peer;
 use std::alloc::Global;
 
 /// A call of a scheduler, with its arguments: see the functions of `State`.
-#[derive(Drop)]
-pub enum Call<P> {
+///
+/// `M` is what it has of a message: the bytes, where nothing else is said. A line of a script says
+/// how long the message is, and is a `Call<u64, usize>`.
+#[derive(Debug, Drop)]
+pub enum Call<P, M = Bytes> {
     /// `State::limit`.
     Limit {
         now: u64,
@@ -43,7 +46,7 @@ pub enum Call<P> {
         origin: P,
         recipient: P,
         channel: u64,
-        message: Bytes,
+        message: M,
         latency: u64,
         should_deliver: bool,
     },
@@ -96,6 +99,60 @@ pub fn replay<P: Peer>(alloc: Global, calls: &[Call<P>]) -> Result<Vec<Reply<P>>
 }
 
 impl<P: Peer> Call<P> {
+    /// Makes the call as the function of `State` does that it stands for, and takes its arguments.
+    ///
+    /// `Call::Next` is answered `Reply::Next`, and any other call `Reply::Done`. What is refused is
+    /// an error here, and never a `Reply::Refused`.
+    ///
+    /// # Errors
+    ///
+    /// What the scheduler knows and plans then stays as it was. `Call::Next` is never refused.
+    ///
+    /// - `OutOfMemory` where memory was refused.
+    /// - `MomentTooLate` where a message completes and would arrive past the last moment,
+    ///   18446744073709551615.
+    /// - `FlowIdsUsedUp` where a message would start and no flow id is left.
+    pub fn make(self, state: &mut State<P>) -> Result<Reply<P>, Error>
+        ensures made { IfOk result (λ reply. IsAnswered state.old (call_of self) reply state.new) }
+        ensures refused { IfErr result (MayRefuseCall state.old (call_of self)) }
+        ensures unchanged { OnErr result (planned_of state.new ≡ planned_of state.old) }
+    {
+        let completions = match self {
+            Call::Limit {
+                now,
+                peer,
+                egress,
+                ingress,
+            } => state.limit(now, &peer, egress, ingress)?,
+            Call::LimitLink {
+                now,
+                origin,
+                recipient,
+                cap,
+            } => state.limit_link(now, &origin, &recipient, cap)?,
+            Call::Enqueue {
+                now,
+                origin,
+                recipient,
+                channel,
+                message,
+                latency,
+                should_deliver,
+            } => state.enqueue(
+                now,
+                origin,
+                recipient,
+                channel,
+                message,
+                latency,
+                should_deliver,
+            )?,
+            Call::Advance { now } => state.advance(now)?,
+            Call::Next => return Ok(Reply::Next(state.next())),
+        };
+        Ok(Reply::Done(completions))
+    }
+
     /// Makes the call, unless it is refused.
     fn answer(&self, state: &mut State<P>) -> Reply<P>
         ensures in_time { InTime (call_of self.now ∷ []) }
@@ -160,49 +217,6 @@ impl<P: Peer> Call<P> {
             Call::Advance { now } => Call::Advance { now: *now },
             Call::Next => Call::Next,
         })
-    }
-
-    /// Makes the call, which takes its arguments.
-    fn make(self, state: &mut State<P>) -> Result<Reply<P>, Error>
-        ensures made { IfOk result (λ reply. IsReplyTo P.cmp (planned_of state.old) (call_of self) (reply_of reply)
-            (planned_of state.new)) }
-        ensures refused { IfErr result (λ e. IsReplyTo P.cmp (planned_of state.old) (call_of self) (reply_refused e)
-            (planned_of state.new)) }
-    {
-        let completions = match self {
-            Call::Limit {
-                now,
-                peer,
-                egress,
-                ingress,
-            } => state.limit(now, &peer, egress, ingress)?,
-            Call::LimitLink {
-                now,
-                origin,
-                recipient,
-                cap,
-            } => state.limit_link(now, &origin, &recipient, cap)?,
-            Call::Enqueue {
-                now,
-                origin,
-                recipient,
-                channel,
-                message,
-                latency,
-                should_deliver,
-            } => state.enqueue(
-                now,
-                origin,
-                recipient,
-                channel,
-                message,
-                latency,
-                should_deliver,
-            )?,
-            Call::Advance { now } => state.advance(now)?,
-            Call::Next => return Ok(Reply::Next(state.next())),
-        };
-        Ok(Reply::Done(completions))
     }
 }
 

@@ -1,10 +1,9 @@
 -- Words that are taken column by column.
 use Rattle.std.proofs.Common.{◌≡◌, ℕ, ◌^◌, ◌<◌, ◌≤◌, Bool, true, false, ◌&&◌, eqb, List, [], ◌∷◌, ◌++◌, Option, None, Some, codes, refl, sym, ap, ap₂, ◌∙◌, subst, arith, eq-eqb}
-use Rattle.link_scripts.specs.declared.linkrun.command.Call.TheVariants as calls
+use Rattle.link_scheduler.specs.declared.replay.Call.TheVariants as calls
 use Rattle.link_scripts.specs.declared.linkrun.command.Command.{Command}
 use Rattle.link_scripts.specs.declared.linkrun.command.Command.TheVariants as commands
-use Rattle.link_scripts.specs.declared.linkrun.command.Parcel.{Parcel}
-use Rattle.link_scripts.specs.Script.{Takes, number_word, cap_word, flag_word, parcel_words, command_words, IsNumberInRange, IsCapInRange, IsSmallCapInRange, IsLengthInRange, IsParcelInRange, IsCommandInRange}
+use Rattle.link_scripts.specs.Script.{Takes, number_word, cap_word, flag_word, command_words, IsNumberInRange, IsCapInRange, IsSmallCapInRange, IsLengthInRange, IsCommandInRange}
 
 -- one word was taken, or no value in range stands there
 abbrev pub TakesWord : {A : Type 0} → (A → List ℕ) → (A → Type 0) → List (List ℕ) → Option A → List (List ℕ) → Type 0
@@ -45,7 +44,8 @@ module _ {A B : Type 0} {word : A → List ℕ} {R : A → Type 0} {words : B �
           absurd (cc no_more)
 
 -- not even the first word, before others
-pub takes_none : {A B : Type 0} (words : B → List (List ℕ)) (S : B → Type 0) {word : A → List ℕ} {R : A → Type 0} {w0 w1 : List (List ℕ)} → TakesWord word R w0 None w1 → Takes (word_then word words) (AreIn R S) w0 None w1
+pub takes_none : {A B : Type 0} (words : B → List (List ℕ)) (S : B → Type 0) {word : A → List ℕ} {R : A → Type 0}
+    {w0 w1 : List (List ℕ)} → TakesWord word R w0 None w1 → Takes (word_then word words) (AreIn R S) w0 None w1
 takes_none {A} {B} words S {word} {R} {w0} {w1} first = record { taken = tt; missed = missed }
   where
     missed : (both : A × B) (rest : List (List ℕ)) → AreIn R S both → w0 ≡ word_then word words both ++ rest → None ≡ Some both
@@ -105,38 +105,6 @@ message_words = word_then number_word (word_then number_word (word_then number_w
 
 abbrev IsMessageIn : MessageColumns → Type 0
 IsMessageIn = AreIn IsNumberInRange (AreIn IsNumberInRange (AreIn IsNumberInRange (AreIn IsNumberInRange AreLengthIn)))
-
-abbrev columns_of : Parcel → MessageColumns
-columns_of p = (p.now, (p.origin, (p.recipient, (p.channel, (p.length, (p.latency, p.should_deliver))))))
-
-abbrev parcel_of : MessageColumns → Parcel
-parcel_of m = record { now = m.0; origin = m.1.0; recipient = m.1.1.0; channel = m.1.1.1.0; length = m.1.1.1.1.0; latency = m.1.1.1.1.1.0; should_deliver = m.1.1.1.1.1.1 }
-
-columns_in : (p : Parcel) → IsParcelInRange p → IsMessageIn (columns_of p)
-columns_in p range = (range.0, (range.1, (range.2, (range.3, (range.4, (range.5, tt))))))
-
-module _ {w0 w1 : List (List ℕ)} where
-  -- the columns of a message are a message
-  pub takes_parcel : {m : MessageColumns} → Takes message_words IsMessageIn w0 (Some m) w1 → Takes parcel_words IsParcelInRange w0 (Some (parcel_of m)) w1
-  takes_parcel {m} takes = record {
-    taken = (takes.taken.0, let range = takes.taken.1 in (range.0, range.1.0, range.1.1.0, range.1.1.1.0, range.1.1.1.1.0, range.1.1.1.1.1.0));
-    missed = missed;
-  }
-    where
-      missed : (p : Parcel) (rest : List (List ℕ)) → IsParcelInRange p → w0 ≡ parcel_words p ++ rest → Some (parcel_of m) ≡ Some p
-      missed p rest range said =
-          let same : Some m ≡ Some (columns_of p) = takes.missed (columns_of p) rest (columns_in p range) said in
-          let is : m ≡ columns_of p = cc same in
-          ap (λ c. Some (parcel_of c)) is
-
-  -- and where some column is missing there is none
-  pub takes_no_parcel : Takes message_words IsMessageIn w0 None w1 → Takes parcel_words IsParcelInRange w0 None w1
-  takes_no_parcel takes = record { taken = tt; missed = missed }
-    where
-      missed : (p : Parcel) (rest : List (List ℕ)) → IsParcelInRange p → w0 ≡ parcel_words p ++ rest → None ≡ Some p
-      missed p rest range said =
-          let none : None ≡ Some (columns_of p) = takes.missed (columns_of p) rest (columns_in p range) said in
-          absurd (cc none)
 
 -- ---- a command behind its first word
 
@@ -228,6 +196,9 @@ limit_of x = commands.Schedule (calls.Limit x.0 x.1.0 x.1.1.0 x.1.1.1)
 abbrev limit_link_of : ℕ × (ℕ × (ℕ × Option ℕ)) → Command
 limit_link_of x = commands.Schedule (calls.LimitLink x.0 x.1.0 x.1.1.0 x.1.1.1)
 
+abbrev enqueue_of : MessageColumns → Command
+enqueue_of m = commands.Schedule (calls.Enqueue m.0 m.1.0 m.1.1.0 m.1.1.1.0 m.1.1.1.1.0 m.1.1.1.1.1.0 m.1.1.1.1.1.1)
+
 only_link : AreOfName (codes "link") link_of
 only_link (commands.Link origin recipient cap) ws rest said = ((origin, (recipient, cap)), refl)
 only_link (commands.Flow f) ws rest said = absurd (apart (codes "link") (codes "flow") ws _ refl said)
@@ -236,7 +207,7 @@ only_link (commands.Ingress peer cap) ws rest said = absurd (apart (codes "link"
 only_link commands.Rates ws rest said = absurd (apart (codes "link") (codes "rates") ws _ refl said)
 only_link (commands.Schedule (calls.Limit now peer egress ingress)) ws rest said = absurd (apart (codes "link") (codes "limit") ws _ refl said)
 only_link (commands.Schedule (calls.LimitLink now origin recipient cap)) ws rest said = absurd (apart (codes "link") (codes "limitlink") ws _ refl said)
-only_link (commands.Schedule (calls.Enqueue parcel)) ws rest said = absurd (apart (codes "link") (codes "enqueue") ws _ refl said)
+only_link (commands.Schedule (calls.Enqueue now origin recipient channel length latency should_deliver)) ws rest said = absurd (apart (codes "link") (codes "enqueue") ws _ refl said)
 only_link (commands.Schedule (calls.Advance now)) ws rest said = absurd (apart (codes "link") (codes "advance") ws _ refl said)
 only_link (commands.Schedule calls.Next) ws rest said = absurd (apart (codes "link") (codes "next") ws _ refl said)
 
@@ -248,7 +219,7 @@ only_limit (commands.Ingress peer cap) ws rest said = absurd (apart (codes "limi
 only_limit (commands.Link origin recipient cap) ws rest said = absurd (apart (codes "limit") (codes "link") ws _ refl said)
 only_limit commands.Rates ws rest said = absurd (apart (codes "limit") (codes "rates") ws _ refl said)
 only_limit (commands.Schedule (calls.LimitLink now origin recipient cap)) ws rest said = absurd (apart (codes "limit") (codes "limitlink") ws _ refl said)
-only_limit (commands.Schedule (calls.Enqueue parcel)) ws rest said = absurd (apart (codes "limit") (codes "enqueue") ws _ refl said)
+only_limit (commands.Schedule (calls.Enqueue now origin recipient channel length latency should_deliver)) ws rest said = absurd (apart (codes "limit") (codes "enqueue") ws _ refl said)
 only_limit (commands.Schedule (calls.Advance now)) ws rest said = absurd (apart (codes "limit") (codes "advance") ws _ refl said)
 only_limit (commands.Schedule calls.Next) ws rest said = absurd (apart (codes "limit") (codes "next") ws _ refl said)
 
@@ -260,9 +231,36 @@ only_limit_link (commands.Ingress peer cap) ws rest said = absurd (apart (codes 
 only_limit_link (commands.Link origin recipient cap) ws rest said = absurd (apart (codes "limitlink") (codes "link") ws _ refl said)
 only_limit_link commands.Rates ws rest said = absurd (apart (codes "limitlink") (codes "rates") ws _ refl said)
 only_limit_link (commands.Schedule (calls.Limit now peer egress ingress)) ws rest said = absurd (apart (codes "limitlink") (codes "limit") ws _ refl said)
-only_limit_link (commands.Schedule (calls.Enqueue parcel)) ws rest said = absurd (apart (codes "limitlink") (codes "enqueue") ws _ refl said)
+only_limit_link (commands.Schedule (calls.Enqueue now origin recipient channel length latency should_deliver)) ws rest said = absurd (apart (codes "limitlink") (codes "enqueue") ws _ refl said)
 only_limit_link (commands.Schedule (calls.Advance now)) ws rest said = absurd (apart (codes "limitlink") (codes "advance") ws _ refl said)
 only_limit_link (commands.Schedule calls.Next) ws rest said = absurd (apart (codes "limitlink") (codes "next") ws _ refl said)
+
+into_columns : (m : MessageColumns) → IsCommandInRange (enqueue_of m) → IsMessageIn m
+into_columns m r = (r.0, (r.1, (r.2, (r.3, (r.4, (r.5, tt))))))
+
+of_columns : (m : MessageColumns) → IsMessageIn m → IsCommandInRange (enqueue_of m)
+of_columns m r = (r.0, r.1.0, r.1.1.0, r.1.1.1.0, r.1.1.1.1.0, r.1.1.1.1.1.0)
+
+only_enqueue : AreOfName (codes "enqueue") enqueue_of
+only_enqueue (commands.Schedule (calls.Enqueue now origin recipient channel length latency should_deliver)) ws rest said =
+    ((now, (origin, (recipient, (channel, (length, (latency, should_deliver)))))), refl)
+only_enqueue (commands.Flow f) ws rest said = absurd (apart (codes "enqueue") (codes "flow") ws _ refl said)
+only_enqueue (commands.Egress peer cap) ws rest said = absurd (apart (codes "enqueue") (codes "egress") ws _ refl said)
+only_enqueue (commands.Ingress peer cap) ws rest said = absurd (apart (codes "enqueue") (codes "ingress") ws _ refl said)
+only_enqueue (commands.Link origin recipient cap) ws rest said = absurd (apart (codes "enqueue") (codes "link") ws _ refl said)
+only_enqueue commands.Rates ws rest said = absurd (apart (codes "enqueue") (codes "rates") ws _ refl said)
+only_enqueue (commands.Schedule (calls.Limit now peer egress ingress)) ws rest said = absurd (apart (codes "enqueue") (codes "limit") ws _ refl said)
+only_enqueue (commands.Schedule (calls.LimitLink now origin recipient cap)) ws rest said = absurd (apart (codes "enqueue") (codes "limitlink") ws _ refl said)
+only_enqueue (commands.Schedule (calls.Advance now)) ws rest said = absurd (apart (codes "enqueue") (codes "advance") ws _ refl said)
+only_enqueue (commands.Schedule calls.Next) ws rest said = absurd (apart (codes "enqueue") (codes "next") ws _ refl said)
+
+module _ {w1 w2 : List (List ℕ)} where
+  -- the columns of a message behind the word are its command, and where some column is missing there is none
+  pub takes_enqueue : {m : MessageColumns} → Takes message_words IsMessageIn w1 (Some m) w2 → Takes command_words IsCommandInRange (codes "enqueue" ∷ w1) (Some (enqueue_of m)) w2
+  takes_enqueue takes = takes_command (codes "enqueue") message_words IsMessageIn enqueue_of (λ m. refl) into_columns of_columns only_enqueue refl takes
+
+  pub takes_no_enqueue : Takes message_words IsMessageIn w1 None w2 → Takes command_words IsCommandInRange (codes "enqueue" ∷ w1) None w2
+  takes_no_enqueue takes = takes_no_command (codes "enqueue") message_words IsMessageIn enqueue_of (λ m. refl) into_columns of_columns only_enqueue refl takes
 
 module _ {w0 w1 w2 : List (List ℕ)} where
   -- the columns behind the word are a command
@@ -275,15 +273,23 @@ module _ {w0 w1 w2 : List (List ℕ)} where
   pub takes_limit_link : {x : ℕ × (ℕ × (ℕ × Option ℕ))} → w0 ≡ codes "limitlink" ∷ w1 → Takes (word_then number_word link_words) (AreIn IsNumberInRange (IsLinkIn IsSmallCapInRange)) w1 (Some x) w2
       → Takes command_words IsCommandInRange w0 (Some (limit_link_of x)) w2
   takes_limit_link named takes =
-      takes_command (codes "limitlink") (word_then number_word link_words) (AreIn IsNumberInRange (IsLinkIn IsSmallCapInRange)) limit_link_of (λ x. refl) (λ x r. (r.0, (r.1, (r.2, r.3)))) (λ x r. (r.0, r.1.0, r.1.1.0, r.1.1.1)) only_limit_link named takes
+      takes_command (codes "limitlink") (word_then number_word link_words)
+      (AreIn IsNumberInRange (IsLinkIn IsSmallCapInRange)) limit_link_of (λ x. refl) (λ x r. (r.0, (r.1, (r.2, r.3))))
+      (λ x r. (r.0, r.1.0, r.1.1.0, r.1.1.1)) only_limit_link named takes
 
   -- and where some column is missing there is none
   pub takes_no_link : w0 ≡ codes "link" ∷ w1 → Takes link_words (IsLinkIn IsCapInRange) w1 None w2 → Takes command_words IsCommandInRange w0 None w2
   takes_no_link named takes = takes_no_command (codes "link") link_words (IsLinkIn IsCapInRange) link_of (λ x. refl) (λ x r. (r.0, (r.1, r.2))) (λ x r. (r.0, r.1.0, r.1.1)) only_link named takes
 
   pub takes_no_limit : w0 ≡ codes "limit" ∷ w1 → Takes limit_words IsLimitIn w1 None w2 → Takes command_words IsCommandInRange w0 None w2
-  takes_no_limit named takes = takes_no_command (codes "limit") limit_words IsLimitIn limit_of (λ x. refl) (λ x r. (r.0, (r.1, (r.2, r.3)))) (λ x r. (r.0, r.1.0, r.1.1.0, r.1.1.1)) only_limit named takes
+  takes_no_limit named takes =
+      takes_no_command (codes "limit") limit_words IsLimitIn limit_of (λ x. refl) (λ x r. (r.0, (r.1, (r.2, r.3))))
+      (λ x r. (r.0, r.1.0, r.1.1.0, r.1.1.1)) only_limit named takes
 
-  pub takes_no_limit_link : w0 ≡ codes "limitlink" ∷ w1 → Takes (word_then number_word link_words) (AreIn IsNumberInRange (IsLinkIn IsSmallCapInRange)) w1 None w2 → Takes command_words IsCommandInRange w0 None w2
+  pub takes_no_limit_link : w0 ≡ codes "limitlink" ∷ w1
+      → Takes (word_then number_word link_words) (AreIn IsNumberInRange (IsLinkIn IsSmallCapInRange)) w1 None w2
+      → Takes command_words IsCommandInRange w0 None w2
   takes_no_limit_link named takes =
-      takes_no_command (codes "limitlink") (word_then number_word link_words) (AreIn IsNumberInRange (IsLinkIn IsSmallCapInRange)) limit_link_of (λ x. refl) (λ x r. (r.0, (r.1, (r.2, r.3)))) (λ x r. (r.0, r.1.0, r.1.1.0, r.1.1.1)) only_limit_link named takes
+      takes_no_command (codes "limitlink") (word_then number_word link_words)
+      (AreIn IsNumberInRange (IsLinkIn IsSmallCapInRange)) limit_link_of (λ x. refl) (λ x r. (r.0, (r.1, (r.2, r.3))))
+      (λ x r. (r.0, r.1.0, r.1.1.0, r.1.1.1)) only_limit_link named takes

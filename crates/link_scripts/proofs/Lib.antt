@@ -4,6 +4,7 @@ pub mod LinkCaps
 pub mod Numerals
 pub mod Printing
 pub mod Reading
+pub mod Scheduling
 pub mod Splitting
 pub mod Tracing
 pub mod Wording

@@ -14,5 +14,7 @@ same_link : (origin recipient p q : ℕ) → is_eq (pair_cmp nat_cmp (origin, re
 same_link origin recipient p q = sym (tied_then (nat_cmp origin p) (nat_cmp recipient q)) ∙ ap₂ (λ x y. x && y) (same_number origin p) (same_number recipient q)
 
 -- where the cap at one key was set, that of one link was
-pub with_one_link : (old : ℕ → ℕ → Option ℕ) (origin recipient : ℕ) (cap : Option ℕ) (p q : ℕ) → cond (is_eq (pair_cmp nat_cmp (origin, recipient) (p, q))) cap (old p q) ≡ with_said_link old origin recipient cap p q
+pub with_one_link : (old : ℕ → ℕ → Option ℕ) (origin recipient : ℕ) (cap : Option ℕ) (p q : ℕ)
+    → cond (is_eq (pair_cmp nat_cmp (origin, recipient) (p, q))) cap (old p q)
+    ≡ with_said_link old origin recipient cap p q
 with_one_link old origin recipient cap p q = ap (λ same. cond same cap (old p q)) (same_link origin recipient p q)

@@ -89,7 +89,9 @@ pub parsed : {E : Type 0} (word : List ℕ) (r : Result ℕ E) → ParsesUnsigne
     → (n : ℕ) → (result_ok r ≡ Some n) ↔ ((word ≡ decimal n) × (n < 2 ^ 128))
 parsed {E} word (Ok x) h sign plain n =
     let own = parse_plain (numerals_by_value (AllDigits 10) tells_digits) {E = E} 128 word (Ok x) h sign in
-    let spelled : decimal x ≡ word = ap decimal own.1 ∙ decimal-digits_value word own.0.0 own.0.1 plain (omega (arith, own.0.2)) in
-    ((λ e. let same : x ≡ n = cc in (sym spelled ∙ ap decimal same, omega (arith, own.0.2))), λ is. ap (result_ok {T = ℕ} {E = E}) (parse-decimal_wide 128 n word (Ok x) is.1 (omega (arith, is.1)) is.0 h))
+    let spelled : decimal x ≡ word = ap decimal own.1 ∙ decimal-digits_value word own.0.0 own.0.1 plain (omega (arith, own.0.2)) in (
+      (λ e. let same : x ≡ n = cc in (sym spelled ∙ ap decimal same, omega (arith, own.0.2))),
+      λ is. ap (result_ok {T = ℕ} {E = E}) (parse-decimal_wide 128 n word (Ok x) is.1 (omega (arith, is.1)) is.0 h),
+    )
 parsed {E} word (Err e) h sign plain n =
     ((λ e. absurd (cc)), λ is. ap (result_ok {T = ℕ} {E = E}) (parse-decimal_wide 128 n word (Err e) is.1 (omega (arith, is.1)) is.0 h))

@@ -7,6 +7,8 @@ use Rattle.std.proofs.lemmas.List.{map-append}
 use Rattle.std.proofs.lemmas.List.Concat.{flat_map-append}
 use Rattle.fair_rates.specs.declared.bandwidth.Rate.{Rate}
 use Rattle.link_scheduler.specs.declared.transmitter.completion.Completion.{Completion}
+use Rattle.link_scheduler.specs.Pairs.Messages.{completed_of}
+use Rattle.link_simulation.specs.Simulation.World.{Completed}
 use Rattle.link_scripts.specs.Answer.{rate_line, rates_text, moment_word, done_line, done_text}
 
 -- what is printed of a completion before its moment, where its message has that length
@@ -38,19 +40,25 @@ cut_words : (d o r h l m end sp : List ℕ) → d ++ o ++ sp ++ r ++ sp ++ h ++ 
 cut_words d o r h l m end sp = simp append_assoc refl
 
 -- the line of a completion is that, and then its moment
-done_line_parts : (c : Completion ℕ) (n : ℕ) → n ≡ length c.message → done_line c ≡ done_front c n ++ (moment_word c.deliver_at ++ 10 ∷ [])
+done_line_parts : (c : Completion ℕ) (n : ℕ) → n ≡ length c.message → done_line (completed_of c) ≡ done_front c n ++ (moment_word c.deliver_at ++ 10 ∷ [])
 done_line_parts c n is = rw is (cut_words (codes "done ") (decimal c.origin) (decimal c.recipient) (decimal c.channel) (decimal (length c.message)) (moment_word c.deliver_at) (10 ∷ []) (codes " "))
 
-pub done_parts : (before between after : Option (List ℕ)) (c : Completion ℕ) (n : ℕ) → n ≡ length c.message → Appends before between (done_front c n) → Appends between after (moment_word c.deliver_at ++ 10 ∷ []) → Appends before after (done_line c)
-done_parts before between after c n is h k = subst (Appends before after) (sym (done_line_parts c n is)) (Appends-append before between after (done_front c n) (moment_word c.deliver_at ++ 10 ∷ []) h k)
+pub done_parts : (before between after : Option (List ℕ)) (c : Completion ℕ) (n : ℕ) → n ≡ length c.message
+    → Appends before between (done_front c n) → Appends between after (moment_word c.deliver_at ++ 10 ∷ [])
+    → Appends before after (done_line (completed_of c))
+done_parts before between after c n is h k =
+    subst (Appends before after) (sym (done_line_parts c n is))
+    (Appends-append before between after (done_front c n) (moment_word c.deliver_at ++ 10 ∷ []) h k)
 
 -- the text of one completion more
-done_text-push : (completions : List (Completion ℕ)) (c : Completion ℕ) → done_text (completions ++ c ∷ []) ≡ done_text completions ++ done_line c
+done_text-push : (completions : List (Completed ℕ)) (c : Completed ℕ) → done_text (completions ++ c ∷ []) ≡ done_text completions ++ done_line c
 done_text-push completions c = flat_map-append done_line completions (c ∷ []) ∙ ap (λ last. done_text completions ++ last) (append-nil (done_line c))
 
 -- the line of the next completion, after those so far
-pub next_done : (before between after : Option (List ℕ)) (done more : List (Completion ℕ)) (c : Completion ℕ) → more ≡ done ++ c ∷ [] → Appends before between (done_text done) → Appends between after (done_line c)
-    → Appends before after (done_text more)
+pub next_done : (before between after : Option (List ℕ)) (done more : List (Completion ℕ)) (c : Completion ℕ)
+    → more ≡ done ++ c ∷ [] → Appends before between (done_text (map completed_of done))
+    → Appends between after (done_line (completed_of c))
+    → Appends before after (done_text (map completed_of more))
 next_done before between after done more c is h k =
-    let text = ap done_text is ∙ done_text-push done c in
+    let text = ap (λ l. done_text (map completed_of l)) is ∙ ap done_text (map-append completed_of done (c ∷ [])) ∙ done_text-push (map completed_of done) (completed_of c) in
     subst (Appends before after) (sym text) (Appends-append before between after _ _ h k)

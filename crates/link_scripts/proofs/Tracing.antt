@@ -1,24 +1,19 @@
 -- Traces, call by call.
-use Rattle.std.proofs.Common.{◌≡◌, ◌⊎◌, ℕ, ◌-◌, ◌≤◌, List, [], ◌∷◌, ◌++◌, length, map, take, drop, Option, None, Some, subst, take-append-drop, refl, sym, ap, ◌∙◌, arith, append_assoc, append-nil, replicate, ⊎_elim}
-use Rattle.std.specs.List.{flat_map, slice_range}
+use Rattle.std.proofs.Common.{◌≡◌, ◌⊎◌, ℕ, ◌-◌, ◌≤◌, List, [], ◌∷◌, ◌++◌, length, map, take, drop, Option, None, Some}
+use Rattle.std.proofs.Common.{subst, take-append-drop, refl, sym, ap, ◌∙◌, arith, append_assoc, append-nil, replicate}
+use Rattle.std.proofs.Common.{⊎_elim}
 use Rattle.std.proofs.lemmas.List.{map-append, take-replicate}
-use Rattle.link_scheduler.specs.Pairs.Messages.{completed_of}
 use Rattle.link_scheduler.specs.Calls.Replay.{call_of, reply_of}
 use Rattle.link_scheduler.specs.declared.replay.Call as replay_call
 use Rattle.link_scheduler.specs.declared.replay.Reply as replay_reply
-use Rattle.link_scheduler.specs.declared.transmitter.completion.Completion.{Completion}
-use Rattle.link_scripts.specs.Answer.{done_text, done_line}
+use Rattle.link_scripts.specs.Answer.{reply_text}
+use Rattle.link_scripts.specs.Schedule.{world_call}
 use Rattle.std.specs.Option.{IfSome}
-use Rattle.link_scripts.specs.Trace.{IsClosed, call_in, call_line, world_call, completed_line, reply_text, transcript_of}
+use Rattle.link_scripts.specs.Trace.{IsClosed, call_in, call_line, transcript_of}
 use Rattle.link_scripts.specs.declared.linkcheck.asked.Asked.{Asked}
 
--- the lines of completions in the code are those of the completions
-pub done_text_of : (completions : List (Completion ℕ)) → done_text completions ≡ flat_map completed_line (map completed_of completions)
-done_text_of [] = refl
-done_text_of (c ∷ cs) = ap (λ rest. done_line c ++ rest) (done_text_of cs)
-
 -- one call more
-pub next_call : (done more : List Asked) (x : Asked) (calls : List (replay_call.Call ℕ)) (made : replay_call.Call ℕ) → more ≡ done ++ x ∷ []
+pub next_call : (done more : List Asked) (x : Asked) (calls : List (replay_call.Call ℕ (List ℕ))) (made : replay_call.Call ℕ (List ℕ)) → more ≡ done ++ x ∷ []
     → map call_of calls ≡ map world_call (map call_in done) → call_of made ≡ world_call x.call → map call_of (calls ++ made ∷ []) ≡ map world_call (map call_in more)
 next_call done more x calls made is before this =
     map-append call_of calls (made ∷ []) ∙ ap (λ front. front ++ call_of made ∷ []) before ∙ ap (λ c. map world_call (map call_in done) ++ c ∷ []) this

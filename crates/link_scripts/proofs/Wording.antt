@@ -14,11 +14,13 @@ use Rattle.std.proofs.lemmas.Str.Ascii.{IsAscii-from_all, IsAscii-nil}
 use Rattle.std.proofs.lemmas.Str.Parse.{digit_from_value}
 use Rattle.std.proofs.lemmas.Bool.{and_parts}
 use Rattle.fair_rates.specs.declared.bandwidth.Flow.{Flow}
-use Rattle.link_scripts.specs.declared.linkrun.command.Call.{Call}
-use Rattle.link_scripts.specs.declared.linkrun.command.Call.TheVariants as calls
+use Rattle.link_scheduler.specs.declared.replay.Call.{Call}
+use Rattle.link_scheduler.specs.declared.replay.Call.TheVariants as calls
 use Rattle.link_scripts.specs.declared.linkrun.command.Command.{Command}
 use Rattle.link_scripts.specs.declared.linkrun.command.Command.TheVariants as commands
-use Rattle.link_scripts.specs.Script.{Takes, number_word, cap_word, flag_word, flow_words, call_words, command_words, line_of, IsNumberInRange, IsCapInRange, IsSmallCapInRange, IsFlowInRange, IsCallOfScriptInRange, IsCommandInRange}
+use Rattle.link_scripts.specs.Script.{Takes, number_word, cap_word, flag_word, flow_words, call_words, command_words}
+use Rattle.link_scripts.specs.Script.{line_of, IsNumberInRange, IsCapInRange, IsSmallCapInRange, IsFlowInRange}
+use Rattle.link_scripts.specs.Script.{IsCallOfScriptInRange, IsCommandInRange}
 use Rattle.link_scripts.specs.Words.{parts_of}
 use Rattle.link_scripts.proofs.Columns.{wider}
 use Rattle.link_scripts.proofs.Numerals.{no_dash, digits_of_number}
@@ -119,11 +121,28 @@ IsWord-small_cap : (cap : Option ℕ) → IsSmallCapInRange cap → IsWord (cap_
 IsWord-small_cap cap range = IsWord-cap cap (wider cap range)
 
 -- what calls are written with is words
-AreWords-call : (call : Call) → IsCallOfScriptInRange call → AreWords (call_words call)
+AreWords-call : (call : Call ℕ ℕ) → IsCallOfScriptInRange call → AreWords (call_words call)
 AreWords-call (calls.Limit now peer egress ingress) range = (refl, (IsWord-small now range.0, (IsWord-small peer range.1, (IsWord-small_cap egress range.2, (IsWord-small_cap ingress range.3, tt)))))
 AreWords-call (calls.LimitLink now origin recipient cap) range = (refl, (IsWord-small now range.0, (IsWord-small origin range.1, (IsWord-small recipient range.2, (IsWord-small_cap cap range.3, tt)))))
-AreWords-call (calls.Enqueue p) range =
-    (refl, (IsWord-small p.now range.0, (IsWord-small p.origin range.1, (IsWord-small p.recipient range.2, (IsWord-small p.channel range.3, (IsWord-number p.length (omega (arith, range.4)), (IsWord-small p.latency range.5, (IsWord-flag p.should_deliver, tt))))))))
+AreWords-call (calls.Enqueue now origin recipient channel length latency should_deliver) range = (
+  refl,
+  (
+    IsWord-small now range.0,
+    (
+      IsWord-small origin range.1,
+      (
+        IsWord-small recipient range.2,
+        (
+          IsWord-small channel range.3,
+          (
+            IsWord-number length (omega (arith, range.4)),
+            (IsWord-small latency range.5, (IsWord-flag should_deliver, tt)),
+          ),
+        ),
+      ),
+    ),
+  ),
+)
 AreWords-call (calls.Advance now) range = (refl, (IsWord-small now range, tt))
 AreWords-call calls.Next range = (refl, tt)
 
@@ -142,10 +161,11 @@ pub IsUtf8-line_of : (command : Command) → IsCommandInRange command → IsUtf8
 IsUtf8-line_of command range = IsUtf8-from_ascii (line_of command) (ascii_line (command_words command) (AreWords-command command range))
 
 -- the parts of the line of a call are its words
-parts_of-call : (call : Call) → IsCallOfScriptInRange call → parts_of (join_with_byte 32 (call_words call)) ≡ call_words call
+parts_of-call : (call : Call ℕ ℕ) → IsCallOfScriptInRange call → parts_of (join_with_byte 32 (call_words call)) ≡ call_words call
 parts_of-call (calls.Limit now peer egress ingress) range = parts_of-join _ _ (AreWords-call (calls.Limit now peer egress ingress) range)
 parts_of-call (calls.LimitLink now origin recipient cap) range = parts_of-join _ _ (AreWords-call (calls.LimitLink now origin recipient cap) range)
-parts_of-call (calls.Enqueue parcel) range = parts_of-join _ _ (AreWords-call (calls.Enqueue parcel) range)
+parts_of-call (calls.Enqueue now origin recipient channel length latency should_deliver) range =
+    parts_of-join _ _ (AreWords-call (calls.Enqueue now origin recipient channel length latency should_deliver) range)
 parts_of-call (calls.Advance now) range = parts_of-join _ _ (AreWords-call (calls.Advance now) range)
 parts_of-call calls.Next range = parts_of-join _ _ (AreWords-call calls.Next range)
 

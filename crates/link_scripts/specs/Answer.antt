@@ -7,7 +7,9 @@ use Rattle.fair_rates.specs.declared.error.Error.{Error}
 use Rattle.fair_rates.specs.Refusals.ErrorTexts.{refusal_number, refusal_text}
 use Rattle.link_scripts.specs.declared.linkrun.answer.Answer.{Answer}
 use Rattle.link_scripts.specs.declared.linkrun.answer.Answer.TheVariants as answers
-use Rattle.link_scheduler.specs.declared.transmitter.completion.Completion.{Completion}
+use Rattle.link_scheduler.specs.Calls.Replay.{reply_of}
+use Rattle.link_simulation.specs.Simulation.World.{Completed}
+use Rattle.link_simulation.specs.Simulation.Replies.{Reply, reply_done, reply_next, reply_refused}
 
 -- a rate is `unlimited`, or its numerator, a slash and its denominator, in lowest terms
 abbrev pub rate_word : Rate → List ℕ
@@ -28,26 +30,31 @@ moment_word None = codes "-"
 moment_word (Some moment) = decimal moment
 
 -- the line of a completion: its origin, its recipient, its channel, its length, and when it arrives
-abbrev pub done_line : Completion ℕ → List ℕ
+abbrev pub done_line : Completed ℕ → List ℕ
 done_line c =
     codes "done " ++ decimal c.origin ++ codes " " ++ decimal c.recipient ++ codes " " ++ decimal c.channel
-    ++ codes " " ++ decimal (length c.message) ++ codes " " ++ moment_word c.deliver_at ++ 10 ∷ []
+    ++ codes " " ++ decimal (length c.bytes) ++ codes " " ++ moment_word c.deliver_at ++ 10 ∷ []
 
 -- a line for each completion, in order
-abbrev pub done_text : List (Completion ℕ) → List ℕ
+abbrev pub done_text : List (Completed ℕ) → List ℕ
 done_text completions = flat_map done_line completions
 
 -- the line of the next event
 abbrev pub next_line : Option ℕ → List ℕ
 next_line moment = codes "next " ++ moment_word moment ++ 10 ∷ []
 
+-- the line of a refusal: its number, and its text
+abbrev pub refusal_line : Error → List ℕ
+refusal_line why = codes "refused " ++ decimal (refusal_number why) ++ codes " " ++ refusal_text why ++ 10 ∷ []
+
+-- the lines of a reply: one for each completion, the next event, or the refusal
+abbrev pub reply_text : Reply ℕ → List ℕ
+reply_text (reply_done completions) = done_text completions
+reply_text (reply_next moment) = next_line moment
+reply_text (reply_refused why) = refusal_line why
+
 -- what is printed of an answer
 abbrev pub answer_text : Answer → List ℕ
 answer_text answers.Nothing = []
 answer_text (answers.Rates rates) = rates_text rates.entries
-answer_text (answers.Done completions) = done_text completions.items
-answer_text (answers.Next moment) = next_line moment
-
--- the line of a refusal: its number, and its text
-abbrev pub refusal_line : Error → List ℕ
-refusal_line why = codes "refused " ++ decimal (refusal_number why) ++ codes " " ++ refusal_text why ++ 10 ∷ []
+answer_text (answers.Reply reply) = reply_text (reply_of reply)

@@ -3,11 +3,10 @@ use Rattle.std.specs.Prelude.{◌≡◌, ℕ, ◌^◌, ◌<◌, ◌≤◌, Bool,
 use Rattle.std.specs.Prelude.{Some, None, IfSome, codes, decimal}
 use Rattle.std.specs.List.{join_with_byte}
 use Rattle.fair_rates.specs.declared.bandwidth.Flow.{Flow}
-use Rattle.link_scripts.specs.declared.linkrun.command.Call.{Call}
-use Rattle.link_scripts.specs.declared.linkrun.command.Call.TheVariants as calls
+use Rattle.link_scheduler.specs.declared.replay.Call.{Call}
+use Rattle.link_scheduler.specs.declared.replay.Call.TheVariants as calls
 use Rattle.link_scripts.specs.declared.linkrun.command.Command.{Command}
 use Rattle.link_scripts.specs.declared.linkrun.command.Command.TheVariants as commands
-use Rattle.link_scripts.specs.declared.linkrun.command.Parcel.{Parcel}
 
 -- a number is its decimal digits, with no sign, and with no zero in front of another digit
 abbrev pub number_word : ℕ → List ℕ
@@ -27,20 +26,15 @@ flag_word true = codes "1"
 abbrev pub flow_words : Flow ℕ → List (List ℕ)
 flow_words f = number_word f.id ∷ number_word f.origin ∷ number_word f.recipient ∷ flag_word f.delivered ∷ []
 
--- a message: when it is sent, its origin, its recipient, its channel, its length, its latency, and whether it should
--- be delivered
-abbrev pub parcel_words : Parcel → List (List ℕ)
-parcel_words p =
-    number_word p.now ∷ number_word p.origin ∷ number_word p.recipient ∷ number_word p.channel ∷ number_word p.length
-    ∷ number_word p.latency ∷ flag_word p.should_deliver ∷ []
-
--- the words of a call of the scheduler; its moment comes first
-abbrev pub call_words : Call → List (List ℕ)
+-- the words of a call of the scheduler; its moment comes first, and a message is said by its length
+abbrev pub call_words : Call ℕ ℕ → List (List ℕ)
 call_words (calls.Limit now peer egress ingress) =
     codes "limit" ∷ number_word now ∷ number_word peer ∷ cap_word egress ∷ cap_word ingress ∷ []
 call_words (calls.LimitLink now origin recipient cap) =
     codes "limitlink" ∷ number_word now ∷ number_word origin ∷ number_word recipient ∷ cap_word cap ∷ []
-call_words (calls.Enqueue parcel) = codes "enqueue" ∷ parcel_words parcel
+call_words (calls.Enqueue now origin recipient channel length latency should_deliver) =
+    codes "enqueue" ∷ number_word now ∷ number_word origin ∷ number_word recipient ∷ number_word channel
+    ∷ number_word length ∷ number_word latency ∷ flag_word should_deliver ∷ []
 call_words (calls.Advance now) = codes "advance" ∷ number_word now ∷ []
 call_words calls.Next = codes "next" ∷ []
 
@@ -80,19 +74,15 @@ IsLengthInRange n = n ≤ 67108864
 abbrev pub IsFlowInRange : Flow ℕ → Type 0
 IsFlowInRange f = IsNumberInRange f.id × IsNumberInRange f.origin × IsNumberInRange f.recipient
 
--- each number of a message
-abbrev pub IsParcelInRange : Parcel → Type 0
-IsParcelInRange p =
-    IsNumberInRange p.now × IsNumberInRange p.origin × IsNumberInRange p.recipient × IsNumberInRange p.channel
-    × IsLengthInRange p.length × IsNumberInRange p.latency
-
 -- each number of a call
-abbrev pub IsCallOfScriptInRange : Call → Type 0
+abbrev pub IsCallOfScriptInRange : Call ℕ ℕ → Type 0
 IsCallOfScriptInRange (calls.Limit now peer egress ingress) =
     IsNumberInRange now × IsNumberInRange peer × IsSmallCapInRange egress × IsSmallCapInRange ingress
 IsCallOfScriptInRange (calls.LimitLink now origin recipient cap) =
     IsNumberInRange now × IsNumberInRange origin × IsNumberInRange recipient × IsSmallCapInRange cap
-IsCallOfScriptInRange (calls.Enqueue parcel) = IsParcelInRange parcel
+IsCallOfScriptInRange (calls.Enqueue now origin recipient channel length latency should_deliver) =
+    IsNumberInRange now × IsNumberInRange origin × IsNumberInRange recipient × IsNumberInRange channel
+    × IsLengthInRange length × IsNumberInRange latency
 IsCallOfScriptInRange (calls.Advance now) = IsNumberInRange now
 IsCallOfScriptInRange calls.Next = Unit {0}
 

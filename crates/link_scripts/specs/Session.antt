@@ -13,7 +13,8 @@ use Rattle.link_scripts.specs.declared.linkrun.session.Session.{Session}
 use Rattle.fair_rates.specs.Sides.Caps.{Caps}
 use Rattle.link_scheduler.specs.Pairs.Entries.{pair_cmp}
 use Rattle.fair_rates.specs.Fairness.UnderCaps.{IsFairById}
-use Rattle.link_scripts.specs.Schedule.{AnswersCall, MayRefuseCall}
+use Rattle.link_scripts.specs.Schedule.{world_call, AnswersCall}
+use Rattle.link_scheduler.specs.Calls.Replay.{MayRefuseCall}
 use Rattle.link_scheduler.specs.Calls.State.{planned_of}
 use Rattle.fair_rates.specs.Refusals.TooLarge.{AreTooLarge}
 
@@ -78,8 +79,7 @@ SaysAfter (commands.Schedule call) old new = SaysSame old new
 abbrev pub AnswersRates : Session → Answer → Type 0
 AnswersRates s (answers.Rates rates) = IsFairById nat_cmp (said_caps s) s.flows.items (get nat_cmp rates)
 AnswersRates s answers.Nothing = ⊥
-AnswersRates s (answers.Done completions) = ⊥
-AnswersRates s (answers.Next moment) = ⊥
+AnswersRates s (answers.Reply reply) = ⊥
 
 -- a command for the rates answers those, a call what the scheduler answers, which it alone may change; any other says
 -- nothing
@@ -98,7 +98,7 @@ AnswersTo (commands.Link origin recipient cap) old answer new = (answer ≡ answ
 abbrev pub MayRefuseCommand : Command → Session → Error → Type 0
 MayRefuseCommand commands.Rates s why =
     (why ≡ OutOfMemory) ⊎ ((why ≡ NumberTooLarge) × AreTooLarge nat_cmp (said_caps s) s.flows.items)
-MayRefuseCommand (commands.Schedule call) s why = MayRefuseCall call s.scheduler why
+MayRefuseCommand (commands.Schedule call) s why = MayRefuseCall s.scheduler (world_call call) why
 MayRefuseCommand (commands.Flow flow) s why = why ≡ OutOfMemory
 MayRefuseCommand (commands.Egress peer cap) s why = why ≡ OutOfMemory
 MayRefuseCommand (commands.Ingress peer cap) s why = why ≡ OutOfMemory

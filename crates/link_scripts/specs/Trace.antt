@@ -1,62 +1,39 @@
 -- Traces: the calls of a scheduler, each with the lines that answer it. A trace and a line are lists of bytes.
-use Rattle.std.specs.Prelude.{◌≡◌, ◌⊎◌, ⊤, ℕ, ◌≤◌, List, [], ◌∷◌, ◌++◌, length, map, codes, decimal}
+use Rattle.std.specs.Prelude.{◌≡◌, ◌⊎◌, ⊤, ℕ, ◌≤◌, List, [], ◌∷◌, ◌++◌, map, codes, decimal}
 use Rattle.std.specs.Prelude.{Option, None, Some, Result, Ok, Err}
-use Rattle.std.specs.List.{flat_map}
 use Rattle.std.specs.Ordering.{nat_cmp}
 use Rattle.link_scripts.specs.declared.linkcheck.asked.Asked.{Asked}
-use Rattle.link_scripts.specs.declared.linkrun.command.Call.{Call}
-use Rattle.link_scripts.specs.declared.linkrun.command.Call.TheVariants as calls
+use Rattle.link_scheduler.specs.declared.replay.Call.{Call}
 use Rattle.link_scripts.specs.declared.linkrun.command.Command.TheVariants as commands
-use Rattle.link_scripts.specs.Answer.{moment_word, next_line, refusal_line}
-use Rattle.link_scripts.specs.Schedule.{message_of_parcel}
+use Rattle.link_scripts.specs.Answer.{reply_text}
+use Rattle.link_scripts.specs.Schedule.{world_call}
 use Rattle.link_scripts.specs.Script.{line_of}
 use Rattle.link_scripts.specs.declared.linkcheck.Fault.{Fault}
 use Rattle.link_scripts.specs.declared.linkcheck.Fault.TheVariants as faults
 use Rattle.link_scripts.specs.declared.linkcheck.Verdict.{Verdict}
 use Rattle.link_scripts.specs.declared.linkcheck.Verdict.TheVariants as verdicts
-use Rattle.link_simulation.specs.Simulation.World.{Completed, new_world}
-use Rattle.link_simulation.specs.Simulation.Calls as world
+use Rattle.link_simulation.specs.Simulation.World.{new_world}
 use Rattle.link_simulation.specs.Rule.Planned.{new_planned}
 use Rattle.link_simulation.specs.Rule.Refusals.{Obeyed}
-use Rattle.link_simulation.specs.Simulation.Replies.{Reply, reply_done, reply_next, reply_refused, Agrees}
+use Rattle.link_simulation.specs.Simulation.Replies.{Reply, Agrees}
 
 -- the call of a line
-abbrev pub call_in : Asked → Call
+abbrev pub call_in : Asked → Call ℕ ℕ
 call_in asked = asked.call
 
--- a call as it is made of the world
-abbrev pub world_call : Call → world.Call ℕ
-world_call (calls.Limit now peer egress ingress) = world.call_limit now peer egress ingress
-world_call (calls.LimitLink now origin recipient cap) = world.call_limit_link now origin recipient cap
-world_call (calls.Enqueue parcel) = world.call_enqueue parcel.now (message_of_parcel parcel)
-world_call (calls.Advance now) = world.call_advance now
-world_call calls.Next = world.call_next
-
 -- the line of a call, with its end byte
-abbrev pub call_line : Call → List ℕ
+abbrev pub call_line : Call ℕ ℕ → List ℕ
 call_line call = line_of (commands.Schedule call) ++ 10 ∷ []
 
--- the line of a completion: its origin, its recipient, its channel, its length, and when it arrives
-abbrev pub completed_line : Completed ℕ → List ℕ
-completed_line c =
-    codes "done " ++ decimal c.origin ++ codes " " ++ decimal c.recipient ++ codes " " ++ decimal c.channel
-    ++ codes " " ++ decimal (length c.bytes) ++ codes " " ++ moment_word c.deliver_at ++ 10 ∷ []
-
--- the lines of a reply: one for each completion, the next event, or the refusal
-abbrev pub reply_text : Reply ℕ → List ℕ
-reply_text (reply_done completions) = flat_map completed_line completions
-reply_text (reply_next moment) = next_line moment
-reply_text (reply_refused why) = refusal_line why
-
 -- the line of each call, and after it the lines of its reply
-abbrev pub transcript_of : List Call → List (Reply ℕ) → List ℕ
+abbrev pub transcript_of : List (Call ℕ ℕ) → List (Reply ℕ) → List ℕ
 transcript_of [] replies = []
 transcript_of (call ∷ calls) [] = []
 transcript_of (call ∷ calls) (reply ∷ replies) = call_line call ++ (reply_text reply ++ transcript_of calls replies)
 
 -- the trace is the transcript of calls and of the replies that the simulation gives to them
 pub record IsTranscript (trace : List ℕ) : Type 0 where
-  pub calls : List Call
+  pub calls : List (Call ℕ ℕ)
   pub replies : List (Reply ℕ)
   pub written : trace ≡ transcript_of calls replies
   pub agrees : Agrees nat_cmp (new_world 0) (map world_call calls) replies

@@ -85,43 +85,6 @@ fn call_of<P: Numbered>(alloc: Global, line: &str, fuse: &Fuse) -> Result<Call<P
     }
 }
 
-/// Makes a call.
-pub fn make<P: Numbered>(state: &mut State<P>, call: Call<P>) -> Result<Reply<P>, Error> {
-    Ok(match call {
-        Call::Limit {
-            now,
-            peer,
-            egress,
-            ingress,
-        } => Reply::Done(state.limit(now, &peer, egress, ingress)?),
-        Call::LimitLink {
-            now,
-            origin,
-            recipient,
-            cap,
-        } => Reply::Done(state.limit_link(now, &origin, &recipient, cap)?),
-        Call::Enqueue {
-            now,
-            origin,
-            recipient,
-            channel,
-            message,
-            latency,
-            should_deliver,
-        } => Reply::Done(state.enqueue(
-            now,
-            origin,
-            recipient,
-            channel,
-            message,
-            latency,
-            should_deliver,
-        )?),
-        Call::Advance { now } => Reply::Done(state.advance(now)?),
-        Call::Next => Reply::Next(state.next()),
-    })
-}
-
 /// Whether the words go on with the line of a completion.
 fn says_done<P: Numbered>(words: &mut SplitWhitespace<'_>, done: &Completion<P>) -> bool {
     words.next() == Some("done")
@@ -184,7 +147,7 @@ fn answer<P: Numbered>(
 ) -> Reply<P> {
     let before = state.next();
     let made = match call_of(rt.alloc(), line, fuse) {
-        Ok(call) => make(state, call),
+        Ok(call) => call.make(state),
         Err(_) => Err(Error::OutOfMemory),
     };
     match made {

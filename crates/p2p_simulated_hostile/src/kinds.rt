@@ -1,6 +1,6 @@
 //! Messages and caps of each kind, made one by one and as a list, and many messages in flight: with
 //! ample memory none is refused.
-use crate::calls::{contents, make};
+use crate::calls::contents;
 use crate::peers::{Fuse, Name, Numbered};
 use p2p_simulated::replay::{Call, Reply, replay};
 use p2p_simulated::transmitter::State;
@@ -147,7 +147,7 @@ fn made<P: Numbered>(
     let mut state = State::new(rt.alloc());
     let mut replies = Vec::new(rt.alloc());
     for call in calls {
-        let reply = make(&mut state, call)?;
+        let reply = call.make(&mut state)?;
         replies.push(reply)?;
     }
     Ok(replies)

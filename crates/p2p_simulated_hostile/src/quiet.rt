@@ -1,5 +1,5 @@
 //! Advances that meet nothing: they take no memory and clone no peer, so they are never refused.
-use crate::calls::{contents, make};
+use crate::calls::contents;
 use crate::peers::{Fuse, Name, Numbered};
 use p2p_simulated::error::Error;
 use p2p_simulated::replay::{Call, Reply};
@@ -75,7 +75,7 @@ fn take<P: Numbered>(
     fuse: &Fuse,
 ) -> Result<usize, Error> {
     let call = call_of(alloc, step, fuse)?;
-    match make(state, call)? {
+    match call.make(state)? {
         Reply::Done(done) => Ok(done.len()),
         Reply::Next(_) => Ok(0),
         Reply::Refused(error) => Err(error),

@@ -281,43 +281,13 @@ fn answer<P: Peer>(state: &mut State<P>, call: Call<P>) -> (Reply<P>, u128) {
 }
 
 fn make<P: Peer>(state: &mut State<P>, call: Call<P>) -> Result<(Reply<P>, u128), Error> {
-    let completions = match call {
-        Call::Limit {
-            now,
-            peer,
-            egress,
-            ingress,
-        } => state.limit(now, &peer, egress, ingress)?,
-        Call::LimitLink {
-            now,
-            origin,
-            recipient,
-            cap,
-        } => state.limit_link(now, &origin, &recipient, cap)?,
-        Call::Enqueue {
-            now,
-            origin,
-            recipient,
-            channel,
-            message,
-            latency,
-            should_deliver,
-        } => state.enqueue(
-            now,
-            origin,
-            recipient,
-            channel,
-            message,
-            latency,
-            should_deliver,
-        )?,
+    match call {
         Call::Advance { now } => {
             let (completions, events) = state.advance_counted(now)?;
-            return Ok((Reply::Done(completions), events));
+            Ok((Reply::Done(completions), events))
         }
-        Call::Next => return Ok((Reply::Next(state.next()), 0)),
-    };
-    Ok((Reply::Done(completions), 0))
+        call => Ok((call.make(state)?, 0)),
+    }
 }
 
 /// Whether a reply is the wanted one. `sent` are the messages.

@@ -1,7 +1,8 @@
 -- Where a list is parted, at a node.
-use Rattle.std.proofs.Common.{◌≡◌, ℕ, ◌+◌, Bool, true, false, not, ◌&&◌, if◌then◌else◌, List, [], ◌∷◌, ◌++◌, length, refl, sym, ap, ◌∙◌, arith, length-append}
-use Rattle.std.specs.List.{list_all}
-use Rattle.std.proofs.lemmas.List.Folds.{list_all-append}
+use Rattle.std.proofs.Common.{◌≡◌, ℕ, suc, ◌+◌, Bool, true, false, not, ◌&&◌, if◌then◌else◌, List, [], ◌∷◌, ◌++◌, length, Some, refl, sym, ap, ◌∙◌, arith, length-append}
+use Rattle.std.specs.List.{list_all, find, position_or_len}
+use Rattle.std.specs.Option.{option_or}
+use Rattle.std.proofs.lemmas.List.Folds.{list_all-append, find-append}
 use Rattle.shared_list.specs.Places.{are_parted, IsParting}
 
 by_bool : {A : Type 0} (b : Bool) → (b ≡ true → A) → (b ≡ false → A) → A
@@ -69,3 +70,45 @@ module _ {T : Type 0} (p : T → Bool) where
         below = rest.below;
         above = list_all-append (λ y. not (p y)) rest.after (x ∷ ys) ∙ rw (rest.above, high.1) refl;
       }
+
+  -- ---- the first item that is not before
+
+  -- those that are before are passed over
+  passed_over : (xs ys : List T) → list_all p xs ≡ true → find (λ y. not (p y)) (xs ++ ys) ≡ find (λ y. not (p y)) ys
+  passed_over [] ys h = refl
+  passed_over (x ∷ xs) ys h = rw (and_left (p x) _ h) (passed_over xs ys (and_right (p x) _ h))
+
+  pub first_after : (xs : List T) (x : T) (ys : List T) → p x ≡ true → are_parted p (xs ++ x ∷ ys) ≡ true
+      → (list_all p (xs ++ x ∷ []) ≡ true) × (are_parted p ys ≡ true) × (find (λ y. not (p y)) (xs ++ x ∷ ys) ≡ find (λ y. not (p y)) ys)
+  first_after xs x ys is h =
+      let low = below_item xs x ys is h in
+      (list_all-append p xs (x ∷ []) ∙ rw (low.0, is) refl, low.1, passed_over xs (x ∷ ys) low.0 ∙ rw is refl)
+
+  pub first_before : (xs : List T) (x : T) (ys : List T) → p x ≡ false → are_parted p (xs ++ x ∷ ys) ≡ true
+      → (are_parted p xs ≡ true) × (find (λ y. not (p y)) (xs ++ x ∷ ys) ≡ option_or (find (λ y. not (p y)) xs) (Some x))
+  first_before xs x ys is h =
+      ((above_item xs x ys is h).0, find-append (λ y. not (p y)) xs (x ∷ ys) ∙ rw is refl)
+
+  one_more : (x : T) (xs : List T) (k at : ℕ) → p x ≡ true → at ≡ suc k → IsParting p xs k → IsParting p (x ∷ xs) at
+  one_more x xs k at is there rest = record {
+    before = x ∷ rest.before;
+    after = rest.after;
+    split = ap (λ l. x ∷ l) rest.split;
+    is_at = there ∙ ap suc rest.is_at;
+    below = rw (is, rest.below) refl;
+    above = rest.above;
+  }
+
+  -- its place, or the end where there is none
+  pub parting_first : (xs : List T) → are_parted p xs ≡ true → IsParting p xs (position_or_len (λ y. not (p y)) xs)
+  parting_first [] h = record { before = []; after = []; split = refl; is_at = refl; below = refl; above = refl }
+  parting_first (x ∷ xs) h = by_bool (p x)
+      (λ t. one_more x xs (position_or_len (λ y. not (p y)) xs) (position_or_len (λ y. not (p y)) (x ∷ xs)) t (rw t (omega arith)) (parting_first xs (sym (ap (λ b. if b then are_parted p xs else others xs) t) ∙ h)))
+      (λ f. record {
+        before = [];
+        after = x ∷ xs;
+        split = refl;
+        is_at = rw f refl;
+        below = refl;
+        above = rw f (sym (ap (λ b. if b then are_parted p xs else others xs) f) ∙ h);
+      })

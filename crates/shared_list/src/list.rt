@@ -1,7 +1,7 @@
 //! A list as a tree of shared nodes.
 ghost use Rattle.std.specs.Prelude.{◌≡◌, ◌<◌, ◌≤◌, ◌+◌, [], ◌++◌, ◌∷◌, length, if◌then◌else◌, is_ok};
-ghost use Rattle.std.specs.Prelude.{slice_get, slice_set, option_map, true, Some, IfOk, OnOk, ◌^◌};
-ghost use Rattle.std.specs.List.{insert, remove};
+ghost use Rattle.std.specs.Prelude.{slice_get, slice_set, option_map, true, not, Some, IfOk, OnOk, ◌^◌};
+ghost use Rattle.std.specs.List.{find, insert, remove};
 ghost use Rattle.shared_list.specs.Places.{are_parted, IsParting};
 
 use super::node::Node;
@@ -183,6 +183,23 @@ impl<T: Drop> SharedList<T> {
                     node.before.place(sought)
                 }
             }
+        }
+    }
+
+    /// The first item that is not before what is sought, where those that are before it stand before
+    /// all others.
+    #[tactic(auto, using(crate::proofs::Parting::first_after, crate::proofs::Parting::first_before))]
+    pub fn first_from<S: Seek<T>>(&self, sought: &S) -> Option<&T>
+        ensures { are_parted (S.is_before sought.now) self.now ≡ true → option_map (λ item. item.now) result
+            ≡ find (λ item. not (S.is_before sought.now item)) self.now }
+    {
+        let node = self.root.as_ref()?;
+        if sought.is_before(&node.item) {
+            return node.after.first_from(sought);
+        }
+        match node.before.first_from(sought) {
+            None => Some(&node.item),
+            item => item,
         }
     }
 

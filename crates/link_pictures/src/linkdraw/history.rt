@@ -6,8 +6,9 @@ use super::frame::Frame;
 use super::track::{Sent, Track};
 use fair_rates::error::Error;
 use fair_rates::ratio::Ratio;
+use link_scheduler::replay::{Call, Reply};
 use link_scheduler::transmitter::{Completion, InFlight, State};
-use link_scripts::linkrun::command::{Call, Command, Parcel};
+use link_scripts::linkrun::command::Command;
 use link_scripts::linkrun::zeros::Zeros;
 use std::alloc::Global;
 use std::collections::BTreeMap;
@@ -86,75 +87,81 @@ impl History {
     }
 
     /// Makes a call of the scheduler.
-    fn make(&mut self, call: Call) -> Result<(), Error> {
-        match call {
-            Call::Limit {
-                now,
-                peer,
-                egress,
-                ingress,
-            } => {
-                self.pass(now)?;
-                let answer = self.scheduler.limit(now, &peer, egress, ingress);
-                if self.take(answer)? {
-                    self.set_cap(Side::Egress(peer), egress)?;
-                    self.set_cap(Side::Ingress(peer), ingress)?;
-                }
+    fn make(&mut self, call: Call<u64, usize>) -> Result<(), Error> {
+        match &call {
+            Call::Limit { now, .. } | Call::LimitLink { now, .. } | Call::Enqueue { now, .. } => {
+                self.change(*now, &call)?;
             }
-            Call::LimitLink {
-                now,
-                origin,
-                recipient,
-                cap,
-            } => {
-                self.pass(now)?;
-                let answer = self.scheduler.limit_link(now, &origin, &recipient, cap);
-                if self.take(answer)? {
-                    self.set_cap(Side::Link(origin, recipient), cap)?;
-                }
-            }
-            Call::Enqueue(parcel) => self.enqueue(parcel)?,
-            Call::Advance { now } => self.advance(now)?,
+            Call::Advance { now } => self.advance(*now)?,
             Call::Next => {}
         }
         self.look()
     }
 
-    /// Sends a message.
-    fn enqueue(&mut self, parcel: Parcel) -> Result<(), Error> {
-        self.pass(parcel.now)?;
-        let message = self.zeros.part(self.alloc, parcel.length)?;
-        let answer = self.scheduler.enqueue(
-            parcel.now,
-            parcel.origin,
-            parcel.recipient,
-            parcel.channel,
-            message,
-            parcel.latency,
-            parcel.should_deliver,
-        );
-        match answer {
-            Ok(completions) => {
-                self.messages = self.messages.saturating_add(1);
+    /// Makes a call that sets caps or sends a message, once time has gone on to its moment.
+    fn change(&mut self, now: u64, call: &Call<u64, usize>) -> Result<(), Error> {
+        self.pass(now)?;
+        match self.zeros.fill(self.alloc, call)?.make(&mut self.scheduler) {
+            Ok(reply) => {
+                self.note(call)?;
+                if let Reply::Done(completions) = reply {
+                    self.finish(&completions);
+                }
+                Ok(())
+            }
+            Err(error) => self.refuse(error),
+        }
+    }
+
+    /// Notes the caps that a call set, or the message that it sent.
+    fn note(&mut self, call: &Call<u64, usize>) -> Result<(), Error> {
+        match call {
+            Call::Limit {
+                peer,
+                egress,
+                ingress,
+                ..
+            } => {
+                self.set_cap(Side::Egress(*peer), *egress)?;
+                self.set_cap(Side::Ingress(*peer), *ingress)
+            }
+            Call::LimitLink {
+                origin,
+                recipient,
+                cap,
+                ..
+            } => self.set_cap(Side::Link(*origin, *recipient), *cap),
+            Call::Enqueue {
+                origin,
+                recipient,
+                channel,
+                message,
+                should_deliver,
+                ..
+            } => {
                 let sent = Sent {
-                    channel: parcel.channel,
-                    length: parcel.length,
-                    should_deliver: parcel.should_deliver,
+                    channel: *channel,
+                    length: *message,
+                    should_deliver: *should_deliver,
                     enqueued: self.now,
                     start: None,
                     done: None,
                     deliver_at: None,
                 };
-                let alloc = self.alloc;
-                self.tracks
-                    .entry((parcel.origin, parcel.recipient))?
-                    .or_insert(Track::new(alloc))
-                    .enqueue(sent)?;
-                self.finish(&completions);
-                Ok(())
+                self.send(*origin, *recipient, sent)
             }
-            Err(error) => self.refuse(error),
+            Call::Advance { .. } | Call::Next => Ok(()),
         }
+    }
+
+    /// A message was sent.
+    fn send(&mut self, origin: u64, recipient: u64, sent: Sent) -> Result<(), Error> {
+        let alloc = self.alloc;
+        self.messages = self.messages.saturating_add(1);
+        self.tracks
+            .entry((origin, recipient))?
+            .or_insert(Track::new(alloc))
+            .enqueue(sent)
     }
 
     /// Lets time go on, from event to event.

@@ -1,9 +1,12 @@
 -- Each event makes less of what is still to happen.
-use Rattle.std.proofs.Common.{◌≡◌, ℕ, zero, suc, ◌+◌, ◌*◌, ◌<◌, ◌≤◌, List, [], ◌∷◌, length, slice_get, Bool, true, false, cond, if◌then◌else◌, ◌||◌, inl, inr, Option, Some, None, refl, sym, ap, ◌∙◌, subst, arith, length-append}
+use Rattle.std.proofs.Common.{◌≡◌, ℕ, zero, suc, ◌+◌, ◌*◌, ◌<◌, ◌≤◌, List, [], ◌∷◌, length, slice_get, Bool, true}
+use Rattle.std.proofs.Common.{false, cond, if◌then◌else◌, ◌||◌, inl, inr, Option, Some, None, refl, sym, ap, ◌∙◌, subst}
+use Rattle.std.proofs.Common.{arith, length-append}
 use Rattle.std.specs.Prelude.{◌==◌}
 use Rattle.std.specs.List.{find, filter, list_any}
 use Rattle.std.specs.declared.cmp.Ordering.{Ordering}
 use Rattle.std.specs.Cmp.{IsTotalOrder}
+use Rattle.std.proofs.lemmas.List.{length-map}
 use Rattle.std.proofs.lemmas.Bool.{eq-eqb, or_right, or_left}
 use Rattle.fair_rates.proofs.Lists.Booleans.{by_bool}
 use Rattle.fair_rates.specs.Lists.WithoutFirst.{without_first}
@@ -12,11 +15,15 @@ use Rattle.link_scheduler.specs.declared.transmitter.event.Event.TheVariants.{Fi
 use Rattle.link_simulation.specs.Simulation.Messages.{Message, same_pair}
 use Rattle.link_simulation.specs.Simulation.World.{Completed, Course, goes, meets, preceded, fronts}
 use Rattle.link_simulation.specs.Rule.Planned.{Planned, RatedFlight, IsLeastMoment, SomeSpentAt, SomeReadyAt, next_of, left_at, drained_to, is_spent, may_launch}
-use Rattle.link_simulation.specs.Rule.Events.{Accounts, PlansStart, Launches, nothing_waits, too_early, no_id, starts, launched, landed, Finishes, all_completed, late, stopped, completes, Settles, settling, WakesEach, all_started, no_start, no_finish, starts_one, Wakes}
+use Rattle.link_simulation.specs.Rule.Events.{Accounts, PlansStart, Launches, nothing_waits, too_early, no_id, starts}
+use Rattle.link_simulation.specs.Rule.Events.{launched, landed, Finishes, all_completed, late, stopped, completes}
+use Rattle.link_simulation.specs.Rule.Events.{Settles, settling, WakesEach, all_started, no_start, no_finish}
+use Rattle.link_simulation.specs.Rule.Events.{starts_one, Wakes}
 use Rattle.fair_rates.specs.Numbers.Amount.{whole}
 use Rattle.link_scheduler.specs.Calls.Events.{IsDue, Happens}
-use Rattle.link_scheduler.proofs.Calls.MessageCounts.{accounts_keep, accounts_waiting, length-without, length-map, same_itself}
+use Rattle.link_scheduler.proofs.Calls.MessageCounts.{accounts_keep, accounts_waiting, length-without}
 use Rattle.fair_rates.proofs.Lists.Each.{Each}
+use Rattle.link_simulation.proofs.Simulation.AlikeMessages.{pair_itself}
 use Rattle.link_simulation.proofs.Simulation.OtherPairs.{fronts_are_first}
 use Rattle.link_simulation.proofs.Simulation.InOrder.{Somewhere, in_fronts}
 use Rattle.link_simulation.proofs.Rule.Advance.{earlier_start}
@@ -41,14 +48,17 @@ spent_least fs None h = refl
 spent_least fs (Some t) h = spent_found t fs h.1.0 h.1.1 h.1.2 h.1.4
 
 -- what is spent leaves
-spent_leaves : {P : Type 0} (cmp : P → P → Ordering) (p : Planned P) (t : ℕ) (fs : List (RatedFlight P)) → list_any (λ f. (left_at t f).num == 0) fs ≡ true → 1 ≤ length (filter (is_spent cmp p.caps) (drained_to t fs))
+spent_leaves : {P : Type 0} (cmp : P → P → Ordering) (p : Planned P) (t : ℕ) (fs : List (RatedFlight P))
+    → list_any (λ f. (left_at t f).num == 0) fs ≡ true → 1 ≤ length (filter (is_spent cmp p.caps) (drained_to t fs))
 spent_leaves cmp p t [] h = cc
 spent_leaves {P} cmp p t (f ∷ fs) h = by_first ((left_at t f).num == 0) refl h (spent_leaves cmp p t fs)
   where
     g : RatedFlight P
     g = record f { left = left_at t f; updated = t }
 
-    more : (b : Bool) → 1 ≤ length (filter (is_spent cmp p.caps) (drained_to t fs)) → 1 ≤ length (cond b (g ∷ filter (is_spent cmp p.caps) (drained_to t fs)) (filter (is_spent cmp p.caps) (drained_to t fs)))
+    more : (b : Bool) → 1 ≤ length (filter (is_spent cmp p.caps) (drained_to t fs))
+        → 1 ≤ length (cond b (g ∷ filter (is_spent cmp p.caps) (drained_to t fs))
+        (filter (is_spent cmp p.caps) (drained_to t fs)))
     more true le = omega arith
     more false le = le
 
@@ -56,7 +66,9 @@ spent_leaves {P} cmp p t (f ∷ fs) h = by_first ((left_at t f).num == 0) refl h
     one true is = omega arith
     one false is = cc
 
-    by_first : (b : Bool) → ((left_at t f).num == 0) ≡ b → (b || list_any (λ f. (left_at t f).num == 0) fs) ≡ true → (list_any (λ f. (left_at t f).num == 0) fs ≡ true → 1 ≤ length (filter (is_spent cmp p.caps) (drained_to t fs)))
+    by_first : (b : Bool) → ((left_at t f).num == 0) ≡ b → (b || list_any (λ f. (left_at t f).num == 0) fs) ≡ true
+        → (list_any (λ f. (left_at t f).num == 0) fs ≡ true
+        → 1 ≤ length (filter (is_spent cmp p.caps) (drained_to t fs)))
         → 1 ≤ length (filter (is_spent cmp p.caps) (drained_to t (f ∷ fs)))
     by_first true is h ih = one (is_spent cmp p.caps g) (or_left ((left_at t f).num == 0) _ is)
     by_first false is h ih = more (is_spent cmp p.caps g) (ih h)
@@ -109,15 +121,24 @@ module _ {P : Type 0} (cmp : P → P → Ordering) where
     LaunchedIn old (goes leavers new) = Launched old leavers new
     LaunchedIn old (meets e) = Unit {0}
 
-    start_lighter : (t : ℕ) (old new : Planned P) (m : Message P) (leavers : List (Message P)) (f : Message P → Bool) → Accounts cmp t (launched cmp t old m) leavers new → find f old.waiting ≡ Some m → length leavers + weight new + 1 ≤ weight old
+    start_lighter : (t : ℕ) (old new : Planned P) (m : Message P) (leavers : List (Message P)) (f : Message P → Bool)
+        → Accounts cmp t (launched cmp t old m) leavers new → find f old.waiting ≡ Some m
+        → length leavers + weight new + 1 ≤ weight old
     start_lighter t old new m leavers f a found =
-        let one : length (without_first (same_pair cmp m) old.waiting) + 1 ≡ length old.waiting = length-without f (same_pair cmp m) m old.waiting found (same_itself cmp order m) in
+        let one : length (without_first (same_pair cmp m) old.waiting) + 1 ≡ length old.waiting = length-without f (same_pair cmp m) m old.waiting found (pair_itself cmp order m) in
         let kept : length leavers + length new.sending ≡ length (launched cmp t old m).sending = accounts_keep cmp t (launched cmp t old m) new leavers a in
-        let more : length (launched cmp t old m).sending ≡ length old.sending + 1 = length-append old.sending (record { message = m; left = whole (length m.bytes); rate = Some (whole 0); updated = t } ∷ []) in
+        let more : length (launched cmp t old m).sending ≡ length old.sending + 1
+        = length-append old.sending (record {
+          message = m;
+          left = whole (length m.bytes);
+          rate = Some (whole 0);
+          updated = t;
+        } ∷ []) in
         let waits : length new.waiting ≡ length (without_first (same_pair cmp m) old.waiting) = ap length (accounts_waiting cmp t (launched cmp t old m) new leavers a) in
         omega (arith, one, kept, more, waits)
 
-    launch_lightens : {t : ℕ} {old : Planned P} {first : Option (Message P)} {course : Course (Message P) (Planned P)} → Launches cmp t old first course → (f : Message P → Bool) → first ≡ find f old.waiting → LaunchedIn old course
+    launch_lightens : {t : ℕ} {old : Planned P} {first : Option (Message P)} {course : Course (Message P) (Planned P)}
+        → Launches cmp t old first course → (f : Message P → Bool) → first ≡ find f old.waiting → LaunchedIn old course
     launch_lightens nothing_waits f found = record { weighs = omega arith; finish = λ h. h }
     launch_lightens (too_early early) f found = record { weighs = omega arith; finish = λ h. h }
     launch_lightens (no_id may used) f found = tt
@@ -126,10 +147,14 @@ module _ {P : Type 0} (cmp : P → P → Ordering) where
         record { weighs = omega arith; finish = λ h. accounts_fit t (launched cmp t old m) new ls a }
 
     -- a message that may start does
-    launch_first : {t : ℕ} {old : Planned P} {first : Option (Message P)} {course : Course (Message P) (Planned P)} → Launches cmp t old first course → (m : Message P) (f : Message P → Bool) → find f old.waiting ≡ Some m → first ≡ Some m → may_launch cmp t old m ≡ true
+    launch_first : {t : ℕ} {old : Planned P} {first : Option (Message P)} {course : Course (Message P) (Planned P)}
+        → Launches cmp t old first course → (m : Message P) (f : Message P → Bool) → find f old.waiting ≡ Some m
+        → first ≡ Some m → may_launch cmp t old m ≡ true
         → (leavers : List (Message P)) (new : Planned P) → course ≡ goes leavers new → length leavers + weight new + 1 ≤ weight old
     launch_first nothing_waits m f found is may leavers new e = cc
-    launch_first {t = t} {old = old} (too_early {m = n} early) m f found is may leavers new e = let same : n ≡ m = cc in let no : may_launch cmp t old m ≡ false = ap (may_launch cmp t old) (sym same) ∙ early in cc
+    launch_first {t = t} {old = old} (too_early {m = n} early) m f found is may leavers new e =
+        let same : n ≡ m = cc in let no : may_launch cmp t old m ≡ false
+        = ap (may_launch cmp t old) (sym same) ∙ early in cc
     launch_first (no_id h used) m f found is may leavers new e = cc
     launch_first {t = t} {old = old} (starts {m = n} {leavers = ls} {new = q} h id a) m f found is may leavers new e =
         let same : n ≡ m = cc in
@@ -145,7 +170,9 @@ module _ {P : Type 0} (cmp : P → P → Ordering) where
     LightensIn p (goes cs q) = Lightens p q
     LightensIn p (meets e) = Unit {0}
 
-    after_first : (p q : Planned P) (cs : List (Completed P)) (rest : Course (Completed P) (Planned P)) → weight q ≤ weight p → (spent_at p.sending p.finish ≡ true → spent_at q.sending q.finish ≡ true) → LightensIn q rest → LightensIn p (preceded cs rest)
+    after_first : (p q : Planned P) (cs : List (Completed P)) (rest : Course (Completed P) (Planned P))
+        → weight q ≤ weight p → (spent_at p.sending p.finish ≡ true → spent_at q.sending q.finish ≡ true)
+        → LightensIn q rest → LightensIn p (preceded cs rest)
     after_first p q cs (goes xs r) le fits h = record { weighs = omega (arith, h.weighs); finish = λ k. h.finish (fits k); start = h.start }
     after_first p q cs (meets e) le fits h = tt
 
@@ -179,7 +206,9 @@ module _ {P : Type 0} (cmp : P → P → Ordering) where
     no_cons : {X : Type 0} (x : X) (xs : List X) → [] ≡ x ∷ xs → ⊥
     no_cons x xs e = cc
 
-    wakes_first : {t : ℕ} {ks : List (Message P)} {p : Planned P} {course : Course (Completed P) (Planned P)} → WakesEach cmp t ks p course → (m : Message P) (ms : List (Message P)) → ks ≡ m ∷ ms → next_of cmp p m ≡ Some m → may_launch cmp t p m ≡ true → LighterIn p course
+    wakes_first : {t : ℕ} {ks : List (Message P)} {p : Planned P} {course : Course (Completed P) (Planned P)}
+        → WakesEach cmp t ks p course → (m : Message P) (ms : List (Message P)) → ks ≡ m ∷ ms → next_of cmp p m ≡ Some m
+        → may_launch cmp t p m ≡ true → LighterIn p course
     wakes_first (all_started l) m ms e found may = absurd (no_cons m ms e)
     wakes_first (no_start l) m ms e found may = tt
     wakes_first (no_finish l f) m ms e found may = tt
@@ -203,7 +232,14 @@ module _ {P : Type 0} (cmp : P → P → Ordering) where
       where
         by_test : (b : Bool) → f x ≡ b → (b || list_any f xs) ≡ true → (list_any f xs ≡ true → FirstThat Q f xs) → FirstThat Q f (x ∷ xs)
         by_test true is h ih = record { one = x; others = filter f xs; are = ap (λ b. cond b (x ∷ filter f xs) (filter f xs)) is; passes = is; known = each.0 }
-        by_test false is h ih = let r : FirstThat Q f xs = ih h in record { one = r.one; others = r.others; are = ap (λ b. cond b (x ∷ filter f xs) (filter f xs)) is ∙ r.are; passes = r.passes; known = r.known }
+        by_test false is h ih =
+            let r : FirstThat Q f xs = ih h in record {
+              one = r.one;
+              others = r.others;
+              are = ap (λ b. cond b (x ∷ filter f xs) (filter f xs)) is ∙ r.are;
+              passes = r.passes;
+              known = r.known;
+            }
 
     -- ---- an event
 
@@ -211,7 +247,9 @@ module _ {P : Type 0} (cmp : P → P → Ordering) where
     EventsIn p (goes cs q) = events_left q + 1 ≤ events_left p
     EventsIn p (meets e) = Unit {0}
 
-    settled : (t : ℕ) (p mid : Planned P) (leavers : List (Message P)) (course : Course (Completed P) (Planned P)) → p.finish ≡ Some t → Accounts cmp t (record p { finish = None }) leavers mid → LightensIn mid course → EventsIn p course
+    settled : (t : ℕ) (p mid : Planned P) (leavers : List (Message P)) (course : Course (Completed P) (Planned P))
+        → p.finish ≡ Some t → Accounts cmp t (record p { finish = None }) leavers mid → LightensIn mid course
+        → EventsIn p course
     settled t p mid leavers (meets e) is a h = tt
     settled t p mid leavers (goes cs q) is a h =
         let kept : length leavers + length mid.sending ≡ length p.sending = accounts_keep cmp t (record p { finish = None }) mid leavers a in
@@ -222,7 +260,9 @@ module _ {P : Type 0} (cmp : P → P → Ordering) where
         (λ fits.
         let some : list_any (λ (f : RatedFlight P). (left_at t f).num == 0) p.sending ≡ true = ap (spent_at p.sending) (sym is) ∙ fits in
         let leave : 1 ≤ length (filter (is_spent cmp p.caps) (drained_to t p.sending)) = spent_leaves cmp (record p { finish = None }) t p.sending some in
-        let left : length leavers ≡ length (filter (is_spent cmp p.caps) (drained_to t p.sending)) = ap length a.left ∙ length-map (λ (f : RatedFlight P). f.message) (filter (is_spent cmp p.caps) (drained_to t p.sending)) in
+        let left : length leavers ≡ length (filter (is_spent cmp p.caps) (drained_to t p.sending))
+        = ap length a.left ∙ length-map (filter (is_spent cmp p.caps) (drained_to t p.sending))
+        (λ (f : RatedFlight P). f.message) in
         omega (arith, kept, waits, no_finish, no_start, leave, left, h.weighs))
         (λ fits. let one : lack (spent_at p.sending p.finish) ≡ 1 = ap lack fits in omega (arith, kept, waits, no_finish, no_start, one, h.weighs))
 
@@ -241,12 +281,17 @@ module _ {P : Type 0} (cmp : P → P → Ordering) where
         no_worse false true h = omega arith
         no_worse false false h = omega arith
 
-    settles_events : {t : ℕ} {p : Planned P} {course : Course (Completed P) (Planned P)} → Settles cmp t p course → (old : Planned P) → p ≡ record old { finish = None } → old.finish ≡ Some t → EventsIn old course
-    settles_events {t = t} {course = course} (settling {leavers = leavers} {mid = mid} a f) old same is = settled t old mid leavers course is (subst (λ (q : Planned P). Accounts cmp t q leavers mid) same a) (finishes_lighten f)
+    settles_events : {t : ℕ} {p : Planned P} {course : Course (Completed P) (Planned P)} → Settles cmp t p course
+        → (old : Planned P) → p ≡ record old { finish = None } → old.finish ≡ Some t → EventsIn old course
+    settles_events {t = t} {course = course} (settling {leavers = leavers} {mid = mid} a f) old same is =
+        settled t old mid leavers course is (subst (λ (q : Planned P). Accounts cmp t q leavers mid) same a)
+        (finishes_lighten f)
 
     wakes_events : (t : ℕ) (p : Planned P) (course : Course (Completed P) (Planned P)) → p.start ≡ Some t → Wakes cmp t (record p { start = None }) course → EventsIn p course
     wakes_events t p course is w = woken t p course is (wakes_lighten w) (λ some.
-        let first : FirstThat (λ (n : Message P). find (same_pair cmp n) p.waiting ≡ Some n) (may_launch cmp t p) (fronts cmp p.waiting) = first_that _ (may_launch cmp t p) (fronts cmp p.waiting) some (fronts_are_first cmp order p.waiting) in
+        let first : FirstThat (λ (n : Message P). find (same_pair cmp n) p.waiting ≡ Some n) (may_launch cmp t p)
+        (fronts cmp p.waiting) = first_that _ (may_launch cmp t p) (fronts cmp p.waiting) some
+        (fronts_are_first cmp order p.waiting) in
         wakes_first w first.one first.others first.are first.known first.passes)
 
     -- an event that is due makes fewer that may come
@@ -260,7 +305,8 @@ lack_low : {P : Type 0} (cmp : P → P → Ordering) (b : Bool) → lack cmp b �
 lack_low cmp true = omega arith
 lack_low cmp false = omega arith
 
-pub events_few : {P : Type 0} (cmp : P → P → Ordering) (p : Planned P) → length p.waiting < 18446744073709551616 → length p.sending < 18446744073709551616 → events_left cmp p < 340282366920938463463374607431768211456
+pub events_few : {P : Type 0} (cmp : P → P → Ordering) (p : Planned P) → length p.waiting < 18446744073709551616
+    → length p.sending < 18446744073709551616 → events_left cmp p < 340282366920938463463374607431768211456
 events_few cmp p waits sends =
     let one : lack cmp (spent_at p.sending p.finish) ≤ 1 = lack_low cmp (spent_at p.sending p.finish) in
     let two : lack cmp (ready_at cmp p p.start) ≤ 1 = lack_low cmp (ready_at cmp p p.start) in

@@ -1,24 +1,23 @@
 -- How many messages wait and are in flight, through the parts of an event.
-use Rattle.std.proofs.Common.{◌≡◌, ℕ, suc, ◌+◌, List, [], ◌∷◌, length, map, Bool, true, false, not, cond, Option, Some, refl, sym, ap, ◌∙◌, arith, length-append}
+use Rattle.std.proofs.Common.{◌≡◌, ℕ, suc, ◌+◌, List, [], ◌∷◌, length, Bool, true, false, not, cond, Option, Some, refl, sym, ap, ◌∙◌, arith, length-append}
 use Rattle.std.specs.List.{find, filter}
-use Rattle.std.specs.Ordering.{is_eq}
 use Rattle.std.specs.declared.cmp.Ordering.{Ordering}
 use Rattle.std.specs.Cmp.{IsTotalOrder}
-use Rattle.std.proofs.lemmas.Cmp.{tied_itself}
+use Rattle.std.proofs.lemmas.List.{length-map}
 use Rattle.std.proofs.lemmas.List.Filters.{length-filter_both}
 use Rattle.std.specs.Prelude.{◌==◌, ◌≢◌}
-use Rattle.std.proofs.lemmas.Bool.{eqb-true, eq-eqb, and_from}
+use Rattle.std.proofs.lemmas.Bool.{eqb-true, eq-eqb}
 use Rattle.fair_rates.specs.Lists.WithoutFirst.{without_first}
 use Rattle.fair_rates.specs.declared.bandwidth.Flow.{Flow}
 use Rattle.link_scheduler.specs.declared.transmitter.progress.Progress.{Progress}
 use Rattle.link_scheduler.specs.Flights.RatedFlights.{sending_of, are_standing}
 use Rattle.fair_rates.specs.Numbers.Amount.{whole}
-use Rattle.fair_rates.specs.Sides.Subjects.{same_peer}
 use Rattle.link_simulation.specs.Simulation.Messages.{Message, same_pair}
 use Rattle.link_simulation.specs.Simulation.World.{Course, goes, meets}
 use Rattle.link_simulation.specs.Rule.Planned.{Planned, RatedFlight, drained_to, is_spent}
 use Rattle.link_simulation.specs.Rule.Events.{Accounts, Launches, nothing_waits, too_early, no_id, starts, launched}
 use Rattle.fair_rates.proofs.Lists.Zips.{zip-length}
+use Rattle.link_simulation.proofs.Simulation.AlikeMessages.{pair_itself}
 
 pub length-without : {X : Type 0} (f g : X → Bool) (y : X) (xs : List X) → find f xs ≡ Some y → g y ≡ true → length (without_first g xs) + 1 ≡ length xs
 length-without f g y [] found passes = cc
@@ -29,10 +28,6 @@ length-without {X} f g y (x ∷ xs) found passes = by_test (f x) (g x) refl foun
     by_test b true is h ih = omega arith
     by_test true false is h ih = let same : x ≡ y = cc in let no : g x ≡ true = ap g same ∙ passes in cc
     by_test false false is h ih = let rest : length (without_first g xs) + 1 ≡ length xs = ih h passes in omega arith
-
-pub length-map : {X Y : Type 0} (f : X → Y) (xs : List X) → length (map f xs) ≡ length xs
-length-map f [] = refl
-length-map f (x ∷ xs) = ap suc (length-map f xs)
 
 length-drained : {P : Type 0} (t : ℕ) (fs : List (RatedFlight P)) → length (drained_to t fs) ≡ length fs
 length-drained t [] = refl
@@ -51,40 +46,52 @@ module _ {P : Type 0} (cmp : P → P → Ordering) where
   pub accounts_keep : (t : ℕ) (old new : Planned P) (leavers : List (Message P)) → Accounts cmp t old leavers new → length leavers + length new.sending ≡ length old.sending
   accounts_keep t old new leavers a =
       let here = drained_to t old.sending in
-      let left : length leavers ≡ length (filter (is_spent cmp old.caps) here) = ap length a.left ∙ length-map (λ (f : RatedFlight P). f.message) (filter (is_spent cmp old.caps) here) in
-      let stayed : length (filter (λ f. not (is_spent cmp old.caps f)) here) ≡ length new.sending = zip-length (λ (f g : RatedFlight P). (g.message ≡ f.message) × (g.left ≡ f.left) × (g.updated ≡ t)) _ new.sending a.stayed in
-      let both : length (filter (is_spent cmp old.caps) here) + length (filter (λ f. not (is_spent cmp old.caps f)) here) ≡ length here = length-filter_both (is_spent cmp old.caps) (λ f. not (is_spent cmp old.caps f)) (λ f. refl) here in
+      let left : length leavers ≡ length (filter (is_spent cmp old.caps) here) = ap length a.left ∙ length-map (filter (is_spent cmp old.caps) here) (λ (f : RatedFlight P). f.message) in
+      let stayed : length (filter (λ f. not (is_spent cmp old.caps f)) here) ≡ length new.sending
+      = zip-length (λ (f g : RatedFlight P). (g.message ≡ f.message) × (g.left ≡ f.left)
+      × (g.updated ≡ t)) _ new.sending a.stayed in
+      let both : length (filter (is_spent cmp old.caps) here) + length
+      (filter (λ f. not (is_spent cmp old.caps f)) here) ≡ length here
+      = length-filter_both (is_spent cmp old.caps) (λ f. not (is_spent cmp old.caps f)) (λ f. refl) here in
       omega (arith, left, stayed, both, length-drained t old.sending)
 
   pub accounts_waiting : (t : ℕ) (old new : Planned P) (leavers : List (Message P)) → Accounts cmp t old leavers new → new.waiting ≡ old.waiting
   accounts_waiting t old new leavers a = ap (λ (q : Planned P). q.waiting) a.same
 
   module _ (order : IsTotalOrder cmp) where
-    pub same_itself : (m : Message P) → same_pair cmp m m ≡ true
-    same_itself m = and_from (same_peer cmp m.origin m.origin) (same_peer cmp m.recipient m.recipient) (ap is_eq (tied_itself order m.origin)) (ap is_eq (tied_itself order m.recipient))
-
     -- nor does a launch
-    pub launch_keeps : {t : ℕ} {old : Planned P} {first : Option (Message P)} {course : Course (Message P) (Planned P)} → Launches cmp t old first course → (f : Message P → Bool) (leavers : List (Message P)) (new : Planned P) → first ≡ find f old.waiting → course ≡ goes leavers new
+    pub launch_keeps : {t : ℕ} {old : Planned P} {first : Option (Message P)} {course : Course (Message P) (Planned P)}
+        → Launches cmp t old first course → (f : Message P → Bool) (leavers : List (Message P)) (new : Planned P)
+        → first ≡ find f old.waiting → course ≡ goes leavers new
         → length leavers + in_system new ≡ in_system old
     launch_keeps {old = old} nothing_waits f leavers new found is = let e : 0 + in_system old ≡ length leavers + in_system new = ap counted is in omega (arith, e)
     launch_keeps {old = old} (too_early early) f leavers new found is = let e : 0 + in_system old ≡ length leavers + in_system new = ap counted is in omega (arith, e)
     launch_keeps (no_id e used) f leavers new found is = cc
     launch_keeps {t = t} {old = old} (starts {m = m} {leavers = ls} {new = q} may id a) f leavers new found is =
         let same : length ls + in_system q ≡ length leavers + in_system new = ap counted is in
-        let one : length (without_first (same_pair cmp m) old.waiting) + 1 ≡ length old.waiting = length-without f (same_pair cmp m) m old.waiting (sym found) (same_itself m) in
+        let one : length (without_first (same_pair cmp m) old.waiting) + 1 ≡ length old.waiting = length-without f (same_pair cmp m) m old.waiting (sym found) (pair_itself cmp order m) in
         let kept : length ls + length q.sending ≡ length (launched cmp t old m).sending = accounts_keep t (launched cmp t old m) q ls a in
-        let more : length (launched cmp t old m).sending ≡ length old.sending + 1 = length-append old.sending (record { message = m; left = whole (length m.bytes); rate = Some (whole 0); updated = t } ∷ []) in
+        let more : length (launched cmp t old m).sending ≡ length old.sending + 1
+        = length-append old.sending (record {
+          message = m;
+          left = whole (length m.bytes);
+          rate = Some (whole 0);
+          updated = t;
+        } ∷ []) in
         let waits : length q.waiting ≡ length (without_first (same_pair cmp m) old.waiting) = ap length (accounts_waiting t (launched cmp t old m) q ls a) in
         omega (arith, same, one, kept, more, waits)
 
 -- ---- whether something is in flight
 
-pub none_flies : {P : Type 0} (cmp : P → P → Ordering) (scale : ℕ) (levels : List ℕ) (fs : List (Flow P)) (ss : List (Progress P)) → are_standing cmp fs ss ≡ true → (length fs == 0) ≡ true → sending_of scale levels ss ≡ []
+pub none_flies : {P : Type 0} (cmp : P → P → Ordering) (scale : ℕ) (levels : List ℕ) (fs : List (Flow P))
+    (ss : List (Progress P)) → are_standing cmp fs ss ≡ true → (length fs == 0) ≡ true → sending_of scale levels ss ≡ []
 none_flies cmp scale levels [] [] stand none = refl
 none_flies cmp scale levels [] (s ∷ ss) stand none = cc
 none_flies cmp scale levels (f ∷ fs) ss stand none = let zero_long : length (f ∷ fs) ≡ 0 = eqb-true (length (f ∷ fs)) 0 none in absurd (omega arith)
 
-pub some_fly : {P : Type 0} (cmp : P → P → Ordering) (scale : ℕ) (levels : List ℕ) (fs : List (Flow P)) (ss : List (Progress P)) → are_standing cmp fs ss ≡ true → (length fs == 0) ≡ false → sending_of scale levels ss ≢ []
+pub some_fly : {P : Type 0} (cmp : P → P → Ordering) (scale : ℕ) (levels : List ℕ) (fs : List (Flow P))
+    (ss : List (Progress P)) → are_standing cmp fs ss ≡ true → (length fs == 0) ≡ false
+    → sending_of scale levels ss ≢ []
 some_fly cmp scale levels [] ss stand some = cc (eq-eqb 0 0 refl)
 some_fly cmp scale levels (f ∷ fs) [] stand some = cc
 some_fly cmp scale levels (f ∷ fs) (s ∷ ss) stand some = λ none. cc

@@ -1,5 +1,6 @@
 -- Replies in turn, and the replies to a list of calls.
 use Rattle.std.proofs.Common.{◌≡◌, ℕ, suc, ◌+◌, ◌-◌, ◌<◌, ◌≤◌, List, [], ◌∷◌, ◌++◌, length, get_or, refl, sym, ap, ◌∙◌, subst, arith, append_assoc, append-nil, drop, drop-cons, length-drop}
+use Rattle.std.specs.declared.cmp.Ord.{Ghosts}
 use Rattle.std.specs.declared.cmp.Ordering.{Ordering}
 use Rattle.std.specs.Cmp.{IsTotalOrder}
 use Rattle.fair_rates.specs.declared.error.Error.{Error}
@@ -10,7 +11,11 @@ use Rattle.link_simulation.specs.Rule.Planned.{Planned}
 use Rattle.link_simulation.specs.Rule.Events.{Obeys}
 use Rattle.link_simulation.specs.Simulation.World.{Completed, goes}
 use Rattle.link_simulation.specs.Rule.Refusals.{MayBeRefused, Obeyed}
-use Rattle.link_scheduler.specs.Calls.Replay.{IsReplyTo}
+use Rattle.link_scheduler.specs.declared.replay.Reply as reply_code
+use Rattle.link_scheduler.specs.declared.replay.Reply.TheVariants as replies
+use Rattle.link_scheduler.specs.declared.transmitter.State.{State}
+use Rattle.link_scheduler.specs.Calls.State.{planned_of}
+use Rattle.link_scheduler.specs.Calls.Replay.{reply_of, IsAnswered, MayRefuseCall, IsReplyTo}
 use Rattle.link_simulation.specs.Rule.SamePlanned.{IsSamePlanned, GoesByRule, IsSameCall, same_limit, same_limit_link, same_enqueue, same_advance, same_next}
 use Rattle.link_simulation.proofs.Rule.SamePlanned.{same_turned, same_chain, peer_turned, message_turned}
 use Rattle.link_simulation.proofs.Rule.SameSteps.{course_went}
@@ -20,20 +25,49 @@ use Rattle.link_simulation.proofs.Rule.SameRefusals.{obeyed_same, refused_same}
 
 module _ {P : Type 0} (cmp : P → P → Ordering) (order : IsTotalOrder cmp) where
   -- a reply, and those after it
-  pub one_more : (p q : Planned P) (call : Call P) (reply : Reply P) (calls : List (Call P)) (replies : List (Reply P)) → IsReplyTo cmp p call reply q → Obeyed cmp q calls replies → Obeyed cmp p (call ∷ calls) (reply ∷ replies)
+  pub one_more : (p q : Planned P) (call : Call P) (reply : Reply P) (calls : List (Call P)) (replies : List (Reply P))
+      → IsReplyTo cmp p call reply q → Obeyed cmp q calls replies → Obeyed cmp p (call ∷ calls) (reply ∷ replies)
   one_more p q call_next (reply_next t) calls replies h rest = (h.0, subst (λ (r : Planned P). Obeyed cmp r calls replies) h.1 rest)
   one_more p q call_next (reply_done cs) calls replies h rest = absurd h
   one_more p q call_next (reply_refused e) calls replies h rest = absurd h
-  one_more p q (call_limit now peer egress ingress) (reply_done cs) calls replies h rest = (h.answers, h.after, h.obeys, h.same_answers, obeyed_same cmp order q h.after calls replies (same_turned cmp order h.after q h.same_after) rest)
+  one_more p q (call_limit now peer egress ingress) (reply_done cs) calls replies h rest = (
+    h.answers,
+    h.after,
+    h.obeys,
+    h.same_answers,
+    obeyed_same cmp order q h.after calls replies
+        (same_turned cmp order h.after q h.same_after) rest,
+  )
   one_more p q (call_limit now peer egress ingress) (reply_refused e) calls replies h rest = (h.0, subst (λ (r : Planned P). Obeyed cmp r calls replies) h.1 rest)
   one_more p q (call_limit now peer egress ingress) (reply_next t) calls replies h rest = absurd h
-  one_more p q (call_limit_link now origin recipient cap) (reply_done cs) calls replies h rest = (h.answers, h.after, h.obeys, h.same_answers, obeyed_same cmp order q h.after calls replies (same_turned cmp order h.after q h.same_after) rest)
+  one_more p q (call_limit_link now origin recipient cap) (reply_done cs) calls replies h rest = (
+    h.answers,
+    h.after,
+    h.obeys,
+    h.same_answers,
+    obeyed_same cmp order q h.after calls replies
+        (same_turned cmp order h.after q h.same_after) rest,
+  )
   one_more p q (call_limit_link now origin recipient cap) (reply_refused e) calls replies h rest = (h.0, subst (λ (r : Planned P). Obeyed cmp r calls replies) h.1 rest)
   one_more p q (call_limit_link now origin recipient cap) (reply_next t) calls replies h rest = absurd h
-  one_more p q (call_enqueue now m) (reply_done cs) calls replies h rest = (h.answers, h.after, h.obeys, h.same_answers, obeyed_same cmp order q h.after calls replies (same_turned cmp order h.after q h.same_after) rest)
+  one_more p q (call_enqueue now m) (reply_done cs) calls replies h rest = (
+    h.answers,
+    h.after,
+    h.obeys,
+    h.same_answers,
+    obeyed_same cmp order q h.after calls replies
+        (same_turned cmp order h.after q h.same_after) rest,
+  )
   one_more p q (call_enqueue now m) (reply_refused e) calls replies h rest = (h.0, subst (λ (r : Planned P). Obeyed cmp r calls replies) h.1 rest)
   one_more p q (call_enqueue now m) (reply_next t) calls replies h rest = absurd h
-  one_more p q (call_advance now) (reply_done cs) calls replies h rest = (h.answers, h.after, h.obeys, h.same_answers, obeyed_same cmp order q h.after calls replies (same_turned cmp order h.after q h.same_after) rest)
+  one_more p q (call_advance now) (reply_done cs) calls replies h rest = (
+    h.answers,
+    h.after,
+    h.obeys,
+    h.same_answers,
+    obeyed_same cmp order q h.after calls replies
+        (same_turned cmp order h.after q h.same_after) rest,
+  )
   one_more p q (call_advance now) (reply_refused e) calls replies h rest = (h.0, subst (λ (r : Planned P). Obeyed cmp r calls replies) h.1 rest)
   one_more p q (call_advance now) (reply_next t) calls replies h rest = absurd h
 
@@ -57,7 +91,8 @@ module _ {P : Type 0} (cmp : P → P → Ordering) (order : IsTotalOrder cmp) wh
         same_after = same_chain cmp order went.1 h.after q (same_turned cmp order h.after went.1 went.4) h.same_after;
       }
 
-  refused_same_call : (p q : Planned P) (call other : Call P) (why : Error) → IsSamePlanned cmp p p → IsSameCall cmp call other → MayBeRefused cmp p other why × (q ≡ p) → MayBeRefused cmp p call why × (q ≡ p)
+  refused_same_call : (p q : Planned P) (call other : Call P) (why : Error) → IsSamePlanned cmp p p
+      → IsSameCall cmp call other → MayBeRefused cmp p other why × (q ≡ p) → MayBeRefused cmp p call why × (q ≡ p)
   refused_same_call p q call other why itself same h = (refused_same cmp order p p other call why itself (call_turned same) h.0, h.1)
 
   -- an equal call has the same replies
@@ -84,9 +119,15 @@ module _ {P : Type 0} (cmp : P → P → Ordering) (order : IsTotalOrder cmp) wh
   pub none_replied : (p : Planned P) (calls : List (Call P)) → Replied p calls [] calls p
   none_replied p calls = record { so = λ more h. h; in_time = λ h. h }
 
-  pub one_replied : (old : Planned P) (calls : List (Call P)) (replies : List (Reply P)) (call : Call P) (rest : List (Call P)) (p q : Planned P) (reply : Reply P) → Replied old calls replies (call ∷ rest) p
+  pub one_replied : (old : Planned P) (calls : List (Call P)) (replies : List (Reply P)) (call : Call P)
+      (rest : List (Call P)) (p q : Planned P) (reply : Reply P) → Replied old calls replies (call ∷ rest) p
       → InTime (call ∷ []) → IsReplyTo cmp p call reply q → Replied old calls (replies ++ reply ∷ []) rest q
-  one_replied old calls replies call rest p q reply so_far timely h = record { in_time = λ others. so_far.in_time (timely.0, others); so = λ more obeyed. subst (Obeyed cmp old calls) (sym (append_assoc replies (reply ∷ []) more)) (so_far.so (reply ∷ more) (one_more p q call reply rest more h obeyed)) }
+  one_replied old calls replies call rest p q reply so_far timely h =
+      record {
+        in_time = λ others. so_far.in_time (timely.0, others);
+        so = λ more obeyed. subst (Obeyed cmp old calls) (sym (append_assoc replies (reply ∷ []) more))
+            (so_far.so (reply ∷ more) (one_more p q call reply rest more h obeyed));
+      }
 
   pub all_replied : (old : Planned P) (calls : List (Call P)) (replies : List (Reply P)) (p : Planned P) → Replied old calls replies [] p → Obeyed cmp old calls replies
   all_replied old calls replies p so_far = subst (Obeyed cmp old calls) (append-nil replies) (so_far.so [] tt)
@@ -97,14 +138,17 @@ module _ {P : Type 0} (cmp : P → P → Ordering) (order : IsTotalOrder cmp) wh
     pub fits : length calls ≤ room
     pub replied : Replied old calls replies (drop at calls) p
 
-  pub begins : (p q : Planned P) (calls : List (Call P)) (replies : List (Reply P)) (count room : ℕ) → replies ≡ [] → count ≡ 0 → length calls ≤ room → q ≡ p → IsUnderway p calls 0 replies count room q
+  pub begins : (p q : Planned P) (calls : List (Call P)) (replies : List (Reply P)) (count room : ℕ) → replies ≡ []
+      → count ≡ 0 → length calls ≤ room → q ≡ p → IsUnderway p calls 0 replies count room q
   begins p q calls replies count room none long fits is =
       record { long = long; fits = fits; replied = subst (λ (rs : List (Reply P)). Replied p calls rs calls q) (sym none) (subst (Replied p calls [] calls) (sym is) (none_replied p calls)) }
 
-  pub has_room : (old : Planned P) (calls : List (Call P)) (at : ℕ) (replies : List (Reply P)) (count room : ℕ) (p : Planned P) → IsUnderway old calls at replies count room p → at < length calls → count < room
+  pub has_room : (old : Planned P) (calls : List (Call P)) (at : ℕ) (replies : List (Reply P)) (count room : ℕ)
+      (p : Planned P) → IsUnderway old calls at replies count room p → at < length calls → count < room
   has_room old calls at replies count room p so_far lt = omega (arith, so_far.long, so_far.fits, lt)
 
-  pub goes_on : (old : Planned P) (calls : List (Call P)) (at : ℕ) (replies : List (Reply P)) (count room more : ℕ) (p q : Planned P) (call : Call P) (reply : Reply P) → IsUnderway old calls at replies count room p
+  pub goes_on : (old : Planned P) (calls : List (Call P)) (at : ℕ) (replies : List (Reply P)) (count room more : ℕ)
+      (p q : Planned P) (call : Call P) (reply : Reply P) → IsUnderway old calls at replies count room p
       → at < length calls → call ≡ get_or calls at call → room ≤ more → InTime (call ∷ []) → IsReplyTo cmp p call reply q → IsUnderway old calls (at + 1) (replies ++ reply ∷ []) (count + 1) more q
   goes_on old calls at replies count room more p q call reply so_far lt is grows timely h = record {
     long = ap (λ n. n + 1) so_far.long;
@@ -115,7 +159,9 @@ module _ {P : Type 0} (cmp : P → P → Ordering) (order : IsTotalOrder cmp) wh
       cut : drop at calls ≡ call ∷ drop (at + 1) calls
       cut = let next : at + 1 ≡ suc at = omega arith in drop-cons calls at call lt ∙ ap (λ k. k ∷ drop (suc at) calls) (sym is) ∙ ap (λ n. call ∷ drop n calls) (sym next)
 
-  pub ends : (old : Planned P) (calls : List (Call P)) (at : ℕ) (replies : List (Reply P)) (count room : ℕ) (p : Planned P) → IsUnderway old calls at replies count room p → length calls ≤ at → Obeyed cmp old calls replies × InTime calls
+  pub ends : (old : Planned P) (calls : List (Call P)) (at : ℕ) (replies : List (Reply P)) (count room : ℕ)
+      (p : Planned P) → IsUnderway old calls at replies count room p → length calls ≤ at
+      → Obeyed cmp old calls replies × InTime calls
   ends old calls at replies count room p so_far le =
       let all : Replied old calls replies [] p = subst (λ (l : List (Call P)). Replied old calls replies l p) (none_left (drop at calls) (length-drop at calls)) so_far.replied in
       (all_replied old calls replies p all, all.in_time tt)
@@ -144,3 +190,29 @@ module _ {P : Type 0} (cmp : P → P → Ordering) (order : IsTotalOrder cmp) wh
   one_for_each p (call_advance now ∷ calls) (reply_done cs ∷ replies) h = ap suc (one_for_each h.1 calls replies h.4)
   one_for_each p (call_advance now ∷ calls) (reply_refused why ∷ replies) h = ap suc (one_for_each p calls replies h.1)
   one_for_each p (call_advance now ∷ calls) (reply_next t ∷ replies) h = absurd h
+
+-- what a scheduler answers, or refuses, is a reply by the event rule
+module _ {P : Type 0} {order : Ghosts P} {b : _} {c : _} (old new : State P order b c) where
+  pub answered_by_rule : (call : Call P) (reply : reply_code.Reply P) → IsAnswered old call reply new → IsReplyTo order.cmp (planned_of old) call (reply_of reply) (planned_of new)
+  answered_by_rule call_next (replies.Next moment) h = (h.0.planned, ap planned_of h.1)
+  answered_by_rule call_next (replies.Done completions) h = h
+  answered_by_rule call_next (replies.Refused why) h = h
+  answered_by_rule (call_limit now peer egress ingress) (replies.Done completions) h = h.by_rule
+  answered_by_rule (call_limit now peer egress ingress) (replies.Next moment) h = h
+  answered_by_rule (call_limit now peer egress ingress) (replies.Refused why) h = absurd h
+  answered_by_rule (call_limit_link now origin recipient cap) (replies.Done completions) h = h.by_rule
+  answered_by_rule (call_limit_link now origin recipient cap) (replies.Next moment) h = h
+  answered_by_rule (call_limit_link now origin recipient cap) (replies.Refused why) h = absurd h
+  answered_by_rule (call_enqueue now m) (replies.Done completions) h = h.by_rule
+  answered_by_rule (call_enqueue now m) (replies.Next moment) h = h
+  answered_by_rule (call_enqueue now m) (replies.Refused why) h = absurd h
+  answered_by_rule (call_advance now) (replies.Done completions) h = h.by_rule
+  answered_by_rule (call_advance now) (replies.Next moment) h = h
+  answered_by_rule (call_advance now) (replies.Refused why) h = absurd h
+
+  pub refused_by_rule : (call : Call P) (why : Error) → MayRefuseCall old call why → planned_of new ≡ planned_of old → IsReplyTo order.cmp (planned_of old) call (reply_refused why) (planned_of new)
+  refused_by_rule call_next why h same = h
+  refused_by_rule (call_limit now peer egress ingress) why h same = (h.by_rule, same)
+  refused_by_rule (call_limit_link now origin recipient cap) why h same = (h.by_rule, same)
+  refused_by_rule (call_enqueue now m) why h same = (h.by_rule, same)
+  refused_by_rule (call_advance now) why h same = (h.by_rule, same)

@@ -1,5 +1,7 @@
 -- An account of what is in flight, from what its steps do.
-use Rattle.std.proofs.Common.{◌≡◌, ◌≢◌, ℕ, suc, ◌+◌, Bool, true, false, not, cond, if◌then◌else◌, ◌||◌, List, [], ◌∷◌, length, Option, Some, None, refl, sym, ◌∙◌, ap, subst, arith, zero-add, get_or, All}
+use Rattle.std.proofs.Common.{◌≡◌, ◌≢◌, ℕ, suc, ◌+◌, Bool, true, false, not, cond, if◌then◌else◌, ◌||◌, List, [], ◌∷◌}
+use Rattle.std.proofs.Common.{length, Option, Some, None, refl, sym, ◌∙◌, ap, subst, arith, zero-add, get_or, All}
+use Rattle.std.proofs.lemmas.List.{length-map}
 use Rattle.std.specs.List.{AllZip, filter, list_all}
 use Rattle.std.specs.Bool.{◌==◌}
 use Rattle.std.specs.Cmp.{IsTotalOrder}
@@ -25,7 +27,7 @@ use Rattle.link_simulation.specs.Rule.Events.{Accounts}
 use Rattle.link_simulation.specs.Simulation.Messages.{Message, PairsAlike}
 use Rattle.link_simulation.specs.Rule.Planned.{Planned, RatedFlight, IsLeastMoment, SomeSpentAt, rated_messages, drained_to, is_spent}
 use Rattle.link_simulation.specs.Simulation.Rates.{AreFair, capped_sides, is_unlimited, rate_of, rates_from}
-use Rattle.link_scheduler.proofs.Flights.InFlight.{length-read, nothing_is_done, StandsForSent, standing_zip, standing_length}
+use Rattle.link_scheduler.proofs.Flights.InFlight.{nothing_is_done, StandsForSent, standing_zip, standing_length}
 use Rattle.link_scheduler.proofs.Pairs.Entries.{links_alike, arrivals_alike}
 use Rattle.fair_rates.proofs.Lists.Sorted.{is_eq_equal, value_respects}
 use Rattle.link_scheduler.proofs.Flights.FairMessages.{StandsForMessage, same_sides}
@@ -48,7 +50,9 @@ arrivals_looked_up cmp order es = arrivals_alike cmp order es
 -- ---- what is in flight, and what it becomes
 
 module _ {P : Type 0} (now scale : ℕ) (levels : List ℕ) where
-  stayed_so : (os : List (Option ℕ)) (fs : List (RatedFlight P)) → length os ≡ length fs → AllZip (λ f g. (g.message ≡ f.message) × (g.left ≡ f.left) × (g.updated ≡ now)) fs (rated_by now scale levels os fs)
+  stayed_so : (os : List (Option ℕ)) (fs : List (RatedFlight P)) → length os ≡ length fs
+      → AllZip (λ f g. (g.message ≡ f.message) × (g.left ≡ f.left) × (g.updated ≡ now)) fs
+      (rated_by now scale levels os fs)
   stayed_so [] [] same = tt
   stayed_so [] (f ∷ fs) same = absurd (omega arith)
   stayed_so (o ∷ os) [] same = absurd (omega arith)
@@ -69,7 +73,9 @@ module _ {P : Type 0} (cmp : P → P → Ordering) where
       passes f none stays = let spent : is_spent cmp p.caps f ≡ true = nothing_is_done f.left.num _ none in cc
 
   -- each flow stands for its message
-  pub flows_stand : (scale : ℕ) (levels : List ℕ) (fs : List (Flow P)) (ss : List (Progress P)) → AllZip (StandsForSent cmp) fs ss → AllZip (StandsForMessage cmp) fs (rated_messages (sending_of scale levels ss))
+  pub flows_stand : (scale : ℕ) (levels : List ℕ) (fs : List (Flow P)) (ss : List (Progress P))
+      → AllZip (StandsForSent cmp) fs ss → AllZip (StandsForMessage cmp) fs
+      (rated_messages (sending_of scale levels ss))
   flows_stand scale levels [] [] stand = tt
   flows_stand scale levels [] (s ∷ ss) stand = absurd stand
   flows_stand scale levels (f ∷ fs) [] stand = absurd stand
@@ -87,12 +93,17 @@ module _ {P : Type 0} (cmp : P → P → Ordering) where
   stays_limited caps [] = refl
   stays_limited caps (f ∷ fs) = by_test (not (is_spent cmp caps f)) refl (stays_limited caps fs)
     where
-      by_test : (b : Bool) → not (is_spent cmp caps f) ≡ b → all_limited caps (filter (λ g. not (is_spent cmp caps g)) fs) ≡ true → all_limited caps (cond b (f ∷ filter (λ g. not (is_spent cmp caps g)) fs) (filter (λ g. not (is_spent cmp caps g)) fs)) ≡ true
+      by_test : (b : Bool) → not (is_spent cmp caps f) ≡ b
+          → all_limited caps (filter (λ g. not (is_spent cmp caps g)) fs) ≡ true
+          → all_limited caps (cond b (f ∷ filter (λ g. not (is_spent cmp caps g)) fs)
+          (filter (λ g. not (is_spent cmp caps g)) fs)) ≡ true
       by_test true e others = and_from _ _ (limited_if_not_spent (f.left.num == 0) (is_unlimited cmp caps f.message) e) others
       by_test false e others = others
 
   -- each has the rate of its place
-  rated_so : (now scale : ℕ) (levels : List ℕ) (caps : Caps P) (parts : ℕ → ℕ) (place : ℕ) (os : List (Option ℕ)) (fs : List (RatedFlight P)) → ((i : ℕ) → parts (place + i) ≡ parts_of_level levels (get_or os i None)) → length os ≡ length fs
+  rated_so : (now scale : ℕ) (levels : List ℕ) (caps : Caps P) (parts : ℕ → ℕ) (place : ℕ) (os : List (Option ℕ))
+      (fs : List (RatedFlight P)) → ((i : ℕ) → parts (place + i) ≡ parts_of_level levels (get_or os i None))
+      → length os ≡ length fs
       → all_limited caps fs ≡ true → AllZip (λ rate f. f.rate ≡ rate_of scale rate) (rates_from cmp caps parts place (rated_messages fs)) (rated_by now scale levels os fs)
   rated_so now scale levels caps parts place [] [] at same limited = tt
   rated_so now scale levels caps parts place [] (f ∷ fs) at same limited = absurd (omega arith)
@@ -114,7 +125,8 @@ module _ {P : Type 0} (cmp : P → P → Ordering) where
 
 -- ---- the account
 
-module _ {P : Type 0} (cmp : P → P → Ordering) (order : IsTotalOrder cmp) (now : ℕ) (old : Planned P) (of : AreOfPeers cmp old.caps) (scale : ℕ) (levels : List ℕ) (fs : List (Flow P)) (ss : List (Progress P))
+module _ {P : Type 0} (cmp : P → P → Ordering) (order : IsTotalOrder cmp) (now : ℕ) (old : Planned P)
+    (of : AreOfPeers cmp old.caps) (scale : ℕ) (levels : List ℕ) (fs : List (Flow P)) (ss : List (Progress P))
     (stand : are_standing cmp fs ss ≡ true) (rest : sending_of scale levels ss ≡ filter (λ f. not (is_spent cmp old.caps f)) (drained_to now old.sending)) where
   -- with fair rates, and a finish, this is an account
   pub accounts_so : (leavers : List (Message P)) (found : FairParts) (finish : Option ℕ) → leavers ≡ rated_messages (filter (is_spent cmp old.caps) (drained_to now old.sending))
@@ -124,15 +136,22 @@ module _ {P : Type 0} (cmp : P → P → Ordering) (order : IsTotalOrder cmp) (n
       let stay : List (RatedFlight P) = sending_of scale levels ss in
       let rated : List (RatedFlight P) = rated_by now found.scale found.levels.items found.level_of.items stay in
       let parts : ℕ → ℕ = flow_parts found.levels.items found.level_of.items in
-      let one_each : length found.level_of.items ≡ length stay = fair.one_each ∙ standing_length cmp fs ss stand ∙ sym (length-read (rated_flight_of scale levels) ss) in
+      let one_each : length found.level_of.items ≡ length stay = fair.one_each ∙ standing_length cmp fs ss stand ∙ sym (length-map ss (rated_flight_of scale levels)) in
       let limited : all_limited cmp old.caps stay ≡ true = ap (all_limited cmp old.caps) rest ∙ stays_limited cmp old.caps (drained_to now old.sending) in
-      let same : AreTheSameSides (sides_under cmp old.caps fs) (capped_sides cmp old.caps (rated_messages stay)) = same_sides cmp order old.caps of fs (rated_messages stay) (flows_stand cmp scale levels fs ss (standing_zip cmp fs ss stand)) in
+      let same : AreTheSameSides (sides_under cmp old.caps fs) (capped_sides cmp old.caps (rated_messages stay))
+      = same_sides cmp order old.caps of fs (rated_messages stay)
+      (flows_stand cmp scale levels fs ss (standing_zip cmp fs ss stand)) in
       record {
         per = found.scale;
         rates = rates_from cmp old.caps parts 0 (rated_messages stay);
         left = left;
-        stayed = subst (λ (stay : List (RatedFlight P)). AllZip (λ f g. (g.message ≡ f.message) × (g.left ≡ f.left) × (g.updated ≡ now)) stay rated) rest (stayed_so now found.scale found.levels.items found.level_of.items stay one_each);
-        fair = subst (λ ms. AreFair cmp old.caps ms found.scale (rates_from cmp old.caps parts 0 (rated_messages stay))) (sym (same_messages now found.scale found.levels.items found.level_of.items stay one_each))
+        stayed =
+            subst (λ (stay : List (RatedFlight P)). AllZip
+            (λ f g. (g.message ≡ f.message) × (g.left ≡ f.left) × (g.updated ≡ now)) stay rated) rest
+            (stayed_so now found.scale found.levels.items found.level_of.items stay one_each);
+        fair =
+            subst (λ ms. AreFair cmp old.caps ms found.scale (rates_from cmp old.caps parts 0 (rated_messages stay)))
+            (sym (same_messages now found.scale found.levels.items found.level_of.items stay one_each))
             (record { parts = parts; fair = still_fair (sides_under cmp old.caps fs) (capped_sides cmp old.caps (rated_messages stay)) same found.scale parts fair.fair; rated = refl });
         rated = rated_so cmp now found.scale found.levels.items old.caps parts 0 found.level_of.items stay (λ i. ap parts (zero-add i)) one_each limited;
         finish = least;

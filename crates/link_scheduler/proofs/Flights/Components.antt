@@ -9,7 +9,7 @@ use Rattle.std.specs.declared.alloc.Global.{Global}
 use Rattle.std.specs.Bool.{◌==◌}
 use Rattle.std.proofs.lemmas.Bool.{false≢true, eqb-true, ltb-true, lt-ltb}
 use Rattle.std.proofs.lemmas.Cmp.{eq_by_cmp_equiv}
-use Rattle.std.proofs.lemmas.List.{length-append}
+use Rattle.std.proofs.lemmas.List.{length-append, length-map}
 use Rattle.std.proofs.lemmas.List.Elements.{All-contains}
 use Rattle.fair_rates.specs.Fairness.Exists.{product}
 use Rattle.fair_rates.proofs.Lists.SumOrder.{All-from_contains}
@@ -34,7 +34,7 @@ use Rattle.link_scheduler.specs.Flights.Rated.{sent_messages, rated_ones, is_pla
 use Rattle.link_scheduler.specs.Flights.RatedFlights.{are_standing}
 use Rattle.link_scheduler.specs.Pairs.Messages.{message_of}
 use Rattle.link_scheduler.proofs.Flights.FairMessages.{StandsForMessage, same_sides}
-use Rattle.link_scheduler.proofs.Flights.InFlight.{StandsForSent, standing_zip, standing_length, length-read}
+use Rattle.link_scheduler.proofs.Flights.InFlight.{StandsForSent, standing_zip, standing_length}
 use Rattle.fair_rates.proofs.Lists.Booleans.{by_bool, first_of_both, second_of_both}
 use Rattle.fair_rates.proofs.Sides.EqualSubjects.{same_peer_itself}
 
@@ -420,7 +420,7 @@ module _ {P : Type 0} (cmp : P → P → Ordering) (component : Component P) whe
       others_fair : AreFairShares cmp order caps of scale (shares cmp levels (levels_of (others_of ss)) (others_of ss))
       others_fair =
           let us = rated_ones were.before in
-          let whole = shared cmp order caps of scale levels (levels_of us) us (length-read (λ (s : Progress P). s.level) us) were.fair.fair in
+          let whole = shared cmp order caps of scale levels (levels_of us) us (length-map us (λ (s : Progress P). s.level)) were.fair.fair in
           let part = part_shared cmp caps flow_of parts_of theirs scale (shares cmp levels (levels_of us) us) whole
               (λ s cap x y has h g lx ly. ap not (shares_apart caps levels (levels_of us) us (λ s h. ends_before s (from_filter (λ (s : Progress P). s.rated) were.before s h).0) s cap x y has h g lx ly)) in
           subst (λ (l : List (Progress P)). AreFairShares cmp order caps of scale (shares cmp levels (levels_of l) l)) others_stay

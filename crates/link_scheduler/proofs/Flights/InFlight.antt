@@ -1,5 +1,6 @@
 -- The messages in flight: a list of flows, and beside it a list of what is known of their messages.
-use Rattle.std.proofs.Common.{◌≡◌, ℕ, zero, suc, ◌+◌, ◌<◌, ◌≤◌, Bool, true, false, not, if◌then◌else◌, ◌&&◌, ◌||◌, List, [], ◌∷◌, ◌++◌, length, map, get_or, nat_lt, refl, sym, ◌∙◌, ap, arith, append_assoc}
+use Rattle.std.proofs.Common.{◌≡◌, ℕ, zero, suc, ◌+◌, ◌<◌, ◌≤◌, Bool, true, false, not, if◌then◌else◌, ◌&&◌, ◌||◌, List}
+use Rattle.std.proofs.Common.{[], ◌∷◌, ◌++◌, length, map, get_or, nat_lt, refl, sym, ◌∙◌, ap, arith, append_assoc}
 use Rattle.std.specs.List.{AllZip, list_all, list_any, remove, filter}
 use Rattle.std.specs.declared.cmp.Ordering.{Ordering}
 use Rattle.std.specs.Ordering.{is_lt, nat_cmp}
@@ -20,10 +21,6 @@ use Rattle.fair_rates.proofs.Lists.Zips.{zip-length, zip-push}
 use Rattle.fair_rates.proofs.Lists.Sorted.{list_all-append, list_all-map, get_or-seam}
 
 -- ---- a list of what is read
-
-pub length-read : {X Y : Type 0} (f : X → Y) (xs : List X) → length (map f xs) ≡ length xs
-length-read f [] = refl
-length-read f (x ∷ xs) = ap suc (length-read f xs)
 
 pub read_at : {X Y : Type 0} (f : X → Y) (xs : List X) (at : ℕ) (x : X) (d : Y) → at < length xs → x ≡ get_or xs at x → get_or (map f xs) at d ≡ f x
 read_at f [] at x d lt is = absurd (omega (arith, lt))
@@ -108,17 +105,23 @@ pub ascending_without : {K : Type 0} (cmp : K → K → Ordering) (ks : List K) 
 ascending_without cmp [] zero h = refl
 ascending_without cmp [] (suc at) h = refl
 ascending_without cmp (k ∷ ks) zero h = second_of_both (list_all (λ l. is_lt (cmp k l)) ks) _ h
-ascending_without cmp (k ∷ ks) (suc at) h = and_from _ _ (all_without (λ l. is_lt (cmp k l)) ks at (first_of_both (list_all (λ l. is_lt (cmp k l)) ks) _ h)) (ascending_without cmp ks at (second_of_both (list_all (λ l. is_lt (cmp k l)) ks) _ h))
+ascending_without cmp (k ∷ ks) (suc at) h =
+    and_from _ _ (all_without (λ l. is_lt (cmp k l)) ks at (first_of_both (list_all (λ l. is_lt (cmp k l)) ks) _ h))
+    (ascending_without cmp ks at (second_of_both (list_all (λ l. is_lt (cmp k l)) ks) _ h))
 
-pub apart_without : {P : Type 0} (fs : List (Flow P)) (at : ℕ) → are_ascending nat_cmp (map (λ (flow : Flow P). flow.id) fs) ≡ true → are_ascending nat_cmp (map (λ (flow : Flow P). flow.id) (remove fs at)) ≡ true
+pub apart_without : {P : Type 0} (fs : List (Flow P)) (at : ℕ)
+    → are_ascending nat_cmp (map (λ (flow : Flow P). flow.id) fs) ≡ true
+    → are_ascending nat_cmp (map (λ (flow : Flow P). flow.id) (remove fs at)) ≡ true
 apart_without fs at h = ap (are_ascending nat_cmp) (read_without (λ flow. flow.id) fs at) ∙ ascending_without nat_cmp (map (λ flow. flow.id) fs) at h
 
-pub standing_without : {P : Type 0} (cmp : P → P → Ordering) (fs : List (Flow P)) (ss : List (Progress P)) (at : ℕ) → are_standing cmp fs ss ≡ true → are_standing cmp (remove fs at) (remove ss at) ≡ true
+pub standing_without : {P : Type 0} (cmp : P → P → Ordering) (fs : List (Flow P)) (ss : List (Progress P)) (at : ℕ)
+    → are_standing cmp fs ss ≡ true → are_standing cmp (remove fs at) (remove ss at) ≡ true
 standing_without cmp fs ss at h = zip_standing cmp _ _ (zip_without (StandsForSent cmp) fs ss at (standing_zip cmp fs ss h))
 
 -- whether a message of a pair is in flight
 pub any_of_pair : {P : Type 0} (cmp : P → P → Ordering) (scale : ℕ) (levels : List ℕ) (m : Message P) (ss : List (Progress P))
-    → list_any (λ (s : Progress P). same_peer cmp m.origin s.message.value.origin && same_peer cmp m.recipient s.message.value.recipient) ss ≡ list_any (same_pair cmp m) (rated_messages (sending_of scale levels ss))
+    → list_any (λ (s : Progress P). same_peer cmp m.origin s.message.value.origin && same_peer cmp m.recipient s.message.value.recipient) ss
+    ≡ list_any (same_pair cmp m) (rated_messages (sending_of scale levels ss))
 any_of_pair cmp scale levels m [] = refl
 any_of_pair cmp scale levels m (s ∷ ss) = ap (λ b. (same_peer cmp m.origin s.message.value.origin && same_peer cmp m.recipient s.message.value.recipient) || b) (any_of_pair cmp scale levels m ss)
 
@@ -126,16 +129,26 @@ any_of_pair cmp scale levels m (s ∷ ss) = ap (λ b. (same_peer cmp m.origin s.
 
 pub ascending_push : (ks : List ℕ) (k : ℕ) → are_ascending nat_cmp ks ≡ true → list_all (λ j. nat_lt j k) ks ≡ true → are_ascending nat_cmp (ks ++ k ∷ []) ≡ true
 ascending_push [] k h below = refl
-ascending_push (j ∷ ks) k h below = and_from _ _ (list_all-append (λ l. is_lt (nat_cmp j l)) ks (k ∷ []) (first_of_both _ _ h) (and_from (is_lt (nat_cmp j k)) true (less j k (first_of_both (nat_lt j k) _ below)) refl))
+ascending_push (j ∷ ks) k h below =
+    and_from _ _ (list_all-append (λ l. is_lt (nat_cmp j l)) ks (k ∷ []) (first_of_both _ _ h)
+    (and_from (is_lt (nat_cmp j k)) true (less j k (first_of_both (nat_lt j k) _ below)) refl))
     (ascending_push ks k (second_of_both (list_all (λ l. is_lt (nat_cmp j l)) ks) _ h) (second_of_both (nat_lt j k) _ below))
   where
     less : (j k : ℕ) → nat_lt j k ≡ true → is_lt (nat_cmp j k) ≡ true
     less j k h = rw h refl
 
-pub apart_with : {P : Type 0} (fs : List (Flow P)) (f : Flow P) → are_ascending nat_cmp (map (λ (flow : Flow P). flow.id) fs) ≡ true → list_all (λ (flow : Flow P). nat_lt flow.id f.id) fs ≡ true → are_ascending nat_cmp (map (λ (flow : Flow P). flow.id) (fs ++ f ∷ [])) ≡ true
-apart_with fs f apart below = ap (are_ascending nat_cmp) (map-append (λ flow. flow.id) fs (f ∷ [])) ∙ ascending_push (map (λ flow. flow.id) fs) f.id apart (list_all-map (λ j. nat_lt j f.id) (λ flow. flow.id) fs ∙ below)
+pub apart_with : {P : Type 0} (fs : List (Flow P)) (f : Flow P)
+    → are_ascending nat_cmp (map (λ (flow : Flow P). flow.id) fs) ≡ true
+    → list_all (λ (flow : Flow P). nat_lt flow.id f.id) fs ≡ true
+    → are_ascending nat_cmp (map (λ (flow : Flow P). flow.id) (fs ++ f ∷ [])) ≡ true
+apart_with fs f apart below =
+    ap (are_ascending nat_cmp) (map-append (λ flow. flow.id) fs (f ∷ []))
+    ∙ ascending_push (map (λ flow. flow.id) fs) f.id apart
+    (list_all-map (λ j. nat_lt j f.id) (λ flow. flow.id) fs ∙ below)
 
-pub standing_with : {P : Type 0} (cmp : P → P → Ordering) (fs : List (Flow P)) (ss : List (Progress P)) (f : Flow P) (s : Progress P) → are_standing cmp fs ss ≡ true → StandsForSent cmp f s → are_standing cmp (fs ++ f ∷ []) (ss ++ s ∷ []) ≡ true
+pub standing_with : {P : Type 0} (cmp : P → P → Ordering) (fs : List (Flow P)) (ss : List (Progress P)) (f : Flow P)
+    (s : Progress P) → are_standing cmp fs ss ≡ true → StandsForSent cmp f s
+    → are_standing cmp (fs ++ f ∷ []) (ss ++ s ∷ []) ≡ true
 standing_with cmp fs ss f s h one = zip_standing cmp _ _ (zip-push (StandsForSent cmp) fs ss f s (standing_zip cmp fs ss h) one)
 
 -- ---- those that are done leave

@@ -1,7 +1,9 @@
 -- Idle pairs in the order of moments, and what of them is listed after a change.
-use Rattle.std.proofs.Common.{◌≡◌, ℕ, ◌<◌, ◌≤◌, Bool, true, false, ◌&&◌, if◌then◌else◌, List, ◌∷◌, length, map, slice_get, Option, Some, None, refl, sym, ◌∙◌, ap, arith}
+use Rattle.std.proofs.Common.{◌≡◌, ℕ, ◌<◌, ◌≤◌, Bool, true, false, not, ◌&&◌, if◌then◌else◌, List, ◌∷◌, length, map, Option, Some, None, refl, sym, ◌∙◌, ap, arith}
 use Rattle.std.specs.Prelude.{◌==◌, nat_lt}
-use Rattle.std.specs.List.{insert, remove}
+use Rattle.std.specs.List.{find, position_or_len, insert, remove}
+use Rattle.std.proofs.lemmas.List.Folds.{find_at}
+use Rattle.shared_list.proofs.Parting.{parting_first}
 use Rattle.std.specs.declared.cmp.Ordering.{Ordering}
 use Rattle.std.specs.declared.cmp.Ordering.TheVariants.{Equal, Greater}
 use Rattle.std.specs.Ordering.{is_lt, is_eq, nat_cmp, ordering_then}
@@ -62,6 +64,15 @@ module _ {P : Type 0} (cmp : P → P → Ordering) where
         let none : is_listed cmp (e ∷ es) t o r ≡ false = none_below (idle_cmp cmp) (idle_total cmp total) idle_key e es (t, (o, r)) ascending (ap (λ c. ordering_then c (pair_cmp cmp (e.origin, e.recipient) (o, r))) (later_moment e.moment t early)) in cc)
         (λ h. let late : e.moment ≤ t = ltb-false t e.moment h in omega arith)
 
+    -- the first pair that does not stand before a place says whether its pair is listed
+    pub has_first : (es : List (IdlePair P)) (t : ℕ) (o r : P) → are_ascending (idle_cmp cmp) (map idle_key es) ≡ true
+        → has_key (idle_cmp cmp) (idle_total cmp total) idle_key (find (λ e. not (is_lt (idle_cmp cmp (idle_key e) (t, (o, r))))) es) (t, (o, r)) ≡ is_listed cmp es t o r
+    has_first es t o r ascending =
+        let before : IdlePair P → Bool = λ e. is_lt (idle_cmp cmp (idle_key e) (t, (o, r))) in
+        ap (λ f. has_key (idle_cmp cmp) (idle_total cmp total) idle_key f (t, (o, r))) (find_at (λ e. not (before e)) es)
+        ∙ found_is (idle_cmp cmp) (idle_total cmp total) idle_key es (t, (o, r)) (position_or_len (λ e. not (before e)) es) ascending
+        (parting_first before es (parted (idle_cmp cmp) (idle_total cmp total) idle_key es (t, (o, r)) ascending))
+
     -- ---- the place of a pair
 
     module _ (es : List (IdlePair P)) (t : ℕ) (o r : P) (at : ℕ) (ascending : are_ascending (idle_cmp cmp) (map idle_key es) ≡ true)
@@ -74,9 +85,6 @@ module _ {P : Type 0} (cmp : P → P → Ordering) where
 
       gap_listed : is_listed cmp es t o r ≡ false → IsGap (idle_cmp cmp) idle_key es (t, (o, r)) at
       gap_listed listed = gap_of (idle_cmp cmp) (idle_total cmp total) idle_key es (t, (o, r)) at ascending parting listed
-
-      pub has_listed : has_key (idle_cmp cmp) (idle_total cmp total) idle_key (slice_get es at) (t, (o, r)) ≡ is_listed cmp es t o r
-      has_listed = found_is (idle_cmp cmp) (idle_total cmp total) idle_key es (t, (o, r)) at ascending parting
 
       pub take_within : is_listed cmp es t o r ≡ true → at < length es
       take_within listed = place_within (idle_cmp cmp) (idle_total cmp total) idle_key es (t, (o, r)) at (place_listed listed)

@@ -244,6 +244,26 @@ module _ {P : Type 0} (cmp : P → P → Ordering) (order : IsTotalOrder cmp) wh
       busy_none : (w : Planned P) (o r : P) → is_sending cmp w o r ≡ true → idle_from cmp w o r ≡ None
       busy_none w o r h = ap (λ (c : Bool). if c then None else option_map (λ (m : Message P). first_moment (w.last_arrival o r) m.latency) (first_of cmp w.waiting o r)) h
 
+  -- a message of a pair of which none waits is in flight: no idle pair is another
+  pub started_index : (pairs : List (Pair P)) (ms : List (code.Message P)) (sending after : List (RatedFlight P)) (f : RatedFlight P) (es : List (IdlePair P)) → PairsAlike cmp (arrival_of cmp pairs) (arrival_of cmp pairs)
+      → first_of cmp (map message_of ms) f.message.origin f.message.recipient ≡ None → after ≡ sending ++ f ∷ [] → IsIndexOf cmp (of_pairs cmp pairs ms sending) es → IsIndexOf cmp (of_pairs cmp pairs ms after) es
+  started_index pairs ms sending after f es alike alone pushed index =
+      let p : Planned P = of_pairs cmp pairs ms sending in
+      let q : Planned P = of_pairs cmp pairs ms after in
+      let o : P = f.message.origin in
+      let r : P = f.message.recipient in
+      let own : same_two cmp o r o r ≡ true = and_from (same_peer cmp o o) (same_peer cmp r r) (same_peer_itself cmp order o) (same_peer_itself cmp order r) in
+      stays_index cmp order p q es (λ a b. by_bool (same_two cmp o r a b)
+      (λ h.
+      let first = first_of_both (same_peer cmp o a) _ h in
+      let second = second_of_both (same_peer cmp o a) _ h in
+      sym (idle_respects cmp order q alike o r a b first second) ∙ none_idle q alone ∙ sym (none_idle p alone) ∙ idle_respects cmp order p alike o r a b first second)
+      (λ h. alike_from cmp p q a b (ap (λ l. list_any (is_of_pair cmp a b) (rated_messages l)) pushed ∙ sends_more cmp order o r a b h sending f own) refl refl)) index
+    where
+      none_idle : (w : Planned P) → first_of cmp w.waiting f.message.origin f.message.recipient ≡ None → idle_from cmp w f.message.origin f.message.recipient ≡ None
+      none_idle w none = ap (λ (first : Option (Message P)). if is_sending cmp w f.message.origin f.message.recipient then None else option_map (λ (m : Message P). first_moment (w.last_arrival f.message.origin f.message.recipient) m.latency) first) none
+          ∙ by_bool (is_sending cmp w f.message.origin f.message.recipient) (λ t. rw t refl) (λ t. rw t refl)
+
   -- the first message of a pair is in flight: the pair is idle no more
   pub departed_index : (pairs : List (Pair P)) (ms ns : List (code.Message P)) (sending after : List (RatedFlight P)) (f : RatedFlight P) (o r : P) (es new : List (IdlePair P)) → PairsAlike cmp (arrival_of cmp pairs) (arrival_of cmp pairs)
       → map message_of ns ≡ without_first (λ (n : Message P). same_peer cmp o n.origin && same_peer cmp r n.recipient) (map message_of ms) → after ≡ sending ++ f ∷ [] → same_two cmp o r f.message.origin f.message.recipient ≡ true

@@ -1,10 +1,10 @@
 -- Whether the first waiting message of a pair starts, and what then is.
-use Rattle.std.proofs.Common.{◌≡◌, ℕ, ◌+◌, ◌-◌, ◌<◌, ◌≤◌, List, [], ◌∷◌, ◌++◌, length, Bool, true, false, not, ◌&&◌, Option, Some, None, Result, Ok, Err, IfOk, sym, ap, ◌∙◌, subst, arith}
-use Rattle.std.specs.Prelude.{nat_le, nat_lt}
-use Rattle.std.specs.List.{list_any, list_all}
+use Rattle.std.proofs.Common.{◌≡◌, ℕ, ◌+◌, ◌-◌, ◌<◌, ◌≤◌, List, [], ◌∷◌, ◌++◌, length, Bool, true, false, not, cond, ◌&&◌, Option, Some, None, Result, Ok, Err, IfOk, refl, sym, ap, ◌∙◌, subst, arith}
+use Rattle.std.specs.Prelude.{nat_le, nat_lt, is_none}
+use Rattle.std.specs.List.{find, list_any, list_all}
 use Rattle.std.specs.declared.cmp.Ordering.{Ordering}
 use Rattle.std.specs.Cmp.{IsTotalOrder}
-use Rattle.std.proofs.lemmas.Bool.{leb-true, le-leb, ltb-true, lt-ltb}
+use Rattle.std.proofs.lemmas.Bool.{and_from, leb-true, le-leb, ltb-true, lt-ltb}
 use Rattle.fair_rates.proofs.Lists.Booleans.{by_bool, first_of_both, second_of_both}
 use Rattle.fair_rates.specs.Lists.WithoutFirst.{without_first}
 use Rattle.fair_rates.specs.declared.error.Error.{Error}
@@ -14,10 +14,11 @@ use Rattle.fair_rates.specs.Numbers.Amount.{whole}
 use Rattle.fair_rates.specs.Sides.Subjects.{same_peer}
 use Rattle.link_scheduler.specs.Idle.FirstMoment.{first_moment}
 use Rattle.link_scheduler.specs.Pairs.Entries.{first_of}
-use Rattle.link_simulation.specs.Simulation.Messages.{Message, PairsAlike, same_pair}
+use Rattle.link_simulation.specs.Simulation.Messages.{Message, PairsAlike, same_pair, pair_before}
+use Rattle.fair_rates.proofs.Sides.EqualSubjects.{same_peer_itself}
 use Rattle.link_simulation.specs.Simulation.World.{goes, meets, is_in_order, last_moment}
-use Rattle.link_simulation.specs.Rule.Planned.{Planned, rated_messages, may_launch}
-use Rattle.link_simulation.specs.Rule.Events.{Launches, nothing_waits, too_early, no_id, starts, Accounts, launched}
+use Rattle.link_simulation.specs.Rule.Planned.{Planned, rated_messages, may_launch, queued}
+use Rattle.link_simulation.specs.Rule.Events.{Launches, nothing_waits, too_early, no_id, starts, Accounts, launched, with_queued}
 use Rattle.link_scheduler.specs.Calls.AsPlanned.{may_launch_first}
 use Rattle.fair_rates.proofs.Lists.Sorted.{list_all-mono}
 use Rattle.link_simulation.proofs.Simulation.Queue.{find_passes, any_like, pair_like}
@@ -84,6 +85,65 @@ module _ {P : Type 0} (cmp : P → P → Ordering) (order : IsTotalOrder cmp) (t
   pub launched_so : {X : Type 0} (f : X → List (Message P)) (result : Result X Error) (new : Planned P) → IfOk result (λ x. Accounts cmp t mid (f x) new) → IfOk result (λ x. Launches cmp t p (first_of cmp p.waiting o r) (goes (f x) new))
   launched_so f (Ok x) new accounts = launch_starts cmp order t p mid new o r m (f x) may id found is accounts
   launched_so f (Err e) new accounts = tt
+
+-- ---- a message of a pair of which none waits
+
+module _ {P : Type 0} (cmp : P → P → Ordering) (order : IsTotalOrder cmp) (m : Message P) where
+  abbrev own : Message P → Bool
+  own n = same_peer cmp m.origin n.origin && same_peer cmp m.recipient n.recipient
+
+  of_itself : own m ≡ true
+  of_itself = and_from (same_peer cmp m.origin m.origin) (same_peer cmp m.recipient m.recipient) (same_peer_itself cmp order m.origin) (same_peer_itself cmp order m.recipient)
+
+  -- the first one is of another pair, and so no other is of it
+  not_own : (n : Message P) (ns : List (Message P)) → find own (n ∷ ns) ≡ None → own n ≡ false
+  not_own n ns none = by_bool (own n) (λ t. let some : Some n ≡ None = sym (ap (λ c. cond c (Some n) (find own ns)) t) ∙ none in cc) (λ t. t)
+
+  none_after : (n : Message P) (ns : List (Message P)) → find own (n ∷ ns) ≡ None → find own ns ≡ None
+  none_after n ns none = sym (ap (λ c. cond c (Some n) (find own ns)) (not_own n ns none)) ∙ none
+
+  -- once it has joined those that wait, it is the first of its pair
+  pub first_joined : (ns : List (Message P)) → find own ns ≡ None → first_of cmp (queued cmp m ns) m.origin m.recipient ≡ Some m
+  first_joined [] none = ap (λ c. cond c (Some m) None) of_itself
+  first_joined (n ∷ ns) none = by_bool (pair_before cmp m n)
+      (λ t. rw t (ap (λ c. cond c (Some m) (find own (n ∷ ns))) of_itself))
+      (λ t. rw t (ap (λ c. cond c (Some n) (find own (queued cmp m ns))) (not_own n ns none) ∙ first_joined ns (none_after n ns none)))
+
+  -- without it the others wait
+  pub without_joined : (ns : List (Message P)) → find own ns ≡ None → without_first own (queued cmp m ns) ≡ ns
+  without_joined [] none = ap (λ c. cond c [] (m ∷ [])) of_itself
+  without_joined (n ∷ ns) none = by_bool (pair_before cmp m n)
+      (λ t. rw t (ap (λ c. cond c (n ∷ ns) (m ∷ without_first own (n ∷ ns))) of_itself))
+      (λ t. rw t (ap (λ c. cond c (queued cmp m ns) (n ∷ without_first own (queued cmp m ns))) (not_own n ns none) ∙ ap (λ l. n ∷ l) (without_joined ns (none_after n ns none))))
+
+module _ {P : Type 0} (cmp : P → P → Ordering) (order : IsTotalOrder cmp) (t : ℕ) (p : Planned P) (m : Message P) where
+  -- a message that is sent may start
+  pub may_start_is : (busy ready : Bool) → first_of cmp p.waiting m.origin m.recipient ≡ None → busy ≡ list_any (same_pair cmp m) (rated_messages p.sending) → ready ≡ nat_le (first_moment (p.last_arrival m.origin m.recipient) m.latency) t
+      → (not busy && ready) ≡ (is_none (first_of cmp p.waiting m.origin m.recipient) && may_launch cmp t p m)
+  may_start_is busy ready alone busy_is ready_is =
+      ap (λ (b : Bool). not b && ready) busy_is
+      ∙ ap (λ (b : Bool). not (list_any (same_pair cmp m) (rated_messages p.sending)) && b) (ready_is ∙ sym (in_order_from (p.last_arrival m.origin m.recipient) m.latency t))
+      ∙ sym (ap (λ (first : Option (Message P)). is_none first && may_launch cmp t p m) alone)
+
+  is_alone : (first : Option (Message P)) → is_none first ≡ true → first ≡ None
+  is_alone None h = refl
+  is_alone (Some n) h = cc
+
+  module _ (may : (is_none (first_of cmp p.waiting m.origin m.recipient) && may_launch cmp t p m) ≡ true) where
+    joined : first_of cmp (queued cmp m p.waiting) m.origin m.recipient ≡ Some m
+    joined = first_joined cmp order m p.waiting (is_alone (first_of cmp p.waiting m.origin m.recipient) (first_of_both (is_none (first_of cmp p.waiting m.origin m.recipient)) (may_launch cmp t p m) may))
+
+    may_m : may_launch cmp t p m ≡ true
+    may_m = second_of_both (is_none (first_of cmp p.waiting m.origin m.recipient)) (may_launch cmp t p m) may
+
+    pub started_so : {X : Type 0} (f : X → List (Message P)) (result : Result X Error) (mid new : Planned P) → p.next_id < last_moment → mid ≡ launched cmp t (with_queued cmp p m) m → IfOk result (λ x. Accounts cmp t mid (f x) new)
+        → IfOk result (λ x. Launches cmp t (with_queued cmp p m) (first_of cmp (queued cmp m p.waiting) m.origin m.recipient) (goes (f x) new))
+    started_so f (Ok x) mid new id is accounts =
+        subst (λ (first : Option (Message P)). Launches cmp t (with_queued cmp p m) first (goes (f x) new)) (sym joined) (starts may_m id (subst (λ (q : Planned P). Accounts cmp t q (f x) new) is accounts))
+    started_so f (Err e) mid new id is accounts = tt
+
+    pub no_id_left : last_moment ≤ p.next_id → Launches cmp t (with_queued cmp p m) (first_of cmp (queued cmp m p.waiting) m.origin m.recipient) (meets FlowIdsUsedUp)
+    no_id_left used = no_more_ids cmp order t (with_queued cmp p m) (first_of cmp (queued cmp m p.waiting) m.origin m.recipient) (ap (may_launch_first cmp t (with_queued cmp p m)) joined ∙ may_m) used
 
 -- ---- flow ids
 

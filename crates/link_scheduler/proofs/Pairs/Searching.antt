@@ -1,7 +1,8 @@
 -- Searches in lists that stand in the order of keys.
-use Rattle.std.proofs.Common.{◌≡◌, ℕ, Bool, true, false, not, List, [], ◌∷◌, ◌++◌, length, map, slice_get, Some, None, Result, Ok, Err, IfOk, IfErr, refl, sym, ◌∙◌, ap}
-use Rattle.std.specs.List.{list_all, find}
-use Rattle.std.specs.Result.{result_ok}
+use Rattle.std.proofs.Common.{◌≡◌, ℕ, Bool, true, false, not, List, [], ◌∷◌, ◌++◌, length, map, slice_get, Some, None, refl, sym, ◌∙◌, ap}
+use Rattle.std.specs.List.{list_all, find, position_or_len}
+use Rattle.std.proofs.lemmas.List.Folds.{find_at}
+use Rattle.shared_list.proofs.Parting.{parting_first}
 use Rattle.std.specs.declared.cmp.Ordering.{Ordering}
 use Rattle.std.specs.declared.cmp.Ordering.TheVariants.{Less, Equal, Greater}
 use Rattle.std.specs.Ordering.{is_lt, is_eq, is_gt}
@@ -119,13 +120,25 @@ module _ {K : Type 0} (cmp : K → K → Ordering) (total : IsTotalOrder cmp) wh
     find_gap es at g = ap (find (λ e. is_eq (cmp (key e) k))) g.split ∙ find-skip (λ e. is_eq (cmp (key e) k)) g.before g.after (list_all-mono _ _ (λ e h. lt_not_eq _ h) g.before g.below)
         ∙ find-none (λ e. is_eq (cmp (key e) k)) g.after (list_all-mono _ _ (λ e h. gt_not_eq _ h) g.after g.above)
 
-    pub find_ok : (es : List E) (r : Result ℕ ℕ) → IfOk r (IsPlace cmp key es k) → (at : ℕ) → Some at ≡ result_ok r → find (λ e. is_eq (cmp (key e) k)) es ≡ slice_get es at
-    find_ok es (Ok a) p at is = let this : a ≡ at = cc in find_place es a p ∙ ap (slice_get es) this
-    find_ok es (Err a) p at is = cc
+    -- what the first entry says that is not below the key
+    module _ (es : List E) (ascending : are_ascending cmp (map key es) ≡ true) where
+      abbrev at : ℕ
+      at = position_or_len (λ e. not (is_lt (cmp (key e) k))) es
 
-    pub find_err : (es : List E) (r : Result ℕ ℕ) → IfErr r (IsGap cmp key es k) → None ≡ result_ok r → find (λ e. is_eq (cmp (key e) k)) es ≡ None
-    find_err es (Ok a) g is = cc
-    find_err es (Err a) g is = find_gap es a g
+      there_first : find (λ e. not (is_lt (cmp (key e) k))) es ≡ slice_get es at
+      there_first = find_at (λ e. not (is_lt (cmp (key e) k))) es
+
+      cut : IsParting (λ e. is_lt (cmp (key e) k)) es at
+      cut = parting_first (λ e. is_lt (cmp (key e) k)) es (parted es ascending)
+
+      pub find_first : (e : E) → Some e ≡ find (λ e. not (is_lt (cmp (key e) k))) es → is_eq (cmp (key e) k) ≡ true → find (λ e. is_eq (cmp (key e) k)) es ≡ Some e
+      find_first e is same = find_place es at (parting_place es at ascending cut e (is ∙ there_first) same) ∙ sym (is ∙ there_first)
+
+      pub find_other : (e : E) → Some e ≡ find (λ e. not (is_lt (cmp (key e) k))) es → is_eq (cmp (key e) k) ≡ false → find (λ e. is_eq (cmp (key e) k)) es ≡ None
+      find_other e is other = find_gap es at (parting_gap es at ascending cut e (is ∙ there_first) other)
+
+      pub find_nothing : None ≡ find (λ e. not (is_lt (cmp (key e) k))) es → find (λ e. is_eq (cmp (key e) k)) es ≡ None
+      find_nothing is = find_gap es at (parting_end es at ascending cut (is ∙ there_first))
 
     module _ {V : Type 0} (says : E → V) (none : V) where
       pub found_says : (es : List E) (e : E) → Some e ≡ find (λ e. is_eq (cmp (key e) k)) es → says e ≡ value_at cmp key says none es k

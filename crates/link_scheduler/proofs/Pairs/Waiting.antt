@@ -1,9 +1,10 @@
 -- What waits: the first message of a pair, and the list after a message joins it or leaves it.
-use Rattle.std.proofs.Common.{◌≡◌, ℕ, zero, suc, ◌<◌, ◌≤◌, Result, Ok, Err, OnOk, if◌then◌else◌, subst, arith, Bool, true, false, not, ◌&&◌, List, [], ◌∷◌, ◌++◌, length, map, slice_get, Option, Some, None, refl, sym, ◌∙◌, ap}
+use Rattle.std.proofs.Common.{◌≡◌, ℕ, zero, suc, ◌<◌, ◌≤◌, Result, Ok, Err, OnOk, if◌then◌else◌, subst, arith, Bool, true, false, not, ◌&&◌, List, [], ◌∷◌, ◌++◌, length, map, slice_get, Some, None, refl, sym, ◌∙◌, ap}
 use Rattle.std.specs.Result.{is_ok}
-use Rattle.std.specs.List.{list_all, list_any, insert, remove}
+use Rattle.std.specs.List.{list_all, list_any, find, position_or_len, insert, remove}
+use Rattle.std.proofs.lemmas.List.Folds.{find_at}
+use Rattle.shared_list.proofs.Parting.{parting_first}
 use Rattle.std.specs.Option.{option_map}
-use Rattle.std.specs.Borrow.{Bor}
 use Rattle.std.specs.declared.cmp.Ordering.{Ordering}
 use Rattle.std.specs.declared.cmp.Ordering.TheVariants.{Less, Equal, Greater}
 use Rattle.std.specs.Ordering.{is_lt, is_eq, is_gt, ordering_reverse}
@@ -41,11 +42,6 @@ module _ {X : Type 0} (t : X → Bool) where
   none_does : (xs : List X) → list_all (λ x. not (t x)) xs ≡ true → list_any t xs ≡ false
   none_does [] h = refl
   none_does (x ∷ xs) h = rw (not-true (t x) (first_of_both (not (t x)) _ h)) (none_does xs (second_of_both (not (t x)) _ h))
-
--- what is read of what is borrowed
-pub read_twice : {X Y : Type 0} (f : X → Y) (r : Option (Bor X)) → option_map (λ b. f b.now) r ≡ option_map f (option_map (λ b. b.now) r)
-read_twice f None = refl
-read_twice f (Some b) = refl
 
 module _ {P : Type 0} (cmp : P → P → Ordering) where
   pub queued-skip : (m : Message P) (xs ys : List (Message P)) → list_all (λ n. not (pair_before cmp m n)) xs ≡ true → queued cmp m (xs ++ ys) ≡ xs ++ queued cmp m ys
@@ -249,6 +245,28 @@ module _ {P : Type 0} (cmp : P → P → Ordering) (total : IsTotalOrder cmp) wh
 
       pub order_removed : are_in_order cmp ms ≡ true → are_in_order cmp (remove ms at) ≡ true
       order_removed h = ap (are_in_order cmp) removed ∙ order_without cmp p.before p.after p.message (ap (are_in_order cmp) (sym p.split) ∙ h)
+
+    -- what the first message says that is of no lesser pair
+    module _ (ms : List (code.Message P)) (ordered : are_in_order cmp ms ≡ true) where
+      abbrev from : ℕ
+      from = position_or_len (λ m. not (is_lt (pair_cmp cmp (pair_of m) k))) ms
+
+      there_from : find (λ m. not (is_lt (pair_cmp cmp (pair_of m) k))) ms ≡ slice_get ms from
+      there_from = find_at (λ m. not (is_lt (pair_cmp cmp (pair_of m) k))) ms
+
+      cut : IsParting (λ m. is_lt (pair_cmp cmp (pair_of m) k)) ms from
+      cut = parting_first (λ m. is_lt (pair_cmp cmp (pair_of m) k)) ms (parted_first ms ordered)
+
+      pub first_found : (m : code.Message P) → Some m ≡ find (λ m. not (is_lt (pair_cmp cmp (pair_of m) k))) ms → is_eq (pair_cmp cmp (pair_of m) k) ≡ true
+          → first_of cmp (map message_of ms) k.0 k.1 ≡ Some (message_of m)
+      first_found m is same = first_there ms from (first_place ms from ordered cut m (is ∙ there_from) same) ∙ sym (ap (option_map message_of) (is ∙ there_from))
+
+      pub first_other : (m : code.Message P) → Some m ≡ find (λ m. not (is_lt (pair_cmp cmp (pair_of m) k))) ms → is_eq (pair_cmp cmp (pair_of m) k) ≡ false
+          → first_of cmp (map message_of ms) k.0 k.1 ≡ None
+      first_other m is differs = first_missing ms (no_first ms from ordered cut m (is ∙ there_from) differs)
+
+      pub first_nothing : None ≡ find (λ m. not (is_lt (pair_cmp cmp (pair_of m) k))) ms → first_of cmp (map message_of ms) k.0 k.1 ≡ None
+      first_nothing is = first_missing ms (no_first_at_end ms from ordered cut (is ∙ there_from))
 
   -- ---- a message more
 

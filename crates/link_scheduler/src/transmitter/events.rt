@@ -1,13 +1,13 @@
 //! The event rule: what calls do, at any moments.
 ghost use Rattle.std.specs.Prelude.{◌≡◌, ◌↔◌, ℕ, ◌+◌, nat_lt, if◌then◌else◌, List, [], ◌∷◌, ◌++◌, map};
-ghost use Rattle.std.specs.Prelude.{true, false, IfOk, IfErr, OnOk, OnErr, IsTrue, ◌&&◌, is_some};
+ghost use Rattle.std.specs.Prelude.{true, false, IfOk, IfErr, OnOk, OnErr, IsTrue, ◌&&◌, is_some, is_none};
 ghost use Rattle.link_simulation.specs.Simulation.World.{Completed, goes, meets, last_moment, later_of as latest};
 ghost use Rattle.link_simulation.specs.Simulation.World.{is_late};
 ghost use Rattle.link_simulation.specs.Simulation.World.{completed};
 ghost use Rattle.link_simulation.specs.Simulation.Messages.{Message as AnyMessage};
-ghost use Rattle.link_simulation.specs.Rule.Planned.{next_of};
+ghost use Rattle.link_simulation.specs.Rule.Planned.{next_of, may_launch};
 ghost use Rattle.link_simulation.specs.Rule.Events.{Launches, Finishes, Settles, Wakes, Rebalances, Enqueues, Advances};
-ghost use Rattle.link_simulation.specs.Rule.Events.{landed, completed_at_once};
+ghost use Rattle.link_simulation.specs.Rule.Events.{landed, completed_at_once, with_queued};
 ghost use Rattle.link_simulation.specs.Simulation.RefusalCauses.{IsRefusedFor};
 ghost use Rattle.link_scheduler.specs.Pairs.Messages.{message_of, ended_of};
 ghost use Rattle.link_scheduler.specs.Pairs.Entries.{first_of, arrival_of};
@@ -18,7 +18,7 @@ use super::event::Event;
 use super::ledger::Ledger;
 use super::message::Message;
 use super::pairs::later_of;
-use super::readiness::{PeerPair, idle_from};
+use super::readiness::{PeerPair, idle_from, ready_moment};
 use fair_rates::error::Error;
 use fair_rates::peer::Peer;
 use std::collections::VecDeque;
@@ -63,6 +63,48 @@ impl<P: Peer> Ledger<P> {
         }
         self.depart(origin, recipient, now)?;
         self.account(now)
+    }
+
+    /// Whether a message that is sent may start at once: none of its pair waits or is in flight, and
+    /// it arrives no earlier than the pair's last one.
+    fn may_start(&self, message: &Message<P>, now: u64) -> bool
+        ensures { result ≡ (is_none (first_of P.cmp (planned P.cmp self.now).waiting message.now.origin
+            message.now.recipient) && may_launch P.cmp now (planned P.cmp self.now) (message_of message.now)) }
+    {
+        let (origin, recipient) = (&message.origin, &message.recipient);
+        if self.waiting.first(origin, recipient).is_some() {
+            return false;
+        }
+        if self.flights.has_pair(origin, recipient) {
+            return false;
+        }
+        ready_moment(self.pairs.last_arrival(origin, recipient), message.latency) <= now
+    }
+
+    /// A message that may start does so as it is sent, and an account follows, whose leavers are
+    /// answered.
+    fn start_at_once(
+        &mut self,
+        message: Message<P>,
+        now: u64,
+    ) -> Result<VecDeque<Rc<Message<P>>>, Error>
+        requires { (is_none (first_of P.cmp (planned P.cmp self.old).waiting message.origin message.recipient)
+            && may_launch P.cmp now (planned P.cmp self.old) (message_of message)) ≡ true }
+        ensures launches { IfOk result (λ leavers. Launches P.cmp now
+            (with_queued P.cmp (planned P.cmp self.old) (message_of message))
+            (first_of P.cmp (with_queued P.cmp (planned P.cmp self.old) (message_of message)).waiting
+            message.origin message.recipient)
+            (goes (messages leavers.items) (planned P.cmp self.new))) }
+        ensures refused { IfErr result (IsRefusedFor (λ fault. Launches P.cmp now
+            (with_queued P.cmp (planned P.cmp self.old) (message_of message))
+            (first_of P.cmp (with_queued P.cmp (planned P.cmp self.old) (message_of message)).waiting
+            message.origin message.recipient) (meets fault))) }
+    {
+        if self.next_id < u64::MAX {
+            self.start(message, now)?;
+            return self.account(now);
+        }
+        Err(Error::FlowIdsUsedUp)
     }
 
     /// A message that is done completes, and its pair's first waiting one starts if it may. What is
@@ -175,6 +217,11 @@ impl<P: Peer> Ledger<P> {
         let mut ended = Vec::new(self.alloc);
         if !self.limited {
             self.complete_at_once(now, message, &mut ended)?;
+            return Ok(ended);
+        }
+        if self.may_start(&message, now) {
+            let queue = self.start_at_once(message, now)?;
+            self.finish(queue, now, &mut ended)?;
             return Ok(ended);
         }
         let pair = PeerPair::new(&message.origin, &message.recipient)?;

@@ -1,6 +1,6 @@
 //! The idle pairs, by the moment from which on they may start.
 ghost use Rattle.std.specs.Prelude.{◌≡◌, ◌&&◌, ℕ, Bool, List, true, false, if◌then◌else◌, map, nat_le, option_map};
-ghost use Rattle.std.specs.Prelude.{slice_get, [], OnOk, OnErr, IfErr};
+ghost use Rattle.std.specs.Prelude.{slice_get, [], OnOk, IfErr};
 ghost use Rattle.std.specs.Ordering.{is_lt, is_eq};
 ghost use Rattle.fair_rates.specs.Sides.Subjects.{same_peer};
 ghost use Rattle.fair_rates.specs.Lists.Sorted.{are_ascending};
@@ -168,12 +168,11 @@ impl<P: Peer> IdlePairs<P> {
     fn has(&self, moment: u64, origin: &P, recipient: &P) -> bool
         ensures { result ≡ is_listed P.cmp self.now.entries moment origin.now recipient.now }
     {
-        let at = self.entries.place(&IdlePlace {
+        match self.entries.first_from(&IdlePlace {
             moment,
             origin,
             recipient,
-        });
-        match self.entries.get(at) {
+        }) {
             None => false,
             Some(pair) => pair.compare(moment, origin, recipient).is_eq(),
         }
@@ -198,9 +197,9 @@ impl<P: Peer> IdlePairs<P> {
         self.put(alloc, moment, origin, recipient)
     }
 
-    /// The pair, which is listed under the old moment alone, is listed under the new one alone, where
-    /// memory is not refused.
-    fn shift(
+    /// The pair, which is listed under the old moment alone, is listed under the new one alone. Where
+    /// memory is refused, it may be listed no more.
+    pub(crate) fn change(
         &mut self,
         alloc: Global,
         origin: &P,
@@ -223,28 +222,6 @@ impl<P: Peer> IdlePairs<P> {
         if let Some(moment) = new {
             self.put(alloc, moment, origin, recipient)?;
         }
-        Ok(())
-    }
-
-    /// The pair, which is listed under the old moment alone, is listed under the new one alone.
-    pub(crate) fn change(
-        &mut self,
-        alloc: Global,
-        origin: &P,
-        recipient: &P,
-        old: Option<u64>,
-        new: Option<u64>,
-    ) -> Result<(), Error>
-        requires { (t : ℕ) → is_listed P.cmp self.old.entries t origin.now recipient.now ≡ is_moment t old }
-        ensures listed { OnOk result ((t : ℕ) (o r : P) → is_listed P.cmp self.new.entries t o r
-            ≡ (if same_peer P.cmp origin.now o && same_peer P.cmp recipient.now r then is_moment t new
-            else is_listed P.cmp self.old.entries t o r)) }
-        ensures kept { OnErr result (self.new.entries ≡ self.old.entries) }
-        ensures refused { IfErr result (λ e. e ≡ Error.OutOfMemory) }
-    {
-        let mut pairs = self.clone()?;
-        pairs.shift(alloc, origin, recipient, old, new)?;
-        *self = pairs;
         Ok(())
     }
 }

@@ -1,17 +1,20 @@
 //! Changes of what is known of one pair, and of its place among the idle pairs.
-ghost use Rattle.std.specs.Prelude.{◌≡◌, ◌<◌, true, [], OnOk, OnErr, IfErr};
+ghost use Rattle.std.specs.Prelude.{◌≡◌, ◌<◌, true, [], None, OnOk, OnErr, IfErr};
 ghost use Rattle.link_simulation.specs.Simulation.World.{goes};
-ghost use Rattle.link_simulation.specs.Rule.Events.{Enqueues, with_queued};
+ghost use Rattle.link_simulation.specs.Rule.Events.{Enqueues, with_queued, launched};
 ghost use Rattle.link_scheduler.specs.Pairs.Messages.{message_of};
 ghost use Rattle.link_scheduler.specs.Idle.PairsOfMessages.{NamesPairOf};
 ghost use Rattle.link_scheduler.specs.Pairs.Entries.{first_of, raised_at};
 ghost use Rattle.link_scheduler.specs.Idle.Departed.{HasDeparted};
 
+use super::idle::IdlePairs;
 use super::ledger::Ledger;
 use super::message::Message;
 use super::readiness::{PeerPair, idle_from};
+use super::waiting::Waiting;
 use fair_rates::error::Error;
 use fair_rates::peer::Peer;
+use std::rc::Rc;
 
 impl<P: Peer> Ledger<P> {
     ghost use Rattle.link_scheduler.specs.Calls.AsPlanned.{planned, may_launch_first};
@@ -27,12 +30,18 @@ impl<P: Peer> Ledger<P> {
         ensures refused { IfErr result (λ e. e ≡ Error.OutOfMemory) }
     {
         let before = idle_from(&self.flights, &self.waiting, &self.pairs, origin, recipient);
-        let mut pairs = self.pairs.clone()?;
-        pairs.raise(self.alloc, origin, recipient, moment)?;
-        let after = idle_from(&self.flights, &self.waiting, &pairs, origin, recipient);
-        self.idle
-            .change(self.alloc, origin, recipient, before, after)?;
-        self.pairs = pairs;
+        self.pairs.raise(self.alloc, origin, recipient, moment)?;
+        let moved = idle_from(&self.flights, &self.waiting, &self.pairs, origin, recipient);
+        let changed = self
+            .idle
+            .change(self.alloc, origin, recipient, before, moved);
+        if let Err(error) = changed {
+            // What stopped half-way is given up.
+            self.waiting = Waiting::new();
+            self.idle = IdlePairs::new();
+            self.stale = true;
+            return Err(error);
+        }
         Ok(())
     }
 
@@ -45,12 +54,17 @@ impl<P: Peer> Ledger<P> {
     {
         let (origin, recipient) = (&pair.origin, &pair.recipient);
         let before = idle_from(&self.flights, &self.waiting, &self.pairs, origin, recipient);
-        let mut waiting = self.waiting.clone()?;
-        waiting.push(self.alloc, message)?;
-        let after = idle_from(&self.flights, &waiting, &self.pairs, origin, recipient);
-        self.idle
-            .change(self.alloc, origin, recipient, before, after)?;
-        self.waiting = waiting;
+        self.waiting.push(self.alloc, message)?;
+        let after = idle_from(&self.flights, &self.waiting, &self.pairs, origin, recipient);
+        let changed = self
+            .idle
+            .change(self.alloc, origin, recipient, before, after);
+        if let Err(error) = changed {
+            // What stopped half-way is given up.
+            self.waiting = Waiting::new();
+            self.idle = IdlePairs::new();
+            return Err(error);
+        }
         Ok(())
     }
 
@@ -64,16 +78,41 @@ impl<P: Peer> Ledger<P> {
         ensures refused { IfErr result (λ e. e ≡ Error.OutOfMemory) }
     {
         let before = idle_from(&self.flights, &self.waiting, &self.pairs, origin, recipient);
-        let mut waiting = self.waiting.clone()?;
-        let Some(message) = waiting.take_first(origin, recipient)? else {
+        let Some(message) = self.waiting.take_first(origin, recipient)? else {
             return Ok(());
         };
-        let mut idle = self.idle.clone()?;
-        idle.change(self.alloc, origin, recipient, before, None)?;
-        self.flights.push(message, self.next_id, now)?;
+        let changed = self
+            .idle
+            .change(self.alloc, origin, recipient, before, None);
+        if let Err(error) = changed {
+            // What stopped half-way is given up.
+            self.waiting = Waiting::new();
+            self.idle = IdlePairs::new();
+            return Err(error);
+        }
+        if let Err(error) = self.flights.push(message, self.next_id, now) {
+            // What stopped half-way is given up.
+            self.waiting = Waiting::new();
+            self.idle = IdlePairs::new();
+            self.stale = true;
+            return Err(error);
+        }
         self.next_id += 1;
-        self.waiting = waiting;
-        self.idle = idle;
+        Ok(())
+    }
+
+    /// A message of a pair of which none waits is in flight from now on, under the next flow id.
+    pub(crate) fn start(&mut self, message: Message<P>, now: u64) -> Result<(), Error>
+        requires alone { first_of P.cmp (planned P.cmp self.old).waiting message.origin message.recipient ≡ None }
+        requires id { self.old.next_id < 18446744073709551615 }
+        ensures started { OnOk result (planned P.cmp self.new ≡ launched P.cmp now
+            (with_queued P.cmp (planned P.cmp self.old) (message_of message)) (message_of message)) }
+        ensures refused { IfErr result (λ e. e ≡ Error.OutOfMemory) }
+    {
+        let id = self.next_id;
+        let message = Rc::new(self.alloc, message)?;
+        self.flights.push(message, id, now)?;
+        self.next_id = id + 1;
         Ok(())
     }
 

@@ -86,8 +86,12 @@ impl<P: Peer> Pairs<P> {
         ensures { option_map (λ pair. pair.now) result ≡ find
             (λ pair. is_eq (pair_cmp P.cmp (key_of pair) (origin.now, recipient.now))) self.now.entries }
     {
-        let at = self.search(origin, recipient).ok()?;
-        self.entries.get(at)
+        let pair = self.entries.first_from(&PlaceOfPair { origin, recipient })?;
+        if pair.key.compare(origin, recipient).is_eq() {
+            Some(pair)
+        } else {
+            None
+        }
     }
 
     /// The cap on what goes from the one to the other.
@@ -118,6 +122,7 @@ impl<P: Peer> Pairs<P> {
             ≡ with_link P.cmp (link_of P.cmp self.old.entries) origin.now recipient.now cap) }
         ensures arrival { OnOk result (arrival_of P.cmp self.new.entries
             ≡ with_link P.cmp (arrival_of P.cmp self.old.entries) origin.now recipient.now last_arrival) }
+        ensures kept { OnErr result (self.new.entries ≡ self.old.entries) }
         ensures refused { IfErr result (λ e. e ≡ Error.OutOfMemory) }
     {
         match self.search(origin, recipient) {
@@ -171,6 +176,7 @@ impl<P: Peer> Pairs<P> {
         ensures arrival { OnOk result (arrival_of P.cmp self.new.entries
             ≡ raised_at P.cmp (arrival_of P.cmp self.old.entries) origin.now recipient.now moment) }
         ensures link { OnOk result (link_of P.cmp self.new.entries ≡ link_of P.cmp self.old.entries) }
+        ensures kept { OnErr result (self.new.entries ≡ self.old.entries) }
         ensures refused { IfErr result (λ e. e ≡ Error.OutOfMemory) }
     {
         let (cap, last) = match self.find(origin, recipient) {

@@ -69,8 +69,12 @@ impl<P: Peer> Peers<P> {
         ensures { option_map (λ entry. entry.now) result ≡ find
             (λ entry. is_eq (P.cmp entry.peer.value peer.now)) self.now.entries }
     {
-        let at = self.search(peer).ok()?;
-        self.entries.get(at)
+        let entry = self.entries.first_from(&PlaceOfPeer { peer })?;
+        if Rc::as_ref(&entry.peer).cmp(peer).is_eq() {
+            Some(entry)
+        } else {
+            None
+        }
     }
 
     /// The cap on all that the peer sends.

@@ -84,8 +84,14 @@ impl<P: Peer> Waiting<P> {
         ensures { option_map (λ m. message_of m.now) result
             ≡ first_of P.cmp (map message_of self.now.messages) origin.now recipient.now }
     {
-        let at = self.search(origin, recipient)?;
-        self.messages.get(at)
+        let message = self
+            .messages
+            .first_from(&PlaceOfFirst { origin, recipient })?;
+        if message.compare(origin, recipient).is_eq() {
+            Some(message)
+        } else {
+            None
+        }
     }
 
     /// Takes the first message that waits for the pair. Other lists may share it.
@@ -99,6 +105,7 @@ impl<P: Peer> Waiting<P> {
         ensures rest { OnOk result (map message_of self.new.messages
             ≡ without_first (λ m. same_peer P.cmp origin.now m.origin && same_peer P.cmp recipient.now m.recipient)
             (map message_of self.old.messages)) }
+        ensures kept { OnErr result (self.new.messages ≡ self.old.messages) }
         ensures refused { IfErr result (λ e. e ≡ Error.OutOfMemory) }
     {
         let Some(at) = self.search(origin, recipient) else {

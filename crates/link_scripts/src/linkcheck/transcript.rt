@@ -1,15 +1,14 @@
 //! The transcript of calls and replies.
 ghost use Rattle.std.specs.Prelude.{◌≡◌, ◌++◌, map, IfOk, OnOk};
-ghost use Rattle.std.specs.Io.KnownBytes.{Appends};
 ghost use Rattle.link_scheduler.specs.Calls.Replay.{reply_of};
-ghost use Rattle.link_scripts.specs.Trace.{transcript_of, call_in, call_line, reply_text};
+ghost use Rattle.link_scripts.specs.Answer.{reply_text};
+ghost use Rattle.link_scripts.specs.Trace.{transcript_of, call_in, call_line};
 
 use crate::linkcheck::asked::{Asked, NEWLINE};
 use crate::linkrun::answer;
 use link_scheduler::replay::Reply;
 use std::alloc::Global;
 use std::io;
-use std::io::Write;
 
 /// The line of each call, and after it what a script prints of the reply.
 pub(crate) fn transcript(
@@ -33,16 +32,5 @@ fn tell(text: &mut Vec<u8>, asked: &Asked<'_>, reply: &Reply<u64>) -> io::Result
 {
     text.extend_from_slice(asked.line)?;
     text.push(NEWLINE)?;
-    print(text, reply)
-}
-
-/// Prints a reply, a line each.
-fn print<W: Write>(output: &mut W, reply: &Reply<u64>) -> io::Result<()>
-    ensures { OnOk result (Appends (W.contents output.old) (W.contents output.new) (reply_text (reply_of reply.now))) }
-{
-    match reply {
-        Reply::Done(completions) => answer::print_completions(output, completions),
-        Reply::Next(moment) => answer::print_next(output, *moment),
-        Reply::Refused(error) => answer::print_refusal(output, *error),
-    }
+    answer::print_reply(text, reply)
 }

@@ -1,12 +1,15 @@
 //! What a script prints.
-ghost use Rattle.std.specs.Prelude.{◌≡◌, [], ◌∷◌, ◌++◌, IfOk, IfErr, OnOk};
+ghost use Rattle.std.specs.Prelude.{◌≡◌, [], ◌∷◌, ◌++◌, map, IfOk, IfErr, OnOk};
 ghost use Rattle.std.specs.Io.KnownBytes.{Appends};
 ghost use Rattle.link_scripts.specs.Answer.{rate_line, rates_text, moment_word, done_line, done_text, next_line};
-ghost use Rattle.link_scripts.specs.Answer.{answer_text, refusal_line};
+ghost use Rattle.link_scripts.specs.Answer.{answer_text, reply_text, refusal_line};
+ghost use Rattle.link_scheduler.specs.Calls.Replay.{reply_of};
+ghost use Rattle.link_scheduler.specs.Pairs.Messages.{completed_of};
 ghost use Rattle.fair_rates.specs.Refusals.ErrorTexts.{refusal_number};
 
 use fair_rates::bandwidth::Rate;
 use fair_rates::error::Error;
+use link_scheduler::replay::Reply;
 use link_scheduler::transmitter::Completion;
 use std::collections::BTreeMap;
 use std::io;
@@ -18,10 +21,8 @@ pub(crate) enum Answer {
     Nothing,
     /// Rates in bytes a second, by the ids of the flows.
     Rates(BTreeMap<u64, Rate>),
-    /// What became of messages, in order.
-    Done(Vec<Completion<u64>>),
-    /// The moment of the scheduler's next event, in nanoseconds since the start.
-    Next(Option<u64>),
+    /// What the scheduler replied.
+    Reply(Reply<u64>),
 }
 
 /// Prints what a command answered, or why it was refused, a line each.
@@ -34,14 +35,24 @@ pub(crate) fn print<W: Write>(output: &mut W, answer: Result<Answer, Error>) -> 
     match answer {
         Ok(Answer::Nothing) => Ok(()),
         Ok(Answer::Rates(rates)) => print_rates(output, &rates),
-        Ok(Answer::Done(completions)) => print_completions(output, &completions),
-        Ok(Answer::Next(moment)) => print_next(output, moment),
+        Ok(Answer::Reply(reply)) => print_reply(output, &reply),
         Err(error) => print_refusal(output, error),
     }
 }
 
+/// Prints what the scheduler replied, a line each.
+pub(crate) fn print_reply<W: Write>(output: &mut W, reply: &Reply<u64>) -> io::Result<()>
+    ensures { OnOk result (Appends (W.contents output.old) (W.contents output.new) (reply_text (reply_of reply.now))) }
+{
+    match reply {
+        Reply::Done(completions) => print_completions(output, completions),
+        Reply::Next(moment) => print_next(output, *moment),
+        Reply::Refused(error) => print_refusal(output, *error),
+    }
+}
+
 /// Prints why a command was refused.
-pub(crate) fn print_refusal<W: Write>(output: &mut W, error: Error) -> io::Result<()>
+fn print_refusal<W: Write>(output: &mut W, error: Error) -> io::Result<()>
     ensures { OnOk result (Appends (W.contents output.old) (W.contents output.new) (refusal_line error)) }
 {
     let number = number_of(error);
@@ -73,11 +84,9 @@ fn print_rate<W: Write>(output: &mut W, id: u64, rate: Rate) -> io::Result<()>
 }
 
 /// Prints what became of messages, a line each.
-pub(crate) fn print_completions<W: Write>(
-    output: &mut W,
-    completions: &[Completion<u64>],
-) -> io::Result<()>
-    ensures { OnOk result (Appends (W.contents output.old) (W.contents output.new) (done_text completions.now)) }
+fn print_completions<W: Write>(output: &mut W, completions: &[Completion<u64>]) -> io::Result<()>
+    ensures { OnOk result (Appends (W.contents output.old) (W.contents output.new) (done_text
+        (map completed_of completions.now))) }
 {
     for completion in completions {
         print_completion(output, completion)?;
@@ -87,7 +96,8 @@ pub(crate) fn print_completions<W: Write>(
 
 /// Prints what became of a message.
 fn print_completion<W: Write>(output: &mut W, completion: &Completion<u64>) -> io::Result<()>
-    ensures { OnOk result (Appends (W.contents output.old) (W.contents output.new) (done_line completion.now)) }
+    ensures { OnOk result (Appends (W.contents output.old) (W.contents output.new) (done_line
+        (completed_of completion.now))) }
 {
     let origin = completion.origin;
     let recipient = completion.recipient;
@@ -98,7 +108,7 @@ fn print_completion<W: Write>(output: &mut W, completion: &Completion<u64>) -> i
 }
 
 /// Prints the moment of the next event.
-pub(crate) fn print_next<W: Write>(output: &mut W, moment: Option<u64>) -> io::Result<()>
+fn print_next<W: Write>(output: &mut W, moment: Option<u64>) -> io::Result<()>
     ensures { OnOk result (Appends (W.contents output.old) (W.contents output.new) (next_line moment)) }
 {
     write!(output, "next ")?;

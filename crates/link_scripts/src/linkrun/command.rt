@@ -1,11 +1,12 @@
 //! The commands of a script.
-ghost use Rattle.std.specs.Prelude.{◌≡◌, ◌↔◌, Some};
-ghost use Rattle.link_scripts.specs.Script.{Takes, line_of, command_words, flow_words, parcel_words, IsCommandInRange};
-ghost use Rattle.link_scripts.specs.Script.{IsFlowInRange, IsParcelInRange};
+ghost use Rattle.std.specs.Prelude.{◌≡◌, ◌↔◌, ◌∷◌, Some, codes};
+ghost use Rattle.link_scripts.specs.Script.{Takes, line_of, command_words, flow_words, IsCommandInRange};
+ghost use Rattle.link_scripts.specs.Script.{IsFlowInRange};
 ghost use Rattle.link_scripts.specs.Words.{words_left};
 
 use crate::linkrun::word::Words;
 use fair_rates::bandwidth::Flow;
+use link_scheduler::replay::Call;
 
 /// A command of a script.
 #[derive(Debug, Drop)]
@@ -30,49 +31,8 @@ pub enum Command {
     },
     /// Asks for the rates of the flows.
     Rates,
-    /// Asks something of the scheduler.
-    Schedule(Call),
-}
-
-/// What a script asks of the scheduler. Moments are in nanoseconds since the start, and caps in
-/// bytes a second.
-#[derive(Debug, Drop)]
-pub enum Call {
-    /// Sets the caps of a peer.
-    Limit {
-        now: u64,
-        peer: u64,
-        egress: Option<usize>,
-        ingress: Option<usize>,
-    },
-    /// Sets the cap of an ordered pair of peers.
-    LimitLink {
-        now: u64,
-        origin: u64,
-        recipient: u64,
-        cap: Option<usize>,
-    },
-    /// Sends a message.
-    Enqueue(Parcel),
-    /// Handles all events up to a moment.
-    Advance {
-        now: u64,
-    },
-    /// Asks for the moment of the next event.
-    Next,
-}
-
-/// A message of zero bytes that is sent.
-#[derive(Debug, Drop)]
-pub struct Parcel {
-    pub now: u64,
-    pub origin: u64,
-    pub recipient: u64,
-    pub channel: u64,
-    pub length: usize,
-    /// In nanoseconds.
-    pub latency: u64,
-    pub should_deliver: bool,
+    /// Asks something of the scheduler. A message is said by its length, and has zero bytes.
+    Schedule(Call<u64, usize>),
 }
 
 impl Command {
@@ -121,7 +81,7 @@ impl Command {
                 recipient: words.number()?,
                 cap: words.small_cap()?,
             })),
-            "enqueue" => Some(Command::Schedule(Call::Enqueue(take_parcel(words)?))),
+            "enqueue" => take_enqueue(words),
             "advance" => Some(Command::Schedule(Call::Advance {
                 now: words.number()?,
             })),
@@ -143,17 +103,18 @@ fn flow(words: &mut Words<'_>) -> Option<Flow<u64>>
     })
 }
 
-/// Takes the words of a message.
-fn take_parcel(words: &mut Words<'_>) -> Option<Parcel>
-    ensures { Takes parcel_words IsParcelInRange (words_left words.old) result (words_left words.new) }
+/// Takes the words of an `enqueue` after that word.
+fn take_enqueue(words: &mut Words<'_>) -> Option<Command>
+    ensures { Takes command_words IsCommandInRange (codes "enqueue" ∷ words_left words.old) result
+        (words_left words.new) }
 {
-    Some(Parcel {
+    Some(Command::Schedule(Call::Enqueue {
         now: words.number()?,
         origin: words.number()?,
         recipient: words.number()?,
         channel: words.number()?,
-        length: words.length()?,
+        message: words.length()?,
         latency: words.number()?,
         should_deliver: words.flag()?,
-    })
+    }))
 }

@@ -73,7 +73,13 @@ impl Session {
             } => set_link(&mut self.links, origin, recipient, cap)?,
             Command::Rates => return Ok(Answer::Rates(self.rates()?)),
             Command::Schedule(call) => {
-                return schedule::make(self.alloc, &mut self.zeros, &mut self.scheduler, call);
+                let reply = schedule::make(
+                    self.alloc,
+                    &mut self.zeros,
+                    &mut self.scheduler,
+                    &call,
+                )?;
+                return Ok(Answer::Reply(reply));
             }
         }
         Ok(Answer::Nothing)

@@ -1,8 +1,12 @@
 //! Zero bytes that the messages of a script share.
-ghost use Rattle.std.specs.Prelude.{◌≡◌, length, replicate, IfOk, IfErr};
+ghost use Rattle.std.specs.Prelude.{◌≡◌, ◌≢◌, length, replicate, IfOk, IfErr};
+ghost use Rattle.link_scheduler.specs.Calls.Replay.{call_of};
+ghost use Rattle.link_simulation.specs.Simulation.Calls.{call_next};
+ghost use Rattle.link_scripts.specs.Schedule.{world_call};
 
 use bytes::Bytes;
 use fair_rates::error::Error;
+use link_scheduler::replay::Call;
 use std::alloc::Global;
 
 /// As many zero bytes as the longest message so far. Each message sees a part of them, so a
@@ -21,8 +25,60 @@ impl Zeros {
         }
     }
 
+    /// The call of a script as the scheduler takes it, with zero bytes of the length that it says.
+    ///
+    /// Its only error is `OutOfMemory`, for a message whose bytes find no memory.
+    pub fn fill(&mut self, alloc: Global, call: &Call<u64, usize>) -> Result<Call<u64>, Error>
+        ensures made { IfOk result (λ made. call_of made ≡ world_call call.now) }
+        ensures refused { IfErr result (λ e. (e ≡ Error.OutOfMemory) × (world_call call.now ≢ call_next)) }
+    {
+        Ok(match call {
+            Call::Limit {
+                now,
+                peer,
+                egress,
+                ingress,
+            } => Call::Limit {
+                now: *now,
+                peer: *peer,
+                egress: *egress,
+                ingress: *ingress,
+            },
+            Call::LimitLink {
+                now,
+                origin,
+                recipient,
+                cap,
+            } => Call::LimitLink {
+                now: *now,
+                origin: *origin,
+                recipient: *recipient,
+                cap: *cap,
+            },
+            Call::Enqueue {
+                now,
+                origin,
+                recipient,
+                channel,
+                message,
+                latency,
+                should_deliver,
+            } => Call::Enqueue {
+                now: *now,
+                origin: *origin,
+                recipient: *recipient,
+                channel: *channel,
+                message: self.part(alloc, *message)?,
+                latency: *latency,
+                should_deliver: *should_deliver,
+            },
+            Call::Advance { now } => Call::Advance { now: *now },
+            Call::Next => Call::Next,
+        })
+    }
+
     /// So many zero bytes.
-    pub fn part(&mut self, alloc: Global, length: usize) -> Result<Bytes, Error>
+    fn part(&mut self, alloc: Global, length: usize) -> Result<Bytes, Error>
         ensures bytes { IfOk result (λ bytes. bytes ≡ replicate length 0) }
         ensures refused { IfErr result (λ e. e ≡ Error.OutOfMemory) }
     {

@@ -1,5 +1,6 @@
 -- The event rule, found by computing: for worked examples.
-use Rattle.std.proofs.Common.{◌-◌, ◌≡◌, ◌≢◌, ℕ, zero, suc, ◌+◌, ◌<◌, ◌≤◌, List, [], ◌∷◌, ◌++◌, Bool, true, false, cond, not, Option, Some, None, refl, sym, ap, subst, arith, ◌∙◌, inl, inr, ◌⊎◌, length}
+use Rattle.std.proofs.Common.{◌-◌, ◌≡◌, ◌≢◌, ℕ, zero, suc, ◌+◌, ◌<◌, ◌≤◌, List, [], ◌∷◌, ◌++◌, Bool, true, false, cond}
+use Rattle.std.proofs.Common.{not, Option, Some, None, refl, sym, ap, subst, arith, ◌∙◌, inl, inr, ◌⊎◌, length}
 use Rattle.std.specs.Prelude.{max, ◌&&◌, ◌||◌, ◌==◌, nat_le, nat_lt, if◌then◌else◌, slice_get, IfSome}
 use Rattle.std.specs.List.{find, list_any, list_all, filter, AllZip}
 use Rattle.std.specs.declared.cmp.Ordering.{Ordering}
@@ -14,11 +15,18 @@ use Rattle.link_simulation.specs.Simulation.Rates.{capped_sides, rates_from, rat
 use Rattle.link_simulation.specs.Simulation.World.{new_world, is_in_order, Completed, Course, goes, meets, last_moment, preceded, fronts, is_in_order, is_late, completed}
 use Rattle.link_simulation.specs.Simulation.Calls.{moment_of, Call, call_limit, call_limit_link, call_enqueue, call_advance, call_next, limited_by, linked_by}
 use Rattle.link_simulation.specs.Simulation.Replies.{Agrees, Reply, reply_done, reply_next, reply_refused, SameCompletion}
-use Rattle.link_simulation.specs.Rule.Planned.{new_planned, Planned, RatedFlight, IsLeastMoment, next_event, rated_messages, left_at, SomeSpentAt, drained_to, next_of, may_launch, SomeReadyAt, is_spent}
-use Rattle.link_simulation.specs.Rule.Events.{Accounts, PlansStart, launched, Launches, nothing_waits, too_early, no_id, starts, landed, Finishes, all_completed, late, stopped, completes, WakesEach, all_started, no_start, no_finish, starts_one, Settles, settling, Rebalances, none_sending, some_sending, completed_at_once, with_queued, Enqueues, at_once, no_launch, launches, Advances, no_more, at_finish, at_start, finish_stops, start_stops, Obeys}
+use Rattle.link_simulation.specs.Rule.Planned.{new_planned, Planned, RatedFlight, IsLeastMoment, next_event}
+use Rattle.link_simulation.specs.Rule.Planned.{rated_messages, left_at, SomeSpentAt, drained_to, next_of, may_launch}
+use Rattle.link_simulation.specs.Rule.Planned.{SomeReadyAt, is_spent}
+use Rattle.link_simulation.specs.Rule.Events.{Accounts, PlansStart, launched, Launches, nothing_waits, too_early, no_id}
+use Rattle.link_simulation.specs.Rule.Events.{starts, landed, Finishes, all_completed, late, stopped, completes}
+use Rattle.link_simulation.specs.Rule.Events.{WakesEach, all_started, no_start, no_finish, starts_one, Settles}
+use Rattle.link_simulation.specs.Rule.Events.{settling, Rebalances, none_sending, some_sending, completed_at_once}
+use Rattle.link_simulation.specs.Rule.Events.{with_queued, Enqueues, at_once, no_launch, launches, Advances, no_more}
+use Rattle.link_simulation.specs.Rule.Events.{at_finish, at_start, finish_stops, start_stops, Obeys}
 use Rattle.link_simulation.specs.Rule.Refusals.{MayBeRefused, Obeyed}
 use Rattle.fair_rates.proofs.Lists.Members.{In}
-use Rattle.link_simulation.proofs.Laws.Bytes.{fronts_are_first}
+use Rattle.link_simulation.proofs.Simulation.OtherPairs.{fronts_are_first}
 use Rattle.fair_rates.proofs.Lists.Each.{Each}
 use Rattle.link_simulation.proofs.Laws.MostEvents.{first_in_fronts}
 use Rattle.link_simulation.proofs.Simulation.LowestTerms.{spent_later}
@@ -208,7 +216,9 @@ module _ {P : Type 0} (cmp : P → P → Ordering) (order : IsTotalOrder cmp) (p
   no_flight [] s e some = let at : slice_get [] some.0 ≡ Some some.1 = some.2 in cc
   no_flight (f ∷ fs) s e some = cc
 
-  stayed_so : (caps : Caps P) (shares : Shares) (t place : ℕ) (fs : List (RatedFlight P)) → AllZip (λ f g. (g.message ≡ f.message) × (g.left ≡ f.left) × (g.updated ≡ t)) fs (rated_flight caps shares t place fs)
+  stayed_so : (caps : Caps P) (shares : Shares) (t place : ℕ) (fs : List (RatedFlight P))
+      → AllZip (λ f g. (g.message ≡ f.message) × (g.left ≡ f.left) × (g.updated ≡ t)) fs
+      (rated_flight caps shares t place fs)
   stayed_so caps shares t place [] = tt
   stayed_so caps shares t place (f ∷ fs) = ((refl, refl, refl), stayed_so caps shares t (place + 1) fs)
 
@@ -221,7 +231,8 @@ module _ {P : Type 0} (cmp : P → P → Ordering) (order : IsTotalOrder cmp) (p
   account_so t p q e =
       let sending : List (RatedFlight P) = rated_at t p in
       let shares : Shares = shares_of t p in
-      let two : (is_fair shares.per shares.parts (capped_sides cmp p.caps (rated_messages sending)) ≡ true) × (bind (finish_from t sending) (λ o. Some (record p { sending = sending; finish = o })) ≡ Some q)
+      let two : (is_fair shares.per shares.parts (capped_sides cmp p.caps (rated_messages sending)) ≡ true)
+      × (bind (finish_from t sending) (λ o. Some (record p { sending = sending; finish = o })) ≡ Some q)
       = given_so (is_fair shares.per shares.parts (capped_sides cmp p.caps (rated_messages sending))) (bind (finish_from t sending) (λ o. Some (record p { sending = sending; finish = o }))) q e in
       let found : (o : Option ℕ) × (finish_from t sending ≡ Some o) × (Some (record p { sending = sending; finish = o }) ≡ Some q)
       = bound (finish_from t sending) (λ o. Some (record p { sending = sending; finish = o })) q two.1 in
@@ -240,7 +251,8 @@ module _ {P : Type 0} (cmp : P → P → Ordering) (order : IsTotalOrder cmp) (p
         fair = record { parts = shares.parts; fair = fair_if_so shares.per shares.parts (capped_sides cmp p.caps (rated_messages sending)) two.0; rated = refl };
         rated = rated_so p.caps shares t 0 (staying t p);
         finish =
-            sought_so (SomeSpentAt sending) (λ s. list_any (is_spent_at s) sending) (λ s h. spent_if_so s sending h) (λ s h. so_if_spent s sending h.0 h.1 h.2 h.3 h.4) (is_none_of sending) n from found.0
+            sought_so (SomeSpentAt sending) (λ s. list_any (is_spent_at s) sending) (λ s h. spent_if_so s sending h)
+            (λ s h. so_if_spent s sending h.0 h.1 h.2 h.3 h.4) (is_none_of sending) n from found.0
             (λ h s some. no_flight sending s h some) (λ s some. skip_so t from sending skip.0 s some (starts_at s some)) skip.1;
         same = refl;
       }
@@ -307,7 +319,9 @@ module _ {P : Type 0} (cmp : P → P → Ordering) (order : IsTotalOrder cmp) (p
       = bound (sought (all_busy p) (is_ready_at t p) n t) (λ o. Some (record p { start = o })) q e in
       let same : record p { start = found.0 } ≡ q = the_same found.2 in
       subst (PlansStart cmp t p) same record {
-        start = sought_so (λ s. (t ≤ s) × SomeReadyAt cmp p s) (is_ready_at t p) (ready_if_so t p) (so_if_ready t p) (all_busy p) n t found.0 (λ h s some. never_ready p s h some.1) (λ s some. some.0) found.1;
+        start =
+            sought_so (λ s. (t ≤ s) × SomeReadyAt cmp p s) (is_ready_at t p) (ready_if_so t p) (so_if_ready t p)
+            (all_busy p) n t found.0 (λ h s some. never_ready p s h some.1) (λ s some. some.0) found.1;
         same = refl;
       }
 
@@ -361,11 +375,15 @@ module _ {P : Type 0} (cmp : P → P → Ordering) (order : IsTotalOrder cmp) (p
           subst (Finishes cmp t (m ∷ ms) p) (the_same found.2) (completes is l (ih (ms ++ more) q found.0 found.1))
 
       by_late : (b : Bool) → is_late cmp t m ≡ b
-          → cond b (Some (meets MomentTooLate)) (bind (launch t (landed cmp t p m) (next_of cmp p m)) (λ c. followed c (λ more q. bind (finish_all t k (ms ++ more) q) (λ rest. Some (preceded (completed cmp t m ∷ []) rest))))) ≡ Some c
+          → cond b (Some (meets MomentTooLate)) (bind (launch t (landed cmp t p m) (next_of cmp p m))
+          (λ c. followed c (λ more q. bind (finish_all t k (ms ++ more) q)
+          (λ rest. Some (preceded (completed cmp t m ∷ []) rest))))) ≡ Some c
           → AreFinishes t k → Finishes cmp t (m ∷ ms) p c
       by_late true is e ih = subst (Finishes cmp t (m ∷ ms) p) (the_same e) (late is)
       by_late false is e ih =
-          let found : (l : Course (Message P) (Planned P)) × (launch t (landed cmp t p m) (next_of cmp p m) ≡ Some l) × (followed l (λ more q. bind (finish_all t k (ms ++ more) q) (λ rest. Some (preceded (completed cmp t m ∷ []) rest))) ≡ Some c)
+          let found : (l : Course (Message P) (Planned P)) × (launch t (landed cmp t p m) (next_of cmp p m) ≡ Some l)
+          × (followed l (λ more q. bind (finish_all t k (ms ++ more) q)
+          (λ rest. Some (preceded (completed cmp t m ∷ []) rest))) ≡ Some c)
           = bound (launch t (landed cmp t p m) (next_of cmp p m)) (λ l. followed l (λ more q. bind (finish_all t k (ms ++ more) q) (λ rest. Some (preceded (completed cmp t m ∷ []) rest)))) c e in
           by_launch found.0 is (launch_so t (landed cmp t p m) (next_of cmp p m) found.0 found.1) found.2 ih
 
@@ -383,7 +401,9 @@ module _ {P : Type 0} (cmp : P → P → Ordering) (order : IsTotalOrder cmp) (p
       let found : (q : Planned P) × (look t p ≡ Some q) × (Some (goes [] q) ≡ Some c) = bound (look t p) (λ q. Some (goes [] q)) c e in
       subst (WakesEach cmp t [] p) (the_same found.2) (all_started (look_so t p found.0 found.1))
   wake_each_so t (m ∷ ms) p c e =
-      let found : (l : Course (Message P) (Planned P)) × (launch t p (next_of cmp p m) ≡ Some l) × (followed l (λ more q. bind (finish_all t n more q) (λ d. followed d (λ cs r. bind (wake_each t ms r) (λ rest. Some (preceded cs rest))))) ≡ Some c)
+      let found : (l : Course (Message P) (Planned P)) × (launch t p (next_of cmp p m) ≡ Some l)
+      × (followed l (λ more q. bind (finish_all t n more q)
+      (λ d. followed d (λ cs r. bind (wake_each t ms r) (λ rest. Some (preceded cs rest))))) ≡ Some c)
       = bound (launch t p (next_of cmp p m)) (λ l. followed l (λ more q. bind (finish_all t n more q) (λ d. followed d (λ cs r. bind (wake_each t ms r) (λ rest. Some (preceded cs rest)))))) c e in
       by_launch found.0 (launch_so t p (next_of cmp p m) found.0 found.1) found.2 (wake_each_so t ms)
     where
@@ -418,7 +438,9 @@ module _ {P : Type 0} (cmp : P → P → Ordering) (order : IsTotalOrder cmp) (p
   -- ---- calls
 
   abbrev pub rebalance_at : ℕ → Caps P → Planned P → Option (Course (Completed P) (Planned P))
-  rebalance_at now caps p = if is_none_of p.sending then bind (look now (record p { caps = caps; limited = true })) (λ q. Some (goes [] q)) else settle_at now (record p { caps = caps; limited = true })
+  rebalance_at now caps p =
+      if is_none_of p.sending then bind (look now (record p { caps = caps; limited = true }))
+      (λ q. Some (goes [] q)) else settle_at now (record p { caps = caps; limited = true })
 
   rebalance_at_so : (now : ℕ) (caps : Caps P) (p : Planned P) (c : Course (Completed P) (Planned P)) → rebalance_at now caps p ≡ Some c → Rebalances cmp now caps p c
   rebalance_at_so now caps p c e = by_sending p.sending refl e
@@ -449,10 +471,14 @@ module _ {P : Type 0} (cmp : P → P → Ordering) (order : IsTotalOrder cmp) (p
       by_launch (goes leavers mid) is l e = launches is l (finish_all_so now n leavers mid c e)
 
       by_limited : (b : Bool) → p.limited ≡ b
-          → cond b (bind (launch now (with_queued cmp p m) (next_of cmp (with_queued cmp p m) m)) (λ c. followed c (λ leavers mid. finish_all now n leavers mid))) (Some (completed_at_once cmp now p m)) ≡ Some c
+          → cond b (bind (launch now (with_queued cmp p m) (next_of cmp (with_queued cmp p m) m))
+          (λ c. followed c (λ leavers mid. finish_all now n leavers mid))) (Some (completed_at_once cmp now p m))
+          ≡ Some c
           → Enqueues cmp now m p c
       by_limited true is e =
-          let found : (l : Course (Message P) (Planned P)) × (launch now (with_queued cmp p m) (next_of cmp (with_queued cmp p m) m) ≡ Some l) × (followed l (λ leavers mid. finish_all now n leavers mid) ≡ Some c)
+          let found : (l : Course (Message P) (Planned P))
+          × (launch now (with_queued cmp p m) (next_of cmp (with_queued cmp p m) m) ≡ Some l)
+          × (followed l (λ leavers mid. finish_all now n leavers mid) ≡ Some c)
           = bound (launch now (with_queued cmp p m) (next_of cmp (with_queued cmp p m) m)) (λ l. followed l (λ leavers mid. finish_all now n leavers mid)) c e in
           by_launch found.0 is (launch_so now (with_queued cmp p m) (next_of cmp (with_queued cmp p m) m) found.0 found.1) found.2
       by_limited false is e = subst (Enqueues cmp now m p) (the_same e) (at_once is)
@@ -511,7 +537,12 @@ module _ {P : Type 0} (cmp : P → P → Ordering) (order : IsTotalOrder cmp) (p
           let found : (rest : Course (Completed P) (Planned P)) × (advance_at now k q ≡ Some rest) × (Some (preceded cs rest) ≡ Some c)
           = bound (advance_at now k q) (λ rest. Some (preceded cs rest)) c more in
           let rest : Advanced now q found.0 = ih q found.0 found.1 in
-          subst (Advanced now p) (the_same found.2) (rest.0 + 1, at_start (is_not_at t p.finish finish) is due (wake_each_so t (filter (may_launch cmp t p) (fronts cmp p.waiting)) (record p { start = None }) (goes cs q) e) rest.1)
+          subst (Advanced now p) (the_same found.2) (
+            rest.0 + 1,
+            at_start (is_not_at t p.finish finish) is due
+                (wake_each_so t (filter (may_launch cmp t p) (fronts cmp p.waiting)) (record p { start = None })
+                (goes cs q) e) rest.1,
+          )
 
       by_past : (t : ℕ) (b : Bool) → next_event p ≡ Some t → nat_lt now t ≡ b
           → cond b (wake_at now p) (bind (event_of p (Some t)) (λ d. followed d (λ cs q. bind (advance_at now k q) (λ rest. Some (preceded cs rest))))) ≡ Some c → AreAdvanced now k
@@ -650,7 +681,9 @@ in_time_so (call ∷ calls) e =
     by_moment (Some t) e now is = let le : t ≤ last_moment = leb-true t last_moment e in let same : t ≡ now = the_same is in omega arith
 
 -- what the event rule replies agrees with the simulation
-pub agrees_by_rule : {P : Type 0} (cmp : P → P → Ordering) (order : IsTotalOrder cmp) (plan : Caps P → List (Message P) → Shares) (hint : ℕ → List (Message P) → ℕ) (n : ℕ) (calls : List (Call P)) (replies : List (Reply P))
+pub agrees_by_rule : {P : Type 0} (cmp : P → P → Ordering) (order : IsTotalOrder cmp)
+    (plan : Caps P → List (Message P) → Shares) (hint : ℕ → List (Message P) → ℕ) (n : ℕ) (calls : List (Call P))
+    (replies : List (Reply P))
     → are_in_time calls ≡ true → replies_by_rule cmp order plan hint n (new_planned 0) calls ≡ Some replies → Agrees cmp (new_world 0) calls replies
 agrees_by_rule cmp order plan hint n calls replies times e = obeyed_agree cmp order calls replies (in_time_so calls times) (obeyed_so cmp order plan hint n (new_planned 0) calls replies e)
 

@@ -1,5 +1,7 @@
 -- One message alone under caps takes its least time at the least of them.
-use Rattle.std.proofs.Common.{◌≡◌, ℕ, zero, suc, ◌+◌, ◌-◌, ◌*◌, ◌<◌, ◌≤◌, inl, inr, List, [], ◌∷◌, length, Bool, true, false, not, Option, Some, None, Contains, sum_by, refl, sym, ap, ◌∙◌, subst, arith, add-one, le_refl, ◌↔◌}
+use Rattle.std.proofs.Common.{◌≡◌, ℕ, zero, suc, ◌+◌, ◌-◌, ◌*◌, ◌<◌, ◌≤◌, inl, inr, List, [], ◌∷◌, length, Bool, true}
+use Rattle.std.proofs.Common.{false, not, Option, Some, None, Contains, sum_by, refl, sym, ap, ◌∙◌, subst, arith}
+use Rattle.std.proofs.Common.{add-one, le_refl, ◌↔◌}
 use Rattle.std.specs.Prelude.{◌&&◌, ◌||◌, ◌==◌, is_none, nat_le, if◌then◌else◌}
 use Rattle.std.specs.List.{list_any, find}
 use Rattle.std.specs.declared.cmp.Ordering.{Ordering}
@@ -11,7 +13,9 @@ use Rattle.fair_rates.specs.Numbers.Amount.{Amount, whole, reduced, drained}
 use Rattle.fair_rates.specs.Numbers.LowestTerms.{reduced_lowest, whole_IsReduced}
 use Rattle.fair_rates.specs.Fairness.Fair.{Side, load}
 use Rattle.fair_rates.specs.Sides.Subjects.{same_peer}
-use Rattle.link_simulation.specs.Simulation.World.{World, Flight, Completed, Course, goes, flight_of, last_moment, is_in_order, is_done, is_late, completed, completion_of, instant, settle, wake, IsQuiet, and_then, preceded, out_of_flight}
+use Rattle.link_simulation.specs.Simulation.World.{World, Flight, Completed, Course, goes, flight_of, last_moment}
+use Rattle.link_simulation.specs.Simulation.World.{is_in_order, is_done, is_late, completed, completion_of, instant}
+use Rattle.link_simulation.specs.Simulation.World.{settle, wake, IsQuiet, and_then, preceded, out_of_flight}
 use Rattle.link_simulation.specs.Simulation.Calls.{call_advance, Runs, join}
 use Rattle.link_simulation.specs.Simulation.Messages.{Message, Caps, same_pair, is_delivered}
 use Rattle.link_simulation.specs.Simulation.Rates.{AreFair, capped_sides, is_unlimited}
@@ -19,7 +23,7 @@ use Rattle.link_simulation.specs.Simulation.Time.{Drains, Passes, no_time, quiet
 use Rattle.fair_rates.proofs.Numbers.Draining.{spent_from_least}
 use Rattle.fair_rates.proofs.Lists.Members.{In}
 use Rattle.fair_rates.proofs.Lists.SumOrder.{All-from_contains}
-use Rattle.link_simulation.proofs.Simulation.AlikeMessages.{same_itself}
+use Rattle.link_simulation.proofs.Simulation.AlikeMessages.{same_itself, pair_itself}
 use Rattle.link_simulation.proofs.Simulation.Continuing.{rates_exist}
 use Rattle.link_simulation.proofs.Rule.FinishEvent.{settle_quiet, ticks_quiet, ticks_through}
 use Rattle.link_simulation.proofs.Laws.PartRates.{Kind, at_egress, at_ingress, at_link, cap_at, side_at, uses_at, from_sides}
@@ -28,9 +32,6 @@ use Rattle.link_simulation.proofs.Simulation.Stretch.{stretch, drifts_on}
 
 module _ {P : Type 0} (cmp : P → P → Ordering) (order : IsTotalOrder cmp) where
   -- ---- its rate
-
-  pair_itself : (m : Message P) → same_pair cmp m m ≡ true
-  pair_itself m = rw (same_itself cmp order m.origin, same_itself cmp order m.recipient) refl
 
   module _ (caps : Caps P) (m : Message P) where
     abbrev sides : List Side
@@ -43,7 +44,7 @@ module _ {P : Type 0} (cmp : P → P → Ordering) (order : IsTotalOrder cmp) wh
         by_test : (b : Bool) → is_delivered cmp m ≡ b → (if b then caps.ingress m.recipient else None) ≡ Some cap → (is_delivered cmp m && same_peer cmp m.recipient m.recipient) ≡ true
         by_test true e is = rw (e, same_itself cmp order m.recipient) refl
         by_test false e is = cc
-    uses_own at_link cap is = pair_itself m
+    uses_own at_link cap is = pair_itself cmp order m
 
     limited_by : (k : Kind) (cap : ℕ) → cap_at cmp caps k m ≡ Some cap → is_unlimited cmp caps m ≡ false
     limited_by k cap is = by_caps k (caps.egress m.origin) (is_delivered cmp m) (caps.ingress m.recipient) (caps.link m.origin m.recipient) is refl refl refl refl
@@ -70,8 +71,11 @@ module _ {P : Type 0} (cmp : P → P → Ordering) (order : IsTotalOrder cmp) wh
         by_own : (k : Kind) (cap : ℕ) → cap_at cmp caps k m ≡ Some cap → s ≡ side_at cmp caps k (m ∷ []) m cap → (s.users ≡ 0 ∷ []) × (is_unlimited cmp caps m ≡ false)
         by_own k cap is e = (ap (λ (t : Side). t.users) e ∙ rw (uses_own k cap is) refl, limited_by k cap is)
 
-        by_kind : (n : Message P) × In (m ∷ []) n × ((k : Kind) × (cap : ℕ) × (cap_at cmp caps k n ≡ Some cap) × (s ≡ side_at cmp caps k (m ∷ []) n cap)) → (s.users ≡ 0 ∷ []) × (is_unlimited cmp caps m ≡ false)
-        by_kind (n, inl same, (k, cap, is, e)) = by_own k cap (subst (λ (x : Message P). cap_at cmp caps k x ≡ Some cap) (sym same) is) (e ∙ ap (λ (x : Message P). side_at cmp caps k (m ∷ []) x cap) (sym same))
+        by_kind : (n : Message P) × In (m ∷ []) n × ((k : Kind) × (cap : ℕ) × (cap_at cmp caps k n ≡ Some cap)
+            × (s ≡ side_at cmp caps k (m ∷ []) n cap)) → (s.users ≡ 0 ∷ []) × (is_unlimited cmp caps m ≡ false)
+        by_kind (n, inl same, (k, cap, is, e)) =
+            by_own k cap (subst (λ (x : Message P). cap_at cmp caps k x ≡ Some cap) (sym same) is)
+            (e ∙ ap (λ (x : Message P). side_at cmp caps k (m ∷ []) x cap) (sym same))
         by_kind (n, inr none, rest) = absurd none
 
     alone_load : (cap : ℕ) (s : Side) → Contains sides s → load (λ _. cap) s ≡ cap
@@ -84,7 +88,10 @@ module _ {P : Type 0} (cmp : P → P → Ordering) (order : IsTotalOrder cmp) wh
           parts = λ _. cap;
           fair = record {
             some_part = omega arith;
-            within = All-from_contains (λ (t : Side). load (λ _. cap) t ≤ t.cap * 1) sides (λ t has. let all : cap ≤ t.cap = All-contains (λ (t : Side). cap ≤ t.cap) sides t is.least has in rw (alone_load cap t has) (omega arith));
+            within =
+                All-from_contains (λ (t : Side). load (λ _. cap) t ≤ t.cap * 1) sides
+                (λ t has. let all : cap ≤ t.cap = All-contains (λ (t : Side). cap ≤ t.cap) sides t is.least has in rw
+                (alone_load cap t has) (omega arith));
             held = λ flow limited. record {
               side = is.side;
               uses = record { listed = is.used; used = subst (λ users. Contains users flow) ((own_side limited.0 limited.1.listed).0 ∙ sym own.0) limited.1.used };
@@ -162,7 +169,8 @@ module _ {P : Type 0} (cmp : P → P → Ordering) (order : IsTotalOrder cmp) wh
     completes : is_late cmp (now + suc k) m ≡ false → instant cmp (later (suc k)) ≡ goes (completed cmp (now + suc k) m ∷ []) landed
     completes in_time =
         let found : find (is_done cmp (later (suc k))) (later (suc k)).sending ≡ Some (flight (suc k)) = rw gone refl in
-        let settled : settle cmp (now + suc k) (later (suc k)) ≡ goes (completed cmp (now + suc k) m ∷ []) landed = settle_first cmp order 0 (now + suc k) (later (suc k)) (flight (suc k)) found ∙ rw in_time refl in
+        let settled : settle cmp (now + suc k) (later (suc k)) ≡ goes (completed cmp (now + suc k) m ∷ []) landed
+        = settle_first cmp order 0 (now + suc k) (later (suc k)) (flight (suc k)) found ∙ rw in_time refl in
         ap (λ (c : Course (Completed P) (World P)). and_then c (λ v. wake cmp v.moment v)) settled
 
     advances : is_late cmp (now + suc k) m ≡ false → Runs cmp sent (call_advance (now + suc k)) (now + suc k) (goes (completed cmp (now + suc k) m ∷ []) landed)
@@ -171,7 +179,10 @@ module _ {P : Type 0} (cmp : P → P → Ordering) (order : IsTotalOrder cmp) wh
         let long : suc k ≡ now + suc k - now = omega arith in
         record {
           ticked = goes (completed cmp (now + suc k) m ∷ []) landed;
-          ticks = subst (λ n. Ticks cmp n sent (goes (completed cmp (now + suc k) m ∷ []) landed)) long (ticks_through cmp order r.1 (later (suc k)) (goes (completed cmp (now + suc k) m ∷ []) landed) r.2 (completes in_time));
+          ticks =
+              subst (λ n. Ticks cmp n sent (goes (completed cmp (now + suc k) m ∷ []) landed)) long
+              (ticks_through cmp order r.1 (later (suc k)) (goes (completed cmp (now + suc k) m ∷ []) landed) r.2
+              (completes in_time));
           acts = refl;
         }
 
@@ -192,7 +203,7 @@ module _ {P : Type 0} (cmp : P → P → Ordering) (order : IsTotalOrder cmp) wh
       → join cmp now (world caps last id [] now) m ≡ goes [] (world caps last (id + 1) (flight_of m ∷ []) now)
   starts caps last id now m in_order below rests =
       let free : nat_le last_moment id ≡ false = lt-leb last_moment id below in
-      rw (pair_itself m, in_order, free, pair_itself m) (ap (preceded []) rests)
+      rw (pair_itself cmp order m, in_order, free, pair_itself cmp order m) (ap (preceded []) rests)
 
   from_idle : (caps : Caps P) (last : P → P → Option ℕ) (id t : ℕ) (m : Message P) (now cap k : ℕ) → is_in_order (last m.origin m.recipient) (now + m.latency) ≡ true → id < last_moment
       → t ≤ now → IsLeastCap cmp caps m cap → 0 < length m.bytes → IsTimeFor (length m.bytes) cap (suc k) → now + suc k ≤ last_moment → is_late cmp (now + suc k) m ≡ false

@@ -1,5 +1,7 @@
 -- What an origin still has to send goes down by no more than its egress cap lets go.
-use Rattle.std.proofs.Common.{sum_by, ◌≡◌, ℕ, zero, suc, ◌+◌, ◌-◌, ◌*◌, ◌<◌, ◌≤◌, List, [], ◌∷◌, ◌++◌, map, length, Bool, true, false, cond, not, Option, Some, None, refl, sym, ap, ◌∙◌, subst, arith, append-nil}
+use Rattle.std.proofs.Common.{sum_by, ◌≡◌, ℕ, zero, suc, ◌+◌, ◌-◌, ◌*◌, ◌<◌, ◌≤◌, List, [], ◌∷◌, ◌++◌, map, length}
+use Rattle.std.proofs.Common.{Bool, true, false, cond, not, Option, Some, None, refl, sym, ap, ◌∙◌, subst, arith}
+use Rattle.std.proofs.Common.{append-nil}
 use Rattle.std.specs.Prelude.{is_none, ◌&&◌, ◌||◌, nat_le, ◌==◌, if◌then◌else◌, slice_get, Contains}
 use Rattle.std.specs.List.{filter, find, flat_map}
 use Rattle.std.specs.declared.cmp.Ordering.{Ordering}
@@ -13,21 +15,25 @@ use Rattle.std.proofs.lemmas.List.Sums.{sum_by-cons}
 use Rattle.fair_rates.specs.Lists.WithoutFirst.{without_first}
 use Rattle.fair_rates.specs.Sides.Subjects.{same_peer}
 use Rattle.link_simulation.specs.Laws.Bytes.{allowance, bytes_from, left_from, waiting_from}
-use Rattle.link_simulation.specs.Simulation.World.{Completed, Course, Flight, World, and_then, complete, first_waiting, flows, fronts, goes, instant, is_done, last_moment, least_pair, may_start, meets, ready, settle, settle_within, start, start_next, wake, wake_within, EndsWith, out_of_flight, is_late, completed, flight_of}
+use Rattle.link_simulation.specs.Simulation.World.{Completed, Course, Flight, World, and_then, complete, first_waiting}
+use Rattle.link_simulation.specs.Simulation.World.{flows, fronts, goes, instant, is_done, last_moment, least_pair}
+use Rattle.link_simulation.specs.Simulation.World.{may_start, meets, ready, settle, settle_within, start, start_next}
+use Rattle.link_simulation.specs.Simulation.World.{wake, wake_within, EndsWith, out_of_flight, is_late, completed}
+use Rattle.link_simulation.specs.Simulation.World.{flight_of}
 use Rattle.link_simulation.specs.Simulation.Calls.{Runs, call_advance}
 use Rattle.link_simulation.specs.Simulation.Messages.{Caps, Message, is_delivered, pair_before, same_pair}
 use Rattle.link_simulation.specs.Simulation.Rates.{rate_of, is_unlimited, rates_from, AreFair, Parts, capped_sides, drained_by, sides_for}
 use Rattle.link_simulation.specs.Simulation.Time.{ArePositive, Drains, Ticks, drain_each, no_tick, one_tick, tick_faults}
 use Rattle.fair_rates.specs.declared.error.Error.TheVariants.{FlowIdsUsedUp, MomentTooLate}
 use borrow.Author.Tests.{eqb-true}
-use Rattle.link_simulation.proofs.Simulation.Queue.{then_then, pair_sym, peer_like, settle_none, settle_first, find_passes}
+use Rattle.link_simulation.proofs.Simulation.Queue.{then_then, peer_like, settle_none, settle_first, find_passes}
 use Rattle.link_simulation.proofs.Simulation.SettlingEnds.{ends_preceded, ends_and_then, ends_cond, find_like}
 use Rattle.link_simulation.proofs.Simulation.Split.{rest_is}
 use Rattle.link_simulation.proofs.Laws.AmountOrder.{share, at_most_itself, at_most_trans, plus_under, plus_spent, plus_shares, plus_whole, two_shares, share_grows, no_share, lowest_takes}
 use Rattle.fair_rates.specs.Lists.Places.{places_from}
 use Rattle.fair_rates.proofs.Lists.Each.{Each}
 use Rattle.link_simulation.proofs.Simulation.OneNext.{drain_each_positive}
-use Rattle.link_simulation.proofs.Simulation.AlikeMessages.{same_itself}
+use Rattle.link_simulation.proofs.Simulation.OtherPairs.{fronts_are_first}
 
 -- ---- lists
 
@@ -68,22 +74,6 @@ none_total {X} test (x ∷ xs) (r ∷ rs) e = by_test (test x) e (none_total tes
     by_test false is ih = let h : total (map test xs) rs ≡ 0 = ih is in omega arith
 
 module _ {P : Type 0} (cmp : P → P → Ordering) (order : IsTotalOrder cmp) where
-  pub pair_itself : (m : Message P) → same_pair cmp m m ≡ true
-  pair_itself m = rw (same_itself cmp order m.origin, same_itself cmp order m.recipient) refl
-
-  -- each front is the first waiting message of its pair
-  pub fronts_are_first : (ms : List (Message P)) → Each (λ m. find (same_pair cmp m) ms ≡ Some m) (fronts cmp ms)
-  fronts_are_first [] = tt
-  fronts_are_first (m ∷ ms) = (
-    rw (pair_itself m) refl,
-    each_filter (λ n. find (same_pair cmp n) ms ≡ Some n) (λ n. find (same_pair cmp n) (m ∷ ms) ≡ Some n) (λ n. not (same_pair cmp m n)) (fronts cmp ms)
-        (λ n apart first. past n (same_pair cmp m n) refl apart first) (fronts_are_first ms),
-  )
-    where
-      past : (n : Message P) (b : Bool) → same_pair cmp m n ≡ b → not b ≡ true → find (same_pair cmp n) ms ≡ Some n → find (same_pair cmp n) (m ∷ ms) ≡ Some n
-      past n true is e first = cc
-      past n false is e first = rw (pair_sym cmp order n m, is) first
-
   pub each_least : (Q : Message P → Type 0) (ms : List (Message P)) (m : Message P) → Each Q ms → least_pair cmp ms ≡ Some m → Q m
   each_least Q [] m e is = cc
   each_least Q (n ∷ ns) m e is = by_rest (least_pair cmp ns) refl is (λ k. each_least Q ns k e.1)
@@ -108,7 +98,8 @@ module _ {P : Type 0} (cmp : P → P → Ordering) (order : IsTotalOrder cmp) wh
   pub ready_is_first : (t : ℕ) (w : World P) (m : Message P) → least_pair cmp (ready cmp t w) ≡ Some m → find (same_pair cmp m) w.waiting ≡ Some m
   ready_is_first t w m e =
       each_least (λ n. find (same_pair cmp n) w.waiting ≡ Some n) (ready cmp t w) m
-      (each_filter (λ n. find (same_pair cmp n) w.waiting ≡ Some n) (λ n. find (same_pair cmp n) w.waiting ≡ Some n) (may_start cmp t w) (fronts cmp w.waiting) (λ n may first. first) (fronts_are_first w.waiting)) e
+      (each_filter (λ n. find (same_pair cmp n) w.waiting ≡ Some n) (λ n. find (same_pair cmp n) w.waiting ≡ Some n)
+      (may_start cmp t w) (fronts cmp w.waiting) (λ n may first. first) (fronts_are_first cmp order w.waiting)) e
 
   -- ---- what each step leaves
 
@@ -143,7 +134,9 @@ module _ {P : Type 0} (cmp : P → P → Ordering) (order : IsTotalOrder cmp) wh
   started p m (f ∷ fs) n k e = by_origin (same_peer cmp p f.message.origin) (started p m fs n k e)
     where
       by_origin : (c : Bool) → IsAtMost (plus (left_from cmp p fs) (whole n)) (plus (left_from cmp p (fs ++ flight_of m ∷ [])) (whole k))
-          → IsAtMost (plus (if c then plus f.left (left_from cmp p fs) else left_from cmp p fs) (whole n)) (plus (if c then plus f.left (left_from cmp p (fs ++ flight_of m ∷ [])) else left_from cmp p (fs ++ flight_of m ∷ [])) (whole k))
+          → IsAtMost (plus (if c then plus f.left (left_from cmp p fs) else left_from cmp p fs) (whole n))
+          (plus (if c then plus f.left (left_from cmp p (fs ++ flight_of m ∷ [])) else left_from cmp p
+          (fs ++ flight_of m ∷ [])) (whole k))
       by_origin true h = plus_under f.left (left_from cmp p fs) (left_from cmp p (fs ++ flight_of m ∷ [])) n k h
       by_origin false h = h
 
@@ -190,7 +183,9 @@ module _ {P : Type 0} (cmp : P → P → Ordering) (order : IsTotalOrder cmp) wh
     where
       by_test : (b : Bool) → test m ≡ b → (u : Bool) → is_unlimited cmp caps m ≡ u
           → total (map test ms) (rates_from cmp caps parts (place + 1) ms) ≡ sum_by parts (places_from (place + 1) test ms)
-          → part_of b (if u then None else Some (parts place)) + total (map test ms) (rates_from cmp caps parts (place + 1) ms) ≡ sum_by parts (cond b (place ∷ places_from (place + 1) test ms) (places_from (place + 1) test ms))
+          → part_of b (if u then None else Some (parts place)) + total (map test ms)
+          (rates_from cmp caps parts (place + 1) ms) ≡ sum_by parts
+          (cond b (place ∷ places_from (place + 1) test ms) (places_from (place + 1) test ms))
       by_test true is true free ih = let bound : is_unlimited cmp caps m ≡ false = limited m is in cc
       by_test true is false free ih = omega (arith, ih, sum_by-cons parts place (places_from (place + 1) test ms))
       by_test false is u free ih = omega (arith, ih)
@@ -352,7 +347,8 @@ module _ {P : Type 0} (cmp : P → P → Ordering) (order : IsTotalOrder cmp) wh
     drained_each per [] n (f ∷ fs) some pos limited =
         subst (λ k. IsAtMost (left_from cmp p (f ∷ fs)) (plus (left_from cmp p (f ∷ fs)) (share k (per * billion)))) (sym (zero-mul n)) (no_share (left_from cmp p (f ∷ fs)) (per * billion))
     drained_each per (r ∷ rs) n (f ∷ fs) some pos limited =
-        drained_one per n (total (map from_it (map (λ (g : Flight P). g.message) fs)) rs) f.left (left_from cmp p fs) (left_from cmp p (drain_each per rs n fs)) (same_peer cmp p f.message.origin) r some pos.0
+        drained_one per n (total (map from_it (map (λ (g : Flight P). g.message) fs)) rs) f.left (left_from cmp p fs)
+        (left_from cmp p (drain_each per rs n fs)) (same_peer cmp p f.message.origin) r some pos.0
         (λ is none. limited 0 (ap Some is) (ap Some none)) (drained_each per rs n fs some pos.1 (λ i. limited (suc i)))
 
     -- in one nanosecond, no more goes than the cap lets go
@@ -368,7 +364,8 @@ module _ {P : Type 0} (cmp : P → P → Ordering) (order : IsTotalOrder cmp) wh
         let positive : ArePositive u.sending = drain_each_positive cmp order d.per d.rates 1 w.sending some h.positive in
         let all : ℕ = total (map from_it (flows w)) d.rates in
         let sums : IsAtMost (bytes_from cmp p w) (plus (bytes_from cmp p u) (share (all * 1) (d.per * billion))) =
-        plus_whole (left_from cmp p w.sending) (left_from cmp p u.sending) (waiting_from cmp p w.waiting) (all * 1) (d.per * billion) (drained_each d.per d.rates 1 w.sending some h.positive capped.limited) in
+        plus_whole (left_from cmp p w.sending) (left_from cmp p u.sending) (waiting_from cmp p w.waiting) (all * 1)
+        (d.per * billion) (drained_each d.per d.rates 1 w.sending some h.positive capped.limited) in
         let most : all ≤ cap * d.per = capped.within in
         let scaled : (all * 1) * billion ≤ (cap * 1) * (d.per * billion) = omega arith in
         let end : Loses 1 w u = record {
@@ -379,8 +376,12 @@ module _ {P : Type 0} (cmp : P → P → Ordering) (order : IsTotalOrder cmp) wh
 
     loses_none : (w v : World P) → Follows w v → Loses 0 w v
     loses_none w v f =
-        record
-        { holds = f.holds; bytes = subst (λ k. IsAtMost (bytes_from cmp p w) (plus (bytes_from cmp p v) (share k billion))) (sym (mul-zero cap)) (none_more (bytes_from cmp p w) (bytes_from cmp p v) f.bytes) }
+        record {
+          holds = f.holds;
+          bytes = subst (λ k. IsAtMost (bytes_from cmp p w)
+              (plus (bytes_from cmp p v) (share k billion))) (sym (mul-zero cap))
+              (none_more (bytes_from cmp p w) (bytes_from cmp p v) f.bytes);
+        }
       where
         none_more : (a b : Amount) → IsAtMost a b → IsAtMost a (plus b (share 0 billion))
         none_more a b h = omega arith
@@ -388,7 +389,10 @@ module _ {P : Type 0} (cmp : P → P → Ordering) (order : IsTotalOrder cmp) wh
     loses_both : (m n : ℕ) (w v u : World P) → Loses m w v → Loses n v u → Holds v → Loses (m + n) w u
     loses_both m n w v u f g h = record {
       holds = g.holds;
-      bytes = subst (λ k. IsAtMost (bytes_from cmp p w) (plus (bytes_from cmp p u) (share k billion))) (sym (mul-add cap m n)) (two_shares (bytes_from cmp p w) (bytes_from cmp p v) (bytes_from cmp p u) (cap * m) (cap * n) billion (bytes_positive v h) (omega arith) f.bytes g.bytes);
+      bytes =
+          subst (λ k. IsAtMost (bytes_from cmp p w) (plus (bytes_from cmp p u) (share k billion)))
+          (sym (mul-add cap m n)) (two_shares (bytes_from cmp p w) (bytes_from cmp p v) (bytes_from cmp p u) (cap * m)
+          (cap * n) billion (bytes_positive v h) (omega arith) f.bytes g.bytes);
     }
 
     ends_in : (w : World P) (c : Course (Completed P) (World P)) (cs : List (Completed P)) (v : World P) → EndsWith (Follows w) c → c ≡ goes cs v → Follows w v

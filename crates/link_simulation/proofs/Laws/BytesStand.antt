@@ -16,17 +16,18 @@ use Rattle.link_simulation.specs.Rule.Planned.{Planned, RatedFlight}
 use Rattle.link_simulation.specs.Rule.StandsFor.{StandsFor, IsSameFlight}
 use Rattle.link_simulation.specs.Rule.SamePlanned.{GoesByRule}
 use Rattle.link_simulation.specs.Rule.Simulated.{IsRun, KeepsToCaps}
-use Rattle.link_simulation.proofs.Simulation.AlikeMessages.{same_itself, peers_alike, pairs_alike, message_itself}
+use Rattle.link_simulation.proofs.Simulation.AlikeMessages.{same_itself, pair_itself, peers_alike, pairs_alike, message_itself}
 use Rattle.fair_rates.proofs.Lists.Zips.{zip-filter}
 use Rattle.fair_rates.proofs.Lists.Filters.{filter_swap, length-filter}
-use Rattle.link_simulation.proofs.Laws.Bytes.{pair_itself, Loses, advance_loses}
+use Rattle.link_simulation.proofs.Laws.Bytes.{Loses, advance_loses}
 use Rattle.link_simulation.proofs.Rule.Simulated.{calls_simulated, sound_of_stands, none_waits}
 
 module _ {P : Type 0} (cmp : P → P → Ordering) (order : IsTotalOrder cmp) where
   module _ (origin : P) where
     origins_alike : (m n k : Message P) → SameMessage cmp m n → SameMessage cmp m k → same_peer cmp origin n.origin ≡ same_peer cmp origin k.origin
     origins_alike m n k e f =
-        sym (peers_alike cmp order origin origin m.origin n.origin (same_itself cmp order origin) e.origin) ∙ peers_alike cmp order origin origin m.origin k.origin (same_itself cmp order origin) f.origin
+        sym (peers_alike cmp order origin origin m.origin n.origin (same_itself cmp order origin) e.origin)
+        ∙ peers_alike cmp order origin origin m.origin k.origin (same_itself cmp order origin) f.origin
 
     -- ---- what is in flight
 
@@ -52,7 +53,9 @@ module _ {P : Type 0} (cmp : P → P → Ordering) (order : IsTotalOrder cmp) wh
     waiting_zip [] (n ∷ ns) all = absurd all
     waiting_zip (m ∷ ms) [] all = absurd all
     waiting_zip (m ∷ ms) (n ∷ ns) all =
-        by_tests (same_peer cmp origin m.origin) (same_peer cmp origin n.origin) (peers_alike cmp order origin origin m.origin n.origin (same_itself cmp order origin) all.0.origin) (ap length all.0.bytes)
+        by_tests (same_peer cmp origin m.origin) (same_peer cmp origin n.origin)
+        (peers_alike cmp order origin origin m.origin n.origin (same_itself cmp order origin) all.0.origin)
+        (ap length all.0.bytes)
         (waiting_zip ms ns all.1)
       where
         by_tests : (c d : Bool) → c ≡ d → length m.bytes ≡ length n.bytes → waiting_from cmp origin ms ≡ waiting_from cmp origin ns
@@ -81,7 +84,9 @@ module _ {P : Type 0} (cmp : P → P → Ordering) (order : IsTotalOrder cmp) wh
     others_alike m ms ns alike k =
         let keep : Message P → Bool = λ n. not (same_pair cmp m n) in
         let both : AllZip (SameMessage cmp) (filter keep (filter (same_pair cmp k) ms)) (filter keep (filter (same_pair cmp k) ns))
-        = zip-filter (SameMessage cmp) keep keep (λ x y e. ap not (pairs_alike cmp order m m x y (message_itself cmp order m) e)) (filter (same_pair cmp k) ms) (filter (same_pair cmp k) ns) (alike k) in
+        = zip-filter (SameMessage cmp) keep keep (λ x y e. ap not
+        (pairs_alike cmp order m m x y (message_itself cmp order m) e)) (filter (same_pair cmp k) ms)
+        (filter (same_pair cmp k) ns) (alike k) in
         subst (λ (xs : List (Message P)). AllZip (SameMessage cmp) xs (filter (same_pair cmp k) (filter keep ns))) (filter_swap keep (same_pair cmp k) ms)
         (subst (λ (ys : List (Message P)). AllZip (SameMessage cmp) (filter keep (filter (same_pair cmp k) ms)) ys) (filter_swap keep (same_pair cmp k) ns) both)
 
@@ -91,7 +96,8 @@ module _ {P : Type 0} (cmp : P → P → Ordering) (order : IsTotalOrder cmp) wh
     waiting_alike (suc n) (m ∷ ms) ns fits alike =
         let keep : Message P → Bool = λ k. not (same_pair cmp m k) in
         let shorter : filter keep (m ∷ ms) ≡ filter keep ms = rw (pair_itself cmp order m) refl in
-        let few : length (filter keep (m ∷ ms)) ≤ n = subst (λ (xs : List (Message P)). length xs ≤ n) (sym shorter) (let le : length (filter keep ms) ≤ length ms = length-filter keep ms in omega arith) in
+        let few : length (filter keep (m ∷ ms)) ≤ n = subst (λ (xs : List (Message P)). length xs ≤ n) (sym shorter)
+        (let le : length (filter keep ms) ≤ length ms = length-filter keep ms in omega arith) in
         let own : waiting_from cmp origin (filter (same_pair cmp m) (m ∷ ms)) ≡ waiting_from cmp origin (filter (same_pair cmp m) ns)
         = waiting_zip (filter (same_pair cmp m) (m ∷ ms)) (filter (same_pair cmp m) ns) (alike m) in
         let rest : waiting_from cmp origin (filter keep (m ∷ ms)) ≡ waiting_from cmp origin (filter keep ns)
@@ -104,13 +110,16 @@ module _ {P : Type 0} (cmp : P → P → Ordering) (order : IsTotalOrder cmp) wh
         let flies : AllZip (IsSameFlight cmp v.moment) q.sending w.sending = subst (λ (t : ℕ). AllZip (IsSameFlight cmp t) q.sending w.sending) at here.follows.tallies.sending in
         let left : left_from cmp origin w.sending ≡ left_from cmp origin v.sending = left_alike v.moment q.sending w.sending v.sending flies there.follows.tallies.sending in
         let waits : waiting_from cmp origin w.waiting ≡ waiting_from cmp origin v.waiting
-        = sym (waiting_alike (length q.waiting) q.waiting w.waiting (omega arith) here.follows.tallies.waiting) ∙ waiting_alike (length q.waiting) q.waiting v.waiting (omega arith) there.follows.tallies.waiting in
+        = sym (waiting_alike (length q.waiting) q.waiting w.waiting (omega arith) here.follows.tallies.waiting)
+        ∙ waiting_alike (length q.waiting) q.waiting v.waiting (omega arith) there.follows.tallies.waiting in
         rw (left, waits) refl
 
   pub advance_keeps_to_caps : (p q : Planned P) (now : ℕ) (completions : List (Completed P)) → now ≤ last_moment → GoesByRule cmp p (call_advance now) completions q → KeepsToCaps cmp p now q
   advance_keeps_to_caps p q now completions in_time go w v origin cap stands after before at is =
       let run : IsRun cmp w (call_advance now) now completions q
-      = calls_simulated cmp order p q (call_advance now) completions (λ t same. subst (λ (s : ℕ). s ≤ last_moment) (advance_moment t same) in_time) go w now (record { stands = stands; moment = refl; turn = before }) in
+      = calls_simulated cmp order p q (call_advance now) completions
+      (λ t same. subst (λ (s : ℕ). s ≤ last_moment) (advance_moment t same) in_time) go w now
+      (record { stands = stands; moment = refl; turn = before }) in
       let sound : IsSound cmp w = sound_of_stands cmp order p w stands in
       let capped : w.caps.egress origin ≡ Some cap = sym (stands.follows.tallies.caps.egress origin origin (same_itself cmp order origin)) ∙ is in
       let loses : Loses cmp order origin cap (now - w.moment) w run.after

@@ -10,7 +10,7 @@ use Rattle.link_simulation.specs.Laws.PairCompletions.{IsCompletionOf}
 use Rattle.link_simulation.specs.Rule.Planned.{Planned, rated_messages}
 use Rattle.link_simulation.specs.Laws.Conserved.{of_pair, held_of, IsConserved}
 use Rattle.link_simulation.proofs.Simulation.Queue.{pair_sym, pair_like}
-use Rattle.link_simulation.proofs.Simulation.OtherPairs.{pair_itself}
+use Rattle.link_simulation.proofs.Simulation.AlikeMessages.{pair_itself}
 use Rattle.link_simulation.proofs.Laws.MostEvents.{split_length, map_length}
 use Rattle.fair_rates.proofs.Lists.Zips.{zip-length}
 
@@ -74,7 +74,9 @@ module _ {P : Type 0} (cmp : P → P → Ordering) (order : IsTotalOrder cmp) wh
   as_long most [] (n ∷ ns) le alike = absurd (subst (λ (ys : List (Message P)). AllZip (SameMessage cmp) [] ys) (own_there n ns) (alike n))
   as_long zero (m ∷ ms) ns le alike = absurd (omega arith)
   as_long (suc most) (m ∷ ms) ns le alike =
-      let few : length (others_than m (m ∷ ms)) ≤ most = subst (λ (xs : List (Message P)). length xs ≤ most) (sym (without_own m ms)) (let less : length (others_than m ms) ≤ length ms = shorter _ ms in omega arith) in
+      let few : length (others_than m (m ∷ ms)) ≤ most
+      = subst (λ (xs : List (Message P)). length xs ≤ most) (sym (without_own m ms))
+      (let less : length (others_than m ms) ≤ length ms = shorter _ ms in omega arith) in
       let rest : length (others_than m (m ∷ ms)) ≡ length (others_than m ns) = as_long most (others_than m (m ∷ ms)) (others_than m ns) few (others_alike m (m ∷ ms) ns alike) in
       let own : length (of_pair cmp m (m ∷ ms)) ≡ length (of_pair cmp m ns) = zip-length (SameMessage cmp) (of_pair cmp m (m ∷ ms)) (of_pair cmp m ns) (alike m) in
       let left : length (of_pair cmp m (m ∷ ms)) + length (others_than m (m ∷ ms)) ≡ length (m ∷ ms) = split_length (same_pair cmp m) (m ∷ ms) in
@@ -85,11 +87,17 @@ module _ {P : Type 0} (cmp : P → P → Ordering) (order : IsTotalOrder cmp) wh
       → length cs + length q.sending + length q.waiting ≡ length p.sending + length p.waiting + length messages
   all_counted p q messages cs a =
       let same : length (a.done ++ (rated_messages q.sending ++ q.waiting)) ≡ length ((rated_messages p.sending ++ p.waiting) ++ messages)
-      = as_long (length (a.done ++ (rated_messages q.sending ++ q.waiting))) (a.done ++ (rated_messages q.sending ++ q.waiting)) ((rated_messages p.sending ++ p.waiting) ++ messages) (omega arith) alike in
+      = as_long (length (a.done ++ (rated_messages q.sending ++ q.waiting)))
+      (a.done ++ (rated_messages q.sending ++ q.waiting)) ((rated_messages p.sending ++ p.waiting) ++ messages)
+      (omega arith) alike in
       let told : length cs ≡ length a.done = zip-length IsCompletionOf cs a.done a.completions_are in
-      let left : length (a.done ++ (rated_messages q.sending ++ q.waiting)) ≡ length a.done + length (rated_messages q.sending ++ q.waiting) = length-append a.done (rated_messages q.sending ++ q.waiting) in
+      let left : length (a.done ++ (rated_messages q.sending ++ q.waiting))
+      ≡ length a.done + length (rated_messages q.sending ++ q.waiting)
+      = length-append a.done (rated_messages q.sending ++ q.waiting) in
       let held : length (rated_messages q.sending ++ q.waiting) ≡ length (rated_messages q.sending) + length q.waiting = length-append (rated_messages q.sending) q.waiting in
-      let right : length ((rated_messages p.sending ++ p.waiting) ++ messages) ≡ length (rated_messages p.sending ++ p.waiting) + length messages = length-append (rated_messages p.sending ++ p.waiting) messages in
+      let right : length ((rated_messages p.sending ++ p.waiting) ++ messages)
+      ≡ length (rated_messages p.sending ++ p.waiting) + length messages
+      = length-append (rated_messages p.sending ++ p.waiting) messages in
       let before : length (rated_messages p.sending ++ p.waiting) ≡ length (rated_messages p.sending) + length p.waiting = length-append (rated_messages p.sending) p.waiting in
       let sent : length (rated_messages p.sending) ≡ length p.sending = map_length cmp order p.sending in
       let sends : length (rated_messages q.sending) ≡ length q.sending = map_length cmp order q.sending in
@@ -98,6 +106,10 @@ module _ {P : Type 0} (cmp : P → P → Ordering) (order : IsTotalOrder cmp) wh
       alike : AreAlike (a.done ++ (rated_messages q.sending ++ q.waiting)) ((rated_messages p.sending ++ p.waiting) ++ messages)
       alike k =
           subst (λ (xs : List (Message P)). AllZip (SameMessage cmp) xs (of_pair cmp k ((rated_messages p.sending ++ p.waiting) ++ messages)))
-          (sym (filter-append (same_pair cmp k) a.done (rated_messages q.sending ++ q.waiting) ∙ ap (λ (xs : List (Message P)). of_pair cmp k a.done ++ xs) (filter-append (same_pair cmp k) (rated_messages q.sending) q.waiting)))
+          (sym (filter-append (same_pair cmp k) a.done (rated_messages q.sending ++ q.waiting)
+          ∙ ap (λ (xs : List (Message P)). of_pair cmp k a.done ++ xs)
+          (filter-append (same_pair cmp k) (rated_messages q.sending) q.waiting)))
           (subst (AllZip (SameMessage cmp) (of_pair cmp k a.done ++ held_of cmp k q))
-          (sym (filter-append (same_pair cmp k) (rated_messages p.sending ++ p.waiting) messages ∙ ap (λ (xs : List (Message P)). xs ++ of_pair cmp k messages) (filter-append (same_pair cmp k) (rated_messages p.sending) p.waiting))) (a.each_pair k))
+          (sym (filter-append (same_pair cmp k) (rated_messages p.sending ++ p.waiting) messages
+          ∙ ap (λ (xs : List (Message P)). xs ++ of_pair cmp k messages)
+          (filter-append (same_pair cmp k) (rated_messages p.sending) p.waiting))) (a.each_pair k))

@@ -11,12 +11,20 @@ use Rattle.link_simulation.specs.Laws.MostEvents.{most_events}
 use Rattle.link_simulation.specs.Simulation.Messages.{Message, Caps, same_pair}
 use Rattle.link_simulation.specs.Simulation.World.{Completed, Course, goes, meets, last_moment, preceded, fronts, raised, later_of, completion_of, completed}
 use Rattle.link_simulation.specs.Simulation.Calls.{Call, call_limit, call_limit_link, call_enqueue, call_advance, call_next}
-use Rattle.link_simulation.specs.Rule.Planned.{Planned, RatedFlight, IsLeastMoment, next_event, rated_messages, left_at, IsSpentAt, SomeSpentAt, drained_to, next_of, may_launch, SomeReadyAt, is_spent, IsPlanned, new_planned}
-use Rattle.link_simulation.specs.Rule.Events.{Accounts, PlansStart, Launches, nothing_waits, too_early, no_id, starts, Finishes, all_completed, late, stopped, completes, WakesEach, all_started, no_start, no_finish, starts_one, Wakes, Settles, settling, Rebalances, none_sending, some_sending, Enqueues, at_once, no_launch, launches, Advances, no_more, at_finish, at_start, finish_stops, start_stops, launched, Obeys}
+use Rattle.link_simulation.specs.Rule.Planned.{Planned, RatedFlight, IsLeastMoment, next_event, rated_messages, left_at}
+use Rattle.link_simulation.specs.Rule.Planned.{IsSpentAt, SomeSpentAt, drained_to, next_of, may_launch, SomeReadyAt}
+use Rattle.link_simulation.specs.Rule.Planned.{is_spent, IsPlanned, new_planned}
+use Rattle.link_simulation.specs.Rule.Events.{Accounts, PlansStart, Launches, nothing_waits, too_early, no_id, starts}
+use Rattle.link_simulation.specs.Rule.Events.{Finishes, all_completed, late, stopped, completes, WakesEach, all_started}
+use Rattle.link_simulation.specs.Rule.Events.{no_start, no_finish, starts_one, Wakes, Settles, settling, Rebalances}
+use Rattle.link_simulation.specs.Rule.Events.{none_sending, some_sending, Enqueues, at_once, no_launch, launches}
+use Rattle.link_simulation.specs.Rule.Events.{Advances, no_more, at_finish, at_start, finish_stops, start_stops}
+use Rattle.link_simulation.specs.Rule.Events.{launched, Obeys}
 use Rattle.fair_rates.proofs.Lists.Members.{In, in_filter}
 use Rattle.link_simulation.proofs.Simulation.SettlingEnds.{find_like, length_without}
 use Rattle.link_simulation.proofs.Simulation.Queue.{find_passes, pair_sym}
-use Rattle.link_simulation.proofs.Laws.Bytes.{each_filter, fronts_are_first}
+use Rattle.link_simulation.proofs.Laws.Bytes.{each_filter}
+use Rattle.link_simulation.proofs.Simulation.OtherPairs.{fronts_are_first}
 use Rattle.fair_rates.proofs.Lists.Each.{Each}
 use Rattle.link_simulation.proofs.Rule.Advance.{earlier_start}
 use Rattle.fair_rates.proofs.Lists.Zips.{zip-length}
@@ -46,7 +54,8 @@ module _ {P : Type 0} (cmp : P → P → Ordering) (order : IsTotalOrder cmp) wh
       let all : List (RatedFlight P) = drained_to t old.sending in
       let out : length leavers ≡ length (filter (is_spent cmp old.caps) all) = ap (λ (ms : List (Message P)). length ms) account.left ∙ map_length (filter (is_spent cmp old.caps) all) in
       let stay : length (filter (λ (f : RatedFlight P). not (is_spent cmp old.caps f)) all) ≡ length new.sending
-      = zip-length (λ (f g : RatedFlight P). (g.message ≡ f.message) × (g.left ≡ f.left) × (g.updated ≡ t)) (filter (λ (f : RatedFlight P). not (is_spent cmp old.caps f)) all) new.sending account.stayed in
+      = zip-length (λ (f g : RatedFlight P). (g.message ≡ f.message) × (g.left ≡ f.left) × (g.updated ≡ t))
+      (filter (λ (f : RatedFlight P). not (is_spent cmp old.caps f)) all) new.sending account.stayed in
       let both : length (filter (is_spent cmp old.caps) all) + length (filter (λ (f : RatedFlight P). not (is_spent cmp old.caps f)) all) ≡ length old.sending
       = split_length (is_spent cmp old.caps) all ∙ drained_length t old.sending in
       let same : length new.waiting ≡ length old.waiting = ap (λ (q : Planned P). length q.waiting) account.same in
@@ -244,7 +253,10 @@ module _ {P : Type 0} (cmp : P → P → Ordering) (order : IsTotalOrder cmp) wh
   wake_event : {t : ℕ} {p : Planned P} {c : Course (Completed P) (Planned P)} → Wakes cmp t p c → SomeReadyAt cmp p t → 0 < most_events p × Leaves (most_events p - 1) c
   wake_event {t = t} {p = p} {c = c} wakes some =
       by_list (filter (may_launch cmp t p) (fronts cmp p.waiting)) (in_filter (may_launch cmp t p) (fronts cmp p.waiting) some.0 (first_in_fronts some.0 p.waiting some.1) some.2)
-      (each_filter (λ (m : Message P). find (same_pair cmp m) p.waiting ≡ Some m) (λ (m : Message P). (find (same_pair cmp m) p.waiting ≡ Some m) × (may_launch cmp t p m ≡ true)) (may_launch cmp t p) (fronts cmp p.waiting) (λ m may found. (found, may)) (fronts_are_first cmp order p.waiting)) wakes
+      (each_filter (λ (m : Message P). find (same_pair cmp m) p.waiting ≡ Some m)
+      (λ (m : Message P). (find (same_pair cmp m) p.waiting ≡ Some m) × (may_launch cmp t p m ≡ true))
+      (may_launch cmp t p) (fronts cmp p.waiting) (λ m may found. (found, may))
+      (fronts_are_first cmp order p.waiting)) wakes
     where
       by_list : (ms : List (Message P)) → In ms some.0 → Each (λ (m : Message P). (find (same_pair cmp m) p.waiting ≡ Some m) × (may_launch cmp t p m ≡ true)) ms
           → WakesEach cmp t ms p c → 0 < most_events p × Leaves (most_events p - 1) c

@@ -1,5 +1,7 @@
 -- The messages of a pair complete in the order in which they were enqueued, and are delivered in it.
-use Rattle.std.proofs.Common.{◌≡◌, ℕ, zero, suc, ◌+◌, ◌-◌, ◌≤◌, List, [], ◌∷◌, ◌++◌, map, length, Bool, true, false, cond, not, max, Option, Some, None, refl, sym, ap, ◌∙◌, subst, arith, append_assoc, append-nil}
+use Rattle.std.proofs.Common.{◌≡◌, ℕ, zero, suc, ◌+◌, ◌-◌, ◌≤◌, List, [], ◌∷◌, ◌++◌, map, length, Bool, true, false}
+use Rattle.std.proofs.Common.{cond, not, max, Option, Some, None, refl, sym, ap, ◌∙◌, subst, arith, append_assoc}
+use Rattle.std.proofs.Common.{append-nil}
 use Rattle.std.specs.Prelude.{⊤, ◌&&◌, ◌||◌, IfSome, nat_lt, nat_le, if◌then◌else◌}
 use Rattle.std.specs.List.{list_any, find, filter, AllZip}
 use Rattle.std.specs.declared.cmp.Ordering.{Ordering}
@@ -11,14 +13,22 @@ use Rattle.fair_rates.specs.Lists.WithoutFirst.{without_first}
 use Rattle.fair_rates.specs.declared.error.Error.TheVariants.{MomentTooLate, FlowIdsUsedUp}
 use Rattle.fair_rates.specs.Sides.Subjects.{same_peer}
 use Rattle.link_simulation.specs.Simulation.Messages.{Message, Caps, PairsAlike, same_pair, is_delivered}
-use Rattle.link_simulation.specs.Simulation.World.{World, Flight, Completed, completion_of, Course, goes, meets, last_moment, preceded, and_then, is_in_order, later_of, new_world, flows, first_waiting, may_start, start, start_next, is_done, raised, complete, settle_within, settle, least_pair, ready, turn, wake_within, wake, instant, fronts, EndsWith, out_of_flight, is_late, completed, arrival, flight_of}
+use Rattle.link_simulation.specs.Simulation.World.{World, Flight, Completed, completion_of, Course, goes, meets}
+use Rattle.link_simulation.specs.Simulation.World.{last_moment, preceded, and_then, is_in_order, later_of, new_world}
+use Rattle.link_simulation.specs.Simulation.World.{flows, first_waiting, may_start, start, start_next, is_done, raised}
+use Rattle.link_simulation.specs.Simulation.World.{complete, settle_within, settle, least_pair, ready, turn}
+use Rattle.link_simulation.specs.Simulation.World.{wake_within, wake, instant, fronts, EndsWith, out_of_flight, is_late}
+use Rattle.link_simulation.specs.Simulation.World.{completed, arrival, flight_of}
 use Rattle.link_simulation.specs.Simulation.Time.{IsSound, Drains, Ticks, no_tick, one_tick, tick_faults}
-use Rattle.link_simulation.specs.Simulation.Calls.{Call, call_limit, call_limit_link, call_enqueue, call_advance, call_next, rebalance, join, complete_at_once, act, moment_of, Runs, limited_by, linked_by}
+use Rattle.link_simulation.specs.Simulation.Calls.{Call, call_limit, call_limit_link, call_enqueue, call_advance}
+use Rattle.link_simulation.specs.Simulation.Calls.{call_next, rebalance, join, complete_at_once, act, moment_of, Runs}
+use Rattle.link_simulation.specs.Simulation.Calls.{limited_by, linked_by}
 use Rattle.link_simulation.specs.Laws.PairCompletions.{enqueued, answered, IsCompletionOf, NoneBefore, NeverGoDown, completes_pair, IsInPairOrder}
 use Rattle.link_simulation.specs.Laws.Isolation.{Answers, no_calls, call_answers}
 use Rattle.link_simulation.proofs.Simulation.Queue.{pair_like, pair_sym, find_passes, settle_none, settle_first}
 use Rattle.link_simulation.proofs.Simulation.SettlingEnds.{find_like}
-use Rattle.link_simulation.proofs.Laws.Bytes.{wake_none, each_least, each_filter, fronts_are_first}
+use Rattle.link_simulation.proofs.Laws.Bytes.{wake_none, each_least, each_filter}
+use Rattle.link_simulation.proofs.Simulation.OtherPairs.{fronts_are_first}
 use Rattle.fair_rates.proofs.Lists.Each.{Each}
 use Rattle.link_simulation.proofs.Simulation.Stretch.{flows_drained}
 use Rattle.link_simulation.proofs.Simulation.Split.{rest_is}
@@ -39,7 +49,9 @@ taken_out p f test x y [] e own one = cc
 taken_out {X} {Y} p f test x y (z ∷ zs) e own one = by_test (test z) refl (p (f z)) refl e one (taken_out p f test x y zs)
   where
     by_test : (b : Bool) → test z ≡ b → (c : Bool) → p (f z) ≡ c → cond b (Some z) (find test zs) ≡ Some x → cond c (f z ∷ filter p (map f zs)) (filter p (map f zs)) ≡ y ∷ []
-        → (find test zs ≡ Some x → p (f x) ≡ true → filter p (map f zs) ≡ y ∷ [] → (f x ≡ y) × (filter p (map f (without_first test zs)) ≡ [])) → (f x ≡ y) × (filter p (map f (cond b zs (z ∷ without_first test zs))) ≡ [])
+        → (find test zs ≡ Some x → p (f x) ≡ true → filter p (map f zs) ≡ y ∷ []
+        → (f x ≡ y) × (filter p (map f (without_first test zs)) ≡ []))
+        → (f x ≡ y) × (filter p (map f (cond b zs (z ∷ without_first test zs))) ≡ [])
     by_test true is true at e one ih = let same : z ≡ x = cc in let head : f z ≡ y = cc in (ap f (sym same) ∙ head, cc)
     by_test true is false at e one ih = let same : z ≡ x = cc in let off : p (f x) ≡ false = ap (λ w. p (f w)) (sym same) ∙ at in cc
     by_test false is true at e one ih =
@@ -307,7 +319,8 @@ module _ {P : Type 0} (cmp : P → P → Ordering) (order : IsTotalOrder cmp) (k
     unfolding GoesByRule
     stays cs w h = subst (λ (xs : List (Completed P)). IsHistory messages t xs w) (sym (append-nil cs)) h
 
-    start_goes : (cs : List (Completed P)) (w : World P) (m : Message P) → find (same_pair cmp m) w.waiting ≡ Some m → may_start cmp t w m ≡ true → IsHistory messages t cs w → GoesByRule cs (start cmp w m)
+    start_goes : (cs : List (Completed P)) (w : World P) (m : Message P) → find (same_pair cmp m) w.waiting ≡ Some m
+        → may_start cmp t w m ≡ true → IsHistory messages t cs w → GoesByRule cs (start cmp w m)
     unfolding joined GoesByRule
     start_goes cs w m found may h = by_id (nat_le last_moment w.next_id)
       where
@@ -315,7 +328,8 @@ module _ {P : Type 0} (cmp : P → P → Ordering) (order : IsTotalOrder cmp) (k
         by_id true = tt
         by_id false = stays cs (joined w m) (start_history messages t cs w m found may h)
 
-    next_goes : (cs : List (Completed P)) (w : World P) (n : Message P) (o : Option (Message P)) → find (same_pair cmp n) w.waiting ≡ o → IsHistory messages t cs w → GoesByRule cs (start_next cmp t w o)
+    next_goes : (cs : List (Completed P)) (w : World P) (n : Message P) (o : Option (Message P))
+        → find (same_pair cmp n) w.waiting ≡ o → IsHistory messages t cs w → GoesByRule cs (start_next cmp t w o)
     next_goes cs w n None is h = stays cs w h
     next_goes cs w n (Some m) is h = by_may (may_start cmp t w m) refl
       where
@@ -370,8 +384,11 @@ module _ {P : Type 0} (cmp : P → P → Ordering) (order : IsTotalOrder cmp) (k
             let of_pair : completes_pair cmp k c ≡ true = own in
             let list_is : told_of_k (cs ++ c ∷ []) ≡ told_of_k cs ++ c ∷ [] = told_more cs c of_pair in
             let is_of : IsCompletionOf c n
-            =
-            ((if is_delivered cmp f.message then Some (arrival cmp t f.message) else None), ap (λ (x : Message P). completion_of x (if is_delivered cmp f.message then Some (arrival cmp t f.message) else None)) taken.0)
+            = (
+              (if is_delivered cmp f.message then Some (arrival cmp t f.message) else None),
+              ap (λ (x : Message P). completion_of x
+                  (if is_delivered cmp f.message then Some (arrival cmp t f.message) else None)) taken.0,
+            )
             in
             let in_order_here : is_in_order (last w) (t + f.message.latency) ≡ true = subst (λ (x : Message P). is_in_order (last w) (t + x.latency) ≡ true) (sym taken.0) order_is in
             record {
@@ -383,7 +400,10 @@ module _ {P : Type 0} (cmp : P → P → Ordering) (order : IsTotalOrder cmp) (k
               deliveries = subst NeverGoDown (sym list_is) (deliveries_push (last w) (told_of_k cs) c h.deliveries h.not_past (ordered (is_delivered cmp f.message) in_order_here));
               not_past = subst (λ (xs : List (Completed P)). AllNotPast (last (land w f.message)) xs) (sym list_is)
                   (subst (λ (l : Option ℕ). AllNotPast l (told_of_k cs ++ c ∷ [])) (sym (own_last own))
-                  (not_past_push (Some (later_of (last w) (arrival cmp t f.message))) (told_of_k cs) c (not_past_later (last w) (Some (later_of (last w) (arrival cmp t f.message))) (told_of_k cs) (λ s np. raises (last w) (arrival cmp t f.message) s np) h.not_past) (reached (is_delivered cmp f.message))));
+                  (not_past_push (Some (later_of (last w) (arrival cmp t f.message))) (told_of_k cs) c
+                  (not_past_later (last w) (Some (later_of (last w) (arrival cmp t f.message))) (told_of_k cs)
+                  (λ s np. raises (last w) (arrival cmp t f.message) s np) h.not_past)
+                  (reached (is_delivered cmp f.message))));
               in_order = tt;
               alike = alike_too;
               now = h.now;
@@ -409,7 +429,9 @@ module _ {P : Type 0} (cmp : P → P → Ordering) (order : IsTotalOrder cmp) (k
               in_flight = not_taken (same_pair cmp k) (λ (g : Flight P). g.message) (is_done cmp w) f w.sending found off ∙ h.in_flight;
               queue = h.queue;
               deliveries = subst NeverGoDown (sym list_is) h.deliveries;
-              not_past = subst (λ (xs : List (Completed P)). AllNotPast (last (land w f.message)) xs) (sym list_is) (subst (λ (l : Option ℕ). AllNotPast l (told_of_k cs)) (sym (other_last off)) h.not_past);
+              not_past =
+                  subst (λ (xs : List (Completed P)). AllNotPast (last (land w f.message)) xs) (sym list_is)
+                  (subst (λ (l : Option ℕ). AllNotPast l (told_of_k cs)) (sym (other_last off)) h.not_past);
               in_order = still (h.flying) h.in_order;
               alike = alike_too;
               now = h.now;
@@ -423,7 +445,9 @@ module _ {P : Type 0} (cmp : P → P → Ordering) (order : IsTotalOrder cmp) (k
     unfolding land GoesByRule
     complete_goes cs w f found h = by_late (is_late cmp t f.message)
       where
-        by_late : (b : Bool) → GoesByRule cs (cond b (meets MomentTooLate) (preceded (completed cmp t f.message ∷ []) (start_next cmp t (land w f.message) (first_waiting cmp (land w f.message) f.message))))
+        by_late : (b : Bool) → GoesByRule cs (cond b (meets MomentTooLate)
+            (preceded (completed cmp t f.message ∷ [])
+            (start_next cmp t (land w f.message) (first_waiting cmp (land w f.message) f.message))))
         by_late true = tt
         by_late false =
             goes_preceded cs (completed cmp t f.message ∷ []) (start_next cmp t (land w f.message) (first_waiting cmp (land w f.message) f.message))
@@ -446,7 +470,10 @@ module _ {P : Type 0} (cmp : P → P → Ordering) (order : IsTotalOrder cmp) (k
     ready_may : (w : World P) (m : Message P) → least_pair cmp (ready cmp t w) ≡ Some m → (find (same_pair cmp m) w.waiting ≡ Some m) × (may_start cmp t w m ≡ true)
     ready_may w m e =
         each_least cmp order (λ (n : Message P). (find (same_pair cmp n) w.waiting ≡ Some n) × (may_start cmp t w n ≡ true)) (ready cmp t w) m
-        (each_filter (λ (n : Message P). find (same_pair cmp n) w.waiting ≡ Some n) (λ (n : Message P). (find (same_pair cmp n) w.waiting ≡ Some n) × (may_start cmp t w n ≡ true)) (may_start cmp t w) (fronts cmp w.waiting) (λ n may first. (first, may)) (fronts_are_first cmp order w.waiting)) e
+        (each_filter (λ (n : Message P). find (same_pair cmp n) w.waiting ≡ Some n)
+        (λ (n : Message P). (find (same_pair cmp n) w.waiting ≡ Some n) × (may_start cmp t w n ≡ true))
+        (may_start cmp t w) (fronts cmp w.waiting) (λ n may first. (first, may))
+        (fronts_are_first cmp order w.waiting)) e
 
     turn_goes : (cs : List (Completed P)) (w : World P) (m : Message P) → least_pair cmp (ready cmp t w) ≡ Some m → IsHistory messages t cs w → GoesByRule cs (turn cmp t w m)
     turn_goes cs w m e h = let known = ready_may w m e in goes_then cs (start cmp w m) (settle cmp t) (start_goes cs w m known.0 known.1 h) (λ ds u g. settle_goes ds u g)
@@ -496,13 +523,18 @@ module _ {P : Type 0} (cmp : P → P → Ordering) (order : IsTotalOrder cmp) (k
       let none : [] ≡ ds = cc in
       let same : w ≡ v = cc in
       let count : t ≡ t + 0 = omega arith in
-      subst (λ (s : ℕ). IsHistory messages s (cs ++ ds) v) count (subst (λ (xs : List (Completed P)). IsHistory messages t xs v) (sym (append-nil cs) ∙ ap (λ (xs : List (Completed P)). cs ++ xs) none) (subst (IsHistory messages t cs) same h))
+      subst (λ (s : ℕ). IsHistory messages s (cs ++ ds) v) count
+      (subst (λ (xs : List (Completed P)). IsHistory messages t xs v)
+      (sym (append-nil cs) ∙ ap (λ (xs : List (Completed P)). cs ++ xs) none)
+      (subst (IsHistory messages t cs) same h))
   ticks_history {w = w} (one_tick {n = n} {v = z} {u = u} {cs = es} {rest = rest} d i more) messages t cs ds v e h =
       let r : (fs : List (Completed P)) × (rest ≡ goes fs v) × (es ++ fs ≡ ds) = rest_is cmp es rest ds v e in
       let after : IsHistory messages (suc t) (cs ++ es) u = lands (instant cmp z) i (instant_goes messages (suc t) cs z (drain_history messages t cs w z d h)) in
       let on : IsHistory messages (suc t + n) ((cs ++ es) ++ r.0) v = ticks_history more messages (suc t) (cs ++ es) r.0 v r.1 after in
       let count : suc t + n ≡ t + suc n = omega arith in
-      subst (λ (s : ℕ). IsHistory messages s (cs ++ ds) v) count (subst (λ (xs : List (Completed P)). IsHistory messages (suc t + n) xs v) (append_assoc cs es r.0 ∙ ap (λ (xs : List (Completed P)). cs ++ xs) r.2) on)
+      subst (λ (s : ℕ). IsHistory messages s (cs ++ ds) v) count
+      (subst (λ (xs : List (Completed P)). IsHistory messages (suc t + n) xs v)
+      (append_assoc cs es r.0 ∙ ap (λ (xs : List (Completed P)). cs ++ xs) r.2) on)
     where
       lands : (c : Course (Completed P) (World P)) → c ≡ goes es u → GoesByRule messages (suc t) cs c → IsHistory messages (suc t) (cs ++ es) u
       lands c is g = subst (GoesByRule messages (suc t) cs) is g
@@ -521,7 +553,12 @@ module _ {P : Type 0} (cmp : P → P → Ordering) (order : IsTotalOrder cmp) (k
     flying = h.flying;
     told = h.told;
     in_flight = h.in_flight;
-    queue = filter-append (same_pair cmp k) messages (m ∷ []) ∙ ap (λ (ms : List (Message P)). ms ++ filter (same_pair cmp k) (m ∷ [])) h.queue ∙ regroup h.done (held h.flying) (waits w) (filter (same_pair cmp k) (m ∷ [])) ∙ ap (λ (ms : List (Message P)). h.done ++ (held h.flying ++ ms)) (sym (filter-append (same_pair cmp k) w.waiting (m ∷ [])));
+    queue =
+        filter-append (same_pair cmp k) messages (m ∷ [])
+        ∙ ap (λ (ms : List (Message P)). ms ++ filter (same_pair cmp k) (m ∷ [])) h.queue
+        ∙ regroup h.done (held h.flying) (waits w) (filter (same_pair cmp k) (m ∷ []))
+        ∙ ap (λ (ms : List (Message P)). h.done ++ (held h.flying ++ ms))
+        (sym (filter-append (same_pair cmp k) w.waiting (m ∷ [])));
     deliveries = h.deliveries;
     not_past = h.not_past;
     in_order = h.in_order;
@@ -538,8 +575,18 @@ module _ {P : Type 0} (cmp : P → P → Ordering) (order : IsTotalOrder cmp) (k
   recapped_history : (messages : List (Message P)) (t : ℕ) (cs : List (Completed P)) (w : World P) (caps : Caps P) → IsHistory messages t cs w
       → IsHistory messages t cs (record w { caps = caps; limited = true })
   recapped_history messages t cs w caps h =
-      record
-      { done = h.done; flying = h.flying; told = h.told; in_flight = h.in_flight; queue = h.queue; deliveries = h.deliveries; not_past = h.not_past; in_order = h.in_order; alike = h.alike; now = h.now }
+      record {
+        done = h.done;
+        flying = h.flying;
+        told = h.told;
+        in_flight = h.in_flight;
+        queue = h.queue;
+        deliveries = h.deliveries;
+        not_past = h.not_past;
+        in_order = h.in_order;
+        alike = h.alike;
+        now = h.now;
+      }
 
   -- before any limit a message completes at once, with none ahead of it
   at_once_goes : (messages : List (Message P)) (t : ℕ) (cs : List (Completed P)) (w : World P) (m : Message P) → w.sending ≡ [] → w.waiting ≡ [] → IsHistory messages t cs w
@@ -581,7 +628,9 @@ module _ {P : Type 0} (cmp : P → P → Ordering) (order : IsTotalOrder cmp) (k
       grows own false = tt
 
       reached : (b : Bool)
-          → IfSome (if b then Some (if b then later_of (w.last_arrival m.origin m.recipient) (t + m.latency) else t) else None) (NotPast (Some (later_of (last w) (if b then later_of (w.last_arrival m.origin m.recipient) (t + m.latency) else t))))
+          → IfSome (if b then Some (if b then later_of (w.last_arrival m.origin m.recipient)
+          (t + m.latency) else t) else None) (NotPast (Some
+          (later_of (last w) (if b then later_of (w.last_arrival m.origin m.recipient) (t + m.latency) else t))))
       reached true = reaches_it (last w) (later_of (w.last_arrival m.origin m.recipient) (t + m.latency))
       reached false = tt
 
@@ -591,13 +640,21 @@ module _ {P : Type 0} (cmp : P → P → Ordering) (order : IsTotalOrder cmp) (k
           record {
             done = h.done ++ m ∷ [];
             flying = None;
-            told = subst (λ (xs : List (Completed P)). AllZip IsCompletionOf xs (h.done ++ m ∷ [])) (sym list_is) (told_push (told_of_k cs) h.done c m h.told ((if m.should_deliver then Some at else None), refl));
+            told =
+                subst (λ (xs : List (Completed P)). AllZip IsCompletionOf xs (h.done ++ m ∷ [])) (sym list_is)
+                (told_push (told_of_k cs) h.done c m h.told ((if m.should_deliver then Some at else None), refl));
             in_flight = ap (λ (fs : List (Flight P)). filter (same_pair cmp k) (map (λ (f : Flight P). f.message) fs)) sends;
-            queue = filter-append (same_pair cmp k) messages (m ∷ []) ∙ ap (λ (ms : List (Message P)). ms ++ filter (same_pair cmp k) (m ∷ [])) all_done ∙ rw own refl ∙ sym (append-nil (h.done ++ m ∷ [])) ∙ ap (λ (ms : List (Message P)). (h.done ++ m ∷ []) ++ filter (same_pair cmp k) ms) (sym none_waits);
+            queue =
+                filter-append (same_pair cmp k) messages (m ∷ [])
+                ∙ ap (λ (ms : List (Message P)). ms ++ filter (same_pair cmp k) (m ∷ [])) all_done ∙ rw own refl
+                ∙ sym (append-nil (h.done ++ m ∷ [])) ∙ ap
+                (λ (ms : List (Message P)). (h.done ++ m ∷ []) ++ filter (same_pair cmp k) ms) (sym none_waits);
             deliveries = subst NeverGoDown (sym list_is) (deliveries_push (last w) (told_of_k cs) c h.deliveries h.not_past (grows own m.should_deliver));
             not_past = subst (λ (xs : List (Completed P)). AllNotPast (last after) xs) (sym list_is)
                 (subst (λ (l : Option ℕ). AllNotPast l (told_of_k cs ++ c ∷ [])) (sym (own_last own))
-                (not_past_push (Some (later_of (last w) at)) (told_of_k cs) c (not_past_later (last w) (Some (later_of (last w) at)) (told_of_k cs) (λ s np. raises (last w) at s np) h.not_past) (reached m.should_deliver)));
+                (not_past_push (Some (later_of (last w) at)) (told_of_k cs) c
+                (not_past_later (last w) (Some (later_of (last w) at)) (told_of_k cs)
+                (λ s np. raises (last w) at s np) h.not_past) (reached m.should_deliver)));
             in_order = tt;
             alike = alike_too;
             now = h.now;
@@ -609,7 +666,10 @@ module _ {P : Type 0} (cmp : P → P → Ordering) (order : IsTotalOrder cmp) (k
             flying = None;
             told = subst (λ (xs : List (Completed P)). AllZip IsCompletionOf xs h.done) (sym list_is) h.told;
             in_flight = ap (λ (fs : List (Flight P)). filter (same_pair cmp k) (map (λ (f : Flight P). f.message) fs)) sends;
-            queue = filter-append (same_pair cmp k) messages (m ∷ []) ∙ ap (λ (ms : List (Message P)). ms ++ filter (same_pair cmp k) (m ∷ [])) all_done ∙ rw off refl ∙ ap (λ (ms : List (Message P)). h.done ++ filter (same_pair cmp k) ms) (sym none_waits);
+            queue =
+                filter-append (same_pair cmp k) messages (m ∷ [])
+                ∙ ap (λ (ms : List (Message P)). ms ++ filter (same_pair cmp k) (m ∷ [])) all_done ∙ rw off refl
+                ∙ ap (λ (ms : List (Message P)). h.done ++ filter (same_pair cmp k) ms) (sym none_waits);
             deliveries = subst NeverGoDown (sym list_is) h.deliveries;
             not_past = subst (λ (xs : List (Completed P)). AllNotPast (last after) xs) (sym list_is) (subst (λ (l : Option ℕ). AllNotPast l (told_of_k cs)) (sym (other_last off)) h.not_past);
             in_order = tt;
@@ -625,10 +685,22 @@ module _ {P : Type 0} (cmp : P → P → Ordering) (order : IsTotalOrder cmp) (k
       → (w.limited ≡ false → (w.sending ≡ []) × (w.waiting ≡ [])) → IsHistory messages t cs w → GoesByRule (messages ++ added call) t cs (act cmp w call)
   act_goes messages t cs w (call_limit s peer egress ingress) e empty h =
       let same : t ≡ s = cc in
-      subst (λ (n : ℕ). GoesByRule (messages ++ []) t cs (rebalance cmp n w (limited_by cmp w.caps peer egress ingress))) same (settle_goes (messages ++ []) t cs (record w { caps = limited_by cmp w.caps peer egress ingress; limited = true }) (none_more messages t cs _ (recapped_history messages t cs w (limited_by cmp w.caps peer egress ingress) h)))
+      subst (λ (n : ℕ). GoesByRule (messages ++ []) t cs
+      (rebalance cmp n w (limited_by cmp w.caps peer egress ingress))) same
+      (settle_goes (messages ++ []) t cs (record w {
+        caps = limited_by cmp w.caps peer egress ingress;
+        limited = true;
+      }) (none_more messages t cs _ (recapped_history messages t cs w
+      (limited_by cmp w.caps peer egress ingress) h)))
   act_goes messages t cs w (call_limit_link s origin recipient cap) e empty h =
       let same : t ≡ s = cc in
-      subst (λ (n : ℕ). GoesByRule (messages ++ []) t cs (rebalance cmp n w (linked_by cmp w.caps origin recipient cap))) same (settle_goes (messages ++ []) t cs (record w { caps = linked_by cmp w.caps origin recipient cap; limited = true }) (none_more messages t cs _ (recapped_history messages t cs w (linked_by cmp w.caps origin recipient cap) h)))
+      subst (λ (n : ℕ). GoesByRule (messages ++ []) t cs
+      (rebalance cmp n w (linked_by cmp w.caps origin recipient cap))) same
+      (settle_goes (messages ++ []) t cs (record w {
+        caps = linked_by cmp w.caps origin recipient cap;
+        limited = true;
+      }) (none_more messages t cs _ (recapped_history messages t cs w
+      (linked_by cmp w.caps origin recipient cap) h)))
   act_goes messages t cs w (call_enqueue s m) e empty h = let same : t ≡ s = cc in subst (λ (n : ℕ). GoesByRule (messages ++ m ∷ []) t cs (act cmp w (call_enqueue n m))) same (by_mode w.limited refl)
     where
       waiting : World P
@@ -668,13 +740,16 @@ module _ {P : Type 0} (cmp : P → P → Ordering) (order : IsTotalOrder cmp) (k
   answers_in_order : {w : World P} {calls : List (Call P)} {css : List (List (Completed P))} → Answers cmp w calls css → (messages : List (Message P)) (cs : List (Completed P))
       → IsSound cmp w → IsHistory messages w.moment cs w → IsInPairOrder cmp k (messages ++ enqueued calls) (cs ++ answered css)
   answers_in_order {w = w} no_calls messages cs sound h =
-      subst (λ (ms : List (Message P)). IsInPairOrder cmp k ms (cs ++ [])) (sym (append-nil messages)) (subst (IsInPairOrder cmp k messages) (sym (append-nil cs)) (ends_in_order messages w.moment cs w h))
+      subst (λ (ms : List (Message P)). IsInPairOrder cmp k ms (cs ++ [])) (sym (append-nil messages))
+      (subst (IsInPairOrder cmp k messages) (sym (append-nil cs)) (ends_in_order messages w.moment cs w h))
   answers_in_order {w = w} (call_answers {u = u} {call = call} {now = now} {calls = calls} {cs = ds} {css = css} at after runs more) messages cs sound h =
       let next : IsHistory (messages ++ added call) now (cs ++ ds) u = run_history messages cs ds w u call now at after runs sound h in
       let sound_u : EndsWith (IsSound cmp) (goes ds u) = call_keeps_sound cmp order w call now (goes ds u) sound runs in
       let here : IsHistory (messages ++ added call) u.moment (cs ++ ds) u = subst (λ (s : ℕ). IsHistory (messages ++ added call) s (cs ++ ds) u) (sym next.now) next in
       let rest : IsInPairOrder cmp k ((messages ++ added call) ++ enqueued calls) ((cs ++ ds) ++ answered css) = answers_in_order more (messages ++ added call) (cs ++ ds) sound_u here in
-      subst (λ (ms : List (Message P)). IsInPairOrder cmp k ms (cs ++ (ds ++ answered css))) (append_assoc messages (added call) (enqueued calls) ∙ ap (λ (ms : List (Message P)). messages ++ ms) (enqueued_split call calls))
+      subst (λ (ms : List (Message P)). IsInPairOrder cmp k ms (cs ++ (ds ++ answered css)))
+      (append_assoc messages (added call) (enqueued calls)
+      ∙ ap (λ (ms : List (Message P)). messages ++ ms) (enqueued_split call calls))
       (subst (IsInPairOrder cmp k ((messages ++ added call) ++ enqueued calls)) (append_assoc cs ds (answered css)) rest)
 
   new_history : (id : ℕ) → IsHistory [] 0 [] (new_world id)

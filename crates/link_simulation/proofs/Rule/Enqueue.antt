@@ -18,7 +18,7 @@ use Rattle.link_simulation.proofs.Simulation.Queue.{pair_sym, pair_like, find_pa
 use Rattle.link_simulation.proofs.Rule.BeforeNext.{filter_none, may_alike, messages_alike}
 use Rattle.link_simulation.proofs.Simulation.SettlingEnds.{find_like}
 use Rattle.fair_rates.proofs.Lists.Each.{Each, each_map}
-use Rattle.link_simulation.proofs.Simulation.AlikeMessages.{message_itself}
+use Rattle.link_simulation.proofs.Simulation.AlikeMessages.{pair_itself, message_itself}
 use Rattle.link_simulation.proofs.Rule.Settling.{finishes_alike, no_queue}
 use Rattle.fair_rates.proofs.Lists.Zips.{zip-append}
 use Rattle.link_simulation.proofs.Rule.Launch.{NoneDone, joining, started, OptionsAlike, next_alike, StartsSo, start_alike}
@@ -26,7 +26,7 @@ use Rattle.link_simulation.proofs.Rule.FinishEvent.{settle_quiet}
 use Rattle.link_simulation.proofs.Simulation.OnePair.{IsRested, only_taken, only_joined, rested_joined}
 use Rattle.link_simulation.proofs.Simulation.NoneReadied.{IsHeld, rested_other, find_without, all_rested, finish_rests, none_then}
 use Rattle.link_simulation.proofs.Rule.Limit.{IsReached, reaches, settled_rests}
-use Rattle.link_simulation.proofs.Rule.Waking.{each_none, own_pair, round_is, round_fuel, round_alike}
+use Rattle.link_simulation.proofs.Rule.Waking.{each_none, round_is, round_fuel, round_alike}
 use Rattle.link_simulation.proofs.Simulation.FilteredFronts.{before_both}
 use Rattle.link_simulation.proofs.Simulation.PairOrder.{apart_if_before, not_before_back}
 
@@ -55,8 +55,12 @@ module _ {P : Type 0} (cmp : P → P → Ordering) (order : IsTotalOrder cmp) wh
   queued_in_order m (n ∷ ns) h = by_test (pair_before cmp m n) refl (queued_in_order m ns h.1)
     where
       by_test : (b : Bool) → pair_before cmp m n ≡ b → AreInPairOrder cmp (queued cmp m ns) → AreInPairOrder cmp (cond b (m ∷ n ∷ ns) (n ∷ queued cmp m ns))
-      by_test true e ih =
-          (any_from (λ z. pair_before cmp z m) (n ∷ ns) (each_map (λ z. pair_before cmp m z ≡ true) (λ z. pair_before cmp z m ≡ false) (n ∷ ns) (λ z k. not_before_back cmp order m z k) (all_after m n ns e h.0)), h)
+      by_test true e ih = (
+        any_from (λ z. pair_before cmp z m) (n ∷ ns)
+            (each_map (λ z. pair_before cmp m z ≡ true) (λ z. pair_before cmp z m ≡ false) (n ∷ ns)
+            (λ z k. not_before_back cmp order m z k) (all_after m n ns e h.0)),
+        h,
+      )
       by_test false e ih = (any_queued (λ z. pair_before cmp z n) m ns e h.0, ih)
 
   -- it stands last among those of its pair
@@ -75,7 +79,8 @@ module _ {P : Type 0} (cmp : P → P → Ordering) (order : IsTotalOrder cmp) wh
       behind false e after = sym (append-nil (filter (same_pair cmp k) (n ∷ ns)))
 
       later : (b : Bool) → filter (same_pair cmp k) (queued cmp m ns) ≡ filter (same_pair cmp k) ns ++ filter (same_pair cmp k) (m ∷ [])
-          → cond b (n ∷ filter (same_pair cmp k) (queued cmp m ns)) (filter (same_pair cmp k) (queued cmp m ns)) ≡ cond b (n ∷ filter (same_pair cmp k) ns) (filter (same_pair cmp k) ns) ++ filter (same_pair cmp k) (m ∷ [])
+          → cond b (n ∷ filter (same_pair cmp k) (queued cmp m ns)) (filter (same_pair cmp k) (queued cmp m ns))
+          ≡ cond b (n ∷ filter (same_pair cmp k) ns) (filter (same_pair cmp k) ns) ++ filter (same_pair cmp k) (m ∷ [])
       later true ih = ap (λ (q : List (Message P)). n ∷ q) ih
       later false ih = ih
 
@@ -94,8 +99,12 @@ module _ {P : Type 0} (cmp : P → P → Ordering) (order : IsTotalOrder cmp) wh
     last_arrival = same.last_arrival;
     next_id = same.next_id;
     waiting = λ k. subst (λ (xs : List (Message P)). AllZip (SameMessage cmp) xs (filter (same_pair cmp k) (w.waiting ++ m ∷ []))) (sym (queued_last k m p.waiting same.pair_order))
-        (subst (λ (ys : List (Message P)). AllZip (SameMessage cmp) (filter (same_pair cmp k) p.waiting ++ filter (same_pair cmp k) (m ∷ [])) ys) (sym (filter-append (same_pair cmp k) w.waiting (m ∷ [])))
-        (zip-append (SameMessage cmp) (filter (same_pair cmp k) p.waiting) (filter (same_pair cmp k) (m ∷ [])) (filter (same_pair cmp k) w.waiting) (filter (same_pair cmp k) (m ∷ [])) (same.waiting k) (itself (same_pair cmp k m))));
+        (subst (λ (ys : List (Message P)). AllZip (SameMessage cmp)
+        (filter (same_pair cmp k) p.waiting ++ filter (same_pair cmp k) (m ∷ [])) ys)
+        (sym (filter-append (same_pair cmp k) w.waiting (m ∷ [])))
+        (zip-append (SameMessage cmp) (filter (same_pair cmp k) p.waiting) (filter (same_pair cmp k) (m ∷ []))
+        (filter (same_pair cmp k) w.waiting) (filter (same_pair cmp k) (m ∷ [])) (same.waiting k)
+        (itself (same_pair cmp k m))));
     pair_order = queued_in_order m p.waiting same.pair_order;
     sending = same.sending;
     one_each = same.one_each;
@@ -147,10 +156,14 @@ module _ {P : Type 0} (cmp : P → P → Ordering) (order : IsTotalOrder cmp) wh
       by_pair true e false = inr (rested_joined cmp order k t (waits_too u m) y e)
       by_pair false e true =
           inr
-          (rested_other cmp order k y t (waits_too u m) (out_of_waiting cmp (waits_too u m) y) e (only_taken cmp order y (waits_too u m) y (own_pair cmp order y)) (find_without cmp order k y (waits_too u m).waiting e) (others_rest t u m k none_ready (off_m e)))
+          (rested_other cmp order k y t (waits_too u m) (out_of_waiting cmp (waits_too u m) y) e
+          (only_taken cmp order y (waits_too u m) y (pair_itself cmp order y))
+          (find_without cmp order k y (waits_too u m).waiting e) (others_rest t u m k none_ready (off_m e)))
       by_pair false e false =
           inr
-          (rested_other cmp order k y t (waits_too u m) (joined cmp (waits_too u m) y) e (only_joined cmp order y (waits_too u m) y (own_pair cmp order y)) (find_without cmp order k y (waits_too u m).waiting e) (others_rest t u m k none_ready (off_m e)))
+          (rested_other cmp order k y t (waits_too u m) (joined cmp (waits_too u m) y) e
+          (only_joined cmp order y (waits_too u m) y (pair_itself cmp order y))
+          (find_without cmp order k y (waits_too u m).waiting e) (others_rest t u m k none_ready (off_m e)))
 
   all_rest : (t : ℕ) (u : World P) (m y : Message P) → ready cmp t u ≡ [] → find (same_pair cmp m) (waits_too u m).waiting ≡ Some y → may_start cmp t (waits_too u m) y ≡ false
       → (k : Message P) → IsRested cmp order k t (waits_too u m)
@@ -193,7 +206,7 @@ module _ {P : Type 0} (cmp : P → P → Ordering) (order : IsTotalOrder cmp) wh
       → CoursesAlike cmp (IsSettled cmp t) course (and_then (start_next cmp t (waits_too u m) (find (same_pair cmp m) (waits_too u m).waiting)) (settle cmp t))
       × EndsWith (λ v. ready cmp t v ≡ []) (and_then (start_next cmp t (waits_too u m) (find (same_pair cmp m) (waits_too u m).waiting)) (settle cmp t))
   joins t p u m course limits follows none_done none_ready enqueues =
-      let found : (y : Message P) × (find (same_pair cmp m) (u.waiting ++ m ∷ []) ≡ Some y) = found_end (same_pair cmp m) m u.waiting (own_pair cmp order m) in
+      let found : (y : Message P) × (find (same_pair cmp m) (u.waiting ++ m ∷ []) ≡ Some y) = found_end (same_pair cmp m) m u.waiting (pair_itself cmp order m) in
       by_may found.0 found.1 (may_start cmp t (waits_too u m) found.0) refl enqueues
     where
       there : Follows cmp t (record p { waiting = queued cmp m p.waiting }) (waits_too u m)
@@ -220,9 +233,14 @@ module _ {P : Type 0} (cmp : P → P → Ordering) (order : IsTotalOrder cmp) wh
       result : (c : Course (Completed P) (World P)) (x : Course (Completed P) (Planned P))
           → and_then (start_next cmp t (waits_too u m) (find (same_pair cmp m) (waits_too u m).waiting)) (settle cmp t) ≡ c
           → CoursesAlike cmp (IsSettled cmp t) x c → EndsWith (λ v. ready cmp t v ≡ []) c
-          → CoursesAlike cmp (IsSettled cmp t) x (and_then (start_next cmp t (waits_too u m) (find (same_pair cmp m) (waits_too u m).waiting)) (settle cmp t)) × EndsWith (λ v. ready cmp t v ≡ []) (and_then (start_next cmp t (waits_too u m) (find (same_pair cmp m) (waits_too u m).waiting)) (settle cmp t))
-      result c x e h k =
-          (subst (λ (d : Course (Completed P) (World P)). CoursesAlike cmp (IsSettled cmp t) x d) (sym e) h, subst (λ (d : Course (Completed P) (World P)). EndsWith (λ v. ready cmp t v ≡ []) d) (sym e) k)
+          → CoursesAlike cmp (IsSettled cmp t) x (and_then
+          (start_next cmp t (waits_too u m) (find (same_pair cmp m) (waits_too u m).waiting)) (settle cmp t))
+          × EndsWith (λ v. ready cmp t v ≡ []) (and_then
+          (start_next cmp t (waits_too u m) (find (same_pair cmp m) (waits_too u m).waiting)) (settle cmp t))
+      result c x e h k = (
+        subst (λ (d : Course (Completed P) (World P)). CoursesAlike cmp (IsSettled cmp t) x d) (sym e) h,
+        subst (λ (d : Course (Completed P) (World P)). EndsWith (λ v. ready cmp t v ≡ []) d) (sym e) k,
+      )
 
       first_is : (y : Message P) (c : Course (Completed P) (World P)) → find (same_pair cmp m) (u.waiting ++ m ∷ []) ≡ Some y → start_next cmp t (waits_too u m) (Some y) ≡ c
           → and_then (start_next cmp t (waits_too u m) (find (same_pair cmp m) (waits_too u m).waiting)) (settle cmp t) ≡ and_then c (settle cmp t)
@@ -231,7 +249,10 @@ module _ {P : Type 0} (cmp : P → P → Ordering) (order : IsTotalOrder cmp) wh
 
       by_may : (y : Message P) → find (same_pair cmp m) (u.waiting ++ m ∷ []) ≡ Some y → (b : Bool) → may_start cmp t (waits_too u m) y ≡ b → {x : Course (Completed P) (Planned P)}
           → Enqueues cmp t m p x
-          → CoursesAlike cmp (IsSettled cmp t) x (and_then (start_next cmp t (waits_too u m) (find (same_pair cmp m) (waits_too u m).waiting)) (settle cmp t)) × EndsWith (λ v. ready cmp t v ≡ []) (and_then (start_next cmp t (waits_too u m) (find (same_pair cmp m) (waits_too u m).waiting)) (settle cmp t))
+          → CoursesAlike cmp (IsSettled cmp t) x (and_then
+          (start_next cmp t (waits_too u m) (find (same_pair cmp m) (waits_too u m).waiting)) (settle cmp t))
+          × EndsWith (λ v. ready cmp t v ≡ []) (and_then
+          (start_next cmp t (waits_too u m) (find (same_pair cmp m) (waits_too u m).waiting)) (settle cmp t))
       by_may y found true may (no_launch {fault = fault} under launch) =
           let fails : start cmp (waits_too u m) y ≡ meets fault = start_alike cmp order launch (waits_too u m) y there idle may (own_first y found) (abreast y found) in
           result (meets fault) (meets fault) (first_is y (meets fault) found (begins t (waits_too u m) y may ∙ fails)) refl tt
@@ -240,9 +261,16 @@ module _ {P : Type 0} (cmp : P → P → Ordering) (order : IsTotalOrder cmp) wh
           let alike : CoursesAlike cmp (IsSettled cmp t) x (settle cmp t (joined cmp (waits_too u m) y)) = round_alike cmp order finishes (waits_too u m) y idle so in
           let pair : same_pair cmp m y ≡ true = find_passes (same_pair cmp m) y (u.waiting ++ m ∷ []) found in
           let rests : EndsWith (λ v. ready cmp t v ≡ []) (settle cmp t (joined cmp (waits_too u m) y)) =
-          none_then cmp order t (settle cmp t (joined cmp (waits_too u m) y)) (λ k. subst (λ (c : Course (Completed P) (World P)). EndsWith (IsRested cmp order k t) c) (sym (round_is cmp order t (waits_too u m) y idle so.one_each))
-          (finish_rests cmp order k (length (joined cmp (waits_too u m) y).sending + length (joined cmp (waits_too u m) y).waiting) t (joining cmp order (waits_too u m) y) (started cmp order (waits_too u m) y) (round_fuel cmp order (waits_too u m) y) (held_after t u m y k none_ready pair))) in
-          result (settle cmp t (joined cmp (waits_too u m) y)) x (first_is y (goes [] (joined cmp (waits_too u m) y)) found (begins t (waits_too u m) y may ∙ so.starts) ∙ preceded_none (settle cmp t (joined cmp (waits_too u m) y))) alike rests
+          none_then cmp order t (settle cmp t (joined cmp (waits_too u m) y))
+          (λ k. subst (λ (c : Course (Completed P) (World P)). EndsWith (IsRested cmp order k t) c)
+          (sym (round_is cmp order t (waits_too u m) y idle so.one_each))
+          (finish_rests cmp order k (length (joined cmp (waits_too u m) y).sending + length
+          (joined cmp (waits_too u m) y).waiting) t (joining cmp order (waits_too u m) y)
+          (started cmp order (waits_too u m) y) (round_fuel cmp order (waits_too u m) y)
+          (held_after t u m y k none_ready pair))) in
+          result (settle cmp t (joined cmp (waits_too u m) y)) x
+          (first_is y (goes [] (joined cmp (waits_too u m) y)) found (begins t (waits_too u m) y may ∙ so.starts)
+          ∙ preceded_none (settle cmp t (joined cmp (waits_too u m) y))) alike rests
       by_may y found true may (at_once off) = other_mode off
       by_may y found false may (at_once off) = other_mode off
       by_may y found false may (no_launch {fault = fault} under launch) =
@@ -254,7 +282,9 @@ module _ {P : Type 0} (cmp : P → P → Ordering) (order : IsTotalOrder cmp) wh
           let no_leavers : leavers ≡ [] = cc in
           let same_mid : mid ≡ record p { waiting = queued cmp m p.waiting } = cc in
           let still : CoursesAlike cmp (IsSettled cmp t) x (finish_within cmp (length (u.waiting ++ m ∷ [])) t [] (waits_too u m)) =
-          finishes_alike cmp order finishes (length (u.waiting ++ m ∷ [])) [] (waits_too u m) (subst (λ (q : Planned P). Follows cmp t q (waits_too u m)) (sym same_mid) there) idle (subst (λ (ms : List (Message P)). AllZip (SameMessage cmp) ms []) (sym no_leavers) tt) (omega arith) in
+          finishes_alike cmp order finishes (length (u.waiting ++ m ∷ [])) [] (waits_too u m)
+          (subst (λ (q : Planned P). Follows cmp t q (waits_too u m)) (sym same_mid) there) idle
+          (subst (λ (ms : List (Message P)). AllZip (SameMessage cmp) ms []) (sym no_leavers) tt) (omega arith) in
           let quiet : settle cmp t (waits_too u m) ≡ goes [] (waits_too u m) = settle_quiet cmp order (length u.sending + length (u.waiting ++ m ∷ [])) t (waits_too u m) none_done in
           result (goes [] (waits_too u m)) x (first_is y (goes [] (waits_too u m)) found (begins_not t (waits_too u m) y may) ∙ preceded_none (settle cmp t (waits_too u m)) ∙ quiet)
           (subst (λ (c : Course (Completed P) (World P)). CoursesAlike cmp (IsSettled cmp t) x c) (no_queue cmp order (length (u.waiting ++ m ∷ [])) t (waits_too u m)) still)
@@ -270,5 +300,13 @@ module _ {P : Type 0} (cmp : P → P → Ordering) (order : IsTotalOrder cmp) wh
       let c : Course (Completed P) (World P) = and_then (start_next cmp now (waits_too there.world m) (find (same_pair cmp m) (waits_too there.world m).waiting)) (settle cmp now) in
       let both : CoursesAlike cmp (IsSettled cmp now) course c × EndsWith (λ v. ready cmp now v ≡ []) c
       = joins now p there.world m course limits there.follows there.none_done there.none_ready enqueues in
-      let acts : act cmp there.world (call_enqueue now m) ≡ c = rw under refl in
-      (c, record { ticked = goes [] there.world; ticks = there.ticks; acts = sym acts ∙ sym (preceded_none (act cmp there.world (call_enqueue now m))) }, settled_rests cmp order now course c within both.0 both.1)
+      let acts : act cmp there.world (call_enqueue now m) ≡ c = rw under refl in (
+        c,
+        record {
+          ticked = goes [] there.world;
+          ticks = there.ticks;
+          acts = sym acts
+              ∙ sym (preceded_none (act cmp there.world (call_enqueue now m)));
+        },
+        settled_rests cmp order now course c within both.0 both.1,
+      )

@@ -11,12 +11,23 @@ use Rattle.link_simulation.specs.Simulation.World.{Completed, Course, goes, meet
 use Rattle.link_simulation.specs.Simulation.Calls.{Call, limited_by, linked_by}
 use Rattle.link_simulation.specs.Simulation.Replies.{SameCompletion}
 use Rattle.link_simulation.specs.Rule.Planned.{Planned, RatedFlight, IsLeastMoment, SomeSpentAt, SomeReadyAt, rated_messages, drained_to, next_of, may_launch, is_spent}
-use Rattle.link_simulation.specs.Rule.Events.{Accounts, PlansStart, Launches, nothing_waits, too_early, no_id, starts, launched, landed, Finishes, all_completed, late, stopped, completes, WakesEach, all_started, no_start, no_finish, starts_one, Wakes, Settles, settling, Rebalances, none_sending, some_sending, completed_at_once, with_queued, Enqueues, at_once, no_launch, launches, Advances, no_more, at_finish, at_start, finish_stops, start_stops, Obeys}
+use Rattle.link_simulation.specs.Rule.Events.{Accounts, PlansStart, Launches, nothing_waits, too_early, no_id, starts}
+use Rattle.link_simulation.specs.Rule.Events.{launched, landed, Finishes, all_completed, late, stopped, completes}
+use Rattle.link_simulation.specs.Rule.Events.{WakesEach, all_started, no_start, no_finish, starts_one, Wakes, Settles}
+use Rattle.link_simulation.specs.Rule.Events.{settling, Rebalances, none_sending, some_sending, completed_at_once}
+use Rattle.link_simulation.specs.Rule.Events.{with_queued, Enqueues, at_once, no_launch, launches, Advances, no_more}
+use Rattle.link_simulation.specs.Rule.Events.{at_finish, at_start, finish_stops, start_stops, Obeys}
 use Rattle.link_simulation.specs.Rule.SamePlanned.{IsSameRatedFlight, IsSamePlanned, IsSameCall, same_limit, same_limit_link, same_enqueue, same_advance, same_next, IsSameCourse}
 use Rattle.link_simulation.proofs.Simulation.AlikeMessages.{fair_alike}
 use Rattle.link_simulation.proofs.Rule.Launch.{OptionsAlike}
 use Rattle.fair_rates.proofs.Lists.Zips.{zip-append}
-use Rattle.link_simulation.proofs.Rule.SameSteps.{least_same, none_same, some_same, IsSameLaunch, course_went, course_met, launch_went, launch_met, limited_by_same, linked_by_same, flows_same, some_spent_same, leaving_same, staying_same, may_same, next_same, ready_same, some_ready_same, next_event_same, recapped_same, no_finish_same, no_start_same, launched_same, landed_same, with_queued_same, at_once_same}
+use Rattle.link_simulation.proofs.Rule.SameSteps.{least_same, none_same, some_same, IsSameLaunch, course_went}
+use Rattle.link_simulation.proofs.Rule.SameSteps.{course_met, launch_went, launch_met, limited_by_same, linked_by_same}
+use Rattle.link_simulation.proofs.Rule.SameSteps.{flows_same, some_spent_same, leaving_same, staying_same, may_same}
+use Rattle.link_simulation.proofs.Rule.SameSteps.{next_same, ready_same, some_ready_same, next_event_same}
+use Rattle.link_simulation.proofs.Rule.SameSteps.{recapped_same, accounted_same, planned_same, no_finish_same}
+use Rattle.link_simulation.proofs.Rule.SameSteps.{no_start_same, launched_same, landed_same, with_queued_same}
+use Rattle.link_simulation.proofs.Rule.SameSteps.{at_once_same}
 use Rattle.link_simulation.proofs.Rule.Settling.{completed_alike, late_alike}
 use Rattle.link_simulation.proofs.Rule.SamePlanned.{zip_turned, paced_turned, same_turned}
 
@@ -62,7 +73,9 @@ module _ {P : Type 0} (cmp : P → P → Ordering) (order : IsTotalOrder cmp) wh
   -- something has nothing left at the same moments
   pub finish_so : (fs gs : List (RatedFlight P)) (o : Option ℕ) → AllZip (IsSameRatedFlight cmp) fs gs → IsLeastMoment (λ s. SomeSpentAt fs s) o → IsLeastMoment (λ s. SomeSpentAt gs s) o
   finish_so fs gs o all least =
-      least_same (λ s. SomeSpentAt fs s) (λ s. SomeSpentAt gs s) o (λ s. some_spent_same cmp order fs gs s all) (λ s. some_spent_same cmp order gs fs s (zip_turned (IsSameRatedFlight cmp) (IsSameRatedFlight cmp) (paced_turned cmp order) fs gs all)) least
+      least_same (λ s. SomeSpentAt fs s) (λ s. SomeSpentAt gs s) o (λ s. some_spent_same cmp order fs gs s all)
+      (λ s. some_spent_same cmp order gs fs s (zip_turned (IsSameRatedFlight cmp) (IsSameRatedFlight cmp)
+      (paced_turned cmp order) fs gs all)) least
 
   -- the same account of a planned world
   abbrev pub Accounted : ℕ → Planned P → List (Message P) → Planned P → Type 0
@@ -91,21 +104,8 @@ module _ {P : Type 0} (cmp : P → P → Ordering) (order : IsTotalOrder cmp) wh
         },
         subst (λ (ms : List (Message P)). AllZip (SameMessage cmp) ms (rated_messages (filter (is_spent cmp q.caps) (drained_to t q.sending)))) (sym accounts.left)
             (flows_same cmp order (filter (is_spent cmp p.caps) (drained_to t p.sending)) (filter (is_spent cmp q.caps) (drained_to t q.sending)) (leaving_same cmp order p q same t)),
-        subst (λ (z : Planned P). IsSamePlanned cmp z n) (sym accounts.same) (accounted p q new.sending gs new.finish same sending),
+        subst (λ (z : Planned P). IsSamePlanned cmp z n) (sym accounts.same) (accounted_same cmp order p q same new.sending gs new.finish sending),
       )
-    where
-      accounted : (p q : Planned P) (fs gs : List (RatedFlight P)) (finish : Option ℕ) → IsSamePlanned cmp p q → AllZip (IsSameRatedFlight cmp) fs gs
-          → IsSamePlanned cmp (record p { sending = fs; finish = finish }) (record q { sending = gs; finish = finish })
-      accounted p q fs gs finish same sending = record {
-        caps = same.caps;
-        limited = same.limited;
-        sending = sending;
-        waiting = same.waiting;
-        last_arrival = same.last_arrival;
-        next_id = same.next_id;
-        finish = refl;
-        start = same.start;
-      }
 
   -- ---- the start, launches and finishes
 
@@ -114,23 +114,14 @@ module _ {P : Type 0} (cmp : P → P → Ordering) (order : IsTotalOrder cmp) wh
       let n : Planned P = record q { start = new.start } in (
         n,
         record {
-          start = least_same (λ s. (t ≤ s) × SomeReadyAt cmp p s) (λ s. (t ≤ s) × SomeReadyAt cmp q s) new.start (λ s h. (h.0, some_ready_same cmp order p q same s h.1)) (λ s h. (h.0, some_ready_same cmp order q p (same_turned cmp order p q same) s h.1)) looks.start;
+          start =
+              least_same (λ s. (t ≤ s) × SomeReadyAt cmp p s) (λ s. (t ≤ s) × SomeReadyAt cmp q s) new.start
+              (λ s h. (h.0, some_ready_same cmp order p q same s h.1))
+              (λ s h. (h.0, some_ready_same cmp order q p (same_turned cmp order p q same) s h.1)) looks.start;
           same = refl;
         },
-        subst (λ (z : Planned P). IsSamePlanned cmp z n) (sym looks.same) (looked p q new.start same),
+        subst (λ (z : Planned P). IsSamePlanned cmp z n) (sym looks.same) (planned_same cmp order p q same new.start),
       )
-    where
-      looked : (p q : Planned P) (start : Option ℕ) → IsSamePlanned cmp p q → IsSamePlanned cmp (record p { start = start }) (record q { start = start })
-      looked p q start same = record {
-        caps = same.caps;
-        limited = same.limited;
-        sending = same.sending;
-        waiting = same.waiting;
-        last_arrival = same.last_arrival;
-        next_id = same.next_id;
-        finish = same.finish;
-        start = refl;
-      }
 
   abbrev pub LaunchWent : ℕ → Planned P → Option (Message P) → List (Message P) → Planned P → Type 0
   LaunchWent t q r ms p = (ns : List (Message P)) × (s : Planned P) × Launches cmp t q r (goes ns s) × AllZip (SameMessage cmp) ms ns × IsSamePlanned cmp p s
@@ -165,15 +156,28 @@ module _ {P : Type 0} (cmp : P → P → Ordering) (order : IsTotalOrder cmp) wh
   finish_same (late is) [] q same all = absurd all
   finish_same {t = t} (late {m = m} is) (n ∷ ns) q same all = (meets MomentTooLate, late (sym (late_alike cmp order t m n all.0) ∙ is), refl)
   finish_same (stopped is launch) [] q same all = absurd all
-  finish_same {t = t} (stopped {m = m} {p = p} {fault = fault} is launch) (n ∷ ns) q same all =
-      (meets fault, stopped (sym (late_alike cmp order t m n all.0) ∙ is) (launch_met cmp order (λ c. Launches cmp t (landed cmp t q n) (next_of cmp q n) c) fault (launch_same launch (landed cmp t q n) (next_of cmp q n) (landed_same cmp order p q same t m n all.0) (next_same cmp order p q same m n all.0))), refl)
+  finish_same {t = t} (stopped {m = m} {p = p} {fault = fault} is launch) (n ∷ ns) q same all = (
+    meets fault,
+    stopped (sym (late_alike cmp order t m n all.0) ∙ is)
+        (launch_met cmp order (λ c. Launches cmp t (landed cmp t q n) (next_of cmp q n) c) fault
+        (launch_same launch (landed cmp t q n) (next_of cmp q n) (landed_same cmp order p q same t m n all.0)
+        (next_same cmp order p q same m n all.0))),
+    refl,
+  )
   finish_same (completes is launch finishes) [] q same all = absurd all
   finish_same {t = t} (completes {m = m} {ms = ms} {more = more} {p = p} {q = s} {rest = rest} is launch finishes) (n ∷ ns) q same all =
       let went : LaunchWent t (landed cmp t q n) (next_of cmp q n) more s
-      = launch_went cmp order (λ c. Launches cmp t (landed cmp t q n) (next_of cmp q n) c) more s (launch_same launch (landed cmp t q n) (next_of cmp q n) (landed_same cmp order p q same t m n all.0) (next_same cmp order p q same m n all.0)) in
+      = launch_went cmp order (λ c. Launches cmp t (landed cmp t q n) (next_of cmp q n) c) more s
+      (launch_same launch (landed cmp t q n) (next_of cmp q n) (landed_same cmp order p q same t m n all.0)
+      (next_same cmp order p q same m n all.0)) in
       let later : (c : Course (Completed P) (Planned P)) × Finishes cmp t (ns ++ went.0) went.1 c × IsSameCourse cmp rest c
-      = finish_same finishes (ns ++ went.0) went.1 went.4 (zip-append (SameMessage cmp) ms more ns went.0 all.1 went.3) in
-      (preceded (completed cmp t n ∷ []) later.0, completes {rest = later.0} (sym (late_alike cmp order t m n all.0) ∙ is) went.2 later.1, preceded_same (completed cmp t m ∷ []) (completed cmp t n ∷ []) rest later.0 (completed_alike cmp order t m n all.0, tt) later.2)
+      = finish_same finishes (ns ++ went.0) went.1 went.4 (zip-append (SameMessage cmp) ms more ns went.0 all.1 went.3) in (
+        preceded (completed cmp t n ∷ []) later.0,
+        completes {rest = later.0}
+            (sym (late_alike cmp order t m n all.0) ∙ is) went.2 later.1,
+        preceded_same (completed cmp t m ∷ []) (completed cmp t n ∷ []) rest later.0
+            (completed_alike cmp order t m n all.0, tt) later.2,
+      )
 
   -- ---- waking and settling
 
@@ -232,12 +236,22 @@ module _ {P : Type 0} (cmp : P → P → Ordering) (order : IsTotalOrder cmp) wh
   enqueue_same {now = now} {m = m} {p = p} (at_once free) n q messages same =
       (completed_at_once cmp now q n, at_once (sym same.limited ∙ free), at_once_same cmp order p q same now m n messages)
   enqueue_same {now = now} {m = m} {p = p} (no_launch {fault = fault} limited launch) n q messages same =
-      let queues : IsSamePlanned cmp (with_queued cmp p m) (with_queued cmp q n) = with_queued_same cmp order p q same m n messages in
-      (meets fault, no_launch (sym same.limited ∙ limited) (launch_met cmp order (λ c. Launches cmp now (with_queued cmp q n) (next_of cmp (with_queued cmp q n) n) c) fault (launch_same launch (with_queued cmp q n) (next_of cmp (with_queued cmp q n) n) queues (next_same cmp order (with_queued cmp p m) (with_queued cmp q n) queues m n messages))), refl)
+      let queues : IsSamePlanned cmp (with_queued cmp p m) (with_queued cmp q n) = with_queued_same cmp order p q same m n messages in (
+        meets fault,
+        no_launch (sym same.limited ∙ limited)
+            (launch_met cmp order (λ c. Launches cmp now (with_queued cmp q n)
+            (next_of cmp (with_queued cmp q n) n) c) fault
+            (launch_same launch (with_queued cmp q n) (next_of cmp (with_queued cmp q n) n) queues
+            (next_same cmp order (with_queued cmp p m) (with_queued cmp q n) queues m n messages))),
+        refl,
+      )
   enqueue_same {now = now} {m = m} {p = p} {course = course} (launches {leavers = leavers} {mid = mid} limited launch finishes) n q messages same =
       let queues : IsSamePlanned cmp (with_queued cmp p m) (with_queued cmp q n) = with_queued_same cmp order p q same m n messages in
       let went : LaunchWent now (with_queued cmp q n) (next_of cmp (with_queued cmp q n) n) leavers mid
-      = launch_went cmp order (λ c. Launches cmp now (with_queued cmp q n) (next_of cmp (with_queued cmp q n) n) c) leavers mid (launch_same launch (with_queued cmp q n) (next_of cmp (with_queued cmp q n) n) queues (next_same cmp order (with_queued cmp p m) (with_queued cmp q n) queues m n messages)) in
+      = launch_went cmp order (λ c. Launches cmp now (with_queued cmp q n)
+      (next_of cmp (with_queued cmp q n) n) c) leavers mid
+      (launch_same launch (with_queued cmp q n) (next_of cmp (with_queued cmp q n) n) queues
+      (next_same cmp order (with_queued cmp p m) (with_queued cmp q n) queues m n messages)) in
       let done : (c : Course (Completed P) (Planned P)) × Finishes cmp now went.0 went.1 c × IsSameCourse cmp course c = finish_same finishes went.0 went.1 went.4 went.3 in
       (done.0, launches {course = done.0} (sym same.limited ∙ limited) went.2 done.1, done.2)
 
@@ -252,17 +266,39 @@ module _ {P : Type 0} (cmp : P → P → Ordering) (order : IsTotalOrder cmp) wh
   advance_same {now = now} (at_finish {p = p} {q = r} {t = t} {n = n} {cs = cs} {rest = rest} finish next within settles advances) q same =
       let done : Went (λ c. Settles cmp t (record q { finish = None }) c) cs r
       = course_went cmp order (λ c. Settles cmp t (record q { finish = None }) c) cs r (settle_same settles (record q { finish = None }) (no_finish_same cmp order p q same)) in
-      let later : (c : Course (Completed P) (Planned P)) × Advances cmp now done.1 n c × IsSameCourse cmp rest c = advance_same advances done.1 done.4 in
-      (preceded done.0 later.0, at_finish {rest = later.0} (sym same.finish ∙ finish) (sym (next_event_same cmp order p q same) ∙ next) within done.2 later.1, preceded_same cs done.0 rest later.0 done.3 later.2)
+      let later : (c : Course (Completed P) (Planned P)) × Advances cmp now done.1 n c × IsSameCourse cmp rest c = advance_same advances done.1 done.4 in (
+        preceded done.0 later.0,
+        at_finish {rest = later.0} (sym same.finish ∙ finish)
+            (sym (next_event_same cmp order p q same) ∙ next) within done.2 later.1,
+        preceded_same cs done.0 rest later.0 done.3 later.2,
+      )
   advance_same {now = now} (at_start {p = p} {q = r} {t = t} {n = n} {cs = cs} {rest = rest} not_finish next within wakes advances) q same =
       let done : Went (λ c. Wakes cmp t (record q { start = None }) c) cs r
-      = course_went cmp order (λ c. Wakes cmp t (record q { start = None }) c) cs r (wakes_same t (record p { start = None }) (record q { start = None }) (goes cs r) (no_start_same cmp order p q same) wakes) in
-      let later : (c : Course (Completed P) (Planned P)) × Advances cmp now done.1 n c × IsSameCourse cmp rest c = advance_same advances done.1 done.4 in
-      (preceded done.0 later.0, at_start {rest = later.0} (λ e. not_finish (same.finish ∙ e)) (sym (next_event_same cmp order p q same) ∙ next) within done.2 later.1, preceded_same cs done.0 rest later.0 done.3 later.2)
-  advance_same (finish_stops {p = p} {t = t} {fault = fault} finish next within settles) q same =
-      (meets fault, finish_stops (sym same.finish ∙ finish) (sym (next_event_same cmp order p q same) ∙ next) within (course_met cmp order (λ c. Settles cmp t (record q { finish = None }) c) fault (settle_same settles (record q { finish = None }) (no_finish_same cmp order p q same))), refl)
-  advance_same (start_stops {p = p} {t = t} {fault = fault} not_finish next within wakes) q same =
-      (meets fault, start_stops (λ e. not_finish (same.finish ∙ e)) (sym (next_event_same cmp order p q same) ∙ next) within (course_met cmp order (λ c. Wakes cmp t (record q { start = None }) c) fault (wakes_same t (record p { start = None }) (record q { start = None }) (meets fault) (no_start_same cmp order p q same) wakes)), refl)
+      = course_went cmp order (λ c. Wakes cmp t (record q { start = None }) c) cs r
+      (wakes_same t (record p { start = None }) (record q { start = None }) (goes cs r)
+      (no_start_same cmp order p q same) wakes) in
+      let later : (c : Course (Completed P) (Planned P)) × Advances cmp now done.1 n c × IsSameCourse cmp rest c = advance_same advances done.1 done.4 in (
+        preceded done.0 later.0,
+        at_start {rest = later.0} (λ e. not_finish (same.finish ∙ e))
+            (sym (next_event_same cmp order p q same) ∙ next) within done.2 later.1,
+        preceded_same cs done.0 rest later.0 done.3 later.2,
+      )
+  advance_same (finish_stops {p = p} {t = t} {fault = fault} finish next within settles) q same = (
+    meets fault,
+    finish_stops (sym same.finish ∙ finish) (sym (next_event_same cmp order p q same) ∙ next) within
+        (course_met cmp order (λ c. Settles cmp t (record q { finish = None }) c) fault
+        (settle_same settles (record q { finish = None }) (no_finish_same cmp order p q same))),
+    refl,
+  )
+  advance_same (start_stops {p = p} {t = t} {fault = fault} not_finish next within wakes) q same = (
+    meets fault,
+    start_stops (λ e. not_finish (same.finish ∙ e))
+        (sym (next_event_same cmp order p q same) ∙ next) within
+        (course_met cmp order (λ c. Wakes cmp t (record q { start = None }) c) fault
+        (wakes_same t (record p { start = None }) (record q { start = None }) (meets fault)
+        (no_start_same cmp order p q same) wakes)),
+    refl,
+  )
 
   pub advances_same : (p q : Planned P) (now n : ℕ) (course : Course (Completed P) (Planned P)) → IsSamePlanned cmp p q → Advances cmp now p n course
       → (c : Course (Completed P) (Planned P)) × Advances cmp now q n c × IsSameCourse cmp course c

@@ -129,7 +129,9 @@ module _ {P : Type 0} (cmp : P → P → Ordering) (order : IsTotalOrder cmp) wh
   queued_same m n [] (l ∷ ls) e all = absurd all
   queued_same m n (k ∷ ks) [] e all = absurd all
   queued_same m n (k ∷ ks) (l ∷ ls) e all =
-      zip-if (SameMessage cmp) (pair_before cmp m k) (pair_before cmp n l) (m ∷ k ∷ ks) (k ∷ queued cmp m ks) (n ∷ l ∷ ls) (l ∷ queued cmp n ls) (before_alike cmp order m n k l e all.0) (e, all) (all.0, queued_same m n ks ls e all.1)
+      zip-if (SameMessage cmp) (pair_before cmp m k) (pair_before cmp n l) (m ∷ k ∷ ks) (k ∷ queued cmp m ks)
+      (n ∷ l ∷ ls) (l ∷ queued cmp n ls) (before_alike cmp order m n k l e all.0) (e, all)
+      (all.0, queued_same m n ks ls e all.1)
 
   pub fronts_same : (ms ns : List (Message P)) → AllZip (SameMessage cmp) ms ns → AllZip (SameMessage cmp) (fronts cmp ms) (fronts cmp ns)
   fronts_same [] [] all = tt
@@ -137,7 +139,9 @@ module _ {P : Type 0} (cmp : P → P → Ordering) (order : IsTotalOrder cmp) wh
   fronts_same (m ∷ ms) [] all = absurd all
   fronts_same (m ∷ ms) (n ∷ ns) all = (
     all.0,
-    zip-filter (SameMessage cmp) (λ k. not (same_pair cmp m k)) (λ k. not (same_pair cmp n k)) (λ k l e. ap not (pairs_alike cmp order m n k l all.0 e)) (fronts cmp ms) (fronts cmp ns) (fronts_same ms ns all.1),
+    zip-filter (SameMessage cmp) (λ k. not (same_pair cmp m k)) (λ k. not (same_pair cmp n k))
+        (λ k l e. ap not (pairs_alike cmp order m n k l all.0 e)) (fronts cmp ms) (fronts cmp ns)
+        (fronts_same ms ns all.1),
   )
 
   -- ---- what is in flight
@@ -184,15 +188,25 @@ module _ {P : Type 0} (cmp : P → P → Ordering) (order : IsTotalOrder cmp) wh
     leaving_same t =
         zip-filter (IsSameRatedFlight cmp) (is_spent cmp p.caps) (is_spent cmp q.caps) spent_same (drained_to t p.sending) (drained_to t q.sending) (drained_same t p.sending q.sending same.sending)
 
-    pub staying_same : (t : ℕ) → AllZip (IsSameRatedFlight cmp) (filter (λ f. not (is_spent cmp p.caps f)) (drained_to t p.sending)) (filter (λ f. not (is_spent cmp q.caps f)) (drained_to t q.sending))
+    pub staying_same : (t : ℕ) → AllZip (IsSameRatedFlight cmp)
+        (filter (λ f. not (is_spent cmp p.caps f)) (drained_to t p.sending))
+        (filter (λ f. not (is_spent cmp q.caps f)) (drained_to t q.sending))
     staying_same t =
-        zip-filter (IsSameRatedFlight cmp) (λ f. not (is_spent cmp p.caps f)) (λ f. not (is_spent cmp q.caps f)) (λ f g e. ap not (spent_same f g e)) (drained_to t p.sending) (drained_to t q.sending) (drained_same t p.sending q.sending same.sending)
+        zip-filter (IsSameRatedFlight cmp) (λ f. not (is_spent cmp p.caps f)) (λ f. not (is_spent cmp q.caps f))
+        (λ f g e. ap not (spent_same f g e)) (drained_to t p.sending) (drained_to t q.sending)
+        (drained_same t p.sending q.sending same.sending)
 
     -- ---- what waits
 
     pub may_same : (t : ℕ) (m n : Message P) → SameMessage cmp m n → may_launch cmp t p m ≡ may_launch cmp t q n
     may_same t m n e =
-        rw (any_alike cmp order (SameMessage cmp) (same_pair cmp m) (same_pair cmp n) (λ k l f. pairs_alike cmp order m n k l e f) (rated_messages p.sending) (rated_messages q.sending) (flows_same p.sending q.sending same.sending), same.last_arrival m.origin n.origin m.recipient n.recipient e.origin e.recipient, e.latency) refl
+        rw (
+          any_alike cmp order (SameMessage cmp) (same_pair cmp m) (same_pair cmp n)
+              (λ k l f. pairs_alike cmp order m n k l e f) (rated_messages p.sending) (rated_messages q.sending)
+              (flows_same p.sending q.sending same.sending),
+          same.last_arrival m.origin n.origin m.recipient n.recipient e.origin e.recipient,
+          e.latency,
+        ) refl
 
     pub next_same : (m n : Message P) → SameMessage cmp m n → OptionsAlike (SameMessage cmp) (next_of cmp p m) (next_of cmp q n)
     next_same m n e = find_same (SameMessage cmp) (same_pair cmp m) (same_pair cmp n) (λ k l f. pairs_alike cmp order m n k l e f) p.waiting q.waiting same.waiting
@@ -227,11 +241,13 @@ module _ {P : Type 0} (cmp : P → P → Ordering) (order : IsTotalOrder cmp) wh
       start = same.start;
     }
 
-    pub no_finish_same : IsSamePlanned cmp (record p { finish = None }) (record q { finish = None })
-    no_finish_same = record {
+    -- with other flows, and another moment when the first of them is done
+    pub accounted_same : (fs gs : List (RatedFlight P)) (finish : Option ℕ) → AllZip (IsSameRatedFlight cmp) fs gs
+        → IsSamePlanned cmp (record p { sending = fs; finish = finish }) (record q { sending = gs; finish = finish })
+    accounted_same fs gs finish sending = record {
       caps = same.caps;
       limited = same.limited;
-      sending = same.sending;
+      sending = sending;
       waiting = same.waiting;
       last_arrival = same.last_arrival;
       next_id = same.next_id;
@@ -239,8 +255,9 @@ module _ {P : Type 0} (cmp : P → P → Ordering) (order : IsTotalOrder cmp) wh
       start = same.start;
     }
 
-    pub no_start_same : IsSamePlanned cmp (record p { start = None }) (record q { start = None })
-    no_start_same = record {
+    -- with another moment when the first may start
+    pub planned_same : (start : Option ℕ) → IsSamePlanned cmp (record p { start = start }) (record q { start = start })
+    planned_same start = record {
       caps = same.caps;
       limited = same.limited;
       sending = same.sending;
@@ -250,6 +267,12 @@ module _ {P : Type 0} (cmp : P → P → Ordering) (order : IsTotalOrder cmp) wh
       finish = same.finish;
       start = refl;
     }
+
+    pub no_finish_same : IsSamePlanned cmp (record p { finish = None }) (record q { finish = None })
+    no_finish_same = accounted_same p.sending q.sending None same.sending
+
+    pub no_start_same : IsSamePlanned cmp (record p { start = None }) (record q { start = None })
+    no_start_same = planned_same None
 
     pub launched_same : (t : ℕ) (m n : Message P) → SameMessage cmp m n → IsSamePlanned cmp (launched cmp t p m) (launched cmp t q n)
     launched_same t m n e = record {
@@ -278,7 +301,9 @@ module _ {P : Type 0} (cmp : P → P → Ordering) (order : IsTotalOrder cmp) wh
     pub landed_same : (t : ℕ) (m n : Message P) → SameMessage cmp m n → IsSamePlanned cmp (landed cmp t p m) (landed cmp t q n)
     landed_same t m n e =
         arrived_same (raised cmp p.last_arrival m (arrival cmp t m)) (raised cmp q.last_arrival n (arrival cmp t n))
-        (subst (λ (at : ℕ). PairsAlike cmp (raised cmp p.last_arrival m (arrival cmp t m)) (raised cmp q.last_arrival n at)) (arrival_alike cmp order t m n e) (raised_same p.last_arrival q.last_arrival m n (arrival cmp t m) same.last_arrival e))
+        (subst (λ (at : ℕ). PairsAlike cmp (raised cmp p.last_arrival m (arrival cmp t m))
+        (raised cmp q.last_arrival n at)) (arrival_alike cmp order t m n e)
+        (raised_same p.last_arrival q.last_arrival m n (arrival cmp t m) same.last_arrival e))
 
     pub with_queued_same : (m n : Message P) → SameMessage cmp m n → IsSamePlanned cmp (with_queued cmp p m) (with_queued cmp q n)
     with_queued_same m n e = record {
@@ -293,7 +318,18 @@ module _ {P : Type 0} (cmp : P → P → Ordering) (order : IsTotalOrder cmp) wh
     }
 
     pub at_once_same : (now : ℕ) (m n : Message P) → SameMessage cmp m n → IsSameCourse cmp (completed_at_once cmp now p m) (completed_at_once cmp now q n)
-    at_once_same now m n e = by_late (m.should_deliver && nat_lt last_moment (now + m.latency)) (n.should_deliver && nat_lt last_moment (now + n.latency)) (rw (e.should_deliver, e.latency) refl) (rw (e.should_deliver, same.last_arrival m.origin n.origin m.recipient n.recipient e.origin e.recipient, e.latency) refl) (rw (e.should_deliver, same.last_arrival m.origin n.origin m.recipient n.recipient e.origin e.recipient, e.latency) refl)
+    at_once_same now m n e =
+        by_late (m.should_deliver && nat_lt last_moment (now + m.latency))
+        (n.should_deliver && nat_lt last_moment (now + n.latency)) (rw (e.should_deliver, e.latency) refl)
+        (rw (
+          e.should_deliver,
+          same.last_arrival m.origin n.origin m.recipient n.recipient e.origin e.recipient,
+          e.latency,
+        ) refl) (rw (
+          e.should_deliver,
+          same.last_arrival m.origin n.origin m.recipient n.recipient e.origin e.recipient,
+          e.latency,
+        ) refl)
       where
         by_late : (a b : Bool) → a ≡ b → landing now p m ≡ landing now q n → delivery now p m ≡ delivery now q n
             → IsSameCourse cmp (cond a (meets MomentTooLate) (goes (completion_of m (delivery now p m) ∷ []) (record p { last_arrival = raised cmp p.last_arrival m (landing now p m) })))
@@ -304,5 +340,7 @@ module _ {P : Type 0} (cmp : P → P → Ordering) (order : IsTotalOrder cmp) wh
         by_late false false f at wanted = (
           (record { origin = e.origin; recipient = e.recipient; channel = e.channel; bytes = e.bytes; deliver_at = wanted }, tt),
           arrived_same (raised cmp p.last_arrival m (landing now p m)) (raised cmp q.last_arrival n (landing now q n))
-              (subst (λ (k : ℕ). PairsAlike cmp (raised cmp p.last_arrival m (landing now p m)) (raised cmp q.last_arrival n k)) at (raised_same p.last_arrival q.last_arrival m n (landing now p m) same.last_arrival e)),
+              (subst (λ (k : ℕ). PairsAlike cmp (raised cmp p.last_arrival m (landing now p m))
+              (raised cmp q.last_arrival n k)) at (raised_same p.last_arrival q.last_arrival m n
+              (landing now p m) same.last_arrival e)),
         )

@@ -17,8 +17,7 @@ use Rattle.link_simulation.specs.Rule.Range.{IsInRange}
 use Rattle.link_simulation.specs.Rule.StandsFor.{StandsFor, CoursesAlike}
 use Rattle.link_simulation.specs.Rule.SamePlanned.{GoesByRule}
 use Rattle.link_simulation.specs.Rule.Simulated.{IsRun, IsSimulated, IsNextInSimulation, KeepsRange, MeetsFault, IsRefusedInSimulation}
-use Rattle.link_simulation.proofs.Simulation.AlikeMessages.{same_itself}
-use Rattle.link_simulation.proofs.Laws.Bytes.{pair_itself}
+use Rattle.link_simulation.proofs.Simulation.AlikeMessages.{same_itself, pair_itself}
 use Rattle.link_simulation.proofs.Rule.BeforeNext.{positive_flights}
 use Rattle.link_simulation.proofs.Simulation.QuietInstants.{next_is_later}
 use Rattle.link_simulation.proofs.Rule.NextEvent.{next_is_planned}

@@ -5,7 +5,9 @@ use Rattle.std.specs.declared.cmp.Ordering.{Ordering}
 use Rattle.std.specs.Cmp.{IsTotalOrder}
 use Rattle.std.proofs.lemmas.Bool.{or_parts}
 use Rattle.fair_rates.specs.Lists.WithoutFirst.{without_first}
-use Rattle.link_simulation.specs.Simulation.World.{Completed, Course, Flight, World, and_then, flows, fronts, goes, is_done, least_pair, may_start, meets, preceded, ready, settle, start, wake_within, EndsWith, flight_of}
+use Rattle.link_simulation.specs.Simulation.World.{Completed, Course, Flight, World, and_then, flows, fronts, goes}
+use Rattle.link_simulation.specs.Simulation.World.{is_done, least_pair, may_start, meets, preceded, ready, settle}
+use Rattle.link_simulation.specs.Simulation.World.{start, wake_within, EndsWith, flight_of}
 use Rattle.link_simulation.specs.Rule.Events.{Finishes, Launches, WakesEach, all_started, no_finish, no_start, starts_one}
 use Rattle.link_simulation.specs.Simulation.Messages.{Message, OneForEachPair, SameMessage, same_pair}
 use Rattle.link_simulation.specs.Rule.Planned.{Planned, next_of}
@@ -18,7 +20,7 @@ use Rattle.fair_rates.proofs.Lists.Each.{Each, each_filtered}
 use Rattle.link_simulation.proofs.Rule.Launch.{NoneDone, joining, started, joining_leaves, started_stays, OptionsAlike, next_alike, StartsSo, StartAlike, start_alike}
 use Rattle.link_simulation.proofs.Rule.Settling.{CourseAlike, looked, finishes_alike, settle_is_finish}
 use Rattle.link_simulation.proofs.Simulation.Pass.{wake_none}
-use Rattle.link_simulation.proofs.Simulation.AlikeMessages.{same_itself}
+use Rattle.link_simulation.proofs.Simulation.AlikeMessages.{pair_itself}
 use Rattle.link_simulation.proofs.Simulation.OnePair.{apart, OnlyPair, only_both, IsRested, IsAfter, only_taken, only_joined, rested_joined, finish_only, ready_after, ends_so}
 use Rattle.link_simulation.proofs.Simulation.SettlingEnds.{length_without}
 use Rattle.fair_rates.proofs.Lists.Zips.{zip-append}
@@ -32,9 +34,6 @@ each_none test (x ∷ xs) e = let parts : (test x ≡ false) × (list_any test x
 module _ {P : Type 0} (cmp : P → P → Ordering) (order : IsTotalOrder cmp) where
   -- ---- a round: one pair starts, and what is done then completes
 
-  pub own_pair : (y : Message P) → same_pair cmp y y ≡ true
-  own_pair y = rw (same_itself cmp order y.origin, same_itself cmp order y.recipient) refl
-
   pub round_is : (t : ℕ) (w : World P) (y : Message P) → NoneDone cmp order w → OneForEachPair cmp (flows (joined cmp w y))
       → settle cmp t (joined cmp w y) ≡ finish_within cmp (length (joined cmp w y).sending + length (joined cmp w y).waiting) t (joining cmp order w y) (started cmp order w y)
   round_is t w y none one = settle_is_finish cmp order t (joined cmp w y) one
@@ -47,7 +46,9 @@ module _ {P : Type 0} (cmp : P → P → Ordering) (order : IsTotalOrder cmp) wh
       by_test (is_done cmp w (flight_of y)) many
     where
       by_test : (b : Bool) → length (w.sending ++ flight_of y ∷ []) ≡ length w.sending + 1
-          → length (cond b (flight_of y ∷ []) []) + length (cond b (out_of_waiting cmp w y) (joined cmp w y)).waiting ≤ length (w.sending ++ flight_of y ∷ []) + length (without_first (same_pair cmp y) w.waiting)
+          → length (cond b (flight_of y ∷ []) []) + length
+          (cond b (out_of_waiting cmp w y) (joined cmp w y)).waiting ≤ length (w.sending ++ flight_of y ∷ []) + length
+          (without_first (same_pair cmp y) w.waiting)
       by_test true h = omega arith
       by_test false h = omega arith
 
@@ -60,19 +61,21 @@ module _ {P : Type 0} (cmp : P → P → Ordering) (order : IsTotalOrder cmp) wh
   round_after t w y none one found =
       subst (λ (c : Course (Completed P) (World P)). EndsWith (IsRound t y w) c) (sym (round_is t w y none one))
       (ends_so (IsAfter cmp order y t (started cmp order w y)) (IsRound t y w) _ (λ v after. both v after (length_without (same_pair cmp y) y w.waiting found))
-      (finish_only cmp order y (length (joined cmp w y).sending + length (joined cmp w y).waiting) t (joining cmp order w y) (started cmp order w y) (own_joining (is_done cmp w (flight_of y))) (round_fuel w y) (rests (is_done cmp w (flight_of y)))))
+      (finish_only cmp order y (length (joined cmp w y).sending + length (joined cmp w y).waiting) t
+      (joining cmp order w y) (started cmp order w y) (own_joining (is_done cmp w (flight_of y))) (round_fuel w y)
+      (rests (is_done cmp w (flight_of y)))))
     where
       own_joining : (b : Bool) → Each (λ (f : Flight P). same_pair cmp y f.message ≡ true) (cond b (flight_of y ∷ []) [])
-      own_joining true = (own_pair y, tt)
+      own_joining true = (pair_itself cmp order y, tt)
       own_joining false = tt
 
       rests : (b : Bool) → cond b (flight_of y ∷ []) [] ≡ [] → IsRested cmp order y t (cond b (out_of_waiting cmp w y) (joined cmp w y))
       rests true e = cc
-      rests false e = rested_joined cmp order y t w y (own_pair y)
+      rests false e = rested_joined cmp order y t w y (pair_itself cmp order y)
 
       only : (b : Bool) → OnlyPair cmp order y w (cond b (out_of_waiting cmp w y) (joined cmp w y))
-      only true = only_taken cmp order y w y (own_pair y)
-      only false = only_joined cmp order y w y (own_pair y)
+      only true = only_taken cmp order y w y (pair_itself cmp order y)
+      only false = only_joined cmp order y w y (pair_itself cmp order y)
 
       waits : (b : Bool) → length (cond b (out_of_waiting cmp w y) (joined cmp w y)).waiting ≡ length (without_first (same_pair cmp y) w.waiting)
       waits true = refl
@@ -94,7 +97,10 @@ module _ {P : Type 0} (cmp : P → P → Ordering) (order : IsTotalOrder cmp) wh
   wake_round : (n t : ℕ) (w : World P) (y : Message P) (c : Course (Completed P) (World P)) → least_pair cmp (ready cmp t w) ≡ Some y → start cmp w y ≡ goes [] (joined cmp w y)
       → settle cmp t (joined cmp w y) ≡ c → wake_within cmp (suc n) t w ≡ and_then c (wake_within cmp n t)
   wake_round n t w y c least starts e =
-      wake_first cmp order n t w y least ∙ ap (λ (d : Course (Completed P) (World P)). and_then d (λ v. and_then (settle cmp t v) (wake_within cmp n t))) starts ∙ preceded_none (and_then (settle cmp t (joined cmp w y)) (wake_within cmp n t)) ∙ ap (λ (d : Course (Completed P) (World P)). and_then d (wake_within cmp n t)) e
+      wake_first cmp order n t w y least ∙ ap (λ (d : Course (Completed P) (World P)). and_then d
+      (λ v. and_then (settle cmp t v) (wake_within cmp n t))) starts
+      ∙ preceded_none (and_then (settle cmp t (joined cmp w y)) (wake_within cmp n t))
+      ∙ ap (λ (d : Course (Completed P) (World P)). and_then d (wake_within cmp n t)) e
 
   pub preceded_by : (R : Planned P → World P → Type 0) (cs ds : List (Completed P)) (x : Course (Completed P) (Planned P)) (c : Course (Completed P) (World P))
       → AllZip (SameCompletion cmp) cs ds → CoursesAlike cmp R x c → CoursesAlike cmp R (preceded cs x) (preceded ds c)
@@ -128,13 +134,16 @@ module _ {P : Type 0} (cmp : P → P → Ordering) (order : IsTotalOrder cmp) wh
   launch_starts : {t : ℕ} {m : Message P} {p : Planned P} {course : Course (Message P) (Planned P)} → Launches cmp t p (next_of cmp p m) course → (w : World P) (y : Message P)
       → Follows cmp t p w → NoneDone cmp order w → IsNext t w y → SameMessage cmp m y → StartAlike cmp order t w y course
   launch_starts {t = t} {m = m} {p = p} launch w y follows none next same =
-      start_alike cmp order launch w y follows none next.may next.found (subst (λ (o : Option (Message P)). OptionsAlike (SameMessage cmp) (next_of cmp p m) o) next.found (next_alike cmp order t p w m y follows.tallies same))
+      start_alike cmp order launch w y follows none next.may next.found
+      (subst (λ (o : Option (Message P)). OptionsAlike (SameMessage cmp) (next_of cmp p m) o) next.found
+      (next_alike cmp order t p w m y follows.tallies same))
 
   pub round_alike : {t : ℕ} {more : List (Message P)} {q : Planned P} {course : Course (Completed P) (Planned P)} → Finishes cmp t more q course → (w : World P) (y : Message P)
       → NoneDone cmp order w → StartsSo cmp order t w y more q → CourseAlike cmp order t course (settle cmp t (joined cmp w y))
   round_alike {t = t} {course = course} finish w y none so =
       subst (λ (c : Course (Completed P) (World P)). CourseAlike cmp order t course c) (sym (round_is t w y none so.one_each))
-      (finishes_alike cmp order finish (length (joined cmp w y).sending + length (joined cmp w y).waiting) (joining cmp order w y) (started cmp order w y) so.follows so.none so.leaves (round_fuel w y))
+      (finishes_alike cmp order finish (length (joined cmp w y).sending + length (joined cmp w y).waiting)
+      (joining cmp order w y) (started cmp order w y) so.follows so.none so.leaves (round_fuel w y))
 
   no_fuel : (t : ℕ) (w : World P) (y : Message P) → IsNext t w y → length w.waiting ≤ 0 → ⊥
   no_fuel t w y next fuel = let fewer : length (without_first (same_pair cmp y) w.waiting) + 1 ≡ length w.waiting = length_without (same_pair cmp y) y w.waiting next.found in omega arith
@@ -145,7 +154,10 @@ module _ {P : Type 0} (cmp : P → P → Ordering) (order : IsTotalOrder cmp) wh
   wakes_alike {t = t} (no_start launch) zero w follows none picks fuel = absurd (no_fuel t w picks.0 (next_is t w picks.0 picks.1) fuel)
   wakes_alike {t = t} (no_start {fault = fault} launch) (suc n) w follows none picks fuel =
       let fails : start cmp w picks.0 ≡ meets fault = launch_starts launch w picks.0 follows none (next_is t w picks.0 picks.1) picks.2 in
-      subst (λ (c : Course (Completed P) (World P)). CoursesAlike cmp (IsWoken t) (meets fault) c) (sym (wake_first cmp order n t w picks.0 picks.1 ∙ ap (λ (d : Course (Completed P) (World P)). and_then d (λ v. and_then (settle cmp t v) (wake_within cmp n t))) fails)) refl
+      subst (λ (c : Course (Completed P) (World P)). CoursesAlike cmp (IsWoken t) (meets fault) c)
+      (sym (wake_first cmp order n t w picks.0 picks.1
+      ∙ ap (λ (d : Course (Completed P) (World P)). and_then d
+      (λ v. and_then (settle cmp t v) (wake_within cmp n t))) fails)) refl
   wakes_alike {t = t} (no_finish launch finish) zero w follows none picks fuel = absurd (no_fuel t w picks.0 (next_is t w picks.0 picks.1) fuel)
   wakes_alike {t = t} (no_finish {more = more} {q = q} {fault = fault} launch finish) (suc n) w follows none picks fuel =
       let so : StartsSo cmp order t w picks.0 more q = launch_starts launch w picks.0 follows none (next_is t w picks.0 picks.1) picks.2 in

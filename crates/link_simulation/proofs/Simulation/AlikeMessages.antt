@@ -19,6 +19,9 @@ module _ {P : Type 0} (cmp : P → P → Ordering) (order : IsTotalOrder cmp) wh
   pub same_itself : (p : P) → same_peer cmp p p ≡ true
   same_itself p = ap is_eq (tied_itself order p)
 
+  pub pair_itself : (m : Message P) → same_pair cmp m m ≡ true
+  pair_itself m = rw (same_itself m.origin, same_itself m.recipient) refl
+
   pub peers_alike : (p q r s : P) → same_peer cmp p q ≡ true → same_peer cmp r s ≡ true → same_peer cmp p r ≡ same_peer cmp q s
   peers_alike p q r s e f = sym (peer_like cmp order p q r e) ∙ peer_sym cmp order q r ∙ sym (peer_like cmp order r s q f) ∙ peer_sym cmp order s q
 
@@ -53,14 +56,17 @@ module _ {P : Type 0} (cmp : P → P → Ordering) (order : IsTotalOrder cmp) wh
     egress_alike : (m n : Message P) (ms ns : List (Message P)) → SameMessage cmp m n → AllZip (SameMessage cmp) ms ns → egress_side cmp caps ms m ≡ egress_side cmp others ns n
     egress_alike m n ms ns e all =
         side_alike (caps.egress m.origin) (others.egress n.origin) (λ k. same_peer cmp m.origin k.origin) (λ k. same_peer cmp n.origin k.origin) ms ns (same.egress m.origin n.origin e.origin)
-        (places_alike (SameMessage cmp) (λ k. same_peer cmp m.origin k.origin) (λ k. same_peer cmp n.origin k.origin) (λ k l f. peers_alike m.origin n.origin k.origin l.origin e.origin f.origin) 0 ms ns all)
+        (places_alike (SameMessage cmp) (λ k. same_peer cmp m.origin k.origin) (λ k. same_peer cmp n.origin k.origin)
+        (λ k l f. peers_alike m.origin n.origin k.origin l.origin e.origin f.origin) 0 ms ns all)
 
     ingress_alike : (m n : Message P) (ms ns : List (Message P)) → SameMessage cmp m n → AllZip (SameMessage cmp) ms ns → ingress_side cmp caps ms m ≡ ingress_side cmp others ns n
     ingress_alike m n ms ns e all = side_alike (if is_delivered cmp m then caps.ingress m.recipient else None) (if is_delivered cmp n then others.ingress n.recipient else None)
         (λ k. is_delivered cmp k && same_peer cmp m.recipient k.recipient) (λ k. is_delivered cmp k && same_peer cmp n.recipient k.recipient) ms ns
         (if_alike (is_delivered cmp m) (is_delivered cmp n) (caps.ingress m.recipient) (others.ingress n.recipient) None (delivered_alike m n e) (same.ingress m.recipient n.recipient e.recipient))
         (places_alike (SameMessage cmp) (λ k. is_delivered cmp k && same_peer cmp m.recipient k.recipient) (λ k. is_delivered cmp k && same_peer cmp n.recipient k.recipient)
-        (λ k l f. both_alike cmp order (is_delivered cmp k) (is_delivered cmp l) (same_peer cmp m.recipient k.recipient) (same_peer cmp n.recipient l.recipient) (delivered_alike k l f) (peers_alike m.recipient n.recipient k.recipient l.recipient e.recipient f.recipient)) 0 ms ns all)
+        (λ k l f. both_alike cmp order (is_delivered cmp k) (is_delivered cmp l) (same_peer cmp m.recipient k.recipient)
+        (same_peer cmp n.recipient l.recipient) (delivered_alike k l f)
+        (peers_alike m.recipient n.recipient k.recipient l.recipient e.recipient f.recipient)) 0 ms ns all)
 
     link_alike : (m n : Message P) (ms ns : List (Message P)) → SameMessage cmp m n → AllZip (SameMessage cmp) ms ns → link_side cmp caps ms m ≡ link_side cmp others ns n
     link_alike m n ms ns e all =
@@ -80,7 +86,13 @@ module _ {P : Type 0} (cmp : P → P → Ordering) (order : IsTotalOrder cmp) wh
     sides_alike ms ns all = sides_for_alike ms ns ms ns all all
 
     pub unlimited_alike : (m n : Message P) → SameMessage cmp m n → is_unlimited cmp caps m ≡ is_unlimited cmp others n
-    unlimited_alike m n e = rw (same.egress m.origin n.origin e.origin, delivered_alike m n e, same.ingress m.recipient n.recipient e.recipient, same.link m.origin n.origin m.recipient n.recipient e.origin e.recipient) refl
+    unlimited_alike m n e =
+        rw (
+          same.egress m.origin n.origin e.origin,
+          delivered_alike m n e,
+          same.ingress m.recipient n.recipient e.recipient,
+          same.link m.origin n.origin m.recipient n.recipient e.origin e.recipient,
+        ) refl
 
     rates_alike : (parts : ℕ → ℕ) (place : ℕ) (ms ns : List (Message P)) → AllZip (SameMessage cmp) ms ns → rates_from cmp caps parts place ms ≡ rates_from cmp others parts place ns
     rates_alike parts place [] [] all = refl

@@ -6,14 +6,14 @@ use Rattle.std.specs.declared.cmp.Ordering.{Ordering}
 use Rattle.std.specs.declared.cmp.Ordering.TheVariants.{Less, Equal, Greater}
 use Rattle.std.specs.Ordering.{is_eq, is_lt, ordering_then}
 use Rattle.std.specs.Cmp.{IsTotalOrder}
-use Rattle.std.proofs.lemmas.Cmp.{tied_itself, alike_right}
+use Rattle.std.proofs.lemmas.Cmp.{alike_right}
 use Rattle.std.proofs.lemmas.Bool.{not-true, not_from_false}
 use Rattle.link_simulation.specs.Simulation.World.{World, fronts, least_pair, may_start, ready}
 use Rattle.link_simulation.specs.Simulation.Messages.{Message, SameMessage, pair_before, same_pair}
 use Rattle.link_simulation.specs.Rule.Planned.{AreInPairOrder, Planned, SomeReadyAt, may_launch, next_of}
 use Rattle.link_simulation.specs.Rule.StandsFor.{Tallies}
 use Rattle.link_simulation.proofs.Simulation.Queue.{pair_sym, find_passes}
-use Rattle.link_simulation.proofs.Simulation.AlikeMessages.{message_itself, pairs_alike}
+use Rattle.link_simulation.proofs.Simulation.AlikeMessages.{pair_itself, message_itself, pairs_alike}
 use Rattle.link_simulation.proofs.Rule.BeforeNext.{IsFront, fronts_first, first_found, may_alike, messages_alike}
 use Rattle.link_simulation.proofs.Simulation.SettlingEnds.{find_like}
 use Rattle.fair_rates.proofs.Lists.Each.{Each, each_map, each_filtered}
@@ -103,8 +103,11 @@ module _ {P : Type 0} (cmp : P → P → Ordering) (order : IsTotalOrder cmp) wh
   pub fronts_sorted : (ms : List (Message P)) → AreInPairOrder cmp ms → IsSorted (fronts cmp ms)
   fronts_sorted [] h = tt
   fronts_sorted (m ∷ ms) h = (
-    each_map (λ n. (pair_before cmp n m ≡ false) × (not (same_pair cmp m n) ≡ true)) (λ n. pair_before cmp m n ≡ true) (filter (λ n. not (same_pair cmp m n)) (fronts cmp ms)) (λ n k. before_if_not cmp order m n k.0 (not-true (same_pair cmp m n) k.1))
-        (each_filtered (λ n. pair_before cmp n m ≡ false) (λ n. not (same_pair cmp m n)) (fronts cmp ms) (each_front (λ n. pair_before cmp n m ≡ false) ms (each_none (λ n. pair_before cmp n m) ms h.0))),
+    each_map (λ n. (pair_before cmp n m ≡ false) × (not (same_pair cmp m n) ≡ true)) (λ n. pair_before cmp m n ≡ true)
+        (filter (λ n. not (same_pair cmp m n)) (fronts cmp ms))
+        (λ n k. before_if_not cmp order m n k.0 (not-true (same_pair cmp m n) k.1))
+        (each_filtered (λ n. pair_before cmp n m ≡ false) (λ n. not (same_pair cmp m n)) (fronts cmp ms)
+        (each_front (λ n. pair_before cmp n m ≡ false) ms (each_none (λ n. pair_before cmp n m) ms h.0))),
     sorted_filter (λ n. not (same_pair cmp m n)) (fronts cmp ms) (fronts_sorted ms h.1),
   )
 
@@ -142,9 +145,6 @@ module _ {P : Type 0} (cmp : P → P → Ordering) (order : IsTotalOrder cmp) wh
       own : SameMessage cmp m y
       own = by_place (each_least cmp order (IsAmong (m ∷ ms)) (x ∷ xs) y among least)
 
-      own_pair : same_pair cmp m m ≡ true
-      own_pair = same_is m m ∙ ap is_eq (tied_itself (pairs_total cmp order) m)
-
       among_rest : Each (IsAmong ms) (filter (apart cmp order y) (x ∷ xs))
       among_rest =
           each_map (λ z. IsAmong (m ∷ ms) z × (apart cmp order y z ≡ true)) (IsAmong ms) (filter (apart cmp order y) (x ∷ xs)) (λ z k. by_head z k.0 k.1)
@@ -152,7 +152,7 @@ module _ {P : Type 0} (cmp : P → P → Ordering) (order : IsTotalOrder cmp) wh
         where
           by_head : (z : Message P) → SameMessage cmp m z ⊎ IsAmong ms z → apart cmp order y z ≡ true → IsAmong ms z
           by_head z (inl same) off =
-              let pair : same_pair cmp y z ≡ true = sym (pairs_alike cmp order m y m z own same) ∙ own_pair in
+              let pair : same_pair cmp y z ≡ true = sym (pairs_alike cmp order m y m z own same) ∙ pair_itself cmp order m in
               let none : same_pair cmp y z ≡ false = not-true (same_pair cmp y z) off in
               cc
           by_head z (inr rest) off = rest
@@ -168,7 +168,12 @@ module _ {P : Type 0} (cmp : P → P → Ordering) (order : IsTotalOrder cmp) wh
 
           stays : (n : Message P) → HasIn (x ∷ xs) n → pair_before cmp m n ≡ true → HasIn (filter (apart cmp order y) (x ∷ xs)) n
           stays n has before = some_filtered (λ z. SameMessage cmp n z) (apart cmp order y) (x ∷ xs)
-              (some_map (λ z. SameMessage cmp n z) (λ z. SameMessage cmp n z × (apart cmp order y z ≡ true)) (x ∷ xs) (λ z same. (same, not_from_false (same_pair cmp y z) (sym (pairs_alike cmp order m y n z own same) ∙ apart_if_before cmp order m n before))) has)
+              (some_map (λ z. SameMessage cmp n z) (λ z. SameMessage cmp n z × (apart cmp order y z ≡ true)) (x ∷ xs)
+              (λ z same. (
+                same,
+                not_from_false (same_pair cmp y z)
+                    (sym (pairs_alike cmp order m y n z own same) ∙ apart_if_before cmp order m n before),
+              )) has)
 
   -- ---- who is ready in the one world is ready in the other
 
@@ -200,7 +205,9 @@ module _ {P : Type 0} (cmp : P → P → Ordering) (order : IsTotalOrder cmp) wh
       (subst (λ (o : Option (Message P)). OptionsAlike (SameMessage cmp) o (find (same_pair cmp m) w.waiting)) next (next_alike cmp order t p w m m same (message_itself cmp order m)))
       in
       let may_too : may_start cmp t w there.0 ≡ true = sym (may_alike cmp order t p w m there.0 same.last_arrival (messages_alike cmp order t p.sending w.sending same.sending) there.2) ∙ may in
-      some_filtered (λ y. SameMessage cmp m y) (may_start cmp t w) (fronts cmp w.waiting) (in_fronts (λ y. SameMessage cmp m y × (may_start cmp t w y ≡ true)) there.0 w.waiting (found_own m there.0 w.waiting there.1) (there.2, may_too))
+      some_filtered (λ y. SameMessage cmp m y) (may_start cmp t w) (fronts cmp w.waiting)
+      (in_fronts (λ y. SameMessage cmp m y × (may_start cmp t w y ≡ true)) there.0 w.waiting
+      (found_own m there.0 w.waiting there.1) (there.2, may_too))
 
   in_launching : (t : ℕ) (p : Planned P) (w : World P) (y : Message P) → Tallies cmp t p w → find (same_pair cmp y) w.waiting ≡ Some y → may_start cmp t w y ≡ true
       → IsAmong (filter (may_launch cmp t p) (fronts cmp p.waiting)) y
@@ -209,14 +216,24 @@ module _ {P : Type 0} (cmp : P → P → Ordering) (order : IsTotalOrder cmp) wh
       = alike_some_back (next_of cmp p y) y
       (subst (λ (o : Option (Message P)). OptionsAlike (SameMessage cmp) (next_of cmp p y) o) next (next_alike cmp order t p w y y same (message_itself cmp order y))) in
       let may_too : may_launch cmp t p there.0 ≡ true = may_alike cmp order t p w there.0 y same.last_arrival (messages_alike cmp order t p.sending w.sending same.sending) there.2 ∙ may in
-      some_filtered (λ x. SameMessage cmp x y) (may_launch cmp t p) (fronts cmp p.waiting) (in_fronts (λ x. SameMessage cmp x y × (may_launch cmp t p x ≡ true)) there.0 p.waiting (found_own y there.0 p.waiting there.1) (there.2, may_too))
+      some_filtered (λ x. SameMessage cmp x y) (may_launch cmp t p) (fronts cmp p.waiting)
+      (in_fronts (λ x. SameMessage cmp x y × (may_launch cmp t p x ≡ true)) there.0 p.waiting
+      (found_own y there.0 p.waiting there.1) (there.2, may_too))
 
   -- the pairs that the planned world finds ready are those that the world picks, in this order
   pub picks_ready : (t : ℕ) (p : Planned P) (w : World P) → Tallies cmp t p w → Picks cmp order (ready cmp t w) (filter (may_launch cmp t p) (fronts cmp p.waiting))
   picks_ready t p w same =
       picks_from (filter (may_launch cmp t p) (fronts cmp p.waiting)) (ready cmp t w) (sorted_filter (may_launch cmp t p) (fronts cmp p.waiting) (fronts_sorted p.waiting same.pair_order))
-      (each_map (λ y. IsFront cmp order w.waiting y × (may_start cmp t w y ≡ true)) (IsAmong (filter (may_launch cmp t p) (fronts cmp p.waiting))) (ready cmp t w) (λ y k. in_launching t p w y same (first_found cmp order (same_pair cmp y) y k.0.0 w.waiting k.0.1) k.1) (each_filtered (IsFront cmp order w.waiting) (may_start cmp t w) (fronts cmp w.waiting) (fronts_first cmp order w.waiting)))
-      (each_map (λ m. IsFront cmp order p.waiting m × (may_launch cmp t p m ≡ true)) (HasIn (ready cmp t w)) (filter (may_launch cmp t p) (fronts cmp p.waiting)) (λ m k. in_ready t p w m same (first_found cmp order (same_pair cmp m) m k.0.0 p.waiting k.0.1) k.1) (each_filtered (IsFront cmp order p.waiting) (may_launch cmp t p) (fronts cmp p.waiting) (fronts_first cmp order p.waiting)))
+      (each_map (λ y. IsFront cmp order w.waiting y × (may_start cmp t w y ≡ true))
+      (IsAmong (filter (may_launch cmp t p) (fronts cmp p.waiting))) (ready cmp t w)
+      (λ y k. in_launching t p w y same (first_found cmp order (same_pair cmp y) y k.0.0 w.waiting k.0.1) k.1)
+      (each_filtered (IsFront cmp order w.waiting) (may_start cmp t w) (fronts cmp w.waiting)
+      (fronts_first cmp order w.waiting)))
+      (each_map (λ m. IsFront cmp order p.waiting m × (may_launch cmp t p m ≡ true)) (HasIn (ready cmp t w))
+      (filter (may_launch cmp t p) (fronts cmp p.waiting))
+      (λ m k. in_ready t p w m same (first_found cmp order (same_pair cmp m) m k.0.0 p.waiting k.0.1) k.1)
+      (each_filtered (IsFront cmp order p.waiting) (may_launch cmp t p) (fronts cmp p.waiting)
+      (fronts_first cmp order p.waiting)))
 
   -- where nothing is ready in the world, nothing is in the planned world
   pub none_ready_back : (t : ℕ) (p : Planned P) (w : World P) → Tallies cmp t p w → ready cmp t w ≡ [] → ¬ SomeReadyAt cmp p t

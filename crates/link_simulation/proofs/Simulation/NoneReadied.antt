@@ -1,5 +1,6 @@
 -- Settling makes no pair ready.
-use Rattle.std.proofs.Common.{◌≡◌, ℕ, zero, suc, ◌+◌, ◌≤◌, List, [], ◌∷◌, ◌++◌, map, length, Bool, true, false, cond, not, Option, Some, None, refl, sym, ap, ◌∙◌, subst, arith, length-append, ◌⊎◌, inl, inr}
+use Rattle.std.proofs.Common.{◌≡◌, ℕ, zero, suc, ◌+◌, ◌≤◌, List, [], ◌∷◌, ◌++◌, map, length, Bool, true, false, cond}
+use Rattle.std.proofs.Common.{not, Option, Some, None, refl, sym, ap, ◌∙◌, subst, arith, length-append, ◌⊎◌, inl, inr}
 use Rattle.std.specs.Prelude.{nat_le, ⊤, ◌&&◌, ◌||◌}
 use Rattle.std.specs.List.{filter, find, list_any}
 use Rattle.std.specs.declared.cmp.Ordering.{Ordering}
@@ -8,7 +9,9 @@ use Rattle.std.proofs.lemmas.Bool.{or_parts, or_left, or_right}
 use Rattle.std.proofs.lemmas.List.{map-append}
 use Rattle.std.proofs.lemmas.List.Folds.{list_any-append}
 use Rattle.fair_rates.specs.Lists.WithoutFirst.{without_first}
-use Rattle.link_simulation.specs.Simulation.World.{Completed, Course, Flight, World, flows, fronts, goes, is_done, is_in_order, last_moment, may_start, meets, ready, settle, EndsWith, is_late, completed, flight_of}
+use Rattle.link_simulation.specs.Simulation.World.{Completed, Course, Flight, World, flows, fronts, goes, is_done}
+use Rattle.link_simulation.specs.Simulation.World.{is_in_order, last_moment, may_start, meets, ready, settle, EndsWith}
+use Rattle.link_simulation.specs.Simulation.World.{is_late, completed, flight_of}
 use Rattle.link_simulation.specs.Simulation.Messages.{Message, OneForEachPair, same_pair}
 use Rattle.fair_rates.specs.declared.error.Error.TheVariants.{FlowIdsUsedUp, MomentTooLate}
 use Rattle.link_simulation.specs.Simulation.Queue.{leaving, staying, out_of_waiting, joined, arrived, launch_then, finish_within}
@@ -18,7 +21,7 @@ use Rattle.fair_rates.proofs.Lists.Each.{each_map}
 use Rattle.link_simulation.proofs.Rule.Launch.{head_found, head_of, waits_without}
 use Rattle.link_simulation.proofs.Rule.Settling.{settle_is_finish}
 use Rattle.link_simulation.proofs.Simulation.OnePair.{OnlyPair, only_arrived, only_taken, only_joined, IsRested, rested_joined, may_others}
-use Rattle.link_simulation.proofs.Rule.Waking.{own_pair}
+use Rattle.link_simulation.proofs.Simulation.AlikeMessages.{pair_itself}
 use Rattle.link_simulation.proofs.Simulation.InOrder.{Somewhere, some_filtered, in_fronts}
 use Rattle.link_simulation.proofs.Simulation.SettlingEnds.{ends_preceded, ends_cond, length_without, find_like}
 
@@ -83,12 +86,14 @@ module _ {P : Type 0} (cmp : P → P → Ordering) (order : IsTotalOrder cmp) (y
       held_taken (inl own) =
           inl (any_end fs x ∙ or_right (list_any (same_pair cmp y) (map (λ (f : Flight P). f.message) fs)) (same_pair cmp y x || false) (or_left (same_pair cmp y x) false (y_x ∙ own)))
       held_taken (inr (off, inl among)) = inl (any_end fs x ∙ or_left (list_any (same_pair cmp y) (map (λ (f : Flight P). f.message) fs)) (same_pair cmp y x || false) among)
-      held_taken (inr (off, inr rested)) = inr (rested_other x t w (out_of_waiting cmp w x) (y_x ∙ off) (only_taken cmp order x w x (own_pair cmp order x)) (find_without x w.waiting (y_x ∙ off)) rested)
+      held_taken (inr (off, inr rested)) =
+          inr (rested_other x t w (out_of_waiting cmp w x) (y_x ∙ off)
+          (only_taken cmp order x w x (pair_itself cmp order x)) (find_without x w.waiting (y_x ∙ off)) rested)
 
       held_joined : (same_pair cmp y z ≡ true) ⊎ ((same_pair cmp y z ≡ false) × IsHeld t fs w) → IsHeld t fs (joined cmp w x)
       held_joined (inl own) = inr (rested_joined cmp order y t w x (y_x ∙ own))
       held_joined (inr (off, inl among)) = inl among
-      held_joined (inr (off, inr rested)) = inr (rested_other x t w (joined cmp w x) (y_x ∙ off) (only_joined cmp order x w x (own_pair cmp order x)) (find_without x w.waiting (y_x ∙ off)) rested)
+      held_joined (inr (off, inr rested)) = inr (rested_other x t w (joined cmp w x) (y_x ∙ off) (only_joined cmp order x w x (pair_itself cmp order x)) (find_without x w.waiting (y_x ∙ off)) rested)
 
       by_done : (b : Bool) → length (without_first (same_pair cmp x) w.waiting) + 1 ≡ length w.waiting → length (fs ++ flight_of x ∷ []) ≡ length fs + 1
           → (same_pair cmp y z ≡ true) ⊎ ((same_pair cmp y z ≡ false) × IsHeld t fs w)
@@ -97,11 +102,15 @@ module _ {P : Type 0} (cmp : P → P → Ordering) (order : IsTotalOrder cmp) (y
       by_done false less more h = ih fs (joined cmp w x) (omega arith) (held_joined h)
 
       held_still : may_start cmp t w x ≡ false → (same_pair cmp y z ≡ true) ⊎ ((same_pair cmp y z ≡ false) × IsHeld t fs w) → IsHeld t fs w
-      held_still e (inl own) = inr (λ k found. let same : Some x ≡ Some k = sym is ∙ find_like cmp order y z w.waiting own ∙ found in let it : x ≡ k = cc in subst (λ (m : Message P). may_start cmp t w m ≡ false) it e)
+      held_still e (inl own) =
+          inr (λ k found. let same : Some x ≡ Some k = sym is ∙ find_like cmp order y z w.waiting own
+          ∙ found in let it : x ≡ k = cc in subst (λ (m : Message P). may_start cmp t w m ≡ false) it e)
       held_still e (inr off) = off.1
 
       by_may : (b : Bool) → may_start cmp t w x ≡ b → (same_pair cmp y z ≡ true) ⊎ ((same_pair cmp y z ≡ false) × IsHeld t fs w)
-          → EndsWith (IsRested cmp order y t) (cond b (cond (nat_le last_moment w.next_id) (meets FlowIdsUsedUp) (cond (is_done cmp w (flight_of x)) (finish_within cmp n t (fs ++ flight_of x ∷ []) (out_of_waiting cmp w x)) (finish_within cmp n t fs (joined cmp w x)))) (finish_within cmp n t fs w))
+          → EndsWith (IsRested cmp order y t) (cond b (cond (nat_le last_moment w.next_id) (meets FlowIdsUsedUp)
+          (cond (is_done cmp w (flight_of x)) (finish_within cmp n t (fs ++ flight_of x ∷ []) (out_of_waiting cmp w x))
+          (finish_within cmp n t fs (joined cmp w x)))) (finish_within cmp n t fs w))
       by_may true e h = ends_cond (IsRested cmp order y t) (nat_le last_moment w.next_id) (meets FlowIdsUsedUp) _ tt (by_done (is_done cmp w (flight_of x)) fewer many h)
       by_may false e h = ih fs w fuel (held_still e h)
 
@@ -120,7 +129,12 @@ module _ {P : Type 0} (cmp : P → P → Ordering) (order : IsTotalOrder cmp) (y
           → (same_pair cmp y f.message ≡ true) ⊎ ((same_pair cmp y f.message ≡ false) × IsHeld t fs (arrived cmp t w f.message))
       by_pair true e h = inl e
       by_pair false e (inl among) = inr (e, inl among)
-      by_pair false e (inr rested) = inr (e, inr (rested_other f.message t w (arrived cmp t w f.message) e (only_arrived cmp order f.message t w f.message (own_pair cmp order f.message)) refl rested))
+      by_pair false e (inr rested) =
+          inr (
+            e,
+            inr (rested_other f.message t w (arrived cmp t w f.message) e
+                (only_arrived cmp order f.message t w f.message (pair_itself cmp order f.message)) refl rested),
+          )
 
 module _ {P : Type 0} (cmp : P → P → Ordering) (order : IsTotalOrder cmp) where
   -- nothing is ready: each pair rests
@@ -135,7 +149,9 @@ module _ {P : Type 0} (cmp : P → P → Ordering) (order : IsTotalOrder cmp) wh
       by_test false e = refl
       by_test true e =
           absurd
-          (subst (λ (ms : List (Message P)). Somewhere (λ m. ⊤) ms) none (some_filtered (λ m. ⊤) (may_start cmp t w) (fronts cmp w.waiting) (in_fronts cmp order (λ m. ⊤ × (may_start cmp t w m ≡ true)) x w.waiting own (tt, e))))
+          (subst (λ (ms : List (Message P)). Somewhere (λ m. ⊤) ms) none
+          (some_filtered (λ m. ⊤) (may_start cmp t w) (fronts cmp w.waiting)
+          (in_fronts cmp order (λ m. ⊤ × (may_start cmp t w m ≡ true)) x w.waiting own (tt, e))))
 
   held_first : (t : ℕ) (w : World P) (y : Message P) → ready cmp t w ≡ [] → IsHeld cmp order y t (leaving cmp w) (staying cmp w)
   unfolding leaving staying IsRested
@@ -147,16 +163,21 @@ module _ {P : Type 0} (cmp : P → P → Ordering) (order : IsTotalOrder cmp) wh
       by_test false e rested = inr (λ x found.
           let own : same_pair cmp y x ≡ true = find_passes (same_pair cmp y) x w.waiting found in
           let none_leaves : list_any (λ (f : Flight P). same_pair cmp x f.message) (filter (is_done cmp w) w.sending) ≡ false =
-          sym (any_map (same_pair cmp x) (λ (f : Flight P). f.message) (filter (is_done cmp w) w.sending)) ∙ any_like cmp order y x (map (λ (f : Flight P). f.message) (filter (is_done cmp w) w.sending)) own ∙ e in
+          sym (any_map (same_pair cmp x) (λ (f : Flight P). f.message) (filter (is_done cmp w) w.sending))
+          ∙ any_like cmp order y x (map (λ (f : Flight P). f.message) (filter (is_done cmp w) w.sending)) own ∙ e in
           let busy : list_any (same_pair cmp x) (map (λ (f : Flight P). f.message) (filter (λ f. not (is_done cmp w f)) w.sending)) ≡ list_any (same_pair cmp x) (flows w) =
-          any_map (same_pair cmp x) (λ (f : Flight P). f.message) (filter (λ f. not (is_done cmp w f)) w.sending) ∙ any_split (λ (f : Flight P). same_pair cmp x f.message) (is_done cmp w) w.sending none_leaves ∙ sym (any_map (same_pair cmp x) (λ (f : Flight P). f.message) w.sending) in
+          any_map (same_pair cmp x) (λ (f : Flight P). f.message) (filter (λ f. not (is_done cmp w f)) w.sending)
+          ∙ any_split (λ (f : Flight P). same_pair cmp x f.message) (is_done cmp w) w.sending none_leaves
+          ∙ sym (any_map (same_pair cmp x) (λ (f : Flight P). f.message) w.sending) in
           ap (λ b. not b && is_in_order (w.last_arrival x.origin x.recipient) (t + x.latency)) busy ∙ rested x found)
 
   pub none_then : (t : ℕ) (c : Course (Completed P) (World P)) → ((y : Message P) → EndsWith (IsRested cmp order y t) c) → EndsWith (λ v. ready cmp t v ≡ []) c
   unfolding IsRested
   none_then t (goes cs v) all =
       filter_none (may_start cmp t v) (fronts cmp v.waiting)
-      (each_map (IsFront cmp order v.waiting) (λ m. may_start cmp t v m ≡ false) (fronts cmp v.waiting) (λ m front. all m m (first_found cmp order (same_pair cmp m) m front.0 v.waiting front.1)) (fronts_first cmp order v.waiting))
+      (each_map (IsFront cmp order v.waiting) (λ m. may_start cmp t v m ≡ false) (fronts cmp v.waiting)
+      (λ m front. all m m (first_found cmp order (same_pair cmp m) m front.0 v.waiting front.1))
+      (fronts_first cmp order v.waiting))
   none_then t (meets fault) all = tt
 
   -- settling makes no pair ready

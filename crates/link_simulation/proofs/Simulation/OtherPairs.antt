@@ -4,18 +4,22 @@ use Rattle.std.specs.Prelude.{nat_le, ⊤, ◌&&◌, ◌||◌, ◌==◌}
 use Rattle.std.specs.List.{filter, find, list_any}
 use Rattle.std.specs.declared.cmp.Ordering.{Ordering}
 use Rattle.std.specs.Cmp.{IsTotalOrder}
-use Rattle.std.proofs.lemmas.Cmp.{tied_itself}
 use Rattle.std.proofs.lemmas.List.Folds.{list_any-append}
 use Rattle.std.proofs.lemmas.List.Elements.{filter-append}
 use Rattle.std.proofs.lemmas.Map.Views.{any-filter_same}
 use Rattle.std.proofs.lemmas.Bool.{or_right, or_left, not-true, not-false}
 use Rattle.std.proofs.lemmas.List.{append-nil, map-append}
 use Rattle.fair_rates.specs.Lists.WithoutFirst.{without_first}
-use Rattle.link_simulation.specs.Simulation.World.{Completed, Course, EndsWith, Flight, World, complete, first_waiting, flows, fronts, goes, is_done, is_idle, is_in_order, last_moment, may_start, meets, raised, ready, settle, settle_within, start, start_next, turn, out_of_flight, is_late, completed, arrival, flight_of}
+use Rattle.link_simulation.specs.Simulation.World.{Completed, Course, EndsWith, Flight, World, complete, first_waiting}
+use Rattle.link_simulation.specs.Simulation.World.{flows, fronts, goes, is_done, is_idle, is_in_order, last_moment}
+use Rattle.link_simulation.specs.Simulation.World.{may_start, meets, raised, ready, settle, settle_within, start}
+use Rattle.link_simulation.specs.Simulation.World.{start_next, turn, out_of_flight, is_late, completed, arrival}
+use Rattle.link_simulation.specs.Simulation.World.{flight_of}
 use Rattle.link_simulation.specs.Simulation.Messages.{Message, same_pair, Caps}
 use Rattle.link_simulation.specs.Simulation.Pass.{IsUnchangedFor, MayNotStart}
 use Rattle.link_simulation.specs.Simulation.Rates.{is_unlimited}
 use Rattle.fair_rates.specs.declared.error.Error.TheVariants.{FlowIdsUsedUp, MomentTooLate}
+use Rattle.link_simulation.proofs.Simulation.AlikeMessages.{pair_itself}
 use Rattle.link_simulation.proofs.Simulation.Queue.{pair_like, pair_sym, settle_none, settle_first, find_passes, filter_without}
 use Rattle.link_simulation.proofs.Simulation.SettlingEnds.{find_like, ends_preceded, ends_and_then, ends_cond}
 use Rattle.fair_rates.proofs.Lists.Filters.{filter_swap, filter_stronger}
@@ -117,9 +121,6 @@ module _ {P : Type 0} (cmp : P → P → Ordering) where
 module _ {P : Type 0} (cmp : P → P → Ordering) (order : IsTotalOrder cmp) where
   -- ---- pairs
 
-  pub pair_itself : (m : Message P) → same_pair cmp m m ≡ true
-  pair_itself m = rw (tied_itself order m.origin, tied_itself order m.recipient) refl
-
   -- a message of another pair than k
   pub pair_other : (m n k : Message P) → same_pair cmp m k ≡ false → same_pair cmp k n ≡ true → not (same_pair cmp m n) ≡ true
   pair_other m n k h e = ap not (pair_sym cmp order m n ∙ pair_like cmp order k n m e ∙ pair_sym cmp order k m ∙ h)
@@ -214,7 +215,11 @@ module _ {P : Type 0} (cmp : P → P → Ordering) (order : IsTotalOrder cmp) wh
     moment = refl;
     arrivals = λ k h. refl;
     waiting = filter_without (same_pair cmp m) w.waiting;
-    sending = filter-append (λ (f : Flight P). not (same_pair cmp m f.message)) w.sending (flight_of m ∷ []) ∙ ap (λ (b : Bool). filter (λ (f : Flight P). not (same_pair cmp m f.message)) w.sending ++ cond (not b) (flight_of m ∷ []) []) (pair_itself m) ∙ append-nil (filter (λ (f : Flight P). not (same_pair cmp m f.message)) w.sending);
+    sending =
+        filter-append (λ (f : Flight P). not (same_pair cmp m f.message)) w.sending (flight_of m ∷ [])
+        ∙ ap (λ (b : Bool). filter (λ (f : Flight P). not (same_pair cmp m f.message)) w.sending
+        ++ cond (not b) (flight_of m ∷ []) []) (pair_itself cmp order m)
+        ∙ append-nil (filter (λ (f : Flight P). not (same_pair cmp m f.message)) w.sending);
   }
 
   started_rests : (t : ℕ) (w : World P) (m : Message P) → MayNotStart cmp t m (started w m)
@@ -262,7 +267,7 @@ module _ {P : Type 0} (cmp : P → P → Ordering) (order : IsTotalOrder cmp) wh
     moment = refl;
     arrivals = λ k h. rw h refl;
     waiting = refl;
-    sending = filter_skips (λ (g : Flight P). not (same_pair cmp f.message g.message)) (is_done cmp w) f w.sending e (ap not (pair_itself f.message));
+    sending = filter_skips (λ (g : Flight P). not (same_pair cmp f.message g.message)) (is_done cmp w) f w.sending e (ap not (pair_itself cmp order f.message));
   }
 
   -- a completion changes its pair alone, which then may not start
@@ -271,7 +276,10 @@ module _ {P : Type 0} (cmp : P → P → Ordering) (order : IsTotalOrder cmp) wh
       let landed : World P = out_of_flight cmp t w f.message in
       ends_cond (Leaves t f.message w) (is_late cmp t f.message) (meets MomentTooLate) _ tt
       (ends_preceded (Leaves t f.message w) (completed cmp t f.message ∷ []) (start_next cmp t landed (first_waiting cmp landed f.message))
-      (ends_more (Leaves t f.message landed) (Leaves t f.message w) (start_next cmp t landed (first_waiting cmp landed f.message)) (λ u l. leaves_like t f.message f.message w landed u (pair_itself f.message) (landed_but_for w f (arrival cmp t f.message) e) l)
+      (ends_more (Leaves t f.message landed) (Leaves t f.message w)
+      (start_next cmp t landed (first_waiting cmp landed f.message))
+      (λ u l. leaves_like t f.message f.message w landed u (pair_itself cmp order f.message)
+      (landed_but_for w f (arrival cmp t f.message) e) l)
       (next_leaves t landed f.message (first_waiting cmp landed f.message) refl)))
 
   -- ---- settling after a start
@@ -284,7 +292,9 @@ module _ {P : Type 0} (cmp : P → P → Ordering) (order : IsTotalOrder cmp) wh
       → same_pair cmp m f.message ≡ true
   done_of_pair m w v f a quiet e =
       let apart : not (same_pair cmp m f.message) ≡ false = found_fails (is_done cmp v) (λ (g : Flight P). not (same_pair cmp m g.message)) f v.sending e
-      (ap (list_any (is_done cmp v)) a.sending ∙ any_alike (is_done cmp v) (is_done cmp w) (filter (λ (g : Flight P). not (same_pair cmp m g.message)) w.sending) (λ g. done_alike w v g a.caps) ∙ any_none (is_done cmp w) (λ (g : Flight P). not (same_pair cmp m g.message)) w.sending quiet) in
+      (ap (list_any (is_done cmp v)) a.sending ∙ any_alike (is_done cmp v) (is_done cmp w)
+      (filter (λ (g : Flight P). not (same_pair cmp m g.message)) w.sending) (λ g. done_alike w v g a.caps)
+      ∙ any_none (is_done cmp w) (λ (g : Flight P). not (same_pair cmp m g.message)) w.sending quiet) in
       not-false (same_pair cmp m f.message) apart
 
   -- settling goes on within the pair
@@ -312,9 +322,13 @@ module _ {P : Type 0} (cmp : P → P → Ordering) (order : IsTotalOrder cmp) wh
   pub fronts_are_first : (xs : List (Message P)) → Each (λ (n : Message P). find (same_pair cmp n) xs ≡ Some n) (fronts cmp xs)
   fronts_are_first [] = tt
   fronts_are_first (x ∷ xs) = (
-    rw (pair_itself x) refl,
-    each_more (λ (n : Message P). (find (same_pair cmp n) xs ≡ Some n) × (not (same_pair cmp x n) ≡ true)) (λ (n : Message P). cond (same_pair cmp n x) (Some x) (find (same_pair cmp n) xs) ≡ Some n) (λ n h. behind n h.0 h.1)
-        (filter (λ n. not (same_pair cmp x n)) (fronts cmp xs)) (each_filtered (λ (n : Message P). find (same_pair cmp n) xs ≡ Some n) (λ n. not (same_pair cmp x n)) (fronts cmp xs) (fronts_are_first xs)),
+    rw (pair_itself cmp order x) refl,
+    each_more (λ (n : Message P). (find (same_pair cmp n) xs ≡ Some n) × (not (same_pair cmp x n) ≡ true))
+        (λ (n : Message P). cond (same_pair cmp n x) (Some x) (find (same_pair cmp n) xs) ≡ Some n)
+        (λ n h. behind n h.0 h.1)
+        (filter (λ n. not (same_pair cmp x n)) (fronts cmp xs))
+        (each_filtered (λ (n : Message P). find (same_pair cmp n) xs ≡ Some n) (λ n. not (same_pair cmp x n))
+        (fronts cmp xs) (fronts_are_first xs)),
   )
     where
       behind : (n : Message P) → find (same_pair cmp n) xs ≡ Some n → not (same_pair cmp x n) ≡ true → cond (same_pair cmp n x) (Some x) (find (same_pair cmp n) xs) ≡ Some n
@@ -326,7 +340,9 @@ module _ {P : Type 0} (cmp : P → P → Ordering) (order : IsTotalOrder cmp) wh
   fronts_without m (x ∷ xs) = by_pair (same_pair cmp m x) refl (fronts_without m xs)
     where
       by_pair : (b : Bool) → same_pair cmp m x ≡ b → filter (λ n. not (same_pair cmp m n)) (fronts cmp xs) ≡ fronts cmp (filter (λ n. not (same_pair cmp m n)) xs)
-          → cond (not b) (x ∷ filter (λ n. not (same_pair cmp m n)) (filter (λ n. not (same_pair cmp x n)) (fronts cmp xs))) (filter (λ n. not (same_pair cmp m n)) (filter (λ n. not (same_pair cmp x n)) (fronts cmp xs)))
+          → cond (not b) (x ∷ filter (λ n. not (same_pair cmp m n))
+          (filter (λ n. not (same_pair cmp x n)) (fronts cmp xs)))
+          (filter (λ n. not (same_pair cmp m n)) (filter (λ n. not (same_pair cmp x n)) (fronts cmp xs)))
           ≡ fronts cmp (cond (not b) (x ∷ filter (λ n. not (same_pair cmp m n)) xs) (filter (λ n. not (same_pair cmp m n)) xs))
       by_pair true e ih =
           ap (filter (λ n. not (same_pair cmp m n))) (not_alike m x e (fronts cmp xs)) ∙ filter_stronger (λ n. not (same_pair cmp m n)) (λ n. not (same_pair cmp m n)) (fronts cmp xs) (λ n h. h) ∙ ih
@@ -336,11 +352,18 @@ module _ {P : Type 0} (cmp : P → P → Ordering) (order : IsTotalOrder cmp) wh
   -- a pair that changed alone and may not start any more: the others are ready as before
   pub ready_without : (t : ℕ) (m : Message P) (w v : World P) → Leaves t m w v → ready cmp t v ≡ filter (λ n. not (same_pair cmp m n)) (ready cmp t w)
   ready_without t m w v l =
-      sym (filter_kept_each (may_start cmp t v) (λ n. not (same_pair cmp m n)) (fronts cmp v.waiting) (each_more (λ (n : Message P). find (same_pair cmp n) v.waiting ≡ Some n) (λ (n : Message P). may_start cmp t v n ≡ true → not (same_pair cmp m n) ≡ true) (λ n e h. of_another n (same_pair cmp m n) refl e h) (fronts cmp v.waiting) (fronts_are_first v.waiting)))
+      sym (filter_kept_each (may_start cmp t v) (λ n. not (same_pair cmp m n)) (fronts cmp v.waiting)
+      (each_more (λ (n : Message P). find (same_pair cmp n) v.waiting ≡ Some n)
+      (λ (n : Message P). may_start cmp t v n ≡ true → not (same_pair cmp m n) ≡ true)
+      (λ n e h. of_another n (same_pair cmp m n) refl e h) (fronts cmp v.waiting) (fronts_are_first v.waiting)))
       ∙ ap (filter (may_start cmp t v)) (fronts_without m v.waiting ∙ ap (fronts cmp) l.others.waiting ∙ sym (fronts_without m w.waiting))
       ∙ filter_alike (may_start cmp t v) (may_start cmp t w) (filter (λ n. not (same_pair cmp m n)) (fronts cmp w.waiting))
-      (each_more (λ (n : Message P). ⊤ × (not (same_pair cmp m n) ≡ true)) (λ (n : Message P). may_start cmp t v n ≡ may_start cmp t w n) (λ n h. may_start_alike t m n w v l.others (not-true (same_pair cmp m n) h.1))
-      (filter (λ n. not (same_pair cmp m n)) (fronts cmp w.waiting)) (each_filtered (λ (n : Message P). ⊤) (λ n. not (same_pair cmp m n)) (fronts cmp w.waiting) (each_of (λ (n : Message P). ⊤) (λ n. tt) (fronts cmp w.waiting))))
+      (each_more (λ (n : Message P). ⊤ × (not (same_pair cmp m n) ≡ true))
+      (λ (n : Message P). may_start cmp t v n ≡ may_start cmp t w n)
+      (λ n h. may_start_alike t m n w v l.others (not-true (same_pair cmp m n) h.1))
+      (filter (λ n. not (same_pair cmp m n)) (fronts cmp w.waiting))
+      (each_filtered (λ (n : Message P). ⊤) (λ n. not (same_pair cmp m n)) (fronts cmp w.waiting)
+      (each_of (λ (n : Message P). ⊤) (λ n. tt) (fronts cmp w.waiting))))
       ∙ filter_swap (may_start cmp t w) (λ n. not (same_pair cmp m n)) (fronts cmp w.waiting)
     where
       of_another : (n : Message P) (b : Bool) → same_pair cmp m n ≡ b → find (same_pair cmp n) v.waiting ≡ Some n → may_start cmp t v n ≡ true → not b ≡ true

@@ -10,7 +10,8 @@ use Rattle.link_simulation.specs.Simulation.World.{least_pair}
 use Rattle.link_simulation.specs.Simulation.Messages.{Message, OneForEachPair, pair_before, same_pair}
 use Rattle.link_simulation.specs.Simulation.Pass.{IsBeforeEach, IsByPair, by_pair, insert_by_pair}
 use Rattle.link_simulation.proofs.Simulation.Queue.{pair_like, pair_sym}
-use Rattle.link_simulation.proofs.Simulation.OtherPairs.{each_more, pair_itself}
+use Rattle.link_simulation.proofs.Simulation.OtherPairs.{each_more}
+use Rattle.link_simulation.proofs.Simulation.AlikeMessages.{pair_itself}
 use Rattle.fair_rates.proofs.Lists.Each.{Each}
 use Rattle.fair_rates.proofs.Lists.Filters.{find_from_any}
 use Rattle.fair_rates.proofs.Lists.Sorted.{is_lt_less}
@@ -83,8 +84,14 @@ module _ {P : Type 0} (cmp : P → P → Ordering) (order : IsTotalOrder cmp) wh
       by_test n true before least =
           let apart : same_pair cmp n m ≡ false = apart_if_before n m before in
           (rw apart least.0, (not_before_back n m before, least.1))
-      by_test n false before least =
-          (itself.1, (not_before_itself m, each_more (λ (k : Message P). pair_before cmp k n ≡ false) (λ (k : Message P). pair_before cmp k m ≡ false) (λ k h. not_before_on k n m h before) ms least.1))
+      by_test n false before least = (
+        itself.1,
+        (
+          not_before_itself m,
+          each_more (λ (k : Message P). pair_before cmp k n ≡ false)
+              (λ (k : Message P). pair_before cmp k m ≡ false) (λ k h. not_before_on k n m h before) ms least.1,
+        ),
+      )
 
       by_rest : (o : Option (Message P)) → least_pair cmp ms ≡ o → Some (elim o [ None ↦ m | Some n ↦ cond (pair_before cmp n m) n m ]) ≡ Some l
           → ((n : Message P) → least_pair cmp ms ≡ Some n → IsLeast n ms) → IsLeast l (m ∷ ms)
@@ -137,7 +144,8 @@ module _ {P : Type 0} (cmp : P → P → Ordering) (order : IsTotalOrder cmp) wh
   pub find_by_pair : (ms : List (Message P)) → OneForEachPair cmp ms → (k : Message P) → find (same_pair cmp k) (by_pair cmp ms) ≡ find (same_pair cmp k) ms
   find_by_pair [] one k = refl
   find_by_pair (m ∷ ms) one k =
-      find_inserted k m (by_pair cmp ms) (find_by_pair ms one.1 m ∙ find_from_any (same_pair cmp m) ms one.0) ∙ ap (λ (o : Option (Message P)). cond (same_pair cmp k m) (Some m) o) (find_by_pair ms one.1 k)
+      find_inserted k m (by_pair cmp ms) (find_by_pair ms one.1 m ∙ find_from_any (same_pair cmp m) ms one.0)
+      ∙ ap (λ (o : Option (Message P)). cond (same_pair cmp k m) (Some m) o) (find_by_pair ms one.1 k)
 
   before_inserted : (k m : Message P) (ns : List (Message P)) → pair_before cmp k m ≡ true → IsBeforeEach cmp k ns → IsBeforeEach cmp k (insert_by_pair cmp m ns)
   before_inserted k m [] e h = (e, tt)

@@ -6,13 +6,18 @@ use Rattle.std.specs.declared.cmp.Ordering.{Ordering}
 use Rattle.std.specs.Cmp.{IsTotalOrder}
 use Rattle.std.proofs.lemmas.Bool.{not-true}
 use Rattle.fair_rates.specs.Lists.WithoutFirst.{without_first}
-use Rattle.link_simulation.specs.Simulation.World.{Completed, Course, EndsWith, Flight, IsQuiet, World, and_then, complete, first_waiting, fronts, goes, is_done, last_moment, least_pair, may_start, meets, preceded, ready, settle, settle_within, start, start_next, turn, wake, wake_within, out_of_flight, is_late, completed}
+use Rattle.link_simulation.specs.Simulation.World.{Completed, Course, EndsWith, Flight, IsQuiet, World, and_then}
+use Rattle.link_simulation.specs.Simulation.World.{complete, first_waiting, fronts, goes, is_done, last_moment}
+use Rattle.link_simulation.specs.Simulation.World.{least_pair, may_start, meets, preceded, ready, settle, settle_within}
+use Rattle.link_simulation.specs.Simulation.World.{start, start_next, turn, wake, wake_within, out_of_flight, is_late}
+use Rattle.link_simulation.specs.Simulation.World.{completed}
 use Rattle.link_simulation.specs.Simulation.Messages.{Message, OneForEachPair, pair_before, same_pair}
 use Rattle.link_simulation.specs.Simulation.Pass.{IsByPair, by_pair, wake_each}
 use Rattle.fair_rates.specs.declared.error.Error.TheVariants.{FlowIdsUsedUp, MomentTooLate}
 use Rattle.link_simulation.proofs.Simulation.Queue.{pair_like, pair_sym, settle_none, settle_first}
 use Rattle.link_simulation.proofs.Simulation.SettlingEnds.{length_without, ends_preceded, ends_and_then, ends_cond, NoneDone, settle_rests}
-use Rattle.link_simulation.proofs.Simulation.OtherPairs.{each_more, each_of, find_kept, any_from_find, Leaves, pair_itself, pair_other, ends_more, fronts_are_first, ready_without, start_settles, any_none}
+use Rattle.link_simulation.proofs.Simulation.OtherPairs.{each_more, each_of, find_kept, any_from_find, Leaves, pair_other, ends_more, fronts_are_first, ready_without, start_settles, any_none}
+use Rattle.link_simulation.proofs.Simulation.AlikeMessages.{pair_itself}
 use Rattle.fair_rates.proofs.Lists.Each.{Each, each_filtered}
 use Rattle.fair_rates.proofs.Lists.Filters.{find_from_any, length-without_first, none_long}
 use Rattle.link_simulation.proofs.Simulation.PairOrder.{apart_if_before, least_none, least_is, found_in, as_each, find_nowhere, find_by_pair, ordered_by_pair}
@@ -132,7 +137,10 @@ module _ {P : Type 0} (cmp : P → P → Ordering) (order : IsTotalOrder cmp) wh
   pub find_without : (k m : Message P) (xs : List (Message P)) → same_pair cmp m k ≡ true → find (same_pair cmp k) (filter (λ n. not (same_pair cmp m n)) xs) ≡ None
   find_without k m xs e =
       find_nowhere cmp order (same_pair cmp k) (filter (λ n. not (same_pair cmp m n)) xs)
-      (each_more (λ (n : Message P). ⊤ × (not (same_pair cmp m n) ≡ true)) (λ (n : Message P). same_pair cmp k n ≡ false) (λ n h. pair_like cmp order m k n e ∙ not-true (same_pair cmp m n) h.1) (filter (λ n. not (same_pair cmp m n)) xs)
+      (each_more (λ (n : Message P). ⊤ × (not (same_pair cmp m n) ≡ true))
+      (λ (n : Message P). same_pair cmp k n ≡ false)
+      (λ n h. pair_like cmp order m k n e ∙ not-true (same_pair cmp m n) h.1)
+      (filter (λ n. not (same_pair cmp m n)) xs)
       (each_filtered (λ (n : Message P). ⊤) (λ n. not (same_pair cmp m n)) xs (each_of (λ (n : Message P). ⊤) (λ n. tt) xs)))
 
   -- the same pairs, with the same messages
@@ -145,11 +153,15 @@ module _ {P : Type 0} (cmp : P → P → Ordering) (order : IsTotalOrder cmp) wh
     where
       by_pair_of : (b : Bool) → same_pair cmp m k ≡ b → find (same_pair cmp k) ms ≡ find (same_pair cmp k) (filter (λ n. not (same_pair cmp m n)) rs)
       by_pair_of true e =
-          find_nowhere cmp order (same_pair cmp k) ms (each_more (λ (n : Message P). pair_before cmp m n ≡ true) (λ (n : Message P). same_pair cmp k n ≡ false) (λ n b. pair_like cmp order m k n e ∙ apart_if_before cmp order m n b) ms (as_each cmp order m ms h.0))
+          find_nowhere cmp order (same_pair cmp k) ms (each_more (λ (n : Message P). pair_before cmp m n ≡ true)
+          (λ (n : Message P). same_pair cmp k n ≡ false)
+          (λ n b. pair_like cmp order m k n e ∙ apart_if_before cmp order m n b) ms (as_each cmp order m ms h.0))
           ∙ sym (find_without k m rs e)
       by_pair_of false e =
           let apart : same_pair cmp k m ≡ false = pair_sym cmp order k m ∙ e in
-          ap (λ (b : Bool). cond b (Some m) (find (same_pair cmp k) ms)) (sym apart) ∙ same k ∙ sym (find_kept (same_pair cmp k) (λ n. not (same_pair cmp m n)) rs (λ n f. pair_other cmp order m n k e f))
+          ap (λ (b : Bool). cond b (Some m) (find (same_pair cmp k) ms)) (sym apart) ∙ same k
+          ∙ sym (find_kept (same_pair cmp k) (λ n. not (same_pair cmp m n)) rs
+          (λ n f. pair_other cmp order m n k e f))
 
   -- its first pair is the least
   least_first : (m : Message P) (ms rs : List (Message P)) → IsByPair cmp (m ∷ ms) → FindsAlike (m ∷ ms) rs → least_pair cmp rs ≡ Some m
@@ -189,7 +201,9 @@ module _ {P : Type 0} (cmp : P → P → Ordering) (order : IsTotalOrder cmp) wh
       wake_first n t w m e
       ∙ and_then_alike (turn cmp t w m) (wake_within cmp n t) (wake_each cmp t ms)
       (ends_more cmp order (λ (v : World P). Leaves cmp order t m w v × (NoneDone cmp order v × WaitAtMost n v)) (λ (v : World P). wake_within cmp n t v ≡ wake_each cmp t ms v) (turn cmp t w m)
-      (λ v k. wake_within_is_pass n t ms v (any_from_find (is_done cmp v) v.sending k.1.0) k.1.1 by.1 (subst (FindsAlike ms) (sym (ready_without cmp order t m w v k.0)) (alike_without m ms (ready cmp t w) by same)))
+      (λ v k. wake_within_is_pass n t ms v (any_from_find (is_done cmp v) v.sending k.1.0) k.1.1 by.1
+      (subst (FindsAlike ms) (sym (ready_without cmp order t m w v k.0))
+      (alike_without m ms (ready cmp t w) by same)))
       (ends_both (Leaves cmp order t m w) (λ (v : World P). NoneDone cmp order v × WaitAtMost n v) (turn cmp t w m) (start_settles cmp order t w m none)
       (ends_both (NoneDone cmp order) (WaitAtMost n) (turn cmp t w m) (turn_rests t w m) (turn_waits n t w m m (ready_is_front t w m m found) h))))
 
@@ -208,8 +222,11 @@ module _ {P : Type 0} (cmp : P → P → Ordering) (order : IsTotalOrder cmp) wh
 
   pub one_in_fronts : (xs : List (Message P)) → OneForEachPair cmp (fronts cmp xs)
   one_in_fronts [] = tt
-  one_in_fronts (x ∷ xs) =
-      (any_from_find (same_pair cmp x) (filter (λ n. not (same_pair cmp x n)) (fronts cmp xs)) (find_without x x (fronts cmp xs) (pair_itself cmp order x)), one_in_filter (λ n. not (same_pair cmp x n)) (fronts cmp xs) (one_in_fronts xs))
+  one_in_fronts (x ∷ xs) = (
+    any_from_find (same_pair cmp x) (filter (λ n. not (same_pair cmp x n)) (fronts cmp xs))
+        (find_without x x (fronts cmp xs) (pair_itself cmp order x)),
+    one_in_filter (λ n. not (same_pair cmp x n)) (fronts cmp xs) (one_in_fronts xs),
+  )
 
   -- waking goes once through those that are ready, in the order of pairs, with as many steps as wait or more
   pub wake_more_is_pass : (n t : ℕ) (w : World P) → list_any (is_done cmp w) w.sending ≡ false → WaitAtMost n w → wake_within cmp n t w ≡ wake_each cmp t (by_pair cmp (ready cmp t w)) w

@@ -7,14 +7,18 @@ use Rattle.std.specs.Cmp.{IsTotalOrder}
 use Rattle.std.proofs.lemmas.List.Elements.{filter-append}
 use Rattle.std.proofs.lemmas.List.{append-nil}
 use Rattle.std.proofs.lemmas.Bool.Decides.{nat_tests}
-use Rattle.link_simulation.specs.Simulation.World.{Completed, Course, EndsWith, IsQuiet, World, and_then, complete, first_waiting, fronts, goes, instant, is_done, is_idle, is_in_order, last_moment, later_of, least_pair, may_start, meets, raised, ready, settle, settle_within, start, start_next, turn, wake, wake_within}
+use Rattle.link_simulation.specs.Simulation.World.{Completed, Course, EndsWith, IsQuiet, World, and_then, complete}
+use Rattle.link_simulation.specs.Simulation.World.{first_waiting, fronts, goes, instant, is_done, is_idle, is_in_order}
+use Rattle.link_simulation.specs.Simulation.World.{last_moment, later_of, least_pair, may_start, meets, raised, ready}
+use Rattle.link_simulation.specs.Simulation.World.{settle, settle_within, start, start_next, turn, wake, wake_within}
 use Rattle.link_simulation.specs.Simulation.Calls.{Call, Runs, act, call_advance, call_enqueue, call_limit, call_next, complete_at_once, moment_of, limited_by, rebalance, call_limit_link, linked_by}
 use Rattle.link_simulation.specs.Simulation.Messages.{Message, same_pair, Caps}
 use Rattle.link_simulation.specs.Simulation.Time.{no_time, Drains, NextIs, Passes, Ticks, comes_next, never_comes, no_tick, one_tick, quiet_tick, tick_faults}
 use Rattle.fair_rates.specs.declared.error.Error.TheVariants.{MomentTooLate}
 use Rattle.link_simulation.proofs.Simulation.Queue.{settle_none, preceded_none}
 use Rattle.link_simulation.proofs.Simulation.SettlingEnds.{ends_preceded, ends_and_then, ends_cond, NoneDone, settle_rests}
-use Rattle.link_simulation.proofs.Simulation.OtherPairs.{Leaves, pair_itself, ends_more, leaves_like, next_leaves, start_leaves, complete_leaves, ready_without, any_from_find, IsButFor}
+use Rattle.link_simulation.proofs.Simulation.OtherPairs.{Leaves, ends_more, leaves_like, next_leaves, start_leaves, complete_leaves, ready_without, any_from_find, IsButFor}
+use Rattle.link_simulation.proofs.Simulation.AlikeMessages.{pair_itself}
 use Rattle.fair_rates.proofs.Lists.Filters.{find_from_any}
 use Rattle.link_simulation.proofs.Simulation.Pass.{ends_both, settle_keeps, wake_none, wake_first, wake_ends_quiet}
 
@@ -91,7 +95,9 @@ module _ {P : Type 0} (cmp : P → P → Ordering) (order : IsTotalOrder cmp) wh
   -- the instant of a quiet world leaves it as it is
   pub instant_of_quiet : (w : World P) → IsQuietNow w → instant cmp w ≡ goes [] w
   instant_of_quiet w q =
-      ap (λ (c : Course (Completed P) (World P)). and_then c (λ v. wake cmp v.moment v)) (settle_nothing (length w.sending + length w.waiting) w.moment w (find_from_any (is_done cmp w) w.sending q.none_done))
+      ap (λ (c : Course (Completed P) (World P)). and_then c (λ v. wake cmp v.moment v))
+      (settle_nothing (length w.sending + length w.waiting) w.moment w
+      (find_from_any (is_done cmp w) w.sending q.none_done))
       ∙ preceded_none (wake cmp w.moment w) ∙ wake_none cmp order (length w.waiting) w.moment w q.none_ready
 
   -- after an instant the world is quiet
@@ -99,7 +105,9 @@ module _ {P : Type 0} (cmp : P → P → Ordering) (order : IsTotalOrder cmp) wh
   instant_ends_quiet w =
       ends_and_then (λ (v : World P). NoneDone cmp order v) IsQuietNow (settle cmp w.moment w) (λ v. wake cmp v.moment v) (settle_rests cmp order w.moment w)
       (λ v no_tick. ends_more cmp order (λ (u : World P). IsQuiet cmp v.moment u × IsAt v.moment u) IsQuietNow (wake cmp v.moment v) (λ u k. subst (λ (t : ℕ). IsQuiet cmp t u) (sym k.1) k.0)
-      (ends_both (IsQuiet cmp v.moment) (IsAt v.moment) (wake cmp v.moment v) (wake_ends_quiet cmp order v.moment v (any_from_find (is_done cmp v) v.sending no_tick)) (wake_stays v.moment v.moment v refl)))
+      (ends_both (IsQuiet cmp v.moment) (IsAt v.moment) (wake cmp v.moment v)
+      (wake_ends_quiet cmp order v.moment v (any_from_find (is_done cmp v) v.sending no_tick))
+      (wake_stays v.moment v.moment v refl)))
 
   pub instant_stays : (w : World P) → EndsWith (IsAt w.moment) (instant cmp w)
   instant_stays w = instant_outlasts (IsAt w.moment) (at_kept w.moment) w refl
@@ -148,7 +156,8 @@ module _ {P : Type 0} (cmp : P → P → Ordering) (order : IsTotalOrder cmp) wh
   -- settling a world in which none may start ends in quiet
   settle_ends_quiet : (t : ℕ) (w : World P) → NoneReady t w → EndsWith (IsQuiet cmp t) (settle cmp t w)
   settle_ends_quiet t w h =
-      ends_more cmp order (λ (v : World P). NoneDone cmp order v × NoneReady t v) (IsQuiet cmp t) (settle cmp t w) (λ v k. record { none_done = any_from_find (is_done cmp v) v.sending k.0; none_ready = k.1 })
+      ends_more cmp order (λ (v : World P). NoneDone cmp order v × NoneReady t v) (IsQuiet cmp t) (settle cmp t w)
+      (λ v k. record { none_done = any_from_find (is_done cmp v) v.sending k.0; none_ready = k.1 })
       (ends_both (NoneDone cmp order) (NoneReady t) (settle cmp t w) (settle_rests cmp order t w) (settle_unready t w h))
 
   abbrev pub queued : World P → Message P → World P
@@ -160,7 +169,10 @@ module _ {P : Type 0} (cmp : P → P → Ordering) (order : IsTotalOrder cmp) wh
     limited = refl;
     moment = refl;
     arrivals = λ k h. refl;
-    waiting = filter-append (λ n. not (same_pair cmp m n)) w.waiting (m ∷ []) ∙ ap (λ (b : Bool). filter (λ n. not (same_pair cmp m n)) w.waiting ++ cond (not b) (m ∷ []) []) (pair_itself cmp order m) ∙ append-nil (filter (λ n. not (same_pair cmp m n)) w.waiting);
+    waiting =
+        filter-append (λ n. not (same_pair cmp m n)) w.waiting (m ∷ [])
+        ∙ ap (λ (b : Bool). filter (λ n. not (same_pair cmp m n)) w.waiting ++ cond (not b) (m ∷ []) [])
+        (pair_itself cmp order m) ∙ append-nil (filter (λ n. not (same_pair cmp m n)) w.waiting);
     sending = refl;
   }
 
@@ -172,7 +184,12 @@ module _ {P : Type 0} (cmp : P → P → Ordering) (order : IsTotalOrder cmp) wh
   enqueue_ends_quiet t w m unready at =
       ends_and_then (λ (v : World P). NoneReady t v × IsAt t v) (QuietAt t) (start_next cmp t (queued w m) (first_waiting cmp (queued w m) m)) (settle cmp t)
       (ends_more cmp order (Leaves cmp order t m (queued w m)) (λ (v : World P). NoneReady t v × IsAt t v) (start_next cmp t (queued w m) (first_waiting cmp (queued w m) m))
-      (λ v l. (stays_unready t m w v unready (leaves_like cmp order t m m w (queued w m) v (pair_itself cmp order m) (queued_but_for w m) l), l.others.moment ∙ at)) (next_leaves cmp order t (queued w m) m (first_waiting cmp (queued w m) m) refl))
+      (λ v l. (
+        stays_unready t m w v unready (leaves_like cmp order t m m w (queued w m) v (pair_itself cmp order m)
+            (queued_but_for w m) l),
+        l.others.moment ∙ at,
+      ))
+      (next_leaves cmp order t (queued w m) m (first_waiting cmp (queued w m) m) refl))
       (λ v k. ends_both (IsQuiet cmp t) (IsAt t) (settle cmp t v) (settle_ends_quiet t v k.0) (settle_stays t t v k.1))
 
   -- an arrival makes none ready
@@ -199,14 +216,18 @@ module _ {P : Type 0} (cmp : P → P → Ordering) (order : IsTotalOrder cmp) wh
   rebalance_ends_quiet : (now t : ℕ) (w : World P) (caps : Caps P) → now ≡ t → QuietAt now w → EndsWith (QuietAt now) (rebalance cmp t w caps)
   rebalance_ends_quiet now t w caps same q =
       let changed : World P = record w { caps = caps; limited = true } in
-      subst (λ (s : ℕ). EndsWith (QuietAt now) (settle cmp s changed)) same (ends_both (IsQuiet cmp now) (IsAt now) (settle cmp now changed) (settle_ends_quiet now changed q.0.none_ready) (settle_stays now now changed q.1))
+      subst (λ (s : ℕ). EndsWith (QuietAt now) (settle cmp s changed)) same
+      (ends_both (IsQuiet cmp now) (IsAt now) (settle cmp now changed) (settle_ends_quiet now changed q.0.none_ready)
+      (settle_stays now now changed q.1))
 
   act_ends_quiet : (now : ℕ) (call : Call P) (w : World P) → moment_of call ≡ Some now → QuietAt now w → EndsWith (QuietAt now) (act cmp w call)
   act_ends_quiet now (call_limit t peer egress ingress) w e q = let same : now ≡ t = cc in rebalance_ends_quiet now t w (limited_by cmp w.caps peer egress ingress) same q
   act_ends_quiet now (call_limit_link t origin recipient cap) w e q = let same : now ≡ t = cc in rebalance_ends_quiet now t w (linked_by cmp w.caps origin recipient cap) same q
   act_ends_quiet now (call_enqueue t m) w e q =
       let same : now ≡ t = cc in
-      subst (λ (s : ℕ). EndsWith (QuietAt now) (act cmp w (call_enqueue s m))) same (ends_cond (QuietAt now) w.limited _ _ (enqueue_ends_quiet now w m q.0.none_ready q.1) (at_once_ends_quiet now w m q))
+      subst (λ (s : ℕ). EndsWith (QuietAt now) (act cmp w (call_enqueue s m))) same
+      (ends_cond (QuietAt now) w.limited _ _ (enqueue_ends_quiet now w m q.0.none_ready q.1)
+      (at_once_ends_quiet now w m q))
   act_ends_quiet now (call_advance t) w e q = q
   act_ends_quiet now call_next w e q = q
 
@@ -233,6 +254,8 @@ module _ {P : Type 0} (cmp : P → P → Ordering) (order : IsTotalOrder cmp) wh
       let count : w.moment + (now - w.moment) ≡ now = omega arith in
       subst (EndsWith (QuietAt now)) (sym runs.acts)
       (ends_and_then (QuietAt now) (QuietAt now) runs.ticked (λ v. act cmp v call)
-      (ends_more cmp order (λ (v : World P). IsQuietNow v × IsAt (w.moment + (now - w.moment)) v) (QuietAt now) runs.ticked (λ v k. let at : v.moment ≡ now = k.1 ∙ count in (subst (λ (t : ℕ). IsQuiet cmp t v) at k.0, at))
+      (ends_more cmp order (λ (v : World P). IsQuietNow v × IsAt (w.moment + (now - w.moment)) v)
+      (QuietAt now) runs.ticked (λ v k. let at : v.moment ≡ now = k.1
+      ∙ count in (subst (λ (t : ℕ). IsQuiet cmp t v) at k.0, at))
       (ends_both IsQuietNow (IsAt (w.moment + (now - w.moment))) runs.ticked (ticks_end_quiet runs.ticks q) (ticks_end_at runs.ticks)))
       (λ v k. act_ends_quiet now call v e k))

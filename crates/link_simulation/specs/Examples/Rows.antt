@@ -5,7 +5,8 @@ use Rattle.std.specs.declared.cmp.Ordering.{Ordering}
 use Rattle.std.specs.declared.cmp.Ordering.TheVariants.{Equal}
 use Rattle.link_simulation.specs.Simulation.Messages.{Message, no_caps}
 use Rattle.link_simulation.specs.Simulation.World.{World, Completed, completion_of, flight_of}
-use Rattle.link_simulation.specs.Simulation.Calls.{limited_by}
+use Rattle.link_simulation.specs.Simulation.Calls.{Call, call_limit, call_enqueue, call_advance, call_next, limited_by}
+use Rattle.link_simulation.specs.Simulation.Replies.{Reply, reply_done, reply_next}
 use Rattle.link_simulation.specs.Rule.Planned.{RatedFlight}
 use Rattle.fair_rates.specs.Numbers.Amount.{Amount, whole}
 
@@ -60,3 +61,31 @@ flying cap m = record {
   next_id = 1;
   moment = 0;
 }
+
+-- four bytes of latency 3, and behind them two bytes of latency 1
+abbrev pub calls_of_a_follower : List (Call ℕ)
+calls_of_a_follower =
+    call_limit 0 1 a_byte_a_nanosecond None ∷ call_enqueue 0 (message 1 2 4 3) ∷ call_enqueue 0 (message 1 2 2 1)
+    ∷ call_next ∷ call_advance 4 ∷ call_next ∷ call_advance 6 ∷ call_next ∷ call_advance 8 ∷ call_next ∷ []
+
+-- the four bytes arrive at 7, and the two start at 6
+abbrev pub replies_of_a_follower : List (Reply ℕ)
+replies_of_a_follower =
+    reply_done [] ∷ reply_done [] ∷ reply_done []
+    ∷ reply_next (Some 4) ∷ reply_done (arrives (message 1 2 4 3) 7 ∷ []) ∷ reply_next (Some 6) ∷ reply_done []
+    ∷ reply_next (Some 8) ∷ reply_done (arrives (message 1 2 2 1) 9 ∷ []) ∷ reply_next None ∷ []
+
+-- a message that finishes at the last moment, and one that is enqueued then
+abbrev pub calls_at_the_last_moment : List (Call ℕ)
+calls_at_the_last_moment =
+    call_limit 0 1 a_byte_a_nanosecond None ∷ call_enqueue 18_446_744_073_709_551_614 (message 1 2 1 0)
+    ∷ call_next ∷ call_advance 18_446_744_073_709_551_615
+    ∷ call_enqueue 18_446_744_073_709_551_615 (message 1 2 1 0) ∷ call_next
+    ∷ call_advance 18_446_744_073_709_551_615 ∷ []
+
+-- the first arrives then, and the other never does
+abbrev pub replies_at_the_last_moment : List (Reply ℕ)
+replies_at_the_last_moment =
+    reply_done [] ∷ reply_done [] ∷ reply_next (Some 18_446_744_073_709_551_615)
+    ∷ reply_done (arrives (message 1 2 1 0) 18_446_744_073_709_551_615 ∷ [])
+    ∷ reply_done [] ∷ reply_next None ∷ reply_done [] ∷ []

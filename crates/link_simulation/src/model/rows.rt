@@ -10,6 +10,8 @@ ghost use Rattle.link_simulation.specs.Simulation.Calls.{call_next};
 ghost use Rattle.link_simulation.specs.Simulation.Replies.{reply_done, reply_next, reply_refused, Agrees};
 ghost use Rattle.fair_rates.specs.declared.error.Error.TheVariants.{OutOfMemory, MomentTooLate, FlowIdsUsedUp};
 ghost use Rattle.link_simulation.specs.Examples.Rows.{message, dropped, arrives, is_gone, a_byte_a_nanosecond, flying};
+ghost use Rattle.link_simulation.specs.Examples.Rows.{calls_of_a_follower, replies_of_a_follower};
+ghost use Rattle.link_simulation.specs.Examples.Rows.{calls_at_the_last_moment, replies_at_the_last_moment};
 
 /// Three bytes take three nanoseconds, and arrive their latency later.
 pub fn a_message_takes_its_time()
@@ -23,12 +25,7 @@ pub fn a_message_takes_its_time()
 /// A message waits until it cannot arrive before the one ahead of it: four bytes arrive at 7, and two more bytes of
 /// latency 1 start at 6.
 pub fn a_follower_keeps_behind()
-    ensures { Agrees nat_cmp (new_world 0)
-        (call_limit 0 1 a_byte_a_nanosecond None ∷ call_enqueue 0 (message 1 2 4 3) ∷ call_enqueue 0 (message 1 2 2 1)
-        ∷ call_next ∷ call_advance 4 ∷ call_next ∷ call_advance 6 ∷ call_next ∷ call_advance 8 ∷ call_next ∷ [])
-        (reply_done [] ∷ reply_done [] ∷ reply_done []
-        ∷ reply_next (Some 4) ∷ reply_done (arrives (message 1 2 4 3) 7 ∷ []) ∷ reply_next (Some 6) ∷ reply_done []
-        ∷ reply_next (Some 8) ∷ reply_done (arrives (message 1 2 2 1) 9 ∷ []) ∷ reply_next None ∷ []) }
+    ensures { Agrees nat_cmp (new_world 0) calls_of_a_follower replies_of_a_follower }
 {}
 
 /// Two messages share the cap evenly, and the one that is left gets all of it. At one moment a message that finishes
@@ -175,13 +172,7 @@ pub fn a_late_arrival_is_refused()
 
 /// A message that finishes at the last moment arrives then. One that finishes later never does.
 pub fn a_message_may_arrive_at_the_last_moment()
-    ensures { Agrees nat_cmp (new_world 0)
-        (call_limit 0 1 a_byte_a_nanosecond None ∷ call_enqueue 18_446_744_073_709_551_614 (message 1 2 1 0)
-        ∷ call_next ∷ call_advance 18_446_744_073_709_551_615
-        ∷ call_enqueue 18_446_744_073_709_551_615 (message 1 2 1 0) ∷ call_next ∷ [])
-        (reply_done [] ∷ reply_done [] ∷ reply_next (Some 18_446_744_073_709_551_615)
-        ∷ reply_done (arrives (message 1 2 1 0) 18_446_744_073_709_551_615 ∷ []) ∷ reply_done [] ∷ reply_next None
-        ∷ []) }
+    ensures { Agrees nat_cmp (new_world 0) calls_at_the_last_moment replies_at_the_last_moment }
 {}
 
 /// With the flow ids used up no message starts; one that could start at once is refused.

@@ -11,16 +11,13 @@ ghost use Rattle.link_simulation.specs.Simulation.Replies.{reply_done, reply_nex
 ghost use Rattle.link_simulation.specs.Rule.Refusals.{Obeyed};
 ghost use Rattle.fair_rates.specs.declared.error.Error.TheVariants.{MomentTooLate, FlowIdsUsedUp};
 ghost use Rattle.link_simulation.specs.Examples.Rows.{message, arrives, a_byte_a_nanosecond};
+ghost use Rattle.link_simulation.specs.Examples.Rows.{calls_of_a_follower, replies_of_a_follower};
+ghost use Rattle.link_simulation.specs.Examples.Rows.{calls_at_the_last_moment, replies_at_the_last_moment};
 
 /// At moments in their order the replies are the simulation's: a follower starts when it cannot arrive before the
 /// message ahead of it.
 pub fn a_follower_starts_as_planned()
-    ensures { Obeyed nat_cmp (new_planned 0)
-        (call_limit 0 1 a_byte_a_nanosecond None ∷ call_enqueue 0 (message 1 2 4 3) ∷ call_enqueue 0 (message 1 2 2 1)
-        ∷ call_next ∷ call_advance 4 ∷ call_next ∷ call_advance 6 ∷ call_next ∷ call_advance 8 ∷ call_next ∷ [])
-        (reply_done [] ∷ reply_done [] ∷ reply_done []
-        ∷ reply_next (Some 4) ∷ reply_done (arrives (message 1 2 4 3) 7 ∷ []) ∷ reply_next (Some 6) ∷ reply_done []
-        ∷ reply_next (Some 8) ∷ reply_done (arrives (message 1 2 2 1) 9 ∷ []) ∷ reply_next None ∷ []) }
+    ensures { Obeyed nat_cmp (new_planned 0) calls_of_a_follower replies_of_a_follower }
 {}
 
 /// One advance over all of it comes to the same completions.
@@ -55,14 +52,7 @@ pub fn a_past_moment_does_nothing()
 
 /// A message that finishes at the last moment arrives then. One that finishes later never does.
 pub fn the_last_moment_counts()
-    ensures { Obeyed nat_cmp (new_planned 0)
-        (call_limit 0 1 a_byte_a_nanosecond None ∷ call_enqueue 18_446_744_073_709_551_614 (message 1 2 1 0)
-        ∷ call_next ∷ call_advance 18_446_744_073_709_551_615
-        ∷ call_enqueue 18_446_744_073_709_551_615 (message 1 2 1 0) ∷ call_next
-        ∷ call_advance 18_446_744_073_709_551_615 ∷ [])
-        (reply_done [] ∷ reply_done [] ∷ reply_next (Some 18_446_744_073_709_551_615)
-        ∷ reply_done (arrives (message 1 2 1 0) 18_446_744_073_709_551_615 ∷ [])
-        ∷ reply_done [] ∷ reply_next None ∷ reply_done [] ∷ []) }
+    ensures { Obeyed nat_cmp (new_planned 0) calls_at_the_last_moment replies_at_the_last_moment }
 {}
 
 /// A call that meets a fault changes nothing, though another message was done before it: the next event stays, and

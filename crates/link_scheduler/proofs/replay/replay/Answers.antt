@@ -17,23 +17,45 @@ use Rattle.link_simulation.proofs.Laws.Replies.{pairs_complete_in_order, sets_ar
 use Rattle.link_scheduler.proofs.replay.replay.Goals as goal
 
 pub loop-call-init : goal.loop-call-init
-loop-call-init g c = begins g.P.Ord.cmp g.met.P.Ord.total (new_planned 0) (planned g.P.Ord.cmp c.new-state.result.ledger) (map call_of c.args.calls.now) (map reply_of c.in_ok-replies.replies.items) (vec_len c.in_ok-replies.replies) (vec_capacity c.in_ok-replies.replies)
-    (ap (map reply_of) c.in_ok-replies.ensures.items) c.in_ok-replies.ensures.len (subst (λ n. n ≤ vec_capacity c.in_ok-replies.replies) (sym (length-map c.args.calls.now call_of)) c.in_ok-replies.ensures.capacity) c.new-state.ensures.new.planned
+loop-call-init g c =
+    begins g.P.Ord.cmp g.met.P.Ord.total (new_planned 0) (planned g.P.Ord.cmp c.new-state.result.ledger)
+    (map call_of c.args.calls.now) (map reply_of c.in_ok-replies.replies.items) (vec_len c.in_ok-replies.replies)
+    (vec_capacity c.in_ok-replies.replies)
+    (ap (map reply_of) c.in_ok-replies.ensures.items) c.in_ok-replies.ensures.len
+    (subst (λ n. n ≤ vec_capacity c.in_ok-replies.replies)
+    (sym (length-map c.args.calls.now call_of)) c.in_ok-replies.ensures.capacity) c.new-state.ensures.new.planned
 
 pub unwrap-requires : goal.unwrap-requires
-unwrap-requires g c = c.push.ensures.succeeds (has_room g.P.Ord.cmp g.met.P.Ord.total (new_planned 0) (map call_of c.args.calls.now) c.loop-call.call-index (map reply_of c.loop-call.replies.items) (vec_len c.loop-call.replies) (vec_capacity c.loop-call.replies) (planned g.P.Ord.cmp c.loop-call.state.ledger)
+unwrap-requires g c =
+    c.push.ensures.succeeds (has_room g.P.Ord.cmp g.met.P.Ord.total (new_planned 0)
+    (map call_of c.args.calls.now) c.loop-call.call-index (map reply_of c.loop-call.replies.items)
+    (vec_len c.loop-call.replies) (vec_capacity c.loop-call.replies) (planned g.P.Ord.cmp c.loop-call.state.ledger)
     c.loop-call.invariant (subst (λ n. c.loop-call.call-index < n) (sym (length-map c.args.calls.now call_of)) c.loop-call-test.true))
 
 pub loop-call-preserved : goal.loop-call-preserved
 loop-call-preserved g c =
-    rw (subst (λ r. c.push.new.self.items ≡ (if is_ok r then c.loop-call.replies.items ++ c.answer.result ∷ [] else c.loop-call.replies.items)) c.unwrap.ensures c.push.ensures.items, subst (λ r. vec_len c.push.new.self ≡ (if is_ok r then vec_len c.loop-call.replies + 1 else vec_len c.loop-call.replies)) c.unwrap.ensures c.push.ensures.len, map-append reply_of c.loop-call.replies.items (c.answer.result ∷ []))
-    (goes_on g.P.Ord.cmp g.met.P.Ord.total (new_planned 0) (map call_of c.args.calls.now) c.loop-call.call-index (map reply_of c.loop-call.replies.items) (vec_len c.loop-call.replies) (vec_capacity c.loop-call.replies) (vec_capacity c.push.new.self)
-    (planned g.P.Ord.cmp c.loop-call.state.ledger) (planned g.P.Ord.cmp c.answer.new.state.ledger) (call_of c.call-item.result) (reply_of c.answer.result) c.loop-call.invariant (subst (λ n. c.loop-call.call-index < n) (sym (length-map c.args.calls.now call_of)) c.loop-call-test.true)
-    (ap call_of c.call-item.is ∙ sym (get_or-map call_of c.args.calls.now c.loop-call.call-index c.call-item.result (call_of c.call-item.result) c.loop-call-test.true)) c.push.ensures.capacity c.answer.ensures.in_time c.answer.ensures.reply)
+    rw (
+      subst (λ r. c.push.new.self.items ≡ (if is_ok r then c.loop-call.replies.items
+          ++ c.answer.result ∷ [] else c.loop-call.replies.items)) c.unwrap.ensures c.push.ensures.items,
+      subst (λ r. vec_len c.push.new.self
+          ≡ (if is_ok r then vec_len c.loop-call.replies + 1 else vec_len c.loop-call.replies)) c.unwrap.ensures c.push.ensures.len,
+      map-append reply_of c.loop-call.replies.items (c.answer.result ∷ []),
+    )
+    (goes_on g.P.Ord.cmp g.met.P.Ord.total (new_planned 0) (map call_of c.args.calls.now) c.loop-call.call-index
+    (map reply_of c.loop-call.replies.items) (vec_len c.loop-call.replies) (vec_capacity c.loop-call.replies)
+    (vec_capacity c.push.new.self)
+    (planned g.P.Ord.cmp c.loop-call.state.ledger) (planned g.P.Ord.cmp c.answer.new.state.ledger)
+    (call_of c.call-item.result) (reply_of c.answer.result) c.loop-call.invariant
+    (subst (λ n. c.loop-call.call-index < n) (sym (length-map c.args.calls.now call_of)) c.loop-call-test.true)
+    (ap call_of c.call-item.is ∙ sym (get_or-map call_of c.args.calls.now c.loop-call.call-index c.call-item.result
+    (call_of c.call-item.result) c.loop-call-test.true)) c.push.ensures.capacity c.answer.ensures.in_time c.answer.ensures.reply)
 
 -- all calls are replied to by the event rule, and come at moments
 replied : (g : _) (c : goal.After-drop-state-8 g) → Obeyed g.P.Ord.cmp (new_planned 0) (map call_of c.args.calls.now) (map reply_of c.loop-call.replies.items) × InTime (map call_of c.args.calls.now)
-replied g c = ends g.P.Ord.cmp g.met.P.Ord.total (new_planned 0) (map call_of c.args.calls.now) c.loop-call.call-index (map reply_of c.loop-call.replies.items) (vec_len c.loop-call.replies) (vec_capacity c.loop-call.replies) (planned g.P.Ord.cmp c.loop-call.state.ledger) c.loop-call.invariant
+replied g c =
+    ends g.P.Ord.cmp g.met.P.Ord.total (new_planned 0) (map call_of c.args.calls.now) c.loop-call.call-index
+    (map reply_of c.loop-call.replies.items) (vec_len c.loop-call.replies) (vec_capacity c.loop-call.replies)
+    (planned g.P.Ord.cmp c.loop-call.state.ledger) c.loop-call.invariant
     (subst (λ n. n ≤ c.loop-call.call-index) (sym (length-map c.args.calls.now call_of)) c.loop-call-test.false)
 
 -- and so they are those of the simulation
@@ -47,7 +69,10 @@ pub returns-clause-agrees : goal.returns-clause-agrees
 returns-clause-agrees g c = agreed g c
 
 pub returns-clause-one_each : goal.returns-clause-one_each
-returns-clause-one_each g c = sym (length-map c.loop-call.replies.items reply_of) ∙ one_for_each g.P.Ord.cmp g.met.P.Ord.total (new_planned 0) (map call_of c.args.calls.now) (map reply_of c.loop-call.replies.items) (replied g c).0 ∙ length-map c.args.calls.now call_of
+returns-clause-one_each g c =
+    sym (length-map c.loop-call.replies.items reply_of)
+    ∙ one_for_each g.P.Ord.cmp g.met.P.Ord.total (new_planned 0) (map call_of c.args.calls.now)
+    (map reply_of c.loop-call.replies.items) (replied g c).0 ∙ length-map c.args.calls.now call_of
 
 pub returns-clause-in_range : goal.returns-clause-in_range
 returns-clause-in_range g c = refuses_for_memory g.P.Ord.cmp g.met.P.Ord.total (map call_of c.args.calls.now) (map reply_of c.loop-call.replies.items) (replied g c).0

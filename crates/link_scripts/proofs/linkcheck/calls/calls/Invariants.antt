@@ -1,6 +1,7 @@
 use Rattle.std.proofs.Common.{◌≡◌, map, take}
 use Rattle.link_scheduler.specs.Calls.Replay.{call_of}
-use Rattle.link_scripts.specs.Trace.{world_call, call_in}
+use Rattle.link_scripts.specs.Schedule.{world_call}
+use Rattle.link_scripts.specs.Trace.{call_in}
 use Rattle.link_scripts.proofs.linkcheck.calls.calls.Given as goal
 
 -- the calls so far

@@ -1,7 +1,14 @@
-use Rattle.std.proofs.lemmas.Result.{err_from_is_err_and}
+use Rattle.std.proofs.Common.{ℕ, IfOk, IfErr, subst}
+use Rattle.link_scheduler.specs.Calls.Replay.{IsAnswered, MayRefuseCall}
+use Rattle.link_simulation.specs.Simulation.Calls.{Call}
 use Rattle.link_scripts.proofs.linkrun.schedule.make.Goals as goal
 
-pub returns-in_err-enqueue-in-Enqueue-clause-unchanged : goal.returns-in_err-enqueue-in-Enqueue-clause-unchanged
-returns-in_err-enqueue-in-Enqueue-clause-unchanged c =
-    let p = err_from_is_err_and c.from_residual-in_err-enqueue-in-Enqueue.result c.from_residual-in_err-enqueue-in-Enqueue.ensures.1 in
-    rw p.1 c.in_err-enqueue-in-Enqueue.ensures.unchanged
+pub returns-clause-answer : goal.returns-clause-answer
+returns-clause-answer c =
+    subst (λ (call : Call ℕ). IfOk c.make.result (λ reply. IsAnswered c.args.scheduler.now call reply c.make.new.state))
+    c.in_ok-call.ensures.made c.make.ensures.made
+
+pub returns-clause-refused : goal.returns-clause-refused
+returns-clause-refused c =
+    subst (λ (call : Call ℕ). IfErr c.make.result (MayRefuseCall c.args.scheduler.now call))
+    c.in_ok-call.ensures.made c.make.ensures.refused

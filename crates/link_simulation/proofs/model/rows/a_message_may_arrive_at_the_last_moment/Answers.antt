@@ -1,16 +1,13 @@
-use Rattle.std.proofs.Common.{[], ◌∷◌, Some, None, refl}
+use Rattle.std.proofs.Common.{refl}
 use Rattle.std.specs.Ordering.{nat_cmp}
 use Rattle.std.proofs.lemmas.Cmp.{nat_cmp_total}
 use Rattle.fair_rates.specs.Numbers.Amount.{reduced, gcd_within}
-use Rattle.link_simulation.specs.Simulation.Calls.{call_limit, call_enqueue, call_advance, call_next}
-use Rattle.link_simulation.specs.Simulation.Replies.{reply_done, reply_next}
-use Rattle.link_simulation.specs.Examples.Rows.{message, arrives, a_byte_a_nanosecond}
+use Rattle.link_simulation.specs.Examples.Rows.{calls_at_the_last_moment, replies_at_the_last_moment}
 use Rattle.link_simulation.proofs.Examples.ComputedRule.{agrees_by_rule, no_hint, shared}
 use Rattle.link_simulation.proofs.model.rows.a_message_may_arrive_at_the_last_moment.Goals as goal
 
 pub returns : goal.returns
 unfolding reduced gcd_within
-returns c = agrees_by_rule nat_cmp nat_cmp_total (shared 1_000_000_000) no_hint 20
-    (call_limit 0 1 a_byte_a_nanosecond None ∷ call_enqueue 18_446_744_073_709_551_614 (message 1 2 1 0) ∷ call_next ∷ call_advance 18_446_744_073_709_551_615 ∷ call_enqueue 18_446_744_073_709_551_615 (message 1 2 1 0) ∷ call_next ∷ [])
-    (reply_done [] ∷ reply_done [] ∷ reply_next (Some 18_446_744_073_709_551_615) ∷ reply_done (arrives (message 1 2 1 0) 18_446_744_073_709_551_615 ∷ []) ∷ reply_done [] ∷ reply_next None ∷ [])
-    refl refl
+returns c =
+    agrees_by_rule nat_cmp nat_cmp_total (shared 1_000_000_000) no_hint 20 calls_at_the_last_moment
+    replies_at_the_last_moment refl refl

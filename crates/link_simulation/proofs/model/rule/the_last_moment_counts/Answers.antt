@@ -1,14 +1,14 @@
-use Rattle.std.proofs.Common.{[], ◌∷◌, Some, None, refl}
+use Rattle.std.proofs.Common.{refl}
 use Rattle.std.specs.Ordering.{nat_cmp}
 use Rattle.std.proofs.lemmas.Cmp.{nat_cmp_total}
 use Rattle.fair_rates.specs.Numbers.Amount.{reduced, gcd_within}
 use Rattle.link_simulation.specs.Rule.Planned.{new_planned}
-use Rattle.link_simulation.specs.Simulation.Calls.{call_limit, call_enqueue, call_advance, call_next}
-use Rattle.link_simulation.specs.Simulation.Replies.{reply_done, reply_next}
-use Rattle.link_simulation.specs.Examples.Rows.{message, arrives, a_byte_a_nanosecond}
+use Rattle.link_simulation.specs.Examples.Rows.{calls_at_the_last_moment, replies_at_the_last_moment}
 use Rattle.link_simulation.proofs.Examples.ComputedRule.{no_hint, obeyed_so, shared}
 use Rattle.link_simulation.proofs.model.rule.the_last_moment_counts.Goals as goal
 
 pub returns : goal.returns
 unfolding reduced gcd_within
-returns c = obeyed_so nat_cmp nat_cmp_total (shared 1_000_000_000) no_hint 20 (new_planned 0) (call_limit 0 1 a_byte_a_nanosecond None ∷ call_enqueue 18_446_744_073_709_551_614 (message 1 2 1 0) ∷ call_next ∷ call_advance 18_446_744_073_709_551_615 ∷ call_enqueue 18_446_744_073_709_551_615 (message 1 2 1 0) ∷ call_next ∷ call_advance 18_446_744_073_709_551_615 ∷ []) (reply_done [] ∷ reply_done [] ∷ reply_next (Some 18_446_744_073_709_551_615) ∷ reply_done (arrives (message 1 2 1 0) 18_446_744_073_709_551_615 ∷ []) ∷ reply_done [] ∷ reply_next None ∷ reply_done [] ∷ []) refl
+returns c =
+    obeyed_so nat_cmp nat_cmp_total (shared 1_000_000_000) no_hint 20 (new_planned 0) calls_at_the_last_moment
+    replies_at_the_last_moment refl

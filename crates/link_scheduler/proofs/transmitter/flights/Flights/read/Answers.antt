@@ -1,11 +1,12 @@
 use Rattle.std.proofs.Common.{◌≡◌, ◌<◌, length, get_or, sym, ◌∙◌, ap, subst, arith}
+use Rattle.std.proofs.lemmas.List.{length-map}
 use Rattle.fair_rates.specs.Numbers.Amount.{reduced}
 use Rattle.fair_rates.specs.Filling.FairParts.{parts_of_level}
 use Rattle.link_scheduler.specs.Flights.RatedFlights.{rated_flight_of}
 use Rattle.link_scheduler.specs.Flights.InFlight.{in_flight}
 use Rattle.link_scheduler.specs.Flights.Readings.{IsReadAs, IsReadingOf}
 use Rattle.fair_rates.proofs.Lists.Copied.{copied_more, copied_all}
-use Rattle.link_scheduler.proofs.Flights.InFlight.{length-read, read_at}
+use Rattle.link_scheduler.proofs.Flights.InFlight.{read_at}
 use Rattle.link_scheduler.proofs.transmitter.flights.Flights.read.Goals as goal
 
 pub loop-one-preserved : goal.loop-one-preserved
@@ -15,7 +16,7 @@ loop-one-preserved g c =
     let one = c.one-item.result in
     let reading = c.in_ok-read_one.field-0 in
     let read = rated_flight_of self.scale self.levels.items in
-    let lengths = length-read read self.progress.items in
+    let lengths = length-map self.progress.items read in
     let inside : at < length self.progress.items = omega (arith, c.loop-one-test.true, ap length c.deref-one-items.ensures.value) in
     let one_is : one ≡ get_or self.progress.items at one = c.one-item.is ∙ ap (λ l. get_or l at one) c.deref-one-items.ensures.value in
     let there : read one ≡ get_or (in_flight self) at (read one) = sym (read_at read self.progress.items at one (read one) inside one_is) in
@@ -33,6 +34,6 @@ loop-one-preserved g c =
 pub returns-clause-read : goal.returns-clause-read
 returns-clause-read g c =
     let self = c.args.self.now in
-    let lengths = length-read (rated_flight_of self.scale self.levels.items) self.progress.items in
+    let lengths = length-map self.progress.items (rated_flight_of self.scale self.levels.items) in
     copied_all (IsReadAs g.P.Ord.cmp) (in_flight self) c.loop-one.readings.items c.loop-one.one-index
     (omega (arith, lengths, c.loop-one-test.false, ap length c.deref-one-items.ensures.value)) c.loop-one.invariant

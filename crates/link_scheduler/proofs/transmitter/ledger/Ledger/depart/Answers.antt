@@ -1,16 +1,11 @@
-use Rattle.std.proofs.Common.{◌≡◌, ◌+◌, true, subst, length, map, if◌then◌else◌, None, Some, sym, ap, ◌∙◌}
-use Rattle.std.specs.List.{list_all}
-use Rattle.link_scheduler.specs.Idle.AtRest.{of_pairs}
+use Rattle.std.proofs.Common.{◌≡◌, ◌+◌, length, map, Some, sym, ap, ◌∙◌}
 use Rattle.std.specs.Prelude.{option_map, nat_lt, ◌&&◌}
-use Rattle.fair_rates.specs.Lists.WithoutFirst.{without_first}
 use Rattle.fair_rates.specs.Numbers.Amount.{whole}
 use Rattle.fair_rates.specs.Sides.Subjects.{same_peer}
 use Rattle.link_simulation.specs.Simulation.Messages.{Message}
 use Rattle.link_simulation.specs.Rule.Planned.{RatedFlight}
 use Rattle.link_simulation.proofs.Simulation.Queue.{find_passes}
-use Rattle.link_scheduler.specs.Idle.Index.{is_listed, IsIndexOf}
 use Rattle.link_scheduler.specs.Flights.InFlight.{in_flight}
-use Rattle.link_scheduler.specs.Idle.Departed.{is_moment}
 use Rattle.link_scheduler.specs.Pairs.Messages.{message_of}
 use Rattle.link_scheduler.specs.Pairs.Entries.{first_of, arrival_of}
 use Rattle.link_scheduler.specs.Pairs.CapsOf.{caps_of}
@@ -28,17 +23,17 @@ invariant_of-self-2 g c =
     let m : Message g.row.P.Denot = message_of c.in-Some.message.value in
     let f : RatedFlight g.row.P.Denot = record { message = m; left = whole (length m.bytes); rate = Some (whole 0); updated = c.args.now } in
     let found : first_of cmp (map message_of old.waiting.messages) o r ≡ Some m =
-    ap (λ ms. first_of cmp (map message_of ms) o r) (sym c.in_ok-waiting.ensures.cases) ∙ sym c.in_ok-message.ensures.taken ∙ ap (option_map (λ x. message_of x.value)) c.in-Some.is in
-    let taken = c.in_ok-message.ensures.rest ∙ ap (λ ms. without_first (λ (n : Message g.row.P.Denot). same_peer cmp o n.origin && same_peer cmp r n.recipient) (map message_of ms)) c.in_ok-waiting.ensures.cases in
+    sym c.in_ok-message.ensures.taken ∙ ap (option_map (λ x. message_of x.value)) c.in-Some.is in
+    let taken = c.in_ok-message.ensures.rest in
     let own = find_passes (λ (n : Message g.row.P.Denot). same_peer cmp o n.origin && same_peer cmp r n.recipient) m (map message_of old.waiting.messages) found in
     record {
       rated = λ e.
           let kept = c.push.ensures.rates in
           rw (kept.rated, kept.units.scale, kept.units.levels) (old.rated e);
       fresh = c.push.ensures.flow (λ flow. nat_lt flow.id (old.next_id + 1)) (ids_later old.flights.flows.items old.next_id old.fresh) (λ flow is. id_below flow.id old.next_id is);
-      indexed = departed_index cmp g.met.P.Ord.total old.pairs.entries old.waiting.messages c.take_first.new.self.messages (in_flight old.flights) (in_flight c.push.new.self) f o r old.idle.entries c.change.new.self.entries
-          (arrivals_looked_up cmp g.met.P.Ord.total old.pairs.entries) taken c.in_ok-push.ensures.sending own old.indexed
-          (λ t a b. c.in_ok-change.ensures.listed t a b ∙ ap (λ es. if same_peer cmp o a && same_peer cmp r b then is_moment t None else is_listed cmp es t a b) c.in_ok-idle.ensures.cases);
+      indexed = departed_index cmp g.met.P.Ord.total old.pairs.entries old.waiting.messages c.take_first.new.self.messages (in_flight old.flights) (in_flight c.push.new.self) f o r old.idle.entries c.change-changed.new.self.entries
+          (arrivals_looked_up cmp g.met.P.Ord.total old.pairs.entries) taken c.in_default-push.ensures.sending own old.indexed
+          c.in_default-changed.ensures.listed;
     }
 
 pub returns-clause-departed : goal.returns-clause-departed
@@ -49,29 +44,19 @@ returns-clause-departed g c =
     let r = c.args.recipient.now in
     let m : Message g.row.P.Denot = message_of c.in-Some.message.value in
     let found : first_of cmp (map message_of old.waiting.messages) o r ≡ Some m =
-    ap (λ ms. first_of cmp (map message_of ms) o r) (sym c.in_ok-waiting.ensures.cases) ∙ sym c.in_ok-message.ensures.taken ∙ ap (option_map (λ x. message_of x.value)) c.in-Some.is in
-    let taken = c.in_ok-message.ensures.rest ∙ ap (λ ms. without_first (λ (n : Message g.row.P.Denot). same_peer cmp o n.origin && same_peer cmp r n.recipient) (map message_of ms)) c.in_ok-waiting.ensures.cases in
+    sym c.in_ok-message.ensures.taken ∙ ap (option_map (λ x. message_of x.value)) c.in-Some.is in
+    let taken = c.in_ok-message.ensures.rest in
     record {
       message = m;
       first = found;
       is = λ i. record {
         caps = caps_of cmp old.peers.entries old.pairs.entries;
         limited = old.limited;
-        sending = c.in_ok-push.ensures.sending i;
+        sending = c.in_default-push.ensures.sending i;
         waiting = taken i;
         last_arrival = arrival_of cmp old.pairs.entries;
         next_id = old.next_id + 1;
         finish = old.finish;
         start = old.start;
       };
-    }
-
-pub invariant_of-self-in-Break-branch-6 : goal.invariant_of-self-in-Break-branch-6
-invariant_of-self-in-Break-branch-6 g c =
-    let rates = c.push.ensures.rates in
-    let old = c.args.self.now in
-    record {
-      rated = λ e. rw (rates.rated, rates.units.scale, rates.units.levels) (old.rated e);
-      fresh = subst (λ fs. list_all (λ flow. nat_lt flow.id old.next_id) fs ≡ true) (sym c.in_err-push.ensures.kept.1) old.fresh;
-      indexed = subst (λ fs. IsIndexOf g.P.Ord.cmp (of_pairs g.P.Ord.cmp old.pairs.entries old.waiting.messages fs) old.idle.entries) (sym c.in_err-push.ensures.kept.0) old.indexed;
     }

@@ -1,4 +1,4 @@
-use Rattle.std.proofs.Common.{◌≡◌, map, ap, ◌∙◌}
+use Rattle.std.proofs.Common.{◌≡◌, map}
 use Rattle.std.proofs.lemmas.Bool.{and_from}
 use Rattle.link_simulation.specs.Rule.Planned.{queued}
 use Rattle.link_simulation.proofs.Rule.SamePlanned.{peer_turned}
@@ -10,18 +10,18 @@ use Rattle.link_scheduler.proofs.Flights.Accounts.{arrivals_looked_up}
 use Rattle.link_scheduler.proofs.Idle.IndexChanges.{queued_index}
 use Rattle.link_scheduler.proofs.transmitter.ledger.Ledger.join.Goals as goal
 
-pub invariant_of-self-2 : goal.invariant_of-self-2
-invariant_of-self-2 g c =
+pub invariant_of-self-in_default : goal.invariant_of-self-in_default
+invariant_of-self-in_default g c =
     let cmp = g.P.Ord.cmp in
     let old = c.args.self.now in
     let m = message_of c.args.message in
-    let joined : map message_of c.push.new.self.messages ≡ queued cmp m (map message_of old.waiting.messages) = c.in_ok-push.ensures.waiting ∙ ap (λ ms. queued cmp m (map message_of ms)) c.in_ok-waiting.ensures.cases in
+    let joined : map message_of c.push.new.self.messages ≡ queued cmp m (map message_of old.waiting.messages) = c.in_ok-push.ensures.waiting in
     let own = and_from _ _ (peer_turned cmp g.met.P.Ord.total _ _ c.requires.origin) (peer_turned cmp g.met.P.Ord.total _ _ c.requires.recipient) in
     record {
       fresh = old.fresh;
       rated = old.rated;
-      indexed = queued_index cmp g.met.P.Ord.total old.pairs.entries old.waiting.messages c.push.new.self.messages (in_flight old.flights) c.args.pair.now.origin c.args.pair.now.recipient m old.idle.entries c.change.new.self.entries
-          (arrivals_looked_up cmp g.met.P.Ord.total old.pairs.entries) joined own old.indexed c.in_ok-change.ensures.listed c.idle_from-after.ensures;
+      indexed = queued_index cmp g.met.P.Ord.total old.pairs.entries old.waiting.messages c.push.new.self.messages (in_flight old.flights) c.args.pair.now.origin c.args.pair.now.recipient m old.idle.entries c.change-changed.new.self.entries
+          (arrivals_looked_up cmp g.met.P.Ord.total old.pairs.entries) joined own old.indexed c.in_default.ensures.listed c.idle_from-after.ensures;
     }
 
 pub returns-clause-queued : goal.returns-clause-queued
@@ -29,7 +29,7 @@ returns-clause-queued g c =
     let cmp = g.P.Ord.cmp in
     let old = c.args.self.now in
     let m = message_of c.args.message in
-    let joined : map message_of c.push.new.self.messages ≡ queued cmp m (map message_of old.waiting.messages) = c.in_ok-push.ensures.waiting ∙ ap (λ ms. queued cmp m (map message_of ms)) c.in_ok-waiting.ensures.cases in
+    let joined : map message_of c.push.new.self.messages ≡ queued cmp m (map message_of old.waiting.messages) = c.in_ok-push.ensures.waiting in
     λ i. record {
       caps = caps_of cmp old.peers.entries old.pairs.entries;
       limited = old.limited;

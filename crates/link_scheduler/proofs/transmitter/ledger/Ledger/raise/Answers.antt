@@ -1,7 +1,8 @@
-use Rattle.std.proofs.Common.{map, ap, sym, subst, ◌∙◌}
+use Rattle.std.proofs.Common.{map, sym, subst}
+use Rattle.link_scheduler.specs.Idle.AtRest.{of_pairs}
+use Rattle.link_scheduler.specs.Idle.Index.{IsIndexOf}
 use Rattle.link_scheduler.specs.Flights.InFlight.{in_flight}
 use Rattle.link_scheduler.specs.Pairs.Messages.{message_of}
-use Rattle.link_scheduler.specs.Pairs.Entries.{link_of, arrival_of, raised_at}
 use Rattle.link_scheduler.specs.Pairs.CapsOf.{caps_of}
 use Rattle.link_scheduler.specs.Flights.Rated.{AreRated, rated_ones}
 use Rattle.link_scheduler.specs.Pairs.PeerCaps.{egress_of, ingress_of}
@@ -9,15 +10,15 @@ use Rattle.link_scheduler.proofs.Flights.Accounts.{arrivals_looked_up}
 use Rattle.link_scheduler.proofs.Idle.IndexChanges.{raised_index}
 use Rattle.link_scheduler.proofs.transmitter.ledger.Ledger.raise.Goals as goal
 
-pub invariant_of-self-2 : goal.invariant_of-self-2
-invariant_of-self-2 g c =
+pub invariant_of-self-in_default : goal.invariant_of-self-in_default
+invariant_of-self-in_default g c =
     let old = c.args.self.now in
     record {
       fresh = old.fresh;
-      rated = λ e. subst (λ l. ∥ AreRated g.P.Ord.cmp (record (caps_of g.P.Ord.cmp old.peers.entries old.pairs.entries) { link = l }) old.flights.scale old.flights.levels.items (rated_ones old.flights.progress.items) ∥₁)
-          (sym (c.in_ok-raise.ensures.link ∙ ap (link_of g.P.Ord.cmp) c.in_ok-pairs.ensures.cases)) (old.rated e);
-      indexed = raised_index g.P.Ord.cmp g.met.P.Ord.total old.pairs.entries c.raise.new.self.entries old.waiting.messages (in_flight old.flights) c.args.origin.now c.args.recipient.now c.args.moment old.idle.entries c.change.new.self.entries
-          (arrivals_looked_up g.P.Ord.cmp g.met.P.Ord.total c.raise.new.self.entries) (c.in_ok-raise.ensures.arrival ∙ ap (λ es. raised_at g.P.Ord.cmp (arrival_of g.P.Ord.cmp es) c.args.origin.now c.args.recipient.now c.args.moment) c.in_ok-pairs.ensures.cases) old.indexed c.in_ok-change.ensures.listed c.idle_from-after.ensures;
+      rated = λ e. subst (λ l. ∥ AreRated g.P.Ord.cmp (record (caps_of g.P.Ord.cmp old.peers.entries old.pairs.entries) { link = l })
+          old.flights.scale old.flights.levels.items (rated_ones old.flights.progress.items) ∥₁) (sym c.in_ok-raise.ensures.link) (old.rated e);
+      indexed = raised_index g.P.Ord.cmp g.met.P.Ord.total old.pairs.entries c.raise.new.self.entries old.waiting.messages (in_flight old.flights) c.args.origin.now c.args.recipient.now c.args.moment old.idle.entries c.change-changed.new.self.entries
+          (arrivals_looked_up g.P.Ord.cmp g.met.P.Ord.total c.raise.new.self.entries) c.in_ok-raise.ensures.arrival old.indexed c.in_default.ensures.listed c.idle_from-moved.ensures;
     }
 
 pub returns-clause-raised : goal.returns-clause-raised
@@ -25,12 +26,23 @@ returns-clause-raised g c =
     let cmp = g.P.Ord.cmp in
     let old = c.args.self.now in
     λ i. record {
-      caps = record { egress = egress_of cmp old.peers.entries; ingress = ingress_of cmp old.peers.entries; link = (c.in_ok-raise.ensures.link ∙ ap (link_of cmp) c.in_ok-pairs.ensures.cases) i };
+      caps = record { egress = egress_of cmp old.peers.entries; ingress = ingress_of cmp old.peers.entries; link = c.in_ok-raise.ensures.link i };
       limited = old.limited;
       sending = in_flight old.flights;
       waiting = map message_of old.waiting.messages;
-      last_arrival = (c.in_ok-raise.ensures.arrival ∙ ap (λ es. raised_at cmp (arrival_of cmp es) c.args.origin.now c.args.recipient.now c.args.moment) c.in_ok-pairs.ensures.cases) i;
+      last_arrival = c.in_ok-raise.ensures.arrival i;
       next_id = old.next_id;
       finish = old.finish;
       start = old.start;
+    }
+
+pub invariant_of-self : goal.invariant_of-self
+invariant_of-self g c =
+    let cmp = g.P.Ord.cmp in
+    let old = c.args.self.now in
+    let kept = c.in_err-raise.ensures.kept in
+    record {
+      fresh = old.fresh;
+      rated = λ e. subst (λ es. ∥ AreRated cmp (caps_of cmp old.peers.entries es) old.flights.scale old.flights.levels.items (rated_ones old.flights.progress.items) ∥₁) (sym kept) (old.rated e);
+      indexed = subst (λ es. IsIndexOf cmp (of_pairs cmp es old.waiting.messages (in_flight old.flights)) old.idle.entries) (sym kept) old.indexed;
     }

@@ -1,6 +1,8 @@
 use Rattle.std.proofs.Common.{rules}
 use Rattle.link_scripts.specs.Script.{IsCapInRange, IsSmallCapInRange}
-use Rattle.link_scripts.proofs.Columns.{takes_both, takes_one, takes_none, cap_words, two_caps, AreCapsIn, takes_link, takes_no_link, takes_limit, takes_no_limit, takes_limit_link, takes_no_limit_link, word_then, AreIn}
+use Rattle.link_scripts.proofs.Columns.{takes_both, takes_one, takes_none, cap_words, two_caps, AreCapsIn, takes_link}
+use Rattle.link_scripts.proofs.Columns.{takes_no_link, takes_limit, takes_no_limit, takes_limit_link}
+use Rattle.link_scripts.proofs.Columns.{takes_no_limit_link, word_then, AreIn}
 use Rattle.link_scripts.specs.Script.{number_word, IsNumberInRange}
 use Rattle.link_scripts.proofs.linkrun.command.Command.take.Goals as goal
 
@@ -22,7 +24,9 @@ returns-in_err-small_cap-in-limit-2 c =
 
 pub returns-in_ok-small_cap-in-limit-2 : goal.returns-in_ok-small_cap-in-limit-2
 returns-in_ok-small_cap-in-limit-2 c =
-    takes_limit (search rules) (takes_both c.in_ok-number-in-limit.ensures (takes_both c.in_ok-number-in-limit-2.ensures (takes_both c.in_ok-small_cap-in-limit.ensures c.in_ok-small_cap-in-limit-2.ensures)))
+    takes_limit (search rules) (takes_both c.in_ok-number-in-limit.ensures
+    (takes_both c.in_ok-number-in-limit-2.ensures
+    (takes_both c.in_ok-small_cap-in-limit.ensures c.in_ok-small_cap-in-limit-2.ensures)))
 
 pub returns-in_err-number-in-limitlink-2 : goal.returns-in_err-number-in-limitlink-2
 returns-in_err-number-in-limitlink-2 c =
@@ -36,4 +40,6 @@ returns-in_err-number-in-limitlink-3 c =
 
 pub returns-in_ok-small_cap-in-limitlink : goal.returns-in_ok-small_cap-in-limitlink
 returns-in_ok-small_cap-in-limitlink c =
-    takes_limit_link (search rules) (takes_both c.in_ok-number-in-limitlink.ensures (takes_both c.in_ok-number-in-limitlink-2.ensures (takes_both c.in_ok-number-in-limitlink-3.ensures c.in_ok-small_cap-in-limitlink.ensures)))
+    takes_limit_link (search rules) (takes_both c.in_ok-number-in-limitlink.ensures
+    (takes_both c.in_ok-number-in-limitlink-2.ensures
+    (takes_both c.in_ok-number-in-limitlink-3.ensures c.in_ok-small_cap-in-limitlink.ensures)))

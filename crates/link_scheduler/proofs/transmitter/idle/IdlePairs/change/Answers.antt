@@ -1,8 +1,8 @@
 use Rattle.std.proofs.Common.{◌≡◌, None, ap, sym, ◌∙◌, subst, Option, ℕ, rules}
 use Rattle.link_scheduler.specs.Idle.Departed.{is_moment}
 use Rattle.link_scheduler.proofs.Idle.Index.{IsChanged, stays, taken, put}
-use Rattle.link_scheduler.proofs.transmitter.idle.IdlePairs.shift.Goals as goal
-use Rattle.link_scheduler.proofs.transmitter.idle.IdlePairs.shift.Goals.{in-Some+in_ok-take, in_default}
+use Rattle.link_scheduler.proofs.transmitter.idle.IdlePairs.change.Goals as goal
+use Rattle.link_scheduler.proofs.transmitter.idle.IdlePairs.change.Goals.{in-Some+in_ok-take, in_default}
 
 pub returns-then-eq-clause-listed : goal.returns-then-eq-clause-listed
 returns-then-eq-clause-listed g c =

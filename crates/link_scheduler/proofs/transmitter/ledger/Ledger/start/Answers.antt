@@ -1,0 +1,62 @@
+use Rattle.std.proofs.Common.{◌≡◌, ◌+◌, true, subst, [], ◌∷◌, ◌++◌, length, map, Some, sym, ap, ◌∙◌, rules}
+use Rattle.std.specs.Prelude.{nat_lt}
+use Rattle.std.specs.List.{list_all}
+use Rattle.link_scheduler.specs.Idle.AtRest.{of_pairs}
+use Rattle.link_scheduler.specs.Idle.Index.{IsIndexOf}
+use Rattle.fair_rates.specs.Numbers.Amount.{whole}
+use Rattle.link_simulation.specs.Simulation.Messages.{Message}
+use Rattle.link_simulation.specs.Rule.Planned.{RatedFlight}
+use Rattle.link_scheduler.specs.declared.transmitter.message.Message as code
+use Rattle.link_scheduler.specs.Flights.InFlight.{in_flight}
+use Rattle.link_scheduler.specs.Pairs.Messages.{message_of}
+use Rattle.link_scheduler.specs.Pairs.Entries.{arrival_of}
+use Rattle.link_scheduler.specs.Pairs.CapsOf.{caps_of}
+use Rattle.link_scheduler.proofs.Flights.Accounts.{arrivals_looked_up}
+use Rattle.link_scheduler.proofs.Idle.IndexChanges.{started_index}
+use Rattle.link_scheduler.proofs.Idle.Starting.{ids_later, id_below, without_joined}
+use Rattle.link_scheduler.proofs.transmitter.ledger.Ledger.start.Goals as goal
+
+pub invariant_of-self-2 : goal.invariant_of-self-2
+invariant_of-self-2 g c =
+    let cmp = g.P.Ord.cmp in
+    let old = c.args.self.now in
+    let m : Message g.row.P.Denot = message_of c.in_ok-message.message.value in
+    let f : RatedFlight g.row.P.Denot = record { message = m; left = whole (length m.bytes); rate = Some (whole 0); updated = c.args.now } in
+    let same : c.in_ok-message.message.value ≡ c.args.message = search rules in
+    record {
+      rated = λ e.
+          let kept = c.push.ensures.rates in
+          rw (kept.rated, kept.units.scale, kept.units.levels) (old.rated e);
+      fresh = c.push.ensures.flow (λ flow. nat_lt flow.id (old.next_id + 1)) (ids_later old.flights.flows.items old.next_id old.fresh) (λ flow is. id_below flow.id old.next_id is);
+      indexed = started_index cmp g.met.P.Ord.total old.pairs.entries old.waiting.messages (in_flight old.flights) (in_flight c.push.new.self) f old.idle.entries (arrivals_looked_up cmp g.met.P.Ord.total old.pairs.entries) (rw same c.requires.alone) c.in_ok-push.ensures.sending old.indexed;
+    }
+
+pub returns-clause-started : goal.returns-clause-started
+returns-clause-started g c =
+    let cmp = g.P.Ord.cmp in
+    let old = c.args.self.now in
+    let m : Message g.row.P.Denot = message_of c.args.message in
+    let same : c.in_ok-message.message.value ≡ c.args.message = search rules in
+    let sending : in_flight c.push.new.self ≡ in_flight old.flights ++ record { message = m; left = whole (length m.bytes); rate = Some (whole 0); updated = c.args.now } ∷ [] =
+    c.in_ok-push.ensures.sending ∙ ap (λ (v : code.Message g.row.P.Denot). in_flight old.flights ++ record { message = message_of v; left = whole (length v.bytes); rate = Some (whole 0); updated = c.args.now } ∷ []) same in
+    λ i. record {
+      caps = caps_of cmp old.peers.entries old.pairs.entries;
+      limited = old.limited;
+      sending = sending i;
+      waiting = sym (without_joined cmp g.met.P.Ord.total m (map message_of old.waiting.messages) c.requires.alone) i;
+      last_arrival = arrival_of cmp old.pairs.entries;
+      next_id = old.next_id + 1;
+      finish = old.finish;
+      start = old.start;
+    }
+
+pub invariant_of-self : goal.invariant_of-self
+invariant_of-self g c =
+    let cmp = g.P.Ord.cmp in
+    let rates = c.push.ensures.rates in
+    let old = c.args.self.now in
+    record {
+      rated = λ e. rw (rates.rated, rates.units.scale, rates.units.levels) (old.rated e);
+      fresh = subst (λ fs. list_all (λ flow. nat_lt flow.id old.next_id) fs ≡ true) (sym c.in_err-push.ensures.kept.1) old.fresh;
+      indexed = subst (λ fs. IsIndexOf cmp (of_pairs cmp old.pairs.entries old.waiting.messages fs) old.idle.entries) (sym c.in_err-push.ensures.kept.0) old.indexed;
+    }

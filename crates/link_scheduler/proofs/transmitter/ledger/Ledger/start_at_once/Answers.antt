@@ -1,0 +1,13 @@
+use Rattle.std.proofs.Common.{arith}
+use Rattle.link_scheduler.specs.Pairs.Messages.{message_of}
+use Rattle.link_scheduler.specs.Calls.AsPlanned.{planned, messages}
+use Rattle.link_scheduler.proofs.Idle.Starting.{started_so, no_id_left}
+use Rattle.link_scheduler.proofs.transmitter.ledger.Ledger.start_at_once.Goals as goal
+
+pub returns-then-self-lt18446744073709551615-clause-launches : goal.returns-then-self-lt18446744073709551615-clause-launches
+returns-then-self-lt18446744073709551615-clause-launches g c =
+    started_so g.P.Ord.cmp g.met.P.Ord.total c.args.now (planned g.P.Ord.cmp c.args.self.now) (message_of c.args.message) c.requires
+    (λ leavers. messages leavers.items) c.account.result (planned g.P.Ord.cmp c.start.new.self) (planned g.P.Ord.cmp c.account.new.self) (omega arith) c.in_ok-start.ensures.started c.account.ensures.accounts
+
+pub returns-clause-refused : goal.returns-clause-refused
+returns-clause-refused g c = no_id_left g.P.Ord.cmp g.met.P.Ord.total c.args.now (planned g.P.Ord.cmp c.args.self.now) (message_of c.args.message) c.requires (omega arith)
