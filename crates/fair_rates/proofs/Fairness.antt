@@ -14,6 +14,7 @@ pub mod MaxMin
 pub mod OneAllocation
 pub mod Order
 pub mod Part
+pub mod Rates
 pub mod SameSides
 pub mod Uncapped
 pub mod WholeRates
