@@ -2,7 +2,7 @@
 //!
 //! In the examples peers are numbers, and no limit holds unless one is named.
 ghost use Rattle.std.specs.Prelude.{◌≡◌, ℕ, ◌+◌, ◌-◌, ◌*◌, ◌≤◌, ◌==◌, if◌then◌else◌, List, []};
-ghost use Rattle.std.specs.Prelude.{◌∷◌, Bool, true, Option, Some, None, nat_lt};
+ghost use Rattle.std.specs.Prelude.{◌∷◌, Bool, true, Option, Some, None, nat_lt, take};
 ghost use Rattle.std.specs.List.{AllZip};
 ghost use Rattle.std.specs.Ordering.{nat_cmp};
 ghost use Rattle.fair_rates.specs.Numbers.Amount.{whole};
@@ -98,10 +98,13 @@ pub fn a_course_ends_with_what_holds_there<P: Ord>()
         EndsWith (λ v. law v ≡ true) (goes cs w) → law w ≡ true }
 {}
 
-/// What holds of the first calls, however many, holds of all of them.
+/// What holds so far holds of the first calls, however many, and of all of them.
 pub fn what_holds_so_far_holds_of_all<P: Ord>()
-    ensures { (law : List (Call P) → List (Reply P) → Bool) (calls : List (Call P)) (replies : List (Reply P)) →
+    ensures all { (law : List (Call P) → List (Reply P) → Bool) (calls : List (Call P)) (replies : List (Reply P)) →
         AlwaysSoFar (λ cs rs. law cs rs ≡ true) calls replies → law calls replies ≡ true }
+    ensures first { (law : List (Call P) → List (Reply P) → Bool) (calls : List (Call P)) (replies : List (Reply P))
+        (n : ℕ) → AlwaysSoFar (λ cs rs. law cs rs ≡ true) calls replies →
+        law (take n calls) (take n replies) ≡ true }
 {}
 
 /// A completion has the origin, the recipient, the channel and the bytes of its message, and the moment of its arrival.
