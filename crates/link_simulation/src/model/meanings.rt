@@ -141,7 +141,8 @@ pub fn a_lost_completion_is_not_conserved()
 {}
 
 /// A planned world is not in order where a message in flight has a rate that is not its fair one, where two messages
-/// of a pair are in flight, where pairs wait out of order, and where a message waits before any limit.
+/// of a pair are in flight, where pairs wait out of order, be they first or later ones, and where a message waits
+/// before any limit.
 pub fn a_world_out_of_order_is_told()
     ensures rate { ¬ IsOrderly nat_cmp (record (new_planned 0) {
       limited = true;
@@ -151,9 +152,18 @@ pub fn a_world_out_of_order_is_told()
       limited = true;
       sending = rated_flight (message 1 2 1 0) None ∷ rated_flight (message 1 2 1 0) None ∷ [];
     }) }
+    ensures later_pair { ¬ IsOrderly nat_cmp (record (new_planned 0) {
+      limited = true;
+      sending = rated_flight (message 1 3 1 0) None ∷ rated_flight (message 1 2 1 0) None
+          ∷ rated_flight (message 1 2 1 0) None ∷ [];
+    }) }
     ensures pair_order { ¬ IsOrderly nat_cmp (record (new_planned 0) {
       limited = true;
       waiting = message 2 1 1 0 ∷ message 1 2 1 0 ∷ [];
+    }) }
+    ensures later_pair_order { ¬ IsOrderly nat_cmp (record (new_planned 0) {
+      limited = true;
+      waiting = message 1 2 1 0 ∷ message 3 1 1 0 ∷ message 2 1 1 0 ∷ [];
     }) }
     ensures at_first { ¬ IsOrderly nat_cmp (record (new_planned 0) { waiting = message 1 2 1 0 ∷ [] }) }
 {}
