@@ -5,7 +5,7 @@ ghost use Rattle.std.specs.Prelude.{◌≡◌, ℕ, ◌+◌, ◌-◌, ◌*◌, �
 ghost use Rattle.std.specs.Prelude.{◌∷◌, Bool, true, Option, Some, None, nat_lt, take};
 ghost use Rattle.std.specs.List.{AllZip};
 ghost use Rattle.std.specs.Ordering.{nat_cmp};
-ghost use Rattle.fair_rates.specs.Numbers.Amount.{whole};
+ghost use Rattle.fair_rates.specs.Numbers.Amount.{Amount, whole};
 ghost use Rattle.fair_rates.specs.declared.error.Error.{Error as AnyError};
 ghost use Rattle.fair_rates.specs.declared.error.Error.TheVariants.{NumberTooLarge, MomentTooLate, FlowIdsUsedUp};
 ghost use Rattle.link_simulation.specs.Laws.Alone.{IsTimeFor, IsLeastCap, MayGoAlone, IsDoneAfter};
@@ -15,7 +15,8 @@ ghost use Rattle.link_simulation.specs.Laws.Bytes.{bytes_from};
 ghost use Rattle.link_simulation.specs.Simulation.Time.{NextIs, IsSound};
 ghost use Rattle.link_simulation.specs.Simulation.Calls.{Call, call_enqueue, call_advance, Runs, limited_by};
 ghost use Rattle.link_simulation.specs.Simulation.Messages.{Message, no_caps};
-ghost use Rattle.link_simulation.specs.Rule.Planned.{Planned, new_planned};
+ghost use Rattle.link_simulation.specs.Simulation.Rates.{drained_by};
+ghost use Rattle.link_simulation.specs.Rule.Planned.{Planned, new_planned, left_at};
 ghost use Rattle.link_simulation.specs.Simulation.Replies.{Reply, reply_done, SameCompletion, Faults};
 ghost use Rattle.link_simulation.specs.Examples.Rows.{message, arrives, rated_flight, flying, all_equal};
 ghost use Rattle.link_simulation.specs.Rule.StandsFor.{StandsFor};
@@ -90,6 +91,12 @@ pub fn all_that_an_origin_has_to_send_counts()
     ensures { bytes_from nat_cmp 1 (record (flying 3 (message 1 2 4 0)) {
       waiting = message 1 3 2 0 ∷ message 2 3 5 0 ∷ [];
     }) ≡ whole 6 }
+{}
+
+/// A message whose rate has no limit leaves nothing, also after no time.
+pub fn what_has_no_limit_is_gone_at_once()
+    ensures drained { (n : ℕ) (left : Amount) → drained_by None n left ≡ whole 0 }
+    ensures left { left_at 0 (rated_flight (message 1 2 3 0) None) ≡ whole 0 }
 {}
 
 /// What a course ends with holds of the world that it goes to.

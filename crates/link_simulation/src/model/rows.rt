@@ -78,6 +78,16 @@ pub fn nothing_waits_before_any_limit()
         ∷ reply_done (arrives (message 1 2 1 50) 100 ∷ []) ∷ reply_next None ∷ []) }
 {}
 
+/// Before any limit a message arrives at its own moment where that is later than the last one, and it then is the last
+/// one itself.
+pub fn a_later_arrival_is_the_last_one()
+    ensures { Agrees nat_cmp (new_world 0)
+        (call_enqueue 0 (message 1 2 1 100) ∷ call_enqueue 0 (message 1 2 1 150) ∷ call_enqueue 0 (message 1 2 1 120)
+        ∷ [])
+        (reply_done (arrives (message 1 2 1 100) 100 ∷ []) ∷ reply_done (arrives (message 1 2 1 150) 150 ∷ [])
+        ∷ reply_done (arrives (message 1 2 1 120) 150 ∷ []) ∷ []) }
+{}
+
 /// Each ordered pair has its own order: an arrival at 100 holds back no message to another peer, nor one on the way
 /// back.
 pub fn each_pair_has_its_own_order()
