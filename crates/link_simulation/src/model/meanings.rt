@@ -10,7 +10,7 @@ ghost use Rattle.fair_rates.specs.declared.error.Error.{Error as AnyError};
 ghost use Rattle.fair_rates.specs.declared.error.Error.TheVariants.{NumberTooLarge, MomentTooLate, FlowIdsUsedUp};
 ghost use Rattle.link_simulation.specs.Laws.Alone.{IsTimeFor, IsLeastCap, MayGoAlone, IsDoneAfter};
 ghost use Rattle.link_simulation.specs.Simulation.World.{World, Completed, new_world, completed, completion_of, goes};
-ghost use Rattle.link_simulation.specs.Simulation.World.{EndsWith};
+ghost use Rattle.link_simulation.specs.Simulation.World.{flight_of, EndsWith};
 ghost use Rattle.link_simulation.specs.Laws.Bytes.{bytes_from};
 ghost use Rattle.link_simulation.specs.Simulation.Time.{NextIs, IsSound};
 ghost use Rattle.link_simulation.specs.Simulation.Calls.{Call, call_enqueue, call_advance, Runs, limited_by};
@@ -86,11 +86,12 @@ pub fn sending_takes_its_time<P: Ord>()
         bytes_from P.cmp origin v ≡ whole 0 → bytes * 1_000_000_000 ≤ cap * (now - w.moment) }
 {}
 
-/// Of an origin both what is in flight and what waits counts, and of others nothing.
+/// Of an origin all that is in flight and all that waits counts, and of others nothing.
 pub fn all_that_an_origin_has_to_send_counts()
     ensures { bytes_from nat_cmp 1 (record (flying 3 (message 1 2 4 0)) {
-      waiting = message 1 3 2 0 ∷ message 2 3 5 0 ∷ [];
-    }) ≡ whole 6 }
+      sending = flight_of (message 1 2 4 0) ∷ flight_of (message 2 3 7 0) ∷ flight_of (message 1 4 1 0) ∷ [];
+      waiting = message 1 3 2 0 ∷ message 2 3 5 0 ∷ message 1 2 3 0 ∷ [];
+    }) ≡ whole 10 }
 {}
 
 /// A message whose rate has no limit leaves nothing, also after no time.
