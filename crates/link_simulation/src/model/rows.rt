@@ -57,6 +57,19 @@ pub fn a_follower_starts_before_those_that_wake()
         ∷ reply_done (arrives (message 1 2 1 0) 4 ∷ arrives (message 1 3 1 0) 4 ∷ []) ∷ reply_next None ∷ []) }
 {}
 
+/// So it is where its pair comes later in the order of pairs: at 2 the second message to peer 3, and then the one to
+/// peer 2.
+pub fn a_follower_of_a_later_pair_starts_first()
+    ensures { Agrees nat_cmp (new_world 0)
+        (call_limit 0 1 a_byte_a_nanosecond None ∷ call_enqueue 0 (message 1 2 1 1) ∷ call_enqueue 0 (message 1 2 1 0)
+        ∷ call_advance 1 ∷ call_enqueue 1 (message 1 3 1 0) ∷ call_enqueue 1 (message 1 3 1 0)
+        ∷ call_next ∷ call_advance 2 ∷ call_next ∷ call_advance 4 ∷ call_next ∷ [])
+        (reply_done [] ∷ reply_done [] ∷ reply_done []
+        ∷ reply_done (arrives (message 1 2 1 1) 2 ∷ []) ∷ reply_done [] ∷ reply_done []
+        ∷ reply_next (Some 2) ∷ reply_done (arrives (message 1 3 1 0) 2 ∷ []) ∷ reply_next (Some 4)
+        ∷ reply_done (arrives (message 1 3 1 0) 4 ∷ arrives (message 1 2 1 0) 4 ∷ []) ∷ reply_next None ∷ []) }
+{}
+
 /// Of two pairs with a message each in flight, both finish at 2; the second message of the first pair starts only
 /// then, and has all of the cap.
 pub fn a_pair_sends_one_message_at_a_time()
