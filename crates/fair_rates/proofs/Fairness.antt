@@ -15,6 +15,7 @@ pub mod MaxMin
 pub mod OneAllocation
 pub mod Order
 pub mod Part
+pub mod Rates
 pub mod SameSides
 pub mod Sharing
 pub mod Uncapped

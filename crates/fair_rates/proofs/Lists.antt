@@ -2,6 +2,7 @@
 pub mod AllPairs
 pub mod Booleans
 pub mod Copied
+pub mod Different
 pub mod Each
 pub mod Filters
 pub mod InPlace

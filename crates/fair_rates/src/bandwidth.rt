@@ -27,8 +27,8 @@ pub use parts::FairParts;
 use std::alloc::Global;
 use std::collections::BTreeMap;
 pub use time::{
-    draining_splits, duration, nothing_is_left_from_the_least_time_on, there_is_one_least_time,
-    transfer,
+    draining_splits, duration, nothing_is_left_from_the_least_time_on, there_is_one_duration,
+    there_is_one_least_time, transfer,
 };
 
 /// Something that goes from one peer to another, as a message while it is sent.

@@ -1,13 +1,14 @@
 //! A simulated link scheduler: max-min fair rates over capped peers, and when each message arrives.
 //!
 //! The modules are those of the crates that this one passes on: rates of `fair_rates`, the
-//! scheduler of `link_scheduler`, its definitions and their laws of `link_simulation`, scripts and
-//! traces of `link_scripts`, and pictures of `link_pictures`. So are the definitions that contracts
-//! cite: `Rattle.p2p_simulated.specs.Calls.State` is that of `link_scheduler`.
+//! scheduler of `link_scheduler` and what follows from its promises, its definitions and their laws
+//! of `link_simulation`, scripts and traces of `link_scripts`, and pictures of `link_pictures`. So
+//! are the definitions that contracts cite: `Rattle.p2p_simulated.specs.Calls.State` is that of
+//! `link_scheduler`.
 #![tactic(auto)]
 
 pub use fair_rates::{bandwidth, error, peer, ratio};
 pub use link_pictures::linkdraw;
-pub use link_scheduler::{replay, transmitter};
+pub use link_scheduler::{clauses, replay, transmitter};
 pub use link_scripts::{linkcheck, linkrun};
 pub use link_simulation::model;

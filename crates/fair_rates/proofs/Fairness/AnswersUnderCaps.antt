@@ -19,7 +19,7 @@ module _ {P E I L : Type 0} (cmp : P → P → Ordering) (egress : Calls E P) (i
   fair_under_caps rate_of (Ok x) h = λ caps by. allocates_under_caps cmp egress ingress link caps first flows (rate_of x) by h
   fair_under_caps rate_of (Err r) h = tt
 
-  too_large_under_caps : IsTooLarge cmp egress ingress link first flows → AreTooLargeUnderCaps cmp egress ingress link first flows
+  pub too_large_under_caps : IsTooLarge cmp egress ingress link first flows → AreTooLargeUnderCaps cmp egress ingress link first flows
   too_large_under_caps h caps by =
       let all = answers_are_those_of_the_caps egress ingress link caps first flows h.answered by h.in_order in
       record {

@@ -15,7 +15,7 @@ use Rattle.fair_rates.proofs.Lists.Places.{places_apart, places_below}
 use Rattle.fair_rates.proofs.Filling.FairPartsExist.{fair_parts}
 
 module _ {P : Type 0} (cmp : P → P → Ordering) (order : IsTotalOrder cmp) (caps : Caps P) (flows : List (Flow P)) (of : AreOfPeers cmp caps) where
-  users_below : HaveUsersBelow (length flows) (sides_under cmp caps flows)
+  pub users_below : HaveUsersBelow (length flows) (sides_under cmp caps flows)
   users_below = All-from_contains (λ (side : Side). All (λ user. user < length flows) side.users) (sides_under cmp caps flows) (λ side listed.
       let s : IsCappedSide cmp caps flows side = (sides_are_of_the_caps cmp order caps flows side of).0 listed in
       subst (All (λ user. user < length flows)) (sym s.users) (places_below (limits cmp s.subject) flows (length flows) (le_refl (length flows))))

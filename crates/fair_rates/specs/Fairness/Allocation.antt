@@ -1,4 +1,4 @@
--- What is allocated.
+-- What is allocated, and in how many rounds.
 use Rattle.std.specs.Prelude.{◌≡◌, ℕ, ◌≤◌, List, length, Option}
 use Rattle.std.specs.declared.cmp.Ordering.{Ordering}
 use Rattle.fair_rates.specs.declared.bandwidth.Flow.{Flow}
@@ -34,6 +34,14 @@ pub record IsCountedAllocation {P E I L : Type 0} (cmp : P → P → Ordering) (
   pub allocation : IsAllocation cmp egress ingress link first flows rate_of
   pub different : HasDifferentRates allocation.rates rounds
   pub few : rounds ≤ length (sides_of cmp allocation.answered)
+
+-- there is one number of rounds: that of the different finite rates
+abbrev pub OneNumberOfRounds : {P E I L : Type 0} → (P → P → Ordering) → Calls E P → Calls I P → PairCalls L P → Type 0
+OneNumberOfRounds {P} {E} {I} {L} cmp egress ingress link =
+    (first : States E I L) (flows : List (Flow P)) (rate_of : ℕ → Option Rate) (rounds other : ℕ)
+    → (counted : IsCountedAllocation cmp egress ingress link first flows rate_of rounds)
+    → HasDifferentRates counted.allocation.rates other
+    → rounds ≡ other
 
 -- whatever caps the closures answer by, the rates are fair by id under these
 abbrev pub IsFairUnderCaps : {P E I L : Type 0} → (P → P → Ordering) → Calls E P → Calls I P → PairCalls L P

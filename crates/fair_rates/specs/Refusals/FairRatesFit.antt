@@ -14,6 +14,11 @@ pub record FairRatesFit (sides : List Side) (flows : ℕ) : Type 0 where
   pub fair : IsFair sides per parts
   pub small : All (λ side. per * flows * side.cap < 2 ^ 128) sides
 
+-- the rate, if it is finite, is a fraction of 128 bits
+abbrev pub IsFraction : Rate → Type 0
+IsFraction Unlimited = Unit {0}
+IsFraction (Finite ratio) = (ratio.numerator < 2 ^ 128) × (ratio.denominator < 2 ^ 128)
+
 -- the rate, if it is finite, is a whole number of parts, `per` of which are one byte a second
 abbrev pub IsWholeOver : ℕ → Rate → Type 0
 IsWholeOver per Unlimited = Unit {0}

@@ -1,15 +1,17 @@
 -- When flows are refused because a number is too large.
-use Rattle.std.specs.Prelude.{◌≡◌, ◌⊎◌, ℕ, ◌^◌, ◌<◌, ◌≤◌, List, length, map, Some, Contains}
+use Rattle.std.specs.Prelude.{◌≡◌, ◌⊎◌, ℕ, ◌^◌, ◌<◌, ◌≤◌, List, length, map, Some, All, Contains}
 use Rattle.std.specs.declared.cmp.Ordering.{Ordering}
 use Rattle.fair_rates.specs.Numbers.Amount.{parts_over}
 use Rattle.fair_rates.specs.Sides.Answers.{Answered, Calls, PairCalls, States, AnswerInOrder}
 use Rattle.fair_rates.specs.Sides.Caps.{Caps}
 use Rattle.fair_rates.specs.Fairness.Fair.{Side, IsLimited, IsFair}
 use Rattle.fair_rates.specs.Numbers.Fits.{ReducedFits}
-use Rattle.fair_rates.specs.Fairness.UnderCaps.{AnswerBy, answered_under, sides_under}
+use Rattle.fair_rates.specs.Fairness.UnderCaps.{AnswerBy, AreOfPeers, AreFairUnder, answered_under}
+use Rattle.fair_rates.specs.Fairness.UnderCaps.{sides_under}
 use Rattle.fair_rates.specs.Sides.Subjects.{sides_of}
-use Rattle.fair_rates.specs.Refusals.FairRatesFit.{FairRatesFit}
+use Rattle.fair_rates.specs.Refusals.FairRatesFit.{FairRatesFit, IsFraction}
 use Rattle.fair_rates.specs.declared.bandwidth.Flow.{Flow}
+use Rattle.fair_rates.specs.declared.bandwidth.Rate.{Rate}
 
 -- this cap was answered for the flow
 abbrev pub IsAnswer : {P : Type 0} → Answered P → ℕ → Type 0
@@ -54,3 +56,21 @@ abbrev pub AreTooLargeUnderCaps : {P E I L : Type 0} → (P → P → Ordering) 
     → States E I L → List (Flow P) → Type 0
 AreTooLargeUnderCaps {P} cmp egress ingress link first flows =
     (caps : Caps P) → AnswerBy egress ingress link first flows caps → AreTooLarge cmp caps flows
+
+-- where the closures answer for the flows by the caps, what is too large for them is too large under the caps
+abbrev pub IsTooLargeUnderCaps : {P E I L : Type 0} → (P → P → Ordering) → Calls E P → Calls I P → PairCalls L P
+    → Type 0
+IsTooLargeUnderCaps {P} {E} {I} {L} cmp egress ingress link =
+    (caps : Caps P) (first : States E I L) (flows : List (Flow P))
+    → AnswerBy egress ingress link first flows caps
+    → IsTooLarge cmp egress ingress link first flows
+    → AreTooLarge cmp caps flows
+
+-- flows that are too large under the caps have no fair rates that are fractions of 128 bits
+abbrev pub TooLargeHasNoRates : {P : Type 0} → (P → P → Ordering) → Type 0
+TooLargeHasNoRates {P} cmp =
+    (caps : Caps P) (flows : List (Flow P)) (rates : List Rate)
+    → AreOfPeers cmp caps
+    → AreTooLarge cmp caps flows
+    → All IsFraction rates
+    → ¬ AreFairUnder cmp caps flows rates

@@ -6,7 +6,9 @@
 //! one is about `allocate` and the other about `allocate_linked`.
 ghost use Rattle.std.specs.Prelude.{ℕ, ◌≡◌, ◌∷◌, []};
 ghost use Rattle.std.specs.Fn.{CalledAt, CalledAtTwo};
+ghost use Rattle.fair_rates.specs.Fairness.Allocation.{OneNumberOfRounds};
 ghost use Rattle.fair_rates.specs.Fairness.AllocationUnderCaps.{AllocatesUnderCaps};
+ghost use Rattle.fair_rates.specs.Refusals.TooLarge.{IsTooLargeUnderCaps, TooLargeHasNoRates};
 ghost use Rattle.fair_rates.specs.Sides.Answers.{NoLink};
 ghost use Rattle.fair_rates.specs.Fairness.Example.{HalfExists, HalvesAreFair, LessIsUnfair, MoreIsUnfair};
 ghost use Rattle.fair_rates.specs.Fairness.Example.{NoLimitIsUnfair, LimitIsUnfair};
@@ -96,6 +98,34 @@ where
     ensures plain { AllocatesUnderCaps P.cmp
         (CalledAt E.FnMut) (CalledAt I.FnMut) (NoLink {P = P}) }
     ensures linked { AllocatesUnderCaps P.cmp
+        (CalledAt E.FnMut) (CalledAt I.FnMut) (CalledAtTwo L.FnMut) }
+{}
+
+/// Closures that answer by caps of the peers are refused for a number where the flows are too large under these caps.
+/// And flows that are too large have no fair rates that are fractions of 128 bits, so there is none to answer.
+pub fn what_is_too_large_has_no_rates<P, E, I, L>()
+where
+    P: Peer,
+    E: FnMut(&P) -> Option<u128>,
+    I: FnMut(&P) -> Option<u128>,
+    L: FnMut(&P, &P) -> Option<u128>,
+    ensures plain { IsTooLargeUnderCaps P.cmp
+        (CalledAt E.FnMut) (CalledAt I.FnMut) (NoLink {P = P}) }
+    ensures linked { IsTooLargeUnderCaps P.cmp
+        (CalledAt E.FnMut) (CalledAt I.FnMut) (CalledAtTwo L.FnMut) }
+    ensures never { TooLargeHasNoRates P.cmp }
+{}
+
+/// The rounds of filling are as many as the list has different finite rates, which is one number.
+pub fn there_is_one_number_of_rounds<P, E, I, L>()
+where
+    P: Peer,
+    E: FnMut(&P) -> Option<u128>,
+    I: FnMut(&P) -> Option<u128>,
+    L: FnMut(&P, &P) -> Option<u128>,
+    ensures plain { OneNumberOfRounds P.cmp
+        (CalledAt E.FnMut) (CalledAt I.FnMut) (NoLink {P = P}) }
+    ensures linked { OneNumberOfRounds P.cmp
         (CalledAt E.FnMut) (CalledAt I.FnMut) (CalledAtTwo L.FnMut) }
 {}
 

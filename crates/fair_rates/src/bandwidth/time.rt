@@ -1,5 +1,6 @@
 //! How long what is left takes at a rate, and what is left after a time.
-ghost use Rattle.std.specs.Prelude.{◌≡◌, ℕ, ◌+◌, ◌<◌, ◌≤◌, ◌↔◌, IsSome, IfSome, IsOk, IfOk, IfErr};
+ghost use Rattle.std.specs.Prelude.{◌≡◌, ℕ, ◌+◌, ◌^◌, ◌<◌, ◌≤◌, ◌↔◌, Option, IsSome, IfSome};
+ghost use Rattle.std.specs.Prelude.{IsOk, IfOk, IfErr};
 ghost use Rattle.fair_rates.specs.Numbers.Amount.{Amount, drained, IsLeastTime};
 ghost use Rattle.fair_rates.specs.Numbers.Ratio.{amount_of};
 ghost use Rattle.fair_rates.specs.declared.bandwidth.Rate.{Rate as AnyRate};
@@ -97,6 +98,13 @@ pub fn draining_splits()
 pub fn nothing_is_left_from_the_least_time_on()
     ensures { (left : Amount) (rate : Amount) (least : ℕ) (n : ℕ)
         → 0 < left.den → 0 < rate.den → IsLeastTime rate left least → ((drained left rate n).num ≡ 0) ↔ (least ≤ n) }
+{}
+
+/// A law of `duration`: it has one answer. The function does nothing.
+pub fn there_is_one_duration()
+    ensures { (rate : AnyRate) (left : Amount) (a : Option ℕ) (b : Option ℕ)
+        → IfSome a (λ n. n < 2 ^ 64) → IfSome b (λ n. n < 2 ^ 64)
+        → IsDuration rate left a → IsDuration rate left b → a ≡ b }
 {}
 
 /// A law of `duration`: at a rate above zero there is one least time. The function does nothing.

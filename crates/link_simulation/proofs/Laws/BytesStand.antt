@@ -1,10 +1,10 @@
 -- The bytes of an origin are the same in all worlds of one moment that a planned world stands for, so an advance keeps to its cap.
-use Rattle.std.proofs.Common.{◌≡◌, ℕ, zero, suc, ◌+◌, ◌-◌, ◌≤◌, List, [], ◌∷◌, length, Bool, true, false, cond, not, Some, refl, sym, ap, ◌∙◌, subst, arith}
+use Rattle.std.proofs.Common.{◌≡◌, ℕ, zero, suc, ◌+◌, ◌-◌, ◌*◌, ◌≤◌, List, [], ◌∷◌, length, Bool, true, false, cond, not, Some, refl, sym, ap, ◌∙◌, subst, arith}
 use Rattle.std.specs.Prelude.{if◌then◌else◌}
 use Rattle.std.specs.List.{filter, AllZip}
 use Rattle.std.specs.declared.cmp.Ordering.{Ordering}
 use Rattle.std.specs.Cmp.{IsTotalOrder}
-use Rattle.fair_rates.specs.Numbers.Amount.{Amount, plus}
+use Rattle.fair_rates.specs.Numbers.Amount.{Amount, whole, plus}
 use Rattle.fair_rates.specs.Fairness.Laws.{IsAtMost}
 use Rattle.fair_rates.specs.Sides.Subjects.{same_peer}
 use Rattle.link_simulation.specs.Simulation.Messages.{Message, SameMessage, same_pair}
@@ -128,3 +128,16 @@ module _ {P : Type 0} (cmp : P → P → Ordering) (order : IsTotalOrder cmp) wh
     where
       advance_moment : (t : ℕ) → Some now ≡ Some t → now ≡ t
       advance_moment t same = cc
+
+-- so many bytes, of which none is left, took as long as the cap needs for them
+in_numbers : (bytes cap time : ℕ) → IsAtMost (whole bytes) (plus (whole 0) (allowance cap time)) → bytes * 1_000_000_000 ≤ cap * time
+in_numbers bytes cap time h = omega arith
+
+pub sending_takes : {P : Type 0} (cmp : P → P → Ordering) (p q : Planned P) (w v : World P) (origin : P) (bytes cap now : ℕ) → KeepsToCaps cmp p now q
+    → StandsFor cmp p w → StandsFor cmp q v → w.moment ≤ now → v.moment ≡ now → p.caps.egress origin ≡ Some cap
+    → bytes_from cmp origin w ≡ whole bytes → bytes_from cmp origin v ≡ whole 0 → bytes * 1_000_000_000 ≤ cap * (now - w.moment)
+sending_takes cmp p q w v origin bytes cap now keeps stands_p stands_q after at is before left =
+    in_numbers bytes cap (now - w.moment)
+    (subst (λ (a : Amount). IsAtMost a (plus (whole 0) (allowance cap (now - w.moment)))) before
+    (subst (λ (a : Amount). IsAtMost (bytes_from cmp origin w) (plus a (allowance cap (now - w.moment)))) left
+    (keeps w v origin cap stands_p stands_q after at is)))

@@ -1,17 +1,23 @@
 -- What is simulated is the one course of the simulation.
-use Rattle.std.proofs.Common.{◌≡◌, ℕ, ◌≤◌, List, ◌++◌, Option, sym, subst}
+use Rattle.std.proofs.Common.{◌≡◌, ℕ, ◌≤◌, List, ◌++◌, Option, Some, refl, sym, ◌∙◌, subst}
 use Rattle.std.specs.List.{AllZip}
 use Rattle.std.specs.declared.cmp.Ordering.{Ordering}
 use Rattle.std.specs.Cmp.{IsTotalOrder}
 use Rattle.fair_rates.specs.declared.error.Error.{Error}
-use Rattle.link_simulation.specs.Simulation.World.{World, Completed, goes}
+use Rattle.fair_rates.specs.declared.error.Error.TheVariants.{OutOfMemory, NumberTooLarge, MomentTooLate, FlowIdsUsedUp}
+use Rattle.link_simulation.specs.Simulation.RefusalCauses.{IsRefusedFor}
+use Rattle.link_simulation.specs.Rule.SamePlanned.{IsSamePlanned, GoesByRule}
+use Rattle.link_simulation.specs.Simulation.World.{World, Completed, goes, meets}
+use Rattle.link_simulation.specs.Rule.Events.{Obeys}
+use Rattle.link_simulation.specs.Rule.Refusals.{MayBeRefused}
 use Rattle.link_simulation.specs.Simulation.Time.{NextIs}
 use Rattle.link_simulation.specs.Simulation.Calls.{Call, call_advance, Runs}
 use Rattle.link_simulation.specs.Simulation.Replies.{SameCompletion, Faults}
 use Rattle.link_simulation.specs.Rule.Planned.{Planned}
 use Rattle.link_simulation.specs.Rule.StandsFor.{StandsFor}
-use Rattle.link_simulation.specs.Rule.Simulated.{IsCalled, IsRun, RunsInTwo, IsSimulated, IsSplitAnywhere, IsNextInSimulation}
+use Rattle.link_simulation.specs.Rule.Simulated.{IsCalled, IsRun, RunsInTwo, IsSimulated, IsSplitAnywhere, IsNextInSimulation, MeetsFault, IsRefusedInSimulation}
 use Rattle.link_simulation.proofs.Laws.AdvanceOnward.{advance_splits}
+use Rattle.link_simulation.proofs.Rule.OneCourse.{course_is_one}
 use Rattle.link_simulation.proofs.Simulation.OneNext.{next_is_one}
 use Rattle.link_simulation.proofs.Simulation.OneRun.{runs_are_one}
 use Rattle.link_simulation.proofs.Rule.Simulated.{sound_of_stands}
@@ -54,3 +60,54 @@ module _ {P : Type 0} (cmp : P → P → Ordering) (order : IsTotalOrder cmp) wh
       → NextIs cmp w next → told ≡ next
   one_next p w told next simulated stands is =
       next_is_one cmp order w told next (sound_of_stands cmp order p w stands).positive (simulated w stands) is
+
+  -- ---- what a call may be refused for that could go
+
+  -- what goes by the event rule has its one course
+  pub one_going : (p q r : Planned P) (call : Call P) (cs ds : List (Completed P)) → GoesByRule cmp p call cs q → Obeys cmp p call (goes ds r)
+      → AllZip (SameCompletion cmp) cs ds × IsSamePlanned cmp r q
+  one_going p q r call cs ds went obeys = by_course (course_is_one cmp order p call (goes ds r) (goes went.answers went.after) obeys went.obeys)
+    where
+      by_course : goes ds r ≡ goes went.answers went.after → AllZip (SameCompletion cmp) cs ds × IsSamePlanned cmp r q
+      by_course one =
+          let answers : ds ≡ went.answers = cc in
+          let after : r ≡ went.after = cc in (
+            subst (λ (xs : List (Completed P)). AllZip (SameCompletion cmp) cs xs) (sym answers) went.same_answers,
+            subst (λ (x : Planned P). IsSamePlanned cmp x q) (sym after) went.same_after,
+          )
+
+  -- it is refused for memory alone
+  pub not_refused : (p q : Planned P) (call : Call P) (why : Error) (cs : List (Completed P)) → MayBeRefused cmp p call why
+      → Obeys cmp p call (goes cs q) → why ≡ OutOfMemory
+  not_refused p q call why cs may obeys = by_cause why may
+    where
+      never : (fault : Error) → Obeys cmp p call (meets fault) → ⊥
+      never fault met = let one = course_is_one cmp order p call (goes cs q) (meets fault) obeys met in cc
+
+      by_cause : (why : Error) → MayBeRefused cmp p call why → why ≡ OutOfMemory
+      by_cause OutOfMemory may = refl
+      by_cause NumberTooLarge may = absurd may
+      by_cause MomentTooLate may = absurd (never MomentTooLate may)
+      by_cause FlowIdsUsedUp may = absurd (never FlowIdsUsedUp may)
+
+  -- and so in the simulation
+  pub not_refused_in_simulation : (p : Planned P) (w v : World P) (call : Call P) (now : ℕ) (why : Error) (cs : List (Completed P))
+      → IsRefusedInSimulation cmp p call why → IsCalled cmp p call now w → Runs cmp w call now (goes cs v) → why ≡ OutOfMemory
+  not_refused_in_simulation p w v call now why cs refused called runs = by_cause why refused.cause
+    where
+      never : (fault : Error) → MeetsFault cmp p call fault → ⊥
+      never fault meets_it = by_fault (meets_it w now called)
+        where
+          by_fault : Faults cmp w call fault → ⊥
+          by_fault (at, is, faults) =
+              let both : Some at ≡ Some now = sym is ∙ called.moment in
+              let same : at ≡ now = cc in
+              let one = runs_are_one cmp order w call now (goes cs v) (meets fault) (sound_of_stands cmp order p w called.stands) runs
+              (subst (λ (t : ℕ). Runs cmp w call t (meets fault)) same faults) in
+              cc
+
+      by_cause : (why : Error) → IsRefusedFor (MeetsFault cmp p call) why → why ≡ OutOfMemory
+      by_cause OutOfMemory may = refl
+      by_cause NumberTooLarge may = absurd may
+      by_cause MomentTooLate may = absurd (never MomentTooLate may)
+      by_cause FlowIdsUsedUp may = absurd (never FlowIdsUsedUp may)

@@ -2,20 +2,21 @@
 //!
 //! In the examples peers are numbers, and no limit holds unless one is named.
 ghost use Rattle.std.specs.Prelude.{◌≡◌, ℕ, ◌+◌, ◌-◌, ◌*◌, ◌≤◌, ◌==◌, if◌then◌else◌, List, []};
-ghost use Rattle.std.specs.Prelude.{◌∷◌, Bool, true, Option, Some, None, nat_lt};
+ghost use Rattle.std.specs.Prelude.{◌∷◌, Bool, true, Option, Some, None, nat_lt, take};
 ghost use Rattle.std.specs.List.{AllZip};
 ghost use Rattle.std.specs.Ordering.{nat_cmp};
-ghost use Rattle.fair_rates.specs.Numbers.Amount.{whole};
+ghost use Rattle.fair_rates.specs.Numbers.Amount.{Amount, whole};
 ghost use Rattle.fair_rates.specs.declared.error.Error.{Error as AnyError};
 ghost use Rattle.fair_rates.specs.declared.error.Error.TheVariants.{NumberTooLarge, MomentTooLate, FlowIdsUsedUp};
 ghost use Rattle.link_simulation.specs.Laws.Alone.{IsTimeFor, IsLeastCap, MayGoAlone, IsDoneAfter};
 ghost use Rattle.link_simulation.specs.Simulation.World.{World, Completed, new_world, completed, completion_of, goes};
-ghost use Rattle.link_simulation.specs.Simulation.World.{EndsWith};
+ghost use Rattle.link_simulation.specs.Simulation.World.{flight_of, EndsWith};
 ghost use Rattle.link_simulation.specs.Laws.Bytes.{bytes_from};
 ghost use Rattle.link_simulation.specs.Simulation.Time.{NextIs, IsSound};
 ghost use Rattle.link_simulation.specs.Simulation.Calls.{Call, call_enqueue, call_advance, Runs, limited_by};
 ghost use Rattle.link_simulation.specs.Simulation.Messages.{Message, no_caps};
-ghost use Rattle.link_simulation.specs.Rule.Planned.{Planned, new_planned};
+ghost use Rattle.link_simulation.specs.Simulation.Rates.{drained_by};
+ghost use Rattle.link_simulation.specs.Rule.Planned.{Planned, new_planned, left_at};
 ghost use Rattle.link_simulation.specs.Simulation.Replies.{Reply, reply_done, SameCompletion, Faults};
 ghost use Rattle.link_simulation.specs.Examples.Rows.{message, arrives, rated_flight, flying, all_equal};
 ghost use Rattle.link_simulation.specs.Rule.StandsFor.{StandsFor};
@@ -85,11 +86,18 @@ pub fn sending_takes_its_time<P: Ord>()
         bytes_from P.cmp origin v ≡ whole 0 → bytes * 1_000_000_000 ≤ cap * (now - w.moment) }
 {}
 
-/// Of an origin both what is in flight and what waits counts, and of others nothing.
+/// Of an origin all that is in flight and all that waits counts, and of others nothing.
 pub fn all_that_an_origin_has_to_send_counts()
     ensures { bytes_from nat_cmp 1 (record (flying 3 (message 1 2 4 0)) {
-      waiting = message 1 3 2 0 ∷ message 2 3 5 0 ∷ [];
-    }) ≡ whole 6 }
+      sending = flight_of (message 1 2 4 0) ∷ flight_of (message 2 3 7 0) ∷ flight_of (message 1 4 1 0) ∷ [];
+      waiting = message 1 3 2 0 ∷ message 2 3 5 0 ∷ message 1 2 3 0 ∷ [];
+    }) ≡ whole 10 }
+{}
+
+/// A message whose rate has no limit leaves nothing, also after no time.
+pub fn what_has_no_limit_is_gone_at_once()
+    ensures drained { (n : ℕ) (left : Amount) → drained_by None n left ≡ whole 0 }
+    ensures left { left_at 0 (rated_flight (message 1 2 3 0) None) ≡ whole 0 }
 {}
 
 /// What a course ends with holds of the world that it goes to.
@@ -98,10 +106,13 @@ pub fn a_course_ends_with_what_holds_there<P: Ord>()
         EndsWith (λ v. law v ≡ true) (goes cs w) → law w ≡ true }
 {}
 
-/// What holds of the first calls, however many, holds of all of them.
+/// What holds so far holds of the first calls, however many, and of all of them.
 pub fn what_holds_so_far_holds_of_all<P: Ord>()
-    ensures { (law : List (Call P) → List (Reply P) → Bool) (calls : List (Call P)) (replies : List (Reply P)) →
+    ensures all { (law : List (Call P) → List (Reply P) → Bool) (calls : List (Call P)) (replies : List (Reply P)) →
         AlwaysSoFar (λ cs rs. law cs rs ≡ true) calls replies → law calls replies ≡ true }
+    ensures first { (law : List (Call P) → List (Reply P) → Bool) (calls : List (Call P)) (replies : List (Reply P))
+        (n : ℕ) → AlwaysSoFar (λ cs rs. law cs rs ≡ true) calls replies →
+        law (take n calls) (take n replies) ≡ true }
 {}
 
 /// A completion has the origin, the recipient, the channel and the bytes of its message, and the moment of its arrival.
@@ -138,7 +149,8 @@ pub fn a_lost_completion_is_not_conserved()
 {}
 
 /// A planned world is not in order where a message in flight has a rate that is not its fair one, where two messages
-/// of a pair are in flight, where pairs wait out of order, and where a message waits before any limit.
+/// of a pair are in flight, where pairs wait out of order, be they first or later ones, and where a message waits
+/// before any limit.
 pub fn a_world_out_of_order_is_told()
     ensures rate { ¬ IsOrderly nat_cmp (record (new_planned 0) {
       limited = true;
@@ -148,9 +160,18 @@ pub fn a_world_out_of_order_is_told()
       limited = true;
       sending = rated_flight (message 1 2 1 0) None ∷ rated_flight (message 1 2 1 0) None ∷ [];
     }) }
+    ensures later_pair { ¬ IsOrderly nat_cmp (record (new_planned 0) {
+      limited = true;
+      sending = rated_flight (message 1 3 1 0) None ∷ rated_flight (message 1 2 1 0) None
+          ∷ rated_flight (message 1 2 1 0) None ∷ [];
+    }) }
     ensures pair_order { ¬ IsOrderly nat_cmp (record (new_planned 0) {
       limited = true;
       waiting = message 2 1 1 0 ∷ message 1 2 1 0 ∷ [];
+    }) }
+    ensures later_pair_order { ¬ IsOrderly nat_cmp (record (new_planned 0) {
+      limited = true;
+      waiting = message 1 2 1 0 ∷ message 3 1 1 0 ∷ message 2 1 1 0 ∷ [];
     }) }
     ensures at_first { ¬ IsOrderly nat_cmp (record (new_planned 0) { waiting = message 1 2 1 0 ∷ [] }) }
 {}

@@ -54,6 +54,19 @@ pub fn a_follower_starts_before_those_that_wake()
         ∷ reply_done (arrives (message 1 2 1 0) 4 ∷ arrives (message 1 3 1 0) 4 ∷ []) ∷ reply_next None ∷ []) }
 {}
 
+/// So it is where its pair comes later in the order of pairs: at 2 the second message to peer 3, and then the one to
+/// peer 2.
+pub fn a_follower_of_a_later_pair_starts_first()
+    ensures { Agrees nat_cmp (new_world 0)
+        (call_limit 0 1 a_byte_a_nanosecond None ∷ call_enqueue 0 (message 1 2 1 1) ∷ call_enqueue 0 (message 1 2 1 0)
+        ∷ call_advance 1 ∷ call_enqueue 1 (message 1 3 1 0) ∷ call_enqueue 1 (message 1 3 1 0)
+        ∷ call_next ∷ call_advance 2 ∷ call_next ∷ call_advance 4 ∷ call_next ∷ [])
+        (reply_done [] ∷ reply_done [] ∷ reply_done []
+        ∷ reply_done (arrives (message 1 2 1 1) 2 ∷ []) ∷ reply_done [] ∷ reply_done []
+        ∷ reply_next (Some 2) ∷ reply_done (arrives (message 1 3 1 0) 2 ∷ []) ∷ reply_next (Some 4)
+        ∷ reply_done (arrives (message 1 3 1 0) 4 ∷ arrives (message 1 2 1 0) 4 ∷ []) ∷ reply_next None ∷ []) }
+{}
+
 /// Of two pairs with a message each in flight, both finish at 2; the second message of the first pair starts only
 /// then, and has all of the cap.
 pub fn a_pair_sends_one_message_at_a_time()
@@ -73,6 +86,16 @@ pub fn nothing_waits_before_any_limit()
         ∷ call_next ∷ [])
         (reply_done (arrives (message 1 2 1 100) 100 ∷ []) ∷ reply_done (is_gone (dropped 1 2 1 0) ∷ [])
         ∷ reply_done (arrives (message 1 2 1 50) 100 ∷ []) ∷ reply_next None ∷ []) }
+{}
+
+/// Before any limit a message arrives at its own moment where that is later than the last one, and it then is the last
+/// one itself.
+pub fn a_later_arrival_is_the_last_one()
+    ensures { Agrees nat_cmp (new_world 0)
+        (call_enqueue 0 (message 1 2 1 100) ∷ call_enqueue 0 (message 1 2 1 150) ∷ call_enqueue 0 (message 1 2 1 120)
+        ∷ [])
+        (reply_done (arrives (message 1 2 1 100) 100 ∷ []) ∷ reply_done (arrives (message 1 2 1 150) 150 ∷ [])
+        ∷ reply_done (arrives (message 1 2 1 120) 150 ∷ []) ∷ []) }
 {}
 
 /// Each ordered pair has its own order: an arrival at 100 holds back no message to another peer, nor one on the way

@@ -99,3 +99,27 @@ pub fn an_interval_may_be_drained_twice()
         (reply_done [] ∷ reply_done [] ∷ reply_done [] ∷ reply_next (Some 4) ∷ reply_done [] ∷ reply_next (Some 3)
         ∷ reply_done (arrives (message 1 2 4 0) 3 ∷ []) ∷ reply_next None ∷ []) }
 {}
+
+/// A start that was missed is planned for the moment of the call: the second message could start at 6, and the call at
+/// 10 finds it waiting.
+pub fn a_missed_start_is_planned_anew()
+    ensures { Obeyed nat_cmp (new_planned 0)
+        (call_limit 0 1 a_byte_a_nanosecond None ∷ call_enqueue 0 (message 1 2 4 3) ∷ call_enqueue 0 (message 1 2 2 1)
+        ∷ call_advance 4 ∷ call_next ∷ call_limit 10 1 a_byte_a_nanosecond None ∷ call_next ∷ call_advance 12
+        ∷ call_next ∷ [])
+        (reply_done [] ∷ reply_done [] ∷ reply_done []
+        ∷ reply_done (arrives (message 1 2 4 3) 7 ∷ []) ∷ reply_next (Some 6) ∷ reply_done [] ∷ reply_next (Some 10)
+        ∷ reply_done (arrives (message 1 2 2 1) 13 ∷ []) ∷ reply_next None ∷ []) }
+{}
+
+/// The next event is the earlier of a start and a finish: the message to peer 2 may start at 6, and the one to peer 3
+/// would finish at 8. From 6 on they share the cap, and both finish at 10.
+pub fn a_start_may_come_before_a_finish()
+    ensures { Obeyed nat_cmp (new_planned 0)
+        (call_limit 0 1 a_byte_a_nanosecond None ∷ call_enqueue 0 (message 1 2 4 3) ∷ call_advance 4
+        ∷ call_enqueue 4 (message 1 2 2 1) ∷ call_enqueue 4 (message 1 3 4 0) ∷ call_next ∷ call_advance 6 ∷ call_next
+        ∷ call_advance 10 ∷ call_next ∷ [])
+        (reply_done [] ∷ reply_done [] ∷ reply_done (arrives (message 1 2 4 3) 7 ∷ [])
+        ∷ reply_done [] ∷ reply_done [] ∷ reply_next (Some 6) ∷ reply_done [] ∷ reply_next (Some 10)
+        ∷ reply_done (arrives (message 1 3 4 0) 10 ∷ arrives (message 1 2 2 1) 11 ∷ []) ∷ reply_next None ∷ []) }
+{}

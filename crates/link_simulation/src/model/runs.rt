@@ -15,7 +15,7 @@ ghost use Rattle.link_simulation.specs.Laws.PairCompletions.{enqueued, answered,
 ghost use Rattle.link_simulation.specs.Laws.Bytes.{bytes_from, allowance};
 ghost use Rattle.link_simulation.specs.Laws.Isolation.{Answers, AnswersInTurn, IsSet, KeepsApart, InTime, is_kept};
 ghost use Rattle.link_simulation.specs.Laws.Isolation.{kept_completions, NothingElse};
-ghost use Rattle.link_simulation.specs.Examples.Rows.{message, arrives};
+ghost use Rattle.link_simulation.specs.Examples.Rows.{message, dropped, arrives, is_gone};
 
 /// The completions of a pair come in the order of its `enqueue` calls, and its delivery moments never go down.
 pub fn a_pair_keeps_its_order<P: Ord>()
@@ -24,11 +24,17 @@ pub fn a_pair_keeps_its_order<P: Ord>()
         IsInPairOrder P.cmp k (enqueued calls) (answered css) }
 {}
 
-/// Completions of a pair whose arrivals go down are not in its order, and neither is its second message where it comes
-/// first.
+/// Completions of a pair whose arrivals go down, at once, later or across a dropped message, are not in its order, and
+/// neither is its second message where it comes first.
 pub fn completions_out_of_order_are_told()
     ensures arrivals { ¬ IsInPairOrder nat_cmp (message 1 2 1 0) (message 1 2 1 2 ∷ message 1 2 1 0 ∷ [])
         (arrives (message 1 2 1 2) 5 ∷ arrives (message 1 2 1 0) 4 ∷ []) }
+    ensures later { ¬ IsInPairOrder nat_cmp (message 1 2 1 0)
+        (message 1 2 1 0 ∷ message 1 2 1 2 ∷ message 1 2 1 0 ∷ [])
+        (arrives (message 1 2 1 0) 3 ∷ arrives (message 1 2 1 2) 5 ∷ arrives (message 1 2 1 0) 4 ∷ []) }
+    ensures across { ¬ IsInPairOrder nat_cmp (message 1 2 1 0)
+        (message 1 2 1 2 ∷ dropped 1 2 1 0 ∷ message 1 2 1 0 ∷ [])
+        (arrives (message 1 2 1 2) 5 ∷ is_gone (dropped 1 2 1 0) ∷ arrives (message 1 2 1 0) 4 ∷ []) }
     ensures messages { ¬ IsInPairOrder nat_cmp (message 1 2 1 0) (message 1 2 1 0 ∷ message 1 2 2 0 ∷ [])
         (arrives (message 1 2 2 0) 5 ∷ []) }
 {}

@@ -1,14 +1,17 @@
 //! Planned worlds that are the same up to equal peers.
-ghost use Rattle.std.specs.Prelude.{◌≡◌, List};
+ghost use Rattle.std.specs.Prelude.{◌≡◌, ⊤, ◌∷◌, [], List};
+ghost use Rattle.std.specs.Ordering.{nat_cmp};
 ghost use Rattle.fair_rates.specs.declared.error.Error.{Error as AnyError};
-ghost use Rattle.link_simulation.specs.Simulation.World.{World, Completed, Course};
+ghost use Rattle.fair_rates.specs.declared.error.Error.TheVariants.{MomentTooLate, FlowIdsUsedUp};
+ghost use Rattle.link_simulation.specs.Simulation.World.{World, Completed, Course, goes, meets, new_world};
 ghost use Rattle.link_simulation.specs.Simulation.Calls.{Call};
 ghost use Rattle.link_simulation.specs.Simulation.Replies.{Reply};
-ghost use Rattle.link_simulation.specs.Rule.Planned.{Planned};
+ghost use Rattle.link_simulation.specs.Rule.Planned.{Planned, new_planned};
 ghost use Rattle.link_simulation.specs.Rule.Events.{Obeys};
 ghost use Rattle.link_simulation.specs.Rule.Refusals.{MayBeRefused, Obeyed};
 ghost use Rattle.link_simulation.specs.Rule.Range.{IsInRange};
-ghost use Rattle.link_simulation.specs.Rule.StandsFor.{StandsFor};
+ghost use Rattle.link_simulation.specs.Rule.StandsFor.{StandsFor, CoursesAlike};
+ghost use Rattle.link_simulation.specs.Examples.Rows.{message, arrives};
 ghost use Rattle.link_simulation.specs.Rule.SamePlanned.{IsSamePlanned, IsSameCall, IsSameCourse};
 
 /// On planned worlds that are the same up to equal peers a call has the same course, may be refused alike, and leaves
@@ -30,4 +33,24 @@ pub fn the_same_worlds_do_the_same<P: Ord>()
 /// Each call is the same as itself.
 pub fn a_call_is_the_same_as_itself<P: Ord>()
     ensures { (call : Call P) → IsSameCall P.cmp call call }
+{}
+
+/// Courses with other completions, to another planned world or with another fault are not the same, and neither are
+/// one that goes and one that meets a fault.
+pub fn courses_that_differ_are_told()
+    ensures completions { ¬ IsSameCourse nat_cmp (goes (arrives (message 1 2 1 0) 1 ∷ []) (new_planned 0))
+        (goes [] (new_planned 0)) }
+    ensures world { ¬ IsSameCourse nat_cmp (goes [] (new_planned 0)) (goes [] (new_planned 1)) }
+    ensures fault { ¬ IsSameCourse nat_cmp (meets MomentTooLate) (meets FlowIdsUsedUp) }
+    ensures met { ¬ IsSameCourse nat_cmp (goes [] (new_planned 0)) (meets MomentTooLate) }
+{}
+
+/// Nor are courses of a planned world and of the simulation alike that differ so.
+pub fn courses_that_are_not_alike_are_told()
+    ensures completions { ¬ CoursesAlike nat_cmp (λ p w. ⊤) (goes (arrives (message 1 2 1 0) 1 ∷ []) (new_planned 0))
+        (goes [] (new_world 0)) }
+    ensures world { ¬ CoursesAlike nat_cmp (λ p w. p.next_id ≡ w.next_id) (goes [] (new_planned 0))
+        (goes [] (new_world 1)) }
+    ensures fault { ¬ CoursesAlike nat_cmp (λ p w. ⊤) (meets MomentTooLate) (meets FlowIdsUsedUp) }
+    ensures met { ¬ CoursesAlike nat_cmp (λ p w. ⊤) (goes [] (new_planned 0)) (meets MomentTooLate) }
 {}
