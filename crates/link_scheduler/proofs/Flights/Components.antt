@@ -422,7 +422,7 @@ module _ {P : Type 0} (cmp : P → P → Ordering) (component : Component P) whe
           let us = rated_ones were.before in
           let whole = shared cmp order caps of scale levels (levels_of us) us (length-map us (λ (s : Progress P). s.level)) were.fair.fair in
           let part = part_shared cmp caps flow_of parts_of theirs scale (shares cmp levels (levels_of us) us) whole
-              (λ s cap x y has h g lx ly. ap not (shares_apart caps levels (levels_of us) us (λ s h. ends_before s (from_filter (λ (s : Progress P). s.rated) were.before s h).0) s cap x y has h g lx ly)) in
+          (λ s cap x y has h g lx ly. ap not (shares_apart caps levels (levels_of us) us (λ s h. ends_before s (from_filter (λ (s : Progress P). s.rated) were.before s h).0) s cap x y has h g lx ly)) in
           subst (λ (l : List (Progress P)). AreFairShares cmp order caps of scale (shares cmp levels (levels_of l) l)) others_stay
           (subst (AreFairShares cmp order caps of scale) (theirs_are levels us) part)
 
@@ -445,7 +445,7 @@ module _ {P : Type 0} (cmp : P → P → Ordering) (component : Component P) whe
           let same_scale : part.scale ≡ scale = fair.grown ∙ ap (λ l. scale * product l) none ∙ one in
           let one_each : length os ≡ length (those_of cmp component ss) = fair.one_each ∙ standing_length cmp part_flows (those_of cmp component ss) part_stand in
           let own = subst (AreFairShares cmp order caps of scale) (sym (own_are levels more os ss one_each))
-              (shared_under cmp order caps of scale more os part_flows (those_of cmp component ss) part_stand one_each (subst (λ n. IsFair (sides_under cmp caps part_flows) n (flow_parts more os)) same_scale fair.fair)) in
+          (shared_under cmp order caps of scale more os part_flows (those_of cmp component ss) part_stand one_each (subst (λ n. IsFair (sides_under cmp caps part_flows) n (flow_parts more os)) same_scale fair.fair)) in
           let rest = subst (AreFairShares cmp order caps of scale) (sym (others_are levels more os ss inside_still)) others_fair in
           let whole = both_shared cmp caps flow_of parts_of mine scale (all_shares levels more os ss) own rest (shares_apart caps (levels ++ more) all_os ss ends) in
           let len = all_levels (length levels) os ss in

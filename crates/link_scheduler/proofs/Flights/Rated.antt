@@ -137,7 +137,7 @@ module _ {P : Type 0} (cmp : P → P → Ordering) (caps : Caps P) where
       let ss = old.progress.items in
       let there : IsFair (capped_sides cmp caps (sent_messages ss)) rates.scale (flow_parts rates.levels.items rates.level_of.items) =
       still_fair (sides_under cmp caps old.flows.items) (capped_sides cmp caps (sent_messages ss)) (same_sides cmp order caps of old.flows.items (sent_messages ss) (standing_messages cmp old.flows.items ss (standing_zip cmp old.flows.items ss stand)))
-          rates.scale (flow_parts rates.levels.items rates.level_of.items) fair.fair in
+      rates.scale (flow_parts rates.levels.items rates.level_of.items) fair.fair in
       let places : list_all (is_place_of rates.levels.items) rates.level_of.items ≡ true =
       places_given rates.levels.items rates.level_of.items (λ o among. All-contains (λ o. IfSome o (λ place. place < length rates.levels.items)) rates.level_of.items o fair.inside (contains_from_in rates.level_of.items o among)) in
       rw (h.rated, h.scale, h.levels) (record {

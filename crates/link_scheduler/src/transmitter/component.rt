@@ -16,7 +16,7 @@ use std::rc::Rc;
 
 /// How many senders and receivers a component may have. Where there are more, it pays to rate all
 /// that is in flight.
-const MOST_ENDS: usize = 24;
+const MOST_ENDS: usize = 12;
 
 /// Some senders and some receivers: those of these messages.
 #[derive(Drop)]
@@ -37,14 +37,18 @@ impl<P: Peer> Component<P> {
     pub(crate) fn has_sender(&self, peer: &P) -> bool
         ensures { result ≡ is_sender P.cmp self.now peer.now }
     {
-        self.senders.iter().any(|message| peer.cmp(&message.origin).is_eq())
+        self.senders
+            .iter()
+            .any(|message| peer.cmp(&message.origin).is_eq())
     }
 
     /// Whether the peer is one of the receivers.
     fn has_receiver(&self, peer: &P) -> bool
         ensures { result ≡ is_receiver P.cmp self.now peer.now }
     {
-        self.receivers.iter().any(|message| peer.cmp(&message.recipient).is_eq())
+        self.receivers
+            .iter()
+            .any(|message| peer.cmp(&message.recipient).is_eq())
     }
 
     /// Takes in the ends of the message.

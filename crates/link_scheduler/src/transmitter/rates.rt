@@ -81,11 +81,7 @@ impl<P: Peer> Flights<P> {
     }
 
     /// The rates of all: these of the component's flows, and of the others as they were.
-    fn rates_with(
-        &self,
-        component: &Component<P>,
-        mut part: FairParts,
-    ) -> Result<FairParts, Error>
+    fn rates_with(&self, component: &Component<P>, mut part: FairParts) -> Result<FairParts, Error>
         requires one_each { length part.level_of.items
             ≡ length (those_of P.cmp component.now self.now.progress.items) }
         requires inside { All (λ level. IfSome level (λ place. place < length part.levels.items)) part.level_of.items }

@@ -15,15 +15,15 @@ loop-one-init g c =
 pub index-requires : goal.index-requires
 index-requires g c =
     let lt = some_level g.P.Ord.cmp c.args.component.now c.len-first.result c.args.part.level_of.items c.deref-one-items.result.now c.loop-one.level_of.items c.loop-one.next c.loop-one.one-index c.one-item.result c.loop-one.invariant
-        (omega (arith, c.loop-one-test.true)) c.one-item.is (c.requires.one_each ∙ ap (λ l. length (those_of g.P.Ord.cmp c.args.component.now l)) (sym c.deref-one-items.ensures.value))
-        (ap (λ m. is_sender g.P.Ord.cmp c.args.component.now m.origin) (sym c.deref.ensures) ∙ sym c.has_sender.ensures ∙ c.if-has_sender.true) in
+    (omega (arith, c.loop-one-test.true)) c.one-item.is (c.requires.one_each ∙ ap (λ l. length (those_of g.P.Ord.cmp c.args.component.now l)) (sym c.deref-one-items.ensures.value))
+    (ap (λ m. is_sender g.P.Ord.cmp c.args.component.now m.origin) (sym c.deref.ensures) ∙ sym c.has_sender.ensures ∙ c.if-has_sender.true) in
     omega (arith, lt, c.args.part.level_of.ok.0)
 
 pub counted_from-requires : goal.counted_from-requires
 counted_from-requires g c =
     let lt = some_level g.P.Ord.cmp c.args.component.now c.len-first.result c.args.part.level_of.items c.deref-one-items.result.now c.loop-one.level_of.items c.loop-one.next c.loop-one.one-index c.one-item.result c.loop-one.invariant
-        (omega (arith, c.loop-one-test.true)) c.one-item.is (c.requires.one_each ∙ ap (λ l. length (those_of g.P.Ord.cmp c.args.component.now l)) (sym c.deref-one-items.ensures.value))
-        (ap (λ m. is_sender g.P.Ord.cmp c.args.component.now m.origin) (sym c.deref.ensures) ∙ sym c.has_sender.ensures ∙ c.if-has_sender.true) in
+    (omega (arith, c.loop-one-test.true)) c.one-item.is (c.requires.one_each ∙ ap (λ l. length (those_of g.P.Ord.cmp c.args.component.now l)) (sym c.deref-one-items.ensures.value))
+    (ap (λ m. is_sender g.P.Ord.cmp c.args.component.now m.origin) (sym c.deref.ensures) ∙ sym c.has_sender.ensures ∙ c.if-has_sender.true) in
     let inside = c.requires.inside c.loop-one.next c.index.result.now lt in
     let items = c.in_ok-append.ensures.items in
     let same : length c.in_ok-levels.levels.items ≡ length c.args.self.now.levels.items = ap length (each_same c.args.self.now.levels.items c.in_ok-levels.levels.items c.in_ok-levels.ensures.cases.0) in
@@ -34,8 +34,8 @@ counted_from-requires g c =
 pub overflow_add-next : goal.overflow_add-next
 overflow_add-next g c =
     let lt = some_level g.P.Ord.cmp c.args.component.now c.len-first.result c.args.part.level_of.items c.deref-one-items.result.now c.loop-one.level_of.items c.loop-one.next c.loop-one.one-index c.one-item.result c.loop-one.invariant
-        (omega (arith, c.loop-one-test.true)) c.one-item.is (c.requires.one_each ∙ ap (λ l. length (those_of g.P.Ord.cmp c.args.component.now l)) (sym c.deref-one-items.ensures.value))
-        (ap (λ m. is_sender g.P.Ord.cmp c.args.component.now m.origin) (sym c.deref.ensures) ∙ sym c.has_sender.ensures ∙ c.if-has_sender.true) in
+    (omega (arith, c.loop-one-test.true)) c.one-item.is (c.requires.one_each ∙ ap (λ l. length (those_of g.P.Ord.cmp c.args.component.now l)) (sym c.deref-one-items.ensures.value))
+    (ap (λ m. is_sender g.P.Ord.cmp c.args.component.now m.origin) (sym c.deref.ensures) ∙ sym c.has_sender.ensures ∙ c.if-has_sender.true) in
     omega (arith, lt, c.args.part.level_of.ok.0)
 
 pub loop-one-preserved : goal.loop-one-preserved

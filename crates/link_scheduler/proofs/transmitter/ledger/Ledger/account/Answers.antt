@@ -43,7 +43,7 @@ rates-requires g c =
             let scale : now.scale ≡ old.flights.scale = renewed.scale ∙ c.leave-left.ensures.units.scale ∙ c.drain.ensures.units.scale in
             let levels : now.levels.items ≡ old.flights.levels.items = renewed.levels ∙ c.leave-left.ensures.units.levels ∙ c.drain.ensures.units.levels in
             let fair = as_rated cmp caps old.flights.scale old.flights.levels.items old.flights.progress.items drained.progress.items c.drain.ensures.levels
-                (rated_if_so cmp caps old.flights.scale old.flights.levels.items (rated_ones old.flights.progress.items) (old.rated w.if-not-was_stale.true)) in
+            (rated_if_so cmp caps old.flights.scale old.flights.levels.items (rated_ones old.flights.progress.items) (old.rated w.if-not-was_stale.true)) in
             record {
               before = drained.progress.items;
               is_done = is_out cmp caps drained.scale drained.levels.items;
