@@ -68,7 +68,8 @@ pub record KeepsRates {P : Type 0} {a : _} {b : _} {c : _} (old new : Flights P 
   pub rated : rated_ones new.progress.items ≡ rated_ones old.progress.items
 
 -- each has a rate at last, that of the level at its place, in the units of these rates
-pub record HaveLevels {P : Type 0} {a : _} {b : _} {c : _} (rates : FairParts) (old new : Flights P a b c) : Type 0 where
+pub record HaveLevels {P : Type 0} {a : _} {b : _} {c : _} (rates : FairParts)
+    (old new : Flights P a b c) : Type 0 where
   pub scale : new.scale ≡ rates.scale
   pub levels : new.levels.items ≡ rates.levels.items
   pub rated : rated_ones new.progress.items ≡ new.progress.items
