@@ -9,17 +9,8 @@ use Rattle.std.proofs.lemmas.Bool.{and_from, eqb-true, eq-eqb, leb-true, le-leb,
 use Rattle.std.proofs.lemmas.List.Elements.{All-contains}
 use Rattle.fair_rates.specs.Fairness.Fair.{Side, load, Uses, IsLimited, IsWithinCaps, HasBottleneck, IsFair}
 use Rattle.fair_rates.proofs.Lists.Booleans.{first_of_both, second_of_both}
-use Rattle.fair_rates.proofs.Lists.Members.{In, in_from_contains, contains_from_in, some_or_none, any_passes, any_fails}
+use Rattle.fair_rates.proofs.Lists.Members.{In, in_from_contains, contains_from_in, some_or_none, any_passes, any_fails, all_pass, all_passed}
 use Rattle.fair_rates.proofs.Lists.SumOrder.{All-from_contains}
-
-all_pass : {X : Type 0} (test : X → Bool) (xs : List X) → list_all test xs ≡ true → (x : X) → In xs x → test x ≡ true
-all_pass test [] h x among = absurd among
-all_pass {X} test (y ∷ xs) h x (inl e) = subst (λ (z : X). test z ≡ true) e (first_of_both (test y) _ h)
-all_pass test (y ∷ xs) h x (inr among) = all_pass test xs (second_of_both (test y) _ h) x among
-
-all_passed : {X : Type 0} (test : X → Bool) (xs : List X) → ((x : X) → In xs x → test x ≡ true) → list_all test xs ≡ true
-all_passed test [] h = refl
-all_passed test (y ∷ xs) h = and_from (test y) (list_all test xs) (h y (inl refl)) (all_passed test xs (λ x among. h x (inr among)))
 
 user_there : (users : List ℕ) (flow : ℕ) → list_any (λ user. eqb user flow) users ≡ true → In users flow
 user_there users flow h = elim (some_or_none (λ user. eqb user flow) users) [

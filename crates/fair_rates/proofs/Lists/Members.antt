@@ -1,8 +1,8 @@
 -- Members of lists, by recursion.
 use Rattle.std.proofs.Common.{◌≡◌, ℕ, zero, suc, ◌<◌, List, [], ◌∷◌, ◌++◌, map, length, Bool, true, false, cond, Some, refl, sym, ap, subst, arith, ◌⊎◌, inl, inr, Contains}
 use Rattle.std.specs.Prelude.{slice_get}
-use Rattle.std.specs.List.{filter, flat_map, list_any}
-use Rattle.std.proofs.lemmas.Bool.{or_parts, or_from}
+use Rattle.std.specs.List.{filter, flat_map, list_all, list_any}
+use Rattle.std.proofs.lemmas.Bool.{and_parts, and_from, or_parts, or_from}
 
 abbrev pub In : {X : Type 0} → List X → X → Type 0
 In [] x = ⊥
@@ -121,3 +121,13 @@ from_flat_map {X} {Y} f (z ∷ zs) y h = by_part (in_either (f z) (flat_map f zs
     by_part : In (f z) y ⊎ In (flat_map f zs) y → (In (flat_map f zs) y → (x : X) × In zs x × In (f x) y) → (x : X) × In (z ∷ zs) x × In (f x) y
     by_part (inl g) ih = (z, inl refl, g)
     by_part (inr g) ih = let r : (x : X) × In zs x × In (f x) y = ih g in (r.0, inr r.1, r.2)
+
+-- what all members pass
+pub all_pass : {X : Type 0} (test : X → Bool) (xs : List X) → list_all test xs ≡ true → (x : X) → In xs x → test x ≡ true
+all_pass test [] h x among = absurd among
+all_pass {X} test (y ∷ xs) h x (inl e) = subst (λ (z : X). test z ≡ true) e (and_parts (test y) (list_all test xs) h).0
+all_pass test (y ∷ xs) h x (inr among) = all_pass test xs (and_parts (test y) (list_all test xs) h).1 x among
+
+pub all_passed : {X : Type 0} (test : X → Bool) (xs : List X) → ((x : X) → In xs x → test x ≡ true) → list_all test xs ≡ true
+all_passed test [] h = refl
+all_passed test (y ∷ xs) h = and_from (test y) (list_all test xs) (h y (inl refl)) (all_passed test xs (λ x among. h x (inr among)))

@@ -20,7 +20,7 @@ use Rattle.fair_rates.specs.Sides.Subjects.{Subject, sent_by, received_by, sent_
 use Rattle.fair_rates.specs.Fairness.Fair.{IsFair}
 use Rattle.fair_rates.specs.Fairness.UnderCaps.{AreOfPeers, cap_of, limits, sides_under}
 use Rattle.fair_rates.specs.Filling.FairParts.{flow_parts, level_at, parts_of_level}
-use Rattle.fair_rates.proofs.Lists.Members.{In, in_map, from_map, from_filter, in_filter, contains_from_in, in_from_contains}
+use Rattle.fair_rates.proofs.Lists.Members.{In, in_map, from_map, from_filter, in_filter, contains_from_in, in_from_contains, all_pass}
 use Rattle.fair_rates.proofs.Fairness.SameSides.{still_fair}
 use Rattle.fair_rates.proofs.Fairness.Sharing.{StandsAt, AreShared, AreApart, shared_from, fair_from, part_shared, both_shared}
 use Rattle.link_simulation.specs.Simulation.Messages.{Message, is_delivered}
@@ -34,7 +34,7 @@ use Rattle.link_scheduler.specs.Flights.Rated.{sent_messages, rated_ones, is_pla
 use Rattle.link_scheduler.specs.Flights.RatedFlights.{are_standing}
 use Rattle.link_scheduler.specs.Pairs.Messages.{message_of}
 use Rattle.link_scheduler.proofs.Flights.FairMessages.{StandsForMessage, same_sides}
-use Rattle.link_scheduler.proofs.Flights.InFlight.{StandsForSent, standing_zip, standing_length}
+use Rattle.link_scheduler.proofs.Flights.InFlight.{StandsForSent, standing_zip, standing_length, filter_yes, filter_no}
 use Rattle.fair_rates.proofs.Lists.Booleans.{by_bool, first_of_both, second_of_both}
 use Rattle.fair_rates.proofs.Sides.EqualSubjects.{same_peer_itself}
 
@@ -127,17 +127,6 @@ module _ {P : Type 0} (cmp : P → P → Ordering) where
         still_fair (capped_sides cmp caps (sent_messages ss)) (sides_under cmp caps fs) (λ side. ((sides side).1, (sides side).0)) scale (flow_parts levels os) (fair levels os ss same f)
 
 -- ---- lists
-
-filter_yes : {X : Type 0} (t : X → Bool) (x : X) (xs : List X) → t x ≡ true → filter t (x ∷ xs) ≡ x ∷ filter t xs
-filter_yes t x xs h = rw h refl
-
-filter_no : {X : Type 0} (t : X → Bool) (x : X) (xs : List X) → t x ≡ false → filter t (x ∷ xs) ≡ filter t xs
-filter_no t x xs h = rw h refl
-
-all_pass : {X : Type 0} (test : X → Bool) (xs : List X) (x : X) → list_all test xs ≡ true → In xs x → test x ≡ true
-all_pass test [] x h among = absurd among
-all_pass {X} test (y ∷ xs) x h (inl e) = subst (λ (z : X). test z ≡ true) e (first_of_both (test y) _ h)
-all_pass test (y ∷ xs) x h (inr among) = all_pass test xs x (second_of_both (test y) _ h) among
 
 -- two tests that agree where a third passes
 module _ {X : Type 0} (p q r : X → Bool) where
@@ -377,7 +366,7 @@ module _ {P : Type 0} (cmp : P → P → Ordering) (component : Component P) whe
     module _ (caps : Caps P) (of : AreOfPeers cmp caps) (scale : ℕ) (levels : List ℕ)
         (done : List (Rc (code.Message P) Global)) (ss : List (Progress P)) (closed : is_closed cmp component done ss ≡ true) (were : WereRated cmp caps scale levels ss (messages done)) where
       suits_one : (s : Progress P) → In ss s → suits cmp component s ≡ true
-      suits_one s h = all_pass (suits cmp component) ss s (second_of_both _ (list_all (suits cmp component) ss) closed) h
+      suits_one s h = all_pass (suits cmp component) ss (second_of_both _ (list_all (suits cmp component) ss) closed) s h
 
       ends : (s : Progress P) → In ss s → HasBothOrNone (flow_for cmp s)
       ends s h = suited (is_of cmp component s) (is_receiver cmp component s.message.value.recipient) s.rated (suits_one s h)
@@ -387,7 +376,7 @@ module _ {P : Type 0} (cmp : P → P → Ordering) (component : Component P) whe
       both_ends s h is =
           let there : In (messages done) (message_of s.message.value) = subst (λ (ms : List (Message P)). In ms (message_of s.message.value)) (sym were.parted.left) (in_map (λ (s : Progress P). message_of s.message.value) (filter were.is_done were.before) s (in_filter were.is_done were.before s h is)) in
           let m = from_map (λ (m : Rc (code.Message P) Global). message_of m.value) done (message_of s.message.value) there in
-          let has = all_pass (λ (m : Rc (code.Message P) Global). is_sender cmp component m.value.origin && is_receiver cmp component m.value.recipient) done m.0 (first_of_both _ (list_all (suits cmp component) ss) closed) m.1 in
+          let has = all_pass (λ (m : Rc (code.Message P) Global). is_sender cmp component m.value.origin && is_receiver cmp component m.value.recipient) done (first_of_both _ (list_all (suits cmp component) ss) closed) m.0 m.1 in
           let two = subst (λ (n : Message P). (is_sender cmp component n.origin && is_receiver cmp component n.recipient) ≡ true) m.2 has in
           (first_of_both (is_of cmp component s) _ two, second_of_both (is_of cmp component s) _ two)
 
@@ -430,7 +419,7 @@ module _ {P : Type 0} (cmp : P → P → Ordering) (component : Component P) whe
       inside_still s h out =
           let among = subst (λ (l : List (Progress P)). In l s) (sym others_stay) (in_filter (λ s. not (is_of cmp component s)) ss s h (ap not out)) in
           let had = (from_filter (λ s. not (is_of cmp component s)) (rated_ones were.before) s among).0 in
-          placed levels s.level (all_pass (λ (s : Progress P). is_place_of levels s.level) (rated_ones were.before) s were.fair.placed had)
+          placed levels s.level (all_pass (λ (s : Progress P). is_place_of levels s.level) (rated_ones were.before) were.fair.placed s had)
 
       -- with fair rates of the component, the rates of all are fair
       pub all_fair : (flows part_flows : List (Flow P)) (part all : FairParts) → are_standing cmp flows ss ≡ true → are_standing cmp part_flows (those_of cmp component ss) ≡ true

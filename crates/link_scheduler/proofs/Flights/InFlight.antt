@@ -153,6 +153,12 @@ standing_with cmp fs ss f s h one = zip_standing cmp _ _ (zip-push (StandsForSen
 
 -- ---- those that are done leave
 
+pub filter_yes : {X : Type 0} (t : X → Bool) (x : X) (xs : List X) → t x ≡ true → filter t (x ∷ xs) ≡ x ∷ filter t xs
+filter_yes t x xs h = rw h refl
+
+pub filter_no : {X : Type 0} (t : X → Bool) (x : X) (xs : List X) → t x ≡ false → filter t (x ∷ xs) ≡ filter t xs
+filter_no t x xs h = rw h refl
+
 module _ {P X : Type 0} (message : X → Message P) (spent : X → Bool) where
   -- so far, up to a place: some have left, and the rest is to be looked at
   pub record HaveLeft (old now : List X) (left : List (Message P)) (at : ℕ) : Type 0 where
@@ -165,12 +171,6 @@ module _ {P X : Type 0} (message : X → Message P) (spent : X → Bool) where
 
   pub none_left : (old : List X) → HaveLeft old old [] 0
   none_left old = record { before = []; rest = old; split = refl; is_at = refl; leavers = refl; stay = refl }
-
-  filter_yes : {X : Type 0} (t : X → Bool) (x : X) (xs : List X) → t x ≡ true → filter t (x ∷ xs) ≡ x ∷ filter t xs
-  filter_yes t x xs h = rw h refl
-
-  filter_no : {X : Type 0} (t : X → Bool) (x : X) (xs : List X) → t x ≡ false → filter t (x ∷ xs) ≡ filter t xs
-  filter_no t x xs h = rw h refl
 
   module _ (old now : List X) (left : List (Message P)) (at : ℕ) (h : HaveLeft old now left at) where
     pub step_leaves : (m : Message P) (t : Bool) → at < length now → t ≡ true → ((d : X) → t ≡ spent (get_or now at d)) → ((d : X) → m ≡ message (get_or now at d)) → HaveLeft old (remove now at) (left ++ m ∷ []) at

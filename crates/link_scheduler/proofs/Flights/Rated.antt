@@ -5,7 +5,6 @@ use Rattle.std.specs.Cmp.{IsTotalOrder}
 use Rattle.std.specs.declared.cmp.Ordering.{Ordering}
 use Rattle.std.proofs.Math.Logic.{∥∥₁_elim, ∥∥₁_map}
 use Rattle.std.proofs.Props.{props}
-use Rattle.std.proofs.lemmas.Bool.{and_from}
 use Rattle.std.proofs.lemmas.List.{append-nil}
 use Rattle.std.proofs.lemmas.List.Elements.{All-contains, filter-append}
 use Rattle.std.proofs.lemmas.List.Folds.{list_all-map}
@@ -17,7 +16,7 @@ use Rattle.fair_rates.specs.Fairness.UnderCaps.{AreOfPeers, sides_under}
 use Rattle.fair_rates.specs.Filling.FairParts.{flow_parts}
 use Rattle.fair_rates.proofs.Fairness.Decided.{fair_if_so}
 use Rattle.fair_rates.proofs.Fairness.SameSides.{still_fair}
-use Rattle.fair_rates.proofs.Lists.Members.{In, contains_from_in}
+use Rattle.fair_rates.proofs.Lists.Members.{In, contains_from_in, all_passed}
 use Rattle.link_simulation.specs.Simulation.Messages.{Message}
 use Rattle.link_simulation.specs.Simulation.Rates.{capped_sides}
 use Rattle.link_scheduler.specs.declared.transmitter.flights.Flights.{Flights}
@@ -92,8 +91,7 @@ module _ {P : Type 0} where
   levels_given now (o ∷ os) (s ∷ ss) same = ap (λ l. o ∷ l) (levels_given now os ss (omega arith))
 
 places_given : (levels : List ℕ) (os : List (Option ℕ)) → ((o : Option ℕ) → In os o → IfSome o (λ place. place < length levels)) → list_all (is_place_of levels) os ≡ true
-places_given levels [] h = refl
-places_given levels (o ∷ os) h = and_from (is_place_of levels o) (list_all (is_place_of levels) os) (is_placed levels o (h o (inl refl))) (places_given levels os (λ p among. h p (inr among)))
+places_given levels os h = all_passed (is_place_of levels) os (λ o among. is_placed levels o (h o among))
 
 -- ---- read as messages in flight
 

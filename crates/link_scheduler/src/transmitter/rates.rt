@@ -61,12 +61,13 @@ impl<P: Peer> Flights<P> {
             (caps_of P.cmp peers.now.entries pairs.now.entries) self.now.flows.items self.now.scale) }
         ensures refused { IfErr result (λ e. e ≡ Error.OutOfMemory) }
     {
-        if were_rated && self.flows.len() > FEW {
+        let few_levels = self.levels.len() <= 2 * self.flows.len();
+        if were_rated && few_levels && self.flows.len() > FEW {
             if let Some(component) = self.component(done)? {
                 let flows = self.flows_of(&component)?;
                 let alloc = *self.flows.allocator();
                 let part = rates_under(alloc, &flows, peers, pairs, &self.scale)?;
-                if part.growth.is_empty() && self.levels.len() <= 2 * self.flows.len() {
+                if part.growth.is_empty() {
                     return self.rates_with(&component, part);
                 }
             }

@@ -13,8 +13,8 @@ rates_with-requires-clause-one_each g c =
     ∙ ap length c.deref.ensures.value
     ∙ standing_length g.P.Ord.cmp c.in_ok-flows.flows.items (those_of g.P.Ord.cmp c.in-Some.component c.args.self.now.progress.items) c.in_ok-flows.ensures.standing
 
-pub returns-then-len-clause-fair : goal.returns-then-len-clause-fair
-returns-then-len-clause-fair g c =
+pub returns-then-is_empty-clause-fair : goal.returns-then-is_empty-clause-fair
+returns-then-is_empty-clause-fair g c =
     let cmp = g.P.Ord.cmp in
     let old = c.args.self.now in
     let caps = caps_of cmp c.args.peers.now.entries c.args.pairs.now.entries in
