@@ -1,18 +1,24 @@
 -- For worked examples: peers are numbers, and a cap of a billion is one byte a nanosecond.
-use Rattle.std.specs.Prelude.{ℕ, zero, suc, List, [], ◌∷◌, true, false, length, Option, Some, None}
+use Rattle.std.specs.Prelude.{ℕ, zero, suc, List, [], ◌∷◌, Bool, true, false, length, Option, Some, None, nat_lt}
 use Rattle.std.specs.Ordering.{nat_cmp}
 use Rattle.std.specs.declared.cmp.Ordering.{Ordering}
 use Rattle.std.specs.declared.cmp.Ordering.TheVariants.{Equal}
 use Rattle.link_simulation.specs.Simulation.Messages.{Message, no_caps}
 use Rattle.link_simulation.specs.Simulation.World.{World, Completed, completion_of, flight_of}
-use Rattle.link_simulation.specs.Simulation.Calls.{Call, call_limit, call_enqueue, call_advance, call_next, limited_by}
-use Rattle.link_simulation.specs.Simulation.Replies.{Reply, reply_done, reply_next}
-use Rattle.link_simulation.specs.Rule.Planned.{RatedFlight}
+use Rattle.link_simulation.specs.Simulation.Calls.{Call, call_limit, call_limit_link, call_enqueue, call_advance}
+use Rattle.link_simulation.specs.Simulation.Calls.{call_next, limited_by}
+use Rattle.link_simulation.specs.Simulation.Replies.{Reply, reply_done, reply_next, reply_refused}
+use Rattle.fair_rates.specs.declared.error.Error.TheVariants.{OutOfMemory}
+use Rattle.link_simulation.specs.Rule.Planned.{RatedFlight, Planned, new_planned}
 use Rattle.fair_rates.specs.Numbers.Amount.{Amount, whole}
 
 -- an order by which all peers are equal
 abbrev pub all_equal : ℕ → ℕ → Ordering
 all_equal p q = Equal
+
+-- a set of peers
+abbrev pub below_three : ℕ → Bool
+below_three p = nat_lt p 3
 
 -- so many bytes
 abbrev pub bytes : ℕ → List ℕ
@@ -61,6 +67,36 @@ flying cap m = record {
   next_id = 1;
   moment = 0;
 }
+
+-- under limits five bytes and four are in flight at one byte a nanosecond, the four since moment 1; and three messages
+-- wait, two of them for one pair
+abbrev pub five_messages : Planned ℕ
+five_messages = record (new_planned 0) {
+  limited = true;
+  sending = rated_flight (message 1 2 5 0) (Some (whole 1_000_000_000))
+      ∷ record (rated_flight (message 2 3 4 0) (Some (whole 1_000_000_000))) { updated = 1 } ∷ [];
+  waiting = message 1 2 2 0 ∷ message 1 3 1 0 ∷ message 1 2 3 0 ∷ [];
+}
+
+-- two messages of a pair wait, of latency 1 and 5; the last one arrives at 7
+abbrev pub two_of_a_pair : Planned ℕ
+two_of_a_pair = record (new_planned 1) {
+  limited = true;
+  waiting = message 1 2 1 1 ∷ message 1 2 1 5 ∷ [];
+  last_arrival = λ p q. Some 7;
+}
+
+-- before a limit of nothing and after it messages are sent, and one of them is refused
+abbrev pub calls_with_a_refusal : List (Call ℕ)
+calls_with_a_refusal =
+    call_enqueue 0 (message 1 2 1 0) ∷ call_next ∷ call_limit 0 1 None None ∷ call_enqueue 0 (message 1 3 1 0)
+    ∷ call_limit_link 0 1 2 None ∷ call_enqueue 0 (message 2 1 1 0) ∷ call_advance 0 ∷ []
+
+-- the others arrive at once
+abbrev pub replies_with_a_refusal : List (Reply ℕ)
+replies_with_a_refusal =
+    reply_done (arrives (message 1 2 1 0) 0 ∷ []) ∷ reply_next None ∷ reply_done [] ∷ reply_refused OutOfMemory
+    ∷ reply_done [] ∷ reply_done (arrives (message 2 1 1 0) 0 ∷ []) ∷ reply_done [] ∷ []
 
 -- four bytes of latency 3, and behind them two bytes of latency 1
 abbrev pub calls_of_a_follower : List (Call ℕ)

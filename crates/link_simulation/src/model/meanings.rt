@@ -3,24 +3,32 @@
 //! In the examples peers are numbers, and no limit holds unless one is named.
 ghost use Rattle.std.specs.Prelude.{◌≡◌, ℕ, ◌+◌, ◌-◌, ◌*◌, ◌≤◌, ◌==◌, if◌then◌else◌, List, []};
 ghost use Rattle.std.specs.Prelude.{◌∷◌, Bool, true, Option, Some, None, nat_lt, take};
-ghost use Rattle.std.specs.List.{AllZip};
+ghost use Rattle.std.specs.List.{AllZip, filter};
 ghost use Rattle.std.specs.Ordering.{nat_cmp};
-ghost use Rattle.fair_rates.specs.Numbers.Amount.{Amount, whole};
+ghost use Rattle.fair_rates.specs.Numbers.Amount.{Amount, whole, parts_over};
 ghost use Rattle.fair_rates.specs.declared.error.Error.{Error as AnyError};
 ghost use Rattle.fair_rates.specs.declared.error.Error.TheVariants.{NumberTooLarge, MomentTooLate, FlowIdsUsedUp};
 ghost use Rattle.link_simulation.specs.Laws.Alone.{IsTimeFor, IsLeastCap, MayGoAlone, IsDoneAfter};
 ghost use Rattle.link_simulation.specs.Simulation.World.{World, Completed, new_world, completed, completion_of, goes};
 ghost use Rattle.link_simulation.specs.Simulation.World.{flight_of, EndsWith};
 ghost use Rattle.link_simulation.specs.Laws.Bytes.{bytes_from};
-ghost use Rattle.link_simulation.specs.Simulation.Time.{NextIs, IsSound};
-ghost use Rattle.link_simulation.specs.Simulation.Calls.{Call, call_enqueue, call_advance, Runs, limited_by};
+ghost use Rattle.link_simulation.specs.Simulation.Time.{NextIs, ArePositive, IsSound};
+ghost use Rattle.link_simulation.specs.Simulation.Calls.{Call, call_limit, call_limit_link, call_enqueue, call_advance};
+ghost use Rattle.link_simulation.specs.Simulation.Calls.{call_next, Runs, limited_by};
 ghost use Rattle.link_simulation.specs.Simulation.Messages.{Message, no_caps};
-ghost use Rattle.link_simulation.specs.Simulation.Rates.{drained_by};
-ghost use Rattle.link_simulation.specs.Rule.Planned.{Planned, new_planned, left_at};
-ghost use Rattle.link_simulation.specs.Simulation.Replies.{Reply, reply_done, SameCompletion, Faults};
-ghost use Rattle.link_simulation.specs.Examples.Rows.{message, arrives, rated_flight, flying, all_equal};
+ghost use Rattle.link_simulation.specs.Simulation.Rates.{drained_by, IsLowest};
+ghost use Rattle.link_simulation.specs.Rule.Planned.{Planned, new_planned, left_at, rated_messages, drained_to};
+ghost use Rattle.link_simulation.specs.Rule.Planned.{SomeSpentAt, SomeReadyAt};
+ghost use Rattle.link_simulation.specs.Simulation.Replies.{Reply, reply_done, SameCompletion, Faults, made};
+ghost use Rattle.link_simulation.specs.Simulation.Replies.{completions_in};
+ghost use Rattle.link_simulation.specs.Examples.Rows.{message, arrives, rated_flight, flying, all_equal, below_three};
+ghost use Rattle.link_simulation.specs.Examples.Rows.{five_messages, two_of_a_pair, calls_with_a_refusal};
+ghost use Rattle.link_simulation.specs.Examples.Rows.{replies_with_a_refusal};
 ghost use Rattle.link_simulation.specs.Rule.StandsFor.{StandsFor};
-ghost use Rattle.link_simulation.specs.Laws.Conserved.{IsConserved, AreConserved};
+ghost use Rattle.link_simulation.specs.Laws.Conserved.{held_of, IsConserved, AreConserved};
+ghost use Rattle.link_simulation.specs.Laws.Isolation.{IsSet, KeepsApart, is_kept, kept_completions, NothingElse};
+ghost use Rattle.link_simulation.specs.Laws.MostEvents.{most_events};
+ghost use Rattle.link_simulation.specs.Laws.PairCompletions.{enqueued, answered, completes_pair};
 ghost use Rattle.link_simulation.specs.Laws.Orderly.{IsOrderly};
 ghost use Rattle.link_simulation.specs.Laws.Replies.{AlwaysSoFar, CompletePairsInOrder, IsIsolated, IsolateSets};
 ghost use Rattle.link_simulation.specs.Rule.SamePlanned.{GoesByRule, AdvancesByRule};
@@ -213,4 +221,73 @@ pub fn replies_that_break_a_promise_are_told()
         ((arrives (message 1 2 1 0) 0 ∷ []) ∷ []) }
     ensures order { ¬ CompletePairsInOrder nat_cmp (call_enqueue 0 (message 1 2 1 0) ∷ [])
         (reply_done (arrives (message 1 2 2 0) 0 ∷ []) ∷ []) }
+{}
+
+/// Of a list of calls those were made that are answered with completions. Of any calls all messages count that are
+/// enqueued, of any answers all completions, and of a pair those from its origin to its recipient.
+pub fn what_was_made_is_told()
+    ensures made { made calls_with_a_refusal replies_with_a_refusal ≡ call_enqueue 0 (message 1 2 1 0)
+        ∷ call_limit 0 1 None None ∷ call_limit_link 0 1 2 None ∷ call_enqueue 0 (message 2 1 1 0) ∷ call_advance 0
+        ∷ [] }
+    ensures completions { completions_in replies_with_a_refusal ≡ (arrives (message 1 2 1 0) 0 ∷ []) ∷ [] ∷ []
+        ∷ (arrives (message 2 1 1 0) 0 ∷ []) ∷ [] ∷ [] }
+    ensures enqueued { enqueued calls_with_a_refusal ≡ message 1 2 1 0 ∷ message 1 3 1 0 ∷ message 2 1 1 0 ∷ [] }
+    ensures answered { answered (completions_in replies_with_a_refusal) ≡ arrives (message 1 2 1 0) 0
+        ∷ arrives (message 2 1 1 0) 0 ∷ [] }
+    ensures pair { filter (completes_pair nat_cmp (message 1 2 0 0)) (arrives (message 1 3 1 0) 1
+        ∷ arrives (message 1 2 2 0) 2 ∷ arrives (message 3 2 1 0) 2 ∷ arrives (message 1 2 3 0) 3 ∷ [])
+        ≡ arrives (message 1 2 2 0) 2 ∷ arrives (message 1 2 3 0) 3 ∷ [] }
+{}
+
+/// A set has equal peers together, and each call counts for what keeps apart. Of the calls all stay but messages of
+/// others, with the completions of the set's origins; and each call of others counts.
+pub fn what_a_set_keeps_is_told()
+    ensures set { IsSet nat_cmp below_three }
+    ensures equal_peers { ¬ IsSet all_equal below_three }
+    ensures first_call { ¬ KeepsApart below_three (call_enqueue 0 (message 1 3 1 0) ∷ call_next ∷ []) }
+    ensures later_call { ¬ KeepsApart below_three (call_next ∷ call_enqueue 0 (message 3 1 1 0) ∷ []) }
+    ensures calls { filter (is_kept below_three) (call_enqueue 0 (message 1 2 1 0) ∷ call_enqueue 0 (message 3 4 1 0)
+        ∷ call_limit 0 3 None None ∷ call_limit_link 0 3 4 None ∷ call_advance 0 ∷ call_next ∷ [])
+        ≡ call_enqueue 0 (message 1 2 1 0) ∷ call_limit 0 3 None None ∷ call_limit_link 0 3 4 None ∷ call_advance 0
+        ∷ call_next ∷ [] }
+    ensures completions { kept_completions below_three
+        (call_enqueue 0 (message 3 4 1 0) ∷ call_advance 1 ∷ call_enqueue 1 (message 1 2 3 0) ∷ [])
+        ((arrives (message 1 2 1 0) 0 ∷ []) ∷ (arrives (message 3 2 1 0) 1 ∷ arrives (message 1 4 1 0) 1 ∷ [])
+        ∷ (arrives (message 1 2 3 0) 1 ∷ []) ∷ [])
+        ≡ (arrives (message 1 4 1 0) 1 ∷ []) ∷ (arrives (message 1 2 3 0) 1 ∷ []) ∷ [] }
+    ensures later_completion { ¬ NothingElse below_three
+        (call_enqueue 0 (message 3 4 1 0) ∷ call_enqueue 0 (message 3 4 1 0) ∷ [])
+        ([] ∷ (arrives (message 1 2 1 0) 0 ∷ []) ∷ []) }
+{}
+
+/// In a planned world each message that is in flight or waits counts. All that is in flight drains to a moment, and
+/// that is its update.
+pub fn what_a_planned_world_holds_is_told()
+    ensures sending { rated_messages five_messages.sending ≡ message 1 2 5 0 ∷ message 2 3 4 0 ∷ [] }
+    ensures pair { held_of nat_cmp (message 1 2 0 0) five_messages ≡ message 1 2 5 0 ∷ message 1 2 2 0
+        ∷ message 1 2 3 0 ∷ [] }
+    ensures events { most_events five_messages ≡ 8 }
+    ensures drained { drained_to 3 five_messages.sending ≡ record (rated_flight (message 1 2 5 0)
+        (Some (whole 1_000_000_000))) { left = whole 2; updated = 3 } ∷ record (rated_flight (message 2 3 4 0)
+        (Some (whole 1_000_000_000))) { left = whole 2; updated = 3 } ∷ [] }
+{}
+
+/// Something is spent at the moment at which any message in flight has nothing left, no sooner and not before its
+/// update. And something is ready when the first message of a pair may start, whatever waits behind it.
+pub fn what_comes_next_is_told()
+    ensures spent { SomeSpentAt five_messages.sending 5 }
+    ensures not_yet { ¬ SomeSpentAt five_messages.sending 4 }
+    ensures not_before { ¬ SomeSpentAt (record (rated_flight (message 1 2 1 0) None) { updated = 5 } ∷ []) 4 }
+    ensures ready { SomeReadyAt nat_cmp two_of_a_pair 6 }
+    ensures not_ready { ¬ SomeReadyAt nat_cmp two_of_a_pair 5 }
+{}
+
+/// A half is in lowest terms, two quarters are not, and nothing over nothing is not. And of amounts in flight none may
+/// be over zero.
+pub fn amounts_that_are_not_right_are_told()
+    ensures half { IsLowest (parts_over 2 1) }
+    ensures quarters { ¬ IsLowest (parts_over 4 2) }
+    ensures nothing { ¬ IsLowest (parts_over 0 0) }
+    ensures over_zero { ¬ ArePositive (flight_of (message 1 2 1 0)
+        ∷ record { message = message 1 2 1 0; left = parts_over 0 1 } ∷ []) }
 {}

@@ -193,6 +193,17 @@ pub fn a_late_arrival_is_refused()
         ∷ reply_done (arrives (message 1 2 1 18_446_744_073_709_551_615) 18_446_744_073_709_551_615 ∷ []) ∷ []) }
 {}
 
+/// Under limits too: a message without bytes is refused as it is enqueued, and another where an advance would finish it.
+pub fn a_late_arrival_is_refused_under_limits()
+    ensures { Agrees nat_cmp (new_world 0)
+        (call_limit 0 1 a_byte_a_nanosecond None ∷ call_enqueue 1 (message 1 2 0 18_446_744_073_709_551_615)
+        ∷ call_enqueue 0 (message 1 2 0 18_446_744_073_709_551_615)
+        ∷ call_enqueue 0 (message 1 3 1 18_446_744_073_709_551_615) ∷ call_next ∷ call_advance 1 ∷ call_next ∷ [])
+        (reply_done [] ∷ reply_refused MomentTooLate
+        ∷ reply_done (arrives (message 1 2 0 18_446_744_073_709_551_615) 18_446_744_073_709_551_615 ∷ [])
+        ∷ reply_done [] ∷ reply_next (Some 1) ∷ reply_refused MomentTooLate ∷ reply_next (Some 1) ∷ []) }
+{}
+
 /// A message that finishes at the last moment arrives then. One that finishes later never does.
 pub fn a_message_may_arrive_at_the_last_moment()
     ensures { Agrees nat_cmp (new_world 0) calls_at_the_last_moment replies_at_the_last_moment }

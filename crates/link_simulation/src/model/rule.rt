@@ -10,7 +10,7 @@ ghost use Rattle.link_simulation.specs.Simulation.Calls.{call_next};
 ghost use Rattle.link_simulation.specs.Simulation.Replies.{reply_done, reply_next, reply_refused};
 ghost use Rattle.link_simulation.specs.Rule.Refusals.{Obeyed};
 ghost use Rattle.fair_rates.specs.declared.error.Error.TheVariants.{MomentTooLate, FlowIdsUsedUp};
-ghost use Rattle.link_simulation.specs.Examples.Rows.{message, arrives, a_byte_a_nanosecond};
+ghost use Rattle.link_simulation.specs.Examples.Rows.{message, dropped, arrives, is_gone, a_byte_a_nanosecond};
 ghost use Rattle.link_simulation.specs.Examples.Rows.{calls_of_a_follower, replies_of_a_follower};
 ghost use Rattle.link_simulation.specs.Examples.Rows.{calls_at_the_last_moment, replies_at_the_last_moment};
 
@@ -122,4 +122,46 @@ pub fn a_start_may_come_before_a_finish()
         (reply_done [] ∷ reply_done [] ∷ reply_done (arrives (message 1 2 4 3) 7 ∷ [])
         ∷ reply_done [] ∷ reply_done [] ∷ reply_next (Some 6) ∷ reply_done [] ∷ reply_next (Some 10)
         ∷ reply_done (arrives (message 1 3 4 0) 10 ∷ arrives (message 1 2 2 1) 11 ∷ []) ∷ reply_next None ∷ []) }
+{}
+
+/// A finish may come before a start: the message to peer 3 finishes at 5, and the one to peer 2 may start at 7. It is
+/// missed and planned for 10, but an advance to 8 wakes it then.
+pub fn a_finish_may_come_before_a_start()
+    ensures { Obeyed nat_cmp (new_planned 0)
+        (call_limit 0 1 a_byte_a_nanosecond None ∷ call_enqueue 0 (message 1 2 2 5) ∷ call_advance 2
+        ∷ call_enqueue 2 (message 1 2 1 0) ∷ call_enqueue 2 (message 1 3 3 0) ∷ call_next ∷ call_advance 5 ∷ call_next
+        ∷ call_limit 10 1 a_byte_a_nanosecond None ∷ call_next ∷ call_advance 8 ∷ call_next ∷ call_advance 9
+        ∷ call_next ∷ [])
+        (reply_done [] ∷ reply_done [] ∷ reply_done (arrives (message 1 2 2 5) 7 ∷ [])
+        ∷ reply_done [] ∷ reply_done [] ∷ reply_next (Some 5) ∷ reply_done (arrives (message 1 3 3 0) 5 ∷ [])
+        ∷ reply_next (Some 7) ∷ reply_done [] ∷ reply_next (Some 10) ∷ reply_done [] ∷ reply_next (Some 9)
+        ∷ reply_done (arrives (message 1 2 1 0) 9 ∷ []) ∷ reply_next None ∷ []) }
+{}
+
+/// Before any limit messages complete at once, in the order of their pair, delivered or not, and one that would arrive
+/// past the last moment is refused.
+pub fn nothing_waits_before_any_limit()
+    ensures { Obeyed nat_cmp (new_planned 0)
+        (call_enqueue 0 (message 1 2 1 100) ∷ call_enqueue 0 (dropped 1 2 1 200) ∷ call_enqueue 0 (message 1 2 1 50)
+        ∷ call_enqueue 1 (message 1 2 1 18_446_744_073_709_551_615) ∷ call_enqueue 0 (message 1 2 1 150)
+        ∷ call_enqueue 0 (message 1 1 1 0) ∷ call_next ∷ [])
+        (reply_done (arrives (message 1 2 1 100) 100 ∷ []) ∷ reply_done (is_gone (dropped 1 2 1 200) ∷ [])
+        ∷ reply_done (arrives (message 1 2 1 50) 100 ∷ []) ∷ reply_refused MomentTooLate
+        ∷ reply_done (arrives (message 1 2 1 150) 150 ∷ []) ∷ reply_done (arrives (message 1 1 1 0) 0 ∷ [])
+        ∷ reply_next None ∷ []) }
+{}
+
+/// What waits stands in the order of pairs, and in a pair in that of enqueue: at 2 the pairs wake in their order,
+/// without bytes first, and each is followed by its next message.
+pub fn several_pairs_wait()
+    ensures { Obeyed nat_cmp (new_planned 0)
+        (call_enqueue 0 (message 1 3 1 2) ∷ call_enqueue 0 (message 1 2 1 2) ∷ call_limit 0 1 a_byte_a_nanosecond None
+        ∷ call_enqueue 0 (message 1 3 0 0) ∷ call_enqueue 0 (message 1 2 0 0) ∷ call_enqueue 0 (message 1 3 2 0)
+        ∷ call_enqueue 0 (message 1 2 1 0) ∷ call_next ∷ call_advance 2 ∷ call_next ∷ call_advance 4 ∷ call_next
+        ∷ call_advance 5 ∷ call_next ∷ [])
+        (reply_done (arrives (message 1 3 1 2) 2 ∷ []) ∷ reply_done (arrives (message 1 2 1 2) 2 ∷ []) ∷ reply_done []
+        ∷ reply_done [] ∷ reply_done [] ∷ reply_done [] ∷ reply_done [] ∷ reply_next (Some 2)
+        ∷ reply_done (arrives (message 1 2 0 0) 2 ∷ arrives (message 1 3 0 0) 2 ∷ []) ∷ reply_next (Some 4)
+        ∷ reply_done (arrives (message 1 2 1 0) 4 ∷ []) ∷ reply_next (Some 5)
+        ∷ reply_done (arrives (message 1 3 2 0) 5 ∷ []) ∷ reply_next None ∷ []) }
 {}

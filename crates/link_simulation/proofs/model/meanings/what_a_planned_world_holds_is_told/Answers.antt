@@ -1,0 +1,7 @@
+use Rattle.std.proofs.Common.{refl}
+use Rattle.fair_rates.specs.Numbers.Amount.{reduced, gcd_within}
+use Rattle.link_simulation.proofs.model.meanings.what_a_planned_world_holds_is_told.Goals as goal
+
+pub returns-clause-drained : goal.returns-clause-drained
+unfolding reduced gcd_within
+returns-clause-drained c = refl

@@ -1,0 +1,13 @@
+use Rattle.std.proofs.Common.{[], ◌∷◌, None, refl}
+use Rattle.std.specs.Ordering.{nat_cmp}
+use Rattle.std.proofs.lemmas.Cmp.{nat_cmp_total}
+use Rattle.fair_rates.specs.Numbers.Amount.{reduced, gcd_within}
+use Rattle.link_simulation.specs.Simulation.World.{new_world}
+use Rattle.link_simulation.specs.Simulation.Calls.{call_limit, call_enqueue, call_advance, call_next}
+use Rattle.link_simulation.specs.Examples.Rows.{message, a_byte_a_nanosecond}
+use Rattle.link_simulation.proofs.Examples.ComputedReplies.{answers_agree, evenly}
+use Rattle.link_simulation.proofs.model.rows.a_late_arrival_is_refused_under_limits.Goals as goal
+
+pub returns : goal.returns
+unfolding reduced gcd_within
+returns c = answers_agree nat_cmp nat_cmp_total (evenly 1_000_000_000) 20 (call_limit 0 1 a_byte_a_nanosecond None ∷ call_enqueue 1 (message 1 2 0 18_446_744_073_709_551_615) ∷ call_enqueue 0 (message 1 2 0 18_446_744_073_709_551_615) ∷ call_enqueue 0 (message 1 3 1 18_446_744_073_709_551_615) ∷ call_next ∷ call_advance 1 ∷ call_next ∷ []) (new_world 0) refl
