@@ -246,7 +246,7 @@ pub fn what_a_set_keeps_is_told()
     ensures equal_peers { ¬ IsSet all_equal below_three }
     ensures first_call { ¬ KeepsApart below_three (call_enqueue 0 (message 1 3 1 0) ∷ call_next ∷ []) }
     ensures later_call { ¬ KeepsApart below_three (call_next ∷ call_enqueue 0 (message 3 1 1 0) ∷ []) }
-    ensures calls { filter (is_kept below_three) (call_enqueue 0 (message 1 2 1 0) ∷ call_enqueue 0 (message 3 4 1 0)
+    ensures calls { filter (is_kept below_three) (call_enqueue 0 (message 1 2 1 0) ∷ call_enqueue 0 (message 3 2 1 0)
         ∷ call_limit 0 3 None None ∷ call_limit_link 0 3 4 None ∷ call_advance 0 ∷ call_next ∷ [])
         ≡ call_enqueue 0 (message 1 2 1 0) ∷ call_limit 0 3 None None ∷ call_limit_link 0 3 4 None ∷ call_advance 0
         ∷ call_next ∷ [] }
