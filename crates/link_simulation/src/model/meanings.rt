@@ -18,7 +18,7 @@ ghost use Rattle.link_simulation.specs.Simulation.Calls.{call_next, Runs, limite
 ghost use Rattle.link_simulation.specs.Simulation.Messages.{Message, no_caps};
 ghost use Rattle.link_simulation.specs.Simulation.Rates.{drained_by, IsLowest};
 ghost use Rattle.link_simulation.specs.Rule.Planned.{Planned, new_planned, left_at, rated_messages, drained_to};
-ghost use Rattle.link_simulation.specs.Rule.Planned.{SomeSpentAt, SomeReadyAt};
+ghost use Rattle.link_simulation.specs.Rule.Planned.{SomeSpentAt, SomeReadyAt, next_of};
 ghost use Rattle.link_simulation.specs.Simulation.Replies.{Reply, reply_done, SameCompletion, Faults, made};
 ghost use Rattle.link_simulation.specs.Simulation.Replies.{completions_in};
 ghost use Rattle.link_simulation.specs.Examples.Rows.{message, arrives, rated_flight, flying, all_equal, below_three};
@@ -273,11 +273,12 @@ pub fn what_a_planned_world_holds_is_told()
 {}
 
 /// Something is spent at the moment at which any message in flight has nothing left, no sooner and not before its
-/// update. And something is ready when the first message of a pair may start, whatever waits behind it.
+/// update. And something is ready when the first message of a pair may start, whatever waits behind it or for others.
 pub fn what_comes_next_is_told()
     ensures spent { SomeSpentAt five_messages.sending 5 }
     ensures not_yet { ¬ SomeSpentAt five_messages.sending 4 }
     ensures not_before { ¬ SomeSpentAt (record (rated_flight (message 1 2 1 0) None) { updated = 5 } ∷ []) 4 }
+    ensures first { next_of nat_cmp five_messages (message 1 3 0 0) ≡ Some (message 1 3 1 0) }
     ensures ready { SomeReadyAt nat_cmp two_of_a_pair 6 }
     ensures not_ready { ¬ SomeReadyAt nat_cmp two_of_a_pair 5 }
 {}
