@@ -118,13 +118,6 @@ pub standing_without : {P : Type 0} (cmp : P → P → Ordering) (fs : List (Flo
     → are_standing cmp fs ss ≡ true → are_standing cmp (remove fs at) (remove ss at) ≡ true
 standing_without cmp fs ss at h = zip_standing cmp _ _ (zip_without (StandsForSent cmp) fs ss at (standing_zip cmp fs ss h))
 
--- whether a message of a pair is in flight
-pub any_of_pair : {P : Type 0} (cmp : P → P → Ordering) (scale : ℕ) (levels : List ℕ) (m : Message P) (ss : List (Progress P))
-    → list_any (λ (s : Progress P). same_peer cmp m.origin s.message.value.origin && same_peer cmp m.recipient s.message.value.recipient) ss
-    ≡ list_any (same_pair cmp m) (rated_messages (sending_of scale levels ss))
-any_of_pair cmp scale levels m [] = refl
-any_of_pair cmp scale levels m (s ∷ ss) = ap (λ b. (same_peer cmp m.origin s.message.value.origin && same_peer cmp m.recipient s.message.value.recipient) || b) (any_of_pair cmp scale levels m ss)
-
 -- ---- with one more
 
 pub ascending_push : (ks : List ℕ) (k : ℕ) → are_ascending nat_cmp ks ≡ true → list_all (λ j. nat_lt j k) ks ≡ true → are_ascending nat_cmp (ks ++ k ∷ []) ≡ true

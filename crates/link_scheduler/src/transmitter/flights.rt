@@ -65,16 +65,6 @@ impl<P: Peer> Flights<P> {
         self.flows.is_empty()
     }
 
-    /// Whether a message of the pair is in flight.
-    pub(crate) fn has_pair(&self, origin: &P, recipient: &P) -> bool
-        ensures { result ≡ list_any (λ s. same_peer P.cmp origin.now s.message.value.origin
-            && same_peer P.cmp recipient.now s.message.value.recipient) self.now.progress.items }
-    {
-        self.progress.iter().any(|one| {
-            origin.cmp(&one.message.origin).is_eq() && recipient.cmp(&one.message.recipient).is_eq()
-        })
-    }
-
     /// The message is in flight from now on, under an id above those of the others.
     pub(crate) fn push(&mut self, message: Rc<Message<P>>, id: u64, now: u64) -> Result<(), Error>
         requires { list_all (λ flow. nat_lt flow.id id) self.old.flows.items ≡ true }
