@@ -1,7 +1,7 @@
 -- The messages in flight: a list of flows, and beside it a list of what is known of their messages.
 use Rattle.std.proofs.Common.{◌≡◌, ℕ, zero, suc, ◌+◌, ◌<◌, ◌≤◌, Bool, true, false, not, if◌then◌else◌, ◌&&◌, ◌||◌, List}
 use Rattle.std.proofs.Common.{[], ◌∷◌, ◌++◌, length, map, get_or, nat_lt, refl, sym, ◌∙◌, ap, arith, append_assoc}
-use Rattle.std.specs.List.{AllZip, list_all, list_any, remove, filter}
+use Rattle.std.specs.List.{AllZip, list_all, remove, filter}
 use Rattle.std.specs.declared.cmp.Ordering.{Ordering}
 use Rattle.std.specs.Ordering.{is_lt, nat_cmp}
 use Rattle.fair_rates.specs.declared.bandwidth.Flow.{Flow}
@@ -9,13 +9,12 @@ use Rattle.link_scheduler.specs.declared.transmitter.progress.Progress.{Progress
 use Rattle.std.specs.Bool.{◌==◌}
 use Rattle.std.proofs.lemmas.Bool.Decides.{nat_tests}
 use Rattle.fair_rates.specs.Sides.Subjects.{same_peer}
-use Rattle.link_simulation.specs.Simulation.Messages.{Message, is_delivered, same_pair}
-use Rattle.link_simulation.specs.Rule.Planned.{RatedFlight, rated_messages}
+use Rattle.link_simulation.specs.Simulation.Messages.{Message, is_delivered}
 use Rattle.std.proofs.lemmas.List.{length-append, append-nil, map-append}
 use Rattle.std.proofs.lemmas.Bool.{and_from}
 use Rattle.fair_rates.proofs.Lists.Booleans.{first_of_both, second_of_both}
 use Rattle.fair_rates.specs.Lists.Sorted.{are_ascending}
-use Rattle.link_scheduler.specs.Flights.RatedFlights.{sending_of, stands_for, are_standing}
+use Rattle.link_scheduler.specs.Flights.RatedFlights.{stands_for, are_standing}
 use Rattle.link_scheduler.specs.Pairs.Messages.{message_of}
 use Rattle.fair_rates.proofs.Lists.Zips.{zip-length, zip-push}
 use Rattle.fair_rates.proofs.Lists.Sorted.{list_all-append, list_all-map, get_or-seam}

@@ -1,5 +1,5 @@
 -- How many messages of each pair are in flight, after a change.
-use Rattle.std.proofs.Common.{◌≡◌, ℕ, suc, ◌+◌, ◌-◌, ◌<◌, Bool, true, false, not, ◌&&◌, ◌||◌, cond, if◌then◌else◌, List, [], ◌∷◌, ◌++◌, length, map, set, slice_get, Some, refl, sym, ◌∙◌, ap, subst, arith, length-append}
+use Rattle.std.proofs.Common.{◌≡◌, ℕ, suc, ◌+◌, ◌-◌, Bool, true, false, not, cond, if◌then◌else◌, List, [], ◌∷◌, ◌++◌, length, map, set, slice_get, Some, refl, sym, ◌∙◌, ap, subst, arith, length-append}
 use Rattle.std.specs.Prelude.{◌==◌}
 use Rattle.std.specs.List.{filter, list_any, insert, remove}
 use Rattle.std.specs.declared.cmp.Ordering.{Ordering}
@@ -9,8 +9,7 @@ use Rattle.std.proofs.lemmas.Bool.{and_from, eqb-true}
 use Rattle.std.proofs.lemmas.Option.{get_or_from_slice_get}
 use Rattle.std.proofs.lemmas.List.{map-append}
 use Rattle.std.proofs.lemmas.List.Elements.{filter-append}
-use Rattle.fair_rates.proofs.Lists.Booleans.{by_bool, first_of_both, second_of_both}
-use Rattle.fair_rates.specs.Sides.Subjects.{same_peer}
+use Rattle.fair_rates.proofs.Lists.Booleans.{by_bool}
 use Rattle.fair_rates.proofs.Sides.EqualSubjects.{same_peer_itself}
 use Rattle.fair_rates.specs.Lists.Sorted.{are_ascending, IsPlace, IsGap}
 use Rattle.fair_rates.proofs.Lists.Sorted.{is_eq_equal, read_place, ascending_set_at, ascending_insert_at, value_set_at, value_insert_at, value_respects}
@@ -23,7 +22,7 @@ use Rattle.link_scheduler.specs.Idle.Index.{is_of_pair}
 use Rattle.link_scheduler.specs.Idle.Busy.{busy_key, count_of, number_of, AreCounted}
 use Rattle.link_scheduler.proofs.Pairs.PairOrder.{pair_total, is_eq-then}
 use Rattle.link_scheduler.proofs.Idle.Index.{same_two}
-use Rattle.link_scheduler.proofs.Idle.Places.{place_within, ascending_remove_at, value_removed}
+use Rattle.link_scheduler.proofs.Idle.Places.{ascending_remove_at, value_removed}
 
 -- ---- the entry of one pair
 

@@ -1,5 +1,5 @@
 //! How many messages of each pair are in flight.
-ghost use Rattle.std.specs.Prelude.{◌≡◌, true, List, map, OnOk, OnErr, IfOk, IfErr, if◌then◌else◌, ◌+◌, ◌-◌};
+ghost use Rattle.std.specs.Prelude.{◌≡◌, true, List, map, OnOk, IfOk, IfErr, if◌then◌else◌, ◌+◌, ◌-◌};
 ghost use Rattle.std.specs.List.{list_any};
 ghost use Rattle.std.specs.Ordering.{is_lt};
 ghost use Rattle.fair_rates.specs.Lists.Sorted.{are_ascending, IsPlace, IsGap};
@@ -93,13 +93,7 @@ impl<P: Peer> BusyPairs<P> {
     }
 
     /// So many messages of the pair are in flight.
-    fn set(
-        &mut self,
-        alloc: Global,
-        origin: &P,
-        recipient: &P,
-        count: u64,
-    ) -> Result<(), Error>
+    fn set(&mut self, alloc: Global, origin: &P, recipient: &P, count: u64) -> Result<(), Error>
         ensures counted { OnOk result ((o r : P) → count_of P.cmp self.new.entries o r
             ≡ (if same_peer P.cmp origin.now o && same_peer P.cmp recipient.now r then count
             else count_of P.cmp self.old.entries o r)) }
