@@ -1,4 +1,5 @@
 -- The idle pairs in the order of moments, and which of them are ready.
+pub mod Busy
 pub mod Due
 pub mod DueCounts
 pub mod DueMessages

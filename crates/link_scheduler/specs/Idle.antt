@@ -1,5 +1,6 @@
--- The idle pairs, and when each may start.
+-- The idle pairs, and when each may start; and the busy ones.
 pub mod AtRest
+pub mod Busy
 pub mod Departed
 pub mod Due
 pub mod FirstMoment

@@ -7,6 +7,7 @@ ghost use Rattle.link_simulation.specs.Simulation.Messages.{CapsAlike, PairsAlik
 ghost use Rattle.link_simulation.specs.Rule.Planned.{IsPlanned};
 
 mod account;
+mod busy;
 mod completion;
 mod component;
 mod drain;

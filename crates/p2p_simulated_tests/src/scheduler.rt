@@ -2,6 +2,7 @@
 mod clones;
 mod ends;
 mod idle;
+mod kept;
 mod long;
 mod numbers;
 mod orders;

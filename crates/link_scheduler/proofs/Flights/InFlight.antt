@@ -1,7 +1,7 @@
 -- The messages in flight: a list of flows, and beside it a list of what is known of their messages.
 use Rattle.std.proofs.Common.{◌≡◌, ℕ, zero, suc, ◌+◌, ◌<◌, ◌≤◌, Bool, true, false, not, if◌then◌else◌, ◌&&◌, ◌||◌, List}
 use Rattle.std.proofs.Common.{[], ◌∷◌, ◌++◌, length, map, get_or, nat_lt, refl, sym, ◌∙◌, ap, arith, append_assoc}
-use Rattle.std.specs.List.{AllZip, list_all, list_any, remove, filter}
+use Rattle.std.specs.List.{AllZip, list_all, remove, filter}
 use Rattle.std.specs.declared.cmp.Ordering.{Ordering}
 use Rattle.std.specs.Ordering.{is_lt, nat_cmp}
 use Rattle.fair_rates.specs.declared.bandwidth.Flow.{Flow}
@@ -9,13 +9,12 @@ use Rattle.link_scheduler.specs.declared.transmitter.progress.Progress.{Progress
 use Rattle.std.specs.Bool.{◌==◌}
 use Rattle.std.proofs.lemmas.Bool.Decides.{nat_tests}
 use Rattle.fair_rates.specs.Sides.Subjects.{same_peer}
-use Rattle.link_simulation.specs.Simulation.Messages.{Message, is_delivered, same_pair}
-use Rattle.link_simulation.specs.Rule.Planned.{RatedFlight, rated_messages}
+use Rattle.link_simulation.specs.Simulation.Messages.{Message, is_delivered}
 use Rattle.std.proofs.lemmas.List.{length-append, append-nil, map-append}
 use Rattle.std.proofs.lemmas.Bool.{and_from}
 use Rattle.fair_rates.proofs.Lists.Booleans.{first_of_both, second_of_both}
 use Rattle.fair_rates.specs.Lists.Sorted.{are_ascending}
-use Rattle.link_scheduler.specs.Flights.RatedFlights.{sending_of, stands_for, are_standing}
+use Rattle.link_scheduler.specs.Flights.RatedFlights.{stands_for, are_standing}
 use Rattle.link_scheduler.specs.Pairs.Messages.{message_of}
 use Rattle.fair_rates.proofs.Lists.Zips.{zip-length, zip-push}
 use Rattle.fair_rates.proofs.Lists.Sorted.{list_all-append, list_all-map, get_or-seam}
@@ -117,13 +116,6 @@ apart_without fs at h = ap (are_ascending nat_cmp) (read_without (λ flow. flow.
 pub standing_without : {P : Type 0} (cmp : P → P → Ordering) (fs : List (Flow P)) (ss : List (Progress P)) (at : ℕ)
     → are_standing cmp fs ss ≡ true → are_standing cmp (remove fs at) (remove ss at) ≡ true
 standing_without cmp fs ss at h = zip_standing cmp _ _ (zip_without (StandsForSent cmp) fs ss at (standing_zip cmp fs ss h))
-
--- whether a message of a pair is in flight
-pub any_of_pair : {P : Type 0} (cmp : P → P → Ordering) (scale : ℕ) (levels : List ℕ) (m : Message P) (ss : List (Progress P))
-    → list_any (λ (s : Progress P). same_peer cmp m.origin s.message.value.origin && same_peer cmp m.recipient s.message.value.recipient) ss
-    ≡ list_any (same_pair cmp m) (rated_messages (sending_of scale levels ss))
-any_of_pair cmp scale levels m [] = refl
-any_of_pair cmp scale levels m (s ∷ ss) = ap (λ b. (same_peer cmp m.origin s.message.value.origin && same_peer cmp m.recipient s.message.value.recipient) || b) (any_of_pair cmp scale levels m ss)
 
 -- ---- with one more
 

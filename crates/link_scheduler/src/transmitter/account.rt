@@ -8,6 +8,7 @@ ghost use Rattle.link_simulation.specs.Rule.Planned.{SomeSpentAt};
 ghost use Rattle.link_simulation.specs.Rule.Planned.{is_spent};
 ghost use Rattle.link_scheduler.specs.Idle.AtRest.{of_pairs};
 ghost use Rattle.link_scheduler.specs.Idle.Index.{IsIndexOf};
+ghost use Rattle.link_scheduler.specs.Idle.Busy.{AreCounted};
 ghost use Rattle.link_scheduler.specs.Flights.InFlight.{in_flight};
 ghost use Rattle.link_scheduler.specs.Flights.Rated.{HaveSameUnits, HaveLevels, IsAsRated, ArePartedBy, is_out};
 ghost use Rattle.link_scheduler.specs.Pairs.Messages.{message_of};
@@ -16,6 +17,7 @@ ghost use Rattle.link_scheduler.specs.Pairs.CapsOf.{caps_of};
 ghost use Rattle.link_simulation.specs.Simulation.Rates.{is_unlimited as is_free};
 ghost use Rattle.link_simulation.specs.Rule.Events.{Accounts};
 
+use super::busy::BusyPairs;
 use super::drain::drain_all;
 use super::flights::Flights;
 use super::idle::IdlePairs;
@@ -141,6 +143,7 @@ impl<P: Peer> Flights<P> {
 fn leave<P: Peer>(
     alloc: Global,
     flights: &mut Flights<P>,
+    busy: &mut BusyPairs<P>,
     idle: &mut IdlePairs<P>,
     peers: &Peers<P>,
     pairs: &Pairs<P>,
@@ -148,6 +151,7 @@ fn leave<P: Peer>(
 ) -> Result<VecDeque<Rc<Message<P>>>, Error>
     requires indexed { IsIndexOf P.cmp (of_pairs P.cmp pairs.now.entries waiting.now.messages
         (in_flight flights.old)) idle.old.entries }
+    requires counted { AreCounted P.cmp busy.old.entries (rated_messages (in_flight flights.old)) }
     ensures done { IfOk result (λ done. messages done.items
         ≡ rated_messages (filter (is_spent P.cmp (caps_of P.cmp peers.now.entries pairs.now.entries))
         (in_flight flights.old))) }
@@ -161,10 +165,12 @@ fn leave<P: Peer>(
         → list_all test flights.new.flows.items ≡ true }
     ensures indexed { OnOk result (IsIndexOf P.cmp (of_pairs P.cmp pairs.now.entries waiting.now.messages
         (in_flight flights.new)) idle.new.entries) }
+    ensures counted { OnOk result (AreCounted P.cmp busy.new.entries (rated_messages (in_flight flights.new))) }
     ensures refused { IfErr result (λ e. e ≡ Error.OutOfMemory) }
 {
     let done = flights.take_done(alloc, peers, pairs)?;
-    rest_all(alloc, idle, flights, waiting, pairs, &done)?;
+    busy.remove_all(alloc, &done)?;
+    rest_all(alloc, idle, busy, waiting, pairs, &done)?;
     Ok(done)
 }
 
@@ -184,6 +190,7 @@ impl<P: Peer> Ledger<P> {
         let left = leave(
             self.alloc,
             &mut self.flights,
+            &mut self.busy,
             &mut self.idle,
             &self.peers,
             &self.pairs,
@@ -195,6 +202,8 @@ impl<P: Peer> Ledger<P> {
                 // What stopped half-way is given up.
                 self.waiting = Waiting::new();
                 self.idle = IdlePairs::new();
+                self.flights = Flights::new(self.alloc);
+                self.busy = BusyPairs::new();
                 return Err(error);
             }
         };

@@ -35,7 +35,7 @@ impl<P: Peer> Ledger<P> {
         ensures { result ≡ may_launch_first P.cmp now (planned P.cmp self.now)
             (first_of P.cmp (planned P.cmp self.now).waiting origin.now recipient.now) }
     {
-        match idle_from(&self.flights, &self.waiting, &self.pairs, origin, recipient) {
+        match idle_from(&self.busy, &self.waiting, &self.pairs, origin, recipient) {
             Some(moment) => moment <= now,
             None => false,
         }
@@ -75,7 +75,7 @@ impl<P: Peer> Ledger<P> {
         if self.waiting.first(origin, recipient).is_some() {
             return false;
         }
-        if self.flights.has_pair(origin, recipient) {
+        if self.busy.has(origin, recipient) {
             return false;
         }
         ready_moment(self.pairs.last_arrival(origin, recipient), message.latency) <= now
@@ -236,7 +236,7 @@ impl<P: Peer> Ledger<P> {
         ensures { result ≡ ((planned P.cmp self.now).limited
             && is_sending P.cmp (planned P.cmp self.now) origin.now recipient.now) }
     {
-        self.limited && self.flights.has_pair(origin, recipient)
+        self.limited && self.busy.has(origin, recipient)
     }
 
     /// The moment at which a message arrives that completes at once: no earlier than its pair's

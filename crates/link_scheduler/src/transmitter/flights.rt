@@ -1,7 +1,7 @@
 //! The messages in flight.
-ghost use Rattle.std.specs.Prelude.{◌≡◌, ℕ, ◌+◌, ◌<◌, [], ◌∷◌, ◌++◌, ◌&&◌, ◌==◌, Bool, true, map};
+ghost use Rattle.std.specs.Prelude.{◌≡◌, ℕ, ◌+◌, ◌<◌, [], ◌∷◌, ◌++◌, ◌==◌, Bool, true, map};
 ghost use Rattle.std.specs.Prelude.{length, nat_lt, Some, IfOk, IfErr, OnOk, OnErr, slice_index_or};
-ghost use Rattle.std.specs.List.{list_all, list_any, remove};
+ghost use Rattle.std.specs.List.{list_all, remove};
 ghost use Rattle.std.specs.Ordering.{nat_cmp};
 ghost use Rattle.fair_rates.specs.Lists.Sorted.{are_ascending};
 ghost use Rattle.link_scheduler.specs.Flights.RatedFlights.{are_standing};
@@ -40,7 +40,6 @@ pub(crate) struct Flights<P: Peer> {
 impl<P: Peer> Flights<P> {
     ghost use Rattle.fair_rates.specs.declared.bandwidth.Flow.{Flow as AnyFlow};
     ghost use Rattle.fair_rates.specs.Numbers.Amount.{whole};
-    ghost use Rattle.fair_rates.specs.Sides.Subjects.{same_peer};
     ghost use Rattle.link_simulation.specs.Rule.Planned.{RatedFlight};
     ghost use Rattle.link_scheduler.specs.Pairs.Messages.{message_of};
     ghost use Rattle.link_scheduler.specs.Flights.InFlight.{in_flight};
@@ -63,16 +62,6 @@ impl<P: Peer> Flights<P> {
         ensures { result ≡ (length self.now.flows.items == 0) }
     {
         self.flows.is_empty()
-    }
-
-    /// Whether a message of the pair is in flight.
-    pub(crate) fn has_pair(&self, origin: &P, recipient: &P) -> bool
-        ensures { result ≡ list_any (λ s. same_peer P.cmp origin.now s.message.value.origin
-            && same_peer P.cmp recipient.now s.message.value.recipient) self.now.progress.items }
-    {
-        self.progress.iter().any(|one| {
-            origin.cmp(&one.message.origin).is_eq() && recipient.cmp(&one.message.recipient).is_eq()
-        })
     }
 
     /// The message is in flight from now on, under an id above those of the others.

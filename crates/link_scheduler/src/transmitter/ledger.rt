@@ -1,12 +1,15 @@
 //! The state that a call works on.
 ghost use Rattle.std.specs.Prelude.{◌≡◌, true, false, nat_lt, OnOk, IfErr};
 ghost use Rattle.std.specs.List.{list_all};
+ghost use Rattle.link_simulation.specs.Rule.Planned.{rated_messages};
 ghost use Rattle.link_scheduler.specs.Idle.Index.{IsIndexOf};
+ghost use Rattle.link_scheduler.specs.Idle.Busy.{AreCounted};
 ghost use Rattle.link_scheduler.specs.Flights.InFlight.{in_flight};
 ghost use Rattle.link_scheduler.specs.Idle.AtRest.{of_pairs};
 ghost use Rattle.link_scheduler.specs.Pairs.CapsOf.{caps_of};
 ghost use Rattle.link_scheduler.specs.Flights.Rated.{AreRated, rated_ones};
 
+use super::busy::BusyPairs;
 use super::flights::Flights;
 use super::idle::IdlePairs;
 use super::pairs::Pairs;
@@ -24,6 +27,7 @@ pub(crate) struct Ledger<P: Peer> {
     pub(crate) pairs: Pairs<P>,
     pub(crate) waiting: Waiting<P>,
     pub(crate) idle: IdlePairs<P>,
+    pub(crate) busy: BusyPairs<P>,
     pub(crate) flights: Flights<P>,
     /// Whether a limit has come.
     pub(crate) limited: bool,
@@ -38,6 +42,7 @@ pub(crate) struct Ledger<P: Peer> {
     pub(crate) stale: bool,
     pub ghost indexed: { IsIndexOf P.cmp (of_pairs P.cmp pairs.entries waiting.messages
         (in_flight flights)) idle.entries },
+    pub ghost counted: { AreCounted P.cmp busy.entries (rated_messages (in_flight flights)) },
     pub ghost rated: { stale ≡ false → ∥ AreRated P.cmp (caps_of P.cmp peers.entries pairs.entries)
         flights.scale flights.levels.items (rated_ones flights.progress.items) ∥₁ },
 }
@@ -56,6 +61,7 @@ impl<P: Peer> Ledger<P> {
             pairs: Pairs::new(),
             waiting: Waiting::new(),
             idle: IdlePairs::new(),
+            busy: BusyPairs::new(),
             flights: Flights::new(alloc),
             limited: false,
             next_id: first,
@@ -134,6 +140,7 @@ impl<P: Peer> Clone for Ledger<P> {
             pairs: self.pairs.clone()?,
             waiting: self.waiting.clone()?,
             idle: self.idle.clone()?,
+            busy: self.busy.clone()?,
             flights: self.flights.clone()?,
             limited: self.limited,
             next_id: self.next_id,

@@ -29,9 +29,9 @@ impl<P: Peer> Ledger<P> {
             }) }
         ensures refused { IfErr result (λ e. e ≡ Error.OutOfMemory) }
     {
-        let before = idle_from(&self.flights, &self.waiting, &self.pairs, origin, recipient);
+        let before = idle_from(&self.busy, &self.waiting, &self.pairs, origin, recipient);
         self.pairs.raise(self.alloc, origin, recipient, moment)?;
-        let moved = idle_from(&self.flights, &self.waiting, &self.pairs, origin, recipient);
+        let moved = idle_from(&self.busy, &self.waiting, &self.pairs, origin, recipient);
         let changed = self
             .idle
             .change(self.alloc, origin, recipient, before, moved);
@@ -53,9 +53,9 @@ impl<P: Peer> Ledger<P> {
         ensures refused { IfErr result (λ e. e ≡ Error.OutOfMemory) }
     {
         let (origin, recipient) = (&pair.origin, &pair.recipient);
-        let before = idle_from(&self.flights, &self.waiting, &self.pairs, origin, recipient);
+        let before = idle_from(&self.busy, &self.waiting, &self.pairs, origin, recipient);
         self.waiting.push(self.alloc, message)?;
-        let after = idle_from(&self.flights, &self.waiting, &self.pairs, origin, recipient);
+        let after = idle_from(&self.busy, &self.waiting, &self.pairs, origin, recipient);
         let changed = self
             .idle
             .change(self.alloc, origin, recipient, before, after);
@@ -77,7 +77,9 @@ impl<P: Peer> Ledger<P> {
             (planned P.cmp self.new)) }
         ensures refused { IfErr result (λ e. e ≡ Error.OutOfMemory) }
     {
-        let before = idle_from(&self.flights, &self.waiting, &self.pairs, origin, recipient);
+        let before = idle_from(&self.busy, &self.waiting, &self.pairs, origin, recipient);
+        let mut busy = self.busy.clone()?;
+        busy.add(self.alloc, origin, recipient)?;
         let Some(message) = self.waiting.take_first(origin, recipient)? else {
             return Ok(());
         };
@@ -97,6 +99,7 @@ impl<P: Peer> Ledger<P> {
             self.stale = true;
             return Err(error);
         }
+        self.busy = busy;
         self.next_id += 1;
         Ok(())
     }
@@ -110,8 +113,11 @@ impl<P: Peer> Ledger<P> {
         ensures refused { IfErr result (λ e. e ≡ Error.OutOfMemory) }
     {
         let id = self.next_id;
+        let mut busy = self.busy.clone()?;
+        busy.add(self.alloc, &message.origin, &message.recipient)?;
         let message = Rc::new(self.alloc, message)?;
         self.flights.push(message, id, now)?;
+        self.busy = busy;
         self.next_id = id + 1;
         Ok(())
     }

@@ -1,17 +1,17 @@
 //! Which pairs are ready, and when the next one is.
-ghost use Rattle.std.specs.Prelude.{◌≡◌, ◌↔◌, ℕ, true, false, IfOk, IfErr, OnOk};
+ghost use Rattle.std.specs.Prelude.{◌≡◌, ◌↔◌, ℕ, true, false, List, IfOk, IfErr, OnOk};
 ghost use Rattle.std.specs.List.{AllZip, list_any};
 ghost use Rattle.fair_rates.specs.Sides.Subjects.{same_peer};
 ghost use Rattle.link_simulation.specs.Rule.Events.{PlansStart};
-ghost use Rattle.link_simulation.specs.Rule.Planned.{SomeReadyAt};
+ghost use Rattle.link_simulation.specs.Rule.Planned.{RatedFlight, SomeReadyAt, rated_messages};
 ghost use Rattle.link_scheduler.specs.Idle.Index.{is_listed, is_of_pair, AreAtRest, idle_from as idle_since};
-ghost use Rattle.link_scheduler.specs.Flights.InFlight.{in_flight};
+ghost use Rattle.link_scheduler.specs.Idle.Busy.{AreCounted};
 ghost use Rattle.link_scheduler.specs.Idle.FirstMoment.{first_moment};
 ghost use Rattle.link_scheduler.specs.Pairs.Entries.{pair_cmp};
 ghost use Rattle.link_scheduler.specs.Calls.AsPlanned.{messages};
 ghost use Rattle.link_scheduler.specs.Idle.AtRest.{of_pairs};
 
-use super::flights::Flights;
+use super::busy::BusyPairs;
 use super::idle::IdlePairs;
 use super::ledger::Ledger;
 use super::message::Message;
@@ -68,17 +68,18 @@ pub(crate) fn ready_moment(last_arrival: Option<u64>, latency: u64) -> u64
 /// The moment from which on the first waiting message of the pair may start, if one waits and the
 /// pair is idle.
 pub(crate) fn idle_from<P: Peer>(
-    flights: &Flights<P>,
+    busy: &BusyPairs<P>,
     waiting: &Waiting<P>,
     pairs: &Pairs<P>,
     origin: &P,
     recipient: &P,
 ) -> Option<u64>
-    ensures { result ≡ idle_since P.cmp (of_pairs P.cmp pairs.now.entries waiting.now.messages
-        (in_flight flights.now)) origin.now recipient.now }
+    ensures { (sending : List (RatedFlight P)) → AreCounted P.cmp busy.now.entries (rated_messages sending)
+        → result ≡ idle_since P.cmp (of_pairs P.cmp pairs.now.entries waiting.now.messages sending)
+        origin.now recipient.now }
 {
     let front = waiting.first(origin, recipient)?;
-    if flights.has_pair(origin, recipient) {
+    if busy.has(origin, recipient) {
         return None;
     }
     let last = pairs.last_arrival(origin, recipient);
@@ -89,21 +90,22 @@ pub(crate) fn idle_from<P: Peer>(
 pub(crate) fn rest_all<P: Peer>(
     alloc: Global,
     idle: &mut IdlePairs<P>,
-    flights: &Flights<P>,
+    busy: &BusyPairs<P>,
     waiting: &Waiting<P>,
     pairs: &Pairs<P>,
     done: &VecDeque<Rc<Message<P>>>,
 ) -> Result<(), Error>
-    requires busy { (t : ℕ) (a b : P) → list_any (is_of_pair P.cmp a b) (messages done.now.items) ≡ true
+    requires unlisted { (t : ℕ) (a b : P) → list_any (is_of_pair P.cmp a b) (messages done.now.items) ≡ true
         → is_listed P.cmp idle.old.entries t a b ≡ false }
-    ensures listed { OnOk result (AreAtRest P.cmp (of_pairs P.cmp pairs.now.entries waiting.now.messages
-        (in_flight flights.now)) (messages done.now.items) idle.old.entries idle.new.entries) }
+    ensures listed { (sending : List (RatedFlight P)) → AreCounted P.cmp busy.now.entries (rated_messages sending)
+        → OnOk result (AreAtRest P.cmp (of_pairs P.cmp pairs.now.entries waiting.now.messages sending)
+        (messages done.now.items) idle.old.entries idle.new.entries) }
     ensures refused { IfErr result (λ e. e ≡ Error.OutOfMemory) }
 {
     for at in 0..done.len() {
         let message = Rc::as_ref(&done[at]);
         let (origin, recipient) = (&message.origin, &message.recipient);
-        if let Some(moment) = idle_from(flights, waiting, pairs, origin, recipient) {
+        if let Some(moment) = idle_from(busy, waiting, pairs, origin, recipient) {
             idle.add(alloc, origin, recipient, moment)?;
         }
     }

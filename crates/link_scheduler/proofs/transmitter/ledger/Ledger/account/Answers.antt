@@ -1,8 +1,9 @@
-use Rattle.std.proofs.Common.{◌≡◌, ◌≢◌, true, false, length, List, All, not, sym, ap, ◌∙◌, subst}
+use Rattle.std.proofs.Common.{◌≡◌, ◌≢◌, length, List, All, not, sym, ap, ◌∙◌, subst}
 use Rattle.std.specs.List.{filter}
 use Rattle.link_simulation.specs.Rule.Planned.{Planned, RatedFlight, IsLeastMoment, SomeSpentAt, rated_messages, drained_to, is_spent}
 use Rattle.link_simulation.specs.Rule.Events.{Accounts}
 use Rattle.link_scheduler.specs.Flights.InFlight.{in_flight}
+use Rattle.link_scheduler.specs.Idle.Busy.{AreCounted}
 use Rattle.link_scheduler.specs.Calls.AsPlanned.{planned, messages}
 use Rattle.std.proofs.lemmas.Bool.{false≢true, eq-eqb}
 use Rattle.link_scheduler.specs.Pairs.CapsOf.{caps_of}
@@ -18,6 +19,7 @@ leave-left-requires g c =
     let old = c.args.self.now in
     record {
       indexed = same_flights_index g.P.Ord.cmp g.met.P.Ord.total old.pairs.entries old.waiting.messages (in_flight old.flights) (in_flight c.drain.new.self) old.idle.entries (ap rated_messages c.drain.ensures.sending ∙ flows_drained c.args.now (in_flight old.flights)) old.indexed;
+      counted = subst (AreCounted g.P.Ord.cmp old.busy.entries) (sym (ap rated_messages c.drain.ensures.sending ∙ flows_drained c.args.now (in_flight old.flights))) old.counted;
     }
 
 pub set_rates-requires-clause-left : goal.set_rates-requires-clause-left
@@ -61,6 +63,9 @@ invariant_of-self-2-clause-rated g c e =
     let caps = caps_of cmp old.peers.entries old.pairs.entries in
     let flying = c.renew_units.new.self in
     ∣ all_rated cmp caps g.met.P.Ord.total (looked_up cmp g.met.P.Ord.total old.peers.entries old.pairs.entries) flying.scale c.in_ok-rates.rates flying c.set_rates.new.self flying.stand c.in_ok-rates.ensures.fair c.in_ok-self.ensures.levels ∣₁
+
+pub invariant_of-self-2-clause-counted : goal.invariant_of-self-2-clause-counted
+invariant_of-self-2-clause-counted g c = subst (AreCounted g.P.Ord.cmp c.leave-left.new.busy.entries) (sym (c.set_rates.ensures.messages ∙ ap rated_messages c.renew_units.ensures.sending)) c.in-Ok.ensures.counted
 
 pub invariant_of-self-2-clause-indexed : goal.invariant_of-self-2-clause-indexed
 invariant_of-self-2-clause-indexed g c =

@@ -1,15 +1,17 @@
-use Rattle.std.proofs.Common.{◌≡◌, ◌+◌, length, map, Some, sym, ap, ◌∙◌}
+use Rattle.std.proofs.Common.{◌≡◌, ◌+◌, length, map, Some, sym, ap, subst, ◌∙◌}
 use Rattle.std.specs.Prelude.{option_map, nat_lt, ◌&&◌}
 use Rattle.fair_rates.specs.Numbers.Amount.{whole}
 use Rattle.fair_rates.specs.Sides.Subjects.{same_peer}
 use Rattle.link_simulation.specs.Simulation.Messages.{Message}
-use Rattle.link_simulation.specs.Rule.Planned.{RatedFlight}
+use Rattle.link_simulation.specs.Rule.Planned.{RatedFlight, rated_messages}
 use Rattle.link_simulation.proofs.Simulation.Queue.{find_passes}
 use Rattle.link_scheduler.specs.Flights.InFlight.{in_flight}
+use Rattle.link_scheduler.specs.Idle.Busy.{AreCounted}
 use Rattle.link_scheduler.specs.Pairs.Messages.{message_of}
 use Rattle.link_scheduler.specs.Pairs.Entries.{first_of, arrival_of}
 use Rattle.link_scheduler.specs.Pairs.CapsOf.{caps_of}
 use Rattle.link_scheduler.proofs.Flights.Accounts.{arrivals_looked_up}
+use Rattle.link_scheduler.proofs.Idle.Busy.{counted_sent}
 use Rattle.link_scheduler.proofs.Idle.IndexChanges.{departed_index}
 use Rattle.link_scheduler.proofs.Idle.Starting.{ids_later, id_below}
 use Rattle.link_scheduler.proofs.transmitter.ledger.Ledger.depart.Goals as goal
@@ -34,7 +36,14 @@ invariant_of-self-2 g c =
       indexed = departed_index cmp g.met.P.Ord.total old.pairs.entries old.waiting.messages c.take_first.new.self.messages (in_flight old.flights) (in_flight c.push.new.self) f o r old.idle.entries c.change-changed.new.self.entries
           (arrivals_looked_up cmp g.met.P.Ord.total old.pairs.entries) taken c.in_default-push.ensures.sending own old.indexed
           c.in_default-changed.ensures.listed;
+      counted = counted_sent cmp g.met.P.Ord.total old.busy.entries c.in_ok-busy.busy.entries c.add.new.self.entries (in_flight old.flights) (in_flight c.push.new.self) o r f c.in_ok-busy.ensures.cases own c.in_default-push.ensures.sending old.counted c.in_ok-add.ensures.counted;
     }
+
+-- where the message cannot be in flight, its pair is not busy either
+pub invariant_of-self-in-Err-push-clause-counted : goal.invariant_of-self-in-Err-push-clause-counted
+invariant_of-self-in-Err-push-clause-counted g c =
+    let old = c.args.self.now in
+    subst (λ fs. AreCounted g.P.Ord.cmp old.busy.entries (rated_messages fs)) (sym c.in-Err-push.ensures.kept.0) old.counted
 
 pub returns-clause-departed : goal.returns-clause-departed
 returns-clause-departed g c =

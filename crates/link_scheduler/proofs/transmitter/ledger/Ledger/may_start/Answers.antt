@@ -4,7 +4,7 @@ use Rattle.link_scheduler.specs.Idle.FirstMoment.{first_moment}
 use Rattle.link_scheduler.specs.Pairs.Messages.{message_of}
 use Rattle.link_scheduler.specs.Pairs.Entries.{arrival_of}
 use Rattle.link_scheduler.specs.Calls.AsPlanned.{planned}
-use Rattle.link_scheduler.proofs.Flights.InFlight.{any_of_pair}
+use Rattle.link_simulation.specs.Rule.Planned.{rated_messages}
 use Rattle.link_scheduler.proofs.Idle.Starting.{may_start_is}
 use Rattle.link_scheduler.proofs.transmitter.ledger.Ledger.may_start.Goals as goal
 
@@ -13,13 +13,13 @@ none_read : {X Y : Type 0} (f : X → Y) (r : Option X) (o : Option Y) → is_so
 none_read f None o none is = sym is
 none_read f (Some x) o none is = cc
 
-pub returns-then-has_pair : goal.returns-then-has_pair
-returns-then-has_pair g c =
+pub returns-then-has : goal.returns-then-has
+returns-then-has g c =
     let p = planned g.P.Ord.cmp c.args.self.now in
     let m = message_of c.args.message.now in
     let none : is_some c.first.result ≡ false = search rules in
     may_start_is g.P.Ord.cmp g.met.P.Ord.total c.args.now p m true (nat_le (first_moment (p.last_arrival m.origin m.recipient) m.latency) c.args.now) (none_read (λ b. message_of b.now) c.first.result _ none c.first.ensures)
-    (sym c.if-has_pair.true ∙ c.has_pair.ensures ∙ any_of_pair g.P.Ord.cmp c.args.self.now.flights.scale c.args.self.now.flights.levels.items m c.args.self.now.flights.progress.items) refl
+    (sym c.if-has.true ∙ c.has.ensures (rated_messages p.sending) c.args.self.now.counted) refl
 
 pub returns : goal.returns
 returns g c =
@@ -28,5 +28,5 @@ returns g c =
     let none : is_some c.first.result ≡ false = search rules in
     let moment : c.ready_moment.result ≡ first_moment (arrival_of g.P.Ord.cmp c.args.self.now.pairs.entries m.origin m.recipient) m.latency = c.ready_moment.ensures ∙ ap (λ last. first_moment last m.latency) c.last_arrival.ensures in
     may_start_is g.P.Ord.cmp g.met.P.Ord.total c.args.now p m false (nat_le c.ready_moment.result c.args.now) (none_read (λ b. message_of b.now) c.first.result _ none c.first.ensures)
-    (sym c.if-has_pair.false ∙ c.has_pair.ensures ∙ any_of_pair g.P.Ord.cmp c.args.self.now.flights.scale c.args.self.now.flights.levels.items m c.args.self.now.flights.progress.items)
+    (sym c.if-has.false ∙ c.has.ensures (rated_messages p.sending) c.args.self.now.counted)
     (ap (λ k. nat_le k c.args.now) moment)

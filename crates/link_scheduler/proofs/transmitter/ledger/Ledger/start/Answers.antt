@@ -3,15 +3,17 @@ use Rattle.std.specs.Prelude.{nat_lt}
 use Rattle.std.specs.List.{list_all}
 use Rattle.link_scheduler.specs.Idle.AtRest.{of_pairs}
 use Rattle.link_scheduler.specs.Idle.Index.{IsIndexOf}
+use Rattle.link_scheduler.specs.Idle.Busy.{AreCounted}
 use Rattle.fair_rates.specs.Numbers.Amount.{whole}
 use Rattle.link_simulation.specs.Simulation.Messages.{Message}
-use Rattle.link_simulation.specs.Rule.Planned.{RatedFlight}
+use Rattle.link_simulation.specs.Rule.Planned.{RatedFlight, rated_messages}
 use Rattle.link_scheduler.specs.declared.transmitter.message.Message as code
 use Rattle.link_scheduler.specs.Flights.InFlight.{in_flight}
 use Rattle.link_scheduler.specs.Pairs.Messages.{message_of}
 use Rattle.link_scheduler.specs.Pairs.Entries.{arrival_of}
 use Rattle.link_scheduler.specs.Pairs.CapsOf.{caps_of}
 use Rattle.link_scheduler.proofs.Flights.Accounts.{arrivals_looked_up}
+use Rattle.link_scheduler.proofs.Idle.Busy.{of_own_pair, counted_sent}
 use Rattle.link_scheduler.proofs.Idle.IndexChanges.{started_index}
 use Rattle.link_scheduler.proofs.Idle.Starting.{ids_later, id_below, without_joined}
 use Rattle.link_scheduler.proofs.transmitter.ledger.Ledger.start.Goals as goal
@@ -29,6 +31,7 @@ invariant_of-self-2 g c =
           rw (kept.rated, kept.units.scale, kept.units.levels) (old.rated e);
       fresh = c.push.ensures.flow (λ flow. nat_lt flow.id (old.next_id + 1)) (ids_later old.flights.flows.items old.next_id old.fresh) (λ flow is. id_below flow.id old.next_id is);
       indexed = started_index cmp g.met.P.Ord.total old.pairs.entries old.waiting.messages (in_flight old.flights) (in_flight c.push.new.self) f old.idle.entries (arrivals_looked_up cmp g.met.P.Ord.total old.pairs.entries) (rw same c.requires.alone) c.in_ok-push.ensures.sending old.indexed;
+      counted = counted_sent cmp g.met.P.Ord.total old.busy.entries c.in_ok-busy.busy.entries c.add.new.self.entries (in_flight old.flights) (in_flight c.push.new.self) c.args.message.origin c.args.message.recipient f c.in_ok-busy.ensures.cases (rw same (of_own_pair cmp g.met.P.Ord.total (message_of c.args.message))) c.in_ok-push.ensures.sending old.counted c.in_ok-add.ensures.counted;
     }
 
 pub returns-clause-started : goal.returns-clause-started
@@ -59,4 +62,5 @@ invariant_of-self g c =
       rated = λ e. rw (rates.rated, rates.units.scale, rates.units.levels) (old.rated e);
       fresh = subst (λ fs. list_all (λ flow. nat_lt flow.id old.next_id) fs ≡ true) (sym c.in_err-push.ensures.kept.1) old.fresh;
       indexed = subst (λ fs. IsIndexOf cmp (of_pairs cmp old.pairs.entries old.waiting.messages fs) old.idle.entries) (sym c.in_err-push.ensures.kept.0) old.indexed;
+      counted = subst (λ fs. AreCounted cmp old.busy.entries (rated_messages fs)) (sym c.in_err-push.ensures.kept.0) old.counted;
     }

@@ -34,6 +34,7 @@ invariant_of-self g c =
     let old = c.args.self.now in
     record {
       fresh = old.fresh;
+      counted = old.counted;
       rated = old.rated;
       indexed = on_either c.push.result
           (λ joined. waited_index cmp g.met.P.Ord.total old.pairs.entries old.waiting.messages c.push.new.self.messages (in_flight old.flights) (message_of c.args.message) old.idle.entries joined c.requires.busy (arrivals_looked_up cmp g.met.P.Ord.total old.pairs.entries) old.indexed)
