@@ -1,13 +1,17 @@
 -- What is in flight, accounted for at a moment.
+pub mod Accounted
 pub mod Accounts
 pub mod CapLookUps
 pub mod ComponentFlows
 pub mod Components
 pub mod Copies
+pub mod Done
 pub mod FairMessages
+pub mod Flight
 pub mod InFlight
-pub mod Progress
+pub mod Leaving
 pub mod Rated
-pub mod Rating
+pub mod Rerating
 pub mod ShortTerms
+pub mod Standing
 pub mod Units

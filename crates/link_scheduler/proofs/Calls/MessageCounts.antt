@@ -8,9 +8,11 @@ use Rattle.std.proofs.lemmas.List.Filters.{length-filter_both}
 use Rattle.std.specs.Prelude.{◌==◌, ◌≢◌}
 use Rattle.std.proofs.lemmas.Bool.{eqb-true, eq-eqb}
 use Rattle.fair_rates.specs.Lists.WithoutFirst.{without_first}
-use Rattle.fair_rates.specs.declared.bandwidth.Flow.{Flow}
-use Rattle.link_scheduler.specs.declared.transmitter.progress.Progress.{Progress}
-use Rattle.link_scheduler.specs.Flights.RatedFlights.{sending_of, are_standing}
+use Rattle.std.specs.declared.rc.Rc.{Rc}
+use Rattle.std.specs.declared.alloc.Global.{Global}
+use Rattle.link_scheduler.specs.declared.transmitter.flight.Flight.{Flight}
+use Rattle.link_scheduler.specs.Flights.Flight.{flights_at}
+use Rattle.link_scheduler.specs.Flights.RatedFlights.{sending_of}
 use Rattle.fair_rates.specs.Numbers.Amount.{whole}
 use Rattle.link_simulation.specs.Simulation.Messages.{Message, same_pair}
 use Rattle.link_simulation.specs.Simulation.World.{Course, goes, meets}
@@ -83,15 +85,10 @@ module _ {P : Type 0} (cmp : P → P → Ordering) where
 
 -- ---- whether something is in flight
 
-pub none_flies : {P : Type 0} (cmp : P → P → Ordering) (scale : ℕ) (levels : List ℕ) (fs : List (Flow P))
-    (ss : List (Progress P)) → are_standing cmp fs ss ≡ true → (length fs == 0) ≡ true → sending_of scale levels ss ≡ []
-none_flies cmp scale levels [] [] stand none = refl
-none_flies cmp scale levels [] (s ∷ ss) stand none = cc
-none_flies cmp scale levels (f ∷ fs) ss stand none = let zero_long : length (f ∷ fs) ≡ 0 = eqb-true (length (f ∷ fs)) 0 none in absurd (omega arith)
+pub none_flies : {P : Type 0} (scale at : ℕ) (fs : List (Rc (Flight P) Global)) → (length fs == 0) ≡ true → sending_of scale (flights_at at fs) ≡ []
+none_flies scale at [] none = refl
+none_flies scale at (f ∷ fs) none = let zero_long : length (f ∷ fs) ≡ 0 = eqb-true (length (f ∷ fs)) 0 none in absurd (omega arith)
 
-pub some_fly : {P : Type 0} (cmp : P → P → Ordering) (scale : ℕ) (levels : List ℕ) (fs : List (Flow P))
-    (ss : List (Progress P)) → are_standing cmp fs ss ≡ true → (length fs == 0) ≡ false
-    → sending_of scale levels ss ≢ []
-some_fly cmp scale levels [] ss stand some = cc (eq-eqb 0 0 refl)
-some_fly cmp scale levels (f ∷ fs) [] stand some = cc
-some_fly cmp scale levels (f ∷ fs) (s ∷ ss) stand some = λ none. cc
+pub some_fly : {P : Type 0} (scale at : ℕ) (fs : List (Rc (Flight P) Global)) → (length fs == 0) ≡ false → sending_of scale (flights_at at fs) ≢ []
+some_fly scale at [] some = cc (eq-eqb 0 0 refl)
+some_fly scale at (f ∷ fs) some = λ none. cc

@@ -1,23 +1,25 @@
--- The messages in flight: a list of flows, and beside it a list of what is known of their messages.
+-- The messages in flight: flows that stand for them, and those that leave.
 use Rattle.std.proofs.Common.{◌≡◌, ℕ, zero, suc, ◌+◌, ◌<◌, ◌≤◌, Bool, true, false, not, if◌then◌else◌, ◌&&◌, ◌||◌, List}
-use Rattle.std.proofs.Common.{[], ◌∷◌, ◌++◌, length, map, get_or, nat_lt, refl, sym, ◌∙◌, ap, arith, append_assoc}
-use Rattle.std.specs.List.{AllZip, list_all, remove, filter}
+use Rattle.std.proofs.Common.{[], ◌∷◌, ◌++◌, length, map, get_or, refl, sym, ◌∙◌, ap, arith, append_assoc}
+use Rattle.std.specs.List.{AllZip, list_any, remove, filter}
 use Rattle.std.specs.declared.cmp.Ordering.{Ordering}
-use Rattle.std.specs.Ordering.{is_lt, nat_cmp}
+use Rattle.std.specs.declared.rc.Rc.{Rc}
+use Rattle.std.specs.declared.alloc.Global.{Global}
 use Rattle.fair_rates.specs.declared.bandwidth.Flow.{Flow}
-use Rattle.link_scheduler.specs.declared.transmitter.progress.Progress.{Progress}
 use Rattle.std.specs.Bool.{◌==◌}
 use Rattle.std.proofs.lemmas.Bool.Decides.{nat_tests}
 use Rattle.fair_rates.specs.Sides.Subjects.{same_peer}
-use Rattle.link_simulation.specs.Simulation.Messages.{Message, is_delivered}
-use Rattle.std.proofs.lemmas.List.{length-append, append-nil, map-append}
+use Rattle.link_simulation.specs.Simulation.Messages.{Message, is_delivered, same_pair}
+use Rattle.link_simulation.specs.Rule.Planned.{rated_messages}
+use Rattle.std.proofs.lemmas.List.{length-append, append-nil}
 use Rattle.std.proofs.lemmas.Bool.{and_from}
 use Rattle.fair_rates.proofs.Lists.Booleans.{first_of_both, second_of_both}
-use Rattle.fair_rates.specs.Lists.Sorted.{are_ascending}
-use Rattle.link_scheduler.specs.Flights.RatedFlights.{stands_for, are_standing}
+use Rattle.link_scheduler.specs.declared.transmitter.flight.Flight.{Flight}
+use Rattle.link_scheduler.specs.Flights.Flight.{UnitFlight, flights_at}
+use Rattle.link_scheduler.specs.Flights.RatedFlights.{sending_of, stands_for, are_standing}
 use Rattle.link_scheduler.specs.Pairs.Messages.{message_of}
 use Rattle.fair_rates.proofs.Lists.Zips.{zip-length, zip-push}
-use Rattle.fair_rates.proofs.Lists.Sorted.{list_all-append, list_all-map, get_or-seam}
+use Rattle.fair_rates.proofs.Lists.Sorted.{get_or-seam}
 
 -- ---- a list of what is read
 
@@ -26,12 +28,6 @@ read_at f [] at x d lt is = absurd (omega (arith, lt))
 read_at f (y ∷ xs) zero x d lt is = ap f (sym is)
 read_at f (y ∷ xs) (suc at) x d lt is = read_at f xs at x d (omega (arith, lt)) is
 
-pub read_without : {X Y : Type 0} (f : X → Y) (xs : List X) (at : ℕ) → map f (remove xs at) ≡ remove (map f xs) at
-read_without f [] zero = refl
-read_without f [] (suc at) = refl
-read_without f (x ∷ xs) zero = refl
-read_without f (x ∷ xs) (suc at) = ap (λ l. f x ∷ l) (read_without f xs at)
-
 remove-seam : {X : Type 0} (xs ys : List X) (y : X) → remove (xs ++ y ∷ ys) (length xs) ≡ xs ++ ys
 remove-seam [] ys y = refl
 remove-seam (x ∷ xs) ys y = ap (λ l. x ∷ l) (remove-seam xs ys y)
@@ -39,10 +35,10 @@ remove-seam (x ∷ xs) ys y = ap (λ l. x ∷ l) (remove-seam xs ys y)
 -- ---- each flow stands for its message
 
 -- the flow is of the message's peers, by their order, and delivered as the message is
-pub record StandsForSent {P : Type 0} (cmp : P → P → Ordering) (flow : Flow P) (s : Progress P) : Type 0 where
-  pub origin : same_peer cmp flow.origin s.message.value.origin ≡ true
-  pub recipient : same_peer cmp flow.recipient s.message.value.recipient ≡ true
-  pub delivered : flow.delivered ≡ is_delivered cmp (message_of s.message.value)
+pub record StandsForSent {P : Type 0} (cmp : P → P → Ordering) (flow : Flow P) (u : UnitFlight P) : Type 0 where
+  pub origin : same_peer cmp flow.origin u.message.origin ≡ true
+  pub recipient : same_peer cmp flow.recipient u.message.recipient ≡ true
+  pub delivered : flow.delivered ≡ is_delivered cmp (message_of u.message)
 
 mark : (a b : Bool) → (if b then a else not a) ≡ true → a ≡ b
 mark true true h = refl
@@ -57,91 +53,39 @@ marks false true h = cc
 marks false false h = refl
 
 module _ {P : Type 0} (cmp : P → P → Ordering) where
-  pub stands_so : (f : Flow P) (s : Progress P) → stands_for cmp f s ≡ true → StandsForSent cmp f s
-  stands_so f s h =
-      let peers = first_of_both (same_peer cmp f.origin s.message.value.origin && same_peer cmp f.recipient s.message.value.recipient) _ h in
+  stands_so : (f : Flow P) (u : UnitFlight P) → stands_for cmp f u ≡ true → StandsForSent cmp f u
+  stands_so f u h =
+      let peers = first_of_both (same_peer cmp f.origin u.message.origin && same_peer cmp f.recipient u.message.recipient) _ h in
       record {
-        origin = first_of_both (same_peer cmp f.origin s.message.value.origin) _ peers;
-        recipient = second_of_both (same_peer cmp f.origin s.message.value.origin) _ peers;
-        delivered = mark f.delivered _ (second_of_both (same_peer cmp f.origin s.message.value.origin && same_peer cmp f.recipient s.message.value.recipient) _ h);
+        origin = first_of_both (same_peer cmp f.origin u.message.origin) _ peers;
+        recipient = second_of_both (same_peer cmp f.origin u.message.origin) _ peers;
+        delivered = mark f.delivered _ (second_of_both (same_peer cmp f.origin u.message.origin && same_peer cmp f.recipient u.message.recipient) _ h);
       }
 
-  pub stands_if : (f : Flow P) (s : Progress P) → StandsForSent cmp f s → stands_for cmp f s ≡ true
-  stands_if f s h = and_from _ _ (and_from _ _ h.origin h.recipient) (marks f.delivered _ h.delivered)
+  stands_if : (f : Flow P) (u : UnitFlight P) → StandsForSent cmp f u → stands_for cmp f u ≡ true
+  stands_if f u h = and_from _ _ (and_from _ _ h.origin h.recipient) (marks f.delivered _ h.delivered)
 
-  pub standing_zip : (fs : List (Flow P)) (ss : List (Progress P)) → are_standing cmp fs ss ≡ true → AllZip (StandsForSent cmp) fs ss
+  pub standing_zip : (fs : List (Flow P)) (us : List (UnitFlight P)) → are_standing cmp fs us ≡ true → AllZip (StandsForSent cmp) fs us
   standing_zip [] [] h = tt
-  standing_zip [] (s ∷ ss) h = cc
+  standing_zip [] (u ∷ us) h = cc
   standing_zip (f ∷ fs) [] h = cc
-  standing_zip (f ∷ fs) (s ∷ ss) h = (stands_so f s (first_of_both (stands_for cmp f s) _ h), standing_zip fs ss (second_of_both (stands_for cmp f s) _ h))
+  standing_zip (f ∷ fs) (u ∷ us) h = (stands_so f u (first_of_both (stands_for cmp f u) _ h), standing_zip fs us (second_of_both (stands_for cmp f u) _ h))
 
-  pub zip_standing : (fs : List (Flow P)) (ss : List (Progress P)) → AllZip (StandsForSent cmp) fs ss → are_standing cmp fs ss ≡ true
+  zip_standing : (fs : List (Flow P)) (us : List (UnitFlight P)) → AllZip (StandsForSent cmp) fs us → are_standing cmp fs us ≡ true
   zip_standing [] [] z = refl
-  zip_standing [] (s ∷ ss) z = absurd z
+  zip_standing [] (u ∷ us) z = absurd z
   zip_standing (f ∷ fs) [] z = absurd z
-  zip_standing (f ∷ fs) (s ∷ ss) z = and_from _ _ (stands_if f s z.0) (zip_standing fs ss z.1)
+  zip_standing (f ∷ fs) (u ∷ us) z = and_from _ _ (stands_if f u z.0) (zip_standing fs us z.1)
 
-  pub standing_length : (fs : List (Flow P)) (ss : List (Progress P)) → are_standing cmp fs ss ≡ true → length fs ≡ length ss
-  standing_length fs ss h = zip-length (StandsForSent cmp) fs ss (standing_zip fs ss h)
+  pub standing_length : (fs : List (Flow P)) (us : List (UnitFlight P)) → are_standing cmp fs us ≡ true → length fs ≡ length us
+  standing_length fs us h = zip-length (StandsForSent cmp) fs us (standing_zip fs us h)
 
--- ---- without one
+-- with one more
+pub standing_with : {P : Type 0} (cmp : P → P → Ordering) (fs : List (Flow P)) (us : List (UnitFlight P)) (f : Flow P)
+    (u : UnitFlight P) → are_standing cmp fs us ≡ true → StandsForSent cmp f u
+    → are_standing cmp (fs ++ f ∷ []) (us ++ u ∷ []) ≡ true
+standing_with cmp fs us f u h one = zip_standing cmp _ _ (zip-push (StandsForSent cmp) fs us f u (standing_zip cmp fs us h) one)
 
-pub zip_without : {X Y : Type 0} (R : X → Y → Type 0) (xs : List X) (ys : List Y) (at : ℕ) → AllZip R xs ys → AllZip R (remove xs at) (remove ys at)
-zip_without R [] [] zero z = tt
-zip_without R [] [] (suc at) z = tt
-zip_without R [] (y ∷ ys) at z = absurd z
-zip_without R (x ∷ xs) [] at z = absurd z
-zip_without R (x ∷ xs) (y ∷ ys) zero z = z.1
-zip_without R (x ∷ xs) (y ∷ ys) (suc at) z = (z.0, zip_without R xs ys at z.1)
-
-pub all_without : {X : Type 0} (test : X → Bool) (xs : List X) (at : ℕ) → list_all test xs ≡ true → list_all test (remove xs at) ≡ true
-all_without test [] zero h = refl
-all_without test [] (suc at) h = refl
-all_without test (x ∷ xs) zero h = second_of_both (test x) _ h
-all_without test (x ∷ xs) (suc at) h = and_from (test x) _ (first_of_both (test x) _ h) (all_without test xs at (second_of_both (test x) _ h))
-
-pub ascending_without : {K : Type 0} (cmp : K → K → Ordering) (ks : List K) (at : ℕ) → are_ascending cmp ks ≡ true → are_ascending cmp (remove ks at) ≡ true
-ascending_without cmp [] zero h = refl
-ascending_without cmp [] (suc at) h = refl
-ascending_without cmp (k ∷ ks) zero h = second_of_both (list_all (λ l. is_lt (cmp k l)) ks) _ h
-ascending_without cmp (k ∷ ks) (suc at) h =
-    and_from _ _ (all_without (λ l. is_lt (cmp k l)) ks at (first_of_both (list_all (λ l. is_lt (cmp k l)) ks) _ h))
-    (ascending_without cmp ks at (second_of_both (list_all (λ l. is_lt (cmp k l)) ks) _ h))
-
-pub apart_without : {P : Type 0} (fs : List (Flow P)) (at : ℕ)
-    → are_ascending nat_cmp (map (λ (flow : Flow P). flow.id) fs) ≡ true
-    → are_ascending nat_cmp (map (λ (flow : Flow P). flow.id) (remove fs at)) ≡ true
-apart_without fs at h = ap (are_ascending nat_cmp) (read_without (λ flow. flow.id) fs at) ∙ ascending_without nat_cmp (map (λ flow. flow.id) fs) at h
-
-pub standing_without : {P : Type 0} (cmp : P → P → Ordering) (fs : List (Flow P)) (ss : List (Progress P)) (at : ℕ)
-    → are_standing cmp fs ss ≡ true → are_standing cmp (remove fs at) (remove ss at) ≡ true
-standing_without cmp fs ss at h = zip_standing cmp _ _ (zip_without (StandsForSent cmp) fs ss at (standing_zip cmp fs ss h))
-
--- ---- with one more
-
-pub ascending_push : (ks : List ℕ) (k : ℕ) → are_ascending nat_cmp ks ≡ true → list_all (λ j. nat_lt j k) ks ≡ true → are_ascending nat_cmp (ks ++ k ∷ []) ≡ true
-ascending_push [] k h below = refl
-ascending_push (j ∷ ks) k h below =
-    and_from _ _ (list_all-append (λ l. is_lt (nat_cmp j l)) ks (k ∷ []) (first_of_both _ _ h)
-    (and_from (is_lt (nat_cmp j k)) true (less j k (first_of_both (nat_lt j k) _ below)) refl))
-    (ascending_push ks k (second_of_both (list_all (λ l. is_lt (nat_cmp j l)) ks) _ h) (second_of_both (nat_lt j k) _ below))
-  where
-    less : (j k : ℕ) → nat_lt j k ≡ true → is_lt (nat_cmp j k) ≡ true
-    less j k h = rw h refl
-
-pub apart_with : {P : Type 0} (fs : List (Flow P)) (f : Flow P)
-    → are_ascending nat_cmp (map (λ (flow : Flow P). flow.id) fs) ≡ true
-    → list_all (λ (flow : Flow P). nat_lt flow.id f.id) fs ≡ true
-    → are_ascending nat_cmp (map (λ (flow : Flow P). flow.id) (fs ++ f ∷ [])) ≡ true
-apart_with fs f apart below =
-    ap (are_ascending nat_cmp) (map-append (λ flow. flow.id) fs (f ∷ []))
-    ∙ ascending_push (map (λ flow. flow.id) fs) f.id apart
-    (list_all-map (λ j. nat_lt j f.id) (λ flow. flow.id) fs ∙ below)
-
-pub standing_with : {P : Type 0} (cmp : P → P → Ordering) (fs : List (Flow P)) (ss : List (Progress P)) (f : Flow P)
-    (s : Progress P) → are_standing cmp fs ss ≡ true → StandsForSent cmp f s
-    → are_standing cmp (fs ++ f ∷ []) (ss ++ s ∷ []) ≡ true
-standing_with cmp fs ss f s h one = zip_standing cmp _ _ (zip-push (StandsForSent cmp) fs ss f s (standing_zip cmp fs ss h) one)
 
 -- ---- those that are done leave
 

@@ -39,6 +39,15 @@ no_units_left n unit h none = let s : IsScaled n unit (reduced n unit) = reduced
 pub nothing_left : (n unit : ℕ) → 0 < unit → n ≡ 0 → (reduced n unit).num ≡ 0
 nothing_left n unit h none = let s : IsScaled n unit (reduced n unit) = reduced_scales n unit h in product_none s.factor (reduced n unit).num s.positive (sym s.num ∙ none)
 
+-- what is left is worth the same in smaller units
+pub grown_left : (scale times grown left : ℕ) → 0 < scale → 0 < grown → grown ≡ scale * times → reduced (left * times) (grown * billion) ≡ reduced left (scale * billion)
+grown_left scale times grown left some more is =
+    let times_some : 0 < times = other_factor scale times grown is more in
+    reduced_alike _ _ _ _ (omega arith) (regroup scale times grown billion is) ∙ reduced_scaled times left (scale * billion) times_some (units_positive scale some)
+  where
+    regroup : (scale times grown b : ℕ) → grown ≡ scale * times → grown * b ≡ times * (scale * b)
+    regroup scale times grown b is = omega (arith, ap (λ x. x * b) is)
+
 -- ---- how they drain
 
 -- with both numbers over the same factor

@@ -1,15 +1,14 @@
 -- Whether the first waiting message of a pair starts, and what then is.
 use Rattle.std.proofs.Common.{◌≡◌, ℕ, ◌+◌, ◌-◌, ◌<◌, ◌≤◌, List, [], ◌∷◌, ◌++◌, length, Bool, true, false, not, cond, ◌&&◌, Option, Some, None, Result, Ok, Err, IfOk, refl, sym, ap, ◌∙◌, subst, arith}
-use Rattle.std.specs.Prelude.{nat_le, nat_lt, is_none}
-use Rattle.std.specs.List.{find, list_any, list_all}
+use Rattle.std.specs.Prelude.{nat_le, is_none}
+use Rattle.std.specs.List.{find, list_any}
 use Rattle.std.specs.declared.cmp.Ordering.{Ordering}
 use Rattle.std.specs.Cmp.{IsTotalOrder}
-use Rattle.std.proofs.lemmas.Bool.{and_from, leb-true, le-leb, ltb-true, lt-ltb}
+use Rattle.std.proofs.lemmas.Bool.{and_from, leb-true, le-leb}
 use Rattle.fair_rates.proofs.Lists.Booleans.{by_bool, first_of_both, second_of_both}
 use Rattle.fair_rates.specs.Lists.WithoutFirst.{without_first}
 use Rattle.fair_rates.specs.declared.error.Error.{Error}
 use Rattle.fair_rates.specs.declared.error.Error.TheVariants.{FlowIdsUsedUp}
-use Rattle.fair_rates.specs.declared.bandwidth.Flow.{Flow}
 use Rattle.fair_rates.specs.Numbers.Amount.{whole}
 use Rattle.fair_rates.specs.Sides.Subjects.{same_peer}
 use Rattle.link_scheduler.specs.Idle.FirstMoment.{first_moment}
@@ -20,7 +19,6 @@ use Rattle.link_simulation.specs.Simulation.World.{goes, meets, is_in_order, las
 use Rattle.link_simulation.specs.Rule.Planned.{Planned, rated_messages, may_launch, queued}
 use Rattle.link_simulation.specs.Rule.Events.{Launches, nothing_waits, too_early, no_id, starts, Accounts, launched, with_queued}
 use Rattle.link_scheduler.specs.Calls.AsPlanned.{may_launch_first}
-use Rattle.fair_rates.proofs.Lists.Sorted.{list_all-mono}
 use Rattle.link_simulation.proofs.Simulation.Queue.{find_passes, any_like, pair_like}
 
 -- two orders of numbers that hold together are one test
@@ -144,11 +142,3 @@ module _ {P : Type 0} (cmp : P → P → Ordering) (order : IsTotalOrder cmp) (t
 
     pub no_id_left : last_moment ≤ p.next_id → Launches cmp t (with_queued cmp p m) (first_of cmp (queued cmp m p.waiting) m.origin m.recipient) (meets FlowIdsUsedUp)
     no_id_left used = no_more_ids cmp order t (with_queued cmp p m) (first_of cmp (queued cmp m p.waiting) m.origin m.recipient) (ap (may_launch_first cmp t (with_queued cmp p m)) joined ∙ may_m) used
-
--- ---- flow ids
-
-pub ids_later : {P : Type 0} (flows : List (Flow P)) (n : ℕ) → list_all (λ (f : Flow P). nat_lt f.id n) flows ≡ true → list_all (λ (f : Flow P). nat_lt f.id (n + 1)) flows ≡ true
-ids_later {P} flows n below = list_all-mono (λ (f : Flow P). nat_lt f.id n) (λ (f : Flow P). nat_lt f.id (n + 1)) (λ f h. let less : f.id < n = ltb-true f.id n h in lt-ltb f.id (n + 1) (omega arith)) flows below
-
-pub id_below : (id n : ℕ) → id ≡ n → nat_lt id (n + 1) ≡ true
-id_below id n is = lt-ltb id (n + 1) (omega arith)

@@ -1,14 +1,11 @@
 //! The messages in flight.
-ghost use Rattle.std.specs.Prelude.{◌≡◌, ℕ, ◌+◌, ◌<◌, [], ◌∷◌, ◌++◌, ◌==◌, Bool, true, map};
-ghost use Rattle.std.specs.Prelude.{length, nat_lt, Some, IfOk, IfErr, OnOk, OnErr, slice_index_or};
-ghost use Rattle.std.specs.List.{list_all, remove};
-ghost use Rattle.std.specs.Ordering.{nat_cmp};
-ghost use Rattle.fair_rates.specs.Lists.Sorted.{are_ascending};
-ghost use Rattle.link_scheduler.specs.Flights.RatedFlights.{are_standing};
+ghost use Rattle.std.specs.Prelude.{◌≡◌, ℕ, ◌+◌, ◌<◌, ◌≤◌, [], ◌∷◌, ◌++◌, ◌&&◌, ◌||◌, ◌==◌, Bool, true, not, map};
+ghost use Rattle.std.specs.Prelude.{length, nat_le, Some, IfOk, IfErr, OnOk, OnErr, slice_index_or, MatchOption};
+ghost use Rattle.std.specs.List.{list_all, list_any};
 
+use super::event::earlier;
+use super::flight::Flight;
 use super::message::Message;
-use super::progress::Progress;
-use fair_rates::bandwidth::Flow;
 use fair_rates::error::Error;
 use fair_rates::peer::Peer;
 use natural::Natural;
@@ -19,54 +16,53 @@ use std::rc::Rc;
 /// second.
 const UNITS_A_BYTE: u128 = 1_000_000_000;
 
-/// The messages in flight, in order of start: their flows, and in a second list the rest.
+/// The messages in flight, in order of start.
 ///
 /// All that is kept of them is whole, in units that they share. A rate is a number of units of
 /// which `scale` are one byte a second. What is left is a number of units of which a billion times
 /// `scale` are one byte, so that a rate is what drains in a nanosecond.
+///
+/// A message drains later: what is kept is what was left at the moment since which it has its rate.
 #[derive(Drop)]
 pub(crate) struct Flights<P: Peer> {
-    pub(crate) flows: Vec<Flow<P>>,
-    pub(crate) progress: Vec<Progress<P>>,
+    pub(crate) alloc: Global,
+    pub(crate) list: Vec<Rc<Flight<P>>>,
     pub(crate) scale: Natural,
-    /// The different rates.
-    pub(crate) levels: Vec<Natural>,
+    /// The moment of the last account.
+    pub(crate) at: u64,
 
-    pub ghost stand: { are_standing P.cmp flows.items progress.items ≡ true },
-    pub ghost apart: { are_ascending nat_cmp (map (λ flow. flow.id) flows.items) ≡ true },
+    pub ghost past: { list_all (λ one. not one.value.rated || nat_le one.value.since at) list.items ≡ true },
     pub ghost scaled: { 0 < scale },
 }
 
 impl<P: Peer> Flights<P> {
-    ghost use Rattle.fair_rates.specs.declared.bandwidth.Flow.{Flow as AnyFlow};
     ghost use Rattle.fair_rates.specs.Numbers.Amount.{whole};
     ghost use Rattle.link_simulation.specs.Rule.Planned.{RatedFlight};
     ghost use Rattle.link_scheduler.specs.Pairs.Messages.{message_of};
-    ghost use Rattle.link_scheduler.specs.Flights.InFlight.{in_flight};
-    ghost use Rattle.link_scheduler.specs.Flights.Rated.{KeepsRates, HaveSameUnits};
+    ghost use Rattle.link_scheduler.specs.Flights.Flight.{AreTimed, has_come, IsPutAt};
+    ghost use Rattle.link_scheduler.specs.Flights.InFlight.{in_flight, in_units};
+    ghost use Rattle.link_scheduler.specs.Flights.Rated.{rated_ones};
 
     pub(crate) fn new(alloc: Global) -> Self
-        ensures flows { result.flows.items ≡ [] }
-        ensures progress { result.progress.items ≡ [] }
+        ensures { result.list.items ≡ [] }
     {
         Flights {
-            flows: Vec::new(alloc),
-            progress: Vec::new(alloc),
+            alloc,
+            list: Vec::new(alloc),
             scale: Natural::from_u64(alloc, 1),
-            levels: Vec::new(alloc),
+            at: 0,
         }
     }
 
     /// Whether nothing is in flight.
     pub(crate) fn is_empty(&self) -> bool
-        ensures { result ≡ (length self.now.flows.items == 0) }
+        ensures { result ≡ (length self.now.list.items == 0) }
     {
-        self.flows.is_empty()
+        self.list.is_empty()
     }
 
-    /// The message is in flight from now on, under an id above those of the others.
-    pub(crate) fn push(&mut self, message: Rc<Message<P>>, id: u64, now: u64) -> Result<(), Error>
-        requires { list_all (λ flow. nat_lt flow.id id) self.old.flows.items ≡ true }
+    /// The message is in flight from now on. It gets its rate at the account that follows.
+    pub(crate) fn push(&mut self, message: Rc<Message<P>>, now: u64) -> Result<(), Error>
         ensures sending { OnOk result (in_flight self.new ≡ in_flight self.old
             ++ record {
               message = message_of message.value;
@@ -74,65 +70,63 @@ impl<P: Peer> Flights<P> {
               rate = Some (whole 0);
               updated = now;
             } ∷ []) }
-        ensures flow { (test : AnyFlow P → Bool) → list_all test self.old.flows.items ≡ true
-            → ((flow : AnyFlow P) → flow.id ≡ id → test flow ≡ true) → list_all test self.new.flows.items ≡ true }
-        ensures rates { KeepsRates self.old self.new }
-        ensures kept { OnErr result ((in_flight self.new ≡ in_flight self.old)
-            × (self.new.flows.items ≡ self.old.flows.items)) }
+        ensures scale { self.new.scale ≡ self.old.scale }
+        ensures rated { rated_ones (in_units self.new) ≡ rated_ones (in_units self.old) }
+        ensures timed { AreTimed self.old.list.items → AreTimed self.new.list.items }
+        ensures kept { OnErr result (in_flight self.new ≡ in_flight self.old) }
         ensures refused { IfErr result (λ e. e ≡ Error.OutOfMemory) }
     {
         let units = message.bytes.len() as u128 * UNITS_A_BYTE;
         let left = self.scale.product(units)?;
-        let flow = message.flow(id)?;
-        self.progress.reserve(1)?;
-        self.flows.push(flow)?;
-        let progress = Progress {
+        let flight = Flight {
             message,
             left,
-            level: None,
-            updated: now,
+            rate: None,
+            since: now,
+            finish: None,
             rated: false,
         };
-        self.progress.push(progress)?;
+        self.list.push(Rc::new(self.alloc, flight)?)?;
         Ok(())
     }
 
-    /// Takes the message at that place.
-    pub(crate) fn remove(&mut self, at: usize) -> Rc<Message<P>>
-        requires { at < length self.old.flows.items }
-        ensures sending { in_flight self.new ≡ remove (in_flight self.old) at }
-        ensures taken { (d : RatedFlight P) → message_of result.value
-            ≡ (slice_index_or (in_flight self.old) at d).message }
-        ensures units { HaveSameUnits self.old self.new }
-        ensures rest { self.new.progress.items ≡ remove self.old.progress.items at }
-        ensures message { (d : Progress P) → result.value
-            ≡ (slice_index_or self.old.progress.items at d).message.value }
-        ensures length { length self.new.flows.items + 1 ≡ length self.old.flows.items }
-        ensures others { (test : AnyFlow P → Bool) → list_all test self.old.flows.items ≡ true
-            → list_all test self.new.flows.items ≡ true }
+    /// The message at that place goes on as told from now on.
+    pub(crate) fn put(&mut self, at: usize, flight: Flight<P>) -> Result<(), Error>
+        requires place { at < length self.old.list.items }
+        requires past { (not flight.rated || nat_le flight.since self.old.at) ≡ true }
+        ensures list { OnOk result (IsPutAt at flight self.old.list.items self.new.list.items) }
+        ensures scale { self.new.scale ≡ self.old.scale }
+        ensures at { self.new.at ≡ self.old.at }
+        ensures refused { IfErr result (λ e. e ≡ Error.OutOfMemory) }
     {
-        self.flows.remove(at);
-        self.progress.remove(at).message
+        self.list[at] = Rc::new(self.alloc, flight)?;
+        Ok(())
+    }
+
+    /// The first finish of all.
+    pub(crate) fn first_finish(&self) -> Option<u64>
+        ensures { (t : ℕ) → has_come t result ≡ list_any (λ one. has_come t one.value.finish) self.now.list.items }
+    {
+        let mut first = None;
+        for one in &self.list {
+            first = earlier(first, one.finish);
+        }
+        first
     }
 }
 
 impl<P: Peer> Clone for Flights<P> {
     ghost use Rattle.link_scheduler.specs.Flights.InFlight.{IsSameFlights};
 
-    ghost is_clone = { IsSameFlights P.cmp };
+    ghost is_clone = { IsSameFlights };
 
-    /// The same messages in flight, the peers cloned.
+    /// The same messages in flight. What is known of each is shared.
     fn clone(&self) -> Result<Flights<P>, AllocError> {
-        let mut flows = Vec::with_capacity(*self.flows.allocator(), self.flows.len())?;
-        for flow in &self.flows {
-            let copy = flow.clone().map_err(|_error| AllocError)?;
-            flows.push(copy)?;
-        }
         Ok(Flights {
-            flows,
-            progress: self.progress.clone()?,
+            alloc: self.alloc,
+            list: self.list.clone()?,
             scale: self.scale.clone()?,
-            levels: self.levels.clone()?,
+            at: self.at,
         })
     }
 }

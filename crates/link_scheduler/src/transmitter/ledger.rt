@@ -1,13 +1,12 @@
 //! The state that a call works on.
-ghost use Rattle.std.specs.Prelude.{◌≡◌, true, false, nat_lt, OnOk, IfErr};
-ghost use Rattle.std.specs.List.{list_all};
+ghost use Rattle.std.specs.Prelude.{◌≡◌, true, false, OnOk, IfErr};
 ghost use Rattle.link_simulation.specs.Rule.Planned.{rated_messages};
 ghost use Rattle.link_scheduler.specs.Idle.Index.{IsIndexOf};
 ghost use Rattle.link_scheduler.specs.Idle.Busy.{AreCounted};
 ghost use Rattle.link_scheduler.specs.Flights.InFlight.{in_flight};
 ghost use Rattle.link_scheduler.specs.Idle.AtRest.{of_pairs};
 ghost use Rattle.link_scheduler.specs.Pairs.CapsOf.{caps_of};
-ghost use Rattle.link_scheduler.specs.Flights.Rated.{AreRated, rated_ones};
+ghost use Rattle.link_scheduler.specs.Flights.Rated.{AreRated};
 
 use super::busy::BusyPairs;
 use super::flights::Flights;
@@ -37,14 +36,12 @@ pub(crate) struct Ledger<P: Peer> {
     pub(crate) finish: Option<u64>,
     /// The moment at which a waiting message starts next.
     pub(crate) start: Option<u64>,
-    pub ghost fresh: { list_all (λ flow. nat_lt flow.id next_id) flights.flows.items ≡ true },
     /// Whether the caps have changed since the last account, or that one was refused.
     pub(crate) stale: bool,
     pub ghost indexed: { IsIndexOf P.cmp (of_pairs P.cmp pairs.entries waiting.messages
         (in_flight flights)) idle.entries },
     pub ghost counted: { AreCounted P.cmp busy.entries (rated_messages (in_flight flights)) },
-    pub ghost rated: { stale ≡ false → ∥ AreRated P.cmp (caps_of P.cmp peers.entries pairs.entries)
-        flights.scale flights.levels.items (rated_ones flights.progress.items) ∥₁ },
+    pub ghost rated: { stale ≡ false → ∥ AreRated P.cmp (caps_of P.cmp peers.entries pairs.entries) flights ∥₁ },
 }
 
 impl<P: Peer> Ledger<P> {

@@ -92,7 +92,7 @@ impl<P: Peer> Ledger<P> {
             self.idle = IdlePairs::new();
             return Err(error);
         }
-        if let Err(error) = self.flights.push(message, self.next_id, now) {
+        if let Err(error) = self.flights.push(message, now) {
             // What stopped half-way is given up.
             self.waiting = Waiting::new();
             self.idle = IdlePairs::new();
@@ -112,13 +112,12 @@ impl<P: Peer> Ledger<P> {
             (with_queued P.cmp (planned P.cmp self.old) (message_of message)) (message_of message)) }
         ensures refused { IfErr result (λ e. e ≡ Error.OutOfMemory) }
     {
-        let id = self.next_id;
         let mut busy = self.busy.clone()?;
         busy.add(self.alloc, &message.origin, &message.recipient)?;
         let message = Rc::new(self.alloc, message)?;
-        self.flights.push(message, id, now)?;
+        self.flights.push(message, now)?;
         self.busy = busy;
-        self.next_id = id + 1;
+        self.next_id += 1;
         Ok(())
     }
 

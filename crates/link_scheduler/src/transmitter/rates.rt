@@ -1,9 +1,16 @@
 //! The fair rates of what is in flight.
-ghost use Rattle.std.specs.Prelude.{◌≡◌, true, IfOk, IfErr, IfSome, All, ◌<◌, ◌+◌, ◌++◌, length};
+ghost use Rattle.std.specs.Prelude.{◌≡◌, ◌≢◌, true, map, IfOk, IfErr, OnOk, All, ◌<◌, ◌≤◌, ◌*◌, length};
+ghost use Rattle.fair_rates.specs.Fairness.Exists.{product};
+ghost use Rattle.link_simulation.specs.Rule.Planned.{IsLeastMoment, SomeSpentAt};
+ghost use Rattle.link_simulation.specs.Simulation.World.{last_moment};
 ghost use Rattle.link_scheduler.specs.Calls.AsPlanned.{messages, AreFairPartsUnder};
 ghost use Rattle.link_scheduler.specs.Pairs.CapsOf.{caps_of};
-ghost use Rattle.link_scheduler.specs.Flights.Components.{those_of, levels_with, counted_from as place_from};
-ghost use Rattle.link_scheduler.specs.Flights.Rated.{WereRated};
+ghost use Rattle.link_scheduler.specs.Flights.Components.{those_of};
+ghost use Rattle.link_scheduler.specs.Flights.Flight.{AreTimed, rate_of};
+ghost use Rattle.fair_rates.specs.Filling.FairParts.{parts_of_level};
+ghost use Rattle.link_scheduler.specs.Flights.InFlight.{in_units, in_flight};
+ghost use Rattle.link_scheduler.specs.Flights.Rated.{WereRated, AreFairOf, HaveFairRates};
+ghost use Rattle.link_scheduler.specs.Flights.Rated.{rerated, rates_found, AreOthersTimed};
 
 use super::component::Component;
 use super::flights::Flights;
@@ -44,81 +51,110 @@ fn rates_under<P: Peer>(
     )
 }
 
+/// Levels that those who have them share.
+fn shared_levels(alloc: Global, levels: Vec<Natural>) -> Result<Vec<Rc<Natural>>, Error>
+    ensures same { IfOk result (λ shared. map (λ level. level.value) shared.items ≡ levels.items) }
+    ensures refused { IfErr result (λ e. e ≡ Error.OutOfMemory) }
+{
+    let mut shared = Vec::with_capacity(alloc, levels.len())?;
+    for level in levels {
+        shared.push(Rc::new(alloc, level)?)?;
+    }
+    Ok(shared)
+}
+
+/// The level at that place. None drains nothing.
+fn level_at(levels: &[Rc<Natural>], place: Option<usize>) -> Result<Option<Rc<Natural>>, Error>
+    ensures rate { IfOk result (λ level. rate_of level ≡ parts_of_level (map (λ level. level.value) levels.now) place) }
+    ensures refused { IfErr result (λ e. e ≡ Error.OutOfMemory) }
+{
+    let Some(place) = place else {
+        return Ok(None);
+    };
+    match levels.get(place) {
+        Some(level) => Ok(Some(level.clone()?)),
+        None => Ok(None),
+    }
+}
+
 impl<P: Peer> Flights<P> {
-    /// The fair rates of all, once some are done. Where they had fair rates before, those that
-    /// share no side with what is done or new keep them.
-    pub(crate) fn rates(
-        &self,
+    /// Gives each its fair rate from the last account on, once some are done. Where they had fair
+    /// rates before, those that share no side with what is done or new keep them. Answers the first
+    /// moment at which nothing is left of one.
+    pub(crate) fn rate(
+        &mut self,
         peers: &Peers<P>,
         pairs: &Pairs<P>,
         done: &VecDeque<Rc<Message<P>>>,
         were_rated: bool,
-    ) -> Result<FairParts, Error>
+    ) -> Result<Option<u64>, Error>
+        requires moment { self.old.at ≤ last_moment }
+        requires left { All (λ u. u.left ≢ 0) (in_units self.old) }
+        requires updated { All (λ u. u.updated ≡ self.old.at) (in_units self.old) }
         requires before { were_rated ≡ true
-            → WereRated P.cmp (caps_of P.cmp peers.now.entries pairs.now.entries) self.now.scale
-            self.now.levels.items self.now.progress.items (messages done.now.items) }
-        ensures fair { IfOk result (AreFairPartsUnder P.cmp
-            (caps_of P.cmp peers.now.entries pairs.now.entries) self.now.flows.items self.now.scale) }
+            → WereRated P.cmp (caps_of P.cmp peers.now.entries pairs.now.entries) self.old.scale
+            (in_units self.old) (messages done.now.items) }
+        requires timed { were_rated ≡ true → AreTimed self.old.list.items }
+        ensures rated { OnOk result (HaveFairRates P.cmp (caps_of P.cmp peers.now.entries pairs.now.entries)
+            self.old self.new) }
+        ensures finish { IfOk result (IsLeastMoment (λ s. SomeSpentAt (in_flight self.new) s)) }
         ensures refused { IfErr result (λ e. e ≡ Error.OutOfMemory) }
     {
-        let few_levels = self.levels.len() <= 2 * self.flows.len();
-        if were_rated && few_levels && self.flows.len() > FEW {
+        if were_rated && self.list.len() > FEW {
             if let Some(component) = self.component(done)? {
-                let flows = self.flows_of(&component)?;
-                let alloc = *self.flows.allocator();
-                let part = rates_under(alloc, &flows, peers, pairs, &self.scale)?;
+                let part = self.rates_of(&component, peers, pairs)?;
                 if part.growth.is_empty() {
-                    return self.rates_with(&component, part);
+                    self.set_rates(&component, part)?;
+                    return Ok(self.first_finish());
                 }
             }
         }
-        rates_under(
-            *self.flows.allocator(),
-            &self.flows,
-            peers,
-            pairs,
-            &self.scale,
-        )
+        let all = Component::whole(self.alloc);
+        let rates = self.rates_of(&all, peers, pairs)?;
+        self.set_rates(&all, rates)?;
+        Ok(self.first_finish())
     }
 
-    /// The rates of all: these of the component's flows, and of the others as they were.
-    fn rates_with(&self, component: &Component<P>, mut part: FairParts) -> Result<FairParts, Error>
-        requires one_each { length part.level_of.items
-            ≡ length (those_of P.cmp component.now self.now.progress.items) }
-        requires inside { All (λ level. IfSome level (λ place. place < length part.levels.items)) part.level_of.items }
-        ensures scale { IfOk result (λ all. all.scale ≡ part.scale) }
-        ensures growth { IfOk result (λ all. all.growth.items ≡ part.growth.items) }
-        ensures levels { IfOk result (λ all. all.levels.items ≡ self.now.levels.items ++ part.levels.items) }
-        ensures level_of { IfOk result (λ all. all.level_of.items ≡ levels_with P.cmp component.now
-            (length self.now.levels.items) part.level_of.items self.now.progress.items) }
+    /// The fair rates of a component alone.
+    fn rates_of(
+        &self,
+        component: &Component<P>,
+        peers: &Peers<P>,
+        pairs: &Pairs<P>,
+    ) -> Result<FairParts, Error>
+        ensures fair { IfOk result (AreFairOf P.cmp (caps_of P.cmp peers.now.entries pairs.now.entries)
+            self.now.scale component.now (in_units self.now)) }
         ensures refused { IfErr result (λ e. e ≡ Error.OutOfMemory) }
     {
-        let first = self.levels.len();
-        let mut levels = self.levels.clone()?;
-        levels.append(&mut part.levels)?;
-        let mut level_of = Vec::with_capacity(*self.flows.allocator(), self.progress.len())?;
+        let flows = self.flows_of(component)?;
+        rates_under(self.alloc, &flows, peers, pairs, &self.scale)
+    }
+
+    /// Gives those of the component these rates from the last account on, in the units of these
+    /// rates.
+    fn set_rates(&mut self, component: &Component<P>, rates: FairParts) -> Result<(), Error>
+        requires one_each { length rates.level_of.items ≡ length (those_of P.cmp component.now (in_units self.old)) }
+        requires left { All (λ u. u.left * product rates.growth.items ≢ 0) (in_units self.old) }
+        requires scaled { 0 < rates.scale }
+        requires others { AreOthersTimed P.cmp component.now self.old.list.items }
+        ensures rerated { OnOk result (in_units self.new ≡ rerated P.cmp component.now self.old.at
+            (product rates.growth.items) (rates_found rates) (in_units self.old)) }
+        ensures timed { OnOk result (AreTimed self.new.list.items) }
+        ensures scale { OnOk result (self.new.scale ≡ rates.scale) }
+        ensures at { self.new.at ≡ self.old.at }
+        ensures refused { IfErr result (λ e. e ≡ Error.OutOfMemory) }
+    {
+        let levels = shared_levels(self.alloc, rates.levels)?;
         let mut next = 0;
-        for one in &self.progress {
-            if component.has_sender(&one.message.origin) {
-                level_of.push(counted_from(first, part.level_of[next]))?;
+        for at in 0..self.list.len() {
+            if component.has_sender(&self.list[at].message.origin) {
+                let rate = level_at(&levels, rates.level_of[next])?;
+                let one = self.list[at].rerated(rate, &rates.growth, self.at)?;
+                self.put(at, one)?;
                 next += 1;
-            } else {
-                level_of.push(one.level)?;
             }
         }
-        Ok(FairParts {
-            scale: part.scale,
-            growth: part.growth,
-            levels,
-            level_of,
-        })
+        self.scale = rates.scale;
+        Ok(())
     }
-}
-
-/// The place, counted from another on.
-fn counted_from(first: usize, level: Option<usize>) -> Option<usize>
-    requires { IfSome level (λ place. place + first < 18446744073709551616) }
-    ensures { result ≡ place_from first level }
-{
-    Some(level? + first)
 }

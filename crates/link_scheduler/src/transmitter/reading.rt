@@ -3,13 +3,13 @@ ghost use Rattle.std.specs.Prelude.{◌≡◌, ◌<◌, IfOk, IfErr};
 ghost use Rattle.std.specs.List.{AllZip};
 ghost use Rattle.std.specs.declared.cmp.Ordering.TheVariants.{Equal};
 ghost use Rattle.fair_rates.specs.Numbers.Amount.{reduced};
-ghost use Rattle.fair_rates.specs.Filling.FairParts.{parts_of_level};
+ghost use Rattle.link_scheduler.specs.Flights.Flight.{flight_at};
 ghost use Rattle.link_scheduler.specs.Flights.Readings.{IsReadingOf};
 
 use super::State;
+use super::flight::Flight;
 use super::flights::Flights;
 use super::fraction::read_fraction;
-use super::progress::{Progress, rate_at};
 use fair_rates::error::Error;
 use fair_rates::peer::Peer;
 use fair_rates::ratio::Ratio;
@@ -79,48 +79,50 @@ impl<P: Peer> Flights<P> {
         ensures refused { IfErr result (λ e. e ≡ Error.OutOfMemory) }
     {
         let unit = self.scale.product(BILLION)?;
-        let mut readings = Vec::with_capacity(*self.flows.allocator(), self.progress.len())?;
-        for one in &self.progress {
-            let rate = read_rate(&self.levels, one.level, &self.scale)?;
-            readings.push(read_one(one, &unit, rate)?)?;
+        let mut readings = Vec::with_capacity(self.alloc, self.list.len())?;
+        for one in &self.list {
+            readings.push(read_one(one, self.at, &unit, &self.scale)?)?;
         }
         Ok(readings)
     }
 }
 
-/// A message in flight at that rate, as it is read.
+/// A message in flight at the moment of the last account, as it is read. Of the units that are left
+/// `unit` are a byte, and of those of a rate `scale` are one a second.
 fn read_one<P: Peer>(
-    progress: &Progress<P>,
+    flight: &Flight<P>,
+    at: u64,
     unit: &Natural,
-    rate: Reading,
+    scale: &Natural,
 ) -> Result<InFlight<P>, Error>
-    requires { 0 < unit.now }
-    ensures origin { IfOk result (λ r. P.cmp r.origin progress.now.message.value.origin ≡ Equal) }
-    ensures recipient { IfOk result (λ r. P.cmp r.recipient progress.now.message.value.recipient ≡ Equal) }
-    ensures left { IfOk result (λ r. IsReadingOf (reduced progress.now.left unit.now) r.left) }
-    ensures rate { IfOk result (λ r. r.rate ≡ rate) }
-    ensures since { IfOk result (λ r. r.since ≡ progress.now.updated) }
+    requires unit { 0 < unit.now }
+    requires scale { 0 < scale.now }
+    ensures origin { IfOk result (λ r. P.cmp r.origin flight.now.message.value.origin ≡ Equal) }
+    ensures recipient { IfOk result (λ r. P.cmp r.recipient flight.now.message.value.recipient ≡ Equal) }
+    ensures left { IfOk result (λ r. IsReadingOf (reduced (flight_at at flight.now).left unit.now) r.left) }
+    ensures rate { IfOk result (λ r. IsReadingOf (reduced (flight_at at flight.now).rate scale.now) r.rate) }
+    ensures since { IfOk result (λ r. r.since ≡ (flight_at at flight.now).updated) }
     ensures refused { IfErr result (λ e. e ≡ Error.OutOfMemory) }
 {
-    let message = Rc::as_ref(&progress.message);
+    let message = Rc::as_ref(&flight.message);
     Ok(InFlight {
         origin: message.origin.clone_peer().ok_or(Error::OutOfMemory)?,
         recipient: message.recipient.clone_peer().ok_or(Error::OutOfMemory)?,
-        left: read_fraction(&progress.left, unit)?,
-        rate,
-        since: progress.updated,
+        left: read_fraction(&flight.left_at(at)?, unit)?,
+        rate: read_rate(flight, scale)?,
+        since: if flight.rated { at } else { flight.since },
     })
 }
 
-/// The rate at that place, of whose units `scale` are a byte a second. None is a rate of zero.
-fn read_rate(levels: &[Natural], level: Option<usize>, scale: &Natural) -> Result<Reading, Error>
+/// The rate of a message in flight, of whose units `scale` are a byte a second.
+fn read_rate<P: Peer>(flight: &Flight<P>, scale: &Natural) -> Result<Reading, Error>
     requires { 0 < scale.now }
-    ensures read { IfOk result (IsReadingOf (reduced (parts_of_level levels.now level) scale.now)) }
+    ensures read { IfOk result (IsReadingOf (reduced (flight_at 0 flight.now).rate scale.now)) }
     ensures refused { IfErr result (λ e. e ≡ Error.OutOfMemory) }
 {
-    match rate_at(levels, level) {
-        Some(rate) => read_fraction(rate, scale),
-        None => Ok(Reading {
+    match &flight.rate {
+        Some(rate) if flight.rated => read_fraction(rate, scale),
+        _ => Ok(Reading {
             amount: Ratio::zero(),
             is_exact: true,
         }),

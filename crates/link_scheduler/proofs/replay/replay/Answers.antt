@@ -51,7 +51,7 @@ loop-call-preserved g c =
     (call_of c.call-item.result) c.loop-call-test.true)) c.push.ensures.capacity c.answer.ensures.in_time c.answer.ensures.reply)
 
 -- all calls are replied to by the event rule, and come at moments
-replied : (g : _) (c : goal.After-drop-state-9 g) → Obeyed g.P.Ord.cmp (new_planned 0) (map call_of c.args.calls.now) (map reply_of c.loop-call.replies.items) × InTime (map call_of c.args.calls.now)
+replied : (g : _) (c : goal.After-drop-state-7 g) → Obeyed g.P.Ord.cmp (new_planned 0) (map call_of c.args.calls.now) (map reply_of c.loop-call.replies.items) × InTime (map call_of c.args.calls.now)
 replied g c =
     ends g.P.Ord.cmp g.met.P.Ord.total (new_planned 0) (map call_of c.args.calls.now) c.loop-call.call-index
     (map reply_of c.loop-call.replies.items) (vec_len c.loop-call.replies) (vec_capacity c.loop-call.replies)
@@ -59,7 +59,7 @@ replied g c =
     (subst (λ n. n ≤ c.loop-call.call-index) (sym (length-map c.args.calls.now call_of)) c.loop-call-test.false)
 
 -- and so they are those of the simulation
-agreed : (g : _) (c : goal.After-drop-state-9 g) → Agrees g.P.Ord.cmp (new_world 0) (map call_of c.args.calls.now) (map reply_of c.loop-call.replies.items)
+agreed : (g : _) (c : goal.After-drop-state-7 g) → Agrees g.P.Ord.cmp (new_world 0) (map call_of c.args.calls.now) (map reply_of c.loop-call.replies.items)
 agreed g c = obeyed_agree g.P.Ord.cmp g.met.P.Ord.total (map call_of c.args.calls.now) (map reply_of c.loop-call.replies.items) (replied g c).1 (replied g c).0
 
 pub returns-clause-obeyed : goal.returns-clause-obeyed

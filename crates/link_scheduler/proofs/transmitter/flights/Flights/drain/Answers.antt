@@ -1,40 +1,88 @@
-use Rattle.std.proofs.Common.{◌≡◌, ◌++◌, List, length, take, drop, ◌∙◌, ap, sym, subst, arith}
-use Rattle.std.specs.List.{AllZip}
-use Rattle.link_scheduler.specs.declared.transmitter.progress.Progress.{Progress}
-use Rattle.link_scheduler.specs.Flights.Progress.{DrainsTo, IsSameSent}
-use Rattle.link_scheduler.specs.Flights.RatedFlights.{sending_of, are_standing}
-use Rattle.link_scheduler.proofs.Flights.Progress.{drained_sending, drained_is_same, stand_same, written_back}
-use Rattle.link_scheduler.specs.Flights.Rated.{IsAsRated}
-use Rattle.link_scheduler.proofs.Flights.Rated.{drained_as_rated}
-use Rattle.fair_rates.proofs.Lists.Zips.{zip_weaker}
+use Rattle.std.proofs.Common.{◌≡◌, ◌+◌, ◌<◌, ◌≤◌, true, false, not, get_or, length, refl, sym, ap, ◌∙◌, subst, inl, inr, ◌⊎◌, arith}
+use Rattle.std.specs.List.{list_all}
+use Rattle.std.proofs.lemmas.List.{get_or_default}
+use Rattle.fair_rates.proofs.Lists.InPlace.{IsChangedUpTo, unchanged, all_changed}
+use Rattle.link_scheduler.specs.declared.transmitter.flight.Flight.{Flight}
+use Rattle.link_scheduler.specs.Flights.Flight.{flight_at, rate_of}
+use Rattle.link_scheduler.proofs.Flights.Flight.{IsBrought, is_past, changed_length, next_brought, next_counted_on, all_drained, all_past, all_timed}
 use Rattle.link_scheduler.proofs.transmitter.flights.Flights.drain.Goals as goal
+use Rattle.link_scheduler.proofs.transmitter.flights.Flights.drain.Goals.{then-goes_back+in_ok-one+in_ok-put, else-goes_back+else-not-deref}
+use Rattle.link_scheduler.proofs.transmitter.flights.Flights.drain.Goals.{then-goes_back-via-then-goes_back, then-goes_back-via-else-goes_back+then-not-deref}
+
+pub loop-at-init : goal.loop-at-init
+loop-at-init g c = (unchanged (IsBrought c.args.self.now.at c.args.now) c.args.self.now.list.items, refl, refl)
+
+pub loop-at-preserved : goal.loop-at-preserved
+loop-at-preserved g c =
+    let old = c.args.self.now in
+    let so_far = c.loop-at.self in
+    let at_is = c.loop-at.invariant.1 in
+    let lt : c.loop-at.at < length so_far.list.items =
+    omega (arith, changed_length (IsBrought old.at c.args.now) old.list.items so_far.list.items c.loop-at.at c.loop-at.invariant.0) in
+    elim c.if-goes_back.branch [
+      | then-goes_back+in_ok-one+in_ok-put w ↦
+          let x = w.index-then-goes_back.result.now in
+          let is : x ≡ get_or so_far.list.items c.loop-at.at x = w.index-then-goes_back.ensures in
+          let value = w.deref-then-goes_back.ensures in
+          let back : c.args.now < old.at ⊎ x.value.rated ≡ false = elim w.then-goes_back.branch [
+            | then-goes_back-via-then-goes_back v ↦ inl v.if-goes_back.true
+            | then-goes_back-via-else-goes_back+then-not-deref v ↦ inr
+                (ap (λ r. r.value.rated) (is ∙ get_or_default so_far.list.items c.loop-at.at x v.index.result.now lt ∙ sym v.index.ensures)
+                ∙ sym (ap (λ (f : Flight g.row.P.Denot). f.rated) v.deref.ensures) ∙ v.if-not-deref.true)
+          ] in (
+            subst (λ (s : _). IsChangedUpTo (IsBrought old.at c.args.now) old.list.items s.list.items (c.loop-at.at + 1)) (sym w.self-is)
+            (next_brought old.at c.args.now old.list.items so_far.list.items c.loop-at.at c.loop-at.invariant.0 x lt is w.in_ok-one.one w.put.new.self.list.items
+            w.in_ok-put.ensures.list back
+            (w.in_ok-one.ensures.message ∙ ap (λ (f : Flight g.row.P.Denot). f.message.value) value)
+            (w.in_ok-one.ensures.left ∙ ap (λ (f : Flight g.row.P.Denot). (flight_at so_far.at f).left) value
+            ∙ ap (λ n. (flight_at n x.value).left) at_is)
+            (w.in_ok-one.ensures.rate ∙ ap (λ (f : Flight g.row.P.Denot). rate_of f.rate) value) w.in_ok-one.ensures.since
+            (w.in_ok-one.ensures.rated ∙ ap (λ (f : Flight g.row.P.Denot). f.rated) value)),
+            ap (λ s. s.at) w.self-is ∙ w.put.ensures.at ∙ at_is,
+            ap (λ s. s.scale) w.self-is ∙ w.put.ensures.scale ∙ c.loop-at.invariant.2,
+          )
+      | else-goes_back+else-not-deref w ↦
+          let x = w.index.result.now in
+          let is : x ≡ get_or so_far.list.items c.loop-at.at x = w.index.ensures in
+          let value = w.deref.ensures in (
+            subst (λ (s : _). IsChangedUpTo (IsBrought old.at c.args.now) old.list.items s.list.items (c.loop-at.at + 1)) (sym w.self-is)
+            (next_counted_on old.at c.args.now old.list.items so_far.list.items c.loop-at.at c.loop-at.invariant.0 x lt is
+            (sym (ap (λ (f : Flight g.row.P.Denot). f.rated) value) ∙ w.if-not-deref.false)
+            (ap (λ n. list_all (is_past n) so_far.list.items) (sym at_is) ∙ so_far.past) w.if-goes_back.false),
+            ap (λ s. s.at) w.self-is ∙ at_is,
+            ap (λ s. s.scale) w.self-is ∙ c.loop-at.invariant.2,
+          )
+    ]
 
 pub invariant_of-self : goal.invariant_of-self
 invariant_of-self g c =
     let old = c.args.self.now in
-    let lengths : length c.drain_all.new.progress ≡ length old.progress.items = omega arith in
-    let items : take old.progress.len (c.drain_all.new.progress ++ drop (length c.drain_all.new.progress) old.progress.items) ≡ c.drain_all.new.progress = written_back old.progress.len old.progress.items c.drain_all.new.progress old.progress.ok.0 lengths in
-    let drained : AllZip (DrainsTo c.deref.result.now c.args.now) old.progress.items c.drain_all.new.progress = subst (λ (l : List (Progress g.row.P.Denot)). AllZip (DrainsTo c.deref.result.now c.args.now) l c.drain_all.new.progress) c.deref_mut.ensures.value c.drain_all.ensures in
-    let same : AllZip IsSameSent old.progress.items c.drain_all.new.progress = zip_weaker (DrainsTo c.deref.result.now c.args.now) IsSameSent (drained_is_same c.deref.result.now c.args.now) old.progress.items c.drain_all.new.progress drained in
+    let now = c.loop-at.self in
+    let R = IsBrought old.at c.args.now in
+    let end : length now.list.items ≤ c.loop-at.at =
+    omega (arith, changed_length R old.list.items now.list.items c.loop-at.at c.loop-at.invariant.0) in
     record {
-      stand = ap (are_standing g.P.Ord.cmp old.flows.items) items ∙ stand_same g.P.Ord.cmp old.flows.items old.progress.items c.drain_all.new.progress same ∙ old.stand;
-      apart = old.apart;
-      scaled = old.scaled;
+      past = all_past old.at c.args.now old.list.items now.list.items
+          (all_changed R old.list.items now.list.items c.loop-at.at c.loop-at.invariant.0 end);
+      scaled = now.scaled;
     }
 
-pub returns-clause-sending : goal.returns-clause-sending
-returns-clause-sending g c =
+pub returns-clause-drained : goal.returns-clause-drained
+returns-clause-drained g c =
     let old = c.args.self.now in
-    let lengths : length c.drain_all.new.progress ≡ length old.progress.items = omega arith in
-    let items : take old.progress.len (c.drain_all.new.progress ++ drop (length c.drain_all.new.progress) old.progress.items) ≡ c.drain_all.new.progress = written_back old.progress.len old.progress.items c.drain_all.new.progress old.progress.ok.0 lengths in
-    let drained : AllZip (DrainsTo old.levels.items c.args.now) old.progress.items c.drain_all.new.progress = rw (← c.deref.ensures.value, ← c.deref_mut.ensures.value) c.drain_all.ensures in
-    ap (sending_of old.scale old.levels.items) items ∙ drained_sending old.scale old.levels.items c.args.now old.progress.items c.drain_all.new.progress old.scaled drained
+    let now = c.loop-at.self in
+    let R = IsBrought old.at c.args.now in
+    let end : length now.list.items ≤ c.loop-at.at =
+    omega (arith, changed_length R old.list.items now.list.items c.loop-at.at c.loop-at.invariant.0) in
+    all_drained old.at c.args.now old.list.items now.list.items
+    (all_changed R old.list.items now.list.items c.loop-at.at c.loop-at.invariant.0 end)
 
-pub returns-clause-levels : goal.returns-clause-levels
-returns-clause-levels g c =
+pub returns-clause-timed : goal.returns-clause-timed
+returns-clause-timed g c later timed =
     let old = c.args.self.now in
-    let lengths : length c.drain_all.new.progress ≡ length old.progress.items = omega arith in
-    let items : take old.progress.len (c.drain_all.new.progress ++ drop (length c.drain_all.new.progress) old.progress.items) ≡ c.drain_all.new.progress = written_back old.progress.len old.progress.items c.drain_all.new.progress old.progress.ok.0 lengths in
-    let drained : AllZip (DrainsTo old.levels.items c.args.now) old.progress.items c.drain_all.new.progress = rw (← c.deref.ensures.value, ← c.deref_mut.ensures.value) c.drain_all.ensures in
-    subst (λ (l : List (Progress g.row.P.Denot)). AllZip IsAsRated old.progress.items l) (sym items)
-    (zip_weaker (DrainsTo old.levels.items c.args.now) IsAsRated (drained_as_rated old.levels.items c.args.now) old.progress.items c.drain_all.new.progress drained)
+    let now = c.loop-at.self in
+    let R = IsBrought old.at c.args.now in
+    let end : length now.list.items ≤ c.loop-at.at =
+    omega (arith, changed_length R old.list.items now.list.items c.loop-at.at c.loop-at.invariant.0) in
+    all_timed old.at c.args.now old.list.items now.list.items
+    (all_changed R old.list.items now.list.items c.loop-at.at c.loop-at.invariant.0 end) later timed

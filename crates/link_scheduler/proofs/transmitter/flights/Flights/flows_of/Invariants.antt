@@ -1,7 +1,9 @@
 use Rattle.std.proofs.Common.{◌≡◌, true, take}
 use Rattle.link_scheduler.specs.Flights.Components.{those_of}
+use Rattle.link_scheduler.specs.Flights.Flight.{flights_at}
 use Rattle.link_scheduler.specs.Flights.RatedFlights.{are_standing}
 use Rattle.link_scheduler.proofs.transmitter.flights.Flights.flows_of.Given as goal
 
 abbrev pub invariant-loop-one : goal.invariant-loop-one
-invariant-loop-one g l = are_standing g.P.Ord.cmp l.flows.items (those_of g.P.Ord.cmp l.component (take l.one-index l.one-items)) ≡ true
+invariant-loop-one g l =
+    are_standing g.P.Ord.cmp l.flows.items (those_of g.P.Ord.cmp l.component (flights_at l.self.at (take l.one-index l.one-items))) ≡ true

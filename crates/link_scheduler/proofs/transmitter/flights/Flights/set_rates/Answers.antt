@@ -1,103 +1,194 @@
-use Rattle.std.proofs.Common.{◌≡◌, ◌≢◌, All, ◌++◌, List, length, take, drop, refl, sym, ◌∙◌, ap, subst, arith}
-use Rattle.link_scheduler.specs.declared.transmitter.progress.Progress.{Progress}
-use Rattle.std.specs.List.{AllZip}
+use Rattle.std.proofs.Common.{◌≡◌, ◌+◌, ◌*◌, ◌<◌, ◌≤◌, not, ◌||◌, nat_le, get_or, length, map, refl, sym, ap, ◌∙◌}
+use Rattle.std.proofs.Common.{subst, arith}
+use Rattle.std.proofs.lemmas.Bool.{le-leb}
+use Rattle.std.proofs.lemmas.List.{get_or_default, length-map}
 use Rattle.fair_rates.specs.Fairness.Exists.{product}
-use Rattle.link_scheduler.specs.Flights.Progress.{GrowsBy}
-use Rattle.link_scheduler.specs.Flights.RatedFlights.{sending_of, are_standing}
-use Rattle.link_simulation.specs.Rule.Planned.{IsLeastMoment, SomeSpentAt, rated_messages}
-use Rattle.link_scheduler.proofs.Flights.Progress.{stand_same, messages_same, rated_sending, written_back}
-use Rattle.link_scheduler.proofs.Flights.Rating.{left_there, first_spent}
-use Rattle.link_scheduler.proofs.Flights.InFlight.{standing_length}
-use Rattle.link_scheduler.proofs.Flights.Units.{other_factor}
-use Rattle.link_scheduler.specs.Flights.Rated.{rated_ones, sent_messages}
-use Rattle.link_scheduler.proofs.Flights.Components.{levels_of}
-use Rattle.link_scheduler.proofs.Flights.Rated.{all_have_rates, levels_given, sent_alike}
-use Rattle.fair_rates.proofs.Lists.Zips.{zip-length}
+use Rattle.fair_rates.specs.Filling.FairParts.{parts_of_level}
+use Rattle.link_scheduler.specs.declared.transmitter.flight.Flight.{Flight}
+use Rattle.link_scheduler.specs.Flights.Components.{is_sender, is_of}
+use Rattle.link_scheduler.specs.Flights.Flight.{flight_at, flights_at, rate_of}
+use Rattle.link_scheduler.specs.Flights.Rated.{rates_found}
+use Rattle.link_scheduler.proofs.Flights.InFlight.{read_at}
+use Rattle.link_scheduler.proofs.Flights.Rerating.{AreReratedUpTo, none_rerated, stands_next, something_left, has_rate}
+use Rattle.link_scheduler.proofs.Flights.Rerating.{passed, one_rerated, all_rerated}
 use Rattle.link_scheduler.proofs.transmitter.flights.Flights.set_rates.Goals as goal
+use Rattle.link_scheduler.proofs.transmitter.flights.Flights.set_rates.Goals.{else-has_sender}
+use Rattle.link_scheduler.proofs.transmitter.flights.Flights.set_rates.Goals.{
+  then-has_sender+in_ok-rate+in_ok-one+in_ok-put,
+}
 
-pub rerate_all-requires-clause-left : goal.rerate_all-requires-clause-left
-rerate_all-requires-clause-left g c =
+pub loop-at-init : goal.loop-at-init
+loop-at-init g c =
     let old = c.args.self.now in
-    subst (All (λ (s : Progress g.row.P.Denot). s.left ≢ 0)) (sym c.deref_mut.ensures.value) (left_there old.scale old.levels.items old.scaled old.progress.items c.requires.left)
+    let rates = c.args.rates in (
+      none_rerated g.P.Ord.cmp c.args.component.now old.at (product rates.growth.items) (rates_found rates)
+          old.list.items (length-map rates.level_of.items (parts_of_level rates.levels.items) ∙ c.requires.one_each)
+          c.requires.left c.requires.others,
+      refl,
+    )
 
-pub rerate_all-requires-clause-growth : goal.rerate_all-requires-clause-growth
-rerate_all-requires-clause-growth g c = other_factor c.args.self.now.scale (product c.args.rates.growth.items) c.args.rates.scale c.requires.grown c.requires.scaled
+pub index-requires : goal.index-requires
+index-requires g c =
+    let h = c.loop-at.invariant.0 in
+    let so_far = c.loop-at.self in
+    omega (arith, c.loop-at-test.true, c.len-at-end.ensures, c.args.self.now.list.ok.0, so_far.list.ok.0, h.as_many)
 
-pub invariant_of-self : goal.invariant_of-self
-invariant_of-self g c =
-    let old = c.args.self.now in
-    let lengths : length c.rerate_all.new.progress ≡ length old.progress.items = omega arith in
-    let items : take old.progress.len (c.rerate_all.new.progress ++ drop (length c.rerate_all.new.progress) old.progress.items) ≡ c.rerate_all.new.progress = written_back old.progress.len old.progress.items c.rerate_all.new.progress old.progress.ok.0 lengths in
-    record {
-      stand = ap (are_standing g.P.Ord.cmp old.flows.items) items ∙ stand_same g.P.Ord.cmp old.flows.items old.progress.items c.rerate_all.new.progress (rw (← c.deref_mut.ensures.value) c.rerate_all.ensures.same) ∙ old.stand;
-      apart = old.apart;
-      scaled = old.scaled;
-    }
+pub index-requires-then-has_sender-2 : goal.index-requires-then-has_sender-2
+index-requires-then-has_sender-2 g c =
+    let h = c.loop-at.invariant.0 in
+    let so_far = c.loop-at.self in
+    omega (arith, c.loop-at-test.true, c.len-at-end.ensures, c.args.self.now.list.ok.0, so_far.list.ok.0, h.as_many)
 
-pub invariant_of-self-2 : goal.invariant_of-self-2
-invariant_of-self-2 g c =
-    let old = c.args.self.now in
-    let lengths : length c.rerate_all.new.progress ≡ length old.progress.items = omega arith in
-    let items : take old.progress.len (c.rerate_all.new.progress ++ drop (length c.rerate_all.new.progress) old.progress.items) ≡ c.rerate_all.new.progress = written_back old.progress.len old.progress.items c.rerate_all.new.progress old.progress.ok.0 lengths in
-    record {
-      stand = ap (are_standing g.P.Ord.cmp old.flows.items) items ∙ stand_same g.P.Ord.cmp old.flows.items old.progress.items c.rerate_all.new.progress (rw (← c.deref_mut.ensures.value) c.rerate_all.ensures.same) ∙ old.stand;
-      apart = old.apart;
-      scaled = c.requires.scaled;
-    }
+pub put-requires-clause-place : goal.put-requires-clause-place
+put-requires-clause-place g c =
+    omega (arith, c.loop-at-test.true, c.len-at-end.ensures, c.args.self.now.list.ok.0, c.loop-at.invariant.0.as_many)
 
-pub returns-clause-sending : goal.returns-clause-sending
-returns-clause-sending g c =
-    let old = c.args.self.now in
-    let rates = c.args.rates in
-    let lengths : length c.rerate_all.new.progress ≡ length old.progress.items = omega arith in
-    let items : take old.progress.len (c.rerate_all.new.progress ++ drop (length c.rerate_all.new.progress) old.progress.items) ≡ c.rerate_all.new.progress = written_back old.progress.len old.progress.items c.rerate_all.new.progress old.progress.ok.0 lengths in
-    let r = c.in_ok-finish.ensures.rerated in
-    let grows : AllZip (GrowsBy (product rates.growth.items)) old.progress.items r.grown = subst (λ (l : List (Progress g.row.P.Denot)). AllZip (GrowsBy (product rates.growth.items)) l r.grown) c.deref_mut.ensures.value r.grows in
-    ap (sending_of rates.scale rates.levels.items) (items ∙ r.levels)
-    ∙ rated_sending old.scale (product rates.growth.items) rates.scale old.levels.items rates.levels.items c.args.now rates.level_of.items old.progress.items r.grown old.scaled c.requires.scaled c.requires.grown (c.requires.one_each ∙ standing_length g.P.Ord.cmp old.flows.items old.progress.items old.stand) grows
-
-pub returns-clause-finish : goal.returns-clause-finish
-returns-clause-finish g c =
+pub index-requires-then-has_sender : goal.index-requires-then-has_sender
+index-requires-then-has_sender g c =
+    let cmp = g.P.Ord.cmp in
+    let component = c.args.component.now in
     let old = c.args.self.now in
     let rates = c.args.rates in
-    let lengths : length c.rerate_all.new.progress ≡ length old.progress.items = omega arith in
-    let items : take old.progress.len (c.rerate_all.new.progress ++ drop (length c.rerate_all.new.progress) old.progress.items) ≡ c.rerate_all.new.progress = written_back old.progress.len old.progress.items c.rerate_all.new.progress old.progress.ok.0 lengths in
-    subst (λ (ss : List (Progress g.row.P.Denot)). IsLeastMoment (λ s. SomeSpentAt (sending_of rates.scale rates.levels.items ss) s) c.in_ok-finish.finish) (sym items)
-    (first_spent rates.scale rates.levels.items c.requires.scaled c.rerate_all.new.progress c.in_ok-finish.finish c.in_ok-finish.ensures.finish)
+    let so_far = c.loop-at.self in
+    let h = c.loop-at.invariant.0 in
+    let lt : c.loop-at.at < length so_far.list.items =
+    omega (arith, c.loop-at-test.true, c.len-at-end.ensures, old.list.ok.0, h.as_many) in
+    let x = c.index.result.now in
+    let test : c.has_sender.result ≡ is_of cmp component (flight_at old.at x.value) =
+    c.has_sender.ensures ∙ ap (λ m. is_sender cmp component m.origin)
+    (c.deref-in-loop-at.ensures ∙ ap (λ f. f.message.value) c.deref.ensures) in
+    let there : c.loop-at.next < length (rates_found rates) =
+    has_rate h x (stands_next h x lt c.index.ensures) (sym test ∙ c.if-has_sender.true) in
+    omega (arith, there, length-map rates.level_of.items (parts_of_level rates.levels.items), rates.level_of.ok.0)
 
-pub rerate_all-requires-clause-parallel : goal.rerate_all-requires-clause-parallel
-rerate_all-requires-clause-parallel g c = c.requires.one_each ∙ standing_length g.P.Ord.cmp c.args.self.now.flows.items c.args.self.now.progress.items c.args.self.now.stand ∙ sym (ap length c.deref_mut.ensures.value)
-
-pub returns-in_err-finish-clause-messages : goal.returns-in_err-finish-clause-messages
-returns-in_err-finish-clause-messages g c =
-    let old = c.args.self.now in
-    let lengths : length c.rerate_all.new.progress ≡ length old.progress.items = omega arith in
-    let items : take old.progress.len (c.rerate_all.new.progress ++ drop (length c.rerate_all.new.progress) old.progress.items) ≡ c.rerate_all.new.progress = written_back old.progress.len old.progress.items c.rerate_all.new.progress old.progress.ok.0 lengths in
-    ap (λ l. rated_messages (sending_of old.scale old.levels.items l)) items ∙ messages_same old.scale old.scale old.levels.items old.levels.items old.progress.items c.rerate_all.new.progress (rw (← c.deref_mut.ensures.value) c.rerate_all.ensures.same)
-
-pub returns-clause-messages : goal.returns-clause-messages
-returns-clause-messages g c =
-    let old = c.args.self.now in
-    let lengths : length c.rerate_all.new.progress ≡ length old.progress.items = omega arith in
-    let items : take old.progress.len (c.rerate_all.new.progress ++ drop (length c.rerate_all.new.progress) old.progress.items) ≡ c.rerate_all.new.progress = written_back old.progress.len old.progress.items c.rerate_all.new.progress old.progress.ok.0 lengths in
-    ap (λ l. rated_messages (sending_of c.args.rates.scale c.args.rates.levels.items l)) items
-    ∙ messages_same old.scale c.args.rates.scale old.levels.items c.args.rates.levels.items old.progress.items c.rerate_all.new.progress (rw (← c.deref_mut.ensures.value) c.rerate_all.ensures.same)
-
-pub returns-clause-levels : goal.returns-clause-levels
-returns-clause-levels g c =
+pub rerated-requires : goal.rerated-requires
+rerated-requires g c none =
+    let cmp = g.P.Ord.cmp in
+    let component = c.args.component.now in
     let old = c.args.self.now in
     let rates = c.args.rates in
-    let lengths : length c.rerate_all.new.progress ≡ length old.progress.items = omega arith in
-    let items : take old.progress.len (c.rerate_all.new.progress ++ drop (length c.rerate_all.new.progress) old.progress.items) ≡ c.rerate_all.new.progress = written_back old.progress.len old.progress.items c.rerate_all.new.progress old.progress.ok.0 lengths in
-    let r = c.in_ok-finish.ensures.rerated in
-    let grows : AllZip (GrowsBy (product rates.growth.items)) old.progress.items r.grown = subst (λ (l : List (Progress g.row.P.Denot)). AllZip (GrowsBy (product rates.growth.items)) l r.grown) c.deref_mut.ensures.value r.grows in
-    let is = items ∙ r.levels in
-    let one_each : length rates.level_of.items ≡ length r.grown =
-    c.requires.one_each ∙ standing_length g.P.Ord.cmp old.flows.items old.progress.items old.stand ∙ zip-length (GrowsBy (product rates.growth.items)) old.progress.items r.grown grows in
-    record {
-      scale = refl;
-      levels = refl;
-      rated = ap rated_ones is ∙ all_have_rates c.args.now rates.level_of.items r.grown one_each ∙ sym is;
-      level_of = ap levels_of is ∙ levels_given c.args.now rates.level_of.items r.grown one_each;
-      messages = ap sent_messages items ∙ sent_alike old.progress.items c.rerate_all.new.progress (rw (← c.deref_mut.ensures.value) c.rerate_all.ensures.same);
-    }
+    let growth = product rates.growth.items in
+    let so_far = c.loop-at.self in
+    let lt : c.loop-at.at < length so_far.list.items =
+    omega (arith, c.loop-at-test.true, c.len-at-end.ensures, old.list.ok.0, c.loop-at.invariant.0.as_many) in
+    let x = c.index-then-has_sender-2.result.now in
+    let f = c.deref-then-has_sender-2.result.now in
+    let h = c.loop-at.invariant.0 in
+    let same : (flight_at old.at x.value).left * growth
+    ≡ (flight_at so_far.at f).left * product c.deref-then-has_sender-3.result.now =
+    ap (λ n. (flight_at n x.value).left * growth) (sym c.loop-at.invariant.1)
+    ∙ ap (λ (f : Flight g.row.P.Denot). (flight_at so_far.at f).left * growth) (sym c.deref-then-has_sender-2.ensures)
+    ∙ ap (λ ns. (flight_at so_far.at f).left * product ns) (sym c.deref-then-has_sender-3.ensures.value) in
+    something_left h x (stands_next h x lt c.index-then-has_sender-2.ensures) (same ∙ none)
+
+pub put-requires-clause-past : goal.put-requires-clause-past
+put-requires-clause-past g c =
+    let at = c.loop-at.self.at in
+    ap (λ b. not b || nat_le c.in_ok-one.one.since at) c.in_ok-one.ensures.rated
+    ∙ ap (λ n. nat_le n at) c.in_ok-one.ensures.since ∙ le-leb at at (omega arith)
+
+pub overflow_add-next : goal.overflow_add-next
+overflow_add-next g c =
+    let cmp = g.P.Ord.cmp in
+    let component = c.args.component.now in
+    let old = c.args.self.now in
+    let rates = c.args.rates in
+    let so_far = c.loop-at.self in
+    let h = c.loop-at.invariant.0 in
+    let lt : c.loop-at.at < length so_far.list.items =
+    omega (arith, c.loop-at-test.true, c.len-at-end.ensures, old.list.ok.0, h.as_many) in
+    let x = c.index.result.now in
+    let test : c.has_sender.result ≡ is_of cmp component (flight_at old.at x.value) =
+    c.has_sender.ensures ∙ ap (λ m. is_sender cmp component m.origin)
+    (c.deref-in-loop-at.ensures ∙ ap (λ f. f.message.value) c.deref.ensures) in
+    let there : c.loop-at.next < length (rates_found rates) =
+    has_rate h x (stands_next h x lt c.index.ensures) (sym test ∙ c.if-has_sender.true) in
+    omega (arith, there, length-map rates.level_of.items (parts_of_level rates.levels.items), rates.level_of.ok.0)
+
+pub returns-in_err-rate-clause-at : goal.returns-in_err-rate-clause-at
+returns-in_err-rate-clause-at g c = c.loop-at.invariant.1
+
+pub returns-in_err-one-clause-at : goal.returns-in_err-one-clause-at
+returns-in_err-one-clause-at g c = c.loop-at.invariant.1
+
+pub returns-in_err-put-clause-at : goal.returns-in_err-put-clause-at
+returns-in_err-put-clause-at g c = c.put.ensures.at ∙ c.loop-at.invariant.1
+
+pub loop-at-preserved : goal.loop-at-preserved
+loop-at-preserved g c =
+    let cmp = g.P.Ord.cmp in
+    let component = c.args.component.now in
+    let old = c.args.self.now in
+    let rates = c.args.rates in
+    let growth = product rates.growth.items in
+    let so_far = c.loop-at.self in
+    let at = c.loop-at.at in
+    let next = c.loop-at.next in
+    let h = c.loop-at.invariant.0 in
+    let at_is = c.loop-at.invariant.1 in
+    let AreUpTo = AreReratedUpTo cmp component old.at growth (rates_found rates) old.list.items in
+    let lt : at < length so_far.list.items =
+    omega (arith, c.loop-at-test.true, c.len-at-end.ensures, old.list.ok.0, h.as_many) in
+    let x = c.index.result.now in
+    let stands = stands_next h x lt c.index.ensures in
+    let test : c.has_sender.result ≡ is_of cmp component (flight_at old.at x.value) =
+    c.has_sender.ensures ∙ ap (λ m. is_sender cmp component m.origin)
+    (c.deref-in-loop-at.ensures ∙ ap (λ f. f.message.value) c.deref.ensures) in
+    elim c.if-has_sender.branch [
+      | then-has_sender+in_ok-rate+in_ok-one+in_ok-put w ↦
+          let one = w.in_ok-one in
+          let of = sym test ∙ w.if-has_sender.true in
+          let room : next < length rates.level_of.items =
+          omega (arith, length-map rates.level_of.items (parts_of_level rates.levels.items), has_rate h x stands of) in
+          let same : w.index-then-has_sender-2.result.now ≡ x =
+          w.index-then-has_sender-2.ensures
+          ∙ get_or_default so_far.list.items at w.index-then-has_sender-2.result.now x lt ∙ sym c.index.ensures in
+          let f = w.deref-then-has_sender-2.result.now in
+          let value : f ≡ x.value = w.deref-then-has_sender-2.ensures ∙ ap (λ r. r.value) same in
+          let place = w.index-then-has_sender.result.now in
+          let rate : rate_of one.one.rate ≡ get_or (rates_found rates) next 0 =
+          one.ensures.rate ∙ w.in_ok-rate.ensures.rate
+          ∙ ap (λ ls. parts_of_level (map (λ level. level.value) ls) place) w.deref-then-has_sender.ensures.value
+          ∙ ap (λ ls. parts_of_level ls place) c.in_ok-levels.ensures.same
+          ∙ sym (read_at (parts_of_level rates.levels.items) rates.level_of.items next place 0 room
+          w.index-then-has_sender.ensures) in
+          let left : one.one.left ≡ (flight_at old.at x.value).left * growth =
+          one.ensures.left
+          ∙ ap (λ ns. (flight_at so_far.at f).left * product ns) w.deref-then-has_sender-3.ensures.value
+          ∙ ap (λ (f : Flight g.row.P.Denot). (flight_at so_far.at f).left * growth) value
+          ∙ ap (λ n. (flight_at n x.value).left * growth) at_is in (
+            subst (λ (s : _). AreUpTo s.list.items (at + 1) c.if-has_sender.next) (sym w.self-is)
+                (subst (λ n. AreUpTo w.put.new.self.list.items (at + 1) n) (sym w.next-is)
+                (one_rerated h x stands one.one w.put.new.self.list.items w.in_ok-put.ensures.list of
+                (one.ensures.message ∙ ap (λ (f : Flight g.row.P.Denot). f.message.value) value) left rate
+                (one.ensures.since ∙ at_is) one.ensures.rated one.ensures.timed)),
+            ap (λ s. s.at) w.self-is ∙ w.put.ensures.at ∙ at_is,
+          )
+      | else-has_sender w ↦ (
+        subst (λ (s : _). AreUpTo s.list.items (at + 1) c.if-has_sender.next) (sym w.self-is)
+            (subst (λ n. AreUpTo so_far.list.items (at + 1) n) (sym w.next-is)
+            (passed h x stands (sym test ∙ w.if-has_sender.false))),
+        ap (λ s. s.at) w.self-is ∙ at_is,
+      )
+    ]
+
+pub returns-clause-rerated : goal.returns-clause-rerated
+returns-clause-rerated g c =
+    let old = c.args.self.now in
+    let now = c.loop-at.self in
+    let h = c.loop-at.invariant.0 in
+    let end : length now.list.items ≤ c.loop-at.at =
+    omega (arith, c.loop-at-test.false, c.len-at-end.ensures, old.list.ok.0, h.as_many) in
+    ap (λ n. flights_at n now.list.items) c.loop-at.invariant.1 ∙ (all_rerated h end).units
+
+pub returns-clause-timed : goal.returns-clause-timed
+returns-clause-timed g c =
+    let old = c.args.self.now in
+    let now = c.loop-at.self in
+    let h = c.loop-at.invariant.0 in
+    let end : length now.list.items ≤ c.loop-at.at =
+    omega (arith, c.loop-at-test.false, c.len-at-end.ensures, old.list.ok.0, h.as_many) in
+    (all_rerated h end).timed
+
+pub returns-clause-at : goal.returns-clause-at
+returns-clause-at g c = c.loop-at.invariant.1

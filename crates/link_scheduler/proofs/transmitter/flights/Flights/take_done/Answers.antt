@@ -1,80 +1,81 @@
-use Rattle.std.proofs.Common.{◌≡◌, ◌<◌, ◌≤◌, Bool, [], ◌++◌, ◌∷◌, List, not, length, map, get_or, refl, ap, ap₂, sym, ◌∙◌, subst, arith}
-use Rattle.std.specs.List.{filter}
-use Rattle.std.proofs.lemmas.List.{map-append}
-use Rattle.link_simulation.specs.Rule.Planned.{is_spent}
-use Rattle.link_scheduler.specs.declared.transmitter.progress.Progress.{Progress}
+use Rattle.std.proofs.Common.{◌≡◌, ◌<◌, ◌≤◌, [], ◌++◌, ◌∷◌, List, not, length, map, get_or, refl, ap, ap₂, sym, ◌∙◌, subst, arith}
+use Rattle.std.specs.declared.rc.Rc.{Rc}
+use Rattle.std.specs.declared.alloc.Global.{Global}
+use Rattle.std.proofs.lemmas.List.{map-append, get_or_default}
+use Rattle.link_scheduler.specs.declared.transmitter.flight.Flight.{Flight}
+use Rattle.link_scheduler.specs.declared.transmitter.message.Message.{Message}
 use Rattle.link_scheduler.specs.Pairs.Messages.{message_of}
 use Rattle.link_scheduler.specs.Pairs.CapsOf.{caps_of}
 use Rattle.link_scheduler.specs.Calls.AsPlanned.{messages}
-use Rattle.link_scheduler.specs.Flights.Rated.{is_out, sent_messages, ArePartedBy}
-use Rattle.link_scheduler.specs.Flights.RatedFlights.{rated_flight_of, sending_of}
-use Rattle.link_scheduler.proofs.Flights.InFlight.{HaveLeft, none_left, step_leaves, step_stays, all_looked_at, standing_length}
-use Rattle.link_scheduler.proofs.Flights.Rated.{out_as_read, read_filter}
+use Rattle.link_scheduler.specs.Flights.Flight.{flight_at}
+use Rattle.link_scheduler.specs.Flights.Rated.{is_out}
+use Rattle.link_scheduler.proofs.Flights.InFlight.{HaveLeft, none_left, step_leaves, step_stays, all_looked_at}
+use Rattle.link_scheduler.proofs.Flights.Leaving.{timed_without, flights_limited_without, parted_so}
 use Rattle.link_scheduler.proofs.transmitter.flights.Flights.take_done.Goals as goal
 
 pub loop-at-init : goal.loop-at-init
 loop-at-init g c =
     let old = c.args.self.now in
-    let out = is_out g.P.Ord.cmp (caps_of g.P.Ord.cmp c.args.peers.now.entries c.args.pairs.now.entries) old.scale old.levels.items in (
-      subst (λ l. HaveLeft (λ s. message_of s.message.value) out old.progress.items old.progress.items (messages l) 0) (sym c.new-done.ensures.items) (none_left (λ s. message_of s.message.value) out old.progress.items),
-      record { scale = refl; levels = refl },
-      λ test h. h,
+    let caps = caps_of g.P.Ord.cmp c.args.peers.now.entries c.args.pairs.now.entries in
+    let message = λ (f : Rc (Flight g.row.P.Denot) Global). message_of f.value.message.value in
+    let out = λ (f : Rc (Flight g.row.P.Denot) Global). is_out g.P.Ord.cmp caps old.scale (flight_at old.at f.value) in (
+      subst (λ l. HaveLeft message out old.list.items old.list.items (messages l) 0) (sym c.new-done.ensures.items)
+      (none_left message out old.list.items),
+      refl,
+      refl,
+      λ h. h,
+      λ h. h,
     )
 
-pub loop-at-preserved-in-Continue-1 : goal.loop-at-preserved-in-Continue-1
-loop-at-preserved-in-Continue-1 g c =
+pub loop-at-preserved-then-is_done : goal.loop-at-preserved-then-is_done
+loop-at-preserved-then-is_done g c =
     let old = c.args.self.now in
     let now = c.loop-at.self in
+    let h = c.loop-at.invariant in
     let caps = caps_of g.P.Ord.cmp c.args.peers.now.entries c.args.pairs.now.entries in
-    let lt : c.loop-at.at < length now.progress.items = omega (arith, standing_length g.P.Ord.cmp now.flows.items now.progress.items now.stand) in
-    let units = c.loop-at.invariant.1 in
-    let test : (d : Progress g.row.P.Denot) → c.is_done.result ≡ is_out g.P.Ord.cmp caps old.scale old.levels.items (get_or now.progress.items c.loop-at.at d) =
-    λ d. c.is_done.ensures d ∙ ap₂ (λ n ls. is_out g.P.Ord.cmp caps n ls (get_or now.progress.items c.loop-at.at d)) units.scale units.levels in
-    let pushed : messages c.push_back.new.self.items ≡ messages c.loop-at.done.items ++ message_of c.remove.result.value ∷ [] = ap messages c.in_ok-push_back.ensures.items ∙ map-append (λ m. message_of m.value) c.loop-at.done.items (c.remove.result ∷ []) in
-    let left = step_leaves (λ s. message_of s.message.value) (is_out g.P.Ord.cmp caps old.scale old.levels.items) old.progress.items now.progress.items (messages c.loop-at.done.items) c.loop-at.at c.loop-at.invariant.0
-    (message_of c.remove.result.value) c.is_done.result lt c.if-is_done.true test (λ d. ap message_of (c.remove.ensures.message d)) in (
-      rw (c.remove.ensures.rest, pushed) left,
-      record { scale = c.remove.ensures.units.scale ∙ units.scale; levels = c.remove.ensures.units.levels ∙ units.levels },
-      λ test h. c.remove.ensures.others test (c.loop-at.invariant.2 test h),
+    let message = λ (f : Rc (Flight g.row.P.Denot) Global). message_of f.value.message.value in
+    let out = λ (f : Rc (Flight g.row.P.Denot) Global). is_out g.P.Ord.cmp caps old.scale (flight_at old.at f.value) in
+    let lt : c.loop-at.at < length now.list.items = omega arith in
+    let test = λ (d : Rc (Flight g.row.P.Denot) Global). c.is_done.ensures d
+    ∙ ap₂ (λ n m. is_out g.P.Ord.cmp caps n (flight_at m (get_or now.list.items c.loop-at.at d).value)) h.1 h.2 in
+    let gone : message_of c.in_ok-clone.field-0.value ≡ message c.index.result.now =
+    ap (λ (m : Message g.row.P.Denot). message_of m)
+    (c.in_ok-clone.ensures.cases ∙ ap (λ (f : Flight g.row.P.Denot). f.message.value) c.deref.ensures) in
+    let here = λ (d : Rc (Flight g.row.P.Denot) Global). gone ∙ ap message (c.index.ensures ∙ get_or_default now.list.items c.loop-at.at c.index.result.now d lt) in
+    let pushed : messages c.push_back.new.self.items ≡ messages c.loop-at.done.items ++ message_of c.in_ok-clone.field-0.value ∷ [] =
+    ap messages c.in_ok-push_back.ensures.items ∙ map-append (λ m. message_of m.value) c.loop-at.done.items (c.in_ok-clone.field-0 ∷ []) in
+    let left = step_leaves message out old.list.items now.list.items (messages c.loop-at.done.items) c.loop-at.at h.0
+    (message_of c.in_ok-clone.field-0.value) c.is_done.result lt c.if-is_done.true test here in (
+      rw (c.remove.ensures.list, pushed) left,
+      c.remove.ensures.scale ∙ h.1,
+      c.remove.ensures.at ∙ h.2,
+      λ timed. rw c.remove.ensures.list (timed_without now.list.items c.loop-at.at (h.3 timed)),
+      λ all. rw (c.remove.ensures.list, c.remove.ensures.at) (flights_limited_without g.P.Ord.cmp caps now.at now.list.items c.loop-at.at (h.4 all)),
     )
 
 pub loop-at-preserved : goal.loop-at-preserved
 loop-at-preserved g c =
     let old = c.args.self.now in
     let now = c.loop-at.self in
+    let h = c.loop-at.invariant in
     let caps = caps_of g.P.Ord.cmp c.args.peers.now.entries c.args.pairs.now.entries in
-    let lt : c.loop-at.at < length now.progress.items = omega (arith, standing_length g.P.Ord.cmp now.flows.items now.progress.items now.stand) in
-    let units = c.loop-at.invariant.1 in
-    let test : (d : Progress g.row.P.Denot) → c.is_done.result ≡ is_out g.P.Ord.cmp caps old.scale old.levels.items (get_or now.progress.items c.loop-at.at d) =
-    λ d. c.is_done.ensures d ∙ ap₂ (λ n ls. is_out g.P.Ord.cmp caps n ls (get_or now.progress.items c.loop-at.at d)) units.scale units.levels in (
-      step_stays (λ s. message_of s.message.value) (is_out g.P.Ord.cmp caps old.scale old.levels.items) old.progress.items now.progress.items (messages c.loop-at.done.items) c.loop-at.at c.loop-at.invariant.0 c.is_done.result lt c.if-is_done.false test,
-      units,
-      c.loop-at.invariant.2,
-    )
-
--- those that are done have left, and the others stay
-parted : (g : _) (c : goal.After-loop-at g) → ArePartedBy (is_out g.P.Ord.cmp (caps_of g.P.Ord.cmp c.args.peers.now.entries c.args.pairs.now.entries) c.args.self.now.scale c.args.self.now.levels.items)
-    c.args.self.now.progress.items (messages c.loop-at.done.items) c.loop-at.self.progress.items
-parted g c =
-    let old = c.args.self.now in
-    let now = c.loop-at.self in
-    let end : length now.progress.items ≤ c.loop-at.at = omega (arith, standing_length g.P.Ord.cmp now.flows.items now.progress.items now.stand) in
-    let all = all_looked_at (λ s. message_of s.message.value) (is_out g.P.Ord.cmp (caps_of g.P.Ord.cmp c.args.peers.now.entries c.args.pairs.now.entries) old.scale old.levels.items) old.progress.items now.progress.items (messages c.loop-at.done.items) c.loop-at.at c.loop-at.invariant.0 end in
-    record { left = all.leavers; stay = all.stay }
-
-pub returns-clause-done : goal.returns-clause-done
-returns-clause-done g c =
-    let old = c.args.self.now in
-    (parted g c).left ∙ sym (out_as_read g.P.Ord.cmp (caps_of g.P.Ord.cmp c.args.peers.now.entries c.args.pairs.now.entries) old.scale old.levels.items old.progress.items)
-
-pub returns-clause-rest : goal.returns-clause-rest
-returns-clause-rest g c =
-    let old = c.args.self.now in
-    let now = c.loop-at.self in
-    let units = c.loop-at.invariant.1 in
-    let caps = caps_of g.P.Ord.cmp c.args.peers.now.entries c.args.pairs.now.entries in
-    ap₂ (λ n ls. sending_of n ls now.progress.items) units.scale units.levels ∙ ap (sending_of old.scale old.levels.items) (parted g c).stay
-    ∙ sym (read_filter (rated_flight_of old.scale old.levels.items) (λ f. not (is_spent g.P.Ord.cmp caps f)) old.progress.items)
+    let message = λ (f : Rc (Flight g.row.P.Denot) Global). message_of f.value.message.value in
+    let out = λ (f : Rc (Flight g.row.P.Denot) Global). is_out g.P.Ord.cmp caps old.scale (flight_at old.at f.value) in
+    let lt : c.loop-at.at < length now.list.items = omega arith in
+    let test = λ (d : Rc (Flight g.row.P.Denot) Global). c.is_done.ensures d
+    ∙ ap₂ (λ n m. is_out g.P.Ord.cmp caps n (flight_at m (get_or now.list.items c.loop-at.at d).value)) h.1 h.2 in
+    let stays = step_stays message out old.list.items now.list.items (messages c.loop-at.done.items) c.loop-at.at h.0 c.is_done.result
+    lt c.if-is_done.false test in
+    (stays, h.1, h.2, h.3, h.4)
 
 pub returns-clause-parted : goal.returns-clause-parted
-returns-clause-parted g c = parted g c
+returns-clause-parted g c =
+    let old = c.args.self.now in
+    let now = c.loop-at.self in
+    let h = c.loop-at.invariant in
+    let caps = caps_of g.P.Ord.cmp c.args.peers.now.entries c.args.pairs.now.entries in
+    let message = λ (f : Rc (Flight g.row.P.Denot) Global). message_of f.value.message.value in
+    let out = λ (f : Rc (Flight g.row.P.Denot) Global). is_out g.P.Ord.cmp caps old.scale (flight_at old.at f.value) in
+    let end : length now.list.items ≤ c.loop-at.at = omega arith in
+    let all = all_looked_at message out old.list.items now.list.items (messages c.loop-at.done.items) c.loop-at.at h.0 end in
+    rw h.2 (parted_so g.P.Ord.cmp caps old.scale old.at old.list.items now.list.items (messages c.loop-at.done.items) all.leavers all.stay)

@@ -3,7 +3,7 @@ use Rattle.std.proofs.lemmas.List.{length-map}
 use Rattle.std.proofs.lemmas.Result.{err_from_is_err_and}
 use Rattle.link_scheduler.specs.Calls.AsPlanned.{planned}
 use Rattle.link_scheduler.specs.Pairs.Messages.{message_of, ended_of}
-use Rattle.link_scheduler.specs.Flights.RatedFlights.{rated_flight_of}
+use Rattle.link_scheduler.proofs.Flights.Standing.{length_in_flight}
 use Rattle.link_scheduler.proofs.Calls.Advancing.{advances_step, advances_end, event_refused, wake_refused}
 use Rattle.link_scheduler.proofs.Calls.FewerEvents.{events_left, happens_fewer, events_few}
 use Rattle.link_scheduler.proofs.transmitter.ledger.Ledger.advance.Goals as goal
@@ -24,10 +24,10 @@ overflow_add-events g c =
     let few : c.loop-event.events + events_left g.P.Ord.cmp (planned g.P.Ord.cmp c.loop-event.self) ≤ events_left g.P.Ord.cmp (planned g.P.Ord.cmp c.args.self.now) = c.loop-event.invariant.few in
     let old = c.args.self.now in
     let waits : length (planned g.P.Ord.cmp old).waiting ≡ length old.waiting.messages = length-map old.waiting.messages message_of in
-    let sends : length (planned g.P.Ord.cmp old).sending ≡ length old.flights.progress.items = length-map old.flights.progress.items (rated_flight_of old.flights.scale old.flights.levels.items) in
+    let sends : length (planned g.P.Ord.cmp old).sending ≡ length old.flights.list.items = length_in_flight old.flights.scale old.flights.at old.flights.list.items in
     let all : events_left g.P.Ord.cmp (planned g.P.Ord.cmp old) < 340282366920938463463374607431768211456
     = events_few g.P.Ord.cmp (planned g.P.Ord.cmp old) (omega (arith, waits, old.waiting.few))
-    (omega (arith, sends, old.flights.progress.small, old.flights.progress.ok)) in
+    (omega (arith, sends, old.flights.list.small, old.flights.list.ok)) in
     omega (arith, fewer, few, all)
 
 pub loop-event-smaller : goal.loop-event-smaller

@@ -1,5 +1,6 @@
 use Rattle.std.proofs.Common.{◌≡◌, ◌+◌, length, map, Some, sym, ap, subst, ◌∙◌}
-use Rattle.std.specs.Prelude.{option_map, nat_lt, ◌&&◌}
+use Rattle.std.specs.Prelude.{option_map, ◌&&◌}
+use Rattle.std.proofs.Math.Logic.{∥∥₁_map}
 use Rattle.fair_rates.specs.Numbers.Amount.{whole}
 use Rattle.fair_rates.specs.Sides.Subjects.{same_peer}
 use Rattle.link_simulation.specs.Simulation.Messages.{Message}
@@ -13,7 +14,7 @@ use Rattle.link_scheduler.specs.Pairs.CapsOf.{caps_of}
 use Rattle.link_scheduler.proofs.Flights.Accounts.{arrivals_looked_up}
 use Rattle.link_scheduler.proofs.Idle.Busy.{counted_sent}
 use Rattle.link_scheduler.proofs.Idle.IndexChanges.{departed_index}
-use Rattle.link_scheduler.proofs.Idle.Starting.{ids_later, id_below}
+use Rattle.link_scheduler.proofs.Flights.Standing.{still_rated}
 use Rattle.link_scheduler.proofs.transmitter.ledger.Ledger.depart.Goals as goal
 
 pub invariant_of-self-2 : goal.invariant_of-self-2
@@ -29,10 +30,7 @@ invariant_of-self-2 g c =
     let taken = c.in_ok-message.ensures.rest in
     let own = find_passes (λ (n : Message g.row.P.Denot). same_peer cmp o n.origin && same_peer cmp r n.recipient) m (map message_of old.waiting.messages) found in
     record {
-      rated = λ e.
-          let kept = c.push.ensures.rates in
-          rw (kept.rated, kept.units.scale, kept.units.levels) (old.rated e);
-      fresh = c.push.ensures.flow (λ flow. nat_lt flow.id (old.next_id + 1)) (ids_later old.flights.flows.items old.next_id old.fresh) (λ flow is. id_below flow.id old.next_id is);
+      rated = λ e. ∥∥₁_map (old.rated e) (still_rated cmp (caps_of cmp old.peers.entries old.pairs.entries) old.flights c.push.new.self c.push.ensures.scale c.push.ensures.rated c.push.ensures.timed);
       indexed = departed_index cmp g.met.P.Ord.total old.pairs.entries old.waiting.messages c.take_first.new.self.messages (in_flight old.flights) (in_flight c.push.new.self) f o r old.idle.entries c.change-changed.new.self.entries
           (arrivals_looked_up cmp g.met.P.Ord.total old.pairs.entries) taken c.in_default-push.ensures.sending own old.indexed
           c.in_default-changed.ensures.listed;
@@ -43,7 +41,7 @@ invariant_of-self-2 g c =
 pub invariant_of-self-in-Err-push-clause-counted : goal.invariant_of-self-in-Err-push-clause-counted
 invariant_of-self-in-Err-push-clause-counted g c =
     let old = c.args.self.now in
-    subst (λ fs. AreCounted g.P.Ord.cmp old.busy.entries (rated_messages fs)) (sym c.in-Err-push.ensures.kept.0) old.counted
+    subst (λ fs. AreCounted g.P.Ord.cmp old.busy.entries (rated_messages fs)) (sym c.in-Err-push.ensures.kept) old.counted
 
 pub returns-clause-departed : goal.returns-clause-departed
 returns-clause-departed g c =

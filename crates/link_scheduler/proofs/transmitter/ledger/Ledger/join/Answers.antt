@@ -18,7 +18,6 @@ invariant_of-self-in_default g c =
     let joined : map message_of c.push.new.self.messages ≡ queued cmp m (map message_of old.waiting.messages) = c.in_ok-push.ensures.waiting in
     let own = and_from _ _ (peer_turned cmp g.met.P.Ord.total _ _ c.requires.origin) (peer_turned cmp g.met.P.Ord.total _ _ c.requires.recipient) in
     record {
-      fresh = old.fresh;
       counted = old.counted;
       rated = old.rated;
       indexed = queued_index cmp g.met.P.Ord.total old.pairs.entries old.waiting.messages c.push.new.self.messages (in_flight old.flights) c.args.pair.now.origin c.args.pair.now.recipient m old.idle.entries c.change-changed.new.self.entries

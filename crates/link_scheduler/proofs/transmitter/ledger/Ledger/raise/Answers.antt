@@ -4,7 +4,7 @@ use Rattle.link_scheduler.specs.Idle.Index.{IsIndexOf}
 use Rattle.link_scheduler.specs.Flights.InFlight.{in_flight}
 use Rattle.link_scheduler.specs.Pairs.Messages.{message_of}
 use Rattle.link_scheduler.specs.Pairs.CapsOf.{caps_of}
-use Rattle.link_scheduler.specs.Flights.Rated.{AreRated, rated_ones}
+use Rattle.link_scheduler.specs.Flights.Rated.{AreRated}
 use Rattle.link_scheduler.specs.Pairs.PeerCaps.{egress_of, ingress_of}
 use Rattle.link_scheduler.proofs.Flights.Accounts.{arrivals_looked_up}
 use Rattle.link_scheduler.proofs.Idle.IndexChanges.{raised_index}
@@ -14,10 +14,9 @@ pub invariant_of-self-in_default : goal.invariant_of-self-in_default
 invariant_of-self-in_default g c =
     let old = c.args.self.now in
     record {
-      fresh = old.fresh;
       counted = old.counted;
-      rated = λ e. subst (λ l. ∥ AreRated g.P.Ord.cmp (record (caps_of g.P.Ord.cmp old.peers.entries old.pairs.entries) { link = l })
-          old.flights.scale old.flights.levels.items (rated_ones old.flights.progress.items) ∥₁) (sym c.in_ok-raise.ensures.link) (old.rated e);
+      rated = λ e. subst (λ l. ∥ AreRated g.P.Ord.cmp (record (caps_of g.P.Ord.cmp old.peers.entries old.pairs.entries) { link = l }) old.flights ∥₁)
+          (sym c.in_ok-raise.ensures.link) (old.rated e);
       indexed = raised_index g.P.Ord.cmp g.met.P.Ord.total old.pairs.entries c.raise.new.self.entries old.waiting.messages (in_flight old.flights) c.args.origin.now c.args.recipient.now c.args.moment old.idle.entries c.change-changed.new.self.entries
           (arrivals_looked_up g.P.Ord.cmp g.met.P.Ord.total c.raise.new.self.entries) c.in_ok-raise.ensures.arrival old.indexed c.in_default.ensures.listed (c.idle_from-moved.ensures (in_flight old.flights) old.counted);
     }
@@ -43,8 +42,7 @@ invariant_of-self g c =
     let old = c.args.self.now in
     let kept = c.in_err-raise.ensures.kept in
     record {
-      fresh = old.fresh;
       counted = old.counted;
-      rated = λ e. subst (λ es. ∥ AreRated cmp (caps_of cmp old.peers.entries es) old.flights.scale old.flights.levels.items (rated_ones old.flights.progress.items) ∥₁) (sym kept) (old.rated e);
+      rated = λ e. subst (λ es. ∥ AreRated cmp (caps_of cmp old.peers.entries es) old.flights ∥₁) (sym kept) (old.rated e);
       indexed = subst (λ es. IsIndexOf cmp (of_pairs cmp es old.waiting.messages (in_flight old.flights)) old.idle.entries) (sym kept) old.indexed;
     }

@@ -3,6 +3,7 @@ use Rattle.std.specs.Prelude.{nat_lt}
 use Rattle.std.specs.List.{list_all}
 use Rattle.link_scheduler.specs.Idle.AtRest.{of_pairs}
 use Rattle.link_scheduler.specs.Idle.Index.{IsIndexOf}
+use Rattle.std.proofs.Math.Logic.{∥∥₁_map}
 use Rattle.link_scheduler.specs.Idle.Busy.{AreCounted}
 use Rattle.fair_rates.specs.Numbers.Amount.{whole}
 use Rattle.link_simulation.specs.Simulation.Messages.{Message}
@@ -15,7 +16,8 @@ use Rattle.link_scheduler.specs.Pairs.CapsOf.{caps_of}
 use Rattle.link_scheduler.proofs.Flights.Accounts.{arrivals_looked_up}
 use Rattle.link_scheduler.proofs.Idle.Busy.{of_own_pair, counted_sent}
 use Rattle.link_scheduler.proofs.Idle.IndexChanges.{started_index}
-use Rattle.link_scheduler.proofs.Idle.Starting.{ids_later, id_below, without_joined}
+use Rattle.link_scheduler.proofs.Idle.Starting.{without_joined}
+use Rattle.link_scheduler.proofs.Flights.Standing.{still_rated}
 use Rattle.link_scheduler.proofs.transmitter.ledger.Ledger.start.Goals as goal
 
 pub invariant_of-self-2 : goal.invariant_of-self-2
@@ -26,10 +28,7 @@ invariant_of-self-2 g c =
     let f : RatedFlight g.row.P.Denot = record { message = m; left = whole (length m.bytes); rate = Some (whole 0); updated = c.args.now } in
     let same : c.in_ok-message.message.value ≡ c.args.message = search rules in
     record {
-      rated = λ e.
-          let kept = c.push.ensures.rates in
-          rw (kept.rated, kept.units.scale, kept.units.levels) (old.rated e);
-      fresh = c.push.ensures.flow (λ flow. nat_lt flow.id (old.next_id + 1)) (ids_later old.flights.flows.items old.next_id old.fresh) (λ flow is. id_below flow.id old.next_id is);
+      rated = λ e. ∥∥₁_map (old.rated e) (still_rated cmp (caps_of cmp old.peers.entries old.pairs.entries) old.flights c.push.new.self c.push.ensures.scale c.push.ensures.rated c.push.ensures.timed);
       indexed = started_index cmp g.met.P.Ord.total old.pairs.entries old.waiting.messages (in_flight old.flights) (in_flight c.push.new.self) f old.idle.entries (arrivals_looked_up cmp g.met.P.Ord.total old.pairs.entries) (rw same c.requires.alone) c.in_ok-push.ensures.sending old.indexed;
       counted = counted_sent cmp g.met.P.Ord.total old.busy.entries c.in_ok-busy.busy.entries c.add.new.self.entries (in_flight old.flights) (in_flight c.push.new.self) c.args.message.origin c.args.message.recipient f c.in_ok-busy.ensures.cases (rw same (of_own_pair cmp g.met.P.Ord.total (message_of c.args.message))) c.in_ok-push.ensures.sending old.counted c.in_ok-add.ensures.counted;
     }
@@ -56,11 +55,9 @@ returns-clause-started g c =
 pub invariant_of-self : goal.invariant_of-self
 invariant_of-self g c =
     let cmp = g.P.Ord.cmp in
-    let rates = c.push.ensures.rates in
     let old = c.args.self.now in
     record {
-      rated = λ e. rw (rates.rated, rates.units.scale, rates.units.levels) (old.rated e);
-      fresh = subst (λ fs. list_all (λ flow. nat_lt flow.id old.next_id) fs ≡ true) (sym c.in_err-push.ensures.kept.1) old.fresh;
-      indexed = subst (λ fs. IsIndexOf cmp (of_pairs cmp old.pairs.entries old.waiting.messages fs) old.idle.entries) (sym c.in_err-push.ensures.kept.0) old.indexed;
-      counted = subst (λ fs. AreCounted cmp old.busy.entries (rated_messages fs)) (sym c.in_err-push.ensures.kept.0) old.counted;
+      rated = λ e. ∥∥₁_map (old.rated e) (still_rated cmp (caps_of cmp old.peers.entries old.pairs.entries) old.flights c.push.new.self c.push.ensures.scale c.push.ensures.rated c.push.ensures.timed);
+      indexed = subst (λ fs. IsIndexOf cmp (of_pairs cmp old.pairs.entries old.waiting.messages fs) old.idle.entries) (sym c.in_err-push.ensures.kept) old.indexed;
+      counted = subst (λ fs. AreCounted cmp old.busy.entries (rated_messages fs)) (sym c.in_err-push.ensures.kept) old.counted;
     }

@@ -33,7 +33,6 @@ invariant_of-self g c =
     let cmp = g.P.Ord.cmp in
     let old = c.args.self.now in
     record {
-      fresh = old.fresh;
       counted = old.counted;
       rated = old.rated;
       indexed = on_either c.push.result
