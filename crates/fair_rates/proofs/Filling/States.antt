@@ -31,4 +31,5 @@ pub record IsNextRound (sides : List Side) (per : ℕ) (frozen : ℕ → Option 
   pub raised : level ≤ next_level
   pub within : IsWithinCaps sides per (at_level frozen next_level)
   pub kept : (flow parts : ℕ) → frozen flow ≡ Some parts → next flow ≡ Some parts
-  pub fresh : (flow parts : ℕ) → frozen flow ≡ None → next flow ≡ Some parts → (parts ≡ next_level) × IsFilledBy sides per frozen next_level next flow
+  pub fresh : (flow parts : ℕ) → frozen flow ≡ None → next flow ≡ Some parts
+      → (parts ≡ next_level) × IsFilledBy sides per frozen next_level next flow

@@ -87,7 +87,8 @@ taken_out {X} {Y} p f test x y (z ∷ zs) e own one = by_test (test z) refl (p (
     by_test false is false at e one ih = let r = ih e own one in (r.0, rw at r.1)
 
 -- one that does not pass, taken out, changes nothing
-not_taken : {X Y : Type 0} (p : Y → Bool) (f : X → Y) (test : X → Bool) (x : X) (xs : List X) → find test xs ≡ Some x → p (f x) ≡ false → filter p (map f (without_first test xs)) ≡ filter p (map f xs)
+not_taken : {X Y : Type 0} (p : Y → Bool) (f : X → Y) (test : X → Bool) (x : X) (xs : List X) → find test xs ≡ Some x
+    → p (f x) ≡ false → filter p (map f (without_first test xs)) ≡ filter p (map f xs)
 not_taken p f test x [] e off = refl
 not_taken {X} {Y} p f test x (z ∷ zs) e off = by_test (test z) e (not_taken p f test x zs)
   where
@@ -153,7 +154,8 @@ module _ {P : Type 0} (cmp : P → P → Ordering) (order : IsTotalOrder cmp) (k
   none_before_push t (d ∷ ds) c h own = (h.0, none_before_push t ds c h.1 own)
 
   -- a delivery that no earlier one is past joins them
-  deliveries_push : (l : Option ℕ) (cs : List (Completed P)) (c : Completed P) → NeverGoDown cs → AllNotPast l cs → IfSome c.deliver_at (λ s. is_in_order l s ≡ true) → NeverGoDown (cs ++ c ∷ [])
+  deliveries_push : (l : Option ℕ) (cs : List (Completed P)) (c : Completed P) → NeverGoDown cs → AllNotPast l cs
+      → IfSome c.deliver_at (λ s. is_in_order l s ≡ true) → NeverGoDown (cs ++ c ∷ [])
   deliveries_push l [] c h past own = (none_after c.deliver_at, tt)
     where
       none_after : (o : Option ℕ) → IfSome o (λ t. NoneBefore {P = P} t [])
@@ -276,7 +278,9 @@ module _ {P : Type 0} (cmp : P → P → Ordering) (order : IsTotalOrder cmp) (k
             flying = Some m;
             told = h.told;
             in_flight = flies_more w m ∙ ap (λ (ms : List (Message P)). ms ++ filter (same_pair cmp k) (m ∷ [])) none ∙ rw own refl;
-            queue = h.queue ∙ ap (λ (ms : List (Message P)). h.done ++ (ms ++ waits w)) (idle_is none) ∙ ap (λ (ms : List (Message P)). h.done ++ ms) (first_of_waits w m own found);
+            queue =
+                h.queue ∙ ap (λ (ms : List (Message P)). h.done ++ (ms ++ waits w)) (idle_is none)
+                ∙ ap (λ (ms : List (Message P)). h.done ++ ms) (first_of_waits w m own found);
             deliveries = h.deliveries;
             not_past = h.not_past;
             in_order = subst (λ (o : Option ℕ). is_in_order o (t + m.latency) ≡ true) (last_of w m h.alike own) apart.1;
@@ -360,7 +364,11 @@ module _ {P : Type 0} (cmp : P → P → Ordering) (order : IsTotalOrder cmp) (k
         own_last own = rw (peers_own own) refl
 
         other_last : same_pair cmp k f.message ≡ false → last (land w f.message) ≡ last w
-        other_last off = let out : (same_peer cmp f.message.origin k.origin && same_peer cmp f.message.recipient k.recipient) ≡ false = pair_sym cmp order f.message k ∙ off in rw out refl
+        other_last off =
+            let out : (same_peer cmp f.message.origin k.origin && same_peer cmp f.message.recipient k.recipient)
+            ≡ false =
+            pair_sym cmp order f.message k ∙ off in
+            rw out refl
 
         by_flying : same_pair cmp k f.message ≡ true → (o : Option (Message P)) → h.flying ≡ o → flies w ≡ held o
             → filter (same_pair cmp k) messages ≡ h.done ++ (held o ++ waits w) → IfSome o (λ n. is_in_order (last w) (t + n.latency) ≡ true)
@@ -375,7 +383,11 @@ module _ {P : Type 0} (cmp : P → P → Ordering) (order : IsTotalOrder cmp) (k
                     → cond c (g.message ∷ filter (same_pair cmp k) (map (λ (g : Flight P). g.message) fs)) (filter (same_pair cmp k) (map (λ (g : Flight P). g.message) fs)) ≡ []
                     → (find (is_done cmp w) fs ≡ Some f → filter (same_pair cmp k) (map (λ (g : Flight P). g.message) fs) ≡ [] → ⊥) → ⊥
                 by_test b true is e none ih = cc
-                by_test true false is e none ih = let same : g ≡ f = cc in let out : same_pair cmp k f.message ≡ false = ap (λ (x : Flight P). same_pair cmp k x.message) (sym same) ∙ is in cc
+                by_test true false is e none ih =
+                    let same : g ≡ f = cc in
+                    let out : same_pair cmp k f.message ≡ false =
+                    ap (λ (x : Flight P). same_pair cmp k x.message) (sym same) ∙ is in
+                    cc
                 by_test false false is e none ih = ih e none
         by_flying own (Some n) is one queue order_is =
             let taken : (f.message ≡ n) × (filter (same_pair cmp k) (map (λ (g : Flight P). g.message) (without_first (is_done cmp w) w.sending)) ≡ [])
@@ -390,7 +402,8 @@ module _ {P : Type 0} (cmp : P → P → Ordering) (order : IsTotalOrder cmp) (k
                   (if is_delivered cmp f.message then Some (arrival cmp t f.message) else None)) taken.0,
             )
             in
-            let in_order_here : is_in_order (last w) (t + f.message.latency) ≡ true = subst (λ (x : Message P). is_in_order (last w) (t + x.latency) ≡ true) (sym taken.0) order_is in
+            let in_order_here : is_in_order (last w) (t + f.message.latency) ≡ true =
+            subst (λ (x : Message P). is_in_order (last w) (t + x.latency) ≡ true) (sym taken.0) order_is in
             record {
               done = h.done ++ n ∷ [];
               flying = None;
@@ -409,11 +422,15 @@ module _ {P : Type 0} (cmp : P → P → Ordering) (order : IsTotalOrder cmp) (k
               now = h.now;
             }
           where
-            ordered : (b : Bool) → is_in_order (last w) (t + f.message.latency) ≡ true → IfSome (if b then Some (if b then t + f.message.latency else t) else None) (λ s. is_in_order (last w) s ≡ true)
+            ordered : (b : Bool) → is_in_order (last w) (t + f.message.latency) ≡ true
+                → IfSome (if b then Some (if b then t + f.message.latency else t) else None)
+                (λ s. is_in_order (last w) s ≡ true)
             ordered true e = e
             ordered false e = tt
 
-            reached : (b : Bool) → IfSome (if b then Some (if b then t + f.message.latency else t) else None) (NotPast (Some (later_of (last w) (if b then t + f.message.latency else t))))
+            reached : (b : Bool)
+                → IfSome (if b then Some (if b then t + f.message.latency else t) else None)
+                (NotPast (Some (later_of (last w) (if b then t + f.message.latency else t))))
             reached true = reaches_it (last w) (t + f.message.latency)
             reached false = tt
 
@@ -437,11 +454,13 @@ module _ {P : Type 0} (cmp : P → P → Ordering) (order : IsTotalOrder cmp) (k
               now = h.now;
             }
           where
-            still : (o : Option (Message P)) → IfSome o (λ n. is_in_order (last w) (t + n.latency) ≡ true) → IfSome o (λ n. is_in_order (last (land w f.message)) (t + n.latency) ≡ true)
+            still : (o : Option (Message P)) → IfSome o (λ n. is_in_order (last w) (t + n.latency) ≡ true)
+                → IfSome o (λ n. is_in_order (last (land w f.message)) (t + n.latency) ≡ true)
             still None e = tt
             still (Some n) e = subst (λ (l : Option ℕ). is_in_order l (t + n.latency) ≡ true) (sym (other_last off)) e
 
-    complete_goes : (cs : List (Completed P)) (w : World P) (f : Flight P) → find (is_done cmp w) w.sending ≡ Some f → IsHistory messages t cs w → GoesByRule cs (complete cmp t w f.message)
+    complete_goes : (cs : List (Completed P)) (w : World P) (f : Flight P) → find (is_done cmp w) w.sending ≡ Some f
+        → IsHistory messages t cs w → GoesByRule cs (complete cmp t w f.message)
     unfolding land GoesByRule
     complete_goes cs w f found h = by_late (is_late cmp t f.message)
       where
@@ -462,7 +481,9 @@ module _ {P : Type 0} (cmp : P → P → Ordering) (order : IsTotalOrder cmp) (k
         by_first : (o : Option (Flight P)) → find (is_done cmp w) w.sending ≡ o
             → ((ds : List (Completed P)) (u : World P) → IsHistory messages t ds u → GoesByRule ds (settle_within cmp n t u)) → GoesByRule cs (settle_within cmp (suc n) t w)
         by_first None e ih = subst (GoesByRule cs) (sym (settle_none cmp order n t w e)) (stays cs w h)
-        by_first (Some f) e ih = subst (GoesByRule cs) (sym (settle_first cmp order n t w f e)) (goes_then cs (complete cmp t w f.message) (settle_within cmp n t) (complete_goes cs w f e h) ih)
+        by_first (Some f) e ih =
+            subst (GoesByRule cs) (sym (settle_first cmp order n t w f e))
+            (goes_then cs (complete cmp t w f.message) (settle_within cmp n t) (complete_goes cs w f e h) ih)
 
     settle_goes : (cs : List (Completed P)) (w : World P) → IsHistory messages t cs w → GoesByRule cs (settle cmp t w)
     settle_goes cs w h = settle_within_goes (length w.sending + length w.waiting) cs w h
@@ -610,7 +631,9 @@ module _ {P : Type 0} (cmp : P → P → Ordering) (order : IsTotalOrder cmp) (k
       none_flies = sym h.in_flight ∙ ap (λ (fs : List (Flight P)). filter (same_pair cmp k) (map (λ (f : Flight P). f.message) fs)) sends
 
       all_done : filter (same_pair cmp k) messages ≡ h.done
-      all_done = h.queue ∙ ap (λ (ms : List (Message P)). h.done ++ (ms ++ waits w)) none_flies ∙ ap (λ (ms : List (Message P)). h.done ++ filter (same_pair cmp k) ms) none_waits ∙ append-nil h.done
+      all_done =
+          h.queue ∙ ap (λ (ms : List (Message P)). h.done ++ (ms ++ waits w)) none_flies
+          ∙ ap (λ (ms : List (Message P)). h.done ++ filter (same_pair cmp k) ms) none_waits ∙ append-nil h.done
 
       own_last : same_pair cmp k m ≡ true → last after ≡ Some (later_of (last w) at)
       own_last own = let here : (same_peer cmp m.origin k.origin && same_peer cmp m.recipient k.recipient) ≡ true = pair_sym cmp order m k ∙ own in rw here refl
@@ -671,7 +694,9 @@ module _ {P : Type 0} (cmp : P → P → Ordering) (order : IsTotalOrder cmp) (k
                 ∙ ap (λ (ms : List (Message P)). ms ++ filter (same_pair cmp k) (m ∷ [])) all_done ∙ rw off refl
                 ∙ ap (λ (ms : List (Message P)). h.done ++ filter (same_pair cmp k) ms) (sym none_waits);
             deliveries = subst NeverGoDown (sym list_is) h.deliveries;
-            not_past = subst (λ (xs : List (Completed P)). AllNotPast (last after) xs) (sym list_is) (subst (λ (l : Option ℕ). AllNotPast l (told_of_k cs)) (sym (other_last off)) h.not_past);
+            not_past =
+                subst (λ (xs : List (Completed P)). AllNotPast (last after) xs) (sym list_is)
+                (subst (λ (l : Option ℕ). AllNotPast l (told_of_k cs)) (sym (other_last off)) h.not_past);
             in_order = tt;
             alike = alike_too;
             now = h.now;
@@ -701,7 +726,10 @@ module _ {P : Type 0} (cmp : P → P → Ordering) (order : IsTotalOrder cmp) (k
         limited = true;
       }) (none_more messages t cs _ (recapped_history messages t cs w
       (linked_by cmp w.caps origin recipient cap) h)))
-  act_goes messages t cs w (call_enqueue s m) e empty h = let same : t ≡ s = cc in subst (λ (n : ℕ). GoesByRule (messages ++ m ∷ []) t cs (act cmp w (call_enqueue n m))) same (by_mode w.limited refl)
+  act_goes messages t cs w (call_enqueue s m) e empty h =
+      let same : t ≡ s = cc in
+      subst (λ (n : ℕ). GoesByRule (messages ++ m ∷ []) t cs (act cmp w (call_enqueue n m))) same
+      (by_mode w.limited refl)
     where
       waiting : World P
       waiting = record w { waiting = w.waiting ++ m ∷ [] }
@@ -746,15 +774,29 @@ module _ {P : Type 0} (cmp : P → P → Ordering) (order : IsTotalOrder cmp) (k
       let next : IsHistory (messages ++ added call) now (cs ++ ds) u = run_history messages cs ds w u call now at after runs sound h in
       let sound_u : EndsWith (IsSound cmp) (goes ds u) = call_keeps_sound cmp order w call now (goes ds u) sound runs in
       let here : IsHistory (messages ++ added call) u.moment (cs ++ ds) u = subst (λ (s : ℕ). IsHistory (messages ++ added call) s (cs ++ ds) u) (sym next.now) next in
-      let rest : IsInPairOrder cmp k ((messages ++ added call) ++ enqueued calls) ((cs ++ ds) ++ answered css) = answers_in_order more (messages ++ added call) (cs ++ ds) sound_u here in
+      let rest : IsInPairOrder cmp k ((messages ++ added call) ++ enqueued calls) ((cs ++ ds) ++ answered css) =
+      answers_in_order more (messages ++ added call) (cs ++ ds) sound_u here in
       subst (λ (ms : List (Message P)). IsInPairOrder cmp k ms (cs ++ (ds ++ answered css)))
       (append_assoc messages (added call) (enqueued calls)
       ∙ ap (λ (ms : List (Message P)). messages ++ ms) (enqueued_split call calls))
       (subst (IsInPairOrder cmp k ((messages ++ added call) ++ enqueued calls)) (append_assoc cs ds (answered css)) rest)
 
   new_history : (id : ℕ) → IsHistory [] 0 [] (new_world id)
-  new_history id = record { done = []; flying = None; told = tt; in_flight = refl; queue = refl; deliveries = tt; not_past = tt; in_order = tt; alike = λ p q r s e f. refl; now = refl }
+  new_history id =
+      record {
+        done = [];
+        flying = None;
+        told = tt;
+        in_flight = refl;
+        queue = refl;
+        deliveries = tt;
+        not_past = tt;
+        in_order = tt;
+        alike = λ p q r s e f. refl;
+        now = refl;
+      }
 
   -- from a new world on
-  pub pair_in_order : (id : ℕ) (calls : List (Call P)) (css : List (List (Completed P))) → Answers cmp (new_world id) calls css → IsInPairOrder cmp k (enqueued calls) (answered css)
+  pub pair_in_order : (id : ℕ) (calls : List (Call P)) (css : List (List (Completed P)))
+      → Answers cmp (new_world id) calls css → IsInPairOrder cmp k (enqueued calls) (answered css)
   pair_in_order id calls css answers = answers_in_order answers [] [] (new_world_sound cmp order id) (new_history id)
