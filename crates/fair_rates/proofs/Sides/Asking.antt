@@ -63,7 +63,7 @@ module _ {P : Type 0} (cmp : P → P → Ordering) where
       (asks ++ egress_ask ∷ [])
       (asked_for n (sent_by a.flow.origin) a.egress old h.one h.for_origin asks r)))
 
--- what the code does for a flow that is delivered, and for one that is not
+-- what the code does for a flow that is delivered, and for one that is dropped
 module _ {P : Type 0} (cmp : P → P → Ordering) (n : ℕ) (t : Subject P) (old : Registry P) where
   pub registers_it : (new new' : Registry P) (b : Bool) (answer : Option ℕ) → b ≡ true → new' ≡ new
       → RegistersFor cmp n t answer old new → RegistersIf cmp b n t answer old new'
