@@ -16,7 +16,7 @@ use Rattle.fair_rates.proofs.Sides.Answers.{answers_if_unchanged, pair_answers_i
 module _ {E I L : Type 0} (egress : Calls E ℕ) (ingress : Calls I ℕ) (link : PairCalls L ℕ) (e : E) (i : I) (l : L)
     (under : Caps ℕ)
     (egress_by : LooksUp egress e under.egress) (ingress_by : LooksUp ingress i under.ingress)
-        (link_by : LooksUpPairs link l under.link) where
+    (link_by : LooksUpPairs link l under.link) where
   abbrev First : States E I L
   First = record { egress = e; ingress = i; link = l }
 

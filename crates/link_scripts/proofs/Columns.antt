@@ -132,7 +132,7 @@ AreOfName {X} name of =
 
 module _ {X : Type 0} (name : List ℕ) (words : X → List (List ℕ)) (S : X → Type 0) (of : X → Command)
     (spelled : (x : X) → command_words (of x) ≡ name ∷ words x) (into : (x : X) → IsCommandInRange (of x) → S x)
-        (back : (x : X) → S x → IsCommandInRange (of x)) (only : AreOfName name of) where
+    (back : (x : X) → S x → IsCommandInRange (of x)) (only : AreOfName name of) where
   module _ {w0 w1 : List (List ℕ)} (named : w0 ≡ name ∷ w1) where
     -- what stands behind the word, where a command is said
     behind : (v : Command) (rest : List (List ℕ)) → IsCommandInRange v → w0 ≡ command_words v ++ rest

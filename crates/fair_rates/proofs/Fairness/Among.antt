@@ -50,7 +50,8 @@ module _ {P : Type 0} (cmp : P → P → Ordering) (caps : Caps P) where
     pub shared : AreShared cmp caps flow_of parts_of per xs
     pub rated : (x : Allotted P) → In xs x → IsRated per x.parts x.flow x.rate
 
-  module _ (order : IsTotalOrder cmp) (of : AreOfPeers cmp caps) (xs : List (Allotted P)) (g : ℕ → ℕ) (per : ℕ) (stands : HasPartsFrom g 0 xs) where
+  module _ (order : IsTotalOrder cmp) (of : AreOfPeers cmp caps) (xs : List (Allotted P)) (g : ℕ → ℕ) (per : ℕ)
+      (stands : HasPartsFrom g 0 xs) where
     abbrev sides : List Side
     sides = S cmp caps flow_of parts_of order of xs
 

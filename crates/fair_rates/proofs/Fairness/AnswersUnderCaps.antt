@@ -14,7 +14,8 @@ use Rattle.fair_rates.specs.Refusals.TooLarge.{HasLargeAnswer, HasLargeRate, IsT
 use Rattle.fair_rates.proofs.Fairness.Allocation.{allocates_under_caps}
 use Rattle.fair_rates.proofs.Sides.Answers.{answers_are_those_of_the_caps}
 
-module _ {P E I L : Type 0} (cmp : P → P → Ordering) (egress : Calls E P) (ingress : Calls I P) (link : PairCalls L P) (first : States E I L) (flows : List (Flow P)) where
+module _ {P E I L : Type 0} (cmp : P → P → Ordering) (egress : Calls E P) (ingress : Calls I P) (link : PairCalls L P)
+    (first : States E I L) (flows : List (Flow P)) where
   pub fair_under_caps : {X R : Type 0} (rate_of : X → ℕ → Option Rate) (result : Result X R)
       → IfOk result (λ x. IsAllocation cmp egress ingress link first flows (rate_of x))
       → IfOk result (λ x. IsFairUnderCaps cmp egress ingress link first flows (rate_of x))

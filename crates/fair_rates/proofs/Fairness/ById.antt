@@ -40,7 +40,8 @@ pub rate_by_id : {P : Type 0} (xs : List (Allotted P)) (x : Allotted P) → Have
 rate_by_id xs x distinct h = own_rate x.flow.id xs x (distinct x.flow.id) h (eq-eqb x.flow.id x.flow.id refl)
 
 module _ {P : Type 0} (cmp : P → P → Ordering) (order : IsTotalOrder cmp) where
-  module _ (caps : Caps P) (of : AreOfPeers cmp caps) (flows : List (Flow P)) (m : ℕ → Option Rate) (distinct : HaveDistinctIds flows) (a : IsFairById cmp caps flows m) where
+  module _ (caps : Caps P) (of : AreOfPeers cmp caps) (flows : List (Flow P)) (m : ℕ → Option Rate)
+      (distinct : HaveDistinctIds flows) (a : IsFairById cmp caps flows m) where
     abbrev said : IsSaidAmong cmp caps flows a.rates
     said = among_from cmp caps order of flows a.rates a.fair
 

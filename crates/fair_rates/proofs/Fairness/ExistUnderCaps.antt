@@ -14,7 +14,8 @@ use Rattle.fair_rates.proofs.Lists.SumOrder.{All-from_contains}
 use Rattle.fair_rates.proofs.Lists.Places.{places_apart, places_below}
 use Rattle.fair_rates.proofs.Filling.FairPartsExist.{fair_parts}
 
-module _ {P : Type 0} (cmp : P → P → Ordering) (order : IsTotalOrder cmp) (caps : Caps P) (flows : List (Flow P)) (of : AreOfPeers cmp caps) where
+module _ {P : Type 0} (cmp : P → P → Ordering) (order : IsTotalOrder cmp) (caps : Caps P) (flows : List (Flow P))
+    (of : AreOfPeers cmp caps) where
   pub users_below : HaveUsersBelow (length flows) (sides_under cmp caps flows)
   users_below =
       All-from_contains (λ (side : Side). All (λ user. user < length flows) side.users) (sides_under cmp caps flows)

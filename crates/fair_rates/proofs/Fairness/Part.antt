@@ -76,7 +76,8 @@ module _ {P : Type 0} (cmp : P → P → Ordering) (order : IsTotalOrder cmp) (p
       sym (same_among p f.origin (and_parts (same_peer cmp p f.origin) (same_peer cmp q f.recipient) lf).0)
       ∙ same_among p g.origin (and_parts (same_peer cmp p g.origin) (same_peer cmp q g.recipient) lg).0
 
-  module _ (caps : Caps P) (flows : List (Flow P)) (ends : HaveBothEndsOrNone cmp peers flows) (xs : List (Allotted P)) (same : flows_of xs ≡ flows) where
+  module _ (caps : Caps P) (flows : List (Flow P)) (ends : HaveBothEndsOrNone cmp peers flows) (xs : List (Allotted P))
+      (same : flows_of xs ≡ flows) where
     both_ends : (x : Allotted P) → In xs x → is_among cmp peers x.flow.origin ≡ is_among cmp peers x.flow.recipient
     both_ends x h =
         All-contains (λ (f : Flow P). is_among cmp peers f.origin ≡ is_among cmp peers f.recipient) flows x.flow ends

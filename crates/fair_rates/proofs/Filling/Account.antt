@@ -38,7 +38,8 @@ account_start side scale frozen slack rising all users = record {
   left = omega (arith, all);
 }
 
-module _ (side : Side) (scale : ℕ) (frozen : ℕ → Option ℕ) (slack : ℕ) (rising : List ℕ) (account : KeepsAccount side scale frozen slack rising) where
+module _ (side : Side) (scale : ℕ) (frozen : ℕ → Option ℕ) (slack : ℕ) (rising : List ℕ)
+    (account : KeepsAccount side scale frozen slack rising) where
   -- what a side carries is what the counted and the other users have
   pub load_parted : (parts : ℕ → ℕ) → load parts side ≡ sum_by parts account.counted + sum_by parts rising
   load_parted parts =
@@ -106,7 +107,8 @@ sum_even f level (j ∷ users) all =
       sum_even f level users (All-tail (λ j. f j ≡ level) j users all),
     )
 
-module _ (side : Side) (scale : ℕ) (frozen : ℕ → Option ℕ) (slack : ℕ) (rising : List ℕ) (account : KeepsAccount side scale frozen slack rising) (level : ℕ) where
+module _ (side : Side) (scale : ℕ) (frozen : ℕ → Option ℕ) (slack : ℕ) (rising : List ℕ)
+    (account : KeepsAccount side scale frozen slack rising) (level : ℕ) where
   -- where its rising users stand at a level within the share, the side carries no more than its cap
   pub has_room : 0 < length rising → IsWithinSlack level slack rising → HaveNoMore frozen slack rising
       → load (at_level frozen level) side ≤ side.cap * scale

@@ -27,7 +27,8 @@ module _ (sides : List Side) (scale : ℕ) (frozen after : ℕ → Option ℕ) (
     (opens : List (Reverse OpenSide)) (level last : ℕ)
     (queue : IsQueue sides scale frozen (x ∷ opens))
     (no_more : All (λ o. HaveNoMore frozen o.0.slack o.0.rising.items) opens) (rise : AllRise frozen x.0.rising.items)
-    (within : AreAbove level opens) (share : level * length x.0.rising.items ≡ x.0.slack) (freezes : Freezes x.0.rising.items frozen after level) where
+    (within : AreAbove level opens) (share : level * length x.0.rising.items ≡ x.0.slack)
+    (freezes : Freezes x.0.rising.items frozen after level) where
   -- who was frozen stays so
   kept : (flow parts : ℕ) → frozen flow ≡ Some parts → after flow ≡ Some parts
   kept flow parts e = elim (freezes.others flow) [
@@ -123,7 +124,8 @@ module _ (sides : List Side) (scale : ℕ) (frozen after : ℕ → Option ℕ) (
   open_account : IsOpen sides scale frozen x
   open_account = All-head (IsOpen sides scale frozen) x opens queue.each
 
-  module _ (some : 0 < length x.0.rising.items) (some_each : (o : Reverse OpenSide) → 0 < length o.0.rising.items) (filled : IsFilledTo sides scale frozen last) (raised : last ≤ level) where
+  module _ (some : 0 < length x.0.rising.items) (some_each : (o : Reverse OpenSide) → 0 < length o.0.rising.items)
+      (filled : IsFilledTo sides scale frozen last) (raised : last ≤ level) where
     full : load (at_level frozen level) open_account.0 ≡ open_account.0.cap * scale
     full = is_full open_account.0 scale frozen x.0.slack x.0.rising.items open_account.2 level rise share
 

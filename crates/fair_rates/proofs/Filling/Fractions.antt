@@ -83,7 +83,8 @@ pub reduced_to : (parts total n d : ℕ) → 0 < total → 0 < d → parts * d �
 reduced_to parts total n d total_pos d_pos worth lowest =
     reduced_same parts total n d total_pos d_pos worth ∙ reduced_lowest n d lowest
 
-module _ (parts total n d : ℕ) (total_pos : 0 < total) (d_pos : 0 < d) (worth : parts * d ≡ n * total) (lowest : IsReduced n d) where
+module _ (parts total n d : ℕ) (total_pos : 0 < total) (d_pos : 0 < d) (worth : parts * d ≡ n * total)
+    (lowest : IsReduced n d) where
   pub large_numerator : (n < 2 ^ 128 → ⊥) → ¬ ReducedFits (parts_over total parts)
   large_numerator large fits =
       large (subst (λ a. a.num < 2 ^ 128) (reduced_to parts total n d total_pos d_pos worth lowest) fits.numerator)

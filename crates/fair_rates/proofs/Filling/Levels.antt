@@ -28,7 +28,8 @@ AllThere level_of place users = All (λ flow. level_at level_of flow ≡ Some pl
 abbrev OthersStay : List (Option ℕ) → List (Option ℕ) → List ℕ → Type 0
 OthersStay before after users = (flow : ℕ) → Contains users flow ⊎ (level_at after flow ≡ level_at before flow)
 
-module _ (before mid : List (Option ℕ)) (users : List ℕ) (user place : ℕ) (inside : user < length mid) (all : AllThere mid place users) (others : OthersStay before mid users) where
+module _ (before mid : List (Option ℕ)) (users : List ℕ) (user place : ℕ) (inside : user < length mid)
+    (all : AllThere mid place users) (others : OthersStay before mid users) where
   abbrev after : List (Option ℕ)
   after = set mid user (Some place)
 
@@ -122,7 +123,8 @@ below_top levels rising = λ k d inside. elim (cases_lt k (length levels - 1)) [
       omega (arith, get_or_default levels k d 0 inside, ap (λ n. get_or levels n 0) same)
 ]
 
-module _ (users : List ℕ) (levels after : List ℕ) (level_of later : List (Option ℕ)) (level : ℕ) (raised : IsRaised levels after level) (at_top : AreAtTop users level_of later after) where
+module _ (users : List ℕ) (levels after : List ℕ) (level_of later : List (Option ℕ)) (level : ℕ)
+    (raised : IsRaised levels after level) (at_top : AreAtTop users level_of later after) where
   longer : length levels ≤ length after
   longer =
       elim raised.same_or_new [

@@ -54,7 +54,8 @@ pub record HasLeast (sides : List Side) (per : ℕ) (frozen : ℕ → Option ℕ
   pub least : All (λ other. level * rising frozen other ≤ left_of per frozen other) sides
 
 -- the level is within the caps, is no lower than before, and fills that side
-pub record IsNextLevel (sides : List Side) (per : ℕ) (frozen : ℕ → Option ℕ) (before : ℕ) (side : Side) (level : ℕ) : Type 0 where
+pub record IsNextLevel (sides : List Side) (per : ℕ) (frozen : ℕ → Option ℕ) (before : ℕ) (side : Side)
+    (level : ℕ) : Type 0 where
   pub raised : before ≤ level
   pub within : IsWithinCaps sides per (standing frozen level)
   pub full : load (standing frozen level) side ≡ side.cap * per

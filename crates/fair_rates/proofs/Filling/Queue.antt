@@ -211,7 +211,8 @@ opened_none scale = record {
   users = λ flows all. All-nil (λ o. All (λ flow. flow < flows) o.0.rising.items);
 }
 
-module _ (scale : ℕ) (sides : List declared.Side) (side : declared.Side) (opens : List (Reverse OpenSide)) (was : AreOpened scale sides opens) where
+module _ (scale : ℕ) (sides : List declared.Side) (side : declared.Side) (opens : List (Reverse OpenSide))
+    (was : AreOpened scale sides opens) where
   -- one that counts nobody
   pub opened_more : {x : Reverse OpenSide} (later : List (Reverse OpenSide)) → IsPermutation (x ∷ opens) later
       → x.0.slack ≡ scale * side.cap → side.users.items ≡ x.0.rising.items

@@ -37,7 +37,8 @@ rated_push Holds rates rate n len here all flow d inside = elim (cases_eq flow n
 
 -- ---- the rates are fair
 
-module _ (sides : List Side) (flows scale : ℕ) (found : FairParts) (rates : List Rate) (filled : AreFilled sides flows scale found) (are : AreRatesAt found rates) where
+module _ (sides : List Side) (flows scale : ℕ) (found : FairParts) (rates : List Rate)
+    (filled : AreFilled sides flows scale found) (are : AreRatesAt found rates) where
   abbrev levels : List ℕ
   levels = found.levels.items
 

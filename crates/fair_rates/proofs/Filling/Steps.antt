@@ -30,7 +30,8 @@ abbrev pub AreReached : List ℕ → List (Option ℕ) → Type 0
 AreReached levels level_of = (place : ℕ) → place < length levels → (flow : ℕ) × (level_at level_of flow ≡ Some place)
 
 -- between two rounds
-pub record IsCourse (sides : List Side) (scale : ℕ) (levels : List ℕ) (level_of : List (Option ℕ)) (opens : List (Reverse OpenSide)) : Type 0 where
+pub record IsCourse (sides : List Side) (scale : ℕ) (levels : List ℕ) (level_of : List (Option ℕ))
+    (opens : List (Reverse OpenSide)) : Type 0 where
   pub some_part : 0 < scale
   pub inside : AreInside levels level_of
   pub rising : AllPairs (λ a b. a < b) levels
@@ -79,7 +80,8 @@ course_none sides scale count opens some queue users order =
 -- ---- a round
 
 -- the side with the least share is taken out of the queue
-pub record IsTaken (sides : List Side) (scale : ℕ) (levels : List ℕ) (level_of : List (Option ℕ)) (last : ℕ) (x : OpenSide) (rest : List (Reverse OpenSide)) : Type 0 where
+pub record IsTaken (sides : List Side) (scale : ℕ) (levels : List ℕ) (level_of : List (Option ℕ)) (last : ℕ)
+    (x : OpenSide) (rest : List (Reverse OpenSide)) : Type 0 where
   pub users : All (λ flow. flow < length level_of) x.rising.items
   pub sound : IsShareQueue (length level_of) (frozen_at levels level_of) rest
   pub least : IsLeast (frozen_at levels level_of) x rest
@@ -92,7 +94,8 @@ module _ (sides : List Side) (scale factor : ℕ) (levels after : List ℕ) (lev
     (taken : IsTaken sides scale levels level_of (top levels) x rest)
     (grown : AreGrown factor rest opens) (order : IsHeap queue_cmp opens)
     (share : level * length x.rising.items ≡ x.slack * factor)
-    (raised : IsRaised (map (λ parts. parts * factor) levels) after level) (at_top : AreAtTop x.rising.items level_of later after) where
+    (raised : IsRaised (map (λ parts. parts * factor) levels) after level)
+    (at_top : AreAtTop x.rising.items level_of later after) where
   abbrev scaled_levels : List ℕ
   scaled_levels = map (λ parts. parts * factor) levels
 

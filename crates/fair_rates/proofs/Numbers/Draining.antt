@@ -87,7 +87,8 @@ pub spent_from_least : (left rate : Amount) (least n : ℕ) → 0 < left.den →
 spent_from_least left rate least n h j time = (
   λ e. time.least n (covers_if_spent left rate n h j e),
   λ le.
-      let more : least * (rate.num * left.den) ≤ n * (rate.num * left.den) = mul-le-mul_right (rate.num * left.den) le in
+      let more : least * (rate.num * left.den) ≤ n * (rate.num * left.den) =
+      mul-le-mul_right (rate.num * left.den) le in
       let enough : Covers rate least left = time.covers in
       spent_if_covers left rate n h j (omega arith),
 )

@@ -20,7 +20,8 @@ use Rattle.fair_rates.proofs.Lists.Members.{none_passes, any_fails}
 use Rattle.fair_rates.proofs.Sides.EqualSubjects.{same_peer_itself, one_cap, same_limits}
 use Rattle.fair_rates.specs.Lists.Places.{places_from}
 
-module _ {P : Type 0} (cmp : P → P → Ordering) (order : IsTotalOrder cmp) (caps : Caps P) (of : AreOfPeers cmp caps) where
+module _ {P : Type 0} (cmp : P → P → Ordering) (order : IsTotalOrder cmp) (caps : Caps P)
+    (of : AreOfPeers cmp caps) where
   -- the ask was answered by the caps
   abbrev IsByCaps : Ask P → Type 0
   IsByCaps a = a.answer ≡ cap_of caps a.subject

@@ -23,9 +23,11 @@ asks_from-push n m (b ∷ answered) a e =
     ap (λ asks. asks_of_one n b ++ asks) (asks_from-push (n + 1) m answered a (omega arith))
     ∙ sym (append_assoc (asks_of_one n b) (asks_from (n + 1) answered) (asks_of_one m a))
 
-module _ {P E I L : Type 0} (cmp : P → P → Ordering) (egress : Calls E P) (ingress : Calls I P) (link : PairCalls L P) where
+module _ {P E I L : Type 0} (cmp : P → P → Ordering) (egress : Calls E P) (ingress : Calls I P)
+    (link : PairCalls L P) where
   -- what the pass over the first n flows has done
-  pub record Passed (first : States E I L) (flows : List (Flow P)) (n : ℕ) (now : States E I L) (registry : Registry P) : Type 0 where
+  pub record Passed (first : States E I L) (flows : List (Flow P)) (n : ℕ) (now : States E I L)
+      (registry : Registry P) : Type 0 where
     pub answered : List (Answered P)
     pub count : length answered ≡ n
     pub flows_are : map (λ a. a.flow) answered ≡ take n flows

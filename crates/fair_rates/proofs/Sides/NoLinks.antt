@@ -10,7 +10,8 @@ use Rattle.fair_rates.specs.declared.error.Error.{Error}
 use Rattle.fair_rates.specs.declared.error.Error.TheVariants.{OutOfMemory, NumberTooLarge}
 use Rattle.fair_rates.specs.Refusals.TooLarge.{IsTooLarge}
 
-module _ {P E I L : Type 0} (egress : Calls E P) (ingress : Calls I P) (link : PairCalls L P) (no_number : (l : L) (p q : P) (a : Option ℕ) (l' : L) → link l p q a l' → a ≡ None) where
+module _ {P E I L : Type 0} (egress : Calls E P) (ingress : Calls I P) (link : PairCalls L P)
+    (no_number : (l : L) (p q : P) (a : Option ℕ) (l' : L) → link l p q a l' → a ≡ None) where
   abbrev without : States E I L → States E I (Unit {0})
   without s = record { egress = s.egress; ingress = s.ingress; link = tt }
 

@@ -122,7 +122,8 @@ module _ {P : Type 0} (cmp : P → P → Ordering) (o : IsTotalOrder cmp) where
   module _ (subjects : List (Subject P)) (number number' : declared.Subject P → Option ℕ) (s : declared.Subject P)
       (are : (q : declared.Subject P) (m : ℕ) → (number q ≡ Some m) ↔ IsNumberOf cmp subjects (subject_of q) m)
       (none : number s ≡ None)
-      (are' : (q : declared.Subject P) → number' q ≡ cond (same_subject cmp (subject_of s) (subject_of q)) (Some (length subjects)) (number q)) where
+      (are' : (q : declared.Subject P)
+      → number' q ≡ cond (same_subject cmp (subject_of s) (subject_of q)) (Some (length subjects)) (number q)) where
     abbrev more : List (Subject P)
     more = subjects ++ subject_of s ∷ []
 
@@ -186,7 +187,8 @@ module _ {P : Type 0} (cmp : P → P → Ordering) (o : IsTotalOrder cmp) where
           ⊎_elim (at_old q m i) (λ past. at_last q m i (omega (arith, longer))) (cases_lt m (length subjects)),
     )
 
-  module _ (asks : List (Ask P)) (sides : List declared_side.Side) (number : declared.Subject P → Option ℕ) (h : AreRegistered cmp asks sides number) where
+  module _ (asks : List (Ask P)) (sides : List declared_side.Side) (number : declared.Subject P → Option ℕ)
+      (h : AreRegistered cmp asks sides number) where
     abbrev shares : List (Share P)
     shares = shares_after cmp [] asks
 
@@ -377,7 +379,9 @@ finds_sides cmp o asks registry h s n e =
 -- the numbers, when a subject that had none gets one
 module _ {P : Type 0} (cmp : P → P → Ordering) (o : IsTotalOrder cmp) (old new : BTreeMap (declared.Subject P) ℕ)
     (s : declared.Subject P) (n : ℕ)
-    (none : number_of cmp old s ≡ None) (are : (q : declared.Subject P) → number_of cmp new q ≡ cond (same_subject cmp (subject_of s) (subject_of q)) (Some n) (number_of cmp old q)) where
+    (none : number_of cmp old s ≡ None)
+    (are : (q : declared.Subject P)
+    → number_of cmp new q ≡ cond (same_subject cmp (subject_of s) (subject_of q)) (Some n) (number_of cmp old q)) where
   -- it is the number of the side that is new
   pub finds_more : (sides sides' : ℕ) → n ≡ sides → sides' ≡ sides + 1
       → ((q : declared.Subject P) (m : ℕ) → number_of cmp old q ≡ Some m → m < sides) → (q : declared.Subject P) (m : ℕ)

@@ -22,9 +22,10 @@ use Rattle.link_simulation.proofs.Simulation.OtherPairs.{fronts_are_first}
 
 module _ {P : Type 0} (cmp : P → P → Ordering) where
   -- so far so many events happened, and this came out
-  pub record AdvancesSo (now : ℕ) (p : Planned P) (here : Planned P) (out : List (Completed P)) (events : ℕ) : Type 0 where
-    pub advances : (n : ℕ) (course : Course (Completed P) (Planned P)) → Advances cmp now here n course
-        → Advances cmp now p (n + events) (preceded out course)
+  pub record AdvancesSo (now : ℕ) (p : Planned P) (here : Planned P) (out : List (Completed P)) (events : ℕ) : Type 0
+    where
+      pub advances : (n : ℕ) (course : Course (Completed P) (Planned P)) → Advances cmp now here n course
+          → Advances cmp now p (n + events) (preceded out course)
 
   one_event : (now n : ℕ) (event : Event) (p q : Planned P) (cs : List (Completed P))
       (rest : Course (Completed P) (Planned P))

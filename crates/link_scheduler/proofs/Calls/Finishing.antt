@@ -69,7 +69,8 @@ module _ {P : Type 0} (cmp : P → P → Ordering) where
   -- ---- a queue completes
 
   -- so far this came out, and the finishes of the rest of the queue make those of the whole
-  pub record FinishesSo (t : ℕ) (ms : List (Message P)) (p : Planned P) (before : List (Completed P)) (rest : List (Message P)) (now : Planned P) (after : List (Completed P)) : Type 0 where
+  pub record FinishesSo (t : ℕ) (ms : List (Message P)) (p : Planned P) (before : List (Completed P))
+      (rest : List (Message P)) (now : Planned P) (after : List (Completed P)) : Type 0 where
     pub done : List (Completed P)
     pub out : after ≡ before ++ done
     pub finishes : (course : Course (Completed P) (Planned P)) → Finishes cmp t rest now course
@@ -100,7 +101,8 @@ module _ {P : Type 0} (cmp : P → P → Ordering) where
   }
 
   -- what came out in the end
-  pub record FinishesWith (t : ℕ) (ms : List (Message P)) (p : Planned P) (before : List (Completed P)) (new : Planned P) (after : List (Completed P)) : Type 0 where
+  pub record FinishesWith (t : ℕ) (ms : List (Message P)) (p : Planned P) (before : List (Completed P))
+      (new : Planned P) (after : List (Completed P)) : Type 0 where
     pub done : List (Completed P)
     pub out : after ≡ before ++ done
     pub finishes : Finishes cmp t ms p (goes done new)
@@ -129,7 +131,8 @@ module _ {P : Type 0} (cmp : P → P → Ordering) where
 
   -- ---- pairs start
 
-  pub record WakesSo (t : ℕ) (ms : List (Message P)) (p : Planned P) (before : List (Completed P)) (rest : List (Message P)) (now : Planned P) (after : List (Completed P)) : Type 0 where
+  pub record WakesSo (t : ℕ) (ms : List (Message P)) (p : Planned P) (before : List (Completed P))
+      (rest : List (Message P)) (now : Planned P) (after : List (Completed P)) : Type 0 where
     pub done : List (Completed P)
     pub out : after ≡ before ++ done
     pub wakes : (course : Course (Completed P) (Planned P)) → WakesEach cmp t rest now course
@@ -158,7 +161,8 @@ module _ {P : Type 0} (cmp : P → P → Ordering) where
         (so.wakes (preceded cs course) (starts_one launch finishes h));
   }
 
-  pub record WakesWith (t : ℕ) (ms : List (Message P)) (p : Planned P) (before : List (Completed P)) (new : Planned P) (after : List (Completed P)) : Type 0 where
+  pub record WakesWith (t : ℕ) (ms : List (Message P)) (p : Planned P) (before : List (Completed P)) (new : Planned P)
+      (after : List (Completed P)) : Type 0 where
     pub done : List (Completed P)
     pub out : after ≡ before ++ done
     pub wakes : WakesEach cmp t ms p (goes done new)
@@ -196,13 +200,16 @@ module _ {P : Type 0} (cmp : P → P → Ordering) where
       (λ fault h. so.wakes (meets fault) (no_finish launch h)) e refused
 
   -- the messages whose pairs are still to start, and their keys
-  pub record WakesAt (t : ℕ) (ms : List (Message P)) (p : Planned P) (before : List (Completed P)) (keys : List (PeerPair P)) (at : ℕ) (now : Planned P) (after : List (Completed P)) : Type 0 where
+  pub record WakesAt (t : ℕ) (ms : List (Message P)) (p : Planned P) (before : List (Completed P))
+      (keys : List (PeerPair P)) (at : ℕ) (now : Planned P) (after : List (Completed P)) : Type 0 where
     pub rest : List (Message P)
     pub are_keys : AllZip (NamesPairOf cmp) (drop at keys) rest
     pub so : WakesSo t ms p before rest now after
 
   -- the next one of them
-  pub record NextAt (t : ℕ) (ms : List (Message P)) (p : Planned P) (before : List (Completed P)) (keys : List (PeerPair P)) (at : ℕ) (now : Planned P) (after : List (Completed P)) (key : PeerPair P) : Type 0 where
+  pub record NextAt (t : ℕ) (ms : List (Message P)) (p : Planned P) (before : List (Completed P))
+      (keys : List (PeerPair P)) (at : ℕ) (now : Planned P) (after : List (Completed P)) (key : PeerPair P)
+      : Type 0 where
     pub message : Message P
     pub rest : List (Message P)
     pub is_key : NamesPairOf cmp key message

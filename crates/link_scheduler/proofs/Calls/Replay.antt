@@ -129,7 +129,8 @@ module _ {P : Type 0} (cmp : P → P → Ordering) (order : IsTotalOrder cmp) wh
   -- ---- a list of calls
 
   -- the replies so far, to all calls but these, lead to the planned world p
-  pub record Replied (old : Planned P) (calls : List (Call P)) (replies : List (Reply P)) (rest : List (Call P)) (p : Planned P) : Type 0 where
+  pub record Replied (old : Planned P) (calls : List (Call P)) (replies : List (Reply P)) (rest : List (Call P))
+      (p : Planned P) : Type 0 where
     pub so : (more : List (Reply P)) → Obeyed cmp p rest more → Obeyed cmp old calls (replies ++ more)
     pub in_time : InTime rest → InTime calls
 
@@ -151,7 +152,8 @@ module _ {P : Type 0} (cmp : P → P → Ordering) (order : IsTotalOrder cmp) wh
   all_replied old calls replies p so_far = subst (Obeyed cmp old calls) (append-nil replies) (so_far.so [] tt)
 
   -- so many of the calls are replied to, and there is room for the rest of the replies
-  pub record IsUnderway (old : Planned P) (calls : List (Call P)) (at : ℕ) (replies : List (Reply P)) (count room : ℕ) (p : Planned P) : Type 0 where
+  pub record IsUnderway (old : Planned P) (calls : List (Call P)) (at : ℕ) (replies : List (Reply P)) (count room : ℕ)
+      (p : Planned P) : Type 0 where
     pub long : count ≡ at
     pub fits : length calls ≤ room
     pub replied : Replied old calls replies (drop at calls) p

@@ -278,7 +278,8 @@ module _ {P : Type 0} (cmp : P → P → Ordering) (order : IsTotalOrder cmp) wh
 
   -- ---- both together
 
-  module _ (p : Planned P) (alike : PairsAlike cmp p.last_arrival p.last_arrival) (in_order : AreInPairOrder cmp p.waiting) (now : ℕ) where
+  module _ (p : Planned P) (alike : PairsAlike cmp p.last_arrival p.last_arrival)
+      (in_order : AreInPairOrder cmp p.waiting) (now : ℕ) where
     -- the first message of a pair may start by now if its moment has come
     may_by : (a b : P)
         → passes now a b (may_launch cmp now p) (first_of cmp p.waiting a b) ≡ has_come now (idle_from cmp p a b)

@@ -108,7 +108,8 @@ module _ {P : Type 0} (cmp : P → P → Ordering) where
 
     module _ (es : List (IdlePair P)) (t : ℕ) (o r : P) (at : ℕ)
         (ascending : are_ascending (idle_cmp cmp) (map idle_key es) ≡ true)
-        (found : are_parted (λ (e : IdlePair P). is_lt (idle_cmp cmp (idle_key e) (t, (o, r)))) es ≡ true → IsParting (λ (e : IdlePair P). is_lt (idle_cmp cmp (idle_key e) (t, (o, r)))) es at) where
+        (found : are_parted (λ (e : IdlePair P). is_lt (idle_cmp cmp (idle_key e) (t, (o, r)))) es ≡ true
+        → IsParting (λ (e : IdlePair P). is_lt (idle_cmp cmp (idle_key e) (t, (o, r)))) es at) where
       parting : IsParting (λ (e : IdlePair P). is_lt (idle_cmp cmp (idle_key e) (t, (o, r)))) es at
       parting = found (parted (idle_cmp cmp) (idle_total cmp total) idle_key es (t, (o, r)) ascending)
 

@@ -197,7 +197,8 @@ any_more u (y ∷ xs) x = ap (λ c. u y || c) (any_more u xs x) ∙ sym (or_asso
     or_assoc true b c = refl
     or_assoc false b c = refl
 
-module _ {P : Type 0} (cmp : P → P → Ordering) (order : IsTotalOrder cmp) (q : Planned P) (alike : PairsAlike cmp q.last_arrival q.last_arrival) (old : List (IdlePair P)) where
+module _ {P : Type 0} (cmp : P → P → Ordering) (order : IsTotalOrder cmp) (q : Planned P)
+    (alike : PairsAlike cmp q.last_arrival q.last_arrival) (old : List (IdlePair P)) where
   module _ (done : List (Message P)) (m : Message P) (es : List (IdlePair P)) (so : AreAtRest cmp q done old es)
       (busy : (t : ℕ) (a b : P) → is_of_pair cmp a b m ≡ true → is_listed cmp old t a b ≡ false) where
     -- what the rest says of the pair of the message
@@ -436,7 +437,8 @@ pub flows_drained : {P : Type 0} (t : ℕ) (fs : List (RatedFlight P))
 flows_drained t [] = refl
 flows_drained t (f ∷ fs) = ap (λ l. f.message ∷ l) (flows_drained t fs)
 
-module _ {P : Type 0} (cmp : P → P → Ordering) (order : IsTotalOrder cmp) (pairs : List (Pair P)) (ms : List (code.Message P)) where
+module _ {P : Type 0} (cmp : P → P → Ordering) (order : IsTotalOrder cmp) (pairs : List (Pair P))
+    (ms : List (code.Message P)) where
   -- while the same messages are in flight, the same pairs are idle
   pub same_flights_index : (sending after : List (RatedFlight P)) (es : List (IdlePair P))
       → rated_messages after ≡ rated_messages sending → IsIndexOf cmp (of_pairs cmp pairs ms sending) es
@@ -446,7 +448,9 @@ module _ {P : Type 0} (cmp : P → P → Ordering) (order : IsTotalOrder cmp) (p
       (λ a b. alike_from cmp (of_pairs cmp pairs ms sending) (of_pairs cmp pairs ms after) a b
       (ap (list_any (is_of_pair cmp a b)) same) refl refl)
 
-  module _ (spent : RatedFlight P → Bool) (sending after : List (RatedFlight P)) (leavers : List (Message P)) (es : List (IdlePair P)) (left : leavers ≡ rated_messages (filter spent sending)) (index : IsIndexOf cmp (of_pairs cmp pairs ms sending) es) where
+  module _ (spent : RatedFlight P → Bool) (sending after : List (RatedFlight P)) (leavers : List (Message P))
+      (es : List (IdlePair P)) (left : leavers ≡ rated_messages (filter spent sending))
+      (index : IsIndexOf cmp (of_pairs cmp pairs ms sending) es) where
     -- the pairs of what left were not idle
     pub left_unlisted : (t : ℕ) (a b : P) → list_any (is_of_pair cmp a b) leavers ≡ true
         → is_listed cmp es t a b ≡ false

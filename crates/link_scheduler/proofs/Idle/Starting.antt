@@ -114,7 +114,8 @@ module _ {P : Type 0} (cmp : P → P → Ordering) (order : IsTotalOrder cmp) wh
 
 module _ {P : Type 0} (cmp : P → P → Ordering) (order : IsTotalOrder cmp) (t : ℕ) (p mid : Planned P) (o r : P)
     (m : Message P)
-    (may : may_launch_first cmp t p (first_of cmp p.waiting o r) ≡ true) (id : p.next_id < last_moment) (found : first_of cmp p.waiting o r ≡ Some m) (is : mid ≡ pushed cmp order t p o r m) where
+    (may : may_launch_first cmp t p (first_of cmp p.waiting o r) ≡ true) (id : p.next_id < last_moment)
+    (found : first_of cmp p.waiting o r ≡ Some m) (is : mid ≡ pushed cmp order t p o r m) where
   pub launched_so : {X : Type 0} (f : X → List (Message P)) (result : Result X Error) (new : Planned P)
       → IfOk result (λ x. Accounts cmp t mid (f x) new)
       → IfOk result (λ x. Launches cmp t p (first_of cmp p.waiting o r) (goes (f x) new))

@@ -19,7 +19,8 @@ use Rattle.fair_rates.proofs.Lists.Sorted.{value_insert_at, value_respects}
 use Rattle.link_scheduler.proofs.Pairs.PairOrder.{pair_total, is_eq-then}
 
 -- the new list says that of a pair, and else what the old one says
-pub record SetsPair {P : Type 0} (cmp : P → P → Ordering) (old new : List (Pair P)) (o r : P) (cap last : Option ℕ) : Type 0 where
+pub record SetsPair {P : Type 0} (cmp : P → P → Ordering) (old new : List (Pair P)) (o r : P)
+    (cap last : Option ℕ) : Type 0 where
   pub ascending : are_ascending (pair_cmp cmp) (map key_of new) ≡ true
   pub link_is : link_of cmp new ≡ with_link cmp (link_of cmp old) o r cap
   pub arrival_is : arrival_of cmp new ≡ with_link cmp (arrival_of cmp old) o r last

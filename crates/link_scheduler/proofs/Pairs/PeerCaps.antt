@@ -14,7 +14,8 @@ use Rattle.fair_rates.proofs.Lists.Sorted.{read_place, ascending_set_at, ascendi
 use Rattle.fair_rates.proofs.Lists.Sorted.{value_insert_at}
 
 -- the new list has those caps for a peer, and else the old ones
-pub record SetsCaps {P : Type 0} (cmp : P → P → Ordering) (old new : List (PeerCaps P)) (peer : P) (egress ingress : Option ℕ) : Type 0 where
+pub record SetsCaps {P : Type 0} (cmp : P → P → Ordering) (old new : List (PeerCaps P)) (peer : P)
+    (egress ingress : Option ℕ) : Type 0 where
   pub ascending : are_ascending cmp (map (λ entry. entry.peer.value) new) ≡ true
   pub egress_is : egress_of cmp new ≡ with_cap cmp (egress_of cmp old) peer egress
   pub ingress_is : ingress_of cmp new ≡ with_cap cmp (ingress_of cmp old) peer ingress

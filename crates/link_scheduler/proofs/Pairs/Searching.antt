@@ -76,7 +76,8 @@ module _ {K : Type 0} (cmp : K → K → Ordering) (total : IsTotalOrder cmp) wh
         (λ d less. not_below (key e) (key d) k f less) es
         (sym (list_all-map (λ l. is_lt (cmp (key e) l)) key es) ∙ first_of_both _ _ h)))
 
-    module _ (es : List E) (at : ℕ) (ascending : are_ascending cmp (map key es) ≡ true) (p : IsParting (λ e. is_lt (cmp (key e) k)) es at) where
+    module _ (es : List E) (at : ℕ) (ascending : are_ascending cmp (map key es) ≡ true)
+        (p : IsParting (λ e. is_lt (cmp (key e) k)) es at) where
       there : slice_get es at ≡ slice_get p.after 0
       there = ap (λ l. slice_get l at) p.split ∙ get-seam p.before p.after at p.is_at
 

@@ -207,7 +207,8 @@ module _ {P : Type 0} (cmp : P → P → Ordering) (total : IsTotalOrder cmp) wh
         (still_above (pair_cmp cmp) (pair_total cmp total) (pair_of n) (pair_of m) k (not-false _ f) low))
         ms (first_of_both _ _ h)))
 
-    module _ (ms : List (code.Message P)) (at : ℕ) (ordered : are_in_order cmp ms ≡ true) (p : IsParting (λ m. is_lt (pair_cmp cmp (pair_of m) k)) ms at) where
+    module _ (ms : List (code.Message P)) (at : ℕ) (ordered : are_in_order cmp ms ≡ true)
+        (p : IsParting (λ m. is_lt (pair_cmp cmp (pair_of m) k)) ms at) where
       there : slice_get ms at ≡ slice_get p.after 0
       there = ap (λ l. slice_get l at) p.split ∙ get-seam p.before p.after at p.is_at
 
@@ -387,7 +388,8 @@ module _ {P : Type 0} (cmp : P → P → Ordering) (total : IsTotalOrder cmp) wh
       (second_of_both (list_all (λ n. not (is_lt (pair_cmp cmp (pair_of n) (pair_of x)))) (xs ++ ys)) _ h)
       (second_of_both (not (is_gt (pair_cmp cmp (pair_of x) (pair_of m)))) _ below) above)
 
-  module _ (ms : List (code.Message P)) (at : ℕ) (m : code.Message P) (p : IsParting (λ n. not (is_gt (pair_cmp cmp (pair_of n) (pair_of m)))) ms at) where
+  module _ (ms : List (code.Message P)) (at : ℕ) (m : code.Message P)
+      (p : IsParting (λ n. not (is_gt (pair_cmp cmp (pair_of n) (pair_of m)))) ms at) where
     inserted : insert ms at m ≡ p.before ++ m ∷ p.after
     inserted =
         ap (λ l. insert l at m) p.split ∙ ap (λ n. insert (p.before ++ p.after) n m) p.is_at

@@ -138,7 +138,8 @@ module _ {P : Type 0} (cmp : P → P → Ordering) (order : IsTotalOrder cmp) wh
       (idle_passes n caps last id (t + 1)))
 
   module _ (caps : Caps P) (last : P → P → Option ℕ) (id : ℕ) (m : Message P) (now cap k : ℕ)
-      (least : IsLeastCap cmp caps m cap) (is_time : IsTimeFor (length m.bytes) cap (suc k)) (some : 0 < length m.bytes) where
+      (least : IsLeastCap cmp caps m cap) (is_time : IsTimeFor (length m.bytes) cap (suc k))
+      (some : 0 < length m.bytes) where
     -- what is left of it after n nanoseconds
     abbrev left : ℕ → Amount
     left n = drained (whole (length m.bytes)) (reduced cap 1) n

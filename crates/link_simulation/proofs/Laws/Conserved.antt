@@ -292,10 +292,11 @@ module _ {P : Type 0} (cmp : P → P → Ordering) (order : IsTotalOrder cmp) wh
 
   -- what completed, then what is in flight, then what waits are what was in flight, then what waited, then those
   -- messages
-  pub record IsKept (p : Planned P) (messages : List (Message P)) (cs : List (Completed P)) (q : Planned P) : Type 0 where
-    pub done : List (Message P)
-    pub completions_are : AllZip IsCompletionOf cs done
-    pub each_pair : (k : Message P) → of_pair cmp k done ++ held_of cmp k q ≡ held_of cmp k p ++ of_pair cmp k messages
+  pub record IsKept (p : Planned P) (messages : List (Message P)) (cs : List (Completed P)) (q : Planned P) : Type 0
+    where
+      pub done : List (Message P)
+      pub completions_are : AllZip IsCompletionOf cs done
+      pub each_pair : (k : Message P) → of_pair cmp k done ++ held_of cmp k q ≡ held_of cmp k p ++ of_pair cmp k messages
 
   -- if it goes
   abbrev pub KeepsAll : Planned P → List (Message P) → Course (Completed P) (Planned P) → Type 0

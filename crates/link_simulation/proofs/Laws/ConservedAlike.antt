@@ -171,7 +171,8 @@ module _ {P : Type 0} (cmp : P → P → Ordering) (order : IsTotalOrder cmp) wh
   one_refused p call_next calls why replies obeyed = absurd obeyed
 
   -- the first call is accepted, and the others follow
-  record IsAccepted (p : Planned P) (call : Call P) (calls : List (Call P)) (cs : List (Completed P)) (replies : List (Reply P)) : Type 0 where
+  record IsAccepted (p : Planned P) (call : Call P) (calls : List (Call P)) (cs : List (Completed P))
+      (replies : List (Reply P)) : Type 0 where
     pub answers : List (Completed P)
     pub after : Planned P
     pub obeys : Obeys cmp p call (goes answers after)

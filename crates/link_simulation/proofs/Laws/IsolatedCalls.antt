@@ -40,7 +40,8 @@ use Rattle.link_simulation.proofs.Laws.IsolatedTime.{ticks_part}
 use Rattle.link_simulation.proofs.Laws.MadeCalls.{turn_later}
 use Rattle.link_simulation.proofs.Simulation.Queue.{preceded_none}
 
-module _ {P : Type 0} (cmp : P → P → Ordering) (order : IsTotalOrder cmp) (inside : P → Bool) (together : IsSet cmp inside) where
+module _ {P : Type 0} (cmp : P → P → Ordering) (order : IsTotalOrder cmp) (inside : P → Bool)
+    (together : IsSet cmp inside) where
   abbrev pub mine : Message P → Bool
   mine m = inside m.origin
 

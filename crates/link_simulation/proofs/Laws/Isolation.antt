@@ -27,7 +27,9 @@ use Rattle.fair_rates.proofs.Lists.Each.{each_find, each_without, each_joined, E
 use Rattle.fair_rates.proofs.Lists.Filters.{length-without_first, none_long}
 use Rattle.link_simulation.proofs.Simulation.QuietInstants.{settle_nothing}
 
-module _ {P : Type 0} (cmp : P → P → Ordering) (order : IsTotalOrder cmp) (inside : P → Bool) (alike : (m n : Message P) → same_pair cmp m n ≡ true → inside m.origin ≡ inside n.origin) (T : Message P → Type 0) where
+module _ {P : Type 0} (cmp : P → P → Ordering) (order : IsTotalOrder cmp) (inside : P → Bool)
+    (alike : (m n : Message P) → same_pair cmp m n ≡ true → inside m.origin ≡ inside n.origin)
+    (T : Message P → Type 0) where
   abbrev mine : Message P → Bool
   mine m = inside m.origin
 

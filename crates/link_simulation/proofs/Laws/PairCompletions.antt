@@ -278,9 +278,7 @@ module _ {P : Type 0} (cmp : P → P → Ordering) (order : IsTotalOrder cmp) (k
             flying = Some m;
             told = h.told;
             in_flight = flies_more w m ∙ ap (λ (ms : List (Message P)). ms ++ filter (same_pair cmp k) (m ∷ [])) none ∙ rw own refl;
-            queue =
-                h.queue ∙ ap (λ (ms : List (Message P)). h.done ++ (ms ++ waits w)) (idle_is none)
-                ∙ ap (λ (ms : List (Message P)). h.done ++ ms) (first_of_waits w m own found);
+            queue = h.queue ∙ ap (λ (ms : List (Message P)). h.done ++ (ms ++ waits w)) (idle_is none) ∙ ap (λ (ms : List (Message P)). h.done ++ ms) (first_of_waits w m own found);
             deliveries = h.deliveries;
             not_past = h.not_past;
             in_order = subst (λ (o : Option ℕ). is_in_order o (t + m.latency) ≡ true) (last_of w m h.alike own) apart.1;
@@ -364,11 +362,7 @@ module _ {P : Type 0} (cmp : P → P → Ordering) (order : IsTotalOrder cmp) (k
         own_last own = rw (peers_own own) refl
 
         other_last : same_pair cmp k f.message ≡ false → last (land w f.message) ≡ last w
-        other_last off =
-            let out : (same_peer cmp f.message.origin k.origin && same_peer cmp f.message.recipient k.recipient)
-            ≡ false =
-            pair_sym cmp order f.message k ∙ off in
-            rw out refl
+        other_last off = let out : (same_peer cmp f.message.origin k.origin && same_peer cmp f.message.recipient k.recipient) ≡ false = pair_sym cmp order f.message k ∙ off in rw out refl
 
         by_flying : same_pair cmp k f.message ≡ true → (o : Option (Message P)) → h.flying ≡ o → flies w ≡ held o
             → filter (same_pair cmp k) messages ≡ h.done ++ (held o ++ waits w) → IfSome o (λ n. is_in_order (last w) (t + n.latency) ≡ true)
@@ -402,8 +396,7 @@ module _ {P : Type 0} (cmp : P → P → Ordering) (order : IsTotalOrder cmp) (k
                   (if is_delivered cmp f.message then Some (arrival cmp t f.message) else None)) taken.0,
             )
             in
-            let in_order_here : is_in_order (last w) (t + f.message.latency) ≡ true =
-            subst (λ (x : Message P). is_in_order (last w) (t + x.latency) ≡ true) (sym taken.0) order_is in
+            let in_order_here : is_in_order (last w) (t + f.message.latency) ≡ true = subst (λ (x : Message P). is_in_order (last w) (t + x.latency) ≡ true) (sym taken.0) order_is in
             record {
               done = h.done ++ n ∷ [];
               flying = None;
@@ -428,9 +421,7 @@ module _ {P : Type 0} (cmp : P → P → Ordering) (order : IsTotalOrder cmp) (k
             ordered true e = e
             ordered false e = tt
 
-            reached : (b : Bool)
-                → IfSome (if b then Some (if b then t + f.message.latency else t) else None)
-                (NotPast (Some (later_of (last w) (if b then t + f.message.latency else t))))
+            reached : (b : Bool) → IfSome (if b then Some (if b then t + f.message.latency else t) else None) (NotPast (Some (later_of (last w) (if b then t + f.message.latency else t))))
             reached true = reaches_it (last w) (t + f.message.latency)
             reached false = tt
 
@@ -454,13 +445,11 @@ module _ {P : Type 0} (cmp : P → P → Ordering) (order : IsTotalOrder cmp) (k
               now = h.now;
             }
           where
-            still : (o : Option (Message P)) → IfSome o (λ n. is_in_order (last w) (t + n.latency) ≡ true)
-                → IfSome o (λ n. is_in_order (last (land w f.message)) (t + n.latency) ≡ true)
+            still : (o : Option (Message P)) → IfSome o (λ n. is_in_order (last w) (t + n.latency) ≡ true) → IfSome o (λ n. is_in_order (last (land w f.message)) (t + n.latency) ≡ true)
             still None e = tt
             still (Some n) e = subst (λ (l : Option ℕ). is_in_order l (t + n.latency) ≡ true) (sym (other_last off)) e
 
-    complete_goes : (cs : List (Completed P)) (w : World P) (f : Flight P) → find (is_done cmp w) w.sending ≡ Some f
-        → IsHistory messages t cs w → GoesByRule cs (complete cmp t w f.message)
+    complete_goes : (cs : List (Completed P)) (w : World P) (f : Flight P) → find (is_done cmp w) w.sending ≡ Some f → IsHistory messages t cs w → GoesByRule cs (complete cmp t w f.message)
     unfolding land GoesByRule
     complete_goes cs w f found h = by_late (is_late cmp t f.message)
       where
@@ -774,29 +763,15 @@ module _ {P : Type 0} (cmp : P → P → Ordering) (order : IsTotalOrder cmp) (k
       let next : IsHistory (messages ++ added call) now (cs ++ ds) u = run_history messages cs ds w u call now at after runs sound h in
       let sound_u : EndsWith (IsSound cmp) (goes ds u) = call_keeps_sound cmp order w call now (goes ds u) sound runs in
       let here : IsHistory (messages ++ added call) u.moment (cs ++ ds) u = subst (λ (s : ℕ). IsHistory (messages ++ added call) s (cs ++ ds) u) (sym next.now) next in
-      let rest : IsInPairOrder cmp k ((messages ++ added call) ++ enqueued calls) ((cs ++ ds) ++ answered css) =
-      answers_in_order more (messages ++ added call) (cs ++ ds) sound_u here in
+      let rest : IsInPairOrder cmp k ((messages ++ added call) ++ enqueued calls) ((cs ++ ds) ++ answered css) = answers_in_order more (messages ++ added call) (cs ++ ds) sound_u here in
       subst (λ (ms : List (Message P)). IsInPairOrder cmp k ms (cs ++ (ds ++ answered css)))
       (append_assoc messages (added call) (enqueued calls)
       ∙ ap (λ (ms : List (Message P)). messages ++ ms) (enqueued_split call calls))
       (subst (IsInPairOrder cmp k ((messages ++ added call) ++ enqueued calls)) (append_assoc cs ds (answered css)) rest)
 
   new_history : (id : ℕ) → IsHistory [] 0 [] (new_world id)
-  new_history id =
-      record {
-        done = [];
-        flying = None;
-        told = tt;
-        in_flight = refl;
-        queue = refl;
-        deliveries = tt;
-        not_past = tt;
-        in_order = tt;
-        alike = λ p q r s e f. refl;
-        now = refl;
-      }
+  new_history id = record { done = []; flying = None; told = tt; in_flight = refl; queue = refl; deliveries = tt; not_past = tt; in_order = tt; alike = λ p q r s e f. refl; now = refl }
 
   -- from a new world on
-  pub pair_in_order : (id : ℕ) (calls : List (Call P)) (css : List (List (Completed P)))
-      → Answers cmp (new_world id) calls css → IsInPairOrder cmp k (enqueued calls) (answered css)
+  pub pair_in_order : (id : ℕ) (calls : List (Call P)) (css : List (List (Completed P))) → Answers cmp (new_world id) calls css → IsInPairOrder cmp k (enqueued calls) (answered css)
   pair_in_order id calls css answers = answers_in_order answers [] [] (new_world_sound cmp order id) (new_history id)

@@ -236,7 +236,8 @@ module _ {P : Type 0} (cmp : P → P → Ordering) (caps : Caps P) where
   abbrev pub SharesNoSide : (Message P → Bool) → List (Message P) → Type 0
   SharesNoSide mine ms = (k : Kind) (m n : Message P) → In ms m → In ms n → uses_at k m n ≡ true → mine m ≡ mine n
 
-  module _ (mine : Message P → Bool) (ms : List (Message P)) (per : ℕ) (parts : ℕ → ℕ) (apart : SharesNoSide mine ms) (fair : IsFair (capped_sides cmp caps ms) per parts) where
+  module _ (mine : Message P → Bool) (ms : List (Message P)) (per : ℕ) (parts : ℕ → ℕ) (apart : SharesNoSide mine ms)
+      (fair : IsFair (capped_sides cmp caps ms) per parts) where
     abbrev own_parts : ℕ → ℕ
     own_parts i = parts (stood (map mine ms) i)
 

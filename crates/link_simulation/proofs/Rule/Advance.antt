@@ -282,7 +282,8 @@ module _ {P : Type 0} (cmp : P → P → Ordering) (order : IsTotalOrder cmp) wh
       let count : now - e + suc steps.0 ≡ now - w.moment = omega (arith, steps.1, after.1) in (
         way.0,
         subst (λ (k : ℕ). Ticks cmp k w way.0) count
-            (subst (λ (c : Course (Completed P) (World P)). Ticks cmp (now - e + suc steps.0) w c) ((preceded_none way.0))
+            (subst (λ (c : Course (Completed P) (World P)). Ticks cmp (now - e + suc steps.0) w c)
+            ((preceded_none way.0))
             ticks),
         way.2,
       )
@@ -375,7 +376,8 @@ module _ {P : Type 0} (cmp : P → P → Ordering) (order : IsTotalOrder cmp) wh
             ticks,
             course_map (IsWoken cmp order now) (StandsNow now) course (goes [] v)
                 (λ q u h. (woken_stands now q u within h, h.0.follows.tallies.moment))
-                (subst (λ (c : Course (Completed P) (World P)). CoursesAlike cmp (IsWoken cmp order now) course c) asleep
+                (subst (λ (c : Course (Completed P) (World P)). CoursesAlike cmp (IsWoken cmp order now) course c)
+                asleep
                 woken),
           )
 

@@ -270,7 +270,8 @@ module _ {P : Type 0} (cmp : P → P → Ordering) (order : IsTotalOrder cmp) wh
       by_test false = refl
 
   -- the world goes on as the planned world does: with these leavers, in this world
-  pub record GoesOn (t : ℕ) (w : World P) (fs : List (Flight P)) (o : Option (Message P)) (leavers : List (Message P)) (new : Planned P) : Type 0 where
+  pub record GoesOn (t : ℕ) (w : World P) (fs : List (Flight P)) (o : Option (Message P)) (leavers : List (Message P))
+      (new : Planned P) : Type 0 where
     pub more : List (Flight P)
     pub world : World P
     pub launches : (next : List (Flight P) → World P → Course (Completed P) (World P))
@@ -286,12 +287,13 @@ module _ {P : Type 0} (cmp : P → P → Ordering) (order : IsTotalOrder cmp) wh
       (next : List (Flight P) → World P → Course (Completed P) (World P)) → launch_then cmp next t fs w o ≡ meets fault
 
   -- the same, where it is known that the message may start
-  pub record StartsSo (t : ℕ) (w : World P) (y : Message P) (leavers : List (Message P)) (new : Planned P) : Type 0 where
-    pub starts : start cmp w y ≡ goes [] (joined cmp w y)
-    pub follows : Follows cmp t new (started w y)
-    pub none : NoneDone (started w y)
-    pub leaves : AllZip (SameMessage cmp) leavers (map (λ (g : Flight P). g.message) (joining w y))
-    pub one_each : OneForEachPair cmp (flows (joined cmp w y))
+  pub record StartsSo (t : ℕ) (w : World P) (y : Message P) (leavers : List (Message P)) (new : Planned P) : Type 0
+    where
+      pub starts : start cmp w y ≡ goes [] (joined cmp w y)
+      pub follows : Follows cmp t new (started w y)
+      pub none : NoneDone (started w y)
+      pub leaves : AllZip (SameMessage cmp) leavers (map (λ (g : Flight P). g.message) (joining w y))
+      pub one_each : OneForEachPair cmp (flows (joined cmp w y))
 
   abbrev pub StartAlike : ℕ → World P → Message P → Course (Message P) (Planned P) → Type 0
   StartAlike t w y (goes leavers new) = StartsSo t w y leavers new

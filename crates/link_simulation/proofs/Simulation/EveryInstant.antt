@@ -33,7 +33,12 @@ module _ {P : Type 0} (cmp : P → P → Ordering) (order : IsTotalOrder cmp) wh
         waiting = without_first (same_pair cmp m) w.waiting;
         next_id = w.next_id + 1;
       }))
-      (lands : (w : World P) (m : Message P) (at : ℕ) → Q w → Q (record w { sending = without_first (is_done cmp w) w.sending; last_arrival = raised cmp w.last_arrival m at })) where
+      (lands : (w : World P) (m : Message P) (at : ℕ) → Q w
+      → Q
+      (record w {
+        sending = without_first (is_done cmp w) w.sending;
+        last_arrival = raised cmp w.last_arrival m at;
+      })) where
     pub start_keeps : (w : World P) (m : Message P) → Q w → EndsWith Q (start cmp w m)
     start_keeps w m h = ends_cond Q (nat_le last_moment w.next_id) (meets FlowIdsUsedUp) _ tt (starts w m h)
 

@@ -261,7 +261,9 @@ module _ {P : Type 0} (cmp : P → P → Ordering) (order : IsTotalOrder cmp) wh
       ap (λ (rest : List (Flight P)). finish_within cmp n t rest (joined cmp v m)) (append-nil fs)
 
   -- a message starts in the one world and in the other
-  module _ (n t : ℕ) (ih : (w : World P) → OneForEachPair cmp (messages w.sending) → over_state (staying cmp) (settle_within cmp n t w) ≡ finish_within cmp n t (leaving cmp w) (staying cmp w)) where
+  module _ (n t : ℕ)
+      (ih : (w : World P) → OneForEachPair cmp (messages w.sending)
+      → over_state (staying cmp) (settle_within cmp n t w) ≡ finish_within cmp n t (leaving cmp w) (staying cmp w)) where
     starting : (w : World P) (fs : List (Flight P)) (v : World P) (m : Message P)
         → OneForEachPair cmp (messages w.sending)
         → list_any (same_pair cmp m) (messages w.sending) ≡ false → leaving cmp w ≡ fs → staying cmp w ≡ v

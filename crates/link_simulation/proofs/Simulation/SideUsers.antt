@@ -15,7 +15,8 @@ use Rattle.fair_rates.proofs.Lists.Places.{places_apart, places_below}
 use Rattle.fair_rates.proofs.Sides.UserCounts.{HaveDistinctUsers}
 use Rattle.link_simulation.proofs.Laws.PartRates.{Kind, cap_at, side_at, from_sides}
 
-module _ {P : Type 0} (cmp : P → P → Ordering) (order : IsTotalOrder cmp) (itself : (p : P) → same_peer cmp p p ≡ true) where
+module _ {P : Type 0} (cmp : P → P → Ordering) (order : IsTotalOrder cmp)
+    (itself : (p : P) → same_peer cmp p p ≡ true) where
   pub users_below : (caps : Caps P) (ms : List (Message P)) (n : ℕ) → length ms ≤ n
       → HaveUsersBelow n (capped_sides cmp caps ms)
   users_below caps ms n few =
