@@ -89,8 +89,8 @@ static inline p2p_wide p2p_number(uint64_t number) {
     return wide;
 }
 
-/* A flow of a plan: something that goes from one peer to another. Where delivered is 0 it takes
- * nothing of what its recipient may receive. */
+/* A flow of a plan: something that goes from one peer to another. Where delivered is 0 it is
+ * dropped: it takes nothing of what its recipient may receive. */
 typedef struct p2p_flow {
     uint64_t id;
     uint64_t origin;
@@ -155,9 +155,9 @@ uint32_t p2p_limit(p2p_scheduler *scheduler, uint64_t now, uint64_t peer, p2p_ca
 /* Sets what may go from one peer to another, from `now` on. */
 uint32_t p2p_limit_link(p2p_scheduler *scheduler, uint64_t now, uint64_t origin, uint64_t recipient, p2p_cap cap, size_t *count);
 
-/* Sends a message of `length` bytes, which are copied. Where should_deliver is 0 it is lost on the
- * way: it takes of what its origin may send, nothing of what its recipient may receive, and does
- * not arrive. */
+/* Sends a message of `length` bytes, which are copied. Where should_deliver is 0 it is dropped on
+ * the way: it takes of what its origin may send, nothing of what its recipient may receive, and
+ * does not arrive. */
 uint32_t p2p_enqueue(p2p_scheduler *scheduler, uint64_t now, uint64_t origin, uint64_t recipient, uint64_t channel,
                      const uint8_t *message, size_t length, uint64_t latency, uint8_t should_deliver, size_t *count);
 

@@ -68,7 +68,7 @@ static void two_messages_share_a_cap(void) {
     p2p_close(&s);
 }
 
-static void a_lost_message_does_not_arrive(void) {
+static void a_dropped_message_does_not_arrive(void) {
     p2p_scheduler s = P2P_SCHEDULER_INIT;
     size_t count;
     p2p_done done[1];
@@ -144,7 +144,7 @@ static void a_script_prints_what_linkrun_prints(void) {
 int main(void) {
     a_handle_is_safe_whatever_its_state();
     two_messages_share_a_cap();
-    a_lost_message_does_not_arrive();
+    a_dropped_message_does_not_arrive();
     a_refused_call_changes_nothing();
     rates_are_max_min_fair();
     a_rate_that_is_no_fraction_is_refused();

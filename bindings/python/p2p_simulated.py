@@ -267,7 +267,7 @@ class State:
         latency: int = 0,
         should_deliver: bool = True,
     ) -> List[Completion]:
-        """Sends a message, which is copied.  Where `should_deliver` is false it does not arrive."""
+        """Sends a message, which is copied.  Where `should_deliver` is false it is dropped."""
         if isinstance(message, int):
             raise TypeError("message has to be bytes; enqueue_zeros takes a length")
         octets = bytes(message)

@@ -24,7 +24,7 @@ class Scheduling(unittest.TestCase):
             self.assertEqual(state.advance_counted(1_500_000_000), ([Completion(1, 2, 7, b"a" * 1000, 2_000_000_000)], 1))
             self.assertIsNone(state.next())
 
-    def test_links_zeros_and_lost_messages(self):
+    def test_links_zeros_and_dropped_messages(self):
         with State() as state:
             state.limit_link(0, 1, 2, 10)
             state.enqueue_zeros(0, 1, 2, 3, 10, should_deliver=False)

@@ -14,7 +14,7 @@ pub struct Completion<P> {
     pub channel: u64,
     /// Its bytes.
     pub message: Vec<u8>,
-    /// The moment at which it arrives, in nanoseconds since the start, or `None` for a lost message.
+    /// The moment at which it arrives, in nanoseconds since the start, or `None` for a dropped message.
     pub deliver_at: Option<u64>,
 }
 
@@ -129,7 +129,7 @@ impl<P: Ord + Clone> State<P> {
         Ok(self.completions(count))
     }
 
-    /// Sends a message, which is copied, at `now`. Where `should_deliver` is false it is lost: it
+    /// Sends a message, which is copied, at `now`. Where `should_deliver` is false it is dropped: it
     /// takes of what its origin may send, and does not arrive. `latency` is in nanoseconds.
     #[allow(clippy::too_many_arguments)]
     pub fn enqueue(

@@ -40,8 +40,8 @@ pub struct Flow<P> {
     pub origin: P,
     /// Who is to receive. It may be the origin.
     pub recipient: P,
-    /// Whether it arrives. A flow that does not, as a message that will be lost, takes nothing of
-    /// what its recipient may receive.
+    /// Whether it arrives. A flow that does not is *dropped*: it takes nothing of what its recipient
+    /// may receive.
     pub delivered: bool,
 }
 
@@ -143,9 +143,9 @@ where
 ///
 /// As [`allocate`], with a third closure. `link_cap` says how much may go from one peer to another,
 /// in bytes a second. It is called once for each flow, after the other closures, with the origin
-/// and the recipient, also for a flow that is not delivered. The first number that is answered for
-/// an ordered pair is the cap of all that goes from the one to the other, delivered or not, from
-/// that flow on. The two directions between two peers are two links.
+/// and the recipient, also for a flow that is dropped. The first number that is answered for an ordered
+/// pair is the cap of all that goes from the one to the other, delivered or dropped, from that flow
+/// on. The two directions between two peers are two links.
 ///
 /// # Errors
 ///

@@ -13,8 +13,10 @@ use Rattle.fair_rates.specs.Refusals.TooLarge.{AreTooLarge, AreTooLargeUnderCaps
 use Rattle.link_scheduler.proofs.Pairs.LookingUp.{LooksUp, LooksUpPairs}
 use Rattle.fair_rates.proofs.Sides.Answers.{answers_if_unchanged, pair_answers_if_unchanged}
 
-module _ {E I L : Type 0} (egress : Calls E ℕ) (ingress : Calls I ℕ) (link : PairCalls L ℕ) (e : E) (i : I) (l : L) (under : Caps ℕ)
-    (egress_by : LooksUp egress e under.egress) (ingress_by : LooksUp ingress i under.ingress) (link_by : LooksUpPairs link l under.link) where
+module _ {E I L : Type 0} (egress : Calls E ℕ) (ingress : Calls I ℕ) (link : PairCalls L ℕ) (e : E) (i : I) (l : L)
+    (under : Caps ℕ)
+    (egress_by : LooksUp egress e under.egress) (ingress_by : LooksUp ingress i under.ingress)
+    (link_by : LooksUpPairs link l under.link) where
   abbrev First : States E I L
   First = record { egress = e; ingress = i; link = l }
 
@@ -27,10 +29,13 @@ module _ {E I L : Type 0} (egress : Calls E ℕ) (ingress : Calls I ℕ) (link :
   }
 
   -- what a call answered is fair under the caps
-  pub rates_if_ok : {X R : Type 0} (rate_of : X → ℕ → Option Rate) (answer : Result X R) (listed flows : List (Flow ℕ)) → listed ≡ flows
-      → IfOk answer (λ x. IsFairUnderCaps nat_cmp egress ingress link First listed (rate_of x)) → IfOk answer (λ x. IsFairById nat_cmp under flows (rate_of x))
+  pub rates_if_ok : {X R : Type 0} (rate_of : X → ℕ → Option Rate) (answer : Result X R) (listed flows : List (Flow ℕ))
+      → listed ≡ flows
+      → IfOk answer (λ x. IsFairUnderCaps nat_cmp egress ingress link First listed (rate_of x))
+      → IfOk answer (λ x. IsFairById nat_cmp under flows (rate_of x))
   rates_if_ok rate_of (Err r) listed flows same h = tt
-  rates_if_ok rate_of (Ok x) listed flows same h = subst (λ fs. IsFairById nat_cmp under fs (rate_of x)) same (h under (answer_by listed))
+  rates_if_ok rate_of (Ok x) listed flows same h =
+      subst (λ fs. IsFairById nat_cmp under fs (rate_of x)) same (h under (answer_by listed))
 
   -- why a call may be refused under the caps
   abbrev Refused : List (Flow ℕ) → Error → Type 0
@@ -44,7 +49,9 @@ module _ {E I L : Type 0} (egress : Calls E ℕ) (ingress : Calls I ℕ) (link :
 
   -- and so one was refused
   pub refused_if_err : {X : Type 0} (answer : Result X Error) (listed flows : List (Flow ℕ)) → listed ≡ flows
-      → IfErr answer (λ why. (why ≡ OutOfMemory) ⊎ ((why ≡ NumberTooLarge) × IsTooLarge nat_cmp egress ingress link First listed))
-      → IfErr answer (λ why. why ≡ NumberTooLarge → AreTooLargeUnderCaps nat_cmp egress ingress link First listed) → IfErr answer (Refused flows)
+      → IfErr answer
+      (λ why. (why ≡ OutOfMemory) ⊎ ((why ≡ NumberTooLarge) × IsTooLarge nat_cmp egress ingress link First listed))
+      → IfErr answer (λ why. why ≡ NumberTooLarge → AreTooLargeUnderCaps nat_cmp egress ingress link First listed)
+      → IfErr answer (Refused flows)
   refused_if_err (Ok x) listed flows same h large = tt
   refused_if_err (Err why) listed flows same h large = subst (λ fs. Refused fs why) same (may_refuse listed why h large)

@@ -1,9 +1,11 @@
 -- Words that are taken column by column.
-use Rattle.std.proofs.Common.{◌≡◌, ℕ, ◌^◌, ◌<◌, ◌≤◌, Bool, true, false, ◌&&◌, eqb, List, [], ◌∷◌, ◌++◌, Option, None, Some, codes, refl, sym, ap, ap₂, ◌∙◌, subst, arith, eq-eqb}
+use Rattle.std.proofs.Common.{◌≡◌, ℕ, ◌^◌, ◌<◌, ◌≤◌, Bool, true, false, ◌&&◌, eqb, List, [], ◌∷◌, ◌++◌, Option, None}
+use Rattle.std.proofs.Common.{Some, codes, refl, sym, ap, ap₂, ◌∙◌, subst, arith, eq-eqb}
 use Rattle.link_scheduler.specs.declared.replay.Call.TheVariants as calls
 use Rattle.link_scripts.specs.declared.linkrun.command.Command.{Command}
 use Rattle.link_scripts.specs.declared.linkrun.command.Command.TheVariants as commands
-use Rattle.link_scripts.specs.Script.{Takes, number_word, cap_word, flag_word, command_words, IsNumberInRange, IsCapInRange, IsSmallCapInRange, IsLengthInRange, IsCommandInRange}
+use Rattle.link_scripts.specs.Script.{Takes, number_word, cap_word, flag_word, command_words, IsNumberInRange}
+use Rattle.link_scripts.specs.Script.{IsCapInRange, IsSmallCapInRange, IsLengthInRange, IsCommandInRange}
 
 -- one word was taken, or no value in range stands there
 abbrev pub TakesWord : {A : Type 0} → (A → List ℕ) → (A → Type 0) → List (List ℕ) → Option A → List (List ℕ) → Type 0
@@ -19,12 +21,19 @@ word_then word words both = word both.0 ∷ words both.1
 abbrev pub AreIn : {A B : Type 0} → (A → Type 0) → (B → Type 0) → A × B → Type 0
 AreIn R S both = R both.0 × S both.1
 
-module _ {A B : Type 0} {word : A → List ℕ} {R : A → Type 0} {words : B → List (List ℕ)} {S : B → Type 0} {w0 w1 w2 : List (List ℕ)} where
+module _ {A B : Type 0} {word : A → List ℕ} {R : A → Type 0} {words : B → List (List ℕ)} {S : B → Type 0}
+    {w0 w1 w2 : List (List ℕ)} where
   -- a word and the words after it
-  pub takes_both : {a : A} {b : B} → TakesWord word R w0 (Some a) w1 → Takes words S w1 (Some b) w2 → Takes (word_then word words) (AreIn R S) w0 (Some (a, b)) w2
-  takes_both {a} {b} first second = record { taken = (first.taken.0 ∙ ap (λ ws. word a ∷ ws) second.taken.0, (first.taken.1, second.taken.1)); missed = missed }
+  pub takes_both : {a : A} {b : B} → TakesWord word R w0 (Some a) w1 → Takes words S w1 (Some b) w2
+      → Takes (word_then word words) (AreIn R S) w0 (Some (a, b)) w2
+  takes_both {a} {b} first second =
+      record {
+        taken = (first.taken.0 ∙ ap (λ ws. word a ∷ ws) second.taken.0, (first.taken.1, second.taken.1));
+        missed = missed;
+      }
     where
-      missed : (both : A × B) (rest : List (List ℕ)) → AreIn R S both → w0 ≡ word_then word words both ++ rest → Some (a, b) ≡ Some both
+      missed : (both : A × B) (rest : List (List ℕ)) → AreIn R S both → w0 ≡ word_then word words both ++ rest
+          → Some (a, b) ≡ Some both
       missed both rest range said =
           let same : Some a ≡ Some both.0 = first.missed both.0 (words both.1 ++ rest) range.0 said in
           let left : w1 ≡ words both.1 ++ rest = cc (first.taken.0, said) in
@@ -34,10 +43,12 @@ module _ {A B : Type 0} {word : A → List ℕ} {R : A → Type 0} {words : B �
           λ i. Some (same_a i, same_b i)
 
   -- a word, and then none that could be
-  pub takes_one : {a : A} → TakesWord word R w0 (Some a) w1 → Takes words S w1 None w2 → Takes (word_then word words) (AreIn R S) w0 None w2
+  pub takes_one : {a : A} → TakesWord word R w0 (Some a) w1 → Takes words S w1 None w2
+      → Takes (word_then word words) (AreIn R S) w0 None w2
   takes_one {a} first second = record { taken = tt; missed = missed }
     where
-      missed : (both : A × B) (rest : List (List ℕ)) → AreIn R S both → w0 ≡ word_then word words both ++ rest → None ≡ Some both
+      missed : (both : A × B) (rest : List (List ℕ)) → AreIn R S both → w0 ≡ word_then word words both ++ rest
+          → None ≡ Some both
       missed both rest range said =
           let left : w1 ≡ words both.1 ++ rest = cc (first.taken.0, said) in
           let no_more : None ≡ Some both.1 = second.missed both.1 rest range.1 left in
@@ -48,7 +59,8 @@ pub takes_none : {A B : Type 0} (words : B → List (List ℕ)) (S : B → Type 
     {w0 w1 : List (List ℕ)} → TakesWord word R w0 None w1 → Takes (word_then word words) (AreIn R S) w0 None w1
 takes_none {A} {B} words S {word} {R} {w0} {w1} first = record { taken = tt; missed = missed }
   where
-    missed : (both : A × B) (rest : List (List ℕ)) → AreIn R S both → w0 ≡ word_then word words both ++ rest → None ≡ Some both
+    missed : (both : A × B) (rest : List (List ℕ)) → AreIn R S both → w0 ≡ word_then word words both ++ rest
+        → None ≡ Some both
     missed both rest range said =
         let none : None ≡ Some both.0 = first.missed both.0 (words both.1 ++ rest) range.0 said in
         absurd (cc none)
@@ -59,10 +71,13 @@ pub wider : (cap : Option ℕ) → IsSmallCapInRange cap → IsCapInRange cap
 wider None range = tt
 wider (Some c) range = omega (arith, range)
 
-pub narrow_cap : (w0 w1 : List (List ℕ)) (cap : Option ℕ) → TakesWord cap_word IsCapInRange w0 (Some cap) w1 → IsSmallCapInRange cap → TakesWord cap_word IsSmallCapInRange w0 (Some cap) w1
-narrow_cap w0 w1 cap takes small = record { taken = (takes.taken.0, small); missed = λ v rest range said. takes.missed v rest (wider v range) said }
+pub narrow_cap : (w0 w1 : List (List ℕ)) (cap : Option ℕ) → TakesWord cap_word IsCapInRange w0 (Some cap) w1
+    → IsSmallCapInRange cap → TakesWord cap_word IsSmallCapInRange w0 (Some cap) w1
+narrow_cap w0 w1 cap takes small =
+    record { taken = (takes.taken.0, small); missed = λ v rest range said. takes.missed v rest (wider v range) said }
 
-pub wide_cap : (w0 w1 : List (List ℕ)) (c : ℕ) → TakesWord cap_word IsCapInRange w0 (Some (Some c)) w1 → 2 ^ 64 ≤ c → TakesWord cap_word IsSmallCapInRange w0 None w1
+pub wide_cap : (w0 w1 : List (List ℕ)) (c : ℕ) → TakesWord cap_word IsCapInRange w0 (Some (Some c)) w1 → 2 ^ 64 ≤ c
+    → TakesWord cap_word IsSmallCapInRange w0 None w1
 wide_cap w0 w1 c takes wide = record { taken = tt; missed = missed }
   where
     missed : (v : Option ℕ) (rest : List (List ℕ)) → IsSmallCapInRange v → w0 ≡ cap_word v ∷ [] ++ rest → None ≡ Some v
@@ -72,7 +87,8 @@ wide_cap w0 w1 c takes wide = record { taken = tt; missed = missed }
         let low : c < 2 ^ 64 = subst IsSmallCapInRange is range in
         absurd (omega (arith, low, wide))
 
-pub no_cap : (w0 w1 : List (List ℕ)) → TakesWord cap_word IsCapInRange w0 None w1 → TakesWord cap_word IsSmallCapInRange w0 None w1
+pub no_cap : (w0 w1 : List (List ℕ)) → TakesWord cap_word IsCapInRange w0 None w1
+    → TakesWord cap_word IsSmallCapInRange w0 None w1
 no_cap w0 w1 takes = record { taken = tt; missed = λ v rest range said. takes.missed v rest (wider v range) said }
 
 -- ---- a message
@@ -101,7 +117,8 @@ abbrev MessageColumns : Type 0
 MessageColumns = ℕ × (ℕ × (ℕ × (ℕ × (ℕ × (ℕ × Bool)))))
 
 abbrev message_words : MessageColumns → List (List ℕ)
-message_words = word_then number_word (word_then number_word (word_then number_word (word_then number_word length_words)))
+message_words =
+    word_then number_word (word_then number_word (word_then number_word (word_then number_word length_words)))
 
 abbrev IsMessageIn : MessageColumns → Type 0
 IsMessageIn = AreIn IsNumberInRange (AreIn IsNumberInRange (AreIn IsNumberInRange (AreIn IsNumberInRange AreLengthIn)))
@@ -110,34 +127,49 @@ IsMessageIn = AreIn IsNumberInRange (AreIn IsNumberInRange (AreIn IsNumberInRang
 
 -- a command begins with that word only if it is one of those
 abbrev pub AreOfName : {X : Type 0} → List ℕ → (X → Command) → Type 0
-AreOfName {X} name of = (v : Command) (ws rest : List (List ℕ)) → name ∷ ws ≡ command_words v ++ rest → (x : X) × (v ≡ of x)
+AreOfName {X} name of =
+    (v : Command) (ws rest : List (List ℕ)) → name ∷ ws ≡ command_words v ++ rest → (x : X) × (v ≡ of x)
 
 module _ {X : Type 0} (name : List ℕ) (words : X → List (List ℕ)) (S : X → Type 0) (of : X → Command)
-    (spelled : (x : X) → command_words (of x) ≡ name ∷ words x) (into : (x : X) → IsCommandInRange (of x) → S x) (back : (x : X) → S x → IsCommandInRange (of x)) (only : AreOfName name of) where
+    (spelled : (x : X) → command_words (of x) ≡ name ∷ words x) (into : (x : X) → IsCommandInRange (of x) → S x)
+    (back : (x : X) → S x → IsCommandInRange (of x)) (only : AreOfName name of) where
   module _ {w0 w1 : List (List ℕ)} (named : w0 ≡ name ∷ w1) where
     -- what stands behind the word, where a command is said
-    behind : (v : Command) (rest : List (List ℕ)) → IsCommandInRange v → w0 ≡ command_words v ++ rest → (x : X) × (v ≡ of x) × S x × (w1 ≡ words x ++ rest)
+    behind : (v : Command) (rest : List (List ℕ)) → IsCommandInRange v → w0 ≡ command_words v ++ rest
+        → (x : X) × (v ≡ of x) × S x × (w1 ≡ words x ++ rest)
     behind v rest range said =
         let one = only v w1 rest (sym named ∙ said) in
         let x = one.0 in
         let in_range = into x (subst IsCommandInRange one.1 range) in
-        let all : name ∷ w1 ≡ (name ∷ words x) ++ rest = sym named ∙ said ∙ ap (λ c. command_words c ++ rest) one.1 ∙ ap (λ ws. ws ++ rest) (spelled x) in
+        let all : name ∷ w1 ≡ (name ∷ words x) ++ rest =
+        sym named ∙ said ∙ ap (λ c. command_words c ++ rest) one.1 ∙ ap (λ ws. ws ++ rest) (spelled x) in
         (x, one.1, in_range, cc all)
 
-    pub takes_command : {w2 : List (List ℕ)} {x : X} → Takes words S w1 (Some x) w2 → Takes command_words IsCommandInRange w0 (Some (of x)) w2
-    takes_command {w2} {x} takes = record { taken = (named ∙ ap (λ ws. name ∷ ws) takes.taken.0 ∙ ap (λ ws. ws ++ w2) (sym (spelled x)), back x takes.taken.1); missed = missed }
+    pub takes_command : {w2 : List (List ℕ)} {x : X} → Takes words S w1 (Some x) w2
+        → Takes command_words IsCommandInRange w0 (Some (of x)) w2
+    takes_command {w2} {x} takes =
+        record {
+          taken = (
+            named ∙ ap (λ ws. name ∷ ws) takes.taken.0 ∙ ap (λ ws. ws ++ w2) (sym (spelled x)),
+            back x takes.taken.1,
+          );
+          missed = missed;
+        }
       where
-        missed : (v : Command) (rest : List (List ℕ)) → IsCommandInRange v → w0 ≡ command_words v ++ rest → Some (of x) ≡ Some v
+        missed : (v : Command) (rest : List (List ℕ)) → IsCommandInRange v → w0 ≡ command_words v ++ rest
+            → Some (of x) ≡ Some v
         missed v rest range said =
             let b = behind v rest range said in
             let same : Some x ≡ Some b.0 = takes.missed b.0 rest b.2 b.3 in
             let is : x ≡ b.0 = cc same in
             ap (λ y. Some (of y)) is ∙ ap Some (sym b.1)
 
-    pub takes_no_command : {w2 : List (List ℕ)} → Takes words S w1 None w2 → Takes command_words IsCommandInRange w0 None w2
+    pub takes_no_command : {w2 : List (List ℕ)} → Takes words S w1 None w2
+        → Takes command_words IsCommandInRange w0 None w2
     takes_no_command {w2} takes = record { taken = tt; missed = missed }
       where
-        missed : (v : Command) (rest : List (List ℕ)) → IsCommandInRange v → w0 ≡ command_words v ++ rest → None ≡ Some v
+        missed : (v : Command) (rest : List (List ℕ)) → IsCommandInRange v → w0 ≡ command_words v ++ rest
+            → None ≡ Some v
         missed v rest range said =
             let b = behind v rest range said in
             let none : None ≡ Some b.0 = takes.missed b.0 rest b.2 b.3 in
@@ -205,35 +237,53 @@ only_link (commands.Flow f) ws rest said = absurd (apart (codes "link") (codes "
 only_link (commands.Egress peer cap) ws rest said = absurd (apart (codes "link") (codes "egress") ws _ refl said)
 only_link (commands.Ingress peer cap) ws rest said = absurd (apart (codes "link") (codes "ingress") ws _ refl said)
 only_link commands.Rates ws rest said = absurd (apart (codes "link") (codes "rates") ws _ refl said)
-only_link (commands.Schedule (calls.Limit now peer egress ingress)) ws rest said = absurd (apart (codes "link") (codes "limit") ws _ refl said)
-only_link (commands.Schedule (calls.LimitLink now origin recipient cap)) ws rest said = absurd (apart (codes "link") (codes "limitlink") ws _ refl said)
-only_link (commands.Schedule (calls.Enqueue now origin recipient channel length latency should_deliver)) ws rest said = absurd (apart (codes "link") (codes "enqueue") ws _ refl said)
-only_link (commands.Schedule (calls.Advance now)) ws rest said = absurd (apart (codes "link") (codes "advance") ws _ refl said)
+only_link (commands.Schedule (calls.Limit now peer egress ingress)) ws rest said =
+    absurd (apart (codes "link") (codes "limit") ws _ refl said)
+only_link (commands.Schedule (calls.LimitLink now origin recipient cap)) ws rest said =
+    absurd (apart (codes "link") (codes "limitlink") ws _ refl said)
+only_link (commands.Schedule (calls.Enqueue now origin recipient channel length latency should_deliver)) ws rest said =
+    absurd (apart (codes "link") (codes "enqueue") ws _ refl said)
+only_link (commands.Schedule (calls.Advance now)) ws rest said =
+    absurd (apart (codes "link") (codes "advance") ws _ refl said)
 only_link (commands.Schedule calls.Next) ws rest said = absurd (apart (codes "link") (codes "next") ws _ refl said)
 
 only_limit : AreOfName (codes "limit") limit_of
-only_limit (commands.Schedule (calls.Limit now peer egress ingress)) ws rest said = ((now, (peer, (egress, ingress))), refl)
+only_limit (commands.Schedule (calls.Limit now peer egress ingress)) ws rest said =
+    ((now, (peer, (egress, ingress))), refl)
 only_limit (commands.Flow f) ws rest said = absurd (apart (codes "limit") (codes "flow") ws _ refl said)
 only_limit (commands.Egress peer cap) ws rest said = absurd (apart (codes "limit") (codes "egress") ws _ refl said)
 only_limit (commands.Ingress peer cap) ws rest said = absurd (apart (codes "limit") (codes "ingress") ws _ refl said)
-only_limit (commands.Link origin recipient cap) ws rest said = absurd (apart (codes "limit") (codes "link") ws _ refl said)
+only_limit (commands.Link origin recipient cap) ws rest said =
+    absurd (apart (codes "limit") (codes "link") ws _ refl said)
 only_limit commands.Rates ws rest said = absurd (apart (codes "limit") (codes "rates") ws _ refl said)
-only_limit (commands.Schedule (calls.LimitLink now origin recipient cap)) ws rest said = absurd (apart (codes "limit") (codes "limitlink") ws _ refl said)
-only_limit (commands.Schedule (calls.Enqueue now origin recipient channel length latency should_deliver)) ws rest said = absurd (apart (codes "limit") (codes "enqueue") ws _ refl said)
-only_limit (commands.Schedule (calls.Advance now)) ws rest said = absurd (apart (codes "limit") (codes "advance") ws _ refl said)
+only_limit (commands.Schedule (calls.LimitLink now origin recipient cap)) ws rest said =
+    absurd (apart (codes "limit") (codes "limitlink") ws _ refl said)
+only_limit (commands.Schedule (calls.Enqueue now origin recipient channel length latency should_deliver)) ws rest said =
+    absurd (apart (codes "limit") (codes "enqueue") ws _ refl said)
+only_limit (commands.Schedule (calls.Advance now)) ws rest said =
+    absurd (apart (codes "limit") (codes "advance") ws _ refl said)
 only_limit (commands.Schedule calls.Next) ws rest said = absurd (apart (codes "limit") (codes "next") ws _ refl said)
 
 only_limit_link : AreOfName (codes "limitlink") limit_link_of
-only_limit_link (commands.Schedule (calls.LimitLink now origin recipient cap)) ws rest said = ((now, (origin, (recipient, cap))), refl)
+only_limit_link (commands.Schedule (calls.LimitLink now origin recipient cap)) ws rest said =
+    ((now, (origin, (recipient, cap))), refl)
 only_limit_link (commands.Flow f) ws rest said = absurd (apart (codes "limitlink") (codes "flow") ws _ refl said)
-only_limit_link (commands.Egress peer cap) ws rest said = absurd (apart (codes "limitlink") (codes "egress") ws _ refl said)
-only_limit_link (commands.Ingress peer cap) ws rest said = absurd (apart (codes "limitlink") (codes "ingress") ws _ refl said)
-only_limit_link (commands.Link origin recipient cap) ws rest said = absurd (apart (codes "limitlink") (codes "link") ws _ refl said)
+only_limit_link (commands.Egress peer cap) ws rest said =
+    absurd (apart (codes "limitlink") (codes "egress") ws _ refl said)
+only_limit_link (commands.Ingress peer cap) ws rest said =
+    absurd (apart (codes "limitlink") (codes "ingress") ws _ refl said)
+only_limit_link (commands.Link origin recipient cap) ws rest said =
+    absurd (apart (codes "limitlink") (codes "link") ws _ refl said)
 only_limit_link commands.Rates ws rest said = absurd (apart (codes "limitlink") (codes "rates") ws _ refl said)
-only_limit_link (commands.Schedule (calls.Limit now peer egress ingress)) ws rest said = absurd (apart (codes "limitlink") (codes "limit") ws _ refl said)
-only_limit_link (commands.Schedule (calls.Enqueue now origin recipient channel length latency should_deliver)) ws rest said = absurd (apart (codes "limitlink") (codes "enqueue") ws _ refl said)
-only_limit_link (commands.Schedule (calls.Advance now)) ws rest said = absurd (apart (codes "limitlink") (codes "advance") ws _ refl said)
-only_limit_link (commands.Schedule calls.Next) ws rest said = absurd (apart (codes "limitlink") (codes "next") ws _ refl said)
+only_limit_link (commands.Schedule (calls.Limit now peer egress ingress)) ws rest said =
+    absurd (apart (codes "limitlink") (codes "limit") ws _ refl said)
+only_limit_link (commands.Schedule (calls.Enqueue now origin recipient channel length latency should_deliver)) ws rest
+    said =
+    absurd (apart (codes "limitlink") (codes "enqueue") ws _ refl said)
+only_limit_link (commands.Schedule (calls.Advance now)) ws rest said =
+    absurd (apart (codes "limitlink") (codes "advance") ws _ refl said)
+only_limit_link (commands.Schedule calls.Next) ws rest said =
+    absurd (apart (codes "limitlink") (codes "next") ws _ refl said)
 
 into_columns : (m : MessageColumns) → IsCommandInRange (enqueue_of m) → IsMessageIn m
 into_columns m r = (r.0, (r.1, (r.2, (r.3, (r.4, (r.5, tt))))))
@@ -242,35 +292,56 @@ of_columns : (m : MessageColumns) → IsMessageIn m → IsCommandInRange (enqueu
 of_columns m r = (r.0, r.1.0, r.1.1.0, r.1.1.1.0, r.1.1.1.1.0, r.1.1.1.1.1.0)
 
 only_enqueue : AreOfName (codes "enqueue") enqueue_of
-only_enqueue (commands.Schedule (calls.Enqueue now origin recipient channel length latency should_deliver)) ws rest said =
+only_enqueue (commands.Schedule (calls.Enqueue now origin recipient channel length latency should_deliver)) ws rest
+    said =
     ((now, (origin, (recipient, (channel, (length, (latency, should_deliver)))))), refl)
 only_enqueue (commands.Flow f) ws rest said = absurd (apart (codes "enqueue") (codes "flow") ws _ refl said)
 only_enqueue (commands.Egress peer cap) ws rest said = absurd (apart (codes "enqueue") (codes "egress") ws _ refl said)
-only_enqueue (commands.Ingress peer cap) ws rest said = absurd (apart (codes "enqueue") (codes "ingress") ws _ refl said)
-only_enqueue (commands.Link origin recipient cap) ws rest said = absurd (apart (codes "enqueue") (codes "link") ws _ refl said)
+only_enqueue (commands.Ingress peer cap) ws rest said =
+    absurd (apart (codes "enqueue") (codes "ingress") ws _ refl said)
+only_enqueue (commands.Link origin recipient cap) ws rest said =
+    absurd (apart (codes "enqueue") (codes "link") ws _ refl said)
 only_enqueue commands.Rates ws rest said = absurd (apart (codes "enqueue") (codes "rates") ws _ refl said)
-only_enqueue (commands.Schedule (calls.Limit now peer egress ingress)) ws rest said = absurd (apart (codes "enqueue") (codes "limit") ws _ refl said)
-only_enqueue (commands.Schedule (calls.LimitLink now origin recipient cap)) ws rest said = absurd (apart (codes "enqueue") (codes "limitlink") ws _ refl said)
-only_enqueue (commands.Schedule (calls.Advance now)) ws rest said = absurd (apart (codes "enqueue") (codes "advance") ws _ refl said)
-only_enqueue (commands.Schedule calls.Next) ws rest said = absurd (apart (codes "enqueue") (codes "next") ws _ refl said)
+only_enqueue (commands.Schedule (calls.Limit now peer egress ingress)) ws rest said =
+    absurd (apart (codes "enqueue") (codes "limit") ws _ refl said)
+only_enqueue (commands.Schedule (calls.LimitLink now origin recipient cap)) ws rest said =
+    absurd (apart (codes "enqueue") (codes "limitlink") ws _ refl said)
+only_enqueue (commands.Schedule (calls.Advance now)) ws rest said =
+    absurd (apart (codes "enqueue") (codes "advance") ws _ refl said)
+only_enqueue (commands.Schedule calls.Next) ws rest said =
+    absurd (apart (codes "enqueue") (codes "next") ws _ refl said)
 
 module _ {w1 w2 : List (List ℕ)} where
   -- the columns of a message behind the word are its command, and where some column is missing there is none
-  pub takes_enqueue : {m : MessageColumns} → Takes message_words IsMessageIn w1 (Some m) w2 → Takes command_words IsCommandInRange (codes "enqueue" ∷ w1) (Some (enqueue_of m)) w2
-  takes_enqueue takes = takes_command (codes "enqueue") message_words IsMessageIn enqueue_of (λ m. refl) into_columns of_columns only_enqueue refl takes
+  pub takes_enqueue : {m : MessageColumns} → Takes message_words IsMessageIn w1 (Some m) w2
+      → Takes command_words IsCommandInRange (codes "enqueue" ∷ w1) (Some (enqueue_of m)) w2
+  takes_enqueue takes =
+      takes_command (codes "enqueue") message_words IsMessageIn enqueue_of (λ m. refl) into_columns of_columns
+      only_enqueue refl takes
 
-  pub takes_no_enqueue : Takes message_words IsMessageIn w1 None w2 → Takes command_words IsCommandInRange (codes "enqueue" ∷ w1) None w2
-  takes_no_enqueue takes = takes_no_command (codes "enqueue") message_words IsMessageIn enqueue_of (λ m. refl) into_columns of_columns only_enqueue refl takes
+  pub takes_no_enqueue : Takes message_words IsMessageIn w1 None w2
+      → Takes command_words IsCommandInRange (codes "enqueue" ∷ w1) None w2
+  takes_no_enqueue takes =
+      takes_no_command (codes "enqueue") message_words IsMessageIn enqueue_of (λ m. refl) into_columns of_columns
+      only_enqueue refl takes
 
 module _ {w0 w1 w2 : List (List ℕ)} where
   -- the columns behind the word are a command
-  pub takes_link : {x : ℕ × (ℕ × Option ℕ)} → w0 ≡ codes "link" ∷ w1 → Takes link_words (IsLinkIn IsCapInRange) w1 (Some x) w2 → Takes command_words IsCommandInRange w0 (Some (link_of x)) w2
-  takes_link named takes = takes_command (codes "link") link_words (IsLinkIn IsCapInRange) link_of (λ x. refl) (λ x r. (r.0, (r.1, r.2))) (λ x r. (r.0, r.1.0, r.1.1)) only_link named takes
+  pub takes_link : {x : ℕ × (ℕ × Option ℕ)} → w0 ≡ codes "link" ∷ w1
+      → Takes link_words (IsLinkIn IsCapInRange) w1 (Some x) w2
+      → Takes command_words IsCommandInRange w0 (Some (link_of x)) w2
+  takes_link named takes =
+      takes_command (codes "link") link_words (IsLinkIn IsCapInRange) link_of (λ x. refl) (λ x r. (r.0, (r.1, r.2)))
+      (λ x r. (r.0, r.1.0, r.1.1)) only_link named takes
 
-  pub takes_limit : {x : ℕ × (ℕ × (Option ℕ × Option ℕ))} → w0 ≡ codes "limit" ∷ w1 → Takes limit_words IsLimitIn w1 (Some x) w2 → Takes command_words IsCommandInRange w0 (Some (limit_of x)) w2
-  takes_limit named takes = takes_command (codes "limit") limit_words IsLimitIn limit_of (λ x. refl) (λ x r. (r.0, (r.1, (r.2, r.3)))) (λ x r. (r.0, r.1.0, r.1.1.0, r.1.1.1)) only_limit named takes
+  pub takes_limit : {x : ℕ × (ℕ × (Option ℕ × Option ℕ))} → w0 ≡ codes "limit" ∷ w1
+      → Takes limit_words IsLimitIn w1 (Some x) w2 → Takes command_words IsCommandInRange w0 (Some (limit_of x)) w2
+  takes_limit named takes =
+      takes_command (codes "limit") limit_words IsLimitIn limit_of (λ x. refl) (λ x r. (r.0, (r.1, (r.2, r.3))))
+      (λ x r. (r.0, r.1.0, r.1.1.0, r.1.1.1)) only_limit named takes
 
-  pub takes_limit_link : {x : ℕ × (ℕ × (ℕ × Option ℕ))} → w0 ≡ codes "limitlink" ∷ w1 → Takes (word_then number_word link_words) (AreIn IsNumberInRange (IsLinkIn IsSmallCapInRange)) w1 (Some x) w2
+  pub takes_limit_link : {x : ℕ × (ℕ × (ℕ × Option ℕ))} → w0 ≡ codes "limitlink" ∷ w1
+      → Takes (word_then number_word link_words) (AreIn IsNumberInRange (IsLinkIn IsSmallCapInRange)) w1 (Some x) w2
       → Takes command_words IsCommandInRange w0 (Some (limit_link_of x)) w2
   takes_limit_link named takes =
       takes_command (codes "limitlink") (word_then number_word link_words)
@@ -278,10 +349,14 @@ module _ {w0 w1 w2 : List (List ℕ)} where
       (λ x r. (r.0, r.1.0, r.1.1.0, r.1.1.1)) only_limit_link named takes
 
   -- and where some column is missing there is none
-  pub takes_no_link : w0 ≡ codes "link" ∷ w1 → Takes link_words (IsLinkIn IsCapInRange) w1 None w2 → Takes command_words IsCommandInRange w0 None w2
-  takes_no_link named takes = takes_no_command (codes "link") link_words (IsLinkIn IsCapInRange) link_of (λ x. refl) (λ x r. (r.0, (r.1, r.2))) (λ x r. (r.0, r.1.0, r.1.1)) only_link named takes
+  pub takes_no_link : w0 ≡ codes "link" ∷ w1 → Takes link_words (IsLinkIn IsCapInRange) w1 None w2
+      → Takes command_words IsCommandInRange w0 None w2
+  takes_no_link named takes =
+      takes_no_command (codes "link") link_words (IsLinkIn IsCapInRange) link_of (λ x. refl) (λ x r. (r.0, (r.1, r.2)))
+      (λ x r. (r.0, r.1.0, r.1.1)) only_link named takes
 
-  pub takes_no_limit : w0 ≡ codes "limit" ∷ w1 → Takes limit_words IsLimitIn w1 None w2 → Takes command_words IsCommandInRange w0 None w2
+  pub takes_no_limit : w0 ≡ codes "limit" ∷ w1 → Takes limit_words IsLimitIn w1 None w2
+      → Takes command_words IsCommandInRange w0 None w2
   takes_no_limit named takes =
       takes_no_command (codes "limit") limit_words IsLimitIn limit_of (λ x. refl) (λ x r. (r.0, (r.1, (r.2, r.3))))
       (λ x r. (r.0, r.1.0, r.1.1.0, r.1.1.1)) only_limit named takes

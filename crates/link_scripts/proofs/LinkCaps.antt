@@ -10,8 +10,11 @@ use Rattle.link_scripts.specs.Session.{with_said_link}
 same_number : (a b : ℕ) → is_eq (nat_cmp a b) ≡ eqb b a
 same_number a b = grind (arith, nat_tests)
 
-same_link : (origin recipient p q : ℕ) → is_eq (pair_cmp nat_cmp (origin, recipient) (p, q)) ≡ (eqb p origin && eqb q recipient)
-same_link origin recipient p q = sym (tied_then (nat_cmp origin p) (nat_cmp recipient q)) ∙ ap₂ (λ x y. x && y) (same_number origin p) (same_number recipient q)
+same_link : (origin recipient p q : ℕ)
+    → is_eq (pair_cmp nat_cmp (origin, recipient) (p, q)) ≡ (eqb p origin && eqb q recipient)
+same_link origin recipient p q =
+    sym (tied_then (nat_cmp origin p) (nat_cmp recipient q))
+    ∙ ap₂ (λ x y. x && y) (same_number origin p) (same_number recipient q)
 
 -- where the cap at one key was set, that of one link was
 pub with_one_link : (old : ℕ → ℕ → Option ℕ) (origin recipient : ℕ) (cap : Option ℕ) (p q : ℕ)

@@ -1,5 +1,6 @@
 -- What is printed line by line.
-use Rattle.std.proofs.Common.{◌≡◌, ℕ, List, [], ◌∷◌, ◌++◌, Option, None, Some, map, refl, sym, ap, ◌∙◌, subst, append_assoc, append-nil, codes, decimal, length}
+use Rattle.std.proofs.Common.{◌≡◌, ℕ, List, [], ◌∷◌, ◌++◌, Option, None, Some, map, refl, sym, ap, ◌∙◌, subst}
+use Rattle.std.proofs.Common.{append_assoc, append-nil, codes, decimal, length}
 use denote.Ref.{Bor}
 use Rattle.std.specs.Io.KnownBytes.{Appends}
 use Rattle.std.specs.Map.Iter.{deref_pair}
@@ -13,35 +14,51 @@ use Rattle.link_scripts.specs.Answer.{rate_line, rates_text, moment_word, done_l
 
 -- what is printed of a completion before its moment, where its message has that length
 abbrev pub done_front : Completion ℕ → ℕ → List ℕ
-done_front c n = codes "done " ++ (decimal c.origin ++ (codes " " ++ (decimal c.recipient ++ (codes " " ++ (decimal c.channel ++ (codes " " ++ (decimal n ++ codes " ")))))))
+done_front c n =
+    codes "done "
+    ++ (decimal c.origin
+    ++ (codes " "
+    ++ (decimal c.recipient ++ (codes " " ++ (decimal c.channel ++ (codes " " ++ (decimal n ++ codes " ")))))))
 
 -- one text after another
-Appends-append : (before between after : Option (List ℕ)) (first second : List ℕ) → Appends before between first → Appends between after second → Appends before after (first ++ second)
+Appends-append : (before between after : Option (List ℕ)) (first second : List ℕ) → Appends before between first
+    → Appends between after second → Appends before after (first ++ second)
 Appends-append None between after first second h k = tt
 Appends-append (Some xs) None after first second h k = absurd h
 Appends-append (Some xs) (Some ys) None first second h k = absurd k
-Appends-append (Some xs) (Some ys) (Some zs) first second h k = k ∙ ap (λ front. front ++ second) h ∙ append_assoc xs first second
+Appends-append (Some xs) (Some ys) (Some zs) first second h k =
+    k ∙ ap (λ front. front ++ second) h ∙ append_assoc xs first second
 
 -- the text of one entry more
-rates_text-push : (entries : List (ℕ × Rate)) (id : ℕ) (rate : Rate) → rates_text (entries ++ (id, rate) ∷ []) ≡ rates_text entries ++ rate_line id rate
+rates_text-push : (entries : List (ℕ × Rate)) (id : ℕ) (rate : Rate)
+    → rates_text (entries ++ (id, rate) ∷ []) ≡ rates_text entries ++ rate_line id rate
 rates_text-push entries id rate =
-    flat_map-append (λ entry. rate_line entry.0 entry.1) entries ((id, rate) ∷ []) ∙ ap (λ last. rates_text entries ++ last) (append-nil (rate_line id rate))
+    flat_map-append (λ entry. rate_line entry.0 entry.1) entries ((id, rate) ∷ [])
+    ∙ ap (λ last. rates_text entries ++ last) (append-nil (rate_line id rate))
 
 -- the line of the next entry, after those so far
 pub next_rate : (before between after : Option (List ℕ)) (done : List (Bor ℕ × Bor Rate)) (id : Bor ℕ) (rate : Bor Rate)
     → Appends before between (rates_text (map deref_pair done)) → Appends between after (rate_line id.now rate.now)
     → Appends before after (rates_text (map deref_pair (done ++ (id, rate) ∷ [])))
 next_rate before between after done id rate h k =
-    let text = ap rates_text (map-append deref_pair done ((id, rate) ∷ [])) ∙ rates_text-push (map deref_pair done) id.now rate.now in
+    let text =
+    ap rates_text (map-append deref_pair done ((id, rate) ∷ []))
+    ∙ rates_text-push (map deref_pair done) id.now rate.now in
     subst (Appends before after) (sym text) (Appends-append before between after _ _ h k)
 
 -- words with spaces between them, cut before the last but one
-cut_words : (d o r h l m end sp : List ℕ) → d ++ o ++ sp ++ r ++ sp ++ h ++ sp ++ l ++ sp ++ m ++ end ≡ (d ++ (o ++ (sp ++ (r ++ (sp ++ (h ++ (sp ++ (l ++ sp)))))))) ++ (m ++ end)
+cut_words : (d o r h l m end sp : List ℕ)
+    → d ++ o ++ sp ++ r ++ sp ++ h ++ sp ++ l ++ sp ++ m ++ end
+    ≡ (d ++ (o ++ (sp ++ (r ++ (sp ++ (h ++ (sp ++ (l ++ sp)))))))) ++ (m ++ end)
 cut_words d o r h l m end sp = simp append_assoc refl
 
 -- the line of a completion is that, and then its moment
-done_line_parts : (c : Completion ℕ) (n : ℕ) → n ≡ length c.message → done_line (completed_of c) ≡ done_front c n ++ (moment_word c.deliver_at ++ 10 ∷ [])
-done_line_parts c n is = rw is (cut_words (codes "done ") (decimal c.origin) (decimal c.recipient) (decimal c.channel) (decimal (length c.message)) (moment_word c.deliver_at) (10 ∷ []) (codes " "))
+done_line_parts : (c : Completion ℕ) (n : ℕ) → n ≡ length c.message
+    → done_line (completed_of c) ≡ done_front c n ++ (moment_word c.deliver_at ++ 10 ∷ [])
+done_line_parts c n is =
+    rw is
+    (cut_words (codes "done ") (decimal c.origin) (decimal c.recipient) (decimal c.channel)
+    (decimal (length c.message)) (moment_word c.deliver_at) (10 ∷ []) (codes " "))
 
 pub done_parts : (before between after : Option (List ℕ)) (c : Completion ℕ) (n : ℕ) → n ≡ length c.message
     → Appends before between (done_front c n) → Appends between after (moment_word c.deliver_at ++ 10 ∷ [])
@@ -51,8 +68,11 @@ done_parts before between after c n is h k =
     (Appends-append before between after (done_front c n) (moment_word c.deliver_at ++ 10 ∷ []) h k)
 
 -- the text of one completion more
-done_text-push : (completions : List (Completed ℕ)) (c : Completed ℕ) → done_text (completions ++ c ∷ []) ≡ done_text completions ++ done_line c
-done_text-push completions c = flat_map-append done_line completions (c ∷ []) ∙ ap (λ last. done_text completions ++ last) (append-nil (done_line c))
+done_text-push : (completions : List (Completed ℕ)) (c : Completed ℕ)
+    → done_text (completions ++ c ∷ []) ≡ done_text completions ++ done_line c
+done_text-push completions c =
+    flat_map-append done_line completions (c ∷ [])
+    ∙ ap (λ last. done_text completions ++ last) (append-nil (done_line c))
 
 -- the line of the next completion, after those so far
 pub next_done : (before between after : Option (List ℕ)) (done more : List (Completion ℕ)) (c : Completion ℕ)
@@ -60,5 +80,7 @@ pub next_done : (before between after : Option (List ℕ)) (done more : List (Co
     → Appends between after (done_line (completed_of c))
     → Appends before after (done_text (map completed_of more))
 next_done before between after done more c is h k =
-    let text = ap (λ l. done_text (map completed_of l)) is ∙ ap done_text (map-append completed_of done (c ∷ [])) ∙ done_text-push (map completed_of done) (completed_of c) in
+    let text =
+    ap (λ l. done_text (map completed_of l)) is ∙ ap done_text (map-append completed_of done (c ∷ []))
+    ∙ done_text-push (map completed_of done) (completed_of c) in
     subst (Appends before after) (sym text) (Appends-append before between after _ _ h k)

@@ -1,6 +1,7 @@
 -- What a bounded read up to the end byte gives.
 use Rattle.std.proofs.Common.{◌≡◌, ◌≢◌, ℕ, ◌+◌, ◌-◌, ◌<◌, ◌≤◌, suc, Bool, true, false, cond, eqb, List, [], ◌∷◌, ◌++◌}
-use Rattle.std.proofs.Common.{length, get_or, take, drop, refl, sym, ap, ◌∙◌, subst, arith, append_assoc, length-append, length-take, take-append-drop, Option, None, Some, ⊎_elim}
+use Rattle.std.proofs.Common.{length, get_or, take, drop, refl, sym, ap, ◌∙◌, subst, arith, append_assoc, length-append}
+use Rattle.std.proofs.Common.{length-take, take-append-drop, Option, None, Some, ⊎_elim}
 use Rattle.std.proofs.lemmas.Bool.{cases_lt}
 use borrow.Author.Tests.{eqb-true}
 use Rattle.std.proofs.Math.Seq.{drop-append-add}
@@ -30,12 +31,16 @@ through-append : (bytes : List ℕ) → take_through 10 bytes ++ drop_through 10
 through-append [] = refl
 through-append (x ∷ xs) =
     let step : (b : Bool) → cond b (x ∷ []) (x ∷ take_through 10 xs) ++ cond b xs (drop_through 10 xs) ≡ x ∷ xs
-    = λ b. elim b as (λ b. cond b (x ∷ []) (x ∷ take_through 10 xs) ++ cond b xs (drop_through 10 xs) ≡ x ∷ xs) [ true ↦ refl | false ↦ ap (λ rest. x ∷ rest) (through-append xs) ] in
+    = λ b.
+    elim b as (λ b. cond b (x ∷ []) (x ∷ take_through 10 xs) ++ cond b xs (drop_through 10 xs) ≡ x ∷ xs)
+    [ true ↦ refl | false ↦ ap (λ rest. x ∷ rest) (through-append xs) ] in
     step (eqb x 10)
 
 -- something is read of some bytes
 through_some : (x : ℕ) (xs : List ℕ) → 0 < length (take_through 10 (x ∷ xs))
-through_some x xs = elim (eqb x 10) as (λ b. 0 < length (cond b (x ∷ []) (x ∷ take_through 10 xs))) [ true ↦ omega arith | false ↦ omega arith ]
+through_some x xs =
+    elim (eqb x 10) as (λ b. 0 < length (cond b (x ∷ []) (x ∷ take_through 10 xs)))
+    [ true ↦ omega arith | false ↦ omega arith ]
 
 -- where the end byte did not come, all was read
 through_all : (bytes : List ℕ) → last (take_through 10 bytes) ≢ 10 → take_through 10 bytes ≡ bytes
@@ -44,21 +49,28 @@ through_all [] other = refl
 through_all (x ∷ []) other = elim (eqb x 10) as (λ b. cond b (x ∷ []) (x ∷ []) ≡ x ∷ []) [ true ↦ refl | false ↦ refl ]
 through_all (x ∷ y ∷ ys) other = all_read x (y ∷ ys) (through_some y ys) (through_all (y ∷ ys)) (eqb x 10) refl other
   where
-    all_read : (x : ℕ) (xs : List ℕ) → 0 < length (take_through 10 xs) → (last (take_through 10 xs) ≢ 10 → take_through 10 xs ≡ xs) → (b : Bool) → eqb x 10 ≡ b
+    all_read : (x : ℕ) (xs : List ℕ) → 0 < length (take_through 10 xs)
+        → (last (take_through 10 xs) ≢ 10 → take_through 10 xs ≡ xs) → (b : Bool) → eqb x 10 ≡ b
         → last (cond b (x ∷ []) (x ∷ take_through 10 xs)) ≢ 10 → cond b (x ∷ []) (x ∷ take_through 10 xs) ≡ x ∷ xs
     all_read x xs some rest true e other = absurd (other (eqb-true x 10 e))
-    all_read x xs some rest false e other = ap (λ bytes. x ∷ bytes) (rest (λ is. other (last-cons x (take_through 10 xs) some ∙ is)))
+    all_read x xs some rest false e other =
+        ap (λ bytes. x ∷ bytes) (rest (λ is. other (last-cons x (take_through 10 xs) some ∙ is)))
 
 -- a line that was read has no end byte in it
 pub one_line : (read line : List ℕ) (end : LineEnd) → StopsAt read 10 → IsCut end read line → LacksEndByte line
 one_line read line Newline stops cut =
-    let front : take (length read - 1) read ≡ line = ap (take (length read - 1)) cut ∙ take_at line (10 ∷ []) (length read - 1) (omega (arith, ap length cut, length-append line (10 ∷ []))) in
+    let front : take (length read - 1) read ≡ line =
+    ap (take (length read - 1)) cut
+    ∙ take_at line (10 ∷ []) (length read - 1) (omega (arith, ap length cut, length-append line (10 ∷ []))) in
     subst (All (λ b. b ≢ 10)) front stops
 one_line read line Input stops cut = λ k d low.
-    let same : get_or line k d ≡ get_or read k 0 = ap (λ bytes. get_or bytes k d) cut.0 ∙ get_or_default read k d 0 (omega (arith, ap length cut.0)) in
+    let same : get_or line k d ≡ get_or read k 0 =
+    ap (λ bytes. get_or bytes k d) cut.0 ∙ get_or_default read k d 0 (omega (arith, ap length cut.0)) in
     λ is. ⊎_elim
-    (λ front. stops k 0 (omega (arith, length-take (length read - 1) read)) (get_or-take (length read - 1) read k 0 front ∙ sym same ∙ is))
-    (λ end. let at : k ≡ length read - 1 = omega (arith, ap length cut.0) in cut.1 (ap (λ n. get_or read n 0) (sym at) ∙ sym same ∙ is))
+    (λ front. stops k 0 (omega (arith, length-take (length read - 1) read))
+    (get_or-take (length read - 1) read k 0 front ∙ sym same ∙ is))
+    (λ end. let at : k ≡ length read - 1 = omega (arith, ap length cut.0) in
+    cut.1 (ap (λ n. get_or read n 0) (sym at) ∙ sym same ∙ is))
     (cases_lt k (length read - 1))
 one_line read line TooLong stops cut = absurd cut
 
@@ -67,10 +79,13 @@ module _ (bytes read line : List ℕ) (is_read : read ≡ take_through 10 (take 
   read_in_front : bytes ≡ read ++ (drop_through 10 (take 257 bytes) ++ drop 257 bytes)
   read_in_front =
       sym (take-append-drop 257 bytes) ∙ ap (λ front. front ++ drop 257 bytes) (sym (through-append (take 257 bytes)))
-      ∙ append_assoc (take_through 10 (take 257 bytes)) (drop_through 10 (take 257 bytes)) (drop 257 bytes) ∙ ap (λ front. front ++ (drop_through 10 (take 257 bytes) ++ drop 257 bytes)) (sym is_read)
+      ∙ append_assoc (take_through 10 (take 257 bytes)) (drop_through 10 (take 257 bytes)) (drop 257 bytes)
+      ∙ ap (λ front. front ++ (drop_through 10 (take 257 bytes) ++ drop 257 bytes)) (sym is_read)
 
   line_in_front : read ≡ line ++ 10 ∷ [] → bytes ≡ line ++ 10 ∷ (drop_through 10 (take 257 bytes) ++ drop 257 bytes)
-  line_in_front cut = read_in_front ∙ ap (λ front. front ++ (drop_through 10 (take 257 bytes) ++ drop 257 bytes)) cut ∙ append_assoc line (10 ∷ []) (drop_through 10 (take 257 bytes) ++ drop 257 bytes)
+  line_in_front cut =
+      read_in_front ∙ ap (λ front. front ++ (drop_through 10 (take 257 bytes) ++ drop 257 bytes)) cut
+      ∙ append_assoc line (10 ∷ []) (drop_through 10 (take 257 bytes) ++ drop 257 bytes)
 
   -- a line of at most 256 bytes stands in front of the bytes, with its end
   pub front_of_bytes : (end : LineEnd) → IsCut end read line → length line ≤ 256 → IsFrontOf end line bytes
@@ -79,23 +94,30 @@ module _ (bytes read line : List ℕ) (is_read : read ≡ take_through 10 (take 
   front_of_bytes Input cut short =
       let other : last (take_through 10 (take 257 bytes)) ≢ 10 = λ is. cut.1 (ap last is_read ∙ is) in
       let all : read ≡ take 257 bytes = is_read ∙ through_all (take 257 bytes) other in
-      sym (take_all 257 bytes (omega (arith, ap length cut.0, ap length all, length-take 257 bytes))) ∙ sym all ∙ sym cut.0
+      sym (take_all 257 bytes (omega (arith, ap length cut.0, ap length all, length-take 257 bytes))) ∙ sym all
+      ∙ sym cut.0
   front_of_bytes TooLong cut short = absurd cut
 
   -- and so does what was read of a longer one
   pub front_of_long : (end : LineEnd) → IsCut end read line → IsFrontOf TooLong line bytes
   front_of_long Newline cut = (_, line_in_front cut)
-  front_of_long Input cut = (_, read_in_front ∙ ap (λ front. front ++ (drop_through 10 (take 257 bytes) ++ drop 257 bytes)) (sym cut.0))
+  front_of_long Input cut =
+      (_, read_in_front ∙ ap (λ front. front ++ (drop_through 10 (take 257 bytes) ++ drop 257 bytes)) (sym cut.0))
   front_of_long TooLong cut = absurd cut
 
 -- what is left where a line and its end byte were taken from the front of the bytes
-pub taken_line : (bytes line left : List ℕ) → IsFrontOf Newline line bytes → left ≡ drop (length line + 1) bytes → bytes ≡ line ++ 10 ∷ left
-taken_line bytes line left front is = front.1 ∙ ap (λ rest. line ++ 10 ∷ rest) (sym (is ∙ ap (drop (length line + 1)) front.1 ∙ drop-append-add line (10 ∷ front.0) 1))
+pub taken_line : (bytes line left : List ℕ) → IsFrontOf Newline line bytes → left ≡ drop (length line + 1) bytes
+    → bytes ≡ line ++ 10 ∷ left
+taken_line bytes line left front is =
+    front.1
+    ∙ ap (λ rest. line ++ 10 ∷ rest)
+    (sym (is ∙ ap (drop (length line + 1)) front.1 ∙ drop-append-add line (10 ∷ front.0) 1))
 
 -- ---- where the bytes may not be known
 
 -- what a read of at most 257 bytes gave, after nothing
-module _ (known reader : Option (List ℕ)) (limit : ℕ) (start read line : List ℕ) (same : reader ≡ known) (at : limit ≡ 257) (empty : start ≡ [])
+module _ (known reader : Option (List ℕ)) (limit : ℕ) (start read line : List ℕ) (same : reader ≡ known)
+    (at : limit ≡ 257) (empty : start ≡ [])
     (gave : IfSome (option_map (take limit) reader) (λ front. read ≡ start ++ take_through 10 front)) where
   is_read : IfSome (option_map (take 257) known) (λ front. read ≡ take_through 10 front)
   is_read = subst (λ k. IfSome (option_map (take 257) k) (λ front. read ≡ take_through 10 front)) same
@@ -103,9 +125,14 @@ module _ (known reader : Option (List ℕ)) (limit : ℕ) (start read line : Lis
       (subst (λ s. IfSome (option_map (take limit) reader) (λ front. read ≡ s ++ take_through 10 front)) empty gave))
 
   pub front_of_known : (end : LineEnd) → IsCut end read line → length line ≤ 256 → IfSome known (IsFrontOf end line)
-  front_of_known end cut short = elim known as (λ k. IfSome (option_map (take 257) k) (λ front. read ≡ take_through 10 front) → IfSome k (IsFrontOf end line))
+  front_of_known end cut short =
+      elim known as
+      (λ k. IfSome (option_map (take 257) k) (λ front. read ≡ take_through 10 front) → IfSome k (IsFrontOf end line))
       [ None ↦ λ _. tt | Some bytes ↦ λ h. front_of_bytes bytes read line h end cut short ] is_read
 
   pub front_of_long_known : (end : LineEnd) → IsCut end read line → IfSome known (IsFrontOf TooLong line)
-  front_of_long_known end cut = elim known as (λ k. IfSome (option_map (take 257) k) (λ front. read ≡ take_through 10 front) → IfSome k (IsFrontOf TooLong line))
+  front_of_long_known end cut =
+      elim known as
+      (λ k. IfSome (option_map (take 257) k) (λ front. read ≡ take_through 10 front)
+      → IfSome k (IsFrontOf TooLong line))
       [ None ↦ λ _. tt | Some bytes ↦ λ h. front_of_long bytes read line h end cut ] is_read

@@ -7,13 +7,18 @@ use Rattle.link_scheduler.specs.declared.transmitter.State.{State}
 use Rattle.link_scheduler.specs.Calls.State.{Refuses}
 use Rattle.link_scheduler.specs.Calls.Replay.{MayRefuseCall}
 use Rattle.link_simulation.specs.Rule.Planned.{Planned}
-use Rattle.link_simulation.specs.Simulation.Calls.{Call, call_limit, call_limit_link, call_enqueue, call_advance, call_next}
+use Rattle.link_simulation.specs.Simulation.Calls.{Call, call_limit, call_limit_link, call_enqueue, call_advance}
+use Rattle.link_simulation.specs.Simulation.Calls.{call_next}
 
-refuses_for_memory : (cmp : ℕ → ℕ → Ordering) (p : Planned ℕ) (call : Call ℕ) (why : Error) → why ≡ OutOfMemory → Refuses cmp p call why
-refuses_for_memory cmp p call why is = subst (Refuses cmp p call) (sym is) (record { by_rule = tt; simulated = record { cause = tt; in_range = λ own. refl } })
+refuses_for_memory : (cmp : ℕ → ℕ → Ordering) (p : Planned ℕ) (call : Call ℕ) (why : Error) → why ≡ OutOfMemory
+    → Refuses cmp p call why
+refuses_for_memory cmp p call why is =
+    subst (Refuses cmp p call) (sym is)
+    (record { by_rule = tt; simulated = record { cause = tt; in_range = λ own. refl } })
 
 -- any call but that for the next event may be refused for memory
-pub may_refuse_for_memory : {a : _} {b : _} {c : _} (s : State ℕ a b c) (call : Call ℕ) (why : Error) → (why ≡ OutOfMemory) × (call ≢ call_next) → MayRefuseCall s call why
+pub may_refuse_for_memory : {a : _} {b : _} {c : _} (s : State ℕ a b c) (call : Call ℕ) (why : Error)
+    → (why ≡ OutOfMemory) × (call ≢ call_next) → MayRefuseCall s call why
 may_refuse_for_memory s call_next why h = absurd (h.1 refl)
 may_refuse_for_memory s (call_limit now peer egress ingress) why h = refuses_for_memory _ _ _ why h.0
 may_refuse_for_memory s (call_limit_link now origin recipient cap) why h = refuses_for_memory _ _ _ why h.0

@@ -13,21 +13,31 @@ use Rattle.link_scripts.specs.Trace.{IsClosed, call_in, call_line, transcript_of
 use Rattle.link_scripts.specs.declared.linkcheck.asked.Asked.{Asked}
 
 -- one call more
-pub next_call : (done more : List Asked) (x : Asked) (calls : List (replay_call.Call ℕ (List ℕ))) (made : replay_call.Call ℕ (List ℕ)) → more ≡ done ++ x ∷ []
-    → map call_of calls ≡ map world_call (map call_in done) → call_of made ≡ world_call x.call → map call_of (calls ++ made ∷ []) ≡ map world_call (map call_in more)
+pub next_call : (done more : List Asked) (x : Asked) (calls : List (replay_call.Call ℕ (List ℕ)))
+    (made : replay_call.Call ℕ (List ℕ))
+    → more ≡ done ++ x ∷ []
+    → map call_of calls ≡ map world_call (map call_in done) → call_of made ≡ world_call x.call
+    → map call_of (calls ++ made ∷ []) ≡ map world_call (map call_in more)
 next_call done more x calls made is before this =
-    map-append call_of calls (made ∷ []) ∙ ap (λ front. front ++ call_of made ∷ []) before ∙ ap (λ c. map world_call (map call_in done) ++ c ∷ []) this
-    ∙ sym (ap (λ m. map world_call (map call_in m)) is ∙ ap (map world_call) (map-append call_in done (x ∷ [])) ∙ map-append world_call (map call_in done) (x.call ∷ []))
+    map-append call_of calls (made ∷ []) ∙ ap (λ front. front ++ call_of made ∷ []) before
+    ∙ ap (λ c. map world_call (map call_in done) ++ c ∷ []) this
+    ∙ sym
+    (ap (λ m. map world_call (map call_in m)) is ∙ ap (map world_call) (map-append call_in done (x ∷ []))
+    ∙ map-append world_call (map call_in done) (x.call ∷ []))
 
 -- a transcript in the code
 abbrev pub told_of : List Asked → List (replay_reply.Reply ℕ) → List ℕ
 told_of asked replies = transcript_of (map call_in asked) (map reply_of replies)
 
 -- one call and its reply less to come, and told
-pub told : (a : Asked) (r : replay_reply.Reply ℕ) (xs xs' : List Asked) (rs rs' : List (replay_reply.Reply ℕ)) (old new all : List ℕ) → xs ≡ a ∷ xs' → rs ≡ r ∷ rs'
-    → new ≡ old ++ (call_line a.call ++ reply_text (reply_of r)) → old ++ told_of xs rs ≡ all → new ++ told_of xs' rs' ≡ all
+pub told : (a : Asked) (r : replay_reply.Reply ℕ) (xs xs' : List Asked) (rs rs' : List (replay_reply.Reply ℕ))
+    (old new all : List ℕ)
+    → xs ≡ a ∷ xs' → rs ≡ r ∷ rs'
+    → new ≡ old ++ (call_line a.call ++ reply_text (reply_of r)) → old ++ told_of xs rs ≡ all
+    → new ++ told_of xs' rs' ≡ all
 told a r xs xs' rs rs' old new all next next_reply writes before =
-    ap (λ text. text ++ told_of xs' rs') writes ∙ append_assoc old (call_line a.call ++ reply_text (reply_of r)) (told_of xs' rs')
+    ap (λ text. text ++ told_of xs' rs') writes
+    ∙ append_assoc old (call_line a.call ++ reply_text (reply_of r)) (told_of xs' rs')
     ∙ ap (λ text. old ++ text) (append_assoc (call_line a.call) (reply_text (reply_of r)) (told_of xs' rs'))
     ∙ ap (λ l. old ++ told_of l (r ∷ rs')) (sym next) ∙ ap (λ l. old ++ told_of xs l) (sym next_reply) ∙ before
 
@@ -36,18 +46,25 @@ none_told [] = refl
 none_told (a ∷ xs) = refl
 
 -- none to come
-pub all_told : (xs : List Asked) (rs : List (replay_reply.Reply ℕ)) (old all : List ℕ) → (xs ≡ []) ⊎ (rs ≡ []) → old ++ told_of xs rs ≡ all → old ≡ all
+pub all_told : (xs : List Asked) (rs : List (replay_reply.Reply ℕ)) (old all : List ℕ) → (xs ≡ []) ⊎ (rs ≡ [])
+    → old ++ told_of xs rs ≡ all → old ≡ all
 all_told xs rs old all over h =
-    sym (append-nil old) ∙ ap (λ text. old ++ text) (sym (⊎_elim (λ e. ap (λ l. told_of l rs) e) (λ e. ap (told_of xs) e ∙ none_told xs) over)) ∙ h
+    sym (append-nil old)
+    ∙ ap (λ text. old ++ text)
+    (sym (⊎_elim (λ e. ap (λ l. told_of l rs) e) (λ e. ap (told_of xs) e ∙ none_told xs) over))
+    ∙ h
 
 -- ---- the text of a trace
 
 -- the front of a text and its rest
-pub front_and_rest : (text front rest head : List ℕ) (k : ℕ) → front ≡ take k text → rest ≡ drop k text → front ≡ head → text ≡ head ++ rest
+pub front_and_rest : (text front rest head : List ℕ) (k : ℕ) → front ≡ take k text → rest ≡ drop k text → front ≡ head
+    → text ≡ head ++ rest
 front_and_rest text front rest head k first second is =
     sym (take-append-drop k text) ∙ ap (λ xs. xs ++ drop k text) (sym first ∙ is) ∙ ap (λ xs. head ++ xs) (sym second)
 
 -- what was read after nothing, closed
-pub closed_of_known : (known : Option (List ℕ)) (start read text : List ℕ) → start ≡ [] → IfSome known (λ xs. read ≡ start ++ xs) → IsClosed text read → IfSome known (IsClosed text)
+pub closed_of_known : (known : Option (List ℕ)) (start read text : List ℕ) → start ≡ []
+    → IfSome known (λ xs. read ≡ start ++ xs) → IsClosed text read → IfSome known (IsClosed text)
 closed_of_known None start read text empty gave closed = tt
-closed_of_known (Some xs) start read text empty gave closed = subst (IsClosed text) (gave ∙ ap (λ front. front ++ xs) empty) closed
+closed_of_known (Some xs) start read text empty gave closed =
+    subst (IsClosed text) (gave ∙ ap (λ front. front ++ xs) empty) closed

@@ -1,5 +1,6 @@
 -- Which words say which values, and which words a line has.
-use Rattle.std.proofs.Common.{◌≡◌, ◌↔◌, ℕ, ◌^◌, ◌<◌, Bool, true, false, ◌&&◌, eqb, ltb, List, [], ◌∷◌, ◌++◌, Option, None, Some, codes, refl, sym, ap, ◌∙◌, subst, arith, eq-eqb, append-nil}
+use Rattle.std.proofs.Common.{◌≡◌, ◌↔◌, ℕ, ◌^◌, ◌<◌, Bool, true, false, ◌&&◌, eqb, ltb, List, [], ◌∷◌, ◌++◌, Option}
+use Rattle.std.proofs.Common.{None, Some, codes, refl, sym, ap, ◌∙◌, subst, arith, eq-eqb, append-nil}
 use borrow.Author.Tests.{ne_eqb, ltb-true}
 use Rattle.std.specs.Option.{IfSome}
 use Rattle.std.specs.List.{All, list_all, join_with_byte}
@@ -28,33 +29,55 @@ use Rattle.link_scripts.proofs.Numerals.{no_dash, digits_of_number}
 -- ---- words of values
 
 -- a word `-` says no cap, and no other cap is written so
-pub takes_no_cap : (before after : List (List ℕ)) (word : List ℕ) → before ≡ word ∷ after → word ≡ codes "-" → Takes (λ cap. cap_word cap ∷ []) IsCapInRange before (Some None) after
+pub takes_no_cap : (before after : List (List ℕ)) (word : List ℕ) → before ≡ word ∷ after → word ≡ codes "-"
+    → Takes (λ cap. cap_word cap ∷ []) IsCapInRange before (Some None) after
 takes_no_cap before after word is dash = record { taken = (is ∙ ap (λ w. w ∷ after) dash, tt); missed = missed }
   where
-    missed : (cap : Option ℕ) (rest : List (List ℕ)) → IsCapInRange cap → before ≡ cap_word cap ∷ rest → Some None ≡ Some cap
+    missed : (cap : Option ℕ) (rest : List (List ℕ)) → IsCapInRange cap → before ≡ cap_word cap ∷ rest
+        → Some None ≡ Some cap
     missed None rest range said = refl
-    missed (Some cap) rest range said = let word_is : codes "-" ≡ cap_word (Some cap) = cc in absurd (no_dash cap range word_is)
+    missed (Some cap) rest range said =
+        let word_is : codes "-" ≡ cap_word (Some cap) = cc in absurd (no_dash cap range word_is)
 
 abbrev pub TakesNumber : List (List ℕ) → ℕ → List (List ℕ) → Type 0
 TakesNumber before n after = Takes (λ n. number_word n ∷ []) IsNumberInRange before (Some n) after
 
 -- three numbers and a flag are a flow
-pub takes_flow : (w0 w1 w2 w3 w4 : List (List ℕ)) (id origin recipient : ℕ) (delivered : Bool) → TakesNumber w0 id w1 → TakesNumber w1 origin w2 → TakesNumber w2 recipient w3
+pub takes_flow : (w0 w1 w2 w3 w4 : List (List ℕ)) (id origin recipient : ℕ) (delivered : Bool) → TakesNumber w0 id w1
+    → TakesNumber w1 origin w2 → TakesNumber w2 recipient w3
     → Takes (λ flag. flag_word flag ∷ []) (λ _. Unit {0}) w3 (Some delivered) w4
-    → Takes flow_words IsFlowInRange w0 (Some (record { id = id; origin = origin; recipient = recipient; delivered = delivered })) w4
+    → Takes flow_words IsFlowInRange w0
+    (Some (record { id = id; origin = origin; recipient = recipient; delivered = delivered })) w4
 takes_flow w0 w1 w2 w3 w4 id origin recipient delivered a b c d =
-    record { taken = (cc (a.taken.0, b.taken.0, c.taken.0, d.taken.0), (a.taken.1, b.taken.1, c.taken.1)); missed = missed }
+    record {
+      taken = (cc (a.taken.0, b.taken.0, c.taken.0, d.taken.0), (a.taken.1, b.taken.1, c.taken.1));
+      missed = missed;
+    }
   where
-    missed : (f : Flow ℕ) (rest : List (List ℕ)) → IsFlowInRange f → w0 ≡ flow_words f ++ rest → Some (record { id = id; origin = origin; recipient = recipient; delivered = delivered }) ≡ Some f
+    missed : (f : Flow ℕ) (rest : List (List ℕ)) → IsFlowInRange f → w0 ≡ flow_words f ++ rest
+        → Some (record { id = id; origin = origin; recipient = recipient; delivered = delivered }) ≡ Some f
     missed f rest range said =
-        let same_id : id ≡ f.id = cc (a.missed f.id (number_word f.origin ∷ number_word f.recipient ∷ flag_word f.delivered ∷ rest) range.0 said) in
-        let said1 : w1 ≡ number_word f.origin ∷ number_word f.recipient ∷ flag_word f.delivered ∷ rest = cc (a.taken.0, said) in
-        let same_origin : origin ≡ f.origin = cc (b.missed f.origin (number_word f.recipient ∷ flag_word f.delivered ∷ rest) range.1 said1) in
+        let same_id : id ≡ f.id =
+        cc
+        (a.missed f.id (number_word f.origin ∷ number_word f.recipient ∷ flag_word f.delivered ∷ rest) range.0
+        said) in
+        let said1 : w1 ≡ number_word f.origin ∷ number_word f.recipient ∷ flag_word f.delivered ∷ rest =
+        cc (a.taken.0, said) in
+        let same_origin : origin ≡ f.origin =
+        cc (b.missed f.origin (number_word f.recipient ∷ flag_word f.delivered ∷ rest) range.1 said1) in
         let said2 : w2 ≡ number_word f.recipient ∷ flag_word f.delivered ∷ rest = cc (b.taken.0, said1) in
-        let same_recipient : recipient ≡ f.recipient = cc (c.missed f.recipient (flag_word f.delivered ∷ rest) range.2 said2) in
+        let same_recipient : recipient ≡ f.recipient =
+        cc (c.missed f.recipient (flag_word f.delivered ∷ rest) range.2 said2) in
         let said3 : w3 ≡ flag_word f.delivered ∷ rest = cc (c.taken.0, said2) in
         let same_delivered : delivered ≡ f.delivered = cc (d.missed f.delivered rest tt said3) in
-        λ i. Some (record { id = same_id i; origin = same_origin i; recipient = same_recipient i; delivered = same_delivered i })
+        λ i.
+        Some
+        (record {
+          id = same_id i;
+          origin = same_origin i;
+          recipient = same_recipient i;
+          delivered = same_delivered i;
+        })
 
 -- ---- words of a line
 
@@ -67,15 +90,22 @@ abbrev IsWord : List ℕ → Type 0
 IsWord word = list_all graphic word ≡ true
 
 is_graphic : (b : ℕ) → graphic b ≡ true → (eqb b 32 ≡ false) × (b < 128)
-is_graphic b h = let both = and_parts (ltb 32 b) (ltb b 128) h in let low : 32 < b = ltb-true 32 b both.0 in (ne_eqb b 32 (λ e. omega arith), ltb-true b 128 both.1)
+is_graphic b h =
+    let both = and_parts (ltb 32 b) (ltb b 128) h in
+    let low : 32 < b = ltb-true 32 b both.0 in
+    (ne_eqb b 32 (λ e. omega arith), ltb-true b 128 both.1)
 
 no_space : (word : List ℕ) → IsWord word → All (λ b. eqb b 32 ≡ false) word
 no_space [] is = All-nil (λ b. eqb b 32 ≡ false)
-no_space (b ∷ word) is = let both = and_parts (graphic b) (list_all graphic word) is in All-cons (λ b. eqb b 32 ≡ false) b word (is_graphic b both.0).0 (no_space word both.1)
+no_space (b ∷ word) is =
+    let both = and_parts (graphic b) (list_all graphic word) is in
+    All-cons (λ b. eqb b 32 ≡ false) b word (is_graphic b both.0).0 (no_space word both.1)
 
 below_128 : (word : List ℕ) → IsWord word → All (λ b. b < 128) word
 below_128 [] is = All-nil (λ b. b < 128)
-below_128 (b ∷ word) is = let both = and_parts (graphic b) (list_all graphic word) is in All-cons (λ b. b < 128) b word (is_graphic b both.0).1 (below_128 word both.1)
+below_128 (b ∷ word) is =
+    let both = and_parts (graphic b) (list_all graphic word) is in
+    All-cons (λ b. b < 128) b word (is_graphic b both.0).1 (below_128 word both.1)
 
 IsWord-digits : (ds : List ℕ) → AllDigits 10 ds → IsWord ds
 IsWord-digits [] all = refl
@@ -103,7 +133,9 @@ AreWords (w ∷ ws) = IsWord w × AreWords ws
 -- words that are joined by spaces are the parts of the line
 parts_of-join : (w : List ℕ) (ws : List (List ℕ)) → AreWords (w ∷ ws) → parts_of (join_with_byte 32 (w ∷ ws)) ≡ w ∷ ws
 parts_of-join w [] are = slice_split_none (λ b. eqb b 32) w (no_space w are.0)
-parts_of-join w (v ∷ ws) are = slice_split_at (λ b. eqb b 32) w 32 (join_with_byte 32 (v ∷ ws)) (no_space w are.0) (eq-eqb 32 32 refl) ∙ ap (λ parts. w ∷ parts) (parts_of-join v ws are.1)
+parts_of-join w (v ∷ ws) are =
+    slice_split_at (λ b. eqb b 32) w 32 (join_with_byte 32 (v ∷ ws)) (no_space w are.0) (eq-eqb 32 32 refl)
+    ∙ ap (λ parts. w ∷ parts) (parts_of-join v ws are.1)
 
 -- and the line is ASCII
 ascii_line : (ws : List (List ℕ)) → AreWords ws → IsAscii (join_with_byte 32 ws)
@@ -112,7 +144,8 @@ ascii_line (w ∷ []) are = IsAscii-from_all w (below_128 w are.0)
 ascii_line (w ∷ v ∷ ws) are =
     let rest = join_with_byte 32 (v ∷ ws) in
     let space = IsAscii-from_all (32 ∷ []) (All-cons (λ b. b < 128) 32 [] (omega arith) (All-nil (λ b. b < 128))) in
-    IsAscii-append w (32 ∷ rest) (IsAscii-from_all w (below_128 w are.0)) (IsAscii-append (32 ∷ []) rest space (ascii_line (v ∷ ws) are.1))
+    IsAscii-append w (32 ∷ rest) (IsAscii-from_all w (below_128 w are.0))
+    (IsAscii-append (32 ∷ []) rest space (ascii_line (v ∷ ws) are.1))
 
 IsWord-small : (n : ℕ) → IsNumberInRange n → IsWord (number_word n)
 IsWord-small n small = IsWord-number n (omega (arith, small))
@@ -122,8 +155,20 @@ IsWord-small_cap cap range = IsWord-cap cap (wider cap range)
 
 -- what calls are written with is words
 AreWords-call : (call : Call ℕ ℕ) → IsCallOfScriptInRange call → AreWords (call_words call)
-AreWords-call (calls.Limit now peer egress ingress) range = (refl, (IsWord-small now range.0, (IsWord-small peer range.1, (IsWord-small_cap egress range.2, (IsWord-small_cap ingress range.3, tt)))))
-AreWords-call (calls.LimitLink now origin recipient cap) range = (refl, (IsWord-small now range.0, (IsWord-small origin range.1, (IsWord-small recipient range.2, (IsWord-small_cap cap range.3, tt)))))
+AreWords-call (calls.Limit now peer egress ingress) range = (
+  refl,
+  (
+    IsWord-small now range.0,
+    (IsWord-small peer range.1, (IsWord-small_cap egress range.2, (IsWord-small_cap ingress range.3, tt))),
+  ),
+)
+AreWords-call (calls.LimitLink now origin recipient cap) range = (
+  refl,
+  (
+    IsWord-small now range.0,
+    (IsWord-small origin range.1, (IsWord-small recipient range.2, (IsWord-small_cap cap range.3, tt))),
+  ),
+)
 AreWords-call (calls.Enqueue now origin recipient channel length latency should_deliver) range = (
   refl,
   (
@@ -148,22 +193,37 @@ AreWords-call calls.Next range = (refl, tt)
 
 -- what commands are written with is words
 AreWords-command : (command : Command) → IsCommandInRange command → AreWords (command_words command)
-AreWords-command (commands.Flow f) range =
-    (refl, (IsWord-number f.id (omega (arith, range.0)), (IsWord-number f.origin (omega (arith, range.1)), (IsWord-number f.recipient (omega (arith, range.2)), (IsWord-flag f.delivered, tt)))))
-AreWords-command (commands.Egress peer cap) range = (refl, (IsWord-number peer (omega (arith, range.0)), (IsWord-cap cap range.1, tt)))
-AreWords-command (commands.Ingress peer cap) range = (refl, (IsWord-number peer (omega (arith, range.0)), (IsWord-cap cap range.1, tt)))
-AreWords-command (commands.Link origin recipient cap) range = (refl, (IsWord-small origin range.0, (IsWord-small recipient range.1, (IsWord-cap cap range.2, tt))))
+AreWords-command (commands.Flow f) range = (
+  refl,
+  (
+    IsWord-number f.id (omega (arith, range.0)),
+    (
+      IsWord-number f.origin (omega (arith, range.1)),
+      (IsWord-number f.recipient (omega (arith, range.2)), (IsWord-flag f.delivered, tt)),
+    ),
+  ),
+)
+AreWords-command (commands.Egress peer cap) range =
+    (refl, (IsWord-number peer (omega (arith, range.0)), (IsWord-cap cap range.1, tt)))
+AreWords-command (commands.Ingress peer cap) range =
+    (refl, (IsWord-number peer (omega (arith, range.0)), (IsWord-cap cap range.1, tt)))
+AreWords-command (commands.Link origin recipient cap) range =
+    (refl, (IsWord-small origin range.0, (IsWord-small recipient range.1, (IsWord-cap cap range.2, tt))))
 AreWords-command commands.Rates range = (refl, tt)
 AreWords-command (commands.Schedule call) range = AreWords-call call range
 
 -- the line of a command is text
 pub IsUtf8-line_of : (command : Command) → IsCommandInRange command → IsUtf8 (line_of command)
-IsUtf8-line_of command range = IsUtf8-from_ascii (line_of command) (ascii_line (command_words command) (AreWords-command command range))
+IsUtf8-line_of command range =
+    IsUtf8-from_ascii (line_of command) (ascii_line (command_words command) (AreWords-command command range))
 
 -- the parts of the line of a call are its words
-parts_of-call : (call : Call ℕ ℕ) → IsCallOfScriptInRange call → parts_of (join_with_byte 32 (call_words call)) ≡ call_words call
-parts_of-call (calls.Limit now peer egress ingress) range = parts_of-join _ _ (AreWords-call (calls.Limit now peer egress ingress) range)
-parts_of-call (calls.LimitLink now origin recipient cap) range = parts_of-join _ _ (AreWords-call (calls.LimitLink now origin recipient cap) range)
+parts_of-call : (call : Call ℕ ℕ) → IsCallOfScriptInRange call
+    → parts_of (join_with_byte 32 (call_words call)) ≡ call_words call
+parts_of-call (calls.Limit now peer egress ingress) range =
+    parts_of-join _ _ (AreWords-call (calls.Limit now peer egress ingress) range)
+parts_of-call (calls.LimitLink now origin recipient cap) range =
+    parts_of-join _ _ (AreWords-call (calls.LimitLink now origin recipient cap) range)
 parts_of-call (calls.Enqueue now origin recipient channel length latency should_deliver) range =
     parts_of-join _ _ (AreWords-call (calls.Enqueue now origin recipient channel length latency should_deliver) range)
 parts_of-call (calls.Advance now) range = parts_of-join _ _ (AreWords-call (calls.Advance now) range)
@@ -172,22 +232,30 @@ parts_of-call calls.Next range = parts_of-join _ _ (AreWords-call calls.Next ran
 -- the parts of the line of a command are its words
 parts_of-line_of : (command : Command) → IsCommandInRange command → parts_of (line_of command) ≡ command_words command
 parts_of-line_of (commands.Flow f) range = parts_of-join _ _ (AreWords-command (commands.Flow f) range)
-parts_of-line_of (commands.Egress peer cap) range = parts_of-join _ _ (AreWords-command (commands.Egress peer cap) range)
-parts_of-line_of (commands.Ingress peer cap) range = parts_of-join _ _ (AreWords-command (commands.Ingress peer cap) range)
-parts_of-line_of (commands.Link origin recipient cap) range = parts_of-join _ _ (AreWords-command (commands.Link origin recipient cap) range)
+parts_of-line_of (commands.Egress peer cap) range =
+    parts_of-join _ _ (AreWords-command (commands.Egress peer cap) range)
+parts_of-line_of (commands.Ingress peer cap) range =
+    parts_of-join _ _ (AreWords-command (commands.Ingress peer cap) range)
+parts_of-line_of (commands.Link origin recipient cap) range =
+    parts_of-join _ _ (AreWords-command (commands.Link origin recipient cap) range)
 parts_of-line_of commands.Rates range = parts_of-join _ _ (AreWords-command commands.Rates range)
 parts_of-line_of (commands.Schedule call) range = parts_of-call call range
 
 -- ---- what a line says
 
 -- a line whose parts are the words of a command is that command's
-line_said : (line : List ℕ) (command : Command) (after : List (List ℕ)) → parts_of line ≡ command_words command ++ after → after ≡ [] → line ≡ line_of command
+line_said : (line : List ℕ) (command : Command) (after : List (List ℕ)) → parts_of line ≡ command_words command ++ after
+    → after ≡ [] → line ≡ line_of command
 line_said line command after said none =
-    sym (join_with_byte-slice_split 32 line) ∙ ap (join_with_byte 32) (said ∙ ap (λ rest. command_words command ++ rest) none ∙ append-nil (command_words command))
+    sym (join_with_byte-slice_split 32 line)
+    ∙ ap (join_with_byte 32)
+    (said ∙ ap (λ rest. command_words command ++ rest) none ∙ append-nil (command_words command))
 
 -- and a line of a command has its words as its parts
-parts_said : (line : List ℕ) (command : Command) → line ≡ line_of command → IsCommandInRange command → parts_of line ≡ command_words command ++ []
-parts_said line command is range = ap parts_of is ∙ parts_of-line_of command range ∙ sym (append-nil (command_words command))
+parts_said : (line : List ℕ) (command : Command) → line ≡ line_of command → IsCommandInRange command
+    → parts_of line ≡ command_words command ++ []
+parts_said line command is range =
+    ap parts_of is ∙ parts_of-line_of command range ∙ sym (append-nil (command_words command))
 
 -- what is taken from the parts of a line, before and after; the words before are the parts
 module _ (line : List ℕ) (before after : List (List ℕ)) (parts : before ≡ parts_of line) where
@@ -198,32 +266,44 @@ module _ (line : List ℕ) (before after : List (List ℕ)) (parts : before ≡ 
   TakesCommand answer = Takes command_words IsCommandInRange before answer after
 
   -- where a command's words are taken the words before are these words and those after
-  taken_of : (answer : Option Command) (command : Command) → TakesCommand answer → answer ≡ Some command → (before ≡ command_words command ++ after) × IsCommandInRange command
-  taken_of answer command takes e = subst (λ a. IfSome a (λ c. (before ≡ command_words c ++ after) × IsCommandInRange c)) e takes.taken
+  taken_of : (answer : Option Command) (command : Command) → TakesCommand answer → answer ≡ Some command
+      → (before ≡ command_words command ++ after) × IsCommandInRange command
+  taken_of answer command takes e =
+      subst (λ a. IfSome a (λ c. (before ≡ command_words c ++ after) × IsCommandInRange c)) e takes.taken
 
   -- a line of a command gives that command
-  answer_of : (answer : Option Command) (command : Command) → TakesCommand answer → (line ≡ line_of command) × IsCommandInRange command → answer ≡ Some command
+  answer_of : (answer : Option Command) (command : Command) → TakesCommand answer
+      → (line ≡ line_of command) × IsCommandInRange command → answer ≡ Some command
   answer_of answer command takes is = takes.missed command [] is.1 (parts ∙ parts_said line command is.0 is.1)
 
   -- the line says the command that takes all its parts
-  pub says_all : (answer : Option Command) → TakesCommand answer → after ≡ [] → (command : Command) → Says answer command
-  says_all answer takes none command =
-      ((λ e. let taken = taken_of answer command takes e in (line_said line command after (sym parts ∙ taken.0) none, taken.1)), λ is. answer_of answer command takes is)
+  pub says_all : (answer : Option Command) → TakesCommand answer → after ≡ [] → (command : Command)
+      → Says answer command
+  says_all answer takes none command = (
+    (λ e. let taken = taken_of answer command takes e in
+        (line_said line command after (sym parts ∙ taken.0) none, taken.1)),
+    λ is. answer_of answer command takes is,
+  )
 
   -- a line of which no command can be taken says none
   pub says_none : TakesCommand None → (command : Command) → Says None command
   says_none takes command = ((λ e. absurd (cc)), λ is. answer_of None command takes is)
 
   -- nor does a line with parts left over
-  pub says_less : (answer : Option Command) (word : List ℕ) (rest : List (List ℕ)) → TakesCommand answer → after ≡ word ∷ rest → (command : Command) → Says None command
+  pub says_less : (answer : Option Command) (word : List ℕ) (rest : List (List ℕ)) → TakesCommand answer
+      → after ≡ word ∷ rest → (command : Command) → Says None command
   says_less answer word rest takes more command = (
     (λ e. absurd (cc)),
     λ is.
         let taken = taken_of answer command takes (answer_of answer command takes is) in
-        let over : after ≡ [] = append_cancel_left (command_words command) after [] (sym taken.0 ∙ parts ∙ parts_said line command is.0 is.1) in
+        let over : after ≡ [] =
+        append_cancel_left (command_words command) after []
+        (sym taken.0 ∙ parts ∙ parts_said line command is.0 is.1) in
         absurd (cc (more, over)),
   )
 
 -- nor does a line that is no text
-pub says_nothing : (line : List ℕ) → ¬ (IsUtf8 line) → (command : Command) → (None ≡ Some command) ↔ ((line ≡ line_of command) × IsCommandInRange command)
-says_nothing line is_none command = ((λ e. absurd (cc)), λ is. absurd (is_none (subst IsUtf8 (sym is.0) (IsUtf8-line_of command is.1))))
+pub says_nothing : (line : List ℕ) → ¬ (IsUtf8 line) → (command : Command)
+    → (None ≡ Some command) ↔ ((line ≡ line_of command) × IsCommandInRange command)
+says_nothing line is_none command =
+    ((λ e. absurd (cc)), λ is. absurd (is_none (subst IsUtf8 (sym is.0) (IsUtf8-line_of command is.1))))

@@ -1,10 +1,12 @@
 -- How a call on an open scheduler ends, from what its state answered and what was kept of that.
-use Rattle.std.proofs.Common.{◌≡◌, arith, ℕ, List, length, Option, Some, Result, Ok, Err, IfOk, IfErr, OnErr, MatchResult, inl, inr, refl, sym, ap, subst, ◌∙◌}
+use Rattle.std.proofs.Common.{◌≡◌, arith, ℕ, List, length, Option, Some, Result, Ok, Err, IfOk, IfErr, OnErr}
+use Rattle.std.proofs.Common.{MatchResult, inl, inr, refl, sym, ap, subst, ◌∙◌}
 use Rattle.p2p_simulated.specs.Refusals.ErrorTexts.{refusal_number}
 use Rattle.p2p_simulated.specs.Calls.State.{IsMade, IsRefused, IsAdvanced, planned_of}
 use Rattle.p2p_simulated.specs.Simulation.Calls.{Call}
 use Rattle.p2p_simulated.specs.declared.error.Error.{Error}
-use Rattle.p2p_simulated.specs.declared.error.Error.TheVariants.{OutOfMemory, NumberTooLarge, MomentTooLate, FlowIdsUsedUp}
+use Rattle.p2p_simulated.specs.declared.error.Error.TheVariants.{OutOfMemory, NumberTooLarge, MomentTooLate}
+use Rattle.p2p_simulated.specs.declared.error.Error.TheVariants.{FlowIdsUsedUp}
 use Rattle.p2p_simulated.specs.declared.transmitter.Completion.{Completion}
 use Rattle.p2p_simulated_c.specs.Asked.{OnHandle, at_open, Ended, Advanced}
 use Rattle.p2p_simulated_c.specs.declared.opened.Opened.{Opened}
@@ -17,12 +19,14 @@ numbered MomentTooLate e = omega (arith, e)
 numbered FlowIdsUsedUp e = omega (arith, e)
 
 -- a state that is as it was has the same plan
-pub same_plan : {V : Type 0} (answer : Result V Error) (old new : Opened) → OnErr answer (new.state ≡ old.state) → OnErr answer (planned_of new.state ≡ planned_of old.state)
+pub same_plan : {V : Type 0} (answer : Result V Error) (old new : Opened) → OnErr answer (new.state ≡ old.state)
+    → OnErr answer (planned_of new.state ≡ planned_of old.state)
 same_plan (Ok done) old new same = same
 same_plan (Err why) old new same = ap (λ s. planned_of s) same
 
 -- the state answered, and the answer was kept
-pub ended : {V : Type 0} (items : V → List (Completion ℕ)) (answer : Result V Error) (call : Call ℕ) (status count : ℕ) (old between new : Opened)
+pub ended : {V : Type 0} (items : V → List (Completion ℕ)) (answer : Result V Error) (call : Call ℕ) (status count : ℕ)
+    (old between new : Opened)
     → new.state ≡ between.state
     → MatchResult answer (λ done. status ≡ 0) (λ why. status ≡ refusal_number why)
     → MatchResult answer (λ done. new.completed.items ≡ items done) (λ why. new.completed ≡ between.completed)
@@ -36,28 +40,53 @@ ended items (Ok done) call status count old between new state number kept counte
     inl (
       number,
       record {
-        made = subst (λ s. IsMade old.state call new.completed.items s) (sym state) (subst (λ cs. IsMade old.state call cs between.state) (sym kept) made);
+        made =
+            subst (λ s. IsMade old.state call new.completed.items s) (sym state)
+            (subst (λ cs. IsMade old.state call cs between.state) (sym kept) made);
         counted = counted ∙ ap length (sym kept);
       },
     )
 ended items (Err why) call status count old between new state number kept counted same made refused unchanged =
-    inr (why, number, record { refused = refused; unchanged = ap (λ s. planned_of s) state ∙ unchanged; kept = kept ∙ same; counted = counted })
+    inr (
+      why,
+      number,
+      record {
+        refused = refused;
+        unchanged = ap (λ s. planned_of s) state ∙ unchanged;
+        kept = kept ∙ same;
+        counted = counted;
+      },
+    )
 
-pub advanced : {V : Type 0} (items : V → List (Completion ℕ)) (answer : Result V Error) (now status : ℕ) (old between new : Opened)
+pub advanced : {V : Type 0} (items : V → List (Completion ℕ)) (answer : Result V Error) (now status : ℕ)
+    (old between new : Opened)
     → new.state ≡ between.state
     → MatchResult answer (λ done. status ≡ 0) (λ why. status ≡ refusal_number why)
     → MatchResult answer (λ done. new.completed.items ≡ items done) (λ why. new.completed ≡ between.completed)
     → IfOk answer (λ done. IsAdvanced old.state now (items done) between.state)
     → Advanced now status old new
 advanced items (Ok done) now status old between new state number kept made is_made =
-    subst (λ s. IsAdvanced old.state now new.completed.items s) (sym state) (subst (λ cs. IsAdvanced old.state now cs between.state) (sym kept) made)
-advanced items (Err why) now status old between new state number kept made is_made = absurd (numbered why (sym number ∙ is_made))
+    subst (λ s. IsAdvanced old.state now new.completed.items s) (sym state)
+    (subst (λ cs. IsAdvanced old.state now cs between.state) (sym kept) made)
+advanced items (Err why) now status old between new state number kept made is_made =
+    absurd (numbered why (sym number ∙ is_made))
 
 -- no memory for the bytes: nothing was asked of the state
 pub no_memory : (call : Call ℕ) (s : Opened) → Ended call 1 0 s s
-no_memory call s = inr (OutOfMemory, refl, record { refused = record { by_rule = tt; simulated = record { cause = tt; in_range = λ _. refl } }; unchanged = refl; kept = refl; counted = refl })
+no_memory call s =
+    inr (
+      OutOfMemory,
+      refl,
+      record {
+        refused = record { by_rule = tt; simulated = record { cause = tt; in_range = λ _. refl } };
+        unchanged = refl;
+        kept = refl;
+        counted = refl;
+      },
+    )
 
 -- the scheduler was taken from the handle, the call was made on it, and it was put back
 pub on_open : {C : Type 0} (does : Opened → Opened → Type 0) (old new : Option Opened) (taken lent left put : Opened)
     → old ≡ Some taken → lent ≡ taken → new ≡ Some put → put ≡ left → does lent left → OnHandle C does old new
-on_open does old new taken lent left put was is has same done = at_open taken put was has (subst (λ s. does s put) is (subst (λ s. does lent s) (sym same) done))
+on_open does old new taken lent left put was is has same done =
+    at_open taken put was has (subst (λ s. does s put) is (subst (λ s. does lent s) (sym same) done))

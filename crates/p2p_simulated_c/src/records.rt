@@ -101,7 +101,7 @@ impl Done {
     }
 }
 
-/// A flow of a plan. It is not delivered where `delivered` is 0.
+/// A flow of a plan. It is dropped where `delivered` is 0.
 #[repr(C)]
 #[derive(Clone, Copy)]
 pub struct PlanFlow {

@@ -298,9 +298,9 @@ fn what_is_left_is_used(rt: HostRuntime) -> Result<(), Fail> {
     holds_at_each_type(&rt, &wide)
 }
 
-/// A flow that is not delivered takes nothing of what its recipient may receive.
+/// A flow that is dropped takes nothing of what its recipient may receive.
 #[test]
-fn lost_flows_charge_their_origin(rt: HostRuntime) -> Result<(), Fail> {
+fn dropped_flows_charge_their_origin(rt: HostRuntime) -> Result<(), Fail> {
     let flows = [Arrow(1, 1, 2, true), Arrow(2, 1, 3, false)];
     let wanted = [Wanted(1, Some((0, 1))), Wanted(2, Some((100, 1)))];
     let case = Case {
@@ -352,7 +352,7 @@ fn the_last_of_an_id_decides(rt: HostRuntime) -> Result<(), Fail> {
     holds_at_each_type(&rt, &last_is_held)
 }
 
-/// The cap of a link holds for the one direction, delivered or not.
+/// The cap of a link holds for the one direction, delivered or dropped.
 #[test]
 fn links_have_caps(rt: HostRuntime) -> Result<(), Fail> {
     let flows = [
@@ -423,12 +423,12 @@ const FROM_THE_SECOND: [Wanted; 3] = [
 
 #[test]
 fn the_first_number_is_the_cap(rt: HostRuntime) -> Result<(), Fail> {
-    let lost = [
+    let dropped = [
         Arrow(1, 1, 2, false),
         Arrow(2, 1, 2, false),
         Arrow(3, 1, 2, false),
     ];
-    let lost = flows_of::<u64>(rt.alloc(), &lost)?;
+    let dropped = flows_of::<u64>(rt.alloc(), &dropped)?;
     let falling = Answers {
         egress: &[Some(10), Some(1), None],
         ..NONE
@@ -438,14 +438,18 @@ fn the_first_number_is_the_cap(rt: HostRuntime) -> Result<(), Fail> {
         Wanted(2, Some((10, 3))),
         Wanted(3, Some((10, 3))),
     ];
-    expect(&rt, &answered_rates(rt.alloc(), &lost, &falling)?, &thirds)?;
+    expect(
+        &rt,
+        &answered_rates(rt.alloc(), &dropped, &falling)?,
+        &thirds,
+    )?;
     let late = Answers {
         egress: &[None, Some(4)],
         ..NONE
     };
     expect(
         &rt,
-        &answered_rates(rt.alloc(), &lost, &late)?,
+        &answered_rates(rt.alloc(), &dropped, &late)?,
         &FROM_THE_SECOND,
     )?;
     let late_link = Answers {
@@ -454,7 +458,7 @@ fn the_first_number_is_the_cap(rt: HostRuntime) -> Result<(), Fail> {
     };
     expect(
         &rt,
-        &answered_rates(rt.alloc(), &lost, &late_link)?,
+        &answered_rates(rt.alloc(), &dropped, &late_link)?,
         &FROM_THE_SECOND,
     )
 }

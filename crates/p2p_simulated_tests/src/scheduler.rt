@@ -65,7 +65,7 @@ impl Parcel {
         Parcel { latency, ..self }
     }
 
-    fn lost(self) -> Parcel {
+    fn dropped(self) -> Parcel {
         Parcel {
             dropped: true,
             ..self

@@ -1,9 +1,11 @@
 -- Edits of the items on one side of a node.
-use Rattle.std.proofs.Common.{◌≡◌, ℕ, zero, suc, ◌-◌, ◌<◌, ◌≤◌, List, [], ◌∷◌, ◌++◌, length, slice_get, slice_set, Some, refl, ap, ◌∙◌, arith}
+use Rattle.std.proofs.Common.{◌≡◌, ℕ, zero, suc, ◌-◌, ◌<◌, ◌≤◌, List, [], ◌∷◌, ◌++◌, length, slice_get, slice_set, Some}
+use Rattle.std.proofs.Common.{refl, ap, ◌∙◌, arith}
 use Rattle.std.specs.List.{insert, remove}
 use Rattle.std.proofs.lemmas.List.{set-append_left, set-append_right}
 use Rattle.std.proofs.Math.Seq.{set-append_seam}
-use Rattle.std.proofs.lemmas.List.Edits.{insert-append_left, insert-append_right, remove-append_left, remove-append_right}
+use Rattle.std.proofs.lemmas.List.Edits.{insert-append_left, insert-append_right, remove-append_left}
+use Rattle.std.proofs.lemmas.List.Edits.{remove-append_right}
 
 past : (n at : ℕ) → n < at → at - n ≡ suc (at - n - 1)
 past n at above = omega arith
@@ -30,7 +32,9 @@ module _ {T : Type 0} (xs : List T) (x : T) (ys : List T) (at : ℕ) where
   insert_before y low = insert-append_left xs (x ∷ ys) at y low
 
   pub insert_after : (y : T) → length xs < at → insert (xs ++ x ∷ ys) at y ≡ xs ++ x ∷ insert ys (at - length xs - 1) y
-  insert_after y above = insert-append_right xs (x ∷ ys) (length xs) at y refl (omega (arith, above)) ∙ ap (λ k. xs ++ insert (x ∷ ys) k y) (past (length xs) at above)
+  insert_after y above =
+      insert-append_right xs (x ∷ ys) (length xs) at y refl (omega (arith, above))
+      ∙ ap (λ k. xs ++ insert (x ∷ ys) k y) (past (length xs) at above)
 
   pub set_before : (y : T) → at < length xs → slice_set (xs ++ x ∷ ys) at y ≡ slice_set xs at y ++ x ∷ ys
   set_before y low = set-append_left xs (x ∷ ys) at y low
@@ -38,34 +42,45 @@ module _ {T : Type 0} (xs : List T) (x : T) (ys : List T) (at : ℕ) where
   pub set_here : (y : T) → at ≡ length xs → slice_set (xs ++ x ∷ ys) at y ≡ xs ++ y ∷ ys
   set_here y here = ap (λ k. slice_set (xs ++ x ∷ ys) k y) here ∙ set-append_seam xs x ys y
 
-  pub set_after : (y : T) → length xs < at → slice_set (xs ++ x ∷ ys) at y ≡ xs ++ x ∷ slice_set ys (at - length xs - 1) y
-  set_after y above = set-append_right xs (x ∷ ys) (length xs) at y refl (omega (arith, above)) ∙ ap (λ k. xs ++ slice_set (x ∷ ys) k y) (past (length xs) at above)
+  pub set_after : (y : T) → length xs < at
+      → slice_set (xs ++ x ∷ ys) at y ≡ xs ++ x ∷ slice_set ys (at - length xs - 1) y
+  set_after y above =
+      set-append_right xs (x ∷ ys) (length xs) at y refl (omega (arith, above))
+      ∙ ap (λ k. xs ++ slice_set (x ∷ ys) k y) (past (length xs) at above)
 
   pub remove_before : at < length xs → remove (xs ++ x ∷ ys) at ≡ remove xs at ++ x ∷ ys
   remove_before low = remove-append_left xs (x ∷ ys) at low
 
   pub remove_after : length xs < at → remove (xs ++ x ∷ ys) at ≡ xs ++ x ∷ remove ys (at - length xs - 1)
-  remove_after above = remove-append_right xs (x ∷ ys) (length xs) at refl (omega (arith, above)) ∙ ap (λ k. xs ++ remove (x ∷ ys) k) (past (length xs) at above)
+  remove_after above =
+      remove-append_right xs (x ∷ ys) (length xs) at refl (omega (arith, above))
+      ∙ ap (λ k. xs ++ remove (x ∷ ys) k) (past (length xs) at above)
 
   pub remove_here : at ≡ length xs → remove (xs ++ x ∷ ys) at ≡ xs ++ ys
-  remove_here here = remove-append_right xs (x ∷ ys) (length xs) at refl (omega (arith, here)) ∙ ap (λ k. xs ++ remove (x ∷ ys) k) (nothing (length xs) at here)
+  remove_here here =
+      remove-append_right xs (x ∷ ys) (length xs) at refl (omega (arith, here))
+      ∙ ap (λ k. xs ++ remove (x ∷ ys) k) (nothing (length xs) at here)
 
   pub remove_last : at ≡ length xs → length ys ≡ 0 → remove (xs ++ x ∷ ys) at ≡ xs
   remove_last here none = remove_here here ∙ ap (λ l. xs ++ l) (empty ys none) ∙ nothing_after xs
 
 -- what a list says of places on one side of an item
-pub get_before : {T : Type 0} (xs : List T) (x : T) (ys : List T) (at : ℕ) → at < length xs → slice_get (xs ++ x ∷ ys) at ≡ slice_get xs at
+pub get_before : {T : Type 0} (xs : List T) (x : T) (ys : List T) (at : ℕ) → at < length xs
+    → slice_get (xs ++ x ∷ ys) at ≡ slice_get xs at
 get_before [] x ys at low = absurd (omega (arith, low))
 get_before (z ∷ zs) x ys zero low = refl
 get_before (z ∷ zs) x ys (suc k) low = get_before zs x ys k (omega (arith, low))
 
-pub get_here : {T : Type 0} (xs : List T) (x : T) (ys : List T) (at : ℕ) → at ≡ length xs → slice_get (xs ++ x ∷ ys) at ≡ Some x
+pub get_here : {T : Type 0} (xs : List T) (x : T) (ys : List T) (at : ℕ) → at ≡ length xs
+    → slice_get (xs ++ x ∷ ys) at ≡ Some x
 get_here [] x ys at here = ap (slice_get (x ∷ ys)) here
 get_here (z ∷ zs) x ys zero here = absurd (omega (arith, here))
 get_here (z ∷ zs) x ys (suc k) here = get_here zs x ys k (omega (arith, here))
 
-pub get_after : {T : Type 0} (xs : List T) (x : T) (ys : List T) (at : ℕ) → length xs < at → slice_get (xs ++ x ∷ ys) at ≡ slice_get ys (at - length xs - 1)
+pub get_after : {T : Type 0} (xs : List T) (x : T) (ys : List T) (at : ℕ) → length xs < at
+    → slice_get (xs ++ x ∷ ys) at ≡ slice_get ys (at - length xs - 1)
 get_after [] x ys zero above = absurd (omega (arith, above))
 get_after [] x ys (suc k) above = ap (slice_get ys) (one_less k)
 get_after (z ∷ zs) x ys zero above = absurd (omega (arith, above))
-get_after (z ∷ zs) x ys (suc k) above = get_after zs x ys k (omega (arith, above)) ∙ ap (slice_get ys) (each_less k (length zs))
+get_after (z ∷ zs) x ys (suc k) above =
+    get_after zs x ys k (omega (arith, above)) ∙ ap (slice_get ys) (each_less k (length zs))

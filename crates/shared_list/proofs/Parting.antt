@@ -1,5 +1,6 @@
 -- Where a list is parted, at a node.
-use Rattle.std.proofs.Common.{◌≡◌, ℕ, suc, ◌+◌, Bool, true, false, not, ◌&&◌, if◌then◌else◌, List, [], ◌∷◌, ◌++◌, length, Some, refl, sym, ap, ◌∙◌, arith, length-append}
+use Rattle.std.proofs.Common.{◌≡◌, ℕ, suc, ◌+◌, Bool, true, false, not, ◌&&◌, if◌then◌else◌, List, [], ◌∷◌, ◌++◌}
+use Rattle.std.proofs.Common.{length, Some, refl, sym, ap, ◌∙◌, arith, length-append}
 use Rattle.std.specs.List.{list_all, find, position_or_len}
 use Rattle.std.specs.Option.{option_or}
 use Rattle.std.proofs.lemmas.List.Folds.{list_all-append, find-append}
@@ -30,22 +31,34 @@ module _ {T : Type 0} (p : T → Bool) where
   none_before (z ∷ zs) x ys is h = none_before zs x ys is (and_right (not (p z)) _ h)
 
   -- where an item is before, so is all that stands before it, and the rest is parted
-  pub below_item : (xs : List T) (x : T) (ys : List T) → p x ≡ true → are_parted p (xs ++ x ∷ ys) ≡ true → (list_all p xs ≡ true) × (are_parted p ys ≡ true)
+  pub below_item : (xs : List T) (x : T) (ys : List T) → p x ≡ true → are_parted p (xs ++ x ∷ ys) ≡ true
+      → (list_all p xs ≡ true) × (are_parted p ys ≡ true)
   below_item [] x ys is h = (refl, sym (ap (λ b. if b then are_parted p ys else others ys) is) ∙ h)
   below_item (z ∷ zs) x ys is h = by_bool (p z)
-      (λ t. let rest = below_item zs x ys is (sym (ap (λ b. if b then are_parted p (zs ++ x ∷ ys) else others (zs ++ x ∷ ys)) t) ∙ h) in (rw (t, rest.0) refl, rest.1))
-      (λ f. let no : false ≡ true = none_before zs x ys is (sym (ap (λ b. if b then are_parted p (zs ++ x ∷ ys) else others (zs ++ x ∷ ys)) f) ∙ h) in cc)
+      (λ t. let rest = below_item zs x ys is
+      (sym (ap (λ b. if b then are_parted p (zs ++ x ∷ ys) else others (zs ++ x ∷ ys)) t) ∙ h) in
+      (rw (t, rest.0) refl, rest.1))
+      (λ f. let no : false
+      ≡ true = none_before zs x ys is
+      (sym (ap (λ b. if b then are_parted p (zs ++ x ∷ ys) else others (zs ++ x ∷ ys)) f) ∙ h) in
+      cc)
 
   -- where an item is not before, nothing after it is, and the rest is parted
-  pub above_item : (xs : List T) (x : T) (ys : List T) → p x ≡ false → are_parted p (xs ++ x ∷ ys) ≡ true → (are_parted p xs ≡ true) × (others (x ∷ ys) ≡ true)
+  pub above_item : (xs : List T) (x : T) (ys : List T) → p x ≡ false → are_parted p (xs ++ x ∷ ys) ≡ true
+      → (are_parted p xs ≡ true) × (others (x ∷ ys) ≡ true)
   above_item [] x ys is h = (refl, rw is (sym (ap (λ b. if b then are_parted p ys else others ys) is) ∙ h))
   above_item (z ∷ zs) x ys is h = by_bool (p z)
-      (λ t. let rest = above_item zs x ys is (sym (ap (λ b. if b then are_parted p (zs ++ x ∷ ys) else others (zs ++ x ∷ ys)) t) ∙ h) in (rw (t, rest.0) refl, rest.1))
-      (λ f. let none : others (zs ++ x ∷ ys) ≡ true = sym (ap (λ b. if b then are_parted p (zs ++ x ∷ ys) else others (zs ++ x ∷ ys)) f) ∙ h in
+      (λ t. let rest = above_item zs x ys is
+      (sym (ap (λ b. if b then are_parted p (zs ++ x ∷ ys) else others (zs ++ x ∷ ys)) t) ∙ h) in
+      (rw (t, rest.0) refl, rest.1))
+      (λ f. let none : others (zs ++ x ∷ ys)
+      ≡ true = sym (ap (λ b. if b then are_parted p (zs ++ x ∷ ys) else others (zs ++ x ∷ ys)) f)
+      ∙ h in
       let both : (others zs && others (x ∷ ys)) ≡ true = sym (list_all-append (λ y. not (p y)) zs (x ∷ ys)) ∙ none in
       (rw (f, and_left (others zs) _ both) refl, and_right (others zs) _ both))
 
-  pub parting_after : (xs : List T) (x : T) (ys : List T) (k at : ℕ) → at ≡ length xs + 1 + k → p x ≡ true → are_parted p (xs ++ x ∷ ys) ≡ true → (are_parted p ys ≡ true → IsParting p ys k) → IsParting p (xs ++ x ∷ ys) at
+  pub parting_after : (xs : List T) (x : T) (ys : List T) (k at : ℕ) → at ≡ length xs + 1 + k → p x ≡ true
+      → are_parted p (xs ++ x ∷ ys) ≡ true → (are_parted p ys ≡ true → IsParting p ys k) → IsParting p (xs ++ x ∷ ys) at
   parting_after xs x ys k at there is h further =
       let low = below_item xs x ys is h in
       let rest = further low.1 in
@@ -58,7 +71,8 @@ module _ {T : Type 0} (p : T → Bool) where
         above = rest.above;
       }
 
-  pub parting_before : (xs : List T) (x : T) (ys : List T) (k : ℕ) → p x ≡ false → are_parted p (xs ++ x ∷ ys) ≡ true → (are_parted p xs ≡ true → IsParting p xs k) → IsParting p (xs ++ x ∷ ys) k
+  pub parting_before : (xs : List T) (x : T) (ys : List T) (k : ℕ) → p x ≡ false → are_parted p (xs ++ x ∷ ys) ≡ true
+      → (are_parted p xs ≡ true → IsParting p xs k) → IsParting p (xs ++ x ∷ ys) k
   parting_before xs x ys k is h further =
       let high = above_item xs x ys is h in
       let rest = further high.0 in
@@ -79,13 +93,15 @@ module _ {T : Type 0} (p : T → Bool) where
   passed_over (x ∷ xs) ys h = rw (and_left (p x) _ h) (passed_over xs ys (and_right (p x) _ h))
 
   pub first_after : (xs : List T) (x : T) (ys : List T) → p x ≡ true → are_parted p (xs ++ x ∷ ys) ≡ true
-      → (list_all p (xs ++ x ∷ []) ≡ true) × (are_parted p ys ≡ true) × (find (λ y. not (p y)) (xs ++ x ∷ ys) ≡ find (λ y. not (p y)) ys)
+      → (list_all p (xs ++ x ∷ []) ≡ true) × (are_parted p ys ≡ true)
+      × (find (λ y. not (p y)) (xs ++ x ∷ ys) ≡ find (λ y. not (p y)) ys)
   first_after xs x ys is h =
       let low = below_item xs x ys is h in
       (list_all-append p xs (x ∷ []) ∙ rw (low.0, is) refl, low.1, passed_over xs (x ∷ ys) low.0 ∙ rw is refl)
 
   pub first_before : (xs : List T) (x : T) (ys : List T) → p x ≡ false → are_parted p (xs ++ x ∷ ys) ≡ true
-      → (are_parted p xs ≡ true) × (find (λ y. not (p y)) (xs ++ x ∷ ys) ≡ option_or (find (λ y. not (p y)) xs) (Some x))
+      → (are_parted p xs ≡ true)
+      × (find (λ y. not (p y)) (xs ++ x ∷ ys) ≡ option_or (find (λ y. not (p y)) xs) (Some x))
   first_before xs x ys is h =
       ((above_item xs x ys is h).0, find-append (λ y. not (p y)) xs (x ∷ ys) ∙ rw is refl)
 
@@ -103,7 +119,8 @@ module _ {T : Type 0} (p : T → Bool) where
   pub parting_first : (xs : List T) → are_parted p xs ≡ true → IsParting p xs (position_or_len (λ y. not (p y)) xs)
   parting_first [] h = record { before = []; after = []; split = refl; is_at = refl; below = refl; above = refl }
   parting_first (x ∷ xs) h = by_bool (p x)
-      (λ t. one_more x xs (position_or_len (λ y. not (p y)) xs) (position_or_len (λ y. not (p y)) (x ∷ xs)) t (rw t (omega arith)) (parting_first xs (sym (ap (λ b. if b then are_parted p xs else others xs) t) ∙ h)))
+      (λ t. one_more x xs (position_or_len (λ y. not (p y)) xs) (position_or_len (λ y. not (p y)) (x ∷ xs)) t
+      (rw t (omega arith)) (parting_first xs (sym (ap (λ b. if b then are_parted p xs else others xs) t) ∙ h)))
       (λ f. record {
         before = [];
         after = x ∷ xs;

@@ -16,7 +16,8 @@ use Rattle.fair_rates.proofs.Fairness.Allocation.{the_allocation}
 use Rattle.fair_rates.proofs.Refusals.Promise.{distinct_sides, users_below_sides, twelfths, whole_of_sixteen}
 
 -- fair rates on the sides that were registered are the allocation
-pub allocated : {P E I L : Type 0} (cmp : P → P → Ordering) (egress : Calls E P) (ingress : Calls I P) (link : PairCalls L P) (first : States E I L) (flows : List (Flow P)) (rate_of : ℕ → Option Rate)
+pub allocated : {P E I L : Type 0} (cmp : P → P → Ordering) (egress : Calls E P) (ingress : Calls I P)
+    (link : PairCalls L P) (first : States E I L) (flows : List (Flow P)) (rate_of : ℕ → Option Rate)
     → (answered : List (Answered P)) (sides : List declared_side.Side) (rates : List Rate)
     → AnswerInOrder egress ingress link first flows answered
     → map side_of sides ≡ sides_of cmp answered
@@ -26,9 +27,12 @@ pub allocated : {P E I L : Type 0} (cmp : P → P → Ordering) (egress : Calls 
     → ((id : ℕ) → rate_of id ≡ last_rate id flows rates)
     → IsAllocation cmp egress ingress link first flows rate_of
 allocated cmp egress ingress link first flows rate_of answered sides rates in_order registered below rise filled by_id =
-    let fair : AreFairRates (sides_of cmp answered) (length flows) rates = subst (λ s. AreFairRates s (length flows) rates) registered filled in
-    let among : HaveUsersBelow (length flows) (sides_of cmp answered) = subst (HaveUsersBelow (length flows)) registered (users_below_sides (length flows) sides below) in
-    let distinct : HaveDistinctUsers (sides_of cmp answered) = subst HaveDistinctUsers registered (distinct_sides sides rise) in
+    let fair : AreFairRates (sides_of cmp answered) (length flows) rates =
+    subst (λ s. AreFairRates s (length flows) rates) registered filled in
+    let among : HaveUsersBelow (length flows) (sides_of cmp answered) =
+    subst (HaveUsersBelow (length flows)) registered (users_below_sides (length flows) sides below) in
+    let distinct : HaveDistinctUsers (sides_of cmp answered) =
+    subst HaveDistinctUsers registered (distinct_sides sides rise) in
     let one = the_allocation (sides_of cmp answered) (length flows) rates among fair in
     record {
       answered = answered;
@@ -44,7 +48,8 @@ allocated cmp egress ingress link first flows rate_of answered sides rates in_or
     }
 
 -- and the rounds are counted
-pub counted : {P E I L : Type 0} (cmp : P → P → Ordering) (egress : Calls E P) (ingress : Calls I P) (link : PairCalls L P) (first : States E I L) (flows : List (Flow P)) (rate_of : ℕ → Option Rate) (rounds : ℕ)
+pub counted : {P E I L : Type 0} (cmp : P → P → Ordering) (egress : Calls E P) (ingress : Calls I P)
+    (link : PairCalls L P) (first : States E I L) (flows : List (Flow P)) (rate_of : ℕ → Option Rate) (rounds : ℕ)
     → (answered : List (Answered P)) (sides : List declared_side.Side) (rates : List Rate)
     → AnswerInOrder egress ingress link first flows answered
     → map side_of sides ≡ sides_of cmp answered
@@ -56,10 +61,13 @@ pub counted : {P E I L : Type 0} (cmp : P → P → Ordering) (egress : Calls E 
     → ((id : ℕ) → rate_of id ≡ last_rate id flows rates)
     → IsCountedAllocation cmp egress ingress link first flows rate_of rounds
 unfolding allocated
-counted cmp egress ingress link first flows rate_of rounds answered sides rates in_order registered below rise filled different few by_id =
+counted cmp egress ingress link first flows rate_of rounds answered sides rates in_order registered below rise filled
+    different few by_id =
     let many : length (sides_of cmp answered) ≡ length sides = ap length (sym registered) ∙ length-map sides side_of in
     record {
-      allocation = allocated cmp egress ingress link first flows rate_of answered sides rates in_order registered below rise filled by_id;
+      allocation =
+          allocated cmp egress ingress link first flows rate_of answered sides rates in_order registered below rise
+          filled by_id;
       different = different;
       few = omega (arith, many, few);
     }

@@ -20,7 +20,8 @@ pub record AreTheAllocation (sides : List Side) (flows : ℕ) (rates : List Rate
   pub zero : AreZeroWhereClosed sides rates
 
 -- fair rates are the one max-min allocation, where the sides have users among the flows
-pub the_allocation : (sides : List Side) (flows : ℕ) (rates : List Rate) → HaveUsersBelow flows sides → AreFairRates sides flows rates → AreTheAllocation sides flows rates
+pub the_allocation : (sides : List Side) (flows : ℕ) (rates : List Rate) → HaveUsersBelow flows sides
+    → AreFairRates sides flows rates → AreTheAllocation sides flows rates
 the_allocation sides flows rates users f = record {
   only = one_allocation sides flows rates f;
   max_min = fair_rates_are_max_min sides flows rates users f;
@@ -28,7 +29,9 @@ the_allocation sides flows rates users f = record {
 }
 
 -- what closures that answer by caps have allocated is fair under the caps
-pub allocates_under_caps : {P E I L : Type 0} (cmp : P → P → Ordering) (egress : Calls E P) (ingress : Calls I P) (link : PairCalls L P) → AllocatesUnderCaps cmp egress ingress link
+pub allocates_under_caps : {P E I L : Type 0} (cmp : P → P → Ordering) (egress : Calls E P) (ingress : Calls I P)
+    (link : PairCalls L P)
+    → AllocatesUnderCaps cmp egress ingress link
 allocates_under_caps {P} cmp egress ingress link caps first flows rate_of by a =
     let answered = answers_are_those_of_the_caps egress ingress link caps first flows a.answered by a.in_order in
     record {

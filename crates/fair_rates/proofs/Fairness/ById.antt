@@ -1,5 +1,6 @@
 -- Rates by id under the caps of peers.
-use Rattle.std.proofs.Common.{◌≡◌, ◌↔◌, ℕ, ◌≤◌, Bool, true, false, cond, List, [], ◌∷◌, Option, Some, count_by, length, map, refl, sym, ap, ap₂, ◌∙◌, subst, arith}
+use Rattle.std.proofs.Common.{◌≡◌, ◌↔◌, ℕ, ◌≤◌, Bool, true, false, cond, List, [], ◌∷◌, Option, Some, count_by, length}
+use Rattle.std.proofs.Common.{map, refl, sym, ap, ap₂, ◌∙◌, subst, arith}
 use Rattle.std.specs.Prelude.{slice_get}
 use Rattle.std.specs.List.{filter}
 use Rattle.std.specs.Cmp.{IsTotalOrder}
@@ -10,7 +11,8 @@ use Rattle.std.proofs.lemmas.List.Sums.{sum_by-cons}
 use Rattle.fair_rates.specs.declared.bandwidth.Flow.{Flow}
 use Rattle.fair_rates.specs.declared.bandwidth.Rate.{Rate}
 use Rattle.fair_rates.specs.declared.bandwidth.Rate.TheVariants.{Unlimited}
-use Rattle.fair_rates.specs.Fairness.UnderCaps.{AreOfPeers, sides_under, UsesNoCap, HaveDistinctIds, IsFairById, UnlimitedByIdWhereUncapped, OthersDoNotMatter, is_of_set}
+use Rattle.fair_rates.specs.Fairness.UnderCaps.{AreOfPeers, sides_under, UsesNoCap, HaveDistinctIds, IsFairById}
+use Rattle.fair_rates.specs.Fairness.UnderCaps.{UnlimitedByIdWhereUncapped, OthersDoNotMatter, is_of_set}
 use Rattle.fair_rates.specs.Fairness.Part.{flagged}
 use Rattle.fair_rates.specs.Fairness.Rates.{last_rate}
 use Rattle.fair_rates.specs.Sides.Caps.{Caps}
@@ -26,16 +28,20 @@ count_by-filter : {X : Type 0} (p q : X → Bool) (xs : List X) → count_by p (
 count_by-filter p q [] = omega arith
 count_by-filter {X} p q (x ∷ xs) = by_test (q x) (count_by-filter p q xs)
   where
-    by_test : (b : Bool) → count_by p (filter q xs) ≤ count_by p xs → count_by p (cond b (x ∷ filter q xs) (filter q xs)) ≤ count_by p (x ∷ xs)
-    by_test true ih = omega (arith, ih, sum_by-cons (λ y. cond (p y) 1 0) x (filter q xs), sum_by-cons (λ y. cond (p y) 1 0) x xs)
+    by_test : (b : Bool) → count_by p (filter q xs) ≤ count_by p xs
+        → count_by p (cond b (x ∷ filter q xs) (filter q xs)) ≤ count_by p (x ∷ xs)
+    by_test true ih =
+        omega (arith, ih, sum_by-cons (λ y. cond (p y) 1 0) x (filter q xs), sum_by-cons (λ y. cond (p y) 1 0) x xs)
     by_test false ih = omega (arith, ih, sum_by-cons (λ y. cond (p y) 1 0) x xs)
 
 -- where ids are distinct, the rate by the id of a flow is its own
-pub rate_by_id : {P : Type 0} (xs : List (Allotted P)) (x : Allotted P) → HaveDistinctIds (flows_of xs) → In xs x → last_rate x.flow.id (flows_of xs) (rates_of xs) ≡ Some x.rate
+pub rate_by_id : {P : Type 0} (xs : List (Allotted P)) (x : Allotted P) → HaveDistinctIds (flows_of xs) → In xs x
+    → last_rate x.flow.id (flows_of xs) (rates_of xs) ≡ Some x.rate
 rate_by_id xs x distinct h = own_rate x.flow.id xs x (distinct x.flow.id) h (eq-eqb x.flow.id x.flow.id refl)
 
 module _ {P : Type 0} (cmp : P → P → Ordering) (order : IsTotalOrder cmp) where
-  module _ (caps : Caps P) (of : AreOfPeers cmp caps) (flows : List (Flow P)) (m : ℕ → Option Rate) (distinct : HaveDistinctIds flows) (a : IsFairById cmp caps flows m) where
+  module _ (caps : Caps P) (of : AreOfPeers cmp caps) (flows : List (Flow P)) (m : ℕ → Option Rate)
+      (distinct : HaveDistinctIds flows) (a : IsFairById cmp caps flows m) where
     abbrev said : IsSaidAmong cmp caps flows a.rates
     said = among_from cmp caps order of flows a.rates a.fair
 
@@ -48,10 +54,15 @@ module _ {P : Type 0} (cmp : P → P → Ordering) (order : IsTotalOrder cmp) wh
 
     rated_at : (f : Flow P) → In flows f → IsRatedAt f
     rated_at f h =
-        let r : (x : Allotted P) × In said.all x × (x.flow ≡ f) = from_map (λ (x : Allotted P). x.flow) said.all f (subst (λ (fs : List (Flow P)). In fs f) (sym said.flows_are) h) in
-        let own : last_rate r.0.flow.id (flows_of said.all) (rates_of said.all) ≡ Some r.0.rate = rate_by_id said.all r.0 (subst HaveDistinctIds (sym said.flows_are) distinct) r.1 in
+        let r : (x : Allotted P) × In said.all x × (x.flow ≡ f) =
+        from_map (λ (x : Allotted P). x.flow) said.all f
+        (subst (λ (fs : List (Flow P)). In fs f) (sym said.flows_are) h) in
+        let own : last_rate r.0.flow.id (flows_of said.all) (rates_of said.all) ≡ Some r.0.rate =
+        rate_by_id said.all r.0 (subst HaveDistinctIds (sym said.flows_are) distinct) r.1 in
         let same : last_rate f.id flows a.rates ≡ last_rate r.0.flow.id (flows_of said.all) (rates_of said.all) =
-        ap (λ (g : Flow P). last_rate g.id flows a.rates) (sym r.2) ∙ ap₂ (λ (fs : List (Flow P)) (rs : List Rate). last_rate r.0.flow.id fs rs) (sym said.flows_are) (sym said.rates_are) in
+        ap (λ (g : Flow P). last_rate g.id flows a.rates) (sym r.2)
+        ∙ ap₂ (λ (fs : List (Flow P)) (rs : List Rate). last_rate r.0.flow.id fs rs) (sym said.flows_are)
+        (sym said.rates_are) in
         record { x = r.0; among = r.1; is = r.2; rate = a.by_id f.id ∙ same ∙ own }
 
   pub unlimited_by_id : UnlimitedByIdWhereUncapped cmp
@@ -60,13 +71,17 @@ module _ {P : Type 0} (cmp : P → P → Ordering) (order : IsTotalOrder cmp) wh
       let s = said caps of flows m distinct a in
       let r = rated_at caps of flows m distinct a f h in
       let p : (i : ℕ) × (slice_get s.all i ≡ Some r.x) = get_in s.all r.x r.among in
-      let at : slice_get flows p.0 ≡ Some f = subst (λ (fs : List (Flow P)). slice_get fs p.0 ≡ Some f) s.flows_are (get_flow s.all p.0 r.x f p.1 r.is) in
-      let rate : slice_get a.rates p.0 ≡ Some r.x.rate = subst (λ (rs : List Rate). slice_get rs p.0 ≡ Some r.x.rate) s.rates_are (rate_there cmp caps s.all p.0 r.x p.1) in
+      let at : slice_get flows p.0 ≡ Some f =
+      subst (λ (fs : List (Flow P)). slice_get fs p.0 ≡ Some f) s.flows_are (get_flow s.all p.0 r.x f p.1 r.is) in
+      let rate : slice_get a.rates p.0 ≡ Some r.x.rate =
+      subst (λ (rs : List Rate). slice_get rs p.0 ≡ Some r.x.rate) s.rates_are
+      (rate_there cmp caps s.all p.0 r.x p.1) in
       let same : m f.id ≡ slice_get a.rates p.0 = r.rate ∙ sym rate in
       subst (λ (o : Option Rate). (o ≡ Some Unlimited) ↔ UsesNoCap caps f) (sym same)
       (unlimited_where_uncapped cmp order caps flows a.rates of a.fair p.0 f at)
     where
-      get_flow : (xs : List (Allotted P)) (i : ℕ) (x : Allotted P) (g : Flow P) → slice_get xs i ≡ Some x → x.flow ≡ g → slice_get (flows_of xs) i ≡ Some g
+      get_flow : (xs : List (Allotted P)) (i : ℕ) (x : Allotted P) (g : Flow P) → slice_get xs i ≡ Some x → x.flow ≡ g
+          → slice_get (flows_of xs) i ≡ Some g
       get_flow xs i x g at is = slice_get-map (λ (x : Allotted P). x.flow) xs i ∙ (rw at (ap Some is))
 
   pub others_do_not_matter : OthersDoNotMatter cmp
@@ -77,14 +92,20 @@ module _ {P : Type 0} (cmp : P → P → Ordering) (order : IsTotalOrder cmp) wh
       let s = said caps of flows m distinct a in
       let r = rated_at caps of flows m distinct a f h.0 in
       let xs = part cmp caps mine s.all in
-      let among : In xs r.x = in_filter (λ (x : Allotted P). mine x.flow) s.all r.x r.among (subst (λ (g : Flow P). mine g ≡ true) (sym r.is) h.1) in
+      let among : In xs r.x =
+      in_filter (λ (x : Allotted P). mine x.flow) s.all r.x r.among
+      (subst (λ (g : Flow P). mine g ≡ true) (sym r.is) h.1) in
       let flows_is : flows_of xs ≡ own = flows_of_part cmp caps mine s.all ∙ ap (filter mine) s.flows_are in
-      let rates_is : rates_of xs ≡ flagged (map mine flows) a.rates = rates_of_part cmp caps mine s.all ∙ ap₂ (λ (fs : List (Flow P)) (rs : List Rate). flagged (map mine fs) rs) s.flows_are s.rates_are in
+      let rates_is : rates_of xs ≡ flagged (map mine flows) a.rates =
+      rates_of_part cmp caps mine s.all
+      ∙ ap₂ (λ (fs : List (Flow P)) (rs : List Rate). flagged (map mine fs) rs) s.flows_are s.rates_are in
       let kept_fair = part_is_fair cmp order caps peers flows a.rates of ends a.fair in
       let one : b.rates ≡ flagged (map mine flows) a.rates =
-      one_allocation (sides_under cmp caps own) (length own) (flagged (map mine flows) a.rates) kept_fair b.rates b.fair in
+      one_allocation (sides_under cmp caps own) (length own) (flagged (map mine flows) a.rates) kept_fair b.rates
+      b.fair in
       let few : HaveDistinctIds own = λ id. omega (arith, distinct id, count_by-filter (has id) mine flows) in
-      let rate : last_rate r.x.flow.id (flows_of xs) (rates_of xs) ≡ Some r.x.rate = rate_by_id xs r.x (subst HaveDistinctIds (sym flows_is) few) among in
+      let rate : last_rate r.x.flow.id (flows_of xs) (rates_of xs) ≡ Some r.x.rate =
+      rate_by_id xs r.x (subst HaveDistinctIds (sym flows_is) few) among in
       b.by_id f.id
       ∙ ap₂ (λ (fs : List (Flow P)) (rs : List Rate). last_rate f.id fs rs) (sym flows_is) (one ∙ sym rates_is)
       ∙ ap (λ (g : Flow P). last_rate g.id (flows_of xs) (rates_of xs)) (sym r.is)

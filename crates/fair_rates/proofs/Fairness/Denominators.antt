@@ -1,14 +1,18 @@
 -- The least common multiple of all products of whole numbers above zero whose sum is at most n.
 use Prim.Native.Nat.{◌∣◌}
-use Rattle.std.proofs.Common.{◌≡◌, ℕ, zero, suc, ◌+◌, ◌-◌, ◌*◌, ◌/◌, ◌<◌, ◌≤◌, inl, inr, List, [], ◌∷◌, length, get_or, All, refl, sym, ap, ◌∙◌, subst, arith}
+use Rattle.std.proofs.Common.{◌≡◌, ℕ, zero, suc, ◌+◌, ◌-◌, ◌*◌, ◌/◌, ◌<◌, ◌≤◌, inl, inr, List, [], ◌∷◌, length, get_or}
+use Rattle.std.proofs.Common.{All, refl, sym, ap, ◌∙◌, subst, arith}
 use Rattle.std.specs.List.{sum}
-use Rattle.std.proofs.Math.Nat.{dvd_refl, dvd_trans, dvd-zero, le_of_dvd, dvd-mul_left, dvd-mul_right, one-dvd, mul-dvd-mul_left, mul-dvd-mul_right, mul-div_cancel', dvd_of_mul-dvd-mul_left, dvd_of_mul-dvd-mul_right, mul-pos}
+use Rattle.std.proofs.Math.Nat.{dvd_refl, dvd_trans, dvd-zero, le_of_dvd, dvd-mul_left, dvd-mul_right, one-dvd}
+use Rattle.std.proofs.Math.Nat.{mul-dvd-mul_left, mul-dvd-mul_right, mul-div_cancel', dvd_of_mul-dvd-mul_left}
+use Rattle.std.proofs.Math.Nat.{dvd_of_mul-dvd-mul_right, mul-pos}
 use Rattle.std.proofs.lemmas.Nat.Gcd.{dvd_antisymm}
 use Rattle.std.proofs.lemmas.Bool.{cases_lt}
 use Rattle.std.proofs.lemmas.List.Elements.{All-head, All-tail, All-nil, All-cons}
 use Rattle.std.proofs.lemmas.List.Sums.{sum_by-cons}
 use Rattle.fair_rates.specs.Numbers.Amount.{gcd, gcd_within}
-use Rattle.fair_rates.specs.Fairness.Exists.{product, AreAddends, IsMultipleOfAll, IsLeastMultiple, AreLeastMultiplesFrom}
+use Rattle.fair_rates.specs.Fairness.Exists.{product, AreAddends, IsMultipleOfAll, IsLeastMultiple}
+use Rattle.fair_rates.specs.Fairness.Exists.{AreLeastMultiplesFrom}
 use Rattle.fair_rates.specs.Numbers.Gcd.{gcd-IsGcd, gcd-pos, gcd-scaled}
 
 -- ---- of two numbers
@@ -26,7 +30,8 @@ lcm-right a b =
     let g = gcd-IsGcd a b in
     let first : gcd a b * (a / gcd a b) ≡ a = mul-div_cancel' (gcd a b) g.0 in
     let second : gcd a b * (b / gcd a b) ≡ b = mul-div_cancel' (gcd a b) g.1 in
-    let e : b * (a / gcd a b) ≡ a * (b / gcd a b) = omega (arith, ap (λ n. n * (b / gcd a b)) first, ap (λ n. n * (a / gcd a b)) second) in
+    let e : b * (a / gcd a b) ≡ a * (b / gcd a b) =
+    omega (arith, ap (λ n. n * (b / gcd a b)) first, ap (λ n. n * (a / gcd a b)) second) in
     subst (λ n. b ∣ n) e (dvd-mul_right b (a / gcd a b))
 
 lcm-pos : (a b : ℕ) → 0 < a → 0 < b → 0 < lcm a b
@@ -60,7 +65,8 @@ multiple_from : ℕ → List ℕ → ℕ
 multiple_from k [] = 1
 multiple_from k (d ∷ ds) = lcm (k * d) (multiple_from (suc k) ds)
 
--- the last of the numbers is k, and before it stand products whose sum is at most n - k: so the entry at n has k times that at n - k for each k; here from the entry at n down to that at 0
+-- the last of the numbers is k, and before it stand products whose sum is at most n - k: so the entry at n has k times
+-- that at n - k for each k; here from the entry at n down to that at 0
 entries : ℕ → List ℕ
 entries zero = 1 ∷ []
 entries (suc n) = multiple_from 1 (entries n) ∷ entries n
@@ -92,24 +98,33 @@ of_more n = refl
 has_each : (k : ℕ) (ds : List ℕ) (i : ℕ) → i < length ds → (k + i) * get_or ds i 0 ∣ multiple_from k ds
 unfolding multiple_from
 has_each k [] i l = absurd (omega arith)
-has_each k (d ∷ ds) zero l = let e : k * d ≡ (k + 0) * d = omega arith in subst (λ n. n ∣ lcm (k * d) (multiple_from (suc k) ds)) e (lcm-left (k * d) (multiple_from (suc k) ds))
+has_each k (d ∷ ds) zero l =
+    let e : k * d ≡ (k + 0) * d = omega arith in
+    subst (λ n. n ∣ lcm (k * d) (multiple_from (suc k) ds)) e (lcm-left (k * d) (multiple_from (suc k) ds))
 has_each k (d ∷ ds) (suc i) l =
     let e : suc k + i ≡ k + suc i = omega arith in
-    dvd_trans ((k + suc i) * get_or ds i 0) (subst (λ n. n * get_or ds i 0 ∣ multiple_from (suc k) ds) e (has_each (suc k) ds i (omega arith))) (lcm-right (k * d) (multiple_from (suc k) ds))
+    dvd_trans ((k + suc i) * get_or ds i 0)
+    (subst (λ n. n * get_or ds i 0 ∣ multiple_from (suc k) ds) e (has_each (suc k) ds i (omega arith)))
+    (lcm-right (k * d) (multiple_from (suc k) ds))
 
 multiple-pos : (k : ℕ) (ds : List ℕ) → 0 < k → All (λ d. 0 < d) ds → 0 < multiple_from k ds
 unfolding multiple_from
 multiple-pos k [] some h = omega arith
-multiple-pos k (d ∷ ds) some h = lcm-pos (k * d) (multiple_from (suc k) ds) (mul-pos some (All-head (λ d. 0 < d) d ds h)) (multiple-pos (suc k) ds (omega arith) (All-tail (λ d. 0 < d) d ds h))
+multiple-pos k (d ∷ ds) some h =
+    lcm-pos (k * d) (multiple_from (suc k) ds) (mul-pos some (All-head (λ d. 0 < d) d ds h))
+    (multiple-pos (suc k) ds (omega arith) (All-tail (λ d. 0 < d) d ds h))
 
-divides_each : (k : ℕ) (ds : List ℕ) (m : ℕ) → 0 < k → All (λ d. 0 < d) ds → ((i : ℕ) → i < length ds → (k + i) * get_or ds i 0 ∣ m) → multiple_from k ds ∣ m
+divides_each : (k : ℕ) (ds : List ℕ) (m : ℕ) → 0 < k → All (λ d. 0 < d) ds
+    → ((i : ℕ) → i < length ds → (k + i) * get_or ds i 0 ∣ m) → multiple_from k ds ∣ m
 unfolding multiple_from
 divides_each k [] m some pos h = one-dvd m
 divides_each k (d ∷ ds) m some pos h =
     let rest = All-tail (λ d. 0 < d) d ds pos in
     let first : k * d ∣ m = let e : (k + 0) * d ≡ k * d = omega arith in subst (λ n. n ∣ m) e (h 0 (omega arith)) in
     lcm-least (k * d) (multiple_from (suc k) ds) m (multiple-pos (suc k) ds (omega arith) rest) first
-    (divides_each (suc k) ds m (omega arith) rest (λ i l. let e : k + suc i ≡ suc k + i = omega arith in subst (λ n. n * get_or ds i 0 ∣ m) e (h (suc i) (omega arith))))
+    (divides_each (suc k) ds m (omega arith) rest
+    (λ i l. let e : k + suc i ≡ suc k + i = omega arith in
+    subst (λ n. n * get_or ds i 0 ∣ m) e (h (suc i) (omega arith))))
 
 -- ---- entries divide later ones
 
@@ -124,12 +139,16 @@ divides m (suc k) some =
     let e : 1 + k ≡ suc k = omega arith in
     let next : suc n ≡ m + suc k = omega arith in
     subst (λ j. suc k * denominator_of m ∣ denominator_of j) next
-    (rw of_more (subst (λ j. suc k * j ∣ multiple_from 1 (entries n)) at (subst (λ j. j * get_or (entries n) k 0 ∣ multiple_from 1 (entries n)) e (has_each 1 (entries n) k within))))
+    (rw of_more
+    (subst (λ j. suc k * j ∣ multiple_from 1 (entries n)) at
+    (subst (λ j. j * get_or (entries n) k 0 ∣ multiple_from 1 (entries n)) e (has_each 1 (entries n) k within))))
 
 all_positive : (n : ℕ) → All (λ d. 0 < d) (entries n)
 unfolding entries
 all_positive zero = All-cons (λ d. 0 < d) 1 [] (omega arith) (All-nil (λ d. 0 < d))
-all_positive (suc n) = All-cons (λ d. 0 < d) (multiple_from 1 (entries n)) (entries n) (multiple-pos 1 (entries n) (omega arith) (all_positive n)) (all_positive n)
+all_positive (suc n) =
+    All-cons (λ d. 0 < d) (multiple_from 1 (entries n)) (entries n)
+    (multiple-pos 1 (entries n) (omega arith) (all_positive n)) (all_positive n)
 
 pub positive : (n : ℕ) → 0 < denominator_of n
 unfolding denominator_of
@@ -140,8 +159,10 @@ pub divides_later : (m n : ℕ) → m ≤ n → denominator_of m ∣ denominator
 divides_later m n le = elim (cases_lt m n) [
   | inl less ↦
       let e : m + (n - m) ≡ n = omega arith in
-      subst (λ j. denominator_of m ∣ denominator_of j) e (dvd_trans (denominator_of m) (dvd-mul_left (denominator_of m) (n - m)) (divides m (n - m) (omega arith)))
-  | inr ge ↦ let e : m ≡ n = omega arith in subst (λ j. denominator_of m ∣ denominator_of j) e (dvd_refl (denominator_of m))
+      subst (λ j. denominator_of m ∣ denominator_of j) e
+      (dvd_trans (denominator_of m) (dvd-mul_left (denominator_of m) (n - m)) (divides m (n - m) (omega arith)))
+  | inr ge ↦ let e : m ≡ n = omega arith in
+      subst (λ j. denominator_of m ∣ denominator_of j) e (dvd_refl (denominator_of m))
 ]
 
 -- ---- they are the least common multiples
@@ -153,37 +174,54 @@ has_product n (k ∷ ks) h =
     let some : 0 < k = All-head (λ k. 0 < k) k ks h.positive in
     let whole : sum (k ∷ ks) ≡ k + sum ks = sum_by-cons (λ k. k) k ks in
     let within : k + sum ks ≤ n = omega (arith, whole, h.within) in
-    let rest : product ks ∣ denominator_of (n - k) = has_product (n - k) ks (record { positive = All-tail (λ k. 0 < k) k ks h.positive; within = omega arith }) in
+    let rest : product ks ∣ denominator_of (n - k) =
+    has_product (n - k) ks (record { positive = All-tail (λ k. 0 < k) k ks h.positive; within = omega arith }) in
     let e : n - k + k ≡ n = omega arith in
-    dvd_trans (k * product ks) (mul-dvd-mul_left (product ks) k rest) (subst (λ j. k * denominator_of (n - k) ∣ denominator_of j) e (divides (n - k) k some))
+    dvd_trans (k * product ks) (mul-dvd-mul_left (product ks) k rest)
+    (subst (λ j. k * denominator_of (n - k) ∣ denominator_of j) e (divides (n - k) k some))
 
 -- k and then numbers whose sum is at most n
 one_more : (n k : ℕ) (ks : List ℕ) → 0 < k → AreAddends n ks → AreAddends (k + n) (k ∷ ks)
-one_more n k ks some h = let whole : sum (k ∷ ks) ≡ k + sum ks = sum_by-cons (λ k. k) k ks in record { positive = All-cons (λ k. 0 < k) k ks some h.positive; within = omega (arith, whole, h.within) }
+one_more n k ks some h =
+    let whole : sum (k ∷ ks) ≡ k + sum ks = sum_by-cons (λ k. k) k ks in
+    record { positive = All-cons (λ k. 0 < k) k ks some h.positive; within = omega (arith, whole, h.within) }
 
 -- a multiple of all that have k among the numbers is k times one of the others
 without_one : (n k m : ℕ) → 0 < k → IsMultipleOfAll (k + n) m → (k * (m / k) ≡ m) × IsMultipleOfAll n (m / k)
 without_one n k m some h =
     let none : AreAddends n [] = record { positive = All-nil (λ k. 0 < k); within = omega arith } in
-    let own : k ∣ m = let e : k * 1 ≡ k = omega arith in subst (λ j. j ∣ m) e (h (k ∷ []) (one_more n k [] some none)) in
-    let back : k * (m / k) ≡ m = mul-div_cancel' k own in
-    (back, λ ks adds. dvd_of_mul-dvd-mul_left (product ks) some (subst (λ j. k * product ks ∣ j) (sym back) (h (k ∷ ks) (one_more n k ks some adds))))
+    let own : k ∣ m = let e : k * 1 ≡ k = omega arith in
+    subst (λ j. j ∣ m) e (h (k ∷ []) (one_more n k [] some none)) in
+    let back : k * (m / k) ≡ m = mul-div_cancel' k own in (
+      back,
+      λ ks adds.
+          dvd_of_mul-dvd-mul_left (product ks) some
+          (subst (λ j. k * product ks ∣ j) (sym back) (h (k ∷ ks) (one_more n k ks some adds))),
+    )
 
 -- what is a multiple of all products is one of the entry
 entry_divides : (fuel n : ℕ) → n < fuel → (m : ℕ) → IsMultipleOfAll n m → denominator_of n ∣ m
 entry_divides zero n enough m h = absurd (omega arith)
 entry_divides (suc fuel) zero enough m h = rw of_none (one-dvd m)
 entry_divides (suc fuel) (suc n) enough m h =
-    rw of_more (divides_each 1 (entries n) m (omega arith) (all_positive n) (λ i l. by_place i (omega (arith, length_entries n)) (λ j le. entry_divides fuel (n - j) (omega arith) (m / (1 + j)))))
+    rw of_more
+    (divides_each 1 (entries n) m (omega arith) (all_positive n)
+    (λ i l. by_place i (omega (arith, length_entries n))
+    (λ j le. entry_divides fuel (n - j) (omega arith) (m / (1 + j)))))
   where
-    by_place : (i : ℕ) → i ≤ n → ((j : ℕ) → j ≤ n → IsMultipleOfAll (n - j) (m / (1 + j)) → denominator_of (n - j) ∣ m / (1 + j)) → (1 + i) * get_or (entries n) i 0 ∣ m
+    by_place : (i : ℕ) → i ≤ n
+        → ((j : ℕ) → j ≤ n → IsMultipleOfAll (n - j) (m / (1 + j)) → denominator_of (n - j) ∣ m / (1 + j))
+        → (1 + i) * get_or (entries n) i 0 ∣ m
     by_place i le ih =
         let all : 1 + i + (n - i) ≡ suc n = omega arith in
         let rest = without_one (n - i) (1 + i) m (omega arith) (subst (λ j. IsMultipleOfAll j m) (sym all) h) in
-        rw (entry_at n i le) (subst (λ j. (1 + i) * denominator_of (n - i) ∣ j) rest.0 (mul-dvd-mul_left (denominator_of (n - i)) (1 + i) (ih i le rest.1)))
+        rw (entry_at n i le)
+        (subst (λ j. (1 + i) * denominator_of (n - i) ∣ j) rest.0
+        (mul-dvd-mul_left (denominator_of (n - i)) (1 + i) (ih i le rest.1)))
 
 pub is_least_multiple : (n : ℕ) → IsLeastMultiple n (denominator_of n)
-is_least_multiple n = record { positive = positive n; multiple = has_product n; least = entry_divides (suc n) n (omega arith) }
+is_least_multiple n =
+    record { positive = positive n; multiple = has_product n; least = entry_divides (suc n) n (omega arith) }
 
 pub one_multiple : (n per other : ℕ) → IsLeastMultiple n per → IsLeastMultiple n other → per ≡ other
 one_multiple n per other a b = dvd_antisymm (a.least other b.multiple) (b.least per a.multiple)
@@ -200,11 +238,15 @@ unfolding entries_on
 multiples_on zero n = tt
 multiples_on (suc many) n = (is_least_multiple n, multiples_on many (n + 1))
 
-table : entries_on 17 0 ≡ 1 ∷ 1 ∷ 2 ∷ 6 ∷ 12 ∷ 60 ∷ 360 ∷ 2520 ∷ 5040 ∷ 15120 ∷ 151200 ∷ 1663200 ∷ 9979200 ∷ 129729600 ∷ 1816214400 ∷ 27243216000 ∷ 54486432000 ∷ []
+table : entries_on 17 0
+    ≡ 1 ∷ 1 ∷ 2 ∷ 6 ∷ 12 ∷ 60 ∷ 360 ∷ 2520 ∷ 5040 ∷ 15120 ∷ 151200 ∷ 1663200 ∷ 9979200 ∷ 129729600 ∷ 1816214400
+    ∷ 27243216000 ∷ 54486432000 ∷ []
 unfolding entries_on denominator_of entries multiple_from lcm gcd_within
 table = refl
 
-pub first_multiples : AreLeastMultiplesFrom 0 (1 ∷ 1 ∷ 2 ∷ 6 ∷ 12 ∷ 60 ∷ 360 ∷ 2520 ∷ 5040 ∷ 15120 ∷ 151200 ∷ 1663200 ∷ 9979200 ∷ 129729600 ∷ 1816214400 ∷ 27243216000 ∷ 54486432000 ∷ [])
+pub first_multiples : AreLeastMultiplesFrom 0
+    (1 ∷ 1 ∷ 2 ∷ 6 ∷ 12 ∷ 60 ∷ 360 ∷ 2520 ∷ 5040 ∷ 15120 ∷ 151200 ∷ 1663200 ∷ 9979200 ∷ 129729600 ∷ 1816214400
+    ∷ 27243216000 ∷ 54486432000 ∷ [])
 first_multiples = subst (λ ms. AreLeastMultiplesFrom 0 ms) table (multiples_on 17 0)
 
 pub of_four : denominator_of 4 ≡ 12

@@ -6,7 +6,8 @@ use Rattle.fair_rates.specs.declared.bandwidth.Rate.TheVariants.{Unlimited, Fini
 use Rattle.fair_rates.specs.declared.ratio.Ratio.{Ratio}
 use Rattle.fair_rates.specs.Fairness.Fair.{Side, load, IsLimited, IsFair}
 use Rattle.fair_rates.specs.Fairness.Rates.{IsRateOf}
-use Rattle.fair_rates.specs.Fairness.Example.{shared, IsHalf, AreFairForThree, HalfExists, HalvesAreFair, LessIsUnfair, MoreIsUnfair, NoLimitIsUnfair, LimitIsUnfair}
+use Rattle.fair_rates.specs.Fairness.Example.{shared, IsHalf, AreFairForThree, HalfExists, HalvesAreFair, LessIsUnfair}
+use Rattle.fair_rates.specs.Fairness.Example.{MoreIsUnfair, NoLimitIsUnfair, LimitIsUnfair}
 use Rattle.fair_rates.proofs.Lists.SumOrder.{All-from_contains}
 use Rattle.fair_rates.proofs.Fairness.OneAllocation.{same_amounts}
 
@@ -53,14 +54,18 @@ one_is_fair = record {
   };
 }
 
-rated : (r s : Ratio) → IsHalf r → IsHalf s → (k : ℕ) (d : Rate) → k < 3 → IsRateOf shared 2 one k (get_or (Finite r ∷ Finite s ∷ Unlimited ∷ []) k d)
+rated : (r s : Ratio) → IsHalf r → IsHalf s → (k : ℕ) (d : Rate) → k < 3
+    → IsRateOf shared 2 one k (get_or (Finite r ∷ Finite s ∷ Unlimited ∷ []) k d)
 rated r s e f zero d l = (first_uses, e)
 rated r s e f (suc zero) d l = (second_uses, f)
 rated r s e f (suc (suc zero)) d l = third_uses_none
 rated r s e f (suc (suc (suc k))) d l = absurd (omega arith)
 
 pub half_exists : HalfExists
-half_exists = (record { numerator = 1; denominator = 2; positive = omega arith; reduced = λ k one two. eq-one_of_dvd-one one }, refl)
+half_exists = (
+  record { numerator = 1; denominator = 2; positive = omega arith; reduced = λ k one two. eq-one_of_dvd-one one },
+  refl,
+)
 
 pub halves_are_fair : HalvesAreFair
 halves_are_fair r s e f = record { one_each = refl; per = 2; parts = one; fair = one_is_fair; rated = rated r s e f }
@@ -68,9 +73,11 @@ halves_are_fair r s e f = record { one_each = refl; per = 2; parts = one; fair =
 -- a fair rate of the first is a half
 first_is_half : (r s : Ratio) → AreFairForThree (Finite r) (Finite s) Unlimited → IsHalf r
 first_is_half r s f =
-    let is : IsLimited shared 0 × (r.numerator * f.per ≡ f.parts 0 * r.denominator) = f.rated 0 Unlimited (omega arith) in
+    let is : IsLimited shared 0 × (r.numerator * f.per ≡ f.parts 0 * r.denominator) =
+    f.rated 0 Unlimited (omega arith) in
     let same = same_amounts shared f.per 2 f.parts one f.fair one_is_fair 0 first_uses in
-    let scaled : r.numerator * 2 * f.per ≡ 1 * r.denominator * f.per = omega (arith, ap (λ n. n * 2) is.1, ap (λ n. n * r.denominator) same) in
+    let scaled : r.numerator * 2 * f.per ≡ 1 * r.denominator * f.per =
+    omega (arith, ap (λ n. n * 2) is.1, ap (λ n. n * r.denominator) same) in
     eq_of_mul-eq-mul_right f.per f.fair.some_part (r.numerator * 2) (1 * r.denominator) scaled
 
 pub less_is_unfair : LessIsUnfair

@@ -1,5 +1,6 @@
 -- Who gets more than a fair rate takes it from a flow whose fair rate is no greater.
-use Rattle.std.proofs.Common.{◌≡◌, ℕ, ◌*◌, ◌<◌, ◌≤◌, inl, inr, List, Some, get_or, length, All, ap, subst, arith, mul-le-mul_right}
+use Rattle.std.proofs.Common.{◌≡◌, ℕ, ◌*◌, ◌<◌, ◌≤◌, inl, inr, List, Some, get_or, length, All, ap, subst, arith}
+use Rattle.std.proofs.Common.{mul-le-mul_right}
 use Rattle.std.specs.Prelude.{slice_get}
 use Rattle.std.proofs.Math.Nat.{lt_of_mul-lt-mul_right, mul-lt-mul_of_pos_right, le_of_mul-le-mul_right}
 use Rattle.std.proofs.lemmas.List.Elements.{All-contains}
@@ -35,7 +36,8 @@ module _ (sides : List Side) (flows : ℕ) (rates : List Rate) (f : AreFairRates
   pub rate_at : (flow : ℕ) (r : Rate) → slice_get rates flow ≡ Some r → IsRateOf sides f.per f.parts flow r
   rate_at flow r has =
       let within : flow < length rates = slice_get_within rates flow r has in
-      subst (λ x. IsRateOf sides f.per f.parts flow x) (get_or_from_slice_get rates flow r r has) (f.rated flow r (omega (arith, within, f.one_each)))
+      subst (λ x. IsRateOf sides f.per f.parts flow x) (get_or_from_slice_get rates flow r r has)
+      (f.rated flow r (omega (arith, within, f.one_each)))
 
   -- a limited flow has a finite rate
   pub record HasFinite (flow : ℕ) : Type 0 where
@@ -44,7 +46,8 @@ module _ (sides : List Side) (flows : ℕ) (rates : List Rate) (f : AreFairRates
     pub worth : rate.numerator * f.per ≡ f.parts flow * rate.denominator
 
   pub finite_of : (flow : ℕ) → flow < flows → IsLimited sides flow → HasFinite flow
-  finite_of flow within limited = by_rate (get_or rates flow Unlimited) (slice_get-get_or rates flow Unlimited (omega (arith, within, f.one_each)))
+  finite_of flow within limited =
+      by_rate (get_or rates flow Unlimited) (slice_get-get_or rates flow Unlimited (omega (arith, within, f.one_each)))
     where
       by_rate : (r : Rate) → slice_get rates flow ≡ Some r → HasFinite flow
       by_rate Unlimited has = absurd (rate_at flow Unlimited has limited)
@@ -71,15 +74,23 @@ above_by_parts n d p per x other pos e more =
 pub fair_rates_are_max_min : FairRatesAreMaxMin
 fair_rates_are_max_min sides flows rates users f E b within i r has more =
     let is = rate_at sides flows rates f i (Finite r) has in
-    let pays = fair_is_max_min sides f.per f.parts f.fair E b within i is.0 (above_by_parts r.numerator r.denominator (f.parts i) f.per (b i) E f.fair.some_part is.1 more) in
+    let pays =
+    fair_is_max_min sides f.per f.parts f.fair E b within i is.0
+    (above_by_parts r.numerator r.denominator (f.parts i) f.per (b i) E f.fair.some_part is.1 more) in
     let side = pays.limited.0 in
     let u = pays.limited.1 in
-    let small = All-contains (λ j. j < flows) side.users pays.payer (All-contains (λ s. All (λ j. j < flows) s.users) sides side users u.listed) u.used in
+    let small =
+    All-contains (λ j. j < flows) side.users pays.payer
+    (All-contains (λ s. All (λ j. j < flows) s.users) sides side users u.listed) u.used in
     let own = finite_of sides flows rates f pays.payer small pays.limited in
     record {
       payer = pays.payer;
       own = own.rate;
       has = own.has;
-      no_greater = at_most_by_parts own.rate.numerator own.rate.denominator r.numerator r.denominator (f.parts pays.payer) (f.parts i) f.per f.fair.some_part own.worth is.1 pays.no_greater;
-      loses = below_by_parts own.rate.numerator own.rate.denominator (f.parts pays.payer) f.per (b pays.payer) E own.rate.positive own.worth pays.loses;
+      no_greater =
+          at_most_by_parts own.rate.numerator own.rate.denominator r.numerator r.denominator (f.parts pays.payer)
+          (f.parts i) f.per f.fair.some_part own.worth is.1 pays.no_greater;
+      loses =
+          below_by_parts own.rate.numerator own.rate.denominator (f.parts pays.payer) f.per (b pays.payer) E
+          own.rate.positive own.worth pays.loses;
     }

@@ -1,5 +1,6 @@
 -- One list of rates is fair.
-use Rattle.std.proofs.Common.{◌≡◌, ℕ, zero, suc, ◌*◌, ◌<◌, inl, inr, List, get_or, refl, sym, ap, ◌∙◌, arith, mul-le-mul_right}
+use Rattle.std.proofs.Common.{◌≡◌, ℕ, zero, suc, ◌*◌, ◌<◌, inl, inr, List, get_or, refl, sym, ap, ◌∙◌, arith}
+use Rattle.std.proofs.Common.{mul-le-mul_right}
 use Rattle.std.proofs.Math.Nat.{lt_of_mul-lt-mul_right, eq_of_mul-eq-mul_right}
 use Rattle.std.proofs.lemmas.List.{ext_get_or}
 use Rattle.std.proofs.lemmas.Bool.{cases_order}
@@ -13,7 +14,8 @@ use Rattle.fair_rates.proofs.Numbers.Ratio.{one_ratio}
 use Rattle.fair_rates.proofs.Fairness.MaxMin.{fair_is_max_min}
 
 -- of two fair amounts neither is more: who pays for it in the first is paid for in the second by one with less still
-no_more : (sides : List Side) (D E : ℕ) (a b : ℕ → ℕ) → IsFair sides D a → IsFair sides E b → (n i : ℕ) → IsLimited sides i → a i < n → a i * E < b i * D → ⊥
+no_more : (sides : List Side) (D E : ℕ) (a b : ℕ → ℕ) → IsFair sides D a → IsFair sides E b → (n i : ℕ)
+    → IsLimited sides i → a i < n → a i * E < b i * D → ⊥
 no_more sides D E a b f g zero i limited below more = absurd (omega arith)
 no_more sides D E a b f g (suc n) i limited below more =
     let j = fair_is_max_min sides D a f E b g.within i limited more in
@@ -24,7 +26,8 @@ no_more sides D E a b f g (suc n) i limited below more =
     no_more sides D E a b f g n k.payer k.limited (omega (arith, less, below)) k.loses
 
 -- two fair amounts of a limited flow are equal
-pub same_amounts : (sides : List Side) (D E : ℕ) (a b : ℕ → ℕ) → IsFair sides D a → IsFair sides E b → (i : ℕ) → IsLimited sides i → a i * E ≡ b i * D
+pub same_amounts : (sides : List Side) (D E : ℕ) (a b : ℕ → ℕ) → IsFair sides D a → IsFair sides E b → (i : ℕ)
+    → IsLimited sides i → a i * E ≡ b i * D
 same_amounts sides D E a b f g i limited = elim (cases_order (a i * E) (b i * D)) [
   | inl e ↦ e
   | inr (inl less) ↦ absurd (no_more sides D E a b f g (suc (a i)) i limited (omega arith) less)
@@ -37,17 +40,20 @@ worth_too m e a D b E pos same worth =
     let scaled : m * D * E ≡ a * e * E = omega (arith, ap (λ n. n * D) worth, ap (λ n. n * e) same) in
     eq_of_mul-eq-mul_right E pos (m * D) (a * e) scaled
 
-same_rate : (sides : List Side) (D E : ℕ) (a b : ℕ → ℕ) → IsFair sides D a → IsFair sides E b → (i : ℕ) (x y : Rate) → IsRateOf sides D a i x → IsRateOf sides E b i y → x ≡ y
+same_rate : (sides : List Side) (D E : ℕ) (a b : ℕ → ℕ) → IsFair sides D a → IsFair sides E b → (i : ℕ) (x y : Rate)
+    → IsRateOf sides D a i x → IsRateOf sides E b i y → x ≡ y
 same_rate sides D E a b f g i Unlimited Unlimited u v = refl
 same_rate sides D E a b f g i Unlimited (Finite y) u v = absurd (u v.0)
 same_rate sides D E a b f g i (Finite x) Unlimited u v = absurd (v u.0)
 same_rate sides D E a b f g i (Finite x) (Finite y) u v =
     let amount : Amount = record { num = a i; den = D } in
-    let worth = worth_too y.numerator y.denominator (a i) D (b i) E g.some_part (same_amounts sides D E a b f g i u.0) v.1 in
+    let worth =
+    worth_too y.numerator y.denominator (a i) D (b i) E g.some_part (same_amounts sides D E a b f g i u.0) v.1 in
     ap Finite (one_ratio x y amount f.some_part u.1 worth)
 
 pub one_allocation : OneAllocation
 one_allocation sides flows r f s g =
     ext_get_or Unlimited s r (g.one_each ∙ sym f.one_each) (λ i within.
     let here : i < flows = omega (arith, g.one_each) in
-    same_rate sides g.per f.per g.parts f.parts g.fair f.fair i (get_or s i Unlimited) (get_or r i Unlimited) (g.rated i Unlimited here) (f.rated i Unlimited here))
+    same_rate sides g.per f.per g.parts f.parts g.fair f.fair i (get_or s i Unlimited) (get_or r i Unlimited)
+    (g.rated i Unlimited here) (f.rated i Unlimited here))

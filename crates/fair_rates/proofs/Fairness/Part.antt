@@ -1,5 +1,6 @@
 -- A part of the flows that shares no side with the rest.
-use Rattle.std.proofs.Common.{◌≡◌, ℕ, ◌≤◌, Bool, true, false, cond, List, [], ◌∷◌, map, refl, sym, ap, ◌∙◌, subst, subst₂, ap₂, inl, inr, arith}
+use Rattle.std.proofs.Common.{◌≡◌, ℕ, ◌≤◌, Bool, true, false, cond, List, [], ◌∷◌, map, refl, sym, ap, ◌∙◌, subst}
+use Rattle.std.proofs.Common.{subst₂, ap₂, inl, inr, arith}
 use Rattle.std.specs.List.{filter}
 use Rattle.std.specs.Cmp.{IsTotalOrder}
 use Rattle.std.specs.declared.cmp.Ordering.{Ordering}
@@ -12,9 +13,11 @@ use Rattle.fair_rates.specs.declared.bandwidth.Rate.{Rate}
 use Rattle.fair_rates.specs.Fairness.Part.{flagged}
 use Rattle.fair_rates.specs.Sides.Subjects.{Subject, sent_by, received_by, sent_between, same_peer}
 use Rattle.fair_rates.specs.Sides.Caps.{Caps}
-use Rattle.fair_rates.specs.Fairness.UnderCaps.{limits, is_among, is_of_set, HaveBothEndsOrNone, AreFairUnder, PartIsFair}
+use Rattle.fair_rates.specs.Fairness.UnderCaps.{limits, is_among, is_of_set, HaveBothEndsOrNone, AreFairUnder}
+use Rattle.fair_rates.specs.Fairness.UnderCaps.{PartIsFair}
 use Rattle.fair_rates.proofs.Lists.Members.{In, in_map, from_filter, contains_from_in}
-use Rattle.fair_rates.proofs.Fairness.Among.{Allotted, flow_of, parts_of, flows_of, rates_of, AreFairAmong, among_from, under_from}
+use Rattle.fair_rates.proofs.Fairness.Among.{Allotted, flow_of, parts_of, flows_of, rates_of, AreFairAmong, among_from}
+use Rattle.fair_rates.proofs.Fairness.Among.{under_from}
 use Rattle.fair_rates.proofs.Fairness.Sharing.{part_shared}
 
 module _ {P : Type 0} (cmp : P → P → Ordering) (caps : Caps P) (mine : Flow P → Bool) where
@@ -26,7 +29,9 @@ module _ {P : Type 0} (cmp : P → P → Ordering) (caps : Caps P) (mine : Flow 
   flows_of_part [] = refl
   flows_of_part (x ∷ xs) = by_test (mine x.flow) (flows_of_part xs)
     where
-      by_test : (b : Bool) → flows_of (part xs) ≡ filter mine (flows_of xs) → flows_of (cond b (x ∷ part xs) (part xs)) ≡ cond b (x.flow ∷ filter mine (flows_of xs)) (filter mine (flows_of xs))
+      by_test : (b : Bool) → flows_of (part xs) ≡ filter mine (flows_of xs)
+          → flows_of (cond b (x ∷ part xs) (part xs))
+          ≡ cond b (x.flow ∷ filter mine (flows_of xs)) (filter mine (flows_of xs))
       by_test true ih = ap (λ (fs : List (Flow P)). x.flow ∷ fs) ih
       by_test false ih = ih
 
@@ -35,16 +40,21 @@ module _ {P : Type 0} (cmp : P → P → Ordering) (caps : Caps P) (mine : Flow 
   rates_of_part (x ∷ xs) = by_test (mine x.flow) (rates_of_part xs)
     where
       by_test : (b : Bool) → rates_of (part xs) ≡ flagged (map mine (flows_of xs)) (rates_of xs)
-          → rates_of (cond b (x ∷ part xs) (part xs)) ≡ cond b (x.rate ∷ flagged (map mine (flows_of xs)) (rates_of xs)) (flagged (map mine (flows_of xs)) (rates_of xs))
+          → rates_of (cond b (x ∷ part xs) (part xs))
+          ≡ cond b (x.rate ∷ flagged (map mine (flows_of xs)) (rates_of xs))
+          (flagged (map mine (flows_of xs)) (rates_of xs))
       by_test true ih = ap (λ (rs : List Rate). x.rate ∷ rs) ih
       by_test false ih = ih
 
   -- fairness of the part
   pub part_among : (per : ℕ) (xs : List (Allotted P)) → AreFairAmong cmp caps per xs
-      → ((s : Subject P) (x y : Allotted P) → In xs x → In xs y → limits cmp s x.flow ≡ true → limits cmp s y.flow ≡ true → mine x.flow ≡ mine y.flow)
+      → ((s : Subject P) (x y : Allotted P) → In xs x → In xs y → limits cmp s x.flow ≡ true
+      → limits cmp s y.flow ≡ true → mine x.flow ≡ mine y.flow)
       → AreFairAmong cmp caps per (part xs)
   part_among per xs f apart = record {
-    shared = part_shared cmp caps flow_of parts_of (λ (x : Allotted P). mine x.flow) per xs f.shared (λ s cap x y has. apart s x y);
+    shared =
+        part_shared cmp caps flow_of parts_of (λ (x : Allotted P). mine x.flow) per xs f.shared
+        (λ s cap x y has. apart s x y);
     rated = λ x h. f.rated x (from_filter (λ (x : Allotted P). mine x.flow) xs x h).0;
   }
 
@@ -53,7 +63,8 @@ module _ {P : Type 0} (cmp : P → P → Ordering) (order : IsTotalOrder cmp) (p
   same_among p q e = list_any_congr (eq_by_cmp_equiv order) p q peers e
 
   -- two flows with a side in common are both of the set or neither
-  apart : (s : Subject P) (f g : Flow P) → is_among cmp peers f.origin ≡ is_among cmp peers f.recipient → is_among cmp peers g.origin ≡ is_among cmp peers g.recipient
+  apart : (s : Subject P) (f g : Flow P) → is_among cmp peers f.origin ≡ is_among cmp peers f.recipient
+      → is_among cmp peers g.origin ≡ is_among cmp peers g.recipient
       → limits cmp s f ≡ true → limits cmp s g ≡ true → is_of_set cmp peers f ≡ is_of_set cmp peers g
   apart (sent_by p) f g at_f at_g lf lg = sym (same_among p f.origin lf) ∙ same_among p g.origin lg
   apart (received_by p) f g at_f at_g lf lg =
@@ -65,21 +76,28 @@ module _ {P : Type 0} (cmp : P → P → Ordering) (order : IsTotalOrder cmp) (p
       sym (same_among p f.origin (and_parts (same_peer cmp p f.origin) (same_peer cmp q f.recipient) lf).0)
       ∙ same_among p g.origin (and_parts (same_peer cmp p g.origin) (same_peer cmp q g.recipient) lg).0
 
-  module _ (caps : Caps P) (flows : List (Flow P)) (ends : HaveBothEndsOrNone cmp peers flows) (xs : List (Allotted P)) (same : flows_of xs ≡ flows) where
+  module _ (caps : Caps P) (flows : List (Flow P)) (ends : HaveBothEndsOrNone cmp peers flows) (xs : List (Allotted P))
+      (same : flows_of xs ≡ flows) where
     both_ends : (x : Allotted P) → In xs x → is_among cmp peers x.flow.origin ≡ is_among cmp peers x.flow.recipient
     both_ends x h =
         All-contains (λ (f : Flow P). is_among cmp peers f.origin ≡ is_among cmp peers f.recipient) flows x.flow ends
-        (contains_from_in flows x.flow (subst (λ (fs : List (Flow P)). In fs x.flow) same (in_map (λ (x : Allotted P). x.flow) xs x h)))
+        (contains_from_in flows x.flow
+        (subst (λ (fs : List (Flow P)). In fs x.flow) same (in_map (λ (x : Allotted P). x.flow) xs x h)))
 
-    together : (t : Subject P) (x y : Allotted P) → In xs x → In xs y → limits cmp t x.flow ≡ true → limits cmp t y.flow ≡ true → is_of_set cmp peers x.flow ≡ is_of_set cmp peers y.flow
+    together : (t : Subject P) (x y : Allotted P) → In xs x → In xs y → limits cmp t x.flow ≡ true
+        → limits cmp t y.flow ≡ true → is_of_set cmp peers x.flow ≡ is_of_set cmp peers y.flow
     together t x y h g lx ly = apart t x.flow y.flow (both_ends x h) (both_ends y g) lx ly
 
 pub part_is_fair : {P : Type 0} (cmp : P → P → Ordering) → IsTotalOrder cmp → PartIsFair cmp
 part_is_fair {P} cmp order caps peers flows rates of ends fair =
     let mine = is_of_set cmp peers in
     let s = among_from cmp caps order of flows rates fair in
-    let whole = under_from cmp caps order of s.per (part cmp caps mine s.all) (part_among cmp caps mine s.per s.all s.fair (together cmp order peers caps flows ends s.all s.flows_are)) in
-    let flows_is : flows_of (part cmp caps mine s.all) ≡ filter mine flows = flows_of_part cmp caps mine s.all ∙ ap (filter mine) s.flows_are in
-    let rates_is : rates_of (part cmp caps mine s.all) ≡ flagged (map mine flows) rates = rates_of_part cmp caps mine s.all
+    let whole =
+    under_from cmp caps order of s.per (part cmp caps mine s.all)
+    (part_among cmp caps mine s.per s.all s.fair (together cmp order peers caps flows ends s.all s.flows_are)) in
+    let flows_is : flows_of (part cmp caps mine s.all) ≡ filter mine flows =
+    flows_of_part cmp caps mine s.all ∙ ap (filter mine) s.flows_are in
+    let rates_is : rates_of (part cmp caps mine s.all) ≡ flagged (map mine flows) rates =
+    rates_of_part cmp caps mine s.all
     ∙ ap₂ (λ (fs : List (Flow P)) (rs : List Rate). flagged (map mine fs) rs) s.flows_are s.rates_are in
     subst₂ (AreFairUnder cmp caps) flows_is rates_is whole

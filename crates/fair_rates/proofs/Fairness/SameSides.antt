@@ -31,7 +31,8 @@ module _ (xs ys : List Side) (same : AreTheSameSides xs ys) where
     held = λ flow limited. moved per parts flow (f.held flow (back flow limited));
   }
 
-  still_rate : (per : ℕ) (parts : ℕ → ℕ) (flow : ℕ) (r : Rate) → IsRateOf xs per parts flow r → IsRateOf ys per parts flow r
+  still_rate : (per : ℕ) (parts : ℕ → ℕ) (flow : ℕ) (r : Rate) → IsRateOf xs per parts flow r
+      → IsRateOf ys per parts flow r
   still_rate per parts flow Unlimited h = λ limited. h (back flow limited)
   still_rate per parts flow (Finite r) h = (there flow h.0, h.1)
 

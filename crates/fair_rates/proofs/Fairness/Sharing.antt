@@ -1,6 +1,7 @@
 -- Fairness under caps of elements that have a flow and parts each, said without their places: so it holds in every
 -- order, of a part, and of two parts together.
-use Rattle.std.proofs.Common.{◌≡◌, ℕ, zero, suc, ◌+◌, ◌*◌, ◌<◌, ◌≤◌, Bool, true, false, cond, not, List, [], ◌∷◌, Some, map, length, get_or, sum_by, Contains, refl, sym, ap, ◌∙◌, subst, inl, inr, arith}
+use Rattle.std.proofs.Common.{◌≡◌, ℕ, zero, suc, ◌+◌, ◌*◌, ◌<◌, ◌≤◌, Bool, true, false, cond, not, List, [], ◌∷◌, Some}
+use Rattle.std.proofs.Common.{map, length, get_or, sum_by, Contains, refl, sym, ap, ◌∙◌, subst, inl, inr, arith}
 use Rattle.std.specs.Prelude.{slice_get}
 use Rattle.std.specs.List.{filter}
 use Rattle.std.specs.Cmp.{IsTotalOrder}
@@ -13,7 +14,8 @@ use Rattle.fair_rates.specs.Fairness.Fair.{Side, load, Uses, IsLimited, IsFair, 
 use Rattle.fair_rates.specs.Sides.Subjects.{Subject}
 use Rattle.fair_rates.specs.Sides.Caps.{Caps}
 use Rattle.fair_rates.specs.Fairness.UnderCaps.{cap_of, AreOfPeers, limits, sides_under, IsCappedSide}
-use Rattle.fair_rates.proofs.Lists.Members.{In, in_map, in_get, get_in, in_from_contains, in_filter, from_filter, some_or_none, get_from_map}
+use Rattle.fair_rates.proofs.Lists.Members.{In, in_map, in_get, get_in, in_from_contains, in_filter, from_filter}
+use Rattle.fair_rates.proofs.Lists.Members.{some_or_none, get_from_map}
 use Rattle.fair_rates.proofs.Lists.SumOrder.{All-from_contains}
 use Rattle.fair_rates.proofs.Sides.CapSides.{capped_from_listed, listed_from_capped, side_of_subject}
 use Rattle.fair_rates.specs.Lists.Places.{places_from}
@@ -35,7 +37,8 @@ module _ {P X : Type 0} (flow : X → Flow P) (parts : X → ℕ) where
   StandsAt g place [] = Unit {0}
   StandsAt g place (x ∷ xs) = (g place ≡ parts x) × StandsAt g (place + 1) xs
 
-  pub parts_at : (g : ℕ → ℕ) (place : ℕ) (xs : List X) (k : ℕ) (x : X) → StandsAt g place xs → slice_get xs k ≡ Some x → g (place + k) ≡ parts x
+  pub parts_at : (g : ℕ → ℕ) (place : ℕ) (xs : List X) (k : ℕ) (x : X) → StandsAt g place xs → slice_get xs k ≡ Some x
+      → g (place + k) ≡ parts x
   parts_at g place [] k x stands at = cc
   parts_at g place (y ∷ xs) zero x stands at =
       let e : place + 0 ≡ place = omega arith in
@@ -45,9 +48,13 @@ module _ {P X : Type 0} (flow : X → Flow P) (parts : X → ℕ) where
       let e : place + suc k ≡ place + 1 + k = omega arith in
       ap g e ∙ parts_at g (place + 1) xs k x stands.1 at
 
-  pub stands_from : (g : ℕ → ℕ) (place : ℕ) (xs : List X) → ((k : ℕ) → k < length xs → g (place + k) ≡ get_or (map parts xs) k 0) → StandsAt g place xs
+  pub stands_from : (g : ℕ → ℕ) (place : ℕ) (xs : List X)
+      → ((k : ℕ) → k < length xs → g (place + k) ≡ get_or (map parts xs) k 0) → StandsAt g place xs
   stands_from g place [] h = tt
-  stands_from g place (x ∷ xs) h = (ap g first ∙ h 0 (omega arith), stands_from g (place + 1) xs (λ k within. ap g (next k) ∙ h (suc k) (omega arith)))
+  stands_from g place (x ∷ xs) h = (
+    ap g first ∙ h 0 (omega arith),
+    stands_from g (place + 1) xs (λ k within. ap g (next k) ∙ h (suc k) (omega arith)),
+  )
     where
       first : place ≡ place + 0
       first = omega arith
@@ -72,33 +79,42 @@ module _ {P X : Type 0} (cmp : P → P → Ordering) (caps : Caps P) (flow : X �
     pub within : (s : Subject P) (cap : ℕ) → cap_of caps s ≡ Some cap → total s xs ≤ cap * per
     pub held : (x : X) → In xs x → IsCapped cmp caps (flow x) → IsHeldAmong per xs x
 
-  pub total-cons : (s : Subject P) (x : X) (xs : List X) → total s (x ∷ xs) ≡ cond (limits cmp s (flow x)) (parts x) 0 + total s xs
+  pub total-cons : (s : Subject P) (x : X) (xs : List X)
+      → total s (x ∷ xs) ≡ cond (limits cmp s (flow x)) (parts x) 0 + total s xs
   total-cons s x xs = sum_by-cons (λ (y : X). cond (limits cmp s (flow y)) (parts y) 0) x xs
 
   total_none : (s : Subject P) (xs : List X) → ((x : X) → In xs x → limits cmp s (flow x) ≡ false) → total s xs ≡ 0
   total_none s [] none = refl
-  total_none s (x ∷ xs) none = total-cons s x xs ∙ (rw (none x (inl refl)) (omega (arith, total_none s xs (λ y h. none y (inr h)))))
+  total_none s (x ∷ xs) none =
+      total-cons s x xs ∙ (rw (none x (inl refl)) (omega (arith, total_none s xs (λ y h. none y (inr h)))))
 
   -- ---- places
 
-  load_is : (s : Subject P) (g : ℕ → ℕ) (place : ℕ) (xs : List X) → StandsAt flow parts g place xs → sum_by g (places_from place (limits cmp s) (map flow xs)) ≡ total s xs
+  load_is : (s : Subject P) (g : ℕ → ℕ) (place : ℕ) (xs : List X) → StandsAt flow parts g place xs
+      → sum_by g (places_from place (limits cmp s) (map flow xs)) ≡ total s xs
   load_is s g place [] stands = refl
-  load_is s g place (x ∷ xs) stands = both (limits cmp s (flow x)) (load_is s g (place + 1) xs stands.1) ∙ sym (total-cons s x xs)
+  load_is s g place (x ∷ xs) stands =
+      both (limits cmp s (flow x)) (load_is s g (place + 1) xs stands.1) ∙ sym (total-cons s x xs)
     where
       users : List ℕ
       users = places_from (place + 1) (limits cmp s) (map flow xs)
 
-      both : (t : Bool) → sum_by g users ≡ total s xs → sum_by g (cond t (place ∷ users) users) ≡ cond t (parts x) 0 + total s xs
+      both : (t : Bool) → sum_by g users ≡ total s xs
+          → sum_by g (cond t (place ∷ users) users) ≡ cond t (parts x) 0 + total s xs
       both true ih = omega (arith, ih, stands.0, sum_by-cons g place users)
       both false ih = omega (arith, ih)
 
-  place_in : (s : Subject P) (xs : List X) (k : ℕ) (x : X) → slice_get xs k ≡ Some x → limits cmp s (flow x) ≡ true → Contains (places_from 0 (limits cmp s) (map flow xs)) k
+  place_in : (s : Subject P) (xs : List X) (k : ℕ) (x : X) → slice_get xs k ≡ Some x → limits cmp s (flow x) ≡ true
+      → Contains (places_from 0 (limits cmp s) (map flow xs)) k
   place_in s xs k x at l = place_here (limits cmp s) (map flow xs) k (flow x) (flow_at flow parts xs k x at) l
 
   -- who stands at a place
-  from_place : (s : Subject P) (xs : List X) (k : ℕ) → Contains (places_from 0 (limits cmp s) (map flow xs)) k → (x : X) × (slice_get xs k ≡ Some x) × (limits cmp s (flow x) ≡ true)
+  from_place : (s : Subject P) (xs : List X) (k : ℕ) → Contains (places_from 0 (limits cmp s) (map flow xs)) k
+      → (x : X) × (slice_get xs k ≡ Some x) × (limits cmp s (flow x) ≡ true)
   from_place s xs k has =
-      let r = passes_here (limits cmp s) (map flow xs) k (in_from_contains (places_from 0 (limits cmp s) (map flow xs)) k has) in
+      let r =
+      passes_here (limits cmp s) (map flow xs) k
+      (in_from_contains (places_from 0 (limits cmp s) (map flow xs)) k has) in
       let x = get_from_map flow xs k r.0 r.1 in
       (x.0, x.1, subst (λ (f : Flow P). limits cmp s f ≡ true) (sym x.2) r.2)
 
@@ -109,9 +125,12 @@ module _ {P X : Type 0} (cmp : P → P → Ordering) (caps : Caps P) (flow : X �
     abbrev side_for : Subject P → ℕ → Side
     side_for s cap = side_of_subject cmp order caps of (map flow xs) s cap
 
-    uses_side : (k : ℕ) (x : X) → slice_get xs k ≡ Some x → (c : IsCapped cmp caps (flow x)) → Uses S k (side_for c.subject c.cap)
+    uses_side : (k : ℕ) (x : X) → slice_get xs k ≡ Some x → (c : IsCapped cmp caps (flow x))
+        → Uses S k (side_for c.subject c.cap)
     uses_side k x at c = record {
-      listed = listed_from_capped cmp order caps of (map flow xs) c.subject c.cap (flow x) c.capped (in_map flow xs x (in_get xs k x at)) c.limited;
+      listed =
+          listed_from_capped cmp order caps of (map flow xs) c.subject c.cap (flow x) c.capped
+          (in_map flow xs x (in_get xs k x at)) c.limited;
       used = place_in c.subject xs k x at c.limited;
     }
 
@@ -119,7 +138,8 @@ module _ {P X : Type 0} (cmp : P → P → Ordering) (caps : Caps P) (flow : X �
     limited_from_capped k x at c = (side_for c.subject c.cap, uses_side k x at c)
 
     -- the user of a side
-    user_is : (side : Side) (c : IsCappedSide cmp caps (map flow xs) side) (j : ℕ) → Contains side.users j → (x : X) × (slice_get xs j ≡ Some x) × (limits cmp c.subject (flow x) ≡ true)
+    user_is : (side : Side) (c : IsCappedSide cmp caps (map flow xs) side) (j : ℕ) → Contains side.users j
+        → (x : X) × (slice_get xs j ≡ Some x) × (limits cmp c.subject (flow x) ≡ true)
     user_is side c j used = from_place c.subject xs j (subst (λ (ps : List ℕ). Contains ps j) c.users used)
 
     pub capped_from_limited : (k : ℕ) (x : X) → slice_get xs k ≡ Some x → IsLimited S k → IsCapped cmp caps (flow x)
@@ -127,7 +147,12 @@ module _ {P X : Type 0} (cmp : P → P → Ordering) (caps : Caps P) (flow : X �
         let c = capped_from_listed cmp order caps of (map flow xs) side u.listed in
         let r = user_is side c k u.used in
         let same : r.0 ≡ x = same_Some r.0 x (sym r.1 ∙ at) in
-        record { subject = c.subject; cap = side.cap; capped = c.capped; limited = subst (λ (z : X). limits cmp c.subject (flow z) ≡ true) same r.2 }
+        record {
+          subject = c.subject;
+          cap = side.cap;
+          capped = c.capped;
+          limited = subst (λ (z : X). limits cmp c.subject (flow z) ≡ true) same r.2;
+        }
 
     module _ (g : ℕ → ℕ) (per : ℕ) (stands : StandsAt flow parts g 0 xs) where
       at : (k : ℕ) (x : X) → slice_get xs k ≡ Some x → g k ≡ parts x
@@ -143,7 +168,8 @@ module _ {P X : Type 0} (cmp : P → P → Ordering) (caps : Caps P) (flow : X �
         within s cap has = elim (some_or_none (λ (x : X). limits cmp s (flow x)) xs) [
           | inl (x, h, l) ↦
               let side = side_for s cap in
-              let listed = listed_from_capped cmp order caps of (map flow xs) s cap (flow x) has (in_map flow xs x h) l in
+              let listed =
+              listed_from_capped cmp order caps of (map flow xs) s cap (flow x) has (in_map flow xs x h) l in
               let small = All-contains (λ t. load g t ≤ t.cap * per) S side f.within listed in
               omega (arith, small, load_is s g 0 xs stands)
           | inr none ↦ omega (arith, total_none s xs none)
@@ -155,11 +181,18 @@ module _ {P X : Type 0} (cmp : P → P → Ordering) (caps : Caps P) (flow : X �
             let r = user_is b.side c k b.uses.used in
             let same : r.0 ≡ x = same_Some r.0 x (sym r.1 ∙ has) in
             record {
-              by = record { subject = c.subject; cap = b.side.cap; capped = c.capped; limited = subst (λ (z : X). limits cmp c.subject (flow z) ≡ true) same r.2 };
+              by =
+                  record {
+                    subject = c.subject;
+                    cap = b.side.cap;
+                    capped = c.capped;
+                    limited = subst (λ (z : X). limits cmp c.subject (flow z) ≡ true) same r.2;
+                  };
               full = sym (load_of b.side c) ∙ b.full;
               greatest = λ y h l.
                   let p = get_in xs y h in
-                  let used = subst (λ (ps : List ℕ). Contains ps p.0) (sym c.users) (place_in c.subject xs p.0 y p.1 l) in
+                  let used =
+                  subst (λ (ps : List ℕ). Contains ps p.0) (sym c.users) (place_in c.subject xs p.0 y p.1 l) in
                   let le = All-contains (λ i. g i ≤ g k) b.side.users p.0 b.greatest used in
                   omega (arith, le, at p.0 y p.1, at k x has);
             }
@@ -201,9 +234,11 @@ module _ {P X : Type 0} (cmp : P → P → Ordering) (caps : Caps P) (flow : X �
   -- ---- parts
 
   -- where all that a side limits pass, their total is the same
-  total_same : (mine : X → Bool) (s : Subject P) (xs : List X) → ((x : X) → In xs x → limits cmp s (flow x) ≡ true → mine x ≡ true) → total s (filter mine xs) ≡ total s xs
+  total_same : (mine : X → Bool) (s : Subject P) (xs : List X)
+      → ((x : X) → In xs x → limits cmp s (flow x) ≡ true → mine x ≡ true) → total s (filter mine xs) ≡ total s xs
   total_same mine s [] all = refl
-  total_same mine s (x ∷ xs) all = by_test (mine x) (limits cmp s (flow x)) refl refl (total_same mine s xs (λ y h. all y (inr h)))
+  total_same mine s (x ∷ xs) all =
+      by_test (mine x) (limits cmp s (flow x)) refl refl (total_same mine s xs (λ y h. all y (inr h)))
     where
       by_test : (b l : Bool) → mine x ≡ b → limits cmp s (flow x) ≡ l → total s (filter mine xs) ≡ total s xs
           → total s (cond b (x ∷ filter mine xs) (filter mine xs)) ≡ total s (x ∷ xs)
@@ -217,7 +252,8 @@ module _ {P X : Type 0} (cmp : P → P → Ordering) (caps : Caps P) (flow : X �
   total_at_most mine s [] = omega arith
   total_at_most mine s (x ∷ xs) = by_test (mine x) (total_at_most mine s xs)
     where
-      by_test : (b : Bool) → total s (filter mine xs) ≤ total s xs → total s (cond b (x ∷ filter mine xs) (filter mine xs)) ≤ total s (x ∷ xs)
+      by_test : (b : Bool) → total s (filter mine xs) ≤ total s xs
+          → total s (cond b (x ∷ filter mine xs) (filter mine xs)) ≤ total s (x ∷ xs)
       by_test true ih = omega (arith, ih, total-cons s x (filter mine xs), total-cons s x xs)
       by_test false ih = omega (arith, ih, total-cons s x xs)
 
@@ -227,7 +263,8 @@ module _ {P X : Type 0} (cmp : P → P → Ordering) (caps : Caps P) (flow : X �
       → limits cmp s (flow x) ≡ true → limits cmp s (flow y) ≡ true → mine x ≡ mine y
 
   -- fairness of a part
-  pub part_shared : (mine : X → Bool) (per : ℕ) (xs : List X) → AreShared per xs → AreApart mine xs → AreShared per (filter mine xs)
+  pub part_shared : (mine : X → Bool) (per : ℕ) (xs : List X) → AreShared per xs → AreApart mine xs
+      → AreShared per (filter mine xs)
   part_shared mine per xs f apart = record {
     some_part = f.some_part;
     within = λ s cap has. omega (arith, total_at_most mine s xs, f.within s cap has);
@@ -235,25 +272,35 @@ module _ {P X : Type 0} (cmp : P → P → Ordering) (caps : Caps P) (flow : X �
         let own = from_filter mine xs x h in
         let b = f.held x own.0 c in record {
           by = b.by;
-          full = total_same mine b.by.subject xs (λ y among l. apart b.by.subject b.by.cap y x b.by.capped among own.0 l b.by.limited ∙ own.1) ∙ b.full;
+          full =
+              total_same mine b.by.subject xs
+              (λ y among l. apart b.by.subject b.by.cap y x b.by.capped among own.0 l b.by.limited ∙ own.1)
+              ∙ b.full;
           greatest = λ y among l. b.greatest y (from_filter mine xs y among).0 l;
         };
   }
 
   -- what one of them says holds of the side in both
-  held_more : (mine : X → Bool) (per : ℕ) (xs : List X) (x : X) → ((s : Subject P) (cap : ℕ) (y : X) → cap_of caps s ≡ Some cap → In xs y → limits cmp s (flow x) ≡ true → limits cmp s (flow y) ≡ true → mine y ≡ true)
+  held_more : (mine : X → Bool) (per : ℕ) (xs : List X) (x : X)
+      → ((s : Subject P) (cap : ℕ) (y : X) → cap_of caps s ≡ Some cap → In xs y → limits cmp s (flow x) ≡ true
+      → limits cmp s (flow y) ≡ true → mine y ≡ true)
       → IsHeldAmong per (filter mine xs) x → IsHeldAmong per xs x
   held_more mine per xs x all b = record {
     by = b.by;
-    full = sym (total_same mine b.by.subject xs (λ y among l. all b.by.subject b.by.cap y b.by.capped among b.by.limited l)) ∙ b.full;
-    greatest = λ y among l. b.greatest y (in_filter mine xs y among (all b.by.subject b.by.cap y b.by.capped among b.by.limited l)) l;
+    full =
+        sym
+        (total_same mine b.by.subject xs (λ y among l. all b.by.subject b.by.cap y b.by.capped among b.by.limited l))
+        ∙ b.full;
+    greatest = λ y among l.
+        b.greatest y (in_filter mine xs y among (all b.by.subject b.by.cap y b.by.capped among b.by.limited l)) l;
   }
 
   not_true : (b c : Bool) → b ≡ c → c ≡ false → not b ≡ true
   not_true b c same is = ap not (same ∙ is)
 
   -- two parts together
-  pub both_shared : (mine : X → Bool) (per : ℕ) (xs : List X) → AreShared per (filter mine xs) → AreShared per (filter (λ x. not (mine x)) xs) → AreApart mine xs → AreShared per xs
+  pub both_shared : (mine : X → Bool) (per : ℕ) (xs : List X) → AreShared per (filter mine xs)
+      → AreShared per (filter (λ x. not (mine x)) xs) → AreApart mine xs → AreShared per xs
   both_shared mine per xs f g apart = record {
     some_part = f.some_part;
     within = λ s cap has. elim (some_or_none (λ (x : X). limits cmp s (flow x)) xs) [
@@ -263,12 +310,23 @@ module _ {P X : Type 0} (cmp : P → P → Ordering) (caps : Caps P) (flow : X �
     held = λ x h c. held_at x h c (mine x) refl;
   }
     where
-      within_at : (s : Subject P) (cap : ℕ) → cap_of caps s ≡ Some cap → (x : X) → In xs x → limits cmp s (flow x) ≡ true → (b : Bool) → mine x ≡ b → total s xs ≤ cap * per
-      within_at s cap has x h l true own = omega (arith, f.within s cap has, total_same mine s xs (λ y among m. apart s cap y x has among h m l ∙ own))
-      within_at s cap has x h l false own = omega (arith, g.within s cap has, total_same (λ y. not (mine y)) s xs (λ y among m. not_true (mine y) (mine x) (apart s cap y x has among h m l) own))
+      within_at : (s : Subject P) (cap : ℕ) → cap_of caps s ≡ Some cap → (x : X) → In xs x
+          → limits cmp s (flow x) ≡ true → (b : Bool) → mine x ≡ b → total s xs ≤ cap * per
+      within_at s cap has x h l true own =
+          omega (arith, f.within s cap has, total_same mine s xs (λ y among m. apart s cap y x has among h m l ∙ own))
+      within_at s cap has x h l false own =
+          omega (
+            arith,
+            g.within s cap has,
+            total_same (λ y. not (mine y)) s xs
+                (λ y among m. not_true (mine y) (mine x) (apart s cap y x has among h m l) own),
+          )
 
       held_at : (x : X) → In xs x → IsCapped cmp caps (flow x) → (b : Bool) → mine x ≡ b → IsHeldAmong per xs x
-      held_at x h c true own = held_more mine per xs x (λ s cap y has among l m. apart s cap y x has among h m l ∙ own) (f.held x (in_filter mine xs x h own) c)
+      held_at x h c true own =
+          held_more mine per xs x (λ s cap y has among l m. apart s cap y x has among h m l ∙ own)
+          (f.held x (in_filter mine xs x h own) c)
       held_at x h c false own =
-          held_more (λ y. not (mine y)) per xs x (λ s cap y has among l m. not_true (mine y) (mine x) (apart s cap y x has among h m l) own)
+          held_more (λ y. not (mine y)) per xs x
+          (λ s cap y has among l m. not_true (mine y) (mine x) (apart s cap y x has among h m l) own)
           (g.held x (in_filter (λ y. not (mine y)) xs x h (ap not own)) c)

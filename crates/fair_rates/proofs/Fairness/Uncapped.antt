@@ -29,8 +29,13 @@ module _ {P : Type 0} (cmp : P → P → Ordering) (order : IsTotalOrder cmp) (c
   no_cap_from_free : (f : Flow P) → ¬ IsCapped cmp caps f → UsesNoCap caps f
   no_cap_from_free f free = record {
     origin = open_side f free (sent_by f.origin) (same_peer_itself cmp order f.origin);
-    recipient = λ delivered. open_side f free (received_by f.recipient) (and_from f.delivered (same_peer cmp f.recipient f.recipient) delivered (same_peer_itself cmp order f.recipient));
-    pair = open_side f free (sent_between f.origin f.recipient) (same_itself cmp order (sent_between f.origin f.recipient));
+    recipient = λ delivered.
+        open_side f free (received_by f.recipient)
+        (and_from f.delivered (same_peer cmp f.recipient f.recipient) delivered
+        (same_peer_itself cmp order f.recipient));
+    pair =
+        open_side f free (sent_between f.origin f.recipient)
+        (same_itself cmp order (sent_between f.origin f.recipient));
   }
 
   free_from_no_cap : AreOfPeers cmp caps → (f : Flow P) → UsesNoCap caps f → ¬ IsCapped cmp caps f
@@ -38,17 +43,21 @@ module _ {P : Type 0} (cmp : P → P → Ordering) (order : IsTotalOrder cmp) (c
     where
       by_subject : (s : Subject P) → cap_of caps s ≡ Some c.cap → limits cmp s f ≡ true → ⊥
       by_subject (sent_by p) e l =
-          let same : caps.egress p ≡ caps.egress f.origin = one_cap cmp order caps of (sent_by p) (sent_by f.origin) l in
+          let same : caps.egress p ≡ caps.egress f.origin =
+          one_cap cmp order caps of (sent_by p) (sent_by f.origin) l in
           let none : caps.egress f.origin ≡ None = n.origin in cc
       by_subject (received_by p) e l =
           let both = and_parts f.delivered (same_peer cmp p f.recipient) l in
-          let same : caps.ingress p ≡ caps.ingress f.recipient = one_cap cmp order caps of (received_by p) (received_by f.recipient) both.1 in
+          let same : caps.ingress p ≡ caps.ingress f.recipient =
+          one_cap cmp order caps of (received_by p) (received_by f.recipient) both.1 in
           let none : caps.ingress f.recipient ≡ None = n.recipient both.0 in cc
       by_subject (sent_between p q) e l =
-          let same : caps.link p q ≡ caps.link f.origin f.recipient = one_cap cmp order caps of (sent_between p q) (sent_between f.origin f.recipient) l in
+          let same : caps.link p q ≡ caps.link f.origin f.recipient =
+          one_cap cmp order caps of (sent_between p q) (sent_between f.origin f.recipient) l in
           let none : caps.link f.origin f.recipient ≡ None = n.pair in cc
 
-  unlimited_from_free : (per parts : ℕ) (f : Flow P) (r : Rate) → ¬ IsCapped cmp caps f → IsRated cmp caps per parts f r → r ≡ Unlimited
+  unlimited_from_free : (per parts : ℕ) (f : Flow P) (r : Rate) → ¬ IsCapped cmp caps f → IsRated cmp caps per parts f r
+      → r ≡ Unlimited
   unlimited_from_free per parts f Unlimited free rated = refl
   unlimited_from_free per parts f (Finite ratio) free rated = absurd (free rated.0)
 
@@ -56,10 +65,18 @@ pub unlimited_where_uncapped : {P : Type 0} (cmp : P → P → Ordering) → IsT
 unlimited_where_uncapped {P} cmp order caps flows rates of fair place f at =
     let s = among_from cmp caps order of flows rates fair in
     let there : (x : Allotted P) × (slice_get s.all place ≡ Some x) × (x.flow ≡ f) =
-    get_from_map (λ (x : Allotted P). x.flow) s.all place f (subst (λ (fs : List (Flow P)). slice_get fs place ≡ Some f) (sym s.flows_are) at) in
+    get_from_map (λ (x : Allotted P). x.flow) s.all place f
+    (subst (λ (fs : List (Flow P)). slice_get fs place ≡ Some f) (sym s.flows_are) at) in
     let x = there.0 in
-    let rate : slice_get rates place ≡ Some x.rate = subst (λ (rs : List Rate). slice_get rs place ≡ Some x.rate) s.rates_are (rate_there cmp caps s.all place x there.1) in
-    let rated : IsRated cmp caps s.per x.parts f x.rate = subst (λ (g : Flow P). IsRated cmp caps s.per x.parts g x.rate) there.2 (s.fair.rated x (in_get s.all place x there.1)) in (
-      (λ unlimited. no_cap_from_free cmp order caps f (subst (IsRated cmp caps s.per x.parts f) (same_Some x.rate Unlimited (sym rate ∙ unlimited)) rated)),
-      (λ n. rate ∙ ap Some (unlimited_from_free cmp order caps s.per x.parts f x.rate (free_from_no_cap cmp order caps of f n) rated)),
+    let rate : slice_get rates place ≡ Some x.rate =
+    subst (λ (rs : List Rate). slice_get rs place ≡ Some x.rate) s.rates_are
+    (rate_there cmp caps s.all place x there.1) in
+    let rated : IsRated cmp caps s.per x.parts f x.rate =
+    subst (λ (g : Flow P). IsRated cmp caps s.per x.parts g x.rate) there.2
+    (s.fair.rated x (in_get s.all place x there.1)) in (
+      (λ unlimited. no_cap_from_free cmp order caps f
+          (subst (IsRated cmp caps s.per x.parts f) (same_Some x.rate Unlimited (sym rate ∙ unlimited)) rated)),
+      (λ n. rate
+          ∙ ap Some
+          (unlimited_from_free cmp order caps s.per x.parts f x.rate (free_from_no_cap cmp order caps of f n) rated)),
     )

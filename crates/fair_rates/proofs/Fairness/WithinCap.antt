@@ -1,5 +1,6 @@
 -- The flows that a side limits get no more than its cap together.
-use Rattle.std.proofs.Common.{◌≡◌, ◌⊎◌, inl, inr, ℕ, ◌+◌, ◌*◌, ◌≤◌, List, [], ◌∷◌, Bool, true, false, cond, Some, refl, sym, subst, arith}
+use Rattle.std.proofs.Common.{◌≡◌, ◌⊎◌, inl, inr, ℕ, ◌+◌, ◌*◌, ◌≤◌, List, [], ◌∷◌, Bool, true, false, cond, Some, refl}
+use Rattle.std.proofs.Common.{sym, subst, arith}
 use Rattle.std.specs.Prelude.{sum_by}
 use Rattle.std.specs.Cmp.{IsTotalOrder}
 use Rattle.std.specs.declared.cmp.Ordering.{Ordering}
@@ -14,23 +15,36 @@ use Rattle.fair_rates.proofs.Sides.CapSides.{sides_are_of_the_caps}
 use Rattle.fair_rates.proofs.Lists.Members.{In, contains_from_in}
 
 -- no element passes the test, or some does
-some_passes : {X : Type 0} (place : ℕ) (test : X → Bool) (xs : List X) → (places_from place test xs ≡ []) ⊎ ((x : X) × In xs x × (test x ≡ true))
+some_passes : {X : Type 0} (place : ℕ) (test : X → Bool) (xs : List X)
+    → (places_from place test xs ≡ []) ⊎ ((x : X) × In xs x × (test x ≡ true))
 some_passes place test [] = inl refl
 some_passes {X} place test (x ∷ xs) = by_test (test x) refl (some_passes (place + 1) test xs)
   where
     by_test : (b : Bool) → test x ≡ b → (places_from (place + 1) test xs ≡ []) ⊎ ((y : X) × In xs y × (test y ≡ true))
-        → (cond b (place ∷ places_from (place + 1) test xs) (places_from (place + 1) test xs) ≡ []) ⊎ ((y : X) × In (x ∷ xs) y × (test y ≡ true))
+        → (cond b (place ∷ places_from (place + 1) test xs) (places_from (place + 1) test xs) ≡ [])
+        ⊎ ((y : X) × In (x ∷ xs) y × (test y ≡ true))
     by_test true e rest = inr (x, inl refl, e)
     by_test false e (inl none) = inl none
     by_test false e (inr (y, among, passes)) = inr (y, inr among, passes)
 
 pub keeps_to_its_cap : {P : Type 0} (cmp : P → P → Ordering) → IsTotalOrder cmp → KeepsToItsCap cmp
-keeps_to_its_cap {P} cmp order caps flows rates of fair subject cap is = by_flow (some_passes 0 (limits cmp subject) flows)
+keeps_to_its_cap {P} cmp order caps flows rates of fair subject cap is =
+    by_flow (some_passes 0 (limits cmp subject) flows)
   where
-    by_flow : (places_from 0 (limits cmp subject) flows ≡ []) ⊎ ((f : Flow P) × In flows f × (limits cmp subject f ≡ true))
+    by_flow : (places_from 0 (limits cmp subject) flows ≡ [])
+        ⊎ ((f : Flow P) × In flows f × (limits cmp subject f ≡ true))
         → sum_by fair.parts (places_from 0 (limits cmp subject) flows) ≤ cap * fair.per
     by_flow (inl none) = subst (λ (us : List ℕ). sum_by fair.parts us ≤ cap * fair.per) (sym none) (omega arith)
     by_flow (inr (f, among, limited)) =
         let side : Side = record { cap = cap; users = places_from 0 (limits cmp subject) flows } in
-        let capped : IsCappedSide cmp caps flows side = record { subject = subject; capped = is; flow = f; among = contains_from_in flows f among; limited = limited; users = refl } in
-        All-contains (λ s. load fair.parts s ≤ s.cap * fair.per) (sides_under cmp caps flows) side fair.fair.within ((sides_are_of_the_caps cmp order caps flows side of).1 capped)
+        let capped : IsCappedSide cmp caps flows side =
+        record {
+          subject = subject;
+          capped = is;
+          flow = f;
+          among = contains_from_in flows f among;
+          limited = limited;
+          users = refl;
+        } in
+        All-contains (λ s. load fair.parts s ≤ s.cap * fair.per) (sides_under cmp caps flows) side fair.fair.within
+        ((sides_are_of_the_caps cmp order caps flows side of).1 capped)

@@ -1,9 +1,12 @@
 -- How an open side keeps account of a side.
-use Rattle.std.proofs.Common.{◌≡◌, ℕ, ◌+◌, ◌*◌, ◌<◌, ◌≤◌, inl, inr, List, [], ◌∷◌, ◌++◌, length, get_or, All, sum_by, Option, Some, None, IsSome, sym, ap, subst, ◌∙◌, arith, mul-le-mul_right, le_of_mul-le-mul_right}
+use Rattle.std.proofs.Common.{◌≡◌, ℕ, ◌+◌, ◌*◌, ◌<◌, ◌≤◌, inl, inr, List, [], ◌∷◌, ◌++◌, length, get_or, All, sum_by}
+use Rattle.std.proofs.Common.{Option, Some, None, IsSome, sym, ap, subst, ◌∙◌, arith, mul-le-mul_right}
+use Rattle.std.proofs.Common.{le_of_mul-le-mul_right}
 use Rattle.std.specs.Prelude.{IsPermutation, swap_remove}
 use Rattle.std.proofs.lemmas.Bool.{cases_lt}
 use Rattle.std.proofs.lemmas.List.Elements.{All-nil, All-head, All-push, All-tail, All-append, All-weaker}
-use Rattle.std.proofs.lemmas.List.Sorted.{IsPermutation-refl, IsPermutation-sym, IsPermutation-pop_more, IsPermutation-swap_remove, All-permutation, sum_by-IsPermutation}
+use Rattle.std.proofs.lemmas.List.Sorted.{IsPermutation-refl, IsPermutation-sym, IsPermutation-pop_more}
+use Rattle.std.proofs.lemmas.List.Sorted.{IsPermutation-swap_remove, All-permutation, sum_by-IsPermutation}
 use Rattle.std.proofs.lemmas.List.Sums.{sum_by-append, sum_by-cons}
 use Rattle.fair_rates.specs.Fairness.Fair.{Side, load}
 use Rattle.fair_rates.specs.Filling.States.{at_level, AllRise, AllFrozen, IsWithinSlack, HaveNoMore, KeepsAccount}
@@ -13,7 +16,8 @@ use Rattle.fair_rates.proofs.Lists.Sums.{sum_by_same}
 -- ---- of a share
 
 -- and then no share is lower
-pub still_within : (parts had slack rest n m : ℕ) → m + 1 ≡ n → rest + had ≡ slack → parts * n ≤ slack → had * n ≤ slack → parts * m ≤ rest
+pub still_within : (parts had slack rest n m : ℕ) → m + 1 ≡ n → rest + had ≡ slack → parts * n ≤ slack → had * n ≤ slack
+    → parts * m ≤ rest
 still_within parts had slack rest n m fewer left le had_le =
     let e : parts * n ≡ parts * m + parts = omega (arith, ap (λ k. parts * k) fewer) in
     let e' : had * n ≡ had * m + had = omega (arith, ap (λ k. had * k) fewer) in
@@ -25,7 +29,8 @@ still_within parts had slack rest n m fewer left le had_le =
 -- ---- of an account
 
 -- before any user is frozen
-pub account_start : (side : Side) (scale : ℕ) (frozen : ℕ → Option ℕ) (slack : ℕ) (rising : List ℕ) → slack ≡ side.cap * scale → side.users ≡ rising → KeepsAccount side scale frozen slack rising
+pub account_start : (side : Side) (scale : ℕ) (frozen : ℕ → Option ℕ) (slack : ℕ) (rising : List ℕ)
+    → slack ≡ side.cap * scale → side.users ≡ rising → KeepsAccount side scale frozen slack rising
 account_start side scale frozen slack rising all users = record {
   counted = [];
   parted = subst (λ xs. IsPermutation side.users xs) users (IsPermutation-refl side.users);
@@ -33,14 +38,17 @@ account_start side scale frozen slack rising all users = record {
   left = omega (arith, all);
 }
 
-module _ (side : Side) (scale : ℕ) (frozen : ℕ → Option ℕ) (slack : ℕ) (rising : List ℕ) (account : KeepsAccount side scale frozen slack rising) where
+module _ (side : Side) (scale : ℕ) (frozen : ℕ → Option ℕ) (slack : ℕ) (rising : List ℕ)
+    (account : KeepsAccount side scale frozen slack rising) where
   -- what a side carries is what the counted and the other users have
   pub load_parted : (parts : ℕ → ℕ) → load parts side ≡ sum_by parts account.counted + sum_by parts rising
   load_parted parts =
-      sym (sum_by-IsPermutation parts side.users (account.counted ++ rising) account.parted) ∙ sum_by-append parts account.counted rising
+      sym (sum_by-IsPermutation parts side.users (account.counted ++ rising) account.parted)
+      ∙ sum_by-append parts account.counted rising
 
   -- one of the others is frozen: it is counted now
-  pub account_more : (i user parts rest : ℕ) (later : List ℕ) → i < length rising → user ≡ get_or rising i user → frozen user ≡ Some parts → rest + parts ≡ slack
+  pub account_more : (i user parts rest : ℕ) (later : List ℕ) → i < length rising → user ≡ get_or rising i user
+      → frozen user ≡ Some parts → rest + parts ≡ slack
       → later ≡ swap_remove rising i user → KeepsAccount side scale frozen rest later
   account_more i user parts rest later inside is_user is_frozen left removed = record {
     counted = account.counted ++ user ∷ [];
@@ -61,54 +69,98 @@ module _ (side : Side) (scale : ℕ) (frozen : ℕ → Option ℕ) (slack : ℕ)
   -- none is left: all are frozen
   pub all_counted : length rising ≡ 0 → AllFrozen frozen side.users
   all_counted none =
-      All-permutation (λ flow. IsSome (frozen flow)) (account.counted ++ rising) side.users (IsPermutation-sym side.users (account.counted ++ rising) account.parted)
-      (All-append (λ flow. IsSome (frozen flow)) account.counted rising account.done (λ k d inside. absurd (omega (arith, none, inside))))
+      All-permutation (λ flow. IsSome (frozen flow)) (account.counted ++ rising) side.users
+      (IsPermutation-sym side.users (account.counted ++ rising) account.parted)
+      (All-append (λ flow. IsSome (frozen flow)) account.counted rising account.done
+      (λ k d inside. absurd (omega (arith, none, inside))))
 
   -- what the counted users have does not depend on the level
   counted_at : (level : ℕ) → sum_by (at_level frozen level) account.counted ≡ sum_by (at_level frozen 0) account.counted
   counted_at level =
-      sum_by_same (at_level frozen level) (at_level frozen 0) account.counted (All-weaker (λ j. IsSome (frozen j)) (λ j. at_level frozen level j ≡ at_level frozen 0 j)
+      sum_by_same (at_level frozen level) (at_level frozen 0) account.counted
+      (All-weaker (λ j. IsSome (frozen j)) (λ j. at_level frozen level j ≡ at_level frozen 0 j)
       (λ j some. at_any frozen level 0 j some) account.counted account.done)
 
 -- so many amounts of at most the share are no more than what is shared
-sum_within : (f : ℕ → ℕ) (slack n : ℕ) (users : List ℕ) → All (λ j. f j * n ≤ slack) users → sum_by f users * n ≤ slack * length users
+sum_within : (f : ℕ → ℕ) (slack n : ℕ) (users : List ℕ) → All (λ j. f j * n ≤ slack) users
+    → sum_by f users * n ≤ slack * length users
 sum_within f slack n [] all = omega arith
 sum_within f slack n (j ∷ users) all =
-    let more : sum_by f (j ∷ users) * n ≡ f j * n + sum_by f users * n = omega (arith, ap (λ k. k * n) (sum_by-cons f j users)) in
-    omega (arith, more, All-head (λ j. f j * n ≤ slack) j users all, sum_within f slack n users (All-tail (λ j. f j * n ≤ slack) j users all))
+    let more : sum_by f (j ∷ users) * n ≡ f j * n + sum_by f users * n =
+    omega (arith, ap (λ k. k * n) (sum_by-cons f j users)) in
+    omega (
+      arith,
+      more,
+      All-head (λ j. f j * n ≤ slack) j users all,
+      sum_within f slack n users (All-tail (λ j. f j * n ≤ slack) j users all),
+    )
 
 -- where all have the share, it is what is shared
-sum_even : (f : ℕ → ℕ) (level : ℕ) (users : List ℕ) → All (λ j. f j ≡ level) users → sum_by f users ≡ level * length users
+sum_even : (f : ℕ → ℕ) (level : ℕ) (users : List ℕ) → All (λ j. f j ≡ level) users
+    → sum_by f users ≡ level * length users
 sum_even f level [] all = omega arith
 sum_even f level (j ∷ users) all =
-    omega (arith, sum_by-cons f j users, All-head (λ j. f j ≡ level) j users all, sum_even f level users (All-tail (λ j. f j ≡ level) j users all))
+    omega (
+      arith,
+      sum_by-cons f j users,
+      All-head (λ j. f j ≡ level) j users all,
+      sum_even f level users (All-tail (λ j. f j ≡ level) j users all),
+    )
 
-module _ (side : Side) (scale : ℕ) (frozen : ℕ → Option ℕ) (slack : ℕ) (rising : List ℕ) (account : KeepsAccount side scale frozen slack rising) (level : ℕ) where
+module _ (side : Side) (scale : ℕ) (frozen : ℕ → Option ℕ) (slack : ℕ) (rising : List ℕ)
+    (account : KeepsAccount side scale frozen slack rising) (level : ℕ) where
   -- where its rising users stand at a level within the share, the side carries no more than its cap
-  pub has_room : 0 < length rising → IsWithinSlack level slack rising → HaveNoMore frozen slack rising → load (at_level frozen level) side ≤ side.cap * scale
+  pub has_room : 0 < length rising → IsWithinSlack level slack rising → HaveNoMore frozen slack rising
+      → load (at_level frozen level) side ≤ side.cap * scale
   has_room some within no_more =
-      let each : All (λ j. at_level frozen level j * length rising ≤ slack) rising = All-weaker (λ j. at_level frozen 0 j * length rising ≤ slack)
+      let each : All (λ j. at_level frozen level j * length rising ≤ slack) rising =
+      All-weaker (λ j. at_level frozen 0 j * length rising ≤ slack)
       (λ j. at_level frozen level j * length rising ≤ slack)
       (λ j le. elim (none_or_some (frozen j)) [
         | inl e ↦ omega (arith, within, ap (λ k. k * length rising) (at_none frozen level j e))
-        | inr (parts, e) ↦ omega (arith, le, ap (λ k. k * length rising) (at_any frozen level 0 j (some_is (frozen j) parts e)))
+        | inr (parts, e) ↦ omega
+            (arith, le, ap (λ k. k * length rising) (at_any frozen level 0 j (some_is (frozen j) parts e)))
       ]) rising no_more in
-      let total : sum_by (at_level frozen level) rising ≤ slack = le_of_mul-le-mul_right {k = length rising} (sum_within (at_level frozen level) slack (length rising) rising each) some in
-      omega (arith, load_parted side scale frozen slack rising account (at_level frozen level), counted_at side scale frozen slack rising account level, total, account.left)
+      let total : sum_by (at_level frozen level) rising ≤ slack =
+      le_of_mul-le-mul_right {k = length rising}
+      (sum_within (at_level frozen level) slack (length rising) rising each) some in
+      omega (
+        arith,
+        load_parted side scale frozen slack rising account (at_level frozen level),
+        counted_at side scale frozen slack rising account level,
+        total,
+        account.left,
+      )
 
   -- where they stand at the share, it is full
-  pub is_full : AllRise frozen rising → level * length rising ≡ slack → load (at_level frozen level) side ≡ side.cap * scale
+  pub is_full : AllRise frozen rising → level * length rising ≡ slack
+      → load (at_level frozen level) side ≡ side.cap * scale
   is_full rise exact =
-      let total = sum_even (at_level frozen level) level rising (All-weaker (λ j. frozen j ≡ None) (λ j. at_level frozen level j ≡ level) (λ j e. at_none frozen level j e) rising rise) in
-      omega (arith, load_parted side scale frozen slack rising account (at_level frozen level), counted_at side scale frozen slack rising account level, total, exact, account.left)
+      let total =
+      sum_even (at_level frozen level) level rising
+      (All-weaker (λ j. frozen j ≡ None) (λ j. at_level frozen level j ≡ level) (λ j e. at_none frozen level j e)
+      rising rise) in
+      omega (
+        arith,
+        load_parted side scale frozen slack rising account (at_level frozen level),
+        counted_at side scale frozen slack rising account level,
+        total,
+        exact,
+        account.left,
+      )
 
 -- who rises has nothing yet
-pub risers_have_no_more : (frozen : ℕ → Option ℕ) (slack : ℕ) (users : List ℕ) → AllRise frozen users → HaveNoMore frozen slack users
+pub risers_have_no_more : (frozen : ℕ → Option ℕ) (slack : ℕ) (users : List ℕ) → AllRise frozen users
+    → HaveNoMore frozen slack users
 risers_have_no_more frozen slack users rise =
-    All-weaker (λ j. frozen j ≡ None) (λ j. at_level frozen 0 j * length users ≤ slack) (λ j e. omega (arith, ap (λ k. k * length users) (at_none frozen 0 j e))) users rise
+    All-weaker (λ j. frozen j ≡ None) (λ j. at_level frozen 0 j * length users ≤ slack)
+    (λ j e. omega (arith, ap (λ k. k * length users) (at_none frozen 0 j e))) users rise
 
 -- the users that are left keep what holds of all
-pub rest_of : (P : ℕ → Type 0) (users rest : List ℕ) (i user : ℕ) → i < length users → user ≡ get_or users i user → rest ≡ swap_remove users i user → All P users → All P rest
+pub rest_of : (P : ℕ → Type 0) (users rest : List ℕ) (i user : ℕ) → i < length users → user ≡ get_or users i user
+    → rest ≡ swap_remove users i user → All P users → All P rest
 rest_of P users rest i user inside is_user is_rest all =
     subst (All P) (sym is_rest)
-    (All-tail P user (swap_remove users i user) (All-permutation P users (user ∷ swap_remove users i user) (IsPermutation-swap_remove users i user inside is_user) all))
+    (All-tail P user (swap_remove users i user)
+    (All-permutation P users (user ∷ swap_remove users i user) (IsPermutation-swap_remove users i user inside is_user)
+    all))

@@ -1,11 +1,14 @@
 -- A round of filling: the users of the side with the least share freeze at it.
-use Rattle.std.proofs.Common.{◌≡◌, ℕ, ◌*◌, ◌<◌, ◌≤◌, ◌⊎◌, inl, inr, List, ◌∷◌, ◌++◌, length, All, Contains, Option, Some, None, IsSome, sym, ap, subst, ◌∙◌, arith, le_of_mul-le-mul_right}
+use Rattle.std.proofs.Common.{◌≡◌, ℕ, ◌*◌, ◌<◌, ◌≤◌, ◌⊎◌, inl, inr, List, ◌∷◌, ◌++◌, length, All, Contains, Option}
+use Rattle.std.proofs.Common.{Some, None, IsSome, sym, ap, subst, ◌∙◌, arith, le_of_mul-le-mul_right}
 use Rattle.std.specs.Prelude.{unwrap_or}
 use Rattle.std.specs.declared.cmp.Reverse.{Reverse}
-use Rattle.std.proofs.lemmas.List.Elements.{All-head, All-tail, All-append, All-contains, All-weaker, Contains-append_right}
+use Rattle.std.proofs.lemmas.List.Elements.{All-head, All-tail, All-append, All-contains, All-weaker}
+use Rattle.std.proofs.lemmas.List.Elements.{Contains-append_right}
 use Rattle.std.proofs.lemmas.List.Sorted.{All-permutation, Contains-permutation, IsPermutation-sym}
 use Rattle.fair_rates.specs.Fairness.Fair.{Side, load}
-use Rattle.fair_rates.specs.Filling.States.{at_level, AllRise, AllFrozen, IsWithinSlack, HaveNoMore, KeepsAccount, IsOpen, IsCovered, IsQueue, AreAbove}
+use Rattle.fair_rates.specs.Filling.States.{at_level, AllRise, AllFrozen, IsWithinSlack, HaveNoMore, KeepsAccount}
+use Rattle.fair_rates.specs.Filling.States.{IsOpen, IsCovered, IsQueue, AreAbove}
 use Rattle.fair_rates.specs.declared.bandwidth.filling.open.OpenSide.{OpenSide}
 use Rattle.fair_rates.proofs.Lists.SumOrder.{All-from_contains}
 use Rattle.fair_rates.proofs.Filling.Account.{has_room, is_full}
@@ -20,9 +23,12 @@ pub record Freezes (users : List ℕ) (before after : ℕ → Option ℕ) (level
   pub all : All (λ flow. after flow ≡ Some level) users
   pub others : (flow : ℕ) → Contains users flow ⊎ (after flow ≡ before flow)
 
-module _ (sides : List Side) (scale : ℕ) (frozen after : ℕ → Option ℕ) (x : Reverse OpenSide) (opens : List (Reverse OpenSide)) (level last : ℕ)
-    (queue : IsQueue sides scale frozen (x ∷ opens)) (no_more : All (λ o. HaveNoMore frozen o.0.slack o.0.rising.items) opens) (rise : AllRise frozen x.0.rising.items)
-    (within : AreAbove level opens) (share : level * length x.0.rising.items ≡ x.0.slack) (freezes : Freezes x.0.rising.items frozen after level) where
+module _ (sides : List Side) (scale : ℕ) (frozen after : ℕ → Option ℕ) (x : Reverse OpenSide)
+    (opens : List (Reverse OpenSide)) (level last : ℕ)
+    (queue : IsQueue sides scale frozen (x ∷ opens))
+    (no_more : All (λ o. HaveNoMore frozen o.0.slack o.0.rising.items) opens) (rise : AllRise frozen x.0.rising.items)
+    (within : AreAbove level opens) (share : level * length x.0.rising.items ≡ x.0.slack)
+    (freezes : Freezes x.0.rising.items frozen after level) where
   -- who was frozen stays so
   kept : (flow parts : ℕ) → frozen flow ≡ Some parts → after flow ≡ Some parts
   kept flow parts e = elim (freezes.others flow) [
@@ -30,27 +36,36 @@ module _ (sides : List Side) (scale : ℕ) (frozen after : ℕ → Option ℕ) (
     | inl used ↦ let none = All-contains (λ j. frozen j ≡ None) x.0.rising.items flow rise used in absurd (cc)
   ]
 
-  fresh : (flow parts : ℕ) → frozen flow ≡ None → after flow ≡ Some parts → (parts ≡ level) × Contains x.0.rising.items flow
+  fresh : (flow parts : ℕ) → frozen flow ≡ None → after flow ≡ Some parts
+      → (parts ≡ level) × Contains x.0.rising.items flow
   fresh flow parts none e = elim (freezes.others flow) [
     | inr same ↦ absurd (cc)
-    | inl used ↦ let now = All-contains (λ j. after j ≡ Some level) x.0.rising.items flow freezes.all used in let same : parts ≡ level = cc in (same, used)
+    | inl used ↦ let now = All-contains (λ j. after j ≡ Some level) x.0.rising.items flow freezes.all used in
+        let same : parts ≡ level = cc in
+        (same, used)
   ]
 
   still : (flow : ℕ) → IsSome (frozen flow) → IsSome (after flow)
   still flow some = let v = some_value (frozen flow) some in some_is (after flow) v.0 (kept flow v.0 v.1)
 
   still_has : (flow : ℕ) → IsSome (frozen flow) → at_level after 0 flow ≡ at_level frozen 0 flow
-  still_has flow some = let v = some_value (frozen flow) some in at_some after 0 flow v.0 (kept flow v.0 v.1) ∙ sym (at_some frozen 0 flow v.0 v.1)
+  still_has flow some =
+      let v = some_value (frozen flow) some in
+      at_some after 0 flow v.0 (kept flow v.0 v.1) ∙ sym (at_some frozen 0 flow v.0 v.1)
 
   -- a side of which the open one keeps account is frozen whole
   all_frozen : (side : Side) → KeepsAccount side scale frozen x.0.slack x.0.rising.items → AllFrozen after side.users
   all_frozen side account =
-      All-permutation (λ j. IsSome (after j)) (account.counted ++ x.0.rising.items) side.users (IsPermutation-sym side.users (account.counted ++ x.0.rising.items) account.parted)
-      (All-append (λ j. IsSome (after j)) account.counted x.0.rising.items (All-weaker (λ j. IsSome (frozen j)) (λ j. IsSome (after j)) still account.counted account.done)
-      (All-weaker (λ j. after j ≡ Some level) (λ j. IsSome (after j)) (λ j e. some_is (after j) level e) x.0.rising.items freezes.all))
+      All-permutation (λ j. IsSome (after j)) (account.counted ++ x.0.rising.items) side.users
+      (IsPermutation-sym side.users (account.counted ++ x.0.rising.items) account.parted)
+      (All-append (λ j. IsSome (after j)) account.counted x.0.rising.items
+      (All-weaker (λ j. IsSome (frozen j)) (λ j. IsSome (after j)) still account.counted account.done)
+      (All-weaker (λ j. after j ≡ Some level) (λ j. IsSome (after j)) (λ j e. some_is (after j) level e)
+      x.0.rising.items freezes.all))
 
   -- an account stands
-  account_kept : (side : Side) (slack : ℕ) (rising : List ℕ) → KeepsAccount side scale frozen slack rising → KeepsAccount side scale after slack rising
+  account_kept : (side : Side) (slack : ℕ) (rising : List ℕ) → KeepsAccount side scale frozen slack rising
+      → KeepsAccount side scale after slack rising
   account_kept side slack rising account = record {
     counted = account.counted;
     parted = account.parted;
@@ -59,7 +74,8 @@ module _ (sides : List Side) (scale : ℕ) (frozen after : ℕ → Option ℕ) (
       arith,
       account.left,
       sum_by_same (at_level after 0) (at_level frozen 0) account.counted
-          (All-weaker (λ j. IsSome (frozen j)) (λ j. at_level after 0 j ≡ at_level frozen 0 j) still_has account.counted account.done),
+          (All-weaker (λ j. IsSome (frozen j)) (λ j. at_level after 0 j ≡ at_level frozen 0 j) still_has account.counted
+          account.done),
     );
   }
 
@@ -67,7 +83,9 @@ module _ (sides : List Side) (scale : ℕ) (frozen after : ℕ → Option ℕ) (
 
   pub queue_on : IsQueue sides scale after opens
   queue_on = record {
-    each = All-weaker (IsOpen sides scale frozen) (IsOpen sides scale after) (λ o (side, listed, account). (side, listed, account_kept side o.0.slack o.0.rising.items account)) opens
+    each =
+        All-weaker (IsOpen sides scale frozen) (IsOpen sides scale after)
+        (λ o (side, listed, account). (side, listed, account_kept side o.0.slack o.0.rising.items account)) opens
         (All-tail (IsOpen sides scale frozen) x opens queue.each);
     covered = All-weaker (IsCovered scale frozen (x ∷ opens)) (IsCovered scale after opens) again sides queue.covered;
   }
@@ -75,17 +93,26 @@ module _ (sides : List Side) (scale : ℕ) (frozen after : ℕ → Option ℕ) (
       again : (side : Side) → IsCovered scale frozen (x ∷ opens) side → IsCovered scale after opens side
       again side (inl all) = inl (All-weaker (λ j. IsSome (frozen j)) (λ j. IsSome (after j)) still side.users all)
       again side (inr (o, c, account)) = elim (first_or_later x o opens c) [
-        | inl same ↦ inl (all_frozen side (subst (λ (p : Reverse OpenSide). KeepsAccount side scale frozen p.0.slack p.0.rising.items) (sym same) account))
+        | inl same ↦ inl
+            (all_frozen side
+            (subst (λ (p : Reverse OpenSide). KeepsAccount side scale frozen p.0.slack p.0.rising.items) (sym same)
+            account))
         | inr later ↦ inr (o, later, account_kept side o.0.slack o.0.rising.items account)
       ]
 
   -- nobody has more than the shares
   pub no_more_on : All (λ o. HaveNoMore after o.0.slack o.0.rising.items) opens
-  no_more_on = All-from_contains (λ (o : Reverse OpenSide). HaveNoMore after o.0.slack o.0.rising.items) opens (λ o listed.
-      let was = All-contains (λ (o : Reverse OpenSide). HaveNoMore frozen o.0.slack o.0.rising.items) opens o no_more listed in
-      let fits = All-contains (λ (o : Reverse OpenSide). IsWithinSlack level o.0.slack o.0.rising.items) opens o within listed in
+  no_more_on =
+      All-from_contains (λ (o : Reverse OpenSide). HaveNoMore after o.0.slack o.0.rising.items) opens (λ o listed.
+      let was =
+      All-contains (λ (o : Reverse OpenSide). HaveNoMore frozen o.0.slack o.0.rising.items) opens o no_more
+      listed in
+      let fits =
+      All-contains (λ (o : Reverse OpenSide). IsWithinSlack level o.0.slack o.0.rising.items) opens o within
+      listed in
       let n : ℕ = length o.0.rising.items in
-      All-weaker (λ j. at_level frozen 0 j * n ≤ o.0.slack) (λ j. at_level after 0 j * n ≤ o.0.slack) (λ j le. elim (freezes.others j) [
+      All-weaker (λ j. at_level frozen 0 j * n ≤ o.0.slack) (λ j. at_level after 0 j * n ≤ o.0.slack)
+      (λ j le. elim (freezes.others j) [
         | inl used ↦
             let now = All-contains (λ j. after j ≡ Some level) x.0.rising.items j freezes.all used in
             omega (arith, fits, ap (λ k. k * n) (at_some after 0 j level now))
@@ -97,19 +124,28 @@ module _ (sides : List Side) (scale : ℕ) (frozen after : ℕ → Option ℕ) (
   open_account : IsOpen sides scale frozen x
   open_account = All-head (IsOpen sides scale frozen) x opens queue.each
 
-  module _ (some : 0 < length x.0.rising.items) (some_each : (o : Reverse OpenSide) → 0 < length o.0.rising.items) (filled : IsFilledTo sides scale frozen last) (raised : last ≤ level) where
+  module _ (some : 0 < length x.0.rising.items) (some_each : (o : Reverse OpenSide) → 0 < length o.0.rising.items)
+      (filled : IsFilledTo sides scale frozen last) (raised : last ≤ level) where
     full : load (at_level frozen level) open_account.0 ≡ open_account.0.cap * scale
     full = is_full open_account.0 scale frozen x.0.slack x.0.rising.items open_account.2 level rise share
 
     -- the level is within the caps
-    room : (side : Side) → Contains sides side → IsCovered scale frozen (x ∷ opens) side → load (at_level frozen level) side ≤ side.cap * scale
+    room : (side : Side) → Contains sides side → IsCovered scale frozen (x ∷ opens) side
+        → load (at_level frozen level) side ≤ side.cap * scale
     room side listed (inl all) =
         let same = sum_by_same (at_level frozen level) (at_level frozen last) side.users
-        (All-weaker (λ j. IsSome (frozen j)) (λ j. at_level frozen level j ≡ at_level frozen last j) (λ j h. at_any frozen level last j h) side.users all) in
-        omega (arith, same, All-contains (λ s. load (at_level frozen last) s ≤ s.cap * scale) sides side filled.within listed)
+        (All-weaker (λ j. IsSome (frozen j)) (λ j. at_level frozen level j ≡ at_level frozen last j)
+        (λ j h. at_any frozen level last j h) side.users all) in
+        omega (
+          arith,
+          same,
+          All-contains (λ s. load (at_level frozen last) s ≤ s.cap * scale) sides side filled.within listed,
+        )
     room side listed (inr (o, c, account)) = elim (first_or_later x o opens c) [
       | inl same ↦
-          let here : KeepsAccount side scale frozen x.0.slack x.0.rising.items = subst (λ (p : Reverse OpenSide). KeepsAccount side scale frozen p.0.slack p.0.rising.items) (sym same) account in
+          let here : KeepsAccount side scale frozen x.0.slack x.0.rising.items =
+          subst (λ (p : Reverse OpenSide). KeepsAccount side scale frozen p.0.slack p.0.rising.items) (sym same)
+          account in
           omega (arith, is_full side scale frozen x.0.slack x.0.rising.items here level rise share)
       | inr later ↦
           has_room side scale frozen o.0.slack o.0.rising.items account level (some_each o)
@@ -126,7 +162,10 @@ module _ (sides : List Side) (scale : ℕ) (frozen after : ℕ → Option ℕ) (
     pub filled_on : IsFilledTo sides scale after level
     filled_on = next sides scale frozen last after level filled (record {
       raised = raised;
-      within = All-from_contains (λ s. load (at_level frozen level) s ≤ s.cap * scale) sides (λ side listed. room side listed (All-contains (IsCovered scale frozen (x ∷ opens)) sides side queue.covered listed));
+      within =
+          All-from_contains (λ s. load (at_level frozen level) s ≤ s.cap * scale) sides
+          (λ side listed. room side listed
+          (All-contains (IsCovered scale frozen (x ∷ opens)) sides side queue.covered listed));
       kept = kept;
       fresh = λ flow parts none e.
           let f = fresh flow parts none e in (

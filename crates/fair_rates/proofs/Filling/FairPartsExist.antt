@@ -1,6 +1,8 @@
 -- There are fair parts, of which the denominator of that many flows makes one: filling finds them.
 use Prim.Native.Nat.{◌∣◌}
-use Rattle.std.proofs.Common.{◌≡◌, ℕ, zero, suc, ◌+◌, ◌-◌, ◌*◌, ◌<◌, ◌≤◌, inl, inr, Bool, true, false, cond, List, get_or, All, Contains, count_by, refl, sym, ap, ◌∙◌, subst, arith, Option, Some, None, is_none, IsSome}
+use Rattle.std.proofs.Common.{◌≡◌, ℕ, zero, suc, ◌+◌, ◌-◌, ◌*◌, ◌<◌, ◌≤◌, inl, inr, Bool, true, false, cond, List}
+use Rattle.std.proofs.Common.{get_or, All, Contains, count_by, refl, sym, ap, ◌∙◌, subst, arith, Option, Some, None}
+use Rattle.std.proofs.Common.{is_none, IsSome}
 use Rattle.std.specs.Prelude.{unwrap_or, ◌==◌}
 use Rattle.std.specs.List.{list_any}
 use Rattle.std.proofs.Math.Nat.{le_of_mul-le-mul_right, dvd-zero}
@@ -25,7 +27,8 @@ abbrev pub rising_below : ℕ → (ℕ → Option ℕ) → ℕ
 rising_below n frozen = sum_below (λ i. cond (is_none (frozen i)) 1 0) n
 
 -- some user rises
-pub some_rising : (frozen : ℕ → Option ℕ) (flow : ℕ) (users : List ℕ) → Contains users flow → frozen flow ≡ None → 0 < count_by (λ j. is_none (frozen j)) users
+pub some_rising : (frozen : ℕ → Option ℕ) (flow : ℕ) (users : List ℕ) → Contains users flow → frozen flow ≡ None
+    → 0 < count_by (λ j. is_none (frozen j)) users
 some_rising frozen flow users used free =
     let one_of : Option ℕ → ℕ = λ o. cond (is_none o) 1 0 in
     let one : ℕ → ℕ = λ j. one_of (frozen j) in
@@ -41,7 +44,8 @@ abbrev pub freeze : List ℕ → ℕ → (ℕ → Option ℕ) → ℕ → Option
 freeze users level frozen flow = cond (is_user users flow) (Some (unwrap_or (frozen flow) level)) (frozen flow)
 
 is_user-true : (users : List ℕ) (flow : ℕ) → Contains users flow → is_user users flow ≡ true
-is_user-true users flow used = list_any_at (λ user. user == flow) users used.0 flow used.1 (eq-eqb (get_or users used.0 flow) flow used.2)
+is_user-true users flow used =
+    list_any_at (λ user. user == flow) users used.0 flow used.1 (eq-eqb (get_or users used.0 flow) flow used.2)
 
 is_user-contains : (users : List ℕ) (flow : ℕ) → is_user users flow ≡ true → Contains users flow
 is_user-contains users flow e =
@@ -51,14 +55,17 @@ is_user-contains users flow e =
     subst (λ n. Contains users n) (eqb-true any.1 flow any.4) found
 
 module _ (users : List ℕ) (level : ℕ) (frozen : ℕ → Option ℕ) where
-  frozen_now : (flow : ℕ) → is_user users flow ≡ true → freeze users level frozen flow ≡ Some (unwrap_or (frozen flow) level)
+  frozen_now : (flow : ℕ) → is_user users flow ≡ true
+      → freeze users level frozen flow ≡ Some (unwrap_or (frozen flow) level)
   frozen_now flow e = cond-true (is_user users flow) (Some (unwrap_or (frozen flow) level)) (frozen flow) e
 
   left_alone : (flow : ℕ) → is_user users flow ≡ false → freeze users level frozen flow ≡ frozen flow
   left_alone flow e = cond-false (is_user users flow) (Some (unwrap_or (frozen flow) level)) (frozen flow) e
 
   freeze_user : (flow : ℕ) → Contains users flow → IsSome (freeze users level frozen flow)
-  freeze_user flow used = some_is (freeze users level frozen flow) (unwrap_or (frozen flow) level) (frozen_now flow (is_user-true users flow used))
+  freeze_user flow used =
+      some_is (freeze users level frozen flow) (unwrap_or (frozen flow) level)
+      (frozen_now flow (is_user-true users flow used))
 
   freeze_kept : (flow parts : ℕ) → frozen flow ≡ Some parts → freeze users level frozen flow ≡ Some parts
   freeze_kept flow parts e = elim (cases_Bool (is_user users flow)) [
@@ -66,10 +73,12 @@ module _ (users : List ℕ) (level : ℕ) (frozen : ℕ → Option ℕ) where
     | inr other ↦ left_alone flow other ∙ e
   ]
 
-  freeze_fresh : (flow parts : ℕ) → frozen flow ≡ None → freeze users level frozen flow ≡ Some parts → (parts ≡ level) × Contains users flow
+  freeze_fresh : (flow parts : ℕ) → frozen flow ≡ None → freeze users level frozen flow ≡ Some parts
+      → (parts ≡ level) × Contains users flow
   freeze_fresh flow parts e e' = elim (cases_Bool (is_user users flow)) [
     | inl user ↦
-        let now : freeze users level frozen flow ≡ Some level = frozen_now flow user ∙ ap (λ o. Some (unwrap_or o level)) e in
+        let now : freeze users level frozen flow ≡ Some level =
+        frozen_now flow user ∙ ap (λ o. Some (unwrap_or o level)) e in
         let same : parts ≡ level = cc in
         (same, is_user-contains users flow user)
     | inr other ↦ let same = left_alone flow other in absurd (cc)
@@ -97,30 +106,38 @@ module _ (users : List ℕ) (level : ℕ) (frozen : ℕ → Option ℕ) where
       none_of (Some x) h = refl
 
   -- so many fewer rise
-  fewer_rise : (n : ℕ) → AreDistinct users → All (λ user. user < n) users → rising_below n (freeze users level frozen) + count_by (λ flow. is_none (frozen flow)) users ≤ rising_below n frozen
+  fewer_rise : (n : ℕ) → AreDistinct users → All (λ user. user < n) users
+      → rising_below n (freeze users level frozen) + count_by (λ flow. is_none (frozen flow)) users
+      ≤ rising_below n frozen
   fewer_rise n apart among =
-      below_less n users (λ i. cond (is_none (frozen i)) 1 0) (λ i. cond (is_none (freeze users level frozen i)) 1 0) apart among still_rises
+      below_less n users (λ i. cond (is_none (frozen i)) 1 0) (λ i. cond (is_none (freeze users level frozen i)) 1 0)
+      apart among still_rises
       (All-from_contains (λ i. ◌≡◌ {A = ℕ} (cond (is_none (freeze users level frozen i)) 1 0) 0) users no_user_rises)
 
 -- ---- filling
 
 least_at : (level k left k' left' : ℕ) → 0 < k → level * k ≡ left → left * k' ≤ left' * k → level * k' ≤ left'
-least_at level k left k' left' some share le = le_of_mul-le-mul_right {k = k} (omega (arith, ap (λ n. n * k') share, le)) some
+least_at level k left k' left' some share le =
+    le_of_mul-le-mul_right {k = k} (omega (arith, ap (λ n. n * k') share, le)) some
 
 entry : (n risers k : ℕ) → risers ≤ n → k ≤ risers → n - risers + k ≡ n - (risers - k)
 entry n risers k few within = omega arith
 
 nothing_over : (n m : ℕ) → IsOver n m 0
-nothing_over n m = let e : 0 ≡ 0 * denominator_of m = omega arith in subst (λ k. denominator_of n ∣ k) e (dvd-zero (denominator_of n))
+nothing_over n m =
+    let e : 0 ≡ 0 * denominator_of m = omega arith in subst (λ k. denominator_of n ∣ k) e (dvd-zero (denominator_of n))
 
 -- after a round what each has is whole over the next denominator
 over_after : (n m m' : ℕ) (users : List ℕ) (level : ℕ) (frozen : ℕ → Option ℕ) (flow : ℕ)
-    → m ≤ m' → IsOver n m (standing frozen 0 flow) → IsOver n m' level → IsOver n m' (standing (freeze users level frozen) 0 flow)
+    → m ≤ m' → IsOver n m (standing frozen 0 flow) → IsOver n m' level
+    → IsOver n m' (standing (freeze users level frozen) 0 flow)
 over_after n m m' users level frozen flow le was now =
     let after = freeze users level frozen in
     elim (none_or_some (frozen flow)) [
       | inr (parts, e) ↦
-          let same : standing frozen 0 flow ≡ standing after 0 flow = at_some frozen 0 flow parts e ∙ sym (at_some after 0 flow parts (freeze_kept users level frozen flow parts e)) in
+          let same : standing frozen 0 flow ≡ standing after 0 flow =
+          at_some frozen 0 flow parts e
+          ∙ sym (at_some after 0 flow parts (freeze_kept users level frozen flow parts e)) in
           subst (λ a. IsOver n m' a) same (later n m m' (standing frozen 0 flow) le was)
       | inl e ↦ elim (none_or_some (after flow)) [
         | inl e' ↦ subst (λ a. IsOver n m' a) (sym (at_none after 0 flow e')) (nothing_over n m')
@@ -135,7 +152,8 @@ rising_all zero = omega arith
 rising_all (suc n) = omega (arith, rising_all n)
 
 module _ (n : ℕ) (sides : List Side) (among : HaveUsersBelow n sides) (distinct : HaveDistinctUsers sides) where
-  -- between two rounds: the state of filling, of which so many flows rise, and what each frozen flow has is whole over the denominator for the frozen ones
+  -- between two rounds: the state of filling, of which so many flows rise, and what each frozen flow has is whole over
+  -- the denominator for the frozen ones
   record IsFilling (frozen : ℕ → Option ℕ) (risers : ℕ) : Type 0 where
     level : ℕ
     filled : IsFilledTo sides (denominator_of n) frozen level
@@ -151,7 +169,9 @@ module _ (n : ℕ) (sides : List Side) (among : HaveUsersBelow n sides) (distinc
     filling : IsFilling after fewer
 
   -- the round in which the side with the least share freezes
-  round : (frozen : ℕ → Option ℕ) (risers : ℕ) (s : IsFilling frozen risers) (least : IsLeastOf (left_of (denominator_of n) frozen) (rising frozen) sides) → IsNext risers
+  round : (frozen : ℕ → Option ℕ) (risers : ℕ) (s : IsFilling frozen risers)
+      (least : IsLeastOf (left_of (denominator_of n) frozen) (rising frozen) sides)
+      → IsNext risers
   round frozen risers s least =
       let side = least.least in
       let users = side.users in
@@ -160,7 +180,9 @@ module _ (n : ℕ) (sides : List Side) (among : HaveUsersBelow n sides) (distinc
       let apart = All-contains (λ s. AreDistinct s.users) sides side distinct least.listed in
       let in_range = All-contains (λ s. All (λ user. user < n) s.users) sides side among least.listed in
       let within : k ≤ risers = omega (arith, s.count, fewer_rise users 0 frozen n apart in_range) in
-      let left_over = rest n (n - risers) (side.cap * per) (taken frozen side) (cap_over n (n - risers) side.cap) (sums n (n - risers) (standing frozen 0) users s.over) in
+      let left_over =
+      rest n (n - risers) (side.cap * per) (taken frozen side) (cap_over n (n - risers) side.cap)
+      (sums n (n - risers) (standing frozen 0) users s.over) in
       let l = level n (n - risers) k (left_of per frozen side) least.some (omega (arith, s.few)) left_over in
       let now : ℕ = l.level in
       let after = freeze users now frozen in
@@ -168,7 +190,9 @@ module _ (n : ℕ) (sides : List Side) (among : HaveUsersBelow n sides) (distinc
         listed = least.listed;
         some = least.some;
         share = l.share;
-        least = λ i d in_list. least_at now k (left_of per frozen side) (rising frozen (get_or sides i d)) (left_of per frozen (get_or sides i d)) least.some l.share (least.below i d in_list);
+        least = λ i d in_list.
+            least_at now k (left_of per frozen side) (rising frozen (get_or sides i d))
+            (left_of per frozen (get_or sides i d)) least.some l.share (least.below i d in_list);
       }) in
       record {
         after = after;
@@ -186,7 +210,8 @@ module _ (n : ℕ) (sides : List Side) (among : HaveUsersBelow n sides) (distinc
                 side = side;
                 uses = record { listed = least.listed; used = f.1 };
                 full = at.full;
-                all_frozen = All-from_contains (λ i. IsSome (after i)) users (λ i used. freeze_user users now frozen i used);
+                all_frozen =
+                    All-from_contains (λ i. IsSome (after i)) users (λ i used. freeze_user users now frozen i used);
               },
             );
           });
@@ -198,7 +223,8 @@ module _ (n : ℕ) (sides : List Side) (among : HaveUsersBelow n sides) (distinc
       }
 
   -- all are frozen
-  done : (frozen : ℕ → Option ℕ) (risers : ℕ) (s : IsFilling frozen risers) → All (λ side. rising frozen side ≡ 0) sides → IsFair sides (denominator_of n) (standing frozen 0)
+  done : (frozen : ℕ → Option ℕ) (risers : ℕ) (s : IsFilling frozen risers) → All (λ side. rising frozen side ≡ 0) sides
+      → IsFair sides (denominator_of n) (standing frozen 0)
   done frozen risers s none =
       end sides (denominator_of n) frozen s.level (positive n) s.filled
       (λ flow limited. elim (none_or_some (frozen flow)) [
@@ -209,7 +235,8 @@ module _ (n : ℕ) (sides : List Side) (among : HaveUsersBelow n sides) (distinc
             absurd (omega (arith, some, All-contains (λ s. rising frozen s ≡ 0) sides side none limited.1.listed))
       ])
 
-  fill : (fuel risers : ℕ) → risers < fuel → (frozen : ℕ → Option ℕ) → IsFilling frozen risers → (parts : ℕ → ℕ) × IsFair sides (denominator_of n) parts
+  fill : (fuel risers : ℕ) → risers < fuel → (frozen : ℕ → Option ℕ) → IsFilling frozen risers
+      → (parts : ℕ → ℕ) × IsFair sides (denominator_of n) parts
   fill zero risers enough frozen s = absurd (omega arith)
   fill (suc fuel) risers enough frozen s = elim (least_of (left_of (denominator_of n) frozen) (rising frozen) sides) [
     | inl none ↦ (standing frozen 0, done frozen risers s none)

@@ -1,6 +1,7 @@
 -- Parts over a product of small factors, brought to lowest terms factor by factor.
 use Prim.Native.Nat.{◌∣◌}
-use Rattle.std.proofs.Common.{◌≡◌, ℕ, ◌+◌, ◌*◌, ◌/◌, ◌%◌, ◌^◌, ◌<◌, List, [], ◌∷◌, ◌++◌, length, get_or, take, All, sym, ap, subst, ◌∙◌, arith}
+use Rattle.std.proofs.Common.{◌≡◌, ℕ, ◌+◌, ◌*◌, ◌/◌, ◌%◌, ◌^◌, ◌<◌, List, [], ◌∷◌, ◌++◌, length, get_or, take, All, sym}
+use Rattle.std.proofs.Common.{ap, subst, ◌∙◌, arith}
 use Rattle.std.proofs.Math.Nat.{div-mul_cancel, mul-pos, dvd-mul_right}
 use Rattle.std.proofs.lemmas.List.{take_more}
 use Rattle.std.proofs.lemmas.List.Elements.{All-head, All-tail}
@@ -10,7 +11,8 @@ use Rattle.fair_rates.specs.Numbers.Amount.{gcd, parts_over, reduced}
 use Rattle.fair_rates.specs.Numbers.Fits.{ReducedFits}
 use Rattle.fair_rates.specs.Numbers.Fraction.{IsReduced}
 use Rattle.fair_rates.specs.Numbers.Gcd.{gcd-IsGcd, gcd-pos, gcd-mod}
-use Rattle.fair_rates.specs.Numbers.LowestTerms.{coprime_parts, IsReduced-part, IsReduced-mul, IsReduced-swap, reduced_same, reduced_lowest}
+use Rattle.fair_rates.specs.Numbers.LowestTerms.{coprime_parts, IsReduced-part, IsReduced-mul, IsReduced-swap}
+use Rattle.fair_rates.specs.Numbers.LowestTerms.{reduced_same, reduced_lowest}
 use Rattle.fair_rates.proofs.Filling.Share.{quotient_positive}
 
 -- ---- products
@@ -21,11 +23,14 @@ product_push (m ∷ numbers) n = omega (arith, ap (λ k. m * k) (product_push nu
 
 pub product_positive : (numbers : List ℕ) → All (λ n. 0 < n) numbers → 0 < product numbers
 product_positive [] all = omega arith
-product_positive (n ∷ numbers) all = mul-pos (All-head (λ k. 0 < k) n numbers all) (product_positive numbers (All-tail (λ k. 0 < k) n numbers all))
+product_positive (n ∷ numbers) all =
+    mul-pos (All-head (λ k. 0 < k) n numbers all) (product_positive numbers (All-tail (λ k. 0 < k) n numbers all))
 
 -- one factor more
-pub product_next : (numbers : List ℕ) (i : ℕ) → i < length numbers → product (take (i + 1) numbers) ≡ product (take i numbers) * get_or numbers i 0
-product_next numbers i inside = ap product (take_more numbers i 0 inside) ∙ product_push (take i numbers) (get_or numbers i 0)
+pub product_next : (numbers : List ℕ) (i : ℕ) → i < length numbers
+    → product (take (i + 1) numbers) ≡ product (take i numbers) * get_or numbers i 0
+product_next numbers i inside =
+    ap product (take_more numbers i 0 inside) ∙ product_push (take i numbers) (get_or numbers i 0)
 
 -- ---- one factor
 
@@ -44,7 +49,8 @@ module _ (n d factor shared : ℕ) (some : 0 < factor) (is : shared ≡ gcd n fa
   factor_divides = subst (λ k. k ∣ factor) (sym is) (gcd-IsGcd n factor).1
 
   pub rest_positive : 0 < d → 0 < d * (factor / shared)
-  rest_positive d_pos = mul-pos d_pos (quotient_positive factor shared (factor / shared) some (div-mul_cancel shared factor_divides))
+  rest_positive d_pos =
+      mul-pos d_pos (quotient_positive factor shared (factor / shared) some (div-mul_cancel shared factor_divides))
 
   apart : IsReduced (n / shared) (factor / shared)
   apart = subst (λ k. IsReduced (n / k) (factor / k)) (sym is) (coprime_parts n factor some)
@@ -52,12 +58,16 @@ module _ (n d factor shared : ℕ) (some : 0 < factor) (is : shared ≡ gcd n fa
   -- afterwards numerator and denominator have nothing in common again
   pub lowest_next : IsReduced n d → IsReduced (n / shared) (d * (factor / shared))
   lowest_next was =
-      let part : (n / shared) ∣ n = subst (λ k. (n / shared) ∣ k) (div-mul_cancel shared numerator_divides) (dvd-mul_right (n / shared) shared) in
+      let part : (n / shared) ∣ n =
+      subst (λ k. (n / shared) ∣ k) (div-mul_cancel shared numerator_divides) (dvd-mul_right (n / shared) shared) in
       IsReduced-swap (d * (factor / shared)) (n / shared)
-      (IsReduced-mul d (factor / shared) (n / shared) (IsReduced-swap (n / shared) d (IsReduced-part n d (n / shared) d part (dvd_refl d) was)) (IsReduced-swap (n / shared) (factor / shared) apart))
+      (IsReduced-mul d (factor / shared) (n / shared)
+      (IsReduced-swap (n / shared) d (IsReduced-part n d (n / shared) d part (dvd_refl d) was))
+      (IsReduced-swap (n / shared) (factor / shared) apart))
 
   -- and the value is that of one factor more
-  pub worth_next : (parts passed : ℕ) → parts * d ≡ n * passed → parts * (d * (factor / shared)) ≡ n / shared * (passed * factor)
+  pub worth_next : (parts passed : ℕ) → parts * d ≡ n * passed
+      → parts * (d * (factor / shared)) ≡ n / shared * (passed * factor)
   worth_next parts passed worth =
       let top = div-mul_cancel shared numerator_divides in
       let bottom = div-mul_cancel shared factor_divides in
@@ -68,12 +78,17 @@ module _ (n d factor shared : ℕ) (some : 0 < factor) (is : shared ≡ gcd n fa
 -- ---- the end
 
 -- the lowest terms are what is reduced
-pub reduced_to : (parts total n d : ℕ) → 0 < total → 0 < d → parts * d ≡ n * total → IsReduced n d → reduced parts total ≡ record { num = n; den = d }
-reduced_to parts total n d total_pos d_pos worth lowest = reduced_same parts total n d total_pos d_pos worth ∙ reduced_lowest n d lowest
+pub reduced_to : (parts total n d : ℕ) → 0 < total → 0 < d → parts * d ≡ n * total → IsReduced n d
+    → reduced parts total ≡ record { num = n; den = d }
+reduced_to parts total n d total_pos d_pos worth lowest =
+    reduced_same parts total n d total_pos d_pos worth ∙ reduced_lowest n d lowest
 
-module _ (parts total n d : ℕ) (total_pos : 0 < total) (d_pos : 0 < d) (worth : parts * d ≡ n * total) (lowest : IsReduced n d) where
+module _ (parts total n d : ℕ) (total_pos : 0 < total) (d_pos : 0 < d) (worth : parts * d ≡ n * total)
+    (lowest : IsReduced n d) where
   pub large_numerator : (n < 2 ^ 128 → ⊥) → ¬ ReducedFits (parts_over total parts)
-  large_numerator large fits = large (subst (λ a. a.num < 2 ^ 128) (reduced_to parts total n d total_pos d_pos worth lowest) fits.numerator)
+  large_numerator large fits =
+      large (subst (λ a. a.num < 2 ^ 128) (reduced_to parts total n d total_pos d_pos worth lowest) fits.numerator)
 
   pub large_denominator : (d < 2 ^ 128 → ⊥) → ¬ ReducedFits (parts_over total parts)
-  large_denominator large fits = large (subst (λ a. a.den < 2 ^ 128) (reduced_to parts total n d total_pos d_pos worth lowest) fits.denominator)
+  large_denominator large fits =
+      large (subst (λ a. a.den < 2 ^ 128) (reduced_to parts total n d total_pos d_pos worth lowest) fits.denominator)

@@ -25,13 +25,16 @@ module _ (frozen : ℕ → Option ℕ) (level : ℕ) where
   at_none i e = ap (λ o. unwrap_or o level) e
 
 -- a frozen flow has the same at every level
-pub at_any : (frozen : ℕ → Option ℕ) (level other i : ℕ) → IsSome (frozen i) → at_level frozen level i ≡ at_level frozen other i
-at_any frozen level other i h = let v = some_value (frozen i) h in at_some frozen level i v.0 v.1 ∙ sym (at_some frozen other i v.0 v.1)
+pub at_any : (frozen : ℕ → Option ℕ) (level other i : ℕ) → IsSome (frozen i)
+    → at_level frozen level i ≡ at_level frozen other i
+at_any frozen level other i h =
+    let v = some_value (frozen i) h in at_some frozen level i v.0 v.1 ∙ sym (at_some frozen other i v.0 v.1)
 
 pub some_of_if : {X : Type 0} (P : X → Type 0) (o : Option X) → IfSome o P → (x : X) → o ≡ Some x → P x
 some_of_if P o h x e = let at : IfSome (Some x) P = subst (λ o. IfSome o P) e h in at
 
-pub match_some : {X : Type 0} (P : Type 0) (Q : X → Type 0) (o : Option X) → MatchOption o P Q → (x : X) → o ≡ Some x → Q x
+pub match_some : {X : Type 0} (P : Type 0) (Q : X → Type 0) (o : Option X) → MatchOption o P Q → (x : X) → o ≡ Some x
+    → Q x
 match_some P Q o h x e = let at : MatchOption (Some x) P Q = subst (λ o. MatchOption o P Q) e h in at
 
 pub match_none : {X : Type 0} (P : Type 0) (Q : X → Type 0) (o : Option X) → MatchOption o P Q → o ≡ None → P
@@ -44,7 +47,8 @@ not_some (Some x) e s = cc
 -- ---- results
 
 -- an error that stands for no value
-pub none_by : {X : Type 0} (o : Option X) (given error : Error) → ◌≡◌ {A = Result X Error} (Err given) (ok_or o error) → (given ≡ error) × (o ≡ None)
+pub none_by : {X : Type 0} (o : Option X) (given error : Error) → ◌≡◌ {A = Result X Error} (Err given) (ok_or o error)
+    → (given ≡ error) × (o ≡ None)
 none_by None given error e = (cc, refl)
 none_by (Some x) given error e = cc
 
@@ -52,7 +56,8 @@ pub if_err : {X E : Type 0} (P Q : E → Type 0) (r : Result X E) → IsErrAnd r
 if_err P Q (Ok x) h f = tt
 if_err P Q (Err e) h f = f e h
 
-pub ok_by : {X : Type 0} (o : Option X) (value : X) (error : Error) → ◌≡◌ {A = Result X Error} (Ok value) (ok_or o error) → o ≡ Some value
+pub ok_by : {X : Type 0} (o : Option X) (value : X) (error : Error)
+    → ◌≡◌ {A = Result X Error} (Ok value) (ok_or o error) → o ≡ Some value
 ok_by None value error e = cc
 ok_by (Some x) value error e = cc
 

@@ -1,5 +1,6 @@
 -- The least of the shares of some sides, if a user of one rises.
-use Rattle.std.proofs.Common.{◌≡◌, ℕ, zero, suc, ◌*◌, ◌<◌, ◌≤◌, ◌⊎◌, inl, inr, List, [], ◌∷◌, All, Contains, refl, ap, arith, le_refl}
+use Rattle.std.proofs.Common.{◌≡◌, ℕ, zero, suc, ◌*◌, ◌<◌, ◌≤◌, ◌⊎◌, inl, inr, List, [], ◌∷◌, All, Contains, refl, ap}
+use Rattle.std.proofs.Common.{arith, le_refl}
 use Rattle.std.proofs.Math.Nat.{le_of_mul-le-mul_right, mul-le-mul_right}
 use Rattle.std.proofs.lemmas.Bool.{cases_lt}
 use Rattle.std.proofs.lemmas.List.Elements.{All-nil, All-cons, All-weaker, Contains-append_left, Contains-append_right}
@@ -31,7 +32,8 @@ least_of amount count (x ∷ xs) =
           listed = here;
           some = some;
           below = All-cons (λ y. amount x * count y ≤ amount y * count x) x xs (le_refl (amount x * count x))
-              (All-weaker (λ y. count y ≡ 0) (λ y. amount x * count y ≤ amount y * count x) (λ y e. none_below (amount x) (count x) (amount y) (count y) e) xs none);
+              (All-weaker (λ y. count y ≡ 0) (λ y. amount x * count y ≤ amount y * count x)
+              (λ y e. none_below (amount x) (count x) (amount y) (count y) e) xs none);
         })
       ]
       | inr l ↦ elim (cases_lt (amount x * count l.least) (amount l.least * count x)) [
@@ -40,8 +42,11 @@ least_of amount count (x ∷ xs) =
           listed = here;
           some = positive (amount l.least) (count x) (omega arith);
           below = All-cons (λ y. amount x * count y ≤ amount y * count x) x xs (le_refl (amount x * count x))
-              (All-weaker (λ y. amount l.least * count y ≤ amount y * count l.least) (λ y. amount x * count y ≤ amount y * count x)
-              (λ y le. at_most_trans (amount x) (count x) (amount l.least) (count l.least) (amount y) (count y) l.some (omega arith) le) xs l.below);
+              (All-weaker (λ y. amount l.least * count y ≤ amount y * count l.least)
+              (λ y. amount x * count y ≤ amount y * count x)
+              (λ y le. at_most_trans (amount x) (count x) (amount l.least) (count l.least) (amount y) (count y) l.some
+              (omega arith) le)
+              xs l.below);
         })
         | inr le ↦ inr (record {
           least = l.least;

@@ -1,5 +1,7 @@
 -- The levels so far: different, rising, each of some frozen flow.
-use Rattle.std.proofs.Common.{◌≡◌, ℕ, ◌+◌, ◌-◌, ◌*◌, ◌<◌, ◌≤◌, ◌⊎◌, inl, inr, List, [], ◌∷◌, ◌++◌, length, get_or, map, set, take, All, AllPairs, Contains, Option, Some, None, IfSome, refl, sym, ap, subst, ◌∙◌, arith, length-append, get_or-set_other, get_or-set_same}
+use Rattle.std.proofs.Common.{◌≡◌, ℕ, ◌+◌, ◌-◌, ◌*◌, ◌<◌, ◌≤◌, ◌⊎◌, inl, inr, List, [], ◌∷◌, ◌++◌, length, get_or, map}
+use Rattle.std.proofs.Common.{set, take, All, AllPairs, Contains, Option, Some, None, IfSome, refl, sym, ap, subst, ◌∙◌}
+use Rattle.std.proofs.Common.{arith, length-append, get_or-set_other, get_or-set_same}
 use Rattle.std.specs.Prelude.{option_map, slice_index}
 use Rattle.std.proofs.Math.ListN.{get_or-map as get_or_map}
 use Rattle.std.proofs.Math.Nat.{mul-lt-mul_of_pos_right}
@@ -14,7 +16,8 @@ use Rattle.fair_rates.proofs.Filling.Frozen.{some_of_if}
 use Rattle.fair_rates.proofs.Filling.Growing.{AreScaled}
 
 -- a flow with a level is frozen at its parts
-pub frozen_there : (levels : List ℕ) (level_of : List (Option ℕ)) (flow place : ℕ) → level_at level_of flow ≡ Some place → frozen_at levels level_of flow ≡ Some (slice_index levels place)
+pub frozen_there : (levels : List ℕ) (level_of : List (Option ℕ)) (flow place : ℕ) → level_at level_of flow ≡ Some place
+    → frozen_at levels level_of flow ≡ Some (slice_index levels place)
 frozen_there levels level_of flow place e = ap (option_map (slice_index levels)) e
 
 -- ---- one user after another gets the level
@@ -25,7 +28,8 @@ AllThere level_of place users = All (λ flow. level_at level_of flow ≡ Some pl
 abbrev OthersStay : List (Option ℕ) → List (Option ℕ) → List ℕ → Type 0
 OthersStay before after users = (flow : ℕ) → Contains users flow ⊎ (level_at after flow ≡ level_at before flow)
 
-module _ (before mid : List (Option ℕ)) (users : List ℕ) (user place : ℕ) (inside : user < length mid) (all : AllThere mid place users) (others : OthersStay before mid users) where
+module _ (before mid : List (Option ℕ)) (users : List ℕ) (user place : ℕ) (inside : user < length mid)
+    (all : AllThere mid place users) (others : OthersStay before mid users) where
   abbrev after : List (Option ℕ)
   after = set mid user (Some place)
 
@@ -33,10 +37,12 @@ module _ (before mid : List (Option ℕ)) (users : List ℕ) (user place : ℕ) 
   there = get_or-set_same mid user (Some place) None inside
 
   all_push : AllThere after place (users ++ user ∷ [])
-  all_push = All-push (λ flow. level_at after flow ≡ Some place) users user (λ k d within. elim (cases_eq (get_or users k d) user) [
-    | inl same ↦ ap (level_at after) same ∙ there
-    | inr other ↦ get_or-set_other mid user (get_or users k d) (Some place) None other ∙ all k d within
-  ]) there
+  all_push =
+      All-push (λ flow. level_at after flow ≡ Some place) users user
+      (λ k d within. elim (cases_eq (get_or users k d) user) [
+        | inl same ↦ ap (level_at after) same ∙ there
+        | inr other ↦ get_or-set_other mid user (get_or users k d) (Some place) None other ∙ all k d within
+      ]) there
 
   others_push : OthersStay before after (users ++ user ∷ [])
   others_push flow = elim (cases_eq flow user) [
@@ -47,13 +53,18 @@ module _ (before mid : List (Option ℕ)) (users : List ℕ) (user place : ℕ) 
     ]
   ]
 
-pub levels_next : (before mid : List (Option ℕ)) (users : List ℕ) (i place : ℕ) → i < length users → get_or users i 0 < length mid → AllThere mid place (take i users) → OthersStay before mid (take i users)
-    → AllThere (set mid (get_or users i 0) (Some place)) place (take (i + 1) users) × OthersStay before (set mid (get_or users i 0) (Some place)) (take (i + 1) users)
+pub levels_next : (before mid : List (Option ℕ)) (users : List ℕ) (i place : ℕ) → i < length users
+    → get_or users i 0 < length mid → AllThere mid place (take i users) → OthersStay before mid (take i users)
+    → AllThere (set mid (get_or users i 0) (Some place)) place (take (i + 1) users)
+    × OthersStay before (set mid (get_or users i 0) (Some place)) (take (i + 1) users)
 levels_next before mid users i place inside within all others =
     let user = get_or users i 0 in
     let after = set mid user (Some place) in
     let P : List ℕ → Type 0 = λ xs. AllThere after place xs × OthersStay before after xs in
-    subst P (sym (take_more users i 0 inside)) (all_push before mid (take i users) user place within all others, others_push before mid (take i users) user place within all others)
+    subst P (sym (take_more users i 0 inside)) (
+      all_push before mid (take i users) user place within all others,
+      others_push before mid (take i users) user place within all others,
+    )
 
 -- ---- so many times the levels
 
@@ -62,31 +73,40 @@ module _ (factor : ℕ) (levels : List ℕ) where
   times parts = parts * factor
 
   pub level_scaled : (place : ℕ) → slice_index (map times levels) place ≡ slice_index levels place * factor
-  level_scaled place = let zero : 0 * factor ≡ 0 = omega arith in ap (get_or (map times levels) place) (sym zero) ∙ get_or_map times levels place 0
+  level_scaled place =
+      let zero : 0 * factor ≡ 0 = omega arith in
+      ap (get_or (map times levels) place) (sym zero) ∙ get_or_map times levels place 0
 
   pub top_scaled : top (map times levels) ≡ top levels * factor
-  top_scaled = ap (λ n. slice_index (map times levels) (n - 1)) (length-map levels times) ∙ level_scaled (length levels - 1)
+  top_scaled =
+      ap (λ n. slice_index (map times levels) (n - 1)) (length-map levels times) ∙ level_scaled (length levels - 1)
 
   pub rising_scaled : 0 < factor → AllPairs (λ a b. a < b) levels → AllPairs (λ a b. a < b) (map times levels)
   rising_scaled some rising i j d less inside =
       let within : j < length levels = omega (arith, inside, length-map levels times) in
-      let first : get_or (map times levels) i d ≡ get_or levels i 0 * factor = get_or-map times levels i 0 d (omega (arith, less, within)) in
+      let first : get_or (map times levels) i d ≡ get_or levels i 0 * factor =
+      get_or-map times levels i 0 d (omega (arith, less, within)) in
       let second : get_or (map times levels) j d ≡ get_or levels j 0 * factor = get_or-map times levels j 0 d within in
-      let lt : get_or levels i 0 * factor < get_or levels j 0 * factor = mul-lt-mul_of_pos_right (rising i j 0 less within) some in
+      let lt : get_or levels i 0 * factor < get_or levels j 0 * factor =
+      mul-lt-mul_of_pos_right (rising i j 0 less within) some in
       omega (arith, first, second, lt)
 
-  frozen_scaled_at : (o : Option ℕ) → option_map (slice_index (map times levels)) o ≡ option_map times (option_map (slice_index levels) o)
+  frozen_scaled_at : (o : Option ℕ)
+      → option_map (slice_index (map times levels)) o ≡ option_map times (option_map (slice_index levels) o)
   frozen_scaled_at None = refl
   frozen_scaled_at (Some place) = ap Some (level_scaled place)
 
-  pub frozen_scaled : (level_of : List (Option ℕ)) → AreScaled factor (frozen_at levels level_of) (frozen_at (map times levels) level_of)
+  pub frozen_scaled : (level_of : List (Option ℕ))
+      → AreScaled factor (frozen_at levels level_of) (frozen_at (map times levels) level_of)
   frozen_scaled level_of = record { each = λ flow. frozen_scaled_at (level_at level_of flow) }
 
   pub inside_scaled : (level_of : List (Option ℕ)) → AreInside levels level_of → AreInside (map times levels) level_of
   inside_scaled level_of inside =
-      All-weaker (λ level. IfSome level (λ place. place < length levels)) (λ level. IfSome level (λ place. place < length (map times levels))) more level_of inside
+      All-weaker (λ level. IfSome level (λ place. place < length levels))
+      (λ level. IfSome level (λ place. place < length (map times levels))) more level_of inside
     where
-      more : (o : Option ℕ) → IfSome o (λ place. place < length levels) → IfSome o (λ place. place < length (map times levels))
+      more : (o : Option ℕ) → IfSome o (λ place. place < length levels)
+          → IfSome o (λ place. place < length (map times levels))
       more None h = tt
       more (Some place) h = omega (arith, h, length-map levels times)
 
@@ -103,12 +123,21 @@ below_top levels rising = λ k d inside. elim (cases_lt k (length levels - 1)) [
       omega (arith, get_or_default levels k d 0 inside, ap (λ n. get_or levels n 0) same)
 ]
 
-module _ (users : List ℕ) (levels after : List ℕ) (level_of later : List (Option ℕ)) (level : ℕ) (raised : IsRaised levels after level) (at_top : AreAtTop users level_of later after) where
+module _ (users : List ℕ) (levels after : List ℕ) (level_of later : List (Option ℕ)) (level : ℕ)
+    (raised : IsRaised levels after level) (at_top : AreAtTop users level_of later after) where
   longer : length levels ≤ length after
-  longer = elim raised.same_or_new [ inl same ↦ omega (arith, ap length same) | inr new ↦ omega (arith, ap length new.0, length-append {A = ℕ} levels (level ∷ [])) ]
+  longer =
+      elim raised.same_or_new [
+        | inl same ↦ omega (arith, ap length same)
+        | inr new ↦ omega (arith, ap length new.0, length-append {A = ℕ} levels (level ∷ []))
+      ]
 
   pub few_more : length after ≤ length levels + 1
-  few_more = elim raised.same_or_new [ inl same ↦ omega (arith, ap length same) | inr new ↦ omega (arith, ap length new.0, length-append {A = ℕ} levels (level ∷ [])) ]
+  few_more =
+      elim raised.same_or_new [
+        | inl same ↦ omega (arith, ap length same)
+        | inr new ↦ omega (arith, ap length new.0, length-append {A = ℕ} levels (level ∷ []))
+      ]
 
   same_level : (place : ℕ) → place < length levels → slice_index after place ≡ slice_index levels place
   same_level place inside = elim raised.same_or_new [
@@ -116,23 +145,34 @@ module _ (users : List ℕ) (levels after : List ℕ) (level_of later : List (Op
     | inr new ↦ ap (λ xs. slice_index xs place) new.0 ∙ get_or_append_left levels (level ∷ []) 0 place inside
   ]
 
-  same_frozen : (inside : AreInside levels level_of) (flow : ℕ) (o : Option ℕ) → level_at level_of flow ≡ o → level_at later flow ≡ level_at level_of flow
+  same_frozen : (inside : AreInside levels level_of) (flow : ℕ) (o : Option ℕ) → level_at level_of flow ≡ o
+      → level_at later flow ≡ level_at level_of flow
       → frozen_at after later flow ≡ frozen_at levels level_of flow
-  same_frozen inside flow None e same = ap (option_map (slice_index after)) (same ∙ e) ∙ sym (ap (option_map (slice_index levels)) e)
+  same_frozen inside flow None e same =
+      ap (option_map (slice_index after)) (same ∙ e) ∙ sym (ap (option_map (slice_index levels)) e)
   same_frozen inside flow (Some place) e same =
-      let within : flow < length level_of = elim (cases_lt flow (length level_of)) [ inl lt ↦ lt | inr past ↦ let none = get_or_past level_of flow None past in absurd (cc) ] in
-      let some : place < length levels = some_of_if (λ k. k < length levels) (level_at level_of flow) (inside flow None within) place e in
-      ap (option_map (slice_index after)) (same ∙ e) ∙ ap Some (same_level place some) ∙ sym (ap (option_map (slice_index levels)) e)
+      let within : flow < length level_of =
+      elim (cases_lt flow (length level_of))
+      [ inl lt ↦ lt | inr past ↦ let none = get_or_past level_of flow None past in absurd (cc) ] in
+      let some : place < length levels =
+      some_of_if (λ k. k < length levels) (level_at level_of flow) (inside flow None within) place e in
+      ap (option_map (slice_index after)) (same ∙ e) ∙ ap Some (same_level place some)
+      ∙ sym (ap (option_map (slice_index levels)) e)
 
   -- the users are frozen at the level, and the others as they were
   pub freezes : AreInside levels level_of → Freezes users (frozen_at levels level_of) (frozen_at after later) level
   freezes inside = record {
-    all = All-weaker (λ flow. level_at later flow ≡ Some (length after - 1)) (λ flow. frozen_at after later flow ≡ Some level)
+    all =
+        All-weaker (λ flow. level_at later flow ≡ Some (length after - 1))
+        (λ flow. frozen_at after later flow ≡ Some level)
         (λ flow e. ap (option_map (slice_index after)) e ∙ ap Some raised.last) users at_top.all;
-    others = λ flow. elim (at_top.others flow) [ inl used ↦ inl used | inr same ↦ inr (same_frozen inside flow (level_at level_of flow) refl same) ];
+    others = λ flow.
+        elim (at_top.others flow)
+        [ inl used ↦ inl used | inr same ↦ inr (same_frozen inside flow (level_at level_of flow) refl same) ];
   }
 
-  inside_at : (inside : AreInside levels level_of) (flow : ℕ) → flow < length level_of → (o : Option ℕ) → level_at later flow ≡ o → IfSome o (λ place. place < length after)
+  inside_at : (inside : AreInside levels level_of) (flow : ℕ) → flow < length level_of → (o : Option ℕ)
+      → level_at later flow ≡ o → IfSome o (λ place. place < length after)
   inside_at inside flow within None e = tt
   inside_at inside flow within (Some place) e = elim (at_top.others flow) [
     | inl used ↦
@@ -140,26 +180,37 @@ module _ (users : List ℕ) (levels after : List ℕ) (level_of later : List (Op
         let same : length after - 1 ≡ place = cc in
         omega (arith, same, raised.some)
     | inr same ↦ let was : level_at level_of flow ≡ Some place = sym same ∙ e in
-        omega (arith, longer, some_of_if (λ k. k < length levels) (level_at level_of flow) (inside flow None within) place was)
+        omega (
+          arith,
+          longer,
+          some_of_if (λ k. k < length levels) (level_at level_of flow) (inside flow None within) place was,
+        )
   ]
 
   pub inside_on : AreInside levels level_of → AreInside after later
   inside_on inside k d within =
       let here : k < length level_of = omega (arith, within, at_top.one_each) in
-      subst (λ o. IfSome o (λ place. place < length after)) (get_or_default later k None d within) (inside_at inside k here (level_at later k) refl)
+      subst (λ o. IfSome o (λ place. place < length after)) (get_or_default later k None d within)
+      (inside_at inside k here (level_at later k) refl)
 
   pub rising_on : top levels ≤ level → AllPairs (λ a b. a < b) levels → AllPairs (λ a b. a < b) after
   rising_on no_lower rising = elim raised.same_or_new [
     | inl same ↦ subst (AllPairs (λ a b. a < b)) (sym same) rising
-    | inr new ↦ subst (AllPairs (λ a b. a < b)) (sym new.0) (all_pairs_push (λ a b. a < b) levels level rising (λ k d inside. elim new.1 [
-      | inl none ↦ absurd (omega (arith, inside, ap length none))
-      | inr other ↦
-          let le = below_top levels rising k d inside in
-          elim (cases_lt (top levels) level) [ inl lt ↦ omega (arith, le, lt) | inr ge ↦ let same : top levels ≡ level = omega (arith, ge, no_lower) in absurd (other same) ]
-    ]))
+    | inr new ↦ subst (AllPairs (λ a b. a < b)) (sym new.0)
+        (all_pairs_push (λ a b. a < b) levels level rising (λ k d inside. elim new.1 [
+          | inl none ↦ absurd (omega (arith, inside, ap length none))
+          | inr other ↦
+              let le = below_top levels rising k d inside in
+              elim (cases_lt (top levels) level) [
+                | inl lt ↦ omega (arith, le, lt)
+                | inr ge ↦ let same : top levels ≡ level = omega (arith, ge, no_lower) in
+                    absurd (other same)
+              ]
+        ]))
   ]
 
-  pub reached_on : ((flow : ℕ) → Contains users flow → level_at level_of flow ≡ None) → 0 < length users → ((place : ℕ) → place < length levels → (flow : ℕ) × (level_at level_of flow ≡ Some place))
+  pub reached_on : ((flow : ℕ) → Contains users flow → level_at level_of flow ≡ None) → 0 < length users
+      → ((place : ℕ) → place < length levels → (flow : ℕ) × (level_at level_of flow ≡ Some place))
       → (place : ℕ) → place < length after → (flow : ℕ) × (level_at later flow ≡ Some place)
   reached_on rise some reached place within = elim (cases_lt place (length levels)) [
     | inl before ↦

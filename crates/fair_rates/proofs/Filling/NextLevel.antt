@@ -1,5 +1,6 @@
 -- Over parts, the least of what the sides have left for each of their rising users is the next level.
-use Rattle.std.proofs.Common.{◌≡◌, ℕ, ◌+◌, ◌-◌, ◌*◌, ◌<◌, ◌≤◌, cond, List, [], ◌∷◌, All, Contains, sum_by, count_by, ap, ◌∙◌, arith, le_of_mul-le-mul_right, Option, Some, None, is_none}
+use Rattle.std.proofs.Common.{◌≡◌, ℕ, ◌+◌, ◌-◌, ◌*◌, ◌<◌, ◌≤◌, cond, List, [], ◌∷◌, All, Contains, sum_by, count_by, ap}
+use Rattle.std.proofs.Common.{◌∙◌, arith, le_of_mul-le-mul_right, Option, Some, None, is_none}
 use Rattle.std.specs.Prelude.{unwrap_or}
 use Rattle.std.proofs.lemmas.List.Elements.{All-contains}
 use Rattle.std.proofs.lemmas.List.Sums.{sum_by-cons}
@@ -26,14 +27,23 @@ one_flow : (o : Option ℕ) (level : ℕ) → unwrap_or o level ≡ unwrap_or o 
 one_flow None level = omega arith
 one_flow (Some parts) level = omega arith
 
-all_flows : (frozen : ℕ → Option ℕ) (level : ℕ) (xs : List ℕ) → sum_by (standing frozen level) xs ≡ sum_by (standing frozen 0) xs + level * count_by (λ x. is_none (frozen x)) xs
+all_flows : (frozen : ℕ → Option ℕ) (level : ℕ) (xs : List ℕ)
+    → sum_by (standing frozen level) xs ≡ sum_by (standing frozen 0) xs + level * count_by (λ x. is_none (frozen x)) xs
 all_flows frozen level [] = omega arith
 all_flows frozen level (x ∷ xs) =
     let count = ap (λ n. level * n) (sum_by-cons (λ y. cond (is_none (frozen y)) 1 0) x xs) in
-    omega (arith, one_flow (frozen x) level, count, all_flows frozen level xs, sum_by-cons (standing frozen level) x xs, sum_by-cons (standing frozen 0) x xs)
+    omega (
+      arith,
+      one_flow (frozen x) level,
+      count,
+      all_flows frozen level xs,
+      sum_by-cons (standing frozen level) x xs,
+      sum_by-cons (standing frozen 0) x xs,
+    )
 
 -- what a side carries at a level
-load_at : (frozen : ℕ → Option ℕ) (level : ℕ) (side : Side) → load (standing frozen level) side ≡ taken frozen side + level * rising frozen side
+load_at : (frozen : ℕ → Option ℕ) (level : ℕ) (side : Side)
+    → load (standing frozen level) side ≡ taken frozen side + level * rising frozen side
 load_at frozen level side = all_flows frozen level side.users
 
 -- of the sides with rising users this one has the least left for each of them, which is `level`
@@ -44,21 +54,30 @@ pub record HasLeast (sides : List Side) (per : ℕ) (frozen : ℕ → Option ℕ
   pub least : All (λ other. level * rising frozen other ≤ left_of per frozen other) sides
 
 -- the level is within the caps, is no lower than before, and fills that side
-pub record IsNextLevel (sides : List Side) (per : ℕ) (frozen : ℕ → Option ℕ) (before : ℕ) (side : Side) (level : ℕ) : Type 0 where
+pub record IsNextLevel (sides : List Side) (per : ℕ) (frozen : ℕ → Option ℕ) (before : ℕ) (side : Side)
+    (level : ℕ) : Type 0 where
   pub raised : before ≤ level
   pub within : IsWithinCaps sides per (standing frozen level)
   pub full : load (standing frozen level) side ≡ side.cap * per
 
 pub least_is_next : (sides : List Side) (per : ℕ) (frozen : ℕ → Option ℕ) (before : ℕ) (side : Side) (level : ℕ)
-    → IsWithinCaps sides per (standing frozen before) → HasLeast sides per frozen side level → IsNextLevel sides per frozen before side level
+    → IsWithinCaps sides per (standing frozen before) → HasLeast sides per frozen side level
+    → IsNextLevel sides per frozen before side level
 least_is_next sides per frozen before side level was least =
     let here = within_at side least.listed in
     record {
       raised = le_of_mul-le-mul_right {k = rising frozen side} (omega (arith, here, least.share)) least.some;
       within = All-from_contains (λ s. load (standing frozen level) s ≤ s.cap * per) sides (λ s listed.
-          rw (load_at frozen level s) (omega (arith, within_at s listed, All-contains (λ o. level * rising frozen o ≤ left_of per frozen o) sides s least.least listed)));
+          rw (load_at frozen level s)
+          (omega (
+            arith,
+            within_at s listed,
+            All-contains (λ o. level * rising frozen o ≤ left_of per frozen o) sides s least.least listed,
+          )));
       full = load_at frozen level side ∙ omega (arith, here, least.share);
     }
   where
     within_at : (s : Side) → Contains sides s → taken frozen s + before * rising frozen s ≤ s.cap * per
-    within_at s listed = rw (load_at frozen before s) at (All-contains (λ s. load (standing frozen before) s ≤ s.cap * per) sides s was listed)
+    within_at s listed =
+        rw (load_at frozen before s) at
+        (All-contains (λ s. load (standing frozen before) s ≤ s.cap * per) sides s was listed)

@@ -1,5 +1,6 @@
 -- The queue of open sides, as the one with the least share is taken out and another put in.
-use Rattle.std.proofs.Common.{◌≡◌, ℕ, ◌*◌, ◌<◌, ◌≤◌, ◌⊎◌, inl, inr, List, [], ◌∷◌, ◌++◌, length, map, All, Contains, Option, refl, sym, subst, arith}
+use Rattle.std.proofs.Common.{◌≡◌, ℕ, ◌*◌, ◌<◌, ◌≤◌, ◌⊎◌, inl, inr, List, [], ◌∷◌, ◌++◌, length, map, All, Contains}
+use Rattle.std.proofs.Common.{Option, refl, sym, subst, arith}
 use Rattle.std.specs.Prelude.{IsPermutation}
 use Rattle.std.specs.BinaryHeap.{IsUpperBound, IsHeap}
 use Rattle.std.specs.Cmp.{nat_cmp_is}
@@ -9,11 +10,14 @@ use Rattle.std.specs.declared.cmp.Reverse.{Reverse}
 use Rattle.std.specs.Prelude.{false}
 use Rattle.std.proofs.lemmas.Bool.{cases_lt}
 use Rattle.std.proofs.lemmas.List.{map_push}
-use Rattle.std.proofs.lemmas.List.Elements.{All-nil, All-head, All-tail, All-cons, All-push, All-from_recursion, All-weaker, All-contains, Contains-append_left, Contains-append_right, Contains-append_cases, Contains-push, Contains-push_cases}
+use Rattle.std.proofs.lemmas.List.Elements.{All-nil, All-head, All-tail, All-cons, All-push, All-from_recursion}
+use Rattle.std.proofs.lemmas.List.Elements.{All-weaker, All-contains, Contains-append_left, Contains-append_right}
+use Rattle.std.proofs.lemmas.List.Elements.{Contains-append_cases, Contains-push, Contains-push_cases}
 use Rattle.std.proofs.lemmas.List.Sorted.{All-permutation, Contains-permutation}
 use Rattle.fair_rates.specs.Sides.SideOf.{side_of}
 use Rattle.fair_rates.specs.Fairness.Fair.{Side}
-use Rattle.fair_rates.specs.Filling.States.{AllFrozen, KeepsAccount, IsOpen, IsCovered, IsQueue, IsShareQueue, HaveNoMore, AreAbove, IsWithinSlack, AllFilled, AreOpened, queue_cmp}
+use Rattle.fair_rates.specs.Filling.States.{AllFrozen, KeepsAccount, IsOpen, IsCovered, IsQueue, IsShareQueue}
+use Rattle.fair_rates.specs.Filling.States.{HaveNoMore, AreAbove, IsWithinSlack, AllFilled, AreOpened, queue_cmp}
 use Rattle.fair_rates.specs.declared.bandwidth.filling.open.OpenSide.{OpenSide}
 use Rattle.fair_rates.specs.declared.bandwidth.sides.Side as declared
 use Rattle.fair_rates.proofs.Filling.Account.{account_start}
@@ -24,7 +28,8 @@ use Rattle.fair_rates.proofs.Lists.SumOrder.{All-from_contains}
 pub first_or_later : {X : Type 0} (x y : X) (rest : List X) → Contains (x ∷ rest) y → (x ≡ y) ⊎ Contains rest y
 first_or_later x y rest c = elim (Contains-append_cases (x ∷ []) rest y c) [
   | inr later ↦ inr later
-  | inl here ↦ elim (Contains-push_cases [] x y here) [ inr same ↦ inl same | inl none ↦ absurd (let h = none.1 in omega arith) ]
+  | inl here ↦ elim (Contains-push_cases [] x y here)
+      [ inr same ↦ inl same | inl none ↦ absurd (let h = none.1 in omega arith) ]
 ]
 
 pub is_first : {X : Type 0} (x : X) (rest : List X) → Contains (x ∷ rest) x
@@ -48,43 +53,63 @@ not_less a b e = elim (cases_lt a b) [
 pub least_first : (x : Reverse OpenSide) (rest : List (Reverse OpenSide)) → IsUpperBound queue_cmp x rest
     → All (λ o. x.0.slack * length o.0.rising.items ≤ o.0.slack * length x.0.rising.items) rest
 least_first x rest upper =
-    All-weaker (λ o. is_lt (queue_cmp x o) ≡ false) (λ o. x.0.slack * length o.0.rising.items ≤ o.0.slack * length x.0.rising.items)
-    (λ o e. not_less (o.0.slack * length x.0.rising.items) (x.0.slack * length o.0.rising.items) e) rest (All-from_recursion (λ o. is_lt (queue_cmp x o) ≡ false) rest upper)
+    All-weaker (λ o. is_lt (queue_cmp x o) ≡ false)
+    (λ o. x.0.slack * length o.0.rising.items ≤ o.0.slack * length x.0.rising.items)
+    (λ o e. not_less (o.0.slack * length x.0.rising.items) (x.0.slack * length o.0.rising.items) e) rest
+    (All-from_recursion (λ o. is_lt (queue_cmp x o) ≡ false) rest upper)
 
 -- ---- accounts
 
 module _ (scale : ℕ) (frozen : ℕ → Option ℕ) where
   -- the side is covered by whatever has that open side
-  pub covered_by : (xs ys : List (Reverse OpenSide)) (side : Side) → ((o : Reverse OpenSide) → Contains xs o → Contains ys o) → IsCovered scale frozen xs side → IsCovered scale frozen ys side
+  pub covered_by : (xs ys : List (Reverse OpenSide)) (side : Side)
+      → ((o : Reverse OpenSide) → Contains xs o → Contains ys o) → IsCovered scale frozen xs side
+      → IsCovered scale frozen ys side
   covered_by xs ys side more (inl all) = inl all
   covered_by xs ys side more (inr (o, c, account)) = inr (o, more o c, account)
 
   module _ (sides : List Side) where
-    pub queue_permuted : (xs ys : List (Reverse OpenSide)) → IsPermutation xs ys → IsQueue sides scale frozen xs → IsQueue sides scale frozen ys
+    pub queue_permuted : (xs ys : List (Reverse OpenSide)) → IsPermutation xs ys → IsQueue sides scale frozen xs
+        → IsQueue sides scale frozen ys
     queue_permuted xs ys perm queue = record {
       each = All-permutation (IsOpen sides scale frozen) xs ys perm queue.each;
-      covered = All-weaker (IsCovered scale frozen xs) (IsCovered scale frozen ys) (λ side. covered_by xs ys side (λ o. Contains-permutation xs ys o perm)) sides queue.covered;
+      covered =
+          All-weaker (IsCovered scale frozen xs) (IsCovered scale frozen ys)
+          (λ side. covered_by xs ys side (λ o. Contains-permutation xs ys o perm)) sides queue.covered;
     }
 
     -- the first open side has counted more
-    pub queue_counted : (x new : Reverse OpenSide) (rest : List (Reverse OpenSide)) → ((side : Side) → KeepsAccount side scale frozen x.0.slack x.0.rising.items
-        → KeepsAccount side scale frozen new.0.slack new.0.rising.items) → IsQueue sides scale frozen (x ∷ rest) → IsQueue sides scale frozen (new ∷ rest)
+    pub queue_counted : (x new : Reverse OpenSide) (rest : List (Reverse OpenSide))
+        → ((side : Side) → KeepsAccount side scale frozen x.0.slack x.0.rising.items
+        → KeepsAccount side scale frozen new.0.slack new.0.rising.items) → IsQueue sides scale frozen (x ∷ rest)
+        → IsQueue sides scale frozen (new ∷ rest)
     queue_counted x new rest keeps queue =
         let first = All-head (IsOpen sides scale frozen) x rest queue.each in
         record {
-          each = All-cons (IsOpen sides scale frozen) new rest (first.0, first.1, keeps first.0 first.2) (All-tail (IsOpen sides scale frozen) x rest queue.each);
-          covered = All-weaker (IsCovered scale frozen (x ∷ rest)) (IsCovered scale frozen (new ∷ rest)) again sides queue.covered;
+          each =
+              All-cons (IsOpen sides scale frozen) new rest (first.0, first.1, keeps first.0 first.2)
+              (All-tail (IsOpen sides scale frozen) x rest queue.each);
+          covered =
+              All-weaker (IsCovered scale frozen (x ∷ rest)) (IsCovered scale frozen (new ∷ rest)) again sides
+              queue.covered;
         }
       where
         again : (side : Side) → IsCovered scale frozen (x ∷ rest) side → IsCovered scale frozen (new ∷ rest) side
         again side (inl all) = inl all
         again side (inr (o, c, account)) = elim (first_or_later x o rest c) [
-          | inl same ↦ inr (new, is_first new rest, keeps side (subst (λ (p : Reverse OpenSide). KeepsAccount side scale frozen p.0.slack p.0.rising.items) (sym same) account))
+          | inl same ↦ inr (
+            new,
+            is_first new rest,
+            keeps side
+                (subst (λ (p : Reverse OpenSide). KeepsAccount side scale frozen p.0.slack p.0.rising.items) (sym same)
+                account),
+          )
           | inr later ↦ inr (o, is_later new o rest later, account)
         ]
 
     -- all users of the first are frozen
-    pub queue_filled : (x : Reverse OpenSide) (rest : List (Reverse OpenSide)) → ((side : Side) → KeepsAccount side scale frozen x.0.slack x.0.rising.items → AllFrozen frozen side.users)
+    pub queue_filled : (x : Reverse OpenSide) (rest : List (Reverse OpenSide))
+        → ((side : Side) → KeepsAccount side scale frozen x.0.slack x.0.rising.items → AllFrozen frozen side.users)
         → IsQueue sides scale frozen (x ∷ rest) → IsQueue sides scale frozen rest
     queue_filled x rest all queue = record {
       each = All-tail (IsOpen sides scale frozen) x rest queue.each;
@@ -94,13 +119,18 @@ module _ (scale : ℕ) (frozen : ℕ → Option ℕ) where
         again : (side : Side) → IsCovered scale frozen (x ∷ rest) side → IsCovered scale frozen rest side
         again side (inl frozen_all) = inl frozen_all
         again side (inr (o, c, account)) = elim (first_or_later x o rest c) [
-          | inl same ↦ inl (all side (subst (λ (p : Reverse OpenSide). KeepsAccount side scale frozen p.0.slack p.0.rising.items) (sym same) account))
+          | inl same ↦ inl
+              (all side
+              (subst (λ (p : Reverse OpenSide). KeepsAccount side scale frozen p.0.slack p.0.rising.items) (sym same)
+              account))
           | inr later ↦ inr (o, later, account)
         ]
 
     -- no open side is left
-    pub all_filled : (opens : List (Reverse OpenSide)) → length opens ≡ 0 → IsQueue sides scale frozen opens → AllFilled sides frozen
-    all_filled opens none queue = All-weaker (IsCovered scale frozen opens) (λ side. AllFrozen frozen side.users) only sides queue.covered
+    pub all_filled : (opens : List (Reverse OpenSide)) → length opens ≡ 0 → IsQueue sides scale frozen opens
+        → AllFilled sides frozen
+    all_filled opens none queue =
+        All-weaker (IsCovered scale frozen opens) (λ side. AllFrozen frozen side.users) only sides queue.covered
       where
         only : (side : Side) → IsCovered scale frozen opens side → AllFrozen frozen side.users
         only side (inl all) = all
@@ -108,47 +138,66 @@ module _ (scale : ℕ) (frozen : ℕ → Option ℕ) where
 
     -- ---- one side more
 
-    listed_more : (side : Side) (o : Reverse OpenSide) → IsOpen sides scale frozen o → IsOpen (sides ++ side ∷ []) scale frozen o
+    listed_more : (side : Side) (o : Reverse OpenSide) → IsOpen sides scale frozen o
+        → IsOpen (sides ++ side ∷ []) scale frozen o
     listed_more side o (other, listed, account) = (other, Contains-append_left sides (side ∷ []) other listed, account)
 
-    pub queue_more : (side : Side) (x : Reverse OpenSide) (opens : List (Reverse OpenSide)) → KeepsAccount side scale frozen x.0.slack x.0.rising.items → IsQueue sides scale frozen opens
+    pub queue_more : (side : Side) (x : Reverse OpenSide) (opens : List (Reverse OpenSide))
+        → KeepsAccount side scale frozen x.0.slack x.0.rising.items → IsQueue sides scale frozen opens
         → IsQueue (sides ++ side ∷ []) scale frozen (x ∷ opens)
     queue_more side x opens account queue = record {
       each = All-cons (IsOpen (sides ++ side ∷ []) scale frozen) x opens (side, Contains-push sides side, account)
-          (All-weaker (IsOpen sides scale frozen) (IsOpen (sides ++ side ∷ []) scale frozen) (listed_more side) opens queue.each);
+          (All-weaker (IsOpen sides scale frozen) (IsOpen (sides ++ side ∷ []) scale frozen) (listed_more side) opens
+          queue.each);
       covered = All-push (IsCovered scale frozen (x ∷ opens)) sides side
-          (All-weaker (IsCovered scale frozen opens) (IsCovered scale frozen (x ∷ opens)) (λ other. covered_by opens (x ∷ opens) other (λ o. is_later x o opens)) sides queue.covered)
+          (All-weaker (IsCovered scale frozen opens) (IsCovered scale frozen (x ∷ opens))
+          (λ other. covered_by opens (x ∷ opens) other (λ o. is_later x o opens)) sides queue.covered)
           (inr (x, is_first x opens, account));
     }
 
-    pub queue_without : (side : Side) (opens : List (Reverse OpenSide)) → length side.users ≡ 0 → IsQueue sides scale frozen opens → IsQueue (sides ++ side ∷ []) scale frozen opens
+    pub queue_without : (side : Side) (opens : List (Reverse OpenSide)) → length side.users ≡ 0
+        → IsQueue sides scale frozen opens → IsQueue (sides ++ side ∷ []) scale frozen opens
     queue_without side opens none queue = record {
-      each = All-weaker (IsOpen sides scale frozen) (IsOpen (sides ++ side ∷ []) scale frozen) (listed_more side) opens queue.each;
-      covered = All-push (IsCovered scale frozen opens) sides side queue.covered (inl (λ k d inside. absurd (omega (arith, none, inside))));
+      each =
+          All-weaker (IsOpen sides scale frozen) (IsOpen (sides ++ side ∷ []) scale frozen) (listed_more side) opens
+          queue.each;
+      covered =
+          All-push (IsCovered scale frozen opens) sides side queue.covered
+          (inl (λ k d inside. absurd (omega (arith, none, inside))));
     }
 
 -- ---- what the code sees
 
 module _ (flows : ℕ) (frozen : ℕ → Option ℕ) where
-  pub sound_popped : (xs rest : List (Reverse OpenSide)) (x : Reverse OpenSide) → IsPermutation xs (x ∷ rest) → IsHeap queue_cmp rest → IsShareQueue flows frozen xs → IsShareQueue flows frozen rest
+  pub sound_popped : (xs rest : List (Reverse OpenSide)) (x : Reverse OpenSide) → IsPermutation xs (x ∷ rest)
+      → IsHeap queue_cmp rest → IsShareQueue flows frozen xs → IsShareQueue flows frozen rest
   sound_popped xs rest x perm order sound = record {
-    users = All-tail (λ o. All (λ flow. flow < flows) o.0.rising.items) x rest (All-permutation (λ o. All (λ flow. flow < flows) o.0.rising.items) xs (x ∷ rest) perm sound.users);
-    no_more = All-tail (λ o. HaveNoMore frozen o.0.slack o.0.rising.items) x rest (All-permutation (λ o. HaveNoMore frozen o.0.slack o.0.rising.items) xs (x ∷ rest) perm sound.no_more);
+    users =
+        All-tail (λ o. All (λ flow. flow < flows) o.0.rising.items) x rest
+        (All-permutation (λ o. All (λ flow. flow < flows) o.0.rising.items) xs (x ∷ rest) perm sound.users);
+    no_more =
+        All-tail (λ o. HaveNoMore frozen o.0.slack o.0.rising.items) x rest
+        (All-permutation (λ o. HaveNoMore frozen o.0.slack o.0.rising.items) xs (x ∷ rest) perm sound.no_more);
     order = order;
   }
 
-  pub sound_pushed : (rest xs : List (Reverse OpenSide)) (x : Reverse OpenSide) → IsPermutation (x ∷ rest) xs → IsHeap queue_cmp xs → All (λ flow. flow < flows) x.0.rising.items
+  pub sound_pushed : (rest xs : List (Reverse OpenSide)) (x : Reverse OpenSide) → IsPermutation (x ∷ rest) xs
+      → IsHeap queue_cmp xs → All (λ flow. flow < flows) x.0.rising.items
       → HaveNoMore frozen x.0.slack x.0.rising.items → IsShareQueue flows frozen rest → IsShareQueue flows frozen xs
   sound_pushed rest xs x perm order users no_more sound = record {
-    users = All-permutation (λ o. All (λ flow. flow < flows) o.0.rising.items) (x ∷ rest) xs perm (All-cons (λ o. All (λ flow. flow < flows) o.0.rising.items) x rest users sound.users);
+    users =
+        All-permutation (λ o. All (λ flow. flow < flows) o.0.rising.items) (x ∷ rest) xs perm
+        (All-cons (λ o. All (λ flow. flow < flows) o.0.rising.items) x rest users sound.users);
     no_more = All-permutation (λ o. HaveNoMore frozen o.0.slack o.0.rising.items) (x ∷ rest) xs perm
         (All-cons (λ o. HaveNoMore frozen o.0.slack o.0.rising.items) x rest no_more sound.no_more);
     order = order;
   }
 
 -- what is within the share of the first and of the rest
-pub above_counted : (parts : ℕ) (xs rest : List (Reverse OpenSide)) (x new : Reverse OpenSide) → IsPermutation xs (x ∷ rest)
-    → (IsWithinSlack parts x.0.slack x.0.rising.items → IsWithinSlack parts new.0.slack new.0.rising.items) → AreAbove parts xs → AreAbove parts (new ∷ rest)
+pub above_counted : (parts : ℕ) (xs rest : List (Reverse OpenSide)) (x new : Reverse OpenSide)
+    → IsPermutation xs (x ∷ rest)
+    → (IsWithinSlack parts x.0.slack x.0.rising.items → IsWithinSlack parts new.0.slack new.0.rising.items)
+    → AreAbove parts xs → AreAbove parts (new ∷ rest)
 above_counted parts xs rest x new perm no_lower above =
     let P : Reverse OpenSide → Type 0 = λ o. IsWithinSlack parts o.0.slack o.0.rising.items in
     let all : All P (x ∷ rest) = All-permutation P xs (x ∷ rest) perm above in
@@ -162,20 +211,26 @@ opened_none scale = record {
   users = λ flows all. All-nil (λ o. All (λ flow. flow < flows) o.0.rising.items);
 }
 
-module _ (scale : ℕ) (sides : List declared.Side) (side : declared.Side) (opens : List (Reverse OpenSide)) (was : AreOpened scale sides opens) where
+module _ (scale : ℕ) (sides : List declared.Side) (side : declared.Side) (opens : List (Reverse OpenSide))
+    (was : AreOpened scale sides opens) where
   -- one that counts nobody
-  pub opened_more : {x : Reverse OpenSide} (later : List (Reverse OpenSide)) → IsPermutation (x ∷ opens) later → x.0.slack ≡ scale * side.cap → side.users.items ≡ x.0.rising.items
+  pub opened_more : {x : Reverse OpenSide} (later : List (Reverse OpenSide)) → IsPermutation (x ∷ opens) later
+      → x.0.slack ≡ scale * side.cap → side.users.items ≡ x.0.rising.items
       → AreOpened scale (sides ++ side ∷ []) later
   opened_more {x} later perm slack users = record {
     queue = λ frozen. subst (λ (xs : List Side). IsQueue xs scale frozen later) (sym (map_push side_of sides side))
         (queue_permuted scale frozen (map side_of sides ++ side_of side ∷ []) (x ∷ opens) later perm
-        (queue_more scale frozen (map side_of sides) (side_of side) x opens (account_start (side_of side) scale frozen x.0.slack x.0.rising.items (omega (arith, slack)) users) (was.queue frozen)));
+        (queue_more scale frozen (map side_of sides) (side_of side) x opens
+        (account_start (side_of side) scale frozen x.0.slack x.0.rising.items (omega (arith, slack)) users)
+        (was.queue frozen)));
     users = λ flows all.
         let P : Reverse OpenSide → Type 0 = λ o. All (λ flow. flow < flows) o.0.rising.items in
         let Q : declared.Side → Type 0 = λ s. All (λ flow. flow < flows) s.users.items in
         let here : Q side = All-contains Q (sides ++ side ∷ []) side all (Contains-push sides side) in
         All-permutation P (x ∷ opens) later perm (All-cons P x opens (subst (All (λ flow. flow < flows)) users here)
-        (was.users flows (All-from_contains Q sides (λ s c. All-contains Q (sides ++ side ∷ []) s all (Contains-append_left sides (side ∷ []) s c)))));
+        (was.users flows
+        (All-from_contains Q sides
+        (λ s c. All-contains Q (sides ++ side ∷ []) s all (Contains-append_left sides (side ∷ []) s c)))));
   }
 
   -- a side without users has no open one
@@ -185,5 +240,7 @@ module _ (scale : ℕ) (sides : List declared.Side) (side : declared.Side) (open
         (queue_without scale frozen (map side_of sides) (side_of side) opens none (was.queue frozen));
     users = λ flows all.
         let Q : declared.Side → Type 0 = λ s. All (λ flow. flow < flows) s.users.items in
-        was.users flows (All-from_contains Q sides (λ s c. All-contains Q (sides ++ side ∷ []) s all (Contains-append_left sides (side ∷ []) s c)));
+        was.users flows
+        (All-from_contains Q sides
+        (λ s c. All-contains Q (sides ++ side ∷ []) s all (Contains-append_left sides (side ∷ []) s c)));
   }

@@ -1,11 +1,13 @@
 -- The fair parts of the flows as rates.
-use Rattle.std.proofs.Common.{◌≡◌, ◌≢◌, ℕ, ◌<◌, inl, inr, List, [], ◌∷◌, ◌++◌, length, get_or, AllPairs, Contains, Option, Some, None, refl, sym, subst, ap, ◌∙◌, arith, length-append}
+use Rattle.std.proofs.Common.{◌≡◌, ◌≢◌, ℕ, ◌<◌, inl, inr, List, [], ◌∷◌, ◌++◌, length, get_or, AllPairs, Contains}
+use Rattle.std.proofs.Common.{Option, Some, None, refl, sym, subst, ap, ◌∙◌, arith, length-append}
 use Rattle.std.proofs.Math.Nat.{eq_of_mul-eq-mul_right}
 use Rattle.std.proofs.lemmas.Bool.{cases_eq, cases_lt}
 use Rattle.std.proofs.lemmas.List.{get_or_push, get_or_past, get_or_append_left}
 use Rattle.fair_rates.specs.Numbers.Amount.{parts_over}
 use Rattle.fair_rates.specs.Fairness.Fair.{Side}
-use Rattle.fair_rates.specs.Filling.FairParts.{level_at, parts_of_level, flow_parts, IsRateAt, AreRatesAt, HasLargeLevel}
+use Rattle.fair_rates.specs.Filling.FairParts.{level_at, parts_of_level, flow_parts, IsRateAt, AreRatesAt}
+use Rattle.fair_rates.specs.Filling.FairParts.{HasLargeLevel}
 use Rattle.fair_rates.specs.Filling.States.{AreFilled}
 use Rattle.fair_rates.specs.Numbers.Fits.{ReducedFits}
 use Rattle.fair_rates.specs.Numbers.LowestTerms.{whole_IsReduced}
@@ -22,10 +24,12 @@ zero_ratio : Ratio
 zero_ratio = record { numerator = 0; denominator = 1; positive = omega arith; reduced = whole_IsReduced 0 }
 
 -- one rate more
-pub rated_push : (Holds : ℕ → Rate → Type 0) (rates : List Rate) (rate : Rate) (n : ℕ) → length rates ≡ n → Holds n rate → ((flow : ℕ) (d : Rate) → flow < length rates → Holds flow (get_or rates flow d))
+pub rated_push : (Holds : ℕ → Rate → Type 0) (rates : List Rate) (rate : Rate) (n : ℕ) → length rates ≡ n → Holds n rate
+    → ((flow : ℕ) (d : Rate) → flow < length rates → Holds flow (get_or rates flow d))
     → (flow : ℕ) (d : Rate) → flow < length (rates ++ rate ∷ []) → Holds flow (get_or (rates ++ rate ∷ []) flow d)
 rated_push Holds rates rate n len here all flow d inside = elim (cases_eq flow n) [
-  | inl same ↦ subst (λ j. Holds j (get_or (rates ++ rate ∷ []) j d)) (sym same) (subst (Holds n) (sym (get_or_push rates rate d n len)) here)
+  | inl same ↦ subst (λ j. Holds j (get_or (rates ++ rate ∷ []) j d)) (sym same)
+      (subst (Holds n) (sym (get_or_push rates rate d n len)) here)
   | inr other ↦
       let within : flow < length rates = omega (arith, len, inside, length-append {A = Rate} rates (rate ∷ [])) in
       subst (Holds flow) (sym (get_or_append_left rates (rate ∷ []) d flow within)) (all flow d within)
@@ -33,22 +37,26 @@ rated_push Holds rates rate n len here all flow d inside = elim (cases_eq flow n
 
 -- ---- the rates are fair
 
-module _ (sides : List Side) (flows scale : ℕ) (found : FairParts) (rates : List Rate) (filled : AreFilled sides flows scale found) (are : AreRatesAt found rates) where
+module _ (sides : List Side) (flows scale : ℕ) (found : FairParts) (rates : List Rate)
+    (filled : AreFilled sides flows scale found) (are : AreRatesAt found rates) where
   abbrev levels : List ℕ
   levels = found.levels.items
 
   abbrev level_of : List (Option ℕ)
   level_of = found.level_of.items
 
-  rate_of : (flow : ℕ) (o : Option ℕ) (rate : Rate) → level_at level_of flow ≡ o → IsRateAt are.fractions o rate → IsRateOf sides found.scale (flow_parts levels level_of) flow rate
+  rate_of : (flow : ℕ) (o : Option ℕ) (rate : Rate) → level_at level_of flow ≡ o → IsRateAt are.fractions o rate
+      → IsRateOf sides found.scale (flow_parts levels level_of) flow rate
   rate_of flow None rate e unlimited =
-      subst (IsRateOf sides found.scale (flow_parts levels level_of) flow) (sym unlimited) (λ limited. not_some (level_at level_of flow) e ((filled.limited flow).1 limited))
+      subst (IsRateOf sides found.scale (flow_parts levels level_of) flow) (sym unlimited)
+      (λ limited. not_some (level_at level_of flow) e ((filled.limited flow).1 limited))
   rate_of flow (Some place) rate e (inside, is) =
       let none : Ratio = zero_ratio in
       let worth = are.levels.worth place none inside in
       subst (IsRateOf sides found.scale (flow_parts levels level_of) flow) (sym (is none)) (
         (filled.limited flow).0 (some_is (level_at level_of flow) place e),
-        subst (λ n. IsWorth (get_or are.fractions place none) (parts_over found.scale n)) (sym (ap (parts_of_level levels) e)) worth,
+        subst (λ n. IsWorth (get_or are.fractions place none) (parts_over found.scale n))
+            (sym (ap (parts_of_level levels) e)) worth,
       )
 
   pub rates_are_fair : AreFairRates sides flows rates
@@ -57,7 +65,9 @@ module _ (sides : List Side) (flows scale : ℕ) (found : FairParts) (rates : Li
     per = found.scale;
     parts = flow_parts levels level_of;
     fair = filled.fair;
-    rated = λ flow d inside. rate_of flow (level_at level_of flow) (get_or rates flow d) refl (are.rated flow d (omega (arith, inside, are.one_each, filled.one_each)));
+    rated = λ flow d inside.
+        rate_of flow (level_at level_of flow) (get_or rates flow d) refl
+        (are.rated flow d (omega (arith, inside, are.one_each, filled.one_each)));
   }
 
   -- ---- and as many as there are levels
@@ -65,19 +75,26 @@ module _ (sides : List Side) (flows scale : ℕ) (found : FairParts) (rates : Li
   apart : AllPairs (λ a b. a ≢ b) are.fractions
   apart i j d less inside same =
       let r = get_or are.fractions j d in
-      let first : IsWorth r (parts_over found.scale (get_or levels i 0)) = subst (λ q. IsWorth q (parts_over found.scale (get_or levels i 0))) same (are.levels.worth i d (omega (arith, less, inside))) in
+      let first : IsWorth r (parts_over found.scale (get_or levels i 0)) =
+      subst (λ q. IsWorth q (parts_over found.scale (get_or levels i 0))) same
+      (are.levels.worth i d (omega (arith, less, inside))) in
       let second : IsWorth r (parts_over found.scale (get_or levels j 0)) = are.levels.worth j d inside in
-      let equal : get_or levels i 0 ≡ get_or levels j 0 = eq_of_mul-eq-mul_right r.denominator r.positive (get_or levels i 0) (get_or levels j 0) (omega (arith, first, second)) in
-      let lt : get_or levels i 0 < get_or levels j 0 = filled.rising i j 0 less (omega (arith, inside, are.levels.one_each)) in
+      let equal : get_or levels i 0 ≡ get_or levels j 0 =
+      eq_of_mul-eq-mul_right r.denominator r.positive (get_or levels i 0) (get_or levels j 0)
+      (omega (arith, first, second)) in
+      let lt : get_or levels i 0 < get_or levels j 0 =
+      filled.rising i j 0 less (omega (arith, inside, are.levels.one_each)) in
       omega (arith, equal, lt)
 
   is_level : (ratio : Ratio) (o : Option ℕ) → IsRateAt are.fractions o (Finite ratio) → Contains are.fractions ratio
   is_level ratio None e = cc
-  is_level ratio (Some place) (inside, is) = let e = is ratio in let same : ratio ≡ get_or are.fractions place ratio = cc in (place, inside, sym same)
+  is_level ratio (Some place) (inside, is) =
+      let e = is ratio in let same : ratio ≡ get_or are.fractions place ratio = cc in (place, inside, sym same)
 
   is_rated : (ratio : Ratio) → Contains rates (Finite ratio) → Contains are.fractions ratio
   is_rated ratio (flow, inside, is) =
-      is_level ratio (level_at level_of flow) (subst (IsRateAt are.fractions (level_at level_of flow)) is (are.rated flow (Finite ratio) inside))
+      is_level ratio (level_at level_of flow)
+      (subst (IsRateAt are.fractions (level_at level_of flow)) is (are.rated flow (Finite ratio) inside))
 
   is_some : (ratio : Ratio) → Contains are.fractions ratio → Contains rates (Finite ratio)
   is_some ratio (place, inside, is) =
@@ -85,17 +102,25 @@ module _ (sides : List Side) (flows scale : ℕ) (found : FairParts) (rates : Li
       let flow = user.0 in
       let within : flow < length level_of = elim (cases_lt flow (length level_of)) [
         | inl lt ↦ lt
-        | inr past ↦ let none : level_at level_of flow ≡ None = get_or_past level_of flow None past in let e = user.1 in absurd (cc)
+        | inr past ↦ let none : level_at level_of flow ≡ None = get_or_past level_of flow None past in
+            let e = user.1 in
+            absurd (cc)
       ] in
       let has : IsRateAt are.fractions (Some place) (get_or rates flow (Finite ratio)) =
-      subst (λ o. IsRateAt are.fractions o (get_or rates flow (Finite ratio))) user.1 (are.rated flow (Finite ratio) (omega (arith, within, are.one_each))) in
+      subst (λ o. IsRateAt are.fractions o (get_or rates flow (Finite ratio))) user.1
+      (are.rated flow (Finite ratio) (omega (arith, within, are.one_each))) in
       (flow, omega (arith, within, are.one_each), has.1 ratio ∙ ap Finite is)
 
   pub rates_are_different : HasDifferentRates rates (length levels)
-  rates_are_different = (are.fractions, record { different = apart; each = λ ratio. (is_rated ratio, is_some ratio) }, are.levels.one_each)
+  rates_are_different = (
+    are.fractions,
+    record { different = apart; each = λ ratio. (is_rated ratio, is_some ratio) },
+    are.levels.one_each,
+  )
 
 -- a level that is no fraction is a fair rate that is none
-pub large_rate : (sides : List Side) (flows scale : ℕ) (found : FairParts) → AreFilled sides flows scale found → HasLargeLevel found → HasLargeRate sides
+pub large_rate : (sides : List Side) (flows scale : ℕ) (found : FairParts) → AreFilled sides flows scale found
+    → HasLargeLevel found → HasLargeRate sides
 large_rate sides flows scale found filled large =
     let user = filled.reached large.place large.inside in
     record {
@@ -104,5 +129,7 @@ large_rate sides flows scale found filled large =
       fair = filled.fair;
       flow = user.0;
       limited = (filled.limited user.0).0 (some_is (level_at found.level_of.items user.0) large.place user.1);
-      large = subst (λ n. ¬ ReducedFits (parts_over found.scale n)) (sym (ap (parts_of_level found.levels.items) user.1)) large.large;
+      large =
+          subst (λ n. ¬ ReducedFits (parts_over found.scale n)) (sym (ap (parts_of_level found.levels.items) user.1))
+          large.large;
     }

@@ -9,27 +9,36 @@ use Rattle.fair_rates.proofs.Lists.Sums.{sum_by_same, sum_by-zero}
 use Rattle.fair_rates.proofs.Lists.SumOrder.{All-from_contains}
 
 -- no flow is frozen
-pub start : (sides : List Side) (per : ℕ) (frozen : ℕ → Option ℕ) → ((flow : ℕ) → frozen flow ≡ None) → IsFilledTo sides per frozen 0
+pub start : (sides : List Side) (per : ℕ) (frozen : ℕ → Option ℕ) → ((flow : ℕ) → frozen flow ≡ None)
+    → IsFilledTo sides per frozen 0
 start sides per frozen none = record {
   within = All-from_contains (λ s. load (at_level frozen 0) s ≤ s.cap * per) sides (λ s c.
-      omega (arith, sum_by-zero s.users, sum_by_same (at_level frozen 0) (λ _. 0) s.users (λ k d l. at_none frozen 0 _ (none _))));
+      omega (
+        arith,
+        sum_by-zero s.users,
+        sum_by_same (at_level frozen 0) (λ _. 0) s.users (λ k d l. at_none frozen 0 _ (none _)),
+      ));
   below = λ j. omega (arith, at_none frozen 0 j (none j));
   held = λ j h. let v = some_value (frozen j) h in let e = none j in cc;
 }
 
 -- every limited flow is frozen
-pub end : (sides : List Side) (per : ℕ) (frozen : ℕ → Option ℕ) (level : ℕ) → 0 < per → IsFilledTo sides per frozen level → ((flow : ℕ) → IsLimited sides flow → IsSome (frozen flow))
+pub end : (sides : List Side) (per : ℕ) (frozen : ℕ → Option ℕ) (level : ℕ) → 0 < per
+    → IsFilledTo sides per frozen level → ((flow : ℕ) → IsLimited sides flow → IsSome (frozen flow))
     → IsFair sides per (at_level frozen 0)
 end sides per frozen level some filled all = record {
   some_part = some;
   within = All-from_contains (λ s. load (at_level frozen 0) s ≤ s.cap * per) sides (λ s c.
-      let same = sum_by_same (at_level frozen 0) (at_level frozen level) s.users (All-from_contains (λ j. at_level frozen 0 j ≡ at_level frozen level j) s.users (λ j used.
+      let same =
+      sum_by_same (at_level frozen 0) (at_level frozen level) s.users
+      (All-from_contains (λ j. at_level frozen 0 j ≡ at_level frozen level j) s.users (λ j used.
       at_any frozen 0 level j (all j (s, record { listed = c; used = used })))) in
       omega (arith, same, All-contains (λ s. load (at_level frozen level) s ≤ s.cap * per) sides s filled.within c));
   held = λ i limited. (filled.held i (all i limited)).bottleneck;
 }
 
-module _ (sides : List Side) (per : ℕ) (frozen : ℕ → Option ℕ) (level : ℕ) (after : ℕ → Option ℕ) (next_level : ℕ) (filled : IsFilledTo sides per frozen level)
+module _ (sides : List Side) (per : ℕ) (frozen : ℕ → Option ℕ) (level : ℕ) (after : ℕ → Option ℕ) (next_level : ℕ)
+    (filled : IsFilledTo sides per frozen level)
     (round : IsNextRound sides per frozen level after next_level) where
   -- at the next level nothing moves
   same_at : (j : ℕ) → at_level after next_level j ≡ at_level frozen next_level j
@@ -37,13 +46,15 @@ module _ (sides : List Side) (per : ℕ) (frozen : ℕ → Option ℕ) (level : 
     | inr (a, e) ↦ at_some after next_level j a (round.kept j a e) ∙ sym (at_some frozen next_level j a e)
     | inl e ↦ elim (none_or_some (after j)) [
       | inl e' ↦ at_none after next_level j e' ∙ sym (at_none frozen next_level j e)
-      | inr (a, e') ↦ omega (arith, at_some after next_level j a e', at_none frozen next_level j e, (round.fresh j a e e').0)
+      | inr (a, e') ↦ omega
+          (arith, at_some after next_level j a e', at_none frozen next_level j e, (round.fresh j a e e').0)
     ]
   ]
 
   -- a frozen flow keeps its parts
   kept_at : (j : ℕ) → IsSome (frozen j) → at_level after 0 j ≡ at_level frozen 0 j
-  kept_at j h = let v = some_value (frozen j) h in at_some after 0 j v.0 (round.kept j v.0 v.1) ∙ sym (at_some frozen 0 j v.0 v.1)
+  kept_at j h =
+      let v = some_value (frozen j) h in at_some after 0 j v.0 (round.kept j v.0 v.1) ∙ sym (at_some frozen 0 j v.0 v.1)
 
   still : (j : ℕ) → IsSome (frozen j) → IsSome (after j)
   still j h = let v = some_value (frozen j) h in some_is (after j) v.0 (round.kept j v.0 v.1)
@@ -62,27 +73,43 @@ module _ (sides : List Side) (per : ℕ) (frozen : ℕ → Option ℕ) (level : 
     | inr (a, e) ↦
         let was = some_is (frozen i) a e in
         let s = filled.held i was in let h = s.bottleneck in let users = h.side.users in
-        let had : (j : ℕ) → Contains users j → IsSome (frozen j) = λ j used. All-contains (λ j. IsSome (frozen j)) users j s.all_frozen used in
+        let had : (j : ℕ) → Contains users j → IsSome (frozen j) = λ j used.
+        All-contains (λ j. IsSome (frozen j)) users j s.all_frozen used in
         record {
           bottleneck = record {
             side = h.side;
             uses = h.uses;
-            full = sum_by_same (at_level after 0) (at_level frozen 0) users (All-from_contains (λ j. at_level after 0 j ≡ at_level frozen 0 j) users (λ j used. kept_at j (had j used))) ∙ h.full;
+            full =
+                sum_by_same (at_level after 0) (at_level frozen 0) users
+                (All-from_contains (λ j. at_level after 0 j ≡ at_level frozen 0 j) users
+                (λ j used. kept_at j (had j used)))
+                ∙ h.full;
             greatest = All-from_contains (λ j. at_level after 0 j ≤ at_level after 0 i) users (λ j used.
-                omega (arith, kept_at j (had j used), kept_at i was, All-contains (λ j. at_level frozen 0 j ≤ at_level frozen 0 i) users j h.greatest used));
+                omega (
+                  arith,
+                  kept_at j (had j used),
+                  kept_at i was,
+                  All-contains (λ j. at_level frozen 0 j ≤ at_level frozen 0 i) users j h.greatest used,
+                ));
           };
           all_frozen = All-from_contains (λ j. IsSome (after j)) users (λ j used. still j (had j used));
         }
     | inl e ↦
         let v = some_value (after i) now in let f = round.fresh i v.0 e v.1 in let users = f.1.side.users in
         let same : (j : ℕ) → Contains users j → at_level after 0 j ≡ at_level frozen next_level j =
-        λ j used. at_any after 0 next_level j (All-contains (λ j. IsSome (after j)) users j f.1.all_frozen used) ∙ same_at j in
+        λ j used.
+        at_any after 0 next_level j (All-contains (λ j. IsSome (after j)) users j f.1.all_frozen used) ∙ same_at j in
         record {
           bottleneck = record {
             side = f.1.side;
             uses = f.1.uses;
-            full = sum_by_same (at_level after 0) (at_level frozen next_level) users (All-from_contains (λ j. at_level after 0 j ≡ at_level frozen next_level j) users same) ∙ f.1.full;
-            greatest = All-from_contains (λ j. at_level after 0 j ≤ at_level after 0 i) users (λ j used. omega (arith, below j, at_some after 0 i v.0 v.1, f.0));
+            full =
+                sum_by_same (at_level after 0) (at_level frozen next_level) users
+                (All-from_contains (λ j. at_level after 0 j ≡ at_level frozen next_level j) users same)
+                ∙ f.1.full;
+            greatest =
+                All-from_contains (λ j. at_level after 0 j ≤ at_level after 0 i) users
+                (λ j used. omega (arith, below j, at_some after 0 i v.0 v.1, f.0));
           };
           all_frozen = f.1.all_frozen;
         }
@@ -101,15 +128,23 @@ module _ (sides : List Side) (per : ℕ) (frozen : ℕ → Option ℕ) (level : 
   }
 
 -- parts that are the same are fair
-pub fair_same : (sides : List Side) (per : ℕ) (parts other : ℕ → ℕ) → ((flow : ℕ) → parts flow ≡ other flow) → IsFair sides per parts → IsFair sides per other
+pub fair_same : (sides : List Side) (per : ℕ) (parts other : ℕ → ℕ) → ((flow : ℕ) → parts flow ≡ other flow)
+    → IsFair sides per parts → IsFair sides per other
 fair_same sides per parts other same fair = record {
   some_part = fair.some_part;
   within = All-from_contains (λ s. load other s ≤ s.cap * per) sides (λ s c.
-      omega (arith, sum_by_same parts other s.users (λ k d inside. same _), All-contains (λ s. load parts s ≤ s.cap * per) sides s fair.within c));
+      omega (
+        arith,
+        sum_by_same parts other s.users (λ k d inside. same _),
+        All-contains (λ s. load parts s ≤ s.cap * per) sides s fair.within c,
+      ));
   held = λ flow limited. let h = fair.held flow limited in record {
     side = h.side;
     uses = h.uses;
     full = sym (sum_by_same parts other h.side.users (λ k d inside. same _)) ∙ h.full;
-    greatest = All-from_contains (λ j. other j ≤ other flow) h.side.users (λ j used. omega (arith, same j, same flow, All-contains (λ j. parts j ≤ parts flow) h.side.users j h.greatest used));
+    greatest =
+        All-from_contains (λ j. other j ≤ other flow) h.side.users
+        (λ j used. omega
+        (arith, same j, same flow, All-contains (λ j. parts j ≤ parts flow) h.side.users j h.greatest used));
   };
 }

@@ -7,7 +7,14 @@ quotient_positive n by zero some e = absurd (omega (arith, some, e))
 quotient_positive n by (suc quotient) some e = omega arith
 
 -- each of so many gets that
-pub whole : (slack count quotient rest shared factor left parts : ℕ) → count * quotient + rest ≡ slack → factor * shared ≡ count → left * shared ≡ rest → parts ≡ quotient * factor + left
+pub whole : (slack count quotient rest shared factor left parts : ℕ) → count * quotient + rest ≡ slack
+    → factor * shared ≡ count → left * shared ≡ rest → parts ≡ quotient * factor + left
     → parts * count ≡ slack * factor
 whole slack count quotient rest shared factor left parts divided is_factor is_left is_parts =
-    omega (arith, ap (λ n. n * count) is_parts, ap (λ n. n * factor) divided, ap (λ n. left * n) is_factor, ap (λ n. n * factor) is_left)
+    omega (
+      arith,
+      ap (λ n. n * count) is_parts,
+      ap (λ n. n * factor) divided,
+      ap (λ n. left * n) is_factor,
+      ap (λ n. n * factor) is_left,
+    )

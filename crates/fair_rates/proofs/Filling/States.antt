@@ -20,15 +20,18 @@ pub record IsFilledTo (sides : List Side) (per : ℕ) (frozen : ℕ → Option �
   pub held : (flow : ℕ) → IsSome (frozen flow) → IsHeld sides per frozen flow
 
 -- the flow uses a side that is full at this level and whose users are all frozen in `next`
-pub record IsFilledBy (sides : List Side) (per : ℕ) (frozen : ℕ → Option ℕ) (level : ℕ) (next : ℕ → Option ℕ) (flow : ℕ) : Type 0 where
+pub record IsFilledBy (sides : List Side) (per : ℕ) (frozen : ℕ → Option ℕ) (level : ℕ) (next : ℕ → Option ℕ)
+    (flow : ℕ) : Type 0 where
   pub side : Side
   pub uses : Uses sides flow side
   pub full : IsFullAt per frozen level side
   pub all_frozen : All (λ other. IsSome (next other)) side.users
 
 -- a round raises the level, and freezes there users of sides that are full
-pub record IsNextRound (sides : List Side) (per : ℕ) (frozen : ℕ → Option ℕ) (level : ℕ) (next : ℕ → Option ℕ) (next_level : ℕ) : Type 0 where
+pub record IsNextRound (sides : List Side) (per : ℕ) (frozen : ℕ → Option ℕ) (level : ℕ) (next : ℕ → Option ℕ)
+    (next_level : ℕ) : Type 0 where
   pub raised : level ≤ next_level
   pub within : IsWithinCaps sides per (at_level frozen next_level)
   pub kept : (flow parts : ℕ) → frozen flow ≡ Some parts → next flow ≡ Some parts
-  pub fresh : (flow parts : ℕ) → frozen flow ≡ None → next flow ≡ Some parts → (parts ≡ next_level) × IsFilledBy sides per frozen next_level next flow
+  pub fresh : (flow parts : ℕ) → frozen flow ≡ None → next flow ≡ Some parts
+      → (parts ≡ next_level) × IsFilledBy sides per frozen next_level next flow

@@ -1,5 +1,7 @@
 -- What holds between two rounds, how a round keeps it, and what it gives at the end.
-use Rattle.std.proofs.Common.{◌≡◌, ℕ, ◌*◌, ◌<◌, ◌≤◌, inl, inr, List, [], ◌∷◌, length, get_or, map, All, AllPairs, Contains, Option, Some, None, IsSome, IfSome, refl, sym, ap, subst, arith, mul-le-mul_right, le_of_mul-le-mul_right}
+use Rattle.std.proofs.Common.{◌≡◌, ℕ, ◌*◌, ◌<◌, ◌≤◌, inl, inr, List, [], ◌∷◌, length, get_or, map, All, AllPairs}
+use Rattle.std.proofs.Common.{Contains, Option, Some, None, IsSome, IfSome, refl, sym, ap, subst, arith}
+use Rattle.std.proofs.Common.{mul-le-mul_right, le_of_mul-le-mul_right}
 use Rattle.std.specs.Prelude.{◌↔◌, option_map, unwrap_or, slice_index, replicate}
 use Rattle.std.specs.BinaryHeap.{IsHeap}
 use Rattle.std.specs.declared.cmp.Reverse.{Reverse}
@@ -9,13 +11,17 @@ use Rattle.std.proofs.lemmas.List.{get_or-replicate, length-map, length-replicat
 use Rattle.std.proofs.lemmas.List.Elements.{All-head, All-weaker, All-contains, All-replicate}
 use Rattle.fair_rates.specs.Fairness.Fair.{Side, IsLimited, IsFair}
 use Rattle.fair_rates.specs.Filling.FairParts.{level_at, parts_of_level, flow_parts}
-use Rattle.fair_rates.specs.Filling.States.{frozen_at, at_level, top, AllRise, AllFrozen, AreInside, IsRaised, AreAtTop, IsWithinSlack, HaveNoMore, IsQueue, IsShareQueue, AreAbove, IsLeast, AllFilled, AreGrown, queue_cmp}
+use Rattle.fair_rates.specs.Filling.States.{frozen_at, at_level, top, AllRise, AllFrozen, AreInside, IsRaised, AreAtTop}
+use Rattle.fair_rates.specs.Filling.States.{IsWithinSlack, HaveNoMore, IsQueue, IsShareQueue, AreAbove, IsLeast}
+use Rattle.fair_rates.specs.Filling.States.{AllFilled, AreGrown, queue_cmp}
 use Rattle.fair_rates.specs.declared.bandwidth.filling.open.OpenSide.{OpenSide}
 use Rattle.fair_rates.proofs.Filling.Account.{risers_have_no_more}
 use Rattle.fair_rates.proofs.Filling.Course.{Freezes, queue_on, no_more_on, filled_on, share_within}
 use Rattle.fair_rates.proofs.Filling.Frozen.{none_or_some}
-use Rattle.fair_rates.proofs.Filling.Growing.{AreScaled, grown_first, still_rise, filled_scaled, queue_grown, no_more_grown, least_grown, users_grown}
-use Rattle.fair_rates.proofs.Filling.Levels.{frozen_there, top_scaled, rising_scaled, frozen_scaled, inside_scaled, freezes, inside_on, rising_on, reached_on}
+use Rattle.fair_rates.proofs.Filling.Growing.{AreScaled, grown_first, still_rise, filled_scaled, queue_grown}
+use Rattle.fair_rates.proofs.Filling.Growing.{no_more_grown, least_grown, users_grown}
+use Rattle.fair_rates.proofs.Filling.Levels.{frozen_there, top_scaled, rising_scaled, frozen_scaled, inside_scaled}
+use Rattle.fair_rates.proofs.Filling.Levels.{freezes, inside_on, rising_on, reached_on}
 use Rattle.fair_rates.proofs.Filling.Rounds.{start, end, fair_same}
 use Rattle.fair_rates.proofs.Filling.States.{IsFilledTo}
 
@@ -24,7 +30,8 @@ abbrev pub AreReached : List ℕ → List (Option ℕ) → Type 0
 AreReached levels level_of = (place : ℕ) → place < length levels → (flow : ℕ) × (level_at level_of flow ≡ Some place)
 
 -- between two rounds
-pub record IsCourse (sides : List Side) (scale : ℕ) (levels : List ℕ) (level_of : List (Option ℕ)) (opens : List (Reverse OpenSide)) : Type 0 where
+pub record IsCourse (sides : List Side) (scale : ℕ) (levels : List ℕ) (level_of : List (Option ℕ))
+    (opens : List (Reverse OpenSide)) : Type 0 where
   pub some_part : 0 < scale
   pub inside : AreInside levels level_of
   pub rising : AllPairs (λ a b. a < b) levels
@@ -42,11 +49,15 @@ none_at count flow = elim (cases_lt flow count) [
   | inr past ↦ get_or_past (replicate count None) flow None (omega (arith, length-replicate {A = Option ℕ} count None))
 ]
 
-pub course_none : (sides : List Side) (scale count : ℕ) (opens : List (Reverse OpenSide)) → 0 < scale → ((frozen : ℕ → Option ℕ) → IsQueue sides scale frozen opens)
-    → All (λ o. All (λ flow. flow < count) o.0.rising.items) opens → IsHeap queue_cmp opens → IsCourse sides scale [] (replicate count None) opens
+pub course_none : (sides : List Side) (scale count : ℕ) (opens : List (Reverse OpenSide)) → 0 < scale
+    → ((frozen : ℕ → Option ℕ) → IsQueue sides scale frozen opens)
+    → All (λ o. All (λ flow. flow < count) o.0.rising.items) opens → IsHeap queue_cmp opens
+    → IsCourse sides scale [] (replicate count None) opens
 course_none sides scale count opens some queue users order =
-    let none : (flow : ℕ) → frozen_at [] (replicate count None) flow ≡ None = λ flow. ap (option_map (slice_index [])) (none_at count flow) in
-    let all_rise : (xs : List ℕ) → AllRise (frozen_at [] (replicate count None)) xs = λ xs k d inside. none (get_or xs k d) in
+    let none : (flow : ℕ) → frozen_at [] (replicate count None) flow ≡ None = λ flow.
+    ap (option_map (slice_index [])) (none_at count flow) in
+    let all_rise : (xs : List ℕ) → AllRise (frozen_at [] (replicate count None)) xs = λ xs k d inside.
+    none (get_or xs k d) in
     record {
       some_part = some;
       inside = All-replicate (λ level. IfSome level (λ place. place < 0)) count None tt;
@@ -55,8 +66,12 @@ course_none sides scale count opens some queue users order =
       filled = start sides scale (frozen_at [] (replicate count None)) none;
       queue = queue (frozen_at [] (replicate count None));
       sound = record {
-        users = subst (λ n. All (λ (o : Reverse OpenSide). All (λ flow. flow < n) o.0.rising.items) opens) (sym (length-replicate {A = Option ℕ} count None)) users;
-        no_more = λ k d inside. risers_have_no_more (frozen_at [] (replicate count None)) (get_or opens k d).0.slack (get_or opens k d).0.rising.items (all_rise (get_or opens k d).0.rising.items);
+        users =
+            subst (λ n. All (λ (o : Reverse OpenSide). All (λ flow. flow < n) o.0.rising.items) opens)
+            (sym (length-replicate {A = Option ℕ} count None)) users;
+        no_more = λ k d inside.
+            risers_have_no_more (frozen_at [] (replicate count None)) (get_or opens k d).0.slack
+            (get_or opens k d).0.rising.items (all_rise (get_or opens k d).0.rising.items);
         order = order;
       };
       above = λ k d inside. omega arith;
@@ -65,17 +80,22 @@ course_none sides scale count opens some queue users order =
 -- ---- a round
 
 -- the side with the least share is taken out of the queue
-pub record IsTaken (sides : List Side) (scale : ℕ) (levels : List ℕ) (level_of : List (Option ℕ)) (last : ℕ) (x : OpenSide) (rest : List (Reverse OpenSide)) : Type 0 where
+pub record IsTaken (sides : List Side) (scale : ℕ) (levels : List ℕ) (level_of : List (Option ℕ)) (last : ℕ)
+    (x : OpenSide) (rest : List (Reverse OpenSide)) : Type 0 where
   pub users : All (λ flow. flow < length level_of) x.rising.items
   pub sound : IsShareQueue (length level_of) (frozen_at levels level_of) rest
   pub least : IsLeast (frozen_at levels level_of) x rest
   pub queue : IsQueue sides scale (frozen_at levels level_of) (record { 0 = x } ∷ rest)
   pub above : AreAbove last (record { 0 = x } ∷ rest)
 
-module _ (sides : List Side) (scale factor : ℕ) (levels after : List ℕ) (level_of later : List (Option ℕ)) (x : OpenSide) (rest opens : List (Reverse OpenSide)) (level : ℕ)
-    (factor_some : 0 < factor) (old : List (Reverse OpenSide)) (course : IsCourse sides scale levels level_of old) (taken : IsTaken sides scale levels level_of (top levels) x rest)
-    (grown : AreGrown factor rest opens) (order : IsHeap queue_cmp opens) (share : level * length x.rising.items ≡ x.slack * factor)
-    (raised : IsRaised (map (λ parts. parts * factor) levels) after level) (at_top : AreAtTop x.rising.items level_of later after) where
+module _ (sides : List Side) (scale factor : ℕ) (levels after : List ℕ) (level_of later : List (Option ℕ))
+    (x : OpenSide) (rest opens : List (Reverse OpenSide)) (level : ℕ)
+    (factor_some : 0 < factor) (old : List (Reverse OpenSide)) (course : IsCourse sides scale levels level_of old)
+    (taken : IsTaken sides scale levels level_of (top levels) x rest)
+    (grown : AreGrown factor rest opens) (order : IsHeap queue_cmp opens)
+    (share : level * length x.rising.items ≡ x.slack * factor)
+    (raised : IsRaised (map (λ parts. parts * factor) levels) after level)
+    (at_top : AreAtTop x.rising.items level_of later after) where
   abbrev scaled_levels : List ℕ
   scaled_levels = map (λ parts. parts * factor) levels
 
@@ -99,7 +119,9 @@ module _ (sides : List Side) (scale factor : ℕ) (levels after : List ℕ) (lev
   all_grown = grown_first factor x rest opens wide (record { slack = refl; rising = refl }) grown
 
   wide_queue : IsQueue sides (scale * factor) scaled_frozen (wide ∷ opens)
-  wide_queue = queue_grown factor frozen scaled_frozen scaled sides scale (record { 0 = x } ∷ rest) (wide ∷ opens) all_grown taken.queue
+  wide_queue =
+      queue_grown factor frozen scaled_frozen scaled sides scale (record { 0 = x } ∷ rest) (wide ∷ opens) all_grown
+      taken.queue
 
   no_more : All (λ o. HaveNoMore scaled_frozen o.0.slack o.0.rising.items) opens
   no_more = no_more_grown factor frozen scaled_frozen scaled rest opens grown taken.sound.no_more
@@ -109,14 +131,27 @@ module _ (sides : List Side) (scale factor : ℕ) (levels after : List ℕ) (lev
 
   within : AreAbove level opens
   within =
-      All-weaker (λ (o : Reverse OpenSide). x.slack * factor * length o.0.rising.items ≤ o.0.slack * length x.rising.items) (λ o. level * length o.0.rising.items ≤ o.0.slack)
-      (λ o le. share_within level (x.slack * factor) (length x.rising.items) o.0.slack (length o.0.rising.items) x.some share le) opens
+      All-weaker
+      (λ (o : Reverse OpenSide). x.slack * factor * length o.0.rising.items ≤ o.0.slack * length x.rising.items)
+      (λ o. level * length o.0.rising.items ≤ o.0.slack)
+      (λ o le. share_within level (x.slack * factor) (length x.rising.items) o.0.slack (length o.0.rising.items) x.some
+      share le)
+      opens
       (least_grown factor x.slack (length x.rising.items) rest opens grown taken.least.least)
 
   no_lower : top scaled_levels ≤ level
   no_lower =
-      let here : top levels * length x.rising.items ≤ x.slack = All-head (λ (o : Reverse OpenSide). IsWithinSlack (top levels) o.0.slack o.0.rising.items) (record { 0 = x }) rest taken.above in
-      le_of_mul-le-mul_right {k = length x.rising.items} (omega (arith, share, mul-le-mul_right factor here, ap (λ n. n * length x.rising.items) (top_scaled factor levels))) x.some
+      let here : top levels * length x.rising.items ≤ x.slack =
+      All-head (λ (o : Reverse OpenSide). IsWithinSlack (top levels) o.0.slack o.0.rising.items) (record { 0 = x })
+      rest taken.above in
+      le_of_mul-le-mul_right {k = length x.rising.items}
+      (omega (
+        arith,
+        share,
+        mul-le-mul_right factor here,
+        ap (λ n. n * length x.rising.items) (top_scaled factor levels),
+      ))
+      x.some
 
   scaled_inside : AreInside scaled_levels level_of
   scaled_inside = inside_scaled factor levels level_of course.inside
@@ -125,7 +160,9 @@ module _ (sides : List Side) (scale factor : ℕ) (levels after : List ℕ) (lev
   freezing = freezes x.rising.items scaled_levels after level_of later level raised at_top scaled_inside
 
   scaled_filled : IsFilledTo sides (scale * factor) scaled_frozen (top scaled_levels)
-  scaled_filled = subst (IsFilledTo sides (scale * factor) scaled_frozen) (sym (top_scaled factor levels)) (filled_scaled factor frozen scaled_frozen scaled sides scale (top levels) course.filled)
+  scaled_filled =
+      subst (IsFilledTo sides (scale * factor) scaled_frozen) (sym (top_scaled factor levels))
+      (filled_scaled factor frozen scaled_frozen scaled sides scale (top levels) course.filled)
 
   rising_none : (flow : ℕ) → Contains x.rising.items flow → level_at level_of flow ≡ None
   rising_none flow used = elim (none_or_some (level_at level_of flow)) [
@@ -140,15 +177,25 @@ module _ (sides : List Side) (scale factor : ℕ) (levels after : List ℕ) (lev
   round = record {
     some_part = mul-pos course.some_part factor_some;
     inside = inside_on x.rising.items scaled_levels after level_of later level raised at_top scaled_inside;
-    rising = rising_on x.rising.items scaled_levels after level_of later level raised at_top no_lower (rising_scaled factor levels factor_some course.rising);
+    rising =
+        rising_on x.rising.items scaled_levels after level_of later level raised at_top no_lower
+        (rising_scaled factor levels factor_some course.rising);
     reached = reached_on x.rising.items scaled_levels after level_of later level raised at_top rising_none x.some
-        (λ place within. course.reached place (omega (arith, within, length-map levels (λ (parts : ℕ). parts * factor))));
+        (λ place within. course.reached place
+        (omega (arith, within, length-map levels (λ (parts : ℕ). parts * factor))));
     filled = subst (IsFilledTo sides (scale * factor) now) (sym raised.last)
-        (filled_on sides (scale * factor) scaled_frozen now wide opens level (top scaled_levels) wide_queue no_more rise within share freezing x.some (λ o. o.0.some) scaled_filled no_lower);
-    queue = queue_on sides (scale * factor) scaled_frozen now wide opens level (top scaled_levels) wide_queue no_more rise within share freezing;
+        (filled_on sides (scale * factor) scaled_frozen now wide opens level (top scaled_levels) wide_queue no_more rise
+        within share freezing x.some (λ o. o.0.some) scaled_filled no_lower);
+    queue =
+        queue_on sides (scale * factor) scaled_frozen now wide opens level (top scaled_levels) wide_queue no_more rise
+        within share freezing;
     sound = record {
-      users = subst (λ n. All (λ (o : Reverse OpenSide). All (λ flow. flow < n) o.0.rising.items) opens) (sym at_top.one_each) (users_grown factor (length level_of) rest opens grown taken.sound.users);
-      no_more = no_more_on sides (scale * factor) scaled_frozen now wide opens level (top scaled_levels) wide_queue no_more rise within share freezing;
+      users =
+          subst (λ n. All (λ (o : Reverse OpenSide). All (λ flow. flow < n) o.0.rising.items) opens)
+          (sym at_top.one_each) (users_grown factor (length level_of) rest opens grown taken.sound.users);
+      no_more =
+          no_more_on sides (scale * factor) scaled_frozen now wide opens level (top scaled_levels) wide_queue no_more
+          rise within share freezing;
       order = order;
     };
     above = subst (λ n. AreAbove n opens) (sym raised.last) within;
@@ -156,7 +203,8 @@ module _ (sides : List Side) (scale factor : ℕ) (levels after : List ℕ) (lev
 
 -- ---- the end
 
-module _ (sides : List Side) (scale : ℕ) (levels : List ℕ) (level_of : List (Option ℕ)) (some : 0 < scale) (filled : IsFilledTo sides scale (frozen_at levels level_of) (top levels))
+module _ (sides : List Side) (scale : ℕ) (levels : List ℕ) (level_of : List (Option ℕ)) (some : 0 < scale)
+    (filled : IsFilledTo sides scale (frozen_at levels level_of) (top levels))
     (ended : AllFilled sides (frozen_at levels level_of)) where
   level_of_some : (o : Option ℕ) → IsSome (option_map (slice_index levels) o) → IsSome o
   level_of_some None h = cc
@@ -168,7 +216,8 @@ module _ (sides : List Side) (scale : ℕ) (levels : List ℕ) (level_of : List 
 
   limited_frozen : (flow : ℕ) → IsLimited sides flow → IsSome (frozen_at levels level_of flow)
   limited_frozen flow (side, uses) =
-      All-contains (λ j. IsSome (frozen_at levels level_of j)) side.users flow (All-contains (λ s. AllFrozen (frozen_at levels level_of) s.users) sides side ended uses.listed) uses.used
+      All-contains (λ j. IsSome (frozen_at levels level_of j)) side.users flow
+      (All-contains (λ s. AllFrozen (frozen_at levels level_of) s.users) sides side ended uses.listed) uses.used
 
   pub limited : (flow : ℕ) → IsSome (level_at level_of flow) ↔ IsLimited sides flow
   limited flow = (
@@ -181,5 +230,7 @@ module _ (sides : List Side) (scale : ℕ) (levels : List ℕ) (level_of : List 
   same_parts (Some place) = refl
 
   pub fair : IsFair sides scale (flow_parts levels level_of)
-  fair = fair_same sides scale (at_level (frozen_at levels level_of) 0) (flow_parts levels level_of) (λ flow. same_parts (level_at level_of flow))
+  fair =
+      fair_same sides scale (at_level (frozen_at levels level_of) 0) (flow_parts levels level_of)
+      (λ flow. same_parts (level_at level_of flow))
       (end sides scale (frozen_at levels level_of) (top levels) some filled limited_frozen)

@@ -1,7 +1,8 @@
 -- Over the denominator of n flows from the start, what m frozen flows have is over that of m.
 use Prim.Native.Nat.{◌∣◌}
 use Rattle.std.proofs.Common.{◌≡◌, ℕ, ◌+◌, ◌-◌, ◌*◌, ◌/◌, ◌<◌, ◌≤◌, List, [], ◌∷◌, sum_by, ap, subst, arith}
-use Rattle.std.proofs.Math.Nat.{dvd-zero, dvd-add, dvd-sub, dvd-mul_right, mul-div_cancel', dvd-mul_right_of_dvd, eq_of_mul-eq-mul_right, mul-sub}
+use Rattle.std.proofs.Math.Nat.{dvd-zero, dvd-add, dvd-sub, dvd-mul_right, mul-div_cancel', dvd-mul_right_of_dvd}
+use Rattle.std.proofs.Math.Nat.{eq_of_mul-eq-mul_right, mul-sub}
 use Rattle.std.proofs.lemmas.List.Sums.{sum_by-cons}
 use Rattle.fair_rates.proofs.Fairness.Denominators.{denominator_of, divides, divides_later, positive}
 
@@ -15,15 +16,18 @@ cap_over n m c =
     subst (λ k. denominator_of n ∣ k) e (dvd-mul_right (denominator_of n) (c * denominator_of m))
 
 pub sums : (n m : ℕ) (f : ℕ → ℕ) (xs : List ℕ) → ((x : ℕ) → IsOver n m (f x)) → IsOver n m (sum_by f xs)
-sums n m f [] h = let e : 0 ≡ 0 * denominator_of m = omega arith in subst (λ k. denominator_of n ∣ k) e (dvd-zero (denominator_of n))
+sums n m f [] h =
+    let e : 0 ≡ 0 * denominator_of m = omega arith in subst (λ k. denominator_of n ∣ k) e (dvd-zero (denominator_of n))
 sums n m f (x ∷ xs) h =
     let both = dvd-add (denominator_of n) (h x) (sums n m f xs h) in
-    let e : f x * denominator_of m + sum_by f xs * denominator_of m ≡ sum_by f (x ∷ xs) * denominator_of m = rw (sum_by-cons f x xs) (omega arith) in
+    let e : f x * denominator_of m + sum_by f xs * denominator_of m ≡ sum_by f (x ∷ xs) * denominator_of m =
+    rw (sum_by-cons f x xs) (omega arith) in
     subst (λ k. denominator_of n ∣ k) e both
 
 pub rest : (n m a b : ℕ) → IsOver n m a → IsOver n m b → IsOver n m (a - b)
 rest n m a b h k =
-    let e : a * denominator_of m - b * denominator_of m ≡ (a - b) * denominator_of m = omega (arith, mul-sub (denominator_of m) a b) in
+    let e : a * denominator_of m - b * denominator_of m ≡ (a - b) * denominator_of m =
+    omega (arith, mul-sub (denominator_of m) a b) in
     subst (λ j. denominator_of n ∣ j) e (dvd-sub (denominator_of n) h k)
 
 pub later : (n m m' parts : ℕ) → m ≤ m' → IsOver n m parts → IsOver n m' parts
@@ -34,9 +38,11 @@ later n m m' parts le over =
     subst (λ k. denominator_of n ∣ k) scaled (dvd-mul_right_of_dvd (denominator_of n) over z)
 
 -- k * entry * z is the next entry, next * u is the last, and left * entry is last * y
-level_over : (k entry z next u last left y : ℕ) → 0 < entry → k * entry * z ≡ next → next * u ≡ last → last * y ≡ left * entry → (z * u * y * k ≡ left) × (last * (z * y) ≡ z * u * y * next)
+level_over : (k entry z next u last left y : ℕ) → 0 < entry → k * entry * z ≡ next → next * u ≡ last
+    → last * y ≡ left * entry → (z * u * y * k ≡ left) × (last * (z * y) ≡ z * u * y * next)
 level_over k entry z next u last left y pos first second third =
-    let one : (z * u * y * k) * entry ≡ left * entry = omega (arith, ap (λ n. n * (u * y)) first, ap (λ n. n * y) second, third) in
+    let one : (z * u * y * k) * entry ≡ left * entry =
+    omega (arith, ap (λ n. n * (u * y)) first, ap (λ n. n * y) second, third) in
     (eq_of_mul-eq-mul_right entry pos (z * u * y * k) left one, omega (arith, ap (λ n. n * (z * y)) second))
 
 -- what k flows have left for each of them, whole over the denominator of m + k flows

@@ -10,4 +10,5 @@ pub AllPairs-from_later : {X : Type 0} (R : X → X → Type 0) (xs : List X) �
 AllPairs-from_later R [] h i j d before within = absurd (omega arith)
 AllPairs-from_later R (x ∷ xs) h i zero d before within = absurd (omega arith)
 AllPairs-from_later R (x ∷ xs) h zero (suc j) d before within = h.0 j d (omega arith)
-AllPairs-from_later R (x ∷ xs) h (suc i) (suc j) d before within = AllPairs-from_later R xs h.1 i j d (omega arith) (omega arith)
+AllPairs-from_later R (x ∷ xs) h (suc i) (suc j) d before within =
+    AllPairs-from_later R xs h.1 i j d (omega arith) (omega arith)

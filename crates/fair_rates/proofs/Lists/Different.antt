@@ -1,5 +1,6 @@
 -- Lists whose elements differ: such a list is no longer than one that has all its elements.
-use Rattle.std.proofs.Common.{◌≡◌, ◌≢◌, zero, suc, ◌≤◌, List, [], ◌∷◌, ◌++◌, length, AllPairs, Contains, ⊎_elim, refl, sym, ap, subst, ◌∙◌, arith}
+use Rattle.std.proofs.Common.{◌≡◌, ◌≢◌, zero, suc, ◌≤◌, List, [], ◌∷◌, ◌++◌, length, AllPairs, Contains, ⊎_elim, refl}
+use Rattle.std.proofs.Common.{sym, ap, subst, ◌∙◌, arith}
 use Rattle.std.proofs.lemmas.List.{length-append}
 use Rattle.std.proofs.lemmas.List.Elements.{Contains-append_cases, Contains-append_left, Contains-append_right}
 
@@ -42,7 +43,8 @@ module _ {X : Type 0} where
       later : (y : X) → Contains xs y → Contains (x ∷ xs) y
       later y (i, within, is) = (suc i, omega arith, is)
 
-      without : (before after : List X) (y : X) → x ≢ y → Contains (before ++ x ∷ after) y → Contains (before ++ after) y
+      without : (before after : List X) (y : X) → x ≢ y → Contains (before ++ x ∷ after) y
+          → Contains (before ++ after) y
       without before after y other has =
           ⊎_elim (λ h. Contains-append_left before after y h)
           (λ h. ⊎_elim (λ e. absurd (other (in_one x y e))) (λ k. Contains-append_right before after y k)

@@ -1,5 +1,6 @@
 -- Members of lists, by recursion.
-use Rattle.std.proofs.Common.{◌≡◌, ℕ, zero, suc, ◌<◌, List, [], ◌∷◌, ◌++◌, map, length, Bool, true, false, cond, Some, refl, sym, ap, subst, arith, ◌⊎◌, inl, inr, Contains}
+use Rattle.std.proofs.Common.{◌≡◌, ℕ, zero, suc, ◌<◌, List, [], ◌∷◌, ◌++◌, map, length, Bool, true, false, cond, Some}
+use Rattle.std.proofs.Common.{refl, sym, ap, subst, arith, ◌⊎◌, inl, inr, Contains}
 use Rattle.std.specs.Prelude.{slice_get}
 use Rattle.std.specs.List.{filter, flat_map, list_all, list_any}
 use Rattle.std.proofs.lemmas.Bool.{and_parts, and_from, or_parts, or_from}
@@ -16,7 +17,8 @@ in_from_contains (y ∷ ys) x (suc k, below, e) = inr (in_from_contains ys x (k,
 pub contains_from_in : {X : Type 0} (xs : List X) (x : X) → In xs x → Contains xs x
 contains_from_in [] x h = absurd h
 contains_from_in (y ∷ ys) x (inl e) = (0, omega arith, e)
-contains_from_in (y ∷ ys) x (inr h) = let c : Contains ys x = contains_from_in ys x h in let below : c.0 < length ys = c.1 in (suc c.0, omega arith, c.2)
+contains_from_in (y ∷ ys) x (inr h) =
+    let c : Contains ys x = contains_from_in ys x h in let below : c.0 < length ys = c.1 in (suc c.0, omega arith, c.2)
 
 pub in_left : {X : Type 0} (xs ys : List X) (x : X) → In xs x → In (xs ++ ys) x
 in_left [] ys x h = absurd h
@@ -40,17 +42,20 @@ pub in_filter : {X : Type 0} (test : X → Bool) (xs : List X) (x : X) → In xs
 in_filter test [] x h t = absurd h
 in_filter {X} test (y ∷ ys) x h t = by_test (test y) refl h (λ g. in_filter test ys x g t)
   where
-    by_test : (b : Bool) → test y ≡ b → (y ≡ x) ⊎ In ys x → (In ys x → In (filter test ys) x) → In (cond b (y ∷ filter test ys) (filter test ys)) x
+    by_test : (b : Bool) → test y ≡ b → (y ≡ x) ⊎ In ys x → (In ys x → In (filter test ys) x)
+        → In (cond b (y ∷ filter test ys) (filter test ys)) x
     by_test true is (inl e) ih = inl e
     by_test true is (inr g) ih = inr (ih g)
     by_test false is (inl e) ih = let u : test y ≡ test x = ap test e in cc
     by_test false is (inr g) ih = ih g
 
-pub from_filter : {X : Type 0} (test : X → Bool) (xs : List X) (x : X) → In (filter test xs) x → In xs x × (test x ≡ true)
+pub from_filter : {X : Type 0} (test : X → Bool) (xs : List X) (x : X) → In (filter test xs) x
+    → In xs x × (test x ≡ true)
 from_filter test [] x h = absurd h
 from_filter {X} test (y ∷ ys) x h = by_test (test y) refl h (λ g. from_filter test ys x g)
   where
-    by_test : (b : Bool) → test y ≡ b → In (cond b (y ∷ filter test ys) (filter test ys)) x → (In (filter test ys) x → In ys x × (test x ≡ true)) → In (y ∷ ys) x × (test x ≡ true)
+    by_test : (b : Bool) → test y ≡ b → In (cond b (y ∷ filter test ys) (filter test ys)) x
+        → (In (filter test ys) x → In ys x × (test x ≡ true)) → In (y ∷ ys) x × (test x ≡ true)
     by_test true is (inl e) ih = (inl e, subst (λ (z : X). test z ≡ true) e is)
     by_test true is (inr g) ih = let r : In ys x × (test x ≡ true) = ih g in (inr r.0, r.1)
     by_test false is g ih = let r : In ys x × (test x ≡ true) = ih g in (inr r.0, r.1)
@@ -77,16 +82,21 @@ get_in (y ∷ ys) x (inl e) = (0, ap Some e)
 get_in {X} (y ∷ ys) x (inr h) = let r : (i : ℕ) × (slice_get ys i ≡ Some x) = get_in ys x h in (suc r.0, r.1)
 
 -- what no member passes
-pub none_passes : {X : Type 0} (test : X → Bool) (xs : List X) → list_any test xs ≡ false → (x : X) → In xs x → test x ≡ false
+pub none_passes : {X : Type 0} (test : X → Bool) (xs : List X) → list_any test xs ≡ false → (x : X) → In xs x
+    → test x ≡ false
 none_passes test [] e x h = absurd h
-none_passes {X} test (y ∷ ys) e x (inl same) = subst (λ (z : X). test z ≡ false) same (or_parts (test y) (list_any test ys) e).0
+none_passes {X} test (y ∷ ys) e x (inl same) =
+    subst (λ (z : X). test z ≡ false) same (or_parts (test y) (list_any test ys) e).0
 none_passes test (y ∷ ys) e x (inr h) = none_passes test ys (or_parts (test y) (list_any test ys) e).1 x h
 
-pub any_fails : {X : Type 0} (test : X → Bool) (xs : List X) → ((x : X) → In xs x → test x ≡ false) → list_any test xs ≡ false
+pub any_fails : {X : Type 0} (test : X → Bool) (xs : List X) → ((x : X) → In xs x → test x ≡ false)
+    → list_any test xs ≡ false
 any_fails test [] h = refl
-any_fails test (y ∷ ys) h = or_from (test y) (list_any test ys) (h y (inl refl)) (any_fails test ys (λ x g. h x (inr g)))
+any_fails test (y ∷ ys) h =
+    or_from (test y) (list_any test ys) (h y (inl refl)) (any_fails test ys (λ x g. h x (inr g)))
 
-pub any_passes : {X : Type 0} (test : X → Bool) (xs : List X) (x : X) → In xs x → test x ≡ true → list_any test xs ≡ true
+pub any_passes : {X : Type 0} (test : X → Bool) (xs : List X) (x : X) → In xs x → test x ≡ true
+    → list_any test xs ≡ true
 any_passes test xs x h t = by_any (list_any test xs) refl
   where
     by_any : (b : Bool) → list_any test xs ≡ b → list_any test xs ≡ true
@@ -94,7 +104,8 @@ any_passes test xs x h t = by_any (list_any test xs) refl
     by_any false e = let off : test x ≡ false = none_passes test xs e x h in cc
 
 -- some member passes, or none does
-pub some_or_none : {X : Type 0} (test : X → Bool) (xs : List X) → ((x : X) × In xs x × (test x ≡ true)) ⊎ ((x : X) → In xs x → test x ≡ false)
+pub some_or_none : {X : Type 0} (test : X → Bool) (xs : List X)
+    → ((x : X) × In xs x × (test x ≡ true)) ⊎ ((x : X) → In xs x → test x ≡ false)
 some_or_none test [] = inr (λ x h. absurd h)
 some_or_none {X} test (y ∷ ys) = by_test (test y) refl (some_or_none test ys)
   where
@@ -104,30 +115,37 @@ some_or_none {X} test (y ∷ ys) = by_test (test y) refl (some_or_none test ys)
     by_test false is (inl (x, h, t)) = inl (x, inr h, t)
     by_test false is (inr none) = inr (λ x. elim [ inl e ↦ subst (λ (z : X). test z ≡ false) e is | inr h ↦ none x h ])
 
-pub get_from_map : {X Y : Type 0} (f : X → Y) (xs : List X) (i : ℕ) (y : Y) → slice_get (map f xs) i ≡ Some y → (x : X) × (slice_get xs i ≡ Some x) × (f x ≡ y)
+pub get_from_map : {X Y : Type 0} (f : X → Y) (xs : List X) (i : ℕ) (y : Y) → slice_get (map f xs) i ≡ Some y
+    → (x : X) × (slice_get xs i ≡ Some x) × (f x ≡ y)
 get_from_map f [] i y e = cc
 get_from_map f (x ∷ xs) zero y e = (x, refl, cc)
 get_from_map f (x ∷ xs) (suc i) y e = get_from_map f xs i y e
 
-pub in_flat_map : {X Y : Type 0} (f : X → List Y) (xs : List X) (x : X) (y : Y) → In xs x → In (f x) y → In (flat_map f xs) y
+pub in_flat_map : {X Y : Type 0} (f : X → List Y) (xs : List X) (x : X) (y : Y) → In xs x → In (f x) y
+    → In (flat_map f xs) y
 in_flat_map f [] x y h g = absurd h
 in_flat_map {X} {Y} f (z ∷ zs) x y (inl e) g = in_left (f z) (flat_map f zs) y (subst (λ (w : X). In (f w) y) (sym e) g)
 in_flat_map f (z ∷ zs) x y (inr h) g = in_right (f z) (flat_map f zs) y (in_flat_map f zs x y h g)
 
-pub from_flat_map : {X Y : Type 0} (f : X → List Y) (xs : List X) (y : Y) → In (flat_map f xs) y → (x : X) × In xs x × In (f x) y
+pub from_flat_map : {X Y : Type 0} (f : X → List Y) (xs : List X) (y : Y) → In (flat_map f xs) y
+    → (x : X) × In xs x × In (f x) y
 from_flat_map f [] y h = absurd h
 from_flat_map {X} {Y} f (z ∷ zs) y h = by_part (in_either (f z) (flat_map f zs) y h) (λ g. from_flat_map f zs y g)
   where
-    by_part : In (f z) y ⊎ In (flat_map f zs) y → (In (flat_map f zs) y → (x : X) × In zs x × In (f x) y) → (x : X) × In (z ∷ zs) x × In (f x) y
+    by_part : In (f z) y ⊎ In (flat_map f zs) y → (In (flat_map f zs) y → (x : X) × In zs x × In (f x) y)
+        → (x : X) × In (z ∷ zs) x × In (f x) y
     by_part (inl g) ih = (z, inl refl, g)
     by_part (inr g) ih = let r : (x : X) × In zs x × In (f x) y = ih g in (r.0, inr r.1, r.2)
 
 -- what all members pass
-pub all_pass : {X : Type 0} (test : X → Bool) (xs : List X) → list_all test xs ≡ true → (x : X) → In xs x → test x ≡ true
+pub all_pass : {X : Type 0} (test : X → Bool) (xs : List X) → list_all test xs ≡ true → (x : X) → In xs x
+    → test x ≡ true
 all_pass test [] h x among = absurd among
 all_pass {X} test (y ∷ xs) h x (inl e) = subst (λ (z : X). test z ≡ true) e (and_parts (test y) (list_all test xs) h).0
 all_pass test (y ∷ xs) h x (inr among) = all_pass test xs (and_parts (test y) (list_all test xs) h).1 x among
 
-pub all_passed : {X : Type 0} (test : X → Bool) (xs : List X) → ((x : X) → In xs x → test x ≡ true) → list_all test xs ≡ true
+pub all_passed : {X : Type 0} (test : X → Bool) (xs : List X) → ((x : X) → In xs x → test x ≡ true)
+    → list_all test xs ≡ true
 all_passed test [] h = refl
-all_passed test (y ∷ xs) h = and_from (test y) (list_all test xs) (h y (inl refl)) (all_passed test xs (λ x among. h x (inr among)))
+all_passed test (y ∷ xs) h =
+    and_from (test y) (list_all test xs) (h y (inl refl)) (all_passed test xs (λ x among. h x (inr among)))

@@ -1,5 +1,7 @@
 -- Lists in the order of keys: what a search finds, and what the entry of a key says after a change.
-use Rattle.std.proofs.Common.{◌≡◌, ℕ, zero, suc, ◌+◌, ◌<◌, ◌≤◌, Bool, true, false, if◌then◌else◌, ◌&&◌, List, [], ◌∷◌, ◌++◌, length, map, get_or, take, drop, set, Result, Ok, Err, IfOk, IfErr, refl, sym, ◌∙◌, ap, subst, arith}
+use Rattle.std.proofs.Common.{◌≡◌, ℕ, zero, suc, ◌+◌, ◌<◌, ◌≤◌, Bool, true, false, if◌then◌else◌, ◌&&◌, List, [], ◌∷◌}
+use Rattle.std.proofs.Common.{◌++◌, length, map, get_or, take, drop, set, Result, Ok, Err, IfOk, IfErr, refl, sym, ◌∙◌}
+use Rattle.std.proofs.Common.{ap, subst, arith}
 use Rattle.std.specs.List.{list_all, insert, HoldsAt, AllWithin}
 use Rattle.std.specs.List.Sorted.{IsSearchInRange, IsBinarySearchResult, IsNonDecreasingBy, IsPartitionPoint}
 use Rattle.std.specs.declared.cmp.Ordering.{Ordering}
@@ -36,23 +38,29 @@ either Q false q r = r
 
 -- ---- lists
 
-pub list_all-append : {X : Type 0} (p : X → Bool) (xs ys : List X) → list_all p xs ≡ true → list_all p ys ≡ true → list_all p (xs ++ ys) ≡ true
+pub list_all-append : {X : Type 0} (p : X → Bool) (xs ys : List X) → list_all p xs ≡ true → list_all p ys ≡ true
+    → list_all p (xs ++ ys) ≡ true
 list_all-append p [] ys h k = k
-list_all-append p (x ∷ xs) ys h k = and_from (p x) _ (first_of_both (p x) _ h) (list_all-append p xs ys (second_of_both (p x) _ h) k)
+list_all-append p (x ∷ xs) ys h k =
+    and_from (p x) _ (first_of_both (p x) _ h) (list_all-append p xs ys (second_of_both (p x) _ h) k)
 
 pub list_all-left : {X : Type 0} (p : X → Bool) (xs ys : List X) → list_all p (xs ++ ys) ≡ true → list_all p xs ≡ true
 list_all-left p [] ys h = refl
-list_all-left p (x ∷ xs) ys h = and_from (p x) _ (first_of_both (p x) _ h) (list_all-left p xs ys (second_of_both (p x) _ h))
+list_all-left p (x ∷ xs) ys h =
+    and_from (p x) _ (first_of_both (p x) _ h) (list_all-left p xs ys (second_of_both (p x) _ h))
 
 pub list_all-right : {X : Type 0} (p : X → Bool) (xs ys : List X) → list_all p (xs ++ ys) ≡ true → list_all p ys ≡ true
 list_all-right p [] ys h = h
 list_all-right p (x ∷ xs) ys h = list_all-right p xs ys (second_of_both (p x) _ h)
 
-pub list_all-mono : {X : Type 0} (p q : X → Bool) → ((x : X) → p x ≡ true → q x ≡ true) → (xs : List X) → list_all p xs ≡ true → list_all q xs ≡ true
+pub list_all-mono : {X : Type 0} (p q : X → Bool) → ((x : X) → p x ≡ true → q x ≡ true) → (xs : List X)
+    → list_all p xs ≡ true → list_all q xs ≡ true
 list_all-mono p q f [] h = refl
-list_all-mono p q f (x ∷ xs) h = and_from (q x) _ (f x (first_of_both (p x) _ h)) (list_all-mono p q f xs (second_of_both (p x) _ h))
+list_all-mono p q f (x ∷ xs) h =
+    and_from (q x) _ (f x (first_of_both (p x) _ h)) (list_all-mono p q f xs (second_of_both (p x) _ h))
 
-pub list_all-map : {X Y : Type 0} (p : Y → Bool) (f : X → Y) (xs : List X) → list_all p (map f xs) ≡ list_all (λ x. p (f x)) xs
+pub list_all-map : {X Y : Type 0} (p : Y → Bool) (f : X → Y) (xs : List X)
+    → list_all p (map f xs) ≡ list_all (λ x. p (f x)) xs
 list_all-map p f [] = refl
 list_all-map p f (x ∷ xs) = ap (λ b. p (f x) && b) (list_all-map p f xs)
 
@@ -87,14 +95,24 @@ pub cut : {X : Type 0} (xs : List X) (at : ℕ) → at < length xs → IsCut xs 
 cut [] at h = absurd (omega arith)
 cut (x ∷ xs) zero h = record { before = []; here = x; after = xs; split = refl; is_at = refl }
 cut (x ∷ xs) (suc at) h = let c : IsCut xs at = cut xs at (omega arith) in
-    record { before = x ∷ c.before; here = c.here; after = c.after; split = ap (λ l. x ∷ l) c.split; is_at = ap suc c.is_at }
+    record {
+      before = x ∷ c.before;
+      here = c.here;
+      after = c.after;
+      split = ap (λ l. x ∷ l) c.split;
+      is_at = ap suc c.is_at;
+    }
 
 -- what holds within a range of places holds of each element there
-pub all_from_within : {X : Type 0} (p : X → Bool) (xs : List X) → AllWithin (λ x. p x ≡ true) xs 0 (length xs) → list_all p xs ≡ true
+pub all_from_within : {X : Type 0} (p : X → Bool) (xs : List X) → AllWithin (λ x. p x ≡ true) xs 0 (length xs)
+    → list_all p xs ≡ true
 all_from_within p [] h = refl
-all_from_within p (x ∷ xs) h = and_from (p x) _ (h 0 x (omega arith) (omega arith)) (all_from_within p xs (λ k d low high. h (suc k) d (omega arith) (omega arith)))
+all_from_within p (x ∷ xs) h =
+    and_from (p x) _ (h 0 x (omega arith) (omega arith))
+    (all_from_within p xs (λ k d low high. h (suc k) d (omega arith) (omega arith)))
 
-pub within_from_all : {X : Type 0} (p : X → Bool) (xs : List X) → list_all p xs ≡ true → (k : ℕ) (d : X) → k < length xs → p (get_or xs k d) ≡ true
+pub within_from_all : {X : Type 0} (p : X → Bool) (xs : List X) → list_all p xs ≡ true → (k : ℕ) (d : X) → k < length xs
+    → p (get_or xs k d) ≡ true
 within_from_all p [] h k d lt = absurd (omega arith)
 within_from_all p (x ∷ xs) h zero d lt = first_of_both (p x) _ h
 within_from_all p (x ∷ xs) h (suc k) d lt = within_from_all p xs (second_of_both (p x) _ h) k d (omega arith)
@@ -115,12 +133,18 @@ module _ {K : Type 0} (cmp : K → K → Ordering) (total : IsTotalOrder cmp) wh
           by_low Greater = omega arith
 
   -- the key of one entry is below the keys of those after it
-  pub ascending_split : (ks ls : List K) (k : K) → are_ascending cmp (ks ++ k ∷ ls) ≡ true → record { lower : list_all (λ l. is_lt (cmp l k)) ks ≡ true; higher : list_all (λ l. is_lt (cmp k l)) ls ≡ true }
+  pub ascending_split : (ks ls : List K) (k : K) → are_ascending cmp (ks ++ k ∷ ls) ≡ true
+      → record { lower : list_all (λ l. is_lt (cmp l k)) ks ≡ true; higher : list_all (λ l. is_lt (cmp k l)) ls ≡ true }
   ascending_split [] ls k h = record { lower = refl; higher = first_of_both (list_all (λ l. is_lt (cmp k l)) ls) _ h }
   ascending_split (j ∷ ks) ls k h =
       let rest = ascending_split ks ls k (second_of_both (list_all (λ l. is_lt (cmp j l)) (ks ++ k ∷ ls)) _ h) in
-      let first : list_all (λ l. is_lt (cmp j l)) (k ∷ ls) ≡ true = list_all-right (λ l. is_lt (cmp j l)) ks (k ∷ ls) (first_of_both (list_all (λ l. is_lt (cmp j l)) (ks ++ k ∷ ls)) _ h) in
-      record { lower = and_from (is_lt (cmp j k)) _ (first_of_both (is_lt (cmp j k)) _ first) rest.lower; higher = rest.higher }
+      let first : list_all (λ l. is_lt (cmp j l)) (k ∷ ls) ≡ true =
+      list_all-right (λ l. is_lt (cmp j l)) ks (k ∷ ls)
+      (first_of_both (list_all (λ l. is_lt (cmp j l)) (ks ++ k ∷ ls)) _ h) in
+      record {
+        lower = and_from (is_lt (cmp j k)) _ (first_of_both (is_lt (cmp j k)) _ first) rest.lower;
+        higher = rest.higher;
+      }
 
   -- a key that is equal to another compares as it does
   is_lt_alike : (k l m : K) → cmp l m ≡ Equal → is_lt (cmp k l) ≡ true → is_lt (cmp k m) ≡ true
@@ -135,29 +159,43 @@ module _ {K : Type 0} (cmp : K → K → Ordering) (total : IsTotalOrder cmp) wh
   is_lt_from_gt k l h = rw (total.antisymm k l, is_gt_greater (cmp l k) h) refl
 
   -- an ascending list with a key more, in its gap
-  pub ascending_insert : (ks ls : List K) (k : K) → are_ascending cmp (ks ++ ls) ≡ true → list_all (λ l. is_lt (cmp l k)) ks ≡ true → list_all (λ l. is_gt (cmp l k)) ls ≡ true → are_ascending cmp (ks ++ k ∷ ls) ≡ true
-  ascending_insert [] ls k h below above = and_from _ _ (list_all-mono (λ l. is_gt (cmp l k)) (λ l. is_lt (cmp k l)) (λ l g. is_lt_from_gt k l g) ls above) h
+  pub ascending_insert : (ks ls : List K) (k : K) → are_ascending cmp (ks ++ ls) ≡ true
+      → list_all (λ l. is_lt (cmp l k)) ks ≡ true → list_all (λ l. is_gt (cmp l k)) ls ≡ true
+      → are_ascending cmp (ks ++ k ∷ ls) ≡ true
+  ascending_insert [] ls k h below above =
+      and_from _ _ (list_all-mono (λ l. is_gt (cmp l k)) (λ l. is_lt (cmp k l)) (λ l g. is_lt_from_gt k l g) ls above) h
   ascending_insert (j ∷ ks) ls k h below above =
       let first = first_of_both (list_all (λ l. is_lt (cmp j l)) (ks ++ ls)) _ h in
       and_from _ _
-      (list_all-append (λ l. is_lt (cmp j l)) ks (k ∷ ls) (list_all-left _ ks ls first) (and_from _ _ (first_of_both (is_lt (cmp j k)) _ below) (list_all-right _ ks ls first)))
-      (ascending_insert ks ls k (second_of_both (list_all (λ l. is_lt (cmp j l)) (ks ++ ls)) _ h) (second_of_both (is_lt (cmp j k)) _ below) above)
+      (list_all-append (λ l. is_lt (cmp j l)) ks (k ∷ ls) (list_all-left _ ks ls first)
+      (and_from _ _ (first_of_both (is_lt (cmp j k)) _ below) (list_all-right _ ks ls first)))
+      (ascending_insert ks ls k (second_of_both (list_all (λ l. is_lt (cmp j l)) (ks ++ ls)) _ h)
+      (second_of_both (is_lt (cmp j k)) _ below) above)
 
   module _ {E : Type 0} (key : E → K) where
     -- the comparisons with a key rise along an ascending list
-    comparisons_rise : (es : List E) (k : K) → are_ascending cmp (map key es) ≡ true → IsNonDecreasingBy (λ e. ordering_index (cmp (key e) k)) es
+    comparisons_rise : (es : List E) (k : K) → are_ascending cmp (map key es) ≡ true
+        → IsNonDecreasingBy (λ e. ordering_index (cmp (key e) k)) es
     comparisons_rise [] k h i j d le lt = absurd (omega arith)
     comparisons_rise (e ∷ es) k h zero zero d le lt = omega arith
     comparisons_rise (e ∷ es) k h zero (suc j) d le lt =
-        let below : list_all (λ f. is_lt (cmp (key e) (key f))) es ≡ true = sym (list_all-map (λ l. is_lt (cmp (key e) l)) key es) ∙ first_of_both (list_all (λ l. is_lt (cmp (key e) l)) (map key es)) _ h in
-        index_le (key e) (key (get_or es j d)) k (is_lt_less _ (within_from_all (λ f. is_lt (cmp (key e) (key f))) es below j d (omega arith)))
+        let below : list_all (λ f. is_lt (cmp (key e) (key f))) es ≡ true =
+        sym (list_all-map (λ l. is_lt (cmp (key e) l)) key es)
+        ∙ first_of_both (list_all (λ l. is_lt (cmp (key e) l)) (map key es)) _ h in
+        index_le (key e) (key (get_or es j d)) k
+        (is_lt_less _ (within_from_all (λ f. is_lt (cmp (key e) (key f))) es below j d (omega arith)))
     comparisons_rise (e ∷ es) k h (suc i) zero d le lt = absurd (omega arith)
-    comparisons_rise (e ∷ es) k h (suc i) (suc j) d le lt = comparisons_rise es k (second_of_both (list_all (λ l. is_lt (cmp (key e) l)) (map key es)) _ h) i j d (omega arith) (omega arith)
+    comparisons_rise (e ∷ es) k h (suc i) (suc j) d le lt =
+        comparisons_rise es k (second_of_both (list_all (λ l. is_lt (cmp (key e) l)) (map key es)) _ h) i j d
+        (omega arith) (omega arith)
 
     -- an entry of the key in an ascending list is its place
-    pub place : (es before after : List E) (here : E) (k : K) (at : ℕ) → es ≡ before ++ here ∷ after → at ≡ length before → are_ascending cmp (map key es) ≡ true → cmp (key here) k ≡ Equal → IsPlace cmp key es k at
+    pub place : (es before after : List E) (here : E) (k : K) (at : ℕ) → es ≡ before ++ here ∷ after
+        → at ≡ length before → are_ascending cmp (map key es) ≡ true → cmp (key here) k ≡ Equal
+        → IsPlace cmp key es k at
     place es before after here k at split is_at ascending same =
-        let keys : are_ascending cmp (map key before ++ key here ∷ map key after) ≡ true = rw (sym (map-append key before (here ∷ after)) ∙ ap (map key) (sym split)) ascending in
+        let keys : are_ascending cmp (map key before ++ key here ∷ map key after) ≡ true =
+        rw (sym (map-append key before (here ∷ after)) ∙ ap (map key) (sym split)) ascending in
         let parts = ascending_split (map key before) (map key after) (key here) keys in
         record {
           before = before;
@@ -165,21 +203,35 @@ module _ {K : Type 0} (cmp : K → K → Ordering) (total : IsTotalOrder cmp) wh
           after = after;
           split = split;
           is_at = is_at;
-          below = sym (list_all-map (λ l. is_lt (cmp l k)) key before) ∙ list_all-mono (λ l. is_lt (cmp l (key here))) (λ l. is_lt (cmp l k)) (λ l h. is_lt_alike l (key here) k same h) (map key before) parts.lower;
+          below =
+              sym (list_all-map (λ l. is_lt (cmp l k)) key before)
+              ∙ list_all-mono (λ l. is_lt (cmp l (key here))) (λ l. is_lt (cmp l k))
+              (λ l h. is_lt_alike l (key here) k same h) (map key before) parts.lower;
           same = ap is_eq same;
-          above = sym (list_all-map (λ l. is_gt (cmp l k)) key after) ∙ list_all-mono (λ l. is_lt (cmp (key here) l)) (λ l. is_gt (cmp l k)) (λ l h. is_gt_from_lt (key here) l k same h) (map key after) parts.higher;
+          above =
+              sym (list_all-map (λ l. is_gt (cmp l k)) key after)
+              ∙ list_all-mono (λ l. is_lt (cmp (key here) l)) (λ l. is_gt (cmp l k))
+              (λ l h. is_gt_from_lt (key here) l k same h) (map key after) parts.higher;
         }
 
     -- what a binary search finds
-    found_there : (es : List E) (k : K) (at : ℕ) → are_ascending cmp (map key es) ≡ true → at < length es → HoldsAt (λ e. cmp (key e) k ≡ Equal) es at → IsPlace cmp key es k at
+    found_there : (es : List E) (k : K) (at : ℕ) → are_ascending cmp (map key es) ≡ true → at < length es
+        → HoldsAt (λ e. cmp (key e) k ≡ Equal) es at → IsPlace cmp key es k at
     found_there es k at ascending lt holds =
         let c : IsCut es at = cut es at lt in
-        place es c.before c.after c.here k at c.split c.is_at ascending (there es c.before c.after c.here at c.split c.is_at (holds c.here))
+        place es c.before c.after c.here k at c.split c.is_at ascending
+        (there es c.before c.after c.here at c.split c.is_at (holds c.here))
       where
-        there : (es before after : List E) (here : E) (at : ℕ) → es ≡ before ++ here ∷ after → at ≡ length before → cmp (key (get_or es at here)) k ≡ Equal → cmp (key here) k ≡ Equal
-        there es before after here at split is_at h = subst (λ e. cmp (key e) k ≡ Equal) (ap (λ l. get_or l at here) split ∙ ap (λ n. get_or (before ++ here ∷ after) n here) is_at ∙ get_or-seam before after here here) h
+        there : (es before after : List E) (here : E) (at : ℕ) → es ≡ before ++ here ∷ after → at ≡ length before
+            → cmp (key (get_or es at here)) k ≡ Equal → cmp (key here) k ≡ Equal
+        there es before after here at split is_at h =
+            subst (λ e. cmp (key e) k ≡ Equal)
+            (ap (λ l. get_or l at here) split ∙ ap (λ n. get_or (before ++ here ∷ after) n here) is_at
+            ∙ get_or-seam before after here here)
+            h
 
-    gap : (es : List E) (k : K) (at : ℕ) → at ≤ length es → IsPartitionPoint (λ e. cmp (key e) k ≡ Less) (λ e. cmp (key e) k ≡ Greater) es at → IsGap cmp key es k at
+    gap : (es : List E) (k : K) (at : ℕ) → at ≤ length es
+        → IsPartitionPoint (λ e. cmp (key e) k ≡ Less) (λ e. cmp (key e) k ≡ Greater) es at → IsGap cmp key es k at
     gap es k at le parted = record {
       before = take at es;
       after = drop at es;
@@ -188,7 +240,10 @@ module _ {K : Type 0} (cmp : K → K → Ordering) (total : IsTotalOrder cmp) wh
       below = all_from_within (λ e. is_lt (cmp (key e) k)) (take at es) (λ i d low high.
           let lt : i < at = omega (arith, length-front at es le) in
           ap is_lt (ap (λ e. cmp (key e) k) (front at es i d lt) ∙ parted.0 i d low lt));
-      above = all_from_within (λ e. is_gt (cmp (key e) k)) (drop at es) (λ i d low high. ap is_gt (ap (λ e. cmp (key e) k) (back at es i d) ∙ parted.1 (at + i) d (omega arith) (room at es i le high)));
+      above =
+          all_from_within (λ e. is_gt (cmp (key e) k)) (drop at es)
+          (λ i d low high. ap is_gt
+          (ap (λ e. cmp (key e) k) (back at es i d) ∙ parted.1 (at + i) d (omega arith) (room at es i le high)));
     }
       where
         length-front : {X : Type 0} (n : ℕ) (xs : List X) → n ≤ length xs → length (take n xs) ≡ n
@@ -208,51 +263,71 @@ module _ {K : Type 0} (cmp : K → K → Ordering) (total : IsTotalOrder cmp) wh
         room : {X : Type 0} (n : ℕ) (xs : List X) (i : ℕ) → n ≤ length xs → i < length (drop n xs) → n + i < length xs
         room n xs i h k = omega (arith, length-drop n xs)
 
-    pub searched : (es : List E) (k : K) (r : Result ℕ ℕ) → are_ascending cmp (map key es) ≡ true → IsSearchInRange r (length es) → IsBinarySearchResult (λ e. cmp (key e) k) es r
+    pub searched : (es : List E) (k : K) (r : Result ℕ ℕ) → are_ascending cmp (map key es) ≡ true
+        → IsSearchInRange r (length es) → IsBinarySearchResult (λ e. cmp (key e) k) es r
         → record { found : IfOk r (IsPlace cmp key es k); absent : IfErr r (IsGap cmp key es k) }
     searched es k (Ok at) ascending lt holds = record { found = found_there es k at ascending lt holds; absent = tt }
-    searched es k (Err at) ascending le parted = record { found = tt; absent = gap es k at le (parted (comparisons_rise es k ascending)) }
+    searched es k (Err at) ascending le parted =
+        record { found = tt; absent = gap es k at le (parted (comparisons_rise es k ascending)) }
 
     -- ---- what the entry of a key says
 
     module _ {V : Type 0} (says : E → V) (none : V) where
       -- lesser entries are passed over
-      skips : (es rest : List E) (k q : K) → list_all (λ e. is_lt (cmp (key e) k)) es ≡ true → is_eq (cmp k q) ≡ true → value_at cmp key says none (es ++ rest) q ≡ value_at cmp key says none rest q
+      skips : (es rest : List E) (k q : K) → list_all (λ e. is_lt (cmp (key e) k)) es ≡ true → is_eq (cmp k q) ≡ true
+          → value_at cmp key says none (es ++ rest) q ≡ value_at cmp key says none rest q
       skips [] rest k q below same = refl
       skips (e ∷ es) rest k q below same =
-          let less : cmp (key e) q ≡ Less = sym (alike_right total k q (key e) (is_eq_equal _ same)) ∙ is_lt_less _ (first_of_both (is_lt (cmp (key e) k)) _ below) in
+          let less : cmp (key e) q ≡ Less =
+          sym (alike_right total k q (key e) (is_eq_equal _ same))
+          ∙ is_lt_less _ (first_of_both (is_lt (cmp (key e) k)) _ below) in
           rw less (skips es rest k q (second_of_both (is_lt (cmp (key e) k)) _ below) same)
 
       -- the same beginning changes nothing
-      behind : (es rest others : List E) (q : K) → value_at cmp key says none rest q ≡ value_at cmp key says none others q → value_at cmp key says none (es ++ rest) q ≡ value_at cmp key says none (es ++ others) q
+      behind : (es rest others : List E) (q : K)
+          → value_at cmp key says none rest q ≡ value_at cmp key says none others q
+          → value_at cmp key says none (es ++ rest) q ≡ value_at cmp key says none (es ++ others) q
       behind [] rest others q h = h
-      behind (e ∷ es) rest others q h = ap (λ v. if is_eq (cmp (key e) q) then says e else v) (behind es rest others q h)
+      behind (e ∷ es) rest others q h =
+          ap (λ v. if is_eq (cmp (key e) q) then says e else v) (behind es rest others q h)
 
       -- greater entries alone say nothing
-      greater : (es : List E) (k : K) → list_all (λ e. is_gt (cmp (key e) k)) es ≡ true → value_at cmp key says none es k ≡ none
+      greater : (es : List E) (k : K) → list_all (λ e. is_gt (cmp (key e) k)) es ≡ true
+          → value_at cmp key says none es k ≡ none
       greater [] k above = refl
-      greater (e ∷ es) k above = rw (is_gt_greater _ (first_of_both (is_gt (cmp (key e) k)) _ above)) (greater es k (second_of_both (is_gt (cmp (key e) k)) _ above))
+      greater (e ∷ es) k above =
+          rw (is_gt_greater _ (first_of_both (is_gt (cmp (key e) k)) _ above))
+          (greater es k (second_of_both (is_gt (cmp (key e) k)) _ above))
 
-      pub at_place : (es : List E) (k : K) (at : ℕ) → (p : IsPlace cmp key es k at) → value_at cmp key says none es k ≡ says p.entry
-      at_place es k at p = rw p.split (skips p.before (p.entry ∷ p.after) k k p.below (ap is_eq (tied_itself total k)) ∙ rw p.same refl)
+      pub at_place : (es : List E) (k : K) (at : ℕ) → (p : IsPlace cmp key es k at)
+          → value_at cmp key says none es k ≡ says p.entry
+      at_place es k at p =
+          rw p.split (skips p.before (p.entry ∷ p.after) k k p.below (ap is_eq (tied_itself total k)) ∙ rw p.same refl)
 
       pub at_gap : (es : List E) (k : K) (at : ℕ) → IsGap cmp key es k at → value_at cmp key says none es k ≡ none
-      at_gap es k at g = rw g.split (skips g.before g.after k k g.below (ap is_eq (tied_itself total k)) ∙ greater g.after k g.above)
+      at_gap es k at g =
+          rw g.split (skips g.before g.after k k g.below (ap is_eq (tied_itself total k)) ∙ greater g.after k g.above)
 
       -- an entry with an equal key answers for the key
       is_eq_alike : (j k q : K) → is_eq (cmp j k) ≡ true → is_eq (cmp j q) ≡ is_eq (cmp k q)
       is_eq_alike j k q same = ap is_eq (total.congr j k q (is_eq_equal _ same))
 
       -- the entry of a key is another one now
-      pub replaced : (es : List E) (k : K) (at : ℕ) (p : IsPlace cmp key es k at) (e : E) → is_eq (cmp (key e) k) ≡ true → (q : K)
-          → value_at cmp key says none (p.before ++ e ∷ p.after) q ≡ (if is_eq (cmp k q) then says e else value_at cmp key says none es q)
+      pub replaced : (es : List E) (k : K) (at : ℕ) (p : IsPlace cmp key es k at) (e : E) → is_eq (cmp (key e) k) ≡ true
+          → (q : K)
+          → value_at cmp key says none (p.before ++ e ∷ p.after) q
+          ≡ (if is_eq (cmp k q) then says e else value_at cmp key says none es q)
       replaced es k at p e same q = by_bool (is_eq (cmp k q))
           (λ h. skips p.before (e ∷ p.after) k q p.below h ∙ rw (is_eq_alike (key e) k q same, h) refl)
-          (λ h. rw (p.split, h) (behind p.before (e ∷ p.after) (p.entry ∷ p.after) q (rw (is_eq_alike (key e) k q same, is_eq_alike (key p.entry) k q p.same, h) refl)))
+          (λ h. rw (p.split, h)
+          (behind p.before (e ∷ p.after) (p.entry ∷ p.after) q
+          (rw (is_eq_alike (key e) k q same, is_eq_alike (key p.entry) k q p.same, h) refl)))
 
       -- a key has an entry from now on
-      pub inserted : (es : List E) (k : K) (at : ℕ) (g : IsGap cmp key es k at) (e : E) → is_eq (cmp (key e) k) ≡ true → (q : K)
-          → value_at cmp key says none (g.before ++ e ∷ g.after) q ≡ (if is_eq (cmp k q) then says e else value_at cmp key says none es q)
+      pub inserted : (es : List E) (k : K) (at : ℕ) (g : IsGap cmp key es k at) (e : E) → is_eq (cmp (key e) k) ≡ true
+          → (q : K)
+          → value_at cmp key says none (g.before ++ e ∷ g.after) q
+          ≡ (if is_eq (cmp k q) then says e else value_at cmp key says none es q)
       inserted es k at g e same q = by_bool (is_eq (cmp k q))
           (λ h. skips g.before (e ∷ g.after) k q g.below h ∙ rw (is_eq_alike (key e) k q same, h) refl)
           (λ h. rw (g.split, h) (behind g.before (e ∷ g.after) g.after q (rw (is_eq_alike (key e) k q same, h) refl)))
@@ -260,53 +335,85 @@ module _ {K : Type 0} (cmp : K → K → Ordering) (total : IsTotalOrder cmp) wh
     -- ---- by place
 
     pub read_place : (es : List E) (k : K) (at : ℕ) (p : IsPlace cmp key es k at) (d : E) → get_or es at d ≡ p.entry
-    read_place es k at p d = ap (λ l. get_or l at d) p.split ∙ ap (λ n. get_or (p.before ++ p.entry ∷ p.after) n d) p.is_at ∙ get_or-seam p.before p.after p.entry d
+    read_place es k at p d =
+        ap (λ l. get_or l at d) p.split ∙ ap (λ n. get_or (p.before ++ p.entry ∷ p.after) n d) p.is_at
+        ∙ get_or-seam p.before p.after p.entry d
 
-    pub set_place : (es : List E) (k : K) (at : ℕ) (p : IsPlace cmp key es k at) (e : E) → set es at e ≡ p.before ++ e ∷ p.after
-    set_place es k at p e = ap (λ l. set l at e) p.split ∙ ap (λ n. set (p.before ++ p.entry ∷ p.after) n e) p.is_at ∙ set-seam p.before p.after p.entry e
+    pub set_place : (es : List E) (k : K) (at : ℕ) (p : IsPlace cmp key es k at) (e : E)
+        → set es at e ≡ p.before ++ e ∷ p.after
+    set_place es k at p e =
+        ap (λ l. set l at e) p.split ∙ ap (λ n. set (p.before ++ p.entry ∷ p.after) n e) p.is_at
+        ∙ set-seam p.before p.after p.entry e
 
-    pub insert_gap : (es : List E) (k : K) (at : ℕ) (g : IsGap cmp key es k at) (e : E) → insert es at e ≡ g.before ++ e ∷ g.after
-    insert_gap es k at g e = ap (λ l. insert l at e) g.split ∙ ap (λ n. insert (g.before ++ g.after) n e) g.is_at ∙ insert-seam g.before g.after e
+    pub insert_gap : (es : List E) (k : K) (at : ℕ) (g : IsGap cmp key es k at) (e : E)
+        → insert es at e ≡ g.before ++ e ∷ g.after
+    insert_gap es k at g e =
+        ap (λ l. insert l at e) g.split ∙ ap (λ n. insert (g.before ++ g.after) n e) g.is_at
+        ∙ insert-seam g.before g.after e
 
-    pub ascending_set_at : (es : List E) (k : K) (at : ℕ) (p : IsPlace cmp key es k at) (e : E) → key e ≡ key p.entry → are_ascending cmp (map key es) ≡ true → are_ascending cmp (map key (set es at e)) ≡ true
+    pub ascending_set_at : (es : List E) (k : K) (at : ℕ) (p : IsPlace cmp key es k at) (e : E) → key e ≡ key p.entry
+        → are_ascending cmp (map key es) ≡ true → are_ascending cmp (map key (set es at e)) ≡ true
     ascending_set_at es k at p e same h =
-        let keys : map key (set es at e) ≡ map key es = ap (map key) (set_place es k at p e) ∙ map-append key p.before (e ∷ p.after) ∙ ap (λ x. map key p.before ++ x ∷ map key p.after) same ∙ sym (map-append key p.before (p.entry ∷ p.after)) ∙ ap (map key) (sym p.split) in
+        let keys : map key (set es at e) ≡ map key es =
+        ap (map key) (set_place es k at p e) ∙ map-append key p.before (e ∷ p.after)
+        ∙ ap (λ x. map key p.before ++ x ∷ map key p.after) same
+        ∙ sym (map-append key p.before (p.entry ∷ p.after)) ∙ ap (map key) (sym p.split) in
         ap (are_ascending cmp) keys ∙ h
 
-    pub ascending_insert_at : (es : List E) (k : K) (at : ℕ) (g : IsGap cmp key es k at) (e : E) → is_eq (cmp (key e) k) ≡ true → are_ascending cmp (map key es) ≡ true → are_ascending cmp (map key (insert es at e)) ≡ true
+    pub ascending_insert_at : (es : List E) (k : K) (at : ℕ) (g : IsGap cmp key es k at) (e : E)
+        → is_eq (cmp (key e) k) ≡ true → are_ascending cmp (map key es) ≡ true
+        → are_ascending cmp (map key (insert es at e)) ≡ true
     ascending_insert_at es k at g e same h =
         let equal : cmp k (key e) ≡ Equal = tied_back total (key e) k (is_eq_equal _ same) in
-        ap (λ l. are_ascending cmp (map key l)) (insert_gap es k at g e) ∙ ap (are_ascending cmp) (map-append key g.before (e ∷ g.after))
+        ap (λ l. are_ascending cmp (map key l)) (insert_gap es k at g e)
+        ∙ ap (are_ascending cmp) (map-append key g.before (e ∷ g.after))
         ∙ ascending_insert (map key g.before) (map key g.after) (key e)
         (ap (are_ascending cmp) (sym (map-append key g.before g.after) ∙ ap (map key) (sym g.split)) ∙ h)
-        (list_all-map _ key g.before ∙ list_all-mono (λ f. is_lt (cmp (key f) k)) (λ f. is_lt (cmp (key f) (key e))) (λ f l. is_lt_alike (key f) k (key e) equal l) g.before g.below)
-        (list_all-map _ key g.after ∙ list_all-mono (λ f. is_gt (cmp (key f) k)) (λ f. is_gt (cmp (key f) (key e))) (λ f l. ap is_gt (sym (alike_right total k (key e) (key f) equal)) ∙ l) g.after g.above)
+        (list_all-map _ key g.before
+        ∙ list_all-mono (λ f. is_lt (cmp (key f) k)) (λ f. is_lt (cmp (key f) (key e)))
+        (λ f l. is_lt_alike (key f) k (key e) equal l) g.before g.below)
+        (list_all-map _ key g.after
+        ∙ list_all-mono (λ f. is_gt (cmp (key f) k)) (λ f. is_gt (cmp (key f) (key e)))
+        (λ f l. ap is_gt (sym (alike_right total k (key e) (key f) equal)) ∙ l) g.after g.above)
 
     module _ {V : Type 0} (says : E → V) (none : V) where
-      pub value_set_at : (es : List E) (k : K) (at : ℕ) (p : IsPlace cmp key es k at) (e : E) → key e ≡ key p.entry → (q : K)
-          → value_at cmp key says none (set es at e) q ≡ (if is_eq (cmp k q) then says e else value_at cmp key says none es q)
-      value_set_at es k at p e same q = ap (λ l. value_at cmp key says none l q) (set_place es k at p e) ∙ replaced says none es k at p e (ap (λ j. is_eq (cmp j k)) same ∙ p.same) q
+      pub value_set_at : (es : List E) (k : K) (at : ℕ) (p : IsPlace cmp key es k at) (e : E) → key e ≡ key p.entry
+          → (q : K)
+          → value_at cmp key says none (set es at e) q
+          ≡ (if is_eq (cmp k q) then says e else value_at cmp key says none es q)
+      value_set_at es k at p e same q =
+          ap (λ l. value_at cmp key says none l q) (set_place es k at p e)
+          ∙ replaced says none es k at p e (ap (λ j. is_eq (cmp j k)) same ∙ p.same) q
 
-      pub value_insert_at : (es : List E) (k : K) (at : ℕ) (g : IsGap cmp key es k at) (e : E) → is_eq (cmp (key e) k) ≡ true → (q : K)
-          → value_at cmp key says none (insert es at e) q ≡ (if is_eq (cmp k q) then says e else value_at cmp key says none es q)
-      value_insert_at es k at g e same q = ap (λ l. value_at cmp key says none l q) (insert_gap es k at g e) ∙ inserted says none es k at g e same q
+      pub value_insert_at : (es : List E) (k : K) (at : ℕ) (g : IsGap cmp key es k at) (e : E)
+          → is_eq (cmp (key e) k) ≡ true → (q : K)
+          → value_at cmp key says none (insert es at e) q
+          ≡ (if is_eq (cmp k q) then says e else value_at cmp key says none es q)
+      value_insert_at es k at g e same q =
+          ap (λ l. value_at cmp key says none l q) (insert_gap es k at g e) ∙ inserted says none es k at g e same q
 
-      pub value_there : (es : List E) (k : K) (at : ℕ) → IsPlace cmp key es k at → (d : E) → says (get_or es at d) ≡ value_at cmp key says none es k
+      pub value_there : (es : List E) (k : K) (at : ℕ) → IsPlace cmp key es k at → (d : E)
+          → says (get_or es at d) ≡ value_at cmp key says none es k
       value_there es k at p d = ap says (read_place es k at p d) ∙ sym (at_place says none es k at p)
 
       -- equal keys have one value
-      pub value_respects : (es : List E) (k q : K) → cmp k q ≡ Equal → value_at cmp key says none es k ≡ value_at cmp key says none es q
+      pub value_respects : (es : List E) (k q : K) → cmp k q ≡ Equal
+          → value_at cmp key says none es k ≡ value_at cmp key says none es q
       value_respects [] k q same = refl
-      value_respects (e ∷ es) k q same = ap (λ o. if is_eq o then says e else value_at cmp key says none es k) (alike_right total k q (key e) same) ∙ ap (λ v. if is_eq (cmp (key e) q) then says e else v) (value_respects es k q same)
+      value_respects (e ∷ es) k q same =
+          ap (λ o. if is_eq o then says e else value_at cmp key says none es k) (alike_right total k q (key e) same)
+          ∙ ap (λ v. if is_eq (cmp (key e) q) then says e else v) (value_respects es k q same)
 
       -- where the new entry says the same, each key has its old value
-      pub value_kept : (es : List E) (k : K) (at : ℕ) (p : IsPlace cmp key es k at) (e : E) → key e ≡ key p.entry → says e ≡ says p.entry → (q : K)
+      pub value_kept : (es : List E) (k : K) (at : ℕ) (p : IsPlace cmp key es k at) (e : E) → key e ≡ key p.entry
+          → says e ≡ says p.entry → (q : K)
           → value_at cmp key says none (set es at e) q ≡ value_at cmp key says none es q
       value_kept es k at p e same says_same q = value_set_at es k at p e same q ∙ by_bool (is_eq (cmp k q))
           (λ h. rw h (says_same ∙ sym (at_place says none es k at p) ∙ value_respects es k q (is_eq_equal _ h)))
           (λ h. rw h refl)
 
-      pub value_added_none : (es : List E) (k : K) (at : ℕ) (g : IsGap cmp key es k at) (e : E) → is_eq (cmp (key e) k) ≡ true → says e ≡ none → (q : K)
+      pub value_added_none : (es : List E) (k : K) (at : ℕ) (g : IsGap cmp key es k at) (e : E)
+          → is_eq (cmp (key e) k) ≡ true → says e ≡ none → (q : K)
           → value_at cmp key says none (insert es at e) q ≡ value_at cmp key says none es q
       value_added_none es k at g e same says_none q = value_insert_at es k at g e same q ∙ by_bool (is_eq (cmp k q))
           (λ h. rw h (says_none ∙ sym (at_gap says none es k at g) ∙ value_respects es k q (is_eq_equal _ h)))

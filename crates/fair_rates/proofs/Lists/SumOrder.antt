@@ -1,7 +1,9 @@
 -- Sums of two amounts over one list.
-use Rattle.std.proofs.Common.{◌≡◌, ℕ, zero, suc, ◌+◌, ◌*◌, ◌<◌, ◌≤◌, ◌⊎◌, inl, inr, List, [], ◌∷◌, length, get_or, All, Contains, sum_by, refl, sym, subst, arith, le_refl, add-mul}
+use Rattle.std.proofs.Common.{◌≡◌, ℕ, zero, suc, ◌+◌, ◌*◌, ◌<◌, ◌≤◌, ◌⊎◌, inl, inr, List, [], ◌∷◌, length, get_or, All}
+use Rattle.std.proofs.Common.{Contains, sum_by, refl, sym, subst, arith, le_refl, add-mul}
 use Rattle.std.proofs.lemmas.Bool.{cases_lt}
-use Rattle.std.proofs.lemmas.List.Elements.{All-cons, All-head, All-tail, All-nil, Contains-append_left, Contains-append_right, Contains-get_or}
+use Rattle.std.proofs.lemmas.List.Elements.{All-cons, All-head, All-tail, All-nil, Contains-append_left}
+use Rattle.std.proofs.lemmas.List.Elements.{Contains-append_right, Contains-get_or}
 use Rattle.std.proofs.lemmas.List.Sums.{sum_by-cons}
 
 -- what each member has, all elements have
@@ -25,17 +27,31 @@ module _ (f g : ℕ → ℕ) where
   pub sum_by-below : (xs : List ℕ) → All (λ x. f x ≤ g x) xs → sum_by f xs ≤ sum_by g xs
   sum_by-below [] h = le_refl 0
   sum_by-below (x ∷ xs) h =
-      omega (arith, sum_by-cons f x xs, sum_by-cons g x xs, All-head (λ y. f y ≤ g y) x xs h, sum_by-below xs (All-tail (λ y. f y ≤ g y) x xs h))
+      omega (
+        arith,
+        sum_by-cons f x xs,
+        sum_by-cons g x xs,
+        All-head (λ y. f y ≤ g y) x xs h,
+        sum_by-below xs (All-tail (λ y. f y ≤ g y) x xs h),
+      )
 
-  under_at : (xs : List ℕ) (k d : ℕ) → k < length xs → All (λ x. f x ≤ g x) xs → f (get_or xs k d) < g (get_or xs k d) → sum_by f xs < sum_by g xs
+  under_at : (xs : List ℕ) (k d : ℕ) → k < length xs → All (λ x. f x ≤ g x) xs → f (get_or xs k d) < g (get_or xs k d)
+      → sum_by f xs < sum_by g xs
   under_at [] k d l h s = absurd (omega arith)
   under_at (x ∷ xs) zero d l h s =
       omega (arith, sum_by-cons f x xs, sum_by-cons g x xs, s, sum_by-below xs (All-tail (λ y. f y ≤ g y) x xs h))
   under_at (x ∷ xs) (suc k) d l h s =
-      omega (arith, sum_by-cons f x xs, sum_by-cons g x xs, All-head (λ y. f y ≤ g y) x xs h, under_at xs k d (omega arith) (All-tail (λ y. f y ≤ g y) x xs h) s)
+      omega (
+        arith,
+        sum_by-cons f x xs,
+        sum_by-cons g x xs,
+        All-head (λ y. f y ≤ g y) x xs h,
+        under_at xs k d (omega arith) (All-tail (λ y. f y ≤ g y) x xs h) s,
+      )
 
   -- where no term is greater and one is less, the sum is less
-  pub sum_by-under : (xs : List ℕ) (x : ℕ) → Contains xs x → All (λ y. f y ≤ g y) xs → f x < g x → sum_by f xs < sum_by g xs
+  pub sum_by-under : (xs : List ℕ) (x : ℕ) → Contains xs x → All (λ y. f y ≤ g y) xs → f x < g x
+      → sum_by f xs < sum_by g xs
   sum_by-under xs x c h s = under_at xs c.0 x c.1 h (subst (λ y. f y < g y) (sym c.2) s)
 
   -- f is at most g on the list, or some element shows that it is not

@@ -3,14 +3,17 @@ use Prim.Native.Nat.{◌∣◌}
 use Rattle.std.proofs.Common.{◌≡◌, ℕ, zero, suc, ◌+◌, ◌-◌, ◌*◌, ◌/◌, ◌^◌, ◌<◌, ◌≤◌, ◌↔◌}
 use Rattle.std.proofs.Common.{Option, Some, None, IsSome, refl, sym, ap, ◌∙◌, subst, arith, mul-le-mul_left}
 use Rattle.std.specs.Int.{IsGcd}
-use Rattle.std.proofs.Math.Nat.{mul_assoc, mul-pos, mul-sub, div_self, mul-div_cancel', dvd-mul_left, le_of_mul-le-mul_left}
+use Rattle.std.proofs.Math.Nat.{mul_assoc, mul-pos, mul-sub, div_self, mul-div_cancel', dvd-mul_left}
+use Rattle.std.proofs.Math.Nat.{le_of_mul-le-mul_left}
 use Rattle.fair_rates.specs.Numbers.Amount.{Amount, AreEqual, plus, minus, reduced, gcd}
-use Rattle.fair_rates.specs.Numbers.Fits.{raised_numerator, other_raised_numerator, least_common, AreOverCommon, CommonFits, ReducedFits}
+use Rattle.fair_rates.specs.Numbers.Fits.{raised_numerator, other_raised_numerator, least_common, AreOverCommon}
+use Rattle.fair_rates.specs.Numbers.Fits.{CommonFits, ReducedFits}
 use Rattle.fair_rates.specs.Numbers.Fraction.{IsReduced}
 use Rattle.fair_rates.specs.Numbers.Ratio.{amount_of, IsWorth}
 use Rattle.fair_rates.specs.declared.ratio.Ratio.{Ratio}
 use Rattle.fair_rates.specs.Numbers.Gcd.{gcd-IsGcd, gcd-pos, gcd-self}
-use Rattle.fair_rates.specs.Numbers.LowestTerms.{reduced_alike, reduced_scaled, reduced_worth, reduced_lowest, coprime_parts, IsReduced-part, IsReduced-swap, IsReduced-mul}
+use Rattle.fair_rates.specs.Numbers.LowestTerms.{reduced_alike, reduced_scaled, reduced_worth, reduced_lowest}
+use Rattle.fair_rates.specs.Numbers.LowestTerms.{coprime_parts, IsReduced-part, IsReduced-swap, IsReduced-mul}
 
 -- what is an amount in lowest terms has its value
 pub worth_if_reduced : (r m : Amount) → 0 < m.den → r ≡ reduced m.num m.den → AreEqual r m
@@ -34,7 +37,12 @@ common_parts b d h j =
     let g : ℕ = gcd b d in
     let c : IsGcd b d g = gcd-IsGcd b d in
     let first : g * (b / g) ≡ b = mul-div_cancel' g c.0 in
-    record { positive = gcd-pos b d j; first = first; second = mul-div_cancel' g c.1; first_positive = other_above g (b / g) b first h }
+    record {
+      positive = gcd-pos b d j;
+      first = first;
+      second = mul-div_cancel' g c.1;
+      first_positive = other_above g (b / g) b first h;
+    }
 
 times_den : (g p b d : ℕ) → g * p ≡ b → g * (p * d) ≡ b * d
 times_den g p b d e = sym (mul_assoc g p d) ∙ ap (λ n. n * d) e
@@ -42,26 +50,31 @@ times_den g p b d e = sym (mul_assoc g p d) ∙ ap (λ n. n * d) e
 times_num : (g q a d : ℕ) → g * q ≡ d → g * (a * q) ≡ a * d
 times_num g q a d e = omega (arith, ap (λ n. a * n) e)
 
-pub sum_over_common : (a b c d : ℕ) → 0 < b → 0 < d → reduced (a * (d / gcd b d) + c * (b / gcd b d)) (b / gcd b d * d) ≡ reduced (a * d + c * b) (b * d)
+pub sum_over_common : (a b c d : ℕ) → 0 < b → 0 < d
+    → reduced (a * (d / gcd b d) + c * (b / gcd b d)) (b / gcd b d * d) ≡ reduced (a * d + c * b) (b * d)
 sum_over_common a b c d h j =
     let g : ℕ = gcd b d in
     let k : CommonParts b d g = common_parts b d h j in
     let u : g * (a * (d / g)) ≡ a * d = times_num g (d / g) a d k.second in
     let v : g * (c * (b / g)) ≡ c * b = times_num g (b / g) c b k.first in
     let num : g * (a * (d / g) + c * (b / g)) ≡ a * d + c * b = omega arith in
-    sym (reduced_scaled g (a * (d / g) + c * (b / g)) (b / g * d) k.positive (mul-pos k.first_positive j)) ∙ reduced_alike _ _ _ _ num (times_den g (b / g) b d k.first)
+    sym (reduced_scaled g (a * (d / g) + c * (b / g)) (b / g * d) k.positive (mul-pos k.first_positive j))
+    ∙ reduced_alike _ _ _ _ num (times_den g (b / g) b d k.first)
 
 same_difference : (m n p q : ℕ) → m ≡ p → n ≡ q → m - n ≡ p - q
 same_difference m n p q e f = rw (e, f) refl
 
-pub difference_over_common : (a b c d : ℕ) → 0 < b → 0 < d → reduced (a * (d / gcd b d) - c * (b / gcd b d)) (b / gcd b d * d) ≡ reduced (a * d - c * b) (b * d)
+pub difference_over_common : (a b c d : ℕ) → 0 < b → 0 < d
+    → reduced (a * (d / gcd b d) - c * (b / gcd b d)) (b / gcd b d * d) ≡ reduced (a * d - c * b) (b * d)
 difference_over_common a b c d h j =
     let g : ℕ = gcd b d in
     let k : CommonParts b d g = common_parts b d h j in
     let u : g * (a * (d / g)) ≡ a * d = times_num g (d / g) a d k.second in
     let v : g * (c * (b / g)) ≡ c * b = times_num g (b / g) c b k.first in
-    let num : g * (a * (d / g) - c * (b / g)) ≡ a * d - c * b = mul-sub g (a * (d / g)) (c * (b / g)) ∙ same_difference _ _ _ _ u v in
-    sym (reduced_scaled g (a * (d / g) - c * (b / g)) (b / g * d) k.positive (mul-pos k.first_positive j)) ∙ reduced_alike _ _ _ _ num (times_den g (b / g) b d k.first)
+    let num : g * (a * (d / g) - c * (b / g)) ≡ a * d - c * b =
+    mul-sub g (a * (d / g)) (c * (b / g)) ∙ same_difference _ _ _ _ u v in
+    sym (reduced_scaled g (a * (d / g) - c * (b / g)) (b / g * d) k.positive (mul-pos k.first_positive j))
+    ∙ reduced_alike _ _ _ _ num (times_den g (b / g) b d k.first)
 
 -- the order of two fractions is that of their numerators over the common denominator
 pub no_greater_over_common : (a b c d : ℕ) → 0 < b → 0 < d → (c * (b / gcd b d) ≤ a * (d / gcd b d)) ↔ (c * b ≤ a * d)
@@ -75,37 +88,47 @@ no_greater_over_common a b c d h j =
     )
 
 -- what has the reduced sum of the numerators over the common denominator is worth the sum
-pub sum_worth : (r x y : Ratio) (p q s d : ℕ) → AreOverCommon (amount_of x) (amount_of y) p q d → s ≡ p + q → amount_of r ≡ reduced s d
+pub sum_worth : (r x y : Ratio) (p q s d : ℕ) → AreOverCommon (amount_of x) (amount_of y) p q d → s ≡ p + q
+    → amount_of r ≡ reduced s d
     → IsWorth r (plus (amount_of x) (amount_of y))
 sum_worth r x y p q s d over s_is e =
     let a = amount_of x in
     let b = amount_of y in
-    let same : reduced s d ≡ reduced (raised_numerator a b + other_raised_numerator a b) (least_common a b) = rw (s_is, over.first_is, over.second_is, over.denominator_is) refl in
-    worth_if_reduced (amount_of r) (plus a b) (mul-pos x.positive y.positive) (e ∙ same ∙ sum_over_common a.num a.den b.num b.den x.positive y.positive)
+    let same : reduced s d ≡ reduced (raised_numerator a b + other_raised_numerator a b) (least_common a b) =
+    rw (s_is, over.first_is, over.second_is, over.denominator_is) refl in
+    worth_if_reduced (amount_of r) (plus a b) (mul-pos x.positive y.positive)
+    (e ∙ same ∙ sum_over_common a.num a.den b.num b.den x.positive y.positive)
 
 -- and likewise the difference
-pub difference_worth : (r x y : Ratio) (p q s d : ℕ) → AreOverCommon (amount_of x) (amount_of y) p q d → s ≡ p - q → amount_of r ≡ reduced s d
+pub difference_worth : (r x y : Ratio) (p q s d : ℕ) → AreOverCommon (amount_of x) (amount_of y) p q d → s ≡ p - q
+    → amount_of r ≡ reduced s d
     → IsWorth r (minus (amount_of x) (amount_of y))
 difference_worth r x y p q s d over s_is e =
     let a = amount_of x in
     let b = amount_of y in
-    let same : reduced s d ≡ reduced (raised_numerator a b - other_raised_numerator a b) (least_common a b) = rw (s_is, over.first_is, over.second_is, over.denominator_is) refl in
-    worth_if_reduced (amount_of r) (minus a b) (mul-pos x.positive y.positive) (e ∙ same ∙ difference_over_common a.num a.den b.num b.den x.positive y.positive)
+    let same : reduced s d ≡ reduced (raised_numerator a b - other_raised_numerator a b) (least_common a b) =
+    rw (s_is, over.first_is, over.second_is, over.denominator_is) refl in
+    worth_if_reduced (amount_of r) (minus a b) (mul-pos x.positive y.positive)
+    (e ∙ same ∙ difference_over_common a.num a.den b.num b.den x.positive y.positive)
 
 -- the numerators over the common denominator stand as the fractions do
-pub no_greater_is : (x y : Ratio) (p q d : ℕ) → AreOverCommon (amount_of x) (amount_of y) p q d → (q ≤ p) ↔ (y.numerator * x.denominator ≤ x.numerator * y.denominator)
+pub no_greater_is : (x y : Ratio) (p q d : ℕ) → AreOverCommon (amount_of x) (amount_of y) p q d
+    → (q ≤ p) ↔ (y.numerator * x.denominator ≤ x.numerator * y.denominator)
 no_greater_is x y p q d over =
     let a = amount_of x in
     let b = amount_of y in
     let k = no_greater_over_common a.num a.den b.num b.den x.positive y.positive in (
       λ le. k.0 (omega (arith, over.first_is, over.second_is)),
-      λ le. let low : other_raised_numerator a b ≤ raised_numerator a b = k.1 le in omega (arith, over.first_is, over.second_is),
+      λ le. let low : other_raised_numerator a b ≤ raised_numerator a b = k.1 le in
+          omega (arith, over.first_is, over.second_is),
     )
 
 -- a common denominator as the code finds it is above zero
-pub common-pos : (x y : Ratio) (g s d : ℕ) → g ≡ gcd x.denominator y.denominator → s ≡ x.denominator / g → d ≡ s * y.denominator → 0 < d
+pub common-pos : (x y : Ratio) (g s d : ℕ) → g ≡ gcd x.denominator y.denominator → s ≡ x.denominator / g
+    → d ≡ s * y.denominator → 0 < d
 common-pos x y g s d g_is s_is d_is =
-    rw (d_is, s_is, g_is) (mul-pos (common_parts x.denominator y.denominator x.positive y.positive).first_positive y.positive)
+    rw (d_is, s_is, g_is)
+    (mul-pos (common_parts x.denominator y.denominator x.positive y.positive).first_positive y.positive)
 
 -- equal denominators are their own least common one
 scale_of_equal : (b d : ℕ) → 0 < b → b ≡ d → (b / gcd b d ≡ 1) × (d / gcd b d ≡ 1)
@@ -122,10 +145,16 @@ one_times n k m e f = rw e (omega arith)
 pub over_equal : (a b : Amount) → 0 < a.den → a.den ≡ b.den → AreOverCommon a b a.num b.num a.den
 over_equal a b h e =
     let k = scale_of_equal a.den b.den h e in
-    record { first_is = times_one a.num _ k.1; second_is = times_one b.num _ k.0; denominator_is = one_times a.den _ b.den k.0 e }
+    record {
+      first_is = times_one a.num _ k.1;
+      second_is = times_one b.num _ k.0;
+      denominator_is = one_times a.den _ b.den k.0 e;
+    }
 
-pub over_fits : (a b : Amount) (x y d : ℕ) → AreOverCommon a b x y d → x < 2 ^ 128 → y < 2 ^ 128 → d < 2 ^ 128 → CommonFits a b
-over_fits a b x y d over h j k = record { first = rw over.first_is at h; second = rw over.second_is at j; denominator = rw over.denominator_is at k }
+pub over_fits : (a b : Amount) (x y d : ℕ) → AreOverCommon a b x y d → x < 2 ^ 128 → y < 2 ^ 128 → d < 2 ^ 128
+    → CommonFits a b
+over_fits a b x y d over h j k =
+    record { first = rw over.first_is at h; second = rw over.second_is at j; denominator = rw over.denominator_is at k }
 
 -- ---- products
 
@@ -137,9 +166,12 @@ pub record CrossReduced (a b c d f s : ℕ) : Type 0 where
   pub lowest : IsReduced (a / f * (c / s)) (b / s * (d / f))
   pub same : reduced (a * c) (b * d) ≡ record { num = a / f * (c / s); den = b / s * (d / f) }
 
-product_lowest : (x y z w : ℕ) → IsReduced x z → IsReduced x w → IsReduced y z → IsReduced y w → IsReduced (x * y) (z * w)
+product_lowest : (x y z w : ℕ) → IsReduced x z → IsReduced x w → IsReduced y z → IsReduced y w
+    → IsReduced (x * y) (z * w)
 product_lowest x y z w p q r s =
-    IsReduced-swap (z * w) (x * y) (IsReduced-mul z w (x * y) (IsReduced-swap (x * y) z (IsReduced-mul x y z p r)) (IsReduced-swap (x * y) w (IsReduced-mul x y w q s)))
+    IsReduced-swap (z * w) (x * y)
+    (IsReduced-mul z w (x * y) (IsReduced-swap (x * y) z (IsReduced-mul x y z p r))
+    (IsReduced-swap (x * y) w (IsReduced-mul x y w q s)))
 
 quotient_divides : (n g : ℕ) → g ∣ n → n / g ∣ n
 quotient_divides n g h = subst (λ m. n / g ∣ m) (mul-div_cancel' g h) (dvd-mul_left (n / g) g)
@@ -153,7 +185,8 @@ regroup_down f s x y = omega arith
 multiplied : (m n p q : ℕ) → m ≡ p → n ≡ q → m * n ≡ p * q
 multiplied m n p q e f = rw (e, f) refl
 
-pub cross_reduced : (a b c d : ℕ) → 0 < b → 0 < d → IsReduced a b → IsReduced c d → CrossReduced a b c d (gcd a d) (gcd c b)
+pub cross_reduced : (a b c d : ℕ) → 0 < b → 0 < d → IsReduced a b → IsReduced c d
+    → CrossReduced a b c d (gcd a d) (gcd c b)
 cross_reduced a b c d h j r t =
     let f : ℕ = gcd a d in
     let s : ℕ = gcd c b in
@@ -187,17 +220,23 @@ pub record ReducedProduct (n d x y z w : ℕ) : Type 0 where
   pub lowest : IsReduced (x * y) (z * w)
   pub same : reduced n d ≡ record { num = x * y; den = z * w }
 
-pub reduced_product : (a b c d f s x y z w : ℕ) → 0 < b → 0 < d → IsReduced a b → IsReduced c d → f ≡ gcd a d → s ≡ gcd c b
+pub reduced_product : (a b c d f s x y z w : ℕ) → 0 < b → 0 < d → IsReduced a b → IsReduced c d → f ≡ gcd a d
+    → s ≡ gcd c b
     → x ≡ a / f → y ≡ c / s → z ≡ b / s → w ≡ d / f → ReducedProduct (a * c) (b * d) x y z w
 reduced_product a b c d f s x y z w h j r t f_is s_is x_is y_is z_is w_is =
     let k = cross_reduced a b c d h j r t in
     rw (x_is, y_is, z_is, w_is, f_is, s_is) (record { positive = k.positive; lowest = k.lowest; same = k.same })
 
 -- an amount in lowest terms is known, so whether it fits is
-pub fits_if_known : (m : Amount) (n d : ℕ) → reduced m.num m.den ≡ record { num = n; den = d } → ReducedFits m ↔ ((n < 2 ^ 128) × (d < 2 ^ 128))
+pub fits_if_known : (m : Amount) (n d : ℕ) → reduced m.num m.den ≡ record { num = n; den = d }
+    → ReducedFits m ↔ ((n < 2 ^ 128) × (d < 2 ^ 128))
 fits_if_known m n d e = (
   λ fits. (subst (λ z. z.num < 2 ^ 128) e fits.numerator, subst (λ z. z.den < 2 ^ 128) e fits.denominator),
-  λ both. record { numerator = subst (λ z. z.num < 2 ^ 128) (sym e) both.0; denominator = subst (λ z. z.den < 2 ^ 128) (sym e) both.1 },
+  λ both.
+      record {
+        numerator = subst (λ z. z.num < 2 ^ 128) (sym e) both.0;
+        denominator = subst (λ z. z.den < 2 ^ 128) (sym e) both.1;
+      },
 )
 
 -- ---- a value exactly where a fact holds

@@ -19,7 +19,14 @@ above n k l u less enough =
 least_below : (rate left : Amount) (n : ℕ) → Covers rate n left → (m : ℕ) × IsLeastTime rate left m
 least_below rate left zero covers = (zero, record { covers = covers; least = λ k _. omega arith })
 least_below rate left (suc n) covers = elim (cases_lt (n * (rate.num * left.den)) (left.num * (rate.den * billion))) [
-  | inl less ↦ (suc n, record { covers = covers; least = λ k enough. above n k (left.num * (rate.den * billion)) (rate.num * left.den) less enough })
+  | inl
+      less ↦ (
+        suc n,
+        record {
+          covers = covers;
+          least = λ k enough. above n k (left.num * (rate.den * billion)) (rate.num * left.den) less enough;
+        },
+      )
   | inr covers' ↦ least_below rate left n covers'
 ]
 
@@ -44,26 +51,34 @@ pub record IsTime (rate left product : Amount) : Type 0 where
   pub equal : AreEqual product (times (seconds rate left) (whole billion))
 
 -- the product of the time in seconds and a billion is
-pub time_from_seconds : (rate left s w : Ratio) → 0 < rate.numerator → IsWorth s (seconds (amount_of rate) (amount_of left)) → amount_of w ≡ whole billion
+pub time_from_seconds : (rate left s w : Ratio) → 0 < rate.numerator
+    → IsWorth s (seconds (amount_of rate) (amount_of left)) → amount_of w ≡ whole billion
     → IsTime (amount_of rate) (amount_of left) (times (amount_of s) (amount_of w))
 time_from_seconds rate left s w h e f = record {
   positive = mul-pos s.positive w.positive;
   meant_positive = mul-pos (mul-pos left.positive h) (omega arith);
-  equal = times_equal (amount_of s) (seconds (amount_of rate) (amount_of left)) (amount_of w) (whole billion) e (equal_if_same (amount_of w) (whole billion) f);
+  equal =
+      times_equal (amount_of s) (seconds (amount_of rate) (amount_of left)) (amount_of w) (whole billion) e
+      (equal_if_same (amount_of w) (whole billion) f);
 }
 
-pub time_fits : (rate left product : Amount) → IsTime rate left product → ReducedFits product ↔ ReducedFits (times (seconds rate left) (whole billion))
-time_fits rate left product is = equal_fits product (times (seconds rate left) (whole billion)) is.positive is.meant_positive is.equal
+pub time_fits : (rate left product : Amount) → IsTime rate left product
+    → ReducedFits product ↔ ReducedFits (times (seconds rate left) (whole billion))
+time_fits rate left product is =
+    equal_fits product (times (seconds rate left) (whole billion)) is.positive is.meant_positive is.equal
 
 -- the least whole number that is not below the time in nanoseconds is the least time
-pub least_from_ceil : (rate left product : Amount) (time : Ratio) (n : ℕ) → IsTime rate left product → IsWorth time product
-    → time.numerator ≤ n * time.denominator → ((k : ℕ) → time.numerator ≤ k * time.denominator → n ≤ k) → IsLeastTime rate left n
+pub least_from_ceil : (rate left product : Amount) (time : Ratio) (n : ℕ) → IsTime rate left product
+    → IsWorth time product
+    → time.numerator ≤ n * time.denominator → ((k : ℕ) → time.numerator ≤ k * time.denominator → n ≤ k)
+    → IsLeastTime rate left n
 least_from_ceil rate left product time n is e enough least =
     let all : Amount = times (seconds rate left) (whole billion) in
     let same : AreEqual (amount_of time) all = equal_trans (amount_of time) product all is.positive e is.equal in
     record {
       covers =
-          let up : left.num * rate.den * billion ≤ n * (left.den * rate.num * 1) = not_below (amount_of time) all n time.positive same enough in
+          let up : left.num * rate.den * billion ≤ n * (left.den * rate.num * 1) =
+          not_below (amount_of time) all n time.positive same enough in
           omega arith;
       least = λ k covers.
           let up : left.num * rate.den * billion ≤ k * (left.den * rate.num * 1) = omega (arith, covers) in

@@ -1,5 +1,6 @@
 -- What the code takes off, and what it leaves: it drains as meant, and fits where that fits.
-use Rattle.std.proofs.Common.{◌≡◌, ℕ, ◌-◌, ◌*◌, ◌<◌, ◌≤◌, ◌↔◌, ◌⊎◌, inl, inr, Option, Some, None, IfSome, refl, sym, ap, ◌∙◌, subst, arith}
+use Rattle.std.proofs.Common.{◌≡◌, ℕ, ◌-◌, ◌*◌, ◌<◌, ◌≤◌, ◌↔◌, ◌⊎◌, inl, inr, Option, Some, None, IfSome, refl, sym, ap}
+use Rattle.std.proofs.Common.{◌∙◌, subst, arith}
 use Rattle.std.proofs.Common.{mul-le-mul_right}
 use Rattle.std.proofs.Math.Nat.{zero-mul, mul-zero, mul-sub, mul_comm, mul-pos, le_of_mul-le-mul_right}
 use Rattle.fair_rates.specs.Numbers.Amount.{Amount, AreEqual, whole, minus, times, reduced, drained, billion, Covers}
@@ -14,18 +15,25 @@ use Rattle.fair_rates.proofs.Numbers.Draining.{same_difference}
 -- ---- what drains
 
 left_is : (left rate : Amount) → ℕ → Amount
-left_is left rate n = record { num = left.num * (rate.den * billion) - n * (rate.num * left.den); den = left.den * (rate.den * billion) }
+left_is left rate n =
+    record { num = left.num * (rate.den * billion) - n * (rate.num * left.den); den = left.den * (rate.den * billion) }
 
 -- a ratio that is worth what is left is the drained amount
 drained_if_worth : (left rate : Ratio) (n : ℕ) (r : Ratio)
-    → r.numerator * (left.denominator * (rate.denominator * billion)) ≡ (left.numerator * (rate.denominator * billion) - n * (rate.numerator * left.denominator)) * r.denominator
+    → r.numerator * (left.denominator * (rate.denominator * billion))
+    ≡ (left.numerator * (rate.denominator * billion) - n * (rate.numerator * left.denominator)) * r.denominator
     → amount_of r ≡ drained (amount_of left) (amount_of rate) n
 unfolding left_is
-drained_if_worth left rate n r e = worth_is_reduced r (left_is (amount_of left) (amount_of rate) n) (mul-pos left.positive (mul-pos rate.positive (omega arith))) e
+drained_if_worth left rate n r e =
+    worth_is_reduced r (left_is (amount_of left) (amount_of rate) n)
+    (mul-pos left.positive (mul-pos rate.positive (omega arith))) e
 
-nothing_drains : (left rate : Ratio) (n : ℕ) → n * (rate.numerator * left.denominator) ≡ 0 → amount_of left ≡ drained (amount_of left) (amount_of rate) n
+nothing_drains : (left rate : Ratio) (n : ℕ) → n * (rate.numerator * left.denominator) ≡ 0
+    → amount_of left ≡ drained (amount_of left) (amount_of rate) n
 nothing_drains left rate n none =
-    drained_if_worth left rate n left (regroup left.numerator left.denominator (rate.denominator * billion) (n * (rate.numerator * left.denominator)) none)
+    drained_if_worth left rate n left
+    (regroup left.numerator left.denominator (rate.denominator * billion) (n * (rate.numerator * left.denominator))
+    none)
   where
     less_none : (n : ℕ) → n - 0 ≡ n
     less_none n = omega arith
@@ -36,9 +44,12 @@ nothing_drains left rate n none =
         let less : l * u - m ≡ l * u = rw e (less_none (l * u)) in
         flat ∙ ap (λ x. x * d) (sym less)
 
-nothing_stays : (left rate : Ratio) (n : ℕ) → left.numerator ≡ 0 → amount_of left ≡ drained (amount_of left) (amount_of rate) n
+nothing_stays : (left rate : Ratio) (n : ℕ) → left.numerator ≡ 0
+    → amount_of left ≡ drained (amount_of left) (amount_of rate) n
 nothing_stays left rate n none =
-    drained_if_worth left rate n left (regroup left.numerator left.denominator (rate.denominator * billion) (n * (rate.numerator * left.denominator)) none)
+    drained_if_worth left rate n left
+    (regroup left.numerator left.denominator (rate.denominator * billion) (n * (rate.numerator * left.denominator))
+    none)
   where
     regroup : (l d u m : ℕ) → l ≡ 0 → l * (d * u) ≡ (l * u - m) * d
     regroup l d u m e =
@@ -52,10 +63,13 @@ none_passes : (n m : ℕ) → n ≡ 0 → n * m ≡ 0
 none_passes n m e = ap (λ x. x * m) e ∙ zero-mul m
 
 -- all is left where nothing was left, the rate is zero or no time passes
-pub all_is_left : (left rate : Ratio) (n : ℕ) → (left.numerator ≡ 0) ⊎ ((rate.numerator ≡ 0) ⊎ (n ≡ 0)) → amount_of left ≡ drained (amount_of left) (amount_of rate) n
+pub all_is_left : (left rate : Ratio) (n : ℕ) → (left.numerator ≡ 0) ⊎ ((rate.numerator ≡ 0) ⊎ (n ≡ 0))
+    → amount_of left ≡ drained (amount_of left) (amount_of rate) n
 all_is_left left rate n (inl none) = nothing_stays left rate n none
-all_is_left left rate n (inr (inl none)) = nothing_drains left rate n (none_first n rate.numerator left.denominator none)
-all_is_left left rate n (inr (inr none)) = nothing_drains left rate n (none_passes n (rate.numerator * left.denominator) none)
+all_is_left left rate n (inr (inl none)) =
+    nothing_drains left rate n (none_first n rate.numerator left.denominator none)
+all_is_left left rate n (inr (inr none)) =
+    nothing_drains left rate n (none_passes n (rate.numerator * left.denominator) none)
 
 -- ---- what is taken
 
@@ -66,16 +80,19 @@ pub record IsTaking (rate product : Amount) (n : ℕ) : Type 0 where
   pub equal : AreEqual product (transferred rate n)
 
 -- the product of the rate and the time in seconds is
-pub taking_from_seconds : (rate s : Ratio) (m n : ℕ) → IsWorth s (record { num = m; den = billion }) → m ≡ n → IsTaking (amount_of rate) (times (amount_of rate) (amount_of s)) n
+pub taking_from_seconds : (rate s : Ratio) (m n : ℕ) → IsWorth s (record { num = m; den = billion }) → m ≡ n
+    → IsTaking (amount_of rate) (times (amount_of rate) (amount_of s)) n
 taking_from_seconds rate s m n e same = record {
   positive = mul-pos rate.positive s.positive;
   meant_positive = mul-pos rate.positive (omega arith);
   equal =
-      let in_seconds : IsWorth s (record { num = n; den = billion }) = subst (λ k. IsWorth s (record { num = k; den = billion })) same e in
+      let in_seconds : IsWorth s (record { num = n; den = billion }) =
+      subst (λ k. IsWorth s (record { num = k; den = billion })) same e in
       times_equal (amount_of rate) (amount_of rate) (amount_of s) (record { num = n; den = billion }) refl in_seconds;
 }
 
-pub taking_fits : (rate product : Amount) (n : ℕ) → IsTaking rate product n → ReducedFits product ↔ ReducedFits (transferred rate n)
+pub taking_fits : (rate product : Amount) (n : ℕ) → IsTaking rate product n
+    → ReducedFits product ↔ ReducedFits (transferred rate n)
 taking_fits rate product n is = equal_fits product (transferred rate n) is.positive is.meant_positive is.equal
 
 -- a ratio is worth what is taken, and is that in lowest terms
@@ -83,9 +100,11 @@ pub record IsTaken (rate : Amount) (n : ℕ) (t : Ratio) : Type 0 where
   pub equal : AreEqual (amount_of t) (transferred rate n)
   pub lowest : amount_of t ≡ reduced (transferred rate n).num (transferred rate n).den
 
-pub taken_from_product : (rate product : Amount) (n : ℕ) (t : Ratio) → IsTaking rate product n → IsWorth t product → IsTaken rate n t
+pub taken_from_product : (rate product : Amount) (n : ℕ) (t : Ratio) → IsTaking rate product n → IsWorth t product
+    → IsTaken rate n t
 taken_from_product rate product n t is worth =
-    let equal : AreEqual (amount_of t) (transferred rate n) = equal_trans (amount_of t) product (transferred rate n) is.positive worth is.equal in
+    let equal : AreEqual (amount_of t) (transferred rate n) =
+    equal_trans (amount_of t) product (transferred rate n) is.positive worth is.equal in
     record { equal = equal; lowest = worth_is_reduced t (transferred rate n) is.meant_positive equal }
 
 turned : (l d p q u m : ℕ) → p * u ≡ m * q → 0 < q → 0 < u → (l * q ≤ p * d) ↔ (l * u ≤ m * d)
@@ -97,9 +116,12 @@ turned l d p q u m e h j = (
 )
 
 -- what is taken is no less than what is left exactly where the time covers it
-pub covers_iff : (left rate t : Ratio) (n : ℕ) → IsTaken (amount_of rate) n t → (left.numerator * t.denominator ≤ t.numerator * left.denominator) ↔ Covers (amount_of rate) n (amount_of left)
+pub covers_iff : (left rate t : Ratio) (n : ℕ) → IsTaken (amount_of rate) n t
+    → (left.numerator * t.denominator ≤ t.numerator * left.denominator) ↔ Covers (amount_of rate) n (amount_of left)
 covers_iff left rate t n is =
-    let both = turned left.numerator left.denominator t.numerator t.denominator (rate.denominator * billion) (rate.numerator * n) is.equal t.positive (mul-pos rate.positive (omega arith)) in
+    let both =
+    turned left.numerator left.denominator t.numerator t.denominator (rate.denominator * billion)
+    (rate.numerator * n) is.equal t.positive (mul-pos rate.positive (omega arith)) in
     (λ le. let low = both.0 le in omega arith, λ covers. both.1 (omega arith))
 
 -- ---- what is left
@@ -114,38 +136,54 @@ over_other l d p q u n r e =
     ∙ sym (mul-sub (d * q) (l * u) (n * (r * d))) ∙ mul_comm (d * q) (l * u - n * (r * d))
 
 -- what is left less what is taken is what is left afterwards
-drained_by_difference : (left rate t rest : Ratio) (n : ℕ) → IsTaken (amount_of rate) n t → IsWorth rest (minus (amount_of left) (amount_of t))
+drained_by_difference : (left rate t rest : Ratio) (n : ℕ) → IsTaken (amount_of rate) n t
+    → IsWorth rest (minus (amount_of left) (amount_of t))
     → amount_of rest ≡ drained (amount_of left) (amount_of rate) n
 unfolding left_is
 drained_by_difference left rate t rest n is worth =
     let l = amount_of left in
     let across : AreEqual (minus l (amount_of t)) (left_is l (amount_of rate) n) =
-    over_other left.numerator left.denominator t.numerator t.denominator (rate.denominator * billion) n rate.numerator is.equal in
-    drained_if_worth left rate n rest (equal_trans (amount_of rest) (minus l (amount_of t)) (left_is l (amount_of rate) n) (mul-pos left.positive t.positive) worth across)
+    over_other left.numerator left.denominator t.numerator t.denominator (rate.denominator * billion) n rate.numerator
+    is.equal in
+    drained_if_worth left rate n rest
+    (equal_trans (amount_of rest) (minus l (amount_of t)) (left_is l (amount_of rate) n)
+    (mul-pos left.positive t.positive) worth across)
 
 pub all_drained : (left rate t : Ratio) (n : ℕ) (r : Option Ratio) → IsTaken (amount_of rate) n t
-    → IfSome r (λ rest. IsWorth rest (minus (amount_of left) (amount_of t))) → IfSome r (λ rest. amount_of rest ≡ drained (amount_of left) (amount_of rate) n)
+    → IfSome r (λ rest. IsWorth rest (minus (amount_of left) (amount_of t)))
+    → IfSome r (λ rest. amount_of rest ≡ drained (amount_of left) (amount_of rate) n)
 all_drained left rate t n None is worth = worth
 all_drained left rate t n (Some rest) is worth = drained_by_difference left rate t rest n is worth
 
 -- where the time covers what is left, zero is left
-pub drained_to_zero : (left rate rest : Ratio) (n : ℕ) → Covers (amount_of rate) n (amount_of left) → amount_of rest ≡ whole 0
+pub drained_to_zero : (left rate rest : Ratio) (n : ℕ) → Covers (amount_of rate) n (amount_of left)
+    → amount_of rest ≡ whole 0
     → amount_of rest ≡ drained (amount_of left) (amount_of rate) n
 drained_to_zero left rate rest n covers zero_is =
-    let none : left.numerator * (rate.denominator * billion) - n * (rate.numerator * left.denominator) ≡ 0 = omega arith in
-    drained_if_worth left rate n rest (regroup rest.numerator rest.denominator (left.denominator * (rate.denominator * billion)) _ (ap (λ a. a.num) zero_is) none)
+    let none : left.numerator * (rate.denominator * billion) - n * (rate.numerator * left.denominator) ≡ 0 =
+    omega arith in
+    drained_if_worth left rate n rest
+    (regroup rest.numerator rest.denominator (left.denominator * (rate.denominator * billion)) _
+    (ap (λ a. a.num) zero_is) none)
   where
     regroup : (m d u k : ℕ) → m ≡ 0 → k ≡ 0 → m * u ≡ k * d
     regroup m d u k e f = ap (λ x. x * u) e ∙ zero-mul u ∙ sym (ap (λ x. x * d) f ∙ zero-mul d)
 
 -- where what is taken does not take all, it can be taken off exactly where the difference fits
-pub leaves_iff : (left rate t : Ratio) (n : ℕ) → IsTaken (amount_of rate) n t → t.numerator * left.denominator < left.numerator * t.denominator
+pub leaves_iff : (left rate t : Ratio) (n : ℕ) → IsTaken (amount_of rate) n t
+    → t.numerator * left.denominator < left.numerator * t.denominator
     → DifferenceFits (amount_of left) (amount_of t)
-    ↔ (Covers (amount_of rate) n (amount_of left) ⊎ DifferenceFits (amount_of left) (reduced (transferred (amount_of rate) n).num (transferred (amount_of rate) n).den))
+    ↔
+    (Covers (amount_of rate) n (amount_of left)
+    ⊎ DifferenceFits (amount_of left)
+    (reduced (transferred (amount_of rate) n).num (transferred (amount_of rate) n).den))
 leaves_iff left rate t n is less = (
   λ fits. inr (subst (λ x. DifferenceFits (amount_of left) x) is.lowest fits),
   λ either. elim either [
-    | inl covers ↦ absurd (let le : left.numerator * t.denominator ≤ t.numerator * left.denominator = (covers_iff left rate t n is).1 covers in omega arith)
+    | inl covers ↦ absurd
+        (let le : left.numerator * t.denominator
+        ≤ t.numerator * left.denominator = (covers_iff left rate t n is).1 covers in
+        omega arith)
     | inr fits ↦ subst (λ x. DifferenceFits (amount_of left) x) (sym is.lowest) fits
   ],
 )

@@ -1,11 +1,14 @@
 -- A refusal in the words of what the closures answered.
-use Rattle.std.proofs.Common.{◌≡◌, inl, inr, ℕ, ◌+◌, ◌^◌, ◌<◌, ◌≤◌, Bool, true, false, cond, List, [], ◌∷◌, ◌++◌, length, map, All, AllPairs, Contains, Option, Some, None, refl, subst}
+use Rattle.std.proofs.Common.{◌≡◌, inl, inr, ℕ, ◌+◌, ◌^◌, ◌<◌, ◌≤◌, Bool, true, false, cond, List, [], ◌∷◌, ◌++◌}
+use Rattle.std.proofs.Common.{length, map, All, AllPairs, Contains, Option, Some, None, refl, subst}
 use Rattle.std.specs.declared.cmp.Ordering.{Ordering}
-use Rattle.std.proofs.lemmas.List.Elements.{All-nil, All-cons, All-append, All-head, All-tail, All-weaker, All-contains, All-contains_itself}
+use Rattle.std.proofs.lemmas.List.Elements.{All-nil, All-cons, All-append, All-head, All-tail, All-weaker, All-contains}
+use Rattle.std.proofs.lemmas.List.Elements.{All-contains_itself}
 use Rattle.fair_rates.specs.Sides.Answers.{Answered, Calls, PairCalls, States, AnswerInOrder}
 use Rattle.fair_rates.specs.Sides.SideOf.{side_of}
 use Rattle.fair_rates.specs.Fairness.Fair.{Side}
-use Rattle.fair_rates.specs.Sides.Subjects.{Ask, sent_by, received_by, sent_between, asks_of_one, asks_from, is_open, opened, sides_after, sides_of}
+use Rattle.fair_rates.specs.Sides.Subjects.{Ask, sent_by, received_by, sent_between, asks_of_one, asks_from, is_open}
+use Rattle.fair_rates.specs.Sides.Subjects.{opened, sides_after, sides_of}
 use Rattle.fair_rates.specs.Refusals.FairRatesFit.{FairRatesFit}
 use Rattle.fair_rates.specs.Refusals.TooLarge.{IsAnswer, HasLargeAnswer, HasLargeRate, IsTooLarge}
 use Rattle.fair_rates.specs.declared.bandwidth.Flow.{Flow}
@@ -22,7 +25,8 @@ HoldsOfAnswer Good ask = (cap : ℕ) → ask.answer ≡ Some cap → Good cap
 abbrev HoldsOfAnswers : {P : Type 0} → (ℕ → Type 0) → Answered P → Type 0
 HoldsOfAnswers Good a = (cap : ℕ) → IsAnswer a cap → Good cap
 
-of_one : {P : Type 0} (Good : ℕ → Type 0) (place : ℕ) (a : Answered P) → HoldsOfAnswers Good a → All (HoldsOfAnswer Good) (asks_of_one place a)
+of_one : {P : Type 0} (Good : ℕ → Type 0) (place : ℕ) (a : Answered P) → HoldsOfAnswers Good a
+    → All (HoldsOfAnswer Good) (asks_of_one place a)
 of_one {P} Good place a good = by a.flow.delivered
   where
     egress : Ask P
@@ -38,24 +42,30 @@ of_one {P} Good place a good = by a.flow.delivered
     last = All-cons (HoldsOfAnswer Good) link [] (λ n e. good n (inr (inr e))) (All-nil (HoldsOfAnswer Good))
 
     by : (b : Bool) → All (HoldsOfAnswer Good) (egress ∷ [] ++ cond b (ingress ∷ []) [] ++ link ∷ [])
-    by true = All-cons (HoldsOfAnswer Good) egress (ingress ∷ link ∷ []) (λ n e. good n (inl e)) (All-cons (HoldsOfAnswer Good) ingress (link ∷ []) (λ n e. good n (inr (inl e))) last)
+    by true =
+        All-cons (HoldsOfAnswer Good) egress (ingress ∷ link ∷ []) (λ n e. good n (inl e))
+        (All-cons (HoldsOfAnswer Good) ingress (link ∷ []) (λ n e. good n (inr (inl e))) last)
     by false = All-cons (HoldsOfAnswer Good) egress (link ∷ []) (λ n e. good n (inl e)) last
 
-of_asks : {P : Type 0} (Good : ℕ → Type 0) (place : ℕ) (answered : List (Answered P)) → All (HoldsOfAnswers Good) answered → All (HoldsOfAnswer Good) (asks_from place answered)
+of_asks : {P : Type 0} (Good : ℕ → Type 0) (place : ℕ) (answered : List (Answered P))
+    → All (HoldsOfAnswers Good) answered → All (HoldsOfAnswer Good) (asks_from place answered)
 of_asks Good place [] good = All-nil (HoldsOfAnswer Good)
 of_asks Good place (a ∷ answered) good =
     All-append (HoldsOfAnswer Good) (asks_of_one place a) (asks_from (place + 1) answered)
     (of_one Good place a (All-head (HoldsOfAnswers Good) a answered good))
     (of_asks Good (place + 1) answered (All-tail (HoldsOfAnswers Good) a answered good))
 
-of_sides : {P : Type 0} (cmp : P → P → Ordering) (Good : ℕ → Type 0) (earlier asks : List (Ask P)) → All (HoldsOfAnswer Good) asks → All (λ side. Good side.cap) (sides_after cmp earlier asks)
+of_sides : {P : Type 0} (cmp : P → P → Ordering) (Good : ℕ → Type 0) (earlier asks : List (Ask P))
+    → All (HoldsOfAnswer Good) asks → All (λ side. Good side.cap) (sides_after cmp earlier asks)
 of_sides cmp Good earlier [] good = All-nil (λ side. Good side.cap)
 of_sides {P} cmp Good earlier (a ∷ asks) good =
-    All-append (λ side. Good side.cap) (cond (is_open cmp earlier a) [] (opened cmp a asks a.answer)) (sides_after cmp (a ∷ earlier) asks)
+    All-append (λ side. Good side.cap) (cond (is_open cmp earlier a) [] (opened cmp a asks a.answer))
+    (sides_after cmp (a ∷ earlier) asks)
     (by (is_open cmp earlier a) a.answer (All-head (HoldsOfAnswer Good) a asks good))
     (of_sides cmp Good (a ∷ earlier) asks (All-tail (HoldsOfAnswer Good) a asks good))
   where
-    by : (b : Bool) (answer : Option ℕ) → ((cap : ℕ) → answer ≡ Some cap → Good cap) → All (λ side. Good side.cap) (cond b [] (opened cmp a asks answer))
+    by : (b : Bool) (answer : Option ℕ) → ((cap : ℕ) → answer ≡ Some cap → Good cap)
+        → All (λ side. Good side.cap) (cond b [] (opened cmp a asks answer))
     by true answer h = All-nil (λ side. Good side.cap)
     by false None h = All-nil (λ side. Good side.cap)
     by false (Some limit) h = All-cons (λ side. Good side.cap) _ [] (h limit refl) (All-nil (λ side. Good side.cap))
@@ -64,19 +74,25 @@ of_sides {P} cmp Good earlier (a ∷ asks) good =
 abbrev WasAnswered : {P : Type 0} → List (Answered P) → ℕ → Type 0
 WasAnswered {P} answered cap = (a : Answered P) × Contains answered a × IsAnswer a cap
 
-caps_were_answered : {P : Type 0} (cmp : P → P → Ordering) (answered : List (Answered P)) → All (λ side. WasAnswered answered side.cap) (sides_of cmp answered)
+caps_were_answered : {P : Type 0} (cmp : P → P → Ordering) (answered : List (Answered P))
+    → All (λ side. WasAnswered answered side.cap) (sides_of cmp answered)
 caps_were_answered cmp answered =
     of_sides cmp (WasAnswered answered) [] (asks_from 0 answered)
     (of_asks (WasAnswered answered) 0 answered
-    (All-weaker (Contains answered) (HoldsOfAnswers (WasAnswered answered)) (λ a c n is. (a, c, is)) answered (All-contains_itself answered)))
+    (All-weaker (Contains answered) (HoldsOfAnswers (WasAnswered answered)) (λ a c n is. (a, c, is)) answered
+    (All-contains_itself answered)))
 
-large_answer : {P : Type 0} (cmp : P → P → Ordering) (answered : List (Answered P)) (side : Side) → Contains (sides_of cmp answered) side → 2 ^ 64 ≤ side.cap → HasLargeAnswer answered
+large_answer : {P : Type 0} (cmp : P → P → Ordering) (answered : List (Answered P)) (side : Side)
+    → Contains (sides_of cmp answered) side → 2 ^ 64 ≤ side.cap → HasLargeAnswer answered
 large_answer cmp answered side listed large =
-    let w = All-contains (λ side. WasAnswered answered side.cap) (sides_of cmp answered) side (caps_were_answered cmp answered) listed in
+    let w =
+    All-contains (λ side. WasAnswered answered side.cap) (sides_of cmp answered) side
+    (caps_were_answered cmp answered) listed in
     record { asked = w.0; listed = w.1; cap = side.cap; is = w.2; large = large }
 
 -- where a fair rate on the sides that were registered is no fraction of 128 bits
-pub too_large : {P E I L : Type 0} (cmp : P → P → Ordering) (egress : Calls E P) (ingress : Calls I P) (link : PairCalls L P) (first : States E I L) (flows : List (Flow P))
+pub too_large : {P E I L : Type 0} (cmp : P → P → Ordering) (egress : Calls E P) (ingress : Calls I P)
+    (link : PairCalls L P) (first : States E I L) (flows : List (Flow P))
     → (answered : List (Answered P)) (sides : List declared_side.Side)
     → AnswerInOrder egress ingress link first flows answered
     → map side_of sides ≡ sides_of cmp answered
@@ -92,8 +108,10 @@ too_large cmp egress ingress link first flows answered sides in_order registered
       in_order = in_order;
       large_rate = subst HasLargeRate registered large;
       nothing_fits = subst (λ s. ¬ FairRatesFit s (length flows)) registered refused;
-      many_or_large = elim (too_many_or_large (map side_of sides) (length flows) among (distinct_sides sides rise) refused) [
-        | inl many ↦ inl many
-        | inr (side, listed, over) ↦ inr (large_answer cmp answered side (subst (λ s. Contains s side) registered listed) over)
-      ];
+      many_or_large =
+          elim (too_many_or_large (map side_of sides) (length flows) among (distinct_sides sides rise) refused) [
+            | inl many ↦ inl many
+            | inr (side, listed, over) ↦ inr
+                (large_answer cmp answered side (subst (λ s. Contains s side) registered listed) over)
+          ];
     }

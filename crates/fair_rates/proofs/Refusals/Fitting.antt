@@ -26,7 +26,8 @@ small_fits n d some n_small d_small =
     part whole factor rest f e = omega (arith, e, mul-le-mul_left rest f)
 
 -- amounts of one value fit both or neither
-pub fits_alike : (n d m e : ℕ) → 0 < d → 0 < e → n * e ≡ m * d → ReducedFits (parts_over e m) → ReducedFits (parts_over d n)
+pub fits_alike : (n d m e : ℕ) → 0 < d → 0 < e → n * e ≡ m * d → ReducedFits (parts_over e m)
+    → ReducedFits (parts_over d n)
 fits_alike n d m e d_pos e_pos same fits =
     let is : reduced n d ≡ reduced m e = reduced_same n d m e d_pos e_pos same in
     record {
@@ -35,26 +36,33 @@ fits_alike n d m e d_pos e_pos same fits =
     }
 
 -- the rate of a flow that has a bottleneck fits where the sides' numbers do
-rate_fits : (per flows parts limit : ℕ) → 0 < per → 0 < flows → parts ≤ limit * per → per * flows * limit < 2 ^ 128 → ReducedFits (parts_over per parts)
+rate_fits : (per flows parts limit : ℕ) → 0 < per → 0 < flows → parts ≤ limit * per → per * flows * limit < 2 ^ 128
+    → ReducedFits (parts_over per parts)
 rate_fits per flows parts limit some flows_some le small = elim (cases_lt 0 limit) [
   | inl positive ↦
       small_fits parts per some (lt_of_le_of_lt (omega (arith, le, mul-le-mul_left (limit * per) flows_some)) small)
       (lt_of_le_of_lt (omega (arith, mul-le-mul_left per flows_some, mul-le-mul_left (per * flows) positive)) small)
   | inr none ↦
-      let zero : limit * per ≡ 0 = let closed : limit ≡ 0 = omega arith in ap (λ n. n * per) closed ∙ (let e : 0 * per ≡ 0 = omega arith in e) in
-      fits_alike parts per 0 1 some (omega arith) (omega (arith, le, zero)) (small_fits 0 1 (omega arith) (lit< tt) (lit< tt))
+      let zero : limit * per ≡ 0 = let closed : limit ≡ 0 = omega arith in
+      ap (λ n. n * per) closed ∙ (let e : 0 * per ≡ 0 = omega arith in e) in
+      fits_alike parts per 0 1 some (omega arith) (omega (arith, le, zero))
+      (small_fits 0 1 (omega arith) (lit< tt) (lit< tt))
 ]
 
 -- so where a fair rate is no such fraction, no fair rates fit
-pub large_does_not_fit : (sides : List Side) (flows : ℕ) → HaveUsersBelow flows sides → HasLargeRate sides → ¬ FairRatesFit sides flows
+pub large_does_not_fit : (sides : List Side) (flows : ℕ) → HaveUsersBelow flows sides → HasLargeRate sides
+    → ¬ FairRatesFit sides flows
 large_does_not_fit sides flows among large fits =
     let flow = large.flow in
     let h = fits.fair.held flow large.limited in
     let used = h.uses.used in
     let here = get_or-le-sum_by fits.parts h.side.users used.0 flow used.1 in
     let at_most : fits.parts flow ≤ h.side.cap * fits.per = omega (arith, here, ap fits.parts used.2, h.full) in
-    let below : flow < flows = All-contains (λ user. user < flows) h.side.users flow (All-contains (λ s. All (λ user. user < flows) s.users) sides h.side among h.uses.listed) used in
+    let below : flow < flows =
+    All-contains (λ user. user < flows) h.side.users flow
+    (All-contains (λ s. All (λ user. user < flows) s.users) sides h.side among h.uses.listed) used in
     let small = All-contains (λ s. fits.per * flows * s.cap < 2 ^ 128) sides h.side fits.small h.uses.listed in
-    large.large (fits_alike (large.parts flow) large.per (fits.parts flow) fits.per large.fair.some_part fits.fair.some_part
+    large.large
+    (fits_alike (large.parts flow) large.per (fits.parts flow) fits.per large.fair.some_part fits.fair.some_part
     (same_amounts sides large.per fits.per large.parts fits.parts large.fair fits.fair flow large.limited)
     (rate_fits fits.per flows (fits.parts flow) h.side.cap fits.fair.some_part (omega (arith, below)) at_most small))

@@ -27,7 +27,8 @@ large_is_unfair sides flows rates among large small fair =
     below : large.flow < flows
     below =
         All-contains (λ user. user < flows) large.limited.0.users large.flow
-        (All-contains (λ (side : Side). All (λ user. user < flows) side.users) sides large.limited.0 among large.limited.1.listed)
+        (All-contains (λ (side : Side). All (λ user. user < flows) side.users) sides large.limited.0 among
+        large.limited.1.listed)
         large.limited.1.used
 
     by_rate : (rate : Rate) → IsRateOf sides fair.per fair.parts large.flow rate → IsFraction rate → ⊥
@@ -38,9 +39,13 @@ large_is_unfair sides flows rates among large small fair =
           numerator = subst (λ (a : Amount). a.num < 2 ^ 128) is fraction.0;
           denominator = subst (λ (a : Amount). a.den < 2 ^ 128) is fraction.1;
         } in
-        large.large (fits_alike (large.parts large.flow) large.per (fair.parts large.flow) fair.per large.fair.some_part fair.fair.some_part
-        (same_amounts sides large.per fair.per large.parts fair.parts large.fair fair.fair large.flow large.limited) fits)
+        large.large
+        (fits_alike (large.parts large.flow) large.per (fair.parts large.flow) fair.per large.fair.some_part
+        fair.fair.some_part
+        (same_amounts sides large.per fair.per large.parts fair.parts large.fair fair.fair large.flow large.limited)
+        fits)
 
 pub too_large_has_no_rates : {P : Type 0} (cmp : P → P → Ordering) → IsTotalOrder cmp → TooLargeHasNoRates cmp
 too_large_has_no_rates cmp order caps flows rates of large small fair =
-    large_is_unfair (sides_under cmp caps flows) (length flows) rates (users_below cmp order caps flows of) large.large_rate small fair
+    large_is_unfair (sides_under cmp caps flows) (length flows) rates (users_below cmp order caps flows of)
+    large.large_rate small fair

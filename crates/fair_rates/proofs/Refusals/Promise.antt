@@ -1,5 +1,6 @@
 -- The promises: sixteen flows with caps below 2^64 fit, and of what the rates of a few flows are whole.
-use Rattle.std.proofs.Common.{◌⊎◌, inl, inr, refl, [], ◌∷◌, AllPairs, ℕ, ◌*◌, ◌^◌, ◌<◌, ◌≤◌, List, get_or, All, Contains, subst, arith, lit<, mul-le-mul, le_of_lt}
+use Rattle.std.proofs.Common.{◌⊎◌, inl, inr, refl, [], ◌∷◌, AllPairs, ℕ, ◌*◌, ◌^◌, ◌<◌, ◌≤◌, List, get_or, All}
+use Rattle.std.proofs.Common.{Contains, subst, arith, lit<, mul-le-mul, le_of_lt}
 use Rattle.std.proofs.Math.Nat.{lt_of_le_of_lt}
 use Rattle.std.specs.Prelude.{map}
 use Rattle.fair_rates.specs.Sides.SideOf.{side_of}
@@ -20,22 +21,26 @@ use Rattle.fair_rates.proofs.Sides.UserCounts.{AreDistinct, HaveDistinctUsers}
 
 small_product : (per flows limit : ℕ) → per ≤ 54486432000 → flows ≤ 16 → limit < 2 ^ 64 → per * flows * limit < 2 ^ 128
 small_product per flows limit per_le flows_le limit_lt =
-    let le : per * flows * limit ≤ 54486432000 * 16 * 2 ^ 64 = mul-le-mul (mul-le-mul per_le flows_le) (le_of_lt limit_lt) in
+    let le : per * flows * limit ≤ 54486432000 * 16 * 2 ^ 64 =
+    mul-le-mul (mul-le-mul per_le flows_le) (le_of_lt limit_lt) in
     lt_of_le_of_lt le (lit< tt)
 
 -- at most sixteen flows with caps below 2^64 fit
-pub sixteen_fit : (sides : List Side) (flows : ℕ) → flows ≤ 16 → HaveUsersBelow flows sides → HaveDistinctUsers sides → All (λ side. side.cap < 2 ^ 64) sides → FairRatesFit sides flows
+pub sixteen_fit : (sides : List Side) (flows : ℕ) → flows ≤ 16 → HaveUsersBelow flows sides → HaveDistinctUsers sides
+    → All (λ side. side.cap < 2 ^ 64) sides → FairRatesFit sides flows
 sixteen_fit sides flows small among distinct caps =
     let fair = fair_parts flows sides among distinct in
     record {
       per = denominator_of flows;
       parts = fair.0;
       fair = fair.1;
-      small = λ k d l. small_product (denominator_of flows) flows (get_or sides k d).cap (at_most flows small) small (caps k d l);
+      small = λ k d l.
+          small_product (denominator_of flows) flows (get_or sides k d).cap (at_most flows small) small (caps k d l);
     }
 
 -- all caps are below 2^64, or one is not
-caps_below : (sides : List Side) → All (λ side. side.cap < 2 ^ 64) sides ⊎ ((side : Side) × Contains sides side × (2 ^ 64 ≤ side.cap))
+caps_below : (sides : List Side)
+    → All (λ side. side.cap < 2 ^ 64) sides ⊎ ((side : Side) × Contains sides side × (2 ^ 64 ≤ side.cap))
 caps_below [] = inl (All-nil (λ side. side.cap < 2 ^ 64))
 caps_below (side ∷ sides) = elim (cases_lt side.cap (2 ^ 64)) [
   | inr large ↦ inr (side, Contains-append_left (side ∷ []) sides side (0, omega arith, refl), large)
@@ -46,7 +51,8 @@ caps_below (side ∷ sides) = elim (cases_lt side.cap (2 ^ 64)) [
 ]
 
 -- where no fair rates fit there are more flows, or there is a greater cap
-pub too_many_or_large : (sides : List Side) (flows : ℕ) → HaveUsersBelow flows sides → HaveDistinctUsers sides → ¬ FairRatesFit sides flows
+pub too_many_or_large : (sides : List Side) (flows : ℕ) → HaveUsersBelow flows sides → HaveDistinctUsers sides
+    → ¬ FairRatesFit sides flows
     → (16 < flows) ⊎ ((side : Side) × Contains sides side × (2 ^ 64 ≤ side.cap))
 too_many_or_large sides flows among distinct refused = elim (cases_lt 16 flows) [
   | inl many ↦ inl many
@@ -59,22 +65,30 @@ too_many_or_large sides flows among distinct refused = elim (cases_lt 16 flows) 
 -- ---- the sides of the code
 
 -- users that rise are distinct
-pub distinct_sides : (sides : List declared_side.Side) → All (λ side. AllPairs (λ a b. a < b) side.users.items) sides → HaveDistinctUsers (map side_of sides)
+pub distinct_sides : (sides : List declared_side.Side) → All (λ side. AllPairs (λ a b. a < b) side.users.items) sides
+    → HaveDistinctUsers (map side_of sides)
 distinct_sides sides rise =
     All-map (λ side. AreDistinct side.users) side_of sides (λ k d inside i j e before within same.
-    let less : get_or (get_or sides k d).users.items i e < get_or (get_or sides k d).users.items j e = rise k d inside i j e before within in absurd (omega arith))
+    let less : get_or (get_or sides k d).users.items i e < get_or (get_or sides k d).users.items j e =
+    rise k d inside i j e before within in
+    absurd (omega arith))
 
-pub users_below_sides : (flows : ℕ) (sides : List declared_side.Side) → All (λ side. All (λ user. user < flows) side.users.items) sides → HaveUsersBelow flows (map side_of sides)
+pub users_below_sides : (flows : ℕ) (sides : List declared_side.Side)
+    → All (λ side. All (λ user. user < flows) side.users.items) sides → HaveUsersBelow flows (map side_of sides)
 users_below_sides flows sides among = All-map (λ side. All (λ user. user < flows) side.users) side_of sides among
 
 -- ---- whole over the denominator
 
 -- of at most four flows twelve times each rate is whole
 pub twelfths : (sides : List Side) (flows : ℕ) (rates : List Rate)
-    → flows ≤ 4 → HaveUsersBelow flows sides → HaveDistinctUsers sides → AreFairRates sides flows rates → AreWholeOver 12 rates
-twelfths sides flows rates small among distinct fair = subst (λ per. AreWholeOver per rates) of_four (whole_rates 4 sides flows rates small among distinct fair)
+    → flows ≤ 4 → HaveUsersBelow flows sides → HaveDistinctUsers sides → AreFairRates sides flows rates
+    → AreWholeOver 12 rates
+twelfths sides flows rates small among distinct fair =
+    subst (λ per. AreWholeOver per rates) of_four (whole_rates 4 sides flows rates small among distinct fair)
 
 -- and of at most sixteen, 54486432000 times
 pub whole_of_sixteen : (sides : List Side) (flows : ℕ) (rates : List Rate)
-    → flows ≤ 16 → HaveUsersBelow flows sides → HaveDistinctUsers sides → AreFairRates sides flows rates → AreWholeOver 54486432000 rates
-whole_of_sixteen sides flows rates small among distinct fair = subst (λ per. AreWholeOver per rates) of_sixteen (whole_rates 16 sides flows rates small among distinct fair)
+    → flows ≤ 16 → HaveUsersBelow flows sides → HaveDistinctUsers sides → AreFairRates sides flows rates
+    → AreWholeOver 54486432000 rates
+whole_of_sixteen sides flows rates small among distinct fair =
+    subst (λ per. AreWholeOver per rates) of_sixteen (whole_rates 16 sides flows rates small among distinct fair)

@@ -1,5 +1,6 @@
 -- Which sides the caps make.
-use Rattle.std.proofs.Common.{◌≡◌, ℕ, ◌+◌, Bool, true, false, cond, ◌&&◌, List, [], ◌∷◌, ◌++◌, Option, Some, None, map, is_some, Contains, refl, sym, ap, ◌∙◌, subst, inl, inr, ◌⊎◌, ap₂}
+use Rattle.std.proofs.Common.{◌≡◌, ℕ, ◌+◌, Bool, true, false, cond, ◌&&◌, List, [], ◌∷◌, ◌++◌, Option, Some, None, map}
+use Rattle.std.proofs.Common.{is_some, Contains, refl, sym, ap, ◌∙◌, subst, inl, inr, ◌⊎◌, ap₂}
 use Rattle.std.proofs.lemmas.Bool.{and_right, and_from, and_parts}
 use Rattle.std.proofs.lemmas.List.Elements.{filter_agree, filter-append}
 use Rattle.std.proofs.lemmas.List.{map-append}
@@ -8,15 +9,19 @@ use Rattle.std.specs.Cmp.{IsTotalOrder}
 use Rattle.std.specs.declared.cmp.Ordering.{Ordering}
 use Rattle.fair_rates.specs.declared.bandwidth.Flow.{Flow}
 use Rattle.fair_rates.specs.Fairness.Fair.{Side}
-use Rattle.fair_rates.specs.Sides.Subjects.{Subject, sent_by, received_by, sent_between, Ask, same_peer, same_subject, is_same, is_open, opened, sides_after, asks_from}
+use Rattle.fair_rates.specs.Sides.Subjects.{Subject, sent_by, received_by, sent_between, Ask, same_peer, same_subject}
+use Rattle.fair_rates.specs.Sides.Subjects.{is_same, is_open, opened, sides_after, asks_from}
 use Rattle.fair_rates.specs.Sides.Caps.{Caps}
-use Rattle.fair_rates.specs.Fairness.UnderCaps.{cap_of, answered_under, AreOfPeers, limits, sides_under, IsCappedSide, SidesAreOfTheCaps}
+use Rattle.fair_rates.specs.Fairness.UnderCaps.{cap_of, answered_under, AreOfPeers, limits, sides_under, IsCappedSide}
+use Rattle.fair_rates.specs.Fairness.UnderCaps.{SidesAreOfTheCaps}
 use Rattle.fair_rates.proofs.Sides.Subjects.{same_itself, same_symm, same_congr}
-use Rattle.fair_rates.proofs.Lists.Members.{In, in_left, in_right, in_either, in_from_contains, contains_from_in, none_passes, any_fails}
+use Rattle.fair_rates.proofs.Lists.Members.{In, in_left, in_right, in_either, in_from_contains, contains_from_in}
+use Rattle.fair_rates.proofs.Lists.Members.{none_passes, any_fails}
 use Rattle.fair_rates.proofs.Sides.EqualSubjects.{same_peer_itself, one_cap, same_limits}
 use Rattle.fair_rates.specs.Lists.Places.{places_from}
 
-module _ {P : Type 0} (cmp : P → P → Ordering) (order : IsTotalOrder cmp) (caps : Caps P) (of : AreOfPeers cmp caps) where
+module _ {P : Type 0} (cmp : P → P → Ordering) (order : IsTotalOrder cmp) (caps : Caps P)
+    (of : AreOfPeers cmp caps) where
   -- the ask was answered by the caps
   abbrev IsByCaps : Ask P → Type 0
   IsByCaps a = a.answer ≡ cap_of caps a.subject
@@ -32,7 +37,8 @@ module _ {P : Type 0} (cmp : P → P → Ordering) (order : IsTotalOrder cmp) (c
     users : side.users ≡ map (λ b. b.place) (filter (is_same cmp a) later)
 
   -- nothing is open where no ask with a number was for it
-  fresh_from : (earlier : List (Ask P)) (a : Ask P) (cap : ℕ) → AllByCaps earlier → IsByCaps a → a.answer ≡ Some cap → is_open cmp earlier a ≡ false → (b : Ask P) → In earlier b
+  fresh_from : (earlier : List (Ask P)) (a : Ask P) (cap : ℕ) → AllByCaps earlier → IsByCaps a → a.answer ≡ Some cap
+      → is_open cmp earlier a ≡ false → (b : Ask P) → In earlier b
       → is_same cmp a b ≡ false
   fresh_from earlier a cap all by has closed b among = by_same (is_same cmp b a) refl
     where
@@ -41,11 +47,13 @@ module _ {P : Type 0} (cmp : P → P → Ordering) (order : IsTotalOrder cmp) (c
       by_same true e =
           let same : cap_of caps b.subject ≡ cap_of caps a.subject = one_cap cmp order caps of b.subject a.subject e in
           let number : b.answer ≡ Some cap = all b among ∙ same ∙ sym by ∙ has in
-          let off : (is_some b.answer && is_same cmp b a) ≡ false = none_passes (λ b. is_some b.answer && is_same cmp b a) earlier closed b among in
+          let off : (is_some b.answer && is_same cmp b a) ≡ false =
+          none_passes (λ b. is_some b.answer && is_same cmp b a) earlier closed b among in
           let on : (is_some b.answer && is_same cmp b a) ≡ true = rw (number, e) refl in
           cc
 
-  open_from : (earlier : List (Ask P)) (a : Ask P) → ((b : Ask P) → In earlier b → is_same cmp a b ≡ false) → is_open cmp earlier a ≡ false
+  open_from : (earlier : List (Ask P)) (a : Ask P) → ((b : Ask P) → In earlier b → is_same cmp a b ≡ false)
+      → is_open cmp earlier a ≡ false
   open_from earlier a fresh = any_fails (λ b. is_some b.answer && is_same cmp b a) earlier (λ b among.
       and_right (is_some b.answer) (is_same cmp b a) (same_symm cmp order b.subject a.subject ∙ fresh b among))
 
@@ -53,13 +61,18 @@ module _ {P : Type 0} (cmp : P → P → Ordering) (order : IsTotalOrder cmp) (c
   one_more earlier x before by a (inl e) = subst IsByCaps e by
   one_more earlier x before by a (inr h) = before a h
 
-  from_sides : (earlier later : List (Ask P)) (side : Side) → AllByCaps earlier → AllByCaps later → In (sides_after cmp earlier later) side → (a : Ask P) × IsOpenedBy earlier later side a
+  from_sides : (earlier later : List (Ask P)) (side : Side) → AllByCaps earlier → AllByCaps later
+      → In (sides_after cmp earlier later) side → (a : Ask P) × IsOpenedBy earlier later side a
   from_sides earlier [] side before all h = absurd h
   from_sides earlier (x ∷ later) side before all h =
-      by_part (in_either (cond (is_open cmp earlier x) [] (opened cmp x later x.answer)) (sides_after cmp (x ∷ earlier) later) side h)
-      (λ g. from_sides (x ∷ earlier) later side (one_more earlier x before (all x (inl refl))) (λ a among. all a (inr among)) g)
+      by_part
+      (in_either (cond (is_open cmp earlier x) [] (opened cmp x later x.answer)) (sides_after cmp (x ∷ earlier) later)
+      side h)
+      (λ g. from_sides (x ∷ earlier) later side (one_more earlier x before (all x (inl refl)))
+      (λ a among. all a (inr among)) g)
     where
-      by_head : (t : Bool) (answer : Option ℕ) → is_open cmp earlier x ≡ t → x.answer ≡ answer → In (cond t [] (opened cmp x later answer)) side → (a : Ask P) × IsOpenedBy earlier (x ∷ later) side a
+      by_head : (t : Bool) (answer : Option ℕ) → is_open cmp earlier x ≡ t → x.answer ≡ answer
+          → In (cond t [] (opened cmp x later answer)) side → (a : Ask P) × IsOpenedBy earlier (x ∷ later) side a
       by_head true answer t is g = absurd g
       by_head false None t is g = absurd g
       by_head false (Some cap) t is (inr g) = absurd g
@@ -84,7 +97,8 @@ module _ {P : Type 0} (cmp : P → P → Ordering) (order : IsTotalOrder cmp) (c
         },
       )
 
-      by_part : In (cond (is_open cmp earlier x) [] (opened cmp x later x.answer)) side ⊎ In (sides_after cmp (x ∷ earlier) later) side
+      by_part : In (cond (is_open cmp earlier x) [] (opened cmp x later x.answer)) side
+          ⊎ In (sides_after cmp (x ∷ earlier) later) side
           → (In (sides_after cmp (x ∷ earlier) later) side → (a : Ask P) × IsOpenedBy (x ∷ earlier) later side a)
           → (a : Ask P) × IsOpenedBy earlier (x ∷ later) side a
       by_part (inl g) ih = by_head (is_open cmp earlier x) x.answer refl refl g
@@ -93,32 +107,53 @@ module _ {P : Type 0} (cmp : P → P → Ordering) (order : IsTotalOrder cmp) (c
   abbrev side_asked : List (Ask P) → Ask P → ℕ → Side
   side_asked asks a cap = record { cap = cap; users = map (λ b. b.place) (filter (is_same cmp a) asks) }
 
-  to_sides : (earlier later : List (Ask P)) (a : Ask P) (cap : ℕ) → AllByCaps earlier → AllByCaps later → In later a → a.answer ≡ Some cap
-      → ((b : Ask P) → In earlier b → is_same cmp a b ≡ false) → In (sides_after cmp earlier later) (side_asked later a cap)
+  to_sides : (earlier later : List (Ask P)) (a : Ask P) (cap : ℕ) → AllByCaps earlier → AllByCaps later → In later a
+      → a.answer ≡ Some cap
+      → ((b : Ask P) → In earlier b → is_same cmp a b ≡ false)
+      → In (sides_after cmp earlier later) (side_asked later a cap)
   to_sides earlier [] a cap before all h has fresh = absurd h
   to_sides earlier (x ∷ later) a cap before all h has fresh =
-      by_same (is_same cmp a x) refl h (λ g. to_sides (x ∷ earlier) later a cap (one_more earlier x before (all x (inl refl))) (λ b among. all b (inr among)) g has)
+      by_same (is_same cmp a x) refl h
+      (λ g. to_sides (x ∷ earlier) later a cap (one_more earlier x before (all x (inl refl)))
+      (λ b among. all b (inr among)) g has)
     where
       head : is_same cmp a x ≡ true
-          → In (cond (is_open cmp earlier x) [] (opened cmp x later x.answer) ++ sides_after cmp (x ∷ earlier) later) (record {
+          → In (cond (is_open cmp earlier x) [] (opened cmp x later x.answer) ++ sides_after cmp (x ∷ earlier) later)
+          (record {
             cap = cap;
             users =
                 x.place ∷ map (λ b. b.place) (filter (is_same cmp a) later);
           })
       head e =
-          let number : x.answer ≡ Some cap = all x (inl refl) ∙ sym (one_cap cmp order caps of a.subject x.subject e) ∙ sym (all a h) ∙ has in
-          let closed : is_open cmp earlier x ≡ false = open_from earlier x (λ b among. sym (same_congr cmp order a.subject x.subject b.subject e) ∙ fresh b among) in
-          let agree : filter (is_same cmp a) later ≡ filter (is_same cmp x) later = filter_agree (is_same cmp a) (is_same cmp x) (λ b. same_congr cmp order a.subject x.subject b.subject e) later in
+          let number : x.answer ≡ Some cap =
+          all x (inl refl) ∙ sym (one_cap cmp order caps of a.subject x.subject e) ∙ sym (all a h) ∙ has in
+          let closed : is_open cmp earlier x ≡ false =
+          open_from earlier x
+          (λ b among. sym (same_congr cmp order a.subject x.subject b.subject e) ∙ fresh b among) in
+          let agree : filter (is_same cmp a) later ≡ filter (is_same cmp x) later =
+          filter_agree (is_same cmp a) (is_same cmp x) (λ b. same_congr cmp order a.subject x.subject b.subject e)
+          later in
           rw (closed, number, agree) (inl refl)
 
       by_same : (t : Bool) → is_same cmp a x ≡ t → In (x ∷ later) a
-          → (In later a → ((b : Ask P) → In (x ∷ earlier) b → is_same cmp a b ≡ false) → In (sides_after cmp (x ∷ earlier) later) (side_asked later a cap))
-          → In (sides_after cmp earlier (x ∷ later)) (record { cap = cap; users = map (λ b. b.place) (cond t (x ∷ filter (is_same cmp a) later) (filter (is_same cmp a) later)) })
+          → (In later a → ((b : Ask P) → In (x ∷ earlier) b → is_same cmp a b ≡ false)
+          → In (sides_after cmp (x ∷ earlier) later) (side_asked later a cap))
+          → In (sides_after cmp earlier (x ∷ later))
+          (record {
+            cap = cap;
+            users = map (λ b. b.place) (cond t (x ∷ filter (is_same cmp a) later) (filter (is_same cmp a) later));
+          })
       by_same true e g ih = head e
-      by_same false e (inl same) ih = let on : is_same cmp a x ≡ true = subst (λ (b : Ask P). is_same cmp a b ≡ true) (sym same) (same_itself cmp order a.subject) in cc
+      by_same false e (inl same) ih =
+          let on : is_same cmp a x ≡ true =
+          subst (λ (b : Ask P). is_same cmp a b ≡ true) (sym same) (same_itself cmp order a.subject) in
+          cc
       by_same false e (inr g) ih =
-          in_right (cond (is_open cmp earlier x) [] (opened cmp x later x.answer)) (sides_after cmp (x ∷ earlier) later) (side_asked later a cap)
-          (ih g (λ b. elim [ inl same ↦ subst (λ (c : Ask P). is_same cmp a c ≡ false) same e | inr among ↦ fresh b among ]))
+          in_right (cond (is_open cmp earlier x) [] (opened cmp x later x.answer)) (sides_after cmp (x ∷ earlier) later)
+          (side_asked later a cap)
+          (ih g
+          (λ b.
+          elim [ inl same ↦ subst (λ (c : Ask P). is_same cmp a c ≡ false) same e | inr among ↦ fresh b among ]))
 
   -- ---- the asks of flows
 
@@ -130,13 +165,20 @@ module _ {P : Type 0} (cmp : P → P → Ordering) (order : IsTotalOrder cmp) (c
   sends place f = record { place = place; subject = sent_by f.origin; answer = caps.egress f.origin }
 
   abbrev receives : ℕ → Flow P → Bool → Ask P
-  receives place f delivered = record { place = place; subject = received_by f.recipient; answer = cond delivered (caps.ingress f.recipient) None }
+  receives place f delivered =
+      record {
+        place = place;
+        subject = received_by f.recipient;
+        answer = cond delivered (caps.ingress f.recipient) None;
+      }
 
   abbrev links : ℕ → Flow P → Ask P
-  links place f = record { place = place; subject = sent_between f.origin f.recipient; answer = caps.link f.origin f.recipient }
+  links place f =
+      record { place = place; subject = sent_between f.origin f.recipient; answer = caps.link f.origin f.recipient }
 
   abbrev asks_if : ℕ → Flow P → Bool → List (Ask P)
-  asks_if place f delivered = (sends place f ∷ []) ++ cond delivered (receives place f delivered ∷ []) [] ++ (links place f ∷ [])
+  asks_if place f delivered =
+      (sends place f ∷ []) ++ cond delivered (receives place f delivered ∷ []) [] ++ (links place f ∷ [])
 
   one_by_caps : (place : ℕ) (f : Flow P) (delivered : Bool) → AllByCaps (asks_if place f delivered)
   one_by_caps place f true a (inl e) = subst IsByCaps e refl
@@ -160,10 +202,12 @@ module _ {P : Type 0} (cmp : P → P → Ordering) (order : IsTotalOrder cmp) (c
 
   -- the places of the asks of a flow that are for a subject
   abbrev places_for : Subject P → ℕ → Flow P → Bool → List ℕ
-  places_for s place f delivered = map (λ b. b.place) (filter (λ b. same_subject cmp s b.subject) (asks_if place f delivered))
+  places_for s place f delivered =
+      map (λ b. b.place) (filter (λ b. same_subject cmp s b.subject) (asks_if place f delivered))
 
   -- of the three asks of a flow at most one is for a subject
-  one_place : (place : ℕ) (f : Flow P) (s : Subject P) → places_for s place f f.delivered ≡ cond (limits cmp s f) (place ∷ []) []
+  one_place : (place : ℕ) (f : Flow P) (s : Subject P)
+      → places_for s place f f.delivered ≡ cond (limits cmp s f) (place ∷ []) []
   one_place place f (sent_by p) = by_delivered f.delivered
     where
       by_delivered : (d : Bool) → places_for (sent_by p) place f d ≡ cond (same_peer cmp p f.origin) (place ∷ []) []
@@ -171,12 +215,15 @@ module _ {P : Type 0} (cmp : P → P → Ordering) (order : IsTotalOrder cmp) (c
       by_delivered false = one_kept (same_peer cmp p f.origin) (sends place f)
   one_place place f (received_by p) = by_delivered f.delivered
     where
-      by_delivered : (d : Bool) → places_for (received_by p) place f d ≡ cond (d && same_peer cmp p f.recipient) (place ∷ []) []
+      by_delivered : (d : Bool)
+          → places_for (received_by p) place f d ≡ cond (d && same_peer cmp p f.recipient) (place ∷ []) []
       by_delivered true = one_kept (same_peer cmp p f.recipient) (receives place f true)
       by_delivered false = refl
   one_place place f (sent_between p q) = by_delivered f.delivered
     where
-      by_delivered : (d : Bool) → places_for (sent_between p q) place f d ≡ cond (same_peer cmp p f.origin && same_peer cmp q f.recipient) (place ∷ []) []
+      by_delivered : (d : Bool)
+          → places_for (sent_between p q) place f d
+          ≡ cond (same_peer cmp p f.origin && same_peer cmp q f.recipient) (place ∷ []) []
       by_delivered true = one_kept (same_peer cmp p f.origin && same_peer cmp q f.recipient) (links place f)
       by_delivered false = one_kept (same_peer cmp p f.origin && same_peer cmp q f.recipient) (links place f)
 
@@ -185,35 +232,49 @@ module _ {P : Type 0} (cmp : P → P → Ordering) (order : IsTotalOrder cmp) (c
   joined place false rest = refl
 
   -- who asks for a subject is a flow that its side limits
-  places_asked : (place : ℕ) (flows : List (Flow P)) (a : Ask P) → map (λ b. b.place) (filter (is_same cmp a) (asks place flows)) ≡ places_from place (limits cmp a.subject) flows
+  places_asked : (place : ℕ) (flows : List (Flow P)) (a : Ask P)
+      → map (λ b. b.place) (filter (is_same cmp a) (asks place flows)) ≡ places_from place (limits cmp a.subject) flows
   places_asked place [] a = refl
   places_asked place (f ∷ flows) a =
-      ap (map (λ (b : Ask P). b.place)) (filter-append (is_same cmp a) (asks_if place f f.delivered) (asks (place + 1) flows))
-      ∙ map-append (λ (b : Ask P). b.place) (filter (is_same cmp a) (asks_if place f f.delivered)) (filter (is_same cmp a) (asks (place + 1) flows))
+      ap (map (λ (b : Ask P). b.place))
+      (filter-append (is_same cmp a) (asks_if place f f.delivered) (asks (place + 1) flows))
+      ∙ map-append (λ (b : Ask P). b.place) (filter (is_same cmp a) (asks_if place f f.delivered))
+      (filter (is_same cmp a) (asks (place + 1) flows))
       ∙ ap₂ (λ (xs ys : List ℕ). xs ++ ys) (one_place place f a.subject) (places_asked (place + 1) flows a)
       ∙ joined place (limits cmp a.subject f) (places_from (place + 1) (limits cmp a.subject) flows)
 
-  one_limits : (place : ℕ) (f : Flow P) (d : Bool) → f.delivered ≡ d → (a : Ask P) → In (asks_if place f d) a → limits cmp a.subject f ≡ true
-  one_limits place f true is a (inl e) = subst (λ (b : Ask P). limits cmp b.subject f ≡ true) e (same_peer_itself cmp order f.origin)
+  one_limits : (place : ℕ) (f : Flow P) (d : Bool) → f.delivered ≡ d → (a : Ask P) → In (asks_if place f d) a
+      → limits cmp a.subject f ≡ true
+  one_limits place f true is a (inl e) =
+      subst (λ (b : Ask P). limits cmp b.subject f ≡ true) e (same_peer_itself cmp order f.origin)
   one_limits place f true is a (inr (inl e)) =
-      subst (λ (b : Ask P). limits cmp b.subject f ≡ true) e (and_from f.delivered (same_peer cmp f.recipient f.recipient) is (same_peer_itself cmp order f.recipient))
-  one_limits place f true is a (inr (inr (inl e))) = subst (λ (b : Ask P). limits cmp b.subject f ≡ true) e (same_itself cmp order (sent_between f.origin f.recipient))
+      subst (λ (b : Ask P). limits cmp b.subject f ≡ true) e
+      (and_from f.delivered (same_peer cmp f.recipient f.recipient) is (same_peer_itself cmp order f.recipient))
+  one_limits place f true is a (inr (inr (inl e))) =
+      subst (λ (b : Ask P). limits cmp b.subject f ≡ true) e (same_itself cmp order (sent_between f.origin f.recipient))
   one_limits place f true is a (inr (inr (inr h))) = absurd h
-  one_limits place f false is a (inl e) = subst (λ (b : Ask P). limits cmp b.subject f ≡ true) e (same_peer_itself cmp order f.origin)
-  one_limits place f false is a (inr (inl e)) = subst (λ (b : Ask P). limits cmp b.subject f ≡ true) e (same_itself cmp order (sent_between f.origin f.recipient))
+  one_limits place f false is a (inl e) =
+      subst (λ (b : Ask P). limits cmp b.subject f ≡ true) e (same_peer_itself cmp order f.origin)
+  one_limits place f false is a (inr (inl e)) =
+      subst (λ (b : Ask P). limits cmp b.subject f ≡ true) e (same_itself cmp order (sent_between f.origin f.recipient))
   one_limits place f false is a (inr (inr h)) = absurd h
 
   -- an ask comes from a flow that its side would limit
-  asker : (place : ℕ) (flows : List (Flow P)) (a : Ask P) → In (asks place flows) a → (f : Flow P) × In flows f × (limits cmp a.subject f ≡ true)
+  asker : (place : ℕ) (flows : List (Flow P)) (a : Ask P) → In (asks place flows) a
+      → (f : Flow P) × In flows f × (limits cmp a.subject f ≡ true)
   asker place [] a h = absurd h
-  asker place (f ∷ flows) a h = by_part (in_either (asks_if place f f.delivered) (asks (place + 1) flows) a h) (λ g. asker (place + 1) flows a g)
+  asker place (f ∷ flows) a h =
+      by_part (in_either (asks_if place f f.delivered) (asks (place + 1) flows) a h) (λ g. asker (place + 1) flows a g)
     where
-      by_part : In (asks_if place f f.delivered) a ⊎ In (asks (place + 1) flows) a → (In (asks (place + 1) flows) a → (g : Flow P) × In flows g × (limits cmp a.subject g ≡ true))
+      by_part : In (asks_if place f f.delivered) a ⊎ In (asks (place + 1) flows) a
+          → (In (asks (place + 1) flows) a → (g : Flow P) × In flows g × (limits cmp a.subject g ≡ true))
           → (g : Flow P) × In (f ∷ flows) g × (limits cmp a.subject g ≡ true)
       by_part (inl g) ih = (f, inl refl, one_limits place f f.delivered refl a g)
-      by_part (inr g) ih = let r : (g : Flow P) × In flows g × (limits cmp a.subject g ≡ true) = ih g in (r.0, inr r.1, r.2)
+      by_part (inr g) ih =
+          let r : (g : Flow P) × In flows g × (limits cmp a.subject g ≡ true) = ih g in (r.0, inr r.1, r.2)
 
-  one_asked : (place : ℕ) (f : Flow P) (s : Subject P) → limits cmp s f ≡ true → (a : Ask P) × In (asks_if place f f.delivered) a × (same_subject cmp s a.subject ≡ true)
+  one_asked : (place : ℕ) (f : Flow P) (s : Subject P) → limits cmp s f ≡ true
+      → (a : Ask P) × In (asks_if place f f.delivered) a × (same_subject cmp s a.subject ≡ true)
   one_asked place f (sent_by p) l = (sends place f, inl refl, l)
   one_asked place f (received_by p) l =
       let parts = and_parts f.delivered (same_peer cmp p f.recipient) l in
@@ -222,29 +283,42 @@ module _ {P : Type 0} (cmp : P → P → Ordering) (order : IsTotalOrder cmp) (c
       received : (d : Bool) → d ≡ true → In (asks_if place f d) (receives place f d)
       received true is = inr (inl refl)
       received false is = cc
-  one_asked place f (sent_between p q) l =
-      (links place f, in_right ((sends place f ∷ []) ++ cond f.delivered (receives place f f.delivered ∷ []) []) (links place f ∷ []) (links place f) (inl refl), l)
+  one_asked place f (sent_between p q) l = (
+    links place f,
+    in_right ((sends place f ∷ []) ++ cond f.delivered (receives place f f.delivered ∷ []) []) (links place f ∷ [])
+        (links place f) (inl refl),
+    l,
+  )
 
   -- and each such flow asks
-  asked : (place : ℕ) (flows : List (Flow P)) (s : Subject P) (f : Flow P) → In flows f → limits cmp s f ≡ true → (a : Ask P) × In (asks place flows) a × (same_subject cmp s a.subject ≡ true)
+  asked : (place : ℕ) (flows : List (Flow P)) (s : Subject P) (f : Flow P) → In flows f → limits cmp s f ≡ true
+      → (a : Ask P) × In (asks place flows) a × (same_subject cmp s a.subject ≡ true)
   asked place [] s f h l = absurd h
   asked place (g ∷ flows) s f (inl e) l =
-      let r : (a : Ask P) × In (asks_if place g g.delivered) a × (same_subject cmp s a.subject ≡ true) = one_asked place g s (subst (λ (k : Flow P). limits cmp s k ≡ true) (sym e) l) in
+      let r : (a : Ask P) × In (asks_if place g g.delivered) a × (same_subject cmp s a.subject ≡ true) =
+      one_asked place g s (subst (λ (k : Flow P). limits cmp s k ≡ true) (sym e) l) in
       (r.0, in_left (asks_if place g g.delivered) (asks (place + 1) flows) r.0 r.1, r.2)
   asked place (g ∷ flows) s f (inr h) l =
-      let r : (a : Ask P) × In (asks (place + 1) flows) a × (same_subject cmp s a.subject ≡ true) = asked (place + 1) flows s f h l in
+      let r : (a : Ask P) × In (asks (place + 1) flows) a × (same_subject cmp s a.subject ≡ true) =
+      asked (place + 1) flows s f h l in
       (r.0, in_right (asks_if place g g.delivered) (asks (place + 1) flows) r.0 r.1, r.2)
 
   -- one subject has the same places
-  same_places : (place : ℕ) (s t : Subject P) (flows : List (Flow P)) → same_subject cmp s t ≡ true → places_from place (limits cmp s) flows ≡ places_from place (limits cmp t) flows
+  same_places : (place : ℕ) (s t : Subject P) (flows : List (Flow P)) → same_subject cmp s t ≡ true
+      → places_from place (limits cmp s) flows ≡ places_from place (limits cmp t) flows
   same_places place s t [] e = refl
-  same_places place s t (f ∷ flows) e = ap₂ (λ (b : Bool) (ps : List ℕ). cond b (place ∷ ps) ps) (same_limits cmp order s t f e) (same_places (place + 1) s t flows e)
+  same_places place s t (f ∷ flows) e =
+      ap₂ (λ (b : Bool) (ps : List ℕ). cond b (place ∷ ps) ps) (same_limits cmp order s t f e)
+      (same_places (place + 1) s t flows e)
 
   -- ---- the sides
 
-  pub capped_from_listed : (flows : List (Flow P)) (side : Side) → Contains (sides_under cmp caps flows) side → IsCappedSide cmp caps flows side
+  pub capped_from_listed : (flows : List (Flow P)) (side : Side) → Contains (sides_under cmp caps flows) side
+      → IsCappedSide cmp caps flows side
   capped_from_listed flows side c =
-      let r = from_sides [] (asks 0 flows) side (λ a h. absurd h) (all_by_caps 0 flows) (in_from_contains (sides_under cmp caps flows) side c) in
+      let r =
+      from_sides [] (asks 0 flows) side (λ a h. absurd h) (all_by_caps 0 flows)
+      (in_from_contains (sides_under cmp caps flows) side c) in
       let a = r.0 in
       let from = asker 0 flows a r.1.among in
       record {
@@ -260,21 +334,28 @@ module _ {P : Type 0} (cmp : P → P → Ordering) (order : IsTotalOrder cmp) (c
   abbrev pub side_of_subject : List (Flow P) → Subject P → ℕ → Side
   side_of_subject flows s cap = record { cap = cap; users = places_from 0 (limits cmp s) flows }
 
-  pub listed_from_capped : (flows : List (Flow P)) (s : Subject P) (cap : ℕ) (f : Flow P) → cap_of caps s ≡ Some cap → In flows f → limits cmp s f ≡ true
+  pub listed_from_capped : (flows : List (Flow P)) (s : Subject P) (cap : ℕ) (f : Flow P) → cap_of caps s ≡ Some cap
+      → In flows f → limits cmp s f ≡ true
       → Contains (sides_under cmp caps flows) (side_of_subject flows s cap)
   listed_from_capped flows s cap f has h l =
       let r = asked 0 flows s f h l in
       let a = r.0 in
       let answered = all_by_caps 0 flows a r.1 ∙ sym (one_cap cmp order caps of s a.subject r.2) ∙ has in
-      let listed = to_sides [] (asks 0 flows) a cap (λ b g. absurd g) (all_by_caps 0 flows) r.1 answered (λ b g. absurd g) in
+      let listed =
+      to_sides [] (asks 0 flows) a cap (λ b g. absurd g) (all_by_caps 0 flows) r.1 answered (λ b g. absurd g) in
       let same : side_asked (asks 0 flows) a cap ≡ side_of_subject flows s cap =
-      ap (λ (ps : List ℕ). record { cap = cap; users = ps }) (places_asked 0 flows a ∙ sym (same_places 0 s a.subject flows r.2)) in
-      contains_from_in (sides_under cmp caps flows) (side_of_subject flows s cap) (subst (In (sides_under cmp caps flows)) same listed)
+      ap (λ (ps : List ℕ). record { cap = cap; users = ps })
+      (places_asked 0 flows a ∙ sym (same_places 0 s a.subject flows r.2)) in
+      contains_from_in (sides_under cmp caps flows) (side_of_subject flows s cap)
+      (subst (In (sides_under cmp caps flows)) same listed)
 
 pub sides_are_of_the_caps : {P : Type 0} (cmp : P → P → Ordering) → IsTotalOrder cmp → SidesAreOfTheCaps cmp
 sides_are_of_the_caps cmp order caps flows side of = (
   capped_from_listed cmp order caps of flows side,
   (λ s.
-      let listed = listed_from_capped cmp order caps of flows s.subject side.cap s.flow s.capped (in_from_contains flows s.flow s.among) s.limited in
-      subst (Contains (sides_under cmp caps flows)) (ap (λ (ps : List ℕ). record { cap = side.cap; users = ps }) (sym s.users)) listed),
+      let listed =
+      listed_from_capped cmp order caps of flows s.subject side.cap s.flow s.capped
+      (in_from_contains flows s.flow s.among) s.limited in
+      subst (Contains (sides_under cmp caps flows))
+      (ap (λ (ps : List ℕ). record { cap = side.cap; users = ps }) (sym s.users)) listed),
 )

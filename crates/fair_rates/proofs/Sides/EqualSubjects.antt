@@ -17,13 +17,15 @@ module _ {P : Type 0} (cmp : P → P → Ordering) (order : IsTotalOrder cmp) wh
   same_peer_itself p = laws.refl p
 
   -- both peers the same
-  pair_congr : (p q r s t u : P) → (same_peer cmp p r && same_peer cmp q s) ≡ true → (same_peer cmp p t && same_peer cmp q u) ≡ (same_peer cmp r t && same_peer cmp s u)
+  pair_congr : (p q r s t u : P) → (same_peer cmp p r && same_peer cmp q s) ≡ true
+      → (same_peer cmp p t && same_peer cmp q u) ≡ (same_peer cmp r t && same_peer cmp s u)
   pair_congr p q r s t u e =
       let parts = and_parts (same_peer cmp p r) (same_peer cmp q s) e in
       rw (laws.congr p r t parts.0, laws.congr q s u parts.1) refl
 
   -- one subject has one cap
-  pub one_cap : (caps : Caps P) → AreOfPeers cmp caps → (s t : Subject P) → same_subject cmp s t ≡ true → cap_of caps s ≡ cap_of caps t
+  pub one_cap : (caps : Caps P) → AreOfPeers cmp caps → (s t : Subject P) → same_subject cmp s t ≡ true
+      → cap_of caps s ≡ cap_of caps t
   one_cap caps of (sent_by p) (sent_by q) e = of.egress p q e
   one_cap caps of (received_by p) (received_by q) e = of.ingress p q e
   one_cap caps of (sent_between p q) (sent_between r s) e =

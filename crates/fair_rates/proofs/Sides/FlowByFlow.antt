@@ -1,5 +1,7 @@
 -- The pass over the flows, one flow at a time.
-use Rattle.std.proofs.Common.{subst, suc, ◌≡◌, ℕ, ◌+◌, ◌<◌, Bool, true, false, cond, List, [], ◌∷◌, ◌++◌, Option, None, length, take, get_or, map, refl, sym, ap, ◌∙◌, arith, add-one, length-append, drop, drop-cons, append_assoc}
+use Rattle.std.proofs.Common.{subst, suc, ◌≡◌, ℕ, ◌+◌, ◌<◌, Bool, true, false, cond, List, [], ◌∷◌, ◌++◌, Option, None}
+use Rattle.std.proofs.Common.{length, take, get_or, map, refl, sym, ap, ◌∙◌, arith, add-one, length-append, drop}
+use Rattle.std.proofs.Common.{drop-cons, append_assoc}
 use Rattle.std.proofs.Math.Seq.{take-suc}
 use Rattle.std.proofs.lemmas.List.{append-nil, map-append}
 use Rattle.std.proofs.lemmas.Fn.{FoldsTo-push}
@@ -7,7 +9,8 @@ use Rattle.std.specs.List.{FoldsTo}
 use Rattle.std.specs.declared.cmp.Ordering.{Ordering}
 use Rattle.fair_rates.specs.declared.bandwidth.Flow.{Flow}
 use Rattle.fair_rates.specs.declared.bandwidth.sides.Registry.{Registry}
-use Rattle.fair_rates.specs.Sides.Answers.{Answered, Calls, PairCalls, CalledIfDelivered, States, CallsFor, CallableOnEach, CallableOnEachPair, origins, recipients, pairs}
+use Rattle.fair_rates.specs.Sides.Answers.{Answered, Calls, PairCalls, CalledIfDelivered, States, CallsFor}
+use Rattle.fair_rates.specs.Sides.Answers.{CallableOnEach, CallableOnEachPair, origins, recipients, pairs}
 use Rattle.fair_rates.specs.Sides.Subjects.{asks_of_one, asks_from}
 use Rattle.fair_rates.specs.Sides.Registry.{IsRegistryOf}
 use Rattle.fair_rates.proofs.Sides.Asking.{Asked, all_asked}
@@ -17,11 +20,14 @@ asks_from-push : {P : Type 0} (n m : ℕ) (answered : List (Answered P)) (a : An
     → asks_from n (answered ++ a ∷ []) ≡ asks_from n answered ++ asks_of_one m a
 asks_from-push n m [] a e = let k : n ≡ m = omega arith in append-nil (asks_of_one n a) ∙ ap (λ i. asks_of_one i a) k
 asks_from-push n m (b ∷ answered) a e =
-    ap (λ asks. asks_of_one n b ++ asks) (asks_from-push (n + 1) m answered a (omega arith)) ∙ sym (append_assoc (asks_of_one n b) (asks_from (n + 1) answered) (asks_of_one m a))
+    ap (λ asks. asks_of_one n b ++ asks) (asks_from-push (n + 1) m answered a (omega arith))
+    ∙ sym (append_assoc (asks_of_one n b) (asks_from (n + 1) answered) (asks_of_one m a))
 
-module _ {P E I L : Type 0} (cmp : P → P → Ordering) (egress : Calls E P) (ingress : Calls I P) (link : PairCalls L P) where
+module _ {P E I L : Type 0} (cmp : P → P → Ordering) (egress : Calls E P) (ingress : Calls I P)
+    (link : PairCalls L P) where
   -- what the pass over the first n flows has done
-  pub record Passed (first : States E I L) (flows : List (Flow P)) (n : ℕ) (now : States E I L) (registry : Registry P) : Type 0 where
+  pub record Passed (first : States E I L) (flows : List (Flow P)) (n : ℕ) (now : States E I L)
+      (registry : Registry P) : Type 0 where
     pub answered : List (Answered P)
     pub count : length answered ≡ n
     pub flows_are : map (λ a. a.flow) answered ≡ take n flows
@@ -37,12 +43,14 @@ module _ {P E I L : Type 0} (cmp : P → P → Ordering) (egress : Calls E P) (i
       → Passed first flows (n + 1) after new
   passed n a old new asked first flows before after p below is calls =
       let registered : IsRegistryOf cmp (asks_from 0 (p.answered ++ a ∷ [])) new =
-      subst (λ asks. IsRegistryOf cmp asks new) (sym (asks_from-push 0 n p.answered a (omega (arith, p.count)))) (all_asked cmp n a old new asked (asks_from 0 p.answered) p.registered) in
+      subst (λ asks. IsRegistryOf cmp asks new) (sym (asks_from-push 0 n p.answered a (omega (arith, p.count))))
+      (all_asked cmp n a old new asked (asks_from 0 p.answered) p.registered) in
       record {
         answered = p.answered ++ a ∷ [];
         count = omega (arith, length-append p.answered (a ∷ []), p.count);
         flows_are = map-append (λ b. b.flow) p.answered (a ∷ []) ∙ ap (λ fs. fs ++ a.flow ∷ []) p.flows_are
-            ∙ ap (λ g. take n flows ++ g ∷ []) is ∙ sym (take-suc flows n a.flow below) ∙ ap (λ k. take k flows) (sym (add-one n));
+            ∙ ap (λ g. take n flows ++ g ∷ []) is ∙ sym (take-suc flows n a.flow below)
+            ∙ ap (λ k. take k flows) (sym (add-one n));
         calls = FoldsTo-push (CallsFor egress ingress link) first p.answered before a after p.calls calls;
         registered = registered;
       }
@@ -59,37 +67,51 @@ not_called call i p j false e h = (refl, h)
 
 -- ---- the calls to come
 
-drop_now : {X : Type 0} (xs : List X) (n : ℕ) (x : X) → n < length xs → x ≡ get_or xs n x → drop n xs ≡ x ∷ drop (n + 1) xs
-drop_now xs n x h e = drop-cons xs n x h ∙ ap (λ y. y ∷ drop (suc n) xs) (sym e) ∙ ap (λ k. x ∷ drop k xs) (sym (add-one n))
+drop_now : {X : Type 0} (xs : List X) (n : ℕ) (x : X) → n < length xs → x ≡ get_or xs n x
+    → drop n xs ≡ x ∷ drop (n + 1) xs
+drop_now xs n x h e =
+    drop-cons xs n x h ∙ ap (λ y. y ∷ drop (suc n) xs) (sym e) ∙ ap (λ k. x ∷ drop k xs) (sym (add-one n))
 
 module _ {P F : Type 0} (may : F → P → Type 0) (call : Calls F P) where
   pub origin_next : (f : F) (flows : List (Flow P)) (n : ℕ) (x : Flow P) → n < length flows → x ≡ get_or flows n x
       → CallableOnEach may call f (origins (drop n flows))
-      → may f x.origin × ((a : Option ℕ) (g : F) → call f x.origin a g → CallableOnEach may call g (origins (drop (n + 1) flows)))
+      → may f x.origin
+      × ((a : Option ℕ) (g : F) → call f x.origin a g → CallableOnEach may call g (origins (drop (n + 1) flows)))
   origin_next f flows n x h e c = subst (λ fs. CallableOnEach may call f (origins fs)) (drop_now flows n x h e) c
 
-  one_more : (f : F) (b : Bool) (p : P) (rest : List P) → b ≡ true → CallableOnEach may call f (cond b (p ∷ []) [] ++ rest)
+  one_more : (f : F) (b : Bool) (p : P) (rest : List P) → b ≡ true
+      → CallableOnEach may call f (cond b (p ∷ []) [] ++ rest)
       → may f p × ((a : Option ℕ) (g : F) → call f p a g → CallableOnEach may call g rest)
   one_more f true p rest e c = c
   one_more f false p rest e c = cc e
 
-  none_more : (f : F) (b : Bool) (p : P) (rest : List P) → b ≡ false → CallableOnEach may call f (cond b (p ∷ []) [] ++ rest) → CallableOnEach may call f rest
+  none_more : (f : F) (b : Bool) (p : P) (rest : List P) → b ≡ false
+      → CallableOnEach may call f (cond b (p ∷ []) [] ++ rest) → CallableOnEach may call f rest
   none_more f true p rest e c = cc e
   none_more f false p rest e c = c
 
-  pub recipient_next : (f : F) (flows : List (Flow P)) (n : ℕ) (x : Flow P) → n < length flows → x ≡ get_or flows n x → x.delivered ≡ true
+  pub recipient_next : (f : F) (flows : List (Flow P)) (n : ℕ) (x : Flow P) → n < length flows → x ≡ get_or flows n x
+      → x.delivered ≡ true
       → CallableOnEach may call f (recipients (drop n flows))
-      → may f x.recipient × ((a : Option ℕ) (g : F) → call f x.recipient a g → CallableOnEach may call g (recipients (drop (n + 1) flows)))
+      → may f x.recipient
+      × ((a : Option ℕ) (g : F) → call f x.recipient a g
+      → CallableOnEach may call g (recipients (drop (n + 1) flows)))
   recipient_next f flows n x h e d c =
-      one_more f x.delivered x.recipient (recipients (drop (n + 1) flows)) d (subst (λ fs. CallableOnEach may call f (recipients fs)) (drop_now flows n x h e) c)
+      one_more f x.delivered x.recipient (recipients (drop (n + 1) flows)) d
+      (subst (λ fs. CallableOnEach may call f (recipients fs)) (drop_now flows n x h e) c)
 
-  pub recipient_skip : (f : F) (flows : List (Flow P)) (n : ℕ) (x : Flow P) → n < length flows → x ≡ get_or flows n x → x.delivered ≡ false
-      → CallableOnEach may call f (recipients (drop n flows)) → CallableOnEach may call f (recipients (drop (n + 1) flows))
+  pub recipient_skip : (f : F) (flows : List (Flow P)) (n : ℕ) (x : Flow P) → n < length flows → x ≡ get_or flows n x
+      → x.delivered ≡ false
+      → CallableOnEach may call f (recipients (drop n flows))
+      → CallableOnEach may call f (recipients (drop (n + 1) flows))
   recipient_skip f flows n x h e d c =
-      none_more f x.delivered x.recipient (recipients (drop (n + 1) flows)) d (subst (λ fs. CallableOnEach may call f (recipients fs)) (drop_now flows n x h e) c)
+      none_more f x.delivered x.recipient (recipients (drop (n + 1) flows)) d
+      (subst (λ fs. CallableOnEach may call f (recipients fs)) (drop_now flows n x h e) c)
 
 module _ {P F : Type 0} (may : F → P → P → Type 0) (call : PairCalls F P) where
   pub pair_next : (f : F) (flows : List (Flow P)) (n : ℕ) (x : Flow P) → n < length flows → x ≡ get_or flows n x
       → CallableOnEachPair may call f (pairs (drop n flows))
-      → may f x.origin x.recipient × ((a : Option ℕ) (g : F) → call f x.origin x.recipient a g → CallableOnEachPair may call g (pairs (drop (n + 1) flows)))
+      → may f x.origin x.recipient
+      × ((a : Option ℕ) (g : F) → call f x.origin x.recipient a g
+      → CallableOnEachPair may call g (pairs (drop (n + 1) flows)))
   pair_next f flows n x h e c = subst (λ fs. CallableOnEachPair may call f (pairs fs)) (drop_now flows n x h e) c

@@ -10,26 +10,36 @@ use Rattle.fair_rates.specs.declared.error.Error.{Error}
 use Rattle.fair_rates.specs.declared.error.Error.TheVariants.{OutOfMemory, NumberTooLarge}
 use Rattle.fair_rates.specs.Refusals.TooLarge.{IsTooLarge}
 
-module _ {P E I L : Type 0} (egress : Calls E P) (ingress : Calls I P) (link : PairCalls L P) (no_number : (l : L) (p q : P) (a : Option ℕ) (l' : L) → link l p q a l' → a ≡ None) where
+module _ {P E I L : Type 0} (egress : Calls E P) (ingress : Calls I P) (link : PairCalls L P)
+    (no_number : (l : L) (p q : P) (a : Option ℕ) (l' : L) → link l p q a l' → a ≡ None) where
   abbrev without : States E I L → States E I (Unit {0})
   without s = record { egress = s.egress; ingress = s.ingress; link = tt }
 
   calls_without : (s : States E I L) (answered : List (Answered P)) (last : States E I L)
-      → FoldsTo (CallsFor egress ingress link) s answered last → FoldsTo (CallsFor egress ingress NoLink) (without s) answered (without last)
+      → FoldsTo (CallsFor egress ingress link) s answered last
+      → FoldsTo (CallsFor egress ingress NoLink) (without s) answered (without last)
   calls_without s [] last calls = ap without calls
   calls_without s (a ∷ answered) last calls = (
     without calls.0,
-    record { origin = calls.1.origin; recipient = calls.1.recipient; pair = no_number s.link a.flow.origin a.flow.recipient a.link calls.0.link calls.1.pair },
+    record {
+      origin = calls.1.origin;
+      recipient = calls.1.recipient;
+      pair = no_number s.link a.flow.origin a.flow.recipient a.link calls.0.link calls.1.pair;
+    },
     calls_without calls.0 answered last calls.2,
   )
 
   in_order_without : (first : States E I L) (flows : List (Flow P)) (answered : List (Answered P))
-      → AnswerInOrder egress ingress link first flows answered → AnswerInOrder egress ingress NoLink (without first) flows answered
-  in_order_without first flows answered h = record { flows_are = h.flows_are; last = without h.last; calls = calls_without first answered h.last h.calls }
+      → AnswerInOrder egress ingress link first flows answered
+      → AnswerInOrder egress ingress NoLink (without first) flows answered
+  in_order_without first flows answered h =
+      record { flows_are = h.flows_are; last = without h.last; calls = calls_without first answered h.last h.calls }
 
   -- an allocation with such a closure is one with no closure for pairs
-  pub without_links : (cmp : P → P → Ordering) (first : States E I L) (flows : List (Flow P)) (rate_of : ℕ → Option Rate)
-      → IsAllocation cmp egress ingress link first flows rate_of → IsAllocation cmp egress ingress NoLink (without first) flows rate_of
+  pub without_links : (cmp : P → P → Ordering) (first : States E I L) (flows : List (Flow P))
+      (rate_of : ℕ → Option Rate)
+      → IsAllocation cmp egress ingress link first flows rate_of
+      → IsAllocation cmp egress ingress NoLink (without first) flows rate_of
   without_links cmp first flows rate_of h = record {
     answered = h.answered;
     in_order = in_order_without first flows h.answered h.in_order;
@@ -55,15 +65,21 @@ module _ {P E I L : Type 0} (egress : Calls E P) (ingress : Calls I P) (link : P
   }
 
   -- nor does the count of rounds change
-  pub counted_without_links : (cmp : P → P → Ordering) (first : States E I L) (flows : List (Flow P)) (rate_of : ℕ → Option Rate) (rounds : ℕ)
-      → IsCountedAllocation cmp egress ingress link first flows rate_of rounds → IsCountedAllocation cmp egress ingress NoLink (without first) flows rate_of rounds
+  pub counted_without_links : (cmp : P → P → Ordering) (first : States E I L) (flows : List (Flow P))
+      (rate_of : ℕ → Option Rate) (rounds : ℕ)
+      → IsCountedAllocation cmp egress ingress link first flows rate_of rounds
+      → IsCountedAllocation cmp egress ingress NoLink (without first) flows rate_of rounds
   unfolding without_links
-  counted_without_links cmp first flows rate_of rounds h = record { allocation = without_links cmp first flows rate_of h.allocation; different = h.different; few = h.few }
+  counted_without_links cmp first flows rate_of rounds h =
+      record { allocation = without_links cmp first flows rate_of h.allocation; different = h.different; few = h.few }
 
   -- nor what a refusal says
-  pub refused_without_links : {X : Type 0} (cmp : P → P → Ordering) (first : States E I L) (flows : List (Flow P)) (result : Result X Error)
+  pub refused_without_links : {X : Type 0} (cmp : P → P → Ordering) (first : States E I L) (flows : List (Flow P))
+      (result : Result X Error)
       → IfErr result (λ e. (e ≡ OutOfMemory) ⊎ ((e ≡ NumberTooLarge) × IsTooLarge cmp egress ingress link first flows))
-      → IfErr result (λ e. (e ≡ OutOfMemory) ⊎ ((e ≡ NumberTooLarge) × IsTooLarge cmp egress ingress NoLink (without first) flows))
+      → IfErr result
+      (λ e. (e ≡ OutOfMemory) ⊎ ((e ≡ NumberTooLarge) × IsTooLarge cmp egress ingress NoLink (without first) flows))
   refused_without_links cmp first flows (Ok x) h = tt
   refused_without_links cmp first flows (Err e) (inl memory) = inl memory
-  refused_without_links cmp first flows (Err e) (inr large) = inr (large.0, too_large_without_links cmp first flows large.1)
+  refused_without_links cmp first flows (Err e) (inr large) =
+      inr (large.0, too_large_without_links cmp first flows large.1)

@@ -1,7 +1,10 @@
 -- What registering one ask does to the sides and to the numbers of their subjects.
-use Rattle.std.proofs.Common.{◌≡◌, ◌↔◌, ◌≢◌, ◌==◌, ℕ, suc, zero, ◌+◌, ◌<◌, Bool, true, false, cond, ◌||◌, List, [], ◌∷◌, ◌++◌, Option, Some, None, map, length, get_or, refl, sym, ap, ◌∙◌, arith, subst, ⊎_elim}
+use Rattle.std.proofs.Common.{◌≡◌, ◌↔◌, ◌≢◌, ◌==◌, ℕ, suc, zero, ◌+◌, ◌<◌, Bool, true, false, cond, ◌||◌, List, [], ◌∷◌}
+use Rattle.std.proofs.Common.{◌++◌, Option, Some, None, map, length, get_or, refl, sym, ap, ◌∙◌, arith, subst, ⊎_elim}
 use Rattle.std.proofs.Math.ListN.{set}
-use Rattle.std.proofs.lemmas.List.{append-nil, map-append, map-set, length-set, length-map, same_lists, get_or-set_same, get_or-set_other, get_or-map, get_or_append_left, get_or_push, get_or_default, length_push}
+use Rattle.std.proofs.lemmas.List.{append-nil, map-append, map-set, length-set, length-map, same_lists, get_or-set_same}
+use Rattle.std.proofs.lemmas.List.{get_or-set_other, get_or-map, get_or_append_left, get_or_push, get_or_default}
+use Rattle.std.proofs.lemmas.List.{length_push}
 use Rattle.std.proofs.lemmas.Option.{same_Some}
 use Rattle.std.proofs.lemmas.Bool.{eqb-true, eqb-false, cases_lt, false_from_ne_true as is_false, or_right}
 use Rattle.std.specs.List.{list_any}
@@ -12,30 +15,38 @@ use Rattle.std.specs.Ordering.{is_eq}
 use Rattle.std.specs.declared.cmp.Ordering.{Ordering}
 use Rattle.fair_rates.specs.Sides.SideOf.{side_of}
 use Rattle.fair_rates.specs.Sides.Subjects.{Subject, Ask, same_subject}
-use Rattle.fair_rates.specs.Sides.Registry.{subject_of, subjects_after, number_of, IsNumberOf, AreRegistered, IsRegistryOf, FindsSides}
+use Rattle.fair_rates.specs.Sides.Registry.{subject_of, subjects_after, number_of, IsNumberOf, AreRegistered}
+use Rattle.fair_rates.specs.Sides.Registry.{IsRegistryOf, FindsSides}
 use Rattle.fair_rates.specs.declared.bandwidth.sides.Registry.{Registry}
 use Rattle.fair_rates.specs.declared.bandwidth.sides.Side as declared_side
 use Rattle.fair_rates.specs.declared.bandwidth.sides.Subject as declared
 use Rattle.fair_rates.proofs.Sides.Subjects.{same_symm, same_congr}
-use Rattle.fair_rates.proofs.Sides.OneMoreAsk.{Share, limit_of, shares_after, opened_share, is_side_of, with_user, limits_are, subjects_are, shares_push}
+use Rattle.fair_rates.proofs.Sides.OneMoreAsk.{Share, limit_of, shares_after, opened_share, is_side_of, with_user}
+use Rattle.fair_rates.proofs.Sides.OneMoreAsk.{limits_are, subjects_are, shares_push}
 
 -- a list has an element that passes exactly where it has a place of one
-any_from_place : {X : Type 0} (p : X → Bool) (xs : List X) (k : ℕ) (d : X) → k < length xs → p (get_or xs k d) ≡ true → list_any p xs ≡ true
+any_from_place : {X : Type 0} (p : X → Bool) (xs : List X) (k : ℕ) (d : X) → k < length xs → p (get_or xs k d) ≡ true
+    → list_any p xs ≡ true
 any_from_place p [] k d h e = absurd (omega arith)
 any_from_place p (x ∷ xs) zero d h e = ap (λ b. b || list_any p xs) e
 any_from_place p (x ∷ xs) (suc k) d h e = or_right (p x) (list_any p xs) (any_from_place p xs k d (omega arith) e)
 
 -- an element that passes stands at some place
-place_of_any : {X : Type 0} (p : X → Bool) (xs : List X) (d : X) → list_any p xs ≡ true → (k : ℕ) × (k < length xs) × (p (get_or xs k d) ≡ true)
+place_of_any : {X : Type 0} (p : X → Bool) (xs : List X) (d : X) → list_any p xs ≡ true
+    → (k : ℕ) × (k < length xs) × (p (get_or xs k d) ≡ true)
 place_of_any p [] d e = cc e
 place_of_any {X} p (x ∷ xs) d e = first_or_later (p x) refl (λ later. place_of_any p xs d later)
   where
-    first_or_later : (b : Bool) → p x ≡ b → (list_any p xs ≡ true → (k : ℕ) × (k < length xs) × (p (get_or xs k d) ≡ true)) → (k : ℕ) × (k < length (x ∷ xs)) × (p (get_or (x ∷ xs) k d) ≡ true)
+    first_or_later : (b : Bool) → p x ≡ b
+        → (list_any p xs ≡ true → (k : ℕ) × (k < length xs) × (p (get_or xs k d) ≡ true))
+        → (k : ℕ) × (k < length (x ∷ xs)) × (p (get_or (x ∷ xs) k d) ≡ true)
     first_or_later true h later = (zero, omega arith, h)
-    first_or_later false h later = let l = later (sym (ap (λ b. b || list_any p xs) h) ∙ e) in (suc l.0, omega (arith, l.1), l.2)
+    first_or_later false h later =
+        let l = later (sym (ap (λ b. b || list_any p xs) h) ∙ e) in (suc l.0, omega (arith, l.1), l.2)
 
 -- what all elements fail of changes none of them
-none_changed : {X : Type 0} (p : X → Bool) (f : X → X) (xs : List X) → ((x : X) → p x ≡ false → f x ≡ x) → list_any p xs ≡ false → map f xs ≡ xs
+none_changed : {X : Type 0} (p : X → Bool) (f : X → X) (xs : List X) → ((x : X) → p x ≡ false → f x ≡ x)
+    → list_any p xs ≡ false → map f xs ≡ xs
 none_changed p f [] same e = refl
 none_changed p f (x ∷ xs) same e =
     let here : p x ≡ false = neither (p x) (list_any p xs) e in
@@ -57,90 +68,127 @@ only_there {X} f xs n d within others =
     same_lists _ _ (length-map xs f ∙ sym (length-set xs n (f (get_or xs n d))))
     (λ k e h. at k e (let l : k < length xs = omega (arith, length-map xs f) in l) (k == n) refl)
   where
-    at : (k : ℕ) (e : X) → k < length xs → (b : Bool) → (k == n) ≡ b → get_or (map f xs) k e ≡ get_or (set xs n (f (get_or xs n d))) k e
+    at : (k : ℕ) (e : X) → k < length xs → (b : Bool) → (k == n) ≡ b
+        → get_or (map f xs) k e ≡ get_or (set xs n (f (get_or xs n d))) k e
     at k e h true t =
         let same : k ≡ n = eqb-true k n t in
-        get_or-map f xs k d e h ∙ ap (λ j. f (get_or xs j d)) same ∙ sym (get_or-set_same xs n (f (get_or xs n d)) e within) ∙ ap (λ j. get_or (set xs n (f (get_or xs n d))) j e) (sym same)
+        get_or-map f xs k d e h ∙ ap (λ j. f (get_or xs j d)) same
+        ∙ sym (get_or-set_same xs n (f (get_or xs n d)) e within)
+        ∙ ap (λ j. get_or (set xs n (f (get_or xs n d))) j e) (sym same)
     at k e h false t =
         let apart : k ≢ n = eqb-false k n t in
-        get_or-map f xs k d e h ∙ others k h apart ∙ get_or_default xs k d e h ∙ sym (get_or-set_other xs n k (f (get_or xs n d)) e apart)
+        get_or-map f xs k d e h ∙ others k h apart ∙ get_or_default xs k d e h
+        ∙ sym (get_or-set_other xs n k (f (get_or xs n d)) e apart)
 
-lookup_agrees : {K X : Type 0} (test other : K → Bool) (entries : List (K × X)) → ((k : K) → test k ≡ other k) → lookup test entries ≡ lookup other entries
+lookup_agrees : {K X : Type 0} (test other : K → Bool) (entries : List (K × X)) → ((k : K) → test k ≡ other k)
+    → lookup test entries ≡ lookup other entries
 lookup_agrees test other [] same = refl
-lookup_agrees test other (e ∷ entries) same = ap (λ b. cond b (Some e.1) (lookup test entries)) (same e.0) ∙ ap (cond (other e.0) (Some e.1)) (lookup_agrees test other entries same)
+lookup_agrees test other (e ∷ entries) same =
+    ap (λ b. cond b (Some e.1) (lookup test entries)) (same e.0)
+    ∙ ap (cond (other e.0) (Some e.1)) (lookup_agrees test other entries same)
 
 -- what a map by an order of the subjects has for a subject
-pub got : {P : Type 0} (cmp : P → P → Ordering) (compare : declared.Subject P → Ordering) (s : declared.Subject P) (numbers : BTreeMap (declared.Subject P) ℕ)
-    → ((q : declared.Subject P) → is_eq (compare q) ≡ same_subject cmp (subject_of s) (subject_of q)) → get_by compare numbers ≡ number_of cmp numbers s
+pub got : {P : Type 0} (cmp : P → P → Ordering) (compare : declared.Subject P → Ordering) (s : declared.Subject P)
+    (numbers : BTreeMap (declared.Subject P) ℕ)
+    → ((q : declared.Subject P) → is_eq (compare q) ≡ same_subject cmp (subject_of s) (subject_of q))
+    → get_by compare numbers ≡ number_of cmp numbers s
 got cmp compare s numbers compares = lookup_agrees _ _ numbers.entries compares
 
 module _ {P : Type 0} (cmp : P → P → Ordering) (o : IsTotalOrder cmp) where
   abbrev ask : ℕ → declared.Subject P → Option ℕ → Ask P
   ask place s answer = record { place = place; subject = subject_of s; answer = answer }
 
-  user_kept : (t : Ask P) (s : Share P) (b : Bool) → (cond b (record { subject = s.subject; cap = s.cap; users = s.users ++ t.place ∷ [] }) s).subject ≡ s.subject
+  user_kept : (t : Ask P) (s : Share P) (b : Bool)
+      → (cond b (record { subject = s.subject; cap = s.cap; users = s.users ++ t.place ∷ [] }) s).subject ≡ s.subject
   user_kept t s true = refl
   user_kept t s false = refl
 
-  subjects_kept : (t : Ask P) (ss : List (Share P)) → map (λ s. s.subject) (map (with_user cmp t) ss) ≡ map (λ s. s.subject) ss
+  subjects_kept : (t : Ask P) (ss : List (Share P))
+      → map (λ s. s.subject) (map (with_user cmp t) ss) ≡ map (λ s. s.subject) ss
   subjects_kept t [] = refl
-  subjects_kept t (s ∷ ss) = ap (λ u. u ∷ map (λ s. s.subject) (map (with_user cmp t) ss)) (user_kept t s (is_side_of cmp t s)) ∙ ap (λ us. s.subject ∷ us) (subjects_kept t ss)
+  subjects_kept t (s ∷ ss) =
+      ap (λ u. u ∷ map (λ s. s.subject) (map (with_user cmp t) ss)) (user_kept t s (is_side_of cmp t s))
+      ∙ ap (λ us. s.subject ∷ us) (subjects_kept t ss)
 
   unchanged : (t : Ask P) (s : Share P) → is_side_of cmp t s ≡ false → with_user cmp t s ≡ s
   unchanged t s e = ap (λ b. cond b (record { subject = s.subject; cap = s.cap; users = s.users ++ t.place ∷ [] }) s) e
 
-  changed : (t : Ask P) (s : Share P) → is_side_of cmp t s ≡ true → limit_of (with_user cmp t s) ≡ record { cap = s.cap; users = s.users ++ t.place ∷ [] }
-  changed t s e = ap (λ b. limit_of (cond b (record { subject = s.subject; cap = s.cap; users = s.users ++ t.place ∷ [] }) s)) e
+  changed : (t : Ask P) (s : Share P) → is_side_of cmp t s ≡ true
+      → limit_of (with_user cmp t s) ≡ record { cap = s.cap; users = s.users ++ t.place ∷ [] }
+  changed t s e =
+      ap (λ b. limit_of (cond b (record { subject = s.subject; cap = s.cap; users = s.users ++ t.place ∷ [] }) s)) e
 
   -- the numbers, when one subject more stands at the end
   module _ (subjects : List (Subject P)) (number number' : declared.Subject P → Option ℕ) (s : declared.Subject P)
-      (are : (q : declared.Subject P) (m : ℕ) → (number q ≡ Some m) ↔ IsNumberOf cmp subjects (subject_of q) m) (none : number s ≡ None)
-      (are' : (q : declared.Subject P) → number' q ≡ cond (same_subject cmp (subject_of s) (subject_of q)) (Some (length subjects)) (number q)) where
+      (are : (q : declared.Subject P) (m : ℕ) → (number q ≡ Some m) ↔ IsNumberOf cmp subjects (subject_of q) m)
+      (none : number s ≡ None)
+      (are' : (q : declared.Subject P)
+      → number' q ≡ cond (same_subject cmp (subject_of s) (subject_of q)) (Some (length subjects)) (number q)) where
     abbrev more : List (Subject P)
     more = subjects ++ subject_of s ∷ []
 
     longer : length more ≡ length subjects + 1
     longer = length_push subjects (subject_of s)
 
-    found_then : (q : declared.Subject P) (m : ℕ) (b : Bool) → same_subject cmp (subject_of s) (subject_of q) ≡ b → number' q ≡ Some m → IsNumberOf cmp more (subject_of q) m
+    found_then : (q : declared.Subject P) (m : ℕ) (b : Bool) → same_subject cmp (subject_of s) (subject_of q) ≡ b
+        → number' q ≡ Some m → IsNumberOf cmp more (subject_of q) m
     found_then q m true t e =
-        let last : length subjects ≡ m = same_Some (length subjects) m (sym (are' q ∙ ap (λ b. cond b (Some (length subjects)) (number q)) t) ∙ e) in
+        let last : length subjects ≡ m =
+        same_Some (length subjects) m (sym (are' q ∙ ap (λ b. cond b (Some (length subjects)) (number q)) t) ∙ e) in
         record {
           within = omega (arith, longer, last);
-          same = λ u. ap (same_subject cmp (subject_of q)) (get_or_push subjects (subject_of s) u m last) ∙ same_symm cmp o (subject_of q) (subject_of s) ∙ t;
+          same = λ u.
+              ap (same_subject cmp (subject_of q)) (get_or_push subjects (subject_of s) u m last)
+              ∙ same_symm cmp o (subject_of q) (subject_of s) ∙ t;
         }
     found_then q m false t e =
         let i = (are q m).0 (sym (are' q ∙ ap (λ b. cond b (Some (length subjects)) (number q)) t) ∙ e) in
         record {
           within = omega (arith, longer, i.within);
-          same = λ u. ap (same_subject cmp (subject_of q)) (get_or_append_left subjects (subject_of s ∷ []) u m i.within) ∙ i.same u;
+          same = λ u.
+              ap (same_subject cmp (subject_of q)) (get_or_append_left subjects (subject_of s ∷ []) u m i.within)
+              ∙ i.same u;
         }
 
-    apart_from : (q : declared.Subject P) (m : ℕ) → IsNumberOf cmp subjects (subject_of q) m → same_subject cmp (subject_of s) (subject_of q) ≡ false
+    apart_from : (q : declared.Subject P) (m : ℕ) → IsNumberOf cmp subjects (subject_of q) m
+        → same_subject cmp (subject_of s) (subject_of q) ≡ false
     apart_from q m i = is_false _ (λ t.
-        let n : number s ≡ Some m = (are s m).1 (record { within = i.within; same = λ u. same_congr cmp o (subject_of s) (subject_of q) (get_or subjects m u) t ∙ i.same u }) in cc)
+        let n : number s ≡ Some m =
+        (are s m).1
+        (record {
+          within = i.within;
+          same = λ u. same_congr cmp o (subject_of s) (subject_of q) (get_or subjects m u) t ∙ i.same u;
+        }) in
+        cc)
 
-    at_old : (q : declared.Subject P) (m : ℕ) → IsNumberOf cmp more (subject_of q) m → m < length subjects → number' q ≡ Some m
+    at_old : (q : declared.Subject P) (m : ℕ) → IsNumberOf cmp more (subject_of q) m → m < length subjects
+        → number' q ≡ Some m
     at_old q m i below =
         let was : IsNumberOf cmp subjects (subject_of q) m = record {
           within = below;
-          same = λ u. ap (same_subject cmp (subject_of q)) (sym (get_or_append_left subjects (subject_of s ∷ []) u m below)) ∙ i.same u;
+          same = λ u.
+              ap (same_subject cmp (subject_of q)) (sym (get_or_append_left subjects (subject_of s ∷ []) u m below))
+              ∙ i.same u;
         } in
         are' q ∙ ap (λ b. cond b (Some (length subjects)) (number q)) (apart_from q m was) ∙ (are q m).1 was
 
-    at_last : (q : declared.Subject P) (m : ℕ) → IsNumberOf cmp more (subject_of q) m → length subjects ≡ m → number' q ≡ Some m
+    at_last : (q : declared.Subject P) (m : ℕ) → IsNumberOf cmp more (subject_of q) m → length subjects ≡ m
+        → number' q ≡ Some m
     at_last q m i last =
         let t : same_subject cmp (subject_of s) (subject_of q) ≡ true = same_symm cmp o (subject_of s) (subject_of q)
-        ∙ ap (same_subject cmp (subject_of q)) (sym (get_or_push subjects (subject_of s) (subject_of s) m last)) ∙ i.same (subject_of s) in
+        ∙ ap (same_subject cmp (subject_of q)) (sym (get_or_push subjects (subject_of s) (subject_of s) m last))
+        ∙ i.same (subject_of s) in
         are' q ∙ ap (λ b. cond b (Some (length subjects)) (number q)) t ∙ ap Some last
 
     numbers_push : (q : declared.Subject P) (m : ℕ) → (number' q ≡ Some m) ↔ IsNumberOf cmp more (subject_of q) m
     numbers_push q m = (
       λ e. found_then q m (same_subject cmp (subject_of s) (subject_of q)) refl e,
-      λ i. let l = i.within in ⊎_elim (at_old q m i) (λ past. at_last q m i (omega (arith, longer))) (cases_lt m (length subjects)),
+      λ i. let l = i.within in
+          ⊎_elim (at_old q m i) (λ past. at_last q m i (omega (arith, longer))) (cases_lt m (length subjects)),
     )
 
-  module _ (asks : List (Ask P)) (sides : List declared_side.Side) (number : declared.Subject P → Option ℕ) (h : AreRegistered cmp asks sides number) where
+  module _ (asks : List (Ask P)) (sides : List declared_side.Side) (number : declared.Subject P → Option ℕ)
+      (h : AreRegistered cmp asks sides number) where
     abbrev shares : List (Share P)
     shares = shares_after cmp [] asks
 
@@ -157,26 +205,32 @@ module _ {P : Type 0} (cmp : P → P → Ordering) (o : IsTotalOrder cmp) where
     as_many_subjects = ap length (sym (subjects_are cmp [] asks)) ∙ length-map shares (λ t. t.subject)
 
     subject_at : (n : ℕ) (d : Share P) → n < length shares → get_or subjects n d.subject ≡ (get_or shares n d).subject
-    subject_at n d i = ap (λ ss. get_or ss n d.subject) (sym (subjects_are cmp [] asks)) ∙ get_or-map (λ t. t.subject) shares n d d.subject i
+    subject_at n d i =
+        ap (λ ss. get_or ss n d.subject) (sym (subjects_are cmp [] asks))
+        ∙ get_or-map (λ t. t.subject) shares n d d.subject i
 
     -- a number that is found is that of a side
     pub in_range : (s : declared.Subject P) (n : ℕ) → number s ≡ Some n → n < length sides
     in_range s n e = let i = ((h.numbers_are s n).0 e).within in omega (arith, as_many, as_many_subjects, i)
 
     -- the side of a number is of the subject that has the number
-    same_at : (s : declared.Subject P) (n : ℕ) (d : Share P) → number s ≡ Some n → same_subject cmp (get_or shares n d).subject (subject_of s) ≡ true
+    same_at : (s : declared.Subject P) (n : ℕ) (d : Share P) → number s ≡ Some n
+        → same_subject cmp (get_or shares n d).subject (subject_of s) ≡ true
     same_at s n d e =
         let i = (h.numbers_are s n).0 e in
         let within : n < length shares = omega (arith, as_many_subjects, i.within) in
-        same_symm cmp o (get_or shares n d).subject (subject_of s) ∙ ap (same_subject cmp (subject_of s)) (sym (subject_at n d within)) ∙ i.same d.subject
+        same_symm cmp o (get_or shares n d).subject (subject_of s)
+        ∙ ap (same_subject cmp (subject_of s)) (sym (subject_at n d within)) ∙ i.same d.subject
 
     -- and no other place is
-    number_at : (s : declared.Subject P) (n : ℕ) (d : Share P) → n < length shares → same_subject cmp (get_or shares n d).subject (subject_of s) ≡ true → number s ≡ Some n
+    number_at : (s : declared.Subject P) (n : ℕ) (d : Share P) → n < length shares
+        → same_subject cmp (get_or shares n d).subject (subject_of s) ≡ true → number s ≡ Some n
     number_at s n d i e =
         let within : n < length subjects = omega (arith, as_many_subjects) in
         (h.numbers_are s n).1 (record {
           within = within;
-          same = λ u. ap (same_subject cmp (subject_of s)) (get_or_default subjects n u d.subject within ∙ subject_at n d i)
+          same = λ u.
+              ap (same_subject cmp (subject_of s)) (get_or_default subjects n u d.subject within ∙ subject_at n d i)
               ∙ same_symm cmp o (subject_of s) (get_or shares n d).subject ∙ e;
         })
 
@@ -186,13 +240,22 @@ module _ {P : Type 0} (cmp : P → P → Ordering) (o : IsTotalOrder cmp) where
 
       none_open : (answer : Option ℕ) → number s ≡ None → list_any (is_side_of cmp (ask place s answer)) shares ≡ false
       none_open answer e =
-          is_false _ (λ any. let k = place_of_any (is_side_of cmp (ask place s answer)) shares nobody any in let n : number s ≡ Some k.0 = number_at s k.0 nobody k.1 k.2 in cc)
+          is_false _
+          (λ any. let k = place_of_any (is_side_of cmp (ask place s answer)) shares nobody any in
+          let n : number s ≡ Some k.0 = number_at s k.0 nobody k.1 k.2 in
+          cc)
 
       -- what the sides with their subjects become
       become : (answer : Option ℕ) (b : Bool) → list_any (is_side_of cmp (ask place s answer)) shares ≡ b
-          → shares_after cmp [] (asks ++ ask place s answer ∷ []) ≡ map (with_user cmp (ask place s answer)) shares ++ cond b [] (opened_share cmp (ask place s answer) [] answer)
+          → shares_after cmp [] (asks ++ ask place s answer ∷ [])
+          ≡ map (with_user cmp (ask place s answer)) shares
+          ++ cond b [] (opened_share cmp (ask place s answer) [] answer)
       become answer b e =
-          shares_push cmp o asks (ask place s answer) ∙ ap (λ b. map (with_user cmp (ask place s answer)) shares ++ cond b [] (opened_share cmp (ask place s answer) [] answer)) e
+          shares_push cmp o asks (ask place s answer)
+          ∙ ap
+          (λ b. map (with_user cmp (ask place s answer)) shares
+          ++ cond b [] (opened_share cmp (ask place s answer) [] answer))
+          e
 
       -- the side has come into being: it gets one user more
       pub found : (answer : Option ℕ) (n : ℕ) (old new : declared_side.Side) (sides' : List declared_side.Side)
@@ -205,86 +268,140 @@ module _ {P : Type 0} (cmp : P → P → Ordering) (o : IsTotalOrder cmp) where
           let within : n < length shares = omega (arith, as_many) in
           let here = get_or shares n nobody in
           let are : shares_after cmp [] (asks ++ t ∷ []) ≡ map (with_user cmp t) shares =
-          become answer true (any_from_place (is_side_of cmp t) shares n nobody within (same_at s n nobody e)) ∙ append-nil (map (with_user cmp t) shares) in
-          let others : (k : ℕ) → k < length shares → k ≢ n → with_user cmp t (get_or shares k nobody) ≡ get_or shares k nobody =
-          λ k l apart. unchanged t (get_or shares k nobody) (is_false _ (λ same. let m : number s ≡ Some k = number_at s k nobody l same in apart (same_Some k n (sym m ∙ e)))) in
+          become answer true (any_from_place (is_side_of cmp t) shares n nobody within (same_at s n nobody e))
+          ∙ append-nil (map (with_user cmp t) shares) in
+          let others : (k : ℕ) → k < length shares → k ≢ n
+          → with_user cmp t (get_or shares k nobody) ≡ get_or shares k nobody =
+          λ k l apart.
+          unchanged t (get_or shares k nobody)
+          (is_false _
+          (λ same. let m : number s ≡ Some k = number_at s k nobody l same in
+          apart (same_Some k n (sym m ∙ e)))) in
           let was : side_of old ≡ limit_of here =
-          ap side_of at ∙ sym (get_or-map side_of sides n old (side_of old) i) ∙ ap (λ ls. get_or ls n (side_of old)) limits ∙ get_or-map limit_of shares n nobody (side_of old) within in
+          ap side_of at ∙ sym (get_or-map side_of sides n old (side_of old) i)
+          ∙ ap (λ ls. get_or ls n (side_of old)) limits ∙ get_or-map limit_of shares n nobody (side_of old) within in
           record {
             sides_are = ap (map side_of) writes ∙ map-set side_of sides n new ∙ ap (λ ls. set ls n (side_of new)) limits
-                ∙ (λ j. set (map limit_of shares) n (record { cap = (cap ∙ ap (λ l. l.cap) was) j; users = (users ∙ ap (λ l. l.users ++ place ∷ []) was) j }))
+                ∙ (λ j. set (map limit_of shares) n
+                (record {
+                  cap = (cap ∙ ap (λ l. l.cap) was) j;
+                  users = (users ∙ ap (λ l. l.users ++ place ∷ []) was) j;
+                }))
                 ∙ ap (set (map limit_of shares) n) (sym (changed t here (same_at s n nobody e)))
                 ∙ sym (map-set limit_of shares n (with_user cmp t here))
                 ∙ ap (map limit_of) (sym (only_there (with_user cmp t) shares n nobody within others) ∙ sym are)
                 ∙ limits_are cmp [] (asks ++ t ∷ []);
-            numbers_are = subst (λ us. (q : declared.Subject P) (m : ℕ) → (number q ≡ Some m) ↔ IsNumberOf cmp us (subject_of q) m)
-                (sym (subjects_are cmp [] asks) ∙ sym (subjects_kept t shares) ∙ ap (map (λ u. u.subject)) (sym are) ∙ subjects_are cmp [] (asks ++ t ∷ [])) h.numbers_are;
+            numbers_are =
+                subst
+                (λ us. (q : declared.Subject P) (m : ℕ) → (number q ≡ Some m) ↔ IsNumberOf cmp us (subject_of q) m)
+                (sym (subjects_are cmp [] asks) ∙ sym (subjects_kept t shares) ∙ ap (map (λ u. u.subject)) (sym are)
+                ∙ subjects_are cmp [] (asks ++ t ∷ []))
+                h.numbers_are;
           }
 
       -- it has not, and does not now
-      pub absent : (answer : Option ℕ) → answer ≡ None → number s ≡ None → AreRegistered cmp (asks ++ ask place s answer ∷ []) sides number
+      pub absent : (answer : Option ℕ) → answer ≡ None → number s ≡ None
+          → AreRegistered cmp (asks ++ ask place s answer ∷ []) sides number
       absent answer unanswered e =
           let t = ask place s answer in
           let none = none_open answer e in
           let are : shares_after cmp [] (asks ++ t ∷ []) ≡ shares =
-          become answer false none ∙ ap (λ a. map (with_user cmp t) shares ++ opened_share cmp t [] a) unanswered ∙ append-nil (map (with_user cmp t) shares) ∙ none_changed (is_side_of cmp t) (with_user cmp t) shares (unchanged t) none in
+          become answer false none ∙ ap (λ a. map (with_user cmp t) shares ++ opened_share cmp t [] a) unanswered
+          ∙ append-nil (map (with_user cmp t) shares)
+          ∙ none_changed (is_side_of cmp t) (with_user cmp t) shares (unchanged t) none in
           record {
             sides_are = limits ∙ ap (map limit_of) (sym are) ∙ limits_are cmp [] (asks ++ t ∷ []);
-            numbers_are = subst (λ us. (q : declared.Subject P) (m : ℕ) → (number q ≡ Some m) ↔ IsNumberOf cmp us (subject_of q) m)
-                (sym (subjects_are cmp [] asks) ∙ ap (map (λ u. u.subject)) (sym are) ∙ subjects_are cmp [] (asks ++ t ∷ [])) h.numbers_are;
+            numbers_are =
+                subst
+                (λ us. (q : declared.Subject P) (m : ℕ) → (number q ≡ Some m) ↔ IsNumberOf cmp us (subject_of q) m)
+                (sym (subjects_are cmp [] asks) ∙ ap (map (λ u. u.subject)) (sym are)
+                ∙ subjects_are cmp [] (asks ++ t ∷ []))
+                h.numbers_are;
           }
 
       -- it comes into being now
-      pub opens : (answer : Option ℕ) (cap : ℕ) (new : declared_side.Side) (sides' : List declared_side.Side) (number' : declared.Subject P → Option ℕ)
-          → answer ≡ Some cap → number s ≡ None → sides' ≡ sides ++ new ∷ [] → new.cap ≡ cap → new.users.items ≡ place ∷ []
+      pub opens : (answer : Option ℕ) (cap : ℕ) (new : declared_side.Side) (sides' : List declared_side.Side)
+          (number' : declared.Subject P → Option ℕ)
+          → answer ≡ Some cap → number s ≡ None → sides' ≡ sides ++ new ∷ [] → new.cap ≡ cap
+          → new.users.items ≡ place ∷ []
           → (n : ℕ) → n ≡ length sides
-          → ((q : declared.Subject P) → number' q ≡ cond (same_subject cmp (subject_of s) (subject_of q)) (Some n) (number q))
+          → ((q : declared.Subject P)
+          → number' q ≡ cond (same_subject cmp (subject_of s) (subject_of q)) (Some n) (number q))
           → AreRegistered cmp (asks ++ ask place s answer ∷ []) sides' number'
       opens answer cap new sides' number' answered e pushes is_cap users n last numbers =
           let t = ask place s answer in
           let none = none_open answer e in
           let share : Share P = record { subject = subject_of s; cap = cap; users = place ∷ [] } in
           let are : shares_after cmp [] (asks ++ t ∷ []) ≡ shares ++ share ∷ [] =
-          become answer false none ∙ ap (λ a. map (with_user cmp t) shares ++ opened_share cmp t [] a) answered ∙ ap (λ ss. ss ++ share ∷ []) (none_changed (is_side_of cmp t) (with_user cmp t) shares (unchanged t) none) in
+          become answer false none ∙ ap (λ a. map (with_user cmp t) shares ++ opened_share cmp t [] a) answered
+          ∙ ap (λ ss. ss ++ share ∷ [])
+          (none_changed (is_side_of cmp t) (with_user cmp t) shares (unchanged t) none) in
           record {
-            sides_are = ap (map side_of) pushes ∙ map-append side_of sides (new ∷ []) ∙ ap (λ ls. ls ++ side_of new ∷ []) limits
+            sides_are =
+                ap (map side_of) pushes ∙ map-append side_of sides (new ∷ []) ∙ ap (λ ls. ls ++ side_of new ∷ []) limits
                 ∙ (λ j. map limit_of shares ++ record { cap = is_cap j; users = users j } ∷ [])
-                ∙ sym (map-append limit_of shares (share ∷ [])) ∙ ap (map limit_of) (sym are) ∙ limits_are cmp [] (asks ++ t ∷ []);
-            numbers_are = subst (λ us. (q : declared.Subject P) (m : ℕ) → (number' q ≡ Some m) ↔ IsNumberOf cmp us (subject_of q) m)
-                (ap (λ us. us ++ subject_of s ∷ []) (sym (subjects_are cmp [] asks)) ∙ sym (map-append (λ u. u.subject) shares (share ∷ []))
+                ∙ sym (map-append limit_of shares (share ∷ [])) ∙ ap (map limit_of) (sym are)
+                ∙ limits_are cmp [] (asks ++ t ∷ []);
+            numbers_are =
+                subst
+                (λ us. (q : declared.Subject P) (m : ℕ) → (number' q ≡ Some m) ↔ IsNumberOf cmp us (subject_of q) m)
+                (ap (λ us. us ++ subject_of s ∷ []) (sym (subjects_are cmp [] asks))
+                ∙ sym (map-append (λ u. u.subject) shares (share ∷ []))
                 ∙ ap (map (λ u. u.subject)) (sym are) ∙ subjects_are cmp [] (asks ++ t ∷ []))
                 (numbers_push subjects number number' s h.numbers_are e
-                (λ q. numbers q ∙ ap (λ m. cond (same_subject cmp (subject_of s) (subject_of q)) (Some m) (number q)) (last ∙ as_many ∙ sym as_many_subjects)));
+                (λ q. numbers q
+                ∙ ap (λ m. cond (same_subject cmp (subject_of s) (subject_of q)) (Some m) (number q))
+                (last ∙ as_many ∙ sym as_many_subjects)));
           }
 
 -- no flow has asked yet
-pub nothing_registered : {P : Type 0} (cmp : P → P → Ordering) (registry : Registry P) → registry.sides.items ≡ [] → registry.numbers.entries ≡ [] → IsRegistryOf cmp [] registry
+pub nothing_registered : {P : Type 0} (cmp : P → P → Ordering) (registry : Registry P) → registry.sides.items ≡ []
+    → registry.numbers.entries ≡ [] → IsRegistryOf cmp [] registry
 nothing_registered cmp registry no_sides no_numbers = record {
   sides_are = ap (map side_of) no_sides;
   numbers_are = λ s n. (
-    λ (e : number_of cmp registry.numbers s ≡ Some n). let none : None ≡ Some n = ap (lookup (λ other. same_subject cmp (subject_of s) (subject_of other))) (sym no_numbers) ∙ e in cc none,
+    λ (e : number_of cmp registry.numbers s ≡ Some n).
+        let none : None ≡ Some n =
+        ap (lookup (λ other. same_subject cmp (subject_of s) (subject_of other))) (sym no_numbers) ∙ e in
+        cc none,
     λ i. absurd (omega (arith, i.within)),
   );
 }
 
 -- so each number that the registry finds is that of a side
-pub finds_sides : {P : Type 0} (cmp : P → P → Ordering) (o : IsTotalOrder cmp) (asks : List (Ask P)) (registry : Registry P) → IsRegistryOf cmp asks registry → FindsSides cmp registry
-finds_sides cmp o asks registry h s n e = let within = in_range cmp o asks registry.sides.items (number_of cmp registry.numbers) h s n e in omega (arith, registry.sides.ok.0, within)
+pub finds_sides : {P : Type 0} (cmp : P → P → Ordering) (o : IsTotalOrder cmp) (asks : List (Ask P))
+    (registry : Registry P)
+    → IsRegistryOf cmp asks registry → FindsSides cmp registry
+finds_sides cmp o asks registry h s n e =
+    let within = in_range cmp o asks registry.sides.items (number_of cmp registry.numbers) h s n e in
+    omega (arith, registry.sides.ok.0, within)
 
 -- the numbers, when a subject that had none gets one
-module _ {P : Type 0} (cmp : P → P → Ordering) (o : IsTotalOrder cmp) (old new : BTreeMap (declared.Subject P) ℕ) (s : declared.Subject P) (n : ℕ)
-    (none : number_of cmp old s ≡ None) (are : (q : declared.Subject P) → number_of cmp new q ≡ cond (same_subject cmp (subject_of s) (subject_of q)) (Some n) (number_of cmp old q)) where
+module _ {P : Type 0} (cmp : P → P → Ordering) (o : IsTotalOrder cmp) (old new : BTreeMap (declared.Subject P) ℕ)
+    (s : declared.Subject P) (n : ℕ)
+    (none : number_of cmp old s ≡ None)
+    (are : (q : declared.Subject P)
+    → number_of cmp new q ≡ cond (same_subject cmp (subject_of s) (subject_of q)) (Some n) (number_of cmp old q)) where
   -- it is the number of the side that is new
-  pub finds_more : (sides sides' : ℕ) → n ≡ sides → sides' ≡ sides + 1 → ((q : declared.Subject P) (m : ℕ) → number_of cmp old q ≡ Some m → m < sides) → (q : declared.Subject P) (m : ℕ) → number_of cmp new q ≡ Some m → m < sides'
+  pub finds_more : (sides sides' : ℕ) → n ≡ sides → sides' ≡ sides + 1
+      → ((q : declared.Subject P) (m : ℕ) → number_of cmp old q ≡ Some m → m < sides) → (q : declared.Subject P) (m : ℕ)
+      → number_of cmp new q ≡ Some m → m < sides'
   finds_more sides sides' last more finds q m e = by (same_subject cmp (subject_of s) (subject_of q)) refl
     where
       by : (b : Bool) → same_subject cmp (subject_of s) (subject_of q) ≡ b → m < sides'
-      by true same = let it : n ≡ m = same_Some n m (sym (are q ∙ ap (λ b. cond b (Some n) (number_of cmp old q)) same) ∙ e) in omega arith
-      by false apart = let it : m < sides = finds q m (sym (are q ∙ ap (λ b. cond b (Some n) (number_of cmp old q)) apart) ∙ e) in omega arith
+      by true same =
+          let it : n ≡ m = same_Some n m (sym (are q ∙ ap (λ b. cond b (Some n) (number_of cmp old q)) same) ∙ e) in
+          omega arith
+      by false apart =
+          let it : m < sides = finds q m (sym (are q ∙ ap (λ b. cond b (Some n) (number_of cmp old q)) apart) ∙ e) in
+          omega arith
 
 -- the numbers by an order of the subjects are those by the subjects
-pub by_subject : {P : Type 0} (cmp : P → P → Ordering) (s : declared.Subject P) (n : ℕ) (old new : BTreeMap (declared.Subject P) ℕ) (compare : declared.Subject P → Ordering)
+pub by_subject : {P : Type 0} (cmp : P → P → Ordering) (s : declared.Subject P) (n : ℕ)
+    (old new : BTreeMap (declared.Subject P) ℕ) (compare : declared.Subject P → Ordering)
     → ((q : declared.Subject P) → number_of cmp new q ≡ cond (is_eq (compare q)) (Some n) (number_of cmp old q))
     → ((q : declared.Subject P) → is_eq (compare q) ≡ same_subject cmp (subject_of s) (subject_of q))
-    → (q : declared.Subject P) → number_of cmp new q ≡ cond (same_subject cmp (subject_of s) (subject_of q)) (Some n) (number_of cmp old q)
-by_subject cmp s n old new compare numbers compares q = numbers q ∙ ap (λ b. cond b (Some n) (number_of cmp old q)) (compares q)
+    → (q : declared.Subject P)
+    → number_of cmp new q ≡ cond (same_subject cmp (subject_of s) (subject_of q)) (Some n) (number_of cmp old q)
+by_subject cmp s n old new compare numbers compares q =
+    numbers q ∙ ap (λ b. cond b (Some n) (number_of cmp old q)) (compares q)

@@ -22,7 +22,8 @@ module _ {P : Type 0} (cmp : P → P → Ordering) (o : IsTotalOrder cmp) where
   pub same_symm : (s t : Subject P) → same_subject cmp s t ≡ same_subject cmp t s
   same_symm (sent_by p) (sent_by q) = peer_sym p q
   same_symm (received_by p) (received_by q) = peer_sym p q
-  same_symm (sent_between p q) (sent_between r s) = ap (λ b. b && same_peer cmp q s) (peer_sym p r) ∙ ap (λ b. same_peer cmp r p && b) (peer_sym q s)
+  same_symm (sent_between p q) (sent_between r s) =
+      ap (λ b. b && same_peer cmp q s) (peer_sym p r) ∙ ap (λ b. same_peer cmp r p && b) (peer_sym q s)
   same_symm s t = refl
 
   pub same_congr : (s t u : Subject P) → same_subject cmp s t ≡ true → same_subject cmp s u ≡ same_subject cmp t u
@@ -39,4 +40,5 @@ module _ {P : Type 0} (cmp : P → P → Ordering) (o : IsTotalOrder cmp) where
   pub same_itself : (s : Subject P) → same_subject cmp s s ≡ true
   same_itself (sent_by p) = (eq_by_cmp_equiv o).refl p
   same_itself (received_by p) = (eq_by_cmp_equiv o).refl p
-  same_itself (sent_between p q) = ap (λ b. b && same_peer cmp q q) ((eq_by_cmp_equiv o).refl p) ∙ (eq_by_cmp_equiv o).refl q
+  same_itself (sent_between p q) =
+      ap (λ b. b && same_peer cmp q q) ((eq_by_cmp_equiv o).refl p) ∙ (eq_by_cmp_equiv o).refl q

@@ -1,5 +1,6 @@
 -- How many different users a side may have, of so many flows.
-use Rattle.std.proofs.Common.{◌≡◌, ◌≢◌, ℕ, zero, suc, ◌+◌, ◌-◌, ◌<◌, ◌≤◌, cond, eqb, List, [], ◌∷◌, length, All, AllPairs, sum_by, inl, inr, refl, sym, ap, arith}
+use Rattle.std.proofs.Common.{◌≡◌, ◌≢◌, ℕ, zero, suc, ◌+◌, ◌-◌, ◌<◌, ◌≤◌, cond, eqb, List, [], ◌∷◌, length, All}
+use Rattle.std.proofs.Common.{AllPairs, sum_by, inl, inr, refl, sym, ap, arith}
 use Rattle.std.proofs.lemmas.Bool.{cases_eq, cases_lt, eq-eqb, ne_eqb}
 use Rattle.std.proofs.lemmas.List.Elements.{All-head, All-tail}
 use Rattle.std.proofs.lemmas.List.Sums.{sum_by-cons}
@@ -23,7 +24,8 @@ without_other f x i ne = ap (λ b. cond b 0 (f i)) (ne_eqb i x ne)
 
 below_same : (f : ℕ → ℕ) (x n : ℕ) → n ≤ x → sum_below (without f x) n ≡ sum_below f n
 below_same f x zero le = refl
-below_same f x (suc n) le = omega (arith, below_same f x n (omega arith), without_other f x n (λ e. absurd (omega arith)))
+below_same f x (suc n) le =
+    omega (arith, below_same f x n (omega arith), without_other f x n (λ e. absurd (omega arith)))
 
 below_without : (f : ℕ → ℕ) (x n : ℕ) → x < n → sum_below (without f x) n + f x ≡ sum_below f n
 below_without f x zero h = absurd (omega arith)
@@ -46,7 +48,8 @@ distinct_tail : (x : ℕ) (xs : List ℕ) → AreDistinct (x ∷ xs) → AreDist
 distinct_tail x xs h i j d lt l = h (suc i) (suc j) d (omega arith) (omega arith)
 
 -- some different ones of the first flows have no more together than all of them
-pub distinct_at_most : (n : ℕ) (xs : List ℕ) (f : ℕ → ℕ) → AreDistinct xs → All (λ x. x < n) xs → sum_by f xs ≤ sum_below f n
+pub distinct_at_most : (n : ℕ) (xs : List ℕ) (f : ℕ → ℕ) → AreDistinct xs → All (λ x. x < n) xs
+    → sum_by f xs ≤ sum_below f n
 distinct_at_most n [] f apart among = omega arith
 distinct_at_most n (x ∷ xs) f apart among =
     let others = distinct_head x xs apart in
@@ -65,12 +68,14 @@ ones (x ∷ xs) = omega (arith, sum_by-cons (λ _. 1) x xs, ones xs)
 
 -- ---- what changes where each has less
 
-pub below_difference : (f g : ℕ → ℕ) → ((i : ℕ) → g i ≤ f i) → (n : ℕ) → sum_below (λ i. f i - g i) n + sum_below g n ≡ sum_below f n
+pub below_difference : (f g : ℕ → ℕ) → ((i : ℕ) → g i ≤ f i) → (n : ℕ)
+    → sum_below (λ i. f i - g i) n + sum_below g n ≡ sum_below f n
 below_difference f g le zero = refl
 below_difference f g le (suc n) = omega (arith, below_difference f g le n, le n)
 
 -- where those of the list have nothing left, all have less by what these had
-pub below_less : (n : ℕ) (xs : List ℕ) (f g : ℕ → ℕ) → AreDistinct xs → All (λ x. x < n) xs → ((i : ℕ) → g i ≤ f i) → All (λ x. g x ≡ 0) xs → sum_below g n + sum_by f xs ≤ sum_below f n
+pub below_less : (n : ℕ) (xs : List ℕ) (f g : ℕ → ℕ) → AreDistinct xs → All (λ x. x < n) xs → ((i : ℕ) → g i ≤ f i)
+    → All (λ x. g x ≡ 0) xs → sum_below g n + sum_by f xs ≤ sum_below f n
 below_less n xs f g apart among le none =
     let same = sum_by_same f (λ i. f i - g i) xs (λ k d l. difference _ _ (none k d l)) in
     omega (arith, same, below_difference f g le n, distinct_at_most n xs (λ i. f i - g i) apart among)

@@ -48,9 +48,9 @@ impl Board {
 
     /// The upper rate grows by that of each piece where a column begins in it. A message that is to
     /// be dropped counts where that is said.
-    pub(crate) fn add(&mut self, frame: Frame, pieces: &[Piece], with_lost: bool) {
+    pub(crate) fn add(&mut self, frame: Frame, pieces: &[Piece], with_dropped: bool) {
         for piece in pieces {
-            if !with_lost && !piece.should_deliver {
+            if !with_dropped && !piece.should_deliver {
                 continue;
             }
             let to = frame.next_column(piece.to);

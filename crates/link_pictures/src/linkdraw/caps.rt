@@ -23,7 +23,7 @@ impl Side {
 
     /// Whether a message that is to be dropped counts. It takes nothing of what its recipient may
     /// receive.
-    pub(crate) fn holds_lost(self) -> bool {
+    pub(crate) fn holds_dropped(self) -> bool {
         match self {
             Side::Egress(_) | Side::Link(_, _) => true,
             Side::Ingress(_) => false,

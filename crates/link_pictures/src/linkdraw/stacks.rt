@@ -52,7 +52,7 @@ fn sum_up(history: &History, frame: Frame, board: &mut Board, side: Side) -> u12
     let mut pairs = 0u128;
     for (pair, track) in &history.tracks {
         if side.holds(pair.0, pair.1) {
-            board.add(frame, &track.pieces, side.holds_lost());
+            board.add(frame, &track.pieces, side.holds_dropped());
             pairs = pairs.saturating_add(1);
         }
     }
@@ -94,7 +94,7 @@ fn draw_stack<W: Write>(
     for (pair, track) in &history.tracks {
         if side.holds(pair.0, pair.1) {
             board.rise();
-            board.add(frame, &track.pieces, side.holds_lost());
+            board.add(frame, &track.pieces, side.holds_dropped());
             let (origin, recipient) = *pair;
             let shade = count % 6;
             write!(out, "<path class=\"c{shade}\" d=\"")?;

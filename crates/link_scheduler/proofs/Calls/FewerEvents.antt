@@ -14,7 +14,8 @@ use Rattle.link_scheduler.specs.declared.transmitter.event.Event.{Event}
 use Rattle.link_scheduler.specs.declared.transmitter.event.Event.TheVariants.{Finish, Start}
 use Rattle.link_simulation.specs.Simulation.Messages.{Message, same_pair}
 use Rattle.link_simulation.specs.Simulation.World.{Completed, Course, goes, meets, preceded, fronts}
-use Rattle.link_simulation.specs.Rule.Planned.{Planned, RatedFlight, IsLeastMoment, SomeSpentAt, SomeReadyAt, next_of, left_at, drained_to, is_spent, may_launch}
+use Rattle.link_simulation.specs.Rule.Planned.{Planned, RatedFlight, IsLeastMoment, SomeSpentAt, SomeReadyAt, next_of}
+use Rattle.link_simulation.specs.Rule.Planned.{left_at, drained_to, is_spent, may_launch}
 use Rattle.link_simulation.specs.Rule.Events.{Accounts, PlansStart, Launches, nothing_waits, too_early, no_id, starts}
 use Rattle.link_simulation.specs.Rule.Events.{launched, landed, Finishes, all_completed, late, stopped, completes}
 use Rattle.link_simulation.specs.Rule.Events.{Settles, settling, WakesEach, all_started, no_start, no_finish}
@@ -38,12 +39,16 @@ abbrev pub spent_at : {P : Type 0} → List (RatedFlight P) → Option ℕ → B
 spent_at fs None = true
 spent_at fs (Some t) = list_any (λ f. (left_at t f).num == 0) fs
 
-spent_found : {P : Type 0} (t : ℕ) (fs : List (RatedFlight P)) (i : ℕ) (f : RatedFlight P) → slice_get fs i ≡ Some f → (left_at t f).num ≡ 0 → list_any (λ f. (left_at t f).num == 0) fs ≡ true
+spent_found : {P : Type 0} (t : ℕ) (fs : List (RatedFlight P)) (i : ℕ) (f : RatedFlight P) → slice_get fs i ≡ Some f
+    → (left_at t f).num ≡ 0 → list_any (λ f. (left_at t f).num == 0) fs ≡ true
 spent_found t [] i f is spent = cc
-spent_found t (x ∷ fs) zero f is spent = let same : x ≡ f = cc in or_left ((left_at t x).num == 0) _ (ap (λ g. (left_at t g).num == 0) same ∙ eq-eqb ((left_at t f).num) 0 spent)
+spent_found t (x ∷ fs) zero f is spent =
+    let same : x ≡ f = cc in
+    or_left ((left_at t x).num == 0) _ (ap (λ g. (left_at t g).num == 0) same ∙ eq-eqb ((left_at t f).num) 0 spent)
 spent_found t (x ∷ fs) (suc i) f is spent = or_right ((left_at t x).num == 0) _ (spent_found t fs i f is spent)
 
-spent_least : {P : Type 0} (fs : List (RatedFlight P)) (o : Option ℕ) → IsLeastMoment (λ s. SomeSpentAt fs s) o → spent_at fs o ≡ true
+spent_least : {P : Type 0} (fs : List (RatedFlight P)) (o : Option ℕ) → IsLeastMoment (λ s. SomeSpentAt fs s) o
+    → spent_at fs o ≡ true
 spent_least fs None h = refl
 spent_least fs (Some t) h = spent_found t fs h.1.0 h.1.1 h.1.2 h.1.4
 
@@ -62,7 +67,11 @@ spent_leaves {P} cmp p t (f ∷ fs) h = by_first ((left_at t f).num == 0) refl h
     more true le = omega arith
     more false le = le
 
-    one : (b : Bool) → b ≡ true → 1 ≤ length (cond b (g ∷ filter (is_spent cmp p.caps) (drained_to t fs)) (filter (is_spent cmp p.caps) (drained_to t fs)))
+    one : (b : Bool) → b ≡ true
+        → 1
+        ≤ length
+        (cond b (g ∷ filter (is_spent cmp p.caps) (drained_to t fs))
+        (filter (is_spent cmp p.caps) (drained_to t fs)))
     one true is = omega arith
     one false is = cc
 
@@ -90,14 +99,19 @@ module _ {P : Type 0} (cmp : P → P → Ordering) where
   abbrev pub events_left : Planned P → ℕ
   events_left p = weight p + lack (spent_at p.sending p.finish) + lack (ready_at p p.start)
 
-  accounts_fit : (t : ℕ) (old new : Planned P) (leavers : List (Message P)) → Accounts cmp t old leavers new → spent_at new.sending new.finish ≡ true
+  accounts_fit : (t : ℕ) (old new : Planned P) (leavers : List (Message P)) → Accounts cmp t old leavers new
+      → spent_at new.sending new.finish ≡ true
   accounts_fit t old new leavers a = spent_least new.sending new.finish a.finish
 
   module _ (order : IsTotalOrder cmp) where
-    some_ready : (p : Planned P) (s : ℕ) → SomeReadyAt cmp p s → list_any (may_launch cmp s p) (fronts cmp p.waiting) ≡ true
-    some_ready p s h = any_somewhere (may_launch cmp s p) (fronts cmp p.waiting) (in_fronts cmp order (λ m. may_launch cmp s p m ≡ true) h.0 p.waiting h.1 h.2)
+    some_ready : (p : Planned P) (s : ℕ) → SomeReadyAt cmp p s
+        → list_any (may_launch cmp s p) (fronts cmp p.waiting) ≡ true
+    some_ready p s h =
+        any_somewhere (may_launch cmp s p) (fronts cmp p.waiting)
+        (in_fronts cmp order (λ m. may_launch cmp s p m ≡ true) h.0 p.waiting h.1 h.2)
 
-    looks_ready : (t : ℕ) (p : Planned P) (o : Option ℕ) → IsLeastMoment (λ s. (t ≤ s) × SomeReadyAt cmp p s) o → ready_at p o ≡ true
+    looks_ready : (t : ℕ) (p : Planned P) (o : Option ℕ) → IsLeastMoment (λ s. (t ≤ s) × SomeReadyAt cmp p s) o
+        → ready_at p o ≡ true
     looks_ready t p None h = refl
     looks_ready t p (Some s) h = some_ready p s h.1.1
 
@@ -109,7 +123,8 @@ module _ {P : Type 0} (cmp : P → P → Ordering) where
 
     looks_light : (t : ℕ) (p q : Planned P) → PlansStart cmp t p q → Lightens p q
     looks_light t p q l =
-        let there : Lightens p (record p { start = q.start }) = record { weighs = omega arith; finish = λ h. h; start = looks_ready t p q.start l.start } in
+        let there : Lightens p (record p { start = q.start }) =
+        record { weighs = omega arith; finish = λ h. h; start = looks_ready t p q.start l.start } in
         subst (Lightens p) (sym l.same) there
 
     -- a launch
@@ -125,8 +140,10 @@ module _ {P : Type 0} (cmp : P → P → Ordering) where
         → Accounts cmp t (launched cmp t old m) leavers new → find f old.waiting ≡ Some m
         → length leavers + weight new + 1 ≤ weight old
     start_lighter t old new m leavers f a found =
-        let one : length (without_first (same_pair cmp m) old.waiting) + 1 ≡ length old.waiting = length-without f (same_pair cmp m) m old.waiting found (pair_itself cmp order m) in
-        let kept : length leavers + length new.sending ≡ length (launched cmp t old m).sending = accounts_keep cmp t (launched cmp t old m) new leavers a in
+        let one : length (without_first (same_pair cmp m) old.waiting) + 1 ≡ length old.waiting =
+        length-without f (same_pair cmp m) m old.waiting found (pair_itself cmp order m) in
+        let kept : length leavers + length new.sending ≡ length (launched cmp t old m).sending =
+        accounts_keep cmp t (launched cmp t old m) new leavers a in
         let more : length (launched cmp t old m).sending ≡ length old.sending + 1
         = length-append old.sending (record {
           message = m;
@@ -134,7 +151,8 @@ module _ {P : Type 0} (cmp : P → P → Ordering) where
           rate = Some (whole 0);
           updated = t;
         } ∷ []) in
-        let waits : length new.waiting ≡ length (without_first (same_pair cmp m) old.waiting) = ap length (accounts_waiting cmp t (launched cmp t old m) new leavers a) in
+        let waits : length new.waiting ≡ length (without_first (same_pair cmp m) old.waiting) =
+        ap length (accounts_waiting cmp t (launched cmp t old m) new leavers a) in
         omega (arith, one, kept, more, waits)
 
     launch_lightens : {t : ℕ} {old : Planned P} {first : Option (Message P)} {course : Course (Message P) (Planned P)}
@@ -150,7 +168,8 @@ module _ {P : Type 0} (cmp : P → P → Ordering) where
     launch_first : {t : ℕ} {old : Planned P} {first : Option (Message P)} {course : Course (Message P) (Planned P)}
         → Launches cmp t old first course → (m : Message P) (f : Message P → Bool) → find f old.waiting ≡ Some m
         → first ≡ Some m → may_launch cmp t old m ≡ true
-        → (leavers : List (Message P)) (new : Planned P) → course ≡ goes leavers new → length leavers + weight new + 1 ≤ weight old
+        → (leavers : List (Message P)) (new : Planned P) → course ≡ goes leavers new
+        → length leavers + weight new + 1 ≤ weight old
     launch_first nothing_waits m f found is may leavers new e = cc
     launch_first {t = t} {old = old} (too_early {m = n} early) m f found is may leavers new e =
         let same : n ≡ m = cc in let no : may_launch cmp t old m ≡ false
@@ -159,7 +178,8 @@ module _ {P : Type 0} (cmp : P → P → Ordering) where
     launch_first {t = t} {old = old} (starts {m = n} {leavers = ls} {new = q} h id a) m f found is may leavers new e =
         let same : n ≡ m = cc in
         let both : length ls + weight q ≡ length leavers + weight new = ap counted e in
-        let lighter : length ls + weight q + 1 ≤ weight old = start_lighter t old q n ls f a (found ∙ ap Some (sym same)) in
+        let lighter : length ls + weight q + 1 ≤ weight old =
+        start_lighter t old q n ls f a (found ∙ ap Some (sym same)) in
         omega (arith, both, lighter)
       where
         counted : Course (Message P) (Planned P) → ℕ
@@ -173,10 +193,12 @@ module _ {P : Type 0} (cmp : P → P → Ordering) where
     after_first : (p q : Planned P) (cs : List (Completed P)) (rest : Course (Completed P) (Planned P))
         → weight q ≤ weight p → (spent_at p.sending p.finish ≡ true → spent_at q.sending q.finish ≡ true)
         → LightensIn q rest → LightensIn p (preceded cs rest)
-    after_first p q cs (goes xs r) le fits h = record { weighs = omega (arith, h.weighs); finish = λ k. h.finish (fits k); start = h.start }
+    after_first p q cs (goes xs r) le fits h =
+        record { weighs = omega (arith, h.weighs); finish = λ k. h.finish (fits k); start = h.start }
     after_first p q cs (meets e) le fits h = tt
 
-    finishes_lighten : {t : ℕ} {ms : List (Message P)} {p : Planned P} {course : Course (Completed P) (Planned P)} → Finishes cmp t ms p course → LightensIn p course
+    finishes_lighten : {t : ℕ} {ms : List (Message P)} {p : Planned P} {course : Course (Completed P) (Planned P)}
+        → Finishes cmp t ms p course → LightensIn p course
     finishes_lighten {t = t} {p = p} (all_completed {q = q} l) = looks_light t p q l
     finishes_lighten (late h) = tt
     finishes_lighten (stopped in_time l) = tt
@@ -186,20 +208,23 @@ module _ {P : Type 0} (cmp : P → P → Ordering) where
 
     -- ---- the starts
 
-    wakes_lighten : {t : ℕ} {ms : List (Message P)} {p : Planned P} {course : Course (Completed P) (Planned P)} → WakesEach cmp t ms p course → LightensIn p course
+    wakes_lighten : {t : ℕ} {ms : List (Message P)} {p : Planned P} {course : Course (Completed P) (Planned P)}
+        → WakesEach cmp t ms p course → LightensIn p course
     wakes_lighten {t = t} {p = p} (all_started {q = q} l) = looks_light t p q l
     wakes_lighten (no_start l) = tt
     wakes_lighten (no_finish l f) = tt
     wakes_lighten {p = p} (starts_one {m = m} {q = q} {r = r} {cs = cs} {rest = rest} l f w) =
         let one : Launched p _ q = launch_lightens l (same_pair cmp m) refl in
         let two : Lightens q r = finishes_lighten f in
-        after_first p r cs rest (omega (arith, one.weighs, two.weighs)) (λ h. two.finish (one.finish h)) (wakes_lighten w)
+        after_first p r cs rest (omega (arith, one.weighs, two.weighs)) (λ h. two.finish (one.finish h))
+        (wakes_lighten w)
 
     abbrev LighterIn : Planned P → Course (Completed P) (Planned P) → Type 0
     LighterIn p (goes cs q) = weight q + 1 ≤ weight p
     LighterIn p (meets e) = Unit {0}
 
-    lighter_after : (p r : Planned P) (cs : List (Completed P)) (rest : Course (Completed P) (Planned P)) → weight r + 1 ≤ weight p → LightensIn r rest → LighterIn p (preceded cs rest)
+    lighter_after : (p r : Planned P) (cs : List (Completed P)) (rest : Course (Completed P) (Planned P))
+        → weight r + 1 ≤ weight p → LightensIn r rest → LighterIn p (preceded cs rest)
     lighter_after p r cs (goes xs q) le h = omega (arith, le, h.weighs)
     lighter_after p r cs (meets e) le h = tt
 
@@ -212,9 +237,11 @@ module _ {P : Type 0} (cmp : P → P → Ordering) where
     wakes_first (all_started l) m ms e found may = absurd (no_cons m ms e)
     wakes_first (no_start l) m ms e found may = tt
     wakes_first (no_finish l f) m ms e found may = tt
-    wakes_first {t = t} {p = p} (starts_one {m = n} {more = more} {q = q} {r = r} {cs = cs} {rest = rest} l f w) m ms e found may =
+    wakes_first {t = t} {p = p} (starts_one {m = n} {more = more} {q = q} {r = r} {cs = cs} {rest = rest} l f w) m ms e
+        found may =
         let same : n ≡ m = cc in
-        let one : length more + weight q + 1 ≤ weight p = launch_first l m (same_pair cmp m) found (ap (next_of cmp p) same ∙ found) may more q refl in
+        let one : length more + weight q + 1 ≤ weight p =
+        launch_first l m (same_pair cmp m) found (ap (next_of cmp p) same ∙ found) may more q refl in
         let two : Lightens q r = finishes_lighten f in
         lighter_after p r cs rest (omega (arith, one, two.weighs)) (wakes_lighten w)
 
@@ -226,12 +253,21 @@ module _ {P : Type 0} (cmp : P → P → Ordering) where
       pub passes : f one ≡ true
       pub known : Q one
 
-    first_that : {X : Type 0} (Q : X → Type 0) (f : X → Bool) (xs : List X) → list_any f xs ≡ true → Each Q xs → FirstThat Q f xs
+    first_that : {X : Type 0} (Q : X → Type 0) (f : X → Bool) (xs : List X) → list_any f xs ≡ true → Each Q xs
+        → FirstThat Q f xs
     first_that Q f [] h each = cc
     first_that {X} Q f (x ∷ xs) h each = by_test (f x) refl h (λ k. first_that Q f xs k each.1)
       where
-        by_test : (b : Bool) → f x ≡ b → (b || list_any f xs) ≡ true → (list_any f xs ≡ true → FirstThat Q f xs) → FirstThat Q f (x ∷ xs)
-        by_test true is h ih = record { one = x; others = filter f xs; are = ap (λ b. cond b (x ∷ filter f xs) (filter f xs)) is; passes = is; known = each.0 }
+        by_test : (b : Bool) → f x ≡ b → (b || list_any f xs) ≡ true → (list_any f xs ≡ true → FirstThat Q f xs)
+            → FirstThat Q f (x ∷ xs)
+        by_test true is h ih =
+            record {
+              one = x;
+              others = filter f xs;
+              are = ap (λ b. cond b (x ∷ filter f xs) (filter f xs)) is;
+              passes = is;
+              known = each.0;
+            }
         by_test false is h ih =
             let r : FirstThat Q f xs = ih h in record {
               one = r.one;
@@ -252,29 +288,41 @@ module _ {P : Type 0} (cmp : P → P → Ordering) where
         → EventsIn p course
     settled t p mid leavers (meets e) is a h = tt
     settled t p mid leavers (goes cs q) is a h =
-        let kept : length leavers + length mid.sending ≡ length p.sending = accounts_keep cmp t (record p { finish = None }) mid leavers a in
-        let waits : length mid.waiting ≡ length p.waiting = ap length (accounts_waiting cmp t (record p { finish = None }) mid leavers a) in
-        let no_finish : lack (spent_at q.sending q.finish) ≡ 0 = ap lack (h.finish (accounts_fit t (record p { finish = None }) mid leavers a)) in
+        let kept : length leavers + length mid.sending ≡ length p.sending =
+        accounts_keep cmp t (record p { finish = None }) mid leavers a in
+        let waits : length mid.waiting ≡ length p.waiting =
+        ap length (accounts_waiting cmp t (record p { finish = None }) mid leavers a) in
+        let no_finish : lack (spent_at q.sending q.finish) ≡ 0 =
+        ap lack (h.finish (accounts_fit t (record p { finish = None }) mid leavers a)) in
         let no_start : lack (ready_at q q.start) ≡ 0 = ap lack h.start in
         by_bool (spent_at p.sending p.finish)
         (λ fits.
-        let some : list_any (λ (f : RatedFlight P). (left_at t f).num == 0) p.sending ≡ true = ap (spent_at p.sending) (sym is) ∙ fits in
-        let leave : 1 ≤ length (filter (is_spent cmp p.caps) (drained_to t p.sending)) = spent_leaves cmp (record p { finish = None }) t p.sending some in
+        let some : list_any (λ (f : RatedFlight P). (left_at t f).num == 0) p.sending ≡ true =
+        ap (spent_at p.sending) (sym is) ∙ fits in
+        let leave : 1 ≤ length (filter (is_spent cmp p.caps) (drained_to t p.sending)) =
+        spent_leaves cmp (record p { finish = None }) t p.sending some in
         let left : length leavers ≡ length (filter (is_spent cmp p.caps) (drained_to t p.sending))
         = ap length a.left ∙ length-map (filter (is_spent cmp p.caps) (drained_to t p.sending))
         (λ (f : RatedFlight P). f.message) in
         omega (arith, kept, waits, no_finish, no_start, leave, left, h.weighs))
-        (λ fits. let one : lack (spent_at p.sending p.finish) ≡ 1 = ap lack fits in omega (arith, kept, waits, no_finish, no_start, one, h.weighs))
+        (λ fits. let one : lack (spent_at p.sending p.finish) ≡ 1 = ap lack fits in
+        omega (arith, kept, waits, no_finish, no_start, one, h.weighs))
 
-    woken : (t : ℕ) (p : Planned P) (course : Course (Completed P) (Planned P)) → p.start ≡ Some t → LightensIn (record p { start = None }) course
-        → (list_any (may_launch cmp t p) (fronts cmp p.waiting) ≡ true → LighterIn (record p { start = None }) course) → EventsIn p course
+    woken : (t : ℕ) (p : Planned P) (course : Course (Completed P) (Planned P)) → p.start ≡ Some t
+        → LightensIn (record p { start = None }) course
+        → (list_any (may_launch cmp t p) (fronts cmp p.waiting) ≡ true → LighterIn (record p { start = None }) course)
+        → EventsIn p course
     woken t p (meets e) is h lighter = tt
     woken t p (goes cs q) is h lighter =
         let no_start : lack (ready_at q q.start) ≡ 0 = ap lack h.start in
-        let finish : lack (spent_at q.sending q.finish) ≤ lack (spent_at p.sending p.finish) = no_worse (spent_at p.sending p.finish) (spent_at q.sending q.finish) h.finish in
+        let finish : lack (spent_at q.sending q.finish) ≤ lack (spent_at p.sending p.finish) =
+        no_worse (spent_at p.sending p.finish) (spent_at q.sending q.finish) h.finish in
         by_bool (ready_at p p.start)
-        (λ fits. let less : weight q + 1 ≤ weight (record p { start = None }) = lighter (ap (ready_at p) (sym is) ∙ fits) in omega (arith, no_start, finish, less))
-        (λ fits. let one : lack (ready_at p p.start) ≡ 1 = ap lack fits in omega (arith, no_start, finish, one, h.weighs))
+        (λ fits. let less : weight q + 1
+        ≤ weight (record p { start = None }) = lighter (ap (ready_at p) (sym is) ∙ fits) in
+        omega (arith, no_start, finish, less))
+        (λ fits. let one : lack (ready_at p p.start) ≡ 1 = ap lack fits in
+        omega (arith, no_start, finish, one, h.weighs))
       where
         no_worse : (a b : Bool) → (a ≡ true → b ≡ true) → lack b ≤ lack a
         no_worse true b h = let is : b ≡ true = h refl in rw is (omega arith)
@@ -287,7 +335,8 @@ module _ {P : Type 0} (cmp : P → P → Ordering) where
         settled t old mid leavers course is (subst (λ (q : Planned P). Accounts cmp t q leavers mid) same a)
         (finishes_lighten f)
 
-    wakes_events : (t : ℕ) (p : Planned P) (course : Course (Completed P) (Planned P)) → p.start ≡ Some t → Wakes cmp t (record p { start = None }) course → EventsIn p course
+    wakes_events : (t : ℕ) (p : Planned P) (course : Course (Completed P) (Planned P)) → p.start ≡ Some t
+        → Wakes cmp t (record p { start = None }) course → EventsIn p course
     wakes_events t p course is w = woken t p course is (wakes_lighten w) (λ some.
         let first : FirstThat (λ (n : Message P). find (same_pair cmp n) p.waiting ≡ Some n) (may_launch cmp t p)
         (fronts cmp p.waiting) = first_that _ (may_launch cmp t p) (fronts cmp p.waiting) some
@@ -295,9 +344,11 @@ module _ {P : Type 0} (cmp : P → P → Ordering) where
         wakes_first w first.one first.others first.are first.known first.passes)
 
     -- an event that is due makes fewer that may come
-    pub happens_fewer : (now : ℕ) (event : Event) (p q : Planned P) (cs : List (Completed P)) → IsDue now p (Some event) → Happens cmp event p (goes cs q) → events_left q + 1 ≤ events_left p
+    pub happens_fewer : (now : ℕ) (event : Event) (p q : Planned P) (cs : List (Completed P)) → IsDue now p (Some event)
+        → Happens cmp event p (goes cs q) → events_left q + 1 ≤ events_left p
     happens_fewer now (Finish t) p q cs due h = settles_events h p refl due.0
-    happens_fewer now (Start t) p q cs due h = wakes_events t p (goes cs q) (earlier_start cmp order p.finish p.start t due.1 due.0).0 h
+    happens_fewer now (Start t) p q cs due h =
+        wakes_events t p (goes cs q) (earlier_start cmp order p.finish p.start t due.1 due.0).0 h
 
 -- ---- how many there may be
 

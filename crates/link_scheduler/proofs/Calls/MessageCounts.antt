@@ -1,5 +1,6 @@
 -- How many messages wait and are in flight, through the parts of an event.
-use Rattle.std.proofs.Common.{◌≡◌, ℕ, suc, ◌+◌, List, [], ◌∷◌, length, Bool, true, false, not, cond, Option, Some, refl, sym, ap, ◌∙◌, arith, length-append}
+use Rattle.std.proofs.Common.{◌≡◌, ℕ, suc, ◌+◌, List, [], ◌∷◌, length, Bool, true, false, not, cond, Option, Some, refl}
+use Rattle.std.proofs.Common.{sym, ap, ◌∙◌, arith, length-append}
 use Rattle.std.specs.List.{find, filter}
 use Rattle.std.specs.declared.cmp.Ordering.{Ordering}
 use Rattle.std.specs.Cmp.{IsTotalOrder}
@@ -21,11 +22,13 @@ use Rattle.link_simulation.specs.Rule.Events.{Accounts, Launches, nothing_waits,
 use Rattle.fair_rates.proofs.Lists.Zips.{zip-length}
 use Rattle.link_simulation.proofs.Simulation.AlikeMessages.{pair_itself}
 
-pub length-without : {X : Type 0} (f g : X → Bool) (y : X) (xs : List X) → find f xs ≡ Some y → g y ≡ true → length (without_first g xs) + 1 ≡ length xs
+pub length-without : {X : Type 0} (f g : X → Bool) (y : X) (xs : List X) → find f xs ≡ Some y → g y ≡ true
+    → length (without_first g xs) + 1 ≡ length xs
 length-without f g y [] found passes = cc
 length-without {X} f g y (x ∷ xs) found passes = by_test (f x) (g x) refl found (length-without f g y xs)
   where
-    by_test : (b d : Bool) → g x ≡ d → cond b (Some x) (find f xs) ≡ Some y → (find f xs ≡ Some y → g y ≡ true → length (without_first g xs) + 1 ≡ length xs)
+    by_test : (b d : Bool) → g x ≡ d → cond b (Some x) (find f xs) ≡ Some y
+        → (find f xs ≡ Some y → g y ≡ true → length (without_first g xs) + 1 ≡ length xs)
         → length (cond d xs (x ∷ without_first g xs)) + 1 ≡ length (x ∷ xs)
     by_test b true is h ih = omega arith
     by_test true false is h ih = let same : x ≡ y = cc in let no : g x ≡ true = ap g same ∙ passes in cc
@@ -45,10 +48,12 @@ counted (meets e) = 0
 
 module _ {P : Type 0} (cmp : P → P → Ordering) where
   -- an account loses none
-  pub accounts_keep : (t : ℕ) (old new : Planned P) (leavers : List (Message P)) → Accounts cmp t old leavers new → length leavers + length new.sending ≡ length old.sending
+  pub accounts_keep : (t : ℕ) (old new : Planned P) (leavers : List (Message P)) → Accounts cmp t old leavers new
+      → length leavers + length new.sending ≡ length old.sending
   accounts_keep t old new leavers a =
       let here = drained_to t old.sending in
-      let left : length leavers ≡ length (filter (is_spent cmp old.caps) here) = ap length a.left ∙ length-map (filter (is_spent cmp old.caps) here) (λ (f : RatedFlight P). f.message) in
+      let left : length leavers ≡ length (filter (is_spent cmp old.caps) here) =
+      ap length a.left ∙ length-map (filter (is_spent cmp old.caps) here) (λ (f : RatedFlight P). f.message) in
       let stayed : length (filter (λ f. not (is_spent cmp old.caps f)) here) ≡ length new.sending
       = zip-length (λ (f g : RatedFlight P). (g.message ≡ f.message) × (g.left ≡ f.left)
       × (g.updated ≡ t)) _ new.sending a.stayed in
@@ -57,7 +62,8 @@ module _ {P : Type 0} (cmp : P → P → Ordering) where
       = length-filter_both (is_spent cmp old.caps) (λ f. not (is_spent cmp old.caps f)) (λ f. refl) here in
       omega (arith, left, stayed, both, length-drained t old.sending)
 
-  pub accounts_waiting : (t : ℕ) (old new : Planned P) (leavers : List (Message P)) → Accounts cmp t old leavers new → new.waiting ≡ old.waiting
+  pub accounts_waiting : (t : ℕ) (old new : Planned P) (leavers : List (Message P)) → Accounts cmp t old leavers new
+      → new.waiting ≡ old.waiting
   accounts_waiting t old new leavers a = ap (λ (q : Planned P). q.waiting) a.same
 
   module _ (order : IsTotalOrder cmp) where
@@ -66,13 +72,17 @@ module _ {P : Type 0} (cmp : P → P → Ordering) where
         → Launches cmp t old first course → (f : Message P → Bool) (leavers : List (Message P)) (new : Planned P)
         → first ≡ find f old.waiting → course ≡ goes leavers new
         → length leavers + in_system new ≡ in_system old
-    launch_keeps {old = old} nothing_waits f leavers new found is = let e : 0 + in_system old ≡ length leavers + in_system new = ap counted is in omega (arith, e)
-    launch_keeps {old = old} (too_early early) f leavers new found is = let e : 0 + in_system old ≡ length leavers + in_system new = ap counted is in omega (arith, e)
+    launch_keeps {old = old} nothing_waits f leavers new found is =
+        let e : 0 + in_system old ≡ length leavers + in_system new = ap counted is in omega (arith, e)
+    launch_keeps {old = old} (too_early early) f leavers new found is =
+        let e : 0 + in_system old ≡ length leavers + in_system new = ap counted is in omega (arith, e)
     launch_keeps (no_id e used) f leavers new found is = cc
     launch_keeps {t = t} {old = old} (starts {m = m} {leavers = ls} {new = q} may id a) f leavers new found is =
         let same : length ls + in_system q ≡ length leavers + in_system new = ap counted is in
-        let one : length (without_first (same_pair cmp m) old.waiting) + 1 ≡ length old.waiting = length-without f (same_pair cmp m) m old.waiting (sym found) (pair_itself cmp order m) in
-        let kept : length ls + length q.sending ≡ length (launched cmp t old m).sending = accounts_keep t (launched cmp t old m) q ls a in
+        let one : length (without_first (same_pair cmp m) old.waiting) + 1 ≡ length old.waiting =
+        length-without f (same_pair cmp m) m old.waiting (sym found) (pair_itself cmp order m) in
+        let kept : length ls + length q.sending ≡ length (launched cmp t old m).sending =
+        accounts_keep t (launched cmp t old m) q ls a in
         let more : length (launched cmp t old m).sending ≡ length old.sending + 1
         = length-append old.sending (record {
           message = m;
@@ -80,7 +90,8 @@ module _ {P : Type 0} (cmp : P → P → Ordering) where
           rate = Some (whole 0);
           updated = t;
         } ∷ []) in
-        let waits : length q.waiting ≡ length (without_first (same_pair cmp m) old.waiting) = ap length (accounts_waiting t (launched cmp t old m) q ls a) in
+        let waits : length q.waiting ≡ length (without_first (same_pair cmp m) old.waiting) =
+        ap length (accounts_waiting t (launched cmp t old m) q ls a) in
         omega (arith, same, one, kept, more, waits)
 
 -- ---- whether something is in flight

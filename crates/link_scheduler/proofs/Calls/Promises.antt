@@ -22,7 +22,8 @@ use Rattle.link_simulation.proofs.Laws.MostEvents.{obeys_right}
 use Rattle.link_simulation.proofs.Rule.Limit.{new_stands}
 use Rattle.link_simulation.proofs.Laws.Orderly.{new_orderly, obeys_orderly}
 use Rattle.link_simulation.proofs.Laws.OrderlyAlike.{orderly_same, goes_orderly}
-use Rattle.link_simulation.proofs.Rule.Simulated.{moment_in_time, calls_simulated, call_keeps_range, refusals_simulated, next_in_simulation}
+use Rattle.link_simulation.proofs.Rule.Simulated.{moment_in_time, calls_simulated, call_keeps_range, refusals_simulated}
+use Rattle.link_simulation.proofs.Rule.Simulated.{next_in_simulation}
 use Rattle.link_simulation.proofs.Laws.SplitAnywhere.{advance_split_anywhere}
 
 module _ {P : Type 0} (cmp : P → P → Ordering) (order : IsTotalOrder cmp) where
@@ -40,15 +41,18 @@ module _ {P : Type 0} (cmp : P → P → Ordering) (order : IsTotalOrder cmp) wh
   -- ---- a call that goes
 
   -- a call on the copy leaves what is planned in order
-  pub orderly_on : (p q r : Planned P) (call : Call P) (cs : List (Completed P)) → IsSamePlanned cmp p q → ∥ IsOrderly cmp p ∥₁ → Obeys cmp q call (goes cs r) → ∥ IsOrderly cmp r ∥₁
-  orderly_on p q r call cs same orderly obeys = ∥∥₁_map orderly (λ h. obeys_orderly cmp order q r call cs obeys (orderly_same cmp order p q same h))
+  pub orderly_on : (p q r : Planned P) (call : Call P) (cs : List (Completed P)) → IsSamePlanned cmp p q
+      → ∥ IsOrderly cmp p ∥₁ → Obeys cmp q call (goes cs r) → ∥ IsOrderly cmp r ∥₁
+  orderly_on p q r call cs same orderly obeys =
+      ∥∥₁_map orderly (λ h. obeys_orderly cmp order q r call cs obeys (orderly_same cmp order p q same h))
 
   -- what is kept by a step that does a call at once, or leaves what is planned as it was
   pub record Kept (q : Planned P) : Type 0 where
     pub right : ∥ IsPlanned cmp q ∥₁
     pub orderly : ∥ IsOrderly cmp q ∥₁
 
-  pub kept_at_once : {X E : Type 0} (r : Result X E) (p q : Planned P) (call : Call P) (cs : List (Completed P)) → OnOk r (Obeys cmp p call (goes cs q)) → OnErr r (q ≡ p) → ∥ IsPlanned cmp p ∥₁ → ∥ IsOrderly cmp p ∥₁ → Kept q
+  pub kept_at_once : {X E : Type 0} (r : Result X E) (p q : Planned P) (call : Call P) (cs : List (Completed P))
+      → OnOk r (Obeys cmp p call (goes cs q)) → OnErr r (q ≡ p) → ∥ IsPlanned cmp p ∥₁ → ∥ IsOrderly cmp p ∥₁ → Kept q
   kept_at_once (Ok x) p q call cs obeys same right orderly = record {
     right = ∥∥₁_map right (λ h. obeys_right cmp order p call (goes cs q) h obeys cs q refl);
     orderly = ∥∥₁_map orderly (obeys_orderly cmp order p q call cs obeys);
@@ -59,7 +63,8 @@ module _ {P : Type 0} (cmp : P → P → Ordering) (order : IsTotalOrder cmp) wh
   }
 
   -- what is promised of a call that goes from p to q
-  pub promised_if : (p q : Planned P) (call : Call P) (now : ℕ) (cs : List (Completed P)) → moment_of call ≡ Some now → now < 2 ^ 64 → ∥ IsOrderly cmp p ∥₁ → GoesByRule cmp p call cs q → Makes cmp p call cs q
+  pub promised_if : (p q : Planned P) (call : Call P) (now : ℕ) (cs : List (Completed P)) → moment_of call ≡ Some now
+      → now < 2 ^ 64 → ∥ IsOrderly cmp p ∥₁ → GoesByRule cmp p call cs q → Makes cmp p call cs q
   promised_if p q call now cs at fits orderly went = record {
     by_rule = went;
     simulated = calls_simulated cmp order p q call cs (moment_in_time cmp order call now at fits) went;
@@ -70,15 +75,22 @@ module _ {P : Type 0} (cmp : P → P → Ordering) (order : IsTotalOrder cmp) wh
 
   -- ---- an advance
 
-  pub split_on : (p q : Planned P) (now : ℕ) (cs : List (Completed P)) → now < 2 ^ 64 → GoesByRule cmp p (call_advance now) cs q → IsSplitAnywhere cmp p now cs q
-  split_on p q now cs fits went = advance_split_anywhere cmp order p q now cs (moment_in_time cmp order (call_advance now) now refl fits now refl) went
+  pub split_on : (p q : Planned P) (now : ℕ) (cs : List (Completed P)) → now < 2 ^ 64
+      → GoesByRule cmp p (call_advance now) cs q → IsSplitAnywhere cmp p now cs q
+  split_on p q now cs fits went =
+      advance_split_anywhere cmp order p q now cs (moment_in_time cmp order (call_advance now) now refl fits now refl)
+      went
 
-  pub within_caps_on : (p q : Planned P) (now : ℕ) (cs : List (Completed P)) → now < 2 ^ 64 → GoesByRule cmp p (call_advance now) cs q → KeepsToCaps cmp p now q
-  within_caps_on p q now cs fits went = advance_keeps_to_caps cmp order p q now cs (moment_in_time cmp order (call_advance now) now refl fits now refl) went
+  pub within_caps_on : (p q : Planned P) (now : ℕ) (cs : List (Completed P)) → now < 2 ^ 64
+      → GoesByRule cmp p (call_advance now) cs q → KeepsToCaps cmp p now q
+  within_caps_on p q now cs fits went =
+      advance_keeps_to_caps cmp order p q now cs (moment_in_time cmp order (call_advance now) now refl fits now refl)
+      went
 
   -- ---- a call that is refused
 
-  pub cause_of : (p : Planned P) (call : Call P) (now : ℕ) (why : Error) → moment_of call ≡ Some now → now < 2 ^ 64 → MayBeRefused cmp p call why → Refuses cmp p call why
+  pub cause_of : (p : Planned P) (call : Call P) (now : ℕ) (why : Error) → moment_of call ≡ Some now → now < 2 ^ 64
+      → MayBeRefused cmp p call why → Refuses cmp p call why
   cause_of p call now why at fits may = record {
     by_rule = may;
     simulated = refusals_simulated cmp order p call why (moment_in_time cmp order call now at fits) may;

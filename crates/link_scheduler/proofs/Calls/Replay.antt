@@ -1,10 +1,12 @@
 -- Replies in turn, and the replies to a list of calls.
-use Rattle.std.proofs.Common.{◌≡◌, ℕ, suc, ◌+◌, ◌-◌, ◌<◌, ◌≤◌, List, [], ◌∷◌, ◌++◌, length, get_or, refl, sym, ap, ◌∙◌, subst, arith, append_assoc, append-nil, drop, drop-cons, length-drop}
+use Rattle.std.proofs.Common.{◌≡◌, ℕ, suc, ◌+◌, ◌-◌, ◌<◌, ◌≤◌, List, [], ◌∷◌, ◌++◌, length, get_or, refl, sym, ap, ◌∙◌}
+use Rattle.std.proofs.Common.{subst, arith, append_assoc, append-nil, drop, drop-cons, length-drop}
 use Rattle.std.specs.declared.cmp.Ord.{Ghosts}
 use Rattle.std.specs.declared.cmp.Ordering.{Ordering}
 use Rattle.std.specs.Cmp.{IsTotalOrder}
 use Rattle.fair_rates.specs.declared.error.Error.{Error}
-use Rattle.link_simulation.specs.Simulation.Calls.{Call, call_limit, call_limit_link, call_enqueue, call_advance, call_next}
+use Rattle.link_simulation.specs.Simulation.Calls.{Call, call_limit, call_limit_link, call_enqueue, call_advance}
+use Rattle.link_simulation.specs.Simulation.Calls.{call_next}
 use Rattle.link_simulation.specs.Laws.Isolation.{InTime}
 use Rattle.link_simulation.specs.Simulation.Replies.{Reply, reply_done, reply_next, reply_refused}
 use Rattle.link_simulation.specs.Rule.Planned.{Planned}
@@ -16,7 +18,8 @@ use Rattle.link_scheduler.specs.declared.replay.Reply.TheVariants as replies
 use Rattle.link_scheduler.specs.declared.transmitter.State.{State}
 use Rattle.link_scheduler.specs.Calls.State.{planned_of}
 use Rattle.link_scheduler.specs.Calls.Replay.{reply_of, IsAnswered, MayRefuseCall, IsReplyTo}
-use Rattle.link_simulation.specs.Rule.SamePlanned.{IsSamePlanned, GoesByRule, IsSameCall, same_limit, same_limit_link, same_enqueue, same_advance, same_next}
+use Rattle.link_simulation.specs.Rule.SamePlanned.{IsSamePlanned, GoesByRule, IsSameCall, same_limit, same_limit_link}
+use Rattle.link_simulation.specs.Rule.SamePlanned.{same_enqueue, same_advance, same_next}
 use Rattle.link_simulation.proofs.Rule.SamePlanned.{same_turned, same_chain, peer_turned, message_turned}
 use Rattle.link_simulation.proofs.Rule.SameSteps.{course_went}
 use Rattle.link_simulation.proofs.Rule.SameCourses.{obeys_same}
@@ -27,7 +30,8 @@ module _ {P : Type 0} (cmp : P → P → Ordering) (order : IsTotalOrder cmp) wh
   -- a reply, and those after it
   pub one_more : (p q : Planned P) (call : Call P) (reply : Reply P) (calls : List (Call P)) (replies : List (Reply P))
       → IsReplyTo cmp p call reply q → Obeyed cmp q calls replies → Obeyed cmp p (call ∷ calls) (reply ∷ replies)
-  one_more p q call_next (reply_next t) calls replies h rest = (h.0, subst (λ (r : Planned P). Obeyed cmp r calls replies) h.1 rest)
+  one_more p q call_next (reply_next t) calls replies h rest =
+      (h.0, subst (λ (r : Planned P). Obeyed cmp r calls replies) h.1 rest)
   one_more p q call_next (reply_done cs) calls replies h rest = absurd h
   one_more p q call_next (reply_refused e) calls replies h rest = absurd h
   one_more p q (call_limit now peer egress ingress) (reply_done cs) calls replies h rest = (
@@ -38,7 +42,8 @@ module _ {P : Type 0} (cmp : P → P → Ordering) (order : IsTotalOrder cmp) wh
     obeyed_same cmp order q h.after calls replies
         (same_turned cmp order h.after q h.same_after) rest,
   )
-  one_more p q (call_limit now peer egress ingress) (reply_refused e) calls replies h rest = (h.0, subst (λ (r : Planned P). Obeyed cmp r calls replies) h.1 rest)
+  one_more p q (call_limit now peer egress ingress) (reply_refused e) calls replies h rest =
+      (h.0, subst (λ (r : Planned P). Obeyed cmp r calls replies) h.1 rest)
   one_more p q (call_limit now peer egress ingress) (reply_next t) calls replies h rest = absurd h
   one_more p q (call_limit_link now origin recipient cap) (reply_done cs) calls replies h rest = (
     h.answers,
@@ -48,7 +53,8 @@ module _ {P : Type 0} (cmp : P → P → Ordering) (order : IsTotalOrder cmp) wh
     obeyed_same cmp order q h.after calls replies
         (same_turned cmp order h.after q h.same_after) rest,
   )
-  one_more p q (call_limit_link now origin recipient cap) (reply_refused e) calls replies h rest = (h.0, subst (λ (r : Planned P). Obeyed cmp r calls replies) h.1 rest)
+  one_more p q (call_limit_link now origin recipient cap) (reply_refused e) calls replies h rest =
+      (h.0, subst (λ (r : Planned P). Obeyed cmp r calls replies) h.1 rest)
   one_more p q (call_limit_link now origin recipient cap) (reply_next t) calls replies h rest = absurd h
   one_more p q (call_enqueue now m) (reply_done cs) calls replies h rest = (
     h.answers,
@@ -58,7 +64,8 @@ module _ {P : Type 0} (cmp : P → P → Ordering) (order : IsTotalOrder cmp) wh
     obeyed_same cmp order q h.after calls replies
         (same_turned cmp order h.after q h.same_after) rest,
   )
-  one_more p q (call_enqueue now m) (reply_refused e) calls replies h rest = (h.0, subst (λ (r : Planned P). Obeyed cmp r calls replies) h.1 rest)
+  one_more p q (call_enqueue now m) (reply_refused e) calls replies h rest =
+      (h.0, subst (λ (r : Planned P). Obeyed cmp r calls replies) h.1 rest)
   one_more p q (call_enqueue now m) (reply_next t) calls replies h rest = absurd h
   one_more p q (call_advance now) (reply_done cs) calls replies h rest = (
     h.answers,
@@ -68,21 +75,26 @@ module _ {P : Type 0} (cmp : P → P → Ordering) (order : IsTotalOrder cmp) wh
     obeyed_same cmp order q h.after calls replies
         (same_turned cmp order h.after q h.same_after) rest,
   )
-  one_more p q (call_advance now) (reply_refused e) calls replies h rest = (h.0, subst (λ (r : Planned P). Obeyed cmp r calls replies) h.1 rest)
+  one_more p q (call_advance now) (reply_refused e) calls replies h rest =
+      (h.0, subst (λ (r : Planned P). Obeyed cmp r calls replies) h.1 rest)
   one_more p q (call_advance now) (reply_next t) calls replies h rest = absurd h
 
   -- ---- the same call
 
   call_turned : {call other : Call P} → IsSameCall cmp call other → IsSameCall cmp other call
   call_turned (same_limit {peer = p} {other = q} same) = same_limit (peer_turned cmp order p q same)
-  call_turned (same_limit_link {origin = p} {recipient = r} {o = q} {r = s} first second) = same_limit_link (peer_turned cmp order p q first) (peer_turned cmp order r s second)
+  call_turned (same_limit_link {origin = p} {recipient = r} {o = q} {r = s} first second) =
+      same_limit_link (peer_turned cmp order p q first) (peer_turned cmp order r s second)
   call_turned (same_enqueue {m = m} {n = n} same) = same_enqueue (message_turned cmp order m n same)
   call_turned same_advance = same_advance
   call_turned same_next = same_next
 
-  goes_same : (p q : Planned P) (call other : Call P) (cs : List (Completed P)) → IsSamePlanned cmp p p → IsSameCall cmp call other → GoesByRule cmp p other cs q → GoesByRule cmp p call cs q
+  goes_same : (p q : Planned P) (call other : Call P) (cs : List (Completed P)) → IsSamePlanned cmp p p
+      → IsSameCall cmp call other → GoesByRule cmp p other cs q → GoesByRule cmp p call cs q
   goes_same p q call other cs itself same h =
-      let went = course_went cmp order (Obeys cmp p call) h.answers h.after (obeys_same cmp order p p other call (goes h.answers h.after) itself (call_turned same) h.obeys) in
+      let went =
+      course_went cmp order (Obeys cmp p call) h.answers h.after
+      (obeys_same cmp order p p other call (goes h.answers h.after) itself (call_turned same) h.obeys) in
       record {
         answers = went.0;
         after = went.1;
@@ -93,18 +105,23 @@ module _ {P : Type 0} (cmp : P → P → Ordering) (order : IsTotalOrder cmp) wh
 
   refused_same_call : (p q : Planned P) (call other : Call P) (why : Error) → IsSamePlanned cmp p p
       → IsSameCall cmp call other → MayBeRefused cmp p other why × (q ≡ p) → MayBeRefused cmp p call why × (q ≡ p)
-  refused_same_call p q call other why itself same h = (refused_same cmp order p p other call why itself (call_turned same) h.0, h.1)
+  refused_same_call p q call other why itself same h =
+      (refused_same cmp order p p other call why itself (call_turned same) h.0, h.1)
 
   -- an equal call has the same replies
-  pub reply_same : (p q : Planned P) {call other : Call P} (reply : Reply P) → IsSamePlanned cmp p p → IsSameCall cmp call other → IsReplyTo cmp p other reply q → IsReplyTo cmp p call reply q
+  pub reply_same : (p q : Planned P) {call other : Call P} (reply : Reply P) → IsSamePlanned cmp p p
+      → IsSameCall cmp call other → IsReplyTo cmp p other reply q → IsReplyTo cmp p call reply q
   reply_same p q (reply_done cs) itself (same_limit same) h = goes_same p q _ _ cs itself (same_limit same) h
-  reply_same p q (reply_refused why) itself (same_limit same) h = refused_same_call p q _ _ why itself (same_limit same) h
+  reply_same p q (reply_refused why) itself (same_limit same) h =
+      refused_same_call p q _ _ why itself (same_limit same) h
   reply_same p q (reply_next t) itself (same_limit same) h = h
   reply_same p q (reply_done cs) itself (same_limit_link f g) h = goes_same p q _ _ cs itself (same_limit_link f g) h
-  reply_same p q (reply_refused why) itself (same_limit_link f g) h = refused_same_call p q _ _ why itself (same_limit_link f g) h
+  reply_same p q (reply_refused why) itself (same_limit_link f g) h =
+      refused_same_call p q _ _ why itself (same_limit_link f g) h
   reply_same p q (reply_next t) itself (same_limit_link f g) h = h
   reply_same p q (reply_done cs) itself (same_enqueue same) h = goes_same p q _ _ cs itself (same_enqueue same) h
-  reply_same p q (reply_refused why) itself (same_enqueue same) h = refused_same_call p q _ _ why itself (same_enqueue same) h
+  reply_same p q (reply_refused why) itself (same_enqueue same) h =
+      refused_same_call p q _ _ why itself (same_enqueue same) h
   reply_same p q (reply_next t) itself (same_enqueue same) h = h
   reply_same p q reply itself same_advance h = h
   reply_same p q reply itself same_next h = h
@@ -112,7 +129,8 @@ module _ {P : Type 0} (cmp : P → P → Ordering) (order : IsTotalOrder cmp) wh
   -- ---- a list of calls
 
   -- the replies so far, to all calls but these, lead to the planned world p
-  pub record Replied (old : Planned P) (calls : List (Call P)) (replies : List (Reply P)) (rest : List (Call P)) (p : Planned P) : Type 0 where
+  pub record Replied (old : Planned P) (calls : List (Call P)) (replies : List (Reply P)) (rest : List (Call P))
+      (p : Planned P) : Type 0 where
     pub so : (more : List (Reply P)) → Obeyed cmp p rest more → Obeyed cmp old calls (replies ++ more)
     pub in_time : InTime rest → InTime calls
 
@@ -129,11 +147,13 @@ module _ {P : Type 0} (cmp : P → P → Ordering) (order : IsTotalOrder cmp) wh
             (so_far.so (reply ∷ more) (one_more p q call reply rest more h obeyed));
       }
 
-  pub all_replied : (old : Planned P) (calls : List (Call P)) (replies : List (Reply P)) (p : Planned P) → Replied old calls replies [] p → Obeyed cmp old calls replies
+  pub all_replied : (old : Planned P) (calls : List (Call P)) (replies : List (Reply P)) (p : Planned P)
+      → Replied old calls replies [] p → Obeyed cmp old calls replies
   all_replied old calls replies p so_far = subst (Obeyed cmp old calls) (append-nil replies) (so_far.so [] tt)
 
   -- so many of the calls are replied to, and there is room for the rest of the replies
-  pub record IsUnderway (old : Planned P) (calls : List (Call P)) (at : ℕ) (replies : List (Reply P)) (count room : ℕ) (p : Planned P) : Type 0 where
+  pub record IsUnderway (old : Planned P) (calls : List (Call P)) (at : ℕ) (replies : List (Reply P)) (count room : ℕ)
+      (p : Planned P) : Type 0 where
     pub long : count ≡ at
     pub fits : length calls ≤ room
     pub replied : Replied old calls replies (drop at calls) p
@@ -141,7 +161,12 @@ module _ {P : Type 0} (cmp : P → P → Ordering) (order : IsTotalOrder cmp) wh
   pub begins : (p q : Planned P) (calls : List (Call P)) (replies : List (Reply P)) (count room : ℕ) → replies ≡ []
       → count ≡ 0 → length calls ≤ room → q ≡ p → IsUnderway p calls 0 replies count room q
   begins p q calls replies count room none long fits is =
-      record { long = long; fits = fits; replied = subst (λ (rs : List (Reply P)). Replied p calls rs calls q) (sym none) (subst (Replied p calls [] calls) (sym is) (none_replied p calls)) }
+      record {
+        long = long;
+        fits = fits;
+        replied = subst (λ (rs : List (Reply P)). Replied p calls rs calls q) (sym none)
+            (subst (Replied p calls [] calls) (sym is) (none_replied p calls));
+      }
 
   pub has_room : (old : Planned P) (calls : List (Call P)) (at : ℕ) (replies : List (Reply P)) (count room : ℕ)
       (p : Planned P) → IsUnderway old calls at replies count room p → at < length calls → count < room
@@ -149,21 +174,29 @@ module _ {P : Type 0} (cmp : P → P → Ordering) (order : IsTotalOrder cmp) wh
 
   pub goes_on : (old : Planned P) (calls : List (Call P)) (at : ℕ) (replies : List (Reply P)) (count room more : ℕ)
       (p q : Planned P) (call : Call P) (reply : Reply P) → IsUnderway old calls at replies count room p
-      → at < length calls → call ≡ get_or calls at call → room ≤ more → InTime (call ∷ []) → IsReplyTo cmp p call reply q → IsUnderway old calls (at + 1) (replies ++ reply ∷ []) (count + 1) more q
+      → at < length calls → call ≡ get_or calls at call → room ≤ more → InTime (call ∷ [])
+      → IsReplyTo cmp p call reply q → IsUnderway old calls (at + 1) (replies ++ reply ∷ []) (count + 1) more q
   goes_on old calls at replies count room more p q call reply so_far lt is grows timely h = record {
     long = ap (λ n. n + 1) so_far.long;
     fits = omega (arith, so_far.fits, grows);
-    replied = one_replied old calls replies call (drop (at + 1) calls) p q reply (subst (λ (l : List (Call P)). Replied old calls replies l p) cut so_far.replied) timely h;
+    replied =
+        one_replied old calls replies call (drop (at + 1) calls) p q reply
+        (subst (λ (l : List (Call P)). Replied old calls replies l p) cut so_far.replied) timely h;
   }
     where
       cut : drop at calls ≡ call ∷ drop (at + 1) calls
-      cut = let next : at + 1 ≡ suc at = omega arith in drop-cons calls at call lt ∙ ap (λ k. k ∷ drop (suc at) calls) (sym is) ∙ ap (λ n. call ∷ drop n calls) (sym next)
+      cut =
+          let next : at + 1 ≡ suc at = omega arith in
+          drop-cons calls at call lt ∙ ap (λ k. k ∷ drop (suc at) calls) (sym is)
+          ∙ ap (λ n. call ∷ drop n calls) (sym next)
 
   pub ends : (old : Planned P) (calls : List (Call P)) (at : ℕ) (replies : List (Reply P)) (count room : ℕ)
       (p : Planned P) → IsUnderway old calls at replies count room p → length calls ≤ at
       → Obeyed cmp old calls replies × InTime calls
   ends old calls at replies count room p so_far le =
-      let all : Replied old calls replies [] p = subst (λ (l : List (Call P)). Replied old calls replies l p) (none_left (drop at calls) (length-drop at calls)) so_far.replied in
+      let all : Replied old calls replies [] p =
+      subst (λ (l : List (Call P)). Replied old calls replies l p)
+      (none_left (drop at calls) (length-drop at calls)) so_far.replied in
       (all_replied old calls replies p all, all.in_time tt)
     where
       none_left : (l : List (Call P)) → length l ≡ length calls - at → l ≡ []
@@ -171,21 +204,27 @@ module _ {P : Type 0} (cmp : P → P → Ordering) (order : IsTotalOrder cmp) wh
       none_left (c ∷ l) e = absurd (omega arith)
 
   -- each call has one reply
-  pub one_for_each : (p : Planned P) (calls : List (Call P)) (replies : List (Reply P)) → Obeyed cmp p calls replies → length replies ≡ length calls
+  pub one_for_each : (p : Planned P) (calls : List (Call P)) (replies : List (Reply P)) → Obeyed cmp p calls replies
+      → length replies ≡ length calls
   one_for_each p [] [] h = refl
   one_for_each p [] (reply ∷ replies) h = absurd h
   one_for_each p (call ∷ calls) [] h = absurd h
   one_for_each p (call_next ∷ calls) (reply_next t ∷ replies) h = ap suc (one_for_each p calls replies h.1)
   one_for_each p (call_next ∷ calls) (reply_done cs ∷ replies) h = absurd h
   one_for_each p (call_next ∷ calls) (reply_refused why ∷ replies) h = absurd h
-  one_for_each p (call_limit now peer egress ingress ∷ calls) (reply_done cs ∷ replies) h = ap suc (one_for_each h.1 calls replies h.4)
-  one_for_each p (call_limit now peer egress ingress ∷ calls) (reply_refused why ∷ replies) h = ap suc (one_for_each p calls replies h.1)
+  one_for_each p (call_limit now peer egress ingress ∷ calls) (reply_done cs ∷ replies) h =
+      ap suc (one_for_each h.1 calls replies h.4)
+  one_for_each p (call_limit now peer egress ingress ∷ calls) (reply_refused why ∷ replies) h =
+      ap suc (one_for_each p calls replies h.1)
   one_for_each p (call_limit now peer egress ingress ∷ calls) (reply_next t ∷ replies) h = absurd h
-  one_for_each p (call_limit_link now origin recipient cap ∷ calls) (reply_done cs ∷ replies) h = ap suc (one_for_each h.1 calls replies h.4)
-  one_for_each p (call_limit_link now origin recipient cap ∷ calls) (reply_refused why ∷ replies) h = ap suc (one_for_each p calls replies h.1)
+  one_for_each p (call_limit_link now origin recipient cap ∷ calls) (reply_done cs ∷ replies) h =
+      ap suc (one_for_each h.1 calls replies h.4)
+  one_for_each p (call_limit_link now origin recipient cap ∷ calls) (reply_refused why ∷ replies) h =
+      ap suc (one_for_each p calls replies h.1)
   one_for_each p (call_limit_link now origin recipient cap ∷ calls) (reply_next t ∷ replies) h = absurd h
   one_for_each p (call_enqueue now m ∷ calls) (reply_done cs ∷ replies) h = ap suc (one_for_each h.1 calls replies h.4)
-  one_for_each p (call_enqueue now m ∷ calls) (reply_refused why ∷ replies) h = ap suc (one_for_each p calls replies h.1)
+  one_for_each p (call_enqueue now m ∷ calls) (reply_refused why ∷ replies) h =
+      ap suc (one_for_each p calls replies h.1)
   one_for_each p (call_enqueue now m ∷ calls) (reply_next t ∷ replies) h = absurd h
   one_for_each p (call_advance now ∷ calls) (reply_done cs ∷ replies) h = ap suc (one_for_each h.1 calls replies h.4)
   one_for_each p (call_advance now ∷ calls) (reply_refused why ∷ replies) h = ap suc (one_for_each p calls replies h.1)
@@ -193,7 +232,8 @@ module _ {P : Type 0} (cmp : P → P → Ordering) (order : IsTotalOrder cmp) wh
 
 -- what a scheduler answers, or refuses, is a reply by the event rule
 module _ {P : Type 0} {order : Ghosts P} {b : _} {c : _} (old new : State P order b c) where
-  pub answered_by_rule : (call : Call P) (reply : reply_code.Reply P) → IsAnswered old call reply new → IsReplyTo order.cmp (planned_of old) call (reply_of reply) (planned_of new)
+  pub answered_by_rule : (call : Call P) (reply : reply_code.Reply P) → IsAnswered old call reply new
+      → IsReplyTo order.cmp (planned_of old) call (reply_of reply) (planned_of new)
   answered_by_rule call_next (replies.Next moment) h = (h.0.planned, ap planned_of h.1)
   answered_by_rule call_next (replies.Done completions) h = h
   answered_by_rule call_next (replies.Refused why) h = h
@@ -210,7 +250,8 @@ module _ {P : Type 0} {order : Ghosts P} {b : _} {c : _} (old new : State P orde
   answered_by_rule (call_advance now) (replies.Next moment) h = h
   answered_by_rule (call_advance now) (replies.Refused why) h = absurd h
 
-  pub refused_by_rule : (call : Call P) (why : Error) → MayRefuseCall old call why → planned_of new ≡ planned_of old → IsReplyTo order.cmp (planned_of old) call (reply_refused why) (planned_of new)
+  pub refused_by_rule : (call : Call P) (why : Error) → MayRefuseCall old call why → planned_of new ≡ planned_of old
+      → IsReplyTo order.cmp (planned_of old) call (reply_refused why) (planned_of new)
   refused_by_rule call_next why h same = h
   refused_by_rule (call_limit now peer egress ingress) why h same = (h.by_rule, same)
   refused_by_rule (call_limit_link now origin recipient cap) why h same = (h.by_rule, same)

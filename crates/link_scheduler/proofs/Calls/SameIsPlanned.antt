@@ -19,11 +19,16 @@ module _ {P : Type 0} (cmp : P → P → Ordering) (order : IsTotalOrder cmp) wh
   pub planned_if_same : (p q : Planned P) → IsSamePlanned cmp p q → IsPlanned cmp p → IsPlanned cmp q
   planned_if_same p q same h = record {
     finish = subst (IsLeastMoment (SomeSpentAt q.sending)) same.finish
-        (least_same (SomeSpentAt p.sending) (SomeSpentAt q.sending) p.finish (λ t. some_spent_same cmp order p.sending q.sending t same.sending) (λ t. some_spent_same cmp order q.sending p.sending t turned.sending) h.finish);
+        (least_same (SomeSpentAt p.sending) (SomeSpentAt q.sending) p.finish
+        (λ t. some_spent_same cmp order p.sending q.sending t same.sending)
+        (λ t. some_spent_same cmp order q.sending p.sending t turned.sending) h.finish);
     from = h.from;
     start = subst (IsLeastMoment (λ s. (h.from ≤ s) × SomeReadyAt cmp q s)) same.start
-        (least_same (λ s. (h.from ≤ s) × SomeReadyAt cmp p s) (λ s. (h.from ≤ s) × SomeReadyAt cmp q s) p.start (λ s r. (r.0, some_ready_same cmp order p q same s r.1)) (λ s r. (r.0, some_ready_same cmp order q p turned s r.1)) h.start);
-    none_at_first = λ free. none_same (SameMessage cmp) p.waiting q.waiting same.waiting (h.none_at_first (same.limited ∙ free));
+        (least_same (λ s. (h.from ≤ s) × SomeReadyAt cmp p s) (λ s. (h.from ≤ s) × SomeReadyAt cmp q s) p.start
+        (λ s r. (r.0, some_ready_same cmp order p q same s r.1))
+        (λ s r. (r.0, some_ready_same cmp order q p turned s r.1)) h.start);
+    none_at_first = λ free.
+        none_same (SameMessage cmp) p.waiting q.waiting same.waiting (h.none_at_first (same.limited ∙ free));
   }
     where
       turned : IsSamePlanned cmp q p
@@ -31,16 +36,22 @@ module _ {P : Type 0} (cmp : P → P → Ordering) (order : IsTotalOrder cmp) wh
 
   -- ---- a call on such a world
 
-  pub planned_on : (p q r : Planned P) (call : Call P) (cs : List (Completed P)) → IsSamePlanned cmp p q → ∥ IsPlanned cmp p ∥₁ → Obeys cmp q call (goes cs r) → ∥ IsPlanned cmp r ∥₁
-  planned_on p q r call cs same right obeys = ∥∥₁_map right (λ h. obeys_right cmp order q call (goes cs r) (planned_if_same p q same h) obeys cs r refl)
+  pub planned_on : (p q r : Planned P) (call : Call P) (cs : List (Completed P)) → IsSamePlanned cmp p q
+      → ∥ IsPlanned cmp p ∥₁ → Obeys cmp q call (goes cs r) → ∥ IsPlanned cmp r ∥₁
+  planned_on p q r call cs same right obeys =
+      ∥∥₁_map right (λ h. obeys_right cmp order q call (goes cs r) (planned_if_same p q same h) obeys cs r refl)
 
-  pub few_on : (now n : ℕ) (p q : Planned P) (course : Course (Completed P) (Planned P)) → IsSamePlanned cmp p q → ∥ IsPlanned cmp p ∥₁ → Advances cmp now q n course
+  pub few_on : (now n : ℕ) (p q : Planned P) (course : Course (Completed P) (Planned P)) → IsSamePlanned cmp p q
+      → ∥ IsPlanned cmp p ∥₁ → Advances cmp now q n course
       → n ≤ 2 * length p.waiting + length p.sending
   few_on now n p q course same right advances = ∥∥₁_elim right le_prop few
     where
       few : IsPlanned cmp p → n ≤ 2 * length p.waiting + length p.sending
       few h =
-          let on_same : n ≤ 2 * length q.waiting + length q.sending = few_events cmp order advances (planned_if_same p q same h) in
-          let waits : length q.waiting ≡ length p.waiting = AllZip-long (SameMessage cmp) p.waiting q.waiting same.waiting in
-          let sends : length q.sending ≡ length p.sending = AllZip-long (IsSameRatedFlight cmp) p.sending q.sending same.sending in
+          let on_same : n ≤ 2 * length q.waiting + length q.sending =
+          few_events cmp order advances (planned_if_same p q same h) in
+          let waits : length q.waiting ≡ length p.waiting =
+          AllZip-long (SameMessage cmp) p.waiting q.waiting same.waiting in
+          let sends : length q.sending ≡ length p.sending =
+          AllZip-long (IsSameRatedFlight cmp) p.sending q.sending same.sending in
           omega arith

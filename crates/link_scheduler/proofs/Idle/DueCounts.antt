@@ -1,5 +1,6 @@
 -- How many of a list pass a test, and two lists that rise and have as many of each key.
-use Rattle.std.proofs.Common.{◌≡◌, ℕ, suc, ◌+◌, Bool, true, false, not, ◌&&◌, cond, if◌then◌else◌, List, [], ◌∷◌, get_or, refl, sym, ◌∙◌, ap, arith}
+use Rattle.std.proofs.Common.{◌≡◌, ℕ, suc, ◌+◌, Bool, true, false, not, ◌&&◌, cond, if◌then◌else◌, List, [], ◌∷◌}
+use Rattle.std.proofs.Common.{get_or, refl, sym, ◌∙◌, ap, arith}
 use Rattle.std.specs.List.{AllZip, filter, list_all, fold}
 use Rattle.std.specs.List.Sorted.{IsPermutation, IsSortedBy}
 use Rattle.std.specs.declared.cmp.Ordering.{Ordering}
@@ -21,7 +22,9 @@ module _ {X : Type 0} where
   pub none_many : (t : X → Bool) (xs : List X) → list_all (λ x. not (t x)) xs ≡ true → how_many t xs ≡ 0
   none_many t [] h = refl
   none_many t (x ∷ xs) h = by_bool (t x)
-      (λ is. let one : not (t x) ≡ false = ap not is in let other : not (t x) ≡ true = first_of_both (not (t x)) _ h in cc)
+      (λ is. let one : not (t x) ≡ false = ap not is in
+      let other : not (t x) ≡ true = first_of_both (not (t x)) _ h in
+      cc)
       (λ is. rw is (none_many t xs (second_of_both (not (t x)) _ h)))
 
   pub same_many : (t u : X → Bool) → ((x : X) → t x ≡ u x) → (xs : List X) → how_many t xs ≡ how_many u xs
@@ -49,10 +52,13 @@ module _ {X : Type 0} where
   -- an exchange of places changes nothing
   pub permuted_many : (t : X → Bool) (xs ys : List X) → IsPermutation xs ys → how_many t ys ≡ how_many t xs
   permuted_many t xs ys same =
-      let first : 0 + how_many t ys ≡ 0 + how_many t xs = sym (sums t 0 ys) ∙ sum_by-IsPermutation (λ x. cond (t x) 1 0) xs ys same ∙ sums t 0 xs in
+      let first : 0 + how_many t ys ≡ 0 + how_many t xs =
+      sym (sums t 0 ys) ∙ sum_by-IsPermutation (λ x. cond (t x) 1 0) xs ys same ∙ sums t 0 xs in
       omega (arith, first)
 
-pub zipped_many : {X Y : Type 0} (R : X → Y → Type 0) (t : X → Bool) (u : Y → Bool) → ((x : X) (y : Y) → R x y → t x ≡ u y) → (xs : List X) (ys : List Y) → AllZip R xs ys → how_many t xs ≡ how_many u ys
+pub zipped_many : {X Y : Type 0} (R : X → Y → Type 0) (t : X → Bool) (u : Y → Bool)
+    → ((x : X) (y : Y) → R x y → t x ≡ u y) → (xs : List X) (ys : List Y) → AllZip R xs ys
+    → how_many t xs ≡ how_many u ys
 zipped_many R t u same [] [] zip = refl
 zipped_many R t u same [] (y ∷ ys) zip = absurd zip
 zipped_many R t u same (x ∷ xs) [] zip = absurd zip
@@ -74,13 +80,19 @@ module _ {K : Type 0} (cmp : K → K → Ordering) (total : IsTotalOrder cmp) wh
     pub rising_sorted : (xs : List A) → IsSortedBy (λ x y. is_lt (cmp (key x) (key y))) xs → is_rising xs ≡ true
     rising_sorted [] h = refl
     rising_sorted (x ∷ xs) h = and_from _ _
-        (all_from_within (λ y. not (is_lt (cmp (key y) (key x)))) xs (λ i d low high. ap not (sorted_far (λ x y. is_lt (cmp (key x) (key y))) (ranks_by total key) (x ∷ xs) h 0 (suc i) d (omega arith) (omega arith))))
-        (rising_sorted xs (λ k d low high. ap (λ n. is_lt (cmp (key (get_or (x ∷ xs) n d)) (key (get_or xs k d)))) (shifted k) ∙ h (suc k) d (omega arith) (omega arith)))
+        (all_from_within (λ y. not (is_lt (cmp (key y) (key x)))) xs
+        (λ i d low high. ap not
+        (sorted_far (λ x y. is_lt (cmp (key x) (key y))) (ranks_by total key) (x ∷ xs) h 0 (suc i) d (omega arith)
+        (omega arith))))
+        (rising_sorted xs
+        (λ k d low high. ap (λ n. is_lt (cmp (key (get_or (x ∷ xs) n d)) (key (get_or xs k d)))) (shifted k)
+        ∙ h (suc k) d (omega arith) (omega arith)))
       where
         shifted : (k : ℕ) → suc (k + 1) ≡ suc k + 1
         shifted k = omega arith
 
-    not_equal : (x y : A) (q : K) → cmp (key x) q ≡ Greater → not (is_lt (cmp (key y) (key x))) ≡ true → not (is_eq (cmp (key y) q)) ≡ true
+    not_equal : (x y : A) (q : K) → cmp (key x) q ≡ Greater → not (is_lt (cmp (key y) (key x))) ≡ true
+        → not (is_eq (cmp (key y) q)) ≡ true
     not_equal x y q above from = by_order (cmp (key y) q) refl
       where
         by_order : (o : Ordering) → cmp (key y) q ≡ o → not (is_eq (cmp (key y) q)) ≡ true
@@ -92,30 +104,48 @@ module _ {K : Type 0} (cmp : K → K → Ordering) (total : IsTotalOrder cmp) wh
             let below : not (is_lt (cmp (key y) (key x))) ≡ false = ap (λ o. not (is_lt o)) less in
             cc
 
-    none_less : (x : A) (xs : List A) (q : K) → is_rising (x ∷ xs) ≡ true → cmp (key x) q ≡ Greater → of_key q (x ∷ xs) ≡ 0
+    none_less : (x : A) (xs : List A) (q : K) → is_rising (x ∷ xs) ≡ true → cmp (key x) q ≡ Greater
+        → of_key q (x ∷ xs) ≡ 0
     none_less x xs q h above = none_many (λ y. is_eq (cmp (key y) q)) (x ∷ xs)
-        (and_from _ _ (ap (λ o. not (is_eq o)) above) (list_all-mono (λ y. not (is_lt (cmp (key y) (key x)))) (λ y. not (is_eq (cmp (key y) q))) (λ y from. not_equal x y q above from) xs (first_of_both (list_all (λ y. not (is_lt (cmp (key y) (key x)))) xs) _ h)))
+        (and_from _ _ (ap (λ o. not (is_eq o)) above)
+        (list_all-mono (λ y. not (is_lt (cmp (key y) (key x)))) (λ y. not (is_eq (cmp (key y) q)))
+        (λ y from. not_equal x y q above from) xs
+        (first_of_both (list_all (λ y. not (is_lt (cmp (key y) (key x)))) xs) _ h)))
 
     some_own : (x : A) (xs : List A) → of_key (key x) (x ∷ xs) ≡ suc (of_key (key x) xs)
     some_own x xs = ap (λ o. if is_eq o then suc (of_key (key x) xs) else of_key (key x) xs) (tied_itself total (key x))
 
   module _ {A B : Type 0} (f : A → K) (g : B → K) where
     -- as many of each key: the keys are the same, one by one
-    pub rising_same : (xs : List A) (ys : List B) → is_rising f xs ≡ true → is_rising g ys ≡ true → ((q : K) → of_key f q xs ≡ of_key g q ys) → AllZip (λ x y. cmp (f x) (g y) ≡ Equal) xs ys
+    pub rising_same : (xs : List A) (ys : List B) → is_rising f xs ≡ true → is_rising g ys ≡ true
+        → ((q : K) → of_key f q xs ≡ of_key g q ys) → AllZip (λ x y. cmp (f x) (g y) ≡ Equal) xs ys
     rising_same [] [] rise_x rise_y same = tt
     rising_same [] (y ∷ ys) rise_x rise_y same = absurd (omega (arith, same (g y), some_own g y ys))
     rising_same (x ∷ xs) [] rise_x rise_y same = absurd (omega (arith, same (f x), some_own f x xs))
     rising_same (x ∷ xs) (y ∷ ys) rise_x rise_y same = by_order (cmp (f x) (g y)) refl
-        (rising_same xs ys (second_of_both (list_all (λ z. not (is_lt (cmp (f z) (f x)))) xs) _ rise_x) (second_of_both (list_all (λ z. not (is_lt (cmp (g z) (g y)))) ys) _ rise_y))
+        (rising_same xs ys (second_of_both (list_all (λ z. not (is_lt (cmp (f z) (f x)))) xs) _ rise_x)
+        (second_of_both (list_all (λ z. not (is_lt (cmp (g z) (g y)))) ys) _ rise_y))
       where
         same_rest : (b : Bool) (m n : ℕ) → (if b then suc m else m) ≡ (if b then suc n else n) → m ≡ n
         same_rest true m n e = omega (arith, e)
         same_rest false m n e = e
 
         step : cmp (f x) (g y) ≡ Equal → (q : K) → of_key f q xs ≡ of_key g q ys
-        step is q = same_rest (is_eq (cmp (g y) q)) (of_key f q xs) (of_key g q ys) (ap (λ o. if is_eq o then suc (of_key f q xs) else of_key f q xs) (sym (total.congr (f x) (g y) q is)) ∙ same q)
+        step is q =
+            same_rest (is_eq (cmp (g y) q)) (of_key f q xs) (of_key g q ys)
+            (ap (λ o. if is_eq o then suc (of_key f q xs) else of_key f q xs) (sym (total.congr (f x) (g y) q is))
+            ∙ same q)
 
-        by_order : (o : Ordering) → cmp (f x) (g y) ≡ o → (((q : K) → of_key f q xs ≡ of_key g q ys) → AllZip (λ x y. cmp (f x) (g y) ≡ Equal) xs ys) → AllZip (λ x y. cmp (f x) (g y) ≡ Equal) (x ∷ xs) (y ∷ ys)
-        by_order Less is ih = absurd (omega (arith, same (f x), some_own f x xs, none_less g y ys (f x) rise_y (total.antisymm (g y) (f x) ∙ ap ordering_reverse is)))
+        by_order : (o : Ordering) → cmp (f x) (g y) ≡ o
+            → (((q : K) → of_key f q xs ≡ of_key g q ys) → AllZip (λ x y. cmp (f x) (g y) ≡ Equal) xs ys)
+            → AllZip (λ x y. cmp (f x) (g y) ≡ Equal) (x ∷ xs) (y ∷ ys)
+        by_order Less is ih =
+            absurd
+            (omega (
+              arith,
+              same (f x),
+              some_own f x xs,
+              none_less g y ys (f x) rise_y (total.antisymm (g y) (f x) ∙ ap ordering_reverse is),
+            ))
         by_order Greater is ih = absurd (omega (arith, same (g y), some_own g y ys, none_less f x xs (g y) rise_x is))
         by_order Equal is ih = (is, ih (step is))

@@ -1,5 +1,6 @@
 -- Replies that do not agree with the simulation, found by computing: for worked examples.
-use Rattle.std.proofs.Common.{◌≡◌, ℕ, ◌-◌, ◌<◌, ◌≤◌, List, [], ◌∷◌, Bool, true, false, not, Option, Some, None, refl, sym, ◌∙◌, subst}
+use Rattle.std.proofs.Common.{◌≡◌, ℕ, ◌-◌, ◌<◌, ◌≤◌, List, [], ◌∷◌, Bool, true, false, not, Option, Some, None, refl}
+use Rattle.std.proofs.Common.{sym, ◌∙◌, subst}
 use Rattle.std.specs.Prelude.{◌&&◌, ◌||◌, ◌==◌, nat_le, nat_lt, IfSome}
 use Rattle.std.specs.List.{AllZip}
 use Rattle.std.specs.declared.cmp.Ordering.{Ordering}
@@ -10,12 +11,15 @@ use Rattle.fair_rates.specs.declared.error.Error.TheVariants.{OutOfMemory, Numbe
 use Rattle.fair_rates.specs.Sides.Subjects.{same_peer}
 use Rattle.link_simulation.specs.Simulation.World.{World, new_world, Completed, Course, goes, meets, EndsWith}
 use Rattle.link_simulation.specs.Simulation.Time.{IsSound}
-use Rattle.link_simulation.specs.Simulation.Calls.{Call, call_limit, call_limit_link, call_enqueue, call_advance, call_next, moment_of, Runs, IsBeforeNext}
-use Rattle.link_simulation.specs.Simulation.Replies.{Reply, reply_done, reply_next, reply_refused, SameCompletion, Faults, MayRefuse, Agrees}
+use Rattle.link_simulation.specs.Simulation.Calls.{Call, call_limit, call_limit_link, call_enqueue, call_advance}
+use Rattle.link_simulation.specs.Simulation.Calls.{call_next, moment_of, Runs, IsBeforeNext}
+use Rattle.link_simulation.specs.Simulation.Replies.{Reply, reply_done, reply_next, reply_refused, SameCompletion}
+use Rattle.link_simulation.specs.Simulation.Replies.{Faults, MayRefuse, Agrees}
 use Rattle.link_simulation.proofs.Simulation.OneNext.{next_is_one}
 use Rattle.link_simulation.proofs.Simulation.OneRun.{runs_are_one}
 use Rattle.link_simulation.proofs.Simulation.Sound.{call_keeps_sound, new_world_sound}
-use Rattle.link_simulation.proofs.Examples.ComputedReplies.{Shares, may_tick, may_seek, seek, next_so, course_of, runs_so}
+use Rattle.link_simulation.proofs.Examples.ComputedReplies.{Shares, may_tick, may_seek, seek, next_so, course_of}
+use Rattle.link_simulation.proofs.Examples.ComputedReplies.{runs_so}
 
 module _ {P : Type 0} (cmp : P → P → Ordering) (order : IsTotalOrder cmp) (plan : World P → Shares) where
   -- ---- tests
@@ -149,7 +153,8 @@ module _ {P : Type 0} (cmp : P → P → Ordering) (order : IsTotalOrder cmp) (p
       and_parts (nat_le w.moment now) (may_seek cmp order plan n w) two.0 in (
         leb-true w.moment now one.0,
         λ next is. by_next next
-            (next_is_one cmp order w next (seek cmp order plan n w) sound.positive is (next_so cmp order plan n w one.1))
+            (next_is_one cmp order w next (seek cmp order plan n w) sound.positive is
+            (next_so cmp order plan n w one.1))
             two.1,
       )
     where

@@ -1,38 +1,50 @@
 -- Fairness, ticks and replies, found by computing: for worked examples.
-use Rattle.std.proofs.Common.{map, ◌≡◌, ℕ, zero, suc, ◌+◌, ◌-◌, ◌*◌, ◌≤◌, List, [], ◌∷◌, ◌++◌, length, Bool, true, false, cond, not, Option, Some, None, All, Contains, refl, sym, ap, subst, arith}
+use Rattle.std.proofs.Common.{map, ◌≡◌, ℕ, zero, suc, ◌+◌, ◌-◌, ◌*◌, ◌≤◌, List, [], ◌∷◌, ◌++◌, length, Bool, true}
+use Rattle.std.proofs.Common.{false, cond, not, Option, Some, None, All, Contains, refl, sym, ap, subst, arith}
 use Rattle.std.specs.Prelude.{max, ◌&&◌, ◌||◌, ◌==◌, nat_le, nat_lt}
 use Rattle.std.specs.List.{list_any, list_all, filter, AllZip}
 use Rattle.std.specs.declared.cmp.Ordering.{Ordering}
 use Rattle.std.specs.Cmp.{IsTotalOrder}
 use Rattle.std.proofs.lemmas.Bool.{leb-true, ltb-true, eqb-true, and_parts, not-true}
-use Rattle.std.proofs.lemmas.List.Elements.{All-contains, All-cons, All-nil, Contains-append_left, Contains-append_right}
+use Rattle.std.proofs.lemmas.List.Elements.{All-contains, All-cons, All-nil, Contains-append_left}
+use Rattle.std.proofs.lemmas.List.Elements.{Contains-append_right}
 use Rattle.fair_rates.specs.Fairness.Fair.{Side, load, IsFair, HasBottleneck}
 use Rattle.link_simulation.specs.Simulation.Messages.{Message}
 use Rattle.link_simulation.specs.Simulation.Rates.{capped_sides, rates_from, AreFair}
-use Rattle.link_simulation.specs.Simulation.World.{Flight, fronts, may_start, World, Completed, Course, goes, meets, and_then, flows, instant, is_done, ready, IsQuiet, last_moment}
+use Rattle.link_simulation.specs.Simulation.World.{Flight, fronts, may_start, World, Completed, Course, goes, meets}
+use Rattle.link_simulation.specs.Simulation.World.{and_then, flows, instant, is_done, ready, IsQuiet, last_moment}
 use Rattle.fair_rates.specs.declared.error.Error.{Error}
 use Rattle.fair_rates.specs.declared.error.Error.TheVariants.{OutOfMemory, NumberTooLarge, MomentTooLate, FlowIdsUsedUp}
-use Rattle.link_simulation.specs.Simulation.Time.{drain_each, drifted, Drains, Ticks, no_tick, one_tick, tick_faults, Passes, no_time, quiet_tick, NextIs, never_comes, comes_next}
-use Rattle.link_simulation.specs.Simulation.Calls.{Call, call_limit, call_limit_link, call_enqueue, call_advance, call_next, act, moment_of, Runs, IsInTurn}
-use Rattle.link_simulation.specs.Simulation.Replies.{Reply, reply_done, reply_next, reply_refused, SameCompletion, Faults, Agrees, MayRefuse}
+use Rattle.link_simulation.specs.Simulation.Time.{drain_each, drifted, Drains, Ticks, no_tick, one_tick, tick_faults}
+use Rattle.link_simulation.specs.Simulation.Time.{Passes, no_time, quiet_tick, NextIs, never_comes, comes_next}
+use Rattle.link_simulation.specs.Simulation.Calls.{Call, call_limit, call_limit_link, call_enqueue, call_advance}
+use Rattle.link_simulation.specs.Simulation.Calls.{call_next, act, moment_of, Runs, IsInTurn}
+use Rattle.link_simulation.specs.Simulation.Replies.{Reply, reply_done, reply_next, reply_refused, SameCompletion}
+use Rattle.link_simulation.specs.Simulation.Replies.{Faults, Agrees, MayRefuse}
 use Rattle.link_simulation.proofs.Simulation.AlikeMessages.{same_itself}
 use Rattle.link_simulation.proofs.Rule.Limit.{no_sides}
 
 -- ---- lists
 
-all_found : {X : Type 0} (test : X → Bool) (Q : X → Type 0) → ((x : X) → test x ≡ true → Q x) → (xs : List X) → list_all test xs ≡ true → All Q xs
+all_found : {X : Type 0} (test : X → Bool) (Q : X → Type 0) → ((x : X) → test x ≡ true → Q x) → (xs : List X)
+    → list_all test xs ≡ true → All Q xs
 all_found test Q gives [] e = All-nil Q
 all_found test Q gives (x ∷ xs) e =
     let parts : (test x ≡ true) × (list_all test xs ≡ true) = and_parts (test x) (list_all test xs) e in
     All-cons Q x xs (gives x parts.0) (all_found test Q gives xs parts.1)
 
-one_found : {X : Type 0} (test : X → Bool) (xs : List X) → list_any test xs ≡ true → (x : X) × Contains xs x × (test x ≡ true)
+one_found : {X : Type 0} (test : X → Bool) (xs : List X) → list_any test xs ≡ true
+    → (x : X) × Contains xs x × (test x ≡ true)
 one_found test [] e = cc
 one_found {X} test (x ∷ xs) e = by_test (test x) refl e (one_found test xs)
   where
-    by_test : (b : Bool) → test x ≡ b → (b || list_any test xs) ≡ true → (list_any test xs ≡ true → (y : X) × Contains xs y × (test y ≡ true)) → (y : X) × Contains (x ∷ xs) y × (test y ≡ true)
+    by_test : (b : Bool) → test x ≡ b → (b || list_any test xs) ≡ true
+        → (list_any test xs ≡ true → (y : X) × Contains xs y × (test y ≡ true))
+        → (y : X) × Contains (x ∷ xs) y × (test y ≡ true)
     by_test true is e ih = (x, Contains-append_left (x ∷ []) xs x (0, omega arith, refl), is)
-    by_test false is e ih = let found : (y : X) × Contains xs y × (test y ≡ true) = ih e in (found.0, Contains-append_right (x ∷ []) xs found.0 found.1, found.2)
+    by_test false is e ih =
+        let found : (y : X) × Contains xs y × (test y ≡ true) = ih e in
+        (found.0, Contains-append_right (x ∷ []) xs found.0 found.1, found.2)
 
 -- ---- fairness
 
@@ -41,7 +53,9 @@ module _ (per : ℕ) (parts : ℕ → ℕ) where
   fits side = nat_le (load parts side) (side.cap * per)
 
   abbrev pub holds : ℕ → Side → Bool
-  holds flow side = list_any (λ user. user == flow) side.users && (load parts side == side.cap * per) && list_all (λ other. nat_le (parts other) (parts flow)) side.users
+  holds flow side =
+      list_any (λ user. user == flow) side.users && (load parts side == side.cap * per)
+      && list_all (λ other. nat_le (parts other) (parts flow)) side.users
 
   abbrev pub are_held : List Side → Bool
   are_held sides = list_all (λ (side : Side). list_all (λ flow. list_any (holds flow) sides) side.users) sides
@@ -54,8 +68,10 @@ module _ (per : ℕ) (parts : ℕ → ℕ) where
   bottleneck sides flow e =
       let found : (side : Side) × Contains sides side × (holds flow side ≡ true) = one_found (holds flow) sides e in
       let side : Side = found.0 in
-      let all : ((list_any (λ user. user == flow) side.users && (load parts side == side.cap * per)) ≡ true) × (list_all (λ other. nat_le (parts other) (parts flow)) side.users ≡ true) =
-      and_parts (list_any (λ user. user == flow) side.users && (load parts side == side.cap * per)) (list_all (λ other. nat_le (parts other) (parts flow)) side.users) found.2 in
+      let all : ((list_any (λ user. user == flow) side.users && (load parts side == side.cap * per)) ≡ true)
+      × (list_all (λ other. nat_le (parts other) (parts flow)) side.users ≡ true) =
+      and_parts (list_any (λ user. user == flow) side.users && (load parts side == side.cap * per))
+      (list_all (λ other. nat_le (parts other) (parts flow)) side.users) found.2 in
       let two : (list_any (λ user. user == flow) side.users ≡ true) × ((load parts side == side.cap * per) ≡ true)
       = and_parts (list_any (λ user. user == flow) side.users) (load parts side == side.cap * per) all.0 in
       let user : (u : ℕ) × Contains side.users u × ((u == flow) ≡ true) = one_found (λ u. u == flow) side.users two.0 in
@@ -64,20 +80,33 @@ module _ (per : ℕ) (parts : ℕ → ℕ) where
         side = side;
         uses = record { listed = found.1; used = subst (λ (u : ℕ). Contains side.users u) same user.1 };
         full = eqb-true (load parts side) (side.cap * per) two.1;
-        greatest = all_found (λ other. nat_le (parts other) (parts flow)) (λ other. parts other ≤ parts flow) (λ other h. leb-true (parts other) (parts flow) h) side.users all.1;
+        greatest =
+            all_found (λ other. nat_le (parts other) (parts flow)) (λ other. parts other ≤ parts flow)
+            (λ other h. leb-true (parts other) (parts flow) h) side.users all.1;
       }
 
   pub fair_if_so : (sides : List Side) → is_fair sides ≡ true → IsFair sides per parts
   fair_if_so sides e =
-      let two : ((nat_lt 0 per && list_all fits sides) ≡ true) × (are_held sides ≡ true) = and_parts (nat_lt 0 per && list_all fits sides) (are_held sides) e in
-      let one : (nat_lt 0 per ≡ true) × (list_all fits sides ≡ true) = and_parts (nat_lt 0 per) (list_all fits sides) two.0 in
+      let two : ((nat_lt 0 per && list_all fits sides) ≡ true) × (are_held sides ≡ true) =
+      and_parts (nat_lt 0 per && list_all fits sides) (are_held sides) e in
+      let one : (nat_lt 0 per ≡ true) × (list_all fits sides ≡ true) =
+      and_parts (nat_lt 0 per) (list_all fits sides) two.0 in
       let held : All (λ (side : Side). All (λ flow. HasBottleneck sides per parts flow) side.users) sides =
-      all_found (λ (side : Side). list_all (λ flow. list_any (holds flow) sides) side.users) (λ (side : Side). All (λ flow. HasBottleneck sides per parts flow) side.users)
-      (λ side h. all_found (λ flow. list_any (holds flow) sides) (λ flow. HasBottleneck sides per parts flow) (λ flow k. bottleneck sides flow k) side.users h) sides two.1 in
+      all_found (λ (side : Side). list_all (λ flow. list_any (holds flow) sides) side.users)
+      (λ (side : Side). All (λ flow. HasBottleneck sides per parts flow) side.users)
+      (λ side h. all_found (λ flow. list_any (holds flow) sides) (λ flow. HasBottleneck sides per parts flow)
+      (λ flow k. bottleneck sides flow k) side.users h)
+      sides two.1 in
       record {
         some_part = ltb-true 0 per one.0;
-        within = all_found fits (λ side. load parts side ≤ side.cap * per) (λ side h. leb-true (load parts side) (side.cap * per) h) sides one.1;
-        held = λ flow limited. All-contains (λ u. HasBottleneck sides per parts u) limited.0.users flow (All-contains (λ (side : Side). All (λ u. HasBottleneck sides per parts u) side.users) sides limited.0 held limited.1.listed) limited.1.used;
+        within =
+            all_found fits (λ side. load parts side ≤ side.cap * per)
+            (λ side h. leb-true (load parts side) (side.cap * per) h) sides one.1;
+        held = λ flow limited.
+            All-contains (λ u. HasBottleneck sides per parts u) limited.0.users flow
+            (All-contains (λ (side : Side). All (λ u. HasBottleneck sides per parts u) side.users) sides limited.0
+            held limited.1.listed)
+            limited.1.used;
       }
 
 -- ---- completions
@@ -85,7 +114,16 @@ module _ (per : ℕ) (parts : ℕ → ℕ) where
 module _ {P : Type 0} (cmp : P → P → Ordering) (order : IsTotalOrder cmp) where
   pub same_all : (cs : List (Completed P)) → AllZip (SameCompletion cmp) cs cs
   same_all [] = tt
-  same_all (c ∷ cs) = (record { origin = same_itself cmp order c.origin; recipient = same_itself cmp order c.recipient; channel = refl; bytes = refl; deliver_at = refl }, same_all cs)
+  same_all (c ∷ cs) = (
+    record {
+      origin = same_itself cmp order c.origin;
+      recipient = same_itself cmp order c.recipient;
+      channel = refl;
+      bytes = refl;
+      deliver_at = refl;
+    },
+    same_all cs,
+  )
 
 -- ---- time
 
@@ -107,7 +145,12 @@ module _ {P : Type 0} (cmp : P → P → Ordering) (order : IsTotalOrder cmp) (p
   drains w e = record {
     per = (plan w).per;
     rates = rates_from cmp w.caps (plan w).parts 0 (flows w);
-    fair = record { parts = (plan w).parts; fair = fair_if_so (plan w).per (plan w).parts (capped_sides cmp w.caps (flows w)) e; rated = refl };
+    fair =
+        record {
+          parts = (plan w).parts;
+          fair = fair_if_so (plan w).per (plan w).parts (capped_sides cmp w.caps (flows w)) e;
+          rated = refl;
+        };
     world = refl;
   }
 
@@ -127,11 +170,14 @@ module _ {P : Type 0} (cmp : P → P → Ordering) (order : IsTotalOrder cmp) (p
   pub ticks_so : (n : ℕ) (w : World P) → may_tick n w ≡ true → Ticks cmp n w (ticked n w)
   ticks_so zero w e = no_tick
   ticks_so (suc n) w e =
-      let two : (is_planned w ≡ true) × (goes_on (instant cmp (drifts w)) (may_tick n) ≡ true) = and_parts (is_planned w) (goes_on (instant cmp (drifts w)) (may_tick n)) e in
+      let two : (is_planned w ≡ true) × (goes_on (instant cmp (drifts w)) (may_tick n) ≡ true) =
+      and_parts (is_planned w) (goes_on (instant cmp (drifts w)) (may_tick n)) e in
       by_instant (instant cmp (drifts w)) refl two.1 (drains w two.0) (ticks_so n)
     where
-      by_instant : (c : Course (Completed P) (World P)) → instant cmp (drifts w) ≡ c → goes_on c (may_tick n) ≡ true → Drains cmp w (drifts w)
-          → ((u : World P) → may_tick n u ≡ true → Ticks cmp n u (ticked n u)) → Ticks cmp (suc n) w (and_then c (ticked n))
+      by_instant : (c : Course (Completed P) (World P)) → instant cmp (drifts w) ≡ c → goes_on c (may_tick n) ≡ true
+          → Drains cmp w (drifts w)
+          → ((u : World P) → may_tick n u ≡ true → Ticks cmp n u (ticked n u))
+          → Ticks cmp (suc n) w (and_then c (ticked n))
       by_instant (goes cs u) is e d ih = one_tick d is (ih u e)
       by_instant (meets fault) is e d ih = tick_faults d is
 
@@ -152,7 +198,8 @@ module _ {P : Type 0} (cmp : P → P → Ordering) (order : IsTotalOrder cmp) (p
   -- nothing is in flight and nothing waits at their end, or something happens among them
   abbrev pub may_seek : ℕ → World P → Bool
   may_seek zero w = is_empty w.sending && is_empty w.waiting
-  may_seek (suc n) w = is_planned w && cond (is_quiet (drifts w)) (may_seek n (drifts w)) (nat_le (drifts w).moment last_moment)
+  may_seek (suc n) w =
+      is_planned w && cond (is_quiet (drifts w)) (may_seek n (drifts w)) (nat_le (drifts w).moment last_moment)
 
   empty_is : {X : Type 0} (xs : List X) → is_empty xs ≡ true → xs ≡ []
   empty_is [] e = refl
@@ -162,26 +209,40 @@ module _ {P : Type 0} (cmp : P → P → Ordering) (order : IsTotalOrder cmp) (p
   quiet_if_so w e =
       let two : (not (list_any (is_done cmp w) w.sending) ≡ true) × (is_empty (ready cmp w.moment w) ≡ true)
       = and_parts (not (list_any (is_done cmp w) w.sending)) (is_empty (ready cmp w.moment w)) e in
-      record { none_done = not-true (list_any (is_done cmp w) w.sending) two.0; none_ready = empty_is (ready cmp w.moment w) two.1 }
+      record {
+        none_done = not-true (list_any (is_done cmp w) w.sending) two.0;
+        none_ready = empty_is (ready cmp w.moment w) two.1;
+      }
 
   loud_if_not : (w : World P) → is_quiet w ≡ false → ¬ IsQuiet cmp w.moment w
-  loud_if_not w e quiet = by_tests (list_any (is_done cmp w) w.sending) (ready cmp w.moment w) quiet.none_done quiet.none_ready e
+  loud_if_not w e quiet =
+      by_tests (list_any (is_done cmp w) w.sending) (ready cmp w.moment w) quiet.none_done quiet.none_ready e
     where
       by_tests : (a : Bool) (ms : List (Message P)) → a ≡ false → ms ≡ [] → (not a && is_empty ms) ≡ false → ⊥
       by_tests a ms f g e =
           let h : (not false && is_empty {X = Message P} []) ≡ false
-          = subst (λ (b : Bool). (not b && is_empty {X = Message P} []) ≡ false) f (subst (λ (xs : List (Message P)). (not a && is_empty xs) ≡ false) g e) in
+          = subst (λ (b : Bool). (not b && is_empty {X = Message P} []) ≡ false) f
+          (subst (λ (xs : List (Message P)). (not a && is_empty xs) ≡ false) g e) in
           cc
 
   -- an empty world rests for any time
   calm : (n : ℕ) (w : World P) → w.sending ≡ [] → w.waiting ≡ [] → (v : World P) × Passes cmp n w v
   calm zero w sends waits = (w, no_time)
   calm (suc n) w sends waits =
-      let fair : AreFair cmp w.caps (flows w) 1 [] = subst (λ (fs : List (Flight P)). AreFair cmp w.caps (map (λ f. f.message) fs) 1 []) (sym sends) (no_sides cmp w.caps) in
+      let fair : AreFair cmp w.caps (flows w) 1 [] =
+      subst (λ (fs : List (Flight P)). AreFair cmp w.caps (map (λ f. f.message) fs) 1 []) (sym sends)
+      (no_sides cmp w.caps) in
       let on : World P = drifted w 1 [] 1 in
       let sends_on : on.sending ≡ [] = ap (drain_each 1 [] 1) sends in
-      let rest : (v : World P) × Passes cmp n on v = calm n on sends_on waits in
-      (rest.0, quiet_tick (record { per = 1; rates = []; fair = fair; world = refl }) (record { none_done = ap (list_any (is_done cmp on)) sends_on; none_ready = ap (λ (ms : List (Message P)). filter (may_start cmp on.moment on) (fronts cmp ms)) waits }) rest.1)
+      let rest : (v : World P) × Passes cmp n on v = calm n on sends_on waits in (
+        rest.0,
+        quiet_tick (record { per = 1; rates = []; fair = fair; world = refl })
+            (record {
+              none_done = ap (list_any (is_done cmp on)) sends_on;
+              none_ready = ap (λ (ms : List (Message P)). filter (may_start cmp on.moment on) (fronts cmp ms)) waits;
+            })
+            rest.1,
+      )
 
   step_next : (w v : World P) (o : Option ℕ) → Drains cmp w v → IsQuiet cmp v.moment v → NextIs cmp v o → NextIs cmp w o
   step_next w v o d q (never_comes {v = x} p) =
@@ -192,22 +253,31 @@ module _ {P : Type 0} (cmp : P → P → Ordering) (order : IsTotalOrder cmp) (p
       by_end zero is on = never_comes (subst (λ (k : ℕ). Passes cmp k w w) (sym is) no_time)
       by_end (suc n) is on =
           let count : last_moment - v.moment ≡ n = omega arith in
-          never_comes (subst (λ (k : ℕ). Passes cmp k w x) (sym is) (quiet_tick d q (subst (λ (k : ℕ). Passes cmp k v x) count p)))
+          never_comes
+          (subst (λ (k : ℕ). Passes cmp k w x) (sym is)
+          (quiet_tick d q (subst (λ (k : ℕ). Passes cmp k v x) count p)))
   step_next w v o d q (comes_next p drains loud le) = comes_next (quiet_tick d q p) drains loud le
 
   pub next_so : (n : ℕ) (w : World P) → may_seek n w ≡ true → NextIs cmp w (seek n w)
   next_so zero w e =
-      let two : (is_empty w.sending ≡ true) × (is_empty w.waiting ≡ true) = and_parts (is_empty w.sending) (is_empty w.waiting) e in
+      let two : (is_empty w.sending ≡ true) × (is_empty w.waiting ≡ true) =
+      and_parts (is_empty w.sending) (is_empty w.waiting) e in
       never_comes (calm (last_moment - w.moment) w (empty_is w.sending two.0) (empty_is w.waiting two.1)).1
   next_so (suc n) w e =
-      let two : (is_planned w ≡ true) × (cond (is_quiet (drifts w)) (may_seek n (drifts w)) (nat_le (drifts w).moment last_moment) ≡ true)
-      = and_parts (is_planned w) (cond (is_quiet (drifts w)) (may_seek n (drifts w)) (nat_le (drifts w).moment last_moment)) e in
+      let two : (is_planned w ≡ true)
+      × (cond (is_quiet (drifts w)) (may_seek n (drifts w)) (nat_le (drifts w).moment last_moment) ≡ true)
+      = and_parts (is_planned w)
+      (cond (is_quiet (drifts w)) (may_seek n (drifts w)) (nat_le (drifts w).moment last_moment)) e in
       by_quiet (is_quiet (drifts w)) refl two.1 (drains w two.0) (next_so n)
     where
-      by_quiet : (b : Bool) → is_quiet (drifts w) ≡ b → cond b (may_seek n (drifts w)) (nat_le (drifts w).moment last_moment) ≡ true → Drains cmp w (drifts w)
-          → ((u : World P) → may_seek n u ≡ true → NextIs cmp u (seek n u)) → NextIs cmp w (cond b (seek n (drifts w)) (Some (drifts w).moment))
-      by_quiet true is e d ih = step_next w (drifts w) (seek n (drifts w)) d (quiet_if_so (drifts w) is) (ih (drifts w) e)
-      by_quiet false is e d ih = comes_next no_time d (loud_if_not (drifts w) is) (leb-true (drifts w).moment last_moment e)
+      by_quiet : (b : Bool) → is_quiet (drifts w) ≡ b
+          → cond b (may_seek n (drifts w)) (nat_le (drifts w).moment last_moment) ≡ true → Drains cmp w (drifts w)
+          → ((u : World P) → may_seek n u ≡ true → NextIs cmp u (seek n u))
+          → NextIs cmp w (cond b (seek n (drifts w)) (Some (drifts w).moment))
+      by_quiet true is e d ih =
+          step_next w (drifts w) (seek n (drifts w)) d (quiet_if_so (drifts w) is) (ih (drifts w) e)
+      by_quiet false is e d ih =
+          comes_next no_time d (loud_if_not (drifts w) is) (leb-true (drifts w).moment last_moment e)
 
   -- ---- replies
 
@@ -229,23 +299,32 @@ module _ {P : Type 0} (cmp : P → P → Ordering) (order : IsTotalOrder cmp) (p
   -- what the simulation answers to the calls, where an event is sought for so many nanoseconds
   abbrev pub answers : ℕ → World P → List (Call P) → List (Reply P)
   answers n w [] = []
-  answers n w (call_limit now peer egress ingress ∷ calls) = replied (course_of w (call_limit now peer egress ingress) now) w (λ v. answers n v calls)
-  answers n w (call_limit_link now origin recipient cap ∷ calls) = replied (course_of w (call_limit_link now origin recipient cap) now) w (λ v. answers n v calls)
+  answers n w (call_limit now peer egress ingress ∷ calls) =
+      replied (course_of w (call_limit now peer egress ingress) now) w (λ v. answers n v calls)
+  answers n w (call_limit_link now origin recipient cap ∷ calls) =
+      replied (course_of w (call_limit_link now origin recipient cap) now) w (λ v. answers n v calls)
   answers n w (call_enqueue now m ∷ calls) = replied (course_of w (call_enqueue now m) now) w (λ v. answers n v calls)
   answers n w (call_advance now ∷ calls) = replied (course_of w (call_advance now) now) w (λ v. answers n v calls)
   answers n w (call_next ∷ calls) = reply_next (seek n w) ∷ answers n w calls
 
   abbrev pub may_answer : ℕ → World P → List (Call P) → Bool
   may_answer n w [] = true
-  may_answer n w (call_limit now peer egress ingress ∷ calls) = may_tick (now - w.moment) w && may_reply (course_of w (call_limit now peer egress ingress) now) w (λ v. may_answer n v calls)
+  may_answer n w (call_limit now peer egress ingress ∷ calls) =
+      may_tick (now - w.moment) w
+      && may_reply (course_of w (call_limit now peer egress ingress) now) w (λ v. may_answer n v calls)
   may_answer n w (call_limit_link now origin recipient cap ∷ calls) =
-      may_tick (now - w.moment) w && may_reply (course_of w (call_limit_link now origin recipient cap) now) w (λ v. may_answer n v calls)
-  may_answer n w (call_enqueue now m ∷ calls) = may_tick (now - w.moment) w && may_reply (course_of w (call_enqueue now m) now) w (λ v. may_answer n v calls)
-  may_answer n w (call_advance now ∷ calls) = may_tick (now - w.moment) w && may_reply (course_of w (call_advance now) now) w (λ v. may_answer n v calls)
+      may_tick (now - w.moment) w
+      && may_reply (course_of w (call_limit_link now origin recipient cap) now) w (λ v. may_answer n v calls)
+  may_answer n w (call_enqueue now m ∷ calls) =
+      may_tick (now - w.moment) w && may_reply (course_of w (call_enqueue now m) now) w (λ v. may_answer n v calls)
+  may_answer n w (call_advance now ∷ calls) =
+      may_tick (now - w.moment) w && may_reply (course_of w (call_advance now) now) w (λ v. may_answer n v calls)
   may_answer n w (call_next ∷ calls) = may_seek n w && may_answer n w calls
 
-  pub runs_so : (w : World P) (call : Call P) (now : ℕ) → may_tick (now - w.moment) w ≡ true → Runs cmp w call now (course_of w call now)
-  runs_so w call now e = record { ticked = ticked (now - w.moment) w; ticks = ticks_so (now - w.moment) w e; acts = refl }
+  pub runs_so : (w : World P) (call : Call P) (now : ℕ) → may_tick (now - w.moment) w ≡ true
+      → Runs cmp w call now (course_of w call now)
+  runs_so w call now e =
+      record { ticked = ticked (now - w.moment) w; ticks = ticks_so (now - w.moment) w e; acts = refl }
 
   -- a call is accepted, or meets its fault
   abbrev Accepted : World P → Call P → List (Call P) → List (Completed P) → List (Reply P) → Type 0
@@ -257,11 +336,20 @@ module _ {P : Type 0} (cmp : P → P → Ordering) (order : IsTotalOrder cmp) (p
       (replies : List (Reply P))
       → moment_of call ≡ Some now → may_tick (now - w.moment) w ≡ true → course_of w call now ≡ goes cs v
       → Agrees cmp v calls replies → Accepted w call calls cs replies
-  accepts w call calls now cs v replies at ticks is rest =
-      (now, cs, v, at, subst (λ (c : Course (Completed P) (World P)). Runs cmp w call now c) is (runs_so w call now ticks), same_all cmp order cs, rest)
+  accepts w call calls now cs v replies at ticks is rest = (
+    now,
+    cs,
+    v,
+    at,
+    subst (λ (c : Course (Completed P) (World P)). Runs cmp w call now c) is (runs_so w call now ticks),
+    same_all cmp order cs,
+    rest,
+  )
 
-  faults : (w : World P) (call : Call P) (now : ℕ) (fault : Error) → moment_of call ≡ Some now → may_tick (now - w.moment) w ≡ true → course_of w call now ≡ meets fault → Faults cmp w call fault
-  faults w call now fault at ticks is = (now, at, subst (λ (c : Course (Completed P) (World P)). Runs cmp w call now c) is (runs_so w call now ticks))
+  faults : (w : World P) (call : Call P) (now : ℕ) (fault : Error) → moment_of call ≡ Some now
+      → may_tick (now - w.moment) w ≡ true → course_of w call now ≡ meets fault → Faults cmp w call fault
+  faults w call now fault at ticks is =
+      (now, at, subst (λ (c : Course (Completed P) (World P)). Runs cmp w call now c) is (runs_so w call now ticks))
 
   abbrev Replied : World P → Call P → List (Call P) → List (Reply P) → Type 0
   Replied w call calls [] = ⊥
@@ -309,11 +397,13 @@ module _ {P : Type 0} (cmp : P → P → Ordering) (order : IsTotalOrder cmp) (p
         → (may_tick (now - w.moment) w && may_reply (course_of w call now) w (λ v. may_answer n v calls)) ≡ true
         → Replied w call calls (replied (course_of w call now) w (λ v. answers n v calls))
     reply_agrees w call now at e =
-        let two : (may_tick (now - w.moment) w ≡ true) × (may_reply (course_of w call now) w (λ v. may_answer n v calls) ≡ true)
+        let two : (may_tick (now - w.moment) w ≡ true)
+        × (may_reply (course_of w call now) w (λ v. may_answer n v calls) ≡ true)
         = and_parts (may_tick (now - w.moment) w) (may_reply (course_of w call now) w (λ v. may_answer n v calls)) e in
         by_course (course_of w call now) refl two.0 two.1
       where
-        by_course : (c : Course (Completed P) (World P)) → course_of w call now ≡ c → may_tick (now - w.moment) w ≡ true → may_reply c w (λ v. may_answer n v calls) ≡ true
+        by_course : (c : Course (Completed P) (World P)) → course_of w call now ≡ c → may_tick (now - w.moment) w ≡ true
+            → may_reply c w (λ v. may_answer n v calls) ≡ true
             → Replied w call calls (replied c w (λ v. answers n v calls))
         by_course (goes cs v) is ticks e =
             λ turn. accepts w call calls now cs v (answers n v calls) at ticks is (ih v e)
@@ -341,7 +431,8 @@ module _ {P : Type 0} (cmp : P → P → Ordering) (order : IsTotalOrder cmp) (p
       advance_agrees w now calls (replied (course_of w (call_advance now) now) w (λ v. answers n v calls))
       (reply_agrees n calls (answers_agree n calls) w (call_advance now) now refl e)
   answers_agree n (call_next ∷ calls) w e =
-      let two : (may_seek n w ≡ true) × (may_answer n w calls ≡ true) = and_parts (may_seek n w) (may_answer n w calls) e in
+      let two : (may_seek n w ≡ true) × (may_answer n w calls ≡ true) =
+      and_parts (may_seek n w) (may_answer n w calls) e in
       (next_so n w two.0, answers_agree n calls w two.1)
 
 -- all messages share one cap evenly
@@ -350,4 +441,5 @@ evenly cap w = record { per = max 1 (length w.sending); parts = λ place. cap }
 
 -- all messages share the egress cap of the first peer evenly
 abbrev pub evenly_by_first : World ℕ → Shares
-evenly_by_first w = record { per = max 1 (length w.sending); parts = λ place. elim (w.caps.egress 1) [ None ↦ 0 | Some cap ↦ cap ] }
+evenly_by_first w =
+    record { per = max 1 (length w.sending); parts = λ place. elim (w.caps.egress 1) [ None ↦ 0 | Some cap ↦ cap ] }

@@ -96,10 +96,15 @@ module _ (Q : ℕ → Type 0) (test : ℕ → Bool) (yes : (t : ℕ) → test t 
 
       by_end : (b : Bool) → nat_lt last_moment from ≡ b → cond b (Some None) (cond (test from) (Some (Some from)) (seek test n (from + 1))) ≡ Some o
           → (((s : ℕ) → Q s → from + 1 ≤ s) → seek test n (from + 1) ≡ Some o → IsLeastMoment Q o) → IsLeastMoment Q o
-      by_end true is e ih = subst (IsLeastMoment Q) (the_same e) (λ t le q. let past : last_moment < from = ltb-true last_moment from is in let first : from ≤ t = least t q in omega arith)
+      by_end true is e ih =
+          subst (IsLeastMoment Q) (the_same e)
+          (λ t le q. let past : last_moment < from = ltb-true last_moment from is in
+          let first : from ≤ t = least t q in
+          omega arith)
       by_end false is e ih = by_test (test from) refl (ltb-false last_moment from is) e ih
 
-  sought_so : (never : Bool) (n from : ℕ) (o : Option ℕ) → (never ≡ true → (s : ℕ) → Q s → ⊥) → ((s : ℕ) → Q s → from ≤ s) → sought never test n from ≡ Some o → IsLeastMoment Q o
+  sought_so : (never : Bool) (n from : ℕ) (o : Option ℕ) → (never ≡ true → (s : ℕ) → Q s → ⊥)
+      → ((s : ℕ) → Q s → from ≤ s) → sought never test n from ≡ Some o → IsLeastMoment Q o
   sought_so true n from o none least e = let same : None ≡ o = the_same e in subst (IsLeastMoment Q) same (λ t le q. none refl t q)
   sought_so false n from o none least e = seek_so n from o least e
 
@@ -117,7 +122,9 @@ module _ {P : Type 0} (cmp : P → P → Ordering) (order : IsTotalOrder cmp) (p
   may_skip t from sending = (from == t) || (list_all is_positive sending && not (list_any (is_spent_at (from - 1)) sending))
 
   abbrev pub finish_from : ℕ → List (RatedFlight P) → Option (Option ℕ)
-  finish_from t sending = given (may_skip t (hint t (rated_messages sending)) sending) (sought (is_none_of sending) (λ s. list_any (is_spent_at s) sending) n (hint t (rated_messages sending)))
+  finish_from t sending =
+      given (may_skip t (hint t (rated_messages sending)) sending)
+      (sought (is_none_of sending) (λ s. list_any (is_spent_at s) sending) n (hint t (rated_messages sending)))
 
   -- what is in flight, from t on at the shares of their places
   abbrev pub rated_flight : Caps P → Shares → ℕ → ℕ → List (RatedFlight P) → List (RatedFlight P)
@@ -147,13 +154,15 @@ module _ {P : Type 0} (cmp : P → P → Ordering) (order : IsTotalOrder cmp) (p
   spent_if_so s [] e = cc
   spent_if_so s (f ∷ fs) e = by_test (is_spent_at s f) refl e (spent_if_so s fs)
     where
-      by_test : (b : Bool) → is_spent_at s f ≡ b → (b || list_any (is_spent_at s) fs) ≡ true → (list_any (is_spent_at s) fs ≡ true → SomeSpentAt fs s) → SomeSpentAt (f ∷ fs) s
+      by_test : (b : Bool) → is_spent_at s f ≡ b → (b || list_any (is_spent_at s) fs) ≡ true
+          → (list_any (is_spent_at s) fs ≡ true → SomeSpentAt fs s) → SomeSpentAt (f ∷ fs) s
       by_test true is e ih =
           let two : (nat_le f.updated s ≡ true) × (((left_at s f).num == 0) ≡ true) = and_parts (nat_le f.updated s) ((left_at s f).num == 0) is in
           (0, f, refl, leb-true f.updated s two.0, eqb-true (left_at s f).num 0 two.1)
       by_test false is e ih = let rest : SomeSpentAt fs s = ih e in (suc rest.0, rest.1, rest.2, rest.3, rest.4)
 
-  so_if_spent : (s : ℕ) (fs : List (RatedFlight P)) (i : ℕ) (f : RatedFlight P) → slice_get fs i ≡ Some f → f.updated ≤ s → (left_at s f).num ≡ 0 → list_any (is_spent_at s) fs ≡ true
+  so_if_spent : (s : ℕ) (fs : List (RatedFlight P)) (i : ℕ) (f : RatedFlight P) → slice_get fs i ≡ Some f
+      → f.updated ≤ s → (left_at s f).num ≡ 0 → list_any (is_spent_at s) fs ≡ true
   so_if_spent s [] i f at le none = cc
   so_if_spent s (g ∷ gs) zero f at le none =
       let same : g ≡ f = the_same at in
@@ -162,7 +171,8 @@ module _ {P : Type 0} (cmp : P → P → Ordering) (order : IsTotalOrder cmp) (p
       rw here refl
   so_if_spent s (g ∷ gs) (suc i) f at le none = ap (λ (b : Bool). is_spent_at s g || b) (so_if_spent s gs i f at le none) ∙ or-true (is_spent_at s g)
 
-  updated_at : (caps : Caps P) (shares : Shares) (t place : ℕ) (fs : List (RatedFlight P)) (i : ℕ) (f : RatedFlight P) → slice_get (rated_flight caps shares t place fs) i ≡ Some f → f.updated ≡ t
+  updated_at : (caps : Caps P) (shares : Shares) (t place : ℕ) (fs : List (RatedFlight P)) (i : ℕ) (f : RatedFlight P)
+      → slice_get (rated_flight caps shares t place fs) i ≡ Some f → f.updated ≡ t
   updated_at caps shares t place [] i f at = cc
   updated_at caps shares t place (g ∷ gs) zero f at = sym (ap (λ (x : RatedFlight P). x.updated) (the_same at))
   updated_at caps shares t place (g ∷ gs) (suc i) f at = updated_at caps shares t (place + 1) gs i f at
@@ -171,7 +181,8 @@ module _ {P : Type 0} (cmp : P → P → Ordering) (order : IsTotalOrder cmp) (p
   positive_rate None e = tt
   positive_rate (Some r) e = ltb-true 0 r.den e
 
-  positive_at : (fs : List (RatedFlight P)) (i : ℕ) (f : RatedFlight P) → list_all is_positive fs ≡ true → slice_get fs i ≡ Some f → (0 < f.left.den) × IfSome f.rate (λ r. 0 < r.den)
+  positive_at : (fs : List (RatedFlight P)) (i : ℕ) (f : RatedFlight P) → list_all is_positive fs ≡ true
+      → slice_get fs i ≡ Some f → (0 < f.left.den) × IfSome f.rate (λ r. 0 < r.den)
   positive_at [] i f e at = cc
   positive_at (g ∷ gs) i f e at =
       let two : (is_positive g ≡ true) × (list_all is_positive gs ≡ true) = and_parts (is_positive g) (list_all is_positive gs) e in
@@ -194,7 +205,9 @@ module _ {P : Type 0} (cmp : P → P → Ordering) (order : IsTotalOrder cmp) (p
       spent_before lt all =
           let positive : (0 < some.1.left.den) × IfSome some.1.rate (λ r. 0 < r.den) = positive_at sending some.0 some.1 all some.2 in
           let updated : some.1.updated ≤ s = some.3 in
-          let on : (left_at (from - 1) some.1).num ≡ 0 = spent_later some.1.rate (s - some.1.updated) (from - 1 - some.1.updated) some.1.left positive.1 positive.0 (omega arith) some.4 in
+          let on : (left_at (from - 1) some.1).num ≡ 0 =
+          spent_later some.1.rate (s - some.1.updated) (from - 1 - some.1.updated) some.1.left positive.1 positive.0
+          (omega arith) some.4 in
           so_if_spent (from - 1) sending some.0 some.1 some.2 (omega arith) on
 
       not_both : (b : Bool) → b ≡ true → not b ≡ true → ⊥
@@ -223,7 +236,9 @@ module _ {P : Type 0} (cmp : P → P → Ordering) (order : IsTotalOrder cmp) (p
   stayed_so caps shares t place (f ∷ fs) = ((refl, refl, refl), stayed_so caps shares t (place + 1) fs)
 
   rated_so : (caps : Caps P) (shares : Shares) (t place : ℕ) (fs : List (RatedFlight P))
-      → AllZip (λ rate f. f.rate ≡ rate_of shares.per rate) (rates_from cmp caps shares.parts place (rated_messages (rated_flight caps shares t place fs))) (rated_flight caps shares t place fs)
+      → AllZip (λ rate f. f.rate ≡ rate_of shares.per rate)
+      (rates_from cmp caps shares.parts place (rated_messages (rated_flight caps shares t place fs)))
+      (rated_flight caps shares t place fs)
   rated_so caps shares t place [] = tt
   rated_so caps shares t place (f ∷ fs) = (refl, rated_so caps shares t (place + 1) fs)
 
@@ -233,7 +248,8 @@ module _ {P : Type 0} (cmp : P → P → Ordering) (order : IsTotalOrder cmp) (p
       let shares : Shares = shares_of t p in
       let two : (is_fair shares.per shares.parts (capped_sides cmp p.caps (rated_messages sending)) ≡ true)
       × (bind (finish_from t sending) (λ o. Some (record p { sending = sending; finish = o })) ≡ Some q)
-      = given_so (is_fair shares.per shares.parts (capped_sides cmp p.caps (rated_messages sending))) (bind (finish_from t sending) (λ o. Some (record p { sending = sending; finish = o }))) q e in
+      = given_so (is_fair shares.per shares.parts (capped_sides cmp p.caps (rated_messages sending)))
+      (bind (finish_from t sending) (λ o. Some (record p { sending = sending; finish = o }))) q e in
       let found : (o : Option ℕ) × (finish_from t sending ≡ Some o) × (Some (record p { sending = sending; finish = o }) ≡ Some q)
       = bound (finish_from t sending) (λ o. Some (record p { sending = sending; finish = o })) q two.1 in
       let from : ℕ = hint t (rated_messages sending) in
@@ -271,19 +287,23 @@ module _ {P : Type 0} (cmp : P → P → Ordering) (order : IsTotalOrder cmp) (p
 
   ready_if_so : (t : ℕ) (p : Planned P) (s : ℕ) → is_ready_at t p s ≡ true → (t ≤ s) × SomeReadyAt cmp p s
   ready_if_so t p s e =
-      let two : (nat_le t s ≡ true) × (list_any (may_launch cmp s p) (fronts cmp p.waiting) ≡ true) = and_parts (nat_le t s) (list_any (may_launch cmp s p) (fronts cmp p.waiting)) e in
+      let two : (nat_le t s ≡ true) × (list_any (may_launch cmp s p) (fronts cmp p.waiting) ≡ true) =
+      and_parts (nat_le t s) (list_any (may_launch cmp s p) (fronts cmp p.waiting)) e in
       (leb-true t s two.0, found_in (fronts cmp p.waiting) (fronts_are_first cmp order p.waiting) two.1)
     where
       found_in : (ms : List (Message P)) → Each (λ m. find (same_pair cmp m) p.waiting ≡ Some m) ms → list_any (may_launch cmp s p) ms ≡ true → SomeReadyAt cmp p s
       found_in [] all e = cc
       found_in (m ∷ ms) all e = by_test (may_launch cmp s p m) refl e (found_in ms all.1)
         where
-          by_test : (b : Bool) → may_launch cmp s p m ≡ b → (b || list_any (may_launch cmp s p) ms) ≡ true → (list_any (may_launch cmp s p) ms ≡ true → SomeReadyAt cmp p s) → SomeReadyAt cmp p s
+          by_test : (b : Bool) → may_launch cmp s p m ≡ b → (b || list_any (may_launch cmp s p) ms) ≡ true
+              → (list_any (may_launch cmp s p) ms ≡ true → SomeReadyAt cmp p s) → SomeReadyAt cmp p s
           by_test true is e ih = (m, all.0, is)
           by_test false is e ih = ih e
 
   so_if_ready : (t : ℕ) (p : Planned P) (s : ℕ) → (t ≤ s) × SomeReadyAt cmp p s → is_ready_at t p s ≡ true
-  so_if_ready t p s h = ap (λ (b : Bool). b && list_any (may_launch cmp s p) (fronts cmp p.waiting)) (le-leb t s h.0) ∙ among (fronts cmp p.waiting) (first_in_fronts cmp order h.1.0 p.waiting h.1.1)
+  so_if_ready t p s h =
+      ap (λ (b : Bool). b && list_any (may_launch cmp s p) (fronts cmp p.waiting)) (le-leb t s h.0)
+      ∙ among (fronts cmp p.waiting) (first_in_fronts cmp order h.1.0 p.waiting h.1.1)
     where
       among : (ms : List (Message P)) → In ms h.1.0 → list_any (may_launch cmp s p) ms ≡ true
       among [] has = absurd has
@@ -305,8 +325,10 @@ module _ {P : Type 0} (cmp : P → P → Ordering) (order : IsTotalOrder cmp) (p
       let busy : list_any (same_pair cmp some.0) (rated_messages p.sending) ≡ true
       = found_all (same_pair cmp some.0) (λ m. list_any (same_pair cmp m) (rated_messages p.sending)) p.waiting some.0 some.1 e in
       let may : may_launch cmp s p some.0 ≡ true = some.2 in
-      let parts : (not (list_any (same_pair cmp some.0) (rated_messages p.sending)) ≡ true) × (is_in_order (p.last_arrival some.0.origin some.0.recipient) (s + some.0.latency) ≡ true)
-      = and_parts (not (list_any (same_pair cmp some.0) (rated_messages p.sending))) (is_in_order (p.last_arrival some.0.origin some.0.recipient) (s + some.0.latency)) may in
+      let parts : (not (list_any (same_pair cmp some.0) (rated_messages p.sending)) ≡ true)
+      × (is_in_order (p.last_arrival some.0.origin some.0.recipient) (s + some.0.latency) ≡ true)
+      = and_parts (not (list_any (same_pair cmp some.0) (rated_messages p.sending)))
+      (is_in_order (p.last_arrival some.0.origin some.0.recipient) (s + some.0.latency)) may in
       not_both (list_any (same_pair cmp some.0) (rated_messages p.sending)) busy parts.0
     where
       not_both : (b : Bool) → b ≡ true → not b ≡ true → ⊥
@@ -339,7 +361,11 @@ module _ {P : Type 0} (cmp : P → P → Ordering) (order : IsTotalOrder cmp) (p
   launch_so t p (Some m) c e = by_test (may_launch cmp t p m) (nat_lt p.next_id last_moment) refl refl e
     where
       by_test : (b d : Bool) → may_launch cmp t p m ≡ b → nat_lt p.next_id last_moment ≡ d
-          → cond b (cond d (bind (account t (launched cmp t p m)) (λ q. Some (goes (leavers_of t (launched cmp t p m)) q))) (Some (meets FlowIdsUsedUp))) (Some (goes [] p)) ≡ Some c
+          → cond b
+          (cond d (bind (account t (launched cmp t p m)) (λ q. Some (goes (leavers_of t (launched cmp t p m)) q)))
+          (Some (meets FlowIdsUsedUp)))
+          (Some (goes [] p))
+          ≡ Some c
           → Launches cmp t p (Some m) c
       by_test true true may below e =
           let found : (q : Planned P) × (account t (launched cmp t p m) ≡ Some q) × (Some (goes (leavers_of t (launched cmp t p m)) q) ≡ Some c)
@@ -353,7 +379,9 @@ module _ {P : Type 0} (cmp : P → P → Ordering) (order : IsTotalOrder cmp) (p
   finish_all t zero ms p = None
   finish_all t (suc k) [] p = bind (look t p) (λ q. Some (goes [] q))
   finish_all t (suc k) (m ∷ ms) p = cond (is_late cmp t m) (Some (meets MomentTooLate))
-      (bind (launch t (landed cmp t p m) (next_of cmp p m)) (λ c. followed c (λ more q. bind (finish_all t k (ms ++ more) q) (λ rest. Some (preceded (completed cmp t m ∷ []) rest)))))
+      (bind (launch t (landed cmp t p m) (next_of cmp p m))
+      (λ c. followed c
+      (λ more q. bind (finish_all t k (ms ++ more) q) (λ rest. Some (preceded (completed cmp t m ∷ []) rest)))))
 
   abbrev AreFinishes : ℕ → ℕ → Type 0
   AreFinishes t k = (ms : List (Message P)) (q : Planned P) (c : Course (Completed P) (Planned P)) → finish_all t k ms q ≡ Some c → Finishes cmp t ms q c
@@ -384,14 +412,21 @@ module _ {P : Type 0} (cmp : P → P → Ordering) (order : IsTotalOrder cmp) (p
           let found : (l : Course (Message P) (Planned P)) × (launch t (landed cmp t p m) (next_of cmp p m) ≡ Some l)
           × (followed l (λ more q. bind (finish_all t k (ms ++ more) q)
           (λ rest. Some (preceded (completed cmp t m ∷ []) rest))) ≡ Some c)
-          = bound (launch t (landed cmp t p m) (next_of cmp p m)) (λ l. followed l (λ more q. bind (finish_all t k (ms ++ more) q) (λ rest. Some (preceded (completed cmp t m ∷ []) rest)))) c e in
+          = bound (launch t (landed cmp t p m) (next_of cmp p m))
+          (λ l. followed l
+          (λ more q. bind (finish_all t k (ms ++ more) q)
+          (λ rest. Some (preceded (completed cmp t m ∷ []) rest))))
+          c e in
           by_launch found.0 is (launch_so t (landed cmp t p m) (next_of cmp p m) found.0 found.1) found.2 ih
 
   -- those pairs start
   abbrev pub wake_each : ℕ → List (Message P) → Planned P → Option (Course (Completed P) (Planned P))
   wake_each t [] p = bind (look t p) (λ q. Some (goes [] q))
   wake_each t (m ∷ ms) p =
-      bind (launch t p (next_of cmp p m)) (λ c. followed c (λ more q. bind (finish_all t n more q) (λ d. followed d (λ cs r. bind (wake_each t ms r) (λ rest. Some (preceded cs rest))))))
+      bind (launch t p (next_of cmp p m))
+      (λ c. followed c
+      (λ more q. bind (finish_all t n more q)
+      (λ d. followed d (λ cs r. bind (wake_each t ms r) (λ rest. Some (preceded cs rest))))))
 
   abbrev AreWakes : ℕ → List (Message P) → Type 0
   AreWakes t ms = (q : Planned P) (c : Course (Completed P) (Planned P)) → wake_each t ms q ≡ Some c → WakesEach cmp t ms q c
@@ -404,10 +439,15 @@ module _ {P : Type 0} (cmp : P → P → Ordering) (order : IsTotalOrder cmp) (p
       let found : (l : Course (Message P) (Planned P)) × (launch t p (next_of cmp p m) ≡ Some l)
       × (followed l (λ more q. bind (finish_all t n more q)
       (λ d. followed d (λ cs r. bind (wake_each t ms r) (λ rest. Some (preceded cs rest))))) ≡ Some c)
-      = bound (launch t p (next_of cmp p m)) (λ l. followed l (λ more q. bind (finish_all t n more q) (λ d. followed d (λ cs r. bind (wake_each t ms r) (λ rest. Some (preceded cs rest)))))) c e in
+      = bound (launch t p (next_of cmp p m))
+      (λ l. followed l
+      (λ more q. bind (finish_all t n more q)
+      (λ d. followed d (λ cs r. bind (wake_each t ms r) (λ rest. Some (preceded cs rest))))))
+      c e in
       by_launch found.0 (launch_so t p (next_of cmp p m) found.0 found.1) found.2 (wake_each_so t ms)
     where
-      by_finish : (more : List (Message P)) (q : Planned P) (d : Course (Completed P) (Planned P)) → Launches cmp t p (next_of cmp p m) (goes more q) → Finishes cmp t more q d
+      by_finish : (more : List (Message P)) (q : Planned P) (d : Course (Completed P) (Planned P))
+          → Launches cmp t p (next_of cmp p m) (goes more q) → Finishes cmp t more q d
           → followed d (λ cs r. bind (wake_each t ms r) (λ rest. Some (preceded cs rest))) ≡ Some c → AreWakes t ms → WakesEach cmp t (m ∷ ms) p c
       by_finish more q (meets fault) l f e ih = subst (WakesEach cmp t (m ∷ ms) p) (the_same e) (no_finish l f)
       by_finish more q (goes cs r) l f e ih =
@@ -416,11 +456,16 @@ module _ {P : Type 0} (cmp : P → P → Ordering) (order : IsTotalOrder cmp) (p
           subst (WakesEach cmp t (m ∷ ms) p) (the_same found.2) (starts_one l f (ih r found.0 found.1))
 
       by_launch : (l : Course (Message P) (Planned P)) → Launches cmp t p (next_of cmp p m) l
-          → followed l (λ more q. bind (finish_all t n more q) (λ d. followed d (λ cs r. bind (wake_each t ms r) (λ rest. Some (preceded cs rest))))) ≡ Some c → AreWakes t ms
+          → followed l
+          (λ more q. bind (finish_all t n more q)
+          (λ d. followed d (λ cs r. bind (wake_each t ms r) (λ rest. Some (preceded cs rest)))))
+          ≡ Some c
+          → AreWakes t ms
           → WakesEach cmp t (m ∷ ms) p c
       by_launch (meets fault) l e ih = subst (WakesEach cmp t (m ∷ ms) p) (the_same e) (no_start l)
       by_launch (goes more q) l e ih =
-          let found : (d : Course (Completed P) (Planned P)) × (finish_all t n more q ≡ Some d) × (followed d (λ cs r. bind (wake_each t ms r) (λ rest. Some (preceded cs rest))) ≡ Some c)
+          let found : (d : Course (Completed P) (Planned P)) × (finish_all t n more q ≡ Some d)
+          × (followed d (λ cs r. bind (wake_each t ms r) (λ rest. Some (preceded cs rest))) ≡ Some c)
           = bound (finish_all t n more q) (λ d. followed d (λ cs r. bind (wake_each t ms r) (λ rest. Some (preceded cs rest)))) c e in
           by_finish more q found.0 l (finish_all_so t n more q found.0 found.1) found.2 ih
 
@@ -432,7 +477,8 @@ module _ {P : Type 0} (cmp : P → P → Ordering) (order : IsTotalOrder cmp) (p
 
   settle_at_so : (t : ℕ) (p : Planned P) (c : Course (Completed P) (Planned P)) → settle_at t p ≡ Some c → Settles cmp t p c
   settle_at_so t p c e =
-      let found : (q : Planned P) × (account t p ≡ Some q) × (finish_all t n (leavers_of t p) q ≡ Some c) = bound (account t p) (λ q. finish_all t n (leavers_of t p) q) c e in
+      let found : (q : Planned P) × (account t p ≡ Some q) × (finish_all t n (leavers_of t p) q ≡ Some c) =
+      bound (account t p) (λ q. finish_all t n (leavers_of t p) q) c e in
       settling (account_so t p found.0 found.1) (finish_all_so t n (leavers_of t p) found.0 c found.2)
 
   -- ---- calls
@@ -446,7 +492,9 @@ module _ {P : Type 0} (cmp : P → P → Ordering) (order : IsTotalOrder cmp) (p
   rebalance_at_so now caps p c e = by_sending p.sending refl e
     where
       by_sending : (fs : List (RatedFlight P)) → p.sending ≡ fs
-          → (if is_none_of fs then bind (look now (record p { caps = caps; limited = true })) (λ q. Some (goes [] q)) else settle_at now (record p { caps = caps; limited = true })) ≡ Some c
+          → (if is_none_of fs then bind (look now (record p { caps = caps; limited = true })) (λ q. Some (goes [] q))
+          else settle_at now (record p { caps = caps; limited = true }))
+          ≡ Some c
           → Rebalances cmp now caps p c
       by_sending [] is e =
           let found : (q : Planned P) × (look now (record p { caps = caps; limited = true }) ≡ Some q) × (Some (goes [] q) ≡ Some c)
@@ -500,7 +548,9 @@ module _ {P : Type 0} (cmp : P → P → Ordering) (order : IsTotalOrder cmp) (p
   abbrev pub advance_at : ℕ → ℕ → Planned P → Option (Course (Completed P) (Planned P))
   advance_at now zero p = None
   advance_at now (suc k) p =
-      cond (is_past now (next_event p)) (wake_at now p) (bind (event_of p (next_event p)) (λ c. followed c (λ cs q. bind (advance_at now k q) (λ rest. Some (preceded cs rest)))))
+      cond (is_past now (next_event p)) (wake_at now p)
+      (bind (event_of p (next_event p))
+      (λ c. followed c (λ cs q. bind (advance_at now k q) (λ rest. Some (preceded cs rest)))))
 
   abbrev Advanced : ℕ → Planned P → Course (Completed P) (Planned P) → Type 0
   Advanced now p c = (m : ℕ) × Advances cmp now p m c
@@ -526,13 +576,21 @@ module _ {P : Type 0} (cmp : P → P → Ordering) (order : IsTotalOrder cmp) (p
       at_event t true (meets fault) is due finish e more ih =
           subst (Advanced now p) (the_same more) (1, finish_stops (is_at t p.finish finish) is due (settle_at_so t (record p { finish = None }) (meets fault) e))
       at_event t false (meets fault) is due finish e more ih =
-          subst (Advanced now p) (the_same more)
-          (1, start_stops (is_not_at t p.finish finish) is due (wake_each_so t (filter (may_launch cmp t p) (fronts cmp p.waiting)) (record p { start = None }) (meets fault) e))
+          subst (Advanced now p) (the_same more) (
+            1,
+            start_stops (is_not_at t p.finish finish) is due
+                (wake_each_so t (filter (may_launch cmp t p) (fronts cmp p.waiting)) (record p { start = None })
+                (meets fault) e),
+          )
       at_event t true (goes cs q) is due finish e more ih =
           let found : (rest : Course (Completed P) (Planned P)) × (advance_at now k q ≡ Some rest) × (Some (preceded cs rest) ≡ Some c)
           = bound (advance_at now k q) (λ rest. Some (preceded cs rest)) c more in
           let rest : Advanced now q found.0 = ih q found.0 found.1 in
-          subst (Advanced now p) (the_same found.2) (rest.0 + 1, at_finish (is_at t p.finish finish) is due (settle_at_so t (record p { finish = None }) (goes cs q) e) rest.1)
+          subst (Advanced now p) (the_same found.2) (
+            rest.0 + 1,
+            at_finish (is_at t p.finish finish) is due (settle_at_so t (record p { finish = None }) (goes cs q) e)
+                rest.1,
+          )
       at_event t false (goes cs q) is due finish e more ih =
           let found : (rest : Course (Completed P) (Planned P)) × (advance_at now k q ≡ Some rest) × (Some (preceded cs rest) ≡ Some c)
           = bound (advance_at now k q) (λ rest. Some (preceded cs rest)) c more in
@@ -545,19 +603,31 @@ module _ {P : Type 0} (cmp : P → P → Ordering) (order : IsTotalOrder cmp) (p
           )
 
       by_past : (t : ℕ) (b : Bool) → next_event p ≡ Some t → nat_lt now t ≡ b
-          → cond b (wake_at now p) (bind (event_of p (Some t)) (λ d. followed d (λ cs q. bind (advance_at now k q) (λ rest. Some (preceded cs rest))))) ≡ Some c → AreAdvanced now k
+          → cond b (wake_at now p)
+          (bind (event_of p (Some t))
+          (λ d. followed d (λ cs q. bind (advance_at now k q) (λ rest. Some (preceded cs rest)))))
+          ≡ Some c
+          → AreAdvanced now k
           → Advanced now p c
-      by_past t true is past e ih =
-          (0, no_more (subst (λ (o : Option ℕ). IfSome o (λ s. now < s)) (sym is) (ltb-true now t past)) (wake_each_so now (filter (may_launch cmp now p) (fronts cmp p.waiting)) p c e))
+      by_past t true is past e ih = (
+        0,
+        no_more (subst (λ (o : Option ℕ). IfSome o (λ s. now < s)) (sym is) (ltb-true now t past))
+            (wake_each_so now (filter (may_launch cmp now p) (fronts cmp p.waiting)) p c e),
+      )
       by_past t false is past e ih =
-          let found : (d : Course (Completed P) (Planned P)) × (event_of p (Some t) ≡ Some d) × (followed d (λ cs q. bind (advance_at now k q) (λ rest. Some (preceded cs rest))) ≡ Some c)
+          let found : (d : Course (Completed P) (Planned P)) × (event_of p (Some t) ≡ Some d)
+          × (followed d (λ cs q. bind (advance_at now k q) (λ rest. Some (preceded cs rest))) ≡ Some c)
           = bound (event_of p (Some t)) (λ d. followed d (λ cs q. bind (advance_at now k q) (λ rest. Some (preceded cs rest)))) c e in
           at_event t (is_moment t p.finish) found.0 is (ltb-false now t past) refl found.1 found.2 ih
 
       by_next : (o : Option ℕ) → next_event p ≡ o
           → cond (is_past now o) (wake_at now p) (bind (event_of p o) (λ d. followed d (λ cs q. bind (advance_at now k q) (λ rest. Some (preceded cs rest))))) ≡ Some c
           → AreAdvanced now k → Advanced now p c
-      by_next None is e ih = (0, no_more (subst (λ (o : Option ℕ). IfSome o (λ s. now < s)) (sym is) tt) (wake_each_so now (filter (may_launch cmp now p) (fronts cmp p.waiting)) p c e))
+      by_next None is e ih = (
+        0,
+        no_more (subst (λ (o : Option ℕ). IfSome o (λ s. now < s)) (sym is) tt)
+            (wake_each_so now (filter (may_launch cmp now p) (fronts cmp p.waiting)) p c e),
+      )
       by_next (Some t) is e ih = by_past t (nat_lt now t) is refl e ih
 
   abbrev pub obeys_at : Planned P → Call P → Option (Course (Completed P) (Planned P))
@@ -586,8 +656,10 @@ module _ {P : Type 0} (cmp : P → P → Ordering) (order : IsTotalOrder cmp) (p
   -- the replies by the event rule
   abbrev pub replies_by_rule : Planned P → List (Call P) → Option (List (Reply P))
   replies_by_rule p [] = Some []
-  replies_by_rule p (call_limit now peer egress ingress ∷ calls) = bind (obeys_at p (call_limit now peer egress ingress)) (λ c. replied_to c p (λ q. replies_by_rule q calls))
-  replies_by_rule p (call_limit_link now origin recipient cap ∷ calls) = bind (obeys_at p (call_limit_link now origin recipient cap)) (λ c. replied_to c p (λ q. replies_by_rule q calls))
+  replies_by_rule p (call_limit now peer egress ingress ∷ calls) =
+      bind (obeys_at p (call_limit now peer egress ingress)) (λ c. replied_to c p (λ q. replies_by_rule q calls))
+  replies_by_rule p (call_limit_link now origin recipient cap ∷ calls) =
+      bind (obeys_at p (call_limit_link now origin recipient cap)) (λ c. replied_to c p (λ q. replies_by_rule q calls))
   replies_by_rule p (call_enqueue now m ∷ calls) = bind (obeys_at p (call_enqueue now m)) (λ c. replied_to c p (λ q. replies_by_rule q calls))
   replies_by_rule p (call_advance now ∷ calls) = bind (obeys_at p (call_advance now)) (λ c. replied_to c p (λ q. replies_by_rule q calls))
   replies_by_rule p (call_next ∷ calls) = bind (replies_by_rule p calls) (λ replies. Some (reply_next (next_event p) ∷ replies))
@@ -597,7 +669,9 @@ module _ {P : Type 0} (cmp : P → P → Ordering) (order : IsTotalOrder cmp) (p
   Replied p call calls [] = ⊥
   Replied p call calls (reply_next t ∷ replies) = ⊥
   Replied p call calls (reply_refused why ∷ replies) = MayBeRefused cmp p call why × Obeyed cmp p calls replies
-  Replied p call calls (reply_done cs ∷ replies) = (ds : List (Completed P)) × (q : Planned P) × Obeys cmp p call (goes ds q) × AllZip (SameCompletion cmp) cs ds × Obeyed cmp q calls replies
+  Replied p call calls (reply_done cs ∷ replies) =
+      (ds : List (Completed P)) × (q : Planned P) × Obeys cmp p call (goes ds q) × AllZip (SameCompletion cmp) cs ds
+      × Obeyed cmp q calls replies
 
   limit_obeyed : (p : Planned P) (now : ℕ) (peer : P) (egress ingress : Option ℕ) (calls : List (Call P)) (replies : List (Reply P))
       → Replied p (call_limit now peer egress ingress) calls replies → Obeyed cmp p (call_limit now peer egress ingress ∷ calls) replies
@@ -620,7 +694,8 @@ module _ {P : Type 0} (cmp : P → P → Ordering) (order : IsTotalOrder cmp) (p
   enqueue_obeyed p now m calls (reply_done cs ∷ replies) h = h
   enqueue_obeyed p now m calls (reply_refused why ∷ replies) h = h
 
-  advance_obeyed : (p : Planned P) (now : ℕ) (calls : List (Call P)) (replies : List (Reply P)) → Replied p (call_advance now) calls replies → Obeyed cmp p (call_advance now ∷ calls) replies
+  advance_obeyed : (p : Planned P) (now : ℕ) (calls : List (Call P)) (replies : List (Reply P))
+      → Replied p (call_advance now) calls replies → Obeyed cmp p (call_advance now ∷ calls) replies
   advance_obeyed p now calls [] h = h
   advance_obeyed p now calls (reply_next t ∷ replies) h = h
   advance_obeyed p now calls (reply_done cs ∷ replies) h = h
@@ -634,7 +709,8 @@ module _ {P : Type 0} (cmp : P → P → Ordering) (order : IsTotalOrder cmp) (p
       = bound (obeys_at p call) (λ c. replied_to c p (λ q. replies_by_rule q calls)) replies e in
       by_course found.0 (obeys_at_so p call found.0 found.1) found.2
     where
-      by_course : (c : Course (Completed P) (Planned P)) → Obeys cmp p call c → replied_to c p (λ q. replies_by_rule q calls) ≡ Some replies → Replied p call calls replies
+      by_course : (c : Course (Completed P) (Planned P)) → Obeys cmp p call c
+          → replied_to c p (λ q. replies_by_rule q calls) ≡ Some replies → Replied p call calls replies
       by_course (goes cs q) obeys e =
           let found : (others : List (Reply P)) × (replies_by_rule q calls ≡ Some others) × (Some (reply_done cs ∷ others) ≡ Some replies)
           = bound (replies_by_rule q calls) (λ others. Some (reply_done cs ∷ others)) replies e in
@@ -655,9 +731,15 @@ module _ {P : Type 0} (cmp : P → P → Ordering) (order : IsTotalOrder cmp) (p
   obeyed_so p (call_limit now peer egress ingress ∷ calls) replies e =
       limit_obeyed p now peer egress ingress calls replies (replied_so p (call_limit now peer egress ingress) calls replies (λ q others h. obeyed_so q calls others h) e)
   obeyed_so p (call_limit_link now origin recipient cap ∷ calls) replies e =
-      link_obeyed p now origin recipient cap calls replies (replied_so p (call_limit_link now origin recipient cap) calls replies (λ q others h. obeyed_so q calls others h) e)
-  obeyed_so p (call_enqueue now m ∷ calls) replies e = enqueue_obeyed p now m calls replies (replied_so p (call_enqueue now m) calls replies (λ q others h. obeyed_so q calls others h) e)
-  obeyed_so p (call_advance now ∷ calls) replies e = advance_obeyed p now calls replies (replied_so p (call_advance now) calls replies (λ q others h. obeyed_so q calls others h) e)
+      link_obeyed p now origin recipient cap calls replies
+      (replied_so p (call_limit_link now origin recipient cap) calls replies
+      (λ q others h. obeyed_so q calls others h) e)
+  obeyed_so p (call_enqueue now m ∷ calls) replies e =
+      enqueue_obeyed p now m calls replies
+      (replied_so p (call_enqueue now m) calls replies (λ q others h. obeyed_so q calls others h) e)
+  obeyed_so p (call_advance now ∷ calls) replies e =
+      advance_obeyed p now calls replies
+      (replied_so p (call_advance now) calls replies (λ q others h. obeyed_so q calls others h) e)
   obeyed_so p (call_next ∷ calls) replies e =
       let found : (others : List (Reply P)) × (replies_by_rule p calls ≡ Some others) × (Some (reply_next (next_event p) ∷ others) ≡ Some replies)
       = bound (replies_by_rule p calls) (λ others. Some (reply_next (next_event p) ∷ others)) replies e in
@@ -685,7 +767,9 @@ pub agrees_by_rule : {P : Type 0} (cmp : P → P → Ordering) (order : IsTotalO
     (plan : Caps P → List (Message P) → Shares) (hint : ℕ → List (Message P) → ℕ) (n : ℕ) (calls : List (Call P))
     (replies : List (Reply P))
     → are_in_time calls ≡ true → replies_by_rule cmp order plan hint n (new_planned 0) calls ≡ Some replies → Agrees cmp (new_world 0) calls replies
-agrees_by_rule cmp order plan hint n calls replies times e = obeyed_agree cmp order calls replies (in_time_so calls times) (obeyed_so cmp order plan hint n (new_planned 0) calls replies e)
+agrees_by_rule cmp order plan hint n calls replies times e =
+    obeyed_agree cmp order calls replies (in_time_so calls times)
+    (obeyed_so cmp order plan hint n (new_planned 0) calls replies e)
 
 -- ---- plans
 

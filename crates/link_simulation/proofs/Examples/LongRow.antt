@@ -16,7 +16,12 @@ abbrev slow : World ℕ
 slow = flying 3 (message 1 2 1 0)
 
 fair : AreFair nat_cmp slow.caps (flows slow) 1 (Some 3 ∷ [])
-fair = record { parts = λ place. 3; fair = fair_if_so 1 (λ place. 3) (capped_sides nat_cmp slow.caps (flows slow)) refl; rated = refl }
+fair =
+    record {
+      parts = λ place. 3;
+      fair = fair_if_so 1 (λ place. 3) (capped_sides nat_cmp slow.caps (flows slow)) refl;
+      rated = refl;
+    }
 
 speed : Amount
 speed = record { num = 3; den = 1 }
@@ -27,7 +32,11 @@ some_left k h = by_test ((drained (whole 1) speed k).num == 0) refl
   where
     by_test : (b : Bool) → ((drained (whole 1) speed k).num == 0) ≡ b → b ≡ false
     by_test false e = refl
-    by_test true e = let c : Covers speed k (whole 1) = covers_if_spent (whole 1) speed k (omega arith) (omega arith) (eqb-true ((drained (whole 1) speed k).num) 0 e) in absurd (omega arith)
+    by_test true e =
+        let c : Covers speed k (whole 1) =
+        covers_if_spent (whole 1) speed k (omega arith) (omega arith)
+        (eqb-true ((drained (whole 1) speed k).num) 0 e) in
+        absurd (omega arith)
 
 none_left : (drained (whole 1) speed 333333334).num ≡ 0
 unfolding speed
@@ -41,7 +50,9 @@ quiet : (k : ℕ) → 0 < k → k ≤ 333333333 → IsQuiet nat_cmp (0 + k) (dri
 quiet k h j = record { none_done = rw (at_speed, some_left k j) refl; none_ready = refl }
 
 not_quiet : ¬ IsQuiet nat_cmp 333333334 (drifted slow 1 (Some 3 ∷ []) 333333334)
-not_quiet q = let e : (((drained (whole 1) (reduced 3 1) 333333334).num == 0) || false) || false ≡ false = q.none_done in absurd (not_both (rw (at_speed, none_left) at e))
+not_quiet q =
+    let e : (((drained (whole 1) (reduced 3 1) 333333334).num == 0) || false) || false ≡ false = q.none_done in
+    absurd (not_both (rw (at_speed, none_left) at e))
   where
     not_both : true ≡ false → ⊥
     not_both e = cc

@@ -26,7 +26,8 @@ use Rattle.fair_rates.proofs.Lists.SumOrder.{All-from_contains}
 use Rattle.link_simulation.proofs.Simulation.AlikeMessages.{same_itself, pair_itself}
 use Rattle.link_simulation.proofs.Simulation.Continuing.{rates_exist}
 use Rattle.link_simulation.proofs.Rule.FinishEvent.{settle_quiet, ticks_quiet, ticks_through}
-use Rattle.link_simulation.proofs.Laws.PartRates.{Kind, at_egress, at_ingress, at_link, cap_at, side_at, uses_at, from_sides}
+use Rattle.link_simulation.proofs.Laws.PartRates.{Kind, at_egress, at_ingress, at_link, cap_at, side_at, uses_at}
+use Rattle.link_simulation.proofs.Laws.PartRates.{from_sides}
 use Rattle.link_simulation.proofs.Simulation.Queue.{settle_first}
 use Rattle.link_simulation.proofs.Simulation.Stretch.{stretch, drifts_on}
 
@@ -41,16 +42,20 @@ module _ {P : Type 0} (cmp : P → P → Ordering) (order : IsTotalOrder cmp) wh
     uses_own at_egress cap is = same_itself cmp order m.origin
     uses_own at_ingress cap is = by_test (is_delivered cmp m) refl is
       where
-        by_test : (b : Bool) → is_delivered cmp m ≡ b → (if b then caps.ingress m.recipient else None) ≡ Some cap → (is_delivered cmp m && same_peer cmp m.recipient m.recipient) ≡ true
+        by_test : (b : Bool) → is_delivered cmp m ≡ b → (if b then caps.ingress m.recipient else None) ≡ Some cap
+            → (is_delivered cmp m && same_peer cmp m.recipient m.recipient) ≡ true
         by_test true e is = rw (e, same_itself cmp order m.recipient) refl
         by_test false e is = cc
     uses_own at_link cap is = pair_itself cmp order m
 
     limited_by : (k : Kind) (cap : ℕ) → cap_at cmp caps k m ≡ Some cap → is_unlimited cmp caps m ≡ false
-    limited_by k cap is = by_caps k (caps.egress m.origin) (is_delivered cmp m) (caps.ingress m.recipient) (caps.link m.origin m.recipient) is refl refl refl refl
+    limited_by k cap is =
+        by_caps k (caps.egress m.origin) (is_delivered cmp m) (caps.ingress m.recipient)
+        (caps.link m.origin m.recipient) is refl refl refl refl
       where
         by_caps : (k : Kind) (e : Option ℕ) (d : Bool) (i l : Option ℕ) → cap_at cmp caps k m ≡ Some cap
-            → caps.egress m.origin ≡ e → is_delivered cmp m ≡ d → caps.ingress m.recipient ≡ i → caps.link m.origin m.recipient ≡ l
+            → caps.egress m.origin ≡ e → is_delivered cmp m ≡ d → caps.ingress m.recipient ≡ i
+            → caps.link m.origin m.recipient ≡ l
             → (is_none e && (not d || is_none i) && is_none l) ≡ false
         by_caps k (Some e) d i l is egress delivered ingress link = refl
         by_caps k None true (Some i) l is egress delivered ingress link = refl
@@ -60,15 +65,19 @@ module _ {P : Type 0} (cmp : P → P → Ordering) (order : IsTotalOrder cmp) wh
             by_test true = refl
             by_test false = refl
         by_caps at_egress None d i None is egress delivered ingress link = cc
-        by_caps at_ingress None false i None is egress delivered ingress link = let none : (if is_delivered cmp m then caps.ingress m.recipient else None) ≡ None = rw delivered refl in cc
-        by_caps at_ingress None true None None is egress delivered ingress link = let none : (if is_delivered cmp m then caps.ingress m.recipient else None) ≡ None = rw delivered ingress in cc
+        by_caps at_ingress None false i None is egress delivered ingress link =
+            let none : (if is_delivered cmp m then caps.ingress m.recipient else None) ≡ None = rw delivered refl in cc
+        by_caps at_ingress None true None None is egress delivered ingress link =
+            let none : (if is_delivered cmp m then caps.ingress m.recipient else None) ≡ None = rw delivered ingress in
+            cc
         by_caps at_link None d i None is egress delivered ingress link = cc
 
     -- it is the one user of each of its sides, and uses some
     own_side : (s : Side) → Contains sides s → (s.users ≡ 0 ∷ []) × (is_unlimited cmp caps m ≡ false)
     own_side s has = by_kind (from_sides cmp caps (m ∷ []) s has)
       where
-        by_own : (k : Kind) (cap : ℕ) → cap_at cmp caps k m ≡ Some cap → s ≡ side_at cmp caps k (m ∷ []) m cap → (s.users ≡ 0 ∷ []) × (is_unlimited cmp caps m ≡ false)
+        by_own : (k : Kind) (cap : ℕ) → cap_at cmp caps k m ≡ Some cap → s ≡ side_at cmp caps k (m ∷ []) m cap
+            → (s.users ≡ 0 ∷ []) × (is_unlimited cmp caps m ≡ false)
         by_own k cap is e = (ap (λ (t : Side). t.users) e ∙ rw (uses_own k cap is) refl, limited_by k cap is)
 
         by_kind : (n : Message P) × In (m ∷ []) n × ((k : Kind) × (cap : ℕ) × (cap_at cmp caps k n ≡ Some cap)
@@ -79,7 +88,9 @@ module _ {P : Type 0} (cmp : P → P → Ordering) (order : IsTotalOrder cmp) wh
         by_kind (n, inr none, rest) = absurd none
 
     alone_load : (cap : ℕ) (s : Side) → Contains sides s → load (λ _. cap) s ≡ cap
-    alone_load cap s has = let one : sum_by {X = ℕ} (λ _. cap) (0 ∷ []) ≡ cap = omega arith in ap (λ (users : List ℕ). sum_by (λ _. cap) users) (own_side s has).0 ∙ one
+    alone_load cap s has =
+        let one : sum_by {X = ℕ} (λ _. cap) (0 ∷ []) ≡ cap = omega arith in
+        ap (λ (users : List ℕ). sum_by (λ _. cap) users) (own_side s has).0 ∙ one
 
     alone_rate : (cap : ℕ) → IsLeastCap cmp caps m cap → AreFair cmp caps (m ∷ []) 1 (Some cap ∷ [])
     alone_rate cap is =
@@ -94,7 +105,12 @@ module _ {P : Type 0} (cmp : P → P → Ordering) (order : IsTotalOrder cmp) wh
                 (alone_load cap t has) (omega arith));
             held = λ flow limited. record {
               side = is.side;
-              uses = record { listed = is.used; used = subst (λ users. Contains users flow) ((own_side limited.0 limited.1.listed).0 ∙ sym own.0) limited.1.used };
+              uses =
+                  record {
+                    listed = is.used;
+                    used = subst (λ users. Contains users flow) ((own_side limited.0 limited.1.listed).0 ∙ sym own.0)
+                        limited.1.used;
+                  };
               full = alone_load cap is.side is.used ∙ omega (arith, is.own);
               greatest = λ k d l. le_refl cap;
             };
@@ -106,25 +122,32 @@ module _ {P : Type 0} (cmp : P → P → Ordering) (order : IsTotalOrder cmp) wh
 
   -- under limits, with those messages in flight and none that wait
   abbrev world : Caps P → (P → P → Option ℕ) → ℕ → List (Flight P) → ℕ → World P
-  world caps last id fs t = record { caps = caps; limited = true; sending = fs; waiting = []; last_arrival = last; next_id = id; moment = t }
+  world caps last id fs t =
+      record { caps = caps; limited = true; sending = fs; waiting = []; last_arrival = last; next_id = id; moment = t }
 
   -- time goes by where nothing is in flight and nothing waits
-  idle_passes : (n : ℕ) (caps : Caps P) (last : P → P → Option ℕ) (id t : ℕ) → Passes cmp n (world caps last id [] t) (world caps last id [] (t + n))
+  idle_passes : (n : ℕ) (caps : Caps P) (last : P → P → Option ℕ) (id t : ℕ)
+      → Passes cmp n (world caps last id [] t) (world caps last id [] (t + n))
   idle_passes zero caps last id t = let same : t + zero ≡ t = omega arith in rw same no_time
   idle_passes (suc n) caps last id t =
       let fair = rates_exist cmp order caps [] in
       let same : t + 1 + n ≡ t + suc n = omega arith in
-      quiet_tick (record { per = fair.0; rates = fair.1; fair = fair.2; world = refl }) (record { none_done = refl; none_ready = refl })
-      (subst (λ k. Passes cmp n (world caps last id [] (t + 1)) (world caps last id [] k)) same (idle_passes n caps last id (t + 1)))
+      quiet_tick (record { per = fair.0; rates = fair.1; fair = fair.2; world = refl })
+      (record { none_done = refl; none_ready = refl })
+      (subst (λ k. Passes cmp n (world caps last id [] (t + 1)) (world caps last id [] k)) same
+      (idle_passes n caps last id (t + 1)))
 
   module _ (caps : Caps P) (last : P → P → Option ℕ) (id : ℕ) (m : Message P) (now cap k : ℕ)
-      (least : IsLeastCap cmp caps m cap) (is_time : IsTimeFor (length m.bytes) cap (suc k)) (some : 0 < length m.bytes) where
+      (least : IsLeastCap cmp caps m cap) (is_time : IsTimeFor (length m.bytes) cap (suc k))
+      (some : 0 < length m.bytes) where
     -- what is left of it after n nanoseconds
     abbrev left : ℕ → Amount
     left n = drained (whole (length m.bytes)) (reduced cap 1) n
 
     spent : (n : ℕ) → ((left n).num ≡ 0) ↔ (suc k ≤ n)
-    spent n = rw (reduced_lowest cap 1 (whole_IsReduced cap)) (spent_from_least (whole (length m.bytes)) (whole cap) (suc k) n (omega arith) (omega arith) is_time)
+    spent n =
+        rw (reduced_lowest cap 1 (whole_IsReduced cap))
+        (spent_from_least (whole (length m.bytes)) (whole cap) (suc k) n (omega arith) (omega arith) is_time)
 
     -- the world in which it has just started, and the one n nanoseconds later
     abbrev sent : World P
@@ -156,7 +179,8 @@ module _ {P : Type 0} (cmp : P → P → Ordering) (order : IsTotalOrder cmp) wh
     reaches (suc j) less = (
       later (suc j),
       stretch cmp sent 1 (Some cap ∷ []) fair (omega arith, tt) j (λ n more le. quiet n (omega arith)),
-      subst (λ n. Drains cmp (later (suc j)) (later n)) (add-one (suc j)) (drifts_on cmp sent 1 (Some cap ∷ []) (suc j) fair (omega arith, tt)),
+      subst (λ n. Drains cmp (later (suc j)) (later n)) (add-one (suc j))
+          (drifts_on cmp sent 1 (Some cap ∷ []) (suc j) fair (omega arith, tt)),
     )
 
     gone : ((left (suc k)).num == 0) ≡ true
@@ -166,14 +190,16 @@ module _ {P : Type 0} (cmp : P → P → Ordering) (order : IsTotalOrder cmp) wh
     abbrev landed : World P
     landed = out_of_flight cmp (now + suc k) (later (suc k)) m
 
-    completes : is_late cmp (now + suc k) m ≡ false → instant cmp (later (suc k)) ≡ goes (completed cmp (now + suc k) m ∷ []) landed
+    completes : is_late cmp (now + suc k) m ≡ false
+        → instant cmp (later (suc k)) ≡ goes (completed cmp (now + suc k) m ∷ []) landed
     completes in_time =
         let found : find (is_done cmp (later (suc k))) (later (suc k)).sending ≡ Some (flight (suc k)) = rw gone refl in
         let settled : settle cmp (now + suc k) (later (suc k)) ≡ goes (completed cmp (now + suc k) m ∷ []) landed
         = settle_first cmp order 0 (now + suc k) (later (suc k)) (flight (suc k)) found ∙ rw in_time refl in
         ap (λ (c : Course (Completed P) (World P)). and_then c (λ v. wake cmp v.moment v)) settled
 
-    advances : is_late cmp (now + suc k) m ≡ false → Runs cmp sent (call_advance (now + suc k)) (now + suc k) (goes (completed cmp (now + suc k) m ∷ []) landed)
+    advances : is_late cmp (now + suc k) m ≡ false
+        → Runs cmp sent (call_advance (now + suc k)) (now + suc k) (goes (completed cmp (now + suc k) m ∷ []) landed)
     advances in_time =
         let r = reaches k (omega arith) in
         let long : suc k ≡ now + suc k - now = omega arith in
@@ -189,52 +215,80 @@ module _ {P : Type 0} (cmp : P → P → Ordering) (order : IsTotalOrder cmp) wh
     comes : now + suc k ≤ last_moment → NextIs cmp sent (Some (now + suc k))
     comes within =
         let r = reaches k (omega arith) in
-        comes_next r.1 r.2 (λ quiet. let none : list_any (is_done cmp (later (suc k))) (later (suc k)).sending ≡ false = quiet.none_done in busy none) within
+        comes_next r.1 r.2
+        (λ quiet. let none : list_any (is_done cmp (later (suc k))) (later (suc k)).sending
+        ≡ false = quiet.none_done in
+        busy none)
+        within
       where
         busy : list_any (is_done cmp (later (suc k))) (later (suc k)).sending ≡ false → ⊥
         busy none = let yes : list_any (is_done cmp (later (suc k))) (later (suc k)).sending ≡ true = rw gone refl in cc
 
     rests : settle cmp now sent ≡ goes [] sent
-    rests = settle_quiet cmp order 1 now sent (rw (not_done (whole (length m.bytes)) (λ none. absurd (omega arith))) refl)
+    rests =
+        settle_quiet cmp order 1 now sent (rw (not_done (whole (length m.bytes)) (λ none. absurd (omega arith))) refl)
 
   -- it starts as it is enqueued
-  starts : (caps : Caps P) (last : P → P → Option ℕ) (id now : ℕ) (m : Message P) → is_in_order (last m.origin m.recipient) (now + m.latency) ≡ true → id < last_moment
-      → settle cmp now (world caps last (id + 1) (flight_of m ∷ []) now) ≡ goes [] (world caps last (id + 1) (flight_of m ∷ []) now)
+  starts : (caps : Caps P) (last : P → P → Option ℕ) (id now : ℕ) (m : Message P)
+      → is_in_order (last m.origin m.recipient) (now + m.latency) ≡ true → id < last_moment
+      → settle cmp now (world caps last (id + 1) (flight_of m ∷ []) now)
+      ≡ goes [] (world caps last (id + 1) (flight_of m ∷ []) now)
       → join cmp now (world caps last id [] now) m ≡ goes [] (world caps last (id + 1) (flight_of m ∷ []) now)
   starts caps last id now m in_order below rests =
       let free : nat_le last_moment id ≡ false = lt-leb last_moment id below in
       rw (pair_itself cmp order m, in_order, free, pair_itself cmp order m) (ap (preceded []) rests)
 
-  from_idle : (caps : Caps P) (last : P → P → Option ℕ) (id t : ℕ) (m : Message P) (now cap k : ℕ) → is_in_order (last m.origin m.recipient) (now + m.latency) ≡ true → id < last_moment
-      → t ≤ now → IsLeastCap cmp caps m cap → 0 < length m.bytes → IsTimeFor (length m.bytes) cap (suc k) → now + suc k ≤ last_moment → is_late cmp (now + suc k) m ≡ false
+  from_idle : (caps : Caps P) (last : P → P → Option ℕ) (id t : ℕ) (m : Message P) (now cap k : ℕ)
+      → is_in_order (last m.origin m.recipient) (now + m.latency) ≡ true → id < last_moment
+      → t ≤ now → IsLeastCap cmp caps m cap → 0 < length m.bytes → IsTimeFor (length m.bytes) cap (suc k)
+      → now + suc k ≤ last_moment → is_late cmp (now + suc k) m ≡ false
       → IsDoneAfter cmp (world caps last id [] t) now m (suc k)
   from_idle caps last id t m now cap k in_order below after least some is_time within in_time =
       let there : t + (now - t) ≡ now = omega arith in
       let waits : Ticks cmp (now - t) (world caps last id [] t) (goes [] (world caps last id [] now)) =
-      ticks_quiet cmp order (subst (λ s. Passes cmp (now - t) (world caps last id [] t) (world caps last id [] s)) there (idle_passes (now - t) caps last id t)) in
+      ticks_quiet cmp order
+      (subst (λ s. Passes cmp (now - t) (world caps last id [] t) (world caps last id [] s)) there
+      (idle_passes (now - t) caps last id t)) in
       record {
         sent = world caps last (id + 1) (flight_of m ∷ []) now;
         sends = record {
           ticked = goes [] (world caps last id [] now);
           ticks = waits;
-          acts = sym (ap (preceded []) (starts caps last id now m in_order below (rests caps last (id + 1) m now cap k least is_time some)));
+          acts =
+              sym
+              (ap (preceded [])
+              (starts caps last id now m in_order below (rests caps last (id + 1) m now cap k least is_time some)));
         };
         next = comes caps last (id + 1) m now cap k least is_time some within;
         after = landed caps last (id + 1) m now cap k least is_time some;
         done = advances caps last (id + 1) m now cap k least is_time some in_time;
       }
 
-  pub alone : (w : World P) (m : Message P) (now cap time : ℕ) → MayGoAlone cmp w now m → w.moment ≤ now → IsLeastCap cmp w.caps m cap → 0 < length m.bytes
-      → IsTimeFor (length m.bytes) cap time → now + time ≤ last_moment → is_late cmp (now + time) m ≡ false → IsDoneAfter cmp w now m time
+  pub alone : (w : World P) (m : Message P) (now cap time : ℕ) → MayGoAlone cmp w now m → w.moment ≤ now
+      → IsLeastCap cmp w.caps m cap → 0 < length m.bytes
+      → IsTimeFor (length m.bytes) cap time → now + time ≤ last_moment → is_late cmp (now + time) m ≡ false
+      → IsDoneAfter cmp w now m time
   alone w m now cap zero may after least some is_time within in_time = absurd (omega (arith, is_time.covers))
   alone w m now cap (suc k) may after least some is_time within in_time =
-      subst (λ (v : World P). IsDoneAfter cmp v now m (suc k)) same (from_idle w.caps w.last_arrival w.next_id w.moment m now cap k may.in_order may.has_id after least some is_time within in_time)
+      subst (λ (v : World P). IsDoneAfter cmp v now m (suc k)) same
+      (from_idle w.caps w.last_arrival w.next_id w.moment m now cap k may.in_order may.has_id after least some is_time
+      within in_time)
     where
       made : Bool → List (Flight P) → List (Message P) → World P
-      made limited fs ms = record { caps = w.caps; limited = limited; sending = fs; waiting = ms; last_arrival = w.last_arrival; next_id = w.next_id; moment = w.moment }
+      made limited fs ms =
+          record {
+            caps = w.caps;
+            limited = limited;
+            sending = fs;
+            waiting = ms;
+            last_arrival = w.last_arrival;
+            next_id = w.next_id;
+            moment = w.moment;
+          }
 
       same : world w.caps w.last_arrival w.next_id [] w.moment ≡ w
       same = rw (← may.limited, ← may.none_sending, ← may.none_waiting) refl
 
-  pub delivered_arrives : (m : Message P) (t : ℕ) → is_delivered cmp m ≡ true → completed cmp t m ≡ completion_of m (Some (t + m.latency))
+  pub delivered_arrives : (m : Message P) (t : ℕ) → is_delivered cmp m ≡ true
+      → completed cmp t m ≡ completion_of m (Some (t + m.latency))
   delivered_arrives m t is = rw is refl

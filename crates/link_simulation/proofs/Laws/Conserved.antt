@@ -1,5 +1,7 @@
--- Each call completes, sends or keeps waiting what there was of a pair and what it enqueues: none is lost or doubled, and their order stays.
-use Rattle.std.proofs.Common.{◌≡◌, ℕ, ◌+◌, List, [], ◌∷◌, ◌++◌, Bool, true, false, cond, not, Option, Some, None, refl, sym, ap, ◌∙◌, subst, append_assoc, append-nil}
+-- Each call completes, sends or keeps waiting what there was of a pair and what it enqueues: none is lost or doubled,
+-- and their order stays.
+use Rattle.std.proofs.Common.{◌≡◌, ℕ, ◌+◌, List, [], ◌∷◌, ◌++◌, Bool, true, false, cond, not, Option, Some, None, refl}
+use Rattle.std.proofs.Common.{sym, ap, ◌∙◌, subst, append_assoc, append-nil}
 use Rattle.std.specs.Prelude.{⊤, ◌&&◌, nat_lt, if◌then◌else◌}
 use Rattle.std.specs.List.{find, filter, AllZip}
 use Rattle.std.specs.declared.cmp.Ordering.{Ordering}
@@ -9,11 +11,19 @@ use Rattle.std.proofs.lemmas.List.Elements.{filter-append}
 use Rattle.fair_rates.specs.Lists.WithoutFirst.{without_first}
 use Rattle.fair_rates.specs.declared.error.Error.TheVariants.{MomentTooLate}
 use Rattle.link_simulation.specs.Simulation.Messages.{Message, Caps, OneForEachPair, same_pair, is_delivered}
-use Rattle.link_simulation.specs.Simulation.World.{Completed, Course, goes, meets, last_moment, preceded, raised, later_of, completion_of, completed, arrival}
-use Rattle.link_simulation.specs.Simulation.Calls.{Call, call_limit, call_limit_link, call_enqueue, call_advance, call_next}
+use Rattle.link_simulation.specs.Simulation.World.{Completed, Course, goes, meets, last_moment, preceded, raised}
+use Rattle.link_simulation.specs.Simulation.World.{later_of, completion_of, completed, arrival}
+use Rattle.link_simulation.specs.Simulation.Calls.{Call, call_limit, call_limit_link, call_enqueue, call_advance}
+use Rattle.link_simulation.specs.Simulation.Calls.{call_next}
 use Rattle.link_simulation.specs.Laws.PairCompletions.{enqueued, IsCompletionOf}
-use Rattle.link_simulation.specs.Rule.Planned.{Planned, RatedFlight, rated_messages, drained_to, next_of, may_launch, is_spent}
-use Rattle.link_simulation.specs.Rule.Events.{Accounts, PlansStart, Launches, nothing_waits, too_early, no_id, starts, Finishes, all_completed, late, stopped, completes, WakesEach, all_started, no_start, no_finish, starts_one, Settles, settling, Rebalances, none_sending, some_sending, Enqueues, at_once, no_launch, launches, Advances, no_more, at_finish, at_start, finish_stops, start_stops, launched, landed, with_queued, completed_at_once, Obeys}
+use Rattle.link_simulation.specs.Rule.Planned.{Planned, RatedFlight, rated_messages, drained_to, next_of, may_launch}
+use Rattle.link_simulation.specs.Rule.Planned.{is_spent}
+use Rattle.link_simulation.specs.Rule.Events.{Accounts, PlansStart, Launches, nothing_waits, too_early, no_id, starts}
+use Rattle.link_simulation.specs.Rule.Events.{Finishes, all_completed, late, stopped, completes, WakesEach, all_started}
+use Rattle.link_simulation.specs.Rule.Events.{no_start, no_finish, starts_one, Settles, settling, Rebalances}
+use Rattle.link_simulation.specs.Rule.Events.{none_sending, some_sending, Enqueues, at_once, no_launch, launches}
+use Rattle.link_simulation.specs.Rule.Events.{Advances, no_more, at_finish, at_start, finish_stops, start_stops}
+use Rattle.link_simulation.specs.Rule.Events.{launched, landed, with_queued, completed_at_once, Obeys}
 use Rattle.link_simulation.specs.Laws.Orderly.{IsOrderly}
 use Rattle.link_simulation.specs.Laws.Conserved.{of_pair, held_of}
 use Rattle.link_simulation.proofs.Simulation.Queue.{find_passes, any_like}
@@ -22,14 +32,19 @@ use Rattle.link_simulation.proofs.Rule.Launch.{rest_of, head_of, head_found, wai
 use Rattle.fair_rates.proofs.Lists.Zips.{zip-append}
 use Rattle.link_simulation.proofs.Rule.Enqueue.{queued_last}
 use Rattle.link_simulation.proofs.Laws.PairCompletions.{filter_nothing}
-use Rattle.link_simulation.proofs.Laws.Orderly.{drained_messages, stayed_messages, any_of_fewer, IsSteady, steady, idle_if_may, launched_steady, account_orderly, launch_orderly, landed_orderly, finish_orderly, wake_orderly, settle_orderly, no_finish_steady, no_start_orderly, recapped_steady, limited_by_alike, linked_by_alike, queued_orderly}
+use Rattle.link_simulation.proofs.Laws.Orderly.{drained_messages, stayed_messages, any_of_fewer, IsSteady, steady}
+use Rattle.link_simulation.proofs.Laws.Orderly.{idle_if_may, launched_steady, account_orderly, launch_orderly}
+use Rattle.link_simulation.proofs.Laws.Orderly.{landed_orderly, finish_orderly, wake_orderly, settle_orderly}
+use Rattle.link_simulation.proofs.Laws.Orderly.{no_finish_steady, no_start_orderly, recapped_steady, limited_by_alike}
+use Rattle.link_simulation.proofs.Laws.Orderly.{linked_by_alike, queued_orderly}
 
 headed : {X : Type 0} (xs : List X) (x : X) → head_of xs ≡ Some x → xs ≡ x ∷ rest_of xs
 headed [] x e = cc
 headed {X} (y ∷ ys) x e = let same : y ≡ x = cc in ap (λ (z : X). z ∷ ys) same
 
 -- an element before each of two lists
-before_both : {X : Type 0} (b : Bool) (x : X) (xs ys us vs : List X) → xs ++ us ≡ ys ++ vs → cond b (x ∷ xs) xs ++ us ≡ cond b (x ∷ ys) ys ++ vs
+before_both : {X : Type 0} (b : Bool) (x : X) (xs ys us vs : List X) → xs ++ us ≡ ys ++ vs
+    → cond b (x ∷ xs) xs ++ us ≡ cond b (x ∷ ys) ys ++ vs
 before_both {X} true x xs ys us vs e = ap (λ (zs : List X). x ∷ zs) e
 before_both false x xs ys us vs e = e
 
@@ -37,8 +52,11 @@ module _ {P : Type 0} (cmp : P → P → Ordering) (order : IsTotalOrder cmp) wh
   -- ---- the steps
 
   -- where at most one message of a pair is in flight, it is among those that pass a test or among the others
-  one_split : (k : Message P) (test : RatedFlight P → Bool) (fs : List (RatedFlight P)) → OneForEachPair cmp (rated_messages fs)
-      → of_pair cmp k (rated_messages (filter test fs)) ++ of_pair cmp k (rated_messages (filter (λ f. not (test f)) fs)) ≡ of_pair cmp k (rated_messages fs)
+  one_split : (k : Message P) (test : RatedFlight P → Bool) (fs : List (RatedFlight P))
+      → OneForEachPair cmp (rated_messages fs)
+      → of_pair cmp k (rated_messages (filter test fs))
+      ++ of_pair cmp k (rated_messages (filter (λ f. not (test f)) fs))
+      ≡ of_pair cmp k (rated_messages fs)
   one_split k test [] one = refl
   one_split k test (f ∷ fs) one = by_test (test f) (same_pair cmp k f.message) refl (one_split k test fs one.1)
     where
@@ -49,38 +67,62 @@ module _ {P : Type 0} (cmp : P → P → Ordering) (order : IsTotalOrder cmp) wh
       others = of_pair cmp k (rated_messages (filter (λ g. not (test g)) fs))
 
       none_passes : same_pair cmp k f.message ≡ true → of_pair cmp k (rated_messages (filter test fs)) ≡ []
-      none_passes own = filter_nothing (same_pair cmp k) (rated_messages (filter test fs)) (any_of_fewer (same_pair cmp k) test fs (sym (any_like cmp order k f.message (rated_messages fs) own) ∙ one.0))
+      none_passes own =
+          filter_nothing (same_pair cmp k) (rated_messages (filter test fs))
+          (any_of_fewer (same_pair cmp k) test fs
+          (sym (any_like cmp order k f.message (rated_messages fs) own) ∙ one.0))
 
       by_pair : (b : Bool) → (b ≡ true → passing ≡ []) → passing ++ others ≡ of_pair cmp k (rated_messages fs)
-          → passing ++ cond b (f.message ∷ others) others ≡ cond b (f.message ∷ of_pair cmp k (rated_messages fs)) (of_pair cmp k (rated_messages fs))
+          → passing ++ cond b (f.message ∷ others) others
+          ≡ cond b (f.message ∷ of_pair cmp k (rated_messages fs)) (of_pair cmp k (rated_messages fs))
       by_pair true none ih =
-          ap (λ (ms : List (Message P)). ms ++ f.message ∷ others) (none refl) ∙ ap (λ (ms : List (Message P)). f.message ∷ ms) (sym (ap (λ (ms : List (Message P)). ms ++ others) (none refl)) ∙ ih)
+          ap (λ (ms : List (Message P)). ms ++ f.message ∷ others) (none refl)
+          ∙ ap (λ (ms : List (Message P)). f.message ∷ ms)
+          (sym (ap (λ (ms : List (Message P)). ms ++ others) (none refl)) ∙ ih)
       by_pair false none ih = ih
 
       by_test : (a b : Bool) → same_pair cmp k f.message ≡ b → passing ++ others ≡ of_pair cmp k (rated_messages fs)
-          → of_pair cmp k (rated_messages (cond a (f ∷ filter test fs) (filter test fs))) ++ of_pair cmp k (rated_messages (cond (not a) (f ∷ filter (λ g. not (test g)) fs) (filter (λ g. not (test g)) fs)))
+          → of_pair cmp k (rated_messages (cond a (f ∷ filter test fs) (filter test fs)))
+          ++ of_pair cmp k
+          (rated_messages (cond (not a) (f ∷ filter (λ g. not (test g)) fs) (filter (λ g. not (test g)) fs)))
           ≡ of_pair cmp k (rated_messages (f ∷ fs))
-      by_test true b own ih = before_both (same_pair cmp k f.message) f.message passing (of_pair cmp k (rated_messages fs)) others [] (ih ∙ sym (append-nil (of_pair cmp k (rated_messages fs)))) ∙ append-nil (of_pair cmp k (rated_messages (f ∷ fs)))
+      by_test true b own ih =
+          before_both (same_pair cmp k f.message) f.message passing (of_pair cmp k (rated_messages fs)) others []
+          (ih ∙ sym (append-nil (of_pair cmp k (rated_messages fs))))
+          ∙ append-nil (of_pair cmp k (rated_messages (f ∷ fs)))
       by_test false b own ih = by_pair (same_pair cmp k f.message) none_passes ih
 
-  account_holds : (t : ℕ) (old new : Planned P) (leavers : List (Message P)) → Accounts cmp t old leavers new → OneForEachPair cmp (rated_messages old.sending)
+  account_holds : (t : ℕ) (old new : Planned P) (leavers : List (Message P)) → Accounts cmp t old leavers new
+      → OneForEachPair cmp (rated_messages old.sending)
       → (k : Message P) → of_pair cmp k leavers ++ held_of cmp k new ≡ held_of cmp k old
   account_holds t old new leavers a one k =
-      let split : of_pair cmp k leavers ++ of_pair cmp k (rated_messages new.sending) ≡ of_pair cmp k (rated_messages old.sending)
+      let split : of_pair cmp k leavers ++ of_pair cmp k (rated_messages new.sending)
+      ≡ of_pair cmp k (rated_messages old.sending)
       = ap (λ (ms : List (Message P)). of_pair cmp k ms ++ of_pair cmp k (rated_messages new.sending)) a.left
-      ∙ ap (λ (ms : List (Message P)). of_pair cmp k (rated_messages (filter (is_spent cmp old.caps) all)) ++ of_pair cmp k ms) (stayed_messages t (filter (λ (f : RatedFlight P). not (is_spent cmp old.caps f)) all) new.sending a.stayed)
-      ∙ one_split k (is_spent cmp old.caps) all (subst (OneForEachPair cmp) (sym (drained_messages t old.sending)) one) ∙ ap (of_pair cmp k) (drained_messages t old.sending) in
-      sym (append_assoc (of_pair cmp k leavers) (of_pair cmp k (rated_messages new.sending)) (of_pair cmp k new.waiting)) ∙ ap (λ (ms : List (Message P)). ms ++ of_pair cmp k new.waiting) split
+      ∙ ap
+      (λ (ms : List (Message P)). of_pair cmp k (rated_messages (filter (is_spent cmp old.caps) all))
+      ++ of_pair cmp k ms)
+      (stayed_messages t (filter (λ (f : RatedFlight P). not (is_spent cmp old.caps f)) all) new.sending a.stayed)
+      ∙ one_split k (is_spent cmp old.caps) all (subst (OneForEachPair cmp) (sym (drained_messages t old.sending)) one)
+      ∙ ap (of_pair cmp k) (drained_messages t old.sending) in
+      sym
+      (append_assoc (of_pair cmp k leavers) (of_pair cmp k (rated_messages new.sending)) (of_pair cmp k new.waiting))
+      ∙ ap (λ (ms : List (Message P)). ms ++ of_pair cmp k new.waiting) split
       ∙ ap (λ (q : Planned P). of_pair cmp k (rated_messages old.sending) ++ of_pair cmp k q.waiting) a.same
     where
       all : List (RatedFlight P)
       all = drained_to t old.sending
 
-  launched_holds : (t : ℕ) (p : Planned P) (n m : Message P) → next_of cmp p n ≡ Some m → may_launch cmp t p m ≡ true → (k : Message P) → held_of cmp k (launched cmp t p m) ≡ held_of cmp k p
+  launched_holds : (t : ℕ) (p : Planned P) (n m : Message P) → next_of cmp p n ≡ Some m → may_launch cmp t p m ≡ true
+      → (k : Message P) → held_of cmp k (launched cmp t p m) ≡ held_of cmp k p
   launched_holds t p n m found may k =
-      ap (λ (ms : List (Message P)). of_pair cmp k ms ++ of_pair cmp k (without_first (same_pair cmp m) p.waiting)) (map-append (λ (f : RatedFlight P). f.message) p.sending _)
-      ∙ ap (λ (ms : List (Message P)). ms ++ of_pair cmp k (without_first (same_pair cmp m) p.waiting)) (filter-append (same_pair cmp k) (rated_messages p.sending) (m ∷ []))
-      ∙ ap (λ (ms : List (Message P)). (of_pair cmp k (rated_messages p.sending) ++ of_pair cmp k (m ∷ [])) ++ ms) (waits_without cmp order k m p.waiting) ∙ by_pair (same_pair cmp k m) own_first own_idle
+      ap (λ (ms : List (Message P)). of_pair cmp k ms ++ of_pair cmp k (without_first (same_pair cmp m) p.waiting))
+      (map-append (λ (f : RatedFlight P). f.message) p.sending _)
+      ∙ ap (λ (ms : List (Message P)). ms ++ of_pair cmp k (without_first (same_pair cmp m) p.waiting))
+      (filter-append (same_pair cmp k) (rated_messages p.sending) (m ∷ []))
+      ∙ ap (λ (ms : List (Message P)). (of_pair cmp k (rated_messages p.sending) ++ of_pair cmp k (m ∷ [])) ++ ms)
+      (waits_without cmp order k m p.waiting)
+      ∙ by_pair (same_pair cmp k m) own_first own_idle
     where
       flying : List (Message P)
       flying = of_pair cmp k (rated_messages p.sending)
@@ -91,33 +133,45 @@ module _ {P : Type 0} (cmp : P → P → Ordering) (order : IsTotalOrder cmp) wh
       own_first : same_pair cmp k m ≡ true → waits ≡ m ∷ rest_of waits
       own_first own =
           let own_found : find (same_pair cmp k) p.waiting ≡ Some m
-          = sym (find_like cmp order k m p.waiting own) ∙ find_like cmp order n m p.waiting (find_passes (same_pair cmp n) m p.waiting found) ∙ found in
+          = sym (find_like cmp order k m p.waiting own)
+          ∙ find_like cmp order n m p.waiting (find_passes (same_pair cmp n) m p.waiting found) ∙ found in
           headed waits m (sym (head_found (same_pair cmp k) p.waiting) ∙ own_found)
 
       own_idle : same_pair cmp k m ≡ true → flying ≡ []
-      own_idle own = filter_nothing (same_pair cmp k) (rated_messages p.sending) (sym (any_like cmp order k m (rated_messages p.sending) own) ∙ idle_if_may cmp order t p m may)
+      own_idle own =
+          filter_nothing (same_pair cmp k) (rated_messages p.sending)
+          (sym (any_like cmp order k m (rated_messages p.sending) own) ∙ idle_if_may cmp order t p m may)
 
-      by_pair : (b : Bool) → (b ≡ true → waits ≡ m ∷ rest_of waits) → (b ≡ true → flying ≡ []) → (flying ++ cond b (m ∷ []) []) ++ cond b (rest_of waits) waits ≡ flying ++ waits
+      by_pair : (b : Bool) → (b ≡ true → waits ≡ m ∷ rest_of waits) → (b ≡ true → flying ≡ [])
+          → (flying ++ cond b (m ∷ []) []) ++ cond b (rest_of waits) waits ≡ flying ++ waits
       by_pair true first idle = let none : flying ≡ [] = idle refl in
-          ap (λ (ms : List (Message P)). (ms ++ m ∷ []) ++ rest_of waits) none ∙ sym (first refl) ∙ sym (ap (λ (ms : List (Message P)). ms ++ waits) none)
+          ap (λ (ms : List (Message P)). (ms ++ m ∷ []) ++ rest_of waits) none ∙ sym (first refl)
+          ∙ sym (ap (λ (ms : List (Message P)). ms ++ waits) none)
       by_pair false first idle = ap (λ (ms : List (Message P)). ms ++ waits) (append-nil flying)
 
-  launch_holds : {t : ℕ} {p : Planned P} {o : Option (Message P)} {c : Course (Message P) (Planned P)} → Launches cmp t p o c
-      → (n : Message P) (ms : List (Message P)) (q : Planned P) → next_of cmp p n ≡ o → c ≡ goes ms q → IsOrderly cmp p → (k : Message P) → of_pair cmp k ms ++ held_of cmp k q ≡ held_of cmp k p
+  launch_holds : {t : ℕ} {p : Planned P} {o : Option (Message P)} {c : Course (Message P) (Planned P)}
+      → Launches cmp t p o c
+      → (n : Message P) (ms : List (Message P)) (q : Planned P) → next_of cmp p n ≡ o → c ≡ goes ms q → IsOrderly cmp p
+      → (k : Message P) → of_pair cmp k ms ++ held_of cmp k q ≡ held_of cmp k p
   launch_holds {p = p} nothing_waits n ms q is e h k =
       let none : [] ≡ ms = cc in
       let same : p ≡ q = cc in
-      sym (ap (λ (z : Planned P). of_pair cmp k ms ++ held_of cmp k z) same) ∙ sym (ap (λ (ns : List (Message P)). of_pair cmp k ns ++ held_of cmp k p) none)
+      sym (ap (λ (z : Planned P). of_pair cmp k ms ++ held_of cmp k z) same)
+      ∙ sym (ap (λ (ns : List (Message P)). of_pair cmp k ns ++ held_of cmp k p) none)
   launch_holds {p = p} (too_early may) n ms q is e h k =
       let none : [] ≡ ms = cc in
       let same : p ≡ q = cc in
-      sym (ap (λ (z : Planned P). of_pair cmp k ms ++ held_of cmp k z) same) ∙ sym (ap (λ (ns : List (Message P)). of_pair cmp k ns ++ held_of cmp k p) none)
+      sym (ap (λ (z : Planned P). of_pair cmp k ms ++ held_of cmp k z) same)
+      ∙ sym (ap (λ (ns : List (Message P)). of_pair cmp k ns ++ held_of cmp k p) none)
   launch_holds (no_id may last) n ms q is e h k = cc
   launch_holds {t = t} {p = p} (starts {m = m} {leavers = leavers} {new = new} may below account) n ms q is e h k =
       let out : leavers ≡ ms = cc in
       let same : new ≡ q = cc in
-      sym (ap (λ (z : Planned P). of_pair cmp k ms ++ held_of cmp k z) same) ∙ sym (ap (λ (ns : List (Message P)). of_pair cmp k ns ++ held_of cmp k new) out)
-      ∙ account_holds t (launched cmp t p m) new leavers account (launched_steady cmp order t p n m is may (steady cmp order p h)).one_each k ∙ launched_holds t p n m is may k
+      sym (ap (λ (z : Planned P). of_pair cmp k ms ++ held_of cmp k z) same)
+      ∙ sym (ap (λ (ns : List (Message P)). of_pair cmp k ns ++ held_of cmp k new) out)
+      ∙ account_holds t (launched cmp t p m) new leavers account
+      (launched_steady cmp order t p n m is may (steady cmp order p h)).one_each k
+      ∙ launched_holds t p n m is may k
 
   look_holds : (t : ℕ) (p q : Planned P) → PlansStart cmp t p q → (k : Message P) → held_of cmp k q ≡ held_of cmp k p
   look_holds t p q looks k = ap (held_of cmp k) looks.same
@@ -138,84 +192,111 @@ module _ {P : Type 0} (cmp : P → P → Ordering) (order : IsTotalOrder cmp) wh
   stays : (p q : Planned P) → ((k : Message P) → held_of cmp k q ≡ held_of cmp k p) → Moves [] p [] q
   stays p q same = record { done = []; completions_are = tt; each_pair = same }
 
-  moves_then : (queue : List (Message P)) (p q r : Planned P) (cs ds : List (Completed P)) → Moves queue p cs q → Moves [] q ds r → Moves queue p (cs ++ ds) r
+  moves_then : (queue : List (Message P)) (p q r : Planned P) (cs ds : List (Completed P)) → Moves queue p cs q
+      → Moves [] q ds r → Moves queue p (cs ++ ds) r
   moves_then queue p q r cs ds a b = record {
     done = a.done ++ b.done;
     completions_are = zip-append IsCompletionOf cs ds a.done b.done a.completions_are b.completions_are;
     each_pair = λ k.
-        ap (λ (ms : List (Message P)). ms ++ held_of cmp k r) (filter-append (same_pair cmp k) a.done b.done) ∙ append_assoc (of_pair cmp k a.done) (of_pair cmp k b.done) (held_of cmp k r)
+        ap (λ (ms : List (Message P)). ms ++ held_of cmp k r) (filter-append (same_pair cmp k) a.done b.done)
+        ∙ append_assoc (of_pair cmp k a.done) (of_pair cmp k b.done) (held_of cmp k r)
         ∙ ap (λ (ms : List (Message P)). of_pair cmp k a.done ++ ms) (b.each_pair k) ∙ a.each_pair k;
   }
 
-  on_then : (queue : List (Message P)) (p q : Planned P) (cs : List (Completed P)) (c : Course (Completed P) (Planned P)) → Moves queue p cs q → MovesOn [] q c → MovesOn queue p (preceded cs c)
+  on_then : (queue : List (Message P)) (p q : Planned P) (cs : List (Completed P))
+      (c : Course (Completed P) (Planned P))
+      → Moves queue p cs q → MovesOn [] q c → MovesOn queue p (preceded cs c)
   on_then queue p q cs (goes ds r) a b = moves_then queue p q r cs ds a b
   on_then queue p q cs (meets fault) a b = tt
 
   -- what the queue holds was held before
-  on_from : (queue : List (Message P)) (p q : Planned P) (c : Course (Completed P) (Planned P)) → ((k : Message P) → of_pair cmp k queue ++ held_of cmp k q ≡ held_of cmp k p)
+  on_from : (queue : List (Message P)) (p q : Planned P) (c : Course (Completed P) (Planned P))
+      → ((k : Message P) → of_pair cmp k queue ++ held_of cmp k q ≡ held_of cmp k p)
       → MovesOn queue q c → MovesOn [] p c
-  on_from queue p q (goes cs r) same a = record { done = a.done; completions_are = a.completions_are; each_pair = λ k. a.each_pair k ∙ same k }
+  on_from queue p q (goes cs r) same a =
+      record { done = a.done; completions_are = a.completions_are; each_pair = λ k. a.each_pair k ∙ same k }
   on_from queue p q (meets fault) same a = tt
 
-  first_done : (t : ℕ) (m : Message P) (ms more : List (Message P)) (p q : Planned P) (c : Course (Completed P) (Planned P))
-      → ((k : Message P) → of_pair cmp k more ++ held_of cmp k q ≡ held_of cmp k p) → MovesOn (ms ++ more) q c → MovesOn (m ∷ ms) p (preceded (completed cmp t m ∷ []) c)
+  first_done : (t : ℕ) (m : Message P) (ms more : List (Message P)) (p q : Planned P)
+      (c : Course (Completed P) (Planned P))
+      → ((k : Message P) → of_pair cmp k more ++ held_of cmp k q ≡ held_of cmp k p) → MovesOn (ms ++ more) q c
+      → MovesOn (m ∷ ms) p (preceded (completed cmp t m ∷ []) c)
   first_done t m ms more p q (goes cs r) same a = record {
     done = m ∷ a.done;
     completions_are = (((if is_delivered cmp m then Some (arrival cmp t m) else None), refl), a.completions_are);
-    each_pair = λ k. before_both (same_pair cmp k m) m (of_pair cmp k a.done) (of_pair cmp k ms) (held_of cmp k r) (held_of cmp k p)
-        (a.each_pair k ∙ ap (λ (ns : List (Message P)). ns ++ held_of cmp k q) (filter-append (same_pair cmp k) ms more) ∙ append_assoc (of_pair cmp k ms) (of_pair cmp k more) (held_of cmp k q) ∙ ap (λ (ns : List (Message P)). of_pair cmp k ms ++ ns) (same k));
+    each_pair = λ k.
+        before_both (same_pair cmp k m) m (of_pair cmp k a.done) (of_pair cmp k ms) (held_of cmp k r) (held_of cmp k p)
+        (a.each_pair k ∙ ap (λ (ns : List (Message P)). ns ++ held_of cmp k q) (filter-append (same_pair cmp k) ms more)
+        ∙ append_assoc (of_pair cmp k ms) (of_pair cmp k more) (held_of cmp k q)
+        ∙ ap (λ (ns : List (Message P)). of_pair cmp k ms ++ ns) (same k));
   }
   first_done t m ms more p q (meets fault) same a = tt
 
-  finish_moves : {t : ℕ} {ms : List (Message P)} {p : Planned P} {c : Course (Completed P) (Planned P)} → Finishes cmp t ms p c → IsOrderly cmp p → MovesOn ms p c
+  finish_moves : {t : ℕ} {ms : List (Message P)} {p : Planned P} {c : Course (Completed P) (Planned P)}
+      → Finishes cmp t ms p c → IsOrderly cmp p → MovesOn ms p c
   finish_moves {t = t} {p = p} (all_completed {q = q} looks) h = stays p q (look_holds t p q looks)
   finish_moves (late is) h = tt
   finish_moves (stopped is launch) h = tt
   finish_moves {t = t} {p = p} (completes {m = m} {ms = ms} {more = more} {q = q} {rest = rest} is launch finishes) h =
       let there : IsOrderly cmp (landed cmp t p m) = landed_orderly cmp order t p m h in
-      first_done t m ms more p q rest (launch_holds launch m more q refl refl there) (finish_moves finishes (launch_orderly cmp order launch m more q refl refl there))
+      first_done t m ms more p q rest (launch_holds launch m more q refl refl there)
+      (finish_moves finishes (launch_orderly cmp order launch m more q refl refl there))
 
-  wake_moves : {t : ℕ} {ms : List (Message P)} {p : Planned P} {c : Course (Completed P) (Planned P)} → WakesEach cmp t ms p c → IsOrderly cmp p → MovesOn [] p c
+  wake_moves : {t : ℕ} {ms : List (Message P)} {p : Planned P} {c : Course (Completed P) (Planned P)}
+      → WakesEach cmp t ms p c → IsOrderly cmp p → MovesOn [] p c
   wake_moves {t = t} {p = p} (all_started {q = q} looks) h = stays p q (look_holds t p q looks)
   wake_moves (no_start launch) h = tt
   wake_moves (no_finish launch finishes) h = tt
-  wake_moves {p = p} (starts_one {m = m} {more = more} {q = q} {r = r} {cs = cs} {rest = rest} launch finishes wakes) h =
+  wake_moves {p = p} (starts_one {m = m} {more = more} {q = q} {r = r} {cs = cs} {rest = rest} launch finishes wakes)
+      h =
       let next : IsOrderly cmp q = launch_orderly cmp order launch m more q refl refl h in
       let after : IsOrderly cmp r = finish_orderly cmp order finishes next in
-      let first : Moves [] p cs r = on_from more p q (goes cs r) (launch_holds launch m more q refl refl h) (finish_moves finishes next) in
+      let first : Moves [] p cs r =
+      on_from more p q (goes cs r) (launch_holds launch m more q refl refl h) (finish_moves finishes next) in
       on_then [] p r cs rest first (wake_moves wakes after)
 
-  settle_moves : {t : ℕ} {p : Planned P} {c : Course (Completed P) (Planned P)} → Settles cmp t p c → IsSteady cmp order p → MovesOn [] p c
+  settle_moves : {t : ℕ} {p : Planned P} {c : Course (Completed P) (Planned P)} → Settles cmp t p c
+      → IsSteady cmp order p → MovesOn [] p c
   settle_moves {t = t} {p = p} {c = c} (settling {leavers = leavers} {mid = mid} account finishes) h =
-      on_from leavers p mid c (account_holds t p mid leavers account h.one_each) (finish_moves finishes (account_orderly cmp order t p mid leavers account h))
+      on_from leavers p mid c (account_holds t p mid leavers account h.one_each)
+      (finish_moves finishes (account_orderly cmp order t p mid leavers account h))
 
   -- ---- the calls
 
   -- but for what is planned
-  no_finish_moves : (p : Planned P) (c : Course (Completed P) (Planned P)) → MovesOn [] (record p { finish = None }) c → MovesOn [] p c
-  no_finish_moves p (goes cs q) a = record { done = a.done; completions_are = a.completions_are; each_pair = a.each_pair }
+  no_finish_moves : (p : Planned P) (c : Course (Completed P) (Planned P)) → MovesOn [] (record p { finish = None }) c
+      → MovesOn [] p c
+  no_finish_moves p (goes cs q) a =
+      record { done = a.done; completions_are = a.completions_are; each_pair = a.each_pair }
   no_finish_moves p (meets fault) a = tt
 
-  no_start_moves : (p : Planned P) (c : Course (Completed P) (Planned P)) → MovesOn [] (record p { start = None }) c → MovesOn [] p c
-  no_start_moves p (goes cs q) a = record { done = a.done; completions_are = a.completions_are; each_pair = a.each_pair }
+  no_start_moves : (p : Planned P) (c : Course (Completed P) (Planned P)) → MovesOn [] (record p { start = None }) c
+      → MovesOn [] p c
+  no_start_moves p (goes cs q) a =
+      record { done = a.done; completions_are = a.completions_are; each_pair = a.each_pair }
   no_start_moves p (meets fault) a = tt
 
-  advance_moves : {now n : ℕ} {p : Planned P} {c : Course (Completed P) (Planned P)} → Advances cmp now p n c → IsOrderly cmp p → MovesOn [] p c
+  advance_moves : {now n : ℕ} {p : Planned P} {c : Course (Completed P) (Planned P)} → Advances cmp now p n c
+      → IsOrderly cmp p → MovesOn [] p c
   advance_moves (no_more before wakes) h = wake_moves wakes h
   advance_moves {p = p} (at_finish {q = q} {cs = cs} {rest = rest} is next due event more) h =
       let after : IsOrderly cmp q = settle_orderly cmp order event (no_finish_steady cmp order p h) in
-      on_then [] p q cs rest (no_finish_moves p (goes cs q) (settle_moves event (no_finish_steady cmp order p h))) (advance_moves more after)
+      on_then [] p q cs rest (no_finish_moves p (goes cs q) (settle_moves event (no_finish_steady cmp order p h)))
+      (advance_moves more after)
   advance_moves {p = p} (at_start {q = q} {cs = cs} {rest = rest} is next due event more) h =
       let after : IsOrderly cmp q = wake_orderly cmp order event (no_start_orderly cmp order p h) in
-      on_then [] p q cs rest (no_start_moves p (goes cs q) (wake_moves event (no_start_orderly cmp order p h))) (advance_moves more after)
+      on_then [] p q cs rest (no_start_moves p (goes cs q) (wake_moves event (no_start_orderly cmp order p h)))
+      (advance_moves more after)
   advance_moves (finish_stops is next due event) h = tt
   advance_moves (start_stops is next due event) h = tt
 
-  -- what completed, then what is in flight, then what waits are what was in flight, then what waited, then those messages
-  pub record IsKept (p : Planned P) (messages : List (Message P)) (cs : List (Completed P)) (q : Planned P) : Type 0 where
-    pub done : List (Message P)
-    pub completions_are : AllZip IsCompletionOf cs done
-    pub each_pair : (k : Message P) → of_pair cmp k done ++ held_of cmp k q ≡ held_of cmp k p ++ of_pair cmp k messages
+  -- what completed, then what is in flight, then what waits are what was in flight, then what waited, then those
+  -- messages
+  pub record IsKept (p : Planned P) (messages : List (Message P)) (cs : List (Completed P)) (q : Planned P) : Type 0
+    where
+      pub done : List (Message P)
+      pub completions_are : AllZip IsCompletionOf cs done
+      pub each_pair : (k : Message P) → of_pair cmp k done ++ held_of cmp k q ≡ held_of cmp k p ++ of_pair cmp k messages
 
   -- if it goes
   abbrev pub KeepsAll : Planned P → List (Message P) → Course (Completed P) (Planned P) → Type 0
@@ -223,51 +304,89 @@ module _ {P : Type 0} (cmp : P → P → Ordering) (order : IsTotalOrder cmp) wh
   KeepsAll p messages (meets fault) = ⊤
 
   none_enqueued : (p : Planned P) (c : Course (Completed P) (Planned P)) → MovesOn [] p c → KeepsAll p [] c
-  none_enqueued p (goes cs q) a = record { done = a.done; completions_are = a.completions_are; each_pair = λ k. a.each_pair k ∙ sym (append-nil (held_of cmp k p)) }
+  none_enqueued p (goes cs q) a =
+      record {
+        done = a.done;
+        completions_are = a.completions_are;
+        each_pair = λ k. a.each_pair k ∙ sym (append-nil (held_of cmp k p));
+      }
   none_enqueued p (meets fault) a = tt
 
-  rebalance_moves : {now : ℕ} {caps : Caps P} {p : Planned P} {c : Course (Completed P) (Planned P)} → Rebalances cmp now caps p c → IsSteady cmp order (record p { caps = caps; limited = true }) → MovesOn [] p c
-  rebalance_moves {now = now} {caps = caps} {p = p} (none_sending {new = new} empty looks) h = stays p new (look_holds now (record p { caps = caps; limited = true }) new looks)
-  rebalance_moves {caps = caps} {p = p} {c = c} (some_sending some event) h = on_from [] p (record p { caps = caps; limited = true }) c (λ k. refl) (settle_moves event h)
+  rebalance_moves : {now : ℕ} {caps : Caps P} {p : Planned P} {c : Course (Completed P) (Planned P)}
+      → Rebalances cmp now caps p c → IsSteady cmp order (record p { caps = caps; limited = true }) → MovesOn [] p c
+  rebalance_moves {now = now} {caps = caps} {p = p} (none_sending {new = new} empty looks) h =
+      stays p new (look_holds now (record p { caps = caps; limited = true }) new looks)
+  rebalance_moves {caps = caps} {p = p} {c = c} (some_sending some event) h =
+      on_from [] p (record p { caps = caps; limited = true }) c (λ k. refl) (settle_moves event h)
 
-  queued_holds : (p : Planned P) (m : Message P) → IsOrderly cmp p → (k : Message P) → held_of cmp k (with_queued cmp p m) ≡ held_of cmp k p ++ of_pair cmp k (m ∷ [])
+  queued_holds : (p : Planned P) (m : Message P) → IsOrderly cmp p → (k : Message P)
+      → held_of cmp k (with_queued cmp p m) ≡ held_of cmp k p ++ of_pair cmp k (m ∷ [])
   queued_holds p m h k =
-      ap (λ (ms : List (Message P)). of_pair cmp k (rated_messages p.sending) ++ ms) (queued_last cmp order k m p.waiting h.pair_order)
+      ap (λ (ms : List (Message P)). of_pair cmp k (rated_messages p.sending) ++ ms)
+      (queued_last cmp order k m p.waiting h.pair_order)
       ∙ sym (append_assoc (of_pair cmp k (rated_messages p.sending)) (of_pair cmp k p.waiting) (of_pair cmp k (m ∷ [])))
 
   -- before any limit
-  at_once_keeps : (now : ℕ) (m : Message P) (p : Planned P) → p.limited ≡ false → IsOrderly cmp p → KeepsAll p (m ∷ []) (completed_at_once cmp now p m)
+  at_once_keeps : (now : ℕ) (m : Message P) (p : Planned P) → p.limited ≡ false → IsOrderly cmp p
+      → KeepsAll p (m ∷ []) (completed_at_once cmp now p m)
   at_once_keeps now m p free h = by_late (m.should_deliver && nat_lt last_moment (now + m.latency))
     where
       at : ℕ
       at = if m.should_deliver then later_of (p.last_arrival m.origin m.recipient) (now + m.latency) else now
 
       nothing_held : (k : Message P) → held_of cmp k p ≡ []
-      nothing_held k = ap (λ (fs : List (RatedFlight P)). of_pair cmp k (rated_messages fs) ++ of_pair cmp k p.waiting) (h.empty_at_first free).0 ∙ ap (of_pair cmp k) (h.empty_at_first free).1
+      nothing_held k =
+          ap (λ (fs : List (RatedFlight P)). of_pair cmp k (rated_messages fs) ++ of_pair cmp k p.waiting)
+          (h.empty_at_first free).0
+          ∙ ap (of_pair cmp k) (h.empty_at_first free).1
 
-      by_late : (b : Bool) → KeepsAll p (m ∷ []) (cond b (meets MomentTooLate) (goes (completion_of m (if m.should_deliver then Some at else None) ∷ []) (record p { last_arrival = raised cmp p.last_arrival m at })))
+      by_late : (b : Bool)
+          → KeepsAll p (m ∷ [])
+          (cond b (meets MomentTooLate)
+          (goes (completion_of m (if m.should_deliver then Some at else None) ∷ [])
+          (record p { last_arrival = raised cmp p.last_arrival m at })))
       by_late true = tt
       by_late false = record {
         done = m ∷ [];
         completions_are = (((if m.should_deliver then Some at else None), refl), tt);
-        each_pair = λ k. ap (λ (ms : List (Message P)). of_pair cmp k (m ∷ []) ++ ms) (nothing_held k) ∙ append-nil (of_pair cmp k (m ∷ [])) ∙ sym (ap (λ (ms : List (Message P)). ms ++ of_pair cmp k (m ∷ [])) (nothing_held k));
+        each_pair = λ k.
+            ap (λ (ms : List (Message P)). of_pair cmp k (m ∷ []) ++ ms) (nothing_held k)
+            ∙ append-nil (of_pair cmp k (m ∷ []))
+            ∙ sym (ap (λ (ms : List (Message P)). ms ++ of_pair cmp k (m ∷ [])) (nothing_held k));
       }
 
-  joined_keeps : (p : Planned P) (m : Message P) (c : Course (Completed P) (Planned P)) → IsOrderly cmp p → MovesOn [] (with_queued cmp p m) c → KeepsAll p (m ∷ []) c
-  joined_keeps p m (goes cs q) h a = record { done = a.done; completions_are = a.completions_are; each_pair = λ k. a.each_pair k ∙ queued_holds p m h k }
+  joined_keeps : (p : Planned P) (m : Message P) (c : Course (Completed P) (Planned P)) → IsOrderly cmp p
+      → MovesOn [] (with_queued cmp p m) c → KeepsAll p (m ∷ []) c
+  joined_keeps p m (goes cs q) h a =
+      record {
+        done = a.done;
+        completions_are = a.completions_are;
+        each_pair = λ k. a.each_pair k ∙ queued_holds p m h k;
+      }
   joined_keeps p m (meets fault) h a = tt
 
-  enqueue_keeps : {now : ℕ} {m : Message P} {p : Planned P} {c : Course (Completed P) (Planned P)} → Enqueues cmp now m p c → IsOrderly cmp p → KeepsAll p (m ∷ []) c
+  enqueue_keeps : {now : ℕ} {m : Message P} {p : Planned P} {c : Course (Completed P) (Planned P)}
+      → Enqueues cmp now m p c → IsOrderly cmp p → KeepsAll p (m ∷ []) c
   enqueue_keeps {now = now} {m = m} {p = p} (at_once free) h = at_once_keeps now m p free h
   enqueue_keeps (no_launch limits launch) h = tt
   enqueue_keeps {m = m} {p = p} {c = c} (launches {leavers = leavers} {mid = mid} limits launch finishes) h =
       let there : IsOrderly cmp (with_queued cmp p m) = queued_orderly cmp order p m limits h in
       let next : IsOrderly cmp mid = launch_orderly cmp order launch m leavers mid refl refl there in
-      joined_keeps p m c h (on_from leavers (with_queued cmp p m) mid c (launch_holds launch m leavers mid refl refl there) (finish_moves finishes next))
+      joined_keeps p m c h
+      (on_from leavers (with_queued cmp p m) mid c (launch_holds launch m leavers mid refl refl there)
+      (finish_moves finishes next))
 
-  pub call_keeps : (p : Planned P) (call : Call P) (c : Course (Completed P) (Planned P)) → Obeys cmp p call c → IsOrderly cmp p → KeepsAll p (enqueued (call ∷ [])) c
-  call_keeps p (call_limit now peer egress ingress) c obeys h = none_enqueued p c (rebalance_moves obeys (recapped_steady cmp order p _ (limited_by_alike cmp order p.caps peer egress ingress h.caps) h))
-  call_keeps p (call_limit_link now origin recipient cap) c obeys h = none_enqueued p c (rebalance_moves obeys (recapped_steady cmp order p _ (linked_by_alike cmp order p.caps origin recipient cap h.caps) h))
+  pub call_keeps : (p : Planned P) (call : Call P) (c : Course (Completed P) (Planned P)) → Obeys cmp p call c
+      → IsOrderly cmp p → KeepsAll p (enqueued (call ∷ [])) c
+  call_keeps p (call_limit now peer egress ingress) c obeys h =
+      none_enqueued p c
+      (rebalance_moves obeys
+      (recapped_steady cmp order p _ (limited_by_alike cmp order p.caps peer egress ingress h.caps) h))
+  call_keeps p (call_limit_link now origin recipient cap) c obeys h =
+      none_enqueued p c
+      (rebalance_moves obeys
+      (recapped_steady cmp order p _ (linked_by_alike cmp order p.caps origin recipient cap h.caps) h))
   call_keeps p (call_enqueue now m) c obeys h = enqueue_keeps obeys h
   call_keeps p (call_advance now) c obeys h = none_enqueued p c (advance_moves obeys.1 h)
-  call_keeps p call_next c obeys h = subst (KeepsAll p []) (sym obeys) (none_enqueued p (goes [] p) (stays p p (λ k. refl)))
+  call_keeps p call_next c obeys h =
+      subst (KeepsAll p []) (sym obeys) (none_enqueued p (goes [] p) (stays p p (λ k. refl)))

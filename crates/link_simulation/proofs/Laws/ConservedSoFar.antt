@@ -2,7 +2,8 @@
 use Rattle.std.proofs.Common.{ℕ, zero, suc, List, [], ◌∷◌, take}
 use Rattle.std.specs.declared.cmp.Ordering.{Ordering}
 use Rattle.std.specs.Cmp.{IsTotalOrder}
-use Rattle.link_simulation.specs.Simulation.Calls.{Call, call_limit, call_limit_link, call_enqueue, call_advance, call_next}
+use Rattle.link_simulation.specs.Simulation.Calls.{Call, call_limit, call_limit_link, call_enqueue, call_advance}
+use Rattle.link_simulation.specs.Simulation.Calls.{call_next}
 use Rattle.link_simulation.specs.Simulation.Replies.{Reply, reply_done, reply_next, reply_refused}
 use Rattle.link_simulation.specs.Rule.Planned.{Planned, new_planned}
 use Rattle.link_simulation.specs.Rule.Refusals.{Obeyed}

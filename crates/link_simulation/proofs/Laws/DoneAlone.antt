@@ -23,7 +23,8 @@ module _ {P : Type 0} (cmp : P → P → Ordering) (order : IsTotalOrder cmp) wh
       → IsDoneAfter cmp w now m time → Runs cmp w (call_enqueue now m) now (goes cs v)
       → (cs ≡ []) × ((next : Option ℕ) → NextIs cmp v next → next ≡ Some (now + time))
   is_sent w v m now time cs sound alone runs =
-      let one = runs_are_one cmp order w (call_enqueue now m) now (goes cs v) (goes [] alone.sent) sound runs alone.sends in
+      let one =
+      runs_are_one cmp order w (call_enqueue now m) now (goes cs v) (goes [] alone.sent) sound runs alone.sends in
       let same : v ≡ alone.sent = same_world cs [] v alone.sent one in
       let sound_v : IsSound cmp v = call_keeps_sound cmp order w (call_enqueue now m) now (goes cs v) sound runs in (
         same_answers cs [] v alone.sent one,
@@ -35,7 +36,8 @@ module _ {P : Type 0} (cmp : P → P → Ordering) (order : IsTotalOrder cmp) wh
       → IsDoneAfter cmp w now m time → Runs cmp w (call_enqueue now m) now (goes cs v)
       → Runs cmp v (call_advance (now + time)) (now + time) (goes ds u) → ds ≡ completed cmp (now + time) m ∷ []
   is_done_alone w v u m now time cs ds sound alone runs advances =
-      let one = runs_are_one cmp order w (call_enqueue now m) now (goes cs v) (goes [] alone.sent) sound runs alone.sends in
+      let one =
+      runs_are_one cmp order w (call_enqueue now m) now (goes cs v) (goes [] alone.sent) sound runs alone.sends in
       let same : v ≡ alone.sent = same_world cs [] v alone.sent one in
       let sound_v : IsSound cmp v = call_keeps_sound cmp order w (call_enqueue now m) now (goes cs v) sound runs in
       same_answers ds (completed cmp (now + time) m ∷ []) u alone.after

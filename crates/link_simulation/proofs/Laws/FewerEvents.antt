@@ -14,19 +14,31 @@ use Rattle.fair_rates.proofs.Lists.Zips.{zip-length}
 module _ {P : Type 0} (cmp : P → P → Ordering) (order : IsTotalOrder cmp) where
   same_most : (p q : Planned P) → IsSamePlanned cmp p q → most_events p ≡ most_events q
   same_most p q same =
-      let waiting : length p.waiting ≡ length q.waiting = zip-length (SameMessage cmp) p.waiting q.waiting same.waiting in
-      let sending : length p.sending ≡ length q.sending = zip-length (IsSameRatedFlight cmp) p.sending q.sending same.sending in
+      let waiting : length p.waiting ≡ length q.waiting =
+      zip-length (SameMessage cmp) p.waiting q.waiting same.waiting in
+      let sending : length p.sending ≡ length q.sending =
+      zip-length (IsSameRatedFlight cmp) p.sending q.sending same.sending in
       omega arith
 
-  pub counted_events : (p q : Planned P) (now events : ℕ) (cs : List (Completed P)) → IsPlanned cmp p → AdvancesByRule cmp now p events cs q → events + most_events q ≤ most_events p
+  pub counted_events : (p q : Planned P) (now events : ℕ) (cs : List (Completed P)) → IsPlanned cmp p
+      → AdvancesByRule cmp now p events cs q → events + most_events q ≤ most_events p
   counted_events p q now events cs planned goes =
       let spent : events + most_events goes.after ≤ most_events p = events_spend cmp order goes.advances planned in
       let same : most_events goes.after ≡ most_events q = same_most goes.after q goes.same_after in
       omega arith
 
-  pub advance_falls : (p q : Planned P) (now : ℕ) (cs : List (Completed P)) → IsPlanned cmp p → next_event p ≡ Some now → GoesByRule cmp p (call_advance now) cs q → most_events q < most_events p
+  pub advance_falls : (p q : Planned P) (now : ℕ) (cs : List (Completed P)) → IsPlanned cmp p → next_event p ≡ Some now
+      → GoesByRule cmp p (call_advance now) cs q → most_events q < most_events p
   advance_falls p q now cs planned next goes =
-      let counted : AdvancesByRule cmp now p goes.obeys.0 cs q = record { answers = goes.answers; after = goes.after; advances = goes.obeys.1; same_answers = goes.same_answers; same_after = goes.same_after } in
+      let counted : AdvancesByRule cmp now p goes.obeys.0 cs q =
+      record {
+        answers = goes.answers;
+        after = goes.after;
+        advances = goes.obeys.1;
+        same_answers = goes.same_answers;
+        same_after = goes.same_after;
+      } in
       let some : 0 < goes.obeys.0 = some_event cmp order goes.obeys.1 next in
-      let spent : goes.obeys.0 + most_events q ≤ most_events p = counted_events p q now goes.obeys.0 cs planned counted in
+      let spent : goes.obeys.0 + most_events q ≤ most_events p =
+      counted_events p q now goes.obeys.0 cs planned counted in
       omega arith

@@ -1,5 +1,6 @@
 -- Calls on a world, and on the part of it that is a set's messages.
-use Rattle.std.proofs.Common.{◌≡◌, ℕ, ◌+◌, ◌-◌, ◌<◌, ◌≤◌, List, [], ◌∷◌, ◌++◌, map, length, Bool, true, false, cond, Option, Some, None, refl, sym, ap, ◌∙◌, subst, arith, append-nil, ◌⊎◌, inl, inr}
+use Rattle.std.proofs.Common.{◌≡◌, ℕ, ◌+◌, ◌-◌, ◌<◌, ◌≤◌, List, [], ◌∷◌, ◌++◌, map, length, Bool, true, false, cond}
+use Rattle.std.proofs.Common.{Option, Some, None, refl, sym, ap, ◌∙◌, subst, arith, append-nil, ◌⊎◌, inl, inr}
 use Rattle.std.specs.Prelude.{⊤, ◌&&◌, nat_lt, if◌then◌else◌}
 use Rattle.std.specs.List.{filter}
 use Rattle.std.specs.declared.cmp.Ordering.{Ordering}
@@ -8,10 +9,16 @@ use Rattle.std.proofs.lemmas.List.Elements.{filter-append}
 use Rattle.std.proofs.lemmas.Bool.{and_parts}
 use Rattle.std.specs.Prelude.{Contains}
 use Rattle.fair_rates.specs.Sides.Subjects.{same_peer}
-use Rattle.link_simulation.specs.Simulation.World.{Completed, Course, Flight, World, and_then, completion_of, first_waiting, flows, goes, is_done, last_moment, later_of, meets, new_world, preceded, raised, settle, start_next, EndsWith}
-use Rattle.link_simulation.specs.Simulation.Calls.{Call, IsInTurn, Runs, act, call_advance, call_enqueue, call_limit, call_limit_link, call_next, complete_at_once, moment_of, limited_by, linked_by}
+use Rattle.link_simulation.specs.Simulation.World.{Completed, Course, Flight, World, and_then, completion_of}
+use Rattle.link_simulation.specs.Simulation.World.{first_waiting, flows, goes, is_done, last_moment, later_of, meets}
+use Rattle.link_simulation.specs.Simulation.World.{new_world, preceded, raised, settle, start_next, EndsWith}
+use Rattle.link_simulation.specs.Simulation.Calls.{Call, IsInTurn, Runs, act, call_advance, call_enqueue, call_limit}
+use Rattle.link_simulation.specs.Simulation.Calls.{call_limit_link, call_next, complete_at_once, moment_of, limited_by}
+use Rattle.link_simulation.specs.Simulation.Calls.{linked_by}
 use Rattle.fair_rates.specs.Fairness.Part.{flagged}
-use Rattle.link_simulation.specs.Laws.Isolation.{Answers, AnswersInTurn, InTime, IsApart, IsSet, KeepsApart, NothingElse, call_answers, answers_in_turn, inside_alone, is_kept, kept_completions, no_calls, no_calls_in_turn}
+use Rattle.link_simulation.specs.Laws.Isolation.{Answers, AnswersInTurn, InTime, IsApart, IsSet, KeepsApart}
+use Rattle.link_simulation.specs.Laws.Isolation.{NothingElse, call_answers, answers_in_turn, inside_alone, is_kept}
+use Rattle.link_simulation.specs.Laws.Isolation.{kept_completions, no_calls, no_calls_in_turn}
 use Rattle.link_simulation.specs.Simulation.Messages.{Caps, Message, is_delivered, same_pair}
 use Rattle.link_simulation.specs.Simulation.Rates.{AreFair, Parts}
 use Rattle.link_simulation.specs.Simulation.Time.{NextIs, Ticks, no_tick}
@@ -25,13 +32,16 @@ use Rattle.fair_rates.proofs.Lists.Members.{In}
 use Rattle.link_simulation.proofs.Laws.PartRates.{Kind, at_egress, at_ingress, at_link, uses_at, SharesNoSide}
 use Rattle.link_simulation.proofs.Simulation.Split.{ticks_on, rest_is}
 use Rattle.link_simulation.proofs.Simulation.EveryInstant.{ticks_end, first_event, settle_moment, start_next_moment}
-use Rattle.link_simulation.proofs.Laws.Isolation.{part, IsPart, IsPartOf, part_alike, goes_alike, part_then, settle_part, start_next_mine, start_next_other, raised_same, raised_other}
+use Rattle.link_simulation.proofs.Laws.Isolation.{part, IsPart, IsPartOf, part_alike, goes_alike, part_then}
+use Rattle.link_simulation.proofs.Laws.Isolation.{settle_part, start_next_mine, start_next_other, raised_same}
+use Rattle.link_simulation.proofs.Laws.Isolation.{raised_other}
 use Rattle.link_simulation.proofs.Simulation.QuietInstants.{settle_nothing, queued}
 use Rattle.link_simulation.proofs.Laws.IsolatedTime.{ticks_part}
 use Rattle.link_simulation.proofs.Laws.MadeCalls.{turn_later}
 use Rattle.link_simulation.proofs.Simulation.Queue.{preceded_none}
 
-module _ {P : Type 0} (cmp : P → P → Ordering) (order : IsTotalOrder cmp) (inside : P → Bool) (together : IsSet cmp inside) where
+module _ {P : Type 0} (cmp : P → P → Ordering) (order : IsTotalOrder cmp) (inside : P → Bool)
+    (together : IsSet cmp inside) where
   abbrev pub mine : Message P → Bool
   mine m = inside m.origin
 
@@ -39,7 +49,9 @@ module _ {P : Type 0} (cmp : P → P → Ordering) (order : IsTotalOrder cmp) (i
   Whole m = inside m.origin ≡ inside m.recipient
 
   pub alike : (m n : Message P) → same_pair cmp m n ≡ true → mine m ≡ mine n
-  alike m n e = together m.origin n.origin (and_parts (same_peer cmp m.origin n.origin) (same_peer cmp m.recipient n.recipient) e).0
+  alike m n e =
+      together m.origin n.origin
+      (and_parts (same_peer cmp m.origin n.origin) (same_peer cmp m.recipient n.recipient) e).0
 
   each_in : (ms : List (Message P)) (m : Message P) → Each Whole ms → In ms m → Whole m
   each_in [] m e h = absurd h
@@ -49,7 +61,9 @@ module _ {P : Type 0} (cmp : P → P → Ordering) (order : IsTotalOrder cmp) (i
   shares : (w : World P) → Each Whole (flows w) → SharesNoSide cmp w.caps mine (flows w)
   shares w e at_egress m n has_m has_n uses = together m.origin n.origin uses
   shares w e at_ingress m n has_m has_n uses =
-      let same : inside m.recipient ≡ inside n.recipient = together m.recipient n.recipient (and_parts (is_delivered cmp n) (same_peer cmp m.recipient n.recipient) uses).1 in
+      let same : inside m.recipient ≡ inside n.recipient =
+      together m.recipient n.recipient
+      (and_parts (is_delivered cmp n) (same_peer cmp m.recipient n.recipient) uses).1 in
       each_in (flows w) m e has_m ∙ same ∙ sym (each_in (flows w) n e has_n)
   shares w e at_link m n has_m has_n uses = alike m n uses
 
@@ -69,15 +83,25 @@ module _ {P : Type 0} (cmp : P → P → Ordering) (order : IsTotalOrder cmp) (i
   ends_any (goes cs u) = tt
   ends_any (meets fault) = tt
 
-  settle_in_part : (t : ℕ) (w : World P) (last : P → P → Option ℕ) (id : ℕ) → Within last id w → Of (settle cmp t w) (settle cmp t (Small last id w))
+  settle_in_part : (t : ℕ) (w : World P) (last : P → P → Option ℕ) (id : ℕ) → Within last id w
+      → Of (settle cmp t w) (settle cmp t (Small last id w))
   settle_in_part t w last id is =
-      settle_part cmp order inside alike Whole (length w.sending + length w.waiting) (length (filter (λ (f : Flight P). mine f.message) w.sending) + length (filter mine w.waiting))
+      settle_part cmp order inside alike Whole (length w.sending + length w.waiting)
+      (length (filter (λ (f : Flight P). mine f.message) w.sending) + length (filter mine w.waiting))
       t w last id is (omega arith) (omega arith)
 
-  queued_within : (w : World P) (m : Message P) (last : P → P → Option ℕ) (id : ℕ) → Within last id w → Whole m → Within last id (queued cmp order w m)
-  queued_within w m last id is whole = record { arrivals = is.arrivals; ids = is.ids; sending = is.sending; waiting = each_joined Whole w.waiting m is.waiting whole }
+  queued_within : (w : World P) (m : Message P) (last : P → P → Option ℕ) (id : ℕ) → Within last id w → Whole m
+      → Within last id (queued cmp order w m)
+  queued_within w m last id is whole =
+      record {
+        arrivals = is.arrivals;
+        ids = is.ids;
+        sending = is.sending;
+        waiting = each_joined Whole w.waiting m is.waiting whole;
+      }
 
-  queued_filter : (ms : List (Message P)) (m : Message P) (b : Bool) → mine m ≡ b → filter mine (ms ++ m ∷ []) ≡ filter mine ms ++ cond b (m ∷ []) []
+  queued_filter : (ms : List (Message P)) (m : Message P) (b : Bool) → mine m ≡ b
+      → filter mine (ms ++ m ∷ []) ≡ filter mine ms ++ cond b (m ∷ []) []
   queued_filter ms m b e = filter-append mine ms (m ∷ []) ∙ (rw e refl)
 
   abbrev once_at : Option ℕ → ℕ → Message P → ℕ
@@ -88,7 +112,8 @@ module _ {P : Type 0} (cmp : P → P → Ordering) (order : IsTotalOrder cmp) (i
 
   -- ---- a message of the set is enqueued
 
-  enqueue_mine : (now : ℕ) (w : World P) (m : Message P) (last : P → P → Option ℕ) (id : ℕ) → Within last id w → Whole m → mine m ≡ true
+  enqueue_mine : (now : ℕ) (w : World P) (m : Message P) (last : P → P → Option ℕ) (id : ℕ) → Within last id w → Whole m
+      → mine m ≡ true
       → Of (act cmp w (call_enqueue now m)) (act cmp (Small last id w) (call_enqueue now m))
   enqueue_mine now w m last id is whole own = by_mode w.limited
     where
@@ -97,80 +122,158 @@ module _ {P : Type 0} (cmp : P → P → Ordering) (order : IsTotalOrder cmp) (i
 
       same_world : (queued cmp order) (Small last id w) m ≡ Small last id (queued cmp order w m)
       same_world =
-          part_alike cmp order inside alike Whole w last id (filter (λ (f : Flight P). mine f.message) w.sending) (filter (λ (f : Flight P). mine f.message) w.sending) _ _ refl
+          part_alike cmp order inside alike Whole w last id (filter (λ (f : Flight P). mine f.message) w.sending)
+          (filter (λ (f : Flight P). mine f.message) w.sending) _ _ refl
           (sym (queued_filter w.waiting m true own))
 
-      same_next : first_waiting cmp (Small last id (queued cmp order w m)) m ≡ first_waiting cmp (queued cmp order w m) m
+      same_next : first_waiting cmp (Small last id (queued cmp order w m)) m
+          ≡ first_waiting cmp (queued cmp order w m) m
       same_next = find_kept mine (same_pair cmp m) (w.waiting ++ m ∷ []) (λ n s. sym (alike m n s) ∙ own)
 
-      starting : Of (start_next cmp now (queued cmp order w m) (first_waiting cmp (queued cmp order w m) m)) (start_next cmp now (queued cmp order (Small last id w) m) (first_waiting cmp (queued cmp order (Small last id w) m) m))
+      starting : Of (start_next cmp now (queued cmp order w m) (first_waiting cmp (queued cmp order w m) m))
+          (start_next cmp now (queued cmp order (Small last id w) m)
+          (first_waiting cmp (queued cmp order (Small last id w) m) m))
       starting =
-          let base : Of (start_next cmp now (queued cmp order w m) (first_waiting cmp (queued cmp order w m) m)) (start_next cmp now (Small last id (queued cmp order w m)) (first_waiting cmp (queued cmp order w m) m)) =
-          start_next_mine cmp order inside alike Whole now (queued cmp order w m) m (first_waiting cmp (queued cmp order w m) m) last id within own refl in
-          let one : Of (start_next cmp now (queued cmp order w m) (first_waiting cmp (queued cmp order w m) m)) (start_next cmp now (Small last id (queued cmp order w m)) (first_waiting cmp (Small last id (queued cmp order w m)) m)) =
-          subst (λ (o : Option (Message P)). Of (start_next cmp now (queued cmp order w m) (first_waiting cmp (queued cmp order w m) m)) (start_next cmp now (Small last id (queued cmp order w m)) o)) (sym same_next) base in
-          subst (λ (z : World P). Of (start_next cmp now (queued cmp order w m) (first_waiting cmp (queued cmp order w m) m)) (start_next cmp now z (first_waiting cmp z m))) (sym same_world) one
+          let base : Of (start_next cmp now (queued cmp order w m) (first_waiting cmp (queued cmp order w m) m))
+          (start_next cmp now (Small last id (queued cmp order w m)) (first_waiting cmp (queued cmp order w m) m)) =
+          start_next_mine cmp order inside alike Whole now (queued cmp order w m) m
+          (first_waiting cmp (queued cmp order w m) m) last id within own refl in
+          let one : Of (start_next cmp now (queued cmp order w m) (first_waiting cmp (queued cmp order w m) m))
+          (start_next cmp now (Small last id (queued cmp order w m))
+          (first_waiting cmp (Small last id (queued cmp order w m)) m)) =
+          subst
+          (λ (o : Option (Message P)). Of
+          (start_next cmp now (queued cmp order w m) (first_waiting cmp (queued cmp order w m) m))
+          (start_next cmp now (Small last id (queued cmp order w m)) o))
+          (sym same_next) base in
+          subst
+          (λ (z : World P). Of
+          (start_next cmp now (queued cmp order w m) (first_waiting cmp (queued cmp order w m) m))
+          (start_next cmp now z (first_waiting cmp z m)))
+          (sym same_world) one
 
       at_same : once_at (last m.origin m.recipient) now m ≡ once_at (w.last_arrival m.origin m.recipient) now m
       at_same = ap (λ o. once_at o now m) (is.arrivals m own)
 
-      raised_within : Within (raised cmp last m (once_at (last m.origin m.recipient) now m)) id (record w { last_arrival = raised cmp w.last_arrival m (once_at (w.last_arrival m.origin m.recipient) now m) })
+      raised_within : Within (raised cmp last m (once_at (last m.origin m.recipient) now m)) id
+          (record w {
+            last_arrival = raised cmp w.last_arrival m (once_at (w.last_arrival m.origin m.recipient) now m);
+          })
       raised_within = record {
-        arrivals = λ n own_n. raised_same cmp order inside alike Whole m n (once_at (last m.origin m.recipient) now m) last w id is own_n ∙ ap (λ at. raised cmp w.last_arrival m at n.origin n.recipient) at_same;
+        arrivals = λ n own_n.
+            raised_same cmp order inside alike Whole m n (once_at (last m.origin m.recipient) now m) last w id is own_n
+            ∙ ap (λ at. raised cmp w.last_arrival m at n.origin n.recipient) at_same;
         ids = is.ids;
         sending = is.sending;
         waiting = is.waiting;
       }
 
       by_late : (b : Bool)
-          → Of (cond b (meets MomentTooLate) (goes (once m (once_at (w.last_arrival m.origin m.recipient) now m) ∷ []) (record w { last_arrival = raised cmp w.last_arrival m (once_at (w.last_arrival m.origin m.recipient) now m) })))
-          (cond b (meets MomentTooLate) (goes (once m (once_at (last m.origin m.recipient) now m) ∷ []) (record (Small last id w) { last_arrival = raised cmp last m (once_at (last m.origin m.recipient) now m) })))
+          → Of
+          (cond b (meets MomentTooLate)
+          (goes (once m (once_at (w.last_arrival m.origin m.recipient) now m) ∷ [])
+          (record w {
+            last_arrival = raised cmp w.last_arrival m
+                (once_at (w.last_arrival m.origin m.recipient) now m);
+          })))
+          (cond b (meets MomentTooLate)
+          (goes (once m (once_at (last m.origin m.recipient) now m) ∷ [])
+          (record (Small last id w) {
+            last_arrival = raised cmp last m (once_at (last m.origin m.recipient) now m);
+          })))
       by_late true = tt
       by_late false =
-          let alone : once m (once_at (last m.origin m.recipient) now m) ∷ [] ≡ filter (λ (c : Completed P). inside c.origin) (once m (once_at (w.last_arrival m.origin m.recipient) now m) ∷ []) =
-          ap (λ at. once m at ∷ []) at_same ∙ (rw own refl) in
-          (raised cmp last m (once_at (last m.origin m.recipient) now m), id, raised_within, goes_alike cmp order inside alike Whole _ _ _ _ alone refl)
+          let alone : once m (once_at (last m.origin m.recipient) now m) ∷ []
+          ≡ filter (λ (c : Completed P). inside c.origin)
+          (once m (once_at (w.last_arrival m.origin m.recipient) now m) ∷ []) =
+          ap (λ at. once m at ∷ []) at_same ∙ (rw own refl) in (
+            raised cmp last m (once_at (last m.origin m.recipient) now m),
+            id,
+            raised_within,
+            goes_alike cmp order inside alike Whole _ _ _ _ alone refl,
+          )
 
       at_once : Of (complete_at_once cmp now w m) (complete_at_once cmp now (Small last id w) m)
       at_once = by_late (m.should_deliver && nat_lt last_moment (now + m.latency))
 
-      by_mode : (b : Bool) → Of (cond b (and_then (start_next cmp now (queued cmp order w m) (first_waiting cmp (queued cmp order w m) m)) (settle cmp now)) (complete_at_once cmp now w m))
-          (cond b (and_then (start_next cmp now (queued cmp order (Small last id w) m) (first_waiting cmp (queued cmp order (Small last id w) m) m)) (settle cmp now)) (complete_at_once cmp now (Small last id w) m))
+      by_mode : (b : Bool)
+          → Of
+          (cond b
+          (and_then (start_next cmp now (queued cmp order w m) (first_waiting cmp (queued cmp order w m) m))
+          (settle cmp now))
+          (complete_at_once cmp now w m))
+          (cond b
+          (and_then
+          (start_next cmp now (queued cmp order (Small last id w) m)
+          (first_waiting cmp (queued cmp order (Small last id w) m) m))
+          (settle cmp now))
+          (complete_at_once cmp now (Small last id w) m))
       by_mode true =
-          part_then cmp order inside alike Whole Any Any (start_next cmp now (queued cmp order w m) (first_waiting cmp (queued cmp order w m) m))
-          (start_next cmp now (queued cmp order (Small last id w) m) (first_waiting cmp (queued cmp order (Small last id w) m) m)) (settle cmp now) (settle cmp now) starting
-          (ends_any (start_next cmp now (queued cmp order w m) (first_waiting cmp (queued cmp order w m) m))) (ends_any (start_next cmp now (queued cmp order (Small last id w) m) (first_waiting cmp (queued cmp order (Small last id w) m) m))) (λ u l i part_u r s. settle_in_part now u l i part_u)
+          part_then cmp order inside alike Whole Any Any
+          (start_next cmp now (queued cmp order w m) (first_waiting cmp (queued cmp order w m) m))
+          (start_next cmp now (queued cmp order (Small last id w) m)
+          (first_waiting cmp (queued cmp order (Small last id w) m) m))
+          (settle cmp now) (settle cmp now) starting
+          (ends_any (start_next cmp now (queued cmp order w m) (first_waiting cmp (queued cmp order w m) m)))
+          (ends_any
+          (start_next cmp now (queued cmp order (Small last id w) m)
+          (first_waiting cmp (queued cmp order (Small last id w) m) m)))
+          (λ u l i part_u r s. settle_in_part now u l i part_u)
       by_mode false = at_once
 
   -- ---- a message of others is enqueued
 
-  enqueue_other : (now : ℕ) (w : World P) (m : Message P) (last : P → P → Option ℕ) (id : ℕ) → Within last id w → NoneDone cmp order w → Whole m → mine m ≡ false
+  enqueue_other : (now : ℕ) (w : World P) (m : Message P) (last : P → P → Option ℕ) (id : ℕ) → Within last id w
+      → NoneDone cmp order w → Whole m → mine m ≡ false
       → Of (act cmp w (call_enqueue now m)) (goes [] (Small last id w))
   enqueue_other now w m last id is rests whole off = by_mode w.limited
     where
       same_world : Small last id (queued cmp order w m) ≡ Small last id w
       same_world =
-          part_alike cmp order inside alike Whole w last id (filter (λ (f : Flight P). mine f.message) w.sending) (filter (λ (f : Flight P). mine f.message) w.sending) _ _ refl
+          part_alike cmp order inside alike Whole w last id (filter (λ (f : Flight P). mine f.message) w.sending)
+          (filter (λ (f : Flight P). mine f.message) w.sending) _ _ refl
           (queued_filter w.waiting m false off ∙ append-nil (filter mine w.waiting))
 
-      starting : Of (start_next cmp now (queued cmp order w m) (first_waiting cmp (queued cmp order w m) m)) (goes [] (Small last id w))
+      starting : Of (start_next cmp now (queued cmp order w m) (first_waiting cmp (queued cmp order w m) m))
+          (goes [] (Small last id w))
       starting =
-          subst (λ (z : World P). Of (start_next cmp now (queued cmp order w m) (first_waiting cmp (queued cmp order w m) m)) (goes [] z)) same_world
-          (start_next_other cmp order inside alike Whole now (queued cmp order w m) m (first_waiting cmp (queued cmp order w m) m) last id (queued_within w m last id is whole) off refl)
+          subst
+          (λ (z : World P). Of
+          (start_next cmp now (queued cmp order w m) (first_waiting cmp (queued cmp order w m) m)) (goes [] z))
+          same_world
+          (start_next_other cmp order inside alike Whole now (queued cmp order w m) m
+          (first_waiting cmp (queued cmp order w m) m) last id (queued_within w m last id is whole) off refl)
 
-      raised_within : Within last id (record w { last_arrival = raised cmp w.last_arrival m (once_at (w.last_arrival m.origin m.recipient) now m) })
+      raised_within : Within last id
+          (record w {
+            last_arrival = raised cmp w.last_arrival m (once_at (w.last_arrival m.origin m.recipient) now m);
+          })
       raised_within = record {
-        arrivals = λ n own_n. is.arrivals n own_n ∙ sym (raised_other cmp order inside alike Whole m n (once_at (w.last_arrival m.origin m.recipient) now m) w.last_arrival off own_n);
+        arrivals = λ n own_n.
+            is.arrivals n own_n
+            ∙ sym
+            (raised_other cmp order inside alike Whole m n (once_at (w.last_arrival m.origin m.recipient) now m)
+            w.last_arrival off own_n);
         ids = is.ids;
         sending = is.sending;
         waiting = is.waiting;
       }
 
       by_late : (b : Bool)
-          → Of (cond b (meets MomentTooLate) (goes (once m (once_at (w.last_arrival m.origin m.recipient) now m) ∷ []) (record w { last_arrival = raised cmp w.last_arrival m (once_at (w.last_arrival m.origin m.recipient) now m) }))) (goes [] (Small last id w))
+          → Of
+          (cond b (meets MomentTooLate)
+          (goes (once m (once_at (w.last_arrival m.origin m.recipient) now m) ∷ [])
+          (record w {
+            last_arrival = raised cmp w.last_arrival m
+                (once_at (w.last_arrival m.origin m.recipient) now m);
+          })))
+          (goes [] (Small last id w))
       by_late true = tt
       by_late false =
-          let nothing : [] ≡ filter (λ (c : Completed P). inside c.origin) (once m (once_at (w.last_arrival m.origin m.recipient) now m) ∷ []) = rw off refl in
+          let nothing : []
+          ≡ filter (λ (c : Completed P). inside c.origin)
+          (once m (once_at (w.last_arrival m.origin m.recipient) now m) ∷ []) =
+          rw off refl in
           (last, id, raised_within, goes_alike cmp order inside alike Whole _ _ _ _ nothing refl)
 
       at_once : Of (complete_at_once cmp now w m) (goes [] (Small last id w))
@@ -182,25 +285,44 @@ module _ {P : Type 0} (cmp : P → P → Ordering) (order : IsTotalOrder cmp) (i
           (length (Small last id w).sending + length (Small last id w).waiting) now (Small last id w)
           (none_kept (λ (f : Flight P). mine f.message) (is_done cmp w) w.sending rests)
 
-      by_mode : (b : Bool) → Of (cond b (and_then (start_next cmp now (queued cmp order w m) (first_waiting cmp (queued cmp order w m) m)) (settle cmp now)) (complete_at_once cmp now w m)) (goes [] (Small last id w))
-      by_mode true = subst (λ (c : Course (Completed P) (World P)). Of (and_then (start_next cmp now (queued cmp order w m) (first_waiting cmp (queued cmp order w m) m)) (settle cmp now)) c) still
-          (part_then cmp order inside alike Whole Any Any (start_next cmp now (queued cmp order w m) (first_waiting cmp (queued cmp order w m) m)) (goes [] (Small last id w)) (settle cmp now) (settle cmp now) starting
-          (ends_any (start_next cmp now (queued cmp order w m) (first_waiting cmp (queued cmp order w m) m))) tt (λ u l i part_u r s. settle_in_part now u l i part_u))
+      by_mode : (b : Bool)
+          → Of
+          (cond b
+          (and_then (start_next cmp now (queued cmp order w m) (first_waiting cmp (queued cmp order w m) m))
+          (settle cmp now))
+          (complete_at_once cmp now w m))
+          (goes [] (Small last id w))
+      by_mode true =
+          subst
+          (λ (c : Course (Completed P) (World P)). Of
+          (and_then (start_next cmp now (queued cmp order w m) (first_waiting cmp (queued cmp order w m) m))
+          (settle cmp now))
+          c)
+          still
+          (part_then cmp order inside alike Whole Any Any
+          (start_next cmp now (queued cmp order w m) (first_waiting cmp (queued cmp order w m) m))
+          (goes [] (Small last id w)) (settle cmp now) (settle cmp now) starting
+          (ends_any (start_next cmp now (queued cmp order w m) (first_waiting cmp (queued cmp order w m) m))) tt
+          (λ u l i part_u r s. settle_in_part now u l i part_u))
       by_mode false = at_once
 
   -- ---- a call
 
-  act_kept : (w : World P) (call : Call P) (last : P → P → Option ℕ) (id : ℕ) → Within last id w → IsApart inside call → is_kept inside call ≡ true
+  act_kept : (w : World P) (call : Call P) (last : P → P → Option ℕ) (id : ℕ) → Within last id w → IsApart inside call
+      → is_kept inside call ≡ true
       → Of (act cmp w call) (act cmp (Small last id w) call)
   act_kept w (call_limit now peer egress ingress) last id is whole own =
-      settle_in_part now (record w { caps = limited_by cmp w.caps peer egress ingress; limited = true }) last id (record { arrivals = is.arrivals; ids = is.ids; sending = is.sending; waiting = is.waiting })
+      settle_in_part now (record w { caps = limited_by cmp w.caps peer egress ingress; limited = true }) last id
+      (record { arrivals = is.arrivals; ids = is.ids; sending = is.sending; waiting = is.waiting })
   act_kept w (call_limit_link now origin recipient link) last id is whole own =
-      settle_in_part now (record w { caps = linked_by cmp w.caps origin recipient link; limited = true }) last id (record { arrivals = is.arrivals; ids = is.ids; sending = is.sending; waiting = is.waiting })
+      settle_in_part now (record w { caps = linked_by cmp w.caps origin recipient link; limited = true }) last id
+      (record { arrivals = is.arrivals; ids = is.ids; sending = is.sending; waiting = is.waiting })
   act_kept w (call_enqueue now m) last id is whole own = enqueue_mine now w m last id is whole own
   act_kept w (call_advance now) last id is whole own = (last, id, is, refl)
   act_kept w call_next last id is whole own = (last, id, is, refl)
 
-  act_other : (w : World P) (call : Call P) (last : P → P → Option ℕ) (id : ℕ) → Within last id w → NoneDone cmp order w → IsApart inside call → is_kept inside call ≡ false
+  act_other : (w : World P) (call : Call P) (last : P → P → Option ℕ) (id : ℕ) → Within last id w → NoneDone cmp order w
+      → IsApart inside call → is_kept inside call ≡ false
       → Of (act cmp w call) (goes [] (Small last id w))
   act_other w (call_limit now peer egress ingress) last id is rests whole off = cc
   act_other w (call_limit_link now origin recipient link) last id is rests whole off = cc
@@ -209,36 +331,61 @@ module _ {P : Type 0} (cmp : P → P → Ordering) (order : IsTotalOrder cmp) (i
   act_other w call_next last id is rests whole off = cc
 
   act_rests : (w : World P) (call : Call P) → NoneDone cmp order w → EndsWith (NoneDone cmp order) (act cmp w call)
-  act_rests w (call_limit now peer egress ingress) h = settle_rests cmp order now (record w { caps = limited_by cmp w.caps peer egress ingress; limited = true })
-  act_rests w (call_limit_link now origin recipient link) h = settle_rests cmp order now (record w { caps = linked_by cmp w.caps origin recipient link; limited = true })
+  act_rests w (call_limit now peer egress ingress) h =
+      settle_rests cmp order now (record w { caps = limited_by cmp w.caps peer egress ingress; limited = true })
+  act_rests w (call_limit_link now origin recipient link) h =
+      settle_rests cmp order now (record w { caps = linked_by cmp w.caps origin recipient link; limited = true })
   act_rests w (call_enqueue now m) h =
-      ends_cond (NoneDone cmp order) w.limited (and_then (start_next cmp now (queued cmp order w m) (first_waiting cmp (queued cmp order w m) m)) (settle cmp now)) (complete_at_once cmp now w m)
-      (ends_and_then Any (NoneDone cmp order) (start_next cmp now (queued cmp order w m) (first_waiting cmp (queued cmp order w m) m)) (settle cmp now) (ends_any (start_next cmp now (queued cmp order w m) (first_waiting cmp (queued cmp order w m) m))) (λ v g. settle_rests cmp order now v))
-      (ends_cond (NoneDone cmp order) (m.should_deliver && nat_lt last_moment (now + m.latency)) (meets MomentTooLate) _ tt h)
+      ends_cond (NoneDone cmp order) w.limited
+      (and_then (start_next cmp now (queued cmp order w m) (first_waiting cmp (queued cmp order w m) m))
+      (settle cmp now))
+      (complete_at_once cmp now w m)
+      (ends_and_then Any (NoneDone cmp order)
+      (start_next cmp now (queued cmp order w m) (first_waiting cmp (queued cmp order w m) m)) (settle cmp now)
+      (ends_any (start_next cmp now (queued cmp order w m) (first_waiting cmp (queued cmp order w m) m)))
+      (λ v g. settle_rests cmp order now v))
+      (ends_cond (NoneDone cmp order) (m.should_deliver && nat_lt last_moment (now + m.latency)) (meets MomentTooLate) _
+      tt h)
   act_rests w (call_advance now) h = h
   act_rests w call_next h = h
 
   act_moment : (w : World P) (call : Call P) (t : ℕ) → w.moment ≡ t → EndsWith (λ v. v.moment ≡ t) (act cmp w call)
-  act_moment w (call_limit now peer egress ingress) t h = settle_moment cmp order now (record w { caps = limited_by cmp w.caps peer egress ingress; limited = true }) t h
-  act_moment w (call_limit_link now origin recipient link) t h = settle_moment cmp order now (record w { caps = linked_by cmp w.caps origin recipient link; limited = true }) t h
+  act_moment w (call_limit now peer egress ingress) t h =
+      settle_moment cmp order now (record w { caps = limited_by cmp w.caps peer egress ingress; limited = true }) t h
+  act_moment w (call_limit_link now origin recipient link) t h =
+      settle_moment cmp order now (record w { caps = linked_by cmp w.caps origin recipient link; limited = true }) t h
   act_moment w (call_enqueue now m) t h =
-      ends_cond (λ v. v.moment ≡ t) w.limited (and_then (start_next cmp now (queued cmp order w m) (first_waiting cmp (queued cmp order w m) m)) (settle cmp now)) (complete_at_once cmp now w m)
-      (ends_and_then (λ v. v.moment ≡ t) (λ v. v.moment ≡ t) (start_next cmp now (queued cmp order w m) (first_waiting cmp (queued cmp order w m) m)) (settle cmp now) (start_next_moment cmp order now (queued cmp order w m) (first_waiting cmp (queued cmp order w m) m) t h) (λ v g. settle_moment cmp order now v t g))
-      (ends_cond (λ v. v.moment ≡ t) (m.should_deliver && nat_lt last_moment (now + m.latency)) (meets MomentTooLate) _ tt h)
+      ends_cond (λ v. v.moment ≡ t) w.limited
+      (and_then (start_next cmp now (queued cmp order w m) (first_waiting cmp (queued cmp order w m) m))
+      (settle cmp now))
+      (complete_at_once cmp now w m)
+      (ends_and_then (λ v. v.moment ≡ t) (λ v. v.moment ≡ t)
+      (start_next cmp now (queued cmp order w m) (first_waiting cmp (queued cmp order w m) m)) (settle cmp now)
+      (start_next_moment cmp order now (queued cmp order w m) (first_waiting cmp (queued cmp order w m) m) t h)
+      (λ v g. settle_moment cmp order now v t g))
+      (ends_cond (λ v. v.moment ≡ t) (m.should_deliver && nat_lt last_moment (now + m.latency)) (meets MomentTooLate) _
+      tt h)
   act_moment w (call_advance now) t h = h
   act_moment w call_next t h = h
 
   -- a message of others comes before the next event
-  other_is_before : (w : World P) (call : Call P) (now : ℕ) → moment_of call ≡ Some now → IsInTurn cmp w call → is_kept inside call ≡ false → (t : ℕ) → NextIs cmp w (Some t) → now < t
+  other_is_before : (w : World P) (call : Call P) (now : ℕ) → moment_of call ≡ Some now → IsInTurn cmp w call
+      → is_kept inside call ≡ false → (t : ℕ) → NextIs cmp w (Some t) → now < t
   other_is_before w (call_limit s peer egress ingress) now e h off t next = cc
   other_is_before w (call_limit_link s origin recipient link) now e h off t next = cc
-  other_is_before w (call_enqueue s m) now e h off t next = let same : s ≡ now = cc in let lt : s < t = h.1 (Some t) next in omega arith
+  other_is_before w (call_enqueue s m) now e h off t next =
+      let same : s ≡ now = cc in let lt : s < t = h.1 (Some t) next in omega arith
   other_is_before w (call_advance s) now e h off t next = cc
   other_is_before w call_next now e h off t next = cc
 
-  split_course : (c : Course (Completed P) (World P)) (f : World P → Course (Completed P) (World P)) (cs : List (Completed P)) (u : World P) → and_then c f ≡ goes cs u
-      → (ds : List (Completed P)) × (v : World P) × (es : List (Completed P)) × (c ≡ goes ds v) × (f v ≡ goes es u) × (ds ++ es ≡ cs)
-  split_course (goes ds v) f cs u e = let r : (es : List (Completed P)) × (f v ≡ goes es u) × (ds ++ es ≡ cs) = rest_is cmp ds (f v) cs u e in (ds, v, r.0, refl, r.1, r.2)
+  split_course : (c : Course (Completed P) (World P)) (f : World P → Course (Completed P) (World P))
+      (cs : List (Completed P)) (u : World P)
+      → and_then c f ≡ goes cs u
+      → (ds : List (Completed P)) × (v : World P) × (es : List (Completed P)) × (c ≡ goes ds v) × (f v ≡ goes es u)
+      × (ds ++ es ≡ cs)
+  split_course (goes ds v) f cs u e =
+      let r : (es : List (Completed P)) × (f v ≡ goes es u) × (ds ++ es ≡ cs) = rest_is cmp ds (f v) cs u e in
+      (ds, v, r.0, refl, r.1, r.2)
   split_course (meets fault) f cs u e = cc
 
   -- the part's own world may be behind: nothing of the set happens until it catches up
@@ -249,88 +396,167 @@ module _ {P : Type 0} (cmp : P → P → Ordering) (order : IsTotalOrder cmp) (i
     pub ticks : Ticks cmp count s (goes [] (Small last id w))
     pub at : w.moment ≡ s.moment + count
 
-  pub isolated : {w : World P} {calls : List (Call P)} {css : List (List (Completed P))} → AnswersInTurn cmp w calls css → (s : World P) (last : P → P → Option ℕ) (id : ℕ)
+  pub isolated : {w : World P} {calls : List (Call P)} {css : List (List (Completed P))} → AnswersInTurn cmp w calls css
+      → (s : World P) (last : P → P → Option ℕ) (id : ℕ)
       → Behind s w last id → KeepsApart inside calls → InTime calls
       → Answers cmp s (filter (is_kept inside) calls) (kept_completions inside calls css) × NothingElse inside calls css
   isolated no_calls_in_turn s last id b apart in_time = (no_calls, tt)
-  isolated {w = w} (answers_in_turn {u = u} {call = call} {now = now} {calls = calls} {cs = cs} {css = css} is_now turn runs more) s last id b apart in_time =
-      let sp : (ds : List (Completed P)) × (v : World P) × (es : List (Completed P)) × (runs.ticked ≡ goes ds v) × (act cmp v call ≡ goes es u) × (ds ++ es ≡ cs)
+  isolated {w = w}
+      (answers_in_turn {u = u} {call = call} {now = now} {calls = calls} {cs = cs} {css = css} is_now turn runs more) s
+      last id b apart in_time =
+      let sp : (ds : List (Completed P)) × (v : World P) × (es : List (Completed P)) × (runs.ticked ≡ goes ds v)
+      × (act cmp v call ≡ goes es u) × (ds ++ es ≡ cs)
       = split_course runs.ticked (λ v. act cmp v call) cs u (sym runs.acts) in
-      by_call (is_kept inside call) refl sp.0 sp.1 sp.2 sp.3 sp.4 sp.5 (λ t l i c. isolated more t l i c apart.1 in_time.1)
+      by_call (is_kept inside call) refl sp.0 sp.1 sp.2 sp.3 sp.4 sp.5
+      (λ t l i c. isolated more t l i c apart.1 in_time.1)
     where
-      by_call : (k : Bool) → is_kept inside call ≡ k → (ds : List (Completed P)) (v : World P) (es : List (Completed P)) → runs.ticked ≡ goes ds v → act cmp v call ≡ goes es u → ds ++ es ≡ cs
-          → ((t : World P) (l : P → P → Option ℕ) (i : ℕ) → Behind t u l i → Answers cmp t (filter (is_kept inside) calls) (kept_completions inside calls css) × NothingElse inside calls css)
-          → Answers cmp s (cond k (call ∷ filter (is_kept inside) calls) (filter (is_kept inside) calls)) (cond k (inside_alone inside cs ∷ kept_completions inside calls css) (kept_completions inside calls css))
+      by_call : (k : Bool) → is_kept inside call ≡ k → (ds : List (Completed P)) (v : World P) (es : List (Completed P))
+          → runs.ticked ≡ goes ds v → act cmp v call ≡ goes es u → ds ++ es ≡ cs
+          → ((t : World P) (l : P → P → Option ℕ) (i : ℕ) → Behind t u l i
+          → Answers cmp t (filter (is_kept inside) calls) (kept_completions inside calls css)
+          × NothingElse inside calls css)
+          → Answers cmp s (cond k (call ∷ filter (is_kept inside) calls) (filter (is_kept inside) calls))
+          (cond k (inside_alone inside cs ∷ kept_completions inside calls css) (kept_completions inside calls css))
           × (cond k ⊤ (inside_alone inside cs ≡ []) × NothingElse inside calls css)
       by_call true flagged ds v es ticked acted join ih =
           let later : w.moment ≤ now = turn_later cmp order w call now is_now turn in
-          let ends : (v.moment ≡ w.moment + (now - w.moment)) × NoneDone cmp order v = ticks_end cmp order runs.ticks ds v ticked b.rests in
-          let small : (l : P → P → Option ℕ) × (i : ℕ) × Within l i v × Ticks cmp (now - w.moment) (Small last id w) (goes (filter (λ (c : Completed P). inside c.origin) ds) (Small l i v)) =
+          let ends : (v.moment ≡ w.moment + (now - w.moment)) × NoneDone cmp order v =
+          ticks_end cmp order runs.ticks ds v ticked b.rests in
+          let small : (l : P → P → Option ℕ) × (i : ℕ) × Within l i v
+          × Ticks cmp (now - w.moment) (Small last id w)
+          (goes (filter (λ (c : Completed P). inside c.origin) ds) (Small l i v)) =
           ticks_part cmp order inside alike Whole shares runs.ticks ds v last id ticked b.within in
-          let all : Ticks cmp ((now - w.moment) + b.count) s (goes (filter (λ (c : Completed P). inside c.origin) ds) (Small small.0 small.1 v))
-          = ticks_on cmp b.ticks (now - w.moment) (Small last id w) [] (goes (filter (λ (c : Completed P). inside c.origin) ds) (Small small.0 small.1 v)) refl small.3 in
+          let all : Ticks cmp ((now - w.moment) + b.count) s
+          (goes (filter (λ (c : Completed P). inside c.origin) ds) (Small small.0 small.1 v))
+          = ticks_on cmp b.ticks (now - w.moment) (Small last id w) []
+          (goes (filter (λ (c : Completed P). inside c.origin) ds) (Small small.0 small.1 v)) refl small.3 in
           let behind : w.moment ≡ s.moment + b.count = b.at in
           let count : (now - w.moment) + b.count ≡ now - s.moment = omega arith in
-          let counted : Ticks cmp (now - s.moment) s (goes (filter (λ (c : Completed P). inside c.origin) ds) (Small small.0 small.1 v))
-          = subst (λ n. Ticks cmp n s (goes (filter (λ (c : Completed P). inside c.origin) ds) (Small small.0 small.1 v))) count all in
+          let counted : Ticks cmp (now - s.moment) s
+          (goes (filter (λ (c : Completed P). inside c.origin) ds) (Small small.0 small.1 v))
+          = subst
+          (λ n. Ticks cmp n s (goes (filter (λ (c : Completed P). inside c.origin) ds) (Small small.0 small.1 v)))
+          count all in
           let act_small : Of (goes es u) (act cmp (Small small.0 small.1 v) call)
-          = subst (λ (c : Course (Completed P) (World P)). Of c (act cmp (Small small.0 small.1 v) call)) acted (act_kept v call small.0 small.1 small.2 apart.0 flagged) in
-          let both : filter (λ (c : Completed P). inside c.origin) ds ++ filter (λ (c : Completed P). inside c.origin) es ≡ filter (λ (c : Completed P). inside c.origin) cs
-          = sym (filter-append (λ (c : Completed P). inside c.origin) ds es) ∙ ap (filter (λ (c : Completed P). inside c.origin)) join in
-          let run : Runs cmp s call now (goes (filter (λ (c : Completed P). inside c.origin) cs) (Small act_small.0 act_small.1 u)) = record {
+          = subst (λ (c : Course (Completed P) (World P)). Of c (act cmp (Small small.0 small.1 v) call)) acted
+          (act_kept v call small.0 small.1 small.2 apart.0 flagged) in
+          let both : filter (λ (c : Completed P). inside c.origin) ds
+          ++ filter (λ (c : Completed P). inside c.origin) es
+          ≡ filter (λ (c : Completed P). inside c.origin) cs
+          = sym (filter-append (λ (c : Completed P). inside c.origin) ds es)
+          ∙ ap (filter (λ (c : Completed P). inside c.origin)) join in
+          let run : Runs cmp s call now
+          (goes (filter (λ (c : Completed P). inside c.origin) cs) (Small act_small.0 act_small.1 u)) =
+          record {
             ticked = goes (filter (λ (c : Completed P). inside c.origin) ds) (Small small.0 small.1 v);
             ticks = counted;
-            acts = sym (ap (preceded (filter (λ (c : Completed P). inside c.origin) ds)) act_small.3 ∙ goes_alike cmp order inside alike Whole _ _ _ _ both refl);
+            acts =
+                sym
+                (ap (preceded (filter (λ (c : Completed P). inside c.origin) ds)) act_small.3
+                ∙ goes_alike cmp order inside alike Whole _ _ _ _ both refl);
           } in
-          let rests : NoneDone cmp order u = subst (λ (c : Course (Completed P) (World P)). EndsWith (NoneDone cmp order) c) acted (act_rests v call ends.1) in
-          let next : Behind (Small act_small.0 act_small.1 u) u act_small.0 act_small.1 = record { within = act_small.2; rests = rests; count = 0; ticks = no_tick; at = omega arith } in
-          let others : Answers cmp (Small act_small.0 act_small.1 u) (filter (is_kept inside) calls) (kept_completions inside calls css) × NothingElse inside calls css
+          let rests : NoneDone cmp order u =
+          subst (λ (c : Course (Completed P) (World P)). EndsWith (NoneDone cmp order) c) acted
+          (act_rests v call ends.1) in
+          let next : Behind (Small act_small.0 act_small.1 u) u act_small.0 act_small.1 =
+          record { within = act_small.2; rests = rests; count = 0; ticks = no_tick; at = omega arith } in
+          let others : Answers cmp (Small act_small.0 act_small.1 u) (filter (is_kept inside) calls)
+          (kept_completions inside calls css)
+          × NothingElse inside calls css
           = ih (Small act_small.0 act_small.1 u) act_small.0 act_small.1 next in
           (call_answers is_now (omega arith) run others.0, (tt, others.1))
       by_call false dropped ds v es ticked acted join ih =
           let later : w.moment ≤ now = turn_later cmp order w call now is_now turn in
-          let ends : (v.moment ≡ w.moment + (now - w.moment)) × NoneDone cmp order v = ticks_end cmp order runs.ticks ds v ticked b.rests in
+          let ends : (v.moment ≡ w.moment + (now - w.moment)) × NoneDone cmp order v =
+          ticks_end cmp order runs.ticks ds v ticked b.rests in
           let low : now ≤ last_moment = in_time.0 now is_now in
           let empty : ds ≡ [] = no_event later (first_event cmp order runs.ticks ds v ticked (omega arith)) in
-          let small : (l : P → P → Option ℕ) × (i : ℕ) × Within l i v × Ticks cmp (now - w.moment) (Small last id w) (goes (filter (λ (c : Completed P). inside c.origin) ds) (Small l i v)) =
+          let small : (l : P → P → Option ℕ) × (i : ℕ) × Within l i v
+          × Ticks cmp (now - w.moment) (Small last id w)
+          (goes (filter (λ (c : Completed P). inside c.origin) ds) (Small l i v)) =
           ticks_part cmp order inside alike Whole shares runs.ticks ds v last id ticked b.within in
-          let all : Ticks cmp ((now - w.moment) + b.count) s (goes (filter (λ (c : Completed P). inside c.origin) ds) (Small small.0 small.1 v))
-          = ticks_on cmp b.ticks (now - w.moment) (Small last id w) [] (goes (filter (λ (c : Completed P). inside c.origin) ds) (Small small.0 small.1 v)) refl small.3 in
+          let all : Ticks cmp ((now - w.moment) + b.count) s
+          (goes (filter (λ (c : Completed P). inside c.origin) ds) (Small small.0 small.1 v))
+          = ticks_on cmp b.ticks (now - w.moment) (Small last id w) []
+          (goes (filter (λ (c : Completed P). inside c.origin) ds) (Small small.0 small.1 v)) refl small.3 in
           let act_small : Of (goes es u) (goes [] (Small small.0 small.1 v))
-          = subst (λ (c : Course (Completed P) (World P)). Of c (goes [] (Small small.0 small.1 v))) acted (act_other v call small.0 small.1 small.2 ends.1 apart.0 dropped) in
-          let same : goes [] (Small small.0 small.1 v) ≡ goes (filter (λ (c : Completed P). inside c.origin) es) (Small act_small.0 act_small.1 u) = act_small.3 in
+          = subst (λ (c : Course (Completed P) (World P)). Of c (goes [] (Small small.0 small.1 v))) acted
+          (act_other v call small.0 small.1 small.2 ends.1 apart.0 dropped) in
+          let same : goes [] (Small small.0 small.1 v)
+          ≡ goes (filter (λ (c : Completed P). inside c.origin) es) (Small act_small.0 act_small.1 u) =
+          act_small.3 in
           let world_same : Small small.0 small.1 v ≡ Small act_small.0 act_small.1 u = cc in
           let none_of_it : filter (λ (c : Completed P). inside c.origin) es ≡ [] = cc in
           let quiet : filter (λ (c : Completed P). inside c.origin) cs ≡ []
-          = ap (filter (λ (c : Completed P). inside c.origin)) (sym join ∙ ap (λ (xs : List (Completed P)). xs ++ es) empty) ∙ none_of_it in
+          = ap (filter (λ (c : Completed P). inside c.origin))
+          (sym join ∙ ap (λ (xs : List (Completed P)). xs ++ es) empty)
+          ∙ none_of_it in
           let waited : Ticks cmp ((now - w.moment) + b.count) s (goes [] (Small act_small.0 act_small.1 u)) =
-          subst (λ (z : World P). Ticks cmp ((now - w.moment) + b.count) s (goes [] z)) world_same (subst (λ (xs : List (Completed P)). Ticks cmp ((now - w.moment) + b.count) s (goes (filter (λ (c : Completed P). inside c.origin) xs) (Small small.0 small.1 v))) empty all) in
-          let rests : NoneDone cmp order u = subst (λ (c : Course (Completed P) (World P)). EndsWith (NoneDone cmp order) c) acted (act_rests v call ends.1) in
+          subst (λ (z : World P). Ticks cmp ((now - w.moment) + b.count) s (goes [] z)) world_same
+          (subst
+          (λ (xs : List (Completed P)). Ticks cmp ((now - w.moment) + b.count) s
+          (goes (filter (λ (c : Completed P). inside c.origin) xs) (Small small.0 small.1 v)))
+          empty all) in
+          let rests : NoneDone cmp order u =
+          subst (λ (c : Course (Completed P) (World P)). EndsWith (NoneDone cmp order) c) acted
+          (act_rests v call ends.1) in
           let behind : w.moment ≡ s.moment + b.count = b.at in
           let there : v.moment ≡ now = let first : v.moment ≡ w.moment + (now - w.moment) = ends.0 in omega arith in
-          let at : u.moment ≡ now = subst (λ (c : Course (Completed P) (World P)). EndsWith (λ y. y.moment ≡ now) c) acted (act_moment v call now there) in
-          let next : Behind s u act_small.0 act_small.1 = record { within = act_small.2; rests = rests; count = (now - w.moment) + b.count; ticks = waited; at = omega arith } in
-          let others : Answers cmp s (filter (is_kept inside) calls) (kept_completions inside calls css) × NothingElse inside calls css = ih s act_small.0 act_small.1 next in
+          let at : u.moment ≡ now =
+          subst (λ (c : Course (Completed P) (World P)). EndsWith (λ y. y.moment ≡ now) c) acted
+          (act_moment v call now there) in
+          let next : Behind s u act_small.0 act_small.1 =
+          record {
+            within = act_small.2;
+            rests = rests;
+            count = (now - w.moment) + b.count;
+            ticks = waited;
+            at = omega arith;
+          } in
+          let others : Answers cmp s (filter (is_kept inside) calls) (kept_completions inside calls css)
+          × NothingElse inside calls css =
+          ih s act_small.0 act_small.1 next in
           (others.0, (quiet, others.1))
         where
-          no_event : w.moment ≤ now → (ds ≡ []) ⊎ ((t : ℕ) × (t ≤ w.moment + (now - w.moment)) × NextIs cmp w (Some t)) → ds ≡ []
+          no_event : w.moment ≤ now → (ds ≡ []) ⊎ ((t : ℕ) × (t ≤ w.moment + (now - w.moment)) × NextIs cmp w (Some t))
+              → ds ≡ []
           no_event later (inl e) = e
-          no_event later (inr (t, le, event)) = let before : now < t = other_is_before w call now is_now turn dropped t event in absurd (omega arith)
+          no_event later (inr (t, le, event)) =
+              let before : now < t = other_is_before w call now is_now turn dropped t event in absurd (omega arith)
 
   -- the fair rates of the set's flows are fair for these alone
-  pub fair_alone : (caps : Caps P) (ms : List (Message P)) (per : ℕ) (rates : Parts) → ((m : Message P) → Contains ms m → inside m.origin ≡ inside m.recipient) → AreFair cmp caps ms per rates
-      → AreFair cmp caps (filter (λ (m : Message P). inside m.origin) ms) per (flagged (map (λ (m : Message P). inside m.origin) ms) rates)
+  pub fair_alone : (caps : Caps P) (ms : List (Message P)) (per : ℕ) (rates : Parts)
+      → ((m : Message P) → Contains ms m → inside m.origin ≡ inside m.recipient) → AreFair cmp caps ms per rates
+      → AreFair cmp caps (filter (λ (m : Message P). inside m.origin) ms) per
+      (flagged (map (λ (m : Message P). inside m.origin) ms) rates)
   fair_alone caps ms per rates whole fair =
-      fair_part cmp caps mine ms per rates (λ k m n has_m has_n uses. by_kind k m n (whole m (contains_from_in ms m has_m)) (whole n (contains_from_in ms n has_n)) uses) fair
+      fair_part cmp caps mine ms per rates
+      (λ k m n has_m has_n uses. by_kind k m n (whole m (contains_from_in ms m has_m))
+      (whole n (contains_from_in ms n has_n)) uses)
+      fair
     where
       by_kind : (k : Kind) (m n : Message P) → Whole m → Whole n → uses_at cmp caps k m n ≡ true → mine m ≡ mine n
       by_kind at_egress m n a b uses = together m.origin n.origin uses
-      by_kind at_ingress m n a b uses = a ∙ together m.recipient n.recipient (and_parts (is_delivered cmp n) (same_peer cmp m.recipient n.recipient) uses).1 ∙ sym b
+      by_kind at_ingress m n a b uses =
+          a
+          ∙ together m.recipient n.recipient
+          (and_parts (is_delivered cmp n) (same_peer cmp m.recipient n.recipient) uses).1
+          ∙ sym b
       by_kind at_link m n a b uses = alike m n uses
 
   -- from a new world, the set's completions are those of the calls without the messages of others
-  pub isolation : (id : ℕ) (calls : List (Call P)) (css : List (List (Completed P))) → AnswersInTurn cmp (new_world id) calls css → KeepsApart inside calls → InTime calls
-      → Answers cmp (new_world id) (filter (is_kept inside) calls) (kept_completions inside calls css) × NothingElse inside calls css
+  pub isolation : (id : ℕ) (calls : List (Call P)) (css : List (List (Completed P)))
+      → AnswersInTurn cmp (new_world id) calls css → KeepsApart inside calls → InTime calls
+      → Answers cmp (new_world id) (filter (is_kept inside) calls) (kept_completions inside calls css)
+      × NothingElse inside calls css
   isolation id calls css answered apart in_time =
       let start : World P = new_world id in
-      isolated answered start start.last_arrival id (record { within = record { arrivals = λ m own. refl; ids = omega arith; sending = tt; waiting = tt }; rests = refl; count = 0; ticks = no_tick; at = omega arith }) apart in_time
+      isolated answered start start.last_arrival id
+      (record {
+        within = record { arrivals = λ m own. refl; ids = omega arith; sending = tt; waiting = tt };
+        rests = refl;
+        count = 0;
+        ticks = no_tick;
+        at = omega arith;
+      })
+      apart in_time

@@ -1,5 +1,6 @@
 -- As time goes by, the part of a world that is a set's messages goes its own way.
-use Rattle.std.proofs.Common.{◌≡◌, ℕ, suc, ◌+◌, List, [], ◌∷◌, ◌++◌, map, length, Bool, true, false, cond, Option, refl, sym, ap, ◌∙◌, subst, arith}
+use Rattle.std.proofs.Common.{◌≡◌, ℕ, suc, ◌+◌, List, [], ◌∷◌, ◌++◌, map, length, Bool, true, false, cond, Option, refl}
+use Rattle.std.proofs.Common.{sym, ap, ◌∙◌, subst, arith}
 use Rattle.std.specs.List.{filter}
 use Rattle.std.specs.declared.cmp.Ordering.{Ordering}
 use Rattle.std.specs.Cmp.{IsTotalOrder}
@@ -15,7 +16,8 @@ use Rattle.link_simulation.proofs.Simulation.Rates.{one_each}
 use Rattle.fair_rates.specs.Fairness.Part.{flagged}
 use Rattle.link_simulation.proofs.Laws.Isolation.{part, IsPart, IsPartOf, part_alike, instant_part}
 
-module _ {P : Type 0} (cmp : P → P → Ordering) (order : IsTotalOrder cmp) (inside : P → Bool) (alike : (m n : Message P) → same_pair cmp m n ≡ true → inside m.origin ≡ inside n.origin) (T : Message P → Type 0)
+module _ {P : Type 0} (cmp : P → P → Ordering) (order : IsTotalOrder cmp) (inside : P → Bool)
+    (alike : (m n : Message P) → same_pair cmp m n ≡ true → inside m.origin ≡ inside n.origin) (T : Message P → Type 0)
     (shares : (w : World P) → Each T (flows w) → SharesNoSide cmp w.caps (λ (m : Message P). inside m.origin) (flows w)) where
   abbrev mine : Message P → Bool
   mine m = inside m.origin
@@ -37,7 +39,8 @@ module _ {P : Type 0} (cmp : P → P → Ordering) (order : IsTotalOrder cmp) (i
   map_kept (f ∷ fs) = by_test (mine f.message) (map_kept fs)
     where
       by_test : (b : Bool) → messages (filter flying fs) ≡ filter mine (messages fs)
-          → messages (cond b (f ∷ filter flying fs) (filter flying fs)) ≡ cond b (f.message ∷ filter mine (messages fs)) (filter mine (messages fs))
+          → messages (cond b (f ∷ filter flying fs) (filter flying fs))
+          ≡ cond b (f.message ∷ filter mine (messages fs)) (filter mine (messages fs))
       by_test true ih = ap (λ (ms : List (Message P)). f.message ∷ ms) ih
       by_test false ih = ih
 
@@ -45,7 +48,8 @@ module _ {P : Type 0} (cmp : P → P → Ordering) (order : IsTotalOrder cmp) (i
   each_message [] e = tt
   each_message (f ∷ fs) e = (e.0, each_message fs e.1)
 
-  each_drained : (per : ℕ) (rates : Parts) (n : ℕ) (fs : List (Flight P)) → Each (λ (f : Flight P). T f.message) fs → Each (λ (f : Flight P). T f.message) (drain_each per rates n fs)
+  each_drained : (per : ℕ) (rates : Parts) (n : ℕ) (fs : List (Flight P)) → Each (λ (f : Flight P). T f.message) fs
+      → Each (λ (f : Flight P). T f.message) (drain_each per rates n fs)
   each_drained per rates n [] e = nothing rates
     where
       nothing : (rates : Parts) → Each (λ (f : Flight P). T f.message) (drain_each {P = P} per rates n [])
@@ -55,7 +59,8 @@ module _ {P : Type 0} (cmp : P → P → Ordering) (order : IsTotalOrder cmp) (i
   each_drained per (r ∷ rs) n (f ∷ fs) e = (e.0, each_drained per rs n fs e.1)
 
   drain_kept : (per : ℕ) (rates : Parts) (n : ℕ) (fs : List (Flight P)) → length rates ≡ length fs
-      → filter flying (drain_each per rates n fs) ≡ drain_each per (flagged (map mine (messages fs)) rates) n (filter flying fs)
+      → filter flying (drain_each per rates n fs)
+      ≡ drain_each per (flagged (map mine (messages fs)) rates) n (filter flying fs)
   drain_kept per [] n [] e = refl
   drain_kept per (r ∷ rs) n [] e = absurd (omega arith)
   drain_kept per [] n (f ∷ fs) e = absurd (omega arith)
@@ -64,27 +69,48 @@ module _ {P : Type 0} (cmp : P → P → Ordering) (order : IsTotalOrder cmp) (i
       after : Flight P
       after = record { message = f.message; left = drained_by (rate_of per r) n f.left }
 
-      by_test : (b : Bool) → filter flying (drain_each per rs n fs) ≡ drain_each per (flagged (map mine (messages fs)) rs) n (filter flying fs)
-          → cond b (record { message = f.message; left = drained_by (rate_of per r) n f.left } ∷ filter flying (drain_each per rs n fs)) (filter flying (drain_each per rs n fs))
-          ≡ drain_each per (cond b (r ∷ flagged (map mine (messages fs)) rs) (flagged (map mine (messages fs)) rs)) n (cond b (f ∷ filter flying fs) (filter flying fs))
-      by_test true ih = ap (λ (gs : List (Flight P)). record { message = f.message; left = drained_by (rate_of per r) n f.left } ∷ gs) ih
+      by_test : (b : Bool)
+          → filter flying (drain_each per rs n fs)
+          ≡ drain_each per (flagged (map mine (messages fs)) rs) n (filter flying fs)
+          → cond b
+          (record { message = f.message; left = drained_by (rate_of per r) n f.left }
+          ∷ filter flying (drain_each per rs n fs))
+          (filter flying (drain_each per rs n fs))
+          ≡ drain_each per (cond b (r ∷ flagged (map mine (messages fs)) rs) (flagged (map mine (messages fs)) rs)) n
+          (cond b (f ∷ filter flying fs) (filter flying fs))
+      by_test true ih =
+          ap (λ (gs : List (Flight P)). record { message = f.message; left = drained_by (rate_of per r) n f.left } ∷ gs)
+          ih
       by_test false ih = ih
 
   -- a nanosecond of the world is one of its part
-  pub drain_part : (w v : World P) (last : P → P → Option ℕ) (id : ℕ) → Within last id w → Drains cmp w v → Within last id v × Drains cmp (Small last id w) (Small last id v)
+  pub drain_part : (w v : World P) (last : P → P → Option ℕ) (id : ℕ) → Within last id w → Drains cmp w v
+      → Within last id v × Drains cmp (Small last id w) (Small last id v)
   drain_part w v last id is d =
       let u : World P = record w { sending = drain_each d.per d.rates 1 w.sending; moment = w.moment + 1 } in
-      let as_many : length d.rates ≡ length w.sending = one_each cmp w.caps (flows w) d.per d.rates d.fair ∙ length_messages w.sending in
+      let as_many : length d.rates ≡ length w.sending =
+      one_each cmp w.caps (flows w) d.per d.rates d.fair ∙ length_messages w.sending in
       let fair : AreFair cmp w.caps (filter mine (flows w)) d.per (flagged (map mine (flows w)) d.rates)
       = fair_part cmp w.caps mine (flows w) d.per d.rates (shares w (each_message w.sending is.sending)) d.fair in
       let drains : Drains cmp (Small last id w) (Small last id u) = record {
         per = d.per;
         rates = flagged (map mine (flows w)) d.rates;
-        fair = subst (λ (ms : List (Message P)). AreFair cmp w.caps ms d.per (flagged (map mine (flows w)) d.rates)) (sym (map_kept w.sending)) fair;
-        world = part_alike cmp order inside alike T u last id _ _ (filter mine w.waiting) (filter mine w.waiting) (drain_kept d.per d.rates 1 w.sending as_many) refl;
+        fair =
+            subst (λ (ms : List (Message P)). AreFair cmp w.caps ms d.per (flagged (map mine (flows w)) d.rates))
+            (sym (map_kept w.sending)) fair;
+        world =
+            part_alike cmp order inside alike T u last id _ _ (filter mine w.waiting) (filter mine w.waiting)
+            (drain_kept d.per d.rates 1 w.sending as_many) refl;
       } in
-      let within : Within last id u = record { arrivals = is.arrivals; ids = is.ids; sending = each_drained d.per d.rates 1 w.sending is.sending; waiting = is.waiting } in
-      subst (λ (z : World P). Within last id z × Drains cmp (Small last id w) (Small last id z)) (sym d.world) (within, drains)
+      let within : Within last id u =
+      record {
+        arrivals = is.arrivals;
+        ids = is.ids;
+        sending = each_drained d.per d.rates 1 w.sending is.sending;
+        waiting = is.waiting;
+      } in
+      subst (λ (z : World P). Within last id z × Drains cmp (Small last id w) (Small last id z)) (sym d.world)
+      (within, drains)
     where
       length_messages : (fs : List (Flight P)) → length (messages fs) ≡ length fs
       length_messages [] = refl
@@ -92,26 +118,43 @@ module _ {P : Type 0} (cmp : P → P → Ordering) (order : IsTotalOrder cmp) (i
 
   -- and so are any number of them: the set's completions are the same, and the part is of the world that they lead to
   pub ticks_part : {n : ℕ} {w : World P} {course : Course (Completed P) (World P)} → Ticks cmp n w course
-      → (cs : List (Completed P)) (v : World P) (last : P → P → Option ℕ) (id : ℕ) → course ≡ goes cs v → Within last id w
-      → (l : P → P → Option ℕ) × (i : ℕ) × Within l i v × Ticks cmp n (Small last id w) (goes (filter (λ (c : Completed P). inside c.origin) cs) (Small l i v))
+      → (cs : List (Completed P)) (v : World P) (last : P → P → Option ℕ) (id : ℕ) → course ≡ goes cs v
+      → Within last id w
+      → (l : P → P → Option ℕ) × (i : ℕ) × Within l i v
+      × Ticks cmp n (Small last id w) (goes (filter (λ (c : Completed P). inside c.origin) cs) (Small l i v))
   ticks_part {w = w} no_tick cs v last id e is =
       let same : w ≡ v = cc in
       let empty : [] ≡ cs = cc in (
         last,
         id,
         subst (λ (z : World P). Within last id z) same is,
-        subst (λ (ds : List (Completed P)). Ticks cmp 0 (Small last id w) (goes (filter (λ (c : Completed P). inside c.origin) ds) (Small last id v))) empty
+        subst
+            (λ (ds : List (Completed P)). Ticks cmp 0 (Small last id w)
+            (goes (filter (λ (c : Completed P). inside c.origin) ds) (Small last id v)))
+            empty
             (subst (λ (z : World P). Ticks cmp 0 (Small last id w) (goes [] (Small last id z))) same no_tick),
       )
   ticks_part {w = w} (one_tick {n = n} {v = z} {u = u} {cs = ds} {rest = rest} d i t) cs v last id e is =
       let r : (es : List (Completed P)) × (rest ≡ goes es v) × (ds ++ es ≡ cs) = rest_is cmp ds rest cs v e in
       let drained : Within last id z × Drains cmp (Small last id w) (Small last id z) = drain_part w z last id is d in
-      let now : IsPartOf cmp order inside alike T (instant cmp z) (instant cmp (Small last id z)) = instant_part cmp order inside alike T z last id drained.0 in
+      let now : IsPartOf cmp order inside alike T (instant cmp z) (instant cmp (Small last id z)) =
+      instant_part cmp order inside alike T z last id drained.0 in
       let landed : IsPartOf cmp order inside alike T (goes ds u) (instant cmp (Small last id z))
-      = subst (λ (c : Course (Completed P) (World P)). IsPartOf cmp order inside alike T c (instant cmp (Small last id z))) i now in
-      let later : (l : P → P → Option ℕ) × (j : ℕ) × Within l j v × Ticks cmp n (Small landed.0 landed.1 u) (goes (filter (λ (c : Completed P). inside c.origin) r.0) (Small l j v))
+      = subst
+      (λ (c : Course (Completed P) (World P)). IsPartOf cmp order inside alike T c (instant cmp (Small last id z)))
+      i now in
+      let later : (l : P → P → Option ℕ) × (j : ℕ) × Within l j v
+      × Ticks cmp n (Small landed.0 landed.1 u)
+      (goes (filter (λ (c : Completed P). inside c.origin) r.0) (Small l j v))
       = ticks_part t r.0 v landed.0 landed.1 r.1 landed.2 in
-      let both : filter (λ (c : Completed P). inside c.origin) ds ++ filter (λ (c : Completed P). inside c.origin) r.0 ≡ filter (λ (c : Completed P). inside c.origin) cs =
-      sym (filter-append (λ (c : Completed P). inside c.origin) ds r.0) ∙ ap (filter (λ (c : Completed P). inside c.origin)) r.2 in
-      (later.0, later.1, later.2, subst (λ (es : List (Completed P)). Ticks cmp (suc n) (Small last id w) (goes es (Small later.0 later.1 v))) both (one_tick drained.1 landed.3 later.3))
+      let both : filter (λ (c : Completed P). inside c.origin) ds ++ filter (λ (c : Completed P). inside c.origin) r.0
+      ≡ filter (λ (c : Completed P). inside c.origin) cs =
+      sym (filter-append (λ (c : Completed P). inside c.origin) ds r.0)
+      ∙ ap (filter (λ (c : Completed P). inside c.origin)) r.2 in (
+        later.0,
+        later.1,
+        later.2,
+        subst (λ (es : List (Completed P)). Ticks cmp (suc n) (Small last id w) (goes es (Small later.0 later.1 v)))
+            both (one_tick drained.1 landed.3 later.3),
+      )
   ticks_part (tick_faults d i) cs v last id e is = cc

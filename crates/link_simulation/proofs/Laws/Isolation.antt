@@ -1,5 +1,6 @@
 -- The part of a world that is a set's messages goes its own way: what the others do does not touch it.
-use Rattle.std.proofs.Common.{◌≡◌, ℕ, zero, suc, ◌+◌, ◌<◌, ◌≤◌, List, [], ◌∷◌, ◌++◌, map, length, Bool, true, false, cond, Option, Some, None, refl, sym, ap, ◌∙◌, subst, arith, append-nil}
+use Rattle.std.proofs.Common.{◌≡◌, ℕ, zero, suc, ◌+◌, ◌<◌, ◌≤◌, List, [], ◌∷◌, ◌++◌, map, length, Bool, true, false}
+use Rattle.std.proofs.Common.{cond, Option, Some, None, refl, sym, ap, ◌∙◌, subst, arith, append-nil}
 use Rattle.std.specs.Prelude.{⊤, nat_le}
 use Rattle.std.specs.List.{filter, find, list_any}
 use Rattle.std.specs.declared.cmp.Ordering.{Ordering}
@@ -7,19 +8,28 @@ use Rattle.std.specs.Cmp.{IsTotalOrder}
 use Rattle.std.proofs.lemmas.List.Elements.{filter-append}
 use Rattle.std.proofs.lemmas.Bool.{leb-false, lt-leb}
 use Rattle.fair_rates.specs.Lists.WithoutFirst.{without_first}
-use Rattle.link_simulation.specs.Simulation.World.{Completed, Course, Flight, World, and_then, complete, first_waiting, fronts, goes, instant, is_done, last_moment, later_of, least_pair, may_start, meets, preceded, raised, ready, settle, settle_within, start, start_next, wake, wake_within, EndsWith, out_of_flight, is_late, completed, arrival, flight_of}
+use Rattle.link_simulation.specs.Simulation.World.{Completed, Course, Flight, World, and_then, complete, first_waiting}
+use Rattle.link_simulation.specs.Simulation.World.{fronts, goes, instant, is_done, last_moment, later_of, least_pair}
+use Rattle.link_simulation.specs.Simulation.World.{may_start, meets, preceded, raised, ready, settle, settle_within}
+use Rattle.link_simulation.specs.Simulation.World.{start, start_next, wake, wake_within, EndsWith, out_of_flight}
+use Rattle.link_simulation.specs.Simulation.World.{is_late, completed, arrival, flight_of}
 use Rattle.link_simulation.specs.Simulation.Messages.{Message, same_pair}
 use Rattle.fair_rates.specs.declared.error.Error.TheVariants.{FlowIdsUsedUp, MomentTooLate}
 use Rattle.link_simulation.proofs.Simulation.Queue.{settle_none, settle_first, find_passes, preceded_none}
-use Rattle.link_simulation.proofs.Simulation.SettlingEnds.{ends_preceded, ends_and_then, ends_cond, length_without, find_in_none, find_like, HasAtMost, complete_has, NoneDone, settle_rests}
+use Rattle.link_simulation.proofs.Simulation.SettlingEnds.{ends_preceded, ends_and_then, ends_cond, length_without}
+use Rattle.link_simulation.proofs.Simulation.SettlingEnds.{find_in_none, find_like, HasAtMost, complete_has, NoneDone}
+use Rattle.link_simulation.proofs.Simulation.SettlingEnds.{settle_rests}
 use Rattle.link_simulation.proofs.Laws.Bytes.{wake_none, wake_first, ready_is_first}
-use Rattle.link_simulation.proofs.Simulation.FilteredFronts.{first_kept, first_dropped, none_kept, find_kept, any_kept, filter_swap, fronts_kept, least_kept}
+use Rattle.link_simulation.proofs.Simulation.FilteredFronts.{first_kept, first_dropped, none_kept, find_kept, any_kept}
+use Rattle.link_simulation.proofs.Simulation.FilteredFronts.{filter_swap, fronts_kept, least_kept}
 use Rattle.link_simulation.proofs.Simulation.PairOrder.{least_none}
 use Rattle.fair_rates.proofs.Lists.Each.{each_find, each_without, each_joined, Each}
 use Rattle.fair_rates.proofs.Lists.Filters.{length-without_first, none_long}
 use Rattle.link_simulation.proofs.Simulation.QuietInstants.{settle_nothing}
 
-module _ {P : Type 0} (cmp : P → P → Ordering) (order : IsTotalOrder cmp) (inside : P → Bool) (alike : (m n : Message P) → same_pair cmp m n ≡ true → inside m.origin ≡ inside n.origin) (T : Message P → Type 0) where
+module _ {P : Type 0} (cmp : P → P → Ordering) (order : IsTotalOrder cmp) (inside : P → Bool)
+    (alike : (m n : Message P) → same_pair cmp m n ≡ true → inside m.origin ≡ inside n.origin)
+    (T : Message P → Type 0) where
   abbrev mine : Message P → Bool
   mine m = inside m.origin
 
@@ -31,7 +41,13 @@ module _ {P : Type 0} (cmp : P → P → Ordering) (order : IsTotalOrder cmp) (i
 
   -- the set's part of a world, with last arrivals and a next flow id of its own
   abbrev pub part : (P → P → Option ℕ) → ℕ → World P → World P
-  part last id w = record w { sending = filter in_flight w.sending; waiting = filter mine w.waiting; last_arrival = last; next_id = id }
+  part last id w =
+      record w {
+        sending = filter in_flight w.sending;
+        waiting = filter mine w.waiting;
+        last_arrival = last;
+        next_id = id;
+      }
 
   -- those are of the world: the same last arrivals for the set's pairs, and no greater a flow id
   pub record IsPart (last : P → P → Option ℕ) (id : ℕ) (w : World P) : Type 0 where
@@ -42,60 +58,95 @@ module _ {P : Type 0} (cmp : P → P → Ordering) (order : IsTotalOrder cmp) (i
 
   -- the course of the part: the set's completions alone, and it ends with the part
   abbrev pub IsPartOf : Course (Completed P) (World P) → Course (Completed P) (World P) → Type 0
-  IsPartOf (goes cs u) d = (last : P → P → Option ℕ) × (id : ℕ) × IsPart last id u × (d ≡ goes (filter in_done cs) (part last id u))
+  IsPartOf (goes cs u) d =
+      (last : P → P → Option ℕ) × (id : ℕ) × IsPart last id u × (d ≡ goes (filter in_done cs) (part last id u))
   IsPartOf (meets fault) d = ⊤
 
-  pub goes_alike : (cs ds : List (Completed P)) (u v : World P) → cs ≡ ds → u ≡ v → ◌≡◌ {A = Course (Completed P) (World P)} (goes cs u) (goes ds v)
+  pub goes_alike : (cs ds : List (Completed P)) (u v : World P) → cs ≡ ds → u ≡ v
+      → ◌≡◌ {A = Course (Completed P) (World P)} (goes cs u) (goes ds v)
   goes_alike cs ds u v e f = rw (e, f) refl
 
-  pub part_preceded : (cs : List (Completed P)) (c d : Course (Completed P) (World P)) → IsPartOf c d → IsPartOf (preceded cs c) (preceded (filter in_done cs) d)
-  part_preceded cs (goes ds u) d (last, id, is, e) =
-      (last, id, is, ap (preceded (filter in_done cs)) e ∙ goes_alike (filter in_done cs ++ filter in_done ds) (filter in_done (cs ++ ds)) (part last id u) (part last id u) (sym (filter-append in_done cs ds)) refl)
+  pub part_preceded : (cs : List (Completed P)) (c d : Course (Completed P) (World P)) → IsPartOf c d
+      → IsPartOf (preceded cs c) (preceded (filter in_done cs) d)
+  part_preceded cs (goes ds u) d (last, id, is, e) = (
+    last,
+    id,
+    is,
+    ap (preceded (filter in_done cs)) e
+        ∙ goes_alike (filter in_done cs ++ filter in_done ds) (filter in_done (cs ++ ds)) (part last id u)
+        (part last id u) (sym (filter-append in_done cs ds)) refl,
+  )
   part_preceded cs (meets fault) d h = tt
 
-  pub part_then : (R S : World P → Type 0) (c d : Course (Completed P) (World P)) (k l : World P → Course (Completed P) (World P)) → IsPartOf c d → EndsWith R c → EndsWith S d
-      → ((u : World P) (last : P → P → Option ℕ) (id : ℕ) → IsPart last id u → R u → S (part last id u) → IsPartOf (k u) (l (part last id u))) → IsPartOf (and_then c k) (and_then d l)
+  pub part_then : (R S : World P → Type 0) (c d : Course (Completed P) (World P))
+      (k l : World P → Course (Completed P) (World P))
+      → IsPartOf c d → EndsWith R c → EndsWith S d
+      → ((u : World P) (last : P → P → Option ℕ) (id : ℕ) → IsPart last id u → R u → S (part last id u)
+      → IsPartOf (k u) (l (part last id u)))
+      → IsPartOf (and_then c k) (and_then d l)
   part_then R S (goes cs u) d k l (last, id, is, e) r s next =
       let t : S (part last id u) = subst (λ (z : Course (Completed P) (World P)). EndsWith S z) e s in
-      subst (λ (z : Course (Completed P) (World P)). IsPartOf (preceded cs (k u)) (and_then z l)) (sym e) (part_preceded cs (k u) (l (part last id u)) (next u last id is r t))
+      subst (λ (z : Course (Completed P) (World P)). IsPartOf (preceded cs (k u)) (and_then z l)) (sym e)
+      (part_preceded cs (k u) (l (part last id u)) (next u last id is r t))
   part_then R S (meets fault) d k l h r s next = tt
 
   -- ---- a start
 
   abbrev started : World P → Message P → World P
-  started w m = record w { sending = w.sending ++ flight_of m ∷ []; waiting = without_first (same_pair cmp m) w.waiting; next_id = w.next_id + 1 }
+  started w m =
+      record w {
+        sending = w.sending ++ flight_of m ∷ [];
+        waiting = without_first (same_pair cmp m) w.waiting;
+        next_id = w.next_id + 1;
+      }
 
-  pub part_alike : (w : World P) (last : P → P → Option ℕ) (id : ℕ) (fs gs : List (Flight P)) (ms ns : List (Message P)) → fs ≡ gs → ms ≡ ns
-      → ◌≡◌ {A = World P} (record w { sending = fs; waiting = ms; last_arrival = last; next_id = id }) (record w { sending = gs; waiting = ns; last_arrival = last; next_id = id })
+  pub part_alike : (w : World P) (last : P → P → Option ℕ) (id : ℕ) (fs gs : List (Flight P)) (ms ns : List (Message P))
+      → fs ≡ gs → ms ≡ ns
+      → ◌≡◌ {A = World P} (record w { sending = fs; waiting = ms; last_arrival = last; next_id = id })
+      (record w { sending = gs; waiting = ns; last_arrival = last; next_id = id })
   part_alike w last id fs gs ms ns e f = rw (e, f) refl
 
-  pub joined_part : (fs : List (Flight P)) (m : Message P) (b : Bool) → mine m ≡ b → filter in_flight (fs ++ flight_of m ∷ []) ≡ filter in_flight fs ++ cond b (flight_of m ∷ []) []
+  pub joined_part : (fs : List (Flight P)) (m : Message P) (b : Bool) → mine m ≡ b
+      → filter in_flight (fs ++ flight_of m ∷ []) ≡ filter in_flight fs ++ cond b (flight_of m ∷ []) []
   joined_part fs m b e = filter-append in_flight fs (flight_of m ∷ []) ∙ (rw e refl)
 
-  started_is : (last : P → P → Option ℕ) (id j : ℕ) (w : World P) (m : Message P) → IsPart last id w → find (same_pair cmp m) w.waiting ≡ Some m → j ≤ w.next_id + 1 → IsPart last j (started w m)
+  started_is : (last : P → P → Option ℕ) (id j : ℕ) (w : World P) (m : Message P) → IsPart last id w
+      → find (same_pair cmp m) w.waiting ≡ Some m → j ≤ w.next_id + 1 → IsPart last j (started w m)
   started_is last id j w m is first le = record {
     arrivals = is.arrivals;
     ids = le;
-    sending = each_joined (λ (f : Flight P). T f.message) w.sending (flight_of m) is.sending (each_find T (same_pair cmp m) w.waiting m is.waiting first);
+    sending =
+        each_joined (λ (f : Flight P). T f.message) w.sending (flight_of m) is.sending
+        (each_find T (same_pair cmp m) w.waiting m is.waiting first);
     waiting = each_without T (same_pair cmp m) w.waiting is.waiting;
   }
 
-  start_mine : (w : World P) (m : Message P) (last : P → P → Option ℕ) (id : ℕ) → IsPart last id w → find (same_pair cmp m) w.waiting ≡ Some m → mine m ≡ true
+  start_mine : (w : World P) (m : Message P) (last : P → P → Option ℕ) (id : ℕ) → IsPart last id w
+      → find (same_pair cmp m) w.waiting ≡ Some m → mine m ≡ true
       → IsPartOf (start cmp w m) (start cmp (part last id w) m)
   start_mine w m last id is first own = by_id (nat_le last_moment w.next_id) refl
     where
-      by_id : (b : Bool) → nat_le last_moment w.next_id ≡ b → IsPartOf (cond b (meets FlowIdsUsedUp) (goes [] (started w m))) (start cmp (part last id w) m)
+      by_id : (b : Bool) → nat_le last_moment w.next_id ≡ b
+          → IsPartOf (cond b (meets FlowIdsUsedUp) (goes [] (started w m))) (start cmp (part last id w) m)
       by_id true e = tt
       by_id false e =
           let free : w.next_id < last_moment = leb-false last_moment w.next_id e in
           let least : id ≤ w.next_id = is.ids in
           let low : nat_le last_moment id ≡ false = lt-leb last_moment id (omega arith) in
-          let sending : filter in_flight w.sending ++ flight_of m ∷ [] ≡ filter in_flight (w.sending ++ flight_of m ∷ []) = sym (joined_part w.sending m true own) in
-          let waiting : without_first (same_pair cmp m) (filter mine w.waiting) ≡ filter mine (without_first (same_pair cmp m) w.waiting)
-          = sym (first_kept mine (same_pair cmp m) w.waiting m first own).1 in
-          (last, id + 1, started_is last id (id + 1) w m is first (omega arith), (rw low (goes_alike [] [] _ _ refl (part_alike w last (id + 1) _ _ _ _ sending waiting))))
+          let sending : filter in_flight w.sending ++ flight_of m ∷ []
+          ≡ filter in_flight (w.sending ++ flight_of m ∷ []) =
+          sym (joined_part w.sending m true own) in
+          let waiting : without_first (same_pair cmp m) (filter mine w.waiting)
+          ≡ filter mine (without_first (same_pair cmp m) w.waiting)
+          = sym (first_kept mine (same_pair cmp m) w.waiting m first own).1 in (
+            last,
+            id + 1,
+            started_is last id (id + 1) w m is first (omega arith),
+            (rw low (goes_alike [] [] _ _ refl (part_alike w last (id + 1) _ _ _ _ sending waiting))),
+          )
 
-  pub start_other : (w : World P) (m : Message P) (last : P → P → Option ℕ) (id : ℕ) → IsPart last id w → find (same_pair cmp m) w.waiting ≡ Some m → mine m ≡ false
+  pub start_other : (w : World P) (m : Message P) (last : P → P → Option ℕ) (id : ℕ) → IsPart last id w
+      → find (same_pair cmp m) w.waiting ≡ Some m → mine m ≡ false
       → IsPartOf (start cmp w m) (goes [] (part last id w))
   start_other w m last id is first off = by_id (nat_le last_moment w.next_id)
     where
@@ -103,18 +154,29 @@ module _ {P : Type 0} (cmp : P → P → Ordering) (order : IsTotalOrder cmp) (i
       by_id true = tt
       by_id false =
           let least : id ≤ w.next_id = is.ids in
-          let sending : filter in_flight w.sending ≡ filter in_flight (w.sending ++ flight_of m ∷ []) = sym (joined_part w.sending m false off ∙ append-nil (filter in_flight w.sending)) in
-          let waiting : filter mine w.waiting ≡ filter mine (without_first (same_pair cmp m) w.waiting) = sym (first_dropped mine (same_pair cmp m) w.waiting m first off) in
-          (last, id, started_is last id id w m is first (omega arith), goes_alike [] [] _ _ refl (part_alike w last id _ _ _ _ sending waiting))
+          let sending : filter in_flight w.sending ≡ filter in_flight (w.sending ++ flight_of m ∷ []) =
+          sym (joined_part w.sending m false off ∙ append-nil (filter in_flight w.sending)) in
+          let waiting : filter mine w.waiting ≡ filter mine (without_first (same_pair cmp m) w.waiting) =
+          sym (first_dropped mine (same_pair cmp m) w.waiting m first off) in (
+            last,
+            id,
+            started_is last id id w m is first (omega arith),
+            goes_alike [] [] _ _ refl (part_alike w last id _ _ _ _ sending waiting),
+          )
 
-  may_start_same : (t : ℕ) (w : World P) (m : Message P) (last : P → P → Option ℕ) (id : ℕ) → IsPart last id w → mine m ≡ true → may_start cmp t (part last id w) m ≡ may_start cmp t w m
+  may_start_same : (t : ℕ) (w : World P) (m : Message P) (last : P → P → Option ℕ) (id : ℕ) → IsPart last id w
+      → mine m ≡ true → may_start cmp t (part last id w) m ≡ may_start cmp t w m
   may_start_same t w m last id is own =
-      let idle : list_any (same_pair cmp m) (map (λ (f : Flight P). f.message) (filter in_flight w.sending)) ≡ list_any (same_pair cmp m) (map (λ (f : Flight P). f.message) w.sending) =
-      any_kept (λ (f : Flight P). f.message) in_flight (same_pair cmp m) w.sending (λ f s. sym (alike m f.message s) ∙ own) in
+      let idle : list_any (same_pair cmp m) (map (λ (f : Flight P). f.message) (filter in_flight w.sending))
+      ≡ list_any (same_pair cmp m) (map (λ (f : Flight P). f.message) w.sending) =
+      any_kept (λ (f : Flight P). f.message) in_flight (same_pair cmp m) w.sending
+      (λ f s. sym (alike m f.message s) ∙ own) in
       let same : last m.origin m.recipient ≡ w.last_arrival m.origin m.recipient = is.arrivals m own in
       rw (idle, same) refl
 
-  pub start_next_mine : (t : ℕ) (w : World P) (m : Message P) (o : Option (Message P)) (last : P → P → Option ℕ) (id : ℕ) → IsPart last id w → mine m ≡ true
+  pub start_next_mine : (t : ℕ) (w : World P) (m : Message P) (o : Option (Message P)) (last : P → P → Option ℕ)
+      (id : ℕ)
+      → IsPart last id w → mine m ≡ true
       → find (same_pair cmp m) w.waiting ≡ o → IsPartOf (start_next cmp t w o) (start_next cmp t (part last id w) o)
   start_next_mine t w m None last id is own e = (last, id, is, refl)
   start_next_mine t w m (Some x) last id is own e =
@@ -123,39 +185,55 @@ module _ {P : Type 0} (cmp : P → P → Ordering) (order : IsTotalOrder cmp) (i
       let first : find (same_pair cmp x) w.waiting ≡ Some x = find_like cmp order m x w.waiting same ∙ e in
       rw (may_start_same t w x last id is own_x) (by_may (may_start cmp t w x) (start_mine w x last id is first own_x))
     where
-      by_may : (b : Bool) → IsPartOf (start cmp w x) (start cmp (part last id w) x) → IsPartOf (cond b (start cmp w x) (goes [] w)) (cond b (start cmp (part last id w) x) (goes [] (part last id w)))
+      by_may : (b : Bool) → IsPartOf (start cmp w x) (start cmp (part last id w) x)
+          → IsPartOf (cond b (start cmp w x) (goes [] w))
+          (cond b (start cmp (part last id w) x) (goes [] (part last id w)))
       by_may true h = h
       by_may false h = (last, id, is, refl)
 
-  pub start_next_other : (t : ℕ) (w : World P) (m : Message P) (o : Option (Message P)) (last : P → P → Option ℕ) (id : ℕ) → IsPart last id w → mine m ≡ false
+  pub start_next_other : (t : ℕ) (w : World P) (m : Message P) (o : Option (Message P)) (last : P → P → Option ℕ)
+      (id : ℕ)
+      → IsPart last id w → mine m ≡ false
       → find (same_pair cmp m) w.waiting ≡ o → IsPartOf (start_next cmp t w o) (goes [] (part last id w))
   start_next_other t w m None last id is off e = (last, id, is, refl)
   start_next_other t w m (Some x) last id is off e =
       let same : same_pair cmp m x ≡ true = find_passes (same_pair cmp m) x w.waiting e in
-      by_may (may_start cmp t w x) (start_other w x last id is (find_like cmp order m x w.waiting same ∙ e) (sym (alike m x same) ∙ off))
+      by_may (may_start cmp t w x)
+      (start_other w x last id is (find_like cmp order m x w.waiting same ∙ e) (sym (alike m x same) ∙ off))
     where
-      by_may : (b : Bool) → IsPartOf (start cmp w x) (goes [] (part last id w)) → IsPartOf (cond b (start cmp w x) (goes [] w)) (goes [] (part last id w))
+      by_may : (b : Bool) → IsPartOf (start cmp w x) (goes [] (part last id w))
+          → IsPartOf (cond b (start cmp w x) (goes [] w)) (goes [] (part last id w))
       by_may true h = h
       by_may false h = (last, id, is, refl)
 
   -- ---- a completion
 
-  pub raised_same : (m n : Message P) (at : ℕ) (last : P → P → Option ℕ) (w : World P) (id : ℕ) → IsPart last id w → mine n ≡ true
+  pub raised_same : (m n : Message P) (at : ℕ) (last : P → P → Option ℕ) (w : World P) (id : ℕ) → IsPart last id w
+      → mine n ≡ true
       → raised cmp last m at n.origin n.recipient ≡ raised cmp w.last_arrival m at n.origin n.recipient
-  raised_same m n at last w id is own = let same : last n.origin n.recipient ≡ w.last_arrival n.origin n.recipient = is.arrivals n own in rw same refl
+  raised_same m n at last w id is own =
+      let same : last n.origin n.recipient ≡ w.last_arrival n.origin n.recipient = is.arrivals n own in rw same refl
 
-  pub raised_other : (m n : Message P) (at : ℕ) (last : P → P → Option ℕ) → mine m ≡ false → mine n ≡ true → raised cmp last m at n.origin n.recipient ≡ last n.origin n.recipient
+  pub raised_other : (m n : Message P) (at : ℕ) (last : P → P → Option ℕ) → mine m ≡ false → mine n ≡ true
+      → raised cmp last m at n.origin n.recipient ≡ last n.origin n.recipient
   raised_other m n at last off own = by_pair (same_pair cmp m n) refl
     where
-      by_pair : (b : Bool) → same_pair cmp m n ≡ b → cond b (Some (later_of (last n.origin n.recipient) at)) (last n.origin n.recipient) ≡ last n.origin n.recipient
+      by_pair : (b : Bool) → same_pair cmp m n ≡ b
+          → cond b (Some (later_of (last n.origin n.recipient) at)) (last n.origin n.recipient)
+          ≡ last n.origin n.recipient
       by_pair true e = let same : mine m ≡ mine n = alike m n e in cc
       by_pair false e = refl
 
-  complete_mine : (t : ℕ) (w : World P) (f : Flight P) (last : P → P → Option ℕ) (id : ℕ) → IsPart last id w → find (is_done cmp w) w.sending ≡ Some f → mine f.message ≡ true
+  complete_mine : (t : ℕ) (w : World P) (f : Flight P) (last : P → P → Option ℕ) (id : ℕ) → IsPart last id w
+      → find (is_done cmp w) w.sending ≡ Some f → mine f.message ≡ true
       → IsPartOf (complete cmp t w f.message) (complete cmp t (part last id w) f.message)
   complete_mine t w f last id is first own = by_late (is_late cmp t f.message) inner
     where
-      inner : IsPartOf (start_next cmp t (out_of_flight cmp t w f.message) (first_waiting cmp (out_of_flight cmp t w f.message) f.message)) (start_next cmp t (out_of_flight cmp t (part last id w) f.message) (first_waiting cmp (out_of_flight cmp t (part last id w) f.message) f.message))
+      inner : IsPartOf
+          (start_next cmp t (out_of_flight cmp t w f.message)
+          (first_waiting cmp (out_of_flight cmp t w f.message) f.message))
+          (start_next cmp t (out_of_flight cmp t (part last id w) f.message)
+          (first_waiting cmp (out_of_flight cmp t (part last id w) f.message) f.message))
       inner =
           let at : ℕ = arrival cmp t f.message in
           let higher : P → P → Option ℕ = raised cmp last f.message at in
@@ -166,50 +244,90 @@ module _ {P : Type 0} (cmp : P → P → Ordering) (order : IsTotalOrder cmp) (i
             waiting = is.waiting;
           } in
           let next : Option (Message P) = find (same_pair cmp f.message) w.waiting in
-          let same_next : find (same_pair cmp f.message) (filter mine w.waiting) ≡ next = find_kept mine (same_pair cmp f.message) w.waiting (λ n s. sym (alike f.message n s) ∙ own) in
-          let same_landed : out_of_flight cmp t (part last id w) f.message ≡ part higher id (out_of_flight cmp t w f.message)
-          = part_alike w higher id _ _ (filter mine w.waiting) (filter mine w.waiting) (sym (first_kept in_flight (is_done cmp w) w.sending f first own).1) refl in
-          let base : IsPartOf (start_next cmp t (out_of_flight cmp t w f.message) next) (start_next cmp t (part higher id (out_of_flight cmp t w f.message)) next)
+          let same_next : find (same_pair cmp f.message) (filter mine w.waiting) ≡ next =
+          find_kept mine (same_pair cmp f.message) w.waiting (λ n s. sym (alike f.message n s) ∙ own) in
+          let same_landed : out_of_flight cmp t (part last id w) f.message
+          ≡ part higher id (out_of_flight cmp t w f.message)
+          = part_alike w higher id _ _ (filter mine w.waiting) (filter mine w.waiting)
+          (sym (first_kept in_flight (is_done cmp w) w.sending f first own).1) refl in
+          let base : IsPartOf (start_next cmp t (out_of_flight cmp t w f.message) next)
+          (start_next cmp t (part higher id (out_of_flight cmp t w f.message)) next)
           = start_next_mine t (out_of_flight cmp t w f.message) f.message next higher id still own refl in
-          let one : IsPartOf (start_next cmp t (out_of_flight cmp t w f.message) next) (start_next cmp t (out_of_flight cmp t (part last id w) f.message) next)
-          = subst (λ (z : World P). IsPartOf (start_next cmp t (out_of_flight cmp t w f.message) next) (start_next cmp t z next)) (sym same_landed) base in
-          subst (λ (o : Option (Message P)). IsPartOf (start_next cmp t (out_of_flight cmp t w f.message) next) (start_next cmp t (out_of_flight cmp t (part last id w) f.message) o)) (sym same_next) one
+          let one : IsPartOf (start_next cmp t (out_of_flight cmp t w f.message) next)
+          (start_next cmp t (out_of_flight cmp t (part last id w) f.message) next)
+          = subst
+          (λ (z : World P). IsPartOf (start_next cmp t (out_of_flight cmp t w f.message) next)
+          (start_next cmp t z next))
+          (sym same_landed) base in
+          subst
+          (λ (o : Option (Message P)). IsPartOf (start_next cmp t (out_of_flight cmp t w f.message) next)
+          (start_next cmp t (out_of_flight cmp t (part last id w) f.message) o))
+          (sym same_next) one
 
       by_late : (b : Bool)
-          → IsPartOf (start_next cmp t (out_of_flight cmp t w f.message) (first_waiting cmp (out_of_flight cmp t w f.message) f.message)) (start_next cmp t (out_of_flight cmp t (part last id w) f.message) (first_waiting cmp (out_of_flight cmp t (part last id w) f.message) f.message))
-          → IsPartOf (cond b (meets MomentTooLate) (preceded (completed cmp t f.message ∷ []) (start_next cmp t (out_of_flight cmp t w f.message) (first_waiting cmp (out_of_flight cmp t w f.message) f.message))))
-          (cond b (meets MomentTooLate) (preceded (completed cmp t f.message ∷ []) (start_next cmp t (out_of_flight cmp t (part last id w) f.message) (first_waiting cmp (out_of_flight cmp t (part last id w) f.message) f.message))))
+          → IsPartOf
+          (start_next cmp t (out_of_flight cmp t w f.message)
+          (first_waiting cmp (out_of_flight cmp t w f.message) f.message))
+          (start_next cmp t (out_of_flight cmp t (part last id w) f.message)
+          (first_waiting cmp (out_of_flight cmp t (part last id w) f.message) f.message))
+          → IsPartOf
+          (cond b (meets MomentTooLate)
+          (preceded (completed cmp t f.message ∷ [])
+          (start_next cmp t (out_of_flight cmp t w f.message)
+          (first_waiting cmp (out_of_flight cmp t w f.message) f.message))))
+          (cond b (meets MomentTooLate)
+          (preceded (completed cmp t f.message ∷ [])
+          (start_next cmp t (out_of_flight cmp t (part last id w) f.message)
+          (first_waiting cmp (out_of_flight cmp t (part last id w) f.message) f.message))))
       by_late true h = tt
       by_late false h =
           let c : Completed P = completed cmp t f.message in
           let alone : filter in_done (c ∷ []) ≡ c ∷ [] = rw own refl in
-          let big : Course (Completed P) (World P) = start_next cmp t (out_of_flight cmp t w f.message) (first_waiting cmp (out_of_flight cmp t w f.message) f.message) in
-          let small : Course (Completed P) (World P) = start_next cmp t (out_of_flight cmp t (part last id w) f.message) (first_waiting cmp (out_of_flight cmp t (part last id w) f.message) f.message) in
-          subst (λ (cs : List (Completed P)). IsPartOf (preceded (c ∷ []) big) (preceded cs small)) alone (part_preceded (c ∷ []) big small h)
+          let big : Course (Completed P) (World P) =
+          start_next cmp t (out_of_flight cmp t w f.message)
+          (first_waiting cmp (out_of_flight cmp t w f.message) f.message) in
+          let small : Course (Completed P) (World P) =
+          start_next cmp t (out_of_flight cmp t (part last id w) f.message)
+          (first_waiting cmp (out_of_flight cmp t (part last id w) f.message) f.message) in
+          subst (λ (cs : List (Completed P)). IsPartOf (preceded (c ∷ []) big) (preceded cs small)) alone
+          (part_preceded (c ∷ []) big small h)
 
-  complete_other : (t : ℕ) (w : World P) (f : Flight P) (last : P → P → Option ℕ) (id : ℕ) → IsPart last id w → find (is_done cmp w) w.sending ≡ Some f → mine f.message ≡ false
+  complete_other : (t : ℕ) (w : World P) (f : Flight P) (last : P → P → Option ℕ) (id : ℕ) → IsPart last id w
+      → find (is_done cmp w) w.sending ≡ Some f → mine f.message ≡ false
       → IsPartOf (complete cmp t w f.message) (goes [] (part last id w))
   complete_other t w f last id is first off = by_late (is_late cmp t f.message)
     where
       by_late : (b : Bool)
-          → IsPartOf (cond b (meets MomentTooLate) (preceded (completed cmp t f.message ∷ []) (start_next cmp t (out_of_flight cmp t w f.message) (first_waiting cmp (out_of_flight cmp t w f.message) f.message)))) (goes [] (part last id w))
+          → IsPartOf
+          (cond b (meets MomentTooLate)
+          (preceded (completed cmp t f.message ∷ [])
+          (start_next cmp t (out_of_flight cmp t w f.message)
+          (first_waiting cmp (out_of_flight cmp t w f.message) f.message))))
+          (goes [] (part last id w))
       by_late true = tt
       by_late false =
           let c : Completed P = completed cmp t f.message in
           let still : IsPart last id (out_of_flight cmp t w f.message) = record {
-            arrivals = λ n own_n. is.arrivals n own_n ∙ sym (raised_other f.message n (arrival cmp t f.message) w.last_arrival off own_n);
+            arrivals = λ n own_n.
+                is.arrivals n own_n ∙ sym (raised_other f.message n (arrival cmp t f.message) w.last_arrival off own_n);
             ids = is.ids;
             sending = each_without (λ (g : Flight P). T g.message) (is_done cmp w) w.sending is.sending;
             waiting = is.waiting;
           } in
           let same : part last id (out_of_flight cmp t w f.message) ≡ part last id w
-          = part_alike w last id _ _ (filter mine w.waiting) (filter mine w.waiting) (first_dropped in_flight (is_done cmp w) w.sending f first off) refl in
+          = part_alike w last id _ _ (filter mine w.waiting) (filter mine w.waiting)
+          (first_dropped in_flight (is_done cmp w) w.sending f first off) refl in
           let nothing : filter in_done (c ∷ []) ≡ [] = rw off refl in
-          let big : Course (Completed P) (World P) = start_next cmp t (out_of_flight cmp t w f.message) (first_waiting cmp (out_of_flight cmp t w f.message) f.message) in
+          let big : Course (Completed P) (World P) =
+          start_next cmp t (out_of_flight cmp t w f.message)
+          (first_waiting cmp (out_of_flight cmp t w f.message) f.message) in
           let base : IsPartOf big (goes [] (part last id (out_of_flight cmp t w f.message)))
-          = start_next_other t (out_of_flight cmp t w f.message) f.message (first_waiting cmp (out_of_flight cmp t w f.message) f.message) last id still off refl in
-          let one : IsPartOf big (goes [] (part last id w)) = subst (λ (z : World P). IsPartOf big (goes [] z)) same base in
-          subst (λ (cs : List (Completed P)). IsPartOf (preceded (c ∷ []) big) (preceded cs (goes [] (part last id w)))) nothing (part_preceded (c ∷ []) big (goes [] (part last id w)) one)
+          = start_next_other t (out_of_flight cmp t w f.message) f.message
+          (first_waiting cmp (out_of_flight cmp t w f.message) f.message) last id still off refl in
+          let one : IsPartOf big (goes [] (part last id w)) =
+          subst (λ (z : World P). IsPartOf big (goes [] z)) same base in
+          subst (λ (cs : List (Completed P)). IsPartOf (preceded (c ∷ []) big) (preceded cs (goes [] (part last id w))))
+          nothing (part_preceded (c ∷ []) big (goes [] (part last id w)) one)
 
   -- ---- settling
 
@@ -217,90 +335,147 @@ module _ {P : Type 0} (cmp : P → P → Ordering) (order : IsTotalOrder cmp) (i
   some_element test x [] e = cc
   some_element test x (y ∷ ys) e = omega arith
 
-  pub settle_part : (n k t : ℕ) (w : World P) (last : P → P → Option ℕ) (id : ℕ) → IsPart last id w → HasAtMost cmp order n w → HasAtMost cmp order k (part last id w)
+  pub settle_part : (n k t : ℕ) (w : World P) (last : P → P → Option ℕ) (id : ℕ) → IsPart last id w
+      → HasAtMost cmp order n w → HasAtMost cmp order k (part last id w)
       → IsPartOf (settle_within cmp n t w) (settle_within cmp k t (part last id w))
   settle_part zero k t w last id is most few =
       let none : find (is_done cmp w) w.sending ≡ None = find_in_none (is_done cmp w) w.sending (omega arith) in
       (last, id, is, settle_nothing cmp order k t (part last id w) (none_kept in_flight (is_done cmp w) w.sending none))
-  settle_part (suc n) k t w last id is most few = by_first (find (is_done cmp w) w.sending) refl (λ j u l i g h m. settle_part n j t u l i g h m)
+  settle_part (suc n) k t w last id is most few =
+      by_first (find (is_done cmp w) w.sending) refl (λ j u l i g h m. settle_part n j t u l i g h m)
     where
-      by_mine : (f : Flight P) → find (is_done cmp w) w.sending ≡ Some f → mine f.message ≡ true → (k : ℕ) → HasAtMost cmp order k (part last id w)
-          → ((j : ℕ) (u : World P) (l : P → P → Option ℕ) (i : ℕ) → IsPart l i u → HasAtMost cmp order n u → HasAtMost cmp order j (part l i u) → IsPartOf (settle_within cmp n t u) (settle_within cmp j t (part l i u)))
-          → IsPartOf (and_then (complete cmp t w f.message) (settle_within cmp n t)) (settle_within cmp k t (part last id w))
+      by_mine : (f : Flight P) → find (is_done cmp w) w.sending ≡ Some f → mine f.message ≡ true → (k : ℕ)
+          → HasAtMost cmp order k (part last id w)
+          → ((j : ℕ) (u : World P) (l : P → P → Option ℕ) (i : ℕ) → IsPart l i u → HasAtMost cmp order n u
+          → HasAtMost cmp order j (part l i u)
+          → IsPartOf (settle_within cmp n t u) (settle_within cmp j t (part l i u)))
+          → IsPartOf (and_then (complete cmp t w f.message) (settle_within cmp n t))
+          (settle_within cmp k t (part last id w))
       by_mine f e own zero few ih =
-          let found : find (is_done cmp w) (filter in_flight w.sending) ≡ Some f = (first_kept in_flight (is_done cmp w) w.sending f e own).0 in
-          let some : 0 < length (filter in_flight w.sending) = some_element (is_done cmp w) f (filter in_flight w.sending) found in
+          let found : find (is_done cmp w) (filter in_flight w.sending) ≡ Some f =
+          (first_kept in_flight (is_done cmp w) w.sending f e own).0 in
+          let some : 0 < length (filter in_flight w.sending) =
+          some_element (is_done cmp w) f (filter in_flight w.sending) found in
           absurd (omega arith)
       by_mine f e own (suc j) few ih =
-          let found : find (is_done cmp w) (filter in_flight w.sending) ≡ Some f = (first_kept in_flight (is_done cmp w) w.sending f e own).0 in
-          subst (λ (c : Course (Completed P) (World P)). IsPartOf (and_then (complete cmp t w f.message) (settle_within cmp n t)) c) (sym (settle_first cmp order j t (part last id w) f found))
-          (part_then (HasAtMost cmp order n) (HasAtMost cmp order j) (complete cmp t w f.message) (complete cmp t (part last id w) f.message) (settle_within cmp n t) (settle_within cmp j t)
-          (complete_mine t w f last id is e own) (complete_has cmp order t n w f e most) (complete_has cmp order t j (part last id w) f found few) (λ u l i g h m. ih j u l i g h m))
+          let found : find (is_done cmp w) (filter in_flight w.sending) ≡ Some f =
+          (first_kept in_flight (is_done cmp w) w.sending f e own).0 in
+          subst
+          (λ (c : Course (Completed P) (World P)). IsPartOf
+          (and_then (complete cmp t w f.message) (settle_within cmp n t)) c)
+          (sym (settle_first cmp order j t (part last id w) f found))
+          (part_then (HasAtMost cmp order n) (HasAtMost cmp order j) (complete cmp t w f.message)
+          (complete cmp t (part last id w) f.message) (settle_within cmp n t) (settle_within cmp j t)
+          (complete_mine t w f last id is e own) (complete_has cmp order t n w f e most)
+          (complete_has cmp order t j (part last id w) f found few) (λ u l i g h m. ih j u l i g h m))
 
       by_other : (f : Flight P) → find (is_done cmp w) w.sending ≡ Some f → mine f.message ≡ false
-          → ((j : ℕ) (u : World P) (l : P → P → Option ℕ) (i : ℕ) → IsPart l i u → HasAtMost cmp order n u → HasAtMost cmp order j (part l i u) → IsPartOf (settle_within cmp n t u) (settle_within cmp j t (part l i u)))
-          → IsPartOf (and_then (complete cmp t w f.message) (settle_within cmp n t)) (settle_within cmp k t (part last id w))
+          → ((j : ℕ) (u : World P) (l : P → P → Option ℕ) (i : ℕ) → IsPart l i u → HasAtMost cmp order n u
+          → HasAtMost cmp order j (part l i u)
+          → IsPartOf (settle_within cmp n t u) (settle_within cmp j t (part l i u)))
+          → IsPartOf (and_then (complete cmp t w f.message) (settle_within cmp n t))
+          (settle_within cmp k t (part last id w))
       by_other f e off ih =
-          subst (λ (c : Course (Completed P) (World P)). IsPartOf (and_then (complete cmp t w f.message) (settle_within cmp n t)) c) (preceded_none (settle_within cmp k t (part last id w)))
-          (part_then (HasAtMost cmp order n) (HasAtMost cmp order k) (complete cmp t w f.message) (goes [] (part last id w)) (settle_within cmp n t) (settle_within cmp k t)
-          (complete_other t w f last id is e off) (complete_has cmp order t n w f e most) few (λ u l i g h m. ih k u l i g h m))
+          subst
+          (λ (c : Course (Completed P) (World P)). IsPartOf
+          (and_then (complete cmp t w f.message) (settle_within cmp n t)) c)
+          (preceded_none (settle_within cmp k t (part last id w)))
+          (part_then (HasAtMost cmp order n) (HasAtMost cmp order k) (complete cmp t w f.message)
+          (goes [] (part last id w)) (settle_within cmp n t) (settle_within cmp k t)
+          (complete_other t w f last id is e off) (complete_has cmp order t n w f e most) few
+          (λ u l i g h m. ih k u l i g h m))
 
       by_owner : (b : Bool) (f : Flight P) → find (is_done cmp w) w.sending ≡ Some f → mine f.message ≡ b
-          → ((j : ℕ) (u : World P) (l : P → P → Option ℕ) (i : ℕ) → IsPart l i u → HasAtMost cmp order n u → HasAtMost cmp order j (part l i u) → IsPartOf (settle_within cmp n t u) (settle_within cmp j t (part l i u)))
-          → IsPartOf (and_then (complete cmp t w f.message) (settle_within cmp n t)) (settle_within cmp k t (part last id w))
+          → ((j : ℕ) (u : World P) (l : P → P → Option ℕ) (i : ℕ) → IsPart l i u → HasAtMost cmp order n u
+          → HasAtMost cmp order j (part l i u)
+          → IsPartOf (settle_within cmp n t u) (settle_within cmp j t (part l i u)))
+          → IsPartOf (and_then (complete cmp t w f.message) (settle_within cmp n t))
+          (settle_within cmp k t (part last id w))
       by_owner true f e b ih = by_mine f e b k few ih
       by_owner false f e b ih = by_other f e b ih
 
       by_first : (o : Option (Flight P)) → find (is_done cmp w) w.sending ≡ o
-          → ((j : ℕ) (u : World P) (l : P → P → Option ℕ) (i : ℕ) → IsPart l i u → HasAtMost cmp order n u → HasAtMost cmp order j (part l i u) → IsPartOf (settle_within cmp n t u) (settle_within cmp j t (part l i u)))
+          → ((j : ℕ) (u : World P) (l : P → P → Option ℕ) (i : ℕ) → IsPart l i u → HasAtMost cmp order n u
+          → HasAtMost cmp order j (part l i u)
+          → IsPartOf (settle_within cmp n t u) (settle_within cmp j t (part l i u)))
           → IsPartOf (settle_within cmp (suc n) t w) (settle_within cmp k t (part last id w))
       by_first None e ih =
-          subst (λ (c : Course (Completed P) (World P)). IsPartOf c (settle_within cmp k t (part last id w))) (sym (settle_none cmp order n t w e)) (last, id, is, settle_nothing cmp order k t (part last id w) (none_kept in_flight (is_done cmp w) w.sending e))
+          subst (λ (c : Course (Completed P) (World P)). IsPartOf c (settle_within cmp k t (part last id w)))
+          (sym (settle_none cmp order n t w e)) (
+            last,
+            id,
+            is,
+            settle_nothing cmp order k t (part last id w) (none_kept in_flight (is_done cmp w) w.sending e),
+          )
       by_first (Some f) e ih =
-          subst (λ (c : Course (Completed P) (World P)). IsPartOf c (settle_within cmp k t (part last id w))) (sym (settle_first cmp order n t w f e)) (by_owner (mine f.message) f e refl ih)
+          subst (λ (c : Course (Completed P) (World P)). IsPartOf c (settle_within cmp k t (part last id w)))
+          (sym (settle_first cmp order n t w f e)) (by_owner (mine f.message) f e refl ih)
 
   -- ---- how many wait
 
   abbrev WaitsAtMost : ℕ → World P → Type 0
   WaitsAtMost k v = length v.waiting ≤ k
 
-  start_waits : (k : ℕ) (w : World P) (m : Message P) → find (same_pair cmp m) w.waiting ≡ Some m → WaitsAtMost (suc k) w → EndsWith (WaitsAtMost k) (start cmp w m)
+  start_waits : (k : ℕ) (w : World P) (m : Message P) → find (same_pair cmp m) w.waiting ≡ Some m
+      → WaitsAtMost (suc k) w → EndsWith (WaitsAtMost k) (start cmp w m)
   start_waits k w m first h =
-      let fewer : length (without_first (same_pair cmp m) w.waiting) + 1 ≡ length w.waiting = length_without (same_pair cmp m) m w.waiting first in
-      ends_cond (WaitsAtMost k) (nat_le last_moment w.next_id) (meets FlowIdsUsedUp) (goes [] (started w m)) tt (omega arith)
+      let fewer : length (without_first (same_pair cmp m) w.waiting) + 1 ≡ length w.waiting =
+      length_without (same_pair cmp m) m w.waiting first in
+      ends_cond (WaitsAtMost k) (nat_le last_moment w.next_id) (meets FlowIdsUsedUp) (goes [] (started w m)) tt
+      (omega arith)
 
-  start_next_waits : (k t : ℕ) (w : World P) (o : Option (Message P)) → WaitsAtMost k w → EndsWith (WaitsAtMost k) (start_next cmp t w o)
+  start_next_waits : (k t : ℕ) (w : World P) (o : Option (Message P)) → WaitsAtMost k w
+      → EndsWith (WaitsAtMost k) (start_next cmp t w o)
   start_next_waits k t w None h = h
   start_next_waits k t w (Some m) h =
-      let fewer : length (without_first (same_pair cmp m) w.waiting) ≤ length w.waiting = length-without_first (same_pair cmp m) w.waiting in
-      ends_cond (WaitsAtMost k) (may_start cmp t w m) (start cmp w m) (goes [] w) (ends_cond (WaitsAtMost k) (nat_le last_moment w.next_id) (meets FlowIdsUsedUp) (goes [] (started w m)) tt (omega arith)) h
+      let fewer : length (without_first (same_pair cmp m) w.waiting) ≤ length w.waiting =
+      length-without_first (same_pair cmp m) w.waiting in
+      ends_cond (WaitsAtMost k) (may_start cmp t w m) (start cmp w m) (goes [] w)
+      (ends_cond (WaitsAtMost k) (nat_le last_moment w.next_id) (meets FlowIdsUsedUp) (goes [] (started w m)) tt
+      (omega arith))
+      h
 
-  complete_waits : (k t : ℕ) (w : World P) (m : Message P) → WaitsAtMost k w → EndsWith (WaitsAtMost k) (complete cmp t w m)
+  complete_waits : (k t : ℕ) (w : World P) (m : Message P) → WaitsAtMost k w
+      → EndsWith (WaitsAtMost k) (complete cmp t w m)
   complete_waits k t w m h =
-      ends_cond (WaitsAtMost k) (is_late cmp t m) (meets MomentTooLate) (preceded (completed cmp t m ∷ []) (start_next cmp t (out_of_flight cmp t w m) (first_waiting cmp (out_of_flight cmp t w m) m))) tt
-      (ends_preceded (WaitsAtMost k) (completed cmp t m ∷ []) (start_next cmp t (out_of_flight cmp t w m) (first_waiting cmp (out_of_flight cmp t w m) m)) (start_next_waits k t (out_of_flight cmp t w m) (first_waiting cmp (out_of_flight cmp t w m) m) h))
+      ends_cond (WaitsAtMost k) (is_late cmp t m) (meets MomentTooLate)
+      (preceded (completed cmp t m ∷ [])
+      (start_next cmp t (out_of_flight cmp t w m) (first_waiting cmp (out_of_flight cmp t w m) m)))
+      tt
+      (ends_preceded (WaitsAtMost k) (completed cmp t m ∷ [])
+      (start_next cmp t (out_of_flight cmp t w m) (first_waiting cmp (out_of_flight cmp t w m) m))
+      (start_next_waits k t (out_of_flight cmp t w m) (first_waiting cmp (out_of_flight cmp t w m) m) h))
 
   settle_waits : (n k t : ℕ) (w : World P) → WaitsAtMost k w → EndsWith (WaitsAtMost k) (settle_within cmp n t w)
   settle_waits zero k t w h = h
   settle_waits (suc n) k t w h = by_first (find (is_done cmp w) w.sending) refl (λ v g. settle_waits n k t v g)
     where
-      by_first : (o : Option (Flight P)) → find (is_done cmp w) w.sending ≡ o → ((v : World P) → WaitsAtMost k v → EndsWith (WaitsAtMost k) (settle_within cmp n t v))
+      by_first : (o : Option (Flight P)) → find (is_done cmp w) w.sending ≡ o
+          → ((v : World P) → WaitsAtMost k v → EndsWith (WaitsAtMost k) (settle_within cmp n t v))
           → EndsWith (WaitsAtMost k) (settle_within cmp (suc n) t w)
-      by_first None e ih = subst (λ (c : Course (Completed P) (World P)). EndsWith (WaitsAtMost k) c) (sym (settle_none cmp order n t w e)) h
+      by_first None e ih =
+          subst (λ (c : Course (Completed P) (World P)). EndsWith (WaitsAtMost k) c)
+          (sym (settle_none cmp order n t w e)) h
       by_first (Some f) e ih =
-          subst (λ (c : Course (Completed P) (World P)). EndsWith (WaitsAtMost k) c) (sym (settle_first cmp order n t w f e))
-          (ends_and_then (WaitsAtMost k) (WaitsAtMost k) (complete cmp t w f.message) (settle_within cmp n t) (complete_waits k t w f.message h) ih)
+          subst (λ (c : Course (Completed P) (World P)). EndsWith (WaitsAtMost k) c)
+          (sym (settle_first cmp order n t w f e))
+          (ends_and_then (WaitsAtMost k) (WaitsAtMost k) (complete cmp t w f.message) (settle_within cmp n t)
+          (complete_waits k t w f.message h) ih)
 
-  ends_both : (Q R : World P → Type 0) (c : Course (Completed P) (World P)) → EndsWith Q c → EndsWith R c → EndsWith (λ v. Q v × R v) c
+  ends_both : (Q R : World P → Type 0) (c : Course (Completed P) (World P)) → EndsWith Q c → EndsWith R c
+      → EndsWith (λ v. Q v × R v) c
   ends_both Q R (goes cs u) q r = (q, r)
   ends_both Q R (meets fault) q r = tt
 
   -- ---- waking
 
-  ready_part : (t : ℕ) (w : World P) (last : P → P → Option ℕ) (id : ℕ) → IsPart last id w → ready cmp t (part last id w) ≡ filter mine (ready cmp t w)
+  ready_part : (t : ℕ) (w : World P) (last : P → P → Option ℕ) (id : ℕ) → IsPart last id w
+      → ready cmp t (part last id w) ≡ filter mine (ready cmp t w)
   ready_part t w last id is =
-      ap (λ (ms : List (Message P)). filter (may_start cmp t (part last id w)) ms) (fronts_kept cmp order mine alike w.waiting)
-      ∙ filter_swap mine (may_start cmp t (part last id w)) (may_start cmp t w) (fronts cmp w.waiting) (λ m own. may_start_same t w m last id is own)
+      ap (λ (ms : List (Message P)). filter (may_start cmp t (part last id w)) ms)
+      (fronts_kept cmp order mine alike w.waiting)
+      ∙ filter_swap mine (may_start cmp t (part last id w)) (may_start cmp t w) (fronts cmp w.waiting)
+      (λ m own. may_start_same t w m last id is own)
 
   wake_nothing : (k t : ℕ) (v : World P) → ready cmp t v ≡ [] → wake_within cmp k t v ≡ goes [] v
   wake_nothing zero t v e = refl
@@ -308,75 +483,114 @@ module _ {P : Type 0} (cmp : P → P → Ordering) (order : IsTotalOrder cmp) (i
 
   abbrev GoesByRule : ℕ → ℕ → Type 0
   GoesByRule n t =
-      (k : ℕ) (w : World P) (last : P → P → Option ℕ) (id : ℕ) → IsPart last id w → NoneDone cmp order w → WaitsAtMost n w → WaitsAtMost k (part last id w) → IsPartOf
+      (k : ℕ) (w : World P) (last : P → P → Option ℕ) (id : ℕ) → IsPart last id w → NoneDone cmp order w
+      → WaitsAtMost n w → WaitsAtMost k (part last id w) → IsPartOf
       (wake_within cmp n t w) (wake_within cmp k t (part last id w))
 
-  settle_and_wake : (n k t : ℕ) (u : World P) (last : P → P → Option ℕ) (id : ℕ) → IsPart last id u → WaitsAtMost n u → WaitsAtMost k (part last id u) → GoesByRule n t
-      → IsPartOf (and_then (settle cmp t u) (wake_within cmp n t)) (and_then (settle cmp t (part last id u)) (wake_within cmp k t))
+  settle_and_wake : (n k t : ℕ) (u : World P) (last : P → P → Option ℕ) (id : ℕ) → IsPart last id u → WaitsAtMost n u
+      → WaitsAtMost k (part last id u) → GoesByRule n t
+      → IsPartOf (and_then (settle cmp t u) (wake_within cmp n t))
+      (and_then (settle cmp t (part last id u)) (wake_within cmp k t))
   settle_and_wake n k t u last id is h g ih =
       let all : ℕ = length u.sending + length u.waiting in
       let few : ℕ = length (filter in_flight u.sending) + length (filter mine u.waiting) in
-      part_then (λ v. WaitsAtMost n v × NoneDone cmp order v) (WaitsAtMost k) (settle cmp t u) (settle cmp t (part last id u)) (wake_within cmp n t) (wake_within cmp k t)
+      part_then (λ v. WaitsAtMost n v × NoneDone cmp order v) (WaitsAtMost k) (settle cmp t u)
+      (settle cmp t (part last id u)) (wake_within cmp n t) (wake_within cmp k t)
       (settle_part all few t u last id is (omega arith) (omega arith))
-      (ends_both (WaitsAtMost n) (NoneDone cmp order) (settle cmp t u) (settle_waits all n t u h) (settle_rests cmp order t u))
+      (ends_both (WaitsAtMost n) (NoneDone cmp order) (settle cmp t u) (settle_waits all n t u h)
+      (settle_rests cmp order t u))
       (settle_waits few k t (part last id u) g)
       (λ v l i part_v r s. ih k v l i part_v r.1 r.0 s)
 
   pub wake_part : (n t : ℕ) → GoesByRule n t
   wake_part zero t k w last id is rests most few =
-      let none : ready cmp t w ≡ [] = ap (λ (ms : List (Message P)). filter (may_start cmp t w) (fronts cmp ms)) (none_long w.waiting most) in
+      let none : ready cmp t w ≡ [] =
+      ap (λ (ms : List (Message P)). filter (may_start cmp t w) (fronts cmp ms)) (none_long w.waiting most) in
       (last, id, is, wake_nothing k t (part last id w) (ready_part t w last id is ∙ ap (filter mine) none))
   wake_part (suc n) t k w last id is rests most few = by_least (least_pair cmp (ready cmp t w)) refl (wake_part n t)
     where
-      by_mine : (m : Message P) → least_pair cmp (ready cmp t w) ≡ Some m → mine m ≡ true → (k : ℕ) → WaitsAtMost k (part last id w) → GoesByRule n t
-          → IsPartOf (and_then (start cmp w m) (λ v. and_then (settle cmp t v) (wake_within cmp n t))) (wake_within cmp k t (part last id w))
+      by_mine : (m : Message P) → least_pair cmp (ready cmp t w) ≡ Some m → mine m ≡ true → (k : ℕ)
+          → WaitsAtMost k (part last id w) → GoesByRule n t
+          → IsPartOf (and_then (start cmp w m) (λ v. and_then (settle cmp t v) (wake_within cmp n t)))
+          (wake_within cmp k t (part last id w))
       by_mine m e own zero few ih =
-          let least : least_pair cmp (ready cmp t (part last id w)) ≡ Some m = ap (least_pair cmp) (ready_part t w last id is) ∙ least_kept cmp order mine (ready cmp t w) m e own in
-          let some : 0 < length (filter mine w.waiting) = some_element (same_pair cmp m) m (filter mine w.waiting) (ready_is_first cmp order t (part last id w) m least) in
+          let least : least_pair cmp (ready cmp t (part last id w)) ≡ Some m =
+          ap (least_pair cmp) (ready_part t w last id is) ∙ least_kept cmp order mine (ready cmp t w) m e own in
+          let some : 0 < length (filter mine w.waiting) =
+          some_element (same_pair cmp m) m (filter mine w.waiting)
+          (ready_is_first cmp order t (part last id w) m least) in
           absurd (omega arith)
       by_mine m e own (suc j) few ih =
-          let least : least_pair cmp (ready cmp t (part last id w)) ≡ Some m = ap (least_pair cmp) (ready_part t w last id is) ∙ least_kept cmp order mine (ready cmp t w) m e own in
+          let least : least_pair cmp (ready cmp t (part last id w)) ≡ Some m =
+          ap (least_pair cmp) (ready_part t w last id is) ∙ least_kept cmp order mine (ready cmp t w) m e own in
           let first : find (same_pair cmp m) w.waiting ≡ Some m = ready_is_first cmp order t w m e in
-          let first_here : find (same_pair cmp m) (filter mine w.waiting) ≡ Some m = ready_is_first cmp order t (part last id w) m least in
-          subst (λ (c : Course (Completed P) (World P)). IsPartOf (and_then (start cmp w m) (λ v. and_then (settle cmp t v) (wake_within cmp n t))) c) (sym (wake_first cmp order j t (part last id w) m least))
-          (part_then (WaitsAtMost n) (WaitsAtMost j) (start cmp w m) (start cmp (part last id w) m) (λ v. and_then (settle cmp t v) (wake_within cmp n t)) (λ v. and_then (settle cmp t v) (wake_within cmp j t))
-          (start_mine w m last id is first own) (start_waits n w m first most) (start_waits j (part last id w) m first_here few)
+          let first_here : find (same_pair cmp m) (filter mine w.waiting) ≡ Some m =
+          ready_is_first cmp order t (part last id w) m least in
+          subst
+          (λ (c : Course (Completed P) (World P)). IsPartOf
+          (and_then (start cmp w m) (λ v. and_then (settle cmp t v) (wake_within cmp n t))) c)
+          (sym (wake_first cmp order j t (part last id w) m least))
+          (part_then (WaitsAtMost n) (WaitsAtMost j) (start cmp w m) (start cmp (part last id w) m)
+          (λ v. and_then (settle cmp t v) (wake_within cmp n t))
+          (λ v. and_then (settle cmp t v) (wake_within cmp j t))
+          (start_mine w m last id is first own) (start_waits n w m first most)
+          (start_waits j (part last id w) m first_here few)
           (λ u l i part_u r s. settle_and_wake n j t u l i part_u r s ih))
 
       by_other : (m : Message P) → least_pair cmp (ready cmp t w) ≡ Some m → mine m ≡ false → GoesByRule n t
-          → IsPartOf (and_then (start cmp w m) (λ v. and_then (settle cmp t v) (wake_within cmp n t))) (wake_within cmp k t (part last id w))
+          → IsPartOf (and_then (start cmp w m) (λ v. and_then (settle cmp t v) (wake_within cmp n t)))
+          (wake_within cmp k t (part last id w))
       by_other m e off ih =
           let first : find (same_pair cmp m) w.waiting ≡ Some m = ready_is_first cmp order t w m e in
           let small : World P = part last id w in
-          let rests_here : find (is_done cmp w) (filter in_flight w.sending) ≡ None = none_kept in_flight (is_done cmp w) w.sending rests in
-          let still : settle cmp t small ≡ goes [] small = settle_nothing cmp order (length small.sending + length small.waiting) t small rests_here in
-          let same : and_then (goes [] small) (λ v. and_then (settle cmp t v) (wake_within cmp k t)) ≡ wake_within cmp k t small =
-          preceded_none (and_then (settle cmp t small) (wake_within cmp k t)) ∙ ap (λ (c : Course (Completed P) (World P)). and_then c (wake_within cmp k t)) still ∙ preceded_none (wake_within cmp k t small) in
-          subst (λ (c : Course (Completed P) (World P)). IsPartOf (and_then (start cmp w m) (λ v. and_then (settle cmp t v) (wake_within cmp n t))) c) same
-          (part_then (WaitsAtMost n) (WaitsAtMost k) (start cmp w m) (goes [] small) (λ v. and_then (settle cmp t v) (wake_within cmp n t)) (λ v. and_then (settle cmp t v) (wake_within cmp k t))
+          let rests_here : find (is_done cmp w) (filter in_flight w.sending) ≡ None =
+          none_kept in_flight (is_done cmp w) w.sending rests in
+          let still : settle cmp t small ≡ goes [] small =
+          settle_nothing cmp order (length small.sending + length small.waiting) t small rests_here in
+          let same : and_then (goes [] small) (λ v. and_then (settle cmp t v) (wake_within cmp k t))
+          ≡ wake_within cmp k t small =
+          preceded_none (and_then (settle cmp t small) (wake_within cmp k t))
+          ∙ ap (λ (c : Course (Completed P) (World P)). and_then c (wake_within cmp k t)) still
+          ∙ preceded_none (wake_within cmp k t small) in
+          subst
+          (λ (c : Course (Completed P) (World P)). IsPartOf
+          (and_then (start cmp w m) (λ v. and_then (settle cmp t v) (wake_within cmp n t))) c)
+          same
+          (part_then (WaitsAtMost n) (WaitsAtMost k) (start cmp w m) (goes [] small)
+          (λ v. and_then (settle cmp t v) (wake_within cmp n t))
+          (λ v. and_then (settle cmp t v) (wake_within cmp k t))
           (start_other w m last id is first off) (start_waits n w m first most) few
           (λ u l i part_u r s. settle_and_wake n k t u l i part_u r s ih))
 
       by_owner : (b : Bool) (m : Message P) → least_pair cmp (ready cmp t w) ≡ Some m → mine m ≡ b → GoesByRule n t
-          → IsPartOf (and_then (start cmp w m) (λ v. and_then (settle cmp t v) (wake_within cmp n t))) (wake_within cmp k t (part last id w))
+          → IsPartOf (and_then (start cmp w m) (λ v. and_then (settle cmp t v) (wake_within cmp n t)))
+          (wake_within cmp k t (part last id w))
       by_owner true m e b ih = by_mine m e b k few ih
       by_owner false m e b ih = by_other m e b ih
 
-      by_least : (o : Option (Message P)) → least_pair cmp (ready cmp t w) ≡ o → GoesByRule n t → IsPartOf (wake_within cmp (suc n) t w) (wake_within cmp k t (part last id w))
+      by_least : (o : Option (Message P)) → least_pair cmp (ready cmp t w) ≡ o → GoesByRule n t
+          → IsPartOf (wake_within cmp (suc n) t w) (wake_within cmp k t (part last id w))
       by_least None e ih =
           let none : ready cmp t w ≡ [] = least_none cmp order (ready cmp t w) e in
-          subst (λ (c : Course (Completed P) (World P)). IsPartOf c (wake_within cmp k t (part last id w))) (sym (wake_none cmp order n t w e)) (last, id, is, wake_nothing k t (part last id w) (ready_part t w last id is ∙ ap (filter mine) none))
+          subst (λ (c : Course (Completed P) (World P)). IsPartOf c (wake_within cmp k t (part last id w)))
+          (sym (wake_none cmp order n t w e))
+          (last, id, is, wake_nothing k t (part last id w) (ready_part t w last id is ∙ ap (filter mine) none))
       by_least (Some m) e ih =
-          subst (λ (c : Course (Completed P) (World P)). IsPartOf c (wake_within cmp k t (part last id w))) (sym (wake_first cmp order n t w m e)) (by_owner (mine m) m e refl ih)
+          subst (λ (c : Course (Completed P) (World P)). IsPartOf c (wake_within cmp k t (part last id w)))
+          (sym (wake_first cmp order n t w m e)) (by_owner (mine m) m e refl ih)
 
   -- what happens at an instant, in the part
-  pub instant_part : (w : World P) (last : P → P → Option ℕ) (id : ℕ) → IsPart last id w → IsPartOf (instant cmp w) (instant cmp (part last id w))
+  pub instant_part : (w : World P) (last : P → P → Option ℕ) (id : ℕ) → IsPart last id w
+      → IsPartOf (instant cmp w) (instant cmp (part last id w))
   instant_part w last id is =
       let all : ℕ = length w.sending + length w.waiting in
       let few : ℕ = length (filter in_flight w.sending) + length (filter mine w.waiting) in
-      part_then (NoneDone cmp order) (λ v. ⊤) (settle cmp w.moment w) (settle cmp w.moment (part last id w)) (λ v. wake cmp v.moment v) (λ v. wake cmp v.moment v)
-      (settle_part all few w.moment w last id is (omega arith) (omega arith)) (settle_rests cmp order w.moment w) (ends_any (settle cmp w.moment (part last id w)))
-      (λ u l i part_u r s. wake_part (length u.waiting) u.moment (length (filter mine u.waiting)) u l i part_u r (omega arith) (omega arith))
+      part_then (NoneDone cmp order) (λ v. ⊤) (settle cmp w.moment w) (settle cmp w.moment (part last id w))
+      (λ v. wake cmp v.moment v) (λ v. wake cmp v.moment v)
+      (settle_part all few w.moment w last id is (omega arith) (omega arith)) (settle_rests cmp order w.moment w)
+      (ends_any (settle cmp w.moment (part last id w)))
+      (λ u l i part_u r s. wake_part (length u.waiting) u.moment (length (filter mine u.waiting)) u l i part_u r
+      (omega arith) (omega arith))
     where
       ends_any : (c : Course (Completed P) (World P)) → EndsWith (λ (v : World P). ⊤) c
       ends_any (goes cs u) = tt

@@ -5,28 +5,38 @@ use Rattle.std.specs.List.{AllZip}
 use Rattle.std.specs.declared.cmp.Ordering.{Ordering}
 use Rattle.std.specs.Cmp.{IsTotalOrder}
 use Rattle.link_simulation.specs.Simulation.World.{World, new_world, Completed, goes, IsQuiet}
-use Rattle.link_simulation.specs.Simulation.Calls.{Call, call_limit, call_limit_link, call_enqueue, call_advance, call_next, moment_of, Runs, IsBeforeNext, IsInTurn}
-use Rattle.link_simulation.specs.Simulation.Replies.{Reply, reply_done, reply_next, reply_refused, SameCompletion, Agrees, made, completions_in}
-use Rattle.link_simulation.specs.Laws.Isolation.{Answers, no_calls, call_answers, AnswersInTurn, no_calls_in_turn, answers_in_turn}
+use Rattle.link_simulation.specs.Simulation.Calls.{Call, call_limit, call_limit_link, call_enqueue, call_advance}
+use Rattle.link_simulation.specs.Simulation.Calls.{call_next, moment_of, Runs, IsBeforeNext, IsInTurn}
+use Rattle.link_simulation.specs.Simulation.Replies.{Reply, reply_done, reply_next, reply_refused, SameCompletion}
+use Rattle.link_simulation.specs.Simulation.Replies.{Agrees, made, completions_in}
+use Rattle.link_simulation.specs.Laws.Isolation.{Answers, no_calls, call_answers, AnswersInTurn, no_calls_in_turn}
+use Rattle.link_simulation.specs.Laws.Isolation.{answers_in_turn}
 use Rattle.link_simulation.specs.Laws.Replies.{AreInTurn, AreAdvancedFirst}
 use Rattle.link_simulation.proofs.Simulation.QuietInstants.{next_is_later, call_ends_quiet}
 use Rattle.link_simulation.proofs.Rule.Limit.{new_stands}
 use Rattle.link_simulation.proofs.Rule.Stepwise.{agrees_next, agrees_refused, agrees_done, IsMade}
 
 module _ {P : Type 0} (cmp : P → P → Ordering) (order : IsTotalOrder cmp) where
-  pub turn_later : (w : World P) (call : Call P) (now : ℕ) → moment_of call ≡ Some now → IsInTurn cmp w call → w.moment ≤ now
-  turn_later w (call_limit t peer egress ingress) now e h = let same : t ≡ now = cc in let le : w.moment ≤ t = h.0 in omega arith
-  turn_later w (call_limit_link t origin recipient link) now e h = let same : t ≡ now = cc in let le : w.moment ≤ t = h.0 in omega arith
+  pub turn_later : (w : World P) (call : Call P) (now : ℕ) → moment_of call ≡ Some now → IsInTurn cmp w call
+      → w.moment ≤ now
+  turn_later w (call_limit t peer egress ingress) now e h =
+      let same : t ≡ now = cc in let le : w.moment ≤ t = h.0 in omega arith
+  turn_later w (call_limit_link t origin recipient link) now e h =
+      let same : t ≡ now = cc in let le : w.moment ≤ t = h.0 in omega arith
   turn_later w (call_enqueue t m) now e h = let same : t ≡ now = cc in let le : w.moment ≤ t = h.0 in omega arith
   turn_later w (call_advance t) now e h = let same : t ≡ now = cc in let le : w.moment ≤ t = h in omega arith
   turn_later w call_next now e h = cc
 
-  pub any_turn : {w : World P} {calls : List (Call P)} {css : List (List (Completed P))} → AnswersInTurn cmp w calls css → Answers cmp w calls css
+  pub any_turn : {w : World P} {calls : List (Call P)} {css : List (List (Completed P))} → AnswersInTurn cmp w calls css
+      → Answers cmp w calls css
   any_turn no_calls_in_turn = no_calls
-  any_turn {w = w} (answers_in_turn {call = call} {now = now} at turn runs rest) = call_answers at (turn_later w call now at turn) runs (any_turn rest)
+  any_turn {w = w} (answers_in_turn {call = call} {now = now} at turn runs rest) =
+      call_answers at (turn_later w call now at turn) runs (any_turn rest)
 
   abbrev pub Bridged : World P → List (Call P) → List (Reply P) → Type 0
-  Bridged w calls replies = (css : List (List (Completed P))) × AnswersInTurn cmp w (made calls replies) css × AllZip (AllZip (SameCompletion cmp)) (completions_in replies) css
+  Bridged w calls replies =
+      (css : List (List (Completed P))) × AnswersInTurn cmp w (made calls replies) css
+      × AllZip (AllZip (SameCompletion cmp)) (completions_in replies) css
 
   -- and so it is up to any call
   pub made_in_turn : (n : ℕ) (calls : List (Call P)) (replies : List (Reply P)) (w : World P)
@@ -48,52 +58,67 @@ module _ {P : Type 0} (cmp : P → P → Ordering) (order : IsTotalOrder cmp) wh
 
   -- ---- calls that come after time is advanced are in turn
 
-  pub run_ends : (w v : World P) (call : Call P) (now : ℕ) (cs : List (Completed P)) → IsQuiet cmp w.moment w → moment_of call ≡ Some now → w.moment ≤ now → Runs cmp w call now (goes cs v)
+  pub run_ends : (w v : World P) (call : Call P) (now : ℕ) (cs : List (Completed P)) → IsQuiet cmp w.moment w
+      → moment_of call ≡ Some now → w.moment ≤ now → Runs cmp w call now (goes cs v)
       → (v.moment ≡ now) × IsQuiet cmp v.moment v
   run_ends w v call now cs quiet at le runs =
-      let ends : IsQuiet cmp now v × (v.moment ≡ now) = call_ends_quiet cmp order w call now (goes cs v) quiet at le runs in
+      let ends : IsQuiet cmp now v × (v.moment ≡ now) =
+      call_ends_quiet cmp order w call now (goes cs v) quiet at le runs in
       (ends.1, subst (λ (t : ℕ). IsQuiet cmp t v) (sym ends.1) ends.0)
 
   before_next : (w : World P) (now : ℕ) → w.moment ≡ now → IsBeforeNext cmp now w
-  before_next w now same = λ next is. subst (λ (s : ℕ). IfSome next (λ t. s < t)) same (next_is_later cmp order w next is)
+  before_next w now same = λ next is.
+      subst (λ (s : ℕ). IfSome next (λ t. s < t)) same (next_is_later cmp order w next is)
 
-  by_reply : (w : World P) (call : Call P) (calls : List (Call P)) (reply : Reply P) (replies : List (Reply P)) → IsInTurn cmp w call → AreInTurn cmp w calls replies
-      → ((now : ℕ) (cs : List (Completed P)) (v : World P) → moment_of call ≡ Some now → Runs cmp w call now (goes cs v) → AreInTurn cmp v calls replies)
+  by_reply : (w : World P) (call : Call P) (calls : List (Call P)) (reply : Reply P) (replies : List (Reply P))
+      → IsInTurn cmp w call → AreInTurn cmp w calls replies
+      → ((now : ℕ) (cs : List (Completed P)) (v : World P) → moment_of call ≡ Some now → Runs cmp w call now (goes cs v)
+      → AreInTurn cmp v calls replies)
       → AreInTurn cmp w (call ∷ calls) (reply ∷ replies)
   by_reply w call calls (reply_done cs) replies turn stays goes_on = (turn, goes_on)
   by_reply w call calls (reply_next next) replies turn stays goes_on = (turn, stays)
   by_reply w call calls (reply_refused why) replies turn stays goes_on = (turn, stays)
 
   -- a call at the world's own moment
-  at_the_moment : (w : World P) (call : Call P) (calls : List (Call P)) (reply : Reply P) (replies : List (Reply P)) (at : ℕ) → moment_of call ≡ Some at → w.moment ≡ at
-      → IsQuiet cmp w.moment w → IsInTurn cmp w call → ((v : World P) → v.moment ≡ at → IsQuiet cmp v.moment v → AreInTurn cmp v calls replies)
+  at_the_moment : (w : World P) (call : Call P) (calls : List (Call P)) (reply : Reply P) (replies : List (Reply P))
+      (at : ℕ)
+      → moment_of call ≡ Some at → w.moment ≡ at
+      → IsQuiet cmp w.moment w → IsInTurn cmp w call
+      → ((v : World P) → v.moment ≡ at → IsQuiet cmp v.moment v → AreInTurn cmp v calls replies)
       → AreInTurn cmp w (call ∷ calls) (reply ∷ replies)
   at_the_moment w call calls reply replies at is same quiet turn ih =
       by_reply w call calls reply replies turn (ih w same quiet)
-      (λ now cs v there runs. let equal : now ≡ at = cc in let ends : (v.moment ≡ now) × IsQuiet cmp v.moment v = run_ends w v call now cs quiet there (omega arith) runs in ih v (ends.0 ∙ equal) ends.1)
+      (λ now cs v there runs. let equal : now ≡ at = cc in
+      let ends : (v.moment ≡ now) × IsQuiet cmp v.moment v = run_ends w v call now cs quiet there (omega arith) runs in
+      ih v (ends.0 ∙ equal) ends.1)
 
-  advanced_in_turn : (calls : List (Call P)) (replies : List (Reply P)) (w : World P) (at : ℕ) → w.moment ≡ at → IsQuiet cmp w.moment w → AreAdvancedFirst at calls replies
+  advanced_in_turn : (calls : List (Call P)) (replies : List (Reply P)) (w : World P) (at : ℕ) → w.moment ≡ at
+      → IsQuiet cmp w.moment w → AreAdvancedFirst at calls replies
       → AreInTurn cmp w calls replies
   advanced_in_turn [] replies w at same quiet first = tt
   advanced_in_turn (call ∷ calls) [] w at same quiet first = tt
   advanced_in_turn (call_limit now peer egress ingress ∷ calls) (reply ∷ replies) w at same quiet first =
       let equal : now ≡ at = first.0 in
-      at_the_moment w (call_limit now peer egress ingress) calls reply replies at (ap Some equal) same quiet (omega arith, before_next w now (omega arith))
+      at_the_moment w (call_limit now peer egress ingress) calls reply replies at (ap Some equal) same quiet
+      (omega arith, before_next w now (omega arith))
       (λ v there calm. advanced_in_turn calls replies v at there calm first.1)
   advanced_in_turn (call_limit_link now origin recipient cap ∷ calls) (reply ∷ replies) w at same quiet first =
       let equal : now ≡ at = first.0 in
-      at_the_moment w (call_limit_link now origin recipient cap) calls reply replies at (ap Some equal) same quiet (omega arith, before_next w now (omega arith))
+      at_the_moment w (call_limit_link now origin recipient cap) calls reply replies at (ap Some equal) same quiet
+      (omega arith, before_next w now (omega arith))
       (λ v there calm. advanced_in_turn calls replies v at there calm first.1)
   advanced_in_turn (call_enqueue now m ∷ calls) (reply ∷ replies) w at same quiet first =
       let equal : now ≡ at = first.0 in
-      at_the_moment w (call_enqueue now m) calls reply replies at (ap Some equal) same quiet (omega arith, before_next w now (omega arith))
+      at_the_moment w (call_enqueue now m) calls reply replies at (ap Some equal) same quiet
+      (omega arith, before_next w now (omega arith))
       (λ v there calm. advanced_in_turn calls replies v at there calm first.1)
   advanced_in_turn (call_advance now ∷ calls) (reply_done cs ∷ replies) w at same quiet first =
       let le : at ≤ now = first.0 in (
         omega arith,
         λ t ds v there runs.
             let equal : t ≡ now = cc in
-            let ends : (v.moment ≡ t) × IsQuiet cmp v.moment v = run_ends w v (call_advance now) t ds quiet there (omega arith) runs in
+            let ends : (v.moment ≡ t) × IsQuiet cmp v.moment v =
+            run_ends w v (call_advance now) t ds quiet there (omega arith) runs in
             advanced_in_turn calls replies v now (ends.0 ∙ equal) ends.1 first.1,
       )
   advanced_in_turn (call_advance now ∷ calls) (reply_next next ∷ replies) w at same quiet first =
@@ -101,7 +126,10 @@ module _ {P : Type 0} (cmp : P → P → Ordering) (order : IsTotalOrder cmp) wh
   advanced_in_turn (call_advance now ∷ calls) (reply_refused why ∷ replies) w at same quiet first =
       let le : at ≤ now = first.0 in (omega arith, advanced_in_turn calls replies w at same quiet first.1)
   advanced_in_turn (call_next ∷ calls) (reply ∷ replies) w at same quiet first =
-      by_reply w call_next calls reply replies tt (advanced_in_turn calls replies w at same quiet first) (λ now cs v there runs. cc)
+      by_reply w call_next calls reply replies tt (advanced_in_turn calls replies w at same quiet first)
+      (λ now cs v there runs. cc)
 
-  pub new_in_turn : (calls : List (Call P)) (replies : List (Reply P)) → AreAdvancedFirst 0 calls replies → AreInTurn cmp (new_world 0) calls replies
-  new_in_turn calls replies first = advanced_in_turn calls replies (new_world 0) 0 refl (new_stands cmp order 0).quiet first
+  pub new_in_turn : (calls : List (Call P)) (replies : List (Reply P)) → AreAdvancedFirst 0 calls replies
+      → AreInTurn cmp (new_world 0) calls replies
+  new_in_turn calls replies first =
+      advanced_in_turn calls replies (new_world 0) 0 refl (new_stands cmp order 0).quiet first

@@ -1,5 +1,6 @@
 -- Each event takes a message out or starts one, so there are at most twice the waiting ones and once those in flight.
-use Rattle.std.proofs.Common.{◌≡◌, ◌≢◌, ℕ, zero, suc, ◌+◌, ◌-◌, ◌<◌, ◌≤◌, List, [], ◌∷◌, ◌++◌, length, Bool, true, false, cond, not, Option, Some, None, refl, sym, ap, ◌∙◌, subst, arith, inl, inr}
+use Rattle.std.proofs.Common.{◌≡◌, ◌≢◌, ℕ, zero, suc, ◌+◌, ◌-◌, ◌<◌, ◌≤◌, List, [], ◌∷◌, ◌++◌, length, Bool, true}
+use Rattle.std.proofs.Common.{false, cond, not, Option, Some, None, refl, sym, ap, ◌∙◌, subst, arith, inl, inr}
 use Rattle.std.specs.Prelude.{⊤, ◌&&◌, ◌==◌, nat_lt, slice_get, if◌then◌else◌, IfSome}
 use Rattle.std.specs.List.{find, filter}
 use Rattle.std.specs.declared.cmp.Ordering.{Ordering}
@@ -9,8 +10,10 @@ use Rattle.fair_rates.specs.Lists.WithoutFirst.{without_first}
 use Rattle.fair_rates.specs.declared.error.Error.TheVariants.{MomentTooLate}
 use Rattle.link_simulation.specs.Laws.MostEvents.{most_events}
 use Rattle.link_simulation.specs.Simulation.Messages.{Message, Caps, same_pair}
-use Rattle.link_simulation.specs.Simulation.World.{Completed, Course, goes, meets, last_moment, preceded, fronts, raised, later_of, completion_of, completed}
-use Rattle.link_simulation.specs.Simulation.Calls.{Call, call_limit, call_limit_link, call_enqueue, call_advance, call_next}
+use Rattle.link_simulation.specs.Simulation.World.{Completed, Course, goes, meets, last_moment, preceded, fronts}
+use Rattle.link_simulation.specs.Simulation.World.{raised, later_of, completion_of, completed}
+use Rattle.link_simulation.specs.Simulation.Calls.{Call, call_limit, call_limit_link, call_enqueue, call_advance}
+use Rattle.link_simulation.specs.Simulation.Calls.{call_next}
 use Rattle.link_simulation.specs.Rule.Planned.{Planned, RatedFlight, IsLeastMoment, next_event, rated_messages, left_at}
 use Rattle.link_simulation.specs.Rule.Planned.{IsSpentAt, SomeSpentAt, drained_to, next_of, may_launch, SomeReadyAt}
 use Rattle.link_simulation.specs.Rule.Planned.{is_spent, IsPlanned, new_planned}
@@ -29,12 +32,15 @@ use Rattle.fair_rates.proofs.Lists.Each.{Each}
 use Rattle.link_simulation.proofs.Rule.Advance.{earlier_start}
 use Rattle.fair_rates.proofs.Lists.Zips.{zip-length}
 
-pub split_length : {X : Type 0} (test : X → Bool) (xs : List X) → length (filter test xs) + length (filter (λ x. not (test x)) xs) ≡ length xs
+pub split_length : {X : Type 0} (test : X → Bool) (xs : List X)
+    → length (filter test xs) + length (filter (λ x. not (test x)) xs) ≡ length xs
 split_length test [] = refl
 split_length {X} test (x ∷ xs) = by_test (test x) (split_length test xs)
   where
     by_test : (b : Bool) → length (filter test xs) + length (filter (λ y. not (test y)) xs) ≡ length xs
-        → length (cond b (x ∷ filter test xs) (filter test xs)) + length (cond (not b) (x ∷ filter (λ y. not (test y)) xs) (filter (λ y. not (test y)) xs)) ≡ length (x ∷ xs)
+        → length (cond b (x ∷ filter test xs) (filter test xs))
+        + length (cond (not b) (x ∷ filter (λ y. not (test y)) xs) (filter (λ y. not (test y)) xs))
+        ≡ length (x ∷ xs)
     by_test true ih = omega (arith, ih)
     by_test false ih = omega (arith, ih)
 
@@ -49,14 +55,18 @@ module _ {P : Type 0} (cmp : P → P → Ordering) (order : IsTotalOrder cmp) wh
   drained_length t [] = refl
   drained_length t (f ∷ fs) = ap suc (drained_length t fs)
 
-  account_counts : (t : ℕ) (old new : Planned P) (leavers : List (Message P)) → Accounts cmp t old leavers new → most_events new + length leavers ≡ most_events old
+  account_counts : (t : ℕ) (old new : Planned P) (leavers : List (Message P)) → Accounts cmp t old leavers new
+      → most_events new + length leavers ≡ most_events old
   account_counts t old new leavers account =
       let all : List (RatedFlight P) = drained_to t old.sending in
-      let out : length leavers ≡ length (filter (is_spent cmp old.caps) all) = ap (λ (ms : List (Message P)). length ms) account.left ∙ map_length (filter (is_spent cmp old.caps) all) in
+      let out : length leavers ≡ length (filter (is_spent cmp old.caps) all) =
+      ap (λ (ms : List (Message P)). length ms) account.left ∙ map_length (filter (is_spent cmp old.caps) all) in
       let stay : length (filter (λ (f : RatedFlight P). not (is_spent cmp old.caps f)) all) ≡ length new.sending
       = zip-length (λ (f g : RatedFlight P). (g.message ≡ f.message) × (g.left ≡ f.left) × (g.updated ≡ t))
       (filter (λ (f : RatedFlight P). not (is_spent cmp old.caps f)) all) new.sending account.stayed in
-      let both : length (filter (is_spent cmp old.caps) all) + length (filter (λ (f : RatedFlight P). not (is_spent cmp old.caps f)) all) ≡ length old.sending
+      let both : length (filter (is_spent cmp old.caps) all)
+      + length (filter (λ (f : RatedFlight P). not (is_spent cmp old.caps f)) all)
+      ≡ length old.sending
       = split_length (is_spent cmp old.caps) all ∙ drained_length t old.sending in
       let same : length new.waiting ≡ length old.waiting = ap (λ (q : Planned P). length q.waiting) account.same in
       omega arith
@@ -68,53 +78,68 @@ module _ {P : Type 0} (cmp : P → P → Ordering) (order : IsTotalOrder cmp) wh
   longer [] f = refl
   longer (g ∷ fs) f = omega (arith, longer fs f)
 
-  launched_counts : (t : ℕ) (p : Planned P) (k m : Message P) → next_of cmp p k ≡ Some m → most_events (launched cmp t p m) + 1 ≡ most_events p
+  launched_counts : (t : ℕ) (p : Planned P) (k m : Message P) → next_of cmp p k ≡ Some m
+      → most_events (launched cmp t p m) + 1 ≡ most_events p
   launched_counts t p k m found =
-      let own : find (same_pair cmp m) p.waiting ≡ Some m = find_like cmp order k m p.waiting (find_passes (same_pair cmp k) m p.waiting found) ∙ found in
-      let fewer : length (without_first (same_pair cmp m) p.waiting) + 1 ≡ length p.waiting = length_without (same_pair cmp m) m p.waiting own in
+      let own : find (same_pair cmp m) p.waiting ≡ Some m =
+      find_like cmp order k m p.waiting (find_passes (same_pair cmp k) m p.waiting found) ∙ found in
+      let fewer : length (without_first (same_pair cmp m) p.waiting) + 1 ≡ length p.waiting =
+      length_without (same_pair cmp m) m p.waiting own in
       let more : length (launched cmp t p m).sending ≡ length p.sending + 1 = longer p.sending _ in
       omega arith
 
-  launch_counts : {t : ℕ} {p : Planned P} {o : Option (Message P)} {c : Course (Message P) (Planned P)} → Launches cmp t p o c
-      → (k : Message P) (ms : List (Message P)) (q : Planned P) → next_of cmp p k ≡ o → c ≡ goes ms q → most_events q + length ms ≤ most_events p
+  launch_counts : {t : ℕ} {p : Planned P} {o : Option (Message P)} {c : Course (Message P) (Planned P)}
+      → Launches cmp t p o c
+      → (k : Message P) (ms : List (Message P)) (q : Planned P) → next_of cmp p k ≡ o → c ≡ goes ms q
+      → most_events q + length ms ≤ most_events p
   launch_counts {p = p} nothing_waits k ms q is e =
       let none : [] ≡ ms = cc in
       let same : p ≡ q = cc in
-      subst (λ (z : Planned P). most_events z + length ms ≤ most_events p) same (subst (λ (ns : List (Message P)). most_events p + length ns ≤ most_events p) none (omega arith))
+      subst (λ (z : Planned P). most_events z + length ms ≤ most_events p) same
+      (subst (λ (ns : List (Message P)). most_events p + length ns ≤ most_events p) none (omega arith))
   launch_counts {p = p} (too_early may) k ms q is e =
       let none : [] ≡ ms = cc in
       let same : p ≡ q = cc in
-      subst (λ (z : Planned P). most_events z + length ms ≤ most_events p) same (subst (λ (ns : List (Message P)). most_events p + length ns ≤ most_events p) none (omega arith))
+      subst (λ (z : Planned P). most_events z + length ms ≤ most_events p) same
+      (subst (λ (ns : List (Message P)). most_events p + length ns ≤ most_events p) none (omega arith))
   launch_counts (no_id may last) k ms q is e = cc
   launch_counts {t = t} {p = p} (starts {m = m} {leavers = leavers} {new = new} may below account) k ms q is e =
-      let counts : most_events new + length leavers ≡ most_events (launched cmp t p m) = account_counts t (launched cmp t p m) new leavers account in
+      let counts : most_events new + length leavers ≡ most_events (launched cmp t p m) =
+      account_counts t (launched cmp t p m) new leavers account in
       let one : most_events (launched cmp t p m) + 1 ≡ most_events p = launched_counts t p k m is in
       let out : leavers ≡ ms = cc in
       let same : new ≡ q = cc in
-      subst (λ (z : Planned P). most_events z + length ms ≤ most_events p) same (subst (λ (ns : List (Message P)). most_events new + length ns ≤ most_events p) out (omega arith))
+      subst (λ (z : Planned P). most_events z + length ms ≤ most_events p) same
+      (subst (λ (ns : List (Message P)). most_events new + length ns ≤ most_events p) out (omega arith))
 
   -- one that may start does
-  launch_less : {t : ℕ} {p : Planned P} {o : Option (Message P)} {c : Course (Message P) (Planned P)} → Launches cmp t p o c
-      → (k m : Message P) (ms : List (Message P)) (q : Planned P) → next_of cmp p k ≡ o → o ≡ Some m → may_launch cmp t p m ≡ true → c ≡ goes ms q → most_events q + length ms < most_events p
+  launch_less : {t : ℕ} {p : Planned P} {o : Option (Message P)} {c : Course (Message P) (Planned P)}
+      → Launches cmp t p o c
+      → (k m : Message P) (ms : List (Message P)) (q : Planned P) → next_of cmp p k ≡ o → o ≡ Some m
+      → may_launch cmp t p m ≡ true → c ≡ goes ms q → most_events q + length ms < most_events p
   launch_less nothing_waits k m ms q is some may e = cc
   launch_less {t = t} {p = p} (too_early {m = x} early) k m ms q is some may e =
       let same : x ≡ m = cc in
       let on : may_launch cmp t p x ≡ true = subst (λ (y : Message P). may_launch cmp t p y ≡ true) (sym same) may in
       cc
   launch_less (no_id first last) k m ms q is some may e = cc
-  launch_less {t = t} {p = p} (starts {m = x} {leavers = leavers} {new = new} first below account) k m ms q is some may e =
-      let counts : most_events new + length leavers ≡ most_events (launched cmp t p x) = account_counts t (launched cmp t p x) new leavers account in
+  launch_less {t = t} {p = p} (starts {m = x} {leavers = leavers} {new = new} first below account) k m ms q is some may
+      e =
+      let counts : most_events new + length leavers ≡ most_events (launched cmp t p x) =
+      account_counts t (launched cmp t p x) new leavers account in
       let one : most_events (launched cmp t p x) + 1 ≡ most_events p = launched_counts t p k x is in
       let out : leavers ≡ ms = cc in
       let same : new ≡ q = cc in
-      subst (λ (z : Planned P). most_events z + length ms < most_events p) same (subst (λ (ns : List (Message P)). most_events new + length ns < most_events p) out (omega arith))
+      subst (λ (z : Planned P). most_events z + length ms < most_events p) same
+      (subst (λ (ns : List (Message P)). most_events new + length ns < most_events p) out (omega arith))
 
   -- no more is left to do than so much
   abbrev Leaves : ℕ → Course (Completed P) (Planned P) → Type 0
   Leaves n (goes cs q) = most_events q ≤ n
   Leaves n (meets fault) = ⊤
 
-  leaves_after : (n : ℕ) (cs : List (Completed P)) (c : Course (Completed P) (Planned P)) → Leaves n c → Leaves n (preceded cs c)
+  leaves_after : (n : ℕ) (cs : List (Completed P)) (c : Course (Completed P) (Planned P)) → Leaves n c
+      → Leaves n (preceded cs c)
   leaves_after n cs (goes ds q) h = h
   leaves_after n cs (meets fault) h = tt
 
@@ -122,39 +147,57 @@ module _ {P : Type 0} (cmp : P → P → Ordering) (order : IsTotalOrder cmp) wh
   leaves_more m n (goes ds q) le h = omega arith
   leaves_more m n (meets fault) le h = tt
 
-  finish_counts : {t : ℕ} {ms : List (Message P)} {p : Planned P} {c : Course (Completed P) (Planned P)} → Finishes cmp t ms p c → Leaves (most_events p) c
-  finish_counts {t = t} {p = p} (all_completed {q = q} looks) = let same : most_events q ≡ most_events p = look_counts t p q looks in omega arith
+  finish_counts : {t : ℕ} {ms : List (Message P)} {p : Planned P} {c : Course (Completed P) (Planned P)}
+      → Finishes cmp t ms p c → Leaves (most_events p) c
+  finish_counts {t = t} {p = p} (all_completed {q = q} looks) =
+      let same : most_events q ≡ most_events p = look_counts t p q looks in omega arith
   finish_counts (late is) = tt
   finish_counts (stopped is launch) = tt
   finish_counts {t = t} {p = p} (completes {m = m} {more = more} {q = q} {rest = rest} is launch finishes) =
       let less : most_events q + length more ≤ most_events p = launch_counts launch m more q refl refl in
-      leaves_after (most_events p) (completed cmp t m ∷ []) rest (leaves_more (most_events q) (most_events p) rest (omega arith) (finish_counts finishes))
+      leaves_after (most_events p) (completed cmp t m ∷ []) rest
+      (leaves_more (most_events q) (most_events p) rest (omega arith) (finish_counts finishes))
 
-  wake_counts : {t : ℕ} {ms : List (Message P)} {p : Planned P} {c : Course (Completed P) (Planned P)} → WakesEach cmp t ms p c → Leaves (most_events p) c
-  wake_counts {t = t} {p = p} (all_started {q = q} looks) = let same : most_events q ≡ most_events p = look_counts t p q looks in omega arith
+  wake_counts : {t : ℕ} {ms : List (Message P)} {p : Planned P} {c : Course (Completed P) (Planned P)}
+      → WakesEach cmp t ms p c → Leaves (most_events p) c
+  wake_counts {t = t} {p = p} (all_started {q = q} looks) =
+      let same : most_events q ≡ most_events p = look_counts t p q looks in omega arith
   wake_counts (no_start launch) = tt
   wake_counts (no_finish launch finishes) = tt
   wake_counts {p = p} (starts_one {m = m} {more = more} {q = q} {r = r} {cs = cs} {rest = rest} launch finishes wakes) =
       let less : most_events q + length more ≤ most_events p = launch_counts launch m more q refl refl in
       let after : most_events r ≤ most_events q = finish_counts finishes in
-      leaves_after (most_events p) cs rest (leaves_more (most_events r) (most_events p) rest (omega arith) (wake_counts wakes))
+      leaves_after (most_events p) cs rest
+      (leaves_more (most_events r) (most_events p) rest (omega arith) (wake_counts wakes))
 
   -- a wake that finds a pair ready starts it
-  wake_less : {t : ℕ} {ms : List (Message P)} {p : Planned P} {c : Course (Completed P) (Planned P)} → WakesEach cmp t ms p c → (m : Message P) (ns : List (Message P))
-      → ms ≡ m ∷ ns → next_of cmp p m ≡ Some m → may_launch cmp t p m ≡ true → 0 < most_events p × Leaves (most_events p - 1) c
+  wake_less : {t : ℕ} {ms : List (Message P)} {p : Planned P} {c : Course (Completed P) (Planned P)}
+      → WakesEach cmp t ms p c → (m : Message P) (ns : List (Message P))
+      → ms ≡ m ∷ ns → next_of cmp p m ≡ Some m → may_launch cmp t p m ≡ true
+      → 0 < most_events p × Leaves (most_events p - 1) c
   wake_less (all_started looks) m ns e found may = cc
   wake_less {p = p} (no_start {m = x} launch) m ns e found may = (waits_some p m found, tt)
     where
       waits_some : (p : Planned P) (m : Message P) → next_of cmp p m ≡ Some m → 0 < most_events p
-      waits_some p m found = let fewer : length (without_first (same_pair cmp m) p.waiting) + 1 ≡ length p.waiting = length_without (same_pair cmp m) m p.waiting found in omega arith
+      waits_some p m found =
+          let fewer : length (without_first (same_pair cmp m) p.waiting) + 1 ≡ length p.waiting =
+          length_without (same_pair cmp m) m p.waiting found in
+          omega arith
   wake_less {p = p} (no_finish {m = x} {more = more} {q = q} launch finishes) m ns e found may =
-      let fewer : length (without_first (same_pair cmp m) p.waiting) + 1 ≡ length p.waiting = length_without (same_pair cmp m) m p.waiting found in (omega arith, tt)
-  wake_less {t = t} {p = p} (starts_one {m = x} {more = more} {q = q} {r = r} {cs = cs} {rest = rest} launch finishes wakes) m ns e found may =
+      let fewer : length (without_first (same_pair cmp m) p.waiting) + 1 ≡ length p.waiting =
+      length_without (same_pair cmp m) m p.waiting found in
+      (omega arith, tt)
+  wake_less {t = t} {p = p}
+      (starts_one {m = x} {more = more} {q = q} {r = r} {cs = cs} {rest = rest} launch finishes wakes) m ns e found
+      may =
       let same : x ≡ m = cc in
       let found_x : next_of cmp p x ≡ Some m = ap (next_of cmp p) same ∙ found in
       let less : most_events q + length more < most_events p = launch_less launch x m more q refl found_x may refl in
-      let after : most_events r ≤ most_events q = finish_counts finishes in
-      (omega arith, leaves_after (most_events p - 1) cs rest (leaves_more (most_events r) (most_events p - 1) rest (omega arith) (wake_counts wakes)))
+      let after : most_events r ≤ most_events q = finish_counts finishes in (
+        omega arith,
+        leaves_after (most_events p - 1) cs rest
+            (leaves_more (most_events r) (most_events p - 1) rest (omega arith) (wake_counts wakes)),
+      )
 
   -- ---- what is planned stays right
 
@@ -173,103 +216,135 @@ module _ {P : Type 0} (cmp : P → P → Ordering) (order : IsTotalOrder cmp) wh
     pub none_at_first : p.limited ≡ false → p.waiting ≡ []
 
   looked_right : (t : ℕ) (p q : Planned P) → IsPartlyPlanned p → PlansStart cmp t p q → IsPlanned cmp q
-  looked_right t p q h looks = subst (IsPlanned cmp) (sym looks.same) (record { finish = h.finish; from = t; start = looks.start; none_at_first = h.none_at_first })
+  looked_right t p q h looks =
+      subst (IsPlanned cmp) (sym looks.same)
+      (record { finish = h.finish; from = t; start = looks.start; none_at_first = h.none_at_first })
 
-  launch_right : {t : ℕ} {p : Planned P} {o : Option (Message P)} {c : Course (Message P) (Planned P)} → Launches cmp t p o c
-      → (k : Message P) (ms : List (Message P)) (q : Planned P) → next_of cmp p k ≡ o → c ≡ goes ms q → IsPartlyPlanned p → IsPartlyPlanned q
+  launch_right : {t : ℕ} {p : Planned P} {o : Option (Message P)} {c : Course (Message P) (Planned P)}
+      → Launches cmp t p o c
+      → (k : Message P) (ms : List (Message P)) (q : Planned P) → next_of cmp p k ≡ o → c ≡ goes ms q
+      → IsPartlyPlanned p → IsPartlyPlanned q
   launch_right {p = p} nothing_waits k ms q is e h = let same : p ≡ q = cc in subst IsPartlyPlanned same h
   launch_right {p = p} (too_early may) k ms q is e h = let same : p ≡ q = cc in subst IsPartlyPlanned same h
   launch_right (no_id may last) k ms q is e h = cc
   launch_right {t = t} {p = p} (starts {m = m} {leavers = leavers} {new = new} may below account) k ms q is e h =
       let same : new ≡ q = cc in
       let limited : new.limited ≡ p.limited = ap (λ (z : Planned P). z.limited) account.same in
-      subst IsPartlyPlanned same (record { finish = account.finish; none_at_first = λ free. absurd (waits free_is (sym limited ∙ free)) })
+      subst IsPartlyPlanned same
+      (record { finish = account.finish; none_at_first = λ free. absurd (waits free_is (sym limited ∙ free)) })
     where
       free_is : p.limited ≡ false → p.waiting ≡ []
       free_is = h.none_at_first
 
       waits : (p.limited ≡ false → p.waiting ≡ []) → p.limited ≡ false → ⊥
-      waits none free = let empty : find (same_pair cmp k) p.waiting ≡ None = ap (find (same_pair cmp k)) (none free) in cc
+      waits none free =
+          let empty : find (same_pair cmp k) p.waiting ≡ None = ap (find (same_pair cmp k)) (none free) in cc
 
-  finish_right : {t : ℕ} {ms : List (Message P)} {p : Planned P} {c : Course (Completed P) (Planned P)} → Finishes cmp t ms p c → IsPartlyPlanned p → Right c
+  finish_right : {t : ℕ} {ms : List (Message P)} {p : Planned P} {c : Course (Completed P) (Planned P)}
+      → Finishes cmp t ms p c → IsPartlyPlanned p → Right c
   unfolding Right
   finish_right {t = t} {p = p} (all_completed {q = q} looks) h = looked_right t p q h looks
   finish_right (late is) h = tt
   finish_right (stopped is launch) h = tt
   finish_right {t = t} {p = p} (completes {m = m} {more = more} {q = q} {rest = rest} is launch finishes) h =
-      right_after (completed cmp t m ∷ []) rest (finish_right finishes (launch_right launch m more q refl refl (record { finish = h.finish; none_at_first = h.none_at_first })))
+      right_after (completed cmp t m ∷ []) rest
+      (finish_right finishes
+      (launch_right launch m more q refl refl (record { finish = h.finish; none_at_first = h.none_at_first })))
 
   partly : (p : Planned P) → IsPlanned cmp p → IsPartlyPlanned p
   partly p h = record { finish = h.finish; none_at_first = h.none_at_first }
 
-  wake_right : {t : ℕ} {ms : List (Message P)} {p : Planned P} {c : Course (Completed P) (Planned P)} → WakesEach cmp t ms p c → IsPartlyPlanned p → Right c
+  wake_right : {t : ℕ} {ms : List (Message P)} {p : Planned P} {c : Course (Completed P) (Planned P)}
+      → WakesEach cmp t ms p c → IsPartlyPlanned p → Right c
   unfolding Right
   wake_right {t = t} {p = p} (all_started {q = q} looks) h = looked_right t p q h looks
   wake_right (no_start launch) h = tt
   wake_right (no_finish launch finishes) h = tt
-  wake_right {p = p} (starts_one {m = m} {more = more} {q = q} {r = r} {cs = cs} {rest = rest} launch finishes wakes) h =
+  wake_right {p = p} (starts_one {m = m} {more = more} {q = q} {r = r} {cs = cs} {rest = rest} launch finishes wakes)
+      h =
       let next : IsPartlyPlanned q = launch_right launch m more q refl refl h in
       let after : IsPlanned cmp r = finish_right finishes next in
       right_after cs rest (wake_right wakes (partly r after))
 
-  settle_right : {t : ℕ} {p : Planned P} {c : Course (Completed P) (Planned P)} → Settles cmp t p c → (p.limited ≡ false → p.waiting ≡ []) → Right c
+  settle_right : {t : ℕ} {p : Planned P} {c : Course (Completed P) (Planned P)} → Settles cmp t p c
+      → (p.limited ≡ false → p.waiting ≡ []) → Right c
   settle_right {t = t} {p = p} (settling {leavers = leavers} {mid = mid} account finishes) none =
       let limited : mid.limited ≡ p.limited = ap (λ (z : Planned P). z.limited) account.same in
       let waiting : mid.waiting ≡ p.waiting = ap (λ (z : Planned P). z.waiting) account.same in
-      finish_right finishes (record { finish = account.finish; none_at_first = λ free. waiting ∙ none (sym limited ∙ free) })
+      finish_right finishes
+      (record { finish = account.finish; none_at_first = λ free. waiting ∙ none (sym limited ∙ free) })
 
   -- ---- events
 
   -- something that is spent leaves
-  spent_leaves : (t : ℕ) (p : Planned P) (fs : List (RatedFlight P)) (i : ℕ) (f : RatedFlight P) → slice_get fs i ≡ Some f → IsSpentAt t f → 0 < length (filter (is_spent cmp p.caps) (drained_to t fs))
+  spent_leaves : (t : ℕ) (p : Planned P) (fs : List (RatedFlight P)) (i : ℕ) (f : RatedFlight P)
+      → slice_get fs i ≡ Some f → IsSpentAt t f → 0 < length (filter (is_spent cmp p.caps) (drained_to t fs))
   spent_leaves t p [] i f at spent = cc
   spent_leaves t p (g ∷ gs) zero f at spent =
       let same : g ≡ f = cc in
-      let zero_left : ((left_at t g).num == 0) ≡ true = eq-eqb (left_at t g).num 0 (ap (λ (h : RatedFlight P). (left_at t h).num) same ∙ spent) in
+      let zero_left : ((left_at t g).num == 0) ≡ true =
+      eq-eqb (left_at t g).num 0 (ap (λ (h : RatedFlight P). (left_at t h).num) same ∙ spent) in
       rw zero_left (omega arith)
-  spent_leaves t p (g ∷ gs) (suc i) f at spent = by_test (is_spent cmp p.caps (record g { left = left_at t g; updated = t })) (spent_leaves t p gs i f at spent)
+  spent_leaves t p (g ∷ gs) (suc i) f at spent =
+      by_test (is_spent cmp p.caps (record g { left = left_at t g; updated = t })) (spent_leaves t p gs i f at spent)
     where
       by_test : (b : Bool) → 0 < length (filter (is_spent cmp p.caps) (drained_to t gs))
-          → 0 < length (cond b (record g { left = left_at t g; updated = t } ∷ filter (is_spent cmp p.caps) (drained_to t gs)) (filter (is_spent cmp p.caps) (drained_to t gs)))
+          → 0
+          < length
+          (cond b (record g { left = left_at t g; updated = t } ∷ filter (is_spent cmp p.caps) (drained_to t gs))
+          (filter (is_spent cmp p.caps) (drained_to t gs)))
       by_test true h = omega arith
       by_test false h = h
 
-  settle_less : {t : ℕ} {p : Planned P} {c : Course (Completed P) (Planned P)} → Settles cmp t p c → SomeSpentAt p.sending t → 0 < most_events p × Leaves (most_events p - 1) c
+  settle_less : {t : ℕ} {p : Planned P} {c : Course (Completed P) (Planned P)} → Settles cmp t p c
+      → SomeSpentAt p.sending t → 0 < most_events p × Leaves (most_events p - 1) c
   settle_less {t = t} {p = p} {c = c} (settling {leavers = leavers} {mid = mid} account finishes) some =
       let counts : most_events mid + length leavers ≡ most_events p = account_counts t p mid leavers account in
       let out : length leavers ≡ length (filter (is_spent cmp p.caps) (drained_to t p.sending))
-      = ap (λ (ms : List (Message P)). length ms) account.left ∙ map_length (filter (is_spent cmp p.caps) (drained_to t p.sending)) in
-      let one : 0 < length (filter (is_spent cmp p.caps) (drained_to t p.sending)) = spent_leaves t p p.sending some.0 some.1 some.2 some.4 in
+      = ap (λ (ms : List (Message P)). length ms) account.left
+      ∙ map_length (filter (is_spent cmp p.caps) (drained_to t p.sending)) in
+      let one : 0 < length (filter (is_spent cmp p.caps) (drained_to t p.sending)) =
+      spent_leaves t p p.sending some.0 some.1 some.2 some.4 in
       (omega arith, leaves_more (most_events mid) (most_events p - 1) c (omega arith) (finish_counts finishes))
 
-  pub first_in_fronts : (m : Message P) (ws : List (Message P)) → find (same_pair cmp m) ws ≡ Some m → In (fronts cmp ws) m
+  pub first_in_fronts : (m : Message P) (ws : List (Message P)) → find (same_pair cmp m) ws ≡ Some m
+      → In (fronts cmp ws) m
   first_in_fronts m [] e = cc
   first_in_fronts m (x ∷ ws) e = by_test (same_pair cmp m x) refl e (first_in_fronts m ws)
     where
-      by_test : (b : Bool) → same_pair cmp m x ≡ b → cond b (Some x) (find (same_pair cmp m) ws) ≡ Some m → (find (same_pair cmp m) ws ≡ Some m → In (fronts cmp ws) m) → In (fronts cmp (x ∷ ws)) m
+      by_test : (b : Bool) → same_pair cmp m x ≡ b → cond b (Some x) (find (same_pair cmp m) ws) ≡ Some m
+          → (find (same_pair cmp m) ws ≡ Some m → In (fronts cmp ws) m) → In (fronts cmp (x ∷ ws)) m
       by_test true is e ih = let same : x ≡ m = cc in inl same
-      by_test false is e ih = inr (in_filter (λ n. not (same_pair cmp x n)) (fronts cmp ws) m (ih e) (rw (pair_sym cmp order x m, is) refl))
+      by_test false is e ih =
+          inr (in_filter (λ n. not (same_pair cmp x n)) (fronts cmp ws) m (ih e) (rw (pair_sym cmp order x m, is) refl))
 
-  wake_event : {t : ℕ} {p : Planned P} {c : Course (Completed P) (Planned P)} → Wakes cmp t p c → SomeReadyAt cmp p t → 0 < most_events p × Leaves (most_events p - 1) c
+  wake_event : {t : ℕ} {p : Planned P} {c : Course (Completed P) (Planned P)} → Wakes cmp t p c → SomeReadyAt cmp p t
+      → 0 < most_events p × Leaves (most_events p - 1) c
   wake_event {t = t} {p = p} {c = c} wakes some =
-      by_list (filter (may_launch cmp t p) (fronts cmp p.waiting)) (in_filter (may_launch cmp t p) (fronts cmp p.waiting) some.0 (first_in_fronts some.0 p.waiting some.1) some.2)
+      by_list (filter (may_launch cmp t p) (fronts cmp p.waiting))
+      (in_filter (may_launch cmp t p) (fronts cmp p.waiting) some.0 (first_in_fronts some.0 p.waiting some.1) some.2)
       (each_filter (λ (m : Message P). find (same_pair cmp m) p.waiting ≡ Some m)
       (λ (m : Message P). (find (same_pair cmp m) p.waiting ≡ Some m) × (may_launch cmp t p m ≡ true))
       (may_launch cmp t p) (fronts cmp p.waiting) (λ m may found. (found, may))
       (fronts_are_first cmp order p.waiting)) wakes
     where
-      by_list : (ms : List (Message P)) → In ms some.0 → Each (λ (m : Message P). (find (same_pair cmp m) p.waiting ≡ Some m) × (may_launch cmp t p m ≡ true)) ms
+      by_list : (ms : List (Message P)) → In ms some.0
+          → Each (λ (m : Message P). (find (same_pair cmp m) p.waiting ≡ Some m) × (may_launch cmp t p m ≡ true)) ms
           → WakesEach cmp t ms p c → 0 < most_events p × Leaves (most_events p - 1) c
       by_list [] has all wakes = absurd has
       by_list (m ∷ ms) has all wakes = wake_less wakes m ms refl all.0.0 all.0.1
 
   spent_at : (p : Planned P) (t : ℕ) → IsPlanned cmp p → p.finish ≡ Some t → SomeSpentAt p.sending t
-  spent_at p t h is = let least : IsLeastMoment (SomeSpentAt p.sending) (Some t) = subst (λ (o : Option ℕ). IsLeastMoment (SomeSpentAt p.sending) o) is h.finish in least.1
+  spent_at p t h is =
+      let least : IsLeastMoment (SomeSpentAt p.sending) (Some t) =
+      subst (λ (o : Option ℕ). IsLeastMoment (SomeSpentAt p.sending) o) is h.finish in
+      least.1
 
   ready_at : (p : Planned P) (t : ℕ) → IsPlanned cmp p → p.finish ≢ Some t → next_event p ≡ Some t → SomeReadyAt cmp p t
   ready_at p t h not_finish is =
       let start : p.start ≡ Some t = (earlier_start cmp order p.finish p.start t is not_finish).0 in
-      let least : IsLeastMoment (λ s. (h.from ≤ s) × SomeReadyAt cmp p s) (Some t) = subst (λ (o : Option ℕ). IsLeastMoment (λ s. (h.from ≤ s) × SomeReadyAt cmp p s) o) start h.start in
+      let least : IsLeastMoment (λ s. (h.from ≤ s) × SomeReadyAt cmp p s) (Some t) =
+      subst (λ (o : Option ℕ). IsLeastMoment (λ s. (h.from ≤ s) × SomeReadyAt cmp p s) o) start h.start in
       least.1.1
 
   -- so many events, and what is left to do after them, are no more than so much
@@ -277,7 +352,8 @@ module _ {P : Type 0} (cmp : P → P → Ordering) (order : IsTotalOrder cmp) wh
   Spends events n (goes cs q) = events + most_events q ≤ n
   Spends events n (meets fault) = events ≤ n
 
-  spends_one_more : (events m n : ℕ) (cs : List (Completed P)) (c : Course (Completed P) (Planned P)) → m < n → Spends events m c → Spends (events + 1) n (preceded cs c)
+  spends_one_more : (events m n : ℕ) (cs : List (Completed P)) (c : Course (Completed P) (Planned P)) → m < n
+      → Spends events m c → Spends (events + 1) n (preceded cs c)
   spends_one_more events m n cs (goes ds q) less h = omega arith
   spends_one_more events m n cs (meets fault) less h = omega arith
 
@@ -286,7 +362,8 @@ module _ {P : Type 0} (cmp : P → P → Ordering) (order : IsTotalOrder cmp) wh
   spends_none n (meets fault) h = omega arith
 
   -- the events of an advance leave so much less to do
-  pub events_spend : {now n : ℕ} {p : Planned P} {c : Course (Completed P) (Planned P)} → Advances cmp now p n c → IsPlanned cmp p → Spends n (most_events p) c
+  pub events_spend : {now n : ℕ} {p : Planned P} {c : Course (Completed P) (Planned P)} → Advances cmp now p n c
+      → IsPlanned cmp p → Spends n (most_events p) c
   unfolding Right
   events_spend {p = p} {c = c} (no_more before wakes) h = spends_none (most_events p) c (wake_counts wakes)
   events_spend {p = p} (at_finish {q = q} {t = t} {n = n} {cs = cs} {rest = rest} is next due event more) h =
@@ -301,20 +378,25 @@ module _ {P : Type 0} (cmp : P → P → Ordering) (order : IsTotalOrder cmp) wh
       let some : 0 < most_events p = less.0 in
       let fewer : most_events q ≤ most_events p - 1 = less.1 in
       spends_one_more n (most_events q) (most_events p) cs rest (omega arith) (events_spend more after)
-  events_spend {p = p} (finish_stops {t = t} {fault = fault} is next due event) h = let some : 0 < most_events p = (settle_less event (spent_at p t h is)).0 in omega arith
-  events_spend {p = p} (start_stops {t = t} {fault = fault} is next due event) h = let some : 0 < most_events p = (wake_event event (ready_at p t h is next)).0 in omega arith
+  events_spend {p = p} (finish_stops {t = t} {fault = fault} is next due event) h =
+      let some : 0 < most_events p = (settle_less event (spent_at p t h is)).0 in omega arith
+  events_spend {p = p} (start_stops {t = t} {fault = fault} is next due event) h =
+      let some : 0 < most_events p = (wake_event event (ready_at p t h is next)).0 in omega arith
 
   spends_at_most : (events n : ℕ) (c : Course (Completed P) (Planned P)) → Spends events n c → events ≤ n
   spends_at_most events n (goes cs q) h = omega arith
   spends_at_most events n (meets fault) h = h
 
   -- there are no more events than there is to do
-  pub few_events : {now n : ℕ} {p : Planned P} {c : Course (Completed P) (Planned P)} → Advances cmp now p n c → IsPlanned cmp p → n ≤ most_events p
+  pub few_events : {now n : ℕ} {p : Planned P} {c : Course (Completed P) (Planned P)} → Advances cmp now p n c
+      → IsPlanned cmp p → n ≤ most_events p
   few_events {n = n} {p = p} {c = c} advances h = spends_at_most n (most_events p) c (events_spend advances h)
 
   -- an advance to the next event has that event
-  pub some_event : {now n : ℕ} {p : Planned P} {c : Course (Completed P) (Planned P)} → Advances cmp now p n c → next_event p ≡ Some now → 0 < n
-  some_event {now = now} (no_more before wakes) is = let later : now < now = subst (λ (o : Option ℕ). IfSome o (λ t. now < t)) is before in absurd (omega arith)
+  pub some_event : {now n : ℕ} {p : Planned P} {c : Course (Completed P) (Planned P)} → Advances cmp now p n c
+      → next_event p ≡ Some now → 0 < n
+  some_event {now = now} (no_more before wakes) is =
+      let later : now < now = subst (λ (o : Option ℕ). IfSome o (λ t. now < t)) is before in absurd (omega arith)
   some_event (at_finish is next due event more) e = omega arith
   some_event (at_start is next due event more) e = omega arith
   some_event (finish_stops is next due event) e = omega arith
@@ -322,7 +404,8 @@ module _ {P : Type 0} (cmp : P → P → Ordering) (order : IsTotalOrder cmp) wh
 
   -- ---- calls
 
-  advance_right : {now n : ℕ} {p : Planned P} {c : Course (Completed P) (Planned P)} → Advances cmp now p n c → IsPlanned cmp p → Right c
+  advance_right : {now n : ℕ} {p : Planned P} {c : Course (Completed P) (Planned P)} → Advances cmp now p n c
+      → IsPlanned cmp p → Right c
   unfolding Right
   advance_right {p = p} (no_more before wakes) h = wake_right wakes (partly p h)
   advance_right {p = p} (at_finish {q = q} {cs = cs} {rest = rest} is next due event more) h =
@@ -334,15 +417,19 @@ module _ {P : Type 0} (cmp : P → P → Ordering) (order : IsTotalOrder cmp) wh
   advance_right (finish_stops is next due event) h = tt
   advance_right (start_stops is next due event) h = tt
 
-  rebalance_right : {now : ℕ} {caps : Caps P} {p : Planned P} {c : Course (Completed P) (Planned P)} → Rebalances cmp now caps p c → IsPlanned cmp p → Right c
+  rebalance_right : {now : ℕ} {caps : Caps P} {p : Planned P} {c : Course (Completed P) (Planned P)}
+      → Rebalances cmp now caps p c → IsPlanned cmp p → Right c
   unfolding Right
   rebalance_right {now = now} {caps = caps} {p = p} (none_sending {new = new} empty looks) h =
-      looked_right now (record p { caps = caps; limited = true }) new (record { finish = h.finish; none_at_first = λ free. cc }) looks
+      looked_right now (record p { caps = caps; limited = true }) new
+      (record { finish = h.finish; none_at_first = λ free. cc }) looks
   rebalance_right (some_sending some event) h = settle_right event (λ free. cc)
 
-  enqueue_right : {now : ℕ} {m : Message P} {p : Planned P} {c : Course (Completed P) (Planned P)} → Enqueues cmp now m p c → IsPlanned cmp p → Right c
+  enqueue_right : {now : ℕ} {m : Message P} {p : Planned P} {c : Course (Completed P) (Planned P)}
+      → Enqueues cmp now m p c → IsPlanned cmp p → Right c
   unfolding Right
-  enqueue_right {now = now} {m = m} {p = p} (at_once free) h = by_late (m.should_deliver && nat_lt last_moment (now + m.latency))
+  enqueue_right {now = now} {m = m} {p = p} (at_once free) h =
+      by_late (m.should_deliver && nat_lt last_moment (now + m.latency))
     where
       at : ℕ
       at = if m.should_deliver then later_of (p.last_arrival m.origin m.recipient) (now + m.latency) else now
@@ -356,22 +443,30 @@ module _ {P : Type 0} (cmp : P → P → Ordering) (order : IsTotalOrder cmp) wh
           let there : find (same_pair cmp some.0) q.waiting ≡ Some some.0 = some.1 in
           cc
 
-      still : (o : Option ℕ) → IsLeastMoment (λ s. (h.from ≤ s) × SomeReadyAt cmp p s) o → IsLeastMoment (λ s. (h.from ≤ s) × SomeReadyAt cmp after s) o
+      still : (o : Option ℕ) → IsLeastMoment (λ s. (h.from ≤ s) × SomeReadyAt cmp p s) o
+          → IsLeastMoment (λ s. (h.from ≤ s) × SomeReadyAt cmp after s) o
       still None least = λ s within some. none_ready after (h.none_at_first free) s some.1
       still (Some s) least = absurd (none_ready p (h.none_at_first free) s least.1.1)
 
-      by_late : (b : Bool) → Right (cond b (meets MomentTooLate) (goes (completion_of m (if m.should_deliver then Some at else None) ∷ []) after))
+      by_late : (b : Bool)
+          → Right
+          (cond b (meets MomentTooLate)
+          (goes (completion_of m (if m.should_deliver then Some at else None) ∷ []) after))
       by_late true = tt
-      by_late false = record { finish = h.finish; from = h.from; start = still p.start h.start; none_at_first = h.none_at_first }
+      by_late false =
+          record { finish = h.finish; from = h.from; start = still p.start h.start; none_at_first = h.none_at_first }
   enqueue_right (no_launch limits launch) h = tt
   enqueue_right {m = m} {p = p} (launches {leavers = leavers} {mid = mid} limits launch finishes) h =
-      finish_right finishes (launch_right launch m leavers mid refl refl (record { finish = h.finish; none_at_first = λ free. both limits free }))
+      finish_right finishes
+      (launch_right launch m leavers mid refl refl
+      (record { finish = h.finish; none_at_first = λ free. both limits free }))
     where
       both : {A : Type 0} → p.limited ≡ true → p.limited ≡ false → A
       both on off = cc
 
   -- what is planned is right after each call
-  pub obeys_right : (p : Planned P) (call : Call P) (c : Course (Completed P) (Planned P)) → IsPlanned cmp p → Obeys cmp p call c → (cs : List (Completed P)) (q : Planned P)
+  pub obeys_right : (p : Planned P) (call : Call P) (c : Course (Completed P) (Planned P)) → IsPlanned cmp p
+      → Obeys cmp p call c → (cs : List (Completed P)) (q : Planned P)
       → c ≡ goes cs q → IsPlanned cmp q
   unfolding Right
   obeys_right p call c h obeys cs q e = subst Right e (by_call call obeys)
@@ -384,7 +479,13 @@ module _ {P : Type 0} (cmp : P → P → Ordering) (order : IsTotalOrder cmp) wh
       by_call call_next obeys = subst Right (sym obeys) h
 
   pub new_is_planned : (id : ℕ) → IsPlanned cmp (new_planned id)
-  new_is_planned id = record { finish = λ t within some. nothing_spent t some; from = 0; start = λ t within some. nothing_ready t some.1; none_at_first = λ free. refl }
+  new_is_planned id =
+      record {
+        finish = λ t within some. nothing_spent t some;
+        from = 0;
+        start = λ t within some. nothing_ready t some.1;
+        none_at_first = λ free. refl;
+      }
     where
       nothing_spent : (t : ℕ) → SomeSpentAt {P = P} [] t → ⊥
       nothing_spent t some = let e : None ≡ Some some.1 = some.2 in cc

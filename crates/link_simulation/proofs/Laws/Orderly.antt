@@ -1,5 +1,6 @@
 -- Each call keeps a planned world in order.
-use Rattle.std.proofs.Common.{◌≡◌, ℕ, ◌+◌, List, [], ◌∷◌, Bool, true, false, cond, not, Option, Some, None, refl, sym, ap, ◌∙◌, subst}
+use Rattle.std.proofs.Common.{◌≡◌, ℕ, ◌+◌, List, [], ◌∷◌, Bool, true, false, cond, not, Option, Some, None, refl, sym}
+use Rattle.std.proofs.Common.{ap, ◌∙◌, subst}
 use Rattle.std.specs.Prelude.{◌&&◌, nat_lt, if◌then◌else◌}
 use Rattle.std.specs.List.{find, filter, list_any, AllZip}
 use Rattle.std.specs.declared.cmp.Ordering.{Ordering}
@@ -7,12 +8,21 @@ use Rattle.std.specs.Cmp.{IsTotalOrder}
 use Rattle.std.proofs.lemmas.Bool.{or_from, or_parts}
 use Rattle.std.proofs.lemmas.List.{map-append}
 use Rattle.fair_rates.specs.declared.error.Error.TheVariants.{MomentTooLate}
-use Rattle.link_simulation.specs.Simulation.Messages.{Message, Caps, CapsAlike, PairsAlike, OneForEachPair, no_caps, same_pair}
+use Rattle.link_simulation.specs.Simulation.Messages.{Message, Caps, CapsAlike, PairsAlike, OneForEachPair, no_caps}
+use Rattle.link_simulation.specs.Simulation.Messages.{same_pair}
 use Rattle.link_simulation.specs.Simulation.Rates.{AreFair}
-use Rattle.link_simulation.specs.Simulation.World.{Completed, Course, goes, meets, last_moment, raised, later_of, completion_of, is_in_order, EndsWith, completed, arrival}
-use Rattle.link_simulation.specs.Simulation.Calls.{Call, call_limit, call_limit_link, call_enqueue, call_advance, call_next, limited_by, linked_by}
-use Rattle.link_simulation.specs.Rule.Planned.{Planned, RatedFlight, new_planned, rated_messages, drained_to, next_of, AreInPairOrder, may_launch, is_spent, IsRated}
-use Rattle.link_simulation.specs.Rule.Events.{Accounts, PlansStart, Launches, nothing_waits, too_early, no_id, starts, Finishes, all_completed, late, stopped, completes, WakesEach, all_started, no_start, no_finish, starts_one, Settles, settling, Rebalances, none_sending, some_sending, Enqueues, at_once, no_launch, launches, Advances, no_more, at_finish, at_start, finish_stops, start_stops, launched, landed, with_queued, Obeys}
+use Rattle.link_simulation.specs.Simulation.World.{Completed, Course, goes, meets, last_moment, raised, later_of}
+use Rattle.link_simulation.specs.Simulation.World.{completion_of, is_in_order, EndsWith, completed, arrival}
+use Rattle.link_simulation.specs.Simulation.Calls.{Call, call_limit, call_limit_link, call_enqueue, call_advance}
+use Rattle.link_simulation.specs.Simulation.Calls.{call_next, limited_by, linked_by}
+use Rattle.link_simulation.specs.Rule.Planned.{Planned, RatedFlight, new_planned, rated_messages, drained_to, next_of}
+use Rattle.link_simulation.specs.Rule.Planned.{AreInPairOrder, may_launch, is_spent, IsRated}
+use Rattle.link_simulation.specs.Rule.Events.{Accounts, PlansStart, Launches, nothing_waits, too_early, no_id, starts}
+use Rattle.link_simulation.specs.Rule.Events.{Finishes, all_completed, late, stopped, completes, WakesEach, all_started}
+use Rattle.link_simulation.specs.Rule.Events.{no_start, no_finish, starts_one, Settles, settling, Rebalances}
+use Rattle.link_simulation.specs.Rule.Events.{none_sending, some_sending, Enqueues, at_once, no_launch, launches}
+use Rattle.link_simulation.specs.Rule.Events.{Advances, no_more, at_finish, at_start, finish_stops, start_stops}
+use Rattle.link_simulation.specs.Rule.Events.{launched, landed, with_queued, Obeys}
 use Rattle.link_simulation.specs.Laws.Orderly.{IsOrderly}
 use Rattle.link_simulation.proofs.Simulation.AlikeMessages.{same_itself}
 use Rattle.link_simulation.proofs.Simulation.Queue.{one_pair_more}
@@ -25,7 +35,8 @@ use Rattle.link_simulation.proofs.Rule.Enqueue.{queued_in_order}
 
 -- ---- what is in flight
 
-pub drained_messages : {P : Type 0} (t : ℕ) (fs : List (RatedFlight P)) → rated_messages (drained_to t fs) ≡ rated_messages fs
+pub drained_messages : {P : Type 0} (t : ℕ) (fs : List (RatedFlight P))
+    → rated_messages (drained_to t fs) ≡ rated_messages fs
 drained_messages t [] = refl
 drained_messages t (f ∷ fs) = ap (λ ms. f.message ∷ ms) (drained_messages t fs)
 
@@ -33,7 +44,8 @@ drained_messages t (f ∷ fs) = ap (λ ms. f.message ∷ ms) (drained_messages t
 abbrev pub Stays : {P : Type 0} → ℕ → RatedFlight P → RatedFlight P → Type 0
 Stays t f g = (g.message ≡ f.message) × (g.left ≡ f.left) × (g.updated ≡ t)
 
-pub stayed_messages : {P : Type 0} (t : ℕ) (fs gs : List (RatedFlight P)) → AllZip (Stays t) fs gs → rated_messages gs ≡ rated_messages fs
+pub stayed_messages : {P : Type 0} (t : ℕ) (fs gs : List (RatedFlight P)) → AllZip (Stays t) fs gs
+    → rated_messages gs ≡ rated_messages fs
 stayed_messages t [] [] all = refl
 stayed_messages t [] (g ∷ gs) all = absurd all
 stayed_messages t (f ∷ fs) [] all = absurd all
@@ -43,22 +55,28 @@ none_stays : {P : Type 0} (t : ℕ) (gs : List (RatedFlight P)) → AllZip (Stay
 none_stays t [] all = refl
 none_stays t (g ∷ gs) all = absurd all
 
-pub any_of_fewer : {P : Type 0} (p : Message P → Bool) (test : RatedFlight P → Bool) (fs : List (RatedFlight P)) → list_any p (rated_messages fs) ≡ false → list_any p (rated_messages (filter test fs)) ≡ false
+pub any_of_fewer : {P : Type 0} (p : Message P → Bool) (test : RatedFlight P → Bool) (fs : List (RatedFlight P))
+    → list_any p (rated_messages fs) ≡ false → list_any p (rated_messages (filter test fs)) ≡ false
 any_of_fewer p test [] e = refl
 any_of_fewer {P} p test (f ∷ fs) e =
-    let parts : (p f.message ≡ false) × (list_any p (rated_messages fs) ≡ false) = or_parts (p f.message) (list_any p (rated_messages fs)) e in
+    let parts : (p f.message ≡ false) × (list_any p (rated_messages fs) ≡ false) =
+    or_parts (p f.message) (list_any p (rated_messages fs)) e in
     by_test (test f) parts.0 (any_of_fewer p test fs parts.1)
   where
-    by_test : (b : Bool) → p f.message ≡ false → list_any p (rated_messages (filter test fs)) ≡ false → list_any p (rated_messages (cond b (f ∷ filter test fs) (filter test fs))) ≡ false
+    by_test : (b : Bool) → p f.message ≡ false → list_any p (rated_messages (filter test fs)) ≡ false
+        → list_any p (rated_messages (cond b (f ∷ filter test fs) (filter test fs))) ≡ false
     by_test true h ih = or_from (p f.message) (list_any p (rated_messages (filter test fs))) h ih
     by_test false h ih = ih
 
 module _ {P : Type 0} (cmp : P → P → Ordering) (order : IsTotalOrder cmp) where
-  pub one_of_fewer : (test : RatedFlight P → Bool) (fs : List (RatedFlight P)) → OneForEachPair cmp (rated_messages fs) → OneForEachPair cmp (rated_messages (filter test fs))
+  pub one_of_fewer : (test : RatedFlight P → Bool) (fs : List (RatedFlight P)) → OneForEachPair cmp (rated_messages fs)
+      → OneForEachPair cmp (rated_messages (filter test fs))
   one_of_fewer test [] one = tt
-  one_of_fewer test (f ∷ fs) one = by_test (test f) (any_of_fewer (same_pair cmp f.message) test fs one.0) (one_of_fewer test fs one.1)
+  one_of_fewer test (f ∷ fs) one =
+      by_test (test f) (any_of_fewer (same_pair cmp f.message) test fs one.0) (one_of_fewer test fs one.1)
     where
-      by_test : (b : Bool) → list_any (same_pair cmp f.message) (rated_messages (filter test fs)) ≡ false → OneForEachPair cmp (rated_messages (filter test fs))
+      by_test : (b : Bool) → list_any (same_pair cmp f.message) (rated_messages (filter test fs)) ≡ false
+          → OneForEachPair cmp (rated_messages (filter test fs))
           → OneForEachPair cmp (rated_messages (cond b (f ∷ filter test fs) (filter test fs)))
       by_test true h ih = (h, ih)
       by_test false h ih = ih
@@ -72,19 +90,41 @@ module _ {P : Type 0} (cmp : P → P → Ordering) (order : IsTotalOrder cmp) wh
     pub last_arrival : PairsAlike cmp p.last_arrival p.last_arrival
 
   pub steady : (p : Planned P) → IsOrderly cmp p → IsSteady p
-  steady p h = record { one_each = h.one_each; pair_order = h.pair_order; empty_at_first = h.empty_at_first; caps = h.caps; last_arrival = h.last_arrival }
+  steady p h =
+      record {
+        one_each = h.one_each;
+        pair_order = h.pair_order;
+        empty_at_first = h.empty_at_first;
+        caps = h.caps;
+        last_arrival = h.last_arrival;
+      }
 
   -- ---- the steps
 
-  pub account_orderly : (t : ℕ) (old new : Planned P) (leavers : List (Message P)) → Accounts cmp t old leavers new → IsSteady old → IsOrderly cmp new
+  pub account_orderly : (t : ℕ) (old new : Planned P) (leavers : List (Message P)) → Accounts cmp t old leavers new
+      → IsSteady old → IsOrderly cmp new
   account_orderly t old new leavers a h = record {
-    rated = record { per = a.per; rates = a.rates; fair = subst (λ (q : Planned P). AreFair cmp q.caps (rated_messages new.sending) a.per a.rates) (sym a.same) a.fair; rated = a.rated };
+    rated =
+        record {
+          per = a.per;
+          rates = a.rates;
+          fair = subst (λ (q : Planned P). AreFair cmp q.caps (rated_messages new.sending) a.per a.rates) (sym a.same)
+              a.fair;
+          rated = a.rated;
+        };
     one_each = subst (OneForEachPair cmp) (sym (stayed_messages t still new.sending a.stayed))
-        (one_of_fewer (λ (f : RatedFlight P). not (is_spent cmp old.caps f)) (drained_to t old.sending) (subst (OneForEachPair cmp) (sym (drained_messages t old.sending)) h.one_each));
+        (one_of_fewer (λ (f : RatedFlight P). not (is_spent cmp old.caps f)) (drained_to t old.sending)
+        (subst (OneForEachPair cmp) (sym (drained_messages t old.sending)) h.one_each));
     pair_order = subst (λ (q : Planned P). AreInPairOrder cmp q.waiting) (sym a.same) h.pair_order;
     empty_at_first = λ free.
-        let empty = h.empty_at_first (sym (ap (λ (q : Planned P). q.limited) a.same) ∙ free) in
-        (none_stays t new.sending (subst (λ (fs : List (RatedFlight P)). AllZip (Stays t) (filter (λ (f : RatedFlight P). not (is_spent cmp old.caps f)) (drained_to t fs)) new.sending) empty.0 a.stayed), ap (λ (q : Planned P). q.waiting) a.same ∙ empty.1);
+        let empty = h.empty_at_first (sym (ap (λ (q : Planned P). q.limited) a.same) ∙ free) in (
+          none_stays t new.sending
+              (subst
+              (λ (fs : List (RatedFlight P)). AllZip (Stays t)
+              (filter (λ (f : RatedFlight P). not (is_spent cmp old.caps f)) (drained_to t fs)) new.sending)
+              empty.0 a.stayed),
+          ap (λ (q : Planned P). q.waiting) a.same ∙ empty.1,
+        );
     caps = subst (λ (q : Planned P). CapsAlike cmp q.caps q.caps) (sym a.same) h.caps;
     last_arrival = subst (λ (q : Planned P). PairsAlike cmp q.last_arrival q.last_arrival) (sym a.same) h.last_arrival;
   }
@@ -103,16 +143,22 @@ module _ {P : Type 0} (cmp : P → P → Ordering) (order : IsTotalOrder cmp) wh
   })
 
   -- a message that may start is of an idle pair
-  pub idle_if_may : (t : ℕ) (p : Planned P) (m : Message P) → may_launch cmp t p m ≡ true → list_any (same_pair cmp m) (rated_messages p.sending) ≡ false
-  idle_if_may t p m e = first_part (list_any (same_pair cmp m) (rated_messages p.sending)) (is_in_order (p.last_arrival m.origin m.recipient) (t + m.latency)) e
+  pub idle_if_may : (t : ℕ) (p : Planned P) (m : Message P) → may_launch cmp t p m ≡ true
+      → list_any (same_pair cmp m) (rated_messages p.sending) ≡ false
+  idle_if_may t p m e =
+      first_part (list_any (same_pair cmp m) (rated_messages p.sending))
+      (is_in_order (p.last_arrival m.origin m.recipient) (t + m.latency)) e
     where
       first_part : (a b : Bool) → (not a && b) ≡ true → a ≡ false
       first_part true b e = cc
       first_part false b e = refl
 
-  pub launched_steady : (t : ℕ) (p : Planned P) (k m : Message P) → next_of cmp p k ≡ Some m → may_launch cmp t p m ≡ true → IsSteady p → IsSteady (launched cmp t p m)
+  pub launched_steady : (t : ℕ) (p : Planned P) (k m : Message P) → next_of cmp p k ≡ Some m
+      → may_launch cmp t p m ≡ true → IsSteady p → IsSteady (launched cmp t p m)
   launched_steady t p k m found may h = record {
-    one_each = subst (OneForEachPair cmp) (sym (map-append (λ (f : RatedFlight P). f.message) p.sending _)) (one_pair_more cmp order (rated_messages p.sending) m h.one_each (idle_if_may t p m may));
+    one_each =
+        subst (OneForEachPair cmp) (sym (map-append (λ (f : RatedFlight P). f.message) p.sending _))
+        (one_pair_more cmp order (rated_messages p.sending) m h.one_each (idle_if_may t p m may));
     pair_order = pair_order_without cmp order (same_pair cmp m) p.waiting h.pair_order;
     empty_at_first = λ free. absurd (waits_none (h.empty_at_first free).1);
     caps = h.caps;
@@ -122,14 +168,17 @@ module _ {P : Type 0} (cmp : P → P → Ordering) (order : IsTotalOrder cmp) wh
       waits_none : p.waiting ≡ [] → ⊥
       waits_none empty = let none : find (same_pair cmp k) p.waiting ≡ None = ap (find (same_pair cmp k)) empty in cc
 
-  pub launch_orderly : {t : ℕ} {p : Planned P} {o : Option (Message P)} {c : Course (Message P) (Planned P)} → Launches cmp t p o c
-      → (k : Message P) (ms : List (Message P)) (q : Planned P) → next_of cmp p k ≡ o → c ≡ goes ms q → IsOrderly cmp p → IsOrderly cmp q
+  pub launch_orderly : {t : ℕ} {p : Planned P} {o : Option (Message P)} {c : Course (Message P) (Planned P)}
+      → Launches cmp t p o c
+      → (k : Message P) (ms : List (Message P)) (q : Planned P) → next_of cmp p k ≡ o → c ≡ goes ms q → IsOrderly cmp p
+      → IsOrderly cmp q
   launch_orderly {p = p} nothing_waits k ms q is e h = let same : p ≡ q = cc in subst (IsOrderly cmp) same h
   launch_orderly {p = p} (too_early may) k ms q is e h = let same : p ≡ q = cc in subst (IsOrderly cmp) same h
   launch_orderly (no_id may last) k ms q is e h = cc
   launch_orderly {t = t} {p = p} (starts {m = m} {leavers = leavers} {new = new} may below account) k ms q is e h =
       let same : new ≡ q = cc in
-      subst (IsOrderly cmp) same (account_orderly t (launched cmp t p m) new leavers account (launched_steady t p k m is may (steady p h)))
+      subst (IsOrderly cmp) same
+      (account_orderly t (launched cmp t p m) new leavers account (launched_steady t p k m is may (steady p h)))
 
   pub landed_orderly : (t : ℕ) (p : Planned P) (m : Message P) → IsOrderly cmp p → IsOrderly cmp (landed cmp t p m)
   landed_orderly t p m h = record {
@@ -141,14 +190,17 @@ module _ {P : Type 0} (cmp : P → P → Ordering) (order : IsTotalOrder cmp) wh
     last_arrival = raised_peerwise cmp order p.last_arrival m (arrival cmp t m) h.last_arrival;
   }
 
-  pub finish_orderly : {t : ℕ} {ms : List (Message P)} {p : Planned P} {c : Course (Completed P) (Planned P)} → Finishes cmp t ms p c → IsOrderly cmp p → EndsWith (IsOrderly cmp) c
+  pub finish_orderly : {t : ℕ} {ms : List (Message P)} {p : Planned P} {c : Course (Completed P) (Planned P)}
+      → Finishes cmp t ms p c → IsOrderly cmp p → EndsWith (IsOrderly cmp) c
   finish_orderly {t = t} {p = p} (all_completed {q = q} looks) h = look_orderly t p q looks h
   finish_orderly (late is) h = tt
   finish_orderly (stopped is launch) h = tt
   finish_orderly {t = t} {p = p} (completes {m = m} {more = more} {q = q} {rest = rest} is launch finishes) h =
-      ends_preceded (IsOrderly cmp) (completed cmp t m ∷ []) rest (finish_orderly finishes (launch_orderly launch m more q refl refl (landed_orderly t p m h)))
+      ends_preceded (IsOrderly cmp) (completed cmp t m ∷ []) rest
+      (finish_orderly finishes (launch_orderly launch m more q refl refl (landed_orderly t p m h)))
 
-  pub wake_orderly : {t : ℕ} {ms : List (Message P)} {p : Planned P} {c : Course (Completed P) (Planned P)} → WakesEach cmp t ms p c → IsOrderly cmp p → EndsWith (IsOrderly cmp) c
+  pub wake_orderly : {t : ℕ} {ms : List (Message P)} {p : Planned P} {c : Course (Completed P) (Planned P)}
+      → WakesEach cmp t ms p c → IsOrderly cmp p → EndsWith (IsOrderly cmp) c
   wake_orderly {t = t} {p = p} (all_started {q = q} looks) h = look_orderly t p q looks h
   wake_orderly (no_start launch) h = tt
   wake_orderly (no_finish launch finishes) h = tt
@@ -156,14 +208,23 @@ module _ {P : Type 0} (cmp : P → P → Ordering) (order : IsTotalOrder cmp) wh
       let after : IsOrderly cmp r = finish_orderly finishes (launch_orderly launch m more q refl refl h) in
       ends_preceded (IsOrderly cmp) cs rest (wake_orderly wakes after)
 
-  pub settle_orderly : {t : ℕ} {p : Planned P} {c : Course (Completed P) (Planned P)} → Settles cmp t p c → IsSteady p → EndsWith (IsOrderly cmp) c
-  settle_orderly {t = t} {p = p} (settling {leavers = leavers} {mid = mid} account finishes) h = finish_orderly finishes (account_orderly t p mid leavers account h)
+  pub settle_orderly : {t : ℕ} {p : Planned P} {c : Course (Completed P) (Planned P)} → Settles cmp t p c → IsSteady p
+      → EndsWith (IsOrderly cmp) c
+  settle_orderly {t = t} {p = p} (settling {leavers = leavers} {mid = mid} account finishes) h =
+      finish_orderly finishes (account_orderly t p mid leavers account h)
 
   -- ---- the calls
 
   -- but for what is planned
   pub no_finish_steady : (p : Planned P) → IsOrderly cmp p → IsSteady (record p { finish = None })
-  no_finish_steady p h = record { one_each = h.one_each; pair_order = h.pair_order; empty_at_first = h.empty_at_first; caps = h.caps; last_arrival = h.last_arrival }
+  no_finish_steady p h =
+      record {
+        one_each = h.one_each;
+        pair_order = h.pair_order;
+        empty_at_first = h.empty_at_first;
+        caps = h.caps;
+        last_arrival = h.last_arrival;
+      }
 
   pub no_start_orderly : (p : Planned P) → IsOrderly cmp p → IsOrderly cmp (record p { start = None })
   no_start_orderly p h = record {
@@ -175,7 +236,8 @@ module _ {P : Type 0} (cmp : P → P → Ordering) (order : IsTotalOrder cmp) wh
     last_arrival = h.last_arrival;
   }
 
-  advance_orderly : {now n : ℕ} {p : Planned P} {c : Course (Completed P) (Planned P)} → Advances cmp now p n c → IsOrderly cmp p → EndsWith (IsOrderly cmp) c
+  advance_orderly : {now n : ℕ} {p : Planned P} {c : Course (Completed P) (Planned P)} → Advances cmp now p n c
+      → IsOrderly cmp p → EndsWith (IsOrderly cmp) c
   advance_orderly (no_more before wakes) h = wake_orderly wakes h
   advance_orderly {p = p} (at_finish {q = q} {cs = cs} {rest = rest} is next due event more) h =
       let after : IsOrderly cmp q = settle_orderly event (no_finish_steady p h) in
@@ -186,24 +248,39 @@ module _ {P : Type 0} (cmp : P → P → Ordering) (order : IsTotalOrder cmp) wh
   advance_orderly (finish_stops is next due event) h = tt
   advance_orderly (start_stops is next due event) h = tt
 
-  pub recapped_steady : (p : Planned P) (caps : Caps P) → CapsAlike cmp caps caps → IsOrderly cmp p → IsSteady (record p { caps = caps; limited = true })
-  recapped_steady p caps alike h = record { one_each = h.one_each; pair_order = h.pair_order; empty_at_first = λ free. cc; caps = alike; last_arrival = h.last_arrival }
+  pub recapped_steady : (p : Planned P) (caps : Caps P) → CapsAlike cmp caps caps → IsOrderly cmp p
+      → IsSteady (record p { caps = caps; limited = true })
+  recapped_steady p caps alike h =
+      record {
+        one_each = h.one_each;
+        pair_order = h.pair_order;
+        empty_at_first = λ free. cc;
+        caps = alike;
+        last_arrival = h.last_arrival;
+      }
 
-  rebalance_orderly : {now : ℕ} {caps : Caps P} {p : Planned P} {c : Course (Completed P) (Planned P)} → Rebalances cmp now caps p c → CapsAlike cmp caps caps → IsOrderly cmp p → EndsWith (IsOrderly cmp) c
-  rebalance_orderly {now = now} {caps = caps} {p = p} (none_sending {new = new} empty looks) alike h = look_orderly now (record p { caps = caps; limited = true }) new looks (record {
-    rated = none_rated p.sending empty;
-    one_each = h.one_each;
-    pair_order = h.pair_order;
-    empty_at_first = λ free. cc;
-    caps = alike;
-    last_arrival = h.last_arrival;
-  })
+  rebalance_orderly : {now : ℕ} {caps : Caps P} {p : Planned P} {c : Course (Completed P) (Planned P)}
+      → Rebalances cmp now caps p c → CapsAlike cmp caps caps → IsOrderly cmp p → EndsWith (IsOrderly cmp) c
+  rebalance_orderly {now = now} {caps = caps} {p = p} (none_sending {new = new} empty looks) alike h =
+      look_orderly now (record p { caps = caps; limited = true }) new looks (record {
+        rated = none_rated p.sending empty;
+        one_each = h.one_each;
+        pair_order = h.pair_order;
+        empty_at_first = λ free. cc;
+        caps = alike;
+        last_arrival = h.last_arrival;
+      })
     where
-      none_rated : (fs : List (RatedFlight P)) → fs ≡ [] → IsRated cmp (record p { caps = caps; limited = true; sending = fs })
-      none_rated fs none = subst (λ (gs : List (RatedFlight P)). IsRated cmp (record p { caps = caps; limited = true; sending = gs })) (sym none) (record { per = 1; rates = []; fair = no_sides cmp caps; rated = tt })
-  rebalance_orderly {caps = caps} {p = p} (some_sending some event) alike h = settle_orderly event (recapped_steady p caps alike h)
+      none_rated : (fs : List (RatedFlight P)) → fs ≡ []
+          → IsRated cmp (record p { caps = caps; limited = true; sending = fs })
+      none_rated fs none =
+          subst (λ (gs : List (RatedFlight P)). IsRated cmp (record p { caps = caps; limited = true; sending = gs }))
+          (sym none) (record { per = 1; rates = []; fair = no_sides cmp caps; rated = tt })
+  rebalance_orderly {caps = caps} {p = p} (some_sending some event) alike h =
+      settle_orderly event (recapped_steady p caps alike h)
 
-  pub queued_orderly : (p : Planned P) (m : Message P) → p.limited ≡ true → IsOrderly cmp p → IsOrderly cmp (with_queued cmp p m)
+  pub queued_orderly : (p : Planned P) (m : Message P) → p.limited ≡ true → IsOrderly cmp p
+      → IsOrderly cmp (with_queued cmp p m)
   queued_orderly p m limits h = record {
     rated = record { per = h.rated.per; rates = h.rated.rates; fair = h.rated.fair; rated = h.rated.rated };
     one_each = h.one_each;
@@ -216,13 +293,19 @@ module _ {P : Type 0} (cmp : P → P → Ordering) (order : IsTotalOrder cmp) wh
       both_modes : {A : Type 0} → p.limited ≡ false → A
       both_modes free = cc
 
-  enqueue_orderly : {now : ℕ} {m : Message P} {p : Planned P} {c : Course (Completed P) (Planned P)} → Enqueues cmp now m p c → IsOrderly cmp p → EndsWith (IsOrderly cmp) c
-  enqueue_orderly {now = now} {m = m} {p = p} (at_once free) h = by_late (m.should_deliver && nat_lt last_moment (now + m.latency))
+  enqueue_orderly : {now : ℕ} {m : Message P} {p : Planned P} {c : Course (Completed P) (Planned P)}
+      → Enqueues cmp now m p c → IsOrderly cmp p → EndsWith (IsOrderly cmp) c
+  enqueue_orderly {now = now} {m = m} {p = p} (at_once free) h =
+      by_late (m.should_deliver && nat_lt last_moment (now + m.latency))
     where
       at : ℕ
       at = if m.should_deliver then later_of (p.last_arrival m.origin m.recipient) (now + m.latency) else now
 
-      by_late : (b : Bool) → EndsWith (IsOrderly cmp) (cond b (meets MomentTooLate) (goes (completion_of m (if m.should_deliver then Some at else None) ∷ []) (record p { last_arrival = raised cmp p.last_arrival m at })))
+      by_late : (b : Bool)
+          → EndsWith (IsOrderly cmp)
+          (cond b (meets MomentTooLate)
+          (goes (completion_of m (if m.should_deliver then Some at else None) ∷ [])
+          (record p { last_arrival = raised cmp p.last_arrival m at })))
       by_late true = tt
       by_late false = record {
         rated = record { per = h.rated.per; rates = h.rated.rates; fair = h.rated.fair; rated = h.rated.rated };
@@ -236,21 +319,30 @@ module _ {P : Type 0} (cmp : P → P → Ordering) (order : IsTotalOrder cmp) wh
   enqueue_orderly {m = m} {p = p} (launches {leavers = leavers} {mid = mid} limits launch finishes) h =
       finish_orderly finishes (launch_orderly launch m leavers mid refl refl (queued_orderly p m limits h))
 
-  pub limited_by_alike : (caps : Caps P) (peer : P) (egress ingress : Option ℕ) → CapsAlike cmp caps caps → CapsAlike cmp (limited_by cmp caps peer egress ingress) (limited_by cmp caps peer egress ingress)
-  limited_by_alike caps peer egress ingress h = limited_by_same cmp order caps caps peer peer egress ingress h (same_itself cmp order peer)
+  pub limited_by_alike : (caps : Caps P) (peer : P) (egress ingress : Option ℕ) → CapsAlike cmp caps caps
+      → CapsAlike cmp (limited_by cmp caps peer egress ingress) (limited_by cmp caps peer egress ingress)
+  limited_by_alike caps peer egress ingress h =
+      limited_by_same cmp order caps caps peer peer egress ingress h (same_itself cmp order peer)
 
-  pub linked_by_alike : (caps : Caps P) (origin recipient : P) (cap : Option ℕ) → CapsAlike cmp caps caps → CapsAlike cmp (linked_by cmp caps origin recipient cap) (linked_by cmp caps origin recipient cap)
-  linked_by_alike caps origin recipient cap h = linked_by_same cmp order caps caps origin recipient origin recipient cap h (same_itself cmp order origin) (same_itself cmp order recipient)
+  pub linked_by_alike : (caps : Caps P) (origin recipient : P) (cap : Option ℕ) → CapsAlike cmp caps caps
+      → CapsAlike cmp (linked_by cmp caps origin recipient cap) (linked_by cmp caps origin recipient cap)
+  linked_by_alike caps origin recipient cap h =
+      linked_by_same cmp order caps caps origin recipient origin recipient cap h (same_itself cmp order origin)
+      (same_itself cmp order recipient)
 
-  call_orderly : (p : Planned P) (call : Call P) (c : Course (Completed P) (Planned P)) → Obeys cmp p call c → IsOrderly cmp p → EndsWith (IsOrderly cmp) c
-  call_orderly p (call_limit now peer egress ingress) c obeys h = rebalance_orderly obeys (limited_by_alike p.caps peer egress ingress h.caps) h
-  call_orderly p (call_limit_link now origin recipient cap) c obeys h = rebalance_orderly obeys (linked_by_alike p.caps origin recipient cap h.caps) h
+  call_orderly : (p : Planned P) (call : Call P) (c : Course (Completed P) (Planned P)) → Obeys cmp p call c
+      → IsOrderly cmp p → EndsWith (IsOrderly cmp) c
+  call_orderly p (call_limit now peer egress ingress) c obeys h =
+      rebalance_orderly obeys (limited_by_alike p.caps peer egress ingress h.caps) h
+  call_orderly p (call_limit_link now origin recipient cap) c obeys h =
+      rebalance_orderly obeys (linked_by_alike p.caps origin recipient cap h.caps) h
   call_orderly p (call_enqueue now m) c obeys h = enqueue_orderly obeys h
   call_orderly p (call_advance now) c obeys h = advance_orderly obeys.1 h
   call_orderly p call_next c obeys h = subst (EndsWith (IsOrderly cmp)) (sym obeys) h
 
   -- each call that goes keeps a planned world in order
-  pub obeys_orderly : (p q : Planned P) (call : Call P) (cs : List (Completed P)) → Obeys cmp p call (goes cs q) → IsOrderly cmp p → IsOrderly cmp q
+  pub obeys_orderly : (p q : Planned P) (call : Call P) (cs : List (Completed P)) → Obeys cmp p call (goes cs q)
+      → IsOrderly cmp p → IsOrderly cmp q
   obeys_orderly p q call cs obeys h = call_orderly p call (goes cs q) obeys h
 
   pub new_orderly : (id : ℕ) → IsOrderly cmp (new_planned id)

@@ -87,7 +87,8 @@ taken_out {X} {Y} p f test x y (z ∷ zs) e own one = by_test (test z) refl (p (
     by_test false is false at e one ih = let r = ih e own one in (r.0, rw at r.1)
 
 -- one that does not pass, taken out, changes nothing
-not_taken : {X Y : Type 0} (p : Y → Bool) (f : X → Y) (test : X → Bool) (x : X) (xs : List X) → find test xs ≡ Some x → p (f x) ≡ false → filter p (map f (without_first test xs)) ≡ filter p (map f xs)
+not_taken : {X Y : Type 0} (p : Y → Bool) (f : X → Y) (test : X → Bool) (x : X) (xs : List X) → find test xs ≡ Some x
+    → p (f x) ≡ false → filter p (map f (without_first test xs)) ≡ filter p (map f xs)
 not_taken p f test x [] e off = refl
 not_taken {X} {Y} p f test x (z ∷ zs) e off = by_test (test z) e (not_taken p f test x zs)
   where
@@ -153,7 +154,8 @@ module _ {P : Type 0} (cmp : P → P → Ordering) (order : IsTotalOrder cmp) (k
   none_before_push t (d ∷ ds) c h own = (h.0, none_before_push t ds c h.1 own)
 
   -- a delivery that no earlier one is past joins them
-  deliveries_push : (l : Option ℕ) (cs : List (Completed P)) (c : Completed P) → NeverGoDown cs → AllNotPast l cs → IfSome c.deliver_at (λ s. is_in_order l s ≡ true) → NeverGoDown (cs ++ c ∷ [])
+  deliveries_push : (l : Option ℕ) (cs : List (Completed P)) (c : Completed P) → NeverGoDown cs → AllNotPast l cs
+      → IfSome c.deliver_at (λ s. is_in_order l s ≡ true) → NeverGoDown (cs ++ c ∷ [])
   deliveries_push l [] c h past own = (none_after c.deliver_at, tt)
     where
       none_after : (o : Option ℕ) → IfSome o (λ t. NoneBefore {P = P} t [])
@@ -375,7 +377,11 @@ module _ {P : Type 0} (cmp : P → P → Ordering) (order : IsTotalOrder cmp) (k
                     → cond c (g.message ∷ filter (same_pair cmp k) (map (λ (g : Flight P). g.message) fs)) (filter (same_pair cmp k) (map (λ (g : Flight P). g.message) fs)) ≡ []
                     → (find (is_done cmp w) fs ≡ Some f → filter (same_pair cmp k) (map (λ (g : Flight P). g.message) fs) ≡ [] → ⊥) → ⊥
                 by_test b true is e none ih = cc
-                by_test true false is e none ih = let same : g ≡ f = cc in let out : same_pair cmp k f.message ≡ false = ap (λ (x : Flight P). same_pair cmp k x.message) (sym same) ∙ is in cc
+                by_test true false is e none ih =
+                    let same : g ≡ f = cc in
+                    let out : same_pair cmp k f.message ≡ false =
+                    ap (λ (x : Flight P). same_pair cmp k x.message) (sym same) ∙ is in
+                    cc
                 by_test false false is e none ih = ih e none
         by_flying own (Some n) is one queue order_is =
             let taken : (f.message ≡ n) × (filter (same_pair cmp k) (map (λ (g : Flight P). g.message) (without_first (is_done cmp w) w.sending)) ≡ [])
@@ -409,7 +415,9 @@ module _ {P : Type 0} (cmp : P → P → Ordering) (order : IsTotalOrder cmp) (k
               now = h.now;
             }
           where
-            ordered : (b : Bool) → is_in_order (last w) (t + f.message.latency) ≡ true → IfSome (if b then Some (if b then t + f.message.latency else t) else None) (λ s. is_in_order (last w) s ≡ true)
+            ordered : (b : Bool) → is_in_order (last w) (t + f.message.latency) ≡ true
+                → IfSome (if b then Some (if b then t + f.message.latency else t) else None)
+                (λ s. is_in_order (last w) s ≡ true)
             ordered true e = e
             ordered false e = tt
 
@@ -462,7 +470,9 @@ module _ {P : Type 0} (cmp : P → P → Ordering) (order : IsTotalOrder cmp) (k
         by_first : (o : Option (Flight P)) → find (is_done cmp w) w.sending ≡ o
             → ((ds : List (Completed P)) (u : World P) → IsHistory messages t ds u → GoesByRule ds (settle_within cmp n t u)) → GoesByRule cs (settle_within cmp (suc n) t w)
         by_first None e ih = subst (GoesByRule cs) (sym (settle_none cmp order n t w e)) (stays cs w h)
-        by_first (Some f) e ih = subst (GoesByRule cs) (sym (settle_first cmp order n t w f e)) (goes_then cs (complete cmp t w f.message) (settle_within cmp n t) (complete_goes cs w f e h) ih)
+        by_first (Some f) e ih =
+            subst (GoesByRule cs) (sym (settle_first cmp order n t w f e))
+            (goes_then cs (complete cmp t w f.message) (settle_within cmp n t) (complete_goes cs w f e h) ih)
 
     settle_goes : (cs : List (Completed P)) (w : World P) → IsHistory messages t cs w → GoesByRule cs (settle cmp t w)
     settle_goes cs w h = settle_within_goes (length w.sending + length w.waiting) cs w h
@@ -610,7 +620,9 @@ module _ {P : Type 0} (cmp : P → P → Ordering) (order : IsTotalOrder cmp) (k
       none_flies = sym h.in_flight ∙ ap (λ (fs : List (Flight P)). filter (same_pair cmp k) (map (λ (f : Flight P). f.message) fs)) sends
 
       all_done : filter (same_pair cmp k) messages ≡ h.done
-      all_done = h.queue ∙ ap (λ (ms : List (Message P)). h.done ++ (ms ++ waits w)) none_flies ∙ ap (λ (ms : List (Message P)). h.done ++ filter (same_pair cmp k) ms) none_waits ∙ append-nil h.done
+      all_done =
+          h.queue ∙ ap (λ (ms : List (Message P)). h.done ++ (ms ++ waits w)) none_flies
+          ∙ ap (λ (ms : List (Message P)). h.done ++ filter (same_pair cmp k) ms) none_waits ∙ append-nil h.done
 
       own_last : same_pair cmp k m ≡ true → last after ≡ Some (later_of (last w) at)
       own_last own = let here : (same_peer cmp m.origin k.origin && same_peer cmp m.recipient k.recipient) ≡ true = pair_sym cmp order m k ∙ own in rw here refl
@@ -671,7 +683,9 @@ module _ {P : Type 0} (cmp : P → P → Ordering) (order : IsTotalOrder cmp) (k
                 ∙ ap (λ (ms : List (Message P)). ms ++ filter (same_pair cmp k) (m ∷ [])) all_done ∙ rw off refl
                 ∙ ap (λ (ms : List (Message P)). h.done ++ filter (same_pair cmp k) ms) (sym none_waits);
             deliveries = subst NeverGoDown (sym list_is) h.deliveries;
-            not_past = subst (λ (xs : List (Completed P)). AllNotPast (last after) xs) (sym list_is) (subst (λ (l : Option ℕ). AllNotPast l (told_of_k cs)) (sym (other_last off)) h.not_past);
+            not_past =
+                subst (λ (xs : List (Completed P)). AllNotPast (last after) xs) (sym list_is)
+                (subst (λ (l : Option ℕ). AllNotPast l (told_of_k cs)) (sym (other_last off)) h.not_past);
             in_order = tt;
             alike = alike_too;
             now = h.now;
@@ -701,7 +715,10 @@ module _ {P : Type 0} (cmp : P → P → Ordering) (order : IsTotalOrder cmp) (k
         limited = true;
       }) (none_more messages t cs _ (recapped_history messages t cs w
       (linked_by cmp w.caps origin recipient cap) h)))
-  act_goes messages t cs w (call_enqueue s m) e empty h = let same : t ≡ s = cc in subst (λ (n : ℕ). GoesByRule (messages ++ m ∷ []) t cs (act cmp w (call_enqueue n m))) same (by_mode w.limited refl)
+  act_goes messages t cs w (call_enqueue s m) e empty h =
+      let same : t ≡ s = cc in
+      subst (λ (n : ℕ). GoesByRule (messages ++ m ∷ []) t cs (act cmp w (call_enqueue n m))) same
+      (by_mode w.limited refl)
     where
       waiting : World P
       waiting = record w { waiting = w.waiting ++ m ∷ [] }

@@ -1,5 +1,6 @@
 -- Replies that agree with the simulation, to calls in turn, keep the order of each pair and isolate sets of peers.
-use Rattle.std.proofs.Common.{◌≡◌, ℕ, zero, suc, ◌≤◌, List, [], ◌∷◌, Bool, true, false, cond, Option, Some, None, refl, sym, subst}
+use Rattle.std.proofs.Common.{◌≡◌, ℕ, zero, suc, ◌≤◌, List, [], ◌∷◌, Bool, true, false, cond, Option, Some, None, refl}
+use Rattle.std.proofs.Common.{sym, subst}
 use Rattle.std.specs.Prelude.{⊤, IfSome, take}
 use Rattle.std.specs.List.{filter, AllZip}
 use Rattle.std.specs.declared.cmp.Ordering.{Ordering}
@@ -8,10 +9,14 @@ use Rattle.fair_rates.specs.Sides.Subjects.{same_peer}
 use Rattle.link_simulation.specs.Simulation.Messages.{Message}
 use Rattle.link_simulation.specs.Simulation.World.{new_world, Completed}
 use Rattle.link_simulation.specs.Simulation.Calls.{Call}
-use Rattle.link_simulation.specs.Simulation.Replies.{Reply, reply_done, reply_next, reply_refused, SameCompletion, Agrees, made, completions_in}
-use Rattle.link_simulation.specs.Laws.PairCompletions.{enqueued, answered, IsCompletionOf, NoneBefore, NeverGoDown, completes_pair, IsInPairOrder}
-use Rattle.link_simulation.specs.Laws.Isolation.{Answers, InTime, IsSet, NothingElse, inside_alone, is_kept, kept_completions}
-use Rattle.link_simulation.specs.Laws.Replies.{AlwaysSoFar, Completes, CompletesInOrder, CompletePairsInOrder, IsolateSets}
+use Rattle.link_simulation.specs.Simulation.Replies.{Reply, reply_done, reply_next, reply_refused, SameCompletion}
+use Rattle.link_simulation.specs.Simulation.Replies.{Agrees, made, completions_in}
+use Rattle.link_simulation.specs.Laws.PairCompletions.{enqueued, answered, IsCompletionOf, NoneBefore, NeverGoDown}
+use Rattle.link_simulation.specs.Laws.PairCompletions.{completes_pair, IsInPairOrder}
+use Rattle.link_simulation.specs.Laws.Isolation.{Answers, InTime, IsSet, NothingElse, inside_alone, is_kept}
+use Rattle.link_simulation.specs.Laws.Isolation.{kept_completions}
+use Rattle.link_simulation.specs.Laws.Replies.{AlwaysSoFar, Completes, CompletesInOrder, CompletePairsInOrder}
+use Rattle.link_simulation.specs.Laws.Replies.{IsolateSets}
 use Rattle.link_simulation.proofs.Simulation.Queue.{both_alike}
 use Rattle.link_simulation.proofs.Simulation.AlikeMessages.{same_itself, peers_alike}
 use Rattle.fair_rates.proofs.Lists.Zips.{zip-append, zip-filter}
@@ -21,11 +26,13 @@ use Rattle.link_simulation.proofs.Laws.MadeCalls.{Bridged, made_in_turn, any_tur
 
 -- ---- lists
 
-answered_alike : {X Y : Type 0} (R : X → Y → Type 0) (xss : List (List X)) (yss : List (List Y)) → AllZip (AllZip R) xss yss → AllZip R (answered xss) (answered yss)
+answered_alike : {X Y : Type 0} (R : X → Y → Type 0) (xss : List (List X)) (yss : List (List Y))
+    → AllZip (AllZip R) xss yss → AllZip R (answered xss) (answered yss)
 answered_alike R [] [] all = tt
 answered_alike R [] (ys ∷ yss) all = absurd all
 answered_alike R (xs ∷ xss) [] all = absurd all
-answered_alike R (xs ∷ xss) (ys ∷ yss) all = zip-append R xs (answered xss) ys (answered yss) all.0 (answered_alike R xss yss all.1)
+answered_alike R (xs ∷ xss) (ys ∷ yss) all =
+    zip-append R xs (answered xss) ys (answered yss) all.0 (answered_alike R xss yss all.1)
 
 none_alike : {X Y : Type 0} (R : X → Y → Type 0) (xs : List X) (ys : List Y) → AllZip R xs ys → ys ≡ [] → xs ≡ []
 none_alike R [] ys all e = refl
@@ -43,7 +50,8 @@ first_in_time zero calls in_time = tt
 first_in_time (suc n) [] in_time = tt
 first_in_time (suc n) (call ∷ calls) in_time = (in_time.0, first_in_time n calls in_time.1)
 
-made_in_time : {P : Type 0} (calls : List (Call P)) (replies : List (Reply P)) → InTime calls → InTime (made calls replies)
+made_in_time : {P : Type 0} (calls : List (Call P)) (replies : List (Reply P)) → InTime calls
+    → InTime (made calls replies)
 made_in_time [] replies in_time = tt
 made_in_time (call ∷ calls) [] in_time = tt
 made_in_time (call ∷ calls) (reply_done cs ∷ replies) in_time = (in_time.0, made_in_time calls replies in_time.1)
@@ -53,23 +61,34 @@ made_in_time (call ∷ calls) (reply_refused why ∷ replies) in_time = made_in_
 module _ {P : Type 0} (cmp : P → P → Ordering) (order : IsTotalOrder cmp) where
   -- ---- completions that are the same
 
-  completes_alike : (k : Message P) (c d : Completed P) → SameCompletion cmp c d → completes_pair cmp k c ≡ completes_pair cmp k d
+  completes_alike : (k : Message P) (c d : Completed P) → SameCompletion cmp c d
+      → completes_pair cmp k c ≡ completes_pair cmp k d
   completes_alike k c d same =
-      both_alike cmp order (same_peer cmp k.origin c.origin) (same_peer cmp k.origin d.origin) (same_peer cmp k.recipient c.recipient) (same_peer cmp k.recipient d.recipient)
-      (peers_alike cmp order k.origin k.origin c.origin d.origin (same_itself cmp order k.origin) same.origin) (peers_alike cmp order k.recipient k.recipient c.recipient d.recipient (same_itself cmp order k.recipient) same.recipient)
+      both_alike cmp order (same_peer cmp k.origin c.origin) (same_peer cmp k.origin d.origin)
+      (same_peer cmp k.recipient c.recipient) (same_peer cmp k.recipient d.recipient)
+      (peers_alike cmp order k.origin k.origin c.origin d.origin (same_itself cmp order k.origin) same.origin)
+      (peers_alike cmp order k.recipient k.recipient c.recipient d.recipient (same_itself cmp order k.recipient)
+      same.recipient)
 
-  completions_of : (cs ds : List (Completed P)) (ms : List (Message P)) → AllZip (SameCompletion cmp) cs ds → AllZip IsCompletionOf ds ms → AllZip (Completes cmp) cs ms
+  completions_of : (cs ds : List (Completed P)) (ms : List (Message P)) → AllZip (SameCompletion cmp) cs ds
+      → AllZip IsCompletionOf ds ms → AllZip (Completes cmp) cs ms
   completions_of [] [] ms same all = all
   completions_of [] (d ∷ ds) ms same all = absurd same
   completions_of (c ∷ cs) [] ms same all = absurd same
   completions_of (c ∷ cs) (d ∷ ds) [] same all = absurd all
-  completions_of (c ∷ cs) (d ∷ ds) (m ∷ ms) same all =
-      ((all.0.0, subst (λ (e : Completed P). SameCompletion cmp c e) all.0.1 same.0), completions_of cs ds ms same.1 all.1)
+  completions_of (c ∷ cs) (d ∷ ds) (m ∷ ms) same all = (
+    (all.0.0, subst (λ (e : Completed P). SameCompletion cmp c e) all.0.1 same.0),
+    completions_of cs ds ms same.1 all.1,
+  )
 
-  none_before : (t : ℕ) (cs ds : List (Completed P)) → AllZip (SameCompletion cmp) cs ds → NoneBefore t ds → NoneBefore t cs
+  none_before : (t : ℕ) (cs ds : List (Completed P)) → AllZip (SameCompletion cmp) cs ds → NoneBefore t ds
+      → NoneBefore t cs
   none_before t [] ds same none = tt
   none_before t (c ∷ cs) [] same none = absurd same
-  none_before t (c ∷ cs) (d ∷ ds) same none = (subst (λ (o : Option ℕ). IfSome o (λ s. t ≤ s)) (sym same.0.deliver_at) none.0, none_before t cs ds same.1 none.1)
+  none_before t (c ∷ cs) (d ∷ ds) same none = (
+    subst (λ (o : Option ℕ). IfSome o (λ s. t ≤ s)) (sym same.0.deliver_at) none.0,
+    none_before t cs ds same.1 none.1,
+  )
 
   never_down : (cs ds : List (Completed P)) → AllZip (SameCompletion cmp) cs ds → NeverGoDown ds → NeverGoDown cs
   never_down [] ds same never = tt
@@ -80,7 +99,8 @@ module _ {P : Type 0} (cmp : P → P → Ordering) (order : IsTotalOrder cmp) wh
     never_down cs ds same.1 never.1,
   )
 
-  in_order_alike : (k : Message P) (messages : List (Message P)) (cs ds : List (Completed P)) → AllZip (SameCompletion cmp) cs ds → IsInPairOrder cmp k messages ds
+  in_order_alike : (k : Message P) (messages : List (Message P)) (cs ds : List (Completed P))
+      → AllZip (SameCompletion cmp) cs ds → IsInPairOrder cmp k messages ds
       → CompletesInOrder cmp k messages cs
   in_order_alike k messages cs ds same order_of =
       let those : AllZip (SameCompletion cmp) (filter (completes_pair cmp k) cs) (filter (completes_pair cmp k) ds)
@@ -89,54 +109,79 @@ module _ {P : Type 0} (cmp : P → P → Ordering) (order : IsTotalOrder cmp) wh
         done = order_of.done;
         rest = order_of.rest;
         messages_are = order_of.messages_are;
-        completions_are = completions_of (filter (completes_pair cmp k) cs) (filter (completes_pair cmp k) ds) order_of.done those order_of.completions_are;
-        deliveries = never_down (filter (completes_pair cmp k) cs) (filter (completes_pair cmp k) ds) those order_of.deliveries;
+        completions_are =
+            completions_of (filter (completes_pair cmp k) cs) (filter (completes_pair cmp k) ds) order_of.done those
+            order_of.completions_are;
+        deliveries =
+            never_down (filter (completes_pair cmp k) cs) (filter (completes_pair cmp k) ds) those order_of.deliveries;
       }
 
-  pub pairs_complete_in_order : (calls : List (Call P)) (replies : List (Reply P)) → Agrees cmp (new_world 0) calls replies → AlwaysSoFar (CompletePairsInOrder cmp) calls replies
+  pub pairs_complete_in_order : (calls : List (Call P)) (replies : List (Reply P))
+      → Agrees cmp (new_world 0) calls replies → AlwaysSoFar (CompletePairsInOrder cmp) calls replies
   pairs_complete_in_order calls replies agrees n k turns =
-      let bridged : Bridged cmp order (new_world 0) (take n calls) (take n replies) = made_in_turn cmp order n calls replies (new_world 0) agrees turns in
-      in_order_alike k (enqueued (made (take n calls) (take n replies))) (answered (completions_in (take n replies))) (answered bridged.0) (answered_alike (SameCompletion cmp) (completions_in (take n replies)) bridged.0 bridged.2)
+      let bridged : Bridged cmp order (new_world 0) (take n calls) (take n replies) =
+      made_in_turn cmp order n calls replies (new_world 0) agrees turns in
+      in_order_alike k (enqueued (made (take n calls) (take n replies))) (answered (completions_in (take n replies)))
+      (answered bridged.0) (answered_alike (SameCompletion cmp) (completions_in (take n replies)) bridged.0 bridged.2)
       (pair_in_order cmp order k 0 (made (take n calls) (take n replies)) bridged.0 (any_turn cmp order bridged.1))
 
   -- ---- a set of peers
 
   module _ (inside : P → Bool) (together : IsSet cmp inside) where
-    alone_alike : (cs ds : List (Completed P)) → AllZip (SameCompletion cmp) cs ds → AllZip (SameCompletion cmp) (inside_alone inside cs) (inside_alone inside ds)
-    alone_alike cs ds same = zip-filter (SameCompletion cmp) (λ c. inside c.origin) (λ c. inside c.origin) (λ c d one. together c.origin d.origin one.origin) cs ds same
+    alone_alike : (cs ds : List (Completed P)) → AllZip (SameCompletion cmp) cs ds
+        → AllZip (SameCompletion cmp) (inside_alone inside cs) (inside_alone inside ds)
+    alone_alike cs ds same =
+        zip-filter (SameCompletion cmp) (λ c. inside c.origin) (λ c. inside c.origin)
+        (λ c d one. together c.origin d.origin one.origin) cs ds same
 
-    kept_alike : (calls : List (Call P)) (css dss : List (List (Completed P))) → AllZip (AllZip (SameCompletion cmp)) css dss
+    kept_alike : (calls : List (Call P)) (css dss : List (List (Completed P)))
+        → AllZip (AllZip (SameCompletion cmp)) css dss
         → AllZip (AllZip (SameCompletion cmp)) (kept_completions inside calls css) (kept_completions inside calls dss)
     kept_alike [] css dss same = tt
     kept_alike (call ∷ calls) [] [] same = tt
     kept_alike (call ∷ calls) [] (ds ∷ dss) same = absurd same
     kept_alike (call ∷ calls) (cs ∷ css) [] same = absurd same
-    kept_alike (call ∷ calls) (cs ∷ css) (ds ∷ dss) same = by_kept (is_kept inside call) (kept_alike calls css dss same.1)
+    kept_alike (call ∷ calls) (cs ∷ css) (ds ∷ dss) same =
+        by_kept (is_kept inside call) (kept_alike calls css dss same.1)
       where
-        by_kept : (b : Bool) → AllZip (AllZip (SameCompletion cmp)) (kept_completions inside calls css) (kept_completions inside calls dss)
-            → AllZip (AllZip (SameCompletion cmp)) (cond b (inside_alone inside cs ∷ kept_completions inside calls css) (kept_completions inside calls css)) (cond b (inside_alone inside ds ∷ kept_completions inside calls dss) (kept_completions inside calls dss))
+        by_kept : (b : Bool)
+            → AllZip (AllZip (SameCompletion cmp)) (kept_completions inside calls css)
+            (kept_completions inside calls dss)
+            → AllZip (AllZip (SameCompletion cmp))
+            (cond b (inside_alone inside cs ∷ kept_completions inside calls css) (kept_completions inside calls css))
+            (cond b (inside_alone inside ds ∷ kept_completions inside calls dss) (kept_completions inside calls dss))
         by_kept true rest = (alone_alike cs ds same.0, rest)
         by_kept false rest = rest
 
-    nothing_alike : (calls : List (Call P)) (css dss : List (List (Completed P))) → AllZip (AllZip (SameCompletion cmp)) css dss → NothingElse inside calls dss → NothingElse inside calls css
+    nothing_alike : (calls : List (Call P)) (css dss : List (List (Completed P)))
+        → AllZip (AllZip (SameCompletion cmp)) css dss → NothingElse inside calls dss → NothingElse inside calls css
     nothing_alike [] css dss same nothing = tt
     nothing_alike (call ∷ calls) [] dss same nothing = tt
     nothing_alike (call ∷ calls) (cs ∷ css) [] same nothing = absurd same
-    nothing_alike (call ∷ calls) (cs ∷ css) (ds ∷ dss) same nothing = (by_kept (is_kept inside call) nothing.0, nothing_alike calls css dss same.1 nothing.1)
+    nothing_alike (call ∷ calls) (cs ∷ css) (ds ∷ dss) same nothing =
+        (by_kept (is_kept inside call) nothing.0, nothing_alike calls css dss same.1 nothing.1)
       where
         by_kept : (b : Bool) → cond b ⊤ (inside_alone inside ds ≡ []) → cond b ⊤ (inside_alone inside cs ≡ [])
         by_kept true none = tt
-        by_kept false none = none_alike (SameCompletion cmp) (inside_alone inside cs) (inside_alone inside ds) (alone_alike cs ds same.0) none
+        by_kept false none =
+            none_alike (SameCompletion cmp) (inside_alone inside cs) (inside_alone inside ds) (alone_alike cs ds same.0)
+            none
 
-  pub sets_are_isolated : (calls : List (Call P)) (replies : List (Reply P)) → InTime calls → Agrees cmp (new_world 0) calls replies → AlwaysSoFar (IsolateSets cmp) calls replies
+  pub sets_are_isolated : (calls : List (Call P)) (replies : List (Reply P)) → InTime calls
+      → Agrees cmp (new_world 0) calls replies → AlwaysSoFar (IsolateSets cmp) calls replies
   sets_are_isolated calls replies in_time agrees n inside together apart turns =
-      let bridged : Bridged cmp order (new_world 0) (take n calls) (take n replies) = made_in_turn cmp order n calls replies (new_world 0) agrees turns in
+      let bridged : Bridged cmp order (new_world 0) (take n calls) (take n replies) =
+      made_in_turn cmp order n calls replies (new_world 0) agrees turns in
       let calls_made : List (Call P) = made (take n calls) (take n replies) in
-      let isolated : Answers cmp (new_world 0) (filter (is_kept inside) calls_made) (kept_completions inside calls_made bridged.0) × NothingElse inside calls_made bridged.0
-      = isolation cmp order inside together 0 calls_made bridged.0 bridged.1 apart (made_in_time (take n calls) (take n replies) (first_in_time n calls in_time)) in
+      let isolated : Answers cmp (new_world 0) (filter (is_kept inside) calls_made)
+      (kept_completions inside calls_made bridged.0)
+      × NothingElse inside calls_made bridged.0
+      = isolation cmp order inside together 0 calls_made bridged.0 bridged.1 apart
+      (made_in_time (take n calls) (take n replies) (first_in_time n calls in_time)) in
       record {
         alone = kept_completions inside calls_made bridged.0;
         answers = isolated.0;
         same = kept_alike inside together calls_made (completions_in (take n replies)) bridged.0 bridged.2;
-        nothing_else = nothing_alike inside together calls_made (completions_in (take n replies)) bridged.0 bridged.2 isolated.1;
+        nothing_else =
+            nothing_alike inside together calls_made (completions_in (take n replies)) bridged.0 bridged.2 isolated.1;
       }

@@ -17,24 +17,33 @@ use Rattle.link_simulation.proofs.Laws.AdvanceOnward.{nothing_more, ticks_of}
 use Rattle.link_simulation.proofs.Rule.Simulated.{calls_simulated}
 
 module _ {P : Type 0} (cmp : P → P → Ordering) (order : IsTotalOrder cmp) where
-  runs_of : (w : World P) (now : ℕ) (c : Course (Completed P) (World P)) → Ticks cmp (now - w.moment) w c → Runs cmp w (call_advance now) now c
+  runs_of : (w : World P) (now : ℕ) (c : Course (Completed P) (World P)) → Ticks cmp (now - w.moment) w c
+      → Runs cmp w (call_advance now) now c
   runs_of w now c ticks = record { ticked = c; ticks = ticks; acts = sym (nothing_more cmp order c) }
 
-  pub advance_split_anywhere : (p q : Planned P) (now : ℕ) (completions : List (Completed P)) → now ≤ last_moment → GoesByRule cmp p (call_advance now) completions q
+  pub advance_split_anywhere : (p q : Planned P) (now : ℕ) (completions : List (Completed P)) → now ≤ last_moment
+      → GoesByRule cmp p (call_advance now) completions q
       → IsSplitAnywhere cmp p now completions q
   advance_split_anywhere p q now completions in_time go w between stands after before =
       let run : IsRun cmp w (call_advance now) now completions q
-      = calls_simulated cmp order p q (call_advance now) completions (λ t at. let same : now ≡ t = cc in subst (λ (s : ℕ). s ≤ last_moment) same in_time) go w now (record { stands = stands; moment = refl; turn = omega arith }) in
-      let apart : (first : Course (Completed P) (World P)) × Ticks cmp (between - w.moment) w first × Continues cmp (now - between) first (goes run.answers run.after)
-      = ticks_apart cmp (ticks_of cmp order w now (goes run.answers run.after) run.runs) (between - w.moment) (now - between) (omega arith) in
+      = calls_simulated cmp order p q (call_advance now) completions
+      (λ t at. let same : now ≡ t = cc in subst (λ (s : ℕ). s ≤ last_moment) same in_time) go w now
+      (record { stands = stands; moment = refl; turn = omega arith }) in
+      let apart : (first : Course (Completed P) (World P)) × Ticks cmp (between - w.moment) w first
+      × Continues cmp (now - between) first (goes run.answers run.after)
+      = ticks_apart cmp (ticks_of cmp order w now (goes run.answers run.after) run.runs) (between - w.moment)
+      (now - between) (omega arith) in
       by_first run apart.0 apart.1 apart.2
     where
-      by_rest : (run : IsRun cmp w (call_advance now) now completions q) (ds : List (Completed P)) (v : World P) → Runs cmp w (call_advance between) between (goes ds v) → v.moment ≡ between
-          → (rest : Course (Completed P) (World P)) → Ticks cmp (now - between) v rest → goes run.answers run.after ≡ preceded ds rest → RunsInTwo cmp w between now completions q
+      by_rest : (run : IsRun cmp w (call_advance now) now completions q) (ds : List (Completed P)) (v : World P)
+          → Runs cmp w (call_advance between) between (goes ds v) → v.moment ≡ between
+          → (rest : Course (Completed P) (World P)) → Ticks cmp (now - between) v rest
+          → goes run.answers run.after ≡ preceded ds rest → RunsInTwo cmp w between now completions q
       by_rest run ds v first at (goes es u) ticks is =
           let answers : run.answers ≡ ds ++ es = cc in
           let world : run.after ≡ u = cc in
-          let ticked : Ticks cmp (now - v.moment) v (goes es u) = subst (λ (s : ℕ). Ticks cmp (now - s) v (goes es u)) (sym at) ticks in
+          let ticked : Ticks cmp (now - v.moment) v (goes es u) =
+          subst (λ (s : ℕ). Ticks cmp (now - s) v (goes es u)) (sym at) ticks in
           record {
             first_answers = ds;
             between = v;
@@ -47,9 +56,12 @@ module _ {P : Type 0} (cmp : P → P → Ordering) (order : IsTotalOrder cmp) wh
           }
       by_rest run ds v first at (meets fault) ticks is = cc
 
-      by_first : (run : IsRun cmp w (call_advance now) now completions q) (first : Course (Completed P) (World P)) → Ticks cmp (between - w.moment) w first
+      by_first : (run : IsRun cmp w (call_advance now) now completions q) (first : Course (Completed P) (World P))
+          → Ticks cmp (between - w.moment) w first
           → Continues cmp (now - between) first (goes run.answers run.after) → RunsInTwo cmp w between now completions q
       by_first run (goes ds v) ticks (rest, more, is) =
-          let at : v.moment ≡ w.moment + (between - w.moment) = ends_at cmp order (IsAt cmp order (w.moment + (between - w.moment))) (goes ds v) ds v refl (ticks_end_at cmp order ticks) in
+          let at : v.moment ≡ w.moment + (between - w.moment) =
+          ends_at cmp order (IsAt cmp order (w.moment + (between - w.moment))) (goes ds v) ds v refl
+          (ticks_end_at cmp order ticks) in
           by_rest run ds v (runs_of w between (goes ds v) ticks) (omega arith) rest more is
       by_first run (meets fault) ticks is = cc

@@ -6,7 +6,8 @@ use Rattle.std.specs.Cmp.{IsTotalOrder}
 use Rattle.fair_rates.specs.declared.error.Error.{Error}
 use Rattle.link_simulation.specs.Simulation.World.{World, Completed, Course, goes, new_world, EndsWith, IsQuiet}
 use Rattle.link_simulation.specs.Simulation.Time.{NextIs, IsSound}
-use Rattle.link_simulation.specs.Simulation.Calls.{Call, call_limit, call_limit_link, call_enqueue, call_advance, call_next, moment_of, Runs, IsInTurn, IsBeforeNext}
+use Rattle.link_simulation.specs.Simulation.Calls.{Call, call_limit, call_limit_link, call_enqueue, call_advance}
+use Rattle.link_simulation.specs.Simulation.Calls.{call_next, moment_of, Runs, IsInTurn, IsBeforeNext}
 use Rattle.link_simulation.specs.Simulation.Replies.{Reply, reply_done, reply_next, reply_refused, Agrees}
 use Rattle.link_simulation.specs.Rule.Planned.{Planned, next_event}
 use Rattle.link_simulation.specs.Rule.StandsFor.{StandsFor}

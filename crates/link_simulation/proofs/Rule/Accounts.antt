@@ -1,5 +1,6 @@
 -- An account at t takes out what is done in the world at t, and leaves the rest as it is there.
-use Rattle.std.proofs.Common.{◌≡◌, ℕ, suc, ◌-◌, ◌<◌, List, [], ◌∷◌, map, Bool, true, false, cond, not, Option, Some, None, refl, sym, ap, ◌∙◌, subst, arith}
+use Rattle.std.proofs.Common.{◌≡◌, ℕ, suc, ◌-◌, ◌<◌, List, [], ◌∷◌, map, Bool, true, false, cond, not, Option, Some}
+use Rattle.std.proofs.Common.{None, refl, sym, ap, ◌∙◌, subst, arith}
 use Rattle.std.specs.Prelude.{◌==◌, IfSome, slice_get}
 use Rattle.std.specs.List.{filter, list_any, AllZip}
 use Rattle.std.specs.declared.cmp.Ordering.{Ordering}
@@ -9,8 +10,10 @@ use Rattle.fair_rates.specs.Numbers.Amount.{Amount, drained, reduced}
 use Rattle.fair_rates.specs.Numbers.LowestTerms.{reduced_positive}
 use Rattle.link_simulation.specs.Simulation.World.{Flight, World, is_done}
 use Rattle.link_simulation.specs.Rule.Events.{Accounts}
-use Rattle.link_simulation.specs.Simulation.Messages.{Message, OneForEachPair, PairsAlike, SameMessage, same_pair, CapsAlike}
-use Rattle.link_simulation.specs.Rule.Planned.{AreInPairOrder, RatedFlight, Planned, drained_to, is_spent, left_at, rated_messages}
+use Rattle.link_simulation.specs.Simulation.Messages.{Message, OneForEachPair, PairsAlike, SameMessage, same_pair}
+use Rattle.link_simulation.specs.Simulation.Messages.{CapsAlike}
+use Rattle.link_simulation.specs.Rule.Planned.{AreInPairOrder, RatedFlight, Planned, drained_to, is_spent, left_at}
+use Rattle.link_simulation.specs.Rule.Planned.{rated_messages}
 use Rattle.link_simulation.specs.Simulation.Rates.{AreFair, IsLowest, Parts, drained_by, is_unlimited, rate_of}
 use Rattle.link_simulation.specs.Rule.StandsFor.{Follows, IsSameFlight, Tallies}
 use Rattle.link_simulation.proofs.Simulation.LowestTerms.{drained_by_lowest, drained_none}
@@ -28,7 +31,8 @@ pub each_passes : {X : Type 0} (test : X → Bool) (xs : List X) → Each (λ x.
 each_passes test [] = tt
 each_passes {X} test (x ∷ xs) = by_test (test x) refl (each_passes test xs)
   where
-    by_test : (b : Bool) → test x ≡ b → Each (λ x. test x ≡ true) (filter test xs) → Each (λ x. test x ≡ true) (cond b (x ∷ filter test xs) (filter test xs))
+    by_test : (b : Bool) → test x ≡ b → Each (λ x. test x ≡ true) (filter test xs)
+        → Each (λ x. test x ≡ true) (cond b (x ∷ filter test xs) (filter test xs))
     by_test true e ih = (e, ih)
     by_test false e ih = ih
 
@@ -46,26 +50,38 @@ module _ {P : Type 0} (cmp : P → P → Ordering) (order : IsTotalOrder cmp) wh
     pub lowest : IsLowest n.left
     pub left : g.left ≡ n.left
 
-  drawn : (t : ℕ) (fs : List (RatedFlight P)) (gs : List (Flight P)) → AllZip (IsSameFlight cmp t) fs gs → AllZip IsDrawn (drained_to t fs) gs
+  drawn : (t : ℕ) (fs : List (RatedFlight P)) (gs : List (Flight P)) → AllZip (IsSameFlight cmp t) fs gs
+      → AllZip IsDrawn (drained_to t fs) gs
   drawn t [] [] all = tt
   drawn t [] (g ∷ gs) all = absurd all
   drawn t (f ∷ fs) [] all = absurd all
-  drawn t (f ∷ fs) (g ∷ gs) all =
-      (record { message = all.0.message; lowest = drained_by_lowest f.rate (t - f.updated) f.left all.0.rate all.0.lowest.positive; left = all.0.left }, drawn t fs gs all.1)
+  drawn t (f ∷ fs) (g ∷ gs) all = (
+    record {
+      message = all.0.message;
+      lowest = drained_by_lowest f.rate (t - f.updated) f.left all.0.rate all.0.lowest.positive;
+      left = all.0.left;
+    },
+    drawn t fs gs all.1,
+  )
 
-  spent_alike : (p : Planned P) (w : World P) → CapsAlike cmp p.caps w.caps → (n : RatedFlight P) (g : Flight P) → IsDrawn n g → is_spent cmp p.caps n ≡ is_done cmp w g
-  spent_alike p w caps n g same = rw (same.left, unlimited_alike cmp order p.caps w.caps caps n.message g.message same.message) refl
+  spent_alike : (p : Planned P) (w : World P) → CapsAlike cmp p.caps w.caps → (n : RatedFlight P) (g : Flight P)
+      → IsDrawn n g → is_spent cmp p.caps n ≡ is_done cmp w g
+  spent_alike p w caps n g same =
+      rw (same.left, unlimited_alike cmp order p.caps w.caps caps n.message g.message same.message) refl
 
-  drawn_messages : (fs : List (RatedFlight P)) (gs : List (Flight P)) → AllZip IsDrawn fs gs → AllZip (SameMessage cmp) (rated_messages fs) (map (λ (g : Flight P). g.message) gs)
+  drawn_messages : (fs : List (RatedFlight P)) (gs : List (Flight P)) → AllZip IsDrawn fs gs
+      → AllZip (SameMessage cmp) (rated_messages fs) (map (λ (g : Flight P). g.message) gs)
   drawn_messages [] [] all = tt
   drawn_messages [] (g ∷ gs) all = absurd all
   drawn_messages (f ∷ fs) [] all = absurd all
   drawn_messages (f ∷ fs) (g ∷ gs) all = (all.0.message, drawn_messages fs gs all.1)
 
   -- draining again for no time changes nothing
-  rated_flights : (t per : ℕ) (rates : Parts) (ss ns : List (RatedFlight P)) (gs : List (Flight P)) → 0 < per → AllZip IsDrawn ss gs
+  rated_flights : (t per : ℕ) (rates : Parts) (ss ns : List (RatedFlight P)) (gs : List (Flight P)) → 0 < per
+      → AllZip IsDrawn ss gs
       → AllZip (λ f g. (g.message ≡ f.message) × (g.left ≡ f.left) × (g.updated ≡ t)) ss ns
-      → AllZip (λ rate f. f.rate ≡ rate_of per rate) rates ns → ((i : ℕ) → slice_get rates i ≡ Some None → ⊥) → AllZip (IsSameFlight cmp t) ns gs
+      → AllZip (λ rate f. f.rate ≡ rate_of per rate) rates ns → ((i : ℕ) → slice_get rates i ≡ Some None → ⊥)
+      → AllZip (IsSameFlight cmp t) ns gs
   rated_flights t per rates [] [] [] some all stayed rated none = tt
   rated_flights t per rates [] [] (g ∷ gs) some all stayed rated none = absurd all
   rated_flights t per rates (s ∷ ss) [] gs some all stayed rated none = absurd stayed
@@ -79,7 +95,8 @@ module _ {P : Type 0} (cmp : P → P → Ordering) (order : IsTotalOrder cmp) wh
       let low : IsLowest n.left = subst IsLowest (sym stayed.0.1) all.0.lowest in
       let no_time : t - n.updated ≡ 0 = omega arith in
       let left : left_at t n ≡ n.left
-      = ap (λ (r : Option Amount). drained_by r (t - n.updated) n.left) rated.0 ∙ ap (λ (k : ℕ). drained n.left rate k) no_time ∙ drained_none n.left rate low positive in (
+      = ap (λ (r : Option Amount). drained_by r (t - n.updated) n.left) rated.0
+      ∙ ap (λ (k : ℕ). drained n.left rate k) no_time ∙ drained_none n.left rate low positive in (
         record {
           message = subst (λ (m : Message P). SameMessage cmp m g.message) (sym stayed.0.0) all.0.message;
           updated = omega arith;
@@ -91,56 +108,87 @@ module _ {P : Type 0} (cmp : P → P → Ordering) (order : IsTotalOrder cmp) wh
       )
 
   -- what stays uses a capped side
-  each_limited : (p : Planned P) (t : ℕ) (ss ns : List (RatedFlight P)) → Each (λ f. not (is_spent cmp p.caps f) ≡ true) ss → AllZip (λ f g. (g.message ≡ f.message) × (g.left ≡ f.left) × (g.updated ≡ t)) ss ns
+  each_limited : (p : Planned P) (t : ℕ) (ss ns : List (RatedFlight P))
+      → Each (λ f. not (is_spent cmp p.caps f) ≡ true) ss
+      → AllZip (λ f g. (g.message ≡ f.message) × (g.left ≡ f.left) × (g.updated ≡ t)) ss ns
       → Each (λ m. is_unlimited cmp p.caps m ≡ false) (rated_messages ns)
   each_limited p t [] [] stay stayed = tt
   each_limited p t [] (n ∷ ns) stay stayed = absurd stayed
   each_limited p t (s ∷ ss) [] stay stayed = absurd stayed
   each_limited p t (s ∷ ss) (n ∷ ns) stay stayed =
-      let parts : ((s.left.num == 0) ≡ false) × (is_unlimited cmp p.caps s.message ≡ false) = or_parts (s.left.num == 0) (is_unlimited cmp p.caps s.message) (not-true (is_spent cmp p.caps s) stay.0) in
-      (subst (λ (m : Message P). is_unlimited cmp p.caps m ≡ false) (sym stayed.0.0) parts.1, each_limited p t ss ns stay.1 stayed.1)
+      let parts : ((s.left.num == 0) ≡ false) × (is_unlimited cmp p.caps s.message ≡ false) =
+      or_parts (s.left.num == 0) (is_unlimited cmp p.caps s.message) (not-true (is_spent cmp p.caps s) stay.0) in (
+        subst (λ (m : Message P). is_unlimited cmp p.caps m ≡ false) (sym stayed.0.0) parts.1,
+        each_limited p t ss ns stay.1 stayed.1,
+      )
 
-  one_filter : (test : Flight P → Bool) (fs : List (Flight P)) → OneForEachPair cmp (map (λ (f : Flight P). f.message) fs) → OneForEachPair cmp (map (λ (f : Flight P). f.message) (filter test fs))
+  one_filter : (test : Flight P → Bool) (fs : List (Flight P))
+      → OneForEachPair cmp (map (λ (f : Flight P). f.message) fs)
+      → OneForEachPair cmp (map (λ (f : Flight P). f.message) (filter test fs))
   one_filter test [] one = tt
-  one_filter test (f ∷ fs) one = by_test (test f) (any_filter cmp order (same_pair cmp f.message) test fs one.0) (one_filter test fs one.1)
+  one_filter test (f ∷ fs) one =
+      by_test (test f) (any_filter cmp order (same_pair cmp f.message) test fs one.0) (one_filter test fs one.1)
     where
-      by_test : (b : Bool) → list_any (same_pair cmp f.message) (map (λ (f : Flight P). f.message) (filter test fs)) ≡ false
+      by_test : (b : Bool)
+          → list_any (same_pair cmp f.message) (map (λ (f : Flight P). f.message) (filter test fs)) ≡ false
           → OneForEachPair cmp (map (λ (f : Flight P). f.message) (filter test fs))
           → OneForEachPair cmp (map (λ (f : Flight P). f.message) (cond b (f ∷ filter test fs) (filter test fs)))
       by_test true h ih = (h, ih)
       by_test false h ih = ih
 
   -- an account at t takes out what is done in the world at t, and leaves the rest as it is there
-  pub leavers_alike : (t : ℕ) (old new : Planned P) (leavers : List (Message P)) (w : World P) → Tallies cmp t old w → Accounts cmp t old leavers new
+  pub leavers_alike : (t : ℕ) (old new : Planned P) (leavers : List (Message P)) (w : World P) → Tallies cmp t old w
+      → Accounts cmp t old leavers new
       → AllZip (SameMessage cmp) leavers (map (λ (g : Flight P). g.message) (leaving cmp w))
   unfolding leaving
   leavers_alike t old new leavers w same account =
-      subst (λ (ms : List (Message P)). AllZip (SameMessage cmp) ms (map (λ (g : Flight P). g.message) (filter (is_done cmp w) w.sending))) (sym account.left)
+      subst
+      (λ (ms : List (Message P)). AllZip (SameMessage cmp) ms
+      (map (λ (g : Flight P). g.message) (filter (is_done cmp w) w.sending)))
+      (sym account.left)
       (drawn_messages (filter (is_spent cmp old.caps) (drained_to t old.sending)) (filter (is_done cmp w) w.sending)
-      (zip-filter IsDrawn (is_spent cmp old.caps) (is_done cmp w) (spent_alike old w same.caps) (drained_to t old.sending) w.sending (drawn t old.sending w.sending same.sending)))
+      (zip-filter IsDrawn (is_spent cmp old.caps) (is_done cmp w) (spent_alike old w same.caps)
+      (drained_to t old.sending) w.sending (drawn t old.sending w.sending same.sending)))
 
-  pub account_follows : (t : ℕ) (old new : Planned P) (leavers : List (Message P)) (w : World P) → Tallies cmp t old w → Accounts cmp t old leavers new → Follows cmp t new (staying cmp w)
+  pub account_follows : (t : ℕ) (old new : Planned P) (leavers : List (Message P)) (w : World P) → Tallies cmp t old w
+      → Accounts cmp t old leavers new → Follows cmp t new (staying cmp w)
   unfolding staying
   account_follows t old new leavers w same account = record {
     tallies = record {
       moment = same.moment;
       caps = subst (λ (q : Planned P). CapsAlike cmp q.caps w.caps) (sym account.same) same.caps;
       limited = ap (λ (q : Planned P). q.limited) account.same ∙ same.limited;
-      last_arrival = subst (λ (q : Planned P). PairsAlike cmp q.last_arrival w.last_arrival) (sym account.same) same.last_arrival;
+      last_arrival =
+          subst (λ (q : Planned P). PairsAlike cmp q.last_arrival w.last_arrival) (sym account.same) same.last_arrival;
       next_id = ap (λ (q : Planned P). q.next_id) account.same ∙ same.next_id;
-      waiting = subst (λ (q : Planned P). (m : Message P) → AllZip (SameMessage cmp) (filter (same_pair cmp m) q.waiting) (filter (same_pair cmp m) w.waiting)) (sym account.same) same.waiting;
+      waiting =
+          subst
+          (λ (q : Planned P). (m : Message P)
+          → AllZip (SameMessage cmp) (filter (same_pair cmp m) q.waiting) (filter (same_pair cmp m) w.waiting))
+          (sym account.same) same.waiting;
       pair_order = subst (λ (q : Planned P). AreInPairOrder cmp q.waiting) (sym account.same) same.pair_order;
-      sending = rated_flights t account.per account.rates stays new.sending (filter (λ (g : Flight P). not (is_done cmp w g)) w.sending) account.fair.fair.some_part
-          (zip-filter IsDrawn (λ (f : RatedFlight P). not (is_spent cmp old.caps f)) (λ (g : Flight P). not (is_done cmp w g)) (λ n g e. ap not (spent_alike old w same.caps n g e)) (drained_to t old.sending) w.sending (drawn t old.sending w.sending same.sending))
+      sending =
+          rated_flights t account.per account.rates stays new.sending
+          (filter (λ (g : Flight P). not (is_done cmp w g)) w.sending) account.fair.fair.some_part
+          (zip-filter IsDrawn (λ (f : RatedFlight P). not (is_spent cmp old.caps f))
+          (λ (g : Flight P). not (is_done cmp w g)) (λ n g e. ap not (spent_alike old w same.caps n g e))
+          (drained_to t old.sending) w.sending (drawn t old.sending w.sending same.sending))
           account.stayed account.rated
-          (all_rated cmp old.caps (rated_messages new.sending) account.per account.rates account.fair (each_at (λ (m : Message P). is_unlimited cmp old.caps m ≡ false) (rated_messages new.sending) (each_limited old t stays new.sending (each_passes (λ (f : RatedFlight P). not (is_spent cmp old.caps f)) (drained_to t old.sending)) account.stayed)));
+          (all_rated cmp old.caps (rated_messages new.sending) account.per account.rates account.fair
+          (each_at (λ (m : Message P). is_unlimited cmp old.caps m ≡ false) (rated_messages new.sending)
+          (each_limited old t stays new.sending
+          (each_passes (λ (f : RatedFlight P). not (is_spent cmp old.caps f)) (drained_to t old.sending))
+          account.stayed)));
       one_each = one_filter (λ (g : Flight P). not (is_done cmp w g)) w.sending same.one_each;
-      empty_at_first = λ free. still_empty (same.empty_at_first (sym (ap (λ (q : Planned P). q.limited) account.same) ∙ free));
+      empty_at_first = λ free.
+          still_empty (same.empty_at_first (sym (ap (λ (q : Planned P). q.limited) account.same) ∙ free));
     };
     rated = record {
       per = account.per;
       rates = account.rates;
-      fair = subst (λ (q : Planned P). AreFair cmp q.caps (rated_messages new.sending) account.per account.rates) (sym account.same) account.fair;
+      fair =
+          subst (λ (q : Planned P). AreFair cmp q.caps (rated_messages new.sending) account.per account.rates)
+          (sym account.same) account.fair;
       rated = account.rated;
     };
     finish = account.finish;
@@ -148,8 +196,13 @@ module _ {P : Type 0} (cmp : P → P → Ordering) (order : IsTotalOrder cmp) wh
     where
       still_empty : (old.sending ≡ []) × (old.waiting ≡ []) → (new.sending ≡ []) × (new.waiting ≡ [])
       still_empty (sends, waits) = (
-        none_matched {X = RatedFlight P} {Y = RatedFlight P} (λ f g. (g.message ≡ f.message) × (g.left ≡ f.left) × (g.updated ≡ t)) new.sending
-            (subst (λ (fs : List (RatedFlight P)). AllZip (λ f g. (g.message ≡ f.message) × (g.left ≡ f.left) × (g.updated ≡ t)) (filter (λ (f : RatedFlight P). not (is_spent cmp old.caps f)) (drained_to t fs)) new.sending) sends account.stayed),
+        none_matched {X = RatedFlight P} {Y = RatedFlight P}
+            (λ f g. (g.message ≡ f.message) × (g.left ≡ f.left) × (g.updated ≡ t)) new.sending
+            (subst
+            (λ (fs : List (RatedFlight P)). AllZip
+            (λ f g. (g.message ≡ f.message) × (g.left ≡ f.left) × (g.updated ≡ t))
+            (filter (λ (f : RatedFlight P). not (is_spent cmp old.caps f)) (drained_to t fs)) new.sending)
+            sends account.stayed),
         ap (λ (q : Planned P). q.waiting) account.same ∙ waits,
       )
 

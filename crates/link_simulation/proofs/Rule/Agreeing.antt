@@ -8,8 +8,10 @@ use Rattle.fair_rates.specs.declared.error.Error.TheVariants.{OutOfMemory, Numbe
 use Rattle.fair_rates.specs.Sides.Subjects.{same_peer}
 use Rattle.link_simulation.specs.Simulation.World.{World, new_world, Completed, Course, goes, meets, last_moment}
 use Rattle.link_simulation.specs.Simulation.Time.{NextIs}
-use Rattle.link_simulation.specs.Simulation.Calls.{Call, call_limit, call_limit_link, call_enqueue, call_advance, call_next, moment_of, Runs, IsInTurn}
-use Rattle.link_simulation.specs.Simulation.Replies.{Reply, reply_done, reply_next, reply_refused, SameCompletion, Faults, MayRefuse, Agrees}
+use Rattle.link_simulation.specs.Simulation.Calls.{Call, call_limit, call_limit_link, call_enqueue, call_advance}
+use Rattle.link_simulation.specs.Simulation.Calls.{call_next, moment_of, Runs, IsInTurn}
+use Rattle.link_simulation.specs.Simulation.Replies.{Reply, reply_done, reply_next, reply_refused, SameCompletion}
+use Rattle.link_simulation.specs.Simulation.Replies.{Faults, MayRefuse, Agrees}
 use Rattle.link_simulation.specs.Rule.Planned.{Planned, new_planned}
 use Rattle.link_simulation.specs.Rule.Events.{Obeys}
 use Rattle.link_simulation.specs.Rule.Refusals.{MayBeRefused, Obeyed}

@@ -1,10 +1,12 @@
 -- Before any limit, a message completes at once in both worlds.
-use Rattle.std.proofs.Common.{◌≡◌, ℕ, ◌+◌, ◌<◌, ◌≤◌, [], ◌∷◌, Bool, true, false, cond, Option, Some, None, refl, sym, ap, ◌∙◌, subst}
+use Rattle.std.proofs.Common.{◌≡◌, ℕ, ◌+◌, ◌<◌, ◌≤◌, [], ◌∷◌, Bool, true, false, cond, Option, Some, None, refl, sym}
+use Rattle.std.proofs.Common.{ap, ◌∙◌, subst}
 use Rattle.std.specs.Prelude.{◌&&◌, nat_lt, IfSome, if◌then◌else◌}
 use Rattle.std.specs.List.{find, list_any}
 use Rattle.std.specs.declared.cmp.Ordering.{Ordering}
 use Rattle.std.specs.Cmp.{IsTotalOrder}
-use Rattle.link_simulation.specs.Simulation.World.{Completed, Course, World, completion_of, goes, is_done, last_moment, later_of, meets, raised, ready}
+use Rattle.link_simulation.specs.Simulation.World.{Completed, Course, World, completion_of, goes, is_done, last_moment}
+use Rattle.link_simulation.specs.Simulation.World.{later_of, meets, raised, ready}
 use Rattle.link_simulation.specs.Simulation.Calls.{Runs, act, call_enqueue, complete_at_once}
 use Rattle.link_simulation.specs.Rule.Events.{completed_at_once}
 use Rattle.link_simulation.specs.Simulation.Messages.{Message, same_pair}
@@ -25,13 +27,17 @@ module _ {P : Type 0} (cmp : P → P → Ordering) (order : IsTotalOrder cmp) wh
       absurd_some : None ≡ Some some.0 → ⊥
       absurd_some e = cc
 
-  start_kept : (p q : Planned P) (o : Option ℕ) → p.waiting ≡ [] → q.waiting ≡ [] → IsLeastMoment (SomeReadyAt cmp p) o → IsLeastMoment (SomeReadyAt cmp q) o
+  start_kept : (p q : Planned P) (o : Option ℕ) → p.waiting ≡ [] → q.waiting ≡ [] → IsLeastMoment (SomeReadyAt cmp p) o
+      → IsLeastMoment (SomeReadyAt cmp q) o
   start_kept p q None empty bare least = λ t within some. none_waits q t bare some
   start_kept p q (Some e) empty bare least = absurd (none_waits p e empty least.1)
 
-  at_once : (now : ℕ) (p : Planned P) (u : World P) (m : Message P) → Follows cmp now p u → list_any (is_done cmp u) u.sending ≡ false → p.waiting ≡ [] → IsLeastMoment (SomeReadyAt cmp p) p.start
-      → CoursesAlike cmp (λ q v. StandsFor cmp q v × (v.moment ≡ now)) (completed_at_once cmp now p m) (complete_at_once cmp now u m)
-  at_once now p u m follows none_done empty least = by_late (m.should_deliver && nat_lt last_moment (now + m.latency)) arrivals
+  at_once : (now : ℕ) (p : Planned P) (u : World P) (m : Message P) → Follows cmp now p u
+      → list_any (is_done cmp u) u.sending ≡ false → p.waiting ≡ [] → IsLeastMoment (SomeReadyAt cmp p) p.start
+      → CoursesAlike cmp (λ q v. StandsFor cmp q v × (v.moment ≡ now)) (completed_at_once cmp now p m)
+      (complete_at_once cmp now u m)
+  at_once now p u m follows none_done empty least =
+      by_late (m.should_deliver && nat_lt last_moment (now + m.latency)) arrivals
     where
       at_p : ℕ
       at_p = if m.should_deliver then later_of (p.last_arrival m.origin m.recipient) (now + m.latency) else now
@@ -40,7 +46,10 @@ module _ {P : Type 0} (cmp : P → P → Ordering) (order : IsTotalOrder cmp) wh
       at_u = if m.should_deliver then later_of (u.last_arrival m.origin m.recipient) (now + m.latency) else now
 
       arrivals : at_p ≡ at_u
-      arrivals = rw (follows.tallies.last_arrival m.origin m.origin m.recipient m.recipient (same_itself cmp order m.origin) (same_itself cmp order m.recipient)) refl
+      arrivals =
+          rw (follows.tallies.last_arrival m.origin m.origin m.recipient m.recipient (same_itself cmp order m.origin)
+          (same_itself cmp order m.recipient))
+          refl
 
       landed_p : Planned P
       landed_p = record p { last_arrival = raised cmp p.last_arrival m at_p }
@@ -53,7 +62,9 @@ module _ {P : Type 0} (cmp : P → P → Ordering) (order : IsTotalOrder cmp) wh
         moment = follows.tallies.moment;
         caps = follows.tallies.caps;
         limited = follows.tallies.limited;
-        last_arrival = raised_alike cmp order p.last_arrival u.last_arrival m m at_p at_u follows.tallies.last_arrival (message_itself cmp order m) same;
+        last_arrival =
+            raised_alike cmp order p.last_arrival u.last_arrival m m at_p at_u follows.tallies.last_arrival
+            (message_itself cmp order m) same;
         next_id = follows.tallies.next_id;
         waiting = follows.tallies.waiting;
         pair_order = follows.tallies.pair_order;
@@ -66,27 +77,61 @@ module _ {P : Type 0} (cmp : P → P → Ordering) (order : IsTotalOrder cmp) wh
       stands same = record {
         follows = subst (λ (t : ℕ). Follows cmp t landed_p landed_u) (sym follows.tallies.moment) (record {
           tallies = tallied same;
-          rated = record { per = follows.rated.per; rates = follows.rated.rates; fair = follows.rated.fair; rated = follows.rated.rated };
+          rated =
+              record {
+                per = follows.rated.per;
+                rates = follows.rated.rates;
+                fair = follows.rated.fair;
+                rated = follows.rated.rated;
+              };
           finish = follows.finish;
         });
-        quiet = record { none_done = none_done; none_ready = ap (λ (t : ℕ). ready cmp t landed_u) follows.tallies.moment ∙ none_ready_at cmp order now landed_p landed_u (tallied same) (none_waits landed_p now empty) };
+        quiet =
+            record {
+              none_done = none_done;
+              none_ready = ap (λ (t : ℕ). ready cmp t landed_u) follows.tallies.moment
+                  ∙ none_ready_at cmp order now landed_p landed_u (tallied same) (none_waits landed_p now empty);
+            };
         start = start_kept p landed_p p.start empty empty least;
       }
 
       by_late : (b : Bool) → at_p ≡ at_u
-          → CoursesAlike cmp (λ q v. StandsFor cmp q v × (v.moment ≡ now)) (cond b (meets MomentTooLate) (goes (completion_of m (if m.should_deliver then Some at_p else None) ∷ []) landed_p))
-          (cond b (meets MomentTooLate) (goes (completion_of m (if m.should_deliver then Some at_u else None) ∷ []) landed_u))
+          → CoursesAlike cmp (λ q v. StandsFor cmp q v × (v.moment ≡ now))
+          (cond b (meets MomentTooLate)
+          (goes (completion_of m (if m.should_deliver then Some at_p else None) ∷ []) landed_p))
+          (cond b (meets MomentTooLate)
+          (goes (completion_of m (if m.should_deliver then Some at_u else None) ∷ []) landed_u))
       by_late true same = refl
-      by_late false same =
-          ((record { origin = same_itself cmp order m.origin; recipient = same_itself cmp order m.recipient; channel = refl; bytes = refl; deliver_at = ap (λ (t : ℕ). if m.should_deliver then Some t else None) same }, tt), (stands same, follows.tallies.moment))
+      by_late false same = (
+        (
+          record {
+            origin = same_itself cmp order m.origin;
+            recipient = same_itself cmp order m.recipient;
+            channel = refl;
+            bytes = refl;
+            deliver_at = ap (λ (t : ℕ). if m.should_deliver then Some t else None) same;
+          },
+          tt,
+        ),
+        (stands same, follows.tallies.moment),
+      )
 
   -- before any limit a message does in the planned world what it does in the world
-  pub at_once_alike : (p : Planned P) (w : World P) (now : ℕ) (m : Message P) → StandsFor cmp p w → p.limited ≡ false → w.moment ≤ now → now ≤ last_moment → IfSome (next_event p) (λ t. now < t)
-      → (c : Course (Completed P) (World P)) × Runs cmp w (call_enqueue now m) now c × CoursesAlike cmp (λ q v. StandsFor cmp q v × (v.moment ≡ now)) (completed_at_once cmp now p m) c
+  pub at_once_alike : (p : Planned P) (w : World P) (now : ℕ) (m : Message P) → StandsFor cmp p w → p.limited ≡ false
+      → w.moment ≤ now → now ≤ last_moment → IfSome (next_event p) (λ t. now < t)
+      → (c : Course (Completed P) (World P)) × Runs cmp w (call_enqueue now m) now c
+      × CoursesAlike cmp (λ q v. StandsFor cmp q v × (v.moment ≡ now)) (completed_at_once cmp now p m) c
   at_once_alike p w now m stands free le within before =
       let empty : p.waiting ≡ [] = (stands.follows.tallies.empty_at_first free).1 in
       let there : IsReached cmp order now p w = reaches cmp order now p w stands le within before in
       let under : there.world.limited ≡ false = sym there.follows.tallies.limited ∙ free in
       let c : Course (Completed P) (World P) = complete_at_once cmp now there.world m in
-      let acts : act cmp there.world (call_enqueue now m) ≡ c = rw under refl in
-      (c, record { ticked = goes [] there.world; ticks = there.ticks; acts = sym acts ∙ sym (preceded_none (act cmp there.world (call_enqueue now m))) }, at_once now p there.world m there.follows there.none_done empty stands.start)
+      let acts : act cmp there.world (call_enqueue now m) ≡ c = rw under refl in (
+        c,
+        record {
+          ticked = goes [] there.world;
+          ticks = there.ticks;
+          acts = sym acts ∙ sym (preceded_none (act cmp there.world (call_enqueue now m)));
+        },
+        at_once now p there.world m there.follows there.none_done empty stands.start,
+      )

@@ -1,5 +1,7 @@
--- Before its next event a world that a planned world stands for only drains, and at the planned finish something is done.
-use Rattle.std.proofs.Common.{◌≡◌, ℕ, zero, suc, ◌+◌, ◌-◌, ◌<◌, ◌≤◌, List, [], ◌∷◌, map, Bool, true, false, cond, not, Option, Some, None, refl, sym, ap, ◌∙◌, subst, arith, add-one, ◌⊎◌, inl, inr}
+-- Before its next event a world that a planned world stands for only drains, and at the planned finish something is
+-- done.
+use Rattle.std.proofs.Common.{◌≡◌, ℕ, zero, suc, ◌+◌, ◌-◌, ◌<◌, ◌≤◌, List, [], ◌∷◌, map, Bool, true, false, cond, not}
+use Rattle.std.proofs.Common.{Option, Some, None, refl, sym, ap, ◌∙◌, subst, arith, add-one, ◌⊎◌, inl, inr}
 use Rattle.std.specs.Prelude.{◌||◌, ◌==◌, IfSome, slice_get}
 use Rattle.std.specs.List.{filter, find, list_any, AllZip}
 use Rattle.std.specs.declared.cmp.Ordering.{Ordering}
@@ -7,12 +9,15 @@ use Rattle.std.specs.Cmp.{IsTotalOrder}
 use Rattle.std.proofs.lemmas.Bool.{or_from, or_parts, cases_lt, or_right, not-true}
 use Rattle.fair_rates.specs.Numbers.Amount.{Amount}
 use Rattle.fair_rates.specs.Sides.Subjects.{same_peer}
-use Rattle.link_simulation.specs.Simulation.World.{Flight, IsQuiet, World, flows, fronts, is_done, last_moment, may_start, ready}
+use Rattle.link_simulation.specs.Simulation.World.{Flight, IsQuiet, World, flows, fronts, is_done, last_moment}
+use Rattle.link_simulation.specs.Simulation.World.{may_start, ready}
 use Rattle.link_simulation.specs.Simulation.Messages.{Message, OneForEachPair, PairsAlike, SameMessage, same_pair}
-use Rattle.link_simulation.specs.Rule.Planned.{IsLeastMoment, IsRated, RatedFlight, Planned, SomeReadyAt, SomeSpentAt, earlier, left_at, may_launch, next_event, rated_messages, IsSpentAt}
+use Rattle.link_simulation.specs.Rule.Planned.{IsLeastMoment, IsRated, RatedFlight, Planned, SomeReadyAt, SomeSpentAt}
+use Rattle.link_simulation.specs.Rule.Planned.{earlier, left_at, may_launch, next_event, rated_messages, IsSpentAt}
 use Rattle.link_simulation.specs.Simulation.Rates.{AreFair, IsLowest, Parts, drained_by, is_unlimited, rate_of}
 use Rattle.link_simulation.specs.Rule.StandsFor.{Follows, IsSameFlight, StandsFor, Tallies}
-use Rattle.link_simulation.specs.Simulation.Time.{ArePositive, Drains, NextIs, Passes, comes_next, drain_each, drifted, never_comes, no_time}
+use Rattle.link_simulation.specs.Simulation.Time.{ArePositive, Drains, NextIs, Passes, comes_next, drain_each, drifted}
+use Rattle.link_simulation.specs.Simulation.Time.{never_comes, no_time}
 use borrow.Author.Tests.{eqb-true, eq-eqb}
 use Rattle.link_simulation.proofs.Simulation.LowestTerms.{drained_by_lowest, drained_by_twice, spent_later}
 use Rattle.link_simulation.proofs.Simulation.Queue.{pair_sym, both_alike, find_passes}
@@ -29,11 +34,13 @@ filter_none test (x ∷ xs) h = rw (h.0, filter_none test xs h.1) refl
 
 -- ---- moments
 
-pub none_before : (Q : ℕ → Type 0) (o : Option ℕ) → IsLeastMoment Q o → (t : ℕ) → t ≤ last_moment → IfSome o (λ e. t < e) → Q t → ⊥
+pub none_before : (Q : ℕ → Type 0) (o : Option ℕ) → IsLeastMoment Q o → (t : ℕ) → t ≤ last_moment
+    → IfSome o (λ e. t < e) → Q t → ⊥
 none_before Q None least t within before q = least t within q
 none_before Q (Some e) least t within before q = let le : e ≤ t = least.2 t q in absurd (omega arith)
 
-pub both_before : (a b : Option ℕ) (t : ℕ) → IfSome (earlier a b) (λ e. t < e) → IfSome a (λ e. t < e) × IfSome b (λ e. t < e)
+pub both_before : (a b : Option ℕ) (t : ℕ) → IfSome (earlier a b) (λ e. t < e)
+    → IfSome a (λ e. t < e) × IfSome b (λ e. t < e)
 both_before None b t h = (tt, h)
 both_before (Some a) None t h = (h, tt)
 both_before (Some a) (Some b) t h = (omega arith, omega arith)
@@ -45,13 +52,15 @@ before_still (Some e) s t le h = omega arith
 module _ {P : Type 0} (cmp : P → P → Ordering) (order : IsTotalOrder cmp) where
   -- ---- what is in flight
 
-  pub messages_alike : (t : ℕ) (fs : List (RatedFlight P)) (gs : List (Flight P)) → AllZip (IsSameFlight cmp t) fs gs → AllZip (SameMessage cmp) (rated_messages fs) (map (λ (g : Flight P). g.message) gs)
+  pub messages_alike : (t : ℕ) (fs : List (RatedFlight P)) (gs : List (Flight P)) → AllZip (IsSameFlight cmp t) fs gs
+      → AllZip (SameMessage cmp) (rated_messages fs) (map (λ (g : Flight P). g.message) gs)
   messages_alike t [] [] all = tt
   messages_alike t [] (g ∷ gs) all = absurd all
   messages_alike t (f ∷ fs) [] all = absurd all
   messages_alike t (f ∷ fs) (g ∷ gs) all = (all.0.message, messages_alike t fs gs all.1)
 
-  drained_on : (t k per : ℕ) (rates : Parts) (fs : List (RatedFlight P)) (gs : List (Flight P)) → AllZip (λ rate f. f.rate ≡ rate_of per rate) rates fs
+  drained_on : (t k per : ℕ) (rates : Parts) (fs : List (RatedFlight P)) (gs : List (Flight P))
+      → AllZip (λ rate f. f.rate ≡ rate_of per rate) rates fs
       → AllZip (IsSameFlight cmp t) fs gs → AllZip (IsSameFlight cmp (t + k)) fs (drain_each per rates k gs)
   drained_on t k per [] [] [] rated all = tt
   drained_on t k per [] [] (g ∷ gs) rated all = absurd all
@@ -63,20 +72,27 @@ module _ {P : Type 0} (cmp : P → P → Ordering) (order : IsTotalOrder cmp) wh
       let early : f.updated ≤ t = same.updated in
       let count : t - f.updated + k ≡ t + k - f.updated = omega arith in
       let left : drained_by (rate_of per rate) k g.left ≡ left_at (t + k) f =
-      ap (λ (r : Option Amount). drained_by r k g.left) (sym rated.0) ∙ ap (drained_by f.rate k) same.left ∙ drained_by_twice f.rate (t - f.updated) k f.left same.rate same.lowest.positive ∙ ap (λ (n : ℕ). drained_by f.rate n f.left) count in
-      (record { message = same.message; updated = omega arith; lowest = same.lowest; rate = same.rate; left = left }, drained_on t k per rates fs gs rated.1 all.1)
+      ap (λ (r : Option Amount). drained_by r k g.left) (sym rated.0) ∙ ap (drained_by f.rate k) same.left
+      ∙ drained_by_twice f.rate (t - f.updated) k f.left same.rate same.lowest.positive
+      ∙ ap (λ (n : ℕ). drained_by f.rate n f.left) count in (
+        record { message = same.message; updated = omega arith; lowest = same.lowest; rate = same.rate; left = left },
+        drained_on t k per rates fs gs rated.1 all.1,
+      )
 
-  pub positive_flights : (t : ℕ) (fs : List (RatedFlight P)) (gs : List (Flight P)) → AllZip (IsSameFlight cmp t) fs gs → ArePositive gs
+  pub positive_flights : (t : ℕ) (fs : List (RatedFlight P)) (gs : List (Flight P)) → AllZip (IsSameFlight cmp t) fs gs
+      → ArePositive gs
   positive_flights t [] [] all = tt
   positive_flights t [] (g ∷ gs) all = absurd all
   positive_flights t (f ∷ fs) [] all = absurd all
   positive_flights t (f ∷ fs) (g ∷ gs) all =
-      let low : IsLowest (left_at t f) = drained_by_lowest f.rate (t - f.updated) f.left all.0.rate all.0.lowest.positive in
+      let low : IsLowest (left_at t f) =
+      drained_by_lowest f.rate (t - f.updated) f.left all.0.rate all.0.lowest.positive in
       (subst (λ (a : Amount). 0 < a.den) (sym all.0.left) low.positive, positive_flights t fs gs all.1)
 
   -- ---- nothing is done before the planned finish
 
-  unlimited_none : (a : Flight P → Bool) (u : Message P → Bool) (gs : List (Flight P)) → list_any (λ (g : Flight P). a g || u g.message) gs ≡ false
+  unlimited_none : (a : Flight P → Bool) (u : Message P → Bool) (gs : List (Flight P))
+      → list_any (λ (g : Flight P). a g || u g.message) gs ≡ false
       → list_any u (map (λ (g : Flight P). g.message) gs) ≡ false
   unlimited_none a u [] e = refl
   unlimited_none a u (g ∷ gs) e =
@@ -85,22 +101,31 @@ module _ {P : Type 0} (cmp : P → P → Ordering) (order : IsTotalOrder cmp) wh
       let head : (a g ≡ false) × (u g.message ≡ false) = or_parts (a g) (u g.message) parts.0 in
       or_from (u g.message) (list_any u (map (λ (g : Flight P). g.message) gs)) head.1 (unlimited_none a u gs parts.1)
 
-  none_done_at : (u : Message P → Bool) (t : ℕ) (fs : List (RatedFlight P)) (gs : List (Flight P)) → AllZip (IsSameFlight cmp t) fs gs
+  none_done_at : (u : Message P → Bool) (t : ℕ) (fs : List (RatedFlight P)) (gs : List (Flight P))
+      → AllZip (IsSameFlight cmp t) fs gs
       → ((i : ℕ) (f : RatedFlight P) → slice_get fs i ≡ Some f → f.updated ≤ t → ((left_at t f).num ≡ 0) → ⊥)
-      → list_any u (map (λ (g : Flight P). g.message) gs) ≡ false → list_any (λ (g : Flight P). (g.left.num == 0) || u g.message) gs ≡ false
+      → list_any u (map (λ (g : Flight P). g.message) gs) ≡ false
+      → list_any (λ (g : Flight P). (g.left.num == 0) || u g.message) gs ≡ false
   none_done_at u t [] [] all none e = refl
   none_done_at u t [] (g ∷ gs) all none e = absurd all
   none_done_at u t (f ∷ fs) [] all none e = absurd all
   none_done_at u t (f ∷ fs) (g ∷ gs) all none e =
-      let parts : (u g.message ≡ false) × (list_any u (map (λ (g : Flight P). g.message) gs) ≡ false) = or_parts (u g.message) (list_any u (map (λ (g : Flight P). g.message) gs)) e in
-      or_from ((g.left.num == 0) || u g.message) (list_any (λ (g : Flight P). (g.left.num == 0) || u g.message) gs) (or_from (g.left.num == 0) (u g.message) (by_test (g.left.num == 0) refl) parts.0) (none_done_at u t fs gs all.1 (λ i. none (suc i)) parts.1)
+      let parts : (u g.message ≡ false) × (list_any u (map (λ (g : Flight P). g.message) gs) ≡ false) =
+      or_parts (u g.message) (list_any u (map (λ (g : Flight P). g.message) gs)) e in
+      or_from ((g.left.num == 0) || u g.message) (list_any (λ (g : Flight P). (g.left.num == 0) || u g.message) gs)
+      (or_from (g.left.num == 0) (u g.message) (by_test (g.left.num == 0) refl) parts.0)
+      (none_done_at u t fs gs all.1 (λ i. none (suc i)) parts.1)
     where
       by_test : (b : Bool) → (g.left.num == 0) ≡ b → b ≡ false
       by_test false is = refl
-      by_test true is = absurd (none 0 f refl all.0.updated (ap (λ (a : Amount). a.num) (sym all.0.left) ∙ eqb-true (g.left.num) 0 is))
+      by_test true is =
+          absurd
+          (none 0 f refl all.0.updated (ap (λ (a : Amount). a.num) (sym all.0.left) ∙ eqb-true (g.left.num) 0 is))
 
   -- what was spent at s is done at t
-  pub done_at : (u : Message P → Bool) (s t : ℕ) (fs : List (RatedFlight P)) (gs : List (Flight P)) (i : ℕ) (f : RatedFlight P) → s ≤ t → AllZip (IsSameFlight cmp t) fs gs
+  pub done_at : (u : Message P → Bool) (s t : ℕ) (fs : List (RatedFlight P)) (gs : List (Flight P)) (i : ℕ)
+      (f : RatedFlight P)
+      → s ≤ t → AllZip (IsSameFlight cmp t) fs gs
       → slice_get fs i ≡ Some f → IsSpentAt s f
       → list_any (λ (g : Flight P). (g.left.num == 0) || u g.message) gs ≡ true
   done_at u s t [] gs i f le all at spent = cc
@@ -108,15 +133,19 @@ module _ {P : Type 0} (cmp : P → P → Ordering) (order : IsTotalOrder cmp) wh
   done_at u s t (x ∷ fs) (g ∷ gs) zero f le all at spent =
       let same : f ≡ x = cc in
       let spent_x : IsSpentAt s x = subst (λ (y : RatedFlight P). IsSpentAt s y) same spent in
-      let spent_now : IsSpentAt t x = spent_later x.rate (s - x.updated) (t - x.updated) x.left all.0.rate all.0.lowest.positive (omega arith) spent_x in
+      let spent_now : IsSpentAt t x =
+      spent_later x.rate (s - x.updated) (t - x.updated) x.left all.0.rate all.0.lowest.positive (omega arith)
+      spent_x in
       let none : g.left.num ≡ 0 = ap (λ (a : Amount). a.num) all.0.left ∙ spent_now in
       rw (eq-eqb g.left.num 0 none) refl
   done_at u s t (x ∷ fs) (g ∷ gs) (suc i) f le all at spent =
-      or_right ((g.left.num == 0) || u g.message) (list_any (λ (g : Flight P). (g.left.num == 0) || u g.message) gs) (done_at u s t fs gs i f le all.1 at spent)
+      or_right ((g.left.num == 0) || u g.message) (list_any (λ (g : Flight P). (g.left.num == 0) || u g.message) gs)
+      (done_at u s t fs gs i f le all.1 at spent)
 
   -- ---- nothing is ready before the planned start
 
-  skipped : (m n : Message P) (ws : List (Message P)) → same_pair cmp m n ≡ false → filter (same_pair cmp m) (n ∷ ws) ≡ filter (same_pair cmp m) ws
+  skipped : (m n : Message P) (ws : List (Message P)) → same_pair cmp m n ≡ false
+      → filter (same_pair cmp m) (n ∷ ws) ≡ filter (same_pair cmp m) ws
   skipped m n ws e = rw e refl
 
   abbrev pub IsFront : List (Message P) → Message P → Type 0
@@ -126,33 +155,51 @@ module _ {P : Type 0} (cmp : P → P → Ordering) (order : IsTotalOrder cmp) wh
   pub fronts_first : (ws : List (Message P)) → Each (IsFront ws) (fronts cmp ws)
   fronts_first [] = tt
   fronts_first (x ∷ ws) = (
-    (filter (same_pair cmp x) ws, rw (both_alike cmp order (same_peer cmp x.origin x.origin) true (same_peer cmp x.recipient x.recipient) true (same_itself cmp order x.origin) (same_itself cmp order x.recipient)) refl),
-    each_map (λ m. IsFront ws m × (not (same_pair cmp x m) ≡ true)) (IsFront (x ∷ ws)) (filter (λ n. not (same_pair cmp x n)) (fronts cmp ws)) (λ m h. later m h.0 h.1) (each_filtered (IsFront ws) (λ n. not (same_pair cmp x n)) (fronts cmp ws) (fronts_first ws)),
+    (
+      filter (same_pair cmp x) ws,
+      rw (both_alike cmp order (same_peer cmp x.origin x.origin) true (same_peer cmp x.recipient x.recipient) true
+          (same_itself cmp order x.origin) (same_itself cmp order x.recipient))
+          refl,
+    ),
+    each_map (λ m. IsFront ws m × (not (same_pair cmp x m) ≡ true)) (IsFront (x ∷ ws))
+        (filter (λ n. not (same_pair cmp x n)) (fronts cmp ws)) (λ m h. later m h.0 h.1)
+        (each_filtered (IsFront ws) (λ n. not (same_pair cmp x n)) (fronts cmp ws) (fronts_first ws)),
   )
     where
       later : (m : Message P) → IsFront ws m → not (same_pair cmp x m) ≡ true → IsFront (x ∷ ws) m
-      later m front apart = (front.0, skipped m x ws (pair_sym cmp order m x ∙ not-true (same_pair cmp x m) apart) ∙ front.1)
+      later m front apart =
+          (front.0, skipped m x ws (pair_sym cmp order m x ∙ not-true (same_pair cmp x m) apart) ∙ front.1)
 
   -- what stands first among a pair's is what is found first
-  pub first_found : {X : Type 0} (test : X → Bool) (x : X) (rest xs : List X) → filter test xs ≡ x ∷ rest → find test xs ≡ Some x
+  pub first_found : {X : Type 0} (test : X → Bool) (x : X) (rest xs : List X) → filter test xs ≡ x ∷ rest
+      → find test xs ≡ Some x
   first_found test x rest [] e = cc
   first_found {X} test x rest (y ∷ ys) e = by_test (test y) e (first_found test x rest ys)
     where
-      by_test : (b : Bool) → cond b (y ∷ filter test ys) (filter test ys) ≡ x ∷ rest → (filter test ys ≡ x ∷ rest → find test ys ≡ Some x) → cond b (Some y) (find test ys) ≡ Some x
+      by_test : (b : Bool) → cond b (y ∷ filter test ys) (filter test ys) ≡ x ∷ rest
+          → (filter test ys ≡ x ∷ rest → find test ys ≡ Some x) → cond b (Some y) (find test ys) ≡ Some x
       by_test true e ih = cc
       by_test false e ih = ih e
 
   -- the first of a pair is the first of its own pair
-  pub own_first : (m x : Message P) (rest ms : List (Message P)) → filter (same_pair cmp m) ms ≡ x ∷ rest → find (same_pair cmp x) ms ≡ Some x
+  pub own_first : (m x : Message P) (rest ms : List (Message P)) → filter (same_pair cmp m) ms ≡ x ∷ rest
+      → find (same_pair cmp x) ms ≡ Some x
   own_first m x rest ms e =
       let found : find (same_pair cmp m) ms ≡ Some x = first_found (same_pair cmp m) x rest ms e in
       find_like cmp order m x ms (find_passes (same_pair cmp m) x ms found) ∙ found
 
   -- a pair may start in the planned world where it may in the world
   pub may_alike : (t : ℕ) (p : Planned P) (w : World P) (m n : Message P) → PairsAlike cmp p.last_arrival w.last_arrival
-      → AllZip (SameMessage cmp) (rated_messages p.sending) (flows w) → SameMessage cmp m n → may_launch cmp t p m ≡ may_start cmp t w n
+      → AllZip (SameMessage cmp) (rated_messages p.sending) (flows w) → SameMessage cmp m n
+      → may_launch cmp t p m ≡ may_start cmp t w n
   may_alike t p w m n last all same =
-      rw (any_alike cmp order (SameMessage cmp) (same_pair cmp m) (same_pair cmp n) (λ k l e. pairs_alike cmp order m n k l same e) (rated_messages p.sending) (flows w) all, last m.origin n.origin m.recipient n.recipient same.origin same.recipient, same.latency) refl
+      rw (
+        any_alike cmp order (SameMessage cmp) (same_pair cmp m) (same_pair cmp n)
+            (λ k l e. pairs_alike cmp order m n k l same e) (rated_messages p.sending) (flows w) all,
+        last m.origin n.origin m.recipient n.recipient same.origin same.recipient,
+        same.latency,
+      )
+      refl
 
   first_alike : (xs : List (Message P)) (y : Message P) (ys : List (Message P)) → AllZip (SameMessage cmp) xs (y ∷ ys)
       → (x : Message P) × (rest : List (Message P)) × (xs ≡ x ∷ rest) × SameMessage cmp x y
@@ -160,18 +207,26 @@ module _ {P : Type 0} (cmp : P → P → Ordering) (order : IsTotalOrder cmp) wh
   first_alike (x ∷ xs) y ys all = (x, xs, refl, all.0)
 
   -- where no pair is ready in the planned world, none is in the world
-  pub none_ready_at : (t : ℕ) (p : Planned P) (w : World P) → Tallies cmp t p w → ¬ SomeReadyAt cmp p t → ready cmp t w ≡ []
+  pub none_ready_at : (t : ℕ) (p : Planned P) (w : World P) → Tallies cmp t p w → ¬ SomeReadyAt cmp p t
+      → ready cmp t w ≡ []
   none_ready_at t p w same none = filter_none (may_start cmp t w) (fronts cmp w.waiting)
-      (each_map (IsFront w.waiting) (λ m. may_start cmp t w m ≡ false) (fronts cmp w.waiting) (λ m front. not_ready m front.0 front.1) (fronts_first w.waiting))
+      (each_map (IsFront w.waiting) (λ m. may_start cmp t w m ≡ false) (fronts cmp w.waiting)
+      (λ m front. not_ready m front.0 front.1) (fronts_first w.waiting))
     where
-      not_ready : (m : Message P) (rest : List (Message P)) → filter (same_pair cmp m) w.waiting ≡ m ∷ rest → may_start cmp t w m ≡ false
+      not_ready : (m : Message P) (rest : List (Message P)) → filter (same_pair cmp m) w.waiting ≡ m ∷ rest
+          → may_start cmp t w m ≡ false
       not_ready m rest e =
-          let first : (x : Message P) × (xs : List (Message P)) × (filter (same_pair cmp m) p.waiting ≡ x ∷ xs) × SameMessage cmp x m
-          = first_alike (filter (same_pair cmp m) p.waiting) m rest (subst (λ (ms : List (Message P)). AllZip (SameMessage cmp) (filter (same_pair cmp m) p.waiting) ms) e (same.waiting m)) in
-          let alike : may_launch cmp t p first.0 ≡ may_start cmp t w m = may_alike t p w first.0 m same.last_arrival (messages_alike t p.sending w.sending same.sending) first.3 in
+          let first : (x : Message P) × (xs : List (Message P)) × (filter (same_pair cmp m) p.waiting ≡ x ∷ xs)
+          × SameMessage cmp x m
+          = first_alike (filter (same_pair cmp m) p.waiting) m rest
+          (subst (λ (ms : List (Message P)). AllZip (SameMessage cmp) (filter (same_pair cmp m) p.waiting) ms) e
+          (same.waiting m)) in
+          let alike : may_launch cmp t p first.0 ≡ may_start cmp t w m =
+          may_alike t p w first.0 m same.last_arrival (messages_alike t p.sending w.sending same.sending) first.3 in
           by_test (may_start cmp t w m) first.0 alike (own_first m first.0 first.1 p.waiting first.2)
         where
-          by_test : (b : Bool) (x : Message P) → may_launch cmp t p x ≡ b → find (same_pair cmp x) p.waiting ≡ Some x → b ≡ false
+          by_test : (b : Bool) (x : Message P) → may_launch cmp t p x ≡ b → find (same_pair cmp x) p.waiting ≡ Some x
+              → b ≡ false
           by_test false x alike at = refl
           by_test true x alike at = absurd (none (x, at, alike))
 
@@ -185,14 +240,18 @@ module _ {P : Type 0} (cmp : P → P → Ordering) (order : IsTotalOrder cmp) wh
     later k = drifted w stands.follows.rated.per stands.follows.rated.rates k
 
     pub rates_fair : AreFair cmp w.caps (flows w) stands.follows.rated.per stands.follows.rated.rates
-    rates_fair = fair_alike cmp order p.caps w.caps stands.follows.tallies.caps (rated_messages p.sending) (flows w) stands.follows.rated.per stands.follows.rated.rates
+    rates_fair =
+        fair_alike cmp order p.caps w.caps stands.follows.tallies.caps (rated_messages p.sending) (flows w)
+        stands.follows.rated.per stands.follows.rated.rates
         (messages_alike w.moment p.sending w.sending stands.follows.tallies.sending) stands.follows.rated.fair
 
     pub all_positive : ArePositive w.sending
     all_positive = positive_flights w.moment p.sending w.sending stands.follows.tallies.sending
 
     flights_later : (k : ℕ) → AllZip (IsSameFlight cmp (w.moment + k)) p.sending (later k).sending
-    flights_later k = drained_on w.moment k stands.follows.rated.per stands.follows.rated.rates p.sending w.sending stands.follows.rated.rated stands.follows.tallies.sending
+    flights_later k =
+        drained_on w.moment k stands.follows.rated.per stands.follows.rated.rates p.sending w.sending
+        stands.follows.rated.rated stands.follows.tallies.sending
 
     flows_later : (k : ℕ) → map (λ (g : Flight P). g.message) (later k).sending ≡ flows w
     flows_later k = flows_drained cmp stands.follows.rated.per stands.follows.rated.rates k w.sending
@@ -217,43 +276,61 @@ module _ {P : Type 0} (cmp : P → P → Ordering) (order : IsTotalOrder cmp) wh
     }
 
     none_unlimited : list_any (is_unlimited cmp w.caps) (flows w) ≡ false
-    none_unlimited = unlimited_none (λ (g : Flight P). g.left.num == 0) (is_unlimited cmp w.caps) w.sending stands.quiet.none_done
+    none_unlimited =
+        unlimited_none (λ (g : Flight P). g.left.num == 0) (is_unlimited cmp w.caps) w.sending stands.quiet.none_done
 
     -- before the planned finish nothing is done
-    pub none_done_before : (k : ℕ) → w.moment + k ≤ last_moment → IfSome p.finish (λ e. w.moment + k < e) → list_any (is_done cmp (later k)) (later k).sending ≡ false
-    none_done_before k within before = none_done_at (is_unlimited cmp w.caps) (w.moment + k) p.sending (later k).sending (flights_later k)
-        (λ i f at early spent. none_before (SomeSpentAt p.sending) p.finish stands.follows.finish (w.moment + k) within before (i, f, at, early, spent))
+    pub none_done_before : (k : ℕ) → w.moment + k ≤ last_moment → IfSome p.finish (λ e. w.moment + k < e)
+        → list_any (is_done cmp (later k)) (later k).sending ≡ false
+    none_done_before k within before =
+        none_done_at (is_unlimited cmp w.caps) (w.moment + k) p.sending (later k).sending (flights_later k)
+        (λ i f at early spent. none_before (SomeSpentAt p.sending) p.finish stands.follows.finish (w.moment + k) within
+        before (i, f, at, early, spent))
         (ap (list_any (is_unlimited cmp w.caps)) (flows_later k) ∙ none_unlimited)
 
     -- before the next event the world is quiet
-    pub quiet_before : (k : ℕ) → w.moment + k ≤ last_moment → IfSome (next_event p) (λ e. w.moment + k < e) → IsQuiet cmp (w.moment + k) (later k)
+    pub quiet_before : (k : ℕ) → w.moment + k ≤ last_moment → IfSome (next_event p) (λ e. w.moment + k < e)
+        → IsQuiet cmp (w.moment + k) (later k)
     quiet_before k within before =
-        let apart : IfSome p.finish (λ e. w.moment + k < e) × IfSome p.start (λ e. w.moment + k < e) = both_before p.finish p.start (w.moment + k) before in
+        let apart : IfSome p.finish (λ e. w.moment + k < e) × IfSome p.start (λ e. w.moment + k < e) =
+        both_before p.finish p.start (w.moment + k) before in
         record {
           none_done = none_done_before k within apart.0;
-          none_ready = none_ready_at (w.moment + k) p (later k) (follows_later k).tallies (none_before (SomeReadyAt cmp p) p.start stands.start (w.moment + k) within apart.1);
+          none_ready =
+              none_ready_at (w.moment + k) p (later k) (follows_later k).tallies
+              (none_before (SomeReadyAt cmp p) p.start stands.start (w.moment + k) within apart.1);
         }
 
     -- ---- the next event
 
     first_drain : Drains cmp w (later 1)
-    first_drain = record { per = stands.follows.rated.per; rates = stands.follows.rated.rates; fair = rates_fair; world = refl }
+    first_drain =
+        record { per = stands.follows.rated.per; rates = stands.follows.rated.rates; fair = rates_fair; world = refl }
 
-    pub passes_to : (n : ℕ) → w.moment + suc n ≤ last_moment → IfSome (next_event p) (λ e. w.moment + suc n < e) → Passes cmp (suc n) w (later (suc n))
+    pub passes_to : (n : ℕ) → w.moment + suc n ≤ last_moment → IfSome (next_event p) (λ e. w.moment + suc n < e)
+        → Passes cmp (suc n) w (later (suc n))
     passes_to n within before =
         stretch cmp w stands.follows.rated.per stands.follows.rated.rates rates_fair all_positive n
-        (λ k h j. quiet_before k (omega arith) (before_still (next_event p) (w.moment + k) (w.moment + suc n) (omega arith) before))
+        (λ k h j. quiet_before k (omega arith)
+        (before_still (next_event p) (w.moment + k) (w.moment + suc n) (omega arith) before))
 
     -- every nanosecond before the next event passes, and the one after them drains the world once for all
-    pub passes_before : (n : ℕ) → w.moment + n ≤ last_moment → IfSome (next_event p) (λ e. w.moment + n < e) → (v : World P) × Passes cmp n w v × Drains cmp v (later (suc n))
+    pub passes_before : (n : ℕ) → w.moment + n ≤ last_moment → IfSome (next_event p) (λ e. w.moment + n < e)
+        → (v : World P) × Passes cmp n w v × Drains cmp v (later (suc n))
     passes_before zero within before = (w, no_time, first_drain)
     passes_before (suc n) within before =
-        let on : Drains cmp (later (suc n)) (later (suc n + 1)) = drifts_on cmp w stands.follows.rated.per stands.follows.rated.rates (suc n) rates_fair all_positive in
-        (later (suc n), passes_to n within before, subst (λ (m : ℕ). Drains cmp (later (suc n)) (later m)) (add-one (suc n)) on)
+        let on : Drains cmp (later (suc n)) (later (suc n + 1)) =
+        drifts_on cmp w stands.follows.rated.per stands.follows.rated.rates (suc n) rates_fair all_positive in (
+          later (suc n),
+          passes_to n within before,
+          subst (λ (m : ℕ). Drains cmp (later (suc n)) (later m)) (add-one (suc n)) on,
+        )
 
-    pub comes_at : (n : ℕ) → w.moment + suc n ≤ last_moment → IfSome (next_event p) (λ e. w.moment + n < e) → ¬ IsQuiet cmp (w.moment + suc n) (later (suc n)) → NextIs cmp w (Some (w.moment + suc n))
+    pub comes_at : (n : ℕ) → w.moment + suc n ≤ last_moment → IfSome (next_event p) (λ e. w.moment + n < e)
+        → ¬ IsQuiet cmp (w.moment + suc n) (later (suc n)) → NextIs cmp w (Some (w.moment + suc n))
     comes_at n within before event =
-        let way : (v : World P) × Passes cmp n w v × Drains cmp v (later (suc n)) = passes_before n (omega arith) before in
+        let way : (v : World P) × Passes cmp n w v × Drains cmp v (later (suc n)) =
+        passes_before n (omega arith) before in
         comes_next way.1 way.2 event within
 
     pub nothing_comes : next_event p ≡ None → NextIs cmp w None
@@ -262,10 +339,15 @@ module _ {P : Type 0} (cmp : P → P → Ordering) (order : IsTotalOrder cmp) wh
         by_count : (n : ℕ) → last_moment - w.moment ≡ n → NextIs cmp w None
         by_count zero is = never_comes (subst (λ (k : ℕ). Passes cmp k w w) (sym is) no_time)
         by_count (suc n) is =
-            never_comes (subst (λ (k : ℕ). Passes cmp k w (later (suc n))) (sym is) (passes_to n (omega arith) (subst (λ (o : Option ℕ). IfSome o (λ e. w.moment + suc n < e)) (sym e) tt)))
+            never_comes
+            (subst (λ (k : ℕ). Passes cmp k w (later (suc n))) (sym is)
+            (passes_to n (omega arith) (subst (λ (o : Option ℕ). IfSome o (λ e. w.moment + suc n < e)) (sym e) tt)))
 
     pub spent_at_finish : (e : ℕ) → p.finish ≡ Some e → (e ≤ last_moment) × SomeSpentAt p.sending e
-    spent_at_finish e is = let least : IsLeastMoment (SomeSpentAt p.sending) (Some e) = subst (λ (o : Option ℕ). IsLeastMoment (SomeSpentAt p.sending) o) is stands.follows.finish in (least.0, least.1)
+    spent_at_finish e is =
+        let least : IsLeastMoment (SomeSpentAt p.sending) (Some e) =
+        subst (λ (o : Option ℕ). IsLeastMoment (SomeSpentAt p.sending) o) is stands.follows.finish in
+        (least.0, least.1)
 
     pub finish_is_later : (e : ℕ) → p.finish ≡ Some e → w.moment < e
     finish_is_later e is = by_order (cases_lt w.moment e) (spent_at_finish e is).1
@@ -273,7 +355,9 @@ module _ {P : Type 0} (cmp : P → P → Ordering) (order : IsTotalOrder cmp) wh
         by_order : (w.moment < e) ⊎ (e ≤ w.moment) → SomeSpentAt p.sending e → w.moment < e
         by_order (inl lt) spent = lt
         by_order (inr le) spent =
-            let done : list_any (is_done cmp w) w.sending ≡ true = done_at (is_unlimited cmp w.caps) e w.moment p.sending w.sending spent.0 spent.1 le stands.follows.tallies.sending spent.2 spent.4 in
+            let done : list_any (is_done cmp w) w.sending ≡ true =
+            done_at (is_unlimited cmp w.caps) e w.moment p.sending w.sending spent.0 spent.1 le
+            stands.follows.tallies.sending spent.2 spent.4 in
             let quiet : list_any (is_done cmp w) w.sending ≡ false = stands.quiet.none_done in
             cc
 
@@ -281,7 +365,8 @@ module _ {P : Type 0} (cmp : P → P → Ordering) (order : IsTotalOrder cmp) wh
     busy_at_finish e k is at quiet =
         let spent : SomeSpentAt p.sending e = (spent_at_finish e is).1 in
         let done : list_any (is_done cmp (later k)) (later k).sending ≡ true
-        = done_at (is_unlimited cmp w.caps) e (w.moment + k) p.sending (later k).sending spent.0 spent.1 (omega arith) (flights_later k) spent.2 spent.4 in
+        = done_at (is_unlimited cmp w.caps) e (w.moment + k) p.sending (later k).sending spent.0 spent.1 (omega arith)
+        (flights_later k) spent.2 spent.4 in
         let none : list_any (is_done cmp (later k)) (later k).sending ≡ false = quiet.none_done in
         cc
 
@@ -296,4 +381,7 @@ module _ {P : Type 0} (cmp : P → P → Ordering) (order : IsTotalOrder cmp) wh
         by_count zero after within count = absurd (omega arith)
         by_count (suc n) after within count =
             let at : w.moment + suc n ≡ e = omega arith in
-            subst (λ (t : ℕ). NextIs cmp w (Some t)) at (comes_at n (omega arith) (subst (λ (o : Option ℕ). IfSome o (λ e. w.moment + n < e)) (sym first) (omega arith)) (busy_at_finish e (suc n) is at))
+            subst (λ (t : ℕ). NextIs cmp w (Some t)) at
+            (comes_at n (omega arith)
+            (subst (λ (o : Option ℕ). IfSome o (λ e. w.moment + n < e)) (sym first) (omega arith))
+            (busy_at_finish e (suc n) is at))

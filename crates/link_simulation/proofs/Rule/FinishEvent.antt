@@ -1,16 +1,21 @@
--- One event at the planned finish, in ticks: where nothing may start at once, the planned world stands for the world after it.
-use Rattle.std.proofs.Common.{◌≡◌, ℕ, zero, suc, ◌+◌, ◌<◌, ◌≤◌, List, [], length, Bool, true, false, not, Option, Some, None, refl, sym, ap, ◌∙◌, subst, arith, ◌⊎◌, inl, inr}
+-- One event at the planned finish, in ticks: where nothing may start at once, the planned world stands for the world
+-- after it.
+use Rattle.std.proofs.Common.{◌≡◌, ℕ, zero, suc, ◌+◌, ◌<◌, ◌≤◌, List, [], length, Bool, true, false, not, Option, Some}
+use Rattle.std.proofs.Common.{None, refl, sym, ap, ◌∙◌, subst, arith, ◌⊎◌, inl, inr}
 use Rattle.std.specs.Prelude.{◌&&◌}
 use Rattle.std.specs.List.{list_any}
 use Rattle.std.specs.declared.cmp.Ordering.{Ordering}
 use Rattle.std.specs.Cmp.{IsTotalOrder}
 use Rattle.std.proofs.lemmas.Bool.{cases_lt, leb-true, le-leb}
 use Rattle.std.proofs.lemmas.List.{append-nil}
-use Rattle.link_simulation.specs.Simulation.World.{Completed, Course, IsQuiet, World, and_then, goes, instant, is_done, is_in_order, last_moment, meets, preceded, ready, settle, settle_within, wake}
+use Rattle.link_simulation.specs.Simulation.World.{Completed, Course, IsQuiet, World, and_then, goes, instant, is_done}
+use Rattle.link_simulation.specs.Simulation.World.{is_in_order, last_moment, meets, preceded, ready, settle}
+use Rattle.link_simulation.specs.Simulation.World.{settle_within, wake}
 use Rattle.link_simulation.specs.Simulation.Messages.{Message, same_pair}
 use Rattle.link_simulation.specs.Rule.Planned.{IsLeastMoment, Planned, SomeReadyAt, may_launch, rated_messages}
 use Rattle.link_simulation.specs.Rule.StandsFor.{Follows, IsSettled, StandsFor}
-use Rattle.link_simulation.specs.Simulation.Time.{Drains, Passes, Ticks, no_tick, no_time, one_tick, quiet_tick, tick_faults}
+use Rattle.link_simulation.specs.Simulation.Time.{Drains, Passes, Ticks, no_tick, no_time, one_tick, quiet_tick}
+use Rattle.link_simulation.specs.Simulation.Time.{tick_faults}
 use Rattle.link_simulation.proofs.Simulation.Queue.{settle_none, preceded_none}
 use Rattle.link_simulation.proofs.Rule.BeforeNext.{none_ready_at}
 use Rattle.fair_rates.proofs.Lists.Filters.{find_from_any}
@@ -23,27 +28,34 @@ in_order_later (Some last) a b le e = let below : last ≤ a = leb-true last a e
 module _ {P : Type 0} (cmp : P → P → Ordering) (order : IsTotalOrder cmp) where
   -- ---- a quiet instant
 
-  pub settle_quiet : (n t : ℕ) (w : World P) → list_any (is_done cmp w) w.sending ≡ false → settle_within cmp n t w ≡ goes [] w
+  pub settle_quiet : (n t : ℕ) (w : World P) → list_any (is_done cmp w) w.sending ≡ false
+      → settle_within cmp n t w ≡ goes [] w
   settle_quiet zero t w e = refl
   settle_quiet (suc n) t w e = settle_none cmp order n t w (find_from_any (is_done cmp w) w.sending e)
 
-  pub instant_is : (w v : World P) (cs : List (Completed P)) → settle cmp w.moment w ≡ goes cs v → instant cmp w ≡ preceded cs (wake cmp v.moment v)
+  pub instant_is : (w v : World P) (cs : List (Completed P)) → settle cmp w.moment w ≡ goes cs v
+      → instant cmp w ≡ preceded cs (wake cmp v.moment v)
   instant_is w v cs e = ap (λ (c : Course (Completed P) (World P)). and_then c (λ u. wake cmp u.moment u)) e
 
   pub instant_quiet : (w : World P) → IsQuiet cmp w.moment w → instant cmp w ≡ goes [] w
   instant_quiet w quiet =
-      instant_is w w [] (settle_quiet (length w.sending + length w.waiting) w.moment w quiet.none_done) ∙ ap (preceded []) (wake_none cmp order (length w.waiting) w.moment w quiet.none_ready)
+      instant_is w w [] (settle_quiet (length w.sending + length w.waiting) w.moment w quiet.none_done)
+      ∙ ap (preceded []) (wake_none cmp order (length w.waiting) w.moment w quiet.none_ready)
 
   -- ---- quiet ticks, and then one
 
-  pub last_tick : (w v : World P) (c : Course (Completed P) (World P)) → Drains cmp w v → instant cmp v ≡ c → Ticks cmp 1 w c
-  last_tick w v (goes cs u) drains e = subst (λ (ds : List (Completed P)). Ticks cmp 1 w (goes ds u)) (append-nil cs) (one_tick drains e no_tick)
+  pub last_tick : (w v : World P) (c : Course (Completed P) (World P)) → Drains cmp w v → instant cmp v ≡ c
+      → Ticks cmp 1 w c
+  last_tick w v (goes cs u) drains e =
+      subst (λ (ds : List (Completed P)). Ticks cmp 1 w (goes ds u)) (append-nil cs) (one_tick drains e no_tick)
   last_tick w v (meets fault) drains e = tick_faults drains e
 
-  pub ticks_through : {n : ℕ} {w v : World P} → Passes cmp n w v → (u : World P) (c : Course (Completed P) (World P)) → Drains cmp v u → instant cmp u ≡ c → Ticks cmp (suc n) w c
+  pub ticks_through : {n : ℕ} {w v : World P} → Passes cmp n w v → (u : World P) (c : Course (Completed P) (World P))
+      → Drains cmp v u → instant cmp u ≡ c → Ticks cmp (suc n) w c
   ticks_through {w = w} no_time u c drains e = last_tick w u c drains e
   ticks_through {w = w} (quiet_tick {n = n} {v = x} drift quiet more) u c drains e =
-      subst (λ (d : Course (Completed P) (World P)). Ticks cmp (suc (suc n)) w d) ((preceded_none c)) (one_tick drift (instant_quiet x quiet) (ticks_through more u c drains e))
+      subst (λ (d : Course (Completed P) (World P)). Ticks cmp (suc (suc n)) w d) ((preceded_none c))
+      (one_tick drift (instant_quiet x quiet) (ticks_through more u c drains e))
 
   pub ticks_quiet : {n : ℕ} {w v : World P} → Passes cmp n w v → Ticks cmp n w (goes [] v)
   ticks_quiet no_time = no_tick
@@ -51,17 +63,21 @@ module _ {P : Type 0} (cmp : P → P → Ordering) (order : IsTotalOrder cmp) wh
 
   -- ---- a settled world where nothing may start at once
 
-  may_later : (p : Planned P) (m : Message P) (s t : ℕ) → s ≤ t → may_launch cmp s p m ≡ true → may_launch cmp t p m ≡ true
+  may_later : (p : Planned P) (m : Message P) (s t : ℕ) → s ≤ t → may_launch cmp s p m ≡ true
+      → may_launch cmp t p m ≡ true
   may_later p m s t le e = by_idle (not (list_any (same_pair cmp m) (rated_messages p.sending))) e
     where
-      by_idle : (b : Bool) → (b && is_in_order (p.last_arrival m.origin m.recipient) (s + m.latency)) ≡ true → (b && is_in_order (p.last_arrival m.origin m.recipient) (t + m.latency)) ≡ true
-      by_idle true e = in_order_later (p.last_arrival m.origin m.recipient) (s + m.latency) (t + m.latency) (omega arith) e
+      by_idle : (b : Bool) → (b && is_in_order (p.last_arrival m.origin m.recipient) (s + m.latency)) ≡ true
+          → (b && is_in_order (p.last_arrival m.origin m.recipient) (t + m.latency)) ≡ true
+      by_idle true e =
+          in_order_later (p.last_arrival m.origin m.recipient) (s + m.latency) (t + m.latency) (omega arith) e
       by_idle false e = cc
 
   pub ready_later : (p : Planned P) (s t : ℕ) → s ≤ t → SomeReadyAt cmp p s → SomeReadyAt cmp p t
   ready_later p s t le some = (some.0, some.1, may_later p some.0 s t le some.2)
 
-  pub start_is : (p : Planned P) (t : ℕ) (o : Option ℕ) → IsLeastMoment (λ s. (t ≤ s) × SomeReadyAt cmp p s) o → t ≤ last_moment → SomeReadyAt cmp p t → o ≡ Some t
+  pub start_is : (p : Planned P) (t : ℕ) (o : Option ℕ) → IsLeastMoment (λ s. (t ≤ s) × SomeReadyAt cmp p s) o
+      → t ≤ last_moment → SomeReadyAt cmp p t → o ≡ Some t
   start_is p t None least within some = absurd (least t within (omega arith, some))
   start_is p t (Some e) least within some =
       let up : e ≤ t = least.2 t (omega arith, some) in
@@ -69,7 +85,8 @@ module _ {P : Type 0} (cmp : P → P → Ordering) (order : IsTotalOrder cmp) wh
       let same : e ≡ t = omega arith in
       ap Some same
 
-  pub start_from : (p : Planned P) (t : ℕ) (o : Option ℕ) → IsLeastMoment (λ s. (t ≤ s) × SomeReadyAt cmp p s) o → ¬ SomeReadyAt cmp p t → IsLeastMoment (SomeReadyAt cmp p) o
+  pub start_from : (p : Planned P) (t : ℕ) (o : Option ℕ) → IsLeastMoment (λ s. (t ≤ s) × SomeReadyAt cmp p s) o
+      → ¬ SomeReadyAt cmp p t → IsLeastMoment (SomeReadyAt cmp p) o
   start_from p t None least not_now = λ s within some. by_order s some within (cases_lt s t)
     where
       by_order : (s : ℕ) → SomeReadyAt cmp p s → s ≤ last_moment → (s < t) ⊎ (t ≤ s) → ⊥
@@ -82,15 +99,24 @@ module _ {P : Type 0} (cmp : P → P → Ordering) (order : IsTotalOrder cmp) wh
       by_order s some (inr le) = least.2 s (le, some)
 
   -- with nothing to start at once, a settled planned world stands for its world
-  pub settled_stands : (t : ℕ) (p : Planned P) (w : World P) → t ≤ last_moment → IsSettled cmp t p w → ¬ SomeReadyAt cmp p t → StandsFor cmp p w
+  pub settled_stands : (t : ℕ) (p : Planned P) (w : World P) → t ≤ last_moment → IsSettled cmp t p w
+      → ¬ SomeReadyAt cmp p t → StandsFor cmp p w
   settled_stands t p w within settled not_now =
       let at : w.moment ≡ t = settled.follows.tallies.moment in
       record {
         follows = subst (λ (s : ℕ). Follows cmp s p w) (sym at) settled.follows;
-        quiet = record { none_done = settled.none_done; none_ready = ap (λ (s : ℕ). ready cmp s w) at ∙ none_ready_at cmp order t p w settled.follows.tallies not_now };
+        quiet =
+            record {
+              none_done = settled.none_done;
+              none_ready = ap (λ (s : ℕ). ready cmp s w) at
+                  ∙ none_ready_at cmp order t p w settled.follows.tallies not_now;
+            };
         start = start_from p t p.start settled.start not_now;
       }
 
-  pub settled_wakes : (t : ℕ) (p : Planned P) (w : World P) → IsSettled cmp t p w → ¬ SomeReadyAt cmp p t → wake cmp w.moment w ≡ goes [] w
+  pub settled_wakes : (t : ℕ) (p : Planned P) (w : World P) → IsSettled cmp t p w → ¬ SomeReadyAt cmp p t
+      → wake cmp w.moment w ≡ goes [] w
   settled_wakes t p w settled not_now =
-      wake_none cmp order (length w.waiting) w.moment w (ap (λ (s : ℕ). ready cmp s w) settled.follows.tallies.moment ∙ none_ready_at cmp order t p w settled.follows.tallies not_now)
+      wake_none cmp order (length w.waiting) w.moment w
+      (ap (λ (s : ℕ). ready cmp s w) settled.follows.tallies.moment
+      ∙ none_ready_at cmp order t p w settled.follows.tallies not_now)

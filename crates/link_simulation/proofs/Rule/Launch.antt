@@ -1,5 +1,6 @@
 -- A launch in the planned world is a start in the world, and what is done at once leaves.
-use Rattle.std.proofs.Common.{◌≡◌, ℕ, ◌+◌, ◌-◌, ◌<◌, ◌≤◌, List, [], ◌∷◌, ◌++◌, map, length, Bool, true, false, cond, not, Option, Some, None, refl, sym, ap, ◌∙◌, subst, arith}
+use Rattle.std.proofs.Common.{◌≡◌, ℕ, ◌+◌, ◌-◌, ◌<◌, ◌≤◌, List, [], ◌∷◌, ◌++◌, map, length, Bool, true, false, cond}
+use Rattle.std.proofs.Common.{not, Option, Some, None, refl, sym, ap, ◌∙◌, subst, arith}
 use Rattle.std.specs.Prelude.{nat_le, ⊤, ◌&&◌}
 use Rattle.std.specs.List.{filter, find, list_any, AllZip}
 use Rattle.std.specs.declared.cmp.Ordering.{Ordering}
@@ -9,7 +10,8 @@ use Rattle.std.proofs.lemmas.List.{append-nil, map-append}
 use Rattle.std.proofs.lemmas.List.Elements.{filter-append}
 use Rattle.std.proofs.lemmas.Slice.Zip.{all_zipped_more}
 use Rattle.fair_rates.specs.Numbers.Amount.{drained, whole}
-use Rattle.link_simulation.specs.Simulation.World.{Completed, Course, Flight, World, flows, goes, is_done, is_in_order, last_moment, may_start, meets, start, flight_of}
+use Rattle.link_simulation.specs.Simulation.World.{Completed, Course, Flight, World, flows, goes, is_done, is_in_order}
+use Rattle.link_simulation.specs.Simulation.World.{last_moment, may_start, meets, start, flight_of}
 use Rattle.link_simulation.specs.Rule.Events.{Launches, launched, no_id, nothing_waits, starts, too_early}
 use Rattle.link_simulation.specs.Simulation.Messages.{Message, OneForEachPair, SameMessage, pair_before, same_pair}
 use Rattle.link_simulation.specs.Rule.Planned.{AreInPairOrder, Planned, may_launch, next_of}
@@ -40,11 +42,13 @@ pub head_found : {X : Type 0} (test : X → Bool) (xs : List X) → find test xs
 head_found test [] = refl
 head_found {X} test (x ∷ xs) = by_test (test x) (head_found test xs)
   where
-    by_test : (b : Bool) → find test xs ≡ head_of (filter test xs) → cond b (Some x) (find test xs) ≡ head_of (cond b (x ∷ filter test xs) (filter test xs))
+    by_test : (b : Bool) → find test xs ≡ head_of (filter test xs)
+        → cond b (Some x) (find test xs) ≡ head_of (cond b (x ∷ filter test xs) (filter test xs))
     by_test true ih = refl
     by_test false ih = ih
 
-pub filter_all : {X : Type 0} (test : X → Bool) (xs : List X) → Each (λ x. test x ≡ false) xs → filter (λ x. not (test x)) xs ≡ xs
+pub filter_all : {X : Type 0} (test : X → Bool) (xs : List X) → Each (λ x. test x ≡ false) xs
+    → filter (λ x. not (test x)) xs ≡ xs
 filter_all test [] h = refl
 filter_all test (x ∷ xs) h = rw (h.0, filter_all test xs h.1) refl
 
@@ -54,53 +58,65 @@ OptionsAlike R None (Some y) = ⊥
 OptionsAlike R (Some x) None = ⊥
 OptionsAlike R (Some x) (Some y) = R x y
 
-heads_alike : {X Y : Type 0} (R : X → Y → Type 0) (xs : List X) (ys : List Y) → AllZip R xs ys → OptionsAlike R (head_of xs) (head_of ys)
+heads_alike : {X Y : Type 0} (R : X → Y → Type 0) (xs : List X) (ys : List Y) → AllZip R xs ys
+    → OptionsAlike R (head_of xs) (head_of ys)
 heads_alike R [] [] all = tt
 heads_alike R [] (y ∷ ys) all = absurd all
 heads_alike R (x ∷ xs) [] all = absurd all
 heads_alike R (x ∷ xs) (y ∷ ys) all = all.0
 
-rests_alike : {X Y : Type 0} (R : X → Y → Type 0) (xs : List X) (ys : List Y) → AllZip R xs ys → AllZip R (rest_of xs) (rest_of ys)
+rests_alike : {X Y : Type 0} (R : X → Y → Type 0) (xs : List X) (ys : List Y) → AllZip R xs ys
+    → AllZip R (rest_of xs) (rest_of ys)
 rests_alike R [] [] all = tt
 rests_alike R [] (y ∷ ys) all = absurd all
 rests_alike R (x ∷ xs) [] all = absurd all
 rests_alike R (x ∷ xs) (y ∷ ys) all = all.1
 
-any_but_first : {X : Type 0} (p test : X → Bool) (xs : List X) → list_any p xs ≡ false → list_any p (without_first test xs) ≡ false
+any_but_first : {X : Type 0} (p test : X → Bool) (xs : List X) → list_any p xs ≡ false
+    → list_any p (without_first test xs) ≡ false
 any_but_first p test [] e = refl
 any_but_first {X} p test (x ∷ xs) e =
     let parts : (p x ≡ false) × (list_any p xs ≡ false) = or_parts (p x) (list_any p xs) e in
     by_test (test x) parts.0 parts.1 (any_but_first p test xs parts.1)
   where
-    by_test : (b : Bool) → p x ≡ false → list_any p xs ≡ false → list_any p (without_first test xs) ≡ false → list_any p (cond b xs (x ∷ without_first test xs)) ≡ false
+    by_test : (b : Bool) → p x ≡ false → list_any p xs ≡ false → list_any p (without_first test xs) ≡ false
+        → list_any p (cond b xs (x ∷ without_first test xs)) ≡ false
     by_test true h k ih = k
     by_test false h k ih = or_from (p x) (list_any p (without_first test xs)) h ih
 
 module _ {P : Type 0} (cmp : P → P → Ordering) (order : IsTotalOrder cmp) where
   -- ---- what waits
 
-  pub pair_order_without : (test : Message P → Bool) (ms : List (Message P)) → AreInPairOrder cmp ms → AreInPairOrder cmp (without_first test ms)
+  pub pair_order_without : (test : Message P → Bool) (ms : List (Message P)) → AreInPairOrder cmp ms
+      → AreInPairOrder cmp (without_first test ms)
   pair_order_without test [] h = tt
-  pair_order_without test (m ∷ ms) h = by_test (test m) (any_but_first (λ n. pair_before cmp n m) test ms h.0) (pair_order_without test ms h.1)
+  pair_order_without test (m ∷ ms) h =
+      by_test (test m) (any_but_first (λ n. pair_before cmp n m) test ms h.0) (pair_order_without test ms h.1)
     where
-      by_test : (b : Bool) → list_any (λ n. pair_before cmp n m) (without_first test ms) ≡ false → AreInPairOrder cmp (without_first test ms)
+      by_test : (b : Bool) → list_any (λ n. pair_before cmp n m) (without_first test ms) ≡ false
+          → AreInPairOrder cmp (without_first test ms)
           → AreInPairOrder cmp (cond b ms (m ∷ without_first test ms))
       by_test true k ih = h.1
       by_test false k ih = (k, ih)
 
   -- the first message of a pair leaves the waiting ones of that pair alone shorter
   pub waits_without : (m x : Message P) (ws : List (Message P))
-      → filter (same_pair cmp m) (without_first (same_pair cmp x) ws) ≡ cond (same_pair cmp m x) (rest_of (filter (same_pair cmp m) ws)) (filter (same_pair cmp m) ws)
+      → filter (same_pair cmp m) (without_first (same_pair cmp x) ws)
+      ≡ cond (same_pair cmp m x) (rest_of (filter (same_pair cmp m) ws)) (filter (same_pair cmp m) ws)
   waits_without m x ws = by_pair (same_pair cmp m x) refl ws
     where
       by_pair : (b : Bool) → same_pair cmp m x ≡ b → (ws : List (Message P))
-          → filter (same_pair cmp m) (without_first (same_pair cmp x) ws) ≡ cond b (rest_of (filter (same_pair cmp m) ws)) (filter (same_pair cmp m) ws)
+          → filter (same_pair cmp m) (without_first (same_pair cmp x) ws)
+          ≡ cond b (rest_of (filter (same_pair cmp m) ws)) (filter (same_pair cmp m) ws)
       by_pair true e [] = refl
       by_pair false e [] = refl
-      by_pair true e (y ∷ ws) = by_test (same_pair cmp x y) (same_pair cmp m y) (pair_like cmp order m x y e) refl (by_pair true e ws)
+      by_pair true e (y ∷ ws) =
+          by_test (same_pair cmp x y) (same_pair cmp m y) (pair_like cmp order m x y e) refl (by_pair true e ws)
         where
-          by_test : (a b : Bool) → a ≡ b → same_pair cmp m y ≡ b → filter (same_pair cmp m) (without_first (same_pair cmp x) ws) ≡ rest_of (filter (same_pair cmp m) ws)
-              → filter (same_pair cmp m) (cond a ws (y ∷ without_first (same_pair cmp x) ws)) ≡ rest_of (cond b (y ∷ filter (same_pair cmp m) ws) (filter (same_pair cmp m) ws))
+          by_test : (a b : Bool) → a ≡ b → same_pair cmp m y ≡ b
+              → filter (same_pair cmp m) (without_first (same_pair cmp x) ws) ≡ rest_of (filter (same_pair cmp m) ws)
+              → filter (same_pair cmp m) (cond a ws (y ∷ without_first (same_pair cmp x) ws))
+              ≡ rest_of (cond b (y ∷ filter (same_pair cmp m) ws) (filter (same_pair cmp m) ws))
           by_test true true e is ih = refl
           by_test true false e is ih = cc
           by_test false true e is ih = cc
@@ -113,22 +129,35 @@ module _ {P : Type 0} (cmp : P → P → Ordering) (order : IsTotalOrder cmp) wh
               let same : same_pair cmp y x ≡ same_pair cmp m x = pair_like cmp order m y x g in
               cc
 
-          by_test : (a b : Bool) → same_pair cmp x y ≡ a → same_pair cmp m y ≡ b → filter (same_pair cmp m) (without_first (same_pair cmp x) ws) ≡ filter (same_pair cmp m) ws
-              → filter (same_pair cmp m) (cond a ws (y ∷ without_first (same_pair cmp x) ws)) ≡ cond b (y ∷ filter (same_pair cmp m) ws) (filter (same_pair cmp m) ws)
+          by_test : (a b : Bool) → same_pair cmp x y ≡ a → same_pair cmp m y ≡ b
+              → filter (same_pair cmp m) (without_first (same_pair cmp x) ws) ≡ filter (same_pair cmp m) ws
+              → filter (same_pair cmp m) (cond a ws (y ∷ without_first (same_pair cmp x) ws))
+              ≡ cond b (y ∷ filter (same_pair cmp m) ws) (filter (same_pair cmp m) ws)
           by_test true true f g ih = absurd (apart f g)
           by_test true false f g ih = refl
           by_test false b f g ih = rw (g, ih) refl
 
-  waiting_taken : (x y m : Message P) (ms ns : List (Message P)) → SameMessage cmp x y → AllZip (SameMessage cmp) (filter (same_pair cmp m) ms) (filter (same_pair cmp m) ns)
-      → AllZip (SameMessage cmp) (filter (same_pair cmp m) (without_first (same_pair cmp x) ms)) (filter (same_pair cmp m) (without_first (same_pair cmp y) ns))
+  waiting_taken : (x y m : Message P) (ms ns : List (Message P)) → SameMessage cmp x y
+      → AllZip (SameMessage cmp) (filter (same_pair cmp m) ms) (filter (same_pair cmp m) ns)
+      → AllZip (SameMessage cmp) (filter (same_pair cmp m) (without_first (same_pair cmp x) ms))
+      (filter (same_pair cmp m) (without_first (same_pair cmp y) ns))
   waiting_taken x y m ms ns same all =
-      subst (λ (ks : List (Message P)). AllZip (SameMessage cmp) ks (filter (same_pair cmp m) (without_first (same_pair cmp y) ns))) (sym (waits_without m x ms))
-      (subst (λ (ks : List (Message P)). AllZip (SameMessage cmp) (cond (same_pair cmp m x) (rest_of (filter (same_pair cmp m) ms)) (filter (same_pair cmp m) ms)) ks) (sym (waits_without m y ns))
-      (by_test (same_pair cmp m x) (same_pair cmp m y) (pairs_alike cmp order m m x y (message_itself cmp order m) same)))
+      subst
+      (λ (ks : List (Message P)). AllZip (SameMessage cmp) ks
+      (filter (same_pair cmp m) (without_first (same_pair cmp y) ns)))
+      (sym (waits_without m x ms))
+      (subst
+      (λ (ks : List (Message P)). AllZip (SameMessage cmp)
+      (cond (same_pair cmp m x) (rest_of (filter (same_pair cmp m) ms)) (filter (same_pair cmp m) ms)) ks)
+      (sym (waits_without m y ns))
+      (by_test (same_pair cmp m x) (same_pair cmp m y)
+      (pairs_alike cmp order m m x y (message_itself cmp order m) same)))
     where
       by_test : (a b : Bool) → a ≡ b
-          → AllZip (SameMessage cmp) (cond a (rest_of (filter (same_pair cmp m) ms)) (filter (same_pair cmp m) ms)) (cond b (rest_of (filter (same_pair cmp m) ns)) (filter (same_pair cmp m) ns))
-      by_test true true e = rests_alike (SameMessage cmp) (filter (same_pair cmp m) ms) (filter (same_pair cmp m) ns) all
+          → AllZip (SameMessage cmp) (cond a (rest_of (filter (same_pair cmp m) ms)) (filter (same_pair cmp m) ms))
+          (cond b (rest_of (filter (same_pair cmp m) ns)) (filter (same_pair cmp m) ns))
+      by_test true true e =
+          rests_alike (SameMessage cmp) (filter (same_pair cmp m) ms) (filter (same_pair cmp m) ns) all
       by_test true false e = cc
       by_test false true e = cc
       by_test false false e = all
@@ -138,14 +167,21 @@ module _ {P : Type 0} (cmp : P → P → Ordering) (order : IsTotalOrder cmp) wh
       → OptionsAlike (SameMessage cmp) (next_of cmp p m) (find (same_pair cmp n) w.waiting)
   next_alike t p w m n same alike =
       let pair : same_pair cmp m n ≡ true = rw (alike.origin, alike.recipient) refl in
-      let there : find (same_pair cmp n) w.waiting ≡ head_of (filter (same_pair cmp m) w.waiting) = find_like cmp order m n w.waiting pair ∙ head_found (same_pair cmp m) w.waiting in
-      subst (λ (o : Option (Message P)). OptionsAlike (SameMessage cmp) o (find (same_pair cmp n) w.waiting)) (sym (head_found (same_pair cmp m) p.waiting))
-      (subst (λ (o : Option (Message P)). OptionsAlike (SameMessage cmp) (head_of (filter (same_pair cmp m) p.waiting)) o) (sym there)
-      (heads_alike (SameMessage cmp) (filter (same_pair cmp m) p.waiting) (filter (same_pair cmp m) w.waiting) (same.waiting m)))
+      let there : find (same_pair cmp n) w.waiting ≡ head_of (filter (same_pair cmp m) w.waiting) =
+      find_like cmp order m n w.waiting pair ∙ head_found (same_pair cmp m) w.waiting in
+      subst (λ (o : Option (Message P)). OptionsAlike (SameMessage cmp) o (find (same_pair cmp n) w.waiting))
+      (sym (head_found (same_pair cmp m) p.waiting))
+      (subst
+      (λ (o : Option (Message P)). OptionsAlike (SameMessage cmp) (head_of (filter (same_pair cmp m) p.waiting)) o)
+      (sym there)
+      (heads_alike (SameMessage cmp) (filter (same_pair cmp m) p.waiting) (filter (same_pair cmp m) w.waiting)
+      (same.waiting m)))
 
   -- ---- a message starts
 
-  started_flight : (t : ℕ) (x y : Message P) → SameMessage cmp x y → IsSameFlight cmp t (record { message = x; left = whole (length x.bytes); rate = Some (whole 0); updated = t }) (flight_of y)
+  started_flight : (t : ℕ) (x y : Message P) → SameMessage cmp x y
+      → IsSameFlight cmp t (record { message = x; left = whole (length x.bytes); rate = Some (whole 0); updated = t })
+      (flight_of y)
   started_flight t x y same =
       let no_time : t - t ≡ 0 = omega arith in
       record {
@@ -153,18 +189,29 @@ module _ {P : Type 0} (cmp : P → P → Ordering) (order : IsTotalOrder cmp) wh
         updated = omega arith;
         lowest = whole_lowest (length x.bytes);
         rate = omega arith;
-        left = ap (λ (bs : List ℕ). whole (length bs)) (sym same.bytes) ∙ sym (ap (λ (k : ℕ). drained (whole (length x.bytes)) (whole 0) k) no_time ∙ drained_none (whole (length x.bytes)) (whole 0) (whole_lowest (length x.bytes)) (omega arith));
+        left =
+            ap (λ (bs : List ℕ). whole (length bs)) (sym same.bytes)
+            ∙ sym
+            (ap (λ (k : ℕ). drained (whole (length x.bytes)) (whole 0) k) no_time
+            ∙ drained_none (whole (length x.bytes)) (whole 0) (whole_lowest (length x.bytes)) (omega arith));
       }
 
   -- before any limit nothing waits
-  pub waits_limited : (t : ℕ) (p : Planned P) (w : World P) (y : Message P) → Tallies cmp t p w → find (same_pair cmp y) w.waiting ≡ Some y → p.limited ≡ false → ⊥
+  pub waits_limited : (t : ℕ) (p : Planned P) (w : World P) (y : Message P) → Tallies cmp t p w
+      → find (same_pair cmp y) w.waiting ≡ Some y → p.limited ≡ false → ⊥
   waits_limited t p w y same own free =
       let empty : AllZip (SameMessage cmp) [] (filter (same_pair cmp y) w.waiting)
-      = subst (λ (ms : List (Message P)). AllZip (SameMessage cmp) (filter (same_pair cmp y) ms) (filter (same_pair cmp y) w.waiting)) (same.empty_at_first free).1 (same.waiting y) in
-      let none : find (same_pair cmp y) w.waiting ≡ None = find_none (same_pair cmp y) w.waiting (none_matched (SameMessage cmp) (filter (same_pair cmp y) w.waiting) empty) in
+      = subst
+      (λ (ms : List (Message P)). AllZip (SameMessage cmp) (filter (same_pair cmp y) ms)
+      (filter (same_pair cmp y) w.waiting))
+      (same.empty_at_first free).1 (same.waiting y) in
+      let none : find (same_pair cmp y) w.waiting ≡ None =
+      find_none (same_pair cmp y) w.waiting
+      (none_matched (SameMessage cmp) (filter (same_pair cmp y) w.waiting) empty) in
       cc
 
-  pub launched_tallies : (t : ℕ) (p : Planned P) (w : World P) (x y : Message P) → Tallies cmp t p w → SameMessage cmp x y → find (same_pair cmp y) w.waiting ≡ Some y
+  pub launched_tallies : (t : ℕ) (p : Planned P) (w : World P) (x y : Message P) → Tallies cmp t p w
+      → SameMessage cmp x y → find (same_pair cmp y) w.waiting ≡ Some y
       → list_any (same_pair cmp y) (flows w) ≡ false → Tallies cmp t (launched cmp t p x) (joined cmp w y)
   launched_tallies t p w x y same alike own idle = record {
     moment = same.moment;
@@ -174,8 +221,13 @@ module _ {P : Type 0} (cmp : P → P → Ordering) (order : IsTotalOrder cmp) wh
     next_id = ap (λ (n : ℕ). n + 1) same.next_id;
     waiting = λ m. waiting_taken x y m p.waiting w.waiting alike (same.waiting m);
     pair_order = pair_order_without (same_pair cmp x) p.waiting same.pair_order;
-    sending = all_zipped_more (IsSameFlight cmp t) p.sending w.sending (record { message = x; left = whole (length x.bytes); rate = Some (whole 0); updated = t }) (flight_of y) same.sending (started_flight t x y alike);
-    one_each = subst (OneForEachPair cmp) (sym (map-append (λ (g : Flight P). g.message) w.sending (flight_of y ∷ []))) (one_pair_more cmp order (flows w) y same.one_each idle);
+    sending =
+        all_zipped_more (IsSameFlight cmp t) p.sending w.sending
+        (record { message = x; left = whole (length x.bytes); rate = Some (whole 0); updated = t }) (flight_of y)
+        same.sending (started_flight t x y alike);
+    one_each =
+        subst (OneForEachPair cmp) (sym (map-append (λ (g : Flight P). g.message) w.sending (flight_of y ∷ [])))
+        (one_pair_more cmp order (flows w) y same.one_each idle);
     empty_at_first = λ free. absurd (waits_limited t p w y same own free);
   }
 
@@ -185,7 +237,8 @@ module _ {P : Type 0} (cmp : P → P → Ordering) (order : IsTotalOrder cmp) wh
   pub staying_none : (w : World P) → NoneDone (staying cmp w)
   unfolding staying
   staying_none w =
-      each_map (λ g. not (is_done cmp w g) ≡ true) (λ g. is_done cmp w g ≡ false) (filter (λ g. not (is_done cmp w g)) w.sending) (λ g. not-true (is_done cmp w g))
+      each_map (λ g. not (is_done cmp w g) ≡ true) (λ g. is_done cmp w g ≡ false)
+      (filter (λ g. not (is_done cmp w g)) w.sending) (λ g. not-true (is_done cmp w g))
       (each_passes (λ g. not (is_done cmp w g)) w.sending)
 
   -- those that join the leavers, and the world after the start
@@ -197,23 +250,32 @@ module _ {P : Type 0} (cmp : P → P → Ordering) (order : IsTotalOrder cmp) wh
 
   pub joining_leaves : (w : World P) (y : Message P) → NoneDone w → leaving cmp (joined cmp w y) ≡ joining w y
   unfolding leaving
-  joining_leaves w y none = filter-append (is_done cmp w) w.sending (flight_of y ∷ []) ∙ ap (λ (q : List (Flight P)). q ++ joining w y) (filter_none (is_done cmp w) w.sending none)
+  joining_leaves w y none =
+      filter-append (is_done cmp w) w.sending (flight_of y ∷ [])
+      ∙ ap (λ (q : List (Flight P)). q ++ joining w y) (filter_none (is_done cmp w) w.sending none)
 
   pub started_stays : (w : World P) (y : Message P) → NoneDone w → staying cmp (joined cmp w y) ≡ started w y
   unfolding staying
   started_stays w y none =
-      ap (λ (q : List (Flight P)). record (joined cmp w y) { sending = q }) (filter-append (λ g. not (is_done cmp w g)) w.sending (flight_of y ∷ []) ∙ ap (λ (q : List (Flight P)). q ++ cond (not (is_done cmp w (flight_of y))) (flight_of y ∷ []) []) (filter_all (is_done cmp w) w.sending none))
+      ap (λ (q : List (Flight P)). record (joined cmp w y) { sending = q })
+      (filter-append (λ g. not (is_done cmp w g)) w.sending (flight_of y ∷ [])
+      ∙ ap (λ (q : List (Flight P)). q ++ cond (not (is_done cmp w (flight_of y))) (flight_of y ∷ []) [])
+      (filter_all (is_done cmp w) w.sending none))
       ∙ by_test (is_done cmp w (flight_of y))
     where
-      by_test : (b : Bool) → ◌≡◌ {A = World P} (record (joined cmp w y) { sending = w.sending ++ cond (not b) (flight_of y ∷ []) [] }) (cond b (out_of_waiting cmp w y) (joined cmp w y))
+      by_test : (b : Bool)
+          → ◌≡◌ {A = World P} (record (joined cmp w y) { sending = w.sending ++ cond (not b) (flight_of y ∷ []) [] })
+          (cond b (out_of_waiting cmp w y) (joined cmp w y))
       by_test true = ap (λ (q : List (Flight P)). record (joined cmp w y) { sending = q }) (append-nil w.sending)
       by_test false = refl
 
   -- the world goes on as the planned world does: with these leavers, in this world
-  pub record GoesOn (t : ℕ) (w : World P) (fs : List (Flight P)) (o : Option (Message P)) (leavers : List (Message P)) (new : Planned P) : Type 0 where
+  pub record GoesOn (t : ℕ) (w : World P) (fs : List (Flight P)) (o : Option (Message P)) (leavers : List (Message P))
+      (new : Planned P) : Type 0 where
     pub more : List (Flight P)
     pub world : World P
-    pub launches : (next : List (Flight P) → World P → Course (Completed P) (World P)) → launch_then cmp next t fs w o ≡ next (fs ++ more) world
+    pub launches : (next : List (Flight P) → World P → Course (Completed P) (World P))
+        → launch_then cmp next t fs w o ≡ next (fs ++ more) world
     pub follows : Follows cmp t new world
     pub none : NoneDone world
     pub leaves : AllZip (SameMessage cmp) leavers (map (λ (g : Flight P). g.message) more)
@@ -221,51 +283,66 @@ module _ {P : Type 0} (cmp : P → P → Ordering) (order : IsTotalOrder cmp) wh
 
   abbrev pub LaunchAlike : ℕ → World P → List (Flight P) → Option (Message P) → Course (Message P) (Planned P) → Type 0
   LaunchAlike t w fs o (goes leavers new) = GoesOn t w fs o leavers new
-  LaunchAlike t w fs o (meets fault) = (next : List (Flight P) → World P → Course (Completed P) (World P)) → launch_then cmp next t fs w o ≡ meets fault
+  LaunchAlike t w fs o (meets fault) =
+      (next : List (Flight P) → World P → Course (Completed P) (World P)) → launch_then cmp next t fs w o ≡ meets fault
 
   -- the same, where it is known that the message may start
-  pub record StartsSo (t : ℕ) (w : World P) (y : Message P) (leavers : List (Message P)) (new : Planned P) : Type 0 where
-    pub starts : start cmp w y ≡ goes [] (joined cmp w y)
-    pub follows : Follows cmp t new (started w y)
-    pub none : NoneDone (started w y)
-    pub leaves : AllZip (SameMessage cmp) leavers (map (λ (g : Flight P). g.message) (joining w y))
-    pub one_each : OneForEachPair cmp (flows (joined cmp w y))
+  pub record StartsSo (t : ℕ) (w : World P) (y : Message P) (leavers : List (Message P)) (new : Planned P) : Type 0
+    where
+      pub starts : start cmp w y ≡ goes [] (joined cmp w y)
+      pub follows : Follows cmp t new (started w y)
+      pub none : NoneDone (started w y)
+      pub leaves : AllZip (SameMessage cmp) leavers (map (λ (g : Flight P). g.message) (joining w y))
+      pub one_each : OneForEachPair cmp (flows (joined cmp w y))
 
   abbrev pub StartAlike : ℕ → World P → Message P → Course (Message P) (Planned P) → Type 0
   StartAlike t w y (goes leavers new) = StartsSo t w y leavers new
   StartAlike t w y (meets fault) = start cmp w y ≡ meets fault
 
-  starts_none : (next : List (Flight P) → World P → Course (Completed P) (World P)) (t : ℕ) (fs : List (Flight P)) (w : World P) → launch_then cmp next t fs w None ≡ next (fs ++ []) w
+  starts_none : (next : List (Flight P) → World P → Course (Completed P) (World P)) (t : ℕ) (fs : List (Flight P))
+      (w : World P)
+      → launch_then cmp next t fs w None ≡ next (fs ++ []) w
   unfolding launch_then
   starts_none next t fs w = ap (λ (q : List (Flight P)). next q w) (sym (append-nil fs))
 
-  starts_not : (next : List (Flight P) → World P → Course (Completed P) (World P)) (t : ℕ) (fs : List (Flight P)) (w : World P) (y : Message P) → may_start cmp t w y ≡ false
+  starts_not : (next : List (Flight P) → World P → Course (Completed P) (World P)) (t : ℕ) (fs : List (Flight P))
+      (w : World P) (y : Message P)
+      → may_start cmp t w y ≡ false
       → launch_then cmp next t fs w (Some y) ≡ next (fs ++ []) w
   unfolding launch_then
   starts_not next t fs w y e = rw e (ap (λ (q : List (Flight P)). next q w) (sym (append-nil fs)))
 
-  starts_fault : (next : List (Flight P) → World P → Course (Completed P) (World P)) (t : ℕ) (fs : List (Flight P)) (w : World P) (y : Message P) → may_start cmp t w y ≡ true
+  starts_fault : (next : List (Flight P) → World P → Course (Completed P) (World P)) (t : ℕ) (fs : List (Flight P))
+      (w : World P) (y : Message P)
+      → may_start cmp t w y ≡ true
       → (nat_le last_moment w.next_id) ≡ true → launch_then cmp next t fs w (Some y) ≡ meets FlowIdsUsedUp
   unfolding launch_then
   starts_fault next t fs w y e f = rw (e, f) refl
 
-  starts_so : (next : List (Flight P) → World P → Course (Completed P) (World P)) (t : ℕ) (fs : List (Flight P)) (w : World P) (y : Message P) → may_start cmp t w y ≡ true
+  starts_so : (next : List (Flight P) → World P → Course (Completed P) (World P)) (t : ℕ) (fs : List (Flight P))
+      (w : World P) (y : Message P)
+      → may_start cmp t w y ≡ true
       → (nat_le last_moment w.next_id) ≡ false
       → launch_then cmp next t fs w (Some y) ≡ next (fs ++ joining w y) (started w y)
   unfolding launch_then
   starts_so next t fs w y e f = rw (e, f) (by_test (is_done cmp w (flight_of y)))
     where
-      by_test : (b : Bool) → cond b (next (fs ++ flight_of y ∷ []) (out_of_waiting cmp w y)) (next fs (joined cmp w y)) ≡ next (fs ++ cond b (flight_of y ∷ []) []) (cond b (out_of_waiting cmp w y) (joined cmp w y))
+      by_test : (b : Bool)
+          → cond b (next (fs ++ flight_of y ∷ []) (out_of_waiting cmp w y)) (next fs (joined cmp w y))
+          ≡ next (fs ++ cond b (flight_of y ∷ []) []) (cond b (out_of_waiting cmp w y) (joined cmp w y))
       by_test true = refl
       by_test false = ap (λ (q : List (Flight P)). next q (joined cmp w y)) (sym (append-nil fs))
 
-  pub started_fewer : (w : World P) (y : Message P) → find (same_pair cmp y) w.waiting ≡ Some y → length (joining w y) + length (started w y).waiting ≤ length w.waiting
+  pub started_fewer : (w : World P) (y : Message P) → find (same_pair cmp y) w.waiting ≡ Some y
+      → length (joining w y) + length (started w y).waiting ≤ length w.waiting
   started_fewer w y e =
-      let fewer : length (without_first (same_pair cmp y) w.waiting) + 1 ≡ length w.waiting = length_without (same_pair cmp y) y w.waiting e in
+      let fewer : length (without_first (same_pair cmp y) w.waiting) + 1 ≡ length w.waiting =
+      length_without (same_pair cmp y) y w.waiting e in
       by_test (is_done cmp w (flight_of y)) fewer
     where
       by_test : (b : Bool) → length (without_first (same_pair cmp y) w.waiting) + 1 ≡ length w.waiting
-          → length (cond b (flight_of y ∷ []) []) + length (cond b (out_of_waiting cmp w y) (joined cmp w y)).waiting ≤ length w.waiting
+          → length (cond b (flight_of y ∷ []) []) + length (cond b (out_of_waiting cmp w y) (joined cmp w y)).waiting
+          ≤ length w.waiting
       by_test true h = omega arith
       by_test false h = omega arith
 
@@ -274,66 +351,117 @@ module _ {P : Type 0} (cmp : P → P → Ordering) (order : IsTotalOrder cmp) wh
   idle_from false b e = refl
 
   -- a launch in the one world is a launch in the other
-  pub launch_alike : {t : ℕ} {p : Planned P} {o : Option (Message P)} {course : Course (Message P) (Planned P)} → Launches cmp t p o course
+  pub launch_alike : {t : ℕ} {p : Planned P} {o : Option (Message P)} {course : Course (Message P) (Planned P)}
+      → Launches cmp t p o course
       → (w : World P) (fs : List (Flight P)) (m : Message P) (r : Option (Message P)) → Follows cmp t p w → NoneDone w
       → find (same_pair cmp m) w.waiting ≡ r → OptionsAlike (SameMessage cmp) o r → LaunchAlike t w fs r course
   launch_alike {t = t} {p = p} nothing_waits w fs m None follows none is alike =
-      record { more = []; world = w; launches = λ next. starts_none next t fs w; follows = follows; none = none; leaves = tt; fewer = omega arith }
+      record {
+        more = [];
+        world = w;
+        launches = λ next. starts_none next t fs w;
+        follows = follows;
+        none = none;
+        leaves = tt;
+        fewer = omega arith;
+      }
   launch_alike nothing_waits w fs m (Some y) follows none is alike = absurd alike
   launch_alike (too_early early) w fs m None follows none is alike = absurd alike
   launch_alike {t = t} {p = p} (too_early {m = x} early) w fs m (Some y) follows none is alike =
       let not_yet : may_start cmp t w y ≡ false
-      = sym (may_alike cmp order t p w x y follows.tallies.last_arrival (messages_alike cmp order t p.sending w.sending follows.tallies.sending) alike) ∙ early in
-      record { more = []; world = w; launches = λ next. starts_not next t fs w y not_yet; follows = follows; none = none; leaves = tt; fewer = omega arith }
+      = sym
+      (may_alike cmp order t p w x y follows.tallies.last_arrival
+      (messages_alike cmp order t p.sending w.sending follows.tallies.sending) alike)
+      ∙ early in
+      record {
+        more = [];
+        world = w;
+        launches = λ next. starts_not next t fs w y not_yet;
+        follows = follows;
+        none = none;
+        leaves = tt;
+        fewer = omega arith;
+      }
   launch_alike (no_id may last) w fs m None follows none is alike = absurd alike
   launch_alike {t = t} {p = p} (no_id {m = x} may last) w fs m (Some y) follows none is alike =
       let may_too : may_start cmp t w y ≡ true
-      = sym (may_alike cmp order t p w x y follows.tallies.last_arrival (messages_alike cmp order t p.sending w.sending follows.tallies.sending) alike) ∙ may in
+      = sym
+      (may_alike cmp order t p w x y follows.tallies.last_arrival
+      (messages_alike cmp order t p.sending w.sending follows.tallies.sending) alike)
+      ∙ may in
       let ids : last_moment ≤ w.next_id = subst (λ (n : ℕ). last_moment ≤ n) follows.tallies.next_id last in
       λ next. starts_fault next t fs w y may_too (le-leb last_moment w.next_id ids)
   launch_alike (starts may below account) w fs m None follows none is alike = absurd alike
-  launch_alike {t = t} {p = p} (starts {m = x} {leavers = leavers} {new = new} may below account) w fs m (Some y) follows none is alike =
+  launch_alike {t = t} {p = p} (starts {m = x} {leavers = leavers} {new = new} may below account) w fs m (Some y)
+      follows none is alike =
       let may_too : may_start cmp t w y ≡ true
-      = sym (may_alike cmp order t p w x y follows.tallies.last_arrival (messages_alike cmp order t p.sending w.sending follows.tallies.sending) alike) ∙ may in
-      let idle : list_any (same_pair cmp y) (flows w) ≡ false = idle_from (list_any (same_pair cmp y) (flows w)) (is_in_order (w.last_arrival y.origin y.recipient) (t + y.latency)) may_too in
-      let own : find (same_pair cmp y) w.waiting ≡ Some y = find_like cmp order m y w.waiting (find_passes (same_pair cmp m) y w.waiting is) ∙ is in
-      let tallies : Tallies cmp t (launched cmp t p x) (joined cmp w y) = launched_tallies t p w x y follows.tallies alike own idle in
+      = sym
+      (may_alike cmp order t p w x y follows.tallies.last_arrival
+      (messages_alike cmp order t p.sending w.sending follows.tallies.sending) alike)
+      ∙ may in
+      let idle : list_any (same_pair cmp y) (flows w) ≡ false =
+      idle_from (list_any (same_pair cmp y) (flows w))
+      (is_in_order (w.last_arrival y.origin y.recipient) (t + y.latency)) may_too in
+      let own : find (same_pair cmp y) w.waiting ≡ Some y =
+      find_like cmp order m y w.waiting (find_passes (same_pair cmp m) y w.waiting is) ∙ is in
+      let tallies : Tallies cmp t (launched cmp t p x) (joined cmp w y) =
+      launched_tallies t p w x y follows.tallies alike own idle in
       record {
         more = joining w y;
         world = started w y;
-        launches = λ next. starts_so next t fs w y may_too (by_id (nat_le last_moment w.next_id) refl follows.tallies.next_id below);
-        follows = subst (λ (v : World P). Follows cmp t new v) (started_stays w y none) (account_follows cmp order t (launched cmp t p x) new leavers (joined cmp w y) tallies account);
+        launches = λ next.
+            starts_so next t fs w y may_too (by_id (nat_le last_moment w.next_id) refl follows.tallies.next_id below);
+        follows =
+            subst (λ (v : World P). Follows cmp t new v) (started_stays w y none)
+            (account_follows cmp order t (launched cmp t p x) new leavers (joined cmp w y) tallies account);
         none = subst NoneDone (started_stays w y none) (staying_none (joined cmp w y));
-        leaves = subst (λ (q : List (Flight P)). AllZip (SameMessage cmp) leavers (map (λ (g : Flight P). g.message) q)) (joining_leaves w y none) (leavers_alike cmp order t (launched cmp t p x) new leavers (joined cmp w y) tallies account);
+        leaves =
+            subst (λ (q : List (Flight P)). AllZip (SameMessage cmp) leavers (map (λ (g : Flight P). g.message) q))
+            (joining_leaves w y none)
+            (leavers_alike cmp order t (launched cmp t p x) new leavers (joined cmp w y) tallies account);
         fewer = started_fewer w y own;
       }
     where
-      by_id : (b : Bool) → (nat_le last_moment w.next_id) ≡ b → p.next_id ≡ w.next_id → p.next_id < last_moment → b ≡ false
+      by_id : (b : Bool) → (nat_le last_moment w.next_id) ≡ b → p.next_id ≡ w.next_id → p.next_id < last_moment
+          → b ≡ false
       by_id true e same lt = let is : last_moment ≤ w.next_id = leb-true last_moment w.next_id e in absurd (omega arith)
       by_id false e same lt = refl
 
-  pub start_alike : {t : ℕ} {p : Planned P} {o : Option (Message P)} {course : Course (Message P) (Planned P)} → Launches cmp t p o course → (w : World P) (y : Message P)
+  pub start_alike : {t : ℕ} {p : Planned P} {o : Option (Message P)} {course : Course (Message P) (Planned P)}
+      → Launches cmp t p o course → (w : World P) (y : Message P)
       → Follows cmp t p w → NoneDone w
-      → may_start cmp t w y ≡ true → find (same_pair cmp y) w.waiting ≡ Some y → OptionsAlike (SameMessage cmp) o (Some y) → StartAlike t w y course
+      → may_start cmp t w y ≡ true → find (same_pair cmp y) w.waiting ≡ Some y
+      → OptionsAlike (SameMessage cmp) o (Some y) → StartAlike t w y course
   start_alike nothing_waits w y follows none may own alike = absurd alike
   start_alike {t = t} {p = p} (too_early {m = x} early) w y follows none may own alike =
       let same : may_launch cmp t p x ≡ may_start cmp t w y
-      = may_alike cmp order t p w x y follows.tallies.last_arrival (messages_alike cmp order t p.sending w.sending follows.tallies.sending) alike in
+      = may_alike cmp order t p w x y follows.tallies.last_arrival
+      (messages_alike cmp order t p.sending w.sending follows.tallies.sending) alike in
       cc
   start_alike {t = t} {p = p} (no_id {m = x} launches last) w y follows none may own alike =
       let ids : last_moment ≤ w.next_id = subst (λ (n : ℕ). last_moment ≤ n) follows.tallies.next_id last in
       rw (le-leb last_moment w.next_id ids) refl
-  start_alike {t = t} {p = p} (starts {m = x} {leavers = leavers} {new = new} launches below account) w y follows none may own alike =
-      let idle : list_any (same_pair cmp y) (flows w) ≡ false = idle_from (list_any (same_pair cmp y) (flows w)) (is_in_order (w.last_arrival y.origin y.recipient) (t + y.latency)) may in
-      let tallies : Tallies cmp t (launched cmp t p x) (joined cmp w y) = launched_tallies t p w x y follows.tallies alike own idle in
+  start_alike {t = t} {p = p} (starts {m = x} {leavers = leavers} {new = new} launches below account) w y follows none
+      may own alike =
+      let idle : list_any (same_pair cmp y) (flows w) ≡ false =
+      idle_from (list_any (same_pair cmp y) (flows w))
+      (is_in_order (w.last_arrival y.origin y.recipient) (t + y.latency)) may in
+      let tallies : Tallies cmp t (launched cmp t p x) (joined cmp w y) =
+      launched_tallies t p w x y follows.tallies alike own idle in
       record {
         starts = rw (by_id (nat_le last_moment w.next_id) refl follows.tallies.next_id below) refl;
-        follows = subst (λ (v : World P). Follows cmp t new v) (started_stays w y none) (account_follows cmp order t (launched cmp t p x) new leavers (joined cmp w y) tallies account);
+        follows =
+            subst (λ (v : World P). Follows cmp t new v) (started_stays w y none)
+            (account_follows cmp order t (launched cmp t p x) new leavers (joined cmp w y) tallies account);
         none = subst NoneDone (started_stays w y none) (staying_none (joined cmp w y));
-        leaves = subst (λ (q : List (Flight P)). AllZip (SameMessage cmp) leavers (map (λ (g : Flight P). g.message) q)) (joining_leaves w y none) (leavers_alike cmp order t (launched cmp t p x) new leavers (joined cmp w y) tallies account);
+        leaves =
+            subst (λ (q : List (Flight P)). AllZip (SameMessage cmp) leavers (map (λ (g : Flight P). g.message) q))
+            (joining_leaves w y none)
+            (leavers_alike cmp order t (launched cmp t p x) new leavers (joined cmp w y) tallies account);
         one_each = tallies.one_each;
       }
     where
-      by_id : (b : Bool) → (nat_le last_moment w.next_id) ≡ b → p.next_id ≡ w.next_id → p.next_id < last_moment → b ≡ false
+      by_id : (b : Bool) → (nat_le last_moment w.next_id) ≡ b → p.next_id ≡ w.next_id → p.next_id < last_moment
+          → b ≡ false
       by_id true e same lt = let is : last_moment ≤ w.next_id = leb-true last_moment w.next_id e in absurd (omega arith)
       by_id false e same lt = refl

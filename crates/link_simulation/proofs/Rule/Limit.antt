@@ -1,14 +1,19 @@
 -- The empty planned world stands for the empty world, and new caps do in the planned world what they do in the world.
-use Rattle.std.proofs.Common.{◌≡◌, ℕ, zero, suc, ◌+◌, ◌-◌, ◌<◌, ◌≤◌, List, [], ◌∷◌, length, true, false, Option, Some, None, refl, sym, ap, ◌∙◌, subst, arith, lit<}
+use Rattle.std.proofs.Common.{◌≡◌, ℕ, zero, suc, ◌+◌, ◌-◌, ◌<◌, ◌≤◌, List, [], ◌∷◌, length, true, false, Option, Some}
+use Rattle.std.proofs.Common.{None, refl, sym, ap, ◌∙◌, subst, arith, lit<}
 use Rattle.std.specs.Prelude.{IfSome}
 use Rattle.std.specs.List.{list_any, AllZip}
 use Rattle.std.specs.declared.cmp.Ordering.{Ordering}
 use Rattle.std.specs.Cmp.{IsTotalOrder}
-use Rattle.link_simulation.specs.Simulation.World.{Completed, Course, Flight, IsQuiet, World, goes, is_done, last_moment, meets, new_world, ready, settle, EndsWith}
-use Rattle.link_simulation.specs.Simulation.Calls.{Runs, act, call_limit, Call, rebalance, limited_by, linked_by, call_limit_link}
+use Rattle.link_simulation.specs.Simulation.World.{Completed, Course, Flight, IsQuiet, World, goes, is_done}
+use Rattle.link_simulation.specs.Simulation.World.{last_moment, meets, new_world, ready, settle, EndsWith}
+use Rattle.link_simulation.specs.Simulation.Calls.{Runs, act, call_limit, Call, rebalance, limited_by, linked_by}
+use Rattle.link_simulation.specs.Simulation.Calls.{call_limit_link}
 use Rattle.link_simulation.specs.Rule.Events.{none_sending, some_sending, Rebalances}
-use Rattle.link_simulation.specs.Simulation.Messages.{AnswerAlike, Message, with_cap, Caps, no_caps, PairsAlike, with_link, CapsAlike}
-use Rattle.link_simulation.specs.Rule.Planned.{RatedFlight, Planned, SomeReadyAt, SomeSpentAt, new_planned, next_event, rated_messages}
+use Rattle.link_simulation.specs.Simulation.Messages.{AnswerAlike, Message, with_cap, Caps, no_caps, PairsAlike}
+use Rattle.link_simulation.specs.Simulation.Messages.{with_link, CapsAlike}
+use Rattle.link_simulation.specs.Rule.Planned.{RatedFlight, Planned, SomeReadyAt, SomeSpentAt, new_planned, next_event}
+use Rattle.link_simulation.specs.Rule.Planned.{rated_messages}
 use Rattle.link_simulation.specs.Simulation.Rates.{AreFair, rate_of}
 use Rattle.link_simulation.specs.Rule.StandsFor.{CoursesAlike, Follows, IsSameFlight, IsSettled, StandsFor, Tallies}
 use Rattle.link_simulation.specs.Simulation.Time.{Ticks, no_tick}
@@ -25,7 +30,12 @@ use Rattle.link_simulation.proofs.Simulation.Queue.{preceded_none}
 pub no_sides : {P : Type 0} (cmp : P → P → Ordering) (caps : Caps P) → AreFair cmp caps [] 1 []
 no_sides cmp caps = record {
   parts = λ flow. 0;
-  fair = record { some_part = lit< tt; within = λ k d below. absurd (nothing_in below); held = λ flow limited. absurd (nothing_in limited.1.listed.1) };
+  fair =
+      record {
+        some_part = lit< tt;
+        within = λ k d below. absurd (nothing_in below);
+        held = λ flow limited. absurd (nothing_in limited.1.listed.1);
+      };
   rated = refl;
 }
   where
@@ -64,12 +74,20 @@ module _ {P : Type 0} (cmp : P → P → Ordering) (order : IsTotalOrder cmp) wh
 
   -- ---- new caps
 
-  cap_alike : (f g : P → Option ℕ) (peer : P) (cap : Option ℕ) → AnswerAlike cmp f g → AnswerAlike cmp (with_cap cmp f peer cap) (with_cap cmp g peer cap)
-  cap_alike f g peer cap same p q e = rw (sym (peers_alike cmp order peer peer p q (same_itself cmp order peer) e), same p q e) refl
+  cap_alike : (f g : P → Option ℕ) (peer : P) (cap : Option ℕ) → AnswerAlike cmp f g
+      → AnswerAlike cmp (with_cap cmp f peer cap) (with_cap cmp g peer cap)
+  cap_alike f g peer cap same p q e =
+      rw (sym (peers_alike cmp order peer peer p q (same_itself cmp order peer) e), same p q e) refl
 
-  link_alike : (f g : P → P → Option ℕ) (origin recipient : P) (cap : Option ℕ) → PairsAlike cmp f g → PairsAlike cmp (with_link cmp f origin recipient cap) (with_link cmp g origin recipient cap)
+  link_alike : (f g : P → P → Option ℕ) (origin recipient : P) (cap : Option ℕ) → PairsAlike cmp f g
+      → PairsAlike cmp (with_link cmp f origin recipient cap) (with_link cmp g origin recipient cap)
   link_alike f g origin recipient cap same p q r s e h =
-      rw (sym (peers_alike cmp order origin origin p q (same_itself cmp order origin) e), sym (peers_alike cmp order recipient recipient r s (same_itself cmp order recipient) h), same p q r s e h) refl
+      rw (
+        sym (peers_alike cmp order origin origin p q (same_itself cmp order origin) e),
+        sym (peers_alike cmp order recipient recipient r s (same_itself cmp order recipient) h),
+        same p q r s e h,
+      )
+      refl
 
   -- the worlds under new caps
   abbrev pub rebalanced : World P → Caps P → World P
@@ -78,7 +96,8 @@ module _ {P : Type 0} (cmp : P → P → Ordering) (order : IsTotalOrder cmp) wh
   abbrev pub replanned : Planned P → Caps P → Planned P
   replanned p caps = record p { caps = caps; limited = true }
 
-  recapped_tallies : (t : ℕ) (p : Planned P) (w : World P) (caps others : Caps P) → CapsAlike cmp caps others → Tallies cmp t p w → Tallies cmp t (replanned p caps) (rebalanced w others)
+  recapped_tallies : (t : ℕ) (p : Planned P) (w : World P) (caps others : Caps P) → CapsAlike cmp caps others
+      → Tallies cmp t p w → Tallies cmp t (replanned p caps) (rebalanced w others)
   recapped_tallies t p w caps others alike same = record {
     moment = same.moment;
     caps = alike;
@@ -100,40 +119,58 @@ module _ {P : Type 0} (cmp : P → P → Ordering) (order : IsTotalOrder cmp) wh
     pub none_done : list_any (is_done cmp world) world.sending ≡ false
     pub none_ready : ready cmp now world ≡ []
 
-  pub reaches : (now : ℕ) (p : Planned P) (w : World P) → StandsFor cmp p w → w.moment ≤ now → now ≤ last_moment → IfSome (next_event p) (λ t. now < t) → IsReached now p w
+  pub reaches : (now : ℕ) (p : Planned P) (w : World P) → StandsFor cmp p w → w.moment ≤ now → now ≤ last_moment
+      → IfSome (next_event p) (λ t. now < t) → IsReached now p w
   reaches now p w stands le within before = by_count (now - w.moment) refl
     where
       by_count : (n : ℕ) → now - w.moment ≡ n → IsReached now p w
       by_count zero is =
           let same : w.moment ≡ now = omega arith in
-          record { world = w; ticks = subst (λ (k : ℕ). Ticks cmp k w (goes [] w)) (sym is) no_tick; follows = subst (λ (s : ℕ). Follows cmp s p w) same stands.follows; none_done = stands.quiet.none_done; none_ready = ap (λ (s : ℕ). ready cmp s w) (sym same) ∙ stands.quiet.none_ready }
+          record {
+            world = w;
+            ticks = subst (λ (k : ℕ). Ticks cmp k w (goes [] w)) (sym is) no_tick;
+            follows = subst (λ (s : ℕ). Follows cmp s p w) same stands.follows;
+            none_done = stands.quiet.none_done;
+            none_ready = ap (λ (s : ℕ). ready cmp s w) (sym same) ∙ stands.quiet.none_ready;
+          }
       by_count (suc k) is =
           let same : w.moment + suc k ≡ now = omega arith in
-          let still : IfSome (next_event p) (λ t. w.moment + suc k < t) = subst (λ (s : ℕ). IfSome (next_event p) (λ t. s < t)) (sym same) before in
-          let quiet : IsQuiet cmp (w.moment + suc k) (later cmp order p w stands (suc k)) = quiet_before cmp order p w stands (suc k) (omega arith) still in
+          let still : IfSome (next_event p) (λ t. w.moment + suc k < t) =
+          subst (λ (s : ℕ). IfSome (next_event p) (λ t. s < t)) (sym same) before in
+          let quiet : IsQuiet cmp (w.moment + suc k) (later cmp order p w stands (suc k)) =
+          quiet_before cmp order p w stands (suc k) (omega arith) still in
           record {
             world = later cmp order p w stands (suc k);
-            ticks = subst (λ (n : ℕ). Ticks cmp n w (goes [] (later cmp order p w stands (suc k)))) (sym is) (ticks_quiet cmp order (passes_to cmp order p w stands k (omega arith) still));
-            follows = subst (λ (s : ℕ). Follows cmp s p (later cmp order p w stands (suc k))) same (follows_later cmp order p w stands (suc k));
+            ticks =
+                subst (λ (n : ℕ). Ticks cmp n w (goes [] (later cmp order p w stands (suc k)))) (sym is)
+                (ticks_quiet cmp order (passes_to cmp order p w stands k (omega arith) still));
+            follows =
+                subst (λ (s : ℕ). Follows cmp s p (later cmp order p w stands (suc k))) same
+                (follows_later cmp order p w stands (suc k));
             none_done = quiet.none_done;
             none_ready = ap (λ (s : ℕ). ready cmp s (later cmp order p w stands (suc k))) (sym same) ∙ quiet.none_ready;
           }
 
   -- a settling in which nothing was ready leaves a world at rest
-  pub settled_rests : (now : ℕ) (x : Course (Completed P) (Planned P)) (c : Course (Completed P) (World P)) → now ≤ last_moment → CoursesAlike cmp (IsSettled cmp now) x c
+  pub settled_rests : (now : ℕ) (x : Course (Completed P) (Planned P)) (c : Course (Completed P) (World P))
+      → now ≤ last_moment → CoursesAlike cmp (IsSettled cmp now) x c
       → EndsWith (λ v. ready cmp now v ≡ []) c → CoursesAlike cmp (λ q v. StandsFor cmp q v × (v.moment ≡ now)) x c
-  settled_rests now (goes cs q) (goes ds v) within h idle = (h.0, (woken_stands cmp order now q v within (h.1, idle), h.1.follows.tallies.moment))
+  settled_rests now (goes cs q) (goes ds v) within h idle =
+      (h.0, (woken_stands cmp order now q v within (h.1, idle), h.1.follows.tallies.moment))
   settled_rests now (goes cs q) (meets g) within h idle = absurd h
   settled_rests now (meets f) (goes ds v) within h idle = absurd h
   settled_rests now (meets f) (meets g) within h idle = h
 
-  pub none_flies : (t : ℕ) (ms : List (RatedFlight P)) (fs : List (Flight P)) → AllZip (IsSameFlight cmp t) ms fs → ms ≡ [] → fs ≡ []
+  pub none_flies : (t : ℕ) (ms : List (RatedFlight P)) (fs : List (Flight P)) → AllZip (IsSameFlight cmp t) ms fs
+      → ms ≡ [] → fs ≡ []
   none_flies t [] [] all e = refl
   none_flies t [] (f ∷ fs) all e = absurd all
   none_flies t (m ∷ ms) fs all e = cc
 
   -- new caps do in the planned world what they do in the world
-  rebalances_there : (p : Planned P) (now : ℕ) (u : World P) (caps others : Caps P) (course : Course (Completed P) (Planned P)) → CapsAlike cmp caps others → now ≤ last_moment
+  rebalances_there : (p : Planned P) (now : ℕ) (u : World P) (caps others : Caps P)
+      (course : Course (Completed P) (Planned P))
+      → CapsAlike cmp caps others → now ≤ last_moment
       → Follows cmp now p u → ready cmp now u ≡ [] → Rebalances cmp now caps p course
       → CoursesAlike cmp (λ q v. StandsFor cmp q v × (v.moment ≡ now)) course (rebalance cmp now u others)
   rebalances_there p now u caps others course alike within follows none_ready recaps = by_case recaps
@@ -142,50 +179,96 @@ module _ {P : Type 0} (cmp : P → P → Ordering) (order : IsTotalOrder cmp) wh
       rests =
           let x : World P = rebalanced u others in
           let few : length (leaving cmp x) ≤ length x.sending = leaving_fewer cmp order x in
-          let kept : length (staying cmp x).waiting ≡ length x.waiting = ap (λ (q : List (Message P)). length q) (staying_waiting cmp order x) in
+          let kept : length (staying cmp x).waiting ≡ length x.waiting =
+          ap (λ (q : List (Message P)). length q) (staying_waiting cmp order x) in
           settle_keeps_rest cmp order now x follows.tallies.one_each none_ready (omega arith)
 
-      by_case : {course : Course (Completed P) (Planned P)} → Rebalances cmp now caps p course → CoursesAlike cmp (λ q v. StandsFor cmp q v × (v.moment ≡ now)) course (rebalance cmp now u others)
+      by_case : {course : Course (Completed P) (Planned P)} → Rebalances cmp now caps p course
+          → CoursesAlike cmp (λ q v. StandsFor cmp q v × (v.moment ≡ now)) course (rebalance cmp now u others)
       by_case {course} (some_sending some event) =
-          settled_rests now course (rebalance cmp now u others) within (settles_alike cmp order event (rebalanced u others) (recapped_tallies now p u caps others alike follows.tallies)) rests
+          settled_rests now course (rebalance cmp now u others) within
+          (settles_alike cmp order event (rebalanced u others)
+          (recapped_tallies now p u caps others alike follows.tallies))
+          rests
       by_case (none_sending {new = new} empty looks) =
           let x : World P = rebalanced u others in
           let gone : u.sending ≡ [] = none_flies now p.sending u.sending follows.tallies.sending empty in
           let none_done : list_any (is_done cmp x) x.sending ≡ false = ap (list_any (is_done cmp x)) gone in
-          let same : settle cmp now x ≡ goes [] x = settle_quiet cmp order (length x.sending + length x.waiting) now x none_done in
+          let same : settle cmp now x ≡ goes [] x =
+          settle_quiet cmp order (length x.sending + length x.waiting) now x none_done in
           let follows_too : Follows cmp now (replanned p caps) x = record {
             tallies = recapped_tallies now p u caps others alike follows.tallies;
             rated = record {
               per = 1;
               rates = [];
-              fair = subst (λ (ms : List (RatedFlight P)). AreFair cmp caps (rated_messages ms) 1 []) (sym empty) (no_sides cmp caps);
-              rated = subst (λ (ms : List (RatedFlight P)). AllZip (λ rate f. f.rate ≡ rate_of 1 rate) [] ms) (sym empty) tt;
+              fair =
+                  subst (λ (ms : List (RatedFlight P)). AreFair cmp caps (rated_messages ms) 1 []) (sym empty)
+                  (no_sides cmp caps);
+              rated =
+                  subst (λ (ms : List (RatedFlight P)). AllZip (λ rate f. f.rate ≡ rate_of 1 rate) [] ms) (sym empty)
+                  tt;
             };
             finish = follows.finish;
           } in
-          let settled : IsSettled cmp now new x = looked cmp order now (replanned p caps) new x follows_too (each_none (is_done cmp x) x.sending none_done) looks in
-          settled_rests now (goes [] new) (settle cmp now x) within (subst (λ (c : Course (Completed P) (World P)). CoursesAlike cmp (IsSettled cmp now) (goes [] new) c) (sym same) (tt, settled)) rests
+          let settled : IsSettled cmp now new x =
+          looked cmp order now (replanned p caps) new x follows_too (each_none (is_done cmp x) x.sending none_done)
+          looks in
+          settled_rests now (goes [] new) (settle cmp now x) within
+          (subst (λ (c : Course (Completed P) (World P)). CoursesAlike cmp (IsSettled cmp now) (goes [] new) c)
+          (sym same) (tt, settled))
+          rests
 
   -- and so does a call that sets caps
-  rebalancing : (p : Planned P) (w : World P) (now : ℕ) (call : Call P) (new : Caps P → Caps P) (course : Course (Completed P) (Planned P))
-      → ((u : World P) → act cmp u call ≡ rebalance cmp now u (new u.caps)) → ((c d : Caps P) → CapsAlike cmp c d → CapsAlike cmp (new c) (new d))
-      → StandsFor cmp p w → w.moment ≤ now → now ≤ last_moment → IfSome (next_event p) (λ t. now < t) → Rebalances cmp now (new p.caps) p course
-      → (c : Course (Completed P) (World P)) × Runs cmp w call now c × CoursesAlike cmp (λ q v. StandsFor cmp q v × (v.moment ≡ now)) course c
+  rebalancing : (p : Planned P) (w : World P) (now : ℕ) (call : Call P) (new : Caps P → Caps P)
+      (course : Course (Completed P) (Planned P))
+      → ((u : World P) → act cmp u call ≡ rebalance cmp now u (new u.caps))
+      → ((c d : Caps P) → CapsAlike cmp c d → CapsAlike cmp (new c) (new d))
+      → StandsFor cmp p w → w.moment ≤ now → now ≤ last_moment → IfSome (next_event p) (λ t. now < t)
+      → Rebalances cmp now (new p.caps) p course
+      → (c : Course (Completed P) (World P)) × Runs cmp w call now c
+      × CoursesAlike cmp (λ q v. StandsFor cmp q v × (v.moment ≡ now)) course c
   rebalancing p w now call new course acts alike stands le within before recaps =
       let there : IsReached now p w = reaches now p w stands le within before in (
         rebalance cmp now there.world (new there.world.caps),
-        record { ticked = goes [] there.world; ticks = there.ticks; acts = sym (acts there.world) ∙ sym (preceded_none (act cmp there.world call)) },
-        rebalances_there p now there.world (new p.caps) (new there.world.caps) course (alike p.caps there.world.caps there.follows.tallies.caps) within there.follows there.none_ready recaps,
+        record {
+          ticked = goes [] there.world;
+          ticks = there.ticks;
+          acts = sym (acts there.world) ∙ sym (preceded_none (act cmp there.world call));
+        },
+        rebalances_there p now there.world (new p.caps) (new there.world.caps) course
+            (alike p.caps there.world.caps there.follows.tallies.caps) within there.follows there.none_ready recaps,
       )
 
-  pub limits_alike : (p : Planned P) (w : World P) (now : ℕ) (peer : P) (egress ingress : Option ℕ) (course : Course (Completed P) (Planned P)) → StandsFor cmp p w → w.moment ≤ now
+  pub limits_alike : (p : Planned P) (w : World P) (now : ℕ) (peer : P) (egress ingress : Option ℕ)
+      (course : Course (Completed P) (Planned P))
+      → StandsFor cmp p w → w.moment ≤ now
       → now ≤ last_moment → IfSome (next_event p) (λ t. now < t)
-      → Rebalances cmp now (limited_by cmp p.caps peer egress ingress) p course → (c : Course (Completed P) (World P)) × Runs cmp w (call_limit now peer egress ingress) now c × CoursesAlike cmp (λ q v. StandsFor cmp q v × (v.moment ≡ now)) course c
-  limits_alike p w now peer egress ingress course = rebalancing p w now (call_limit now peer egress ingress) (λ caps. limited_by cmp caps peer egress ingress) course (λ u. refl)
-      (λ c d same. record { egress = cap_alike c.egress d.egress peer egress same.egress; ingress = cap_alike c.ingress d.ingress peer ingress same.ingress; link = same.link })
+      → Rebalances cmp now (limited_by cmp p.caps peer egress ingress) p course
+      → (c : Course (Completed P) (World P)) × Runs cmp w (call_limit now peer egress ingress) now c
+      × CoursesAlike cmp (λ q v. StandsFor cmp q v × (v.moment ≡ now)) course c
+  limits_alike p w now peer egress ingress course =
+      rebalancing p w now (call_limit now peer egress ingress) (λ caps. limited_by cmp caps peer egress ingress) course
+      (λ u. refl)
+      (λ c d same.
+      record {
+        egress = cap_alike c.egress d.egress peer egress same.egress;
+        ingress = cap_alike c.ingress d.ingress peer ingress same.ingress;
+        link = same.link;
+      })
 
-  pub links_alike : (p : Planned P) (w : World P) (now : ℕ) (origin recipient : P) (cap : Option ℕ) (course : Course (Completed P) (Planned P)) → StandsFor cmp p w → w.moment ≤ now
+  pub links_alike : (p : Planned P) (w : World P) (now : ℕ) (origin recipient : P) (cap : Option ℕ)
+      (course : Course (Completed P) (Planned P))
+      → StandsFor cmp p w → w.moment ≤ now
       → now ≤ last_moment → IfSome (next_event p) (λ t. now < t)
-      → Rebalances cmp now (linked_by cmp p.caps origin recipient cap) p course → (c : Course (Completed P) (World P)) × Runs cmp w (call_limit_link now origin recipient cap) now c × CoursesAlike cmp (λ q v. StandsFor cmp q v × (v.moment ≡ now)) course c
-  links_alike p w now origin recipient cap course = rebalancing p w now (call_limit_link now origin recipient cap) (λ caps. linked_by cmp caps origin recipient cap) course (λ u. refl)
-      (λ c d same. record { egress = same.egress; ingress = same.ingress; link = link_alike c.link d.link origin recipient cap same.link })
+      → Rebalances cmp now (linked_by cmp p.caps origin recipient cap) p course
+      → (c : Course (Completed P) (World P)) × Runs cmp w (call_limit_link now origin recipient cap) now c
+      × CoursesAlike cmp (λ q v. StandsFor cmp q v × (v.moment ≡ now)) course c
+  links_alike p w now origin recipient cap course =
+      rebalancing p w now (call_limit_link now origin recipient cap) (λ caps. linked_by cmp caps origin recipient cap)
+      course (λ u. refl)
+      (λ c d same.
+      record {
+        egress = same.egress;
+        ingress = same.ingress;
+        link = link_alike c.link d.link origin recipient cap same.link;
+      })

@@ -16,7 +16,9 @@ advance_in_range = record {
     ids = omega arith;
   };
   call_itself = record {
-    moments = all_of_each (λ (call : Call ℕ). IfSome (moment_of call) (λ now. now < 2 ^ 63)) (call_advance 0 ∷ []) (omega arith, tt);
+    moments =
+        all_of_each (λ (call : Call ℕ). IfSome (moment_of call) (λ now. now < 2 ^ 63)) (call_advance 0 ∷ [])
+        (omega arith, tt);
     latencies = All-nil (λ (m : Message ℕ). m.latency < 2 ^ 63);
     messages = omega arith;
   };

@@ -24,7 +24,8 @@ IsNoNumber (reply_refused MomentTooLate) = ⊤
 IsNoNumber (reply_refused FlowIdsUsedUp) = ⊤
 
 module _ {P : Type 0} (cmp : P → P → Ordering) where
-  refused : (p : Planned P) (call : Call P) (why : Error) → MayBeRefused cmp p call why → IsNoNumber {P = P} (reply_refused why)
+  refused : (p : Planned P) (call : Call P) (why : Error) → MayBeRefused cmp p call why
+      → IsNoNumber {P = P} (reply_refused why)
   unfolding IsNoNumber
   refused p call OutOfMemory may = tt
   refused p call NumberTooLarge may = may
@@ -49,7 +50,8 @@ module _ {P : Type 0} (cmp : P → P → Ordering) where
       = obeyed_done cmp p calls replies call cs obeyed in
       (tt, none_for_a_number step.1 calls replies step.4)
 
-  pub never_for_a_number : (p : Planned P) (calls : List (Call P)) (replies : List (Reply P)) → Obeyed cmp p calls replies
+  pub never_for_a_number : (p : Planned P) (calls : List (Call P)) (replies : List (Reply P))
+      → Obeyed cmp p calls replies
       → ¬ Contains replies (reply_refused NumberTooLarge)
   unfolding IsNoNumber
   never_for_a_number p calls replies obeyed has =

@@ -1,5 +1,6 @@
 -- By the event rule a call has one course, and an advance one number of events.
-use Rattle.std.proofs.Common.{◌≡◌, ◌≢◌, ℕ, suc, ◌+◌, ◌*◌, ◌<◌, ◌≤◌, List, [], ◌∷◌, ◌++◌, length, true, false, not, Option, Some, None, refl, sym, ap, ◌∙◌, subst, arith, ◌⊎◌, inl, inr}
+use Rattle.std.proofs.Common.{◌≡◌, ◌≢◌, ℕ, suc, ◌+◌, ◌*◌, ◌<◌, ◌≤◌, List, [], ◌∷◌, ◌++◌, length, true, false, not}
+use Rattle.std.proofs.Common.{Option, Some, None, refl, sym, ap, ◌∙◌, subst, arith, ◌⊎◌, inl, inr}
 use Rattle.std.specs.Prelude.{IfSome, slice_get}
 use Rattle.std.specs.List.{filter, AllZip}
 use Rattle.std.specs.declared.cmp.Ordering.{Ordering}
@@ -10,10 +11,18 @@ use Rattle.fair_rates.specs.Numbers.Amount.{Amount}
 use Rattle.fair_rates.specs.Numbers.LowestTerms.{reduced_same}
 use Rattle.link_simulation.specs.Simulation.Messages.{Message, Caps}
 use Rattle.link_simulation.specs.Simulation.Rates.{Parts, rate_of, AreFair}
-use Rattle.link_simulation.specs.Simulation.World.{Completed, Course, goes, meets, last_moment, preceded, is_late, completed}
-use Rattle.link_simulation.specs.Simulation.Calls.{Call, call_limit, call_limit_link, call_enqueue, call_advance, call_next}
-use Rattle.link_simulation.specs.Rule.Planned.{Planned, RatedFlight, IsLeastMoment, next_event, rated_messages, SomeSpentAt, drained_to, next_of, may_launch, SomeReadyAt, is_spent}
-use Rattle.link_simulation.specs.Rule.Events.{Accounts, PlansStart, launched, Launches, nothing_waits, too_early, no_id, starts, landed, Finishes, all_completed, late, stopped, completes, WakesEach, all_started, no_start, no_finish, starts_one, Wakes, Settles, settling, Rebalances, none_sending, some_sending, Enqueues, at_once, no_launch, launches, with_queued, Advances, no_more, at_finish, at_start, finish_stops, start_stops, Obeys}
+use Rattle.link_simulation.specs.Simulation.World.{Completed, Course, goes, meets, last_moment, preceded, is_late}
+use Rattle.link_simulation.specs.Simulation.World.{completed}
+use Rattle.link_simulation.specs.Simulation.Calls.{Call, call_limit, call_limit_link, call_enqueue, call_advance}
+use Rattle.link_simulation.specs.Simulation.Calls.{call_next}
+use Rattle.link_simulation.specs.Rule.Planned.{Planned, RatedFlight, IsLeastMoment, next_event, rated_messages}
+use Rattle.link_simulation.specs.Rule.Planned.{SomeSpentAt, drained_to, next_of, may_launch, SomeReadyAt, is_spent}
+use Rattle.link_simulation.specs.Rule.Events.{Accounts, PlansStart, launched, Launches, nothing_waits, too_early, no_id}
+use Rattle.link_simulation.specs.Rule.Events.{starts, landed, Finishes, all_completed, late, stopped, completes}
+use Rattle.link_simulation.specs.Rule.Events.{WakesEach, all_started, no_start, no_finish, starts_one, Wakes, Settles}
+use Rattle.link_simulation.specs.Rule.Events.{settling, Rebalances, none_sending, some_sending, Enqueues, at_once}
+use Rattle.link_simulation.specs.Rule.Events.{no_launch, launches, with_queued, Advances, no_more, at_finish, at_start}
+use Rattle.link_simulation.specs.Rule.Events.{finish_stops, start_stops, Obeys}
 use Rattle.link_simulation.proofs.Simulation.AlikeMessages.{same_itself}
 use Rattle.link_simulation.proofs.Simulation.Rates.{Match, rates_match}
 
@@ -75,7 +84,8 @@ sending_is_one {P} t (x ∷ xs) (y ∷ ys) d e (b ∷ bs) (f ∷ fs) (g ∷ gs) 
         × (a * p ≡ b * q)
     head x z a p q (b, is, e) = (b, cc, e)
 
-stays_flows : {P : Type 0} (t : ℕ) (bs fs : List (RatedFlight P)) → AllZip (Stay t) bs fs → rated_messages fs ≡ rated_messages bs
+stays_flows : {P : Type 0} (t : ℕ) (bs fs : List (RatedFlight P)) → AllZip (Stay t) bs fs
+    → rated_messages fs ≡ rated_messages bs
 stays_flows t [] [] all = refl
 stays_flows t [] (f ∷ fs) all = absurd all
 stays_flows t (b ∷ bs) [] all = absurd all
@@ -112,7 +122,8 @@ module _ {P : Type 0} (cmp : P → P → Ordering) (order : IsTotalOrder cmp) wh
       let left : ls ≡ ms = f.left ∙ sym g.left in
       λ i. goes (left i) (world i)
 
-  look_is_one : (t : ℕ) (old new other : Planned P) → PlansStart cmp t old new → PlansStart cmp t old other → new ≡ other
+  look_is_one : (t : ℕ) (old new other : Planned P) → PlansStart cmp t old new → PlansStart cmp t old other
+      → new ≡ other
   look_is_one t old new other f g =
       let start : new.start ≡ other.start =
       least_is_one (λ s. (t ≤ s) × SomeReadyAt cmp old s) new.start other.start f.start g.start in
@@ -360,7 +371,8 @@ module _ {P : Type 0} (cmp : P → P → Ordering) (order : IsTotalOrder cmp) wh
 
   rebalance_is_one : (now : ℕ) (caps : Caps P) (p : Planned P) (c d : Course (Completed P) (Planned P))
       → Rebalances cmp now caps p c → Rebalances cmp now caps p d → c ≡ d
-  rebalance_is_one now caps p c d (none_sending {new = new} none looks) (none_sending {new = other} none_too looks_too) =
+  rebalance_is_one now caps p c d (none_sending {new = new} none looks)
+      (none_sending {new = other} none_too looks_too) =
       ap (goes []) (look_is_one now (record p { caps = caps; limited = true }) new other looks looks_too)
   rebalance_is_one now caps p c d (none_sending none looks) (some_sending some settles) = absurd (some none)
   rebalance_is_one now caps p c d (some_sending some settles) (none_sending none looks) = absurd (some none)

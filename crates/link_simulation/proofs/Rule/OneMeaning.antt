@@ -15,7 +15,8 @@ use Rattle.link_simulation.specs.Simulation.Calls.{Call, call_advance, Runs}
 use Rattle.link_simulation.specs.Simulation.Replies.{SameCompletion, Faults}
 use Rattle.link_simulation.specs.Rule.Planned.{Planned}
 use Rattle.link_simulation.specs.Rule.StandsFor.{StandsFor}
-use Rattle.link_simulation.specs.Rule.Simulated.{IsCalled, IsRun, RunsInTwo, IsSimulated, IsSplitAnywhere, IsNextInSimulation, MeetsFault, IsRefusedInSimulation}
+use Rattle.link_simulation.specs.Rule.Simulated.{IsCalled, IsRun, RunsInTwo, IsSimulated, IsSplitAnywhere}
+use Rattle.link_simulation.specs.Rule.Simulated.{IsNextInSimulation, MeetsFault, IsRefusedInSimulation}
 use Rattle.link_simulation.proofs.Laws.AdvanceOnward.{advance_splits}
 use Rattle.link_simulation.proofs.Rule.OneCourse.{course_is_one}
 use Rattle.link_simulation.proofs.Simulation.OneNext.{next_is_one}
@@ -24,7 +25,8 @@ use Rattle.link_simulation.proofs.Rule.Simulated.{sound_of_stands}
 
 module _ {P : Type 0} (cmp : P → P → Ordering) (order : IsTotalOrder cmp) where
   -- where two courses go and are one, what holds of the one holds of the other
-  alike : (cs ds es : List (Completed P)) (q : Planned P) (v u : World P) → goes ds v ≡ goes es u → AllZip (SameCompletion cmp) cs es
+  alike : (cs ds es : List (Completed P)) (q : Planned P) (v u : World P) → goes ds v ≡ goes es u
+      → AllZip (SameCompletion cmp) cs es
       → StandsFor cmp q u → AllZip (SameCompletion cmp) cs ds × StandsFor cmp q v
   alike cs ds es q v u one same stands =
       let answers : ds ≡ es = cc in
@@ -33,30 +35,38 @@ module _ {P : Type 0} (cmp : P → P → Ordering) (order : IsTotalOrder cmp) wh
         subst (λ (x : World P). StandsFor cmp q x) (sym world) stands,
       )
 
-  pub one_run : (p q : Planned P) (w v : World P) (call : Call P) (now : ℕ) (cs ds : List (Completed P)) → IsSimulated cmp p call cs q
-      → IsCalled cmp p call now w → Runs cmp w call now (goes ds v) → AllZip (SameCompletion cmp) cs ds × StandsFor cmp q v
+  pub one_run : (p q : Planned P) (w v : World P) (call : Call P) (now : ℕ) (cs ds : List (Completed P))
+      → IsSimulated cmp p call cs q
+      → IsCalled cmp p call now w → Runs cmp w call now (goes ds v)
+      → AllZip (SameCompletion cmp) cs ds × StandsFor cmp q v
   one_run p q w v call now cs ds simulated called runs =
       let run : IsRun cmp w call now cs q = simulated w now called in
       alike cs ds run.answers q v run.after
-      (runs_are_one cmp order w call now (goes ds v) (goes run.answers run.after) (sound_of_stands cmp order p w called.stands) runs run.runs)
+      (runs_are_one cmp order w call now (goes ds v) (goes run.answers run.after)
+      (sound_of_stands cmp order p w called.stands) runs run.runs)
       run.same run.stands
 
-  pub no_fault : (p q : Planned P) (w : World P) (call : Call P) (now : ℕ) (cs : List (Completed P)) → IsSimulated cmp p call cs q
+  pub no_fault : (p q : Planned P) (w : World P) (call : Call P) (now : ℕ) (cs : List (Completed P))
+      → IsSimulated cmp p call cs q
       → IsCalled cmp p call now w → (fault : Error) → ¬ Faults cmp w call fault
   no_fault p q w call now cs simulated called fault meets_it = (simulated w now called).no_fault fault meets_it
 
-  pub one_split : (p q : Planned P) (w v : World P) (between now : ℕ) (cs ds : List (Completed P)) → IsSplitAnywhere cmp p now cs q
+  pub one_split : (p q : Planned P) (w v : World P) (between now : ℕ) (cs ds : List (Completed P))
+      → IsSplitAnywhere cmp p now cs q
       → StandsFor cmp p w → w.moment ≤ between → between ≤ now → Runs cmp w (call_advance now) now (goes ds v)
       → AllZip (SameCompletion cmp) cs ds × StandsFor cmp q v
   one_split p q w v between now cs ds split stands after before runs =
       let two : RunsInTwo cmp w between now cs q = split w between stands after before in
       alike cs ds (two.first_answers ++ two.second_answers) q v two.after
-      (runs_are_one cmp order w (call_advance now) now (goes ds v) (goes (two.first_answers ++ two.second_answers) two.after)
+      (runs_are_one cmp order w (call_advance now) now (goes ds v)
+      (goes (two.first_answers ++ two.second_answers) two.after)
       (sound_of_stands cmp order p w stands) runs
-      (advance_splits cmp order w two.between between now two.first_answers (goes two.second_answers two.after) after before two.runs_first two.runs_second))
+      (advance_splits cmp order w two.between between now two.first_answers (goes two.second_answers two.after) after
+      before two.runs_first two.runs_second))
       two.same two.stands
 
-  pub one_next : (p : Planned P) (w : World P) (told next : Option ℕ) → IsNextInSimulation cmp p told → StandsFor cmp p w
+  pub one_next : (p : Planned P) (w : World P) (told next : Option ℕ) → IsNextInSimulation cmp p told
+      → StandsFor cmp p w
       → NextIs cmp w next → told ≡ next
   one_next p w told next simulated stands is =
       next_is_one cmp order w told next (sound_of_stands cmp order p w stands).positive (simulated w stands) is
@@ -64,9 +74,11 @@ module _ {P : Type 0} (cmp : P → P → Ordering) (order : IsTotalOrder cmp) wh
   -- ---- what a call may be refused for that could go
 
   -- what goes by the event rule has its one course
-  pub one_going : (p q r : Planned P) (call : Call P) (cs ds : List (Completed P)) → GoesByRule cmp p call cs q → Obeys cmp p call (goes ds r)
+  pub one_going : (p q r : Planned P) (call : Call P) (cs ds : List (Completed P)) → GoesByRule cmp p call cs q
+      → Obeys cmp p call (goes ds r)
       → AllZip (SameCompletion cmp) cs ds × IsSamePlanned cmp r q
-  one_going p q r call cs ds went obeys = by_course (course_is_one cmp order p call (goes ds r) (goes went.answers went.after) obeys went.obeys)
+  one_going p q r call cs ds went obeys =
+      by_course (course_is_one cmp order p call (goes ds r) (goes went.answers went.after) obeys went.obeys)
     where
       by_course : goes ds r ≡ goes went.answers went.after → AllZip (SameCompletion cmp) cs ds × IsSamePlanned cmp r q
       by_course one =
@@ -77,7 +89,8 @@ module _ {P : Type 0} (cmp : P → P → Ordering) (order : IsTotalOrder cmp) wh
           )
 
   -- it is refused for memory alone
-  pub not_refused : (p q : Planned P) (call : Call P) (why : Error) (cs : List (Completed P)) → MayBeRefused cmp p call why
+  pub not_refused : (p q : Planned P) (call : Call P) (why : Error) (cs : List (Completed P))
+      → MayBeRefused cmp p call why
       → Obeys cmp p call (goes cs q) → why ≡ OutOfMemory
   not_refused p q call why cs may obeys = by_cause why may
     where
@@ -91,8 +104,10 @@ module _ {P : Type 0} (cmp : P → P → Ordering) (order : IsTotalOrder cmp) wh
       by_cause FlowIdsUsedUp may = absurd (never FlowIdsUsedUp may)
 
   -- and so in the simulation
-  pub not_refused_in_simulation : (p : Planned P) (w v : World P) (call : Call P) (now : ℕ) (why : Error) (cs : List (Completed P))
-      → IsRefusedInSimulation cmp p call why → IsCalled cmp p call now w → Runs cmp w call now (goes cs v) → why ≡ OutOfMemory
+  pub not_refused_in_simulation : (p : Planned P) (w v : World P) (call : Call P) (now : ℕ) (why : Error)
+      (cs : List (Completed P))
+      → IsRefusedInSimulation cmp p call why → IsCalled cmp p call now w → Runs cmp w call now (goes cs v)
+      → why ≡ OutOfMemory
   not_refused_in_simulation p w v call now why cs refused called runs = by_cause why refused.cause
     where
       never : (fault : Error) → MeetsFault cmp p call fault → ⊥
@@ -102,7 +117,9 @@ module _ {P : Type 0} (cmp : P → P → Ordering) (order : IsTotalOrder cmp) wh
           by_fault (at, is, faults) =
               let both : Some at ≡ Some now = sym is ∙ called.moment in
               let same : at ≡ now = cc in
-              let one = runs_are_one cmp order w call now (goes cs v) (meets fault) (sound_of_stands cmp order p w called.stands) runs
+              let one =
+              runs_are_one cmp order w call now (goes cs v) (meets fault)
+              (sound_of_stands cmp order p w called.stands) runs
               (subst (λ (t : ℕ). Runs cmp w call t (meets fault)) same faults) in
               cc
 

@@ -1,5 +1,6 @@
 -- In the range no call meets a fault, and it leaves the planned world in the range.
-use Rattle.std.proofs.Common.{◌≡◌, ℕ, ◌+◌, ◌<◌, ◌≤◌, ◌^◌, List, [], ◌∷◌, ◌++◌, length, Bool, true, false, cond, not, Option, Some, None, refl, sym, ◌∙◌, subst, arith}
+use Rattle.std.proofs.Common.{◌≡◌, ℕ, ◌+◌, ◌<◌, ◌≤◌, ◌^◌, List, [], ◌∷◌, ◌++◌, length, Bool, true, false, cond, not}
+use Rattle.std.proofs.Common.{Option, Some, None, refl, sym, ◌∙◌, subst, arith}
 use Rattle.std.specs.Prelude.{◌&&◌, nat_lt, if◌then◌else◌}
 use Rattle.std.specs.List.{filter, find, AllZip}
 use Rattle.std.specs.declared.cmp.Ordering.{Ordering}
@@ -9,9 +10,16 @@ use Rattle.fair_rates.specs.Lists.WithoutFirst.{without_first}
 use Rattle.fair_rates.specs.declared.error.Error.TheVariants.{MomentTooLate}
 use Rattle.fair_rates.specs.Numbers.Amount.{whole}
 use Rattle.link_simulation.specs.Simulation.Messages.{Message, Caps, same_pair, pair_before, is_delivered}
-use Rattle.link_simulation.specs.Simulation.World.{Completed, completion_of, Course, goes, meets, last_moment, preceded, raised, later_of, is_late, completed}
-use Rattle.link_simulation.specs.Rule.Planned.{Planned, RatedFlight, rated_messages, drained_to, is_spent, next_of, may_launch, queued}
-use Rattle.link_simulation.specs.Rule.Events.{Accounts, PlansStart, Launches, nothing_waits, too_early, no_id, starts, Finishes, all_completed, late, stopped, completes, WakesEach, all_started, no_start, no_finish, starts_one, Settles, settling, Rebalances, none_sending, some_sending, Enqueues, at_once, no_launch, launches, completed_at_once, with_queued, Advances, no_more, at_finish, at_start, finish_stops, start_stops, launched, landed}
+use Rattle.link_simulation.specs.Simulation.World.{Completed, completion_of, Course, goes, meets, last_moment, preceded}
+use Rattle.link_simulation.specs.Simulation.World.{raised, later_of, is_late, completed}
+use Rattle.link_simulation.specs.Rule.Planned.{Planned, RatedFlight, rated_messages, drained_to, is_spent, next_of}
+use Rattle.link_simulation.specs.Rule.Planned.{may_launch, queued}
+use Rattle.link_simulation.specs.Rule.Events.{Accounts, PlansStart, Launches, nothing_waits, too_early, no_id, starts}
+use Rattle.link_simulation.specs.Rule.Events.{Finishes, all_completed, late, stopped, completes, WakesEach, all_started}
+use Rattle.link_simulation.specs.Rule.Events.{no_start, no_finish, starts_one, Settles, settling, Rebalances}
+use Rattle.link_simulation.specs.Rule.Events.{none_sending, some_sending, Enqueues, at_once, no_launch, launches}
+use Rattle.link_simulation.specs.Rule.Events.{completed_at_once, with_queued, Advances, no_more, at_finish, at_start}
+use Rattle.link_simulation.specs.Rule.Events.{finish_stops, start_stops, launched, landed}
 use Rattle.fair_rates.proofs.Lists.Each.{Each, each_find, each_without, each_joined, each_map, each_filtered}
 use Rattle.link_simulation.proofs.Simulation.SettlingEnds.{find_like, length_without}
 use Rattle.link_simulation.proofs.Simulation.Queue.{find_passes}
@@ -26,7 +34,8 @@ IsNearFlight f = IsNear f.message
 
 -- ---- an account
 
-drained_near : {P : Type 0} (t : ℕ) (fs : List (RatedFlight P)) → Each IsNearFlight fs → Each IsNearFlight (drained_to t fs)
+drained_near : {P : Type 0} (t : ℕ) (fs : List (RatedFlight P)) → Each IsNearFlight fs
+    → Each IsNearFlight (drained_to t fs)
 drained_near t [] near = tt
 drained_near t (f ∷ fs) near = (near.0, drained_near t fs near.1)
 
@@ -203,7 +212,8 @@ module _ {P : Type 0} (cmp : P → P → Ordering) (order : IsTotalOrder cmp) (m
       → Rebalances cmp now caps p c → now < 2 ^ 63 → Holds p → GoesWell c
   rebalances_well {now = now} {caps = caps} {p = p} (none_sending {new = new} empty looks) early h =
       looked_holds now (record p { caps = caps; limited = true }) new (rebalanced p caps h) looks
-  rebalances_well {caps = caps} {p = p} (some_sending some event) early h = settles_well event early (rebalanced p caps h)
+  rebalances_well {caps = caps} {p = p} (some_sending some event) early h =
+      settles_well event early (rebalanced p caps h)
 
   -- ---- a message
 

@@ -1,5 +1,7 @@
--- A call in the range is refused for memory alone, and so are the calls of a list, each with those that were made before it.
-use Rattle.std.proofs.Common.{◌≡◌, ℕ, ◌+◌, ◌<◌, ◌≤◌, ◌^◌, List, [], ◌∷◌, ◌++◌, length, All, refl, sym, ◌∙◌, ap, subst, append_assoc, arith}
+-- A call in the range is refused for memory alone, and so are the calls of a list, each with those that were made
+-- before it.
+use Rattle.std.proofs.Common.{◌≡◌, ℕ, ◌+◌, ◌<◌, ◌≤◌, ◌^◌, List, [], ◌∷◌, ◌++◌, length, All, refl, sym, ◌∙◌, ap, subst}
+use Rattle.std.proofs.Common.{append_assoc, arith}
 use Rattle.std.specs.Prelude.{IfSome}
 use Rattle.std.specs.List.{AllZip}
 use Rattle.std.specs.declared.cmp.Ordering.{Ordering}
@@ -10,7 +12,8 @@ use Rattle.fair_rates.specs.declared.error.Error.{Error}
 use Rattle.fair_rates.specs.declared.error.Error.TheVariants.{OutOfMemory, NumberTooLarge, MomentTooLate, FlowIdsUsedUp}
 use Rattle.link_simulation.specs.Simulation.Messages.{Message}
 use Rattle.link_simulation.specs.Simulation.World.{Completed, Course, goes, meets}
-use Rattle.link_simulation.specs.Simulation.Calls.{Call, call_limit, call_limit_link, call_enqueue, call_advance, call_next, moment_of}
+use Rattle.link_simulation.specs.Simulation.Calls.{Call, call_limit, call_limit_link, call_enqueue, call_advance}
+use Rattle.link_simulation.specs.Simulation.Calls.{call_next, moment_of}
 use Rattle.link_simulation.specs.Laws.PairCompletions.{enqueued}
 use Rattle.link_simulation.specs.Simulation.Replies.{Reply, reply_done, reply_next, reply_refused, SameCompletion}
 use Rattle.link_simulation.specs.Rule.Planned.{Planned, new_planned}
@@ -20,7 +23,8 @@ use Rattle.link_simulation.specs.Rule.Refusals.{MayBeRefused, Obeyed}
 use Rattle.link_simulation.specs.Laws.Replies.{RefusesForMemoryAlone}
 use Rattle.fair_rates.proofs.Lists.Each.{Each, each_of_all, all_of_each, all_of_both}
 use Rattle.link_simulation.proofs.Laws.PairCompletions.{enqueued_split}
-use Rattle.link_simulation.proofs.Rule.Range.{Holds, IsNear, IsNearFlight, GoesWell, rebalances_well, enqueues_well, advances_well}
+use Rattle.link_simulation.proofs.Rule.Range.{Holds, IsNear, IsNearFlight, GoesWell, rebalances_well, enqueues_well}
+use Rattle.link_simulation.proofs.Rule.Range.{advances_well}
 use Rattle.link_simulation.proofs.Rule.Stepwise.{obeyed_next, obeyed_refused, obeyed_done}
 
 -- ---- calls in the range

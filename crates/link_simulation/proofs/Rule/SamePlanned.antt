@@ -1,4 +1,5 @@
--- Planned worlds that are the same up to equal peers: each is the same as itself, whichever stands first, and along a chain.
+-- Planned worlds that are the same up to equal peers: each is the same as itself, whichever stands first, and along a
+-- chain.
 use Rattle.std.proofs.Common.{◌≡◌, List, [], ◌∷◌, refl, sym, ◌∙◌, true}
 use Rattle.std.specs.List.{AllZip}
 use Rattle.std.specs.declared.cmp.Ordering.{Ordering}
@@ -14,7 +15,8 @@ use Rattle.fair_rates.proofs.Lists.Zips.{zip_chain, zip-same}
 
 -- ---- lists
 
-pub zip_turned : {X Y : Type 0} (R : X → Y → Type 0) (S : Y → X → Type 0) → ((x : X) (y : Y) → R x y → S y x) → (xs : List X) (ys : List Y) → AllZip R xs ys → AllZip S ys xs
+pub zip_turned : {X Y : Type 0} (R : X → Y → Type 0) (S : Y → X → Type 0) → ((x : X) (y : Y) → R x y → S y x)
+    → (xs : List X) (ys : List Y) → AllZip R xs ys → AllZip S ys xs
 zip_turned R S turn [] [] all = tt
 zip_turned R S turn [] (y ∷ ys) all = absurd all
 zip_turned R S turn (x ∷ xs) [] all = absurd all
@@ -61,7 +63,8 @@ module _ {P : Type 0} (cmp : P → P → Ordering) (order : IsTotalOrder cmp) wh
   pairs_turned f g alike p q r s e h = sym (alike q p s r (peer_turned p q e) (peer_turned r s h))
 
   pub pairs_chain : {X : Type 0} (f g h : P → P → X) → PairsAlike cmp f g → PairsAlike cmp g h → PairsAlike cmp f h
-  pairs_chain f g h first second p q r s e k = first p q r s e k ∙ second q q s s (one_peer cmp order q) (one_peer cmp order s)
+  pairs_chain f g h first second p q r s e k =
+      first p q r s e k ∙ second q q s s (one_peer cmp order q) (one_peer cmp order s)
 
   pub caps_turned : (caps others : Caps P) → CapsAlike cmp caps others → CapsAlike cmp others caps
   caps_turned caps others alike = record {
@@ -70,7 +73,8 @@ module _ {P : Type 0} (cmp : P → P → Ordering) (order : IsTotalOrder cmp) wh
     link = pairs_turned caps.link others.link alike.link;
   }
 
-  pub caps_chain : (caps others last : Caps P) → CapsAlike cmp caps others → CapsAlike cmp others last → CapsAlike cmp caps last
+  pub caps_chain : (caps others last : Caps P) → CapsAlike cmp caps others → CapsAlike cmp others last
+      → CapsAlike cmp caps last
   caps_chain caps others last first second = record {
     egress = answers_chain caps.egress others.egress last.egress first.egress second.egress;
     ingress = answers_chain caps.ingress others.ingress last.ingress first.ingress second.ingress;
@@ -83,14 +87,28 @@ module _ {P : Type 0} (cmp : P → P → Ordering) (order : IsTotalOrder cmp) wh
   paced_itself f = record { message = message_itself cmp order f.message; left = refl; rate = refl; updated = refl }
 
   pub paced_turned : (f g : RatedFlight P) → IsSameRatedFlight cmp f g → IsSameRatedFlight cmp g f
-  paced_turned f g e = record { message = message_turned f.message g.message e.message; left = sym e.left; rate = sym e.rate; updated = sym e.updated }
+  paced_turned f g e =
+      record {
+        message = message_turned f.message g.message e.message;
+        left = sym e.left;
+        rate = sym e.rate;
+        updated = sym e.updated;
+      }
 
-  paced_chain : (f g h : RatedFlight P) → IsSameRatedFlight cmp f g → IsSameRatedFlight cmp g h → IsSameRatedFlight cmp f h
-  paced_chain f g h d e = record { message = message_chain f.message g.message h.message d.message e.message; left = d.left ∙ e.left; rate = d.rate ∙ e.rate; updated = d.updated ∙ e.updated }
+  paced_chain : (f g h : RatedFlight P) → IsSameRatedFlight cmp f g → IsSameRatedFlight cmp g h
+      → IsSameRatedFlight cmp f h
+  paced_chain f g h d e =
+      record {
+        message = message_chain f.message g.message h.message d.message e.message;
+        left = d.left ∙ e.left;
+        rate = d.rate ∙ e.rate;
+        updated = d.updated ∙ e.updated;
+      }
 
   -- ---- planned worlds
 
-  pub same_itself : (p : Planned P) → CapsAlike cmp p.caps p.caps → PairsAlike cmp p.last_arrival p.last_arrival → IsSamePlanned cmp p p
+  pub same_itself : (p : Planned P) → CapsAlike cmp p.caps p.caps → PairsAlike cmp p.last_arrival p.last_arrival
+      → IsSamePlanned cmp p p
   same_itself p caps arrivals = record {
     caps = caps;
     limited = refl;
@@ -118,8 +136,12 @@ module _ {P : Type 0} (cmp : P → P → Ordering) (order : IsTotalOrder cmp) wh
   same_chain p q r first second = record {
     caps = caps_chain p.caps q.caps r.caps first.caps second.caps;
     limited = first.limited ∙ second.limited;
-    sending = zip_chain (IsSameRatedFlight cmp) (IsSameRatedFlight cmp) (IsSameRatedFlight cmp) paced_chain p.sending q.sending r.sending first.sending second.sending;
-    waiting = zip_chain (SameMessage cmp) (SameMessage cmp) (SameMessage cmp) message_chain p.waiting q.waiting r.waiting first.waiting second.waiting;
+    sending =
+        zip_chain (IsSameRatedFlight cmp) (IsSameRatedFlight cmp) (IsSameRatedFlight cmp) paced_chain p.sending
+        q.sending r.sending first.sending second.sending;
+    waiting =
+        zip_chain (SameMessage cmp) (SameMessage cmp) (SameMessage cmp) message_chain p.waiting q.waiting r.waiting
+        first.waiting second.waiting;
     last_arrival = pairs_chain p.last_arrival q.last_arrival r.last_arrival first.last_arrival second.last_arrival;
     next_id = first.next_id ∙ second.next_id;
     finish = first.finish ∙ second.finish;

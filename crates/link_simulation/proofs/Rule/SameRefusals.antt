@@ -5,12 +5,14 @@ use Rattle.std.specs.declared.cmp.Ordering.{Ordering}
 use Rattle.std.specs.Cmp.{IsTotalOrder}
 use Rattle.fair_rates.specs.declared.error.Error.{Error}
 use Rattle.link_simulation.specs.Simulation.World.{Completed, goes, meets}
-use Rattle.link_simulation.specs.Simulation.Calls.{Call, call_limit, call_limit_link, call_enqueue, call_advance, call_next}
+use Rattle.link_simulation.specs.Simulation.Calls.{Call, call_limit, call_limit_link, call_enqueue, call_advance}
+use Rattle.link_simulation.specs.Simulation.Calls.{call_next}
 use Rattle.link_simulation.specs.Simulation.Replies.{Reply, reply_done, reply_next, reply_refused, SameCompletion}
 use Rattle.link_simulation.specs.Rule.Planned.{Planned}
 use Rattle.link_simulation.specs.Rule.Events.{Obeys}
 use Rattle.link_simulation.specs.Rule.Refusals.{MayBeRefused, Obeyed}
-use Rattle.link_simulation.specs.Rule.SamePlanned.{IsSamePlanned, IsSameCall, same_limit, same_limit_link, same_enqueue, same_advance, same_next}
+use Rattle.link_simulation.specs.Rule.SamePlanned.{IsSamePlanned, IsSameCall, same_limit, same_limit_link, same_enqueue}
+use Rattle.link_simulation.specs.Rule.SamePlanned.{same_advance, same_next}
 use Rattle.link_simulation.proofs.Simulation.RefusalCauses.{refused_more}
 use Rattle.link_simulation.proofs.Simulation.AlikeMessages.{same_itself as one_peer, message_itself}
 use Rattle.link_simulation.proofs.Rule.Agreeing.{all_trans}

@@ -1,5 +1,6 @@
 -- Planned worlds that are the same up to equal peers stand for the same worlds, and are in the range alike.
-use Rattle.std.proofs.Common.{◌≡◌, ℕ, ◌+◌, ◌<◌, ◌≤◌, ◌^◌, List, [], ◌∷◌, length, true, Option, sym, ◌∙◌, subst, arith, All}
+use Rattle.std.proofs.Common.{◌≡◌, ℕ, ◌+◌, ◌<◌, ◌≤◌, ◌^◌, List, [], ◌∷◌, length, true, Option, sym, ◌∙◌, subst, arith}
+use Rattle.std.proofs.Common.{All}
 use Rattle.std.specs.Prelude.{IfSome}
 use Rattle.std.specs.List.{filter, list_any, AllZip}
 use Rattle.std.specs.declared.cmp.Ordering.{Ordering}
@@ -9,24 +10,29 @@ use Rattle.fair_rates.specs.Numbers.Amount.{Amount}
 use Rattle.link_simulation.specs.Simulation.Messages.{Message, SameMessage, OneForEachPair, same_pair, pair_before}
 use Rattle.link_simulation.specs.Simulation.Rates.{IsLowest, rate_of}
 use Rattle.link_simulation.specs.Simulation.World.{World, Flight}
-use Rattle.link_simulation.specs.Rule.Planned.{Planned, RatedFlight, IsRated, AreInPairOrder, IsLeastMoment, SomeSpentAt, SomeReadyAt, rated_messages}
+use Rattle.link_simulation.specs.Rule.Planned.{Planned, RatedFlight, IsRated, AreInPairOrder, IsLeastMoment}
+use Rattle.link_simulation.specs.Rule.Planned.{SomeSpentAt, SomeReadyAt, rated_messages}
 use Rattle.link_simulation.specs.Rule.Range.{IsInRange}
 use Rattle.link_simulation.specs.Rule.StandsFor.{IsSameFlight, Tallies, StandsFor}
 use Rattle.link_simulation.specs.Rule.SamePlanned.{IsSameRatedFlight, IsSamePlanned}
-use Rattle.link_simulation.proofs.Simulation.AlikeMessages.{same_itself, pairs_alike, message_itself, any_alike, fair_alike}
+use Rattle.link_simulation.proofs.Simulation.AlikeMessages.{same_itself, pairs_alike, message_itself, any_alike}
+use Rattle.link_simulation.proofs.Simulation.AlikeMessages.{fair_alike}
 use Rattle.link_simulation.proofs.Simulation.InOrder.{before_alike}
 use Rattle.link_simulation.proofs.Rule.SamePlanned.{message_chain, pairs_chain, caps_chain, same_turned}
 use Rattle.fair_rates.proofs.Lists.Zips.{zip_chain, zip-filter}
-use Rattle.link_simulation.proofs.Rule.SameSteps.{none_same, least_same, flows_same, left_same, some_spent_same, some_ready_same}
+use Rattle.link_simulation.proofs.Rule.SameSteps.{none_same, least_same, flows_same, left_same, some_spent_same}
+use Rattle.link_simulation.proofs.Rule.SameSteps.{some_ready_same}
 
 -- ---- lists
 
 -- what holds of each holds of those that are the same
-all_across : {X : Type 0} (R : X → X → Type 0) (Q : X → Type 0) → ((x y : X) → R x y → Q x → Q y) → (xs ys : List X) → AllZip R xs ys → All Q xs → All Q ys
+all_across : {X : Type 0} (R : X → X → Type 0) (Q : X → Type 0) → ((x y : X) → R x y → Q x → Q y) → (xs ys : List X)
+    → AllZip R xs ys → All Q xs → All Q ys
 all_across R Q f [] [] all h = All-nil Q
 all_across R Q f [] (y ∷ ys) all h = absurd all
 all_across R Q f (x ∷ xs) [] all h = absurd all
-all_across R Q f (x ∷ xs) (y ∷ ys) all h = All-cons Q y ys (f x y all.0 (All-head Q x xs h)) (all_across R Q f xs ys all.1 (All-tail Q x xs h))
+all_across R Q f (x ∷ xs) (y ∷ ys) all h =
+    All-cons Q y ys (f x y all.0 (All-head Q x xs h)) (all_across R Q f xs ys all.1 (All-tail Q x xs h))
 
 module _ {P : Type 0} (cmp : P → P → Ordering) (order : IsTotalOrder cmp) where
   -- ---- rates
@@ -35,13 +41,19 @@ module _ {P : Type 0} (cmp : P → P → Ordering) (order : IsTotalOrder cmp) wh
   rated_same p q same rated = record {
     per = rated.per;
     rates = rated.rates;
-    fair = fair_alike cmp order p.caps q.caps same.caps (rated_messages p.sending) (rated_messages q.sending) rated.per rated.rates (flows_same cmp order p.sending q.sending same.sending) rated.fair;
-    rated = zip_chain (λ rate f. f.rate ≡ rate_of rated.per rate) (IsSameRatedFlight cmp) (λ rate f. f.rate ≡ rate_of rated.per rate) (λ rate f g e h. sym h.rate ∙ e) rated.rates p.sending q.sending rated.rated same.sending;
+    fair =
+        fair_alike cmp order p.caps q.caps same.caps (rated_messages p.sending) (rated_messages q.sending) rated.per
+        rated.rates (flows_same cmp order p.sending q.sending same.sending) rated.fair;
+    rated =
+        zip_chain (λ rate f. f.rate ≡ rate_of rated.per rate) (IsSameRatedFlight cmp)
+        (λ rate f. f.rate ≡ rate_of rated.per rate) (λ rate f g e h. sym h.rate ∙ e) rated.rates p.sending q.sending
+        rated.rated same.sending;
   }
 
   -- ---- standing for a world
 
-  flight_same : (t : ℕ) (f g : RatedFlight P) (h : Flight P) → IsSameRatedFlight cmp f g → IsSameFlight cmp t g h → IsSameFlight cmp t f h
+  flight_same : (t : ℕ) (f g : RatedFlight P) (h : Flight P) → IsSameRatedFlight cmp f g → IsSameFlight cmp t g h
+      → IsSameFlight cmp t f h
   flight_same t f g h same flight = record {
     message = message_chain cmp order f.message g.message h.message same.message flight.message;
     updated = subst (λ (n : ℕ). n ≤ t) (sym same.updated) flight.updated;
@@ -53,31 +65,44 @@ module _ {P : Type 0} (cmp : P → P → Ordering) (order : IsTotalOrder cmp) wh
   none_before_same : (m n : Message P) (ms ns : List (Message P)) → SameMessage cmp m n → AllZip (SameMessage cmp) ms ns
       → list_any (λ k. pair_before cmp k m) ms ≡ list_any (λ k. pair_before cmp k n) ns
   none_before_same m n ms ns same all =
-      any_alike cmp order (SameMessage cmp) (λ k. pair_before cmp k m) (λ k. pair_before cmp k n) (λ k l e. before_alike cmp order k l m n e same) ms ns all
+      any_alike cmp order (SameMessage cmp) (λ k. pair_before cmp k m) (λ k. pair_before cmp k n)
+      (λ k l e. before_alike cmp order k l m n e same) ms ns all
 
-  pub order_same : (ms ns : List (Message P)) → AllZip (SameMessage cmp) ms ns → AreInPairOrder cmp ms → AreInPairOrder cmp ns
+  pub order_same : (ms ns : List (Message P)) → AllZip (SameMessage cmp) ms ns → AreInPairOrder cmp ms
+      → AreInPairOrder cmp ns
   order_same [] [] all h = tt
   order_same [] (n ∷ ns) all h = absurd all
   order_same (m ∷ ms) [] all h = absurd all
   order_same (m ∷ ms) (n ∷ ns) all h = (sym (none_before_same m n ms ns all.0 all.1) ∙ h.0, order_same ms ns all.1 h.1)
 
-  tallies_same : (t : ℕ) (p q : Planned P) (w : World P) → IsSamePlanned cmp p q → IsSamePlanned cmp q p → Tallies cmp t p w → Tallies cmp t q w
+  tallies_same : (t : ℕ) (p q : Planned P) (w : World P) → IsSamePlanned cmp p q → IsSamePlanned cmp q p
+      → Tallies cmp t p w → Tallies cmp t q w
   tallies_same t p q w same back tallies = record {
     moment = tallies.moment;
     caps = caps_chain cmp order q.caps p.caps w.caps back.caps tallies.caps;
     limited = back.limited ∙ tallies.limited;
-    last_arrival = pairs_chain cmp order q.last_arrival p.last_arrival w.last_arrival back.last_arrival tallies.last_arrival;
+    last_arrival =
+        pairs_chain cmp order q.last_arrival p.last_arrival w.last_arrival back.last_arrival tallies.last_arrival;
     next_id = back.next_id ∙ tallies.next_id;
-    waiting = λ m. zip_chain (SameMessage cmp) (SameMessage cmp) (SameMessage cmp) (message_chain cmp order) (filter (same_pair cmp m) q.waiting) (filter (same_pair cmp m) p.waiting) (filter (same_pair cmp m) w.waiting)
-        (zip-filter (SameMessage cmp) (same_pair cmp m) (same_pair cmp m) (λ k l e. pairs_alike cmp order m m k l (message_itself cmp order m) e) q.waiting p.waiting back.waiting) (tallies.waiting m);
+    waiting = λ m.
+        zip_chain (SameMessage cmp) (SameMessage cmp) (SameMessage cmp) (message_chain cmp order)
+        (filter (same_pair cmp m) q.waiting) (filter (same_pair cmp m) p.waiting) (filter (same_pair cmp m) w.waiting)
+        (zip-filter (SameMessage cmp) (same_pair cmp m) (same_pair cmp m)
+        (λ k l e. pairs_alike cmp order m m k l (message_itself cmp order m) e) q.waiting p.waiting back.waiting)
+        (tallies.waiting m);
     pair_order = order_same p.waiting q.waiting same.waiting tallies.pair_order;
-    sending = zip_chain (IsSameRatedFlight cmp) (IsSameFlight cmp t) (IsSameFlight cmp t) (flight_same t) q.sending p.sending w.sending back.sending tallies.sending;
+    sending =
+        zip_chain (IsSameRatedFlight cmp) (IsSameFlight cmp t) (IsSameFlight cmp t) (flight_same t) q.sending p.sending
+        w.sending back.sending tallies.sending;
     one_each = tallies.one_each;
     empty_at_first = λ free. still_empty (tallies.empty_at_first (same.limited ∙ free));
   }
     where
       still_empty : (p.sending ≡ []) × (p.waiting ≡ []) → (q.sending ≡ []) × (q.waiting ≡ [])
-      still_empty (sends, waits) = (none_same (IsSameRatedFlight cmp) p.sending q.sending same.sending sends, none_same (SameMessage cmp) p.waiting q.waiting same.waiting waits)
+      still_empty (sends, waits) = (
+        none_same (IsSameRatedFlight cmp) p.sending q.sending same.sending sends,
+        none_same (SameMessage cmp) p.waiting q.waiting same.waiting waits,
+      )
 
   pub stands_same : (p q : Planned P) (w : World P) → IsSamePlanned cmp p q → StandsFor cmp p w → StandsFor cmp q w
   stands_same p q w same stands =
@@ -87,23 +112,33 @@ module _ {P : Type 0} (cmp : P → P → Ordering) (order : IsTotalOrder cmp) wh
           tallies = tallies_same w.moment p q w same back stands.follows.tallies;
           rated = rated_same p q same stands.follows.rated;
           finish = subst (IsLeastMoment (SomeSpentAt q.sending)) same.finish
-              (least_same (SomeSpentAt p.sending) (SomeSpentAt q.sending) p.finish (λ t. some_spent_same cmp order p.sending q.sending t same.sending) (λ t. some_spent_same cmp order q.sending p.sending t back.sending) stands.follows.finish);
+              (least_same (SomeSpentAt p.sending) (SomeSpentAt q.sending) p.finish
+              (λ t. some_spent_same cmp order p.sending q.sending t same.sending)
+              (λ t. some_spent_same cmp order q.sending p.sending t back.sending) stands.follows.finish);
         };
         quiet = stands.quiet;
         start = subst (IsLeastMoment (SomeReadyAt cmp q)) same.start
-            (least_same (SomeReadyAt cmp p) (SomeReadyAt cmp q) p.start (some_ready_same cmp order p q same) (some_ready_same cmp order q p back) stands.start);
+            (least_same (SomeReadyAt cmp p) (SomeReadyAt cmp q) p.start (some_ready_same cmp order p q same)
+            (some_ready_same cmp order q p back) stands.start);
       }
 
   -- ---- the range
 
-  pub one_each_same : (ms ns : List (Message P)) → AllZip (SameMessage cmp) ms ns → OneForEachPair cmp ms → OneForEachPair cmp ns
+  pub one_each_same : (ms ns : List (Message P)) → AllZip (SameMessage cmp) ms ns → OneForEachPair cmp ms
+      → OneForEachPair cmp ns
   one_each_same [] [] all h = tt
   one_each_same [] (n ∷ ns) all h = absurd all
   one_each_same (m ∷ ms) [] all h = absurd all
-  one_each_same (m ∷ ms) (n ∷ ns) all h =
-      (sym (any_alike cmp order (SameMessage cmp) (same_pair cmp m) (same_pair cmp n) (λ k l e. pairs_alike cmp order m n k l all.0 e) ms ns all.1) ∙ h.0, one_each_same ms ns all.1 h.1)
+  one_each_same (m ∷ ms) (n ∷ ns) all h = (
+    sym
+        (any_alike cmp order (SameMessage cmp) (same_pair cmp m) (same_pair cmp n)
+        (λ k l e. pairs_alike cmp order m n k l all.0 e) ms ns all.1)
+        ∙ h.0,
+    one_each_same ms ns all.1 h.1,
+  )
 
-  near_flight_same : (f g : RatedFlight P) → IsSameRatedFlight cmp f g → f.message.latency < 2 ^ 63 → g.message.latency < 2 ^ 63
+  near_flight_same : (f g : RatedFlight P) → IsSameRatedFlight cmp f g → f.message.latency < 2 ^ 63
+      → g.message.latency < 2 ^ 63
   near_flight_same f g same near = subst (λ (n : ℕ). n < 2 ^ 63) same.message.latency near
 
   near_same : (m n : Message P) → SameMessage cmp m n → m.latency < 2 ^ 63 → n.latency < 2 ^ 63
@@ -112,9 +147,13 @@ module _ {P : Type 0} (cmp : P → P → Ordering) (order : IsTotalOrder cmp) wh
   pub range_same : (p q : Planned P) → IsSamePlanned cmp p q → IsInRange p → IsInRange q
   range_same p q same range = record {
     sending =
-        all_across (IsSameRatedFlight cmp) (λ f. f.message.latency < 2 ^ 63) near_flight_same p.sending q.sending same.sending
+        all_across (IsSameRatedFlight cmp) (λ f. f.message.latency < 2 ^ 63) near_flight_same p.sending q.sending
+        same.sending
         range.sending;
     waiting =
         all_across (SameMessage cmp) (λ m. m.latency < 2 ^ 63) near_same p.waiting q.waiting same.waiting range.waiting;
-    ids = subst (λ (n : ℕ). n + length q.waiting < 2 ^ 64) same.next_id (subst (λ (n : ℕ). p.next_id + n < 2 ^ 64) (length_all_zip (SameMessage cmp) p.waiting q.waiting same.waiting) range.ids);
+    ids =
+        subst (λ (n : ℕ). n + length q.waiting < 2 ^ 64) same.next_id
+        (subst (λ (n : ℕ). p.next_id + n < 2 ^ 64) (length_all_zip (SameMessage cmp) p.waiting q.waiting same.waiting)
+        range.ids);
   }

@@ -1,5 +1,6 @@
 -- The parts of the event rule's steps are the same on planned worlds that are the same up to equal peers.
-use Rattle.std.proofs.Common.{◌≡◌, ℕ, zero, suc, length, ◌+◌, ◌≤◌, List, [], ◌∷◌, Bool, true, false, not, cond, Option, Some, None, refl, sym, ap, ◌∙◌, subst}
+use Rattle.std.proofs.Common.{◌≡◌, ℕ, zero, suc, length, ◌+◌, ◌≤◌, List, [], ◌∷◌, Bool, true, false, not, cond, Option}
+use Rattle.std.proofs.Common.{Some, None, refl, sym, ap, ◌∙◌, subst}
 use Rattle.std.specs.Prelude.{◌&&◌, nat_lt, if◌then◌else◌, slice_get}
 use Rattle.std.specs.List.{filter, find, AllZip}
 use Rattle.std.specs.declared.cmp.Ordering.{Ordering}
@@ -7,16 +8,21 @@ use Rattle.std.specs.Cmp.{IsTotalOrder}
 use Rattle.fair_rates.specs.Lists.WithoutFirst.{without_first}
 use Rattle.fair_rates.specs.declared.error.Error.{Error}
 use Rattle.fair_rates.specs.Sides.Subjects.{same_peer}
-use Rattle.link_simulation.specs.Simulation.Messages.{Message, Caps, CapsAlike, PairsAlike, SameMessage, same_pair, pair_before}
-use Rattle.link_simulation.specs.Simulation.World.{Completed, Course, goes, meets, last_moment, completion_of, later_of, raised, fronts, arrival}
+use Rattle.link_simulation.specs.Simulation.Messages.{Message, Caps, CapsAlike, PairsAlike, SameMessage, same_pair}
+use Rattle.link_simulation.specs.Simulation.Messages.{pair_before}
+use Rattle.link_simulation.specs.Simulation.World.{Completed, Course, goes, meets, last_moment, completion_of, later_of}
+use Rattle.link_simulation.specs.Simulation.World.{raised, fronts, arrival}
 use Rattle.link_simulation.specs.Simulation.Calls.{limited_by, linked_by}
 use Rattle.link_simulation.specs.Simulation.Replies.{SameCompletion}
-use Rattle.link_simulation.specs.Rule.Planned.{Planned, RatedFlight, IsLeastMoment, SomeSpentAt, SomeReadyAt, next_event, rated_messages, left_at, drained_to, next_of, queued, may_launch, is_spent}
+use Rattle.link_simulation.specs.Rule.Planned.{Planned, RatedFlight, IsLeastMoment, SomeSpentAt, SomeReadyAt}
+use Rattle.link_simulation.specs.Rule.Planned.{next_event, rated_messages, left_at, drained_to, next_of, queued}
+use Rattle.link_simulation.specs.Rule.Planned.{may_launch, is_spent}
 use Rattle.link_simulation.specs.Rule.Events.{launched, landed, with_queued, completed_at_once}
 use Rattle.link_simulation.specs.Rule.SamePlanned.{IsSameRatedFlight, IsSamePlanned, IsSameCourse}
 use Rattle.fair_rates.specs.declared.error.Error.TheVariants.{MomentTooLate}
 use Rattle.fair_rates.specs.Numbers.Amount.{Amount, whole}
-use Rattle.link_simulation.proofs.Simulation.AlikeMessages.{peers_alike, pairs_alike, message_itself, any_alike, unlimited_alike}
+use Rattle.link_simulation.proofs.Simulation.AlikeMessages.{peers_alike, pairs_alike, message_itself, any_alike}
+use Rattle.link_simulation.proofs.Simulation.AlikeMessages.{unlimited_alike}
 use Rattle.link_simulation.proofs.Simulation.SettlingEnds.{find_like}
 use Rattle.link_simulation.proofs.Rule.Launch.{OptionsAlike}
 use Rattle.link_simulation.proofs.Simulation.Queue.{find_passes}
@@ -26,32 +32,39 @@ use Rattle.link_simulation.proofs.Simulation.InOrder.{before_alike}
 
 -- ---- lists
 
-pub find_same : {X Y : Type 0} (R : X → Y → Type 0) (f : X → Bool) (g : Y → Bool) → ((x : X) (y : Y) → R x y → f x ≡ g y) → (xs : List X) (ys : List Y)
+pub find_same : {X Y : Type 0} (R : X → Y → Type 0) (f : X → Bool) (g : Y → Bool)
+    → ((x : X) (y : Y) → R x y → f x ≡ g y) → (xs : List X) (ys : List Y)
     → AllZip R xs ys → OptionsAlike R (find f xs) (find g ys)
 find_same R f g alike [] [] all = tt
 find_same R f g alike [] (y ∷ ys) all = absurd all
 find_same R f g alike (x ∷ xs) [] all = absurd all
-find_same R f g alike (x ∷ xs) (y ∷ ys) all = first_or_later (f x) (g y) (alike x y all.0) (find_same R f g alike xs ys all.1)
+find_same R f g alike (x ∷ xs) (y ∷ ys) all =
+    first_or_later (f x) (g y) (alike x y all.0) (find_same R f g alike xs ys all.1)
   where
-    first_or_later : (a b : Bool) → a ≡ b → OptionsAlike R (find f xs) (find g ys) → OptionsAlike R (cond a (Some x) (find f xs)) (cond b (Some y) (find g ys))
+    first_or_later : (a b : Bool) → a ≡ b → OptionsAlike R (find f xs) (find g ys)
+        → OptionsAlike R (cond a (Some x) (find f xs)) (cond b (Some y) (find g ys))
     first_or_later true true e ih = all.0
     first_or_later true false e ih = cc
     first_or_later false true e ih = cc
     first_or_later false false e ih = ih
 
-pub without_same : {X Y : Type 0} (R : X → Y → Type 0) (f : X → Bool) (g : Y → Bool) → ((x : X) (y : Y) → R x y → f x ≡ g y) → (xs : List X) (ys : List Y)
+pub without_same : {X Y : Type 0} (R : X → Y → Type 0) (f : X → Bool) (g : Y → Bool)
+    → ((x : X) (y : Y) → R x y → f x ≡ g y) → (xs : List X) (ys : List Y)
     → AllZip R xs ys → AllZip R (without_first f xs) (without_first g ys)
 without_same R f g alike [] [] all = tt
 without_same R f g alike [] (y ∷ ys) all = absurd all
 without_same R f g alike (x ∷ xs) [] all = absurd all
 without_same R f g alike (x ∷ xs) (y ∷ ys) all =
-    zip-if R (f x) (g y) xs (x ∷ without_first f xs) ys (y ∷ without_first g ys) (alike x y all.0) all.1 (all.0, without_same R f g alike xs ys all.1)
+    zip-if R (f x) (g y) xs (x ∷ without_first f xs) ys (y ∷ without_first g ys) (alike x y all.0) all.1
+    (all.0, without_same R f g alike xs ys all.1)
 
 -- the item at a place has one that is the same
-pub at_same : {X Y : Type 0} (R : X → Y → Type 0) (xs : List X) (ys : List Y) (i : ℕ) (x : X) → AllZip R xs ys → slice_get xs i ≡ Some x → (y : Y) × (slice_get ys i ≡ Some y) × R x y
+pub at_same : {X Y : Type 0} (R : X → Y → Type 0) (xs : List X) (ys : List Y) (i : ℕ) (x : X) → AllZip R xs ys
+    → slice_get xs i ≡ Some x → (y : Y) × (slice_get ys i ≡ Some y) × R x y
 at_same R [] ys i x all at = cc
 at_same R (z ∷ zs) [] i x all at = absurd all
-at_same {X = X} R (z ∷ zs) (y ∷ ys) zero x all at = let same : z ≡ x = cc in (y, refl, subst (λ (v : X). R v y) same all.0)
+at_same {X = X} R (z ∷ zs) (y ∷ ys) zero x all at =
+    let same : z ≡ x = cc in (y, refl, subst (λ (v : X). R v y) same all.0)
 at_same R (z ∷ zs) (y ∷ ys) (suc i) x all at = at_same R zs ys i x all.1 at
 
 pub none_same : {X Y : Type 0} (R : X → Y → Type 0) (xs : List X) (ys : List Y) → AllZip R xs ys → xs ≡ [] → ys ≡ []
@@ -59,7 +72,8 @@ none_same R [] [] all e = refl
 none_same R [] (y ∷ ys) all e = absurd all
 none_same R (x ∷ xs) ys all e = cc
 
-pub some_same : {X Y : Type 0} (R : X → Y → Type 0) (xs : List X) (ys : List Y) → AllZip R xs ys → ¬ (xs ≡ []) → ¬ (ys ≡ [])
+pub some_same : {X Y : Type 0} (R : X → Y → Type 0) (xs : List X) (ys : List Y) → AllZip R xs ys → ¬ (xs ≡ [])
+    → ¬ (ys ≡ [])
 some_same R [] [] all some e = some refl
 some_same R [] (y ∷ ys) all some e = absurd all
 some_same R (x ∷ xs) [] all some e = absurd all
@@ -68,7 +82,8 @@ some_same R (x ∷ xs) (y ∷ ys) all some e = cc
 -- ---- moments
 
 -- the least moment of one predicate is that of another that holds at the same moments
-pub least_same : (Q R : ℕ → Type 0) (o : Option ℕ) → ((t : ℕ) → Q t → R t) → ((t : ℕ) → R t → Q t) → IsLeastMoment Q o → IsLeastMoment R o
+pub least_same : (Q R : ℕ → Type 0) (o : Option ℕ) → ((t : ℕ) → Q t → R t) → ((t : ℕ) → R t → Q t) → IsLeastMoment Q o
+    → IsLeastMoment R o
 least_same Q R None there back least = λ t within r. least t within (back t r)
 least_same Q R (Some t) there back least = (least.0, there t least.1, λ s r. least.2 s (back s r))
 
@@ -82,27 +97,34 @@ module _ {P : Type 0} (cmp : P → P → Ordering) (order : IsTotalOrder cmp) wh
   IsSameLaunch (meets fault) (goes ns q) = ⊥
   IsSameLaunch (meets fault) (meets other) = fault ≡ other
 
-  pub course_went : (Q : Course (Completed P) (Planned P) → Type 0) (cs : List (Completed P)) (p : Planned P) → (c : Course (Completed P) (Planned P)) × Q c × IsSameCourse cmp (goes cs p) c
-      → (ds : List (Completed P)) × (q : Planned P) × Q (goes ds q) × AllZip (SameCompletion cmp) cs ds × IsSamePlanned cmp p q
+  pub course_went : (Q : Course (Completed P) (Planned P) → Type 0) (cs : List (Completed P)) (p : Planned P)
+      → (c : Course (Completed P) (Planned P)) × Q c × IsSameCourse cmp (goes cs p) c
+      → (ds : List (Completed P)) × (q : Planned P) × Q (goes ds q) × AllZip (SameCompletion cmp) cs ds
+      × IsSamePlanned cmp p q
   course_went Q cs p (goes ds q, holds, same) = (ds, q, holds, same.0, same.1)
   course_went Q cs p (meets fault, holds, same) = absurd same
 
-  pub course_met : (Q : Course (Completed P) (Planned P) → Type 0) (fault : Error) → (c : Course (Completed P) (Planned P)) × Q c × IsSameCourse cmp (meets fault) c → Q (meets fault)
+  pub course_met : (Q : Course (Completed P) (Planned P) → Type 0) (fault : Error)
+      → (c : Course (Completed P) (Planned P)) × Q c × IsSameCourse cmp (meets fault) c → Q (meets fault)
   course_met Q fault (goes ds q, holds, same) = absurd same
   course_met Q fault (meets other, holds, same) = subst (λ (e : Error). Q (meets e)) (sym same) holds
 
-  pub launch_went : (Q : Course (Message P) (Planned P) → Type 0) (ms : List (Message P)) (p : Planned P) → (c : Course (Message P) (Planned P)) × Q c × IsSameLaunch (goes ms p) c
-      → (ns : List (Message P)) × (q : Planned P) × Q (goes ns q) × AllZip (SameMessage cmp) ms ns × IsSamePlanned cmp p q
+  pub launch_went : (Q : Course (Message P) (Planned P) → Type 0) (ms : List (Message P)) (p : Planned P)
+      → (c : Course (Message P) (Planned P)) × Q c × IsSameLaunch (goes ms p) c
+      → (ns : List (Message P)) × (q : Planned P) × Q (goes ns q) × AllZip (SameMessage cmp) ms ns
+      × IsSamePlanned cmp p q
   launch_went Q ms p (goes ns q, holds, same) = (ns, q, holds, same.0, same.1)
   launch_went Q ms p (meets fault, holds, same) = absurd same
 
-  pub launch_met : (Q : Course (Message P) (Planned P) → Type 0) (fault : Error) → (c : Course (Message P) (Planned P)) × Q c × IsSameLaunch (meets fault) c → Q (meets fault)
+  pub launch_met : (Q : Course (Message P) (Planned P) → Type 0) (fault : Error)
+      → (c : Course (Message P) (Planned P)) × Q c × IsSameLaunch (meets fault) c → Q (meets fault)
   launch_met Q fault (goes ns q, holds, same) = absurd same
   launch_met Q fault (meets other, holds, same) = subst (λ (e : Error). Q (meets e)) (sym same) holds
 
   -- ---- caps and last arrivals
 
-  pub limited_by_same : (caps others : Caps P) (peer other : P) (egress ingress : Option ℕ) → CapsAlike cmp caps others → same_peer cmp peer other ≡ true
+  pub limited_by_same : (caps others : Caps P) (peer other : P) (egress ingress : Option ℕ) → CapsAlike cmp caps others
+      → same_peer cmp peer other ≡ true
       → CapsAlike cmp (limited_by cmp caps peer egress ingress) (limited_by cmp others other egress ingress)
   limited_by_same caps others peer other egress ingress same peers = record {
     egress = λ p q e. rw (peers_alike cmp order peer other p q peers e, same.egress p q e) refl;
@@ -110,21 +132,35 @@ module _ {P : Type 0} (cmp : P → P → Ordering) (order : IsTotalOrder cmp) wh
     link = same.link;
   }
 
-  pub linked_by_same : (caps others : Caps P) (origin recipient o r : P) (cap : Option ℕ) → CapsAlike cmp caps others → same_peer cmp origin o ≡ true → same_peer cmp recipient r ≡ true
+  pub linked_by_same : (caps others : Caps P) (origin recipient o r : P) (cap : Option ℕ) → CapsAlike cmp caps others
+      → same_peer cmp origin o ≡ true → same_peer cmp recipient r ≡ true
       → CapsAlike cmp (linked_by cmp caps origin recipient cap) (linked_by cmp others o r cap)
   linked_by_same caps others origin recipient o r cap same origins recipients = record {
     egress = same.egress;
     ingress = same.ingress;
-    link = λ p q s t e f. rw (peers_alike cmp order origin o p q origins e, peers_alike cmp order recipient r s t recipients f, same.link p q s t e f) refl;
+    link = λ p q s t e f.
+        rw (
+          peers_alike cmp order origin o p q origins e,
+          peers_alike cmp order recipient r s t recipients f,
+          same.link p q s t e f,
+        )
+        refl;
   }
 
-  pub raised_same : (last others : P → P → Option ℕ) (m n : Message P) (at : ℕ) → PairsAlike cmp last others → SameMessage cmp m n → PairsAlike cmp (raised cmp last m at) (raised cmp others n at)
+  pub raised_same : (last others : P → P → Option ℕ) (m n : Message P) (at : ℕ) → PairsAlike cmp last others
+      → SameMessage cmp m n → PairsAlike cmp (raised cmp last m at) (raised cmp others n at)
   raised_same last others m n at same messages p q r s e f =
-      rw (peers_alike cmp order m.origin n.origin p q messages.origin e, peers_alike cmp order m.recipient n.recipient r s messages.recipient f, same p q r s e f) refl
+      rw (
+        peers_alike cmp order m.origin n.origin p q messages.origin e,
+        peers_alike cmp order m.recipient n.recipient r s messages.recipient f,
+        same p q r s e f,
+      )
+      refl
 
   -- ---- messages
 
-  pub queued_same : (m n : Message P) (ms ns : List (Message P)) → SameMessage cmp m n → AllZip (SameMessage cmp) ms ns → AllZip (SameMessage cmp) (queued cmp m ms) (queued cmp n ns)
+  pub queued_same : (m n : Message P) (ms ns : List (Message P)) → SameMessage cmp m n → AllZip (SameMessage cmp) ms ns
+      → AllZip (SameMessage cmp) (queued cmp m ms) (queued cmp n ns)
   queued_same m n [] [] e all = (e, tt)
   queued_same m n [] (l ∷ ls) e all = absurd all
   queued_same m n (k ∷ ks) [] e all = absurd all
@@ -133,7 +169,8 @@ module _ {P : Type 0} (cmp : P → P → Ordering) (order : IsTotalOrder cmp) wh
       (n ∷ l ∷ ls) (l ∷ queued cmp n ls) (before_alike cmp order m n k l e all.0) (e, all)
       (all.0, queued_same m n ks ls e all.1)
 
-  pub fronts_same : (ms ns : List (Message P)) → AllZip (SameMessage cmp) ms ns → AllZip (SameMessage cmp) (fronts cmp ms) (fronts cmp ns)
+  pub fronts_same : (ms ns : List (Message P)) → AllZip (SameMessage cmp) ms ns
+      → AllZip (SameMessage cmp) (fronts cmp ms) (fronts cmp ns)
   fronts_same [] [] all = tt
   fronts_same [] (n ∷ ns) all = absurd all
   fronts_same (m ∷ ms) [] all = absurd all
@@ -146,7 +183,8 @@ module _ {P : Type 0} (cmp : P → P → Ordering) (order : IsTotalOrder cmp) wh
 
   -- ---- what is in flight
 
-  pub flows_same : (fs gs : List (RatedFlight P)) → AllZip (IsSameRatedFlight cmp) fs gs → AllZip (SameMessage cmp) (rated_messages fs) (rated_messages gs)
+  pub flows_same : (fs gs : List (RatedFlight P)) → AllZip (IsSameRatedFlight cmp) fs gs
+      → AllZip (SameMessage cmp) (rated_messages fs) (rated_messages gs)
   flows_same [] [] all = tt
   flows_same [] (g ∷ gs) all = absurd all
   flows_same (f ∷ fs) [] all = absurd all
@@ -155,21 +193,33 @@ module _ {P : Type 0} (cmp : P → P → Ordering) (order : IsTotalOrder cmp) wh
   pub left_same : (t : ℕ) (f g : RatedFlight P) → IsSameRatedFlight cmp f g → left_at t f ≡ left_at t g
   left_same t f g e = rw (e.rate, e.updated, e.left) refl
 
-  pub drained_same : (t : ℕ) (fs gs : List (RatedFlight P)) → AllZip (IsSameRatedFlight cmp) fs gs → AllZip (IsSameRatedFlight cmp) (drained_to t fs) (drained_to t gs)
+  pub drained_same : (t : ℕ) (fs gs : List (RatedFlight P)) → AllZip (IsSameRatedFlight cmp) fs gs
+      → AllZip (IsSameRatedFlight cmp) (drained_to t fs) (drained_to t gs)
   drained_same t [] [] all = tt
   drained_same t [] (g ∷ gs) all = absurd all
   drained_same t (f ∷ fs) [] all = absurd all
-  drained_same t (f ∷ fs) (g ∷ gs) all = (record { message = all.0.message; left = left_same t f g all.0; rate = all.0.rate; updated = refl }, drained_same t fs gs all.1)
+  drained_same t (f ∷ fs) (g ∷ gs) all = (
+    record { message = all.0.message; left = left_same t f g all.0; rate = all.0.rate; updated = refl },
+    drained_same t fs gs all.1,
+  )
 
-  pub some_spent_same : (fs gs : List (RatedFlight P)) (t : ℕ) → AllZip (IsSameRatedFlight cmp) fs gs → SomeSpentAt fs t → SomeSpentAt gs t
+  pub some_spent_same : (fs gs : List (RatedFlight P)) (t : ℕ) → AllZip (IsSameRatedFlight cmp) fs gs → SomeSpentAt fs t
+      → SomeSpentAt gs t
   some_spent_same fs gs t all (i, f, at, before, spent) =
-      let found : (g : RatedFlight P) × (slice_get gs i ≡ Some g) × IsSameRatedFlight cmp f g = at_same (IsSameRatedFlight cmp) fs gs i f all at in
-      (i, found.0, found.1, subst (λ (n : ℕ). n ≤ t) found.2.updated before, ap (λ (a : Amount). a.num) (sym (left_same t f found.0 found.2)) ∙ spent)
+      let found : (g : RatedFlight P) × (slice_get gs i ≡ Some g) × IsSameRatedFlight cmp f g =
+      at_same (IsSameRatedFlight cmp) fs gs i f all at in (
+        i,
+        found.0,
+        found.1,
+        subst (λ (n : ℕ). n ≤ t) found.2.updated before,
+        ap (λ (a : Amount). a.num) (sym (left_same t f found.0 found.2)) ∙ spent,
+      )
 
   abbrev launching : ℕ → Message P → RatedFlight P
   launching t m = record { message = m; left = whole (length m.bytes); rate = Some (whole 0); updated = t }
 
-  launching_same : (t : ℕ) (m n : Message P) → SameMessage cmp m n → IsSameRatedFlight cmp (launching t m) (launching t n)
+  launching_same : (t : ℕ) (m n : Message P) → SameMessage cmp m n
+      → IsSameRatedFlight cmp (launching t m) (launching t n)
   launching_same t m n e = record { message = e; left = rw e.bytes refl; rate = refl; updated = refl }
 
   -- when a message lands that completes as it is enqueued, and when it is delivered
@@ -184,9 +234,12 @@ module _ {P : Type 0} (cmp : P → P → Ordering) (order : IsTotalOrder cmp) wh
     spent_same f g e = rw (e.left, unlimited_alike cmp order p.caps q.caps same.caps f.message g.message e.message) refl
 
     -- those that an account finds done, and the others
-    pub leaving_same : (t : ℕ) → AllZip (IsSameRatedFlight cmp) (filter (is_spent cmp p.caps) (drained_to t p.sending)) (filter (is_spent cmp q.caps) (drained_to t q.sending))
+    pub leaving_same : (t : ℕ)
+        → AllZip (IsSameRatedFlight cmp) (filter (is_spent cmp p.caps) (drained_to t p.sending))
+        (filter (is_spent cmp q.caps) (drained_to t q.sending))
     leaving_same t =
-        zip-filter (IsSameRatedFlight cmp) (is_spent cmp p.caps) (is_spent cmp q.caps) spent_same (drained_to t p.sending) (drained_to t q.sending) (drained_same t p.sending q.sending same.sending)
+        zip-filter (IsSameRatedFlight cmp) (is_spent cmp p.caps) (is_spent cmp q.caps) spent_same
+        (drained_to t p.sending) (drained_to t q.sending) (drained_same t p.sending q.sending same.sending)
 
     pub staying_same : (t : ℕ) → AllZip (IsSameRatedFlight cmp)
         (filter (λ f. not (is_spent cmp p.caps f)) (drained_to t p.sending))
@@ -208,28 +261,42 @@ module _ {P : Type 0} (cmp : P → P → Ordering) (order : IsTotalOrder cmp) wh
           e.latency,
         ) refl
 
-    pub next_same : (m n : Message P) → SameMessage cmp m n → OptionsAlike (SameMessage cmp) (next_of cmp p m) (next_of cmp q n)
-    next_same m n e = find_same (SameMessage cmp) (same_pair cmp m) (same_pair cmp n) (λ k l f. pairs_alike cmp order m n k l e f) p.waiting q.waiting same.waiting
+    pub next_same : (m n : Message P) → SameMessage cmp m n
+        → OptionsAlike (SameMessage cmp) (next_of cmp p m) (next_of cmp q n)
+    next_same m n e =
+        find_same (SameMessage cmp) (same_pair cmp m) (same_pair cmp n) (λ k l f. pairs_alike cmp order m n k l e f)
+        p.waiting q.waiting same.waiting
 
     -- the pairs that a wake at t finds ready
-    pub ready_same : (t : ℕ) → AllZip (SameMessage cmp) (filter (may_launch cmp t p) (fronts cmp p.waiting)) (filter (may_launch cmp t q) (fronts cmp q.waiting))
+    pub ready_same : (t : ℕ)
+        → AllZip (SameMessage cmp) (filter (may_launch cmp t p) (fronts cmp p.waiting))
+        (filter (may_launch cmp t q) (fronts cmp q.waiting))
     ready_same t =
-        zip-filter (SameMessage cmp) (may_launch cmp t p) (may_launch cmp t q) (may_same t) (fronts cmp p.waiting) (fronts cmp q.waiting) (fronts_same p.waiting q.waiting same.waiting)
+        zip-filter (SameMessage cmp) (may_launch cmp t p) (may_launch cmp t q) (may_same t) (fronts cmp p.waiting)
+        (fronts cmp q.waiting) (fronts_same p.waiting q.waiting same.waiting)
 
     pub some_ready_same : (t : ℕ) → SomeReadyAt cmp p t → SomeReadyAt cmp q t
     some_ready_same t (m, own, may) =
-        by_next (next_of cmp q m) refl (subst (λ (o : Option (Message P)). OptionsAlike (SameMessage cmp) o (next_of cmp q m)) own (next_same m m (message_itself cmp order m)))
+        by_next (next_of cmp q m) refl
+        (subst (λ (o : Option (Message P)). OptionsAlike (SameMessage cmp) o (next_of cmp q m)) own
+        (next_same m m (message_itself cmp order m)))
       where
-        by_next : (o : Option (Message P)) → next_of cmp q m ≡ o → OptionsAlike (SameMessage cmp) (Some m) o → SomeReadyAt cmp q t
+        by_next : (o : Option (Message P)) → next_of cmp q m ≡ o → OptionsAlike (SameMessage cmp) (Some m) o
+            → SomeReadyAt cmp q t
         by_next None found e = absurd e
-        by_next (Some n) found e = (n, find_like cmp order m n q.waiting (find_passes (same_pair cmp m) n q.waiting found) ∙ found, sym (may_same t m n e) ∙ may)
+        by_next (Some n) found e = (
+          n,
+          find_like cmp order m n q.waiting (find_passes (same_pair cmp m) n q.waiting found) ∙ found,
+          sym (may_same t m n e) ∙ may,
+        )
 
     -- ---- planned worlds
 
     pub next_event_same : next_event p ≡ next_event q
     next_event_same = rw (same.finish, same.start) refl
 
-    pub recapped_same : (caps others : Caps P) → CapsAlike cmp caps others → IsSamePlanned cmp (record p { caps = caps; limited = true }) (record q { caps = others; limited = true })
+    pub recapped_same : (caps others : Caps P) → CapsAlike cmp caps others
+        → IsSamePlanned cmp (record p { caps = caps; limited = true }) (record q { caps = others; limited = true })
     recapped_same caps others alike = record {
       caps = alike;
       limited = refl;
@@ -274,19 +341,25 @@ module _ {P : Type 0} (cmp : P → P → Ordering) (order : IsTotalOrder cmp) wh
     pub no_start_same : IsSamePlanned cmp (record p { start = None }) (record q { start = None })
     no_start_same = planned_same None
 
-    pub launched_same : (t : ℕ) (m n : Message P) → SameMessage cmp m n → IsSamePlanned cmp (launched cmp t p m) (launched cmp t q n)
+    pub launched_same : (t : ℕ) (m n : Message P) → SameMessage cmp m n
+        → IsSamePlanned cmp (launched cmp t p m) (launched cmp t q n)
     launched_same t m n e = record {
       caps = same.caps;
       limited = same.limited;
-      sending = zip-append (IsSameRatedFlight cmp) p.sending (launching t m ∷ []) q.sending (launching t n ∷ []) same.sending (launching_same t m n e, tt);
-      waiting = without_same (SameMessage cmp) (same_pair cmp m) (same_pair cmp n) (λ k l f. pairs_alike cmp order m n k l e f) p.waiting q.waiting same.waiting;
+      sending =
+          zip-append (IsSameRatedFlight cmp) p.sending (launching t m ∷ []) q.sending (launching t n ∷ []) same.sending
+          (launching_same t m n e, tt);
+      waiting =
+          without_same (SameMessage cmp) (same_pair cmp m) (same_pair cmp n)
+          (λ k l f. pairs_alike cmp order m n k l e f) p.waiting q.waiting same.waiting;
       last_arrival = same.last_arrival;
       next_id = ap (λ (k : ℕ). k + 1) same.next_id;
       finish = same.finish;
       start = same.start;
     }
 
-    arrived_same : (last others : P → P → Option ℕ) → PairsAlike cmp last others → IsSamePlanned cmp (record p { last_arrival = last }) (record q { last_arrival = others })
+    arrived_same : (last others : P → P → Option ℕ) → PairsAlike cmp last others
+        → IsSamePlanned cmp (record p { last_arrival = last }) (record q { last_arrival = others })
     arrived_same last others alike = record {
       caps = same.caps;
       limited = same.limited;
@@ -298,14 +371,16 @@ module _ {P : Type 0} (cmp : P → P → Ordering) (order : IsTotalOrder cmp) wh
       start = same.start;
     }
 
-    pub landed_same : (t : ℕ) (m n : Message P) → SameMessage cmp m n → IsSamePlanned cmp (landed cmp t p m) (landed cmp t q n)
+    pub landed_same : (t : ℕ) (m n : Message P) → SameMessage cmp m n
+        → IsSamePlanned cmp (landed cmp t p m) (landed cmp t q n)
     landed_same t m n e =
         arrived_same (raised cmp p.last_arrival m (arrival cmp t m)) (raised cmp q.last_arrival n (arrival cmp t n))
         (subst (λ (at : ℕ). PairsAlike cmp (raised cmp p.last_arrival m (arrival cmp t m))
         (raised cmp q.last_arrival n at)) (arrival_alike cmp order t m n e)
         (raised_same p.last_arrival q.last_arrival m n (arrival cmp t m) same.last_arrival e))
 
-    pub with_queued_same : (m n : Message P) → SameMessage cmp m n → IsSamePlanned cmp (with_queued cmp p m) (with_queued cmp q n)
+    pub with_queued_same : (m n : Message P) → SameMessage cmp m n
+        → IsSamePlanned cmp (with_queued cmp p m) (with_queued cmp q n)
     with_queued_same m n e = record {
       caps = same.caps;
       limited = same.limited;
@@ -317,7 +392,8 @@ module _ {P : Type 0} (cmp : P → P → Ordering) (order : IsTotalOrder cmp) wh
       start = same.start;
     }
 
-    pub at_once_same : (now : ℕ) (m n : Message P) → SameMessage cmp m n → IsSameCourse cmp (completed_at_once cmp now p m) (completed_at_once cmp now q n)
+    pub at_once_same : (now : ℕ) (m n : Message P) → SameMessage cmp m n
+        → IsSameCourse cmp (completed_at_once cmp now p m) (completed_at_once cmp now q n)
     at_once_same now m n e =
         by_late (m.should_deliver && nat_lt last_moment (now + m.latency))
         (n.should_deliver && nat_lt last_moment (now + n.latency)) (rw (e.should_deliver, e.latency) refl)
@@ -332,13 +408,27 @@ module _ {P : Type 0} (cmp : P → P → Ordering) (order : IsTotalOrder cmp) wh
         ) refl)
       where
         by_late : (a b : Bool) → a ≡ b → landing now p m ≡ landing now q n → delivery now p m ≡ delivery now q n
-            → IsSameCourse cmp (cond a (meets MomentTooLate) (goes (completion_of m (delivery now p m) ∷ []) (record p { last_arrival = raised cmp p.last_arrival m (landing now p m) })))
-            (cond b (meets MomentTooLate) (goes (completion_of n (delivery now q n) ∷ []) (record q { last_arrival = raised cmp q.last_arrival n (landing now q n) })))
+            → IsSameCourse cmp
+            (cond a (meets MomentTooLate)
+            (goes (completion_of m (delivery now p m) ∷ [])
+            (record p { last_arrival = raised cmp p.last_arrival m (landing now p m) })))
+            (cond b (meets MomentTooLate)
+            (goes (completion_of n (delivery now q n) ∷ [])
+            (record q { last_arrival = raised cmp q.last_arrival n (landing now q n) })))
         by_late true true f at wanted = refl
         by_late true false f at wanted = cc
         by_late false true f at wanted = cc
         by_late false false f at wanted = (
-          (record { origin = e.origin; recipient = e.recipient; channel = e.channel; bytes = e.bytes; deliver_at = wanted }, tt),
+          (
+            record {
+              origin = e.origin;
+              recipient = e.recipient;
+              channel = e.channel;
+              bytes = e.bytes;
+              deliver_at = wanted;
+            },
+            tt,
+          ),
           arrived_same (raised cmp p.last_arrival m (landing now p m)) (raised cmp q.last_arrival n (landing now q n))
               (subst (λ (k : ℕ). PairsAlike cmp (raised cmp p.last_arrival m (landing now p m))
               (raised cmp q.last_arrival n k)) at (raised_same p.last_arrival q.last_arrival m n

@@ -1,12 +1,16 @@
--- Settling in the planned world is settling in the world: the same completions or the same fault, and the two agree afterwards.
-use Rattle.std.proofs.Common.{◌≡◌, ℕ, zero, suc, ◌+◌, ◌≤◌, List, [], ◌∷◌, ◌++◌, map, length, Bool, true, false, cond, not, Option, Some, None, refl, sym, ap, ◌∙◌, subst, arith, length-append}
+-- Settling in the planned world is settling in the world: the same completions or the same fault, and the two agree
+-- afterwards.
+use Rattle.std.proofs.Common.{◌≡◌, ℕ, zero, suc, ◌+◌, ◌≤◌, List, [], ◌∷◌, ◌++◌, map, length, Bool, true, false, cond}
+use Rattle.std.proofs.Common.{not, Option, Some, None, refl, sym, ap, ◌∙◌, subst, arith, length-append}
 use Rattle.std.specs.List.{filter, find, list_any, AllZip}
 use Rattle.std.specs.declared.cmp.Ordering.{Ordering}
 use Rattle.std.specs.Cmp.{IsTotalOrder}
 use Rattle.std.proofs.lemmas.List.{map-append}
 use Rattle.std.proofs.lemmas.Bool.{or_from}
-use Rattle.link_simulation.specs.Simulation.World.{Completed, Course, Flight, World, flows, goes, is_done, meets, preceded, raised, settle, EndsWith, is_late, completed, arrival}
-use Rattle.link_simulation.specs.Rule.Events.{Finishes, PlansStart, Settles, all_completed, completes, landed, late, settling, stopped}
+use Rattle.link_simulation.specs.Simulation.World.{Completed, Course, Flight, World, flows, goes, is_done, meets}
+use Rattle.link_simulation.specs.Simulation.World.{preceded, raised, settle, EndsWith, is_late, completed, arrival}
+use Rattle.link_simulation.specs.Rule.Events.{Finishes, PlansStart, Settles, all_completed, completes, landed, late}
+use Rattle.link_simulation.specs.Rule.Events.{settling, stopped}
 use Rattle.link_simulation.specs.Simulation.Messages.{Message, OneForEachPair, PairsAlike, SameMessage, same_pair}
 use Rattle.link_simulation.specs.Rule.Planned.{IsLeastMoment, Planned, SomeReadyAt}
 use Rattle.link_simulation.specs.Simulation.Replies.{SameCompletion}
@@ -28,7 +32,8 @@ all_without : {X : Type 0} (test : X → Bool) (xs : List X) → find test xs �
 all_without test [] e = refl
 all_without {X} test (x ∷ xs) e = by_test (test x) e (all_without test xs)
   where
-    by_test : (b : Bool) → cond b (Some x) (find test xs) ≡ None → (find test xs ≡ None → filter (λ x. not (test x)) xs ≡ xs)
+    by_test : (b : Bool) → cond b (Some x) (find test xs) ≡ None
+        → (find test xs ≡ None → filter (λ x. not (test x)) xs ≡ xs)
         → cond (not b) (x ∷ filter (λ x. not (test x)) xs) (filter (λ x. not (test x)) xs) ≡ x ∷ xs
     by_test true e ih = cc
     by_test false e ih = ap (λ (q : List X). x ∷ q) (ih e)
@@ -42,21 +47,39 @@ module _ {P : Type 0} (cmp : P → P → Ordering) (order : IsTotalOrder cmp) wh
   pub late_alike : (t : ℕ) (m n : Message P) → SameMessage cmp m n → is_late cmp t m ≡ is_late cmp t n
   late_alike t m n e = rw (delivered_alike cmp order m n e, e.latency) refl
 
-  pub completed_alike : (t : ℕ) (m n : Message P) → SameMessage cmp m n → SameCompletion cmp (completed cmp t m) (completed cmp t n)
-  completed_alike t m n e = record { origin = e.origin; recipient = e.recipient; channel = e.channel; bytes = e.bytes; deliver_at = rw (delivered_alike cmp order m n e, e.latency) refl }
+  pub completed_alike : (t : ℕ) (m n : Message P) → SameMessage cmp m n
+      → SameCompletion cmp (completed cmp t m) (completed cmp t n)
+  completed_alike t m n e =
+      record {
+        origin = e.origin;
+        recipient = e.recipient;
+        channel = e.channel;
+        bytes = e.bytes;
+        deliver_at = rw (delivered_alike cmp order m n e, e.latency) refl;
+      }
 
-  pub raised_alike : (last last' : P → P → Option ℕ) (m n : Message P) (at at' : ℕ) → PairsAlike cmp last last' → SameMessage cmp m n → at ≡ at'
+  pub raised_alike : (last last' : P → P → Option ℕ) (m n : Message P) (at at' : ℕ) → PairsAlike cmp last last'
+      → SameMessage cmp m n → at ≡ at'
       → PairsAlike cmp (raised cmp last m at) (raised cmp last' n at')
   raised_alike last last' m n at at' same e f p q r s pq rs =
-      rw (peers_alike cmp order m.origin n.origin p q e.origin pq, peers_alike cmp order m.recipient n.recipient r s e.recipient rs, same p q r s pq rs, f) refl
+      rw (
+        peers_alike cmp order m.origin n.origin p q e.origin pq,
+        peers_alike cmp order m.recipient n.recipient r s e.recipient rs,
+        same p q r s pq rs,
+        f,
+      )
+      refl
 
-  landed_follows : (t : ℕ) (p : Planned P) (w : World P) (m n : Message P) → Follows cmp t p w → SameMessage cmp m n → Follows cmp t (landed cmp t p m) (arrived cmp t w n)
+  landed_follows : (t : ℕ) (p : Planned P) (w : World P) (m n : Message P) → Follows cmp t p w → SameMessage cmp m n
+      → Follows cmp t (landed cmp t p m) (arrived cmp t w n)
   landed_follows t p w m n follows e = record {
     tallies = record {
       moment = follows.tallies.moment;
       caps = follows.tallies.caps;
       limited = follows.tallies.limited;
-      last_arrival = raised_alike p.last_arrival w.last_arrival m n (arrival cmp t m) (arrival cmp t n) follows.tallies.last_arrival e (arrival_alike t m n e);
+      last_arrival =
+          raised_alike p.last_arrival w.last_arrival m n (arrival cmp t m) (arrival cmp t n)
+          follows.tallies.last_arrival e (arrival_alike t m n e);
       next_id = follows.tallies.next_id;
       waiting = follows.tallies.waiting;
       pair_order = follows.tallies.pair_order;
@@ -64,7 +87,13 @@ module _ {P : Type 0} (cmp : P → P → Ordering) (order : IsTotalOrder cmp) wh
       one_each = follows.tallies.one_each;
       empty_at_first = follows.tallies.empty_at_first;
     };
-    rated = record { per = follows.rated.per; rates = follows.rated.rates; fair = follows.rated.fair; rated = follows.rated.rated };
+    rated =
+        record {
+          per = follows.rated.per;
+          rates = follows.rated.rates;
+          fair = follows.rated.fair;
+          rated = follows.rated.rated;
+        };
     finish = follows.finish;
   }
 
@@ -77,14 +106,17 @@ module _ {P : Type 0} (cmp : P → P → Ordering) (order : IsTotalOrder cmp) wh
   none_of test [] h = refl
   none_of test (x ∷ xs) h = or_from (test x) (list_any test xs) h.0 (none_of test xs h.1)
 
-  preceded_alike : (t : ℕ) (c d : Completed P) (x : Course (Completed P) (Planned P)) (y : Course (Completed P) (World P)) → SameCompletion cmp c d → CourseAlike t x y
+  preceded_alike : (t : ℕ) (c d : Completed P) (x : Course (Completed P) (Planned P))
+      (y : Course (Completed P) (World P))
+      → SameCompletion cmp c d → CourseAlike t x y
       → CourseAlike t (preceded (c ∷ []) x) (preceded (d ∷ []) y)
   preceded_alike t c d (goes cs q) (goes ds v) e h = ((e, h.0), h.1)
   preceded_alike t c d (goes cs q) (meets g) e h = absurd h
   preceded_alike t c d (meets f) (goes ds v) e h = absurd h
   preceded_alike t c d (meets f) (meets g) e h = h
 
-  pub looked : (t : ℕ) (p q : Planned P) (w : World P) → Follows cmp t p w → NoneDone cmp order w → PlansStart cmp t p q → IsSettled cmp t q w
+  pub looked : (t : ℕ) (p q : Planned P) (w : World P) → Follows cmp t p w → NoneDone cmp order w → PlansStart cmp t p q
+      → IsSettled cmp t q w
   looked t p q w follows none looks = record {
     follows = subst (λ (x : Planned P). Follows cmp t x w) (sym looks.same) (record {
       tallies = record {
@@ -99,11 +131,19 @@ module _ {P : Type 0} (cmp : P → P → Ordering) (order : IsTotalOrder cmp) wh
         one_each = follows.tallies.one_each;
         empty_at_first = follows.tallies.empty_at_first;
       };
-      rated = record { per = follows.rated.per; rates = follows.rated.rates; fair = follows.rated.fair; rated = follows.rated.rated };
+      rated =
+          record {
+            per = follows.rated.per;
+            rates = follows.rated.rates;
+            fair = follows.rated.fair;
+            rated = follows.rated.rated;
+          };
       finish = follows.finish;
     });
     none_done = none_of (is_done cmp w) w.sending none;
-    start = subst (λ (x : Planned P). IsLeastMoment (λ s. (t ≤ s) × SomeReadyAt cmp x s) q.start) (sym looks.same) looks.start;
+    start =
+        subst (λ (x : Planned P). IsLeastMoment (λ s. (t ≤ s) × SomeReadyAt cmp x s) q.start) (sym looks.same)
+        looks.start;
   }
 
   -- ---- a queue of leavers
@@ -113,49 +153,75 @@ module _ {P : Type 0} (cmp : P → P → Ordering) (order : IsTotalOrder cmp) wh
   no_queue zero t w = refl
   no_queue (suc n) t w = refl
 
-  first_late : (n t : ℕ) (f : Flight P) (fs : List (Flight P)) (w : World P) → is_late cmp t f.message ≡ true → finish_within cmp (suc n) t (f ∷ fs) w ≡ meets MomentTooLate
+  first_late : (n t : ℕ) (f : Flight P) (fs : List (Flight P)) (w : World P) → is_late cmp t f.message ≡ true
+      → finish_within cmp (suc n) t (f ∷ fs) w ≡ meets MomentTooLate
   unfolding finish_within
   first_late n t f fs w e = rw e refl
 
   first_lands : (n t : ℕ) (f : Flight P) (fs : List (Flight P)) (w : World P) → is_late cmp t f.message ≡ false
-      → finish_within cmp (suc n) t (f ∷ fs) w ≡ preceded (completed cmp t f.message ∷ []) (launch_then cmp (finish_within cmp n t) t fs (arrived cmp t w f.message) (find (same_pair cmp f.message) w.waiting))
+      → finish_within cmp (suc n) t (f ∷ fs) w
+      ≡ preceded (completed cmp t f.message ∷ [])
+      (launch_then cmp (finish_within cmp n t) t fs (arrived cmp t w f.message)
+      (find (same_pair cmp f.message) w.waiting))
   unfolding finish_within
   first_lands n t f fs w e = rw e refl
 
   abbrev pub WhenFollowed : ℕ → List (Message P) → Planned P → Course (Completed P) (Planned P) → Type 0
   WhenFollowed t ms p course =
-      (n : ℕ) (fs : List (Flight P)) (w : World P) → Follows cmp t p w → NoneDone cmp order w → AllZip (SameMessage cmp) ms (map (λ (g : Flight P). g.message) fs) → length fs + length w.waiting ≤ n
+      (n : ℕ) (fs : List (Flight P)) (w : World P) → Follows cmp t p w → NoneDone cmp order w
+      → AllZip (SameMessage cmp) ms (map (λ (g : Flight P). g.message) fs) → length fs + length w.waiting ≤ n
       → CourseAlike t course (finish_within cmp n t fs w)
 
-  pub finishes_alike : {t : ℕ} {ms : List (Message P)} {p : Planned P} {course : Course (Completed P) (Planned P)} → Finishes cmp t ms p course → WhenFollowed t ms p course
+  pub finishes_alike : {t : ℕ} {ms : List (Message P)} {p : Planned P} {course : Course (Completed P) (Planned P)}
+      → Finishes cmp t ms p course → WhenFollowed t ms p course
   finishes_alike {t = t} {p = p} (all_completed {q = q} looks) n [] w follows none all fuel =
-      subst (λ (c : Course (Completed P) (World P)). CourseAlike t (goes [] q) c) (sym (no_queue n t w)) (tt, looked t p q w follows none looks)
+      subst (λ (c : Course (Completed P) (World P)). CourseAlike t (goes [] q) c) (sym (no_queue n t w))
+      (tt, looked t p q w follows none looks)
   finishes_alike (all_completed looks) n (f ∷ fs) w follows none all fuel = absurd all
   finishes_alike (late too) n [] w follows none all fuel = absurd all
   finishes_alike (late too) zero (f ∷ fs) w follows none all fuel = absurd (omega arith)
   finishes_alike {t = t} (late {m = m} too) (suc n) (f ∷ fs) w follows none all fuel =
-      subst (λ (c : Course (Completed P) (World P)). CourseAlike t (meets MomentTooLate) c) (sym (first_late n t f fs w (sym (late_alike t m f.message all.0) ∙ too))) refl
+      subst (λ (c : Course (Completed P) (World P)). CourseAlike t (meets MomentTooLate) c)
+      (sym (first_late n t f fs w (sym (late_alike t m f.message all.0) ∙ too))) refl
   finishes_alike (stopped not_late launch) n [] w follows none all fuel = absurd all
   finishes_alike (stopped not_late launch) zero (f ∷ fs) w follows none all fuel = absurd (omega arith)
-  finishes_alike {t = t} {p = p} (stopped {m = m} {fault = fault} not_late launch) (suc n) (f ∷ fs) w follows none all fuel =
-      let there : Follows cmp t (landed cmp t p m) (arrived cmp t w f.message) = landed_follows t p w m f.message follows all.0 in
-      let fails : LaunchAlike cmp order t (arrived cmp t w f.message) fs (find (same_pair cmp f.message) w.waiting) (meets fault) =
-      launch_alike cmp order launch (arrived cmp t w f.message) fs f.message (find (same_pair cmp f.message) w.waiting) there none refl (next_alike cmp order t p w m f.message follows.tallies all.0) in
-      subst (λ (c : Course (Completed P) (World P)). CourseAlike t (meets fault) c) (sym (first_lands n t f fs w (sym (late_alike t m f.message all.0) ∙ not_late) ∙ ap (preceded (completed cmp t f.message ∷ [])) (fails (finish_within cmp n t)))) refl
+  finishes_alike {t = t} {p = p} (stopped {m = m} {fault = fault} not_late launch) (suc n) (f ∷ fs) w follows none all
+      fuel =
+      let there : Follows cmp t (landed cmp t p m) (arrived cmp t w f.message) =
+      landed_follows t p w m f.message follows all.0 in
+      let fails : LaunchAlike cmp order t (arrived cmp t w f.message) fs (find (same_pair cmp f.message) w.waiting)
+      (meets fault) =
+      launch_alike cmp order launch (arrived cmp t w f.message) fs f.message (find (same_pair cmp f.message) w.waiting)
+      there none refl (next_alike cmp order t p w m f.message follows.tallies all.0) in
+      subst (λ (c : Course (Completed P) (World P)). CourseAlike t (meets fault) c)
+      (sym
+      (first_lands n t f fs w (sym (late_alike t m f.message all.0) ∙ not_late)
+      ∙ ap (preceded (completed cmp t f.message ∷ [])) (fails (finish_within cmp n t))))
+      refl
   finishes_alike (completes not_late launch rest) n [] w follows none all fuel = absurd all
   finishes_alike (completes not_late launch rest) zero (f ∷ fs) w follows none all fuel = absurd (omega arith)
-  finishes_alike {t = t} {p = p} (completes {m = m} {ms = ms} {more = more} {q = q} {rest = after} not_late launch rest) (suc n) (f ∷ fs) w follows none all fuel =
-      let there : Follows cmp t (landed cmp t p m) (arrived cmp t w f.message) = landed_follows t p w m f.message follows all.0 in
+  finishes_alike {t = t} {p = p} (completes {m = m} {ms = ms} {more = more} {q = q} {rest = after} not_late launch rest)
+      (suc n) (f ∷ fs) w follows none all fuel =
+      let there : Follows cmp t (landed cmp t p m) (arrived cmp t w f.message) =
+      landed_follows t p w m f.message follows all.0 in
       let on : GoesOn cmp order t (arrived cmp t w f.message) fs (find (same_pair cmp f.message) w.waiting) more q =
-      launch_alike cmp order launch (arrived cmp t w f.message) fs f.message (find (same_pair cmp f.message) w.waiting) there none refl (next_alike cmp order t p w m f.message follows.tallies all.0) in
+      launch_alike cmp order launch (arrived cmp t w f.message) fs f.message (find (same_pair cmp f.message) w.waiting)
+      there none refl (next_alike cmp order t p w m f.message follows.tallies all.0) in
       let leavers : AllZip (SameMessage cmp) (ms ++ more) (map (λ (g : Flight P). g.message) (fs ++ on.more)) =
-      subst (λ (ns : List (Message P)). AllZip (SameMessage cmp) (ms ++ more) ns) (sym (map-append (λ (g : Flight P). g.message) fs on.more)) (zip-append (SameMessage cmp) ms more (map (λ (g : Flight P). g.message) fs) (map (λ (g : Flight P). g.message) on.more) all.1 on.leaves) in
+      subst (λ (ns : List (Message P)). AllZip (SameMessage cmp) (ms ++ more) ns)
+      (sym (map-append (λ (g : Flight P). g.message) fs on.more))
+      (zip-append (SameMessage cmp) ms more (map (λ (g : Flight P). g.message) fs)
+      (map (λ (g : Flight P). g.message) on.more) all.1 on.leaves) in
       let many : length (fs ++ on.more) ≡ length fs + length on.more = length-append fs on.more in
       let enough : length on.more + length on.world.waiting ≤ length w.waiting = on.fewer in
-      let ih : CourseAlike t after (finish_within cmp n t (fs ++ on.more) on.world) = finishes_alike rest n (fs ++ on.more) on.world on.follows on.none leavers (omega arith) in
+      let ih : CourseAlike t after (finish_within cmp n t (fs ++ on.more) on.world) =
+      finishes_alike rest n (fs ++ on.more) on.world on.follows on.none leavers (omega arith) in
       subst (λ (c : Course (Completed P) (World P)). CourseAlike t (preceded (completed cmp t m ∷ []) after) c)
-      (sym (first_lands n t f fs w (sym (late_alike t m f.message all.0) ∙ not_late) ∙ ap (preceded (completed cmp t f.message ∷ [])) (on.launches (finish_within cmp n t))))
-      (preceded_alike t (completed cmp t m) (completed cmp t f.message) after (finish_within cmp n t (fs ++ on.more) on.world) (completed_alike t m f.message all.0) ih)
+      (sym
+      (first_lands n t f fs w (sym (late_alike t m f.message all.0) ∙ not_late)
+      ∙ ap (preceded (completed cmp t f.message ∷ [])) (on.launches (finish_within cmp n t))))
+      (preceded_alike t (completed cmp t m) (completed cmp t f.message) after
+      (finish_within cmp n t (fs ++ on.more) on.world) (completed_alike t m f.message all.0) ih)
 
   -- ---- settling
 
@@ -179,16 +245,24 @@ module _ {P : Type 0} (cmp : P → P → Ordering) (order : IsTotalOrder cmp) wh
   unfolding staying
   staying_waiting w = refl
 
-  pub settle_is_finish : (t : ℕ) (w : World P) → OneForEachPair cmp (flows w) → settle cmp t w ≡ finish_within cmp (length w.sending + length w.waiting) t (leaving cmp w) (staying cmp w)
-  settle_is_finish t w one = sym (settled_same (settle cmp t w) (settle_rests cmp order t w)) ∙ settles_as_queue cmp order (length w.sending + length w.waiting) t w one
+  pub settle_is_finish : (t : ℕ) (w : World P) → OneForEachPair cmp (flows w)
+      → settle cmp t w ≡ finish_within cmp (length w.sending + length w.waiting) t (leaving cmp w) (staying cmp w)
+  settle_is_finish t w one =
+      sym (settled_same (settle cmp t w) (settle_rests cmp order t w))
+      ∙ settles_as_queue cmp order (length w.sending + length w.waiting) t w one
 
   -- settling in the planned world is settling in the world
-  pub settles_alike : {t : ℕ} {p : Planned P} {course : Course (Completed P) (Planned P)} → Settles cmp t p course → (w : World P) → Tallies cmp t p w → CourseAlike t course (settle cmp t w)
+  pub settles_alike : {t : ℕ} {p : Planned P} {course : Course (Completed P) (Planned P)} → Settles cmp t p course
+      → (w : World P) → Tallies cmp t p w → CourseAlike t course (settle cmp t w)
   settles_alike {t = t} {p = p} {course = course} (settling {leavers = leavers} {mid = mid} account finishes) w same =
       let n : ℕ = length w.sending + length w.waiting in
       let few : length (leaving cmp w) ≤ length w.sending = leaving_fewer w in
-      let kept : length (staying cmp w).waiting ≡ length w.waiting = ap (λ (q : List (Message P)). length q) (staying_waiting w) in
+      let kept : length (staying cmp w).waiting ≡ length w.waiting =
+      ap (λ (q : List (Message P)). length q) (staying_waiting w) in
       let queued : CourseAlike t course (finish_within cmp n t (leaving cmp w) (staying cmp w)) =
-      finishes_alike finishes n (leaving cmp w) (staying cmp w) (account_follows cmp order t p mid leavers w same account) (staying_none cmp order w) (leavers_alike cmp order t p mid leavers w same account) (omega arith) in
-      let way : settle cmp t w ≡ finish_within cmp n t (leaving cmp w) (staying cmp w) = settle_is_finish t w same.one_each in
+      finishes_alike finishes n (leaving cmp w) (staying cmp w)
+      (account_follows cmp order t p mid leavers w same account) (staying_none cmp order w)
+      (leavers_alike cmp order t p mid leavers w same account) (omega arith) in
+      let way : settle cmp t w ≡ finish_within cmp n t (leaving cmp w) (staying cmp w) =
+      settle_is_finish t w same.one_each in
       subst (λ (c : Course (Completed P) (World P)). CourseAlike t course c) (sym way) queued

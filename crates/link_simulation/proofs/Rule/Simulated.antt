@@ -1,5 +1,6 @@
 -- A call that goes by the event rule runs in the simulation, and one that is refused is refused for a cause.
-use Rattle.std.proofs.Common.{◌≡◌, ℕ, ◌<◌, ◌≤◌, ◌^◌, List, [], ◌∷◌, Bool, true, false, cond, Some, refl, sym, ◌∙◌, subst, arith}
+use Rattle.std.proofs.Common.{◌≡◌, ℕ, ◌<◌, ◌≤◌, ◌^◌, List, [], ◌∷◌, Bool, true, false, cond, Some, refl, sym, ◌∙◌}
+use Rattle.std.proofs.Common.{subst, arith}
 use Rattle.std.specs.Prelude.{IfSome}
 use Rattle.std.specs.List.{filter, AllZip}
 use Rattle.std.specs.declared.cmp.Ordering.{Ordering}
@@ -16,7 +17,8 @@ use Rattle.link_simulation.specs.Rule.Refusals.{MayBeRefused}
 use Rattle.link_simulation.specs.Rule.Range.{IsInRange}
 use Rattle.link_simulation.specs.Rule.StandsFor.{StandsFor, CoursesAlike}
 use Rattle.link_simulation.specs.Rule.SamePlanned.{GoesByRule}
-use Rattle.link_simulation.specs.Rule.Simulated.{IsRun, IsSimulated, IsNextInSimulation, KeepsRange, MeetsFault, IsRefusedInSimulation}
+use Rattle.link_simulation.specs.Rule.Simulated.{IsRun, IsSimulated, IsNextInSimulation, KeepsRange, MeetsFault}
+use Rattle.link_simulation.specs.Rule.Simulated.{IsRefusedInSimulation}
 use Rattle.link_simulation.proofs.Simulation.AlikeMessages.{same_itself, pair_itself}
 use Rattle.link_simulation.proofs.Rule.BeforeNext.{positive_flights}
 use Rattle.link_simulation.proofs.Simulation.QuietInstants.{next_is_later}
@@ -32,11 +34,14 @@ use Rattle.link_simulation.proofs.Rule.Limit.{none_flies}
 module _ {P : Type 0} (cmp : P → P → Ordering) (order : IsTotalOrder cmp) where
   -- ---- the worlds that a planned world stands for are sound
 
-  pub none_waits : (ms ns : List (Message P)) → ((m : Message P) → AllZip (SameMessage cmp) (filter (same_pair cmp m) ms) (filter (same_pair cmp m) ns)) → ms ≡ [] → ns ≡ []
+  pub none_waits : (ms ns : List (Message P))
+      → ((m : Message P) → AllZip (SameMessage cmp) (filter (same_pair cmp m) ms) (filter (same_pair cmp m) ns))
+      → ms ≡ [] → ns ≡ []
   none_waits ms [] same e = refl
   none_waits [] (n ∷ ns) same e = absurd (by_test (same_pair cmp n n) (pair_itself cmp order n) (same n))
     where
-      by_test : (b : Bool) → b ≡ true → AllZip (SameMessage cmp) [] (cond b (n ∷ filter (same_pair cmp n) ns) (filter (same_pair cmp n) ns)) → ⊥
+      by_test : (b : Bool) → b ≡ true
+          → AllZip (SameMessage cmp) [] (cond b (n ∷ filter (same_pair cmp n) ns) (filter (same_pair cmp n) ns)) → ⊥
       by_test true is all = all
       by_test false is all = cc
   none_waits (m ∷ ms) (n ∷ ns) same e = cc
@@ -45,49 +50,63 @@ module _ {P : Type 0} (cmp : P → P → Ordering) (order : IsTotalOrder cmp) wh
   caps_stand p w caps = record {
     egress = λ a b e. sym (caps.egress a a (same_itself cmp order a)) ∙ caps.egress a b e;
     ingress = λ a b e. sym (caps.ingress a a (same_itself cmp order a)) ∙ caps.ingress a b e;
-    link = λ a b c d e f. sym (caps.link a a c c (same_itself cmp order a) (same_itself cmp order c)) ∙ caps.link a b c d e f;
+    link = λ a b c d e f.
+        sym (caps.link a a c c (same_itself cmp order a) (same_itself cmp order c)) ∙ caps.link a b c d e f;
   }
 
   pub sound_of_stands : (p : Planned P) (w : World P) → StandsFor cmp p w → IsSound cmp w
   sound_of_stands p w stands = record {
     caps = caps_stand p w stands.follows.tallies.caps;
     last_arrival = λ a b c d e f.
-        sym (stands.follows.tallies.last_arrival a a c c (same_itself cmp order a) (same_itself cmp order c)) ∙ stands.follows.tallies.last_arrival a b c d e f;
+        sym (stands.follows.tallies.last_arrival a a c c (same_itself cmp order a) (same_itself cmp order c))
+        ∙ stands.follows.tallies.last_arrival a b c d e f;
     positive = positive_flights cmp order w.moment p.sending w.sending stands.follows.tallies.sending;
     one_each = stands.follows.tallies.one_each;
     empty_at_first = λ e.
-        let empty : (p.sending ≡ []) × (p.waiting ≡ []) = stands.follows.tallies.empty_at_first (stands.follows.tallies.limited ∙ e) in
-        (none_flies cmp order w.moment p.sending w.sending stands.follows.tallies.sending empty.0, none_waits p.waiting w.waiting stands.follows.tallies.waiting empty.1);
+        let empty : (p.sending ≡ []) × (p.waiting ≡ []) =
+        stands.follows.tallies.empty_at_first (stands.follows.tallies.limited ∙ e) in (
+          none_flies cmp order w.moment p.sending w.sending stands.follows.tallies.sending empty.0,
+          none_waits p.waiting w.waiting stands.follows.tallies.waiting empty.1,
+        );
   }
 
   -- ---- a call that goes
 
   -- the moment of a call, which fits a word of 64 bits, is no later than the last one
-  pub moment_in_time : (call : Call P) (now : ℕ) → moment_of call ≡ Some now → now < 2 ^ 64 → (t : ℕ) → moment_of call ≡ Some t → t ≤ last_moment
+  pub moment_in_time : (call : Call P) (now : ℕ) → moment_of call ≡ Some now → now < 2 ^ 64 → (t : ℕ)
+      → moment_of call ≡ Some t → t ≤ last_moment
   moment_in_time call now at fits t is = let same : now ≡ t = cc in omega arith
 
   pub next_in_simulation : (p : Planned P) → IsNextInSimulation cmp p (next_event p)
   next_in_simulation p w stands = next_is_planned cmp order p w stands
 
-  pub calls_simulated : (p q : Planned P) (call : Call P) (completions : List (Completed P)) → ((t : ℕ) → moment_of call ≡ Some t → t ≤ last_moment) → GoesByRule cmp p call completions q
+  pub calls_simulated : (p q : Planned P) (call : Call P) (completions : List (Completed P))
+      → ((t : ℕ) → moment_of call ≡ Some t → t ≤ last_moment) → GoesByRule cmp p call completions q
       → IsSimulated cmp p call completions q
   calls_simulated p q call completions in_time go w now called =
-      let f : (c : Course (Completed P) (World P)) × Runs cmp w call now c × CoursesAlike cmp (λ r v. StandsFor cmp r v × (v.moment ≡ now)) (goes go.answers go.after) c
-      = obeys_alike cmp order p w call now (goes go.answers go.after) called.stands called.moment (in_time now called.moment) called.turn go.obeys in
+      let f : (c : Course (Completed P) (World P)) × Runs cmp w call now c
+      × CoursesAlike cmp (λ r v. StandsFor cmp r v × (v.moment ≡ now)) (goes go.answers go.after) c
+      = obeys_alike cmp order p w call now (goes go.answers go.after) called.stands called.moment
+      (in_time now called.moment) called.turn go.obeys in
       by_course f.0 f.1 f.2
     where
       later_next : (v : World P) → StandsFor cmp q v → v.moment ≡ now → IfSome (next_event q) (λ t. now < t)
-      later_next v stands at = subst (λ (s : ℕ). IfSome (next_event q) (λ t. s < t)) at (next_is_later cmp order v (next_event q) (next_is_planned cmp order q v stands))
+      later_next v stands at =
+          subst (λ (s : ℕ). IfSome (next_event q) (λ t. s < t)) at
+          (next_is_later cmp order v (next_event q) (next_is_planned cmp order q v stands))
 
-      never_faults : (ds : List (Completed P)) (v : World P) → Runs cmp w call now (goes ds v) → (fault : Error) → ¬ Faults cmp w call fault
+      never_faults : (ds : List (Completed P)) (v : World P) → Runs cmp w call now (goes ds v) → (fault : Error)
+          → ¬ Faults cmp w call fault
       never_faults ds v runs fault (t, at, stops) =
           let same : t ≡ now = cc in
           let one : goes ds v ≡ meets fault
-          = runs_are_one cmp order w call now (goes ds v) (meets fault) (sound_of_stands p w called.stands) runs (subst (λ (s : ℕ). Runs cmp w call s (meets fault)) same stops) in
+          = runs_are_one cmp order w call now (goes ds v) (meets fault) (sound_of_stands p w called.stands) runs
+          (subst (λ (s : ℕ). Runs cmp w call s (meets fault)) same stops) in
           cc
 
       by_course : (c : Course (Completed P) (World P)) → Runs cmp w call now c
-          → CoursesAlike cmp (λ r v. StandsFor cmp r v × (v.moment ≡ now)) (goes go.answers go.after) c → IsRun cmp w call now completions q
+          → CoursesAlike cmp (λ r v. StandsFor cmp r v × (v.moment ≡ now)) (goes go.answers go.after) c
+          → IsRun cmp w call now completions q
       by_course (goes ds v) runs alike =
           let stands : StandsFor cmp q v = stands_same cmp order go.after q v go.same_after alike.1.0 in
           record {
@@ -102,7 +121,8 @@ module _ {P : Type 0} (cmp : P → P → Ordering) (order : IsTotalOrder cmp) wh
           }
       by_course (meets fault) runs alike = absurd alike
 
-  pub call_keeps_range : (p q : Planned P) (call : Call P) (completions : List (Completed P)) → GoesByRule cmp p call completions q → KeepsRange cmp p call q
+  pub call_keeps_range : (p q : Planned P) (call : Call P) (completions : List (Completed P))
+      → GoesByRule cmp p call completions q → KeepsRange cmp p call q
   call_keeps_range p q call completions go in_range =
       let f : (cs : List (Completed P)) × (r : Planned P) × (goes go.answers go.after ≡ goes cs r) × IsInRange r
       = obeys_in_range cmp order p call (goes go.answers go.after) in_range go.obeys in
@@ -111,17 +131,23 @@ module _ {P : Type 0} (cmp : P → P → Ordering) (order : IsTotalOrder cmp) wh
 
   -- ---- a call that is refused
 
-  fault_is_met : (p : Planned P) (call : Call P) (fault : Error) → ((t : ℕ) → moment_of call ≡ Some t → t ≤ last_moment) → Obeys cmp p call (meets fault) → MeetsFault cmp p call fault
+  fault_is_met : (p : Planned P) (call : Call P) (fault : Error) → ((t : ℕ) → moment_of call ≡ Some t → t ≤ last_moment)
+      → Obeys cmp p call (meets fault) → MeetsFault cmp p call fault
   fault_is_met p call fault in_time obeys w now called =
-      let f : (c : Course (Completed P) (World P)) × Runs cmp w call now c × CoursesAlike cmp (λ r v. StandsFor cmp r v × (v.moment ≡ now)) (meets fault) c
-      = obeys_alike cmp order p w call now (meets fault) called.stands called.moment (in_time now called.moment) called.turn obeys in
+      let f : (c : Course (Completed P) (World P)) × Runs cmp w call now c
+      × CoursesAlike cmp (λ r v. StandsFor cmp r v × (v.moment ≡ now)) (meets fault) c
+      = obeys_alike cmp order p w call now (meets fault) called.stands called.moment (in_time now called.moment)
+      called.turn obeys in
       by_course f.0 f.1 f.2
     where
-      by_course : (c : Course (Completed P) (World P)) → Runs cmp w call now c → CoursesAlike cmp (λ r v. StandsFor cmp r v × (v.moment ≡ now)) (meets fault) c → Faults cmp w call fault
+      by_course : (c : Course (Completed P) (World P)) → Runs cmp w call now c
+          → CoursesAlike cmp (λ r v. StandsFor cmp r v × (v.moment ≡ now)) (meets fault) c → Faults cmp w call fault
       by_course (goes ds v) runs alike = absurd alike
-      by_course (meets other) runs alike = (now, called.moment, subst (λ (e : Error). Runs cmp w call now (meets e)) (sym alike) runs)
+      by_course (meets other) runs alike =
+          (now, called.moment, subst (λ (e : Error). Runs cmp w call now (meets e)) (sym alike) runs)
 
-  pub refusals_simulated : (p : Planned P) (call : Call P) (why : Error) → ((t : ℕ) → moment_of call ≡ Some t → t ≤ last_moment) → MayBeRefused cmp p call why
+  pub refusals_simulated : (p : Planned P) (call : Call P) (why : Error)
+      → ((t : ℕ) → moment_of call ≡ Some t → t ≤ last_moment) → MayBeRefused cmp p call why
       → IsRefusedInSimulation cmp p call why
   refusals_simulated p call why in_time may = record {
     cause =

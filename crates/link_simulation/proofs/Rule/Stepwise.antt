@@ -4,8 +4,10 @@ use Rattle.std.specs.List.{AllZip}
 use Rattle.std.specs.declared.cmp.Ordering.{Ordering}
 use Rattle.fair_rates.specs.declared.error.Error.{Error}
 use Rattle.link_simulation.specs.Simulation.World.{World, Completed, goes}
-use Rattle.link_simulation.specs.Simulation.Calls.{Call, call_limit, call_limit_link, call_enqueue, call_advance, call_next, moment_of, Runs, IsInTurn}
-use Rattle.link_simulation.specs.Simulation.Replies.{Reply, reply_done, reply_next, reply_refused, SameCompletion, Agrees}
+use Rattle.link_simulation.specs.Simulation.Calls.{Call, call_limit, call_limit_link, call_enqueue, call_advance}
+use Rattle.link_simulation.specs.Simulation.Calls.{call_next, moment_of, Runs, IsInTurn}
+use Rattle.link_simulation.specs.Simulation.Replies.{Reply, reply_done, reply_next, reply_refused, SameCompletion}
+use Rattle.link_simulation.specs.Simulation.Replies.{Agrees}
 use Rattle.link_simulation.specs.Rule.Planned.{Planned}
 use Rattle.link_simulation.specs.Rule.Events.{Obeys}
 use Rattle.link_simulation.specs.Rule.Refusals.{MayBeRefused, Obeyed}
@@ -46,18 +48,23 @@ module _ {P : Type 0} (cmp : P → P → Ordering) where
       → Agrees cmp w (call ∷ calls) (reply_done completions ∷ replies) → IsInTurn cmp w call
       → IsMade w calls replies call completions
   agrees_done w calls replies (call_limit now peer egress ingress) completions agrees turn =
-      let (t, ds, v, at, runs, same, rest) = agrees turn in record { now = t; answers = ds; after = v; moment = at; runs = runs; same = same; rest = rest }
+      let (t, ds, v, at, runs, same, rest) = agrees turn in
+      record { now = t; answers = ds; after = v; moment = at; runs = runs; same = same; rest = rest }
   agrees_done w calls replies (call_limit_link now origin recipient cap) completions agrees turn =
-      let (t, ds, v, at, runs, same, rest) = agrees turn in record { now = t; answers = ds; after = v; moment = at; runs = runs; same = same; rest = rest }
+      let (t, ds, v, at, runs, same, rest) = agrees turn in
+      record { now = t; answers = ds; after = v; moment = at; runs = runs; same = same; rest = rest }
   agrees_done w calls replies (call_enqueue now m) completions agrees turn =
-      let (t, ds, v, at, runs, same, rest) = agrees turn in record { now = t; answers = ds; after = v; moment = at; runs = runs; same = same; rest = rest }
+      let (t, ds, v, at, runs, same, rest) = agrees turn in
+      record { now = t; answers = ds; after = v; moment = at; runs = runs; same = same; rest = rest }
   agrees_done w calls replies (call_advance now) completions agrees turn =
-      let (t, ds, v, at, runs, same, rest) = agrees turn in record { now = t; answers = ds; after = v; moment = at; runs = runs; same = same; rest = rest }
+      let (t, ds, v, at, runs, same, rest) = agrees turn in
+      record { now = t; answers = ds; after = v; moment = at; runs = runs; same = same; rest = rest }
   agrees_done w calls replies call_next completions agrees turn = absurd agrees
 
   -- ---- by the event rule
 
-  pub obeyed_next : (p : Planned P) (calls : List (Call P)) (replies : List (Reply P)) (call : Call P) (next : Option ℕ) → Obeyed cmp p (call ∷ calls) (reply_next next ∷ replies)
+  pub obeyed_next : (p : Planned P) (calls : List (Call P)) (replies : List (Reply P)) (call : Call P) (next : Option ℕ)
+      → Obeyed cmp p (call ∷ calls) (reply_next next ∷ replies)
       → Obeyed cmp p calls replies
   obeyed_next p calls replies (call_limit now peer egress ingress) next obeyed = absurd obeyed
   obeyed_next p calls replies (call_limit_link now origin recipient cap) next obeyed = absurd obeyed
@@ -65,7 +72,8 @@ module _ {P : Type 0} (cmp : P → P → Ordering) where
   obeyed_next p calls replies (call_advance now) next obeyed = absurd obeyed
   obeyed_next p calls replies call_next next obeyed = obeyed.1
 
-  pub obeyed_refused : (p : Planned P) (calls : List (Call P)) (replies : List (Reply P)) (call : Call P) (why : Error) → Obeyed cmp p (call ∷ calls) (reply_refused why ∷ replies)
+  pub obeyed_refused : (p : Planned P) (calls : List (Call P)) (replies : List (Reply P)) (call : Call P) (why : Error)
+      → Obeyed cmp p (call ∷ calls) (reply_refused why ∷ replies)
       → MayBeRefused cmp p call why × Obeyed cmp p calls replies
   obeyed_refused p calls replies (call_limit now peer egress ingress) why obeyed = obeyed
   obeyed_refused p calls replies (call_limit_link now origin recipient cap) why obeyed = obeyed
@@ -73,9 +81,11 @@ module _ {P : Type 0} (cmp : P → P → Ordering) where
   obeyed_refused p calls replies (call_advance now) why obeyed = obeyed
   obeyed_refused p calls replies call_next why obeyed = absurd obeyed
 
-  pub obeyed_done : (p : Planned P) (calls : List (Call P)) (replies : List (Reply P)) (call : Call P) (completions : List (Completed P))
+  pub obeyed_done : (p : Planned P) (calls : List (Call P)) (replies : List (Reply P)) (call : Call P)
+      (completions : List (Completed P))
       → Obeyed cmp p (call ∷ calls) (reply_done completions ∷ replies)
-      → (ds : List (Completed P)) × (q : Planned P) × Obeys cmp p call (goes ds q) × AllZip (SameCompletion cmp) completions ds × Obeyed cmp q calls replies
+      → (ds : List (Completed P)) × (q : Planned P) × Obeys cmp p call (goes ds q)
+      × AllZip (SameCompletion cmp) completions ds × Obeyed cmp q calls replies
   obeyed_done p calls replies (call_limit now peer egress ingress) completions obeyed = obeyed
   obeyed_done p calls replies (call_limit_link now origin recipient cap) completions obeyed = obeyed
   obeyed_done p calls replies (call_enqueue now m) completions obeyed = obeyed

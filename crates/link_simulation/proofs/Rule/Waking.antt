@@ -1,5 +1,6 @@
 -- Waking in the planned world is waking in the world.
-use Rattle.std.proofs.Common.{◌≡◌, ℕ, zero, suc, ◌+◌, ◌≤◌, List, [], ◌∷◌, ◌++◌, length, Bool, true, false, cond, Option, Some, refl, sym, ap, ◌∙◌, subst, arith, length-append}
+use Rattle.std.proofs.Common.{◌≡◌, ℕ, zero, suc, ◌+◌, ◌≤◌, List, [], ◌∷◌, ◌++◌, length, Bool, true, false, cond, Option}
+use Rattle.std.proofs.Common.{Some, refl, sym, ap, ◌∙◌, subst, arith, length-append}
 use Rattle.std.specs.List.{filter, find, list_any, AllZip}
 use Rattle.std.specs.declared.cmp.Ordering.{Ordering}
 use Rattle.std.specs.Cmp.{IsTotalOrder}
@@ -8,7 +9,8 @@ use Rattle.fair_rates.specs.Lists.WithoutFirst.{without_first}
 use Rattle.link_simulation.specs.Simulation.World.{Completed, Course, Flight, World, and_then, flows, fronts, goes}
 use Rattle.link_simulation.specs.Simulation.World.{is_done, least_pair, may_start, meets, preceded, ready, settle}
 use Rattle.link_simulation.specs.Simulation.World.{start, wake_within, EndsWith, flight_of}
-use Rattle.link_simulation.specs.Rule.Events.{Finishes, Launches, WakesEach, all_started, no_finish, no_start, starts_one}
+use Rattle.link_simulation.specs.Rule.Events.{Finishes, Launches, WakesEach, all_started, no_finish, no_start}
+use Rattle.link_simulation.specs.Rule.Events.{starts_one}
 use Rattle.link_simulation.specs.Simulation.Messages.{Message, OneForEachPair, SameMessage, same_pair}
 use Rattle.link_simulation.specs.Rule.Planned.{Planned, next_of}
 use Rattle.link_simulation.specs.Simulation.Replies.{SameCompletion}
@@ -17,11 +19,13 @@ use Rattle.link_simulation.specs.Simulation.Queue.{staying, out_of_waiting, join
 use Rattle.link_simulation.proofs.Simulation.Queue.{preceded_none}
 use Rattle.link_simulation.proofs.Rule.BeforeNext.{IsFront, fronts_first, first_found}
 use Rattle.fair_rates.proofs.Lists.Each.{Each, each_filtered}
-use Rattle.link_simulation.proofs.Rule.Launch.{NoneDone, joining, started, joining_leaves, started_stays, OptionsAlike, next_alike, StartsSo, StartAlike, start_alike}
+use Rattle.link_simulation.proofs.Rule.Launch.{NoneDone, joining, started, joining_leaves, started_stays, OptionsAlike}
+use Rattle.link_simulation.proofs.Rule.Launch.{next_alike, StartsSo, StartAlike, start_alike}
 use Rattle.link_simulation.proofs.Rule.Settling.{CourseAlike, looked, finishes_alike, settle_is_finish}
 use Rattle.link_simulation.proofs.Simulation.Pass.{wake_none}
 use Rattle.link_simulation.proofs.Simulation.AlikeMessages.{pair_itself}
-use Rattle.link_simulation.proofs.Simulation.OnePair.{apart, OnlyPair, only_both, IsRested, IsAfter, only_taken, only_joined, rested_joined, finish_only, ready_after, ends_so}
+use Rattle.link_simulation.proofs.Simulation.OnePair.{apart, OnlyPair, only_both, IsRested, IsAfter, only_taken}
+use Rattle.link_simulation.proofs.Simulation.OnePair.{only_joined, rested_joined, finish_only, ready_after, ends_so}
 use Rattle.link_simulation.proofs.Simulation.SettlingEnds.{length_without}
 use Rattle.fair_rates.proofs.Lists.Zips.{zip-append}
 use Rattle.link_simulation.proofs.Laws.Bytes.{each_least, wake_first}
@@ -29,20 +33,34 @@ use Rattle.link_simulation.proofs.Laws.Bytes.{each_least, wake_first}
 -- each of a list of which none passes
 pub each_none : {X : Type 0} (test : X → Bool) (xs : List X) → list_any test xs ≡ false → Each (λ x. test x ≡ false) xs
 each_none test [] e = tt
-each_none test (x ∷ xs) e = let parts : (test x ≡ false) × (list_any test xs ≡ false) = or_parts (test x) (list_any test xs) e in (parts.0, each_none test xs parts.1)
+each_none test (x ∷ xs) e =
+    let parts : (test x ≡ false) × (list_any test xs ≡ false) = or_parts (test x) (list_any test xs) e in
+    (parts.0, each_none test xs parts.1)
 
 module _ {P : Type 0} (cmp : P → P → Ordering) (order : IsTotalOrder cmp) where
   -- ---- a round: one pair starts, and what is done then completes
 
-  pub round_is : (t : ℕ) (w : World P) (y : Message P) → NoneDone cmp order w → OneForEachPair cmp (flows (joined cmp w y))
-      → settle cmp t (joined cmp w y) ≡ finish_within cmp (length (joined cmp w y).sending + length (joined cmp w y).waiting) t (joining cmp order w y) (started cmp order w y)
+  pub round_is : (t : ℕ) (w : World P) (y : Message P) → NoneDone cmp order w
+      → OneForEachPair cmp (flows (joined cmp w y))
+      → settle cmp t (joined cmp w y)
+      ≡ finish_within cmp (length (joined cmp w y).sending + length (joined cmp w y).waiting) t
+      (joining cmp order w y) (started cmp order w y)
   round_is t w y none one = settle_is_finish cmp order t (joined cmp w y) one
-      ∙ ap (λ (q : List (Flight P)). finish_within cmp (length (joined cmp w y).sending + length (joined cmp w y).waiting) t q (staying cmp (joined cmp w y))) (joining_leaves cmp order w y none)
-      ∙ ap (λ (v : World P). finish_within cmp (length (joined cmp w y).sending + length (joined cmp w y).waiting) t (joining cmp order w y) v) (started_stays cmp order w y none)
+      ∙ ap
+      (λ (q : List (Flight P)). finish_within cmp (length (joined cmp w y).sending + length (joined cmp w y).waiting)
+      t q (staying cmp (joined cmp w y)))
+      (joining_leaves cmp order w y none)
+      ∙ ap
+      (λ (v : World P). finish_within cmp (length (joined cmp w y).sending + length (joined cmp w y).waiting) t
+      (joining cmp order w y) v)
+      (started_stays cmp order w y none)
 
-  pub round_fuel : (w : World P) (y : Message P) → length (joining cmp order w y) + length (started cmp order w y).waiting ≤ length (joined cmp w y).sending + length (joined cmp w y).waiting
+  pub round_fuel : (w : World P) (y : Message P)
+      → length (joining cmp order w y) + length (started cmp order w y).waiting
+      ≤ length (joined cmp w y).sending + length (joined cmp w y).waiting
   round_fuel w y =
-      let many : length (w.sending ++ flight_of y ∷ []) ≡ length w.sending + 1 = length-append w.sending (flight_of y ∷ []) in
+      let many : length (w.sending ++ flight_of y ∷ []) ≡ length w.sending + 1 =
+      length-append w.sending (flight_of y ∷ []) in
       by_test (is_done cmp w (flight_of y)) many
     where
       by_test : (b : Bool) → length (w.sending ++ flight_of y ∷ []) ≡ length w.sending + 1
@@ -56,20 +74,24 @@ module _ {P : Type 0} (cmp : P → P → Ordering) (order : IsTotalOrder cmp) wh
   abbrev pub IsRound : ℕ → Message P → World P → World P → Type 0
   IsRound t y w v = IsAfter cmp order y t w v × (length v.waiting + 1 ≤ length w.waiting)
 
-  round_after : (t : ℕ) (w : World P) (y : Message P) → NoneDone cmp order w → OneForEachPair cmp (flows (joined cmp w y)) → find (same_pair cmp y) w.waiting ≡ Some y
+  round_after : (t : ℕ) (w : World P) (y : Message P) → NoneDone cmp order w
+      → OneForEachPair cmp (flows (joined cmp w y)) → find (same_pair cmp y) w.waiting ≡ Some y
       → EndsWith (IsRound t y w) (settle cmp t (joined cmp w y))
   round_after t w y none one found =
       subst (λ (c : Course (Completed P) (World P)). EndsWith (IsRound t y w) c) (sym (round_is t w y none one))
-      (ends_so (IsAfter cmp order y t (started cmp order w y)) (IsRound t y w) _ (λ v after. both v after (length_without (same_pair cmp y) y w.waiting found))
+      (ends_so (IsAfter cmp order y t (started cmp order w y)) (IsRound t y w) _
+      (λ v after. both v after (length_without (same_pair cmp y) y w.waiting found))
       (finish_only cmp order y (length (joined cmp w y).sending + length (joined cmp w y).waiting) t
       (joining cmp order w y) (started cmp order w y) (own_joining (is_done cmp w (flight_of y))) (round_fuel w y)
       (rests (is_done cmp w (flight_of y)))))
     where
-      own_joining : (b : Bool) → Each (λ (f : Flight P). same_pair cmp y f.message ≡ true) (cond b (flight_of y ∷ []) [])
+      own_joining : (b : Bool)
+          → Each (λ (f : Flight P). same_pair cmp y f.message ≡ true) (cond b (flight_of y ∷ []) [])
       own_joining true = (pair_itself cmp order y, tt)
       own_joining false = tt
 
-      rests : (b : Bool) → cond b (flight_of y ∷ []) [] ≡ [] → IsRested cmp order y t (cond b (out_of_waiting cmp w y) (joined cmp w y))
+      rests : (b : Bool) → cond b (flight_of y ∷ []) [] ≡ []
+          → IsRested cmp order y t (cond b (out_of_waiting cmp w y) (joined cmp w y))
       rests true e = cc
       rests false e = rested_joined cmp order y t w y (pair_itself cmp order y)
 
@@ -77,24 +99,32 @@ module _ {P : Type 0} (cmp : P → P → Ordering) (order : IsTotalOrder cmp) wh
       only true = only_taken cmp order y w y (pair_itself cmp order y)
       only false = only_joined cmp order y w y (pair_itself cmp order y)
 
-      waits : (b : Bool) → length (cond b (out_of_waiting cmp w y) (joined cmp w y)).waiting ≡ length (without_first (same_pair cmp y) w.waiting)
+      waits : (b : Bool)
+          → length (cond b (out_of_waiting cmp w y) (joined cmp w y)).waiting
+          ≡ length (without_first (same_pair cmp y) w.waiting)
       waits true = refl
       waits false = refl
 
-      both : (v : World P) → IsAfter cmp order y t (started cmp order w y) v → length (without_first (same_pair cmp y) w.waiting) + 1 ≡ length w.waiting → IsRound t y w v
+      both : (v : World P) → IsAfter cmp order y t (started cmp order w y) v
+          → length (without_first (same_pair cmp y) w.waiting) + 1 ≡ length w.waiting → IsRound t y w v
       both v after fewer =
           let less : length v.waiting ≤ length (started cmp order w y).waiting = after.0.fewer in
-          let some : length (started cmp order w y).waiting ≡ length (without_first (same_pair cmp y) w.waiting) = waits (is_done cmp w (flight_of y)) in
-          ((only_both cmp order y w (started cmp order w y) v (only (is_done cmp w (flight_of y))) after.0, after.1), omega arith)
+          let some : length (started cmp order w y).waiting ≡ length (without_first (same_pair cmp y) w.waiting) =
+          waits (is_done cmp w (flight_of y)) in (
+            (only_both cmp order y w (started cmp order w y) v (only (is_done cmp w (flight_of y))) after.0, after.1),
+            omega arith,
+          )
 
   -- ---- the order of the pairs
 
   -- the one list has, in this order, the least pair of the other, then the least of the rest, and so on
   abbrev pub Picks : List (Message P) → List (Message P) → Type 0
   Picks xs [] = xs ≡ []
-  Picks xs (m ∷ ms) = (y : Message P) × (least_pair cmp xs ≡ Some y) × SameMessage cmp m y × Picks (filter (apart cmp order y) xs) ms
+  Picks xs (m ∷ ms) =
+      (y : Message P) × (least_pair cmp xs ≡ Some y) × SameMessage cmp m y × Picks (filter (apart cmp order y) xs) ms
 
-  wake_round : (n t : ℕ) (w : World P) (y : Message P) (c : Course (Completed P) (World P)) → least_pair cmp (ready cmp t w) ≡ Some y → start cmp w y ≡ goes [] (joined cmp w y)
+  wake_round : (n t : ℕ) (w : World P) (y : Message P) (c : Course (Completed P) (World P))
+      → least_pair cmp (ready cmp t w) ≡ Some y → start cmp w y ≡ goes [] (joined cmp w y)
       → settle cmp t (joined cmp w y) ≡ c → wake_within cmp (suc n) t w ≡ and_then c (wake_within cmp n t)
   wake_round n t w y c least starts e =
       wake_first cmp order n t w y least ∙ ap (λ (d : Course (Completed P) (World P)). and_then d
@@ -102,7 +132,8 @@ module _ {P : Type 0} (cmp : P → P → Ordering) (order : IsTotalOrder cmp) wh
       ∙ preceded_none (and_then (settle cmp t (joined cmp w y)) (wake_within cmp n t))
       ∙ ap (λ (d : Course (Completed P) (World P)). and_then d (wake_within cmp n t)) e
 
-  pub preceded_by : (R : Planned P → World P → Type 0) (cs ds : List (Completed P)) (x : Course (Completed P) (Planned P)) (c : Course (Completed P) (World P))
+  pub preceded_by : (R : Planned P → World P → Type 0) (cs ds : List (Completed P))
+      (x : Course (Completed P) (Planned P)) (c : Course (Completed P) (World P))
       → AllZip (SameCompletion cmp) cs ds → CoursesAlike cmp R x c → CoursesAlike cmp R (preceded cs x) (preceded ds c)
   preceded_by R cs ds (goes es q) (goes fs v) all h = (zip-append (SameCompletion cmp) cs es ds fs all h.0, h.1)
   preceded_by R cs ds (goes es q) (meets g) all h = absurd h
@@ -123,63 +154,95 @@ module _ {P : Type 0} (cmp : P → P → Ordering) (order : IsTotalOrder cmp) wh
   next_is t w y least =
       let known : IsFront cmp order w.waiting y × (may_start cmp t w y ≡ true)
       = each_least cmp order (λ m. IsFront cmp order w.waiting m × (may_start cmp t w m ≡ true)) (ready cmp t w) y
-      (each_filtered (IsFront cmp order w.waiting) (may_start cmp t w) (fronts cmp w.waiting) (fronts_first cmp order w.waiting)) least in
+      (each_filtered (IsFront cmp order w.waiting) (may_start cmp t w) (fronts cmp w.waiting)
+      (fronts_first cmp order w.waiting))
+      least in
       record { found = first_found cmp order (same_pair cmp y) y known.0.0 w.waiting known.0.1; may = known.1 }
 
   abbrev WhenPicked : ℕ → List (Message P) → Planned P → Course (Completed P) (Planned P) → Type 0
   WhenPicked t ms p course =
-      (n : ℕ) (w : World P) → Follows cmp t p w → NoneDone cmp order w → Picks (ready cmp t w) ms → length w.waiting ≤ n → CoursesAlike cmp (IsWoken t) course (wake_within cmp n t w)
+      (n : ℕ) (w : World P) → Follows cmp t p w → NoneDone cmp order w → Picks (ready cmp t w) ms → length w.waiting ≤ n
+      → CoursesAlike cmp (IsWoken t) course (wake_within cmp n t w)
 
   -- the pair that is launched is the one that starts
-  launch_starts : {t : ℕ} {m : Message P} {p : Planned P} {course : Course (Message P) (Planned P)} → Launches cmp t p (next_of cmp p m) course → (w : World P) (y : Message P)
-      → Follows cmp t p w → NoneDone cmp order w → IsNext t w y → SameMessage cmp m y → StartAlike cmp order t w y course
+  launch_starts : {t : ℕ} {m : Message P} {p : Planned P} {course : Course (Message P) (Planned P)}
+      → Launches cmp t p (next_of cmp p m) course → (w : World P) (y : Message P)
+      → Follows cmp t p w → NoneDone cmp order w → IsNext t w y → SameMessage cmp m y
+      → StartAlike cmp order t w y course
   launch_starts {t = t} {m = m} {p = p} launch w y follows none next same =
       start_alike cmp order launch w y follows none next.may next.found
       (subst (λ (o : Option (Message P)). OptionsAlike (SameMessage cmp) (next_of cmp p m) o) next.found
       (next_alike cmp order t p w m y follows.tallies same))
 
-  pub round_alike : {t : ℕ} {more : List (Message P)} {q : Planned P} {course : Course (Completed P) (Planned P)} → Finishes cmp t more q course → (w : World P) (y : Message P)
-      → NoneDone cmp order w → StartsSo cmp order t w y more q → CourseAlike cmp order t course (settle cmp t (joined cmp w y))
+  pub round_alike : {t : ℕ} {more : List (Message P)} {q : Planned P} {course : Course (Completed P) (Planned P)}
+      → Finishes cmp t more q course → (w : World P) (y : Message P)
+      → NoneDone cmp order w → StartsSo cmp order t w y more q
+      → CourseAlike cmp order t course (settle cmp t (joined cmp w y))
   round_alike {t = t} {course = course} finish w y none so =
-      subst (λ (c : Course (Completed P) (World P)). CourseAlike cmp order t course c) (sym (round_is t w y none so.one_each))
+      subst (λ (c : Course (Completed P) (World P)). CourseAlike cmp order t course c)
+      (sym (round_is t w y none so.one_each))
       (finishes_alike cmp order finish (length (joined cmp w y).sending + length (joined cmp w y).waiting)
       (joining cmp order w y) (started cmp order w y) so.follows so.none so.leaves (round_fuel w y))
 
   no_fuel : (t : ℕ) (w : World P) (y : Message P) → IsNext t w y → length w.waiting ≤ 0 → ⊥
-  no_fuel t w y next fuel = let fewer : length (without_first (same_pair cmp y) w.waiting) + 1 ≡ length w.waiting = length_without (same_pair cmp y) y w.waiting next.found in omega arith
+  no_fuel t w y next fuel =
+      let fewer : length (without_first (same_pair cmp y) w.waiting) + 1 ≡ length w.waiting =
+      length_without (same_pair cmp y) y w.waiting next.found in
+      omega arith
 
-  pub wakes_alike : {t : ℕ} {ms : List (Message P)} {p : Planned P} {course : Course (Completed P) (Planned P)} → WakesEach cmp t ms p course → WhenPicked t ms p course
+  pub wakes_alike : {t : ℕ} {ms : List (Message P)} {p : Planned P} {course : Course (Completed P) (Planned P)}
+      → WakesEach cmp t ms p course → WhenPicked t ms p course
   wakes_alike {t = t} {p = p} (all_started {q = q} looks) n w follows none picks fuel =
-      subst (λ (c : Course (Completed P) (World P)). CoursesAlike cmp (IsWoken t) (goes [] q) c) (sym (wake_none cmp order n t w picks)) (tt, (looked cmp order t p q w follows none looks, picks))
-  wakes_alike {t = t} (no_start launch) zero w follows none picks fuel = absurd (no_fuel t w picks.0 (next_is t w picks.0 picks.1) fuel)
+      subst (λ (c : Course (Completed P) (World P)). CoursesAlike cmp (IsWoken t) (goes [] q) c)
+      (sym (wake_none cmp order n t w picks)) (tt, (looked cmp order t p q w follows none looks, picks))
+  wakes_alike {t = t} (no_start launch) zero w follows none picks fuel =
+      absurd (no_fuel t w picks.0 (next_is t w picks.0 picks.1) fuel)
   wakes_alike {t = t} (no_start {fault = fault} launch) (suc n) w follows none picks fuel =
-      let fails : start cmp w picks.0 ≡ meets fault = launch_starts launch w picks.0 follows none (next_is t w picks.0 picks.1) picks.2 in
+      let fails : start cmp w picks.0 ≡ meets fault =
+      launch_starts launch w picks.0 follows none (next_is t w picks.0 picks.1) picks.2 in
       subst (λ (c : Course (Completed P) (World P)). CoursesAlike cmp (IsWoken t) (meets fault) c)
       (sym (wake_first cmp order n t w picks.0 picks.1
       ∙ ap (λ (d : Course (Completed P) (World P)). and_then d
       (λ v. and_then (settle cmp t v) (wake_within cmp n t))) fails)) refl
-  wakes_alike {t = t} (no_finish launch finish) zero w follows none picks fuel = absurd (no_fuel t w picks.0 (next_is t w picks.0 picks.1) fuel)
-  wakes_alike {t = t} (no_finish {more = more} {q = q} {fault = fault} launch finish) (suc n) w follows none picks fuel =
-      let so : StartsSo cmp order t w picks.0 more q = launch_starts launch w picks.0 follows none (next_is t w picks.0 picks.1) picks.2 in
+  wakes_alike {t = t} (no_finish launch finish) zero w follows none picks fuel =
+      absurd (no_fuel t w picks.0 (next_is t w picks.0 picks.1) fuel)
+  wakes_alike {t = t} (no_finish {more = more} {q = q} {fault = fault} launch finish) (suc n) w follows none picks
+      fuel =
+      let so : StartsSo cmp order t w picks.0 more q =
+      launch_starts launch w picks.0 follows none (next_is t w picks.0 picks.1) picks.2 in
       by_course so.starts (settle cmp t (joined cmp w picks.0)) refl (round_alike finish w picks.0 none so)
     where
-      by_course : start cmp w picks.0 ≡ goes [] (joined cmp w picks.0) → (c : Course (Completed P) (World P)) → settle cmp t (joined cmp w picks.0) ≡ c
-          → CourseAlike cmp order t (meets fault) c → CoursesAlike cmp (IsWoken t) (meets fault) (wake_within cmp (suc n) t w)
+      by_course : start cmp w picks.0 ≡ goes [] (joined cmp w picks.0) → (c : Course (Completed P) (World P))
+          → settle cmp t (joined cmp w picks.0) ≡ c
+          → CourseAlike cmp order t (meets fault) c
+          → CoursesAlike cmp (IsWoken t) (meets fault) (wake_within cmp (suc n) t w)
       by_course starts (goes ds v) e h = absurd h
-      by_course starts (meets g) e h = subst (λ (c : Course (Completed P) (World P)). CoursesAlike cmp (IsWoken t) (meets fault) c) (sym (wake_round n t w picks.0 (meets g) picks.1 starts e)) h
-  wakes_alike {t = t} (starts_one launch finish wakes) zero w follows none picks fuel = absurd (no_fuel t w picks.0 (next_is t w picks.0 picks.1) fuel)
-  wakes_alike {t = t} (starts_one {m = m} {ms = ms} {more = more} {q = q} {r = r} {cs = cs} {rest = rest} launch finish wakes) (suc n) w follows none picks fuel =
+      by_course starts (meets g) e h =
+          subst (λ (c : Course (Completed P) (World P)). CoursesAlike cmp (IsWoken t) (meets fault) c)
+          (sym (wake_round n t w picks.0 (meets g) picks.1 starts e)) h
+  wakes_alike {t = t} (starts_one launch finish wakes) zero w follows none picks fuel =
+      absurd (no_fuel t w picks.0 (next_is t w picks.0 picks.1) fuel)
+  wakes_alike {t = t}
+      (starts_one {m = m} {ms = ms} {more = more} {q = q} {r = r} {cs = cs} {rest = rest} launch finish wakes) (suc n) w
+      follows none picks fuel =
       let next : IsNext t w picks.0 = next_is t w picks.0 picks.1 in
       let so : StartsSo cmp order t w picks.0 more q = launch_starts launch w picks.0 follows none next picks.2 in
-      by_course so.starts (settle cmp t (joined cmp w picks.0)) refl (round_alike finish w picks.0 none so) (round_after t w picks.0 none so.one_each next.found) (wakes_alike wakes n)
+      by_course so.starts (settle cmp t (joined cmp w picks.0)) refl (round_alike finish w picks.0 none so)
+      (round_after t w picks.0 none so.one_each next.found) (wakes_alike wakes n)
     where
-      by_course : start cmp w picks.0 ≡ goes [] (joined cmp w picks.0) → (c : Course (Completed P) (World P)) → settle cmp t (joined cmp w picks.0) ≡ c
+      by_course : start cmp w picks.0 ≡ goes [] (joined cmp w picks.0) → (c : Course (Completed P) (World P))
+          → settle cmp t (joined cmp w picks.0) ≡ c
           → CourseAlike cmp order t (goes cs r) c → EndsWith (IsRound t picks.0 w) c
-          → ((v : World P) → Follows cmp t r v → NoneDone cmp order v → Picks (ready cmp t v) ms → length v.waiting ≤ n → CoursesAlike cmp (IsWoken t) rest (wake_within cmp n t v))
+          → ((v : World P) → Follows cmp t r v → NoneDone cmp order v → Picks (ready cmp t v) ms → length v.waiting ≤ n
+          → CoursesAlike cmp (IsWoken t) rest (wake_within cmp n t v))
           → CoursesAlike cmp (IsWoken t) (preceded cs rest) (wake_within cmp (suc n) t w)
       by_course starts (meets g) e h after ih = absurd h
       by_course starts (goes ds v) e h after ih =
           let fewer : length v.waiting + 1 ≤ length w.waiting = after.1 in
-          let picked : Picks (ready cmp t v) ms = subst (λ (xs : List (Message P)). Picks xs ms) (sym (ready_after cmp order picks.0 t w v after.0)) picks.3 in
-          subst (λ (c : Course (Completed P) (World P)). CoursesAlike cmp (IsWoken t) (preceded cs rest) c) (sym (wake_round n t w picks.0 (goes ds v) picks.1 starts e))
-          (preceded_by (IsWoken t) cs ds rest (wake_within cmp n t v) h.0 (ih v h.1.follows (each_none (is_done cmp v) v.sending h.1.none_done) picked (omega arith)))
+          let picked : Picks (ready cmp t v) ms =
+          subst (λ (xs : List (Message P)). Picks xs ms) (sym (ready_after cmp order picks.0 t w v after.0))
+          picks.3 in
+          subst (λ (c : Course (Completed P) (World P)). CoursesAlike cmp (IsWoken t) (preceded cs rest) c)
+          (sym (wake_round n t w picks.0 (goes ds v) picks.1 starts e))
+          (preceded_by (IsWoken t) cs ds rest (wake_within cmp n t v) h.0
+          (ih v h.1.follows (each_none (is_done cmp v) v.sending h.1.none_done) picked (omega arith)))

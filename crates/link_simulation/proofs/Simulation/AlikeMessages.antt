@@ -1,5 +1,6 @@
 -- Lists of messages that are the same up to equal peers have the same sides, and so the same fair rates.
-use Rattle.std.proofs.Common.{◌+◌, ◌≡◌, ℕ, List, [], ◌∷◌, Bool, true, not, Option, Some, None, refl, sym, ap, ◌∙◌, subst}
+use Rattle.std.proofs.Common.{◌+◌, ◌≡◌, ℕ, List, [], ◌∷◌, Bool, true, not, Option, Some, None, refl, sym, ap, ◌∙◌}
+use Rattle.std.proofs.Common.{subst}
 use Rattle.std.specs.Prelude.{◌&&◌, if◌then◌else◌}
 use Rattle.std.specs.List.{list_any, flat_map, AllZip}
 use Rattle.std.specs.declared.cmp.Ordering.{Ordering}
@@ -9,7 +10,8 @@ use Rattle.std.proofs.lemmas.Cmp.{tied_itself}
 use Rattle.fair_rates.specs.Fairness.Fair.{IsFair, Side}
 use Rattle.fair_rates.specs.Sides.Subjects.{same_peer}
 use Rattle.link_simulation.specs.Simulation.Messages.{Message, SameMessage, is_delivered, same_pair, Caps, CapsAlike}
-use Rattle.link_simulation.specs.Simulation.Rates.{AreFair, Parts, capped_sides, is_unlimited, sides_for, rates_from, egress_side, ingress_side, link_side, capped_side}
+use Rattle.link_simulation.specs.Simulation.Rates.{AreFair, Parts, capped_sides, is_unlimited, sides_for, rates_from}
+use Rattle.link_simulation.specs.Simulation.Rates.{egress_side, ingress_side, link_side, capped_side}
 use Rattle.link_simulation.proofs.Simulation.Queue.{peer_like, both_alike}
 use Rattle.fair_rates.proofs.Sides.Subjects.{peer_sym}
 use Rattle.fair_rates.specs.Lists.Places.{places_from}
@@ -22,28 +24,47 @@ module _ {P : Type 0} (cmp : P → P → Ordering) (order : IsTotalOrder cmp) wh
   pub pair_itself : (m : Message P) → same_pair cmp m m ≡ true
   pair_itself m = rw (same_itself m.origin, same_itself m.recipient) refl
 
-  pub peers_alike : (p q r s : P) → same_peer cmp p q ≡ true → same_peer cmp r s ≡ true → same_peer cmp p r ≡ same_peer cmp q s
-  peers_alike p q r s e f = sym (peer_like cmp order p q r e) ∙ peer_sym cmp order q r ∙ sym (peer_like cmp order r s q f) ∙ peer_sym cmp order s q
+  pub peers_alike : (p q r s : P) → same_peer cmp p q ≡ true → same_peer cmp r s ≡ true
+      → same_peer cmp p r ≡ same_peer cmp q s
+  peers_alike p q r s e f =
+      sym (peer_like cmp order p q r e) ∙ peer_sym cmp order q r ∙ sym (peer_like cmp order r s q f)
+      ∙ peer_sym cmp order s q
 
-  pub pairs_alike : (m n k l : Message P) → SameMessage cmp m n → SameMessage cmp k l → same_pair cmp m k ≡ same_pair cmp n l
-  pairs_alike m n k l f g = both_alike cmp order (same_peer cmp m.origin k.origin) (same_peer cmp n.origin l.origin) (same_peer cmp m.recipient k.recipient) (same_peer cmp n.recipient l.recipient)
-      (peers_alike m.origin n.origin k.origin l.origin f.origin g.origin) (peers_alike m.recipient n.recipient k.recipient l.recipient f.recipient g.recipient)
+  pub pairs_alike : (m n k l : Message P) → SameMessage cmp m n → SameMessage cmp k l
+      → same_pair cmp m k ≡ same_pair cmp n l
+  pairs_alike m n k l f g =
+      both_alike cmp order (same_peer cmp m.origin k.origin) (same_peer cmp n.origin l.origin)
+      (same_peer cmp m.recipient k.recipient) (same_peer cmp n.recipient l.recipient)
+      (peers_alike m.origin n.origin k.origin l.origin f.origin g.origin)
+      (peers_alike m.recipient n.recipient k.recipient l.recipient f.recipient g.recipient)
 
   pub delivered_alike : (m n : Message P) → SameMessage cmp m n → is_delivered cmp m ≡ is_delivered cmp n
-  delivered_alike m n e = both_alike cmp order m.should_deliver n.should_deliver (not (same_peer cmp m.origin m.recipient)) (not (same_peer cmp n.origin n.recipient))
+  delivered_alike m n e =
+      both_alike cmp order m.should_deliver n.should_deliver (not (same_peer cmp m.origin m.recipient))
+      (not (same_peer cmp n.origin n.recipient))
       e.should_deliver (ap not (peers_alike m.origin n.origin m.recipient n.recipient e.origin e.recipient))
 
   pub message_itself : (m : Message P) → SameMessage cmp m m
-  message_itself m = record { origin = same_itself m.origin; recipient = same_itself m.recipient; channel = refl; bytes = refl; latency = refl; should_deliver = refl }
+  message_itself m =
+      record {
+        origin = same_itself m.origin;
+        recipient = same_itself m.recipient;
+        channel = refl;
+        bytes = refl;
+        latency = refl;
+        should_deliver = refl;
+      }
 
-  pub any_alike : {X Y : Type 0} (R : X → Y → Type 0) (f : X → Bool) (g : Y → Bool) → ((x : X) (y : Y) → R x y → f x ≡ g y) → (xs : List X) (ys : List Y) → AllZip R xs ys
+  pub any_alike : {X Y : Type 0} (R : X → Y → Type 0) (f : X → Bool) (g : Y → Bool)
+      → ((x : X) (y : Y) → R x y → f x ≡ g y) → (xs : List X) (ys : List Y) → AllZip R xs ys
       → list_any f xs ≡ list_any g ys
   any_alike R f g same [] [] h = refl
   any_alike R f g same [] (y ∷ ys) h = absurd h
   any_alike R f g same (x ∷ xs) [] h = absurd h
   any_alike R f g same (x ∷ xs) (y ∷ ys) h = rw (same x y h.0, any_alike R f g same xs ys h.1) refl
 
-  side_alike : (c d : Option ℕ) (u v : Message P → Bool) (ms ns : List (Message P)) → c ≡ d → places_from 0 u ms ≡ places_from 0 v ns → capped_side cmp c u ms ≡ capped_side cmp d v ns
+  side_alike : (c d : Option ℕ) (u v : Message P → Bool) (ms ns : List (Message P)) → c ≡ d
+      → places_from 0 u ms ≡ places_from 0 v ns → capped_side cmp c u ms ≡ capped_side cmp d v ns
   side_alike None None u v ms ns e f = refl
   side_alike None (Some d) u v ms ns e f = cc
   side_alike (Some c) None u v ms ns e f = cc
@@ -53,36 +74,55 @@ module _ {P : Type 0} (cmp : P → P → Ordering) (order : IsTotalOrder cmp) wh
   if_alike a b x y z e f = rw (e, f) refl
 
   module _ (caps others : Caps P) (same : CapsAlike cmp caps others) where
-    egress_alike : (m n : Message P) (ms ns : List (Message P)) → SameMessage cmp m n → AllZip (SameMessage cmp) ms ns → egress_side cmp caps ms m ≡ egress_side cmp others ns n
+    egress_alike : (m n : Message P) (ms ns : List (Message P)) → SameMessage cmp m n → AllZip (SameMessage cmp) ms ns
+        → egress_side cmp caps ms m ≡ egress_side cmp others ns n
     egress_alike m n ms ns e all =
-        side_alike (caps.egress m.origin) (others.egress n.origin) (λ k. same_peer cmp m.origin k.origin) (λ k. same_peer cmp n.origin k.origin) ms ns (same.egress m.origin n.origin e.origin)
+        side_alike (caps.egress m.origin) (others.egress n.origin) (λ k. same_peer cmp m.origin k.origin)
+        (λ k. same_peer cmp n.origin k.origin) ms ns (same.egress m.origin n.origin e.origin)
         (places_alike (SameMessage cmp) (λ k. same_peer cmp m.origin k.origin) (λ k. same_peer cmp n.origin k.origin)
         (λ k l f. peers_alike m.origin n.origin k.origin l.origin e.origin f.origin) 0 ms ns all)
 
-    ingress_alike : (m n : Message P) (ms ns : List (Message P)) → SameMessage cmp m n → AllZip (SameMessage cmp) ms ns → ingress_side cmp caps ms m ≡ ingress_side cmp others ns n
-    ingress_alike m n ms ns e all = side_alike (if is_delivered cmp m then caps.ingress m.recipient else None) (if is_delivered cmp n then others.ingress n.recipient else None)
-        (λ k. is_delivered cmp k && same_peer cmp m.recipient k.recipient) (λ k. is_delivered cmp k && same_peer cmp n.recipient k.recipient) ms ns
-        (if_alike (is_delivered cmp m) (is_delivered cmp n) (caps.ingress m.recipient) (others.ingress n.recipient) None (delivered_alike m n e) (same.ingress m.recipient n.recipient e.recipient))
-        (places_alike (SameMessage cmp) (λ k. is_delivered cmp k && same_peer cmp m.recipient k.recipient) (λ k. is_delivered cmp k && same_peer cmp n.recipient k.recipient)
+    ingress_alike : (m n : Message P) (ms ns : List (Message P)) → SameMessage cmp m n → AllZip (SameMessage cmp) ms ns
+        → ingress_side cmp caps ms m ≡ ingress_side cmp others ns n
+    ingress_alike m n ms ns e all =
+        side_alike (if is_delivered cmp m then caps.ingress m.recipient else None)
+        (if is_delivered cmp n then others.ingress n.recipient else None)
+        (λ k. is_delivered cmp k && same_peer cmp m.recipient k.recipient)
+        (λ k. is_delivered cmp k && same_peer cmp n.recipient k.recipient) ms ns
+        (if_alike (is_delivered cmp m) (is_delivered cmp n) (caps.ingress m.recipient) (others.ingress n.recipient) None
+        (delivered_alike m n e) (same.ingress m.recipient n.recipient e.recipient))
+        (places_alike (SameMessage cmp) (λ k. is_delivered cmp k && same_peer cmp m.recipient k.recipient)
+        (λ k. is_delivered cmp k && same_peer cmp n.recipient k.recipient)
         (λ k l f. both_alike cmp order (is_delivered cmp k) (is_delivered cmp l) (same_peer cmp m.recipient k.recipient)
         (same_peer cmp n.recipient l.recipient) (delivered_alike k l f)
         (peers_alike m.recipient n.recipient k.recipient l.recipient e.recipient f.recipient)) 0 ms ns all)
 
-    link_alike : (m n : Message P) (ms ns : List (Message P)) → SameMessage cmp m n → AllZip (SameMessage cmp) ms ns → link_side cmp caps ms m ≡ link_side cmp others ns n
+    link_alike : (m n : Message P) (ms ns : List (Message P)) → SameMessage cmp m n → AllZip (SameMessage cmp) ms ns
+        → link_side cmp caps ms m ≡ link_side cmp others ns n
     link_alike m n ms ns e all =
-        side_alike (caps.link m.origin m.recipient) (others.link n.origin n.recipient) (same_pair cmp m) (same_pair cmp n) ms ns
+        side_alike (caps.link m.origin m.recipient) (others.link n.origin n.recipient) (same_pair cmp m)
+        (same_pair cmp n) ms ns
         (same.link m.origin n.origin m.recipient n.recipient e.origin e.recipient)
-        (places_alike (SameMessage cmp) (same_pair cmp m) (same_pair cmp n) (λ k l f. pairs_alike m n k l e f) 0 ms ns all)
+        (places_alike (SameMessage cmp) (same_pair cmp m) (same_pair cmp n) (λ k l f. pairs_alike m n k l e f) 0 ms ns
+        all)
 
-    sides_for_alike : (ms ns ks ls : List (Message P)) → AllZip (SameMessage cmp) ms ns → AllZip (SameMessage cmp) ks ls → flat_map (sides_for cmp caps ms) ks ≡ flat_map (sides_for cmp others ns) ls
+    sides_for_alike : (ms ns ks ls : List (Message P)) → AllZip (SameMessage cmp) ms ns → AllZip (SameMessage cmp) ks ls
+        → flat_map (sides_for cmp caps ms) ks ≡ flat_map (sides_for cmp others ns) ls
     sides_for_alike ms ns [] [] all some = refl
     sides_for_alike ms ns [] (l ∷ ls) all some = absurd some
     sides_for_alike ms ns (k ∷ ks) [] all some = absurd some
     sides_for_alike ms ns (k ∷ ks) (l ∷ ls) all some =
-        rw (egress_alike k l ms ns some.0 all, ingress_alike k l ms ns some.0 all, link_alike k l ms ns some.0 all, sides_for_alike ms ns ks ls all some.1) refl
+        rw (
+          egress_alike k l ms ns some.0 all,
+          ingress_alike k l ms ns some.0 all,
+          link_alike k l ms ns some.0 all,
+          sides_for_alike ms ns ks ls all some.1,
+        )
+        refl
 
     -- the same sides
-    pub sides_alike : (ms ns : List (Message P)) → AllZip (SameMessage cmp) ms ns → capped_sides cmp caps ms ≡ capped_sides cmp others ns
+    pub sides_alike : (ms ns : List (Message P)) → AllZip (SameMessage cmp) ms ns
+        → capped_sides cmp caps ms ≡ capped_sides cmp others ns
     sides_alike ms ns all = sides_for_alike ms ns ms ns all all
 
     pub unlimited_alike : (m n : Message P) → SameMessage cmp m n → is_unlimited cmp caps m ≡ is_unlimited cmp others n
@@ -94,14 +134,17 @@ module _ {P : Type 0} (cmp : P → P → Ordering) (order : IsTotalOrder cmp) wh
           same.link m.origin n.origin m.recipient n.recipient e.origin e.recipient,
         ) refl
 
-    rates_alike : (parts : ℕ → ℕ) (place : ℕ) (ms ns : List (Message P)) → AllZip (SameMessage cmp) ms ns → rates_from cmp caps parts place ms ≡ rates_from cmp others parts place ns
+    rates_alike : (parts : ℕ → ℕ) (place : ℕ) (ms ns : List (Message P)) → AllZip (SameMessage cmp) ms ns
+        → rates_from cmp caps parts place ms ≡ rates_from cmp others parts place ns
     rates_alike parts place [] [] all = refl
     rates_alike parts place [] (n ∷ ns) all = absurd all
     rates_alike parts place (m ∷ ms) [] all = absurd all
-    rates_alike parts place (m ∷ ms) (n ∷ ns) all = rw (unlimited_alike m n all.0, rates_alike parts (place + 1) ms ns all.1) refl
+    rates_alike parts place (m ∷ ms) (n ∷ ns) all =
+        rw (unlimited_alike m n all.0, rates_alike parts (place + 1) ms ns all.1) refl
 
     -- and so the same fair rates
-    pub fair_alike : (ms ns : List (Message P)) (per : ℕ) (rates : Parts) → AllZip (SameMessage cmp) ms ns → AreFair cmp caps ms per rates → AreFair cmp others ns per rates
+    pub fair_alike : (ms ns : List (Message P)) (per : ℕ) (rates : Parts) → AllZip (SameMessage cmp) ms ns
+        → AreFair cmp caps ms per rates → AreFair cmp others ns per rates
     fair_alike ms ns per rates all fair = record {
       parts = fair.parts;
       fair = subst (λ (s : List Side). IsFair s per fair.parts) (sides_alike ms ns all) fair.fair;

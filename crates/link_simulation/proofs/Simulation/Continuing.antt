@@ -1,13 +1,16 @@
 -- Fair rates exist for each world, so time goes on from it, and it has a next event or none.
-use Rattle.std.proofs.Common.{◌≡◌, ℕ, zero, suc, ◌+◌, ◌-◌, ◌<◌, ◌⊎◌, inl, inr, List, [], ◌∷◌, length, Bool, true, false, Option, Some, None, refl, arith, le_refl}
+use Rattle.std.proofs.Common.{◌≡◌, ℕ, zero, suc, ◌+◌, ◌-◌, ◌<◌, ◌⊎◌, inl, inr, List, [], ◌∷◌, length, Bool, true, false}
+use Rattle.std.proofs.Common.{Option, Some, None, refl, arith, le_refl}
 use Rattle.std.specs.List.{list_any}
 use Rattle.std.specs.declared.cmp.Ordering.{Ordering}
 use Rattle.std.specs.Cmp.{IsTotalOrder}
-use Rattle.link_simulation.specs.Simulation.World.{World, Completed, Course, goes, meets, and_then, preceded, flows, instant, is_done, ready, IsQuiet, last_moment}
+use Rattle.link_simulation.specs.Simulation.World.{World, Completed, Course, goes, meets, and_then, preceded, flows}
+use Rattle.link_simulation.specs.Simulation.World.{instant, is_done, ready, IsQuiet, last_moment}
 use Rattle.link_simulation.specs.Simulation.Calls.{Call, Runs, act}
 use Rattle.link_simulation.specs.Simulation.Messages.{Message, Caps}
 use Rattle.link_simulation.specs.Simulation.Rates.{Parts, AreFair, capped_sides, rates_from}
-use Rattle.link_simulation.specs.Simulation.Time.{Drains, Passes, no_time, quiet_tick, Ticks, no_tick, one_tick, tick_faults, NextIs, never_comes, comes_next, drifted}
+use Rattle.link_simulation.specs.Simulation.Time.{Drains, Passes, no_time, quiet_tick, Ticks, no_tick, one_tick}
+use Rattle.link_simulation.specs.Simulation.Time.{tick_faults, NextIs, never_comes, comes_next, drifted}
 use Rattle.fair_rates.proofs.Fairness.Denominators.{denominator_of}
 use Rattle.fair_rates.proofs.Filling.FairPartsExist.{fair_parts}
 use Rattle.link_simulation.proofs.Simulation.AlikeMessages.{same_itself}
@@ -15,11 +18,18 @@ use Rattle.link_simulation.proofs.Simulation.QuietInstants.{next_moment, passes_
 use Rattle.link_simulation.proofs.Simulation.SideUsers.{users_below, users_distinct}
 
 module _ {P : Type 0} (cmp : P → P → Ordering) (order : IsTotalOrder cmp) where
-  pub rates_exist : (caps : Caps P) (ms : List (Message P)) → (per : ℕ) × (rates : Parts) × AreFair cmp caps ms per rates
+  pub rates_exist : (caps : Caps P) (ms : List (Message P))
+      → (per : ℕ) × (rates : Parts) × AreFair cmp caps ms per rates
   rates_exist caps ms =
       let own = same_itself cmp order in
-      let parts = fair_parts (length ms) (capped_sides cmp caps ms) (users_below cmp order own caps ms (length ms) (le_refl (length ms))) (users_distinct cmp order own caps ms) in
-      (denominator_of (length ms), rates_from cmp caps parts.0 0 ms, record { parts = parts.0; fair = parts.1; rated = refl })
+      let parts =
+      fair_parts (length ms) (capped_sides cmp caps ms)
+      (users_below cmp order own caps ms (length ms) (le_refl (length ms)))
+      (users_distinct cmp order own caps ms) in (
+        denominator_of (length ms),
+        rates_from cmp caps parts.0 0 ms,
+        record { parts = parts.0; fair = parts.1; rated = refl },
+      )
 
   drains_on : (w : World P) → (v : World P) × Drains cmp w v
   drains_on w =
@@ -33,11 +43,13 @@ module _ {P : Type 0} (cmp : P → P → Ordering) (order : IsTotalOrder cmp) wh
   ticks_on (suc n) w = let d = drains_on w in by_instant d.0 d.1 (instant cmp d.0) refl (ticks_on n)
     where
       by_instant : (v : World P) → Drains cmp w v → (i : Course (Completed P) (World P)) → instant cmp v ≡ i
-          → ((u : World P) → (course : Course (Completed P) (World P)) × Ticks cmp n u course) → (course : Course (Completed P) (World P)) × Ticks cmp (suc n) w course
+          → ((u : World P) → (course : Course (Completed P) (World P)) × Ticks cmp n u course)
+          → (course : Course (Completed P) (World P)) × Ticks cmp (suc n) w course
       by_instant v drains (goes cs u) is ih = (preceded cs (ih u).0, one_tick drains is (ih u).1)
       by_instant v drains (meets fault) is ih = (meets fault, tick_faults drains is)
 
-  pub runs_on : (w : World P) (call : Call P) (now : ℕ) → (course : Course (Completed P) (World P)) × Runs cmp w call now course
+  pub runs_on : (w : World P) (call : Call P) (now : ℕ)
+      → (course : Course (Completed P) (World P)) × Runs cmp w call now course
   runs_on w call now =
       let t = ticks_on (now - w.moment) w in
       (and_then t.0 (λ v. act cmp v call), record { ticked = t.0; ticks = t.1; acts = refl })
@@ -47,8 +59,10 @@ module _ {P : Type 0} (cmp : P → P → Ordering) (order : IsTotalOrder cmp) wh
   quiet_or_not : (w : World P) → IsQuiet cmp w.moment w ⊎ (¬ IsQuiet cmp w.moment w)
   quiet_or_not w = by_test (list_any (is_done cmp w) w.sending) refl (ready cmp w.moment w) refl
     where
-      by_test : (b : Bool) → list_any (is_done cmp w) w.sending ≡ b → (ms : List (Message P)) → ready cmp w.moment w ≡ ms → IsQuiet cmp w.moment w ⊎ (¬ IsQuiet cmp w.moment w)
-      by_test true done ms is = inr (λ quiet. let none : list_any (is_done cmp w) w.sending ≡ false = quiet.none_done in cc)
+      by_test : (b : Bool) → list_any (is_done cmp w) w.sending ≡ b → (ms : List (Message P))
+          → ready cmp w.moment w ≡ ms → IsQuiet cmp w.moment w ⊎ (¬ IsQuiet cmp w.moment w)
+      by_test true done ms is =
+          inr (λ quiet. let none : list_any (is_done cmp w) w.sending ≡ false = quiet.none_done in cc)
       by_test false done [] is = inl (record { none_done = done; none_ready = is })
       by_test false done (m ∷ ms) is = inr (λ quiet. let none : ready cmp w.moment w ≡ [] = quiet.none_ready in cc)
 
@@ -66,9 +80,20 @@ module _ {P : Type 0} (cmp : P → P → Ordering) (order : IsTotalOrder cmp) wh
   comes_or_not zero w = inl (w, no_time)
   comes_or_not (suc n) w = let d = drains_on w in by_quiet d.0 d.1 (quiet_or_not d.0) (comes_or_not n d.0)
     where
-      by_quiet : (v : World P) → Drains cmp w v → IsQuiet cmp v.moment v ⊎ (¬ IsQuiet cmp v.moment v) → ((u : World P) × Passes cmp n v u) ⊎ ComesWithin n v
+      by_quiet : (v : World P) → Drains cmp w v → IsQuiet cmp v.moment v ⊎ (¬ IsQuiet cmp v.moment v)
+          → ((u : World P) × Passes cmp n v u) ⊎ ComesWithin n v
           → ((u : World P) × Passes cmp (suc n) w u) ⊎ ComesWithin (suc n) w
-      by_quiet v drains (inr busy) ih = inr (record { before = 0; less = omega arith; last = w; passes = no_time; first = v; drains = drains; busy = busy })
+      by_quiet v drains (inr busy) ih =
+          inr
+          (record {
+            before = 0;
+            less = omega arith;
+            last = w;
+            passes = no_time;
+            first = v;
+            drains = drains;
+            busy = busy;
+          })
       by_quiet v drains (inl quiet) (inl (u, passes)) = inl (u, quiet_tick drains quiet passes)
       by_quiet v drains (inl quiet) (inr comes) = inr (record {
         before = suc comes.before;
@@ -83,9 +108,13 @@ module _ {P : Type 0} (cmp : P → P → Ordering) (order : IsTotalOrder cmp) wh
   pub next_on : (w : World P) → (next : Option ℕ) × NextIs cmp w next
   next_on w = by_cases (comes_or_not (last_moment - w.moment) w)
     where
-      by_cases : ((v : World P) × Passes cmp (last_moment - w.moment) w v) ⊎ ComesWithin (last_moment - w.moment) w → (next : Option ℕ) × NextIs cmp w next
+      by_cases : ((v : World P) × Passes cmp (last_moment - w.moment) w v) ⊎ ComesWithin (last_moment - w.moment) w
+          → (next : Option ℕ) × NextIs cmp w next
       by_cases (inl (v, passes)) = (None, never_comes passes)
       by_cases (inr comes) =
           let end : comes.last.moment ≡ w.moment + comes.before = passes_end_at cmp order comes.passes in
-          let on : comes.first.moment ≡ comes.last.moment + 1 = next_moment cmp order comes.last comes.first comes.drains in
-          (Some comes.first.moment, comes_next comes.passes comes.drains comes.busy (omega (arith, end, on, comes.less)))
+          let on : comes.first.moment ≡ comes.last.moment + 1 =
+          next_moment cmp order comes.last comes.first comes.drains in (
+            Some comes.first.moment,
+            comes_next comes.passes comes.drains comes.busy (omega (arith, end, on, comes.less)),
+          )

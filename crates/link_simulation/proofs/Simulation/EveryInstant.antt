@@ -1,16 +1,23 @@
 -- What every instant keeps: the moment, and that nothing is done at its end.
-use Rattle.std.proofs.Common.{◌≡◌, ℕ, zero, suc, ◌+◌, ◌≤◌, List, [], ◌∷◌, ◌++◌, length, Bool, true, false, Option, Some, None, refl, sym, ap, ◌∙◌, subst, arith, ◌⊎◌, inl, inr}
+use Rattle.std.proofs.Common.{◌≡◌, ℕ, zero, suc, ◌+◌, ◌≤◌, List, [], ◌∷◌, ◌++◌, length, Bool, true, false, Option, Some}
+use Rattle.std.proofs.Common.{None, refl, sym, ap, ◌∙◌, subst, arith, ◌⊎◌, inl, inr}
 use Rattle.std.specs.Prelude.{⊤, nat_le}
 use Rattle.std.specs.List.{find, list_any}
 use Rattle.std.specs.declared.cmp.Ordering.{Ordering}
 use Rattle.std.specs.Cmp.{IsTotalOrder}
 use Rattle.fair_rates.specs.Lists.WithoutFirst.{without_first}
-use Rattle.link_simulation.specs.Simulation.World.{Completed, Course, Flight, IsQuiet, World, and_then, complete, first_waiting, goes, instant, is_done, last_moment, least_pair, may_start, meets, raised, ready, settle, settle_within, start, start_next, wake, wake_within, EndsWith, out_of_flight, is_late, completed, arrival, flight_of}
+use Rattle.link_simulation.specs.Simulation.World.{Completed, Course, Flight, IsQuiet, World, and_then, complete}
+use Rattle.link_simulation.specs.Simulation.World.{first_waiting, goes, instant, is_done, last_moment, least_pair}
+use Rattle.link_simulation.specs.Simulation.World.{may_start, meets, raised, ready, settle, settle_within, start}
+use Rattle.link_simulation.specs.Simulation.World.{start_next, wake, wake_within, EndsWith, out_of_flight, is_late}
+use Rattle.link_simulation.specs.Simulation.World.{completed, arrival, flight_of}
 use Rattle.link_simulation.specs.Simulation.Messages.{Message, same_pair}
-use Rattle.link_simulation.specs.Simulation.Time.{Drains, NextIs, Ticks, comes_next, never_comes, no_tick, no_time, one_tick, quiet_tick, tick_faults}
+use Rattle.link_simulation.specs.Simulation.Time.{Drains, NextIs, Ticks, comes_next, never_comes, no_tick, no_time}
+use Rattle.link_simulation.specs.Simulation.Time.{one_tick, quiet_tick, tick_faults}
 use Rattle.fair_rates.specs.declared.error.Error.TheVariants.{FlowIdsUsedUp, MomentTooLate}
 use Rattle.link_simulation.proofs.Simulation.Queue.{settle_none, settle_first}
-use Rattle.link_simulation.proofs.Simulation.SettlingEnds.{ends_preceded, ends_and_then, ends_cond, NoneDone, settle_rests}
+use Rattle.link_simulation.proofs.Simulation.SettlingEnds.{ends_preceded, ends_and_then, ends_cond, NoneDone}
+use Rattle.link_simulation.proofs.Simulation.SettlingEnds.{settle_rests}
 use Rattle.link_simulation.proofs.Laws.Bytes.{wake_none, wake_first}
 use Rattle.link_simulation.proofs.Simulation.Split.{rest_is}
 use Rattle.link_simulation.proofs.Rule.FinishEvent.{instant_quiet}
@@ -19,27 +26,43 @@ module _ {P : Type 0} (cmp : P → P → Ordering) (order : IsTotalOrder cmp) wh
   -- ---- a predicate that no start and no completion changes
 
   module _ (Q : World P → Type 0)
-      (starts : (w : World P) (m : Message P) → Q w → Q (record w { sending = w.sending ++ flight_of m ∷ []; waiting = without_first (same_pair cmp m) w.waiting; next_id = w.next_id + 1 }))
-      (lands : (w : World P) (m : Message P) (at : ℕ) → Q w → Q (record w { sending = without_first (is_done cmp w) w.sending; last_arrival = raised cmp w.last_arrival m at })) where
+      (starts : (w : World P) (m : Message P) → Q w
+      → Q
+      (record w {
+        sending = w.sending ++ flight_of m ∷ [];
+        waiting = without_first (same_pair cmp m) w.waiting;
+        next_id = w.next_id + 1;
+      }))
+      (lands : (w : World P) (m : Message P) (at : ℕ) → Q w
+      → Q
+      (record w {
+        sending = without_first (is_done cmp w) w.sending;
+        last_arrival = raised cmp w.last_arrival m at;
+      })) where
     pub start_keeps : (w : World P) (m : Message P) → Q w → EndsWith Q (start cmp w m)
     start_keeps w m h = ends_cond Q (nat_le last_moment w.next_id) (meets FlowIdsUsedUp) _ tt (starts w m h)
 
     pub start_next_keeps : (t : ℕ) (w : World P) (o : Option (Message P)) → Q w → EndsWith Q (start_next cmp t w o)
     start_next_keeps t w None h = h
-    start_next_keeps t w (Some m) h = ends_cond Q (may_start cmp t w m) (start cmp w m) (goes [] w) (start_keeps w m h) h
+    start_next_keeps t w (Some m) h =
+        ends_cond Q (may_start cmp t w m) (start cmp w m) (goes [] w) (start_keeps w m h) h
 
     complete_keeps : (t : ℕ) (w : World P) (m : Message P) → Q w → EndsWith Q (complete cmp t w m)
     complete_keeps t w m h =
         let landed : World P = out_of_flight cmp t w m in
         ends_cond Q (is_late cmp t m) (meets MomentTooLate) _ tt
-        (ends_preceded Q (completed cmp t m ∷ []) (start_next cmp t landed (first_waiting cmp landed m)) (start_next_keeps t landed (first_waiting cmp landed m) (lands w m (arrival cmp t m) h)))
+        (ends_preceded Q (completed cmp t m ∷ []) (start_next cmp t landed (first_waiting cmp landed m))
+        (start_next_keeps t landed (first_waiting cmp landed m) (lands w m (arrival cmp t m) h)))
 
     settle_within_keeps : (n t : ℕ) (w : World P) → Q w → EndsWith Q (settle_within cmp n t w)
     settle_within_keeps zero t w h = h
-    settle_within_keeps (suc n) t w h = by_first (find (is_done cmp w) w.sending) refl (λ v g. settle_within_keeps n t v g)
+    settle_within_keeps (suc n) t w h =
+        by_first (find (is_done cmp w) w.sending) refl (λ v g. settle_within_keeps n t v g)
       where
-        by_first : (o : Option (Flight P)) → find (is_done cmp w) w.sending ≡ o → ((v : World P) → Q v → EndsWith Q (settle_within cmp n t v)) → EndsWith Q (settle_within cmp (suc n) t w)
-        by_first None e ih = subst (λ (c : Course (Completed P) (World P)). EndsWith Q c) (sym (settle_none cmp order n t w e)) h
+        by_first : (o : Option (Flight P)) → find (is_done cmp w) w.sending ≡ o
+            → ((v : World P) → Q v → EndsWith Q (settle_within cmp n t v)) → EndsWith Q (settle_within cmp (suc n) t w)
+        by_first None e ih =
+            subst (λ (c : Course (Completed P) (World P)). EndsWith Q c) (sym (settle_none cmp order n t w e)) h
         by_first (Some f) e ih =
             subst (λ (c : Course (Completed P) (World P)). EndsWith Q c) (sym (settle_first cmp order n t w f e))
             (ends_and_then Q Q (complete cmp t w f.message) (settle_within cmp n t) (complete_keeps t w f.message h) ih)
@@ -51,13 +74,20 @@ module _ {P : Type 0} (cmp : P → P → Ordering) (order : IsTotalOrder cmp) wh
     wake_within_keeps zero t w h = h
     wake_within_keeps (suc n) t w h = by_least (least_pair cmp (ready cmp t w)) refl (λ v g. wake_within_keeps n t v g)
       where
-        by_least : (o : Option (Message P)) → least_pair cmp (ready cmp t w) ≡ o → ((v : World P) → Q v → EndsWith Q (wake_within cmp n t v)) → EndsWith Q (wake_within cmp (suc n) t w)
-        by_least None e ih = subst (λ (c : Course (Completed P) (World P)). EndsWith Q c) (sym (wake_none cmp order n t w e)) h
-        by_least (Some m) e ih = subst (λ (c : Course (Completed P) (World P)). EndsWith Q c) (sym (wake_first cmp order n t w m e))
-            (ends_and_then Q Q (start cmp w m) (λ v. and_then (settle cmp t v) (wake_within cmp n t)) (start_keeps w m h) (λ v g. ends_and_then Q Q (settle cmp t v) (wake_within cmp n t) (settle_keeps t v g) ih))
+        by_least : (o : Option (Message P)) → least_pair cmp (ready cmp t w) ≡ o
+            → ((v : World P) → Q v → EndsWith Q (wake_within cmp n t v)) → EndsWith Q (wake_within cmp (suc n) t w)
+        by_least None e ih =
+            subst (λ (c : Course (Completed P) (World P)). EndsWith Q c) (sym (wake_none cmp order n t w e)) h
+        by_least (Some m) e ih =
+            subst (λ (c : Course (Completed P) (World P)). EndsWith Q c) (sym (wake_first cmp order n t w m e))
+            (ends_and_then Q Q (start cmp w m) (λ v. and_then (settle cmp t v) (wake_within cmp n t))
+            (start_keeps w m h)
+            (λ v g. ends_and_then Q Q (settle cmp t v) (wake_within cmp n t) (settle_keeps t v g) ih))
 
     pub instant_keeps : (w : World P) → Q w → EndsWith Q (instant cmp w)
-    instant_keeps w h = ends_and_then Q Q (settle cmp w.moment w) (λ v. wake cmp v.moment v) (settle_keeps w.moment w h) (λ v g. wake_within_keeps (length v.waiting) v.moment v g)
+    instant_keeps w h =
+        ends_and_then Q Q (settle cmp w.moment w) (λ v. wake cmp v.moment v) (settle_keeps w.moment w h)
+        (λ v g. wake_within_keeps (length v.waiting) v.moment v g)
 
   -- ---- the moment
 
@@ -67,7 +97,8 @@ module _ {P : Type 0} (cmp : P → P → Ordering) (order : IsTotalOrder cmp) wh
   pub settle_moment : (now : ℕ) (w : World P) (t : ℕ) → w.moment ≡ t → EndsWith (λ v. v.moment ≡ t) (settle cmp now w)
   settle_moment now w t e = settle_keeps (λ v. v.moment ≡ t) (λ v m h. h) (λ v m at h. h) now w e
 
-  pub start_next_moment : (now : ℕ) (w : World P) (o : Option (Message P)) (t : ℕ) → w.moment ≡ t → EndsWith (λ v. v.moment ≡ t) (start_next cmp now w o)
+  pub start_next_moment : (now : ℕ) (w : World P) (o : Option (Message P)) (t : ℕ) → w.moment ≡ t
+      → EndsWith (λ v. v.moment ≡ t) (start_next cmp now w o)
   start_next_moment now w o t e = start_next_keeps (λ v. v.moment ≡ t) (λ v m h. h) (λ v m at h. h) now w o e
 
   -- ---- nothing is done at the end of an instant
@@ -80,27 +111,41 @@ module _ {P : Type 0} (cmp : P → P → Ordering) (order : IsTotalOrder cmp) wh
       ends_any (goes cs u) = tt
       ends_any (meets fault) = tt
 
-      by_least : (o : Option (Message P)) → least_pair cmp (ready cmp t w) ≡ o → ((v : World P) → NoneDone cmp order v → EndsWith (NoneDone cmp order) (wake_within cmp n t v))
+      by_least : (o : Option (Message P)) → least_pair cmp (ready cmp t w) ≡ o
+          → ((v : World P) → NoneDone cmp order v → EndsWith (NoneDone cmp order) (wake_within cmp n t v))
           → EndsWith (NoneDone cmp order) (wake_within cmp (suc n) t w)
-      by_least None e ih = subst (λ (c : Course (Completed P) (World P)). EndsWith (NoneDone cmp order) c) (sym (wake_none cmp order n t w e)) h
-      by_least (Some m) e ih = subst (λ (c : Course (Completed P) (World P)). EndsWith (NoneDone cmp order) c) (sym (wake_first cmp order n t w m e))
-          (ends_and_then (λ v. ⊤) (NoneDone cmp order) (start cmp w m) (λ v. and_then (settle cmp t v) (wake_within cmp n t)) (ends_any (start cmp w m))
-          (λ v g. ends_and_then (NoneDone cmp order) (NoneDone cmp order) (settle cmp t v) (wake_within cmp n t) (settle_rests cmp order t v) ih))
+      by_least None e ih =
+          subst (λ (c : Course (Completed P) (World P)). EndsWith (NoneDone cmp order) c)
+          (sym (wake_none cmp order n t w e)) h
+      by_least (Some m) e ih =
+          subst (λ (c : Course (Completed P) (World P)). EndsWith (NoneDone cmp order) c)
+          (sym (wake_first cmp order n t w m e))
+          (ends_and_then (λ v. ⊤) (NoneDone cmp order) (start cmp w m)
+          (λ v. and_then (settle cmp t v) (wake_within cmp n t)) (ends_any (start cmp w m))
+          (λ v g. ends_and_then (NoneDone cmp order) (NoneDone cmp order) (settle cmp t v) (wake_within cmp n t)
+          (settle_rests cmp order t v) ih))
 
   pub instant_rests : (w : World P) → EndsWith (NoneDone cmp order) (instant cmp w)
   instant_rests w =
-      ends_and_then (NoneDone cmp order) (NoneDone cmp order) (settle cmp w.moment w) (λ v. wake cmp v.moment v) (settle_rests cmp order w.moment w) (λ v g. wake_rests (length v.waiting) v.moment v g)
+      ends_and_then (NoneDone cmp order) (NoneDone cmp order) (settle cmp w.moment w) (λ v. wake cmp v.moment v)
+      (settle_rests cmp order w.moment w) (λ v g. wake_rests (length v.waiting) v.moment v g)
 
   -- ---- ticks
 
-  pub ticks_end : {n : ℕ} {w : World P} {course : Course (Completed P) (World P)} → Ticks cmp n w course → (cs : List (Completed P)) (v : World P) → course ≡ goes cs v
+  pub ticks_end : {n : ℕ} {w : World P} {course : Course (Completed P) (World P)} → Ticks cmp n w course
+      → (cs : List (Completed P)) (v : World P) → course ≡ goes cs v
       → NoneDone cmp order w → (v.moment ≡ w.moment + n) × NoneDone cmp order v
-  ticks_end {w = w} no_tick cs v e h = let same : w ≡ v = cc in subst (λ (z : World P). (z.moment ≡ w.moment + 0) × NoneDone cmp order z) same (omega arith, h)
+  ticks_end {w = w} no_tick cs v e h =
+      let same : w ≡ v = cc in
+      subst (λ (z : World P). (z.moment ≡ w.moment + 0) × NoneDone cmp order z) same (omega arith, h)
   ticks_end {w = w} (one_tick {n = n} {v = z} {u = u} {cs = ds} {rest = rest} d i t) cs v e h =
       let r : (es : List (Completed P)) × (rest ≡ goes es v) × (ds ++ es ≡ cs) = rest_is cmp ds rest cs v e in
       let at : z.moment ≡ w.moment + 1 = ap (λ (y : World P). y.moment) d.world in
-      let then_at : u.moment ≡ w.moment + 1 = subst (λ (c : Course (Completed P) (World P)). EndsWith (λ y. y.moment ≡ w.moment + 1) c) i (instant_moment z (w.moment + 1) at) in
-      let rests : NoneDone cmp order u = subst (λ (c : Course (Completed P) (World P)). EndsWith (NoneDone cmp order) c) i (instant_rests z) in
+      let then_at : u.moment ≡ w.moment + 1 =
+      subst (λ (c : Course (Completed P) (World P)). EndsWith (λ y. y.moment ≡ w.moment + 1) c) i
+      (instant_moment z (w.moment + 1) at) in
+      let rests : NoneDone cmp order u =
+      subst (λ (c : Course (Completed P) (World P)). EndsWith (NoneDone cmp order) c) i (instant_rests z) in
       let later : (v.moment ≡ u.moment + n) × NoneDone cmp order v = ticks_end t r.0 v r.1 rests in
       let first : v.moment ≡ u.moment + n = later.0 in
       (omega arith, later.1)
@@ -111,17 +156,21 @@ module _ {P : Type 0} (cmp : P → P → Ordering) (order : IsTotalOrder cmp) wh
   is_quiet_or_not : (v : World P) → IsQuiet cmp v.moment v ⊎ (¬ IsQuiet cmp v.moment v)
   is_quiet_or_not v = by_done (list_any (is_done cmp v) v.sending) refl (ready cmp v.moment v) refl
     where
-      by_done : (b : Bool) → list_any (is_done cmp v) v.sending ≡ b → (ms : List (Message P)) → ready cmp v.moment v ≡ ms → IsQuiet cmp v.moment v ⊎ (¬ IsQuiet cmp v.moment v)
+      by_done : (b : Bool) → list_any (is_done cmp v) v.sending ≡ b → (ms : List (Message P))
+          → ready cmp v.moment v ≡ ms → IsQuiet cmp v.moment v ⊎ (¬ IsQuiet cmp v.moment v)
       by_done true e ms f = inr (λ q. let g : list_any (is_done cmp v) v.sending ≡ false = q.none_done in cc)
       by_done false e [] f = inl (record { none_done = e; none_ready = f })
       by_done false e (m ∷ ms) f = inr (λ q. let g : ready cmp v.moment v ≡ [] = q.none_ready in cc)
 
-  next_later : (w v : World P) (o : Option ℕ) (t : ℕ) → Drains cmp w v → IsQuiet cmp v.moment v → o ≡ Some t → NextIs cmp v o → NextIs cmp w (Some t)
+  next_later : (w v : World P) (o : Option ℕ) (t : ℕ) → Drains cmp w v → IsQuiet cmp v.moment v → o ≡ Some t
+      → NextIs cmp v o → NextIs cmp w (Some t)
   next_later w v o t d q e (never_comes passes) = cc
-  next_later w v o t d q e (comes_next passes drains not_quiet le) = subst (λ (p : Option ℕ). NextIs cmp w p) e (comes_next (quiet_tick d q passes) drains not_quiet le)
+  next_later w v o t d q e (comes_next passes drains not_quiet le) =
+      subst (λ (p : Option ℕ). NextIs cmp w p) e (comes_next (quiet_tick d q passes) drains not_quiet le)
 
   -- either nothing happens in those nanoseconds, or there is a next event among them
-  pub first_event : {n : ℕ} {w : World P} {course : Course (Completed P) (World P)} → Ticks cmp n w course → (cs : List (Completed P)) (v : World P) → course ≡ goes cs v → w.moment + n ≤ last_moment
+  pub first_event : {n : ℕ} {w : World P} {course : Course (Completed P) (World P)} → Ticks cmp n w course
+      → (cs : List (Completed P)) (v : World P) → course ≡ goes cs v → w.moment + n ≤ last_moment
       → (cs ≡ []) ⊎ ((t : ℕ) × (t ≤ w.moment + n) × NextIs cmp w (Some t))
   first_event no_tick cs v e le = let empty : [] ≡ cs = cc in inl (sym empty)
   first_event {w = w} (one_tick {n = n} {v = z} {u = u} {cs = ds} {rest = rest} d i t) cs v e le =
@@ -129,12 +178,20 @@ module _ {P : Type 0} (cmp : P → P → Ordering) (order : IsTotalOrder cmp) wh
       let at : z.moment ≡ w.moment + 1 = ap (λ (y : World P). y.moment) d.world in
       by_quiet (is_quiet_or_not z) at r.2 (λ h. first_event t r.0 v r.1 h)
     where
-      by_rest : IsQuiet cmp z.moment z → ds ≡ [] → u ≡ z → u.moment ≡ w.moment + 1 → {es : List (Completed P)} → ds ++ es ≡ cs → (es ≡ []) ⊎ ((t : ℕ) × (t ≤ u.moment + n) × NextIs cmp u (Some t))
+      by_rest : IsQuiet cmp z.moment z → ds ≡ [] → u ≡ z → u.moment ≡ w.moment + 1 → {es : List (Completed P)}
+          → ds ++ es ≡ cs → (es ≡ []) ⊎ ((t : ℕ) × (t ≤ u.moment + n) × NextIs cmp u (Some t))
           → (cs ≡ []) ⊎ ((t : ℕ) × (t ≤ w.moment + suc n) × NextIs cmp w (Some t))
-      by_rest q empty here at {es} join (inl no_more) = inl (sym join ∙ ap (λ (xs : List (Completed P)). xs ++ es) empty ∙ no_more)
-      by_rest q empty here at join (inr (t, below, next)) = inr (t, omega arith, next_later w z (Some t) t d q refl (subst (λ (y : World P). NextIs cmp y (Some t)) here next))
+      by_rest q empty here at {es} join (inl no_more) =
+          inl (sym join ∙ ap (λ (xs : List (Completed P)). xs ++ es) empty ∙ no_more)
+      by_rest q empty here at join (inr (t, below, next)) =
+          inr (
+            t,
+            omega arith,
+            next_later w z (Some t) t d q refl (subst (λ (y : World P). NextIs cmp y (Some t)) here next),
+          )
 
-      by_quiet : IsQuiet cmp z.moment z ⊎ (¬ IsQuiet cmp z.moment z) → z.moment ≡ w.moment + 1 → {es : List (Completed P)} → ds ++ es ≡ cs
+      by_quiet : IsQuiet cmp z.moment z ⊎ (¬ IsQuiet cmp z.moment z) → z.moment ≡ w.moment + 1
+          → {es : List (Completed P)} → ds ++ es ≡ cs
           → (u.moment + n ≤ last_moment → (es ≡ []) ⊎ ((t : ℕ) × (t ≤ u.moment + n) × NextIs cmp u (Some t)))
           → (cs ≡ []) ⊎ ((t : ℕ) × (t ≤ w.moment + suc n) × NextIs cmp w (Some t))
       by_quiet (inr loud) at join ih = inr (z.moment, omega arith, comes_next no_time d loud (omega arith))

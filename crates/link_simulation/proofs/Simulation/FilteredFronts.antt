@@ -1,5 +1,6 @@
 -- What a filter leaves of first elements, fronts and least pairs.
-use Rattle.std.proofs.Common.{◌≡◌, List, [], ◌∷◌, map, Bool, true, false, cond, not, Option, Some, None, refl, sym, ap, ◌∙◌, subst}
+use Rattle.std.proofs.Common.{◌≡◌, List, [], ◌∷◌, map, Bool, true, false, cond, not, Option, Some, None, refl, sym, ap}
+use Rattle.std.proofs.Common.{◌∙◌, subst}
 use Rattle.std.specs.Prelude.{◌||◌, if◌then◌else◌}
 use Rattle.std.specs.List.{filter, find, list_any}
 use Rattle.std.specs.declared.cmp.Ordering.{Ordering}
@@ -14,7 +15,8 @@ use Rattle.link_simulation.specs.Simulation.Messages.{Message, pair_before, same
 use Rattle.link_simulation.proofs.Laws.Bytes.{each_filter, each_least}
 use Rattle.fair_rates.proofs.Lists.Each.{Each, each_map}
 use Rattle.fair_rates.proofs.Lists.Filters.{filter_stronger}
-use Rattle.link_simulation.proofs.Simulation.PairOrder.{least_none, pair_cmp, pairs_total, not_before_itself, not_before_back}
+use Rattle.link_simulation.proofs.Simulation.PairOrder.{least_none, pair_cmp, pairs_total, not_before_itself}
+use Rattle.link_simulation.proofs.Simulation.PairOrder.{not_before_back}
 use Rattle.fair_rates.proofs.Lists.Sorted.{is_lt_less}
 
 -- ---- the first that passes, in the list and in what a filter leaves
@@ -24,25 +26,36 @@ pub first_kept : {X : Type 0} (p q : X → Bool) (xs : List X) (x : X) → find 
 first_kept p q [] x e h = cc
 first_kept {X} p q (y ∷ ys) x e h = by_test (q y) refl e (λ g. first_kept p q ys x g h)
   where
-    by_kept : (b : Bool) → q y ≡ false → (find q (filter p ys) ≡ Some x) × (filter p (without_first q ys) ≡ without_first q (filter p ys))
-        → (find q (cond b (y ∷ filter p ys) (filter p ys)) ≡ Some x) × (cond b (y ∷ filter p (without_first q ys)) (filter p (without_first q ys)) ≡ without_first q (cond b (y ∷ filter p ys) (filter p ys)))
+    by_kept : (b : Bool) → q y ≡ false
+        → (find q (filter p ys) ≡ Some x) × (filter p (without_first q ys) ≡ without_first q (filter p ys))
+        → (find q (cond b (y ∷ filter p ys) (filter p ys)) ≡ Some x)
+        × (cond b (y ∷ filter p (without_first q ys)) (filter p (without_first q ys))
+        ≡ without_first q (cond b (y ∷ filter p ys) (filter p ys)))
     by_kept true is g = (rw is g.0, rw is (ap (λ zs. y ∷ zs) g.1))
     by_kept false is g = g
 
-    here : (b : Bool) → q y ≡ true → b ≡ true → y ≡ x → (find q (cond b (y ∷ filter p ys) (filter p ys)) ≡ Some x) × (filter p ys ≡ without_first q (cond b (y ∷ filter p ys) (filter p ys)))
+    here : (b : Bool) → q y ≡ true → b ≡ true → y ≡ x
+        → (find q (cond b (y ∷ filter p ys) (filter p ys)) ≡ Some x)
+        × (filter p ys ≡ without_first q (cond b (y ∷ filter p ys) (filter p ys)))
     here true is own same = (rw is (ap Some same), rw is refl)
     here false is own same = cc
 
-    by_test : (b : Bool) → q y ≡ b → cond b (Some y) (find q ys) ≡ Some x → (find q ys ≡ Some x → (find q (filter p ys) ≡ Some x) × (filter p (without_first q ys) ≡ without_first q (filter p ys)))
-        → (find q (filter p (y ∷ ys)) ≡ Some x) × (filter p (cond b ys (y ∷ without_first q ys)) ≡ without_first q (filter p (y ∷ ys)))
+    by_test : (b : Bool) → q y ≡ b → cond b (Some y) (find q ys) ≡ Some x
+        → (find q ys ≡ Some x
+        → (find q (filter p ys) ≡ Some x) × (filter p (without_first q ys) ≡ without_first q (filter p ys)))
+        → (find q (filter p (y ∷ ys)) ≡ Some x)
+        × (filter p (cond b ys (y ∷ without_first q ys)) ≡ without_first q (filter p (y ∷ ys)))
     by_test true is g ih = let same : y ≡ x = cc in here (p y) is (ap p same ∙ h) same
     by_test false is g ih = by_kept (p y) is (ih g)
 
-pub first_dropped : {X : Type 0} (p q : X → Bool) (xs : List X) (x : X) → find q xs ≡ Some x → p x ≡ false → filter p (without_first q xs) ≡ filter p xs
+pub first_dropped : {X : Type 0} (p q : X → Bool) (xs : List X) (x : X) → find q xs ≡ Some x → p x ≡ false
+    → filter p (without_first q xs) ≡ filter p xs
 first_dropped p q [] x e h = refl
 first_dropped {X} p q (y ∷ ys) x e h = by_test (q y) e (λ g. first_dropped p q ys x g h)
   where
-    by_test : (b : Bool) → cond b (Some y) (find q ys) ≡ Some x → (find q ys ≡ Some x → filter p (without_first q ys) ≡ filter p ys) → filter p (cond b ys (y ∷ without_first q ys)) ≡ filter p (y ∷ ys)
+    by_test : (b : Bool) → cond b (Some y) (find q ys) ≡ Some x
+        → (find q ys ≡ Some x → filter p (without_first q ys) ≡ filter p ys)
+        → filter p (cond b ys (y ∷ without_first q ys)) ≡ filter p (y ∷ ys)
     by_test true g ih = let same : y ≡ x = cc in let off : p y ≡ false = ap p same ∙ h in rw off refl
     by_test false g ih = rw (ih g) refl
 
@@ -50,25 +63,30 @@ pub none_kept : {X : Type 0} (p q : X → Bool) (xs : List X) → find q xs ≡ 
 none_kept p q [] e = refl
 none_kept {X} p q (y ∷ ys) e = by_test (q y) refl e (λ g. none_kept p q ys g)
   where
-    by_kept : (b : Bool) → q y ≡ false → find q (filter p ys) ≡ None → find q (cond b (y ∷ filter p ys) (filter p ys)) ≡ None
+    by_kept : (b : Bool) → q y ≡ false → find q (filter p ys) ≡ None
+        → find q (cond b (y ∷ filter p ys) (filter p ys)) ≡ None
     by_kept true is g = rw is g
     by_kept false is g = g
 
-    by_test : (b : Bool) → q y ≡ b → cond b (Some y) (find q ys) ≡ None → (find q ys ≡ None → find q (filter p ys) ≡ None) → find q (filter p (y ∷ ys)) ≡ None
+    by_test : (b : Bool) → q y ≡ b → cond b (Some y) (find q ys) ≡ None
+        → (find q ys ≡ None → find q (filter p ys) ≡ None) → find q (filter p (y ∷ ys)) ≡ None
     by_test true is g ih = cc
     by_test false is g ih = by_kept (p y) is (ih g)
 
 -- what passes is kept
-pub find_kept : {X : Type 0} (p q : X → Bool) (xs : List X) → ((x : X) → q x ≡ true → p x ≡ true) → find q (filter p xs) ≡ find q xs
+pub find_kept : {X : Type 0} (p q : X → Bool) (xs : List X) → ((x : X) → q x ≡ true → p x ≡ true)
+    → find q (filter p xs) ≡ find q xs
 find_kept p q [] h = refl
 find_kept {X} p q (y ∷ ys) h = by_test (p y) (q y) refl refl (find_kept p q ys h)
   where
-    by_test : (b c : Bool) → p y ≡ b → q y ≡ c → find q (filter p ys) ≡ find q ys → find q (cond b (y ∷ filter p ys) (filter p ys)) ≡ cond c (Some y) (find q ys)
+    by_test : (b c : Bool) → p y ≡ b → q y ≡ c → find q (filter p ys) ≡ find q ys
+        → find q (cond b (y ∷ filter p ys) (filter p ys)) ≡ cond c (Some y) (find q ys)
     by_test true c is at ih = rw (at, ih) refl
     by_test false false is at ih = ih
     by_test false true is at ih = let k : p y ≡ true = h y at in cc
 
-pub any_kept : {X Y : Type 0} (f : X → Y) (p : X → Bool) (q : Y → Bool) (xs : List X) → ((x : X) → q (f x) ≡ true → p x ≡ true) → list_any q (map f (filter p xs)) ≡ list_any q (map f xs)
+pub any_kept : {X Y : Type 0} (f : X → Y) (p : X → Bool) (q : Y → Bool) (xs : List X)
+    → ((x : X) → q (f x) ≡ true → p x ≡ true) → list_any q (map f (filter p xs)) ≡ list_any q (map f xs)
 any_kept f p q [] h = refl
 any_kept {X} {Y} f p q (y ∷ ys) h = by_test (p y) (q (f y)) refl refl (any_kept f p q ys h)
   where
@@ -80,11 +98,13 @@ any_kept {X} {Y} f p q (y ∷ ys) h = by_test (p y) (q (f y)) refl refl (any_kep
 
 -- ---- two filters
 
-pub filter_swap : {X : Type 0} (p q r : X → Bool) (xs : List X) → ((x : X) → p x ≡ true → q x ≡ r x) → filter q (filter p xs) ≡ filter p (filter r xs)
+pub filter_swap : {X : Type 0} (p q r : X → Bool) (xs : List X) → ((x : X) → p x ≡ true → q x ≡ r x)
+    → filter q (filter p xs) ≡ filter p (filter r xs)
 filter_swap p q r [] h = refl
 filter_swap {X} p q r (y ∷ ys) h = by_test (p y) (r y) refl refl (filter_swap p q r ys h)
   where
-    by_test : (b c : Bool) → p y ≡ b → r y ≡ c → filter q (filter p ys) ≡ filter p (filter r ys) → filter q (cond b (y ∷ filter p ys) (filter p ys)) ≡ filter p (cond c (y ∷ filter r ys) (filter r ys))
+    by_test : (b c : Bool) → p y ≡ b → r y ≡ c → filter q (filter p ys) ≡ filter p (filter r ys)
+        → filter q (cond b (y ∷ filter p ys) (filter p ys)) ≡ filter p (cond c (y ∷ filter r ys) (filter r ys))
     by_test true true is at ih = let k : q y ≡ true = h y is ∙ at in rw (k, is, ih) refl
     by_test true false is at ih = let k : q y ≡ false = h y is ∙ at in rw (k, ih) refl
     by_test false true is at ih = rw (is, ih) refl
@@ -93,20 +113,27 @@ filter_swap {X} p q r (y ∷ ys) h = by_test (p y) (r y) refl refl (filter_swap 
 module _ {P : Type 0} (cmp : P → P → Ordering) (order : IsTotalOrder cmp) where
   -- ---- the order of pairs
 
-  pub before_both : (k m n : Message P) → pair_before cmp k m ≡ true → pair_before cmp n m ≡ false → pair_before cmp k n ≡ true
+  pub before_both : (k m n : Message P) → pair_before cmp k m ≡ true → pair_before cmp n m ≡ false
+      → pair_before cmp k n ≡ true
   before_both k m n e f = by_order (pair_cmp cmp order n m) refl f
     where
       by_order : (o : Ordering) → pair_cmp cmp order n m ≡ o → is_lt o ≡ false → pair_before cmp k n ≡ true
       by_order Less is g = cc
       by_order Equal is g = ap is_lt (alike_right (pairs_total cmp order) n m k is) ∙ e
-      by_order Greater is g = ap is_lt ((pairs_total cmp order).trans k m n (is_lt_less (pair_cmp cmp order k m) e) ((pairs_total cmp order).antisymm m n ∙ ap ordering_reverse is))
+      by_order Greater is g =
+          ap is_lt
+          ((pairs_total cmp order).trans k m n (is_lt_less (pair_cmp cmp order k m) e)
+          ((pairs_total cmp order).antisymm m n ∙ ap ordering_reverse is))
 
-  not_below : (k m n : Message P) → pair_before cmp n m ≡ false → pair_before cmp k n ≡ false → pair_before cmp k m ≡ false
-  not_below k m n h g = false_from_ne_true (pair_before cmp k m) (λ t. let u : pair_before cmp k n ≡ true = before_both k m n t h in cc)
+  not_below : (k m n : Message P) → pair_before cmp n m ≡ false → pair_before cmp k n ≡ false
+      → pair_before cmp k m ≡ false
+  not_below k m n h g =
+      false_from_ne_true (pair_before cmp k m) (λ t. let u : pair_before cmp k n ≡ true = before_both k m n t h in cc)
 
   -- ---- fronts and least pairs
 
-  pub fronts_kept : (mine : Message P → Bool) (alike : (m n : Message P) → same_pair cmp m n ≡ true → mine m ≡ mine n) (ms : List (Message P))
+  pub fronts_kept : (mine : Message P → Bool) (alike : (m n : Message P) → same_pair cmp m n ≡ true → mine m ≡ mine n)
+      (ms : List (Message P))
       → fronts cmp (filter mine ms) ≡ filter mine (fronts cmp ms)
   fronts_kept mine alike [] = refl
   fronts_kept mine alike (m ∷ ms) = by_test (mine m) refl (fronts_kept mine alike ms)
@@ -116,60 +143,96 @@ module _ {P : Type 0} (cmp : P → P → Ordering) (order : IsTotalOrder cmp) wh
       by_pair n false is off own = refl
 
       by_test : (b : Bool) → mine m ≡ b → fronts cmp (filter mine ms) ≡ filter mine (fronts cmp ms)
-          → fronts cmp (cond b (m ∷ filter mine ms) (filter mine ms)) ≡ filter mine (m ∷ filter (λ n. not (same_pair cmp m n)) (fronts cmp ms))
+          → fronts cmp (cond b (m ∷ filter mine ms) (filter mine ms))
+          ≡ filter mine (m ∷ filter (λ n. not (same_pair cmp m n)) (fronts cmp ms))
       by_test true is ih =
-          ap (λ (ns : List (Message P)). m ∷ filter (λ n. not (same_pair cmp m n)) ns) ih ∙ ap (λ (ns : List (Message P)). m ∷ ns)
-          (filter_swap mine (λ n. not (same_pair cmp m n)) (λ n. not (same_pair cmp m n)) (fronts cmp ms) (λ n own. refl)) ∙ (rw is refl)
-      by_test false is ih = ih ∙ sym (filter_stronger mine (λ n. not (same_pair cmp m n)) (fronts cmp ms) (λ n own. by_pair n (same_pair cmp m n) refl is own)) ∙ (rw is refl)
+          ap (λ (ns : List (Message P)). m ∷ filter (λ n. not (same_pair cmp m n)) ns) ih
+          ∙ ap (λ (ns : List (Message P)). m ∷ ns)
+          (filter_swap mine (λ n. not (same_pair cmp m n)) (λ n. not (same_pair cmp m n)) (fronts cmp ms)
+          (λ n own. refl))
+          ∙ (rw is refl)
+      by_test false is ih =
+          ih
+          ∙ sym
+          (filter_stronger mine (λ n. not (same_pair cmp m n)) (fronts cmp ms)
+          (λ n own. by_pair n (same_pair cmp m n) refl is own))
+          ∙ (rw is refl)
 
   least_is : (m : Message P) (ms : List (Message P)) (o : Option (Message P)) → least_pair cmp ms ≡ o
       → least_pair cmp (m ∷ ms) ≡ Some (elim o [ None ↦ m | Some n ↦ if pair_before cmp n m then n else m ])
   least_is m ms o e = rw e refl
 
   -- no pair of the list comes before the least
-  pub none_below : (ms : List (Message P)) (x : Message P) → least_pair cmp ms ≡ Some x → Each (λ m. pair_before cmp m x ≡ false) ms
+  pub none_below : (ms : List (Message P)) (x : Message P) → least_pair cmp ms ≡ Some x
+      → Each (λ m. pair_before cmp m x ≡ false) ms
   none_below [] x e = cc
   none_below (m ∷ ms) x e = by_rest (least_pair cmp ms) refl (λ y g. none_below ms y g)
     where
-      by_test : (n : Message P) (b : Bool) → pair_before cmp n m ≡ b → Some (cond b n m) ≡ Some x → Each (λ k. pair_before cmp k n ≡ false) ms → Each (λ k. pair_before cmp k x ≡ false) (m ∷ ms)
-      by_test n true is s g = let same : n ≡ x = cc in subst (λ (z : Message P). Each (λ k. pair_before cmp k z ≡ false) (m ∷ ms)) same (not_before_back cmp order n m is, g)
+      by_test : (n : Message P) (b : Bool) → pair_before cmp n m ≡ b → Some (cond b n m) ≡ Some x
+          → Each (λ k. pair_before cmp k n ≡ false) ms → Each (λ k. pair_before cmp k x ≡ false) (m ∷ ms)
+      by_test n true is s g =
+          let same : n ≡ x = cc in
+          subst (λ (z : Message P). Each (λ k. pair_before cmp k z ≡ false) (m ∷ ms)) same
+          (not_before_back cmp order n m is, g)
       by_test n false is s g =
           let same : m ≡ x = cc in
-          subst (λ (z : Message P). Each (λ k. pair_before cmp k z ≡ false) (m ∷ ms)) same (not_before_itself cmp order m, each_map (λ k. pair_before cmp k n ≡ false) (λ k. pair_before cmp k m ≡ false) ms (λ k h. not_below k m n is h) g)
+          subst (λ (z : Message P). Each (λ k. pair_before cmp k z ≡ false) (m ∷ ms)) same (
+            not_before_itself cmp order m,
+            each_map (λ k. pair_before cmp k n ≡ false) (λ k. pair_before cmp k m ≡ false) ms
+                (λ k h. not_below k m n is h) g,
+          )
 
-      by_rest : (o : Option (Message P)) → least_pair cmp ms ≡ o → ((y : Message P) → least_pair cmp ms ≡ Some y → Each (λ k. pair_before cmp k y ≡ false) ms)
+      by_rest : (o : Option (Message P)) → least_pair cmp ms ≡ o
+          → ((y : Message P) → least_pair cmp ms ≡ Some y → Each (λ k. pair_before cmp k y ≡ false) ms)
           → Each (λ k. pair_before cmp k x ≡ false) (m ∷ ms)
       by_rest None is ih =
           let s : Some m ≡ Some x = sym (least_is m ms None is) ∙ e in
           let same : m ≡ x = cc in
           let none : ms ≡ [] = least_none cmp order ms is in
-          subst (λ (z : Message P). Each (λ k. pair_before cmp k z ≡ false) (m ∷ ms)) same (not_before_itself cmp order m, subst (λ (ks : List (Message P)). Each (λ k. pair_before cmp k m ≡ false) ks) (sym none) tt)
+          subst (λ (z : Message P). Each (λ k. pair_before cmp k z ≡ false) (m ∷ ms)) same (
+            not_before_itself cmp order m,
+            subst (λ (ks : List (Message P)). Each (λ k. pair_before cmp k m ≡ false) ks) (sym none) tt,
+          )
       by_rest (Some n) is ih = by_test n (pair_before cmp n m) refl (sym (least_is m ms (Some n) is) ∙ e) (ih n is)
 
-  pub least_kept : (mine : Message P → Bool) (ms : List (Message P)) (x : Message P) → least_pair cmp ms ≡ Some x → mine x ≡ true → least_pair cmp (filter mine ms) ≡ Some x
+  pub least_kept : (mine : Message P → Bool) (ms : List (Message P)) (x : Message P) → least_pair cmp ms ≡ Some x
+      → mine x ≡ true → least_pair cmp (filter mine ms) ≡ Some x
   least_kept mine [] x e own = cc
-  least_kept mine (m ∷ ms) x e own = by_rest (least_pair cmp ms) refl (λ y g h. least_kept mine ms y g h) (none_below (m ∷ ms) x e)
+  least_kept mine (m ∷ ms) x e own =
+      by_rest (least_pair cmp ms) refl (λ y g h. least_kept mine ms y g h) (none_below (m ∷ ms) x e)
     where
-      keeps : (b : Bool) (n : Message P) → pair_before cmp n m ≡ true → least_pair cmp (filter mine ms) ≡ Some n → least_pair cmp (cond b (m ∷ filter mine ms) (filter mine ms)) ≡ Some n
+      keeps : (b : Bool) (n : Message P) → pair_before cmp n m ≡ true → least_pair cmp (filter mine ms) ≡ Some n
+          → least_pair cmp (cond b (m ∷ filter mine ms) (filter mine ms)) ≡ Some n
       keeps true n h g = least_is m (filter mine ms) (Some n) g ∙ (rw h refl)
       keeps false n h g = g
 
-      first : (o : Option (Message P)) → least_pair cmp (filter mine ms) ≡ o → ((n : Message P) → least_pair cmp (filter mine ms) ≡ Some n → pair_before cmp n m ≡ false)
+      first : (o : Option (Message P)) → least_pair cmp (filter mine ms) ≡ o
+          → ((n : Message P) → least_pair cmp (filter mine ms) ≡ Some n → pair_before cmp n m ≡ false)
           → least_pair cmp (m ∷ filter mine ms) ≡ Some m
       first None is h = least_is m (filter mine ms) None is
-      first (Some n) is h = least_is m (filter mine ms) (Some n) is ∙ (let k : pair_before cmp n m ≡ false = h n is in rw k refl)
+      first (Some n) is h =
+          least_is m (filter mine ms) (Some n) is ∙ (let k : pair_before cmp n m ≡ false = h n is in rw k refl)
 
-      by_test : (n : Message P) (b : Bool) → pair_before cmp n m ≡ b → Some (cond b n m) ≡ Some x → (mine n ≡ true → least_pair cmp (filter mine ms) ≡ Some n)
+      by_test : (n : Message P) (b : Bool) → pair_before cmp n m ≡ b → Some (cond b n m) ≡ Some x
+          → (mine n ≡ true → least_pair cmp (filter mine ms) ≡ Some n)
           → Each (λ k. pair_before cmp k x ≡ false) ms → least_pair cmp (filter mine (m ∷ ms)) ≡ Some x
-      by_test n true is s ih below = let same : n ≡ x = cc in keeps (mine m) n is (ih (ap mine same ∙ own)) ∙ ap Some same
+      by_test n true is s ih below =
+          let same : n ≡ x = cc in keeps (mine m) n is (ih (ap mine same ∙ own)) ∙ ap Some same
       by_test n false is s ih below =
           let same : m ≡ x = cc in
           let here : mine m ≡ true = ap mine same ∙ own in
-          let low : Each (λ k. pair_before cmp k m ≡ false) ms = subst (λ (z : Message P). Each (λ k. pair_before cmp k z ≡ false) ms) (sym same) below in
-          let rest : Each (λ k. pair_before cmp k m ≡ false) (filter mine ms) = each_filter (λ k. pair_before cmp k m ≡ false) (λ k. pair_before cmp k m ≡ false) mine ms (λ k t h. h) low in
-          rw here (first (least_pair cmp (filter mine ms)) refl (λ k g. each_least cmp order (λ j. pair_before cmp j m ≡ false) (filter mine ms) k rest g) ∙ ap Some same)
+          let low : Each (λ k. pair_before cmp k m ≡ false) ms =
+          subst (λ (z : Message P). Each (λ k. pair_before cmp k z ≡ false) ms) (sym same) below in
+          let rest : Each (λ k. pair_before cmp k m ≡ false) (filter mine ms) =
+          each_filter (λ k. pair_before cmp k m ≡ false) (λ k. pair_before cmp k m ≡ false) mine ms (λ k t h. h)
+          low in
+          rw here
+          (first (least_pair cmp (filter mine ms)) refl
+          (λ k g. each_least cmp order (λ j. pair_before cmp j m ≡ false) (filter mine ms) k rest g)
+          ∙ ap Some same)
 
-      by_rest : (o : Option (Message P)) → least_pair cmp ms ≡ o → ((y : Message P) → least_pair cmp ms ≡ Some y → mine y ≡ true → least_pair cmp (filter mine ms) ≡ Some y)
+      by_rest : (o : Option (Message P)) → least_pair cmp ms ≡ o
+          → ((y : Message P) → least_pair cmp ms ≡ Some y → mine y ≡ true → least_pair cmp (filter mine ms) ≡ Some y)
           → Each (λ k. pair_before cmp k x ≡ false) (m ∷ ms) → least_pair cmp (filter mine (m ∷ ms)) ≡ Some x
       by_rest None is ih below =
           let s : Some m ≡ Some x = sym (least_is m ms None is) ∙ e in
@@ -177,4 +240,5 @@ module _ {P : Type 0} (cmp : P → P → Ordering) (order : IsTotalOrder cmp) wh
           let here : mine m ≡ true = ap mine same ∙ own in
           let none : ms ≡ [] = least_none cmp order ms is in
           rw (here, none) s
-      by_rest (Some n) is ih below = by_test n (pair_before cmp n m) refl (sym (least_is m ms (Some n) is) ∙ e) (λ h. ih n is h) below.1
+      by_rest (Some n) is ih below =
+          by_test n (pair_before cmp n m) refl (sym (least_is m ms (Some n) is) ∙ e) (λ h. ih n is h) below.1

@@ -1,5 +1,6 @@
 -- Going once through the pairs that are ready, in their order, is picking the least pair again and again.
-use Rattle.std.proofs.Common.{◌≡◌, ℕ, List, [], ◌∷◌, Bool, true, false, cond, not, Option, Some, None, refl, sym, ap, ◌∙◌, subst, ◌⊎◌, inl, inr}
+use Rattle.std.proofs.Common.{◌≡◌, ℕ, List, [], ◌∷◌, Bool, true, false, cond, not, Option, Some, None, refl, sym, ap}
+use Rattle.std.proofs.Common.{◌∙◌, subst, ◌⊎◌, inl, inr}
 use Rattle.std.specs.Prelude.{⊤, ◌&&◌, if◌then◌else◌}
 use Rattle.std.specs.List.{filter, find}
 use Rattle.std.specs.declared.cmp.Ordering.{Ordering}
@@ -37,7 +38,8 @@ some_map Q R [] f h = absurd h
 some_map Q R (x ∷ xs) f (inl q) = inl (f x q)
 some_map Q R (x ∷ xs) f (inr h) = inr (some_map Q R xs f h)
 
-pub some_filtered : {X : Type 0} (Q : X → Type 0) (test : X → Bool) (xs : List X) → Somewhere (λ x. Q x × (test x ≡ true)) xs → Somewhere Q (filter test xs)
+pub some_filtered : {X : Type 0} (Q : X → Type 0) (test : X → Bool) (xs : List X)
+    → Somewhere (λ x. Q x × (test x ≡ true)) xs → Somewhere Q (filter test xs)
 some_filtered Q test [] h = absurd h
 some_filtered Q test (x ∷ xs) (inl q) = rw q.1 (inl q.0)
 some_filtered {X} Q test (x ∷ xs) (inr h) = by_test (test x) (some_filtered Q test xs h)
@@ -71,10 +73,13 @@ module _ {P : Type 0} (cmp : P → P → Ordering) (order : IsTotalOrder cmp) wh
   same_is : (m n : Message P) → same_pair cmp m n ≡ is_eq (pair_cmp cmp order m n)
   same_is m n = both_equal (cmp m.origin n.origin) (cmp m.recipient n.recipient)
 
-  pub before_alike : (m n k l : Message P) → SameMessage cmp m n → SameMessage cmp k l → pair_before cmp m k ≡ pair_before cmp n l
+  pub before_alike : (m n k l : Message P) → SameMessage cmp m n → SameMessage cmp k l
+      → pair_before cmp m k ≡ pair_before cmp n l
   before_alike m n k l f g =
-      let first : pair_cmp cmp order m n ≡ Equal = is_eq_equal (pair_cmp cmp order m n) (sym (same_is m n) ∙ rw (f.origin, f.recipient) refl) in
-      let second : pair_cmp cmp order k l ≡ Equal = is_eq_equal (pair_cmp cmp order k l) (sym (same_is k l) ∙ rw (g.origin, g.recipient) refl) in
+      let first : pair_cmp cmp order m n ≡ Equal =
+      is_eq_equal (pair_cmp cmp order m n) (sym (same_is m n) ∙ rw (f.origin, f.recipient) refl) in
+      let second : pair_cmp cmp order k l ≡ Equal =
+      is_eq_equal (pair_cmp cmp order k l) (sym (same_is k l) ∙ rw (g.origin, g.recipient) refl) in
       ap is_lt ((pairs_total cmp order).congr m n k first ∙ alike_right (pairs_total cmp order) k l n second)
 
   -- ---- the least pair
@@ -118,11 +123,13 @@ module _ {P : Type 0} (cmp : P → P → Ordering) (order : IsTotalOrder cmp) wh
   IsAmong ms y = Somewhere (λ m. SameMessage cmp m y) ms
 
   -- a sorted list with the same pairs picks them in order
-  pub picks_from : (ms xs : List (Message P)) → IsSorted ms → Each (IsAmong ms) xs → Each (HasIn xs) ms → Picks cmp order xs ms
+  pub picks_from : (ms xs : List (Message P)) → IsSorted ms → Each (IsAmong ms) xs → Each (HasIn xs) ms
+      → Picks cmp order xs ms
   picks_from [] [] sorted among has = refl
   picks_from [] (x ∷ xs) sorted among has = absurd among.0
   picks_from (m ∷ ms) [] sorted among has = absurd has.0
-  picks_from (m ∷ ms) (x ∷ xs) sorted among has = (y, least, own, picks_from ms (filter (apart cmp order y) (x ∷ xs)) sorted.1 among_rest has_rest)
+  picks_from (m ∷ ms) (x ∷ xs) sorted among has =
+      (y, least, own, picks_from ms (filter (apart cmp order y) (x ∷ xs)) sorted.1 among_rest has_rest)
     where
       y : Message P
       y = (least_some x xs).0
@@ -133,10 +140,13 @@ module _ {P : Type 0} (cmp : P → P → Ordering) (order : IsTotalOrder cmp) wh
       by_place : SameMessage cmp m y ⊎ IsAmong ms y → SameMessage cmp m y
       by_place (inl same) = same
       by_place (inr rest) =
-          let later : (n : Message P) × (pair_before cmp m n ≡ true) × SameMessage cmp n y = some_each (λ n. pair_before cmp m n ≡ true) (λ n. SameMessage cmp n y) ms sorted.0 rest in
+          let later : (n : Message P) × (pair_before cmp m n ≡ true) × SameMessage cmp n y =
+          some_each (λ n. pair_before cmp m n ≡ true) (λ n. SameMessage cmp n y) ms sorted.0 rest in
           let there : (z : Message P) × (pair_before cmp z y ≡ false) × SameMessage cmp m z
-          = some_each (λ z. pair_before cmp z y ≡ false) (λ z. SameMessage cmp m z) (x ∷ xs) (none_below cmp order (x ∷ xs) y least) has.0 in
-          let same : pair_before cmp m later.0 ≡ pair_before cmp there.0 y = before_alike m there.0 later.0 y there.2 later.2 in
+          = some_each (λ z. pair_before cmp z y ≡ false) (λ z. SameMessage cmp m z) (x ∷ xs)
+          (none_below cmp order (x ∷ xs) y least) has.0 in
+          let same : pair_before cmp m later.0 ≡ pair_before cmp there.0 y =
+          before_alike m there.0 later.0 y there.2 later.2 in
           absurd (differ (sym later.1 ∙ same ∙ there.1))
         where
           differ : true ≡ false → ⊥
@@ -147,26 +157,31 @@ module _ {P : Type 0} (cmp : P → P → Ordering) (order : IsTotalOrder cmp) wh
 
       among_rest : Each (IsAmong ms) (filter (apart cmp order y) (x ∷ xs))
       among_rest =
-          each_map (λ z. IsAmong (m ∷ ms) z × (apart cmp order y z ≡ true)) (IsAmong ms) (filter (apart cmp order y) (x ∷ xs)) (λ z k. by_head z k.0 k.1)
+          each_map (λ z. IsAmong (m ∷ ms) z × (apart cmp order y z ≡ true)) (IsAmong ms)
+          (filter (apart cmp order y) (x ∷ xs)) (λ z k. by_head z k.0 k.1)
           (each_filtered (IsAmong (m ∷ ms)) (apart cmp order y) (x ∷ xs) among)
         where
           by_head : (z : Message P) → SameMessage cmp m z ⊎ IsAmong ms z → apart cmp order y z ≡ true → IsAmong ms z
           by_head z (inl same) off =
-              let pair : same_pair cmp y z ≡ true = sym (pairs_alike cmp order m y m z own same) ∙ pair_itself cmp order m in
+              let pair : same_pair cmp y z ≡ true =
+              sym (pairs_alike cmp order m y m z own same) ∙ pair_itself cmp order m in
               let none : same_pair cmp y z ≡ false = not-true (same_pair cmp y z) off in
               cc
           by_head z (inr rest) off = rest
 
       has_rest : Each (HasIn (filter (apart cmp order y) (x ∷ xs))) ms
       has_rest =
-          each_map (λ n. HasIn (x ∷ xs) n × (pair_before cmp m n ≡ true)) (HasIn (filter (apart cmp order y) (x ∷ xs))) ms (λ n k. stays n k.0 k.1)
+          each_map (λ n. HasIn (x ∷ xs) n × (pair_before cmp m n ≡ true)) (HasIn (filter (apart cmp order y) (x ∷ xs)))
+          ms (λ n k. stays n k.0 k.1)
           (each_both (HasIn (x ∷ xs)) (λ n. pair_before cmp m n ≡ true) ms has.1 sorted.0)
         where
-          each_both : (Q R : Message P → Type 0) (ns : List (Message P)) → Each Q ns → Each R ns → Each (λ n. Q n × R n) ns
+          each_both : (Q R : Message P → Type 0) (ns : List (Message P)) → Each Q ns → Each R ns
+              → Each (λ n. Q n × R n) ns
           each_both Q R [] f g = tt
           each_both Q R (n ∷ ns) f g = ((f.0, g.0), each_both Q R ns f.1 g.1)
 
-          stays : (n : Message P) → HasIn (x ∷ xs) n → pair_before cmp m n ≡ true → HasIn (filter (apart cmp order y) (x ∷ xs)) n
+          stays : (n : Message P) → HasIn (x ∷ xs) n → pair_before cmp m n ≡ true
+              → HasIn (filter (apart cmp order y) (x ∷ xs)) n
           stays n has before = some_filtered (λ z. SameMessage cmp n z) (apart cmp order y) (x ∷ xs)
               (some_map (λ z. SameMessage cmp n z) (λ z. SameMessage cmp n z × (apart cmp order y z ≡ true)) (x ∷ xs)
               (λ z same. (
@@ -177,53 +192,75 @@ module _ {P : Type 0} (cmp : P → P → Ordering) (order : IsTotalOrder cmp) wh
 
   -- ---- who is ready in the one world is ready in the other
 
-  pub in_fronts : (Q : Message P → Type 0) (x : Message P) (ws : List (Message P)) → find (same_pair cmp x) ws ≡ Some x → Q x → Somewhere Q (fronts cmp ws)
+  pub in_fronts : (Q : Message P → Type 0) (x : Message P) (ws : List (Message P)) → find (same_pair cmp x) ws ≡ Some x
+      → Q x → Somewhere Q (fronts cmp ws)
   in_fronts Q x [] e q = cc
-  in_fronts Q x (z ∷ ws) e q = by_test (same_pair cmp x z) refl e (in_fronts (λ n. Q n × (not (same_pair cmp z n) ≡ true)) x ws)
+  in_fronts Q x (z ∷ ws) e q =
+      by_test (same_pair cmp x z) refl e (in_fronts (λ n. Q n × (not (same_pair cmp z n) ≡ true)) x ws)
     where
       by_test : (b : Bool) → same_pair cmp x z ≡ b → cond b (Some z) (find (same_pair cmp x) ws) ≡ Some x
-          → (find (same_pair cmp x) ws ≡ Some x → Q x × (not (same_pair cmp z x) ≡ true) → Somewhere (λ n. Q n × (not (same_pair cmp z n) ≡ true)) (fronts cmp ws))
+          → (find (same_pair cmp x) ws ≡ Some x → Q x × (not (same_pair cmp z x) ≡ true)
+          → Somewhere (λ n. Q n × (not (same_pair cmp z n) ≡ true)) (fronts cmp ws))
           → Somewhere Q (z ∷ filter (λ n. not (same_pair cmp z n)) (fronts cmp ws))
       by_test true is e ih = let same : x ≡ z = cc in inl (subst Q same q)
-      by_test false is e ih = inr (some_filtered Q (λ n. not (same_pair cmp z n)) (fronts cmp ws) (ih e (q, not_from_false (same_pair cmp z x) (pair_sym cmp order z x ∙ is))))
+      by_test false is e ih =
+          inr
+          (some_filtered Q (λ n. not (same_pair cmp z n)) (fronts cmp ws)
+          (ih e (q, not_from_false (same_pair cmp z x) (pair_sym cmp order z x ∙ is))))
 
-  alike_some : (o : Option (Message P)) (x : Message P) → OptionsAlike (SameMessage cmp) (Some x) o → (y : Message P) × (o ≡ Some y) × SameMessage cmp x y
+  alike_some : (o : Option (Message P)) (x : Message P) → OptionsAlike (SameMessage cmp) (Some x) o
+      → (y : Message P) × (o ≡ Some y) × SameMessage cmp x y
   alike_some None x h = absurd h
   alike_some (Some y) x h = (y, refl, h)
 
-  alike_some_back : (o : Option (Message P)) (y : Message P) → OptionsAlike (SameMessage cmp) o (Some y) → (x : Message P) × (o ≡ Some x) × SameMessage cmp x y
+  alike_some_back : (o : Option (Message P)) (y : Message P) → OptionsAlike (SameMessage cmp) o (Some y)
+      → (x : Message P) × (o ≡ Some x) × SameMessage cmp x y
   alike_some_back None y h = absurd h
   alike_some_back (Some x) y h = (x, refl, h)
 
-  found_own : (m x : Message P) (ws : List (Message P)) → find (same_pair cmp m) ws ≡ Some x → find (same_pair cmp x) ws ≡ Some x
+  found_own : (m x : Message P) (ws : List (Message P)) → find (same_pair cmp m) ws ≡ Some x
+      → find (same_pair cmp x) ws ≡ Some x
   found_own m x ws e = find_like cmp order m x ws (find_passes (same_pair cmp m) x ws e) ∙ e
 
-  pub in_ready : (t : ℕ) (p : Planned P) (w : World P) (m : Message P) → Tallies cmp t p w → next_of cmp p m ≡ Some m → may_launch cmp t p m ≡ true → HasIn (ready cmp t w) m
+  pub in_ready : (t : ℕ) (p : Planned P) (w : World P) (m : Message P) → Tallies cmp t p w → next_of cmp p m ≡ Some m
+      → may_launch cmp t p m ≡ true → HasIn (ready cmp t w) m
   in_ready t p w m same next may =
       let there : (y : Message P) × (find (same_pair cmp m) w.waiting ≡ Some y) × SameMessage cmp m y
       = alike_some (find (same_pair cmp m) w.waiting) m
-      (subst (λ (o : Option (Message P)). OptionsAlike (SameMessage cmp) o (find (same_pair cmp m) w.waiting)) next (next_alike cmp order t p w m m same (message_itself cmp order m)))
+      (subst (λ (o : Option (Message P)). OptionsAlike (SameMessage cmp) o (find (same_pair cmp m) w.waiting)) next
+      (next_alike cmp order t p w m m same (message_itself cmp order m)))
       in
-      let may_too : may_start cmp t w there.0 ≡ true = sym (may_alike cmp order t p w m there.0 same.last_arrival (messages_alike cmp order t p.sending w.sending same.sending) there.2) ∙ may in
+      let may_too : may_start cmp t w there.0 ≡ true =
+      sym
+      (may_alike cmp order t p w m there.0 same.last_arrival
+      (messages_alike cmp order t p.sending w.sending same.sending) there.2)
+      ∙ may in
       some_filtered (λ y. SameMessage cmp m y) (may_start cmp t w) (fronts cmp w.waiting)
       (in_fronts (λ y. SameMessage cmp m y × (may_start cmp t w y ≡ true)) there.0 w.waiting
       (found_own m there.0 w.waiting there.1) (there.2, may_too))
 
-  in_launching : (t : ℕ) (p : Planned P) (w : World P) (y : Message P) → Tallies cmp t p w → find (same_pair cmp y) w.waiting ≡ Some y → may_start cmp t w y ≡ true
+  in_launching : (t : ℕ) (p : Planned P) (w : World P) (y : Message P) → Tallies cmp t p w
+      → find (same_pair cmp y) w.waiting ≡ Some y → may_start cmp t w y ≡ true
       → IsAmong (filter (may_launch cmp t p) (fronts cmp p.waiting)) y
   in_launching t p w y same next may =
       let there : (x : Message P) × (next_of cmp p y ≡ Some x) × SameMessage cmp x y
       = alike_some_back (next_of cmp p y) y
-      (subst (λ (o : Option (Message P)). OptionsAlike (SameMessage cmp) (next_of cmp p y) o) next (next_alike cmp order t p w y y same (message_itself cmp order y))) in
-      let may_too : may_launch cmp t p there.0 ≡ true = may_alike cmp order t p w there.0 y same.last_arrival (messages_alike cmp order t p.sending w.sending same.sending) there.2 ∙ may in
+      (subst (λ (o : Option (Message P)). OptionsAlike (SameMessage cmp) (next_of cmp p y) o) next
+      (next_alike cmp order t p w y y same (message_itself cmp order y))) in
+      let may_too : may_launch cmp t p there.0 ≡ true =
+      may_alike cmp order t p w there.0 y same.last_arrival
+      (messages_alike cmp order t p.sending w.sending same.sending) there.2
+      ∙ may in
       some_filtered (λ x. SameMessage cmp x y) (may_launch cmp t p) (fronts cmp p.waiting)
       (in_fronts (λ x. SameMessage cmp x y × (may_launch cmp t p x ≡ true)) there.0 p.waiting
       (found_own y there.0 p.waiting there.1) (there.2, may_too))
 
   -- the pairs that the planned world finds ready are those that the world picks, in this order
-  pub picks_ready : (t : ℕ) (p : Planned P) (w : World P) → Tallies cmp t p w → Picks cmp order (ready cmp t w) (filter (may_launch cmp t p) (fronts cmp p.waiting))
+  pub picks_ready : (t : ℕ) (p : Planned P) (w : World P) → Tallies cmp t p w
+      → Picks cmp order (ready cmp t w) (filter (may_launch cmp t p) (fronts cmp p.waiting))
   picks_ready t p w same =
-      picks_from (filter (may_launch cmp t p) (fronts cmp p.waiting)) (ready cmp t w) (sorted_filter (may_launch cmp t p) (fronts cmp p.waiting) (fronts_sorted p.waiting same.pair_order))
+      picks_from (filter (may_launch cmp t p) (fronts cmp p.waiting)) (ready cmp t w)
+      (sorted_filter (may_launch cmp t p) (fronts cmp p.waiting) (fronts_sorted p.waiting same.pair_order))
       (each_map (λ y. IsFront cmp order w.waiting y × (may_start cmp t w y ≡ true))
       (IsAmong (filter (may_launch cmp t p) (fronts cmp p.waiting))) (ready cmp t w)
       (λ y k. in_launching t p w y same (first_found cmp order (same_pair cmp y) y k.0.0 w.waiting k.0.1) k.1)
@@ -236,5 +273,7 @@ module _ {P : Type 0} (cmp : P → P → Ordering) (order : IsTotalOrder cmp) wh
       (fronts_first cmp order p.waiting)))
 
   -- where nothing is ready in the world, nothing is in the planned world
-  pub none_ready_back : (t : ℕ) (p : Planned P) (w : World P) → Tallies cmp t p w → ready cmp t w ≡ [] → ¬ SomeReadyAt cmp p t
-  none_ready_back t p w same none some = subst (λ (xs : List (Message P)). HasIn xs some.0) none (in_ready t p w some.0 same some.1 some.2)
+  pub none_ready_back : (t : ℕ) (p : Planned P) (w : World P) → Tallies cmp t p w → ready cmp t w ≡ []
+      → ¬ SomeReadyAt cmp p t
+  none_ready_back t p w same none some =
+      subst (λ (xs : List (Message P)). HasIn xs some.0) none (in_ready t p w some.0 same some.1 some.2)

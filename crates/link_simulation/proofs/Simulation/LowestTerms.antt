@@ -4,7 +4,8 @@ use Rattle.std.specs.Prelude.{IfSome}
 use Rattle.std.proofs.Math.Nat.{mul_comm, mul-pos, mul-le-mul_right}
 use Rattle.fair_rates.specs.Numbers.Amount.{Amount, Covers, billion, drained, reduced, whole}
 use Rattle.link_simulation.specs.Simulation.Rates.{IsLowest, drained_by}
-use Rattle.fair_rates.specs.Numbers.LowestTerms.{IsScaled, reduced_scales, reduced_scaled, reduced_positive, reduced_alike}
+use Rattle.fair_rates.specs.Numbers.LowestTerms.{IsScaled, reduced_scales, reduced_scaled, reduced_positive}
+use Rattle.fair_rates.specs.Numbers.LowestTerms.{reduced_alike}
 use Rattle.fair_rates.proofs.Numbers.Draining.{drained_twice, spent_if_covers, covers_if_spent}
 
 pub reduced_lowest : (n d : ℕ) → 0 < d → IsLowest (reduced n d)
@@ -12,7 +13,11 @@ reduced_lowest n d h =
     let a : Amount = reduced n d in
     let s : IsScaled n d a = reduced_scales n d h in
     let positive : 0 < a.den = reduced_positive n d h in
-    record { positive = positive; lowest = sym (reduced_scaled s.factor a.num a.den s.positive positive) ∙ reduced_alike (s.factor * a.num) n (s.factor * a.den) d (sym s.num) (sym s.den) }
+    record {
+      positive = positive;
+      lowest = sym (reduced_scaled s.factor a.num a.den s.positive positive)
+          ∙ reduced_alike (s.factor * a.num) n (s.factor * a.den) d (sym s.num) (sym s.den);
+    }
 
 product_one : (f q : ℕ) → 1 ≡ f * q → (f ≡ 1) × (q ≡ 1)
 product_one zero q e = absurd (omega arith)
@@ -28,29 +33,36 @@ whole_lowest n =
     let num : a.num ≡ n = sym (s.num ∙ ap (λ f. f * a.num) one.0 ∙ omega arith) in
     record { positive = omega arith; lowest = amount_is a.num n a.den 1 num one.1 }
   where
-    amount_is : (a b c d : ℕ) → a ≡ b → c ≡ d → ◌≡◌ {A = Amount} (record { num = a; den = c }) (record { num = b; den = d })
+    amount_is : (a b c d : ℕ) → a ≡ b → c ≡ d
+        → ◌≡◌ {A = Amount} (record { num = a; den = c }) (record { num = b; den = d })
     amount_is a b c d e f = rw (e, f) refl
 
 pub drained_none : (left rate : Amount) → IsLowest left → 0 < rate.den → drained left rate 0 ≡ left
 drained_none left rate low h =
     let unit : ℕ = rate.den * billion in
     let some : 0 < unit = mul-pos h (omega arith) in
-    reduced_alike (left.num * unit - 0 * (rate.num * left.den)) (unit * left.num) (left.den * unit) (unit * left.den) (less_none (left.num * unit) (rate.num * left.den) ∙ mul_comm left.num unit) (mul_comm left.den unit)
+    reduced_alike (left.num * unit - 0 * (rate.num * left.den)) (unit * left.num) (left.den * unit) (unit * left.den)
+    (less_none (left.num * unit) (rate.num * left.den) ∙ mul_comm left.num unit) (mul_comm left.den unit)
     ∙ reduced_scaled unit left.num left.den some low.positive ∙ low.lowest
   where
     less_none : (n x : ℕ) → n - 0 * x ≡ n
     less_none n x = omega arith
 
-pub drained_by_lowest : (rate : Option Amount) (n : ℕ) (left : Amount) → IfSome rate (λ r. 0 < r.den) → 0 < left.den → IsLowest (drained_by rate n left)
+pub drained_by_lowest : (rate : Option Amount) (n : ℕ) (left : Amount) → IfSome rate (λ r. 0 < r.den) → 0 < left.den
+    → IsLowest (drained_by rate n left)
 drained_by_lowest None n left h j = whole_lowest 0
-drained_by_lowest (Some r) n left h j = reduced_lowest (left.num * (r.den * billion) - n * (r.num * left.den)) (left.den * (r.den * billion)) (mul-pos j (mul-pos h (omega arith)))
+drained_by_lowest (Some r) n left h j =
+    reduced_lowest (left.num * (r.den * billion) - n * (r.num * left.den)) (left.den * (r.den * billion))
+    (mul-pos j (mul-pos h (omega arith)))
 
-pub drained_by_twice : (rate : Option Amount) (a b : ℕ) (left : Amount) → IfSome rate (λ r. 0 < r.den) → 0 < left.den → drained_by rate b (drained_by rate a left) ≡ drained_by rate (a + b) left
+pub drained_by_twice : (rate : Option Amount) (a b : ℕ) (left : Amount) → IfSome rate (λ r. 0 < r.den) → 0 < left.den
+    → drained_by rate b (drained_by rate a left) ≡ drained_by rate (a + b) left
 drained_by_twice None a b left h j = refl
 drained_by_twice (Some r) a b left h j = drained_twice left r a b j h
 
 -- what is spent stays spent
-pub spent_later : (rate : Option Amount) (a b : ℕ) (left : Amount) → IfSome rate (λ r. 0 < r.den) → 0 < left.den → a ≤ b → (drained_by rate a left).num ≡ 0 → (drained_by rate b left).num ≡ 0
+pub spent_later : (rate : Option Amount) (a b : ℕ) (left : Amount) → IfSome rate (λ r. 0 < r.den) → 0 < left.den → a ≤ b
+    → (drained_by rate a left).num ≡ 0 → (drained_by rate b left).num ≡ 0
 spent_later None a b left h j le e = refl
 spent_later (Some r) a b left h j le e =
     let c : Covers r a left = covers_if_spent left r a j h e in

@@ -14,24 +14,32 @@ use Rattle.link_simulation.specs.Simulation.World.{is_in_order, last_moment, may
 use Rattle.link_simulation.specs.Simulation.World.{is_late, completed, flight_of}
 use Rattle.link_simulation.specs.Simulation.Messages.{Message, OneForEachPair, same_pair}
 use Rattle.fair_rates.specs.declared.error.Error.TheVariants.{FlowIdsUsedUp, MomentTooLate}
-use Rattle.link_simulation.specs.Simulation.Queue.{leaving, staying, out_of_waiting, joined, arrived, launch_then, finish_within}
+use Rattle.link_simulation.specs.Simulation.Queue.{leaving, staying, out_of_waiting, joined, arrived, launch_then}
+use Rattle.link_simulation.specs.Simulation.Queue.{finish_within}
 use Rattle.link_simulation.proofs.Simulation.Queue.{any_like, find_passes, pair_sym, pair_like}
 use Rattle.link_simulation.proofs.Rule.BeforeNext.{filter_none, IsFront, fronts_first, first_found}
 use Rattle.fair_rates.proofs.Lists.Each.{each_map}
 use Rattle.link_simulation.proofs.Rule.Launch.{head_found, head_of, waits_without}
 use Rattle.link_simulation.proofs.Rule.Settling.{settle_is_finish}
-use Rattle.link_simulation.proofs.Simulation.OnePair.{OnlyPair, only_arrived, only_taken, only_joined, IsRested, rested_joined, may_others}
+use Rattle.link_simulation.proofs.Simulation.OnePair.{OnlyPair, only_arrived, only_taken, only_joined, IsRested}
+use Rattle.link_simulation.proofs.Simulation.OnePair.{rested_joined, may_others}
 use Rattle.link_simulation.proofs.Simulation.AlikeMessages.{pair_itself}
 use Rattle.link_simulation.proofs.Simulation.InOrder.{Somewhere, some_filtered, in_fronts}
 use Rattle.link_simulation.proofs.Simulation.SettlingEnds.{ends_preceded, ends_cond, length_without, find_like}
 
-any_split : {X : Type 0} (p test : X → Bool) (xs : List X) → list_any p (filter test xs) ≡ false → list_any p (filter (λ x. not (test x)) xs) ≡ list_any p xs
+any_split : {X : Type 0} (p test : X → Bool) (xs : List X) → list_any p (filter test xs) ≡ false
+    → list_any p (filter (λ x. not (test x)) xs) ≡ list_any p xs
 any_split p test [] e = refl
 any_split {X} p test (x ∷ xs) e = by_test (test x) e (any_split p test xs)
   where
-    by_test : (b : Bool) → list_any p (cond b (x ∷ filter test xs) (filter test xs)) ≡ false → (list_any p (filter test xs) ≡ false → list_any p (filter (λ x. not (test x)) xs) ≡ list_any p xs)
-        → list_any p (cond (not b) (x ∷ filter (λ x. not (test x)) xs) (filter (λ x. not (test x)) xs)) ≡ (p x || list_any p xs)
-    by_test true e ih = let parts : (p x ≡ false) × (list_any p (filter test xs) ≡ false) = or_parts (p x) (list_any p (filter test xs)) e in rw parts.0 (ih parts.1)
+    by_test : (b : Bool) → list_any p (cond b (x ∷ filter test xs) (filter test xs)) ≡ false
+        → (list_any p (filter test xs) ≡ false → list_any p (filter (λ x. not (test x)) xs) ≡ list_any p xs)
+        → list_any p (cond (not b) (x ∷ filter (λ x. not (test x)) xs) (filter (λ x. not (test x)) xs))
+        ≡ (p x || list_any p xs)
+    by_test true e ih =
+        let parts : (p x ≡ false) × (list_any p (filter test xs) ≡ false) =
+        or_parts (p x) (list_any p (filter test xs)) e in
+        rw parts.0 (ih parts.1)
     by_test false e ih = ap (λ (b : Bool). p x || b) (ih e)
 
 any_map : {X Y : Type 0} (p : Y → Bool) (f : X → Y) (xs : List X) → list_any p (map f xs) ≡ list_any (λ x. p (f x)) xs
@@ -45,28 +53,44 @@ module _ {P : Type 0} (cmp : P → P → Ordering) (order : IsTotalOrder cmp) (y
 
   -- what is of another pair alone does not matter
   pub rested_other : (z : Message P) (t : ℕ) (w v : World P) → same_pair cmp y z ≡ false → OnlyPair cmp order z w v
-      → find (same_pair cmp y) v.waiting ≡ find (same_pair cmp y) w.waiting → IsRested cmp order y t w → IsRested cmp order y t v
+      → find (same_pair cmp y) v.waiting ≡ find (same_pair cmp y) w.waiting → IsRested cmp order y t w
+      → IsRested cmp order y t v
   unfolding IsRested
   rested_other z t w v off only same rested x found =
       let own : same_pair cmp y x ≡ true = find_passes (same_pair cmp y) x v.waiting found in
       let away : same_pair cmp z x ≡ false = pair_sym cmp order z x ∙ pair_like cmp order y x z own ∙ off in
       may_others cmp order z t w v x only (ap not away) ∙ rested x (sym same ∙ found)
 
-  pub find_without : (x : Message P) (ws : List (Message P)) → same_pair cmp y x ≡ false → find (same_pair cmp y) (without_first (same_pair cmp x) ws) ≡ find (same_pair cmp y) ws
-  find_without x ws off = head_found (same_pair cmp y) (without_first (same_pair cmp x) ws) ∙ ap head_of (rw off at (waits_without cmp order y x ws)) ∙ sym (head_found (same_pair cmp y) ws)
+  pub find_without : (x : Message P) (ws : List (Message P)) → same_pair cmp y x ≡ false
+      → find (same_pair cmp y) (without_first (same_pair cmp x) ws) ≡ find (same_pair cmp y) ws
+  find_without x ws off =
+      head_found (same_pair cmp y) (without_first (same_pair cmp x) ws)
+      ∙ ap head_of (rw off at (waits_without cmp order y x ws)) ∙ sym (head_found (same_pair cmp y) ws)
 
   any_end : (fs : List (Flight P)) (x : Message P)
-      → list_any (same_pair cmp y) (map (λ (f : Flight P). f.message) (fs ++ flight_of x ∷ [])) ≡ (list_any (same_pair cmp y) (map (λ (f : Flight P). f.message) fs) || (same_pair cmp y x || false))
-  any_end fs x = ap (list_any (same_pair cmp y)) (map-append (λ (f : Flight P). f.message) fs (flight_of x ∷ [])) ∙ list_any-append (same_pair cmp y) (map (λ (f : Flight P). f.message) fs) (x ∷ [])
+      → list_any (same_pair cmp y) (map (λ (f : Flight P). f.message) (fs ++ flight_of x ∷ []))
+      ≡ (list_any (same_pair cmp y) (map (λ (f : Flight P). f.message) fs) || (same_pair cmp y x || false))
+  any_end fs x =
+      ap (list_any (same_pair cmp y)) (map-append (λ (f : Flight P). f.message) fs (flight_of x ∷ []))
+      ∙ list_any-append (same_pair cmp y) (map (λ (f : Flight P). f.message) fs) (x ∷ [])
 
   WhenHeld : ℕ → ℕ → Type 0
-  WhenHeld n t = (gs : List (Flight P)) (v : World P) → length gs + length v.waiting ≤ n → IsHeld t gs v → EndsWith (IsRested cmp order y t) (finish_within cmp n t gs v)
+  WhenHeld n t =
+      (gs : List (Flight P)) (v : World P) → length gs + length v.waiting ≤ n → IsHeld t gs v
+      → EndsWith (IsRested cmp order y t) (finish_within cmp n t gs v)
 
   -- the launch after the first of the queue, in the world where it has landed
-  launch_rests : (n t : ℕ) (fs : List (Flight P)) (z : Message P) (w : World P) (o : Option (Message P)) → WhenHeld n t → length fs + length w.waiting ≤ n → find (same_pair cmp z) w.waiting ≡ o
-      → (same_pair cmp y z ≡ true) ⊎ ((same_pair cmp y z ≡ false) × IsHeld t fs w) → EndsWith (IsRested cmp order y t) (launch_then cmp (finish_within cmp n t) t fs w o)
+  launch_rests : (n t : ℕ) (fs : List (Flight P)) (z : Message P) (w : World P) (o : Option (Message P)) → WhenHeld n t
+      → length fs + length w.waiting ≤ n → find (same_pair cmp z) w.waiting ≡ o
+      → (same_pair cmp y z ≡ true) ⊎ ((same_pair cmp y z ≡ false) × IsHeld t fs w)
+      → EndsWith (IsRested cmp order y t) (launch_then cmp (finish_within cmp n t) t fs w o)
   unfolding launch_then WhenHeld IsRested
-  launch_rests n t fs z w None ih fuel is (inl own) = ih fs w fuel (inr (λ x found. let none : find (same_pair cmp y) w.waiting ≡ None = sym (find_like cmp order y z w.waiting own) ∙ is in cc))
+  launch_rests n t fs z w None ih fuel is (inl own) =
+      ih fs w fuel
+      (inr
+      (λ x found. let none : find (same_pair cmp y) w.waiting ≡ None = sym (find_like cmp order y z w.waiting own)
+      ∙ is in
+      cc))
   launch_rests n t fs z w None ih fuel is (inr off) = ih fs w fuel off.1
   launch_rests n t fs z w (Some x) ih fuel is held = by_may (may_start cmp t w x) refl held
     where
@@ -82,39 +106,59 @@ module _ {P : Type 0} (cmp : P → P → Ordering) (order : IsTotalOrder cmp) (y
       y_x : same_pair cmp y x ≡ same_pair cmp y z
       y_x = pair_sym cmp order y x ∙ pair_like cmp order z x y pair ∙ pair_sym cmp order z y
 
-      held_taken : (same_pair cmp y z ≡ true) ⊎ ((same_pair cmp y z ≡ false) × IsHeld t fs w) → IsHeld t (fs ++ flight_of x ∷ []) (out_of_waiting cmp w x)
+      held_taken : (same_pair cmp y z ≡ true) ⊎ ((same_pair cmp y z ≡ false) × IsHeld t fs w)
+          → IsHeld t (fs ++ flight_of x ∷ []) (out_of_waiting cmp w x)
       held_taken (inl own) =
-          inl (any_end fs x ∙ or_right (list_any (same_pair cmp y) (map (λ (f : Flight P). f.message) fs)) (same_pair cmp y x || false) (or_left (same_pair cmp y x) false (y_x ∙ own)))
-      held_taken (inr (off, inl among)) = inl (any_end fs x ∙ or_left (list_any (same_pair cmp y) (map (λ (f : Flight P). f.message) fs)) (same_pair cmp y x || false) among)
+          inl
+          (any_end fs x
+          ∙ or_right (list_any (same_pair cmp y) (map (λ (f : Flight P). f.message) fs))
+          (same_pair cmp y x || false) (or_left (same_pair cmp y x) false (y_x ∙ own)))
+      held_taken (inr (off, inl among)) =
+          inl
+          (any_end fs x
+          ∙ or_left (list_any (same_pair cmp y) (map (λ (f : Flight P). f.message) fs)) (same_pair cmp y x || false)
+          among)
       held_taken (inr (off, inr rested)) =
           inr (rested_other x t w (out_of_waiting cmp w x) (y_x ∙ off)
           (only_taken cmp order x w x (pair_itself cmp order x)) (find_without x w.waiting (y_x ∙ off)) rested)
 
-      held_joined : (same_pair cmp y z ≡ true) ⊎ ((same_pair cmp y z ≡ false) × IsHeld t fs w) → IsHeld t fs (joined cmp w x)
+      held_joined : (same_pair cmp y z ≡ true) ⊎ ((same_pair cmp y z ≡ false) × IsHeld t fs w)
+          → IsHeld t fs (joined cmp w x)
       held_joined (inl own) = inr (rested_joined cmp order y t w x (y_x ∙ own))
       held_joined (inr (off, inl among)) = inl among
-      held_joined (inr (off, inr rested)) = inr (rested_other x t w (joined cmp w x) (y_x ∙ off) (only_joined cmp order x w x (pair_itself cmp order x)) (find_without x w.waiting (y_x ∙ off)) rested)
+      held_joined (inr (off, inr rested)) =
+          inr
+          (rested_other x t w (joined cmp w x) (y_x ∙ off) (only_joined cmp order x w x (pair_itself cmp order x))
+          (find_without x w.waiting (y_x ∙ off)) rested)
 
-      by_done : (b : Bool) → length (without_first (same_pair cmp x) w.waiting) + 1 ≡ length w.waiting → length (fs ++ flight_of x ∷ []) ≡ length fs + 1
+      by_done : (b : Bool) → length (without_first (same_pair cmp x) w.waiting) + 1 ≡ length w.waiting
+          → length (fs ++ flight_of x ∷ []) ≡ length fs + 1
           → (same_pair cmp y z ≡ true) ⊎ ((same_pair cmp y z ≡ false) × IsHeld t fs w)
-          → EndsWith (IsRested cmp order y t) (cond b (finish_within cmp n t (fs ++ flight_of x ∷ []) (out_of_waiting cmp w x)) (finish_within cmp n t fs (joined cmp w x)))
+          → EndsWith (IsRested cmp order y t)
+          (cond b (finish_within cmp n t (fs ++ flight_of x ∷ []) (out_of_waiting cmp w x))
+          (finish_within cmp n t fs (joined cmp w x)))
       by_done true less more h = ih (fs ++ flight_of x ∷ []) (out_of_waiting cmp w x) (omega arith) (held_taken h)
       by_done false less more h = ih fs (joined cmp w x) (omega arith) (held_joined h)
 
-      held_still : may_start cmp t w x ≡ false → (same_pair cmp y z ≡ true) ⊎ ((same_pair cmp y z ≡ false) × IsHeld t fs w) → IsHeld t fs w
+      held_still : may_start cmp t w x ≡ false
+          → (same_pair cmp y z ≡ true) ⊎ ((same_pair cmp y z ≡ false) × IsHeld t fs w) → IsHeld t fs w
       held_still e (inl own) =
           inr (λ k found. let same : Some x ≡ Some k = sym is ∙ find_like cmp order y z w.waiting own
           ∙ found in let it : x ≡ k = cc in subst (λ (m : Message P). may_start cmp t w m ≡ false) it e)
       held_still e (inr off) = off.1
 
-      by_may : (b : Bool) → may_start cmp t w x ≡ b → (same_pair cmp y z ≡ true) ⊎ ((same_pair cmp y z ≡ false) × IsHeld t fs w)
+      by_may : (b : Bool) → may_start cmp t w x ≡ b
+          → (same_pair cmp y z ≡ true) ⊎ ((same_pair cmp y z ≡ false) × IsHeld t fs w)
           → EndsWith (IsRested cmp order y t) (cond b (cond (nat_le last_moment w.next_id) (meets FlowIdsUsedUp)
           (cond (is_done cmp w (flight_of x)) (finish_within cmp n t (fs ++ flight_of x ∷ []) (out_of_waiting cmp w x))
           (finish_within cmp n t fs (joined cmp w x)))) (finish_within cmp n t fs w))
-      by_may true e h = ends_cond (IsRested cmp order y t) (nat_le last_moment w.next_id) (meets FlowIdsUsedUp) _ tt (by_done (is_done cmp w (flight_of x)) fewer many h)
+      by_may true e h =
+          ends_cond (IsRested cmp order y t) (nat_le last_moment w.next_id) (meets FlowIdsUsedUp) _ tt
+          (by_done (is_done cmp w (flight_of x)) fewer many h)
       by_may false e h = ih fs w fuel (held_still e h)
 
-  pub finish_rests : (n t : ℕ) (fs : List (Flight P)) (w : World P) → length fs + length w.waiting ≤ n → IsHeld t fs w → EndsWith (IsRested cmp order y t) (finish_within cmp n t fs w)
+  pub finish_rests : (n t : ℕ) (fs : List (Flight P)) (w : World P) → length fs + length w.waiting ≤ n → IsHeld t fs w
+      → EndsWith (IsRested cmp order y t) (finish_within cmp n t fs w)
   unfolding finish_within WhenHeld
   finish_rests n t [] w fuel (inl among) = cc
   finish_rests zero t [] w fuel (inr rested) = rested
@@ -123,10 +167,13 @@ module _ {P : Type 0} (cmp : P → P → Ordering) (order : IsTotalOrder cmp) (y
   finish_rests (suc n) t (f ∷ fs) w fuel held =
       ends_cond (IsRested cmp order y t) (is_late cmp t f.message) (meets MomentTooLate) _ tt
       (ends_preceded (IsRested cmp order y t) (completed cmp t f.message ∷ []) _
-      (launch_rests n t fs f.message (arrived cmp t w f.message) (find (same_pair cmp f.message) w.waiting) (finish_rests n t) (omega arith) refl (by_pair (same_pair cmp y f.message) refl held)))
+      (launch_rests n t fs f.message (arrived cmp t w f.message) (find (same_pair cmp f.message) w.waiting)
+      (finish_rests n t) (omega arith) refl (by_pair (same_pair cmp y f.message) refl held)))
     where
-      by_pair : (b : Bool) → same_pair cmp y f.message ≡ b → ((b || list_any (same_pair cmp y) (map (λ (f : Flight P). f.message) fs)) ≡ true) ⊎ IsRested cmp order y t w
-          → (same_pair cmp y f.message ≡ true) ⊎ ((same_pair cmp y f.message ≡ false) × IsHeld t fs (arrived cmp t w f.message))
+      by_pair : (b : Bool) → same_pair cmp y f.message ≡ b
+          → ((b || list_any (same_pair cmp y) (map (λ (f : Flight P). f.message) fs)) ≡ true) ⊎ IsRested cmp order y t w
+          → (same_pair cmp y f.message ≡ true)
+          ⊎ ((same_pair cmp y f.message ≡ false) × IsHeld t fs (arrived cmp t w f.message))
       by_pair true e h = inl e
       by_pair false e (inl among) = inr (e, inl among)
       by_pair false e (inr rested) =
@@ -153,25 +200,35 @@ module _ {P : Type 0} (cmp : P → P → Ordering) (order : IsTotalOrder cmp) wh
           (some_filtered (λ m. ⊤) (may_start cmp t w) (fronts cmp w.waiting)
           (in_fronts cmp order (λ m. ⊤ × (may_start cmp t w m ≡ true)) x w.waiting own (tt, e))))
 
-  held_first : (t : ℕ) (w : World P) (y : Message P) → ready cmp t w ≡ [] → IsHeld cmp order y t (leaving cmp w) (staying cmp w)
+  held_first : (t : ℕ) (w : World P) (y : Message P) → ready cmp t w ≡ []
+      → IsHeld cmp order y t (leaving cmp w) (staying cmp w)
   unfolding leaving staying IsRested
-  held_first t w y none = by_test (list_any (same_pair cmp y) (map (λ (f : Flight P). f.message) (filter (is_done cmp w) w.sending))) refl (all_rested t w y none)
+  held_first t w y none =
+      by_test (list_any (same_pair cmp y) (map (λ (f : Flight P). f.message) (filter (is_done cmp w) w.sending))) refl
+      (all_rested t w y none)
     where
-      by_test : (b : Bool) → list_any (same_pair cmp y) (map (λ (f : Flight P). f.message) (filter (is_done cmp w) w.sending)) ≡ b → IsRested cmp order y t w
-          → IsHeld cmp order y t (filter (is_done cmp w) w.sending) (record w { sending = filter (λ f. not (is_done cmp w f)) w.sending })
+      by_test : (b : Bool)
+          → list_any (same_pair cmp y) (map (λ (f : Flight P). f.message) (filter (is_done cmp w) w.sending)) ≡ b
+          → IsRested cmp order y t w
+          → IsHeld cmp order y t (filter (is_done cmp w) w.sending)
+          (record w { sending = filter (λ f. not (is_done cmp w f)) w.sending })
       by_test true e rested = inl e
       by_test false e rested = inr (λ x found.
           let own : same_pair cmp y x ≡ true = find_passes (same_pair cmp y) x w.waiting found in
-          let none_leaves : list_any (λ (f : Flight P). same_pair cmp x f.message) (filter (is_done cmp w) w.sending) ≡ false =
+          let none_leaves : list_any (λ (f : Flight P). same_pair cmp x f.message) (filter (is_done cmp w) w.sending)
+          ≡ false =
           sym (any_map (same_pair cmp x) (λ (f : Flight P). f.message) (filter (is_done cmp w) w.sending))
           ∙ any_like cmp order y x (map (λ (f : Flight P). f.message) (filter (is_done cmp w) w.sending)) own ∙ e in
-          let busy : list_any (same_pair cmp x) (map (λ (f : Flight P). f.message) (filter (λ f. not (is_done cmp w f)) w.sending)) ≡ list_any (same_pair cmp x) (flows w) =
+          let busy : list_any (same_pair cmp x)
+          (map (λ (f : Flight P). f.message) (filter (λ f. not (is_done cmp w f)) w.sending))
+          ≡ list_any (same_pair cmp x) (flows w) =
           any_map (same_pair cmp x) (λ (f : Flight P). f.message) (filter (λ f. not (is_done cmp w f)) w.sending)
           ∙ any_split (λ (f : Flight P). same_pair cmp x f.message) (is_done cmp w) w.sending none_leaves
           ∙ sym (any_map (same_pair cmp x) (λ (f : Flight P). f.message) w.sending) in
           ap (λ b. not b && is_in_order (w.last_arrival x.origin x.recipient) (t + x.latency)) busy ∙ rested x found)
 
-  pub none_then : (t : ℕ) (c : Course (Completed P) (World P)) → ((y : Message P) → EndsWith (IsRested cmp order y t) c) → EndsWith (λ v. ready cmp t v ≡ []) c
+  pub none_then : (t : ℕ) (c : Course (Completed P) (World P)) → ((y : Message P) → EndsWith (IsRested cmp order y t) c)
+      → EndsWith (λ v. ready cmp t v ≡ []) c
   unfolding IsRested
   none_then t (goes cs v) all =
       filter_none (may_start cmp t v) (fronts cmp v.waiting)
@@ -182,7 +239,11 @@ module _ {P : Type 0} (cmp : P → P → Ordering) (order : IsTotalOrder cmp) wh
 
   -- settling makes no pair ready
   pub settle_keeps_rest : (t : ℕ) (w : World P) → OneForEachPair cmp (flows w) → ready cmp t w ≡ []
-      → length (leaving cmp w) + length (staying cmp w).waiting ≤ length w.sending + length w.waiting → EndsWith (λ v. ready cmp t v ≡ []) (settle cmp t w)
+      → length (leaving cmp w) + length (staying cmp w).waiting ≤ length w.sending + length w.waiting
+      → EndsWith (λ v. ready cmp t v ≡ []) (settle cmp t w)
   settle_keeps_rest t w one none fuel =
-      none_then t (settle cmp t w) (λ y. subst (λ (c : Course (Completed P) (World P)). EndsWith (IsRested cmp order y t) c) (sym (settle_is_finish cmp order t w one))
-      (finish_rests cmp order y (length w.sending + length w.waiting) t (leaving cmp w) (staying cmp w) fuel (held_first t w y none)))
+      none_then t (settle cmp t w)
+      (λ y. subst (λ (c : Course (Completed P) (World P)). EndsWith (IsRested cmp order y t) c)
+      (sym (settle_is_finish cmp order t w one))
+      (finish_rests cmp order y (length w.sending + length w.waiting) t (leaving cmp w) (staying cmp w) fuel
+      (held_first t w y none)))

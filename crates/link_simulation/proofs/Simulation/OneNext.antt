@@ -1,5 +1,6 @@
 -- There is at most one next event.
-use Rattle.std.proofs.Common.{◌≡◌, ℕ, zero, suc, ◌+◌, ◌-◌, ◌*◌, ◌<◌, ◌≤◌, List, [], ◌∷◌, Option, Some, None, refl, sym, ap, subst, arith, ◌⊎◌, inl, inr}
+use Rattle.std.proofs.Common.{◌≡◌, ℕ, zero, suc, ◌+◌, ◌-◌, ◌*◌, ◌<◌, ◌≤◌, List, [], ◌∷◌, Option, Some, None, refl, sym}
+use Rattle.std.proofs.Common.{ap, subst, arith, ◌⊎◌, inl, inr}
 use Rattle.std.specs.declared.cmp.Ordering.{Ordering}
 use Rattle.std.specs.Cmp.{IsTotalOrder}
 use Rattle.std.proofs.lemmas.Bool.{cases_lt}
@@ -7,7 +8,8 @@ use Rattle.std.proofs.Math.Nat.{mul-pos}
 use Rattle.fair_rates.specs.Numbers.Amount.{Amount, billion, reduced}
 use Rattle.link_simulation.specs.Simulation.World.{Flight, IsQuiet, World, last_moment}
 use Rattle.link_simulation.specs.Simulation.Rates.{Parts, drained_by, rate_of}
-use Rattle.link_simulation.specs.Simulation.Time.{ArePositive, Drains, NextIs, Passes, comes_next, drain_each, never_comes, no_time, quiet_tick}
+use Rattle.link_simulation.specs.Simulation.Time.{ArePositive, Drains, NextIs, Passes, comes_next, drain_each}
+use Rattle.link_simulation.specs.Simulation.Time.{never_comes, no_time, quiet_tick}
 use Rattle.fair_rates.specs.Numbers.LowestTerms.{reduced_positive}
 use Rattle.link_simulation.proofs.Simulation.OneWorld.{one_world}
 use Rattle.link_simulation.proofs.Simulation.AlikeMessages.{same_itself}
@@ -16,43 +18,57 @@ use Rattle.link_simulation.proofs.Simulation.QuietInstants.{next_moment, passes_
 module _ {P : Type 0} (cmp : P → P → Ordering) (order : IsTotalOrder cmp) where
   -- ---- amounts stay over a number above zero
 
-  drained_positive : (per : ℕ) (rate : Option ℕ) (n : ℕ) (left : Amount) → 0 < per → 0 < left.den → 0 < (drained_by (rate_of per rate) n left).den
+  drained_positive : (per : ℕ) (rate : Option ℕ) (n : ℕ) (left : Amount) → 0 < per → 0 < left.den
+      → 0 < (drained_by (rate_of per rate) n left).den
   drained_positive per None n left h j = omega arith
   drained_positive per (Some a) n left h j =
       let rate : Amount = reduced a per in
-      reduced_positive (left.num * (rate.den * billion) - n * (rate.num * left.den)) (left.den * (rate.den * billion)) (mul-pos j (mul-pos (reduced_positive a per h) (omega arith)))
+      reduced_positive (left.num * (rate.den * billion) - n * (rate.num * left.den)) (left.den * (rate.den * billion))
+      (mul-pos j (mul-pos (reduced_positive a per h) (omega arith)))
 
-  pub drain_each_positive : (per : ℕ) (rates : Parts) (n : ℕ) (fs : List (Flight P)) → 0 < per → ArePositive fs → ArePositive (drain_each per rates n fs)
+  pub drain_each_positive : (per : ℕ) (rates : Parts) (n : ℕ) (fs : List (Flight P)) → 0 < per → ArePositive fs
+      → ArePositive (drain_each per rates n fs)
   drain_each_positive per rates n [] h pos = nothing rates
     where
       nothing : (rates : Parts) → ArePositive (drain_each {P = P} per rates n [])
       nothing [] = tt
       nothing (r ∷ rs) = tt
   drain_each_positive per [] n (f ∷ fs) h pos = pos
-  drain_each_positive per (r ∷ rs) n (f ∷ fs) h pos = (drained_positive per r n f.left h pos.0, drain_each_positive per rs n fs h pos.1)
+  drain_each_positive per (r ∷ rs) n (f ∷ fs) h pos =
+      (drained_positive per r n f.left h pos.0, drain_each_positive per rs n fs h pos.1)
 
   pub drains_positive : (w v : World P) → Drains cmp w v → ArePositive w.sending → ArePositive v.sending
-  drains_positive w v d pos = subst (λ (u : World P). ArePositive u.sending) (sym d.world) (drain_each_positive d.per d.rates 1 w.sending d.fair.fair.some_part pos)
+  drains_positive w v d pos =
+      subst (λ (u : World P). ArePositive u.sending) (sym d.world)
+      (drain_each_positive d.per d.rates 1 w.sending d.fair.fair.some_part pos)
 
   -- ---- passing is one way
 
-  first_step : {k : ℕ} {w x : World P} → Passes cmp k w x → (m : ℕ) → k ≡ suc m → (v : World P) × Drains cmp w v × IsQuiet cmp v.moment v × Passes cmp m v x
+  first_step : {k : ℕ} {w x : World P} → Passes cmp k w x → (m : ℕ) → k ≡ suc m
+      → (v : World P) × Drains cmp w v × IsQuiet cmp v.moment v × Passes cmp m v x
   first_step no_time m e = absurd (omega arith)
-  first_step (quiet_tick {n = n} {v = v} {u = u} d q p) m e = let same : n ≡ m = omega arith in (v, d, q, subst (λ (k : ℕ). Passes cmp k v u) same p)
+  first_step (quiet_tick {n = n} {v = v} {u = u} d q p) m e =
+      let same : n ≡ m = omega arith in (v, d, q, subst (λ (k : ℕ). Passes cmp k v u) same p)
 
   -- what passes longer passes here quietly
-  passes_through : {n : ℕ} {w v : World P} → Passes cmp n w v → (k : ℕ) (x u : World P) → Passes cmp (suc k) w x → n ≤ k → ArePositive w.sending → Drains cmp v u → IsQuietNow cmp order u
+  passes_through : {n : ℕ} {w v : World P} → Passes cmp n w v → (k : ℕ) (x u : World P) → Passes cmp (suc k) w x → n ≤ k
+      → ArePositive w.sending → Drains cmp v u → IsQuietNow cmp order u
   unfolding IsQuietNow
   passes_through {w = w} no_time k x u p le pos d =
       let f : (v : World P) × Drains cmp w v × IsQuiet cmp v.moment v × Passes cmp k v x = first_step p k refl in
       subst (λ (v : World P). IsQuiet cmp v.moment v) (one_world cmp (same_itself cmp order) w f.0 u pos f.1 d) f.2
   passes_through (quiet_tick here quiet rest) zero x u p le pos d = absurd (omega arith)
   passes_through (quiet_tick {n = n} {w = w} {v = v} here quiet rest) (suc k) x u p le pos d =
-      let f : (y : World P) × Drains cmp w y × IsQuiet cmp y.moment y × Passes cmp (suc k) y x = first_step p (suc k) refl in
-      passes_through rest k x u (subst (λ (y : World P). Passes cmp (suc k) y x) (one_world cmp (same_itself cmp order) w f.0 v pos f.1 here) f.3) (omega arith) (drains_positive w v here pos) d
+      let f : (y : World P) × Drains cmp w y × IsQuiet cmp y.moment y × Passes cmp (suc k) y x =
+      first_step p (suc k) refl in
+      passes_through rest k x u
+      (subst (λ (y : World P). Passes cmp (suc k) y x) (one_world cmp (same_itself cmp order) w f.0 v pos f.1 here)
+      f.3)
+      (omega arith) (drains_positive w v here pos) d
 
   -- an event stops what would pass it
-  not_passed : (w : World P) (n k : ℕ) (v u x : World P) → ArePositive w.sending → Passes cmp n w v → Drains cmp v u → ¬ IsQuiet cmp u.moment u → Passes cmp k w x → n < k → ⊥
+  not_passed : (w : World P) (n k : ℕ) (v u x : World P) → ArePositive w.sending → Passes cmp n w v → Drains cmp v u
+      → ¬ IsQuiet cmp u.moment u → Passes cmp k w x → n < k → ⊥
   unfolding IsQuietNow
   not_passed w n zero v u x pos p d event q lt = absurd (omega arith)
   not_passed w n (suc k) v u x pos p d event q lt = event (passes_through p k x u q (omega arith) pos d)
@@ -68,14 +84,16 @@ module _ {P : Type 0} (cmp : P → P → Ordering) (order : IsTotalOrder cmp) wh
       let at : v.moment ≡ w.moment + n = passes_end_at cmp order q in
       let on : u.moment ≡ v.moment + 1 = next_moment cmp order v u d in
       absurd (not_passed w n (last_moment - w.moment) v u x pos q d event p (omega arith))
-  next_is_one w a b pos (comes_next {n = n} {v = v} {u = u} q d event h) (comes_next {n = k} {v = y} {u = x} p e other j) =
+  next_is_one w a b pos (comes_next {n = n} {v = v} {u = u} q d event h)
+      (comes_next {n = k} {v = y} {u = x} p e other j) =
       let at : v.moment ≡ w.moment + n = passes_end_at cmp order q in
       let on : u.moment ≡ v.moment + 1 = next_moment cmp order v u d in
       let at_other : y.moment ≡ w.moment + k = passes_end_at cmp order p in
       let on_other : x.moment ≡ y.moment + 1 = next_moment cmp order y x e in
       by_order (cases_lt n k) (cases_lt k n) at on at_other on_other
     where
-      by_order : (n < k) ⊎ (k ≤ n) → (k < n) ⊎ (n ≤ k) → v.moment ≡ w.moment + n → u.moment ≡ v.moment + 1 → y.moment ≡ w.moment + k → x.moment ≡ y.moment + 1 → Some u.moment ≡ Some x.moment
+      by_order : (n < k) ⊎ (k ≤ n) → (k < n) ⊎ (n ≤ k) → v.moment ≡ w.moment + n → u.moment ≡ v.moment + 1
+          → y.moment ≡ w.moment + k → x.moment ≡ y.moment + 1 → Some u.moment ≡ Some x.moment
       by_order (inl lt) o f g f' g' = absurd (not_passed w n k v u y pos q d event p lt)
       by_order (inr le) (inl lt) f g f' g' = absurd (not_passed w k n y x v pos p e other q lt)
       by_order (inr le) (inr ge) f g f' g' = let same : u.moment ≡ x.moment = omega arith in ap Some same

@@ -1,5 +1,6 @@
 -- Settling what one pair starts touches that pair alone, and leaves it unable to start again at that moment.
-use Rattle.std.proofs.Common.{◌≡◌, ℕ, zero, suc, ◌+◌, ◌≤◌, List, [], ◌∷◌, ◌++◌, length, Bool, true, false, cond, not, Option, Some, None, refl, sym, ap, ◌∙◌, subst, arith, length-append}
+use Rattle.std.proofs.Common.{◌≡◌, ℕ, zero, suc, ◌+◌, ◌≤◌, List, [], ◌∷◌, ◌++◌, length, Bool, true, false, cond, not}
+use Rattle.std.proofs.Common.{Option, Some, None, refl, sym, ap, ◌∙◌, subst, arith, length-append}
 use Rattle.std.specs.Prelude.{nat_le, ◌&&◌, ◌||◌}
 use Rattle.std.specs.List.{filter, find, list_any}
 use Rattle.std.specs.declared.cmp.Ordering.{Ordering}
@@ -7,7 +8,9 @@ use Rattle.std.specs.Cmp.{IsTotalOrder}
 use Rattle.std.proofs.lemmas.List.{map-append}
 use Rattle.std.proofs.lemmas.List.Folds.{list_any-append}
 use Rattle.fair_rates.specs.Sides.Subjects.{same_peer}
-use Rattle.link_simulation.specs.Simulation.World.{Completed, Course, Flight, World, flows, fronts, goes, is_done, last_moment, may_start, meets, ready, EndsWith, is_late, completed, flight_of}
+use Rattle.link_simulation.specs.Simulation.World.{Completed, Course, Flight, World, flows, fronts, goes, is_done}
+use Rattle.link_simulation.specs.Simulation.World.{last_moment, may_start, meets, ready, EndsWith, is_late, completed}
+use Rattle.link_simulation.specs.Simulation.World.{flight_of}
 use Rattle.link_simulation.specs.Simulation.Messages.{Message, same_pair}
 use Rattle.fair_rates.specs.declared.error.Error.TheVariants.{FlowIdsUsedUp, MomentTooLate}
 use Rattle.link_simulation.specs.Simulation.Queue.{out_of_waiting, joined, arrived, launch_then, finish_within}
@@ -22,21 +25,25 @@ use Rattle.fair_rates.specs.Lists.WithoutFirst.{without_first}
 -- ---- lists
 
 -- what the second test fails, the first does too
-filter_only : {X : Type 0} (f g : X → Bool) (xs : List X) → Each (λ x. g x ≡ false → f x ≡ false) xs → filter f xs ≡ filter f (filter g xs)
+filter_only : {X : Type 0} (f g : X → Bool) (xs : List X) → Each (λ x. g x ≡ false → f x ≡ false) xs
+    → filter f xs ≡ filter f (filter g xs)
 filter_only f g [] h = refl
 filter_only {X} f g (x ∷ xs) h = by_test (f x) (g x) refl refl (filter_only f g xs h.1)
   where
-    by_test : (a b : Bool) → f x ≡ a → g x ≡ b → filter f xs ≡ filter f (filter g xs) → cond a (x ∷ filter f xs) (filter f xs) ≡ filter f (cond b (x ∷ filter g xs) (filter g xs))
+    by_test : (a b : Bool) → f x ≡ a → g x ≡ b → filter f xs ≡ filter f (filter g xs)
+        → cond a (x ∷ filter f xs) (filter f xs) ≡ filter f (cond b (x ∷ filter g xs) (filter g xs))
     by_test true true d e ih = rw d (ap (λ (q : List X). x ∷ q) ih)
     by_test true false d e ih = let k : f x ≡ false = h.0 e in cc
     by_test false true d e ih = rw d ih
     by_test false false d e ih = ih
 
-filter_where : {X : Type 0} (f h g : X → Bool) (xs : List X) → ((x : X) → g x ≡ true → f x ≡ h x) → filter f (filter g xs) ≡ filter h (filter g xs)
+filter_where : {X : Type 0} (f h g : X → Bool) (xs : List X) → ((x : X) → g x ≡ true → f x ≡ h x)
+    → filter f (filter g xs) ≡ filter h (filter g xs)
 filter_where f h g [] same = refl
 filter_where {X} f h g (x ∷ xs) same = by_test (g x) refl (filter_where f h g xs same)
   where
-    by_test : (b : Bool) → g x ≡ b → filter f (filter g xs) ≡ filter h (filter g xs) → filter f (cond b (x ∷ filter g xs) (filter g xs)) ≡ filter h (cond b (x ∷ filter g xs) (filter g xs))
+    by_test : (b : Bool) → g x ≡ b → filter f (filter g xs) ≡ filter h (filter g xs)
+        → filter f (cond b (x ∷ filter g xs) (filter g xs)) ≡ filter h (cond b (x ∷ filter g xs) (filter g xs))
     by_test true e ih = rw (same x e, ih) refl
     by_test false e ih = ih
 
@@ -54,8 +61,10 @@ module _ {P : Type 0} (cmp : P → P → Ordering) (order : IsTotalOrder cmp) (y
 
   -- two worlds differ in nothing but what is of the pair of y
   pub record OnlyPair (w v : World P) : Type 0 where
-    pub last : (p q : P) → (same_peer cmp y.origin p && same_peer cmp y.recipient q) ≡ false → v.last_arrival p q ≡ w.last_arrival p q
-    pub busy : (m : Message P) → same_pair cmp y m ≡ false → list_any (same_pair cmp m) (flows v) ≡ list_any (same_pair cmp m) (flows w)
+    pub last : (p q : P) → (same_peer cmp y.origin p && same_peer cmp y.recipient q) ≡ false
+        → v.last_arrival p q ≡ w.last_arrival p q
+    pub busy : (m : Message P) → same_pair cmp y m ≡ false
+        → list_any (same_pair cmp m) (flows v) ≡ list_any (same_pair cmp m) (flows w)
     pub others : filter apart (fronts cmp v.waiting) ≡ filter apart (fronts cmp w.waiting)
     pub fewer : length v.waiting ≤ length w.waiting
 
@@ -63,23 +72,41 @@ module _ {P : Type 0} (cmp : P → P → Ordering) (order : IsTotalOrder cmp) (y
   only_itself w = record { last = λ p q e. refl; busy = λ m e. refl; others = refl; fewer = omega arith }
 
   pub only_both : (w v u : World P) → OnlyPair w v → OnlyPair v u → OnlyPair w u
-  only_both w v u f g = record { last = λ p q e. g.last p q e ∙ f.last p q e; busy = λ m e. g.busy m e ∙ f.busy m e; others = g.others ∙ f.others; fewer = let a : length u.waiting ≤ length v.waiting = g.fewer in let b : length v.waiting ≤ length w.waiting = f.fewer in omega arith }
+  only_both w v u f g =
+      record {
+        last = λ p q e. g.last p q e ∙ f.last p q e;
+        busy = λ m e. g.busy m e ∙ f.busy m e;
+        others = g.others ∙ f.others;
+        fewer = let a : length u.waiting ≤ length v.waiting = g.fewer in
+            let b : length v.waiting ≤ length w.waiting = f.fewer in
+            omega arith;
+      }
 
-  fronts_without : (x : Message P) (ws : List (Message P)) → same_pair cmp y x ≡ true → filter apart (fronts cmp (without_first (same_pair cmp x) ws)) ≡ filter apart (fronts cmp ws)
+  fronts_without : (x : Message P) (ws : List (Message P)) → same_pair cmp y x ≡ true
+      → filter apart (fronts cmp (without_first (same_pair cmp x) ws)) ≡ filter apart (fronts cmp ws)
   fronts_without x [] e = refl
   fronts_without x (z ∷ ws) e = by_test (same_pair cmp x z) refl (fronts_without x ws e)
     where
       same : same_pair cmp x z ≡ same_pair cmp y z
       same = pair_like cmp order y x z e
 
-      by_test : (b : Bool) → same_pair cmp x z ≡ b → filter apart (fronts cmp (without_first (same_pair cmp x) ws)) ≡ filter apart (fronts cmp ws)
-          → filter apart (fronts cmp (cond b ws (z ∷ without_first (same_pair cmp x) ws))) ≡ filter apart (z ∷ filter (λ n. not (same_pair cmp z n)) (fronts cmp ws))
+      by_test : (b : Bool) → same_pair cmp x z ≡ b
+          → filter apart (fronts cmp (without_first (same_pair cmp x) ws)) ≡ filter apart (fronts cmp ws)
+          → filter apart (fronts cmp (cond b ws (z ∷ without_first (same_pair cmp x) ws)))
+          ≡ filter apart (z ∷ filter (λ n. not (same_pair cmp z n)) (fronts cmp ws))
       by_test true is ih =
           let own : same_pair cmp y z ≡ true = sym same ∙ is in
-          rw own (sym (filter_stronger apart (λ n. not (same_pair cmp z n)) (fronts cmp ws) (λ n k. ap not (pair_like cmp order y z n own) ∙ k)))
+          rw own
+          (sym
+          (filter_stronger apart (λ n. not (same_pair cmp z n)) (fronts cmp ws)
+          (λ n k. ap not (pair_like cmp order y z n own) ∙ k)))
       by_test false is ih =
           let own : same_pair cmp y z ≡ false = sym same ∙ is in
-          rw own (ap (λ (q : List (Message P)). z ∷ q) (filter_swap apart (λ n. not (same_pair cmp z n)) (fronts cmp (without_first (same_pair cmp x) ws)) ∙ ap (filter (λ n. not (same_pair cmp z n))) ih ∙ filter_swap (λ n. not (same_pair cmp z n)) apart (fronts cmp ws)))
+          rw own
+          (ap (λ (q : List (Message P)). z ∷ q)
+          (filter_swap apart (λ n. not (same_pair cmp z n)) (fronts cmp (without_first (same_pair cmp x) ws))
+          ∙ ap (filter (λ n. not (same_pair cmp z n))) ih
+          ∙ filter_swap (λ n. not (same_pair cmp z n)) apart (fronts cmp ws)))
 
   -- ---- steps
 
@@ -88,19 +115,34 @@ module _ {P : Type 0} (cmp : P → P → Ordering) (order : IsTotalOrder cmp) (y
       let parts : (same_peer cmp y.origin m.origin ≡ true) × (same_peer cmp y.recipient m.recipient ≡ true)
       = and_parts (same_peer cmp y.origin m.origin) (same_peer cmp y.recipient m.recipient) e in
       record {
-        last = λ p q off. rw (both_alike cmp order (same_peer cmp m.origin p) (same_peer cmp y.origin p) (same_peer cmp m.recipient q) (same_peer cmp y.recipient q) (peer_like cmp order y.origin m.origin p parts.0) (peer_like cmp order y.recipient m.recipient q parts.1) ∙ off) refl;
+        last = λ p q off.
+            rw (both_alike cmp order (same_peer cmp m.origin p) (same_peer cmp y.origin p) (same_peer cmp m.recipient q)
+            (same_peer cmp y.recipient q) (peer_like cmp order y.origin m.origin p parts.0)
+            (peer_like cmp order y.recipient m.recipient q parts.1)
+            ∙ off)
+            refl;
         busy = λ m e. refl;
         others = refl;
         fewer = omega arith;
       }
 
   pub only_taken : (w : World P) (x : Message P) → same_pair cmp y x ≡ true → OnlyPair w (out_of_waiting cmp w x)
-  only_taken w x e = record { last = λ p q off. refl; busy = λ m off. refl; others = fronts_without x w.waiting e; fewer = length-without_first (same_pair cmp x) w.waiting }
+  only_taken w x e =
+      record {
+        last = λ p q off. refl;
+        busy = λ m off. refl;
+        others = fronts_without x w.waiting e;
+        fewer = length-without_first (same_pair cmp x) w.waiting;
+      }
 
   pub only_joined : (w : World P) (x : Message P) → same_pair cmp y x ≡ true → OnlyPair w (joined cmp w x)
   only_joined w x e = record {
     last = λ p q off. refl;
-    busy = λ m off. ap (list_any (same_pair cmp m)) (map-append (λ (g : Flight P). g.message) w.sending (flight_of x ∷ [])) ∙ list_any-append (same_pair cmp m) (flows w) (x ∷ []) ∙ by_pair m (list_any (same_pair cmp m) (flows w)) (pair_sym cmp order m x ∙ pair_like cmp order y x m e ∙ off);
+    busy = λ m off.
+        ap (list_any (same_pair cmp m)) (map-append (λ (g : Flight P). g.message) w.sending (flight_of x ∷ []))
+        ∙ list_any-append (same_pair cmp m) (flows w) (x ∷ [])
+        ∙ by_pair m (list_any (same_pair cmp m) (flows w))
+        (pair_sym cmp order m x ∙ pair_like cmp order y x m e ∙ off);
     others = fronts_without x w.waiting e;
     fewer = length-without_first (same_pair cmp x) w.waiting;
   }
@@ -120,16 +162,21 @@ module _ {P : Type 0} (cmp : P → P → Ordering) (order : IsTotalOrder cmp) (y
       let own : same_pair cmp y z ≡ true = find_passes (same_pair cmp y) z (joined cmp w x).waiting found in
       let pair : same_pair cmp z x ≡ true = pair_like cmp order y z x own ∙ e in
       let sends : list_any (same_pair cmp z) (flows (joined cmp w x)) ≡ true =
-      ap (list_any (same_pair cmp z)) (map-append (λ (g : Flight P). g.message) w.sending (flight_of x ∷ [])) ∙ list_any-append (same_pair cmp z) (flows w) (x ∷ []) ∙ or_right (list_any (same_pair cmp z) (flows w)) (same_pair cmp z x || false) (or_left (same_pair cmp z x) false pair) in
+      ap (list_any (same_pair cmp z)) (map-append (λ (g : Flight P). g.message) w.sending (flight_of x ∷ []))
+      ∙ list_any-append (same_pair cmp z) (flows w) (x ∷ [])
+      ∙ or_right (list_any (same_pair cmp z) (flows w)) (same_pair cmp z x || false)
+      (or_left (same_pair cmp z x) false pair) in
       rw sends refl
 
   abbrev pub IsAfter : ℕ → World P → World P → Type 0
   IsAfter t w v = OnlyPair w v × IsRested t v
 
-  pub after_on : (t : ℕ) (w v : World P) (c : Course (Completed P) (World P)) → OnlyPair w v → EndsWith (IsAfter t v) c → EndsWith (IsAfter t w) c
+  pub after_on : (t : ℕ) (w v : World P) (c : Course (Completed P) (World P)) → OnlyPair w v → EndsWith (IsAfter t v) c
+      → EndsWith (IsAfter t w) c
   after_on t w v c f h = ends_so (IsAfter t v) (IsAfter t w) c (λ u g. (only_both w v u f g.0, g.1)) h
 
-  pub finish_only : (n t : ℕ) (fs : List (Flight P)) (w : World P) → Each (λ f. same_pair cmp y f.message ≡ true) fs → length fs + length w.waiting ≤ n → (fs ≡ [] → IsRested t w)
+  pub finish_only : (n t : ℕ) (fs : List (Flight P)) (w : World P) → Each (λ f. same_pair cmp y f.message ≡ true) fs
+      → length fs + length w.waiting ≤ n → (fs ≡ [] → IsRested t w)
       → EndsWith (IsAfter t w) (finish_within cmp n t fs w)
   unfolding finish_within launch_then IsRested
   finish_only zero t [] w own fuel rested = (only_itself w, rested refl)
@@ -137,12 +184,17 @@ module _ {P : Type 0} (cmp : P → P → Ordering) (order : IsTotalOrder cmp) (y
   finish_only (suc n) t [] w own fuel rested = (only_itself w, rested refl)
   finish_only (suc n) t (f ∷ fs) w own fuel rested =
       ends_cond (IsAfter t w) (is_late cmp t f.message) (meets MomentTooLate) _ tt
-      (ends_preceded (IsAfter t w) (completed cmp t f.message ∷ []) _ (after_on t w (arrived cmp t w f.message) _ (only_arrived t w f.message own.0)
-      (by_next (find (same_pair cmp f.message) w.waiting) (sym (find_like cmp order y f.message w.waiting own.0)) (finish_only n t))))
+      (ends_preceded (IsAfter t w) (completed cmp t f.message ∷ []) _
+      (after_on t w (arrived cmp t w f.message) _ (only_arrived t w f.message own.0)
+      (by_next (find (same_pair cmp f.message) w.waiting) (sym (find_like cmp order y f.message w.waiting own.0))
+      (finish_only n t))))
     where
       by_next : (o : Option (Message P)) → find (same_pair cmp y) w.waiting ≡ o
-          → ((gs : List (Flight P)) (v : World P) → Each (λ g. same_pair cmp y g.message ≡ true) gs → length gs + length v.waiting ≤ n → (gs ≡ [] → IsRested t v) → EndsWith (IsAfter t v) (finish_within cmp n t gs v))
-          → EndsWith (IsAfter t (arrived cmp t w f.message)) (launch_then cmp (finish_within cmp n t) t fs (arrived cmp t w f.message) o)
+          → ((gs : List (Flight P)) (v : World P) → Each (λ g. same_pair cmp y g.message ≡ true) gs
+          → length gs + length v.waiting ≤ n → (gs ≡ [] → IsRested t v)
+          → EndsWith (IsAfter t v) (finish_within cmp n t gs v))
+          → EndsWith (IsAfter t (arrived cmp t w f.message))
+          (launch_then cmp (finish_within cmp n t) t fs (arrived cmp t w f.message) o)
       by_next None is ih = ih fs (arrived cmp t w f.message) own.1 (omega arith) (λ e x found. cc)
       by_next (Some x) is ih = by_may (may_start cmp t (arrived cmp t w f.message) x) refl
         where
@@ -153,35 +205,64 @@ module _ {P : Type 0} (cmp : P → P → Ordering) (order : IsTotalOrder cmp) (y
           fewer = length_without (same_pair cmp x) x w.waiting (find_like cmp order y x w.waiting pair ∙ is)
 
           by_done : (b : Bool) → length (without_first (same_pair cmp x) w.waiting) + 1 ≡ length w.waiting
-              → EndsWith (IsAfter t (arrived cmp t w f.message)) (cond b (finish_within cmp n t (fs ++ flight_of x ∷ []) (out_of_waiting cmp (arrived cmp t w f.message) x)) (finish_within cmp n t fs (joined cmp (arrived cmp t w f.message) x)))
+              → EndsWith (IsAfter t (arrived cmp t w f.message))
+              (cond b
+              (finish_within cmp n t (fs ++ flight_of x ∷ []) (out_of_waiting cmp (arrived cmp t w f.message) x))
+              (finish_within cmp n t fs (joined cmp (arrived cmp t w f.message) x)))
           by_done true less =
               let many : length (fs ++ flight_of x ∷ []) ≡ length fs + 1 = length-append fs (flight_of x ∷ []) in
-              after_on t (arrived cmp t w f.message) (out_of_waiting cmp (arrived cmp t w f.message) x) _ (only_taken (arrived cmp t w f.message) x pair) (ih (fs ++ flight_of x ∷ []) (out_of_waiting cmp (arrived cmp t w f.message) x) (each_joined (λ g. same_pair cmp y g.message ≡ true) fs (flight_of x) own.1 pair) (omega arith) (λ e. absurd (no_nil fs (flight_of x) e)))
+              after_on t (arrived cmp t w f.message) (out_of_waiting cmp (arrived cmp t w f.message) x) _
+              (only_taken (arrived cmp t w f.message) x pair)
+              (ih (fs ++ flight_of x ∷ []) (out_of_waiting cmp (arrived cmp t w f.message) x)
+              (each_joined (λ g. same_pair cmp y g.message ≡ true) fs (flight_of x) own.1 pair) (omega arith)
+              (λ e. absurd (no_nil fs (flight_of x) e)))
           by_done false less =
-              after_on t (arrived cmp t w f.message) (joined cmp (arrived cmp t w f.message) x) _ (only_joined (arrived cmp t w f.message) x pair)
-              (ih fs (joined cmp (arrived cmp t w f.message) x) own.1 (omega arith) (λ e. rested_joined t (arrived cmp t w f.message) x pair))
+              after_on t (arrived cmp t w f.message) (joined cmp (arrived cmp t w f.message) x) _
+              (only_joined (arrived cmp t w f.message) x pair)
+              (ih fs (joined cmp (arrived cmp t w f.message) x) own.1 (omega arith)
+              (λ e. rested_joined t (arrived cmp t w f.message) x pair))
 
           by_may : (b : Bool) → may_start cmp t (arrived cmp t w f.message) x ≡ b
-              → EndsWith (IsAfter t (arrived cmp t w f.message)) (cond b (cond (nat_le last_moment w.next_id) (meets FlowIdsUsedUp) (cond (is_done cmp (arrived cmp t w f.message) (flight_of x)) (finish_within cmp n t (fs ++ flight_of x ∷ []) (out_of_waiting cmp (arrived cmp t w f.message) x)) (finish_within cmp n t fs (joined cmp (arrived cmp t w f.message) x)))) (finish_within cmp n t fs (arrived cmp t w f.message)))
+              → EndsWith (IsAfter t (arrived cmp t w f.message))
+              (cond b
+              (cond (nat_le last_moment w.next_id) (meets FlowIdsUsedUp)
+              (cond (is_done cmp (arrived cmp t w f.message) (flight_of x))
+              (finish_within cmp n t (fs ++ flight_of x ∷ [])
+              (out_of_waiting cmp (arrived cmp t w f.message) x))
+              (finish_within cmp n t fs (joined cmp (arrived cmp t w f.message) x))))
+              (finish_within cmp n t fs (arrived cmp t w f.message)))
           by_may true e =
-              ends_cond (IsAfter t (arrived cmp t w f.message)) (nat_le last_moment w.next_id) (meets FlowIdsUsedUp) _ tt (by_done (is_done cmp (arrived cmp t w f.message) (flight_of x)) fewer)
-          by_may false e = ih fs (arrived cmp t w f.message) own.1 (omega arith) (λ k z found. let same : x ≡ z = cc in subst (λ (m : Message P). may_start cmp t (arrived cmp t w f.message) m ≡ false) same e)
+              ends_cond (IsAfter t (arrived cmp t w f.message)) (nat_le last_moment w.next_id) (meets FlowIdsUsedUp) _
+              tt (by_done (is_done cmp (arrived cmp t w f.message) (flight_of x)) fewer)
+          by_may false e =
+              ih fs (arrived cmp t w f.message) own.1 (omega arith)
+              (λ k z found. let same : x ≡ z = cc in
+              subst (λ (m : Message P). may_start cmp t (arrived cmp t w f.message) m ≡ false) same e)
 
   -- ---- who is ready afterwards
 
-  pub may_others : (t : ℕ) (w v : World P) (m : Message P) → OnlyPair w v → apart m ≡ true → may_start cmp t v m ≡ may_start cmp t w m
-  may_others t w v m only off = let e : same_pair cmp y m ≡ false = not-true (same_pair cmp y m) off in rw (only.busy m e, only.last m.origin m.recipient e) refl
+  pub may_others : (t : ℕ) (w v : World P) (m : Message P) → OnlyPair w v → apart m ≡ true
+      → may_start cmp t v m ≡ may_start cmp t w m
+  may_others t w v m only off =
+      let e : same_pair cmp y m ≡ false = not-true (same_pair cmp y m) off in
+      rw (only.busy m e, only.last m.origin m.recipient e) refl
 
   -- those that were ready still are, but for the pair of y
   pub ready_after : (t : ℕ) (w v : World P) → IsAfter t w v → ready cmp t v ≡ filter apart (ready cmp t w)
   unfolding IsRested
   ready_after t w v after =
-      filter_only (may_start cmp t v) apart (fronts cmp v.waiting) (each_map (IsFront cmp order v.waiting) (λ m. apart m ≡ false → may_start cmp t v m ≡ false) (fronts cmp v.waiting) (λ m front. own_rested m front.0 front.1) (fronts_first cmp order v.waiting))
+      filter_only (may_start cmp t v) apart (fronts cmp v.waiting)
+      (each_map (IsFront cmp order v.waiting) (λ m. apart m ≡ false → may_start cmp t v m ≡ false)
+      (fronts cmp v.waiting) (λ m front. own_rested m front.0 front.1) (fronts_first cmp order v.waiting))
       ∙ ap (filter (may_start cmp t v)) after.0.others
-      ∙ filter_where (may_start cmp t v) (may_start cmp t w) apart (fronts cmp w.waiting) (λ m off. may_others t w v m after.0 off)
+      ∙ filter_where (may_start cmp t v) (may_start cmp t w) apart (fronts cmp w.waiting)
+      (λ m off. may_others t w v m after.0 off)
       ∙ filter_swap (may_start cmp t w) apart (fronts cmp w.waiting)
     where
-      own_rested : (m : Message P) (rest : List (Message P)) → filter (same_pair cmp m) v.waiting ≡ m ∷ rest → apart m ≡ false → may_start cmp t v m ≡ false
+      own_rested : (m : Message P) (rest : List (Message P)) → filter (same_pair cmp m) v.waiting ≡ m ∷ rest
+          → apart m ≡ false → may_start cmp t v m ≡ false
       own_rested m rest front own =
           let pair : same_pair cmp y m ≡ true = not-false (same_pair cmp y m) own in
-          after.1 m (sym (find_like cmp order y m v.waiting pair) ∙ first_found cmp order (same_pair cmp m) m rest v.waiting front)
+          after.1 m
+          (sym (find_like cmp order y m v.waiting pair)
+          ∙ first_found cmp order (same_pair cmp m) m rest v.waiting front)

@@ -16,7 +16,8 @@ module _ {P : Type 0} (cmp : P → P → Ordering) (order : IsTotalOrder cmp) wh
 
   abbrev GoesOn : ℕ → World P → Course (Completed P) (World P) → Type 0
   GoesOn m w c =
-      (v : World P) × (u : World P) × (cs : List (Completed P)) × (rest : Course (Completed P) (World P)) × Drains cmp w v × (instant cmp v ≡ goes cs u) × Ticks cmp m u rest × (c ≡ preceded cs rest)
+      (v : World P) × (u : World P) × (cs : List (Completed P)) × (rest : Course (Completed P) (World P))
+      × Drains cmp w v × (instant cmp v ≡ goes cs u) × Ticks cmp m u rest × (c ≡ preceded cs rest)
 
   abbrev Stops : World P → Course (Completed P) (World P) → Type 0
   Stops w c = (v : World P) × (fault : Error) × Drains cmp w v × (instant cmp v ≡ meets fault) × (c ≡ meets fault)
@@ -26,32 +27,43 @@ module _ {P : Type 0} (cmp : P → P → Ordering) (order : IsTotalOrder cmp) wh
   no_ticks (one_tick d i t) e = absurd (omega arith)
   no_ticks (tick_faults d i) e = absurd (omega arith)
 
-  first_tick : {k : ℕ} {w : World P} {c : Course (Completed P) (World P)} → Ticks cmp k w c → (m : ℕ) → k ≡ suc m → GoesOn m w c ⊎ Stops w c
+  first_tick : {k : ℕ} {w : World P} {c : Course (Completed P) (World P)} → Ticks cmp k w c → (m : ℕ) → k ≡ suc m
+      → GoesOn m w c ⊎ Stops w c
   first_tick no_tick m e = absurd (omega arith)
-  first_tick (one_tick {n = n} {v = v} {u = u} {cs = cs} {rest = rest} d i t) m e = let same : n ≡ m = omega arith in inl (v, u, cs, rest, d, i, subst (λ (k : ℕ). Ticks cmp k u rest) same t, refl)
+  first_tick (one_tick {n = n} {v = v} {u = u} {cs = cs} {rest = rest} d i t) m e =
+      let same : n ≡ m = omega arith in inl (v, u, cs, rest, d, i, subst (λ (k : ℕ). Ticks cmp k u rest) same t, refl)
   first_tick (tick_faults {v = v} {fault = fault} d i) m e = inr (v, fault, d, i, refl)
 
-  state_of : (cs ds : List (Completed P)) (v u : World P) → ◌≡◌ {A = Course (Completed P) (World P)} (goes cs v) (goes ds u) → v ≡ u
+  state_of : (cs ds : List (Completed P)) (v u : World P)
+      → ◌≡◌ {A = Course (Completed P) (World P)} (goes cs v) (goes ds u) → v ≡ u
   state_of cs ds v u e = cc
 
-  outcome_of : (cs ds : List (Completed P)) (v u : World P) → ◌≡◌ {A = Course (Completed P) (World P)} (goes cs v) (goes ds u) → cs ≡ ds
+  outcome_of : (cs ds : List (Completed P)) (v u : World P)
+      → ◌≡◌ {A = Course (Completed P) (World P)} (goes cs v) (goes ds u) → cs ≡ ds
   outcome_of cs ds v u e = cc
 
-  preceded_alike : (cs ds : List (Completed P)) (c d : Course (Completed P) (World P)) → cs ≡ ds → c ≡ d → preceded cs c ≡ preceded ds d
+  preceded_alike : (cs ds : List (Completed P)) (c d : Course (Completed P) (World P)) → cs ≡ ds → c ≡ d
+      → preceded cs c ≡ preceded ds d
   preceded_alike cs ds c d e f = rw (e, f) refl
 
   -- ticking has one outcome
-  pub ticks_are_one : {n : ℕ} {w : World P} {c : Course (Completed P) (World P)} → Ticks cmp n w c → (d : Course (Completed P) (World P)) → IsFit cmp order w → Ticks cmp n w d → c ≡ d
+  pub ticks_are_one : {n : ℕ} {w : World P} {c : Course (Completed P) (World P)} → Ticks cmp n w c
+      → (d : Course (Completed P) (World P)) → IsFit cmp order w → Ticks cmp n w d → c ≡ d
   ticks_are_one no_tick d fit t = sym (no_ticks t refl)
-  ticks_are_one (one_tick {n = n} {w = w} {v = v} {u = u} {cs = cs} {rest = rest} here i more) d fit t = by_first (first_tick t n refl) (ticks_are_one more)
+  ticks_are_one (one_tick {n = n} {w = w} {v = v} {u = u} {cs = cs} {rest = rest} here i more) d fit t =
+      by_first (first_tick t n refl) (ticks_are_one more)
     where
-      by_first : GoesOn n w d ⊎ Stops w d → ((e : Course (Completed P) (World P)) → IsFit cmp order u → Ticks cmp n u e → rest ≡ e) → preceded cs rest ≡ d
+      by_first : GoesOn n w d ⊎ Stops w d
+          → ((e : Course (Completed P) (World P)) → IsFit cmp order u → Ticks cmp n u e → rest ≡ e)
+          → preceded cs rest ≡ d
       by_first (inl g) ih =
           let world : g.0 ≡ v = one_world cmp (same_itself cmp order) w g.0 v fit.positive g.4 here in
           let same : goes g.2 g.1 ≡ goes cs u = sym g.5 ∙ ap (instant cmp) world ∙ i in
           let state : g.1 ≡ u = state_of g.2 cs g.1 u same in
           let rests : rest ≡ g.3
-          = ih g.3 (ends_at cmp order (IsFit cmp order) (instant cmp v) cs u i (instant_fit cmp order v (drains_fit cmp order w v here fit)))
+          = ih g.3
+          (ends_at cmp order (IsFit cmp order) (instant cmp v) cs u i
+          (instant_fit cmp order v (drains_fit cmp order w v here fit)))
           (subst (λ (x : World P). Ticks cmp n x g.3) state g.6) in
           preceded_alike cs g.2 rest g.3 (sym (outcome_of g.2 cs g.1 u same)) rests ∙ sym g.7
       by_first (inr g) ih =
@@ -71,6 +83,10 @@ module _ {P : Type 0} (cmp : P → P → Ordering) (order : IsTotalOrder cmp) wh
           sym (g.4 ∙ same)
 
   -- a call has one course
-  pub runs_are_one : (w : World P) (call : Call P) (now : ℕ) (c d : Course (Completed P) (World P)) → IsSound cmp w → Runs cmp w call now c → Runs cmp w call now d → c ≡ d
+  pub runs_are_one : (w : World P) (call : Call P) (now : ℕ) (c d : Course (Completed P) (World P)) → IsSound cmp w
+      → Runs cmp w call now c → Runs cmp w call now d → c ≡ d
   runs_are_one w call now c d sound r s =
-      r.acts ∙ ap (λ (x : Course (Completed P) (World P)). and_then x (λ v. act cmp v call)) (ticks_are_one r.ticks s.ticked (record { positive = sound.positive; one_each = sound.one_each }) s.ticks) ∙ sym s.acts
+      r.acts
+      ∙ ap (λ (x : Course (Completed P) (World P)). and_then x (λ v. act cmp v call))
+      (ticks_are_one r.ticks s.ticked (record { positive = sound.positive; one_each = sound.one_each }) s.ticks)
+      ∙ sym s.acts

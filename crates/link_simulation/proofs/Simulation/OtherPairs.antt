@@ -1,5 +1,6 @@
 -- What happens to one pair leaves the other pairs as they are.
-use Rattle.std.proofs.Common.{◌≡◌, ℕ, zero, suc, ◌+◌, List, [], ◌∷◌, ◌++◌, map, length, Bool, true, false, cond, not, Option, Some, None, refl, sym, ap, ◌∙◌, subst}
+use Rattle.std.proofs.Common.{◌≡◌, ℕ, zero, suc, ◌+◌, List, [], ◌∷◌, ◌++◌, map, length, Bool, true, false, cond, not}
+use Rattle.std.proofs.Common.{Option, Some, None, refl, sym, ap, ◌∙◌, subst}
 use Rattle.std.specs.Prelude.{nat_le, ⊤, ◌&&◌, ◌||◌, ◌==◌}
 use Rattle.std.specs.List.{filter, find, list_any}
 use Rattle.std.specs.declared.cmp.Ordering.{Ordering}
@@ -20,18 +21,21 @@ use Rattle.link_simulation.specs.Simulation.Pass.{IsUnchangedFor, MayNotStart}
 use Rattle.link_simulation.specs.Simulation.Rates.{is_unlimited}
 use Rattle.fair_rates.specs.declared.error.Error.TheVariants.{FlowIdsUsedUp, MomentTooLate}
 use Rattle.link_simulation.proofs.Simulation.AlikeMessages.{pair_itself}
-use Rattle.link_simulation.proofs.Simulation.Queue.{pair_like, pair_sym, settle_none, settle_first, find_passes, filter_without}
+use Rattle.link_simulation.proofs.Simulation.Queue.{pair_like, pair_sym, settle_none, settle_first, find_passes}
+use Rattle.link_simulation.proofs.Simulation.Queue.{filter_without}
 use Rattle.link_simulation.proofs.Simulation.SettlingEnds.{find_like, ends_preceded, ends_and_then, ends_cond}
 use Rattle.fair_rates.proofs.Lists.Filters.{filter_swap, filter_stronger}
 use Rattle.fair_rates.proofs.Lists.Each.{Each, each_filtered}
 
 -- ---- lists
 
-pub filter_skips : {X : Type 0} (keep test : X → Bool) (f : X) (xs : List X) → find test xs ≡ Some f → keep f ≡ false → filter keep (without_first test xs) ≡ filter keep xs
+pub filter_skips : {X : Type 0} (keep test : X → Bool) (f : X) (xs : List X) → find test xs ≡ Some f → keep f ≡ false
+    → filter keep (without_first test xs) ≡ filter keep xs
 filter_skips keep test f [] e h = refl
 filter_skips {X} keep test f (x ∷ xs) e h = by_test (test x) e (filter_skips keep test f xs)
   where
-    by_test : (b : Bool) → cond b (Some x) (find test xs) ≡ Some f → (find test xs ≡ Some f → keep f ≡ false → filter keep (without_first test xs) ≡ filter keep xs)
+    by_test : (b : Bool) → cond b (Some x) (find test xs) ≡ Some f
+        → (find test xs ≡ Some f → keep f ≡ false → filter keep (without_first test xs) ≡ filter keep xs)
         → filter keep (cond b xs (x ∷ without_first test xs)) ≡ cond (keep x) (x ∷ filter keep xs) (filter keep xs)
     by_test true e ih = let same : x ≡ f = cc in let no : keep x ≡ false = ap keep same ∙ h in rw no refl
     by_test false e ih = rw (ih e h) refl
@@ -49,17 +53,20 @@ each_more P Q more [] h = tt
 each_more P Q more (x ∷ xs) h = (more x h.0, each_more P Q more xs h.1)
 
 -- a test that only kept ones pass sees no difference
-pub find_kept : {X : Type 0} (test keep : X → Bool) (xs : List X) → ((x : X) → test x ≡ true → keep x ≡ true) → find test (filter keep xs) ≡ find test xs
+pub find_kept : {X : Type 0} (test keep : X → Bool) (xs : List X) → ((x : X) → test x ≡ true → keep x ≡ true)
+    → find test (filter keep xs) ≡ find test xs
 find_kept test keep [] h = refl
 find_kept {X} test keep (x ∷ xs) h = by_tests (test x) (keep x) refl refl (find_kept test keep xs h)
   where
-    by_tests : (a b : Bool) → test x ≡ a → keep x ≡ b → find test (filter keep xs) ≡ find test xs → find test (cond b (x ∷ filter keep xs) (filter keep xs)) ≡ cond a (Some x) (find test xs)
+    by_tests : (a b : Bool) → test x ≡ a → keep x ≡ b → find test (filter keep xs) ≡ find test xs
+        → find test (cond b (x ∷ filter keep xs) (filter keep xs)) ≡ cond a (Some x) (find test xs)
     by_tests true true e f ih = rw e refl
     by_tests true false e f ih = let g : keep x ≡ true = h x e in cc
     by_tests false true e f ih = rw (e, ih) refl
     by_tests false false e f ih = ih
 
-pub filter_kept_each : {X : Type 0} (test keep : X → Bool) (xs : List X) → Each (λ x. test x ≡ true → keep x ≡ true) xs → filter test (filter keep xs) ≡ filter test xs
+pub filter_kept_each : {X : Type 0} (test keep : X → Bool) (xs : List X) → Each (λ x. test x ≡ true → keep x ≡ true) xs
+    → filter test (filter keep xs) ≡ filter test xs
 filter_kept_each test keep [] h = refl
 filter_kept_each {X} test keep (x ∷ xs) h = by_tests (test x) (keep x) refl refl (filter_kept_each test keep xs h.1)
   where
@@ -71,28 +78,39 @@ filter_kept_each {X} test keep (x ∷ xs) h = by_tests (test x) (keep x) refl re
     by_tests false false e f ih = ih
 
 -- what is found where nothing passes both tests does not pass the other
-pub found_fails : {X : Type 0} (test keep : X → Bool) (f : X) (xs : List X) → find test xs ≡ Some f → list_any test (filter keep xs) ≡ false → keep f ≡ false
+pub found_fails : {X : Type 0} (test keep : X → Bool) (f : X) (xs : List X) → find test xs ≡ Some f
+    → list_any test (filter keep xs) ≡ false → keep f ≡ false
 found_fails test keep f [] e h = cc
 found_fails {X} test keep f (x ∷ xs) e h = by_tests (test x) (keep x) refl refl e h (found_fails test keep f xs)
   where
-    by_tests : (a b : Bool) → test x ≡ a → keep x ≡ b → cond a (Some x) (find test xs) ≡ Some f → list_any test (cond b (x ∷ filter keep xs) (filter keep xs)) ≡ false
+    by_tests : (a b : Bool) → test x ≡ a → keep x ≡ b → cond a (Some x) (find test xs) ≡ Some f
+        → list_any test (cond b (x ∷ filter keep xs) (filter keep xs)) ≡ false
         → (find test xs ≡ Some f → list_any test (filter keep xs) ≡ false → keep f ≡ false) → keep f ≡ false
-    by_tests true true is k e h ih = let h2 : (test x || list_any test (filter keep xs)) ≡ false = h in let h3 : (true || list_any test (filter keep xs)) ≡ false = rw is at h2 in cc
+    by_tests true true is k e h ih =
+        let h2 : (test x || list_any test (filter keep xs)) ≡ false = h in
+        let h3 : (true || list_any test (filter keep xs)) ≡ false = rw is at h2 in
+        cc
     by_tests true false is k e h ih = let same : x ≡ f = cc in ap keep (sym same) ∙ k
-    by_tests false true is k e h ih = let h2 : (test x || list_any test (filter keep xs)) ≡ false = h in let h3 : list_any test (filter keep xs) ≡ false = rw is at h2 in ih e h3
+    by_tests false true is k e h ih =
+        let h2 : (test x || list_any test (filter keep xs)) ≡ false = h in
+        let h3 : list_any test (filter keep xs) ≡ false = rw is at h2 in
+        ih e h3
     by_tests false false is k e h ih = ih e h
 
-pub any_none : {X : Type 0} (test keep : X → Bool) (xs : List X) → list_any test xs ≡ false → list_any test (filter keep xs) ≡ false
+pub any_none : {X : Type 0} (test keep : X → Bool) (xs : List X) → list_any test xs ≡ false
+    → list_any test (filter keep xs) ≡ false
 any_none test keep [] h = refl
 any_none {X} test keep (x ∷ xs) h = by_tests (test x) (keep x) refl h (any_none test keep xs)
   where
-    by_tests : (a b : Bool) → test x ≡ a → (a || list_any test xs) ≡ false → (list_any test xs ≡ false → list_any test (filter keep xs) ≡ false)
+    by_tests : (a b : Bool) → test x ≡ a → (a || list_any test xs) ≡ false
+        → (list_any test xs ≡ false → list_any test (filter keep xs) ≡ false)
         → list_any test (cond b (x ∷ filter keep xs) (filter keep xs)) ≡ false
     by_tests true b is h ih = cc
     by_tests false true is h ih = rw is (ih h)
     by_tests false false is h ih = ih h
 
-pub any_map : {X Y : Type 0} (g : X → Y) (p : Y → Bool) (xs : List X) → list_any p (map g xs) ≡ list_any (λ x. p (g x)) xs
+pub any_map : {X Y : Type 0} (g : X → Y) (p : Y → Bool) (xs : List X)
+    → list_any p (map g xs) ≡ list_any (λ x. p (g x)) xs
 any_map g p [] = refl
 any_map g p (x ∷ xs) = rw (any_map g p xs) refl
 
@@ -104,7 +122,8 @@ pub any_from_find : {X : Type 0} (p : X → Bool) (xs : List X) → find p xs �
 any_from_find p [] h = refl
 any_from_find {X} p (x ∷ xs) h = by_test (p x) h (any_from_find p xs)
   where
-    by_test : (b : Bool) → cond b (Some x) (find p xs) ≡ None → (find p xs ≡ None → list_any p xs ≡ false) → (b || list_any p xs) ≡ false
+    by_test : (b : Bool) → cond b (Some x) (find p xs) ≡ None → (find p xs ≡ None → list_any p xs ≡ false)
+        → (b || list_any p xs) ≡ false
     by_test true h ih = cc
     by_test false h ih = ih h
 
@@ -114,21 +133,25 @@ module _ {P : Type 0} (cmp : P → P → Ordering) where
     pub caps : v.caps ≡ w.caps
     pub limited : v.limited ≡ w.limited
     pub moment : v.moment ≡ w.moment
-    pub arrivals : (k : Message P) → same_pair cmp m k ≡ false → v.last_arrival k.origin k.recipient ≡ w.last_arrival k.origin k.recipient
+    pub arrivals : (k : Message P) → same_pair cmp m k ≡ false
+        → v.last_arrival k.origin k.recipient ≡ w.last_arrival k.origin k.recipient
     pub waiting : filter (λ n. not (same_pair cmp m n)) v.waiting ≡ filter (λ n. not (same_pair cmp m n)) w.waiting
-    pub sending : filter (λ (f : Flight P). not (same_pair cmp m f.message)) v.sending ≡ filter (λ (f : Flight P). not (same_pair cmp m f.message)) w.sending
+    pub sending : filter (λ (f : Flight P). not (same_pair cmp m f.message)) v.sending
+        ≡ filter (λ (f : Flight P). not (same_pair cmp m f.message)) w.sending
 
 module _ {P : Type 0} (cmp : P → P → Ordering) (order : IsTotalOrder cmp) where
   -- ---- pairs
 
   -- a message of another pair than k
-  pub pair_other : (m n k : Message P) → same_pair cmp m k ≡ false → same_pair cmp k n ≡ true → not (same_pair cmp m n) ≡ true
+  pub pair_other : (m n k : Message P) → same_pair cmp m k ≡ false → same_pair cmp k n ≡ true
+      → not (same_pair cmp m n) ≡ true
   pair_other m n k h e = ap not (pair_sym cmp order m n ∙ pair_like cmp order k n m e ∙ pair_sym cmp order k m ∙ h)
 
   -- ---- worlds that are the same but for a pair
 
   pub but_for_none : (m : Message P) (w : World P) → IsButFor cmp m w w
-  but_for_none m w = record { caps = refl; limited = refl; moment = refl; arrivals = λ k h. refl; waiting = refl; sending = refl }
+  but_for_none m w =
+      record { caps = refl; limited = refl; moment = refl; arrivals = λ k h. refl; waiting = refl; sending = refl }
 
   pub but_for_twice : (m : Message P) (w v u : World P) → IsButFor cmp m w v → IsButFor cmp m v u → IsButFor cmp m w u
   but_for_twice m w v u a b = record {
@@ -140,16 +163,24 @@ module _ {P : Type 0} (cmp : P → P → Ordering) (order : IsTotalOrder cmp) wh
     sending = b.sending ∙ a.sending;
   }
 
-  pub not_alike : (m n : Message P) → same_pair cmp m n ≡ true → (xs : List (Message P)) → filter (λ k. not (same_pair cmp n k)) xs ≡ filter (λ k. not (same_pair cmp m k)) xs
+  pub not_alike : (m n : Message P) → same_pair cmp m n ≡ true → (xs : List (Message P))
+      → filter (λ k. not (same_pair cmp n k)) xs ≡ filter (λ k. not (same_pair cmp m k)) xs
   not_alike m n e xs =
-      filter_alike (λ k. not (same_pair cmp n k)) (λ k. not (same_pair cmp m k)) xs (each_of (λ k. not (same_pair cmp n k) ≡ not (same_pair cmp m k)) (λ k. ap not (pair_like cmp order m n k e)) xs)
+      filter_alike (λ k. not (same_pair cmp n k)) (λ k. not (same_pair cmp m k)) xs
+      (each_of (λ k. not (same_pair cmp n k) ≡ not (same_pair cmp m k)) (λ k. ap not (pair_like cmp order m n k e))
+      xs)
 
   not_alike_flights : (m n : Message P) → same_pair cmp m n ≡ true → (fs : List (Flight P))
-      → filter (λ (f : Flight P). not (same_pair cmp n f.message)) fs ≡ filter (λ (f : Flight P). not (same_pair cmp m f.message)) fs
-  not_alike_flights m n e fs = filter_alike (λ (f : Flight P). not (same_pair cmp n f.message)) (λ (f : Flight P). not (same_pair cmp m f.message)) fs
-      (each_of (λ (f : Flight P). not (same_pair cmp n f.message) ≡ not (same_pair cmp m f.message)) (λ f. ap not (pair_like cmp order m n f.message e)) fs)
+      → filter (λ (f : Flight P). not (same_pair cmp n f.message)) fs
+      ≡ filter (λ (f : Flight P). not (same_pair cmp m f.message)) fs
+  not_alike_flights m n e fs =
+      filter_alike (λ (f : Flight P). not (same_pair cmp n f.message))
+      (λ (f : Flight P). not (same_pair cmp m f.message)) fs
+      (each_of (λ (f : Flight P). not (same_pair cmp n f.message) ≡ not (same_pair cmp m f.message))
+      (λ f. ap not (pair_like cmp order m n f.message e)) fs)
 
-  pub but_for_like : (m n : Message P) (w v : World P) → same_pair cmp m n ≡ true → IsButFor cmp n w v → IsButFor cmp m w v
+  pub but_for_like : (m n : Message P) (w v : World P) → same_pair cmp m n ≡ true → IsButFor cmp n w v
+      → IsButFor cmp m w v
   but_for_like m n w v e a = record {
     caps = a.caps;
     limited = a.limited;
@@ -159,42 +190,59 @@ module _ {P : Type 0} (cmp : P → P → Ordering) (order : IsTotalOrder cmp) wh
     sending = sym (not_alike_flights m n e v.sending) ∙ a.sending ∙ not_alike_flights m n e w.sending;
   }
 
-  any_flows : (p : Message P → Bool) (w : World P) → list_any p (flows w) ≡ list_any (λ (f : Flight P). p f.message) w.sending
+  any_flows : (p : Message P → Bool) (w : World P)
+      → list_any p (flows w) ≡ list_any (λ (f : Flight P). p f.message) w.sending
   any_flows p w = any_map (λ (f : Flight P). f.message) p w.sending
 
-  pub idle_alike : (m x : Message P) (w v : World P) → IsButFor cmp m w v → same_pair cmp m x ≡ false → is_idle cmp v x ≡ is_idle cmp w x
+  pub idle_alike : (m x : Message P) (w v : World P) → IsButFor cmp m w v → same_pair cmp m x ≡ false
+      → is_idle cmp v x ≡ is_idle cmp w x
   idle_alike m x w v a h = ap not (
       any_flows (same_pair cmp x) v
-      ∙ sym (any-filter_same (λ (f : Flight P). same_pair cmp x f.message) (λ (f : Flight P). not (same_pair cmp m f.message)) true (λ f e. pair_other m f.message x h e) v.sending)
+      ∙ sym
+      (any-filter_same (λ (f : Flight P). same_pair cmp x f.message)
+      (λ (f : Flight P). not (same_pair cmp m f.message)) true (λ f e. pair_other m f.message x h e) v.sending)
       ∙ ap (list_any (λ (f : Flight P). same_pair cmp x f.message)) a.sending
-      ∙ any-filter_same (λ (f : Flight P). same_pair cmp x f.message) (λ (f : Flight P). not (same_pair cmp m f.message)) true (λ f e. pair_other m f.message x h e) w.sending
+      ∙ any-filter_same (λ (f : Flight P). same_pair cmp x f.message)
+      (λ (f : Flight P). not (same_pair cmp m f.message)) true (λ f e. pair_other m f.message x h e) w.sending
       ∙ sym (any_flows (same_pair cmp x) w))
 
   -- whether another pair's message may start does not change
-  pub may_start_alike : (t : ℕ) (m x : Message P) (w v : World P) → IsButFor cmp m w v → same_pair cmp m x ≡ false → may_start cmp t v x ≡ may_start cmp t w x
-  may_start_alike t m x w v a h = both (is_idle cmp v x) (is_idle cmp w x) (v.last_arrival x.origin x.recipient) (w.last_arrival x.origin x.recipient) (idle_alike m x w v a h) (a.arrivals x h)
+  pub may_start_alike : (t : ℕ) (m x : Message P) (w v : World P) → IsButFor cmp m w v → same_pair cmp m x ≡ false
+      → may_start cmp t v x ≡ may_start cmp t w x
+  may_start_alike t m x w v a h =
+      both (is_idle cmp v x) (is_idle cmp w x) (v.last_arrival x.origin x.recipient)
+      (w.last_arrival x.origin x.recipient) (idle_alike m x w v a h) (a.arrivals x h)
     where
-      both : (a b : Bool) (p q : Option ℕ) → a ≡ b → p ≡ q → (a && is_in_order p (t + x.latency)) ≡ (b && is_in_order q (t + x.latency))
+      both : (a b : Bool) (p q : Option ℕ) → a ≡ b → p ≡ q
+          → (a && is_in_order p (t + x.latency)) ≡ (b && is_in_order q (t + x.latency))
       both a b p q e f = rw (e, f) refl
 
-  pub first_alike : (m k : Message P) (w v : World P) → IsButFor cmp m w v → same_pair cmp m k ≡ false → first_waiting cmp v k ≡ first_waiting cmp w k
+  pub first_alike : (m k : Message P) (w v : World P) → IsButFor cmp m w v → same_pair cmp m k ≡ false
+      → first_waiting cmp v k ≡ first_waiting cmp w k
   first_alike m k w v a h =
       sym (find_kept (same_pair cmp k) (λ n. not (same_pair cmp m n)) v.waiting (λ n e. pair_other m n k h e))
       ∙ ap (find (same_pair cmp k)) a.waiting
       ∙ find_kept (same_pair cmp k) (λ n. not (same_pair cmp m n)) w.waiting (λ n e. pair_other m n k h e)
 
   -- nothing that another pair sees changes
-  pub others_see_nothing : (m k : Message P) (w v : World P) → IsButFor cmp m w v → same_pair cmp m k ≡ false → IsUnchangedFor cmp k w v
+  pub others_see_nothing : (m k : Message P) (w v : World P) → IsButFor cmp m w v → same_pair cmp m k ≡ false
+      → IsUnchangedFor cmp k w v
   others_see_nothing m k w v a h = record {
-    ready = λ t x e. may_start_alike t m x w v a (pair_sym cmp order m x ∙ pair_like cmp order k x m e ∙ pair_sym cmp order k m ∙ h);
+    ready = λ t x e.
+        may_start_alike t m x w v a (pair_sym cmp order m x ∙ pair_like cmp order k x m e ∙ pair_sym cmp order k m ∙ h);
     last_arrival = a.arrivals k h;
-    waiting = sym (filter_stronger (same_pair cmp k) (λ n. not (same_pair cmp m n)) v.waiting (λ n e. pair_other m n k h e))
+    waiting =
+        sym (filter_stronger (same_pair cmp k) (λ n. not (same_pair cmp m n)) v.waiting (λ n e. pair_other m n k h e))
         ∙ ap (filter (same_pair cmp k)) a.waiting
         ∙ filter_stronger (same_pair cmp k) (λ n. not (same_pair cmp m n)) w.waiting (λ n e. pair_other m n k h e);
     first = first_alike m k w v a h;
-    sending = sym (filter_stronger (λ (f : Flight P). same_pair cmp k f.message) (λ (f : Flight P). not (same_pair cmp m f.message)) v.sending (λ f e. pair_other m f.message k h e))
+    sending =
+        sym
+        (filter_stronger (λ (f : Flight P). same_pair cmp k f.message)
+        (λ (f : Flight P). not (same_pair cmp m f.message)) v.sending (λ f e. pair_other m f.message k h e))
         ∙ ap (filter (λ (f : Flight P). same_pair cmp k f.message)) a.sending
-        ∙ filter_stronger (λ (f : Flight P). same_pair cmp k f.message) (λ (f : Flight P). not (same_pair cmp m f.message)) w.sending (λ f e. pair_other m f.message k h e);
+        ∙ filter_stronger (λ (f : Flight P). same_pair cmp k f.message)
+        (λ (f : Flight P). not (same_pair cmp m f.message)) w.sending (λ f e. pair_other m f.message k h e);
   }
 
   -- ---- a pair that may not start
@@ -205,7 +253,12 @@ module _ {P : Type 0} (cmp : P → P → Ordering) (order : IsTotalOrder cmp) wh
     pub rests : MayNotStart cmp t m v
 
   pub started : World P → Message P → World P
-  started w m = record w { sending = w.sending ++ flight_of m ∷ []; waiting = without_first (same_pair cmp m) w.waiting; next_id = w.next_id + 1 }
+  started w m =
+      record w {
+        sending = w.sending ++ flight_of m ∷ [];
+        waiting = without_first (same_pair cmp m) w.waiting;
+        next_id = w.next_id + 1;
+      }
 
   started_but_for : (w : World P) (m : Message P) → IsButFor cmp m w (started w m)
   unfolding started
@@ -225,30 +278,37 @@ module _ {P : Type 0} (cmp : P → P → Ordering) (order : IsTotalOrder cmp) wh
   started_rests : (t : ℕ) (w : World P) (m : Message P) → MayNotStart cmp t m (started w m)
   unfolding started
   started_rests t w m x e =
-      let same : same_pair cmp m x ≡ true = find_passes (same_pair cmp m) x (without_first (same_pair cmp m) w.waiting) e in
+      let same : same_pair cmp m x ≡ true =
+      find_passes (same_pair cmp m) x (without_first (same_pair cmp m) w.waiting) e in
       let busy : list_any (same_pair cmp x) (map (λ (f : Flight P). f.message) (w.sending ++ flight_of m ∷ [])) ≡ true =
       ap (list_any (same_pair cmp x)) (map-append (λ (f : Flight P). f.message) w.sending (flight_of m ∷ []))
       ∙ list_any-append (same_pair cmp x) (map (λ (f : Flight P). f.message) w.sending) (m ∷ [])
-      ∙ or_right (list_any (same_pair cmp x) (map (λ (f : Flight P). f.message) w.sending)) (same_pair cmp x m || false) (or_left (same_pair cmp x m) false (pair_sym cmp order x m ∙ same)) in
+      ∙ or_right (list_any (same_pair cmp x) (map (λ (f : Flight P). f.message) w.sending)) (same_pair cmp x m || false)
+      (or_left (same_pair cmp x m) false (pair_sym cmp order x m ∙ same)) in
       rw busy refl
 
   -- a start changes its pair alone, which then sends
   pub start_leaves : (t : ℕ) (w : World P) (m : Message P) → EndsWith (Leaves t m w) (start cmp w m)
   unfolding started
-  start_leaves t w m = ends_cond (Leaves t m w) (nat_le last_moment w.next_id) (meets FlowIdsUsedUp) (goes [] (started w m)) tt (record { others = started_but_for w m; rests = started_rests t w m })
+  start_leaves t w m =
+      ends_cond (Leaves t m w) (nat_le last_moment w.next_id) (meets FlowIdsUsedUp) (goes [] (started w m)) tt
+      (record { others = started_but_for w m; rests = started_rests t w m })
 
-  pub leaves_like : (t : ℕ) (m x : Message P) (w v u : World P) → same_pair cmp m x ≡ true → IsButFor cmp m w v → Leaves t x v u → Leaves t m w u
+  pub leaves_like : (t : ℕ) (m x : Message P) (w v u : World P) → same_pair cmp m x ≡ true → IsButFor cmp m w v
+      → Leaves t x v u → Leaves t m w u
   leaves_like t m x w v u e a l = record {
     others = but_for_twice m w v u a (but_for_like m x v u e l.others);
     rests = λ y is. l.rests y (find_like cmp order m x u.waiting e ∙ is);
   }
 
-  pub ends_more : (R Q : World P → Type 0) (c : Course (Completed P) (World P)) → ((v : World P) → R v → Q v) → EndsWith R c → EndsWith Q c
+  pub ends_more : (R Q : World P → Type 0) (c : Course (Completed P) (World P)) → ((v : World P) → R v → Q v)
+      → EndsWith R c → EndsWith Q c
   ends_more R Q (goes xs v) more h = more v h
   ends_more R Q (meets fault) more h = tt
 
   -- the pair's next starts if it may
-  pub next_leaves : (t : ℕ) (w : World P) (m : Message P) (o : Option (Message P)) → find (same_pair cmp m) w.waiting ≡ o → EndsWith (Leaves t m w) (start_next cmp t w o)
+  pub next_leaves : (t : ℕ) (w : World P) (m : Message P) (o : Option (Message P))
+      → find (same_pair cmp m) w.waiting ≡ o → EndsWith (Leaves t m w) (start_next cmp t w o)
   next_leaves t w m None e = record { others = but_for_none m w; rests = λ x is. cc }
   next_leaves t w m (Some x) e = by_test (may_start cmp t w x) refl
     where
@@ -256,26 +316,40 @@ module _ {P : Type 0} (cmp : P → P → Ordering) (order : IsTotalOrder cmp) wh
       same = find_passes (same_pair cmp m) x w.waiting e
 
       by_test : (b : Bool) → may_start cmp t w x ≡ b → EndsWith (Leaves t m w) (cond b (start cmp w x) (goes [] w))
-      by_test true is = ends_more (Leaves t x w) (Leaves t m w) (start cmp w x) (λ u l. leaves_like t m x w w u same (but_for_none m w) l) (start_leaves t w x)
-      by_test false is = record { others = but_for_none m w; rests = λ y at. let one : x ≡ y = cc in subst (λ (z : Message P). may_start cmp t w z ≡ false) one is }
+      by_test true is =
+          ends_more (Leaves t x w) (Leaves t m w) (start cmp w x)
+          (λ u l. leaves_like t m x w w u same (but_for_none m w) l) (start_leaves t w x)
+      by_test false is =
+          record {
+            others = but_for_none m w;
+            rests = λ y at. let one : x ≡ y = cc in subst (λ (z : Message P). may_start cmp t w z ≡ false) one is;
+          }
 
   landed_but_for : (w : World P) (f : Flight P) (at : ℕ) → find (is_done cmp w) w.sending ≡ Some f
-      → IsButFor cmp f.message w (record w { sending = without_first (is_done cmp w) w.sending; last_arrival = raised cmp w.last_arrival f.message at })
+      → IsButFor cmp f.message w
+      (record w {
+        sending = without_first (is_done cmp w) w.sending;
+        last_arrival = raised cmp w.last_arrival f.message at;
+      })
   landed_but_for w f at e = record {
     caps = refl;
     limited = refl;
     moment = refl;
     arrivals = λ k h. rw h refl;
     waiting = refl;
-    sending = filter_skips (λ (g : Flight P). not (same_pair cmp f.message g.message)) (is_done cmp w) f w.sending e (ap not (pair_itself cmp order f.message));
+    sending =
+        filter_skips (λ (g : Flight P). not (same_pair cmp f.message g.message)) (is_done cmp w) f w.sending e
+        (ap not (pair_itself cmp order f.message));
   }
 
   -- a completion changes its pair alone, which then may not start
-  pub complete_leaves : (t : ℕ) (w : World P) (f : Flight P) → find (is_done cmp w) w.sending ≡ Some f → EndsWith (Leaves t f.message w) (complete cmp t w f.message)
+  pub complete_leaves : (t : ℕ) (w : World P) (f : Flight P) → find (is_done cmp w) w.sending ≡ Some f
+      → EndsWith (Leaves t f.message w) (complete cmp t w f.message)
   complete_leaves t w f e =
       let landed : World P = out_of_flight cmp t w f.message in
       ends_cond (Leaves t f.message w) (is_late cmp t f.message) (meets MomentTooLate) _ tt
-      (ends_preceded (Leaves t f.message w) (completed cmp t f.message ∷ []) (start_next cmp t landed (first_waiting cmp landed f.message))
+      (ends_preceded (Leaves t f.message w) (completed cmp t f.message ∷ [])
+      (start_next cmp t landed (first_waiting cmp landed f.message))
       (ends_more (Leaves t f.message landed) (Leaves t f.message w)
       (start_next cmp t landed (first_waiting cmp landed f.message))
       (λ u l. leaves_like t f.message f.message w landed u (pair_itself cmp order f.message)
@@ -288,38 +362,51 @@ module _ {P : Type 0} (cmp : P → P → Ordering) (order : IsTotalOrder cmp) wh
   done_alike w v f e = ap (λ (caps : Caps P). (f.left.num == 0) || is_unlimited cmp caps f.message) e
 
   -- where only a pair has changed since nothing was done, what is done is of that pair
-  done_of_pair : (m : Message P) (w v : World P) (f : Flight P) → IsButFor cmp m w v → list_any (is_done cmp w) w.sending ≡ false → find (is_done cmp v) v.sending ≡ Some f
+  done_of_pair : (m : Message P) (w v : World P) (f : Flight P) → IsButFor cmp m w v
+      → list_any (is_done cmp w) w.sending ≡ false → find (is_done cmp v) v.sending ≡ Some f
       → same_pair cmp m f.message ≡ true
   done_of_pair m w v f a quiet e =
-      let apart : not (same_pair cmp m f.message) ≡ false = found_fails (is_done cmp v) (λ (g : Flight P). not (same_pair cmp m g.message)) f v.sending e
+      let apart : not (same_pair cmp m f.message) ≡ false =
+      found_fails (is_done cmp v) (λ (g : Flight P). not (same_pair cmp m g.message)) f v.sending e
       (ap (list_any (is_done cmp v)) a.sending ∙ any_alike (is_done cmp v) (is_done cmp w)
       (filter (λ (g : Flight P). not (same_pair cmp m g.message)) w.sending) (λ g. done_alike w v g a.caps)
       ∙ any_none (is_done cmp w) (λ (g : Flight P). not (same_pair cmp m g.message)) w.sending quiet) in
       not-false (same_pair cmp m f.message) apart
 
   -- settling goes on within the pair
-  pub settle_within_leaves : (n t : ℕ) (m : Message P) (w v : World P) → list_any (is_done cmp w) w.sending ≡ false → Leaves t m w v → EndsWith (Leaves t m w) (settle_within cmp n t v)
+  pub settle_within_leaves : (n t : ℕ) (m : Message P) (w v : World P) → list_any (is_done cmp w) w.sending ≡ false
+      → Leaves t m w v → EndsWith (Leaves t m w) (settle_within cmp n t v)
   settle_within_leaves zero t m w v quiet l = l
-  settle_within_leaves (suc n) t m w v quiet l = by_first (find (is_done cmp v) v.sending) refl (λ u. settle_within_leaves n t m w u quiet)
+  settle_within_leaves (suc n) t m w v quiet l =
+      by_first (find (is_done cmp v) v.sending) refl (λ u. settle_within_leaves n t m w u quiet)
     where
-      by_first : (o : Option (Flight P)) → find (is_done cmp v) v.sending ≡ o → ((u : World P) → Leaves t m w u → EndsWith (Leaves t m w) (settle_within cmp n t u))
+      by_first : (o : Option (Flight P)) → find (is_done cmp v) v.sending ≡ o
+          → ((u : World P) → Leaves t m w u → EndsWith (Leaves t m w) (settle_within cmp n t u))
           → EndsWith (Leaves t m w) (settle_within cmp (suc n) t v)
-      by_first None e ih = subst (λ (c : Course (Completed P) (World P)). EndsWith (Leaves t m w) c) (sym (settle_none cmp order n t v e)) l
+      by_first None e ih =
+          subst (λ (c : Course (Completed P) (World P)). EndsWith (Leaves t m w) c)
+          (sym (settle_none cmp order n t v e)) l
       by_first (Some f) e ih =
           let same : same_pair cmp m f.message ≡ true = done_of_pair m w v f l.others quiet e in
-          subst (λ (c : Course (Completed P) (World P)). EndsWith (Leaves t m w) c) (sym (settle_first cmp order n t v f e))
+          subst (λ (c : Course (Completed P) (World P)). EndsWith (Leaves t m w) c)
+          (sym (settle_first cmp order n t v f e))
           (ends_and_then (Leaves t m w) (Leaves t m w) (complete cmp t v f.message) (settle_within cmp n t)
-          (ends_more (Leaves t f.message v) (Leaves t m w) (complete cmp t v f.message) (λ u k. leaves_like t m f.message w v u same l.others k) (complete_leaves t v f e)) ih)
+          (ends_more (Leaves t f.message v) (Leaves t m w) (complete cmp t v f.message)
+          (λ u k. leaves_like t m f.message w v u same l.others k) (complete_leaves t v f e))
+          ih)
 
   -- a start and its settling change one pair alone, which then may not start
-  pub start_settles : (t : ℕ) (w : World P) (m : Message P) → list_any (is_done cmp w) w.sending ≡ false → EndsWith (Leaves t m w) (turn cmp t w m)
+  pub start_settles : (t : ℕ) (w : World P) (m : Message P) → list_any (is_done cmp w) w.sending ≡ false
+      → EndsWith (Leaves t m w) (turn cmp t w m)
   start_settles t w m quiet =
-      ends_and_then (Leaves t m w) (Leaves t m w) (start cmp w m) (settle cmp t) (start_leaves t w m) (λ v l. settle_within_leaves (length v.sending + length v.waiting) t m w v quiet l)
+      ends_and_then (Leaves t m w) (Leaves t m w) (start cmp w m) (settle cmp t) (start_leaves t w m)
+      (λ v l. settle_within_leaves (length v.sending + length v.waiting) t m w v quiet l)
 
   -- ---- the pairs that are ready
 
   -- each front is the first of its pair
-  pub fronts_are_first : (xs : List (Message P)) → Each (λ (n : Message P). find (same_pair cmp n) xs ≡ Some n) (fronts cmp xs)
+  pub fronts_are_first : (xs : List (Message P))
+      → Each (λ (n : Message P). find (same_pair cmp n) xs ≡ Some n) (fronts cmp xs)
   fronts_are_first [] = tt
   fronts_are_first (x ∷ xs) = (
     rw (pair_itself cmp order x) refl,
@@ -331,33 +418,46 @@ module _ {P : Type 0} (cmp : P → P → Ordering) (order : IsTotalOrder cmp) wh
         (fronts cmp xs) (fronts_are_first xs)),
   )
     where
-      behind : (n : Message P) → find (same_pair cmp n) xs ≡ Some n → not (same_pair cmp x n) ≡ true → cond (same_pair cmp n x) (Some x) (find (same_pair cmp n) xs) ≡ Some n
-      behind n e h = let no : same_pair cmp n x ≡ false = pair_sym cmp order n x ∙ not-true (same_pair cmp x n) h in rw no e
+      behind : (n : Message P) → find (same_pair cmp n) xs ≡ Some n → not (same_pair cmp x n) ≡ true
+          → cond (same_pair cmp n x) (Some x) (find (same_pair cmp n) xs) ≡ Some n
+      behind n e h =
+          let no : same_pair cmp n x ≡ false = pair_sym cmp order n x ∙ not-true (same_pair cmp x n) h in rw no e
 
   -- the fronts without a pair
-  pub fronts_without : (m : Message P) (xs : List (Message P)) → filter (λ n. not (same_pair cmp m n)) (fronts cmp xs) ≡ fronts cmp (filter (λ n. not (same_pair cmp m n)) xs)
+  pub fronts_without : (m : Message P) (xs : List (Message P))
+      → filter (λ n. not (same_pair cmp m n)) (fronts cmp xs) ≡ fronts cmp (filter (λ n. not (same_pair cmp m n)) xs)
   fronts_without m [] = refl
   fronts_without m (x ∷ xs) = by_pair (same_pair cmp m x) refl (fronts_without m xs)
     where
-      by_pair : (b : Bool) → same_pair cmp m x ≡ b → filter (λ n. not (same_pair cmp m n)) (fronts cmp xs) ≡ fronts cmp (filter (λ n. not (same_pair cmp m n)) xs)
+      by_pair : (b : Bool) → same_pair cmp m x ≡ b
+          → filter (λ n. not (same_pair cmp m n)) (fronts cmp xs)
+          ≡ fronts cmp (filter (λ n. not (same_pair cmp m n)) xs)
           → cond (not b) (x ∷ filter (λ n. not (same_pair cmp m n))
           (filter (λ n. not (same_pair cmp x n)) (fronts cmp xs)))
           (filter (λ n. not (same_pair cmp m n)) (filter (λ n. not (same_pair cmp x n)) (fronts cmp xs)))
-          ≡ fronts cmp (cond (not b) (x ∷ filter (λ n. not (same_pair cmp m n)) xs) (filter (λ n. not (same_pair cmp m n)) xs))
+          ≡ fronts cmp
+          (cond (not b) (x ∷ filter (λ n. not (same_pair cmp m n)) xs) (filter (λ n. not (same_pair cmp m n)) xs))
       by_pair true e ih =
-          ap (filter (λ n. not (same_pair cmp m n))) (not_alike m x e (fronts cmp xs)) ∙ filter_stronger (λ n. not (same_pair cmp m n)) (λ n. not (same_pair cmp m n)) (fronts cmp xs) (λ n h. h) ∙ ih
+          ap (filter (λ n. not (same_pair cmp m n))) (not_alike m x e (fronts cmp xs))
+          ∙ filter_stronger (λ n. not (same_pair cmp m n)) (λ n. not (same_pair cmp m n)) (fronts cmp xs) (λ n h. h)
+          ∙ ih
       by_pair false e ih =
-          ap (λ (ns : List (Message P)). x ∷ ns) (filter_swap (λ n. not (same_pair cmp m n)) (λ n. not (same_pair cmp x n)) (fronts cmp xs) ∙ ap (filter (λ n. not (same_pair cmp x n))) ih)
+          ap (λ (ns : List (Message P)). x ∷ ns)
+          (filter_swap (λ n. not (same_pair cmp m n)) (λ n. not (same_pair cmp x n)) (fronts cmp xs)
+          ∙ ap (filter (λ n. not (same_pair cmp x n))) ih)
 
   -- a pair that changed alone and may not start any more: the others are ready as before
-  pub ready_without : (t : ℕ) (m : Message P) (w v : World P) → Leaves t m w v → ready cmp t v ≡ filter (λ n. not (same_pair cmp m n)) (ready cmp t w)
+  pub ready_without : (t : ℕ) (m : Message P) (w v : World P) → Leaves t m w v
+      → ready cmp t v ≡ filter (λ n. not (same_pair cmp m n)) (ready cmp t w)
   ready_without t m w v l =
       sym (filter_kept_each (may_start cmp t v) (λ n. not (same_pair cmp m n)) (fronts cmp v.waiting)
       (each_more (λ (n : Message P). find (same_pair cmp n) v.waiting ≡ Some n)
       (λ (n : Message P). may_start cmp t v n ≡ true → not (same_pair cmp m n) ≡ true)
       (λ n e h. of_another n (same_pair cmp m n) refl e h) (fronts cmp v.waiting) (fronts_are_first v.waiting)))
-      ∙ ap (filter (may_start cmp t v)) (fronts_without m v.waiting ∙ ap (fronts cmp) l.others.waiting ∙ sym (fronts_without m w.waiting))
-      ∙ filter_alike (may_start cmp t v) (may_start cmp t w) (filter (λ n. not (same_pair cmp m n)) (fronts cmp w.waiting))
+      ∙ ap (filter (may_start cmp t v))
+      (fronts_without m v.waiting ∙ ap (fronts cmp) l.others.waiting ∙ sym (fronts_without m w.waiting))
+      ∙ filter_alike (may_start cmp t v) (may_start cmp t w)
+      (filter (λ n. not (same_pair cmp m n)) (fronts cmp w.waiting))
       (each_more (λ (n : Message P). ⊤ × (not (same_pair cmp m n) ≡ true))
       (λ (n : Message P). may_start cmp t v n ≡ may_start cmp t w n)
       (λ n h. may_start_alike t m n w v l.others (not-true (same_pair cmp m n) h.1))
@@ -366,6 +466,8 @@ module _ {P : Type 0} (cmp : P → P → Ordering) (order : IsTotalOrder cmp) wh
       (each_of (λ (n : Message P). ⊤) (λ n. tt) (fronts cmp w.waiting))))
       ∙ filter_swap (may_start cmp t w) (λ n. not (same_pair cmp m n)) (fronts cmp w.waiting)
     where
-      of_another : (n : Message P) (b : Bool) → same_pair cmp m n ≡ b → find (same_pair cmp n) v.waiting ≡ Some n → may_start cmp t v n ≡ true → not b ≡ true
-      of_another n true same e h = let no : may_start cmp t v n ≡ false = l.rests n (sym (find_like cmp order m n v.waiting same) ∙ e) in cc
+      of_another : (n : Message P) (b : Bool) → same_pair cmp m n ≡ b → find (same_pair cmp n) v.waiting ≡ Some n
+          → may_start cmp t v n ≡ true → not b ≡ true
+      of_another n true same e h =
+          let no : may_start cmp t v n ≡ false = l.rests n (sym (find_like cmp order m n v.waiting same) ∙ e) in cc
       of_another n false same e h = refl

@@ -1,5 +1,6 @@
 -- The order of pairs, and lists in that order.
-use Rattle.std.proofs.Common.{◌≡◌, List, [], ◌∷◌, Bool, true, false, cond, Option, Some, None, refl, sym, ap, ◌∙◌, subst}
+use Rattle.std.proofs.Common.{◌≡◌, List, [], ◌∷◌, Bool, true, false, cond, Option, Some, None, refl, sym, ap, ◌∙◌}
+use Rattle.std.proofs.Common.{subst}
 use Rattle.std.specs.List.{find}
 use Rattle.std.specs.declared.cmp.Ordering.{Ordering}
 use Rattle.std.specs.declared.cmp.Ordering.TheVariants.{Less, Equal, Greater}
@@ -41,7 +42,8 @@ module _ {P : Type 0} (cmp : P → P → Ordering) (order : IsTotalOrder cmp) wh
   pair_cmp m n = ordering_then (cmp m.origin n.origin) (cmp m.recipient n.recipient)
 
   pub pairs_total : IsTotalOrder pair_cmp
-  pairs_total = then_total (on_total (λ (m : Message P). m.origin) order) (on_total (λ (m : Message P). m.recipient) order)
+  pairs_total =
+      then_total (on_total (λ (m : Message P). m.origin) order) (on_total (λ (m : Message P). m.recipient) order)
 
   turned : (m n : Message P) → pair_before cmp m n ≡ is_gt (pair_cmp n m)
   turned m n = ap is_lt (pairs_total.antisymm m n) ∙ lt_turned (pair_cmp n m)
@@ -53,16 +55,24 @@ module _ {P : Type 0} (cmp : P → P → Ordering) (order : IsTotalOrder cmp) wh
   not_before_back m n e = turned n m ∙ not_gt_if_lt (pair_cmp m n) e
 
   pub apart_if_before : (m n : Message P) → pair_before cmp m n ≡ true → same_pair cmp m n ≡ false
-  apart_if_before m n e = tied_then (cmp m.origin n.origin) (cmp m.recipient n.recipient) ∙ not_eq_if_lt (pair_cmp m n) e
+  apart_if_before m n e =
+      tied_then (cmp m.origin n.origin) (cmp m.recipient n.recipient) ∙ not_eq_if_lt (pair_cmp m n) e
 
-  pub before_each_other : (m n k : Message P) → pair_before cmp m n ≡ true → pair_before cmp n k ≡ true → pair_before cmp m k ≡ true
-  before_each_other m n k e f = ap is_lt (pairs_total.trans m n k (is_lt_less (pair_cmp m n) e) (is_lt_less (pair_cmp n k) f))
+  pub before_each_other : (m n k : Message P) → pair_before cmp m n ≡ true → pair_before cmp n k ≡ true
+      → pair_before cmp m k ≡ true
+  before_each_other m n k e f =
+      ap is_lt (pairs_total.trans m n k (is_lt_less (pair_cmp m n) e) (is_lt_less (pair_cmp n k) f))
 
-  pub not_before_on : (m n k : Message P) → pair_before cmp m n ≡ false → pair_before cmp n k ≡ false → pair_before cmp m k ≡ false
+  pub not_before_on : (m n k : Message P) → pair_before cmp m n ≡ false → pair_before cmp n k ≡ false
+      → pair_before cmp m k ≡ false
   not_before_on m n k e f = turned m k ∙ upto pairs_total k n m (sym (turned n k) ∙ f) (sym (turned m n) ∙ e)
 
-  pub before_if_not : (m n : Message P) → pair_before cmp n m ≡ false → same_pair cmp m n ≡ false → pair_before cmp m n ≡ true
-  before_if_not m n e f = turned m n ∙ gt_if_neither (pair_cmp n m) e (sym (tied_then (cmp n.origin m.origin) (cmp n.recipient m.recipient)) ∙ pair_sym cmp order n m ∙ f)
+  pub before_if_not : (m n : Message P) → pair_before cmp n m ≡ false → same_pair cmp m n ≡ false
+      → pair_before cmp m n ≡ true
+  before_if_not m n e f =
+      turned m n
+      ∙ gt_if_neither (pair_cmp n m) e
+      (sym (tied_then (cmp n.origin m.origin) (cmp n.recipient m.recipient)) ∙ pair_sym cmp order n m ∙ f)
 
   -- ---- the least pair
 
@@ -93,19 +103,24 @@ module _ {P : Type 0} (cmp : P → P → Ordering) (order : IsTotalOrder cmp) wh
         ),
       )
 
-      by_rest : (o : Option (Message P)) → least_pair cmp ms ≡ o → Some (elim o [ None ↦ m | Some n ↦ cond (pair_before cmp n m) n m ]) ≡ Some l
+      by_rest : (o : Option (Message P)) → least_pair cmp ms ≡ o
+          → Some (elim o [ None ↦ m | Some n ↦ cond (pair_before cmp n m) n m ]) ≡ Some l
           → ((n : Message P) → least_pair cmp ms ≡ Some n → IsLeast n ms) → IsLeast l (m ∷ ms)
       by_rest None is at ih =
           let same : m ≡ l = cc in
           let empty : ms ≡ [] = least_none ms is in
-          subst (λ (k : Message P). IsLeast k (m ∷ ms)) same (itself.1, (not_before_itself m, subst (Each (λ (k : Message P). pair_before cmp k m ≡ false)) (sym empty) tt))
+          subst (λ (k : Message P). IsLeast k (m ∷ ms)) same (
+            itself.1,
+            (not_before_itself m, subst (Each (λ (k : Message P). pair_before cmp k m ≡ false)) (sym empty) tt),
+          )
       by_rest (Some n) is at ih =
           let same : cond (pair_before cmp n m) n m ≡ l = cc in
           subst (λ (k : Message P). IsLeast k (m ∷ ms)) same (by_test n (pair_before cmp n m) refl (ih n is))
 
   -- ---- lists by pair
 
-  pub found_in : (Q : Message P → Type 0) (p : Message P → Bool) (x : Message P) (ms : List (Message P)) → Each Q ms → find p ms ≡ Some x → Q x
+  pub found_in : (Q : Message P → Type 0) (p : Message P → Bool) (x : Message P) (ms : List (Message P)) → Each Q ms
+      → find p ms ≡ Some x → Q x
   found_in Q p x [] h e = cc
   found_in Q p x (m ∷ ms) h e = by_test (p m) e (found_in Q p x ms h.1)
     where
@@ -113,11 +128,13 @@ module _ {P : Type 0} (cmp : P → P → Ordering) (order : IsTotalOrder cmp) wh
       by_test true e ih = let same : m ≡ x = cc in subst Q same h.0
       by_test false e ih = ih e
 
-  pub as_each : (m : Message P) (ms : List (Message P)) → IsBeforeEach cmp m ms → Each (λ (n : Message P). pair_before cmp m n ≡ true) ms
+  pub as_each : (m : Message P) (ms : List (Message P)) → IsBeforeEach cmp m ms
+      → Each (λ (n : Message P). pair_before cmp m n ≡ true) ms
   as_each m [] h = tt
   as_each m (n ∷ ns) h = (h.0, as_each m ns h.1)
 
-  pub find_nowhere : (p : Message P → Bool) (ms : List (Message P)) → Each (λ (n : Message P). p n ≡ false) ms → find p ms ≡ None
+  pub find_nowhere : (p : Message P → Bool) (ms : List (Message P)) → Each (λ (n : Message P). p n ≡ false) ms
+      → find p ms ≡ None
   find_nowhere p [] h = refl
   find_nowhere p (m ∷ ms) h = rw (h.0) (find_nowhere p ms h.1)
 
@@ -127,48 +144,66 @@ module _ {P : Type 0} (cmp : P → P → Ordering) (order : IsTotalOrder cmp) wh
   find_inserted k m (n ∷ ns) h = by_order (pair_before cmp n m) (same_pair cmp m n) refl h (find_inserted k m ns)
     where
       exchanged : (a b : Bool) → same_pair cmp k m ≡ a → same_pair cmp k n ≡ b → same_pair cmp m n ≡ false
-          → cond b (Some n) (cond a (Some m) (find (same_pair cmp k) ns)) ≡ cond a (Some m) (cond b (Some n) (find (same_pair cmp k) ns))
+          → cond b (Some n) (cond a (Some m) (find (same_pair cmp k) ns))
+          ≡ cond a (Some m) (cond b (Some n) (find (same_pair cmp k) ns))
       exchanged true true e f apart = let both : same_pair cmp m n ≡ true = pair_like cmp order k m n e ∙ f in cc
       exchanged true false e f apart = refl
       exchanged false true e f apart = refl
       exchanged false false e f apart = refl
 
       by_order : (a b : Bool) → same_pair cmp m n ≡ b → cond b (Some n) (find (same_pair cmp m) ns) ≡ None
-          → (find (same_pair cmp m) ns ≡ None → find (same_pair cmp k) (insert_by_pair cmp m ns) ≡ cond (same_pair cmp k m) (Some m) (find (same_pair cmp k) ns))
-          → find (same_pair cmp k) (cond a (n ∷ insert_by_pair cmp m ns) (m ∷ n ∷ ns)) ≡ cond (same_pair cmp k m) (Some m) (cond (same_pair cmp k n) (Some n) (find (same_pair cmp k) ns))
+          → (find (same_pair cmp m) ns ≡ None
+          → find (same_pair cmp k) (insert_by_pair cmp m ns)
+          ≡ cond (same_pair cmp k m) (Some m) (find (same_pair cmp k) ns))
+          → find (same_pair cmp k) (cond a (n ∷ insert_by_pair cmp m ns) (m ∷ n ∷ ns))
+          ≡ cond (same_pair cmp k m) (Some m) (cond (same_pair cmp k n) (Some n) (find (same_pair cmp k) ns))
       by_order a true is none ih = cc
-      by_order true false is none ih = ap (λ (o : Option (Message P)). cond (same_pair cmp k n) (Some n) o) (ih none) ∙ exchanged (same_pair cmp k m) (same_pair cmp k n) refl refl is
+      by_order true false is none ih =
+          ap (λ (o : Option (Message P)). cond (same_pair cmp k n) (Some n) o) (ih none)
+          ∙ exchanged (same_pair cmp k m) (same_pair cmp k n) refl refl is
       by_order false false is none ih = refl
 
   -- ordering finds what was there
-  pub find_by_pair : (ms : List (Message P)) → OneForEachPair cmp ms → (k : Message P) → find (same_pair cmp k) (by_pair cmp ms) ≡ find (same_pair cmp k) ms
+  pub find_by_pair : (ms : List (Message P)) → OneForEachPair cmp ms → (k : Message P)
+      → find (same_pair cmp k) (by_pair cmp ms) ≡ find (same_pair cmp k) ms
   find_by_pair [] one k = refl
   find_by_pair (m ∷ ms) one k =
       find_inserted k m (by_pair cmp ms) (find_by_pair ms one.1 m ∙ find_from_any (same_pair cmp m) ms one.0)
       ∙ ap (λ (o : Option (Message P)). cond (same_pair cmp k m) (Some m) o) (find_by_pair ms one.1 k)
 
-  before_inserted : (k m : Message P) (ns : List (Message P)) → pair_before cmp k m ≡ true → IsBeforeEach cmp k ns → IsBeforeEach cmp k (insert_by_pair cmp m ns)
+  before_inserted : (k m : Message P) (ns : List (Message P)) → pair_before cmp k m ≡ true → IsBeforeEach cmp k ns
+      → IsBeforeEach cmp k (insert_by_pair cmp m ns)
   before_inserted k m [] e h = (e, tt)
   before_inserted k m (n ∷ ns) e h = by_order (pair_before cmp n m) (before_inserted k m ns e h.1)
     where
-      by_order : (b : Bool) → IsBeforeEach cmp k (insert_by_pair cmp m ns) → IsBeforeEach cmp k (cond b (n ∷ insert_by_pair cmp m ns) (m ∷ n ∷ ns))
+      by_order : (b : Bool) → IsBeforeEach cmp k (insert_by_pair cmp m ns)
+          → IsBeforeEach cmp k (cond b (n ∷ insert_by_pair cmp m ns) (m ∷ n ∷ ns))
       by_order true ih = (h.0, ih)
       by_order false ih = (e, h)
 
-  before_all : (m n : Message P) (ks : List (Message P)) → pair_before cmp m n ≡ true → IsBeforeEach cmp n ks → IsBeforeEach cmp m ks
+  before_all : (m n : Message P) (ks : List (Message P)) → pair_before cmp m n ≡ true → IsBeforeEach cmp n ks
+      → IsBeforeEach cmp m ks
   before_all m n [] e h = tt
   before_all m n (k ∷ ks) e h = (before_each_other m n k e h.0, before_all m n ks e h.1)
 
-  inserted_by_pair : (m : Message P) (ns : List (Message P)) → find (same_pair cmp m) ns ≡ None → IsByPair cmp ns → IsByPair cmp (insert_by_pair cmp m ns)
+  inserted_by_pair : (m : Message P) (ns : List (Message P)) → find (same_pair cmp m) ns ≡ None → IsByPair cmp ns
+      → IsByPair cmp (insert_by_pair cmp m ns)
   inserted_by_pair m [] none h = (tt, tt)
-  inserted_by_pair m (n ∷ ns) none h = by_order (pair_before cmp n m) (same_pair cmp m n) refl refl none (λ e. inserted_by_pair m ns e h.1)
+  inserted_by_pair m (n ∷ ns) none h =
+      by_order (pair_before cmp n m) (same_pair cmp m n) refl refl none (λ e. inserted_by_pair m ns e h.1)
     where
-      by_order : (a b : Bool) → pair_before cmp n m ≡ a → same_pair cmp m n ≡ b → cond b (Some n) (find (same_pair cmp m) ns) ≡ None
-          → (find (same_pair cmp m) ns ≡ None → IsByPair cmp (insert_by_pair cmp m ns)) → IsByPair cmp (cond a (n ∷ insert_by_pair cmp m ns) (m ∷ n ∷ ns))
+      by_order : (a b : Bool) → pair_before cmp n m ≡ a → same_pair cmp m n ≡ b
+          → cond b (Some n) (find (same_pair cmp m) ns) ≡ None
+          → (find (same_pair cmp m) ns ≡ None → IsByPair cmp (insert_by_pair cmp m ns))
+          → IsByPair cmp (cond a (n ∷ insert_by_pair cmp m ns) (m ∷ n ∷ ns))
       by_order a true before is e ih = cc
       by_order true false before is e ih = (before_inserted n m ns before h.0, ih e)
-      by_order false false before is e ih = let first : pair_before cmp m n ≡ true = before_if_not m n before is in ((first, before_all m n ns first h.0), h)
+      by_order false false before is e ih =
+          let first : pair_before cmp m n ≡ true = before_if_not m n before is in
+          ((first, before_all m n ns first h.0), h)
 
   pub ordered_by_pair : (ms : List (Message P)) → OneForEachPair cmp ms → IsByPair cmp (by_pair cmp ms)
   ordered_by_pair [] one = tt
-  ordered_by_pair (m ∷ ms) one = inserted_by_pair m (by_pair cmp ms) (find_by_pair ms one.1 m ∙ find_from_any (same_pair cmp m) ms one.0) (ordered_by_pair ms one.1)
+  ordered_by_pair (m ∷ ms) one =
+      inserted_by_pair m (by_pair cmp ms) (find_by_pair ms one.1 m ∙ find_from_any (same_pair cmp m) ms one.0)
+      (ordered_by_pair ms one.1)

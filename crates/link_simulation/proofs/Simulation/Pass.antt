@@ -1,5 +1,7 @@
--- Waking is one pass through the pairs that are ready, in the order of pairs, and ends with nothing done and nothing ready.
-use Rattle.std.proofs.Common.{◌≡◌, ℕ, zero, suc, ◌+◌, ◌≤◌, List, [], ◌∷◌, length, Bool, true, false, cond, not, Option, Some, None, refl, sym, ap, ◌∙◌, subst, arith}
+-- Waking is one pass through the pairs that are ready, in the order of pairs, and ends with nothing done and nothing
+-- ready.
+use Rattle.std.proofs.Common.{◌≡◌, ℕ, zero, suc, ◌+◌, ◌≤◌, List, [], ◌∷◌, length, Bool, true, false, cond, not, Option}
+use Rattle.std.proofs.Common.{Some, None, refl, sym, ap, ◌∙◌, subst, arith}
 use Rattle.std.specs.Prelude.{nat_le, ⊤}
 use Rattle.std.specs.List.{filter, find, list_any}
 use Rattle.std.specs.declared.cmp.Ordering.{Ordering}
@@ -15,20 +17,26 @@ use Rattle.link_simulation.specs.Simulation.Messages.{Message, OneForEachPair, p
 use Rattle.link_simulation.specs.Simulation.Pass.{IsByPair, by_pair, wake_each}
 use Rattle.fair_rates.specs.declared.error.Error.TheVariants.{FlowIdsUsedUp, MomentTooLate}
 use Rattle.link_simulation.proofs.Simulation.Queue.{pair_like, pair_sym, settle_none, settle_first}
-use Rattle.link_simulation.proofs.Simulation.SettlingEnds.{length_without, ends_preceded, ends_and_then, ends_cond, NoneDone, settle_rests}
-use Rattle.link_simulation.proofs.Simulation.OtherPairs.{each_more, each_of, find_kept, any_from_find, Leaves, pair_other, ends_more, fronts_are_first, ready_without, start_settles, any_none}
+use Rattle.link_simulation.proofs.Simulation.SettlingEnds.{length_without, ends_preceded, ends_and_then, ends_cond}
+use Rattle.link_simulation.proofs.Simulation.SettlingEnds.{NoneDone, settle_rests}
+use Rattle.link_simulation.proofs.Simulation.OtherPairs.{each_more, each_of, find_kept, any_from_find, Leaves}
+use Rattle.link_simulation.proofs.Simulation.OtherPairs.{pair_other, ends_more, fronts_are_first, ready_without}
+use Rattle.link_simulation.proofs.Simulation.OtherPairs.{start_settles, any_none}
 use Rattle.link_simulation.proofs.Simulation.AlikeMessages.{pair_itself}
 use Rattle.fair_rates.proofs.Lists.Each.{Each, each_filtered}
 use Rattle.fair_rates.proofs.Lists.Filters.{find_from_any, length-without_first, none_long}
-use Rattle.link_simulation.proofs.Simulation.PairOrder.{apart_if_before, least_none, least_is, found_in, as_each, find_nowhere, find_by_pair, ordered_by_pair}
+use Rattle.link_simulation.proofs.Simulation.PairOrder.{apart_if_before, least_none, least_is, found_in, as_each}
+use Rattle.link_simulation.proofs.Simulation.PairOrder.{find_nowhere, find_by_pair, ordered_by_pair}
 
 -- ---- courses
 
-pub and_then_alike : {X S : Type 0} (c : Course X S) (k l : S → Course X S) → EndsWith (λ s. k s ≡ l s) c → and_then c k ≡ and_then c l
+pub and_then_alike : {X S : Type 0} (c : Course X S) (k l : S → Course X S) → EndsWith (λ s. k s ≡ l s) c
+    → and_then c k ≡ and_then c l
 and_then_alike (goes xs s) k l same = ap (preceded xs) same
 and_then_alike (meets fault) k l same = refl
 
-pub ends_both : {X S : Type 0} (Q R : S → Type 0) (c : Course X S) → EndsWith Q c → EndsWith R c → EndsWith (λ s. Q s × R s) c
+pub ends_both : {X S : Type 0} (Q R : S → Type 0) (c : Course X S) → EndsWith Q c → EndsWith R c
+    → EndsWith (λ s. Q s × R s) c
 ends_both Q R (goes xs s) h k = (h, k)
 ends_both Q R (meets fault) h k = tt
 
@@ -46,47 +54,64 @@ module _ {P : Type 0} (cmp : P → P → Ordering) (order : IsTotalOrder cmp) wh
 
   start_waits : (n : ℕ) (w : World P) (m : Message P) → WaitAtMost n w → EndsWith (WaitAtMost n) (start cmp w m)
   start_waits n w m h =
-      let fewer : length (without_first (same_pair cmp m) w.waiting) ≤ length w.waiting = length-without_first (same_pair cmp m) w.waiting in
+      let fewer : length (without_first (same_pair cmp m) w.waiting) ≤ length w.waiting =
+      length-without_first (same_pair cmp m) w.waiting in
       ends_cond (WaitAtMost n) (nat_le last_moment w.next_id) (meets FlowIdsUsedUp) _ tt (omega arith)
 
-  start_takes : (n : ℕ) (w : World P) (m x : Message P) → find (same_pair cmp m) w.waiting ≡ Some x → WaitAtMost (suc n) w → EndsWith (WaitAtMost n) (start cmp w m)
+  start_takes : (n : ℕ) (w : World P) (m x : Message P) → find (same_pair cmp m) w.waiting ≡ Some x
+      → WaitAtMost (suc n) w → EndsWith (WaitAtMost n) (start cmp w m)
   start_takes n w m x e h =
-      let fewer : length (without_first (same_pair cmp m) w.waiting) + 1 ≡ length w.waiting = length_without (same_pair cmp m) x w.waiting e in
+      let fewer : length (without_first (same_pair cmp m) w.waiting) + 1 ≡ length w.waiting =
+      length_without (same_pair cmp m) x w.waiting e in
       ends_cond (WaitAtMost n) (nat_le last_moment w.next_id) (meets FlowIdsUsedUp) _ tt (omega arith)
 
-  next_waits : (n t : ℕ) (w : World P) (o : Option (Message P)) → WaitAtMost n w → EndsWith (WaitAtMost n) (start_next cmp t w o)
+  next_waits : (n t : ℕ) (w : World P) (o : Option (Message P)) → WaitAtMost n w
+      → EndsWith (WaitAtMost n) (start_next cmp t w o)
   next_waits n t w None h = h
-  next_waits n t w (Some x) h = ends_cond (WaitAtMost n) (may_start cmp t w x) (start cmp w x) (goes [] w) (start_waits n w x h) h
+  next_waits n t w (Some x) h =
+      ends_cond (WaitAtMost n) (may_start cmp t w x) (start cmp w x) (goes [] w) (start_waits n w x h) h
 
-  complete_waits : (n t : ℕ) (w : World P) (m : Message P) → WaitAtMost n w → EndsWith (WaitAtMost n) (complete cmp t w m)
+  complete_waits : (n t : ℕ) (w : World P) (m : Message P) → WaitAtMost n w
+      → EndsWith (WaitAtMost n) (complete cmp t w m)
   complete_waits n t w m h =
       let landed : World P = out_of_flight cmp t w m in
       ends_cond (WaitAtMost n) (is_late cmp t m) (meets MomentTooLate) _ tt
-      (ends_preceded (WaitAtMost n) (completed cmp t m ∷ []) (start_next cmp t landed (first_waiting cmp landed m)) (next_waits n t landed (first_waiting cmp landed m) h))
+      (ends_preceded (WaitAtMost n) (completed cmp t m ∷ []) (start_next cmp t landed (first_waiting cmp landed m))
+      (next_waits n t landed (first_waiting cmp landed m) h))
 
   -- what a property of worlds needs to outlast settling
-  pub settle_keeps : (Q : World P → Type 0) (t : ℕ) → ((w : World P) (f : Flight P) → find (is_done cmp w) w.sending ≡ Some f → Q w → EndsWith Q (complete cmp t w f.message))
+  pub settle_keeps : (Q : World P → Type 0) (t : ℕ)
+      → ((w : World P) (f : Flight P) → find (is_done cmp w) w.sending ≡ Some f → Q w
+      → EndsWith Q (complete cmp t w f.message))
       → (n : ℕ) (w : World P) → Q w → EndsWith Q (settle_within cmp n t w)
   settle_keeps Q t step zero w h = h
   settle_keeps Q t step (suc n) w h = by_first (find (is_done cmp w) w.sending) refl (settle_keeps Q t step n)
     where
-      by_first : (o : Option (Flight P)) → find (is_done cmp w) w.sending ≡ o → ((v : World P) → Q v → EndsWith Q (settle_within cmp n t v)) → EndsWith Q (settle_within cmp (suc n) t w)
-      by_first None e ih = subst (λ (c : Course (Completed P) (World P)). EndsWith Q c) (sym (settle_none cmp order n t w e)) h
+      by_first : (o : Option (Flight P)) → find (is_done cmp w) w.sending ≡ o
+          → ((v : World P) → Q v → EndsWith Q (settle_within cmp n t v)) → EndsWith Q (settle_within cmp (suc n) t w)
+      by_first None e ih =
+          subst (λ (c : Course (Completed P) (World P)). EndsWith Q c) (sym (settle_none cmp order n t w e)) h
       by_first (Some f) e ih =
           subst (λ (c : Course (Completed P) (World P)). EndsWith Q c) (sym (settle_first cmp order n t w f e))
           (ends_and_then Q Q (complete cmp t w f.message) (settle_within cmp n t) (step w f e h) ih)
 
   settle_waits : (n t : ℕ) (w : World P) → WaitAtMost n w → EndsWith (WaitAtMost n) (settle cmp t w)
-  settle_waits n t w h = settle_keeps (WaitAtMost n) t (λ v f e k. complete_waits n t v f.message k) (length w.sending + length w.waiting) w h
+  settle_waits n t w h =
+      settle_keeps (WaitAtMost n) t (λ v f e k. complete_waits n t v f.message k) (length w.sending + length w.waiting)
+      w h
 
   -- ---- one start with its settling
 
-  pub turn_waits : (n t : ℕ) (w : World P) (m x : Message P) → find (same_pair cmp m) w.waiting ≡ Some x → WaitAtMost (suc n) w → EndsWith (WaitAtMost n) (turn cmp t w m)
-  turn_waits n t w m x e h = ends_and_then (WaitAtMost n) (WaitAtMost n) (start cmp w m) (settle cmp t) (start_takes n w m x e h) (λ v k. settle_waits n t v k)
+  pub turn_waits : (n t : ℕ) (w : World P) (m x : Message P) → find (same_pair cmp m) w.waiting ≡ Some x
+      → WaitAtMost (suc n) w → EndsWith (WaitAtMost n) (turn cmp t w m)
+  turn_waits n t w m x e h =
+      ends_and_then (WaitAtMost n) (WaitAtMost n) (start cmp w m) (settle cmp t) (start_takes n w m x e h)
+      (λ v k. settle_waits n t v k)
 
   pub turn_rests : (t : ℕ) (w : World P) (m : Message P) → EndsWith (NoneDone cmp order) (turn cmp t w m)
   turn_rests t w m =
-      ends_and_then (λ (v : World P). ⊤) (NoneDone cmp order) (start cmp w m) (settle cmp t) (ends_any (λ (v : World P). ⊤) (start cmp w m) (λ v. tt)) (λ v h. settle_rests cmp order t v)
+      ends_and_then (λ (v : World P). ⊤) (NoneDone cmp order) (start cmp w m) (settle cmp t)
+      (ends_any (λ (v : World P). ⊤) (start cmp w m) (λ v. tt)) (λ v h. settle_rests cmp order t v)
 
   -- ---- one step of waking
 
@@ -94,13 +119,19 @@ module _ {P : Type 0} (cmp : P → P → Ordering) (order : IsTotalOrder cmp) wh
   wake_none zero t w e = refl
   wake_none (suc n) t w e = rw (e, wake_within) refl
 
-  pub wake_first : (n t : ℕ) (w : World P) (m : Message P) → least_pair cmp (ready cmp t w) ≡ Some m → wake_within cmp (suc n) t w ≡ and_then (turn cmp t w m) (wake_within cmp n t)
+  pub wake_first : (n t : ℕ) (w : World P) (m : Message P) → least_pair cmp (ready cmp t w) ≡ Some m
+      → wake_within cmp (suc n) t w ≡ and_then (turn cmp t w m) (wake_within cmp n t)
   wake_first n t w m e = rw (e, wake_within) refl
 
-  ready_is_front : (t : ℕ) (w : World P) (k x : Message P) → find (same_pair cmp k) (ready cmp t w) ≡ Some x → find (same_pair cmp x) w.waiting ≡ Some x
+  ready_is_front : (t : ℕ) (w : World P) (k x : Message P) → find (same_pair cmp k) (ready cmp t w) ≡ Some x
+      → find (same_pair cmp x) w.waiting ≡ Some x
   ready_is_front t w k x e =
-      (found_in cmp order (λ (n : Message P). (find (same_pair cmp n) w.waiting ≡ Some n) × (may_start cmp t w n ≡ true)) (same_pair cmp k) x (ready cmp t w)
-      (each_filtered (λ (n : Message P). find (same_pair cmp n) w.waiting ≡ Some n) (may_start cmp t w) (fronts cmp w.waiting) (fronts_are_first cmp order w.waiting)) e).0
+      (found_in cmp order
+      (λ (n : Message P). (find (same_pair cmp n) w.waiting ≡ Some n) × (may_start cmp t w n ≡ true))
+      (same_pair cmp k) x (ready cmp t w)
+      (each_filtered (λ (n : Message P). find (same_pair cmp n) w.waiting ≡ Some n) (may_start cmp t w)
+      (fronts cmp w.waiting) (fronts_are_first cmp order w.waiting))
+      e).0
 
   ready_in_none : (t : ℕ) (w : World P) → w.waiting ≡ [] → ready cmp t w ≡ []
   ready_in_none t w e = rw e refl
@@ -110,48 +141,59 @@ module _ {P : Type 0} (cmp : P → P → Ordering) (order : IsTotalOrder cmp) wh
   abbrev pub NothingLeft : ℕ → World P → Type 0
   NothingLeft t v = NoneDone cmp order v × (ready cmp t v ≡ [])
 
-  pub wake_within_ends : (n t : ℕ) (w : World P) → NoneDone cmp order w → WaitAtMost n w → EndsWith (NothingLeft t) (wake_within cmp n t w)
+  pub wake_within_ends : (n t : ℕ) (w : World P) → NoneDone cmp order w → WaitAtMost n w
+      → EndsWith (NothingLeft t) (wake_within cmp n t w)
   wake_within_ends zero t w none h = (none, ready_in_none t w (none_long w.waiting h))
   wake_within_ends (suc n) t w none h = by_least (least_pair cmp (ready cmp t w)) refl (wake_within_ends n t)
     where
       by_least : (o : Option (Message P)) → least_pair cmp (ready cmp t w) ≡ o
-          → ((v : World P) → NoneDone cmp order v → WaitAtMost n v → EndsWith (NothingLeft t) (wake_within cmp n t v)) → EndsWith (NothingLeft t) (wake_within cmp (suc n) t w)
+          → ((v : World P) → NoneDone cmp order v → WaitAtMost n v → EndsWith (NothingLeft t) (wake_within cmp n t v))
+          → EndsWith (NothingLeft t) (wake_within cmp (suc n) t w)
       by_least None e ih =
           let empty : ready cmp t w ≡ [] = least_none cmp order (ready cmp t w) e in
-          subst (λ (c : Course (Completed P) (World P)). EndsWith (NothingLeft t) c) (sym (wake_none (suc n) t w empty)) (none, empty)
+          subst (λ (c : Course (Completed P) (World P)). EndsWith (NothingLeft t) c) (sym (wake_none (suc n) t w empty))
+          (none, empty)
       by_least (Some m) e ih =
           let found : find (same_pair cmp m) (ready cmp t w) ≡ Some m = (least_is cmp order m (ready cmp t w) e).0 in
           subst (λ (c : Course (Completed P) (World P)). EndsWith (NothingLeft t) c) (sym (wake_first n t w m e))
-          (ends_and_then (λ (v : World P). NoneDone cmp order v × WaitAtMost n v) (NothingLeft t) (turn cmp t w m) (wake_within cmp n t)
-          (ends_both (NoneDone cmp order) (WaitAtMost n) (turn cmp t w m) (turn_rests t w m) (turn_waits n t w m m (ready_is_front t w m m found) h))
+          (ends_and_then (λ (v : World P). NoneDone cmp order v × WaitAtMost n v) (NothingLeft t) (turn cmp t w m)
+          (wake_within cmp n t)
+          (ends_both (NoneDone cmp order) (WaitAtMost n) (turn cmp t w m) (turn_rests t w m)
+          (turn_waits n t w m m (ready_is_front t w m m found) h))
           (λ v k. ih v k.0 k.1))
 
   -- after waking a settled world, nothing is done and nothing may start
-  pub wake_ends_quiet : (t : ℕ) (w : World P) → list_any (is_done cmp w) w.sending ≡ false → EndsWith (IsQuiet cmp t) (wake cmp t w)
+  pub wake_ends_quiet : (t : ℕ) (w : World P) → list_any (is_done cmp w) w.sending ≡ false
+      → EndsWith (IsQuiet cmp t) (wake cmp t w)
   wake_ends_quiet t w none =
-      ends_more cmp order (NothingLeft t) (IsQuiet cmp t) (wake cmp t w) (λ v k. record { none_done = any_from_find (is_done cmp v) v.sending k.0; none_ready = k.1 })
+      ends_more cmp order (NothingLeft t) (IsQuiet cmp t) (wake cmp t w)
+      (λ v k. record { none_done = any_from_find (is_done cmp v) v.sending k.0; none_ready = k.1 })
       (wake_within_ends (length w.waiting) t w (find_from_any (is_done cmp w) w.sending none) (omega arith))
 
   -- ---- waking is one pass
 
-  pub find_without : (k m : Message P) (xs : List (Message P)) → same_pair cmp m k ≡ true → find (same_pair cmp k) (filter (λ n. not (same_pair cmp m n)) xs) ≡ None
+  pub find_without : (k m : Message P) (xs : List (Message P)) → same_pair cmp m k ≡ true
+      → find (same_pair cmp k) (filter (λ n. not (same_pair cmp m n)) xs) ≡ None
   find_without k m xs e =
       find_nowhere cmp order (same_pair cmp k) (filter (λ n. not (same_pair cmp m n)) xs)
       (each_more (λ (n : Message P). ⊤ × (not (same_pair cmp m n) ≡ true))
       (λ (n : Message P). same_pair cmp k n ≡ false)
       (λ n h. pair_like cmp order m k n e ∙ not-true (same_pair cmp m n) h.1)
       (filter (λ n. not (same_pair cmp m n)) xs)
-      (each_filtered (λ (n : Message P). ⊤) (λ n. not (same_pair cmp m n)) xs (each_of (λ (n : Message P). ⊤) (λ n. tt) xs)))
+      (each_filtered (λ (n : Message P). ⊤) (λ n. not (same_pair cmp m n)) xs
+      (each_of (λ (n : Message P). ⊤) (λ n. tt) xs)))
 
   -- the same pairs, with the same messages
   abbrev pub FindsAlike : List (Message P) → List (Message P) → Type 0
   FindsAlike ms ns = (k : Message P) → find (same_pair cmp k) ms ≡ find (same_pair cmp k) ns
 
   -- without its first pair
-  alike_without : (m : Message P) (ms rs : List (Message P)) → IsByPair cmp (m ∷ ms) → FindsAlike (m ∷ ms) rs → FindsAlike ms (filter (λ n. not (same_pair cmp m n)) rs)
+  alike_without : (m : Message P) (ms rs : List (Message P)) → IsByPair cmp (m ∷ ms) → FindsAlike (m ∷ ms) rs
+      → FindsAlike ms (filter (λ n. not (same_pair cmp m n)) rs)
   alike_without m ms rs h same k = by_pair_of (same_pair cmp m k) refl
     where
-      by_pair_of : (b : Bool) → same_pair cmp m k ≡ b → find (same_pair cmp k) ms ≡ find (same_pair cmp k) (filter (λ n. not (same_pair cmp m n)) rs)
+      by_pair_of : (b : Bool) → same_pair cmp m k ≡ b
+          → find (same_pair cmp k) ms ≡ find (same_pair cmp k) (filter (λ n. not (same_pair cmp m n)) rs)
       by_pair_of true e =
           find_nowhere cmp order (same_pair cmp k) ms (each_more (λ (n : Message P). pair_before cmp m n ≡ true)
           (λ (n : Message P). same_pair cmp k n ≡ false)
@@ -164,31 +206,41 @@ module _ {P : Type 0} (cmp : P → P → Ordering) (order : IsTotalOrder cmp) wh
           (λ n f. pair_other cmp order m n k e f))
 
   -- its first pair is the least
-  least_first : (m : Message P) (ms rs : List (Message P)) → IsByPair cmp (m ∷ ms) → FindsAlike (m ∷ ms) rs → least_pair cmp rs ≡ Some m
+  least_first : (m : Message P) (ms rs : List (Message P)) → IsByPair cmp (m ∷ ms) → FindsAlike (m ∷ ms) rs
+      → least_pair cmp rs ≡ Some m
   least_first m ms rs h same = by_least (least_pair cmp rs) refl
     where
       there : find (same_pair cmp m) rs ≡ Some m
       there = sym (same m) ∙ ap (λ (b : Bool). cond b (Some m) (find (same_pair cmp m) ms)) (pair_itself cmp order m)
 
-      by_test : (l : Message P) (b : Bool) → cond b (Some m) (find (same_pair cmp l) ms) ≡ Some l → pair_before cmp m l ≡ false → Some l ≡ Some m
+      by_test : (l : Message P) (b : Bool) → cond b (Some m) (find (same_pair cmp l) ms) ≡ Some l
+          → pair_before cmp m l ≡ false → Some l ≡ Some m
       by_test l true e after = sym e
-      by_test l false e after = let yes : pair_before cmp m l ≡ true = found_in cmp order (λ (n : Message P). pair_before cmp m n ≡ true) (same_pair cmp l) l ms (as_each cmp order m ms h.0) e in cc
+      by_test l false e after =
+          let yes : pair_before cmp m l ≡ true =
+          found_in cmp order (λ (n : Message P). pair_before cmp m n ≡ true) (same_pair cmp l) l ms
+          (as_each cmp order m ms h.0) e in
+          cc
 
       by_least : (o : Option (Message P)) → least_pair cmp rs ≡ o → o ≡ Some m
       by_least None e = sym (ap (find (same_pair cmp m)) (least_none cmp order rs e)) ∙ there
       by_least (Some l) e =
-          let least : (find (same_pair cmp l) rs ≡ Some l) × Each (λ (n : Message P). pair_before cmp n l ≡ false) rs = least_is cmp order l rs e in
-          by_test l (same_pair cmp l m) (same l ∙ least.0) (found_in cmp order (λ (n : Message P). pair_before cmp n l ≡ false) (same_pair cmp m) m rs least.1 there)
+          let least : (find (same_pair cmp l) rs ≡ Some l) × Each (λ (n : Message P). pair_before cmp n l ≡ false) rs =
+          least_is cmp order l rs e in
+          by_test l (same_pair cmp l m) (same l ∙ least.0)
+          (found_in cmp order (λ (n : Message P). pair_before cmp n l ≡ false) (same_pair cmp m) m rs least.1 there)
 
   empty_alike : (rs : List (Message P)) → FindsAlike [] rs → rs ≡ []
   empty_alike [] same = refl
   empty_alike (r ∷ rs) same =
       let e : None ≡ cond (same_pair cmp r r) (Some r) (find (same_pair cmp r) rs) = same r in
-      let f : None ≡ Some r = e ∙ ap (λ (b : Bool). cond b (Some r) (find (same_pair cmp r) rs)) (pair_itself cmp order r) in
+      let f : None ≡ Some r =
+      e ∙ ap (λ (b : Bool). cond b (Some r) (find (same_pair cmp r) rs)) (pair_itself cmp order r) in
       cc
 
   -- going once through any list, in the order of pairs, of those that are ready
-  pub wake_within_is_pass : (n t : ℕ) (ms : List (Message P)) (w : World P) → list_any (is_done cmp w) w.sending ≡ false → WaitAtMost n w → IsByPair cmp ms
+  pub wake_within_is_pass : (n t : ℕ) (ms : List (Message P)) (w : World P) → list_any (is_done cmp w) w.sending ≡ false
+      → WaitAtMost n w → IsByPair cmp ms
       → FindsAlike ms (ready cmp t w) → wake_within cmp n t w ≡ wake_each cmp t ms w
   wake_within_is_pass n t [] w none h by same = wake_none n t w (empty_alike (ready cmp t w) same)
   wake_within_is_pass zero t (m ∷ ms) w none h by same =
@@ -200,23 +252,29 @@ module _ {P : Type 0} (cmp : P → P → Ordering) (order : IsTotalOrder cmp) wh
       let found : find (same_pair cmp m) (ready cmp t w) ≡ Some m = (least_is cmp order m (ready cmp t w) e).0 in
       wake_first n t w m e
       ∙ and_then_alike (turn cmp t w m) (wake_within cmp n t) (wake_each cmp t ms)
-      (ends_more cmp order (λ (v : World P). Leaves cmp order t m w v × (NoneDone cmp order v × WaitAtMost n v)) (λ (v : World P). wake_within cmp n t v ≡ wake_each cmp t ms v) (turn cmp t w m)
+      (ends_more cmp order (λ (v : World P). Leaves cmp order t m w v × (NoneDone cmp order v × WaitAtMost n v))
+      (λ (v : World P). wake_within cmp n t v ≡ wake_each cmp t ms v) (turn cmp t w m)
       (λ v k. wake_within_is_pass n t ms v (any_from_find (is_done cmp v) v.sending k.1.0) k.1.1 by.1
       (subst (FindsAlike ms) (sym (ready_without cmp order t m w v k.0))
       (alike_without m ms (ready cmp t w) by same)))
-      (ends_both (Leaves cmp order t m w) (λ (v : World P). NoneDone cmp order v × WaitAtMost n v) (turn cmp t w m) (start_settles cmp order t w m none)
-      (ends_both (NoneDone cmp order) (WaitAtMost n) (turn cmp t w m) (turn_rests t w m) (turn_waits n t w m m (ready_is_front t w m m found) h))))
+      (ends_both (Leaves cmp order t m w) (λ (v : World P). NoneDone cmp order v × WaitAtMost n v) (turn cmp t w m)
+      (start_settles cmp order t w m none)
+      (ends_both (NoneDone cmp order) (WaitAtMost n) (turn cmp t w m) (turn_rests t w m)
+      (turn_waits n t w m m (ready_is_front t w m m found) h))))
 
-  pub wake_is_pass : (t : ℕ) (ms : List (Message P)) (w : World P) → list_any (is_done cmp w) w.sending ≡ false → IsByPair cmp ms → FindsAlike ms (ready cmp t w) → wake cmp t w ≡ wake_each cmp t ms w
+  pub wake_is_pass : (t : ℕ) (ms : List (Message P)) (w : World P) → list_any (is_done cmp w) w.sending ≡ false
+      → IsByPair cmp ms → FindsAlike ms (ready cmp t w) → wake cmp t w ≡ wake_each cmp t ms w
   wake_is_pass t ms w none by same = wake_within_is_pass (length w.waiting) t ms w none (omega arith) by same
 
   -- ---- the list of those that are ready
 
-  one_in_filter : (keep : Message P → Bool) (xs : List (Message P)) → OneForEachPair cmp xs → OneForEachPair cmp (filter keep xs)
+  one_in_filter : (keep : Message P → Bool) (xs : List (Message P)) → OneForEachPair cmp xs
+      → OneForEachPair cmp (filter keep xs)
   one_in_filter keep [] one = tt
   one_in_filter keep (x ∷ xs) one = by_test (keep x) (one_in_filter keep xs one.1)
     where
-      by_test : (b : Bool) → OneForEachPair cmp (filter keep xs) → OneForEachPair cmp (cond b (x ∷ filter keep xs) (filter keep xs))
+      by_test : (b : Bool) → OneForEachPair cmp (filter keep xs)
+          → OneForEachPair cmp (cond b (x ∷ filter keep xs) (filter keep xs))
       by_test true ih = (any_none (same_pair cmp x) keep xs one.0, ih)
       by_test false ih = ih
 
@@ -229,10 +287,14 @@ module _ {P : Type 0} (cmp : P → P → Ordering) (order : IsTotalOrder cmp) wh
   )
 
   -- waking goes once through those that are ready, in the order of pairs, with as many steps as wait or more
-  pub wake_more_is_pass : (n t : ℕ) (w : World P) → list_any (is_done cmp w) w.sending ≡ false → WaitAtMost n w → wake_within cmp n t w ≡ wake_each cmp t (by_pair cmp (ready cmp t w)) w
+  pub wake_more_is_pass : (n t : ℕ) (w : World P) → list_any (is_done cmp w) w.sending ≡ false → WaitAtMost n w
+      → wake_within cmp n t w ≡ wake_each cmp t (by_pair cmp (ready cmp t w)) w
   wake_more_is_pass n t w none h =
-      let one : OneForEachPair cmp (ready cmp t w) = one_in_filter (may_start cmp t w) (fronts cmp w.waiting) (one_in_fronts w.waiting) in
-      wake_within_is_pass n t (by_pair cmp (ready cmp t w)) w none h (ordered_by_pair cmp order (ready cmp t w) one) (find_by_pair cmp order (ready cmp t w) one)
+      let one : OneForEachPair cmp (ready cmp t w) =
+      one_in_filter (may_start cmp t w) (fronts cmp w.waiting) (one_in_fronts w.waiting) in
+      wake_within_is_pass n t (by_pair cmp (ready cmp t w)) w none h (ordered_by_pair cmp order (ready cmp t w) one)
+      (find_by_pair cmp order (ready cmp t w) one)
 
-  pub wake_is_one_pass : (t : ℕ) (w : World P) → list_any (is_done cmp w) w.sending ≡ false → wake cmp t w ≡ wake_each cmp t (by_pair cmp (ready cmp t w)) w
+  pub wake_is_one_pass : (t : ℕ) (w : World P) → list_any (is_done cmp w) w.sending ≡ false
+      → wake cmp t w ≡ wake_each cmp t (by_pair cmp (ready cmp t w)) w
   wake_is_one_pass t w none = wake_more_is_pass (length w.waiting) t w none (omega arith)

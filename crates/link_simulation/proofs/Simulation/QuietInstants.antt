@@ -1,5 +1,7 @@
--- An instant ends in quiet, and leaves a quiet world as it is; so does each call end in quiet, and the next event comes later.
-use Rattle.std.proofs.Common.{◌≡◌, ℕ, zero, suc, ◌+◌, ◌-◌, ◌<◌, ◌≤◌, List, [], ◌∷◌, ◌++◌, length, Bool, true, false, cond, not, Option, Some, None, refl, sym, ap, ◌∙◌, subst, arith}
+-- An instant ends in quiet, and leaves a quiet world as it is; so does each call end in quiet, and the next event comes
+-- later.
+use Rattle.std.proofs.Common.{◌≡◌, ℕ, zero, suc, ◌+◌, ◌-◌, ◌<◌, ◌≤◌, List, [], ◌∷◌, ◌++◌, length, Bool, true, false}
+use Rattle.std.proofs.Common.{cond, not, Option, Some, None, refl, sym, ap, ◌∙◌, subst, arith}
 use Rattle.std.specs.Prelude.{◌&&◌, nat_lt, nat_le, max, if◌then◌else◌, IfSome}
 use Rattle.std.specs.List.{filter, find}
 use Rattle.std.specs.declared.cmp.Ordering.{Ordering}
@@ -11,28 +13,36 @@ use Rattle.link_simulation.specs.Simulation.World.{Completed, Course, EndsWith, 
 use Rattle.link_simulation.specs.Simulation.World.{first_waiting, fronts, goes, instant, is_done, is_idle, is_in_order}
 use Rattle.link_simulation.specs.Simulation.World.{last_moment, later_of, least_pair, may_start, meets, raised, ready}
 use Rattle.link_simulation.specs.Simulation.World.{settle, settle_within, start, start_next, turn, wake, wake_within}
-use Rattle.link_simulation.specs.Simulation.Calls.{Call, Runs, act, call_advance, call_enqueue, call_limit, call_next, complete_at_once, moment_of, limited_by, rebalance, call_limit_link, linked_by}
+use Rattle.link_simulation.specs.Simulation.Calls.{Call, Runs, act, call_advance, call_enqueue, call_limit, call_next}
+use Rattle.link_simulation.specs.Simulation.Calls.{complete_at_once, moment_of, limited_by, rebalance, call_limit_link}
+use Rattle.link_simulation.specs.Simulation.Calls.{linked_by}
 use Rattle.link_simulation.specs.Simulation.Messages.{Message, same_pair, Caps}
-use Rattle.link_simulation.specs.Simulation.Time.{no_time, Drains, NextIs, Passes, Ticks, comes_next, never_comes, no_tick, one_tick, quiet_tick, tick_faults}
+use Rattle.link_simulation.specs.Simulation.Time.{no_time, Drains, NextIs, Passes, Ticks, comes_next, never_comes}
+use Rattle.link_simulation.specs.Simulation.Time.{no_tick, one_tick, quiet_tick, tick_faults}
 use Rattle.fair_rates.specs.declared.error.Error.TheVariants.{MomentTooLate}
 use Rattle.link_simulation.proofs.Simulation.Queue.{settle_none, preceded_none}
-use Rattle.link_simulation.proofs.Simulation.SettlingEnds.{ends_preceded, ends_and_then, ends_cond, NoneDone, settle_rests}
-use Rattle.link_simulation.proofs.Simulation.OtherPairs.{Leaves, ends_more, leaves_like, next_leaves, start_leaves, complete_leaves, ready_without, any_from_find, IsButFor}
+use Rattle.link_simulation.proofs.Simulation.SettlingEnds.{ends_preceded, ends_and_then, ends_cond, NoneDone}
+use Rattle.link_simulation.proofs.Simulation.SettlingEnds.{settle_rests}
+use Rattle.link_simulation.proofs.Simulation.OtherPairs.{Leaves, ends_more, leaves_like, next_leaves, start_leaves}
+use Rattle.link_simulation.proofs.Simulation.OtherPairs.{complete_leaves, ready_without, any_from_find, IsButFor}
 use Rattle.link_simulation.proofs.Simulation.AlikeMessages.{pair_itself}
 use Rattle.fair_rates.proofs.Lists.Filters.{find_from_any}
 use Rattle.link_simulation.proofs.Simulation.Pass.{ends_both, settle_keeps, wake_none, wake_first, wake_ends_quiet}
 
-filter_none : {X : Type 0} (p q : X → Bool) (xs : List X) → ((x : X) → p x ≡ true → q x ≡ true) → filter q xs ≡ [] → filter p xs ≡ []
+filter_none : {X : Type 0} (p q : X → Bool) (xs : List X) → ((x : X) → p x ≡ true → q x ≡ true) → filter q xs ≡ []
+    → filter p xs ≡ []
 filter_none p q [] more e = refl
 filter_none {X} p q (x ∷ xs) more e = by_tests (p x) (q x) refl refl e (filter_none p q xs more)
   where
-    by_tests : (a b : Bool) → p x ≡ a → q x ≡ b → cond b (x ∷ filter q xs) (filter q xs) ≡ [] → (filter q xs ≡ [] → filter p xs ≡ []) → cond a (x ∷ filter p xs) (filter p xs) ≡ []
+    by_tests : (a b : Bool) → p x ≡ a → q x ≡ b → cond b (x ∷ filter q xs) (filter q xs) ≡ []
+        → (filter q xs ≡ [] → filter p xs ≡ []) → cond a (x ∷ filter p xs) (filter p xs) ≡ []
     by_tests true true is as_well e ih = cc
     by_tests true false is as_well e ih = let yes : q x ≡ true = more x is in cc
     by_tests false true is as_well e ih = cc
     by_tests false false is as_well e ih = ih e
 
-later_in_order : (last : Option ℕ) (at moment : ℕ) → is_in_order (Some (later_of last at)) moment ≡ true → is_in_order last moment ≡ true
+later_in_order : (last : Option ℕ) (at moment : ℕ) → is_in_order (Some (later_of last at)) moment ≡ true
+    → is_in_order last moment ≡ true
 later_in_order None at moment e = refl
 later_in_order (Some last) at moment e = below last at moment e
   where
@@ -46,16 +56,21 @@ module _ {P : Type 0} (cmp : P → P → Ordering) (order : IsTotalOrder cmp) wh
   IsAt t v = v.moment ≡ t
 
   -- what one pair's change leaves alone outlasts settling
-  pub settle_outlasts : (Q : World P → Type 0) → ((m : Message P) (v u : World P) → IsButFor cmp m v u → Q v → Q u) → (t : ℕ) (w : World P) → Q w → EndsWith Q (settle cmp t w)
+  pub settle_outlasts : (Q : World P → Type 0) → ((m : Message P) (v u : World P) → IsButFor cmp m v u → Q v → Q u)
+      → (t : ℕ) (w : World P) → Q w → EndsWith Q (settle cmp t w)
   settle_outlasts Q kept t w h =
       settle_keeps cmp order Q t
-      (λ v f e k. ends_more cmp order (Leaves cmp order t f.message v) Q (complete cmp t v f.message) (λ u l. kept f.message v u l.others k) (complete_leaves cmp order t v f e))
+      (λ v f e k. ends_more cmp order (Leaves cmp order t f.message v) Q (complete cmp t v f.message)
+      (λ u l. kept f.message v u l.others k) (complete_leaves cmp order t v f e))
       (length w.sending + length w.waiting) w h
 
-  pub turn_outlasts : (Q : World P → Type 0) → ((m : Message P) (v u : World P) → IsButFor cmp m v u → Q v → Q u) → (t : ℕ) (w : World P) (m : Message P) → Q w → EndsWith Q (turn cmp t w m)
+  pub turn_outlasts : (Q : World P → Type 0) → ((m : Message P) (v u : World P) → IsButFor cmp m v u → Q v → Q u)
+      → (t : ℕ) (w : World P) (m : Message P) → Q w → EndsWith Q (turn cmp t w m)
   turn_outlasts Q kept t w m h =
       ends_and_then Q Q (start cmp w m) (settle cmp t)
-      (ends_more cmp order (Leaves cmp order t m w) Q (start cmp w m) (λ u l. kept m w u l.others h) (start_leaves cmp order t w m)) (λ v k. settle_outlasts Q kept t v k)
+      (ends_more cmp order (Leaves cmp order t m w) Q (start cmp w m) (λ u l. kept m w u l.others h)
+      (start_leaves cmp order t w m))
+      (λ v k. settle_outlasts Q kept t v k)
 
   at_kept : (s : ℕ) (m : Message P) (v u : World P) → IsButFor cmp m v u → IsAt s v → IsAt s u
   at_kept s m v u a h = a.moment ∙ h
@@ -64,21 +79,28 @@ module _ {P : Type 0} (cmp : P → P → Ordering) (order : IsTotalOrder cmp) wh
   settle_stays t s w h = settle_outlasts (IsAt s) (at_kept s) t w h
 
   -- what a property of worlds needs to outlast waking
-  pub wake_keeps : (Q : World P → Type 0) (t : ℕ) → ((w : World P) (m : Message P) → least_pair cmp (ready cmp t w) ≡ Some m → Q w → EndsWith Q (turn cmp t w m))
+  pub wake_keeps : (Q : World P → Type 0) (t : ℕ)
+      → ((w : World P) (m : Message P) → least_pair cmp (ready cmp t w) ≡ Some m → Q w → EndsWith Q (turn cmp t w m))
       → (n : ℕ) (w : World P) → Q w → EndsWith Q (wake_within cmp n t w)
   wake_keeps Q t step zero w h = h
   wake_keeps Q t step (suc n) w h = by_least (least_pair cmp (ready cmp t w)) refl (wake_keeps Q t step n)
     where
-      by_least : (o : Option (Message P)) → least_pair cmp (ready cmp t w) ≡ o → ((v : World P) → Q v → EndsWith Q (wake_within cmp n t v)) → EndsWith Q (wake_within cmp (suc n) t w)
+      by_least : (o : Option (Message P)) → least_pair cmp (ready cmp t w) ≡ o
+          → ((v : World P) → Q v → EndsWith Q (wake_within cmp n t v)) → EndsWith Q (wake_within cmp (suc n) t w)
       by_least None e ih = rw (e, wake_within) h
       by_least (Some m) e ih =
-          subst (λ (c : Course (Completed P) (World P)). EndsWith Q c) (sym (wake_first cmp order n t w m e)) (ends_and_then Q Q (turn cmp t w m) (wake_within cmp n t) (step w m e h) ih)
+          subst (λ (c : Course (Completed P) (World P)). EndsWith Q c) (sym (wake_first cmp order n t w m e))
+          (ends_and_then Q Q (turn cmp t w m) (wake_within cmp n t) (step w m e h) ih)
 
-  pub wake_outlasts : (Q : World P → Type 0) → ((m : Message P) (v u : World P) → IsButFor cmp m v u → Q v → Q u) → (t : ℕ) (w : World P) → Q w → EndsWith Q (wake cmp t w)
+  pub wake_outlasts : (Q : World P → Type 0) → ((m : Message P) (v u : World P) → IsButFor cmp m v u → Q v → Q u)
+      → (t : ℕ) (w : World P) → Q w → EndsWith Q (wake cmp t w)
   wake_outlasts Q kept t w h = wake_keeps Q t (λ v m e k. turn_outlasts Q kept t v m k) (length w.waiting) w h
 
-  pub instant_outlasts : (Q : World P → Type 0) → ((m : Message P) (v u : World P) → IsButFor cmp m v u → Q v → Q u) → (w : World P) → Q w → EndsWith Q (instant cmp w)
-  instant_outlasts Q kept w h = ends_and_then Q Q (settle cmp w.moment w) (λ v. wake cmp v.moment v) (settle_outlasts Q kept w.moment w h) (λ v k. wake_outlasts Q kept v.moment v k)
+  pub instant_outlasts : (Q : World P → Type 0) → ((m : Message P) (v u : World P) → IsButFor cmp m v u → Q v → Q u)
+      → (w : World P) → Q w → EndsWith Q (instant cmp w)
+  instant_outlasts Q kept w h =
+      ends_and_then Q Q (settle cmp w.moment w) (λ v. wake cmp v.moment v) (settle_outlasts Q kept w.moment w h)
+      (λ v k. wake_outlasts Q kept v.moment v k)
 
   wake_stays : (t s : ℕ) (w : World P) → IsAt s w → EndsWith (IsAt s) (wake cmp t w)
   wake_stays t s w h = wake_outlasts (IsAt s) (at_kept s) t w h
@@ -88,7 +110,8 @@ module _ {P : Type 0} (cmp : P → P → Ordering) (order : IsTotalOrder cmp) wh
   abbrev pub IsQuietNow : World P → Type 0
   IsQuietNow v = IsQuiet cmp v.moment v
 
-  pub settle_nothing : (n t : ℕ) (w : World P) → find (is_done cmp w) w.sending ≡ None → settle_within cmp n t w ≡ goes [] w
+  pub settle_nothing : (n t : ℕ) (w : World P) → find (is_done cmp w) w.sending ≡ None
+      → settle_within cmp n t w ≡ goes [] w
   settle_nothing zero t w e = refl
   settle_nothing (suc n) t w e = settle_none cmp order n t w e
 
@@ -103,8 +126,10 @@ module _ {P : Type 0} (cmp : P → P → Ordering) (order : IsTotalOrder cmp) wh
   -- after an instant the world is quiet
   pub instant_ends_quiet : (w : World P) → EndsWith IsQuietNow (instant cmp w)
   instant_ends_quiet w =
-      ends_and_then (λ (v : World P). NoneDone cmp order v) IsQuietNow (settle cmp w.moment w) (λ v. wake cmp v.moment v) (settle_rests cmp order w.moment w)
-      (λ v no_tick. ends_more cmp order (λ (u : World P). IsQuiet cmp v.moment u × IsAt v.moment u) IsQuietNow (wake cmp v.moment v) (λ u k. subst (λ (t : ℕ). IsQuiet cmp t u) (sym k.1) k.0)
+      ends_and_then (λ (v : World P). NoneDone cmp order v) IsQuietNow (settle cmp w.moment w)
+      (λ v. wake cmp v.moment v) (settle_rests cmp order w.moment w)
+      (λ v no_tick. ends_more cmp order (λ (u : World P). IsQuiet cmp v.moment u × IsAt v.moment u) IsQuietNow
+      (wake cmp v.moment v) (λ u k. subst (λ (t : ℕ). IsQuiet cmp t u) (sym k.1) k.0)
       (ends_both (IsQuiet cmp v.moment) (IsAt v.moment) (wake cmp v.moment v)
       (wake_ends_quiet cmp order v.moment v (any_from_find (is_done cmp v) v.sending no_tick))
       (wake_stays v.moment v.moment v refl)))
@@ -114,17 +139,20 @@ module _ {P : Type 0} (cmp : P → P → Ordering) (order : IsTotalOrder cmp) wh
 
   -- a world that its instant leaves as it is is quiet
   pub quiet_if_unchanged : (w : World P) → instant cmp w ≡ goes [] w → IsQuietNow w
-  quiet_if_unchanged w e = subst (λ (c : Course (Completed P) (World P)). EndsWith IsQuietNow c) e (instant_ends_quiet w)
+  quiet_if_unchanged w e =
+      subst (λ (c : Course (Completed P) (World P)). EndsWith IsQuietNow c) e (instant_ends_quiet w)
 
   -- ---- ticks
 
   pub next_moment : (w v : World P) → Drains cmp w v → v.moment ≡ w.moment + 1
   next_moment w v d = ap (λ (u : World P). u.moment) d.world
 
-  pub ends_at : (Q : World P → Type 0) (c : Course (Completed P) (World P)) (xs : List (Completed P)) (v : World P) → c ≡ goes xs v → EndsWith Q c → Q v
+  pub ends_at : (Q : World P → Type 0) (c : Course (Completed P) (World P)) (xs : List (Completed P)) (v : World P)
+      → c ≡ goes xs v → EndsWith Q c → Q v
   ends_at Q c xs v e h = subst (EndsWith Q) e h
 
-  pub ticks_end_at : {n : ℕ} {w : World P} {c : Course (Completed P) (World P)} → Ticks cmp n w c → EndsWith (IsAt (w.moment + n)) c
+  pub ticks_end_at : {n : ℕ} {w : World P} {c : Course (Completed P) (World P)} → Ticks cmp n w c
+      → EndsWith (IsAt (w.moment + n)) c
   ticks_end_at {w = w} no_tick = let e : w.moment ≡ w.moment + 0 = omega arith in e
   ticks_end_at (one_tick {n = n} {w = w} {v = v} {u = u} {cs = cs} {rest = rest} d i t) =
       let now : u.moment ≡ v.moment = ends_at (IsAt v.moment) (instant cmp v) cs u i (instant_stays v) in
@@ -134,9 +162,12 @@ module _ {P : Type 0} (cmp : P → P → Ordering) (order : IsTotalOrder cmp) wh
   ticks_end_at (tick_faults d i) = tt
 
   -- a world that was quiet is quiet after ticks
-  pub ticks_end_quiet : {n : ℕ} {w : World P} {c : Course (Completed P) (World P)} → Ticks cmp n w c → IsQuietNow w → EndsWith IsQuietNow c
+  pub ticks_end_quiet : {n : ℕ} {w : World P} {c : Course (Completed P) (World P)} → Ticks cmp n w c → IsQuietNow w
+      → EndsWith IsQuietNow c
   ticks_end_quiet no_tick q = q
-  ticks_end_quiet (one_tick {v = v} {u = u} {cs = cs} {rest = rest} d i t) q = ends_preceded IsQuietNow cs rest (ticks_end_quiet t (ends_at IsQuietNow (instant cmp v) cs u i (instant_ends_quiet v)))
+  ticks_end_quiet (one_tick {v = v} {u = u} {cs = cs} {rest = rest} d i t) q =
+      ends_preceded IsQuietNow cs rest
+      (ticks_end_quiet t (ends_at IsQuietNow (instant cmp v) cs u i (instant_ends_quiet v)))
   ticks_end_quiet (tick_faults d i) q = tt
 
   -- ---- calls
@@ -150,7 +181,8 @@ module _ {P : Type 0} (cmp : P → P → Ordering) (order : IsTotalOrder cmp) wh
   settle_unready : (t : ℕ) (w : World P) → NoneReady t w → EndsWith (NoneReady t) (settle cmp t w)
   settle_unready t w h =
       settle_keeps cmp order (NoneReady t) t
-      (λ v f e k. ends_more cmp order (Leaves cmp order t f.message v) (NoneReady t) (complete cmp t v f.message) (λ u l. stays_unready t f.message v u k l) (complete_leaves cmp order t v f e))
+      (λ v f e k. ends_more cmp order (Leaves cmp order t f.message v) (NoneReady t) (complete cmp t v f.message)
+      (λ u l. stays_unready t f.message v u k l) (complete_leaves cmp order t v f e))
       (length w.sending + length w.waiting) w h
 
   -- settling a world in which none may start ends in quiet
@@ -158,7 +190,8 @@ module _ {P : Type 0} (cmp : P → P → Ordering) (order : IsTotalOrder cmp) wh
   settle_ends_quiet t w h =
       ends_more cmp order (λ (v : World P). NoneDone cmp order v × NoneReady t v) (IsQuiet cmp t) (settle cmp t w)
       (λ v k. record { none_done = any_from_find (is_done cmp v) v.sending k.0; none_ready = k.1 })
-      (ends_both (NoneDone cmp order) (NoneReady t) (settle cmp t w) (settle_rests cmp order t w) (settle_unready t w h))
+      (ends_both (NoneDone cmp order) (NoneReady t) (settle cmp t w) (settle_rests cmp order t w)
+      (settle_unready t w h))
 
   abbrev pub queued : World P → Message P → World P
   queued w m = record w { waiting = w.waiting ++ m ∷ [] }
@@ -180,10 +213,13 @@ module _ {P : Type 0} (cmp : P → P → Ordering) (order : IsTotalOrder cmp) wh
   QuietAt t v = IsQuiet cmp t v × IsAt t v
 
   enqueue_ends_quiet : (t : ℕ) (w : World P) (m : Message P) → NoneReady t w → IsAt t w
-      → EndsWith (QuietAt t) (and_then (start_next cmp t (queued w m) (first_waiting cmp (queued w m) m)) (settle cmp t))
+      → EndsWith (QuietAt t)
+      (and_then (start_next cmp t (queued w m) (first_waiting cmp (queued w m) m)) (settle cmp t))
   enqueue_ends_quiet t w m unready at =
-      ends_and_then (λ (v : World P). NoneReady t v × IsAt t v) (QuietAt t) (start_next cmp t (queued w m) (first_waiting cmp (queued w m) m)) (settle cmp t)
-      (ends_more cmp order (Leaves cmp order t m (queued w m)) (λ (v : World P). NoneReady t v × IsAt t v) (start_next cmp t (queued w m) (first_waiting cmp (queued w m) m))
+      ends_and_then (λ (v : World P). NoneReady t v × IsAt t v) (QuietAt t)
+      (start_next cmp t (queued w m) (first_waiting cmp (queued w m) m)) (settle cmp t)
+      (ends_more cmp order (Leaves cmp order t m (queued w m)) (λ (v : World P). NoneReady t v × IsAt t v)
+      (start_next cmp t (queued w m) (first_waiting cmp (queued w m) m))
       (λ v l. (
         stays_unready t m w v unready (leaves_like cmp order t m m w (queued w m) v (pair_itself cmp order m)
             (queued_but_for w m) l),
@@ -193,36 +229,49 @@ module _ {P : Type 0} (cmp : P → P → Ordering) (order : IsTotalOrder cmp) wh
       (λ v k. ends_both (IsQuiet cmp t) (IsAt t) (settle cmp t v) (settle_ends_quiet t v k.0) (settle_stays t t v k.1))
 
   -- an arrival makes none ready
-  arrival_unready : (t : ℕ) (w : World P) (m : Message P) (at : ℕ) → NoneReady t w → NoneReady t (record w { last_arrival = raised cmp w.last_arrival m at })
+  arrival_unready : (t : ℕ) (w : World P) (m : Message P) (at : ℕ) → NoneReady t w
+      → NoneReady t (record w { last_arrival = raised cmp w.last_arrival m at })
   arrival_unready t w m at unready =
-      filter_none (may_start cmp t (record w { last_arrival = raised cmp w.last_arrival m at })) (may_start cmp t w) (fronts cmp w.waiting) (λ x e. may_before x e) unready
+      filter_none (may_start cmp t (record w { last_arrival = raised cmp w.last_arrival m at })) (may_start cmp t w)
+      (fronts cmp w.waiting) (λ x e. may_before x e) unready
     where
       by_pair_of : (x : Message P) (a b : Bool)
-          → (a && is_in_order (cond b (Some (later_of (w.last_arrival x.origin x.recipient) at)) (w.last_arrival x.origin x.recipient)) (t + x.latency)) ≡ true
+          → (a
+          && is_in_order
+          (cond b (Some (later_of (w.last_arrival x.origin x.recipient) at)) (w.last_arrival x.origin x.recipient))
+          (t + x.latency))
+          ≡ true
           → (a && is_in_order (w.last_arrival x.origin x.recipient) (t + x.latency)) ≡ true
       by_pair_of x true true e = later_in_order (w.last_arrival x.origin x.recipient) at (t + x.latency) e
       by_pair_of x true false e = e
       by_pair_of x false b e = e
 
-      may_before : (x : Message P) → may_start cmp t (record w { last_arrival = raised cmp w.last_arrival m at }) x ≡ true → may_start cmp t w x ≡ true
+      may_before : (x : Message P)
+          → may_start cmp t (record w { last_arrival = raised cmp w.last_arrival m at }) x ≡ true
+          → may_start cmp t w x ≡ true
       may_before x e = by_pair_of x (is_idle cmp w x) (same_pair cmp m x) e
 
-  at_once_ends_quiet : (t : ℕ) (w : World P) (m : Message P) → QuietAt t w → EndsWith (QuietAt t) (complete_at_once cmp t w m)
+  at_once_ends_quiet : (t : ℕ) (w : World P) (m : Message P) → QuietAt t w
+      → EndsWith (QuietAt t) (complete_at_once cmp t w m)
   at_once_ends_quiet t w m q =
       let at : ℕ = if m.should_deliver then later_of (w.last_arrival m.origin m.recipient) (t + m.latency) else t in
       ends_cond (QuietAt t) (m.should_deliver && nat_lt last_moment (t + m.latency)) (meets MomentTooLate) _ tt
       (record { none_done = q.0.none_done; none_ready = arrival_unready t w m at q.0.none_ready }, q.1)
 
-  rebalance_ends_quiet : (now t : ℕ) (w : World P) (caps : Caps P) → now ≡ t → QuietAt now w → EndsWith (QuietAt now) (rebalance cmp t w caps)
+  rebalance_ends_quiet : (now t : ℕ) (w : World P) (caps : Caps P) → now ≡ t → QuietAt now w
+      → EndsWith (QuietAt now) (rebalance cmp t w caps)
   rebalance_ends_quiet now t w caps same q =
       let changed : World P = record w { caps = caps; limited = true } in
       subst (λ (s : ℕ). EndsWith (QuietAt now) (settle cmp s changed)) same
       (ends_both (IsQuiet cmp now) (IsAt now) (settle cmp now changed) (settle_ends_quiet now changed q.0.none_ready)
       (settle_stays now now changed q.1))
 
-  act_ends_quiet : (now : ℕ) (call : Call P) (w : World P) → moment_of call ≡ Some now → QuietAt now w → EndsWith (QuietAt now) (act cmp w call)
-  act_ends_quiet now (call_limit t peer egress ingress) w e q = let same : now ≡ t = cc in rebalance_ends_quiet now t w (limited_by cmp w.caps peer egress ingress) same q
-  act_ends_quiet now (call_limit_link t origin recipient cap) w e q = let same : now ≡ t = cc in rebalance_ends_quiet now t w (linked_by cmp w.caps origin recipient cap) same q
+  act_ends_quiet : (now : ℕ) (call : Call P) (w : World P) → moment_of call ≡ Some now → QuietAt now w
+      → EndsWith (QuietAt now) (act cmp w call)
+  act_ends_quiet now (call_limit t peer egress ingress) w e q =
+      let same : now ≡ t = cc in rebalance_ends_quiet now t w (limited_by cmp w.caps peer egress ingress) same q
+  act_ends_quiet now (call_limit_link t origin recipient cap) w e q =
+      let same : now ≡ t = cc in rebalance_ends_quiet now t w (linked_by cmp w.caps origin recipient cap) same q
   act_ends_quiet now (call_enqueue t m) w e q =
       let same : now ≡ t = cc in
       subst (λ (s : ℕ). EndsWith (QuietAt now) (act cmp w (call_enqueue s m))) same
@@ -248,7 +297,8 @@ module _ {P : Type 0} (cmp : P → P → Ordering) (order : IsTotalOrder cmp) wh
       omega arith
 
   -- a call on a quiet world ends in a quiet world, at the call's moment
-  pub call_ends_quiet : (w : World P) (call : Call P) (now : ℕ) (course : Course (Completed P) (World P)) → IsQuietNow w → moment_of call ≡ Some now → w.moment ≤ now
+  pub call_ends_quiet : (w : World P) (call : Call P) (now : ℕ) (course : Course (Completed P) (World P)) → IsQuietNow w
+      → moment_of call ≡ Some now → w.moment ≤ now
       → Runs cmp w call now course → EndsWith (QuietAt now) course
   call_ends_quiet w call now course q e h runs =
       let count : w.moment + (now - w.moment) ≡ now = omega arith in
@@ -257,5 +307,6 @@ module _ {P : Type 0} (cmp : P → P → Ordering) (order : IsTotalOrder cmp) wh
       (ends_more cmp order (λ (v : World P). IsQuietNow v × IsAt (w.moment + (now - w.moment)) v)
       (QuietAt now) runs.ticked (λ v k. let at : v.moment ≡ now = k.1
       ∙ count in (subst (λ (t : ℕ). IsQuiet cmp t v) at k.0, at))
-      (ends_both IsQuietNow (IsAt (w.moment + (now - w.moment))) runs.ticked (ticks_end_quiet runs.ticks q) (ticks_end_at runs.ticks)))
+      (ends_both IsQuietNow (IsAt (w.moment + (now - w.moment))) runs.ticked (ticks_end_quiet runs.ticks q)
+      (ticks_end_at runs.ticks)))
       (λ v k. act_ends_quiet now call v e k))

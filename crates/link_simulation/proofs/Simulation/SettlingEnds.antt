@@ -1,32 +1,41 @@
 -- The number of messages is steps enough: settling ends with nothing done.
-use Rattle.std.proofs.Common.{◌≡◌, ℕ, zero, suc, ◌+◌, ◌≤◌, List, [], ◌∷◌, ◌++◌, length, Bool, true, false, cond, Option, Some, None, refl, sym, ◌∙◌, subst, arith, length-append}
+use Rattle.std.proofs.Common.{◌≡◌, ℕ, zero, suc, ◌+◌, ◌≤◌, List, [], ◌∷◌, ◌++◌, length, Bool, true, false, cond, Option}
+use Rattle.std.proofs.Common.{Some, None, refl, sym, ◌∙◌, subst, arith, length-append}
 use Rattle.std.specs.Prelude.{nat_le}
 use Rattle.std.specs.List.{find}
 use Rattle.std.specs.declared.cmp.Ordering.{Ordering}
 use Rattle.std.specs.Cmp.{IsTotalOrder}
 use Rattle.fair_rates.specs.Lists.WithoutFirst.{without_first}
-use Rattle.link_simulation.specs.Simulation.World.{Completed, Course, Flight, World, and_then, complete, first_waiting, goes, is_done, last_moment, may_start, meets, preceded, settle, settle_within, start, start_next, EndsWith, out_of_flight, is_late, completed, flight_of}
+use Rattle.link_simulation.specs.Simulation.World.{Completed, Course, Flight, World, and_then, complete, first_waiting}
+use Rattle.link_simulation.specs.Simulation.World.{goes, is_done, last_moment, may_start, meets, preceded, settle}
+use Rattle.link_simulation.specs.Simulation.World.{settle_within, start, start_next, EndsWith, out_of_flight, is_late}
+use Rattle.link_simulation.specs.Simulation.World.{completed, flight_of}
 use Rattle.link_simulation.specs.Simulation.Messages.{Message, same_pair}
 use Rattle.fair_rates.specs.declared.error.Error.TheVariants.{FlowIdsUsedUp, MomentTooLate}
 use Rattle.link_simulation.proofs.Simulation.Queue.{pair_like, settle_none, settle_first, find_passes}
 
-pub ends_preceded : {X S : Type 0} (Q : S → Type 0) (xs : List X) (c : Course X S) → EndsWith Q c → EndsWith Q (preceded xs c)
+pub ends_preceded : {X S : Type 0} (Q : S → Type 0) (xs : List X) (c : Course X S) → EndsWith Q c
+    → EndsWith Q (preceded xs c)
 ends_preceded Q xs (goes ys s) h = h
 ends_preceded Q xs (meets fault) h = tt
 
-pub ends_and_then : {X S : Type 0} (R Q : S → Type 0) (c : Course X S) (k : S → Course X S) → EndsWith R c → ((s : S) → R s → EndsWith Q (k s)) → EndsWith Q (and_then c k)
+pub ends_and_then : {X S : Type 0} (R Q : S → Type 0) (c : Course X S) (k : S → Course X S) → EndsWith R c
+    → ((s : S) → R s → EndsWith Q (k s)) → EndsWith Q (and_then c k)
 ends_and_then R Q (goes xs s) k h next = ends_preceded Q xs (k s) (next s h)
 ends_and_then R Q (meets fault) k h next = tt
 
-pub ends_cond : {X S : Type 0} (Q : S → Type 0) (b : Bool) (c d : Course X S) → EndsWith Q c → EndsWith Q d → EndsWith Q (cond b c d)
+pub ends_cond : {X S : Type 0} (Q : S → Type 0) (b : Bool) (c d : Course X S) → EndsWith Q c → EndsWith Q d
+    → EndsWith Q (cond b c d)
 ends_cond Q true c d h k = h
 ends_cond Q false c d h k = k
 
-pub length_without : {X : Type 0} (test : X → Bool) (x : X) (xs : List X) → find test xs ≡ Some x → length (without_first test xs) + 1 ≡ length xs
+pub length_without : {X : Type 0} (test : X → Bool) (x : X) (xs : List X) → find test xs ≡ Some x
+    → length (without_first test xs) + 1 ≡ length xs
 length_without test x [] e = cc
 length_without {X} test x (y ∷ ys) e = by_test (test y) e (length_without test x ys)
   where
-    by_test : (b : Bool) → cond b (Some y) (find test ys) ≡ Some x → (find test ys ≡ Some x → length (without_first test ys) + 1 ≡ length ys)
+    by_test : (b : Bool) → cond b (Some y) (find test ys) ≡ Some x
+        → (find test ys ≡ Some x → length (without_first test ys) + 1 ≡ length ys)
         → length (cond b ys (y ∷ without_first test ys)) + 1 ≡ suc (length ys)
     by_test true e ih = omega arith
     by_test false e ih = let h : length (without_first test ys) + 1 ≡ length ys = ih e in omega arith
@@ -36,28 +45,36 @@ find_in_none test [] h = refl
 find_in_none test (x ∷ xs) h = absurd (omega arith)
 
 module _ {P : Type 0} (cmp : P → P → Ordering) (order : IsTotalOrder cmp) where
-  pub find_like : (m x : Message P) (ys : List (Message P)) → same_pair cmp m x ≡ true → find (same_pair cmp x) ys ≡ find (same_pair cmp m) ys
+  pub find_like : (m x : Message P) (ys : List (Message P)) → same_pair cmp m x ≡ true
+      → find (same_pair cmp x) ys ≡ find (same_pair cmp m) ys
   find_like m x [] e = refl
   find_like m x (y ∷ ys) e = rw (pair_like cmp order m x y e, find_like m x ys e) refl
 
   abbrev pub HasAtMost : ℕ → World P → Type 0
   HasAtMost n v = length v.sending + length v.waiting ≤ n
 
-  next_has : (t n : ℕ) (w : World P) (m : Message P) (o : Option (Message P)) → find (same_pair cmp m) w.waiting ≡ o → HasAtMost n w → EndsWith (HasAtMost n) (start_next cmp t w o)
+  next_has : (t n : ℕ) (w : World P) (m : Message P) (o : Option (Message P)) → find (same_pair cmp m) w.waiting ≡ o
+      → HasAtMost n w → EndsWith (HasAtMost n) (start_next cmp t w o)
   next_has t n w m None e h = h
   next_has t n w m (Some x) e h =
       let same : same_pair cmp m x ≡ true = find_passes (same_pair cmp m) x w.waiting e in
-      let fewer : length (without_first (same_pair cmp x) w.waiting) + 1 ≡ length w.waiting = length_without (same_pair cmp x) x w.waiting (find_like m x w.waiting same ∙ e) in
+      let fewer : length (without_first (same_pair cmp x) w.waiting) + 1 ≡ length w.waiting =
+      length_without (same_pair cmp x) x w.waiting (find_like m x w.waiting same ∙ e) in
       let joined : length (w.sending ++ flight_of x ∷ []) ≡ length w.sending + 1
       = length-append w.sending (flight_of x ∷ []) in
-      ends_cond (HasAtMost n) (may_start cmp t w x) (start cmp w x) (goes [] w) (ends_cond (HasAtMost n) (nat_le last_moment w.next_id) (meets FlowIdsUsedUp) _ tt (omega arith)) h
+      ends_cond (HasAtMost n) (may_start cmp t w x) (start cmp w x) (goes [] w)
+      (ends_cond (HasAtMost n) (nat_le last_moment w.next_id) (meets FlowIdsUsedUp) _ tt (omega arith)) h
 
-  pub complete_has : (t n : ℕ) (w : World P) (f : Flight P) → find (is_done cmp w) w.sending ≡ Some f → HasAtMost (suc n) w → EndsWith (HasAtMost n) (complete cmp t w f.message)
+  pub complete_has : (t n : ℕ) (w : World P) (f : Flight P) → find (is_done cmp w) w.sending ≡ Some f
+      → HasAtMost (suc n) w → EndsWith (HasAtMost n) (complete cmp t w f.message)
   complete_has t n w f e h =
-      let fewer : length (without_first (is_done cmp w) w.sending) + 1 ≡ length w.sending = length_without (is_done cmp w) f w.sending e in
+      let fewer : length (without_first (is_done cmp w) w.sending) + 1 ≡ length w.sending =
+      length_without (is_done cmp w) f w.sending e in
       let landed : World P = out_of_flight cmp t w f.message in
       ends_cond (HasAtMost n) (is_late cmp t f.message) (meets MomentTooLate) _ tt
-      (ends_preceded (HasAtMost n) (completed cmp t f.message ∷ []) (start_next cmp t landed (first_waiting cmp landed f.message)) (next_has t n landed f.message (first_waiting cmp landed f.message) refl (omega arith)))
+      (ends_preceded (HasAtMost n) (completed cmp t f.message ∷ [])
+      (start_next cmp t landed (first_waiting cmp landed f.message))
+      (next_has t n landed f.message (first_waiting cmp landed f.message) refl (omega arith)))
 
   abbrev pub NoneDone : World P → Type 0
   NoneDone v = find (is_done cmp v) v.sending ≡ None
@@ -66,11 +83,15 @@ module _ {P : Type 0} (cmp : P → P → Ordering) (order : IsTotalOrder cmp) wh
   settle_within_rests zero t w h = find_in_none (is_done cmp w) w.sending (omega arith)
   settle_within_rests (suc n) t w h = by_first (find (is_done cmp w) w.sending) refl (settle_within_rests n t)
     where
-      by_first : (o : Option (Flight P)) → find (is_done cmp w) w.sending ≡ o → ((v : World P) → HasAtMost n v → EndsWith NoneDone (settle_within cmp n t v))
+      by_first : (o : Option (Flight P)) → find (is_done cmp w) w.sending ≡ o
+          → ((v : World P) → HasAtMost n v → EndsWith NoneDone (settle_within cmp n t v))
           → EndsWith NoneDone (settle_within cmp (suc n) t w)
-      by_first None e ih = subst (λ (c : Course (Completed P) (World P)). EndsWith NoneDone c) (sym (settle_none cmp order n t w e)) e
-      by_first (Some f) e ih = subst (λ (c : Course (Completed P) (World P)). EndsWith NoneDone c) (sym (settle_first cmp order n t w f e))
-          (ends_and_then (HasAtMost n) NoneDone (complete cmp t w f.message) (settle_within cmp n t) (complete_has t n w f e h) ih)
+      by_first None e ih =
+          subst (λ (c : Course (Completed P) (World P)). EndsWith NoneDone c) (sym (settle_none cmp order n t w e)) e
+      by_first (Some f) e ih =
+          subst (λ (c : Course (Completed P) (World P)). EndsWith NoneDone c) (sym (settle_first cmp order n t w f e))
+          (ends_and_then (HasAtMost n) NoneDone (complete cmp t w f.message) (settle_within cmp n t)
+          (complete_has t n w f e h) ih)
 
   -- after settling, no message in flight is done
   pub settle_rests : (t : ℕ) (w : World P) → EndsWith NoneDone (settle cmp t w)

@@ -1,5 +1,6 @@
 -- Each call leads from a sound world to a sound world, and to one alone.
-use Rattle.std.proofs.Common.{◌≡◌, ℕ, ◌+◌, List, [], ◌∷◌, ◌++◌, length, Bool, true, false, cond, not, Option, Some, None, refl, sym, ap, ◌∙◌, subst, arith}
+use Rattle.std.proofs.Common.{◌≡◌, ℕ, ◌+◌, List, [], ◌∷◌, ◌++◌, length, Bool, true, false, cond, not, Option, Some}
+use Rattle.std.proofs.Common.{None, refl, sym, ap, ◌∙◌, subst, arith}
 use Rattle.std.specs.Prelude.{nat_le, ⊤, ◌&&◌, nat_lt, if◌then◌else◌}
 use Rattle.std.specs.List.{list_any}
 use Rattle.std.specs.declared.cmp.Ordering.{Ordering}
@@ -8,11 +9,18 @@ use Rattle.std.proofs.lemmas.List.{map-append}
 use Rattle.std.proofs.lemmas.Bool.{not-true}
 use Rattle.fair_rates.specs.Lists.WithoutFirst.{without_first}
 use Rattle.fair_rates.specs.Sides.Subjects.{same_peer}
-use Rattle.link_simulation.specs.Simulation.World.{Completed, Course, EndsWith, Flight, IsQuiet, World, and_then, complete, first_waiting, flows, fronts, goes, instant, is_done, is_idle, is_in_order, last_moment, later_of, least_pair, may_start, meets, new_world, raised, ready, settle, start, start_next, turn, wake, out_of_flight, is_late, completed, arrival, flight_of}
-use Rattle.link_simulation.specs.Simulation.Calls.{Call, Runs, act, call_advance, call_enqueue, call_limit, call_next, complete_at_once, rebalance, limited_by, call_limit_link, linked_by}
-use Rattle.link_simulation.specs.Simulation.Messages.{Caps, Message, OneForEachPair, same_pair, with_cap, CapsAlike, PairsAlike, with_link}
+use Rattle.link_simulation.specs.Simulation.World.{Completed, Course, EndsWith, Flight, IsQuiet, World, and_then}
+use Rattle.link_simulation.specs.Simulation.World.{complete, first_waiting, flows, fronts, goes, instant, is_done}
+use Rattle.link_simulation.specs.Simulation.World.{is_idle, is_in_order, last_moment, later_of, least_pair, may_start}
+use Rattle.link_simulation.specs.Simulation.World.{meets, new_world, raised, ready, settle, start, start_next, turn}
+use Rattle.link_simulation.specs.Simulation.World.{wake, out_of_flight, is_late, completed, arrival, flight_of}
+use Rattle.link_simulation.specs.Simulation.Calls.{Call, Runs, act, call_advance, call_enqueue, call_limit, call_next}
+use Rattle.link_simulation.specs.Simulation.Calls.{complete_at_once, rebalance, limited_by, call_limit_link, linked_by}
+use Rattle.link_simulation.specs.Simulation.Messages.{Caps, Message, OneForEachPair, same_pair, with_cap, CapsAlike}
+use Rattle.link_simulation.specs.Simulation.Messages.{PairsAlike, with_link}
 use Rattle.link_simulation.specs.Simulation.Rates.{Parts}
-use Rattle.link_simulation.specs.Simulation.Time.{ArePositive, Drains, IsSound, Ticks, drain_each, no_tick, one_tick, tick_faults}
+use Rattle.link_simulation.specs.Simulation.Time.{ArePositive, Drains, IsSound, Ticks, drain_each, no_tick, one_tick}
+use Rattle.link_simulation.specs.Simulation.Time.{tick_faults}
 use Rattle.fair_rates.specs.declared.error.Error.TheVariants.{FlowIdsUsedUp, MomentTooLate}
 use Rattle.link_simulation.proofs.Simulation.Queue.{peer_like, one_without, one_pair_more, messages}
 use Rattle.fair_rates.proofs.Sides.Subjects.{peer_sym}
@@ -23,13 +31,15 @@ use Rattle.link_simulation.proofs.Simulation.PairOrder.{found_in, least_is}
 use Rattle.link_simulation.proofs.Simulation.Pass.{ends_both, settle_keeps}
 use Rattle.link_simulation.proofs.Simulation.Stretch.{flows_drained}
 use Rattle.link_simulation.proofs.Simulation.OneNext.{drain_each_positive}
-use Rattle.link_simulation.proofs.Simulation.QuietInstants.{settle_outlasts, instant_outlasts, wake_keeps, instant_of_quiet, queued, ends_at}
+use Rattle.link_simulation.proofs.Simulation.QuietInstants.{settle_outlasts, instant_outlasts, wake_keeps}
+use Rattle.link_simulation.proofs.Simulation.QuietInstants.{instant_of_quiet, queued, ends_at}
 
 positive_on : {P : Type 0} (fs gs : List (Flight P)) → ArePositive fs → ArePositive gs → ArePositive (fs ++ gs)
 positive_on [] gs h k = k
 positive_on (f ∷ fs) gs h k = (h.0, positive_on fs gs h.1 k)
 
-positive_without : {P : Type 0} (test : Flight P → Bool) (fs : List (Flight P)) → ArePositive fs → ArePositive (without_first test fs)
+positive_without : {P : Type 0} (test : Flight P → Bool) (fs : List (Flight P)) → ArePositive fs
+    → ArePositive (without_first test fs)
 positive_without test [] h = tt
 positive_without {P} test (f ∷ fs) h = by_test (test f) (positive_without test fs h.1)
   where
@@ -47,11 +57,15 @@ module _ {P : Type 0} (cmp : P → P → Ordering) (order : IsTotalOrder cmp) wh
   start_fit w m idle fit = ends_cond IsFit (nat_le last_moment w.next_id) (meets FlowIdsUsedUp) _ tt
       (record {
         positive = positive_on w.sending (flight_of m ∷ []) fit.positive (omega arith, tt);
-        one_each = subst (OneForEachPair cmp) (sym (map-append (λ (g : Flight P). g.message) w.sending (flight_of m ∷ []))) (one_pair_more cmp order (messages cmp order w.sending) m fit.one_each (not-true (list_any (same_pair cmp m) (flows w)) idle));
+        one_each =
+            subst (OneForEachPair cmp) (sym (map-append (λ (g : Flight P). g.message) w.sending (flight_of m ∷ [])))
+            (one_pair_more cmp order (messages cmp order w.sending) m fit.one_each
+            (not-true (list_any (same_pair cmp m) (flows w)) idle));
       })
 
   idle_if_starts : (t : ℕ) (w : World P) (m : Message P) → may_start cmp t w m ≡ true → is_idle cmp w m ≡ true
-  idle_if_starts t w m e = first_part (is_idle cmp w m) (is_in_order (w.last_arrival m.origin m.recipient) (t + m.latency)) e
+  idle_if_starts t w m e =
+      first_part (is_idle cmp w m) (is_in_order (w.last_arrival m.origin m.recipient) (t + m.latency)) e
     where
       first_part : (a b : Bool) → (a && b) ≡ true → a ≡ true
       first_part true b e = refl
@@ -70,24 +84,39 @@ module _ {P : Type 0} (cmp : P → P → Ordering) (order : IsTotalOrder cmp) wh
       let landed : World P = out_of_flight cmp t w m in
       ends_cond IsFit (is_late cmp t m) (meets MomentTooLate) _ tt
       (ends_preceded IsFit (completed cmp t m ∷ []) (start_next cmp t landed (first_waiting cmp landed m))
-      (next_fit t landed (first_waiting cmp landed m) (record { positive = positive_without (is_done cmp w) w.sending fit.positive; one_each = one_without cmp order (is_done cmp w) w.sending fit.one_each })))
+      (next_fit t landed (first_waiting cmp landed m)
+      (record {
+        positive = positive_without (is_done cmp w) w.sending fit.positive;
+        one_each = one_without cmp order (is_done cmp w) w.sending fit.one_each;
+      })))
 
   settle_fit : (t : ℕ) (w : World P) → IsFit w → EndsWith IsFit (settle cmp t w)
-  settle_fit t w fit = settle_keeps cmp order IsFit t (λ v f e k. complete_fit t v f.message k) (length w.sending + length w.waiting) w fit
+  settle_fit t w fit =
+      settle_keeps cmp order IsFit t (λ v f e k. complete_fit t v f.message k) (length w.sending + length w.waiting) w
+      fit
 
-  turn_fit : (t : ℕ) (w : World P) (m : Message P) → may_start cmp t w m ≡ true → IsFit w → EndsWith IsFit (turn cmp t w m)
-  turn_fit t w m e fit = ends_and_then IsFit IsFit (start cmp w m) (settle cmp t) (start_fit w m (idle_if_starts t w m e) fit) (λ v k. settle_fit t v k)
+  turn_fit : (t : ℕ) (w : World P) (m : Message P) → may_start cmp t w m ≡ true → IsFit w
+      → EndsWith IsFit (turn cmp t w m)
+  turn_fit t w m e fit =
+      ends_and_then IsFit IsFit (start cmp w m) (settle cmp t) (start_fit w m (idle_if_starts t w m e) fit)
+      (λ v k. settle_fit t v k)
 
-  ready_may_start : (t : ℕ) (w : World P) (m : Message P) → least_pair cmp (ready cmp t w) ≡ Some m → may_start cmp t w m ≡ true
+  ready_may_start : (t : ℕ) (w : World P) (m : Message P) → least_pair cmp (ready cmp t w) ≡ Some m
+      → may_start cmp t w m ≡ true
   ready_may_start t w m e =
       (found_in cmp order (λ (n : Message P). ⊤ × (may_start cmp t w n ≡ true)) (same_pair cmp m) m (ready cmp t w)
-      (each_filtered (λ (n : Message P). ⊤) (may_start cmp t w) (fronts cmp w.waiting) (each_of (λ (n : Message P). ⊤) (λ n. tt) (fronts cmp w.waiting))) (least_is cmp order m (ready cmp t w) e).0).1
+      (each_filtered (λ (n : Message P). ⊤) (may_start cmp t w) (fronts cmp w.waiting)
+      (each_of (λ (n : Message P). ⊤) (λ n. tt) (fronts cmp w.waiting)))
+      (least_is cmp order m (ready cmp t w) e).0).1
 
   wake_fit : (t : ℕ) (w : World P) → IsFit w → EndsWith IsFit (wake cmp t w)
-  wake_fit t w fit = wake_keeps cmp order IsFit t (λ v m e k. turn_fit t v m (ready_may_start t v m e) k) (length w.waiting) w fit
+  wake_fit t w fit =
+      wake_keeps cmp order IsFit t (λ v m e k. turn_fit t v m (ready_may_start t v m e) k) (length w.waiting) w fit
 
   pub instant_fit : (w : World P) → IsFit w → EndsWith IsFit (instant cmp w)
-  instant_fit w fit = ends_and_then IsFit IsFit (settle cmp w.moment w) (λ v. wake cmp v.moment v) (settle_fit w.moment w fit) (λ v k. wake_fit v.moment v k)
+  instant_fit w fit =
+      ends_and_then IsFit IsFit (settle cmp w.moment w) (λ v. wake cmp v.moment v) (settle_fit w.moment w fit)
+      (λ v k. wake_fit v.moment v k)
 
   pub drains_fit : (w v : World P) → Drains cmp w v → IsFit w → IsFit v
   drains_fit w v d fit = subst IsFit (sym d.world) (record {
@@ -95,22 +124,32 @@ module _ {P : Type 0} (cmp : P → P → Ordering) (order : IsTotalOrder cmp) wh
     one_each = subst (OneForEachPair cmp) (sym (flows_drained cmp d.per d.rates 1 w.sending)) fit.one_each;
   })
 
-  pub ticks_fit : {n : ℕ} {w : World P} {c : Course (Completed P) (World P)} → Ticks cmp n w c → IsFit w → EndsWith IsFit c
+  pub ticks_fit : {n : ℕ} {w : World P} {c : Course (Completed P) (World P)} → Ticks cmp n w c → IsFit w
+      → EndsWith IsFit c
   ticks_fit no_tick fit = fit
   ticks_fit (one_tick {w = w} {v = v} {u = u} {cs = cs} {rest = rest} d i t) fit =
-      ends_preceded IsFit cs rest (ticks_fit t (ends_at cmp order IsFit (instant cmp v) cs u i (instant_fit v (drains_fit w v d fit))))
+      ends_preceded IsFit cs rest
+      (ticks_fit t (ends_at cmp order IsFit (instant cmp v) cs u i (instant_fit v (drains_fit w v d fit))))
   ticks_fit (tick_faults d i) fit = tt
 
   rebalance_fit : (t : ℕ) (w : World P) (caps : Caps P) → IsFit w → EndsWith IsFit (rebalance cmp t w caps)
-  rebalance_fit t w caps fit = settle_fit t (record w { caps = caps; limited = true }) (record { positive = fit.positive; one_each = fit.one_each })
+  rebalance_fit t w caps fit =
+      settle_fit t (record w { caps = caps; limited = true })
+      (record { positive = fit.positive; one_each = fit.one_each })
 
   act_fit : (call : Call P) (w : World P) → IsFit w → EndsWith IsFit (act cmp w call)
   act_fit (call_limit t peer egress ingress) w fit = rebalance_fit t w (limited_by cmp w.caps peer egress ingress) fit
-  act_fit (call_limit_link t origin recipient cap) w fit = rebalance_fit t w (linked_by cmp w.caps origin recipient cap) fit
+  act_fit (call_limit_link t origin recipient cap) w fit =
+      rebalance_fit t w (linked_by cmp w.caps origin recipient cap) fit
   act_fit (call_enqueue t m) w fit =
       ends_cond IsFit w.limited _ _
-      (ends_and_then IsFit IsFit (start_next cmp t (queued cmp order w m) (first_waiting cmp (queued cmp order w m) m)) (settle cmp t) (next_fit t (queued cmp order w m) (first_waiting cmp (queued cmp order w m) m) (record { positive = fit.positive; one_each = fit.one_each })) (λ v k. settle_fit t v k))
-      (ends_cond IsFit (m.should_deliver && nat_lt last_moment (t + m.latency)) (meets MomentTooLate) _ tt (record { positive = fit.positive; one_each = fit.one_each }))
+      (ends_and_then IsFit IsFit (start_next cmp t (queued cmp order w m) (first_waiting cmp (queued cmp order w m) m))
+      (settle cmp t)
+      (next_fit t (queued cmp order w m) (first_waiting cmp (queued cmp order w m) m)
+      (record { positive = fit.positive; one_each = fit.one_each }))
+      (λ v k. settle_fit t v k))
+      (ends_cond IsFit (m.should_deliver && nat_lt last_moment (t + m.latency)) (meets MomentTooLate) _ tt
+      (record { positive = fit.positive; one_each = fit.one_each }))
   act_fit (call_advance t) w fit = fit
   act_fit call_next w fit = fit
 
@@ -135,39 +174,55 @@ module _ {P : Type 0} (cmp : P → P → Ordering) (order : IsTotalOrder cmp) wh
   instant_empty w h = by_limited w.limited refl
     where
       by_limited : (b : Bool) → w.limited ≡ b → EndsWith IsEmptyAtFirst (instant cmp w)
-      by_limited true e = ends_more cmp order IsLimited IsEmptyAtFirst (instant cmp w) empty_if_limited (instant_outlasts cmp order IsLimited limited_kept w e)
-      by_limited false e = subst (λ (c : Course (Completed P) (World P)). EndsWith IsEmptyAtFirst c) (sym (instant_of_quiet cmp order w (empty_is_quiet w.moment w (h e).0 (h e).1))) h
+      by_limited true e =
+          ends_more cmp order IsLimited IsEmptyAtFirst (instant cmp w) empty_if_limited
+          (instant_outlasts cmp order IsLimited limited_kept w e)
+      by_limited false e =
+          subst (λ (c : Course (Completed P) (World P)). EndsWith IsEmptyAtFirst c)
+          (sym (instant_of_quiet cmp order w (empty_is_quiet w.moment w (h e).0 (h e).1))) h
 
   drains_empty : (w v : World P) → Drains cmp w v → IsEmptyAtFirst w → IsEmptyAtFirst v
-  drains_empty w v d h = subst IsEmptyAtFirst (sym d.world) (λ e. (ap (drain_each d.per d.rates 1) (h e).0 ∙ nothing d.rates, (h e).1))
+  drains_empty w v d h =
+      subst IsEmptyAtFirst (sym d.world) (λ e. (ap (drain_each d.per d.rates 1) (h e).0 ∙ nothing d.rates, (h e).1))
     where
       nothing : (rates : Parts) → drain_each {P = P} d.per rates 1 [] ≡ []
       nothing [] = refl
       nothing (r ∷ rs) = refl
 
-  ticks_empty : {n : ℕ} {w : World P} {c : Course (Completed P) (World P)} → Ticks cmp n w c → IsEmptyAtFirst w → EndsWith IsEmptyAtFirst c
+  ticks_empty : {n : ℕ} {w : World P} {c : Course (Completed P) (World P)} → Ticks cmp n w c → IsEmptyAtFirst w
+      → EndsWith IsEmptyAtFirst c
   ticks_empty no_tick h = h
   ticks_empty (one_tick {w = w} {v = v} {u = u} {cs = cs} {rest = rest} d i t) h =
-      ends_preceded IsEmptyAtFirst cs rest (ticks_empty t (ends_at cmp order IsEmptyAtFirst (instant cmp v) cs u i (instant_empty v (drains_empty w v d h))))
+      ends_preceded IsEmptyAtFirst cs rest
+      (ticks_empty t
+      (ends_at cmp order IsEmptyAtFirst (instant cmp v) cs u i (instant_empty v (drains_empty w v d h))))
   ticks_empty (tick_faults d i) h = tt
 
   rebalance_empty : (t : ℕ) (w : World P) (caps : Caps P) → EndsWith IsEmptyAtFirst (rebalance cmp t w caps)
   rebalance_empty t w caps =
       let changed : World P = record w { caps = caps; limited = true } in
-      ends_more cmp order IsLimited IsEmptyAtFirst (settle cmp t changed) empty_if_limited (settle_outlasts cmp order IsLimited limited_kept t changed refl)
+      ends_more cmp order IsLimited IsEmptyAtFirst (settle cmp t changed) empty_if_limited
+      (settle_outlasts cmp order IsLimited limited_kept t changed refl)
 
   act_empty : (call : Call P) (w : World P) → IsEmptyAtFirst w → EndsWith IsEmptyAtFirst (act cmp w call)
   act_empty (call_limit t peer egress ingress) w h = rebalance_empty t w (limited_by cmp w.caps peer egress ingress)
-  act_empty (call_limit_link t origin recipient cap) w h = rebalance_empty t w (linked_by cmp w.caps origin recipient cap)
+  act_empty (call_limit_link t origin recipient cap) w h =
+      rebalance_empty t w (linked_by cmp w.caps origin recipient cap)
   act_empty (call_enqueue t m) w h = by_limited w.limited refl
     where
       course : Course (Completed P) (World P)
       course = start_next cmp t (queued cmp order w m) (first_waiting cmp (queued cmp order w m) m)
 
-      by_limited : (b : Bool) → w.limited ≡ b → EndsWith IsEmptyAtFirst (cond b (and_then course (settle cmp t)) (complete_at_once cmp t w m))
+      by_limited : (b : Bool) → w.limited ≡ b
+          → EndsWith IsEmptyAtFirst (cond b (and_then course (settle cmp t)) (complete_at_once cmp t w m))
       by_limited true e = ends_more cmp order IsLimited IsEmptyAtFirst (and_then course (settle cmp t)) empty_if_limited
-          (ends_and_then IsLimited IsLimited course (settle cmp t) (ends_more cmp order (Leaves cmp order t m (queued cmp order w m)) IsLimited course (λ v l. l.others.limited ∙ e) (next_leaves cmp order t (queued cmp order w m) m (first_waiting cmp (queued cmp order w m) m) refl)) (λ v k. settle_outlasts cmp order IsLimited limited_kept t v k))
-      by_limited false e = ends_cond IsEmptyAtFirst (m.should_deliver && nat_lt last_moment (t + m.latency)) (meets MomentTooLate) _ tt h
+          (ends_and_then IsLimited IsLimited course (settle cmp t)
+          (ends_more cmp order (Leaves cmp order t m (queued cmp order w m)) IsLimited course
+          (λ v l. l.others.limited ∙ e)
+          (next_leaves cmp order t (queued cmp order w m) m (first_waiting cmp (queued cmp order w m) m) refl))
+          (λ v k. settle_outlasts cmp order IsLimited limited_kept t v k))
+      by_limited false e =
+          ends_cond IsEmptyAtFirst (m.should_deliver && nat_lt last_moment (t + m.latency)) (meets MomentTooLate) _ tt h
   act_empty (call_advance t) w h = h
   act_empty call_next w h = h
 
@@ -183,76 +238,119 @@ module _ {P : Type 0} (cmp : P → P → Ordering) (order : IsTotalOrder cmp) wh
   peer_alike : (p q r : P) → same_peer cmp q r ≡ true → same_peer cmp p q ≡ same_peer cmp p r
   peer_alike p q r e = peer_sym cmp order p q ∙ sym (peer_like cmp order q r p e) ∙ peer_sym cmp order r p
 
-  pub raised_peerwise : (last : P → P → Option ℕ) (m : Message P) (at : ℕ) → ((p q r s : P) → same_peer cmp p q ≡ true → same_peer cmp r s ≡ true → last p r ≡ last q s)
-      → (p q r s : P) → same_peer cmp p q ≡ true → same_peer cmp r s ≡ true → raised cmp last m at p r ≡ raised cmp last m at q s
+  pub raised_peerwise : (last : P → P → Option ℕ) (m : Message P) (at : ℕ)
+      → ((p q r s : P) → same_peer cmp p q ≡ true → same_peer cmp r s ≡ true → last p r ≡ last q s)
+      → (p q r s : P) → same_peer cmp p q ≡ true → same_peer cmp r s ≡ true
+      → raised cmp last m at p r ≡ raised cmp last m at q s
   raised_peerwise last m at h p q r s e f =
-      by_tests (same_peer cmp m.origin p) (same_peer cmp m.origin q) (same_peer cmp m.recipient r) (same_peer cmp m.recipient s) (last p r) (last q s) (peer_alike m.origin p q e)
+      by_tests (same_peer cmp m.origin p) (same_peer cmp m.origin q) (same_peer cmp m.recipient r)
+      (same_peer cmp m.recipient s) (last p r) (last q s) (peer_alike m.origin p q e)
       (peer_alike m.recipient r s f) (h p q r s e f)
     where
-      by_tests : (a b c d : Bool) (x y : Option ℕ) → a ≡ b → c ≡ d → x ≡ y → cond (a && c) (Some (later_of x at)) x ≡ cond (b && d) (Some (later_of y at)) y
+      by_tests : (a b c d : Bool) (x y : Option ℕ) → a ≡ b → c ≡ d → x ≡ y
+          → cond (a && c) (Some (later_of x at)) x ≡ cond (b && d) (Some (later_of y at)) y
       by_tests a b c d x y e f g = rw (e, f, g) refl
 
-  landed_peerwise : (w : World P) (fs : List (Flight P)) (m : Message P) (at : ℕ) → IsPeerwise w → IsPeerwise (record w { sending = fs; last_arrival = raised cmp w.last_arrival m at })
-  landed_peerwise w fs m at h = record { caps = h.caps; last_arrival = raised_peerwise w.last_arrival m at h.last_arrival }
+  landed_peerwise : (w : World P) (fs : List (Flight P)) (m : Message P) (at : ℕ) → IsPeerwise w
+      → IsPeerwise (record w { sending = fs; last_arrival = raised cmp w.last_arrival m at })
+  landed_peerwise w fs m at h =
+      record { caps = h.caps; last_arrival = raised_peerwise w.last_arrival m at h.last_arrival }
 
   start_peerwise : (w : World P) (m : Message P) → IsPeerwise w → EndsWith (IsPeerwise) (start cmp w m)
-  start_peerwise w m h = ends_cond (IsPeerwise) (nat_le last_moment w.next_id) (meets FlowIdsUsedUp) _ tt (record { caps = h.caps; last_arrival = h.last_arrival })
+  start_peerwise w m h =
+      ends_cond (IsPeerwise) (nat_le last_moment w.next_id) (meets FlowIdsUsedUp) _ tt
+      (record { caps = h.caps; last_arrival = h.last_arrival })
 
-  next_peerwise : (t : ℕ) (w : World P) (o : Option (Message P)) → IsPeerwise w → EndsWith (IsPeerwise) (start_next cmp t w o)
+  next_peerwise : (t : ℕ) (w : World P) (o : Option (Message P)) → IsPeerwise w
+      → EndsWith (IsPeerwise) (start_next cmp t w o)
   next_peerwise t w None h = h
-  next_peerwise t w (Some m) h = ends_cond (IsPeerwise) (may_start cmp t w m) (start cmp w m) (goes [] w) (start_peerwise w m h) h
+  next_peerwise t w (Some m) h =
+      ends_cond (IsPeerwise) (may_start cmp t w m) (start cmp w m) (goes [] w) (start_peerwise w m h) h
 
   complete_peerwise : (t : ℕ) (w : World P) (m : Message P) → IsPeerwise w → EndsWith (IsPeerwise) (complete cmp t w m)
   complete_peerwise t w m h =
       let landed : World P = out_of_flight cmp t w m in
       ends_cond (IsPeerwise) (is_late cmp t m) (meets MomentTooLate) _ tt
       (ends_preceded (IsPeerwise) (completed cmp t m ∷ []) (start_next cmp t landed (first_waiting cmp landed m))
-      (next_peerwise t landed (first_waiting cmp landed m) (landed_peerwise w (without_first (is_done cmp w) w.sending) m (arrival cmp t m) h)))
+      (next_peerwise t landed (first_waiting cmp landed m)
+      (landed_peerwise w (without_first (is_done cmp w) w.sending) m (arrival cmp t m) h)))
 
   settle_peerwise : (t : ℕ) (w : World P) → IsPeerwise w → EndsWith (IsPeerwise) (settle cmp t w)
-  settle_peerwise t w h = settle_keeps cmp order (IsPeerwise) t (λ v f e k. complete_peerwise t v f.message k) (length w.sending + length w.waiting) w h
+  settle_peerwise t w h =
+      settle_keeps cmp order (IsPeerwise) t (λ v f e k. complete_peerwise t v f.message k)
+      (length w.sending + length w.waiting) w h
 
   turn_peerwise : (t : ℕ) (w : World P) (m : Message P) → IsPeerwise w → EndsWith (IsPeerwise) (turn cmp t w m)
-  turn_peerwise t w m h = ends_and_then (IsPeerwise) (IsPeerwise) (start cmp w m) (settle cmp t) (start_peerwise w m h) (λ v k. settle_peerwise t v k)
+  turn_peerwise t w m h =
+      ends_and_then (IsPeerwise) (IsPeerwise) (start cmp w m) (settle cmp t) (start_peerwise w m h)
+      (λ v k. settle_peerwise t v k)
 
   instant_peerwise : (w : World P) → IsPeerwise w → EndsWith (IsPeerwise) (instant cmp w)
   instant_peerwise w h =
-      ends_and_then (IsPeerwise) (IsPeerwise) (settle cmp w.moment w) (λ v. wake cmp v.moment v) (settle_peerwise w.moment w h)
-      (λ v k. wake_keeps cmp order (IsPeerwise) v.moment (λ u m e j. turn_peerwise v.moment u m j) (length v.waiting) v k)
+      ends_and_then (IsPeerwise) (IsPeerwise) (settle cmp w.moment w) (λ v. wake cmp v.moment v)
+      (settle_peerwise w.moment w h)
+      (λ v k. wake_keeps cmp order (IsPeerwise) v.moment (λ u m e j. turn_peerwise v.moment u m j) (length v.waiting) v
+      k)
 
   drains_peerwise : (w v : World P) → Drains cmp w v → IsPeerwise w → IsPeerwise v
   drains_peerwise w v d h = subst (IsPeerwise) (sym d.world) (record { caps = h.caps; last_arrival = h.last_arrival })
 
-  ticks_peerwise : {n : ℕ} {w : World P} {c : Course (Completed P) (World P)} → Ticks cmp n w c → IsPeerwise w → EndsWith (IsPeerwise) c
+  ticks_peerwise : {n : ℕ} {w : World P} {c : Course (Completed P) (World P)} → Ticks cmp n w c → IsPeerwise w
+      → EndsWith (IsPeerwise) c
   ticks_peerwise no_tick h = h
   ticks_peerwise (one_tick {w = w} {v = v} {u = u} {cs = cs} {rest = rest} d i t) h =
-      ends_preceded (IsPeerwise) cs rest (ticks_peerwise t (ends_at cmp order (IsPeerwise) (instant cmp v) cs u i (instant_peerwise v (drains_peerwise w v d h))))
+      ends_preceded (IsPeerwise) cs rest
+      (ticks_peerwise t
+      (ends_at cmp order (IsPeerwise) (instant cmp v) cs u i (instant_peerwise v (drains_peerwise w v d h))))
   ticks_peerwise (tick_faults d i) h = tt
 
-  cap_peerwise : (caps : P → Option ℕ) (peer : P) (cap : Option ℕ) → ((p q : P) → same_peer cmp p q ≡ true → caps p ≡ caps q) → (p q : P) → same_peer cmp p q ≡ true
+  cap_peerwise : (caps : P → Option ℕ) (peer : P) (cap : Option ℕ)
+      → ((p q : P) → same_peer cmp p q ≡ true → caps p ≡ caps q) → (p q : P) → same_peer cmp p q ≡ true
       → with_cap cmp caps peer cap p ≡ with_cap cmp caps peer cap q
-  cap_peerwise caps peer cap h p q e = by_tests (same_peer cmp peer p) (same_peer cmp peer q) (caps p) (caps q) (peer_alike peer p q e) (h p q e)
+  cap_peerwise caps peer cap h p q e =
+      by_tests (same_peer cmp peer p) (same_peer cmp peer q) (caps p) (caps q) (peer_alike peer p q e) (h p q e)
     where
       by_tests : (a b : Bool) (x y : Option ℕ) → a ≡ b → x ≡ y → cond a cap x ≡ cond b cap y
       by_tests a b x y e f = rw (e, f) refl
 
   link_peerwise : (links : P → P → Option ℕ) (origin recipient : P) (cap : Option ℕ) → PairsAlike cmp links links
       → PairsAlike cmp (with_link cmp links origin recipient cap) (with_link cmp links origin recipient cap)
-  link_peerwise links origin recipient cap h p q r s e f = rw (peer_alike origin p q e, peer_alike recipient r s f, h p q r s e f) refl
+  link_peerwise links origin recipient cap h p q r s e f =
+      rw (peer_alike origin p q e, peer_alike recipient r s f, h p q r s e f) refl
 
-  rebalance_peerwise : (t : ℕ) (w : World P) (caps : Caps P) → CapsAlike cmp caps caps → IsPeerwise w → EndsWith IsPeerwise (rebalance cmp t w caps)
-  rebalance_peerwise t w caps same h = settle_peerwise t (record w { caps = caps; limited = true }) (record { caps = same; last_arrival = h.last_arrival })
+  rebalance_peerwise : (t : ℕ) (w : World P) (caps : Caps P) → CapsAlike cmp caps caps → IsPeerwise w
+      → EndsWith IsPeerwise (rebalance cmp t w caps)
+  rebalance_peerwise t w caps same h =
+      settle_peerwise t (record w { caps = caps; limited = true })
+      (record { caps = same; last_arrival = h.last_arrival })
 
   act_peerwise : (call : Call P) (w : World P) → IsPeerwise w → EndsWith (IsPeerwise) (act cmp w call)
   act_peerwise (call_limit t peer egress ingress) w h =
-      rebalance_peerwise t w (limited_by cmp w.caps peer egress ingress) (record { egress = cap_peerwise w.caps.egress peer egress h.caps.egress; ingress = cap_peerwise w.caps.ingress peer ingress h.caps.ingress; link = h.caps.link }) h
+      rebalance_peerwise t w (limited_by cmp w.caps peer egress ingress)
+      (record {
+        egress = cap_peerwise w.caps.egress peer egress h.caps.egress;
+        ingress = cap_peerwise w.caps.ingress peer ingress h.caps.ingress;
+        link = h.caps.link;
+      })
+      h
   act_peerwise (call_limit_link t origin recipient cap) w h =
-      rebalance_peerwise t w (linked_by cmp w.caps origin recipient cap) (record { egress = h.caps.egress; ingress = h.caps.ingress; link = link_peerwise w.caps.link origin recipient cap h.caps.link }) h
+      rebalance_peerwise t w (linked_by cmp w.caps origin recipient cap)
+      (record {
+        egress = h.caps.egress;
+        ingress = h.caps.ingress;
+        link = link_peerwise w.caps.link origin recipient cap h.caps.link;
+      })
+      h
   act_peerwise (call_enqueue t m) w h =
       let at : ℕ = if m.should_deliver then later_of (w.last_arrival m.origin m.recipient) (t + m.latency) else t in
       ends_cond (IsPeerwise) w.limited _ _
-      (ends_and_then (IsPeerwise) (IsPeerwise) (start_next cmp t (queued cmp order w m) (first_waiting cmp (queued cmp order w m) m)) (settle cmp t) (next_peerwise t (queued cmp order w m) (first_waiting cmp (queued cmp order w m) m) (record { caps = h.caps; last_arrival = h.last_arrival })) (λ v k. settle_peerwise t v k))
-      (ends_cond (IsPeerwise) (m.should_deliver && nat_lt last_moment (t + m.latency)) (meets MomentTooLate) _ tt (landed_peerwise w w.sending m at h))
+      (ends_and_then (IsPeerwise) (IsPeerwise)
+      (start_next cmp t (queued cmp order w m) (first_waiting cmp (queued cmp order w m) m)) (settle cmp t)
+      (next_peerwise t (queued cmp order w m) (first_waiting cmp (queued cmp order w m) m)
+      (record { caps = h.caps; last_arrival = h.last_arrival }))
+      (λ v k. settle_peerwise t v k))
+      (ends_cond (IsPeerwise) (m.should_deliver && nat_lt last_moment (t + m.latency)) (meets MomentTooLate) _ tt
+      (landed_peerwise w w.sending m at h))
   act_peerwise (call_advance t) w h = h
   act_peerwise call_next w h = h
 
@@ -270,21 +368,39 @@ module _ {P : Type 0} (cmp : P → P → Ordering) (order : IsTotalOrder cmp) wh
   abbrev IsKept : World P → Type 0
   IsKept v = IsFit v × (IsEmptyAtFirst v × IsPeerwise v)
 
-  as_sound : (c : Course (Completed P) (World P)) → EndsWith IsFit c → EndsWith IsEmptyAtFirst c → EndsWith (IsPeerwise) c → EndsWith (IsSound cmp) c
+  as_sound : (c : Course (Completed P) (World P)) → EndsWith IsFit c → EndsWith IsEmptyAtFirst c
+      → EndsWith (IsPeerwise) c → EndsWith (IsSound cmp) c
   as_sound c a b d =
-      ends_more cmp order IsKept (IsSound cmp) c (λ v k. record { caps = k.1.1.caps; last_arrival = k.1.1.last_arrival; positive = k.0.positive; one_each = k.0.one_each; empty_at_first = k.1.0 })
-      (ends_both IsFit (λ (v : World P). IsEmptyAtFirst v × IsPeerwise v) c a (ends_both IsEmptyAtFirst (IsPeerwise) c b d))
+      ends_more cmp order IsKept (IsSound cmp) c
+      (λ v k.
+      record {
+        caps = k.1.1.caps;
+        last_arrival = k.1.1.last_arrival;
+        positive = k.0.positive;
+        one_each = k.0.one_each;
+        empty_at_first = k.1.0;
+      })
+      (ends_both IsFit (λ (v : World P). IsEmptyAtFirst v × IsPeerwise v) c a
+      (ends_both IsEmptyAtFirst (IsPeerwise) c b d))
 
   as_fit : (w : World P) → IsSound cmp w → IsFit w
   as_fit w sound = record { positive = sound.positive; one_each = sound.one_each }
 
-  pub ticks_keep_sound : {n : ℕ} {w : World P} {c : Course (Completed P) (World P)} → Ticks cmp n w c → IsSound cmp w → EndsWith (IsSound cmp) c
-  ticks_keep_sound {w = w} {c = c} t sound = as_sound c (ticks_fit t (as_fit w sound)) (ticks_empty t sound.empty_at_first) (ticks_peerwise t (as_peerwise w sound))
+  pub ticks_keep_sound : {n : ℕ} {w : World P} {c : Course (Completed P) (World P)} → Ticks cmp n w c → IsSound cmp w
+      → EndsWith (IsSound cmp) c
+  ticks_keep_sound {w = w} {c = c} t sound =
+      as_sound c (ticks_fit t (as_fit w sound)) (ticks_empty t sound.empty_at_first)
+      (ticks_peerwise t (as_peerwise w sound))
 
   pub act_keeps_sound : (call : Call P) (w : World P) → IsSound cmp w → EndsWith (IsSound cmp) (act cmp w call)
-  act_keeps_sound call w sound = as_sound (act cmp w call) (act_fit call w (as_fit w sound)) (act_empty call w sound.empty_at_first) (act_peerwise call w (as_peerwise w sound))
+  act_keeps_sound call w sound =
+      as_sound (act cmp w call) (act_fit call w (as_fit w sound)) (act_empty call w sound.empty_at_first)
+      (act_peerwise call w (as_peerwise w sound))
 
   -- an accepted call leads from a sound world to a sound one
-  pub call_keeps_sound : (w : World P) (call : Call P) (now : ℕ) (course : Course (Completed P) (World P)) → IsSound cmp w → Runs cmp w call now course → EndsWith (IsSound cmp) course
+  pub call_keeps_sound : (w : World P) (call : Call P) (now : ℕ) (course : Course (Completed P) (World P))
+      → IsSound cmp w → Runs cmp w call now course → EndsWith (IsSound cmp) course
   call_keeps_sound w call now course sound runs =
-      subst (EndsWith (IsSound cmp)) (sym runs.acts) (ends_and_then (IsSound cmp) (IsSound cmp) runs.ticked (λ v. act cmp v call) (ticks_keep_sound runs.ticks sound) (λ v k. act_keeps_sound call v k))
+      subst (EndsWith (IsSound cmp)) (sym runs.acts)
+      (ends_and_then (IsSound cmp) (IsSound cmp) runs.ticked (λ v. act cmp v call) (ticks_keep_sound runs.ticks sound)
+      (λ v k. act_keeps_sound call v k))

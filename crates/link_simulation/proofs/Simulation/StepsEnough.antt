@@ -11,18 +11,25 @@ use Rattle.link_simulation.proofs.Simulation.Pass.{and_then_alike, ends_both}
 use Rattle.link_simulation.proofs.Simulation.QuietInstants.{settle_nothing}
 
 module _ {P : Type 0} (cmp : P → P → Ordering) (order : IsTotalOrder cmp) where
-  pub settle_enough : (n m t : ℕ) (w : World P) → HasAtMost cmp order n w → HasAtMost cmp order m w → settle_within cmp n t w ≡ settle_within cmp m t w
-  settle_enough zero m t w h k = sym (settle_nothing cmp order m t w (find_in_none (is_done cmp w) w.sending (omega arith)))
-  settle_enough (suc n) zero t w h k = settle_nothing cmp order (suc n) t w (find_in_none (is_done cmp w) w.sending (omega arith))
+  pub settle_enough : (n m t : ℕ) (w : World P) → HasAtMost cmp order n w → HasAtMost cmp order m w
+      → settle_within cmp n t w ≡ settle_within cmp m t w
+  settle_enough zero m t w h k =
+      sym (settle_nothing cmp order m t w (find_in_none (is_done cmp w) w.sending (omega arith)))
+  settle_enough (suc n) zero t w h k =
+      settle_nothing cmp order (suc n) t w (find_in_none (is_done cmp w) w.sending (omega arith))
   settle_enough (suc n) (suc m) t w h k = by_first (find (is_done cmp w) w.sending) refl (settle_enough n m t)
     where
       by_first : (o : Option (Flight P)) → find (is_done cmp w) w.sending ≡ o
-          → ((v : World P) → HasAtMost cmp order n v → HasAtMost cmp order m v → settle_within cmp n t v ≡ settle_within cmp m t v)
+          → ((v : World P) → HasAtMost cmp order n v → HasAtMost cmp order m v
+          → settle_within cmp n t v ≡ settle_within cmp m t v)
           → settle_within cmp (suc n) t w ≡ settle_within cmp (suc m) t w
       by_first None e ih = settle_nothing cmp order (suc n) t w e ∙ sym (settle_nothing cmp order (suc m) t w e)
       by_first (Some f) e ih =
           settle_first cmp order n t w f e
           ∙ and_then_alike (complete cmp t w f.message) (settle_within cmp n t) (settle_within cmp m t)
-          (ends_more cmp order (λ (v : World P). HasAtMost cmp order n v × HasAtMost cmp order m v) (λ (v : World P). settle_within cmp n t v ≡ settle_within cmp m t v) (complete cmp t w f.message) (λ v j. ih v j.0 j.1)
-          (ends_both (HasAtMost cmp order n) (HasAtMost cmp order m) (complete cmp t w f.message) (complete_has cmp order t n w f e h) (complete_has cmp order t m w f e k)))
+          (ends_more cmp order (λ (v : World P). HasAtMost cmp order n v × HasAtMost cmp order m v)
+          (λ (v : World P). settle_within cmp n t v ≡ settle_within cmp m t v) (complete cmp t w f.message)
+          (λ v j. ih v j.0 j.1)
+          (ends_both (HasAtMost cmp order n) (HasAtMost cmp order m) (complete cmp t w f.message)
+          (complete_has cmp order t n w f e h) (complete_has cmp order t m w f e k)))
           ∙ sym (settle_first cmp order m t w f e)

@@ -36,7 +36,7 @@ message origin recipient length latency = record {
   should_deliver = true;
 }
 
--- the same, not to be delivered
+-- the same, to be dropped
 abbrev pub dropped : ℕ → ℕ → ℕ → ℕ → Message ℕ
 dropped origin recipient length latency = record (message origin recipient length latency) { should_deliver = false }
 

@@ -29,7 +29,7 @@ module _ {P : Type 0} (cmp : P → P → Ordering) where
   abbrev pub pair_before : Message P → Message P → Bool
   pair_before m n = is_lt (ordering_then (cmp m.origin n.origin) (cmp m.recipient n.recipient))
 
-  -- under limits, whether a message is delivered: a message to oneself is not
+  -- under limits, whether a message is delivered: a message to oneself is dropped
   abbrev pub is_delivered : Message P → Bool
   is_delivered m = m.should_deliver && not (same_peer cmp m.origin m.recipient)
 

@@ -44,7 +44,7 @@ module _ {P : Type 0} (cmp : P → P → Ordering) where
       capped_side (if is_delivered cmp m then caps.ingress m.recipient else None)
       (λ n. is_delivered cmp n && same_peer cmp m.recipient n.recipient) messages
 
-  -- and the link of its pair, with all messages of the pair, delivered or not
+  -- and the link of its pair, with all messages of the pair, delivered or dropped
   abbrev pub link_side : Caps P → List (Message P) → Message P → List Side
   link_side caps messages m =
       capped_side (caps.link m.origin m.recipient)

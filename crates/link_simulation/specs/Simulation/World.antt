@@ -139,7 +139,7 @@ module _ {P : Type 0} (cmp : P → P → Ordering) where
   raised last m at p q =
       cond (same_peer cmp m.origin p && same_peer cmp m.recipient q) (Some (later_of (last p q) at)) (last p q)
 
-  -- when a message that is finished at t arrives, or counts as arrived if it is not delivered
+  -- when a message that is finished at t arrives, or counts as arrived if it is dropped
   abbrev pub arrival : ℕ → Message P → ℕ
   arrival t m = if is_delivered cmp m then t + m.latency else t
 

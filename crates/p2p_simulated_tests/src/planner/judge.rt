@@ -1,6 +1,6 @@
 //! Rates of many lists, before a plain judge and beside those of a plain planner.
 use super::lists::{Chance, Kind, next_list};
-use super::network::{Cap, Network, Planned, Side, finite, lost, plan, plan_linked, sent};
+use super::network::{Cap, Network, Planned, Side, dropped, finite, plan, plan_linked, sent};
 use super::plain::{Filled, Verdict, fill, fit, judge};
 use p2p_simulated::bandwidth::{Flow, Rate};
 use p2p_simulated::error::Error;
@@ -98,7 +98,7 @@ fn answers_are_fair(rt: HostRuntime) -> Result<(), Fail> {
 #[test]
 fn the_judge_tells(rt: HostRuntime) -> Result<(), Fail> {
     let network = Network {
-        flows: &[sent(1, 1, 2), sent(2, 1, 3), lost(3, 1, 2)],
+        flows: &[sent(1, 1, 2), sent(2, 1, 3), dropped(3, 1, 2)],
         caps: &[Cap(Side::Egress(1), 9), Cap(Side::Ingress(2), 1)],
     };
     for (first, second, third, verdict) in [

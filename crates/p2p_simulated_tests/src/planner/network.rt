@@ -59,8 +59,8 @@ pub fn sent(id: u64, origin: u64, recipient: u64) -> Flow<u64> {
     }
 }
 
-/// A flow that is not delivered.
-pub fn lost(id: u64, origin: u64, recipient: u64) -> Flow<u64> {
+/// A flow that is dropped.
+pub fn dropped(id: u64, origin: u64, recipient: u64) -> Flow<u64> {
     Flow {
         id,
         origin,

@@ -28,7 +28,7 @@ fn an_arrival_past_the_last_moment_is_refused(rt: HostRuntime) -> Result<(), Err
 /// oneself.
 #[test]
 fn a_dropped_message_is_never_late(rt: HostRuntime) -> Result<(), Error> {
-    for parcel in [from_to(1, 2).lost(), from_to(1, 1)] {
+    for parcel in [from_to(1, 2).dropped(), from_to(1, 1)] {
         let mut p = begin::<u64>(rt.alloc());
         p.limit(0, 1, Some(1), None)?;
         p.send(parcel.at(LAST - SECOND).after(LAST))?;
@@ -58,7 +58,7 @@ fn without_a_limit_arrivals_end_with_time(rt: HostRuntime) -> Result<(), Error> 
     p.done(&[(0, Some(LAST))])?;
     p.send(from_to(1, 2).at(LAST).after(1))?;
     p.refused(Error::MomentTooLate)?;
-    p.send(from_to(1, 2).at(LAST).after(LAST).lost())?;
+    p.send(from_to(1, 2).at(LAST).after(LAST).dropped())?;
     p.done(&[(2, None)])?;
     p.send(from_to(1, 2).at(LAST))?;
     p.done(&[(3, Some(LAST))])?;

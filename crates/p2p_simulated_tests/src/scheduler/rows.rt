@@ -105,7 +105,7 @@ fn without_a_limit_messages_complete_at_once(rt: HostRuntime) -> Result<(), Erro
     let mut p = begin::<char>(rt.alloc());
     p.send(from_to(1, 2).after(100 * MILLI))?;
     p.done(&[(0, Some(100 * MILLI))])?;
-    p.send(from_to(1, 2).lost())?;
+    p.send(from_to(1, 2).dropped())?;
     p.done(&[(1, None)])?;
     p.send(from_to(1, 2).after(50 * MILLI))?;
     p.done(&[(2, Some(100 * MILLI))])?;
@@ -115,7 +115,7 @@ fn without_a_limit_messages_complete_at_once(rt: HostRuntime) -> Result<(), Erro
 }
 
 #[test]
-fn a_message_to_oneself_is_lost_once_there_are_limits(rt: HostRuntime) -> Result<(), Error> {
+fn a_message_to_oneself_is_dropped_once_there_are_limits(rt: HostRuntime) -> Result<(), Error> {
     let mut p = begin::<u64>(rt.alloc());
     p.send(from_to(1, 1))?;
     p.done(&[(0, Some(0))])?;

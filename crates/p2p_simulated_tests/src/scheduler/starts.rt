@@ -97,12 +97,12 @@ fn nothing_is_due_before_the_next_event(rt: HostRuntime) -> Result<(), Error> {
 }
 
 #[test]
-fn a_lost_message_does_not_lower_the_last_arrival(rt: HostRuntime) -> Result<(), Error> {
+fn a_dropped_message_does_not_lower_the_last_arrival(rt: HostRuntime) -> Result<(), Error> {
     let mut p = capped::<u64>(rt.alloc(), 1000)?;
     let late = from_to(1, 2).of(0).after(100);
     p.send(late)?;
     p.done(&[(0, Some(100))])?;
-    p.send(late.lost())?;
+    p.send(late.dropped())?;
     p.done(&[(1, None)])?;
     p.send(from_to(1, 2).of(0))?;
     p.walk(&[(100, [(2, Some(100))].as_slice())])?;

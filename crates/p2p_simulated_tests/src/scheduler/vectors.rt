@@ -136,10 +136,10 @@ fn an_empty_message_passes_a_cap_of_zero(rt: HostRuntime) -> Result<(), Error> {
 }
 
 #[test]
-fn a_lost_message_waits_for_the_last_arrival_too(rt: HostRuntime) -> Result<(), Error> {
+fn a_dropped_message_waits_for_the_last_arrival_too(rt: HostRuntime) -> Result<(), Error> {
     let mut p = capped::<u64>(rt.alloc(), 1000)?;
     p.send(from_to(1, 2).of(1000).after(SECOND))?;
-    p.send(from_to(1, 2).of(0).lost())?;
+    p.send(from_to(1, 2).of(0).dropped())?;
     p.walk(&[
         (SECOND, [(0, Some(2 * SECOND))].as_slice()),
         (2 * SECOND, [(1, None)].as_slice()),
@@ -149,10 +149,10 @@ fn a_lost_message_waits_for_the_last_arrival_too(rt: HostRuntime) -> Result<(), 
 }
 
 #[test]
-fn a_lost_message_takes_no_ingress(rt: HostRuntime) -> Result<(), Error> {
+fn a_dropped_message_takes_no_ingress(rt: HostRuntime) -> Result<(), Error> {
     let mut p = begin::<u64>(rt.alloc());
     p.limit(0, 2, None, Some(10))?;
-    p.send(from_to(1, 2).of(100).lost())?;
+    p.send(from_to(1, 2).of(100).dropped())?;
     p.done(&[(0, None)])?;
     p.send(from_to(1, 2).of(100))?;
     p.walk(&[(10 * SECOND, [(1, Some(10 * SECOND))].as_slice())])?;

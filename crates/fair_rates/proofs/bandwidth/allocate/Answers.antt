@@ -9,10 +9,14 @@ pub allocate_linked-requires-clause-link : goal.allocate_linked-requires-clause-
 allocate_linked-requires-clause-link g c = search (of_calls, callable_on_each_pair)
 
 pub returns-clause-fair : goal.returns-clause-fair
-returns-clause-fair g c = IfOk-weaker c.allocate_linked.result _ _ (λ rates h. without_links _ _ _ (λ l p q a l' k. search rules) g.P.Ord.cmp _ _ _ h) c.allocate_linked.ensures.fair
+returns-clause-fair g c =
+    IfOk-weaker c.allocate_linked.result _ _
+    (λ rates h. without_links _ _ _ (λ l p q a l' k. search rules) g.P.Ord.cmp _ _ _ h) c.allocate_linked.ensures.fair
 
 pub returns-clause-refused : goal.returns-clause-refused
-returns-clause-refused g c = refused_without_links _ _ _ (λ l p q a l' k. search rules) g.P.Ord.cmp _ _ c.allocate_linked.result c.allocate_linked.ensures.refused
+returns-clause-refused g c =
+    refused_without_links _ _ _ (λ l p q a l' k. search rules) g.P.Ord.cmp _ _ c.allocate_linked.result
+    c.allocate_linked.ensures.refused
 
 pub returns-clause-under_caps : goal.returns-clause-under_caps
 returns-clause-under_caps g c = fair_under_caps g.P.Ord.cmp _ _ _ _ _ _ _ (returns-clause-fair g c)

@@ -6,10 +6,12 @@ use Rattle.fair_rates.proofs.bandwidth.allocate_linked.Goals as goal
 
 pub returns-in_err-rates-clause-refused_under_caps : goal.returns-in_err-rates-clause-refused_under_caps
 returns-in_err-rates-clause-refused_under_caps g c =
-    refused_under_caps g.P.Ord.cmp _ _ _ _ _ c.from_residual.result (if_err _ _ c.from_residual.result c.from_residual.ensures.1 (λ e is. elim c.in_err-rates.ensures.refused [
+    refused_under_caps g.P.Ord.cmp _ _ _ _ _ c.from_residual.result
+    (if_err _ _ c.from_residual.result c.from_residual.ensures.1 (λ e is. elim c.in_err-rates.ensures.refused [
       | inl memory ↦ inl (is ∙ memory)
       | inr large ↦ inr (is ∙ large.0, large.1)
     ]))
 
 pub returns-clause-under_caps : goal.returns-clause-under_caps
-returns-clause-under_caps g c = λ caps by. allocates_under_caps g.P.Ord.cmp _ _ _ caps _ _ _ by c.in_ok-rates.ensures.counted.allocation
+returns-clause-under_caps g c = λ caps by.
+    allocates_under_caps g.P.Ord.cmp _ _ _ caps _ _ _ by c.in_ok-rates.ensures.counted.allocation

@@ -11,16 +11,23 @@ use Rattle.fair_rates.proofs.Refusals.AnswersTooLarge.{too_large}
 use Rattle.fair_rates.proofs.bandwidth.allocate_linked_counted.Goals as goal
 
 pub rates-requires-clause-scale : goal.rates-requires-clause-scale
-rates-requires-clause-scale g c = omega (arith, c.in_ok-found.ensures.grown, ap (λ n. n * product c.in_ok-found.found.growth.items) c.from_u64-one.ensures)
+rates-requires-clause-scale g c =
+    omega (
+      arith,
+      c.in_ok-found.ensures.grown,
+      ap (λ n. n * product c.in_ok-found.found.growth.items) c.from_u64-one.ensures,
+    )
 
 pub returns-in_err-rates-clause-refused : goal.returns-in_err-rates-clause-refused
 returns-in_err-rates-clause-refused g c =
     let answers = c.in_ok-sides.ensures.sides in
-    if_err _ _ c.from_residual-in_err-rates.result c.from_residual-in_err-rates.ensures.1 (λ e is. elim c.in_err-rates.ensures.refused [
+    if_err _ _ c.from_residual-in_err-rates.result c.from_residual-in_err-rates.ensures.1
+    (λ e is. elim c.in_err-rates.ensures.refused [
       | inl memory ↦ inl (is ∙ memory)
       | inr large ↦ inr (
         is ∙ large.0,
-        too_large g.P.Ord.cmp _ _ _ _ _ answers.0 _ answers.1 answers.2 c.in_ok-sides.ensures.users_are_flows c.in_ok-sides.ensures.users_rise (large_rate _ _ _ _ c.in_ok-found.ensures large.1),
+        too_large g.P.Ord.cmp _ _ _ _ _ answers.0 _ answers.1 answers.2 c.in_ok-sides.ensures.users_are_flows
+            c.in_ok-sides.ensures.users_rise (large_rate _ _ _ _ c.in_ok-found.ensures large.1),
       )
     ])
 
@@ -31,7 +38,8 @@ returns-clause-counted g c =
     let filled = c.in_ok-found.ensures in
     let rates = c.in_ok-rates.ensures.rates in
     let len : c.len.result ≡ length found.levels.items = grind (arith, common_steps, c.len.ensures) in
-    counted g.P.Ord.cmp _ _ _ _ _ _ _ answers.0 _ _ answers.1 answers.2 c.in_ok-sides.ensures.users_are_flows c.in_ok-sides.ensures.users_rise (rates_are_fair _ _ _ _ _ filled rates)
+    counted g.P.Ord.cmp _ _ _ _ _ _ _ answers.0 _ _ answers.1 answers.2 c.in_ok-sides.ensures.users_are_flows
+    c.in_ok-sides.ensures.users_rise (rates_are_fair _ _ _ _ _ filled rates)
     (subst (HasDifferentRates c.in_ok-rates.rates.items) (sym len) (rates_are_different _ _ _ _ _ filled rates))
     (omega (arith, len, filled.few, length-map c.in_ok-sides.sides.items side_of))
     (λ id. c.in_ok-by_id.ensures.by_id id ∙ ap (last_rate id c.args.flows.now) c.deref.ensures.value)

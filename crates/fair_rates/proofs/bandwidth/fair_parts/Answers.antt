@@ -16,6 +16,10 @@ returns-clause-fair g c =
       factors = filled.factors;
       one_each = filled.one_each;
       inside = filled.inside;
-      fair = subst (λ (s : List Side). IsFair s found.scale (flow_parts found.levels.items found.level_of.items)) answers.2 filled.fair;
-      limited = λ flow. subst (λ (s : List Side). IsSome (level_at found.level_of.items flow) ↔ IsLimited s flow) answers.2 (filled.limited flow);
+      fair =
+          subst (λ (s : List Side). IsFair s found.scale (flow_parts found.levels.items found.level_of.items)) answers.2
+          filled.fair;
+      limited = λ flow.
+          subst (λ (s : List Side). IsSome (level_at found.level_of.items flow) ↔ IsLimited s flow) answers.2
+          (filled.limited flow);
     }

@@ -8,4 +8,7 @@ use Rattle.fair_rates.proofs.bandwidth.rates_by_id.Given as goal
 
 abbrev pub invariant-loop-flow : goal.invariant-loop-flow
 invariant-loop-flow g l =
-    (id : ℕ) → or_else (last_rate id (iter_rest (zip_first l.flow-iterator)) (iter_rest (zip_second l.flow-iterator))) (get nat_cmp l.by_id id) ≡ last_rate id l.flows l.rates
+    (id : ℕ)
+    → or_else (last_rate id (iter_rest (zip_first l.flow-iterator)) (iter_rest (zip_second l.flow-iterator)))
+    (get nat_cmp l.by_id id)
+    ≡ last_rate id l.flows l.rates

@@ -7,7 +7,8 @@ use Rattle.link_simulation.proofs.Rule.OneMeaning.{one_run, one_going}
 use Rattle.link_scheduler.proofs.clauses.a_call_that_is_made_keeps_its_promises.Goals as goal
 
 pub returns-clause-rule : goal.returns-clause-rule
-returns-clause-rule g c p q r call cs ds made obeys = one_going g.P.Ord.cmp g.met.P.Ord.total p q r call cs ds made.by_rule obeys
+returns-clause-rule g c p q r call cs ds made obeys =
+    one_going g.P.Ord.cmp g.met.P.Ord.total p q r call cs ds made.by_rule obeys
 
 pub returns-clause-simulated : goal.returns-clause-simulated
 returns-clause-simulated g c p q w v call now cs ds made called runs =

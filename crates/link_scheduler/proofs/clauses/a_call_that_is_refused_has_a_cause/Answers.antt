@@ -2,7 +2,8 @@ use Rattle.link_simulation.proofs.Rule.OneMeaning.{not_refused, not_refused_in_s
 use Rattle.link_scheduler.proofs.clauses.a_call_that_is_refused_has_a_cause.Goals as goal
 
 pub returns-clause-rule : goal.returns-clause-rule
-returns-clause-rule g c p q call why cs refused obeys = not_refused g.P.Ord.cmp g.met.P.Ord.total p q call why cs refused.by_rule obeys
+returns-clause-rule g c p q call why cs refused obeys =
+    not_refused g.P.Ord.cmp g.met.P.Ord.total p q call why cs refused.by_rule obeys
 
 pub returns-clause-simulated : goal.returns-clause-simulated
 returns-clause-simulated g c p w v call now why cs refused called runs =

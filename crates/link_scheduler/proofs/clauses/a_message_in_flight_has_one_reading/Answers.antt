@@ -12,4 +12,5 @@ returns-clause-amounts g c f rate r is at =
     (is.left, subst (λ (o : Option Amount). MatchOption o ⊥ (λ a. IsReadingOf a r.rate)) at is.rate, is.since)
 
 pub returns-clause-no_rate : goal.returns-clause-no_rate
-returns-clause-no_rate g c f r at is = subst (λ (o : Option Amount). MatchOption o ⊥ (λ a. IsReadingOf a r.rate)) at is.rate
+returns-clause-no_rate g c f r at is =
+    subst (λ (o : Option Amount). MatchOption o ⊥ (λ a. IsReadingOf a r.rate)) at is.rate

@@ -30,7 +30,8 @@ unwrap-requires g c =
     c.push.ensures.succeeds (has_room g.P.Ord.cmp g.met.P.Ord.total (new_planned 0)
     (map call_of c.args.calls.now) c.loop-call.call-index (map reply_of c.loop-call.replies.items)
     (vec_len c.loop-call.replies) (vec_capacity c.loop-call.replies) (planned g.P.Ord.cmp c.loop-call.state.ledger)
-    c.loop-call.invariant (subst (λ n. c.loop-call.call-index < n) (sym (length-map c.args.calls.now call_of)) c.loop-call-test.true))
+    c.loop-call.invariant
+    (subst (λ n. c.loop-call.call-index < n) (sym (length-map c.args.calls.now call_of)) c.loop-call-test.true))
 
 pub loop-call-preserved : goal.loop-call-preserved
 loop-call-preserved g c =
@@ -38,7 +39,8 @@ loop-call-preserved g c =
       subst (λ r. c.push.new.self.items ≡ (if is_ok r then c.loop-call.replies.items
           ++ c.answer.result ∷ [] else c.loop-call.replies.items)) c.unwrap.ensures c.push.ensures.items,
       subst (λ r. vec_len c.push.new.self
-          ≡ (if is_ok r then vec_len c.loop-call.replies + 1 else vec_len c.loop-call.replies)) c.unwrap.ensures c.push.ensures.len,
+          ≡ (if is_ok r then vec_len c.loop-call.replies + 1 else vec_len c.loop-call.replies)) c.unwrap.ensures
+          c.push.ensures.len,
       map-append reply_of c.loop-call.replies.items (c.answer.result ∷ []),
     )
     (goes_on g.P.Ord.cmp g.met.P.Ord.total (new_planned 0) (map call_of c.args.calls.now) c.loop-call.call-index
@@ -48,10 +50,13 @@ loop-call-preserved g c =
     (call_of c.call-item.result) (reply_of c.answer.result) c.loop-call.invariant
     (subst (λ n. c.loop-call.call-index < n) (sym (length-map c.args.calls.now call_of)) c.loop-call-test.true)
     (ap call_of c.call-item.is ∙ sym (get_or-map call_of c.args.calls.now c.loop-call.call-index c.call-item.result
-    (call_of c.call-item.result) c.loop-call-test.true)) c.push.ensures.capacity c.answer.ensures.in_time c.answer.ensures.reply)
+    (call_of c.call-item.result) c.loop-call-test.true)) c.push.ensures.capacity c.answer.ensures.in_time
+    c.answer.ensures.reply)
 
 -- all calls are replied to by the event rule, and come at moments
-replied : (g : _) (c : goal.After-drop-state-7 g) → Obeyed g.P.Ord.cmp (new_planned 0) (map call_of c.args.calls.now) (map reply_of c.loop-call.replies.items) × InTime (map call_of c.args.calls.now)
+replied : (g : _) (c : goal.After-drop-state-7 g)
+    → Obeyed g.P.Ord.cmp (new_planned 0) (map call_of c.args.calls.now) (map reply_of c.loop-call.replies.items)
+    × InTime (map call_of c.args.calls.now)
 replied g c =
     ends g.P.Ord.cmp g.met.P.Ord.total (new_planned 0) (map call_of c.args.calls.now) c.loop-call.call-index
     (map reply_of c.loop-call.replies.items) (vec_len c.loop-call.replies) (vec_capacity c.loop-call.replies)
@@ -59,8 +64,11 @@ replied g c =
     (subst (λ n. n ≤ c.loop-call.call-index) (sym (length-map c.args.calls.now call_of)) c.loop-call-test.false)
 
 -- and so they are those of the simulation
-agreed : (g : _) (c : goal.After-drop-state-7 g) → Agrees g.P.Ord.cmp (new_world 0) (map call_of c.args.calls.now) (map reply_of c.loop-call.replies.items)
-agreed g c = obeyed_agree g.P.Ord.cmp g.met.P.Ord.total (map call_of c.args.calls.now) (map reply_of c.loop-call.replies.items) (replied g c).1 (replied g c).0
+agreed : (g : _) (c : goal.After-drop-state-7 g)
+    → Agrees g.P.Ord.cmp (new_world 0) (map call_of c.args.calls.now) (map reply_of c.loop-call.replies.items)
+agreed g c =
+    obeyed_agree g.P.Ord.cmp g.met.P.Ord.total (map call_of c.args.calls.now) (map reply_of c.loop-call.replies.items)
+    (replied g c).1 (replied g c).0
 
 pub returns-clause-obeyed : goal.returns-clause-obeyed
 returns-clause-obeyed g c = (replied g c).0
@@ -75,13 +83,21 @@ returns-clause-one_each g c =
     (map reply_of c.loop-call.replies.items) (replied g c).0 ∙ length-map c.args.calls.now call_of
 
 pub returns-clause-in_range : goal.returns-clause-in_range
-returns-clause-in_range g c = refuses_for_memory g.P.Ord.cmp g.met.P.Ord.total (map call_of c.args.calls.now) (map reply_of c.loop-call.replies.items) (replied g c).0
+returns-clause-in_range g c =
+    refuses_for_memory g.P.Ord.cmp g.met.P.Ord.total (map call_of c.args.calls.now)
+    (map reply_of c.loop-call.replies.items) (replied g c).0
 
 pub returns-clause-conserved : goal.returns-clause-conserved
-returns-clause-conserved g c = conserved_so_far g.P.Ord.cmp g.met.P.Ord.total 0 (map call_of c.args.calls.now) (map reply_of c.loop-call.replies.items) (replied g c).0
+returns-clause-conserved g c =
+    conserved_so_far g.P.Ord.cmp g.met.P.Ord.total 0 (map call_of c.args.calls.now)
+    (map reply_of c.loop-call.replies.items) (replied g c).0
 
 pub returns-clause-order : goal.returns-clause-order
-returns-clause-order g c = pairs_complete_in_order g.P.Ord.cmp g.met.P.Ord.total (map call_of c.args.calls.now) (map reply_of c.loop-call.replies.items) (agreed g c)
+returns-clause-order g c =
+    pairs_complete_in_order g.P.Ord.cmp g.met.P.Ord.total (map call_of c.args.calls.now)
+    (map reply_of c.loop-call.replies.items) (agreed g c)
 
 pub returns-clause-isolation : goal.returns-clause-isolation
-returns-clause-isolation g c = sets_are_isolated g.P.Ord.cmp g.met.P.Ord.total (map call_of c.args.calls.now) (map reply_of c.loop-call.replies.items) (replied g c).1 (agreed g c)
+returns-clause-isolation g c =
+    sets_are_isolated g.P.Ord.cmp g.met.P.Ord.total (map call_of c.args.calls.now)
+    (map reply_of c.loop-call.replies.items) (replied g c).1 (agreed g c)

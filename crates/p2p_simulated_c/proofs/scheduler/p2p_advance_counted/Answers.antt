@@ -3,4 +3,9 @@ use Rattle.p2p_simulated_c.proofs.Ending.{on_open}
 use Rattle.p2p_simulated_c.proofs.scheduler.p2p_advance_counted.Goals as goal
 
 pub returns : goal.returns
-returns c = on_open _ _ _ _ _ _ _ c.in-Some.ensures.taken c.deref_mut.ensures.value c.of-2.ensures refl (c.advance_counted-status.ensures.ended, c.advance_counted-status.ensures.advanced, c.advance_counted-status.ensures.counted)
+returns c =
+    on_open _ _ _ _ _ _ _ c.in-Some.ensures.taken c.deref_mut.ensures.value c.of-2.ensures refl (
+      c.advance_counted-status.ensures.ended,
+      c.advance_counted-status.ensures.advanced,
+      c.advance_counted-status.ensures.counted,
+    )

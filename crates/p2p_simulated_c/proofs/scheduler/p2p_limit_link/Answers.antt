@@ -3,4 +3,6 @@ use Rattle.p2p_simulated_c.proofs.Ending.{on_open}
 use Rattle.p2p_simulated_c.proofs.scheduler.p2p_limit_link.Goals as goal
 
 pub returns : goal.returns
-returns c = on_open _ _ _ _ _ _ _ c.in-Some.ensures.taken c.deref_mut.ensures.value c.of.ensures refl (rw c.get-most.ensures at c.limit_link-status.ensures)
+returns c =
+    on_open _ _ _ _ _ _ _ c.in-Some.ensures.taken c.deref_mut.ensures.value c.of.ensures refl
+    (rw c.get-most.ensures at c.limit_link-status.ensures)

@@ -3,4 +3,6 @@ use Rattle.p2p_simulated_c.proofs.Ending.{on_open}
 use Rattle.p2p_simulated_c.proofs.scheduler.p2p_message.Goals as goal
 
 pub returns : goal.returns
-returns c = on_open _ _ _ _ _ _ _ c.in-Some.ensures.taken refl c.of.ensures refl (refl, rw c.deref.ensures at c.message-count.ensures.count, rw c.deref.ensures at c.message-count.ensures.written)
+returns c =
+    on_open _ _ _ _ _ _ _ c.in-Some.ensures.taken refl c.of.ensures refl
+    (refl, rw c.deref.ensures at c.message-count.ensures.count, rw c.deref.ensures at c.message-count.ensures.written)

@@ -7,7 +7,9 @@ use Rattle.uses.proofs.events.finish.Given as goal
 
 -- no message is lost so far
 abbrev pub invariant-loop-now : goal.invariant-loop-now
-invariant-loop-now g l = ∥ IsConserved g.P.Ord.cmp (planned_of l.initial.state) [] (map completed_of l.completions.items) (planned_of l.state) ∥₁
+invariant-loop-now g l =
+    ∥ IsConserved g.P.Ord.cmp (planned_of l.initial.state) [] (map completed_of l.completions.items)
+    (planned_of l.state) ∥₁
 
 -- each event leaves fewer that may come
 abbrev pub decreases-loop-now : goal.decreases-loop-now

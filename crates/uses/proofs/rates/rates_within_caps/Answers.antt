@@ -21,6 +21,8 @@ pub returns : goal.returns
 returns c = record {
   kept = IfOk-weaker c.rates_of_senders.result _ _ (λ rates fair. record {
     fair = fair;
-    within = λ sender cap is. c.a_side_keeps_to_its_cap.ensures (sending (get nat_cmp c.args.egress.now)) c.args.flows.now fair.rates (of_peers c) fair.fair (sent_by sender) cap is;
+    within = λ sender cap is.
+        c.a_side_keeps_to_its_cap.ensures (sending (get nat_cmp c.args.egress.now)) c.args.flows.now fair.rates
+        (of_peers c) fair.fair (sent_by sender) cap is;
   }) c.rates_of_senders.ensures.fair;
 }

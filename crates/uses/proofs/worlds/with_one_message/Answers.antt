@@ -17,7 +17,9 @@ returns c =
     let first : IsCalled nat_cmp (planned_of c.new-state.result) limit 0 (new_world 0) = record {
       stands = new.stands;
       moment = refl;
-      turn = c.calls_before_the_next_event_are_in_turn.ensures.before _ (new_world 0) limit 0 new.stands refl (omega arith) none;
+      turn =
+          c.calls_before_the_next_event_are_in_turn.ensures.before _ (new_world 0) limit 0 new.stands refl (omega arith)
+          none;
     } in
     let run = c.in_ok-limit.ensures.made.simulated (new_world 0) 0 first in
     let second = c.calls_before_the_next_event_are_in_turn.ensures.at_once (new_world 0) _ limit enqueue 0 _ refl run in

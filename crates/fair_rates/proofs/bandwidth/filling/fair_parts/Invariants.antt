@@ -7,7 +7,8 @@ use Rattle.fair_rates.proofs.bandwidth.filling.fair_parts.Given as goal
 
 abbrev pub invariant-loop-found : goal.invariant-loop-found
 invariant-loop-found l = record {
-  course : IsCourse (map side_of l.fn.sides.items) l.found.scale l.found.levels.items l.found.level_of.items (heap_items l.queue);
+  course : IsCourse (map side_of l.fn.sides.items) l.found.scale l.found.levels.items l.found.level_of.items
+      (heap_items l.queue);
   grown : l.found.scale ≡ l.fn.scale * product l.found.growth.items;
   factors : All (λ factor. 0 < factor) l.found.growth.items;
   one_each : length l.found.level_of.items ≡ l.count;

@@ -8,7 +8,8 @@ use Rattle.fair_rates.specs.Filling.States.{frozen_at, IsWithinSlack}
 use Rattle.fair_rates.specs.declared.bandwidth.filling.open.OpenSide.{OpenSide}
 use Rattle.fair_rates.proofs.Filling.Account.{risers_have_no_more}
 use Rattle.fair_rates.proofs.Filling.Frozen.{match_none}
-use Rattle.fair_rates.proofs.Filling.Queue.{queue_permuted, queue_counted, queue_filled, all_filled, sound_popped, sound_pushed, above_counted, least_first}
+use Rattle.fair_rates.proofs.Filling.Queue.{queue_permuted, queue_counted, queue_filled, all_filled, sound_popped}
+use Rattle.fair_rates.proofs.Filling.Queue.{sound_pushed, above_counted, least_first}
 use Rattle.fair_rates.proofs.bandwidth.filling.next_side.Goals as goal
 
 unchanged : {P : Type 0} (n m : ℕ) → (n < m) ⊎ (P × (n ≡ m)) → n ≡ m → P
@@ -21,19 +22,26 @@ fewer n m (inr (p, e)) other = absurd (other e)
 
 pub returns-then-len-before-clause-sound : goal.returns-then-len-before-clause-sound
 returns-then-len-before-clause-sound c =
-    sound_popped (length c.args.level_of.now) (frozen_at c.args.levels.now c.args.level_of.now) (heap_items c.loop-least.queue) (heap_items c.pop.new.self) c.in-Some.field-0
-    c.in-Some.ensures.permutation (c.in-Some.ensures.heap_order c.loop-least.invariant.sound.order).0 c.loop-least.invariant.sound
+    sound_popped (length c.args.level_of.now) (frozen_at c.args.levels.now c.args.level_of.now)
+    (heap_items c.loop-least.queue) (heap_items c.pop.new.self) c.in-Some.field-0
+    c.in-Some.ensures.permutation (c.in-Some.ensures.heap_order c.loop-least.invariant.sound.order).0
+    c.loop-least.invariant.sound
 
 pub returns-then-len-before-clause-least : goal.returns-then-len-before-clause-least
 returns-then-len-before-clause-least c =
     let x : OpenSide = c.in-Some.field-0.0 in
     let new : OpenSide = c.in-Some-count_frozen.side in
     let rest = heap_items c.pop.new.self in
-    let len : length new.rising.items ≡ length x.rising.items = grind (arith, common_steps, c.if-len-before.true, c.len.ensures, c.len-before.ensures) in
-    let slack : new.slack ≡ x.slack = unchanged {P = new.slack ≡ x.slack} (length new.rising.items) (length x.rising.items) c.in-Some-count_frozen.ensures.changed len in
+    let len : length new.rising.items ≡ length x.rising.items =
+    grind (arith, common_steps, c.if-len-before.true, c.len.ensures, c.len-before.ensures) in
+    let slack : new.slack ≡ x.slack =
+    unchanged {P = new.slack ≡ x.slack} (length new.rising.items) (length x.rising.items)
+    c.in-Some-count_frozen.ensures.changed len in
     record {
       rise = c.in-Some-count_frozen.ensures.rise;
-      least = All-weaker (λ (o : Reverse OpenSide). x.slack * length o.0.rising.items ≤ o.0.slack * length x.rising.items) (λ o. new.slack * length o.0.rising.items ≤ o.0.slack * length new.rising.items)
+      least =
+          All-weaker (λ (o : Reverse OpenSide). x.slack * length o.0.rising.items ≤ o.0.slack * length x.rising.items)
+          (λ o. new.slack * length o.0.rising.items ≤ o.0.slack * length new.rising.items)
           (λ o le. omega (arith, le, ap (λ n. n * length o.0.rising.items) slack, ap (λ n. o.0.slack * n) len)) rest
           (least_first c.in-Some.field-0 rest (c.in-Some.ensures.below_top c.loop-least.invariant.sound.order));
     }
@@ -41,13 +49,16 @@ returns-then-len-before-clause-least c =
 pub returns-then-len-before-clause-queue : goal.returns-then-len-before-clause-queue
 returns-then-len-before-clause-queue c sides scale queue =
     let frozen = frozen_at c.args.levels.now c.args.level_of.now in
-    queue_counted scale frozen sides c.in-Some.field-0 (record { 0 = c.in-Some-count_frozen.side }) (heap_items c.pop.new.self) (λ side account. c.in-Some-count_frozen.ensures.account side scale account)
-    (queue_permuted scale frozen sides (heap_items c.loop-least.queue) (c.in-Some.field-0 ∷ heap_items c.pop.new.self) c.in-Some.ensures.permutation
+    queue_counted scale frozen sides c.in-Some.field-0 (record { 0 = c.in-Some-count_frozen.side })
+    (heap_items c.pop.new.self) (λ side account. c.in-Some-count_frozen.ensures.account side scale account)
+    (queue_permuted scale frozen sides (heap_items c.loop-least.queue) (c.in-Some.field-0 ∷ heap_items c.pop.new.self)
+    c.in-Some.ensures.permutation
     (c.loop-least.invariant.queue sides scale queue))
 
 pub returns-then-len-before-clause-no_lower : goal.returns-then-len-before-clause-no_lower
 returns-then-len-before-clause-no_lower c parts above =
-    above_counted parts (heap_items c.loop-least.queue) (heap_items c.pop.new.self) c.in-Some.field-0 (record { 0 = c.in-Some-count_frozen.side }) c.in-Some.ensures.permutation
+    above_counted parts (heap_items c.loop-least.queue) (heap_items c.pop.new.self) c.in-Some.field-0
+    (record { 0 = c.in-Some-count_frozen.side }) c.in-Some.ensures.permutation
     (c.in-Some-count_frozen.ensures.no_lower parts) (c.loop-least.invariant.no_lower parts above)
 
 pub loop-least-smaller-in-Continue-1 : goal.loop-least-smaller-in-Continue-1
@@ -56,7 +67,8 @@ loop-least-smaller-in-Continue-1 c =
     let x = c.in-Some.field-0 in
     let new : Reverse OpenSide = record { 0 = c.in-Some-count_frozen.side } in
     let rest = heap_items c.pop.new.self in
-    let len : length new.0.rising.items ≡ length x.0.rising.items → ⊥ = λ same. absurd (grind (arith, common_steps, c.if-len-before.false, c.len.ensures, c.len-before.ensures, same)) in
+    let len : length new.0.rising.items ≡ length x.0.rising.items → ⊥ = λ same.
+    absurd (grind (arith, common_steps, c.if-len-before.false, c.len.ensures, c.len-before.ensures, same)) in
     let less = fewer (length new.0.rising.items) (length x.0.rising.items) c.in-Some-count_frozen.ensures.changed len in
     omega (
       arith,
@@ -76,22 +88,34 @@ loop-least-preserved-in-Continue-1 c =
     let later = heap_items c.push.new.self in
     let popped = c.in-Some.ensures.permutation in
     let pushed = c.in_ok-push.ensures.permutation in
-    let sound = sound_popped flows frozen xs rest x popped (c.in-Some.ensures.heap_order c.loop-least.invariant.sound.order).0 c.loop-least.invariant.sound in
+    let sound =
+    sound_popped flows frozen xs rest x popped (c.in-Some.ensures.heap_order c.loop-least.invariant.sound.order).0
+    c.loop-least.invariant.sound in
     record {
-      sound = sound_pushed flows frozen rest later new pushed (c.in_ok-push.ensures.heap_order sound.order) c.in-Some-count_frozen.ensures.users
+      sound =
+          sound_pushed flows frozen rest later new pushed (c.in_ok-push.ensures.heap_order sound.order)
+          c.in-Some-count_frozen.ensures.users
           (risers_have_no_more frozen new.0.slack new.0.rising.items c.in-Some-count_frozen.ensures.rise) sound;
       queue = λ sides scale queue. queue_permuted scale frozen sides (new ∷ rest) later pushed
-          (queue_counted scale frozen sides x new rest (λ side account. c.in-Some-count_frozen.ensures.account side scale account)
+          (queue_counted scale frozen sides x new rest
+          (λ side account. c.in-Some-count_frozen.ensures.account side scale account)
           (queue_permuted scale frozen sides xs (x ∷ rest) popped (c.loop-least.invariant.queue sides scale queue)));
-      no_lower = λ parts above. All-permutation (λ (o : Reverse OpenSide). IsWithinSlack parts o.0.slack o.0.rising.items) (new ∷ rest) later pushed
-          (above_counted parts xs rest x new popped (c.in-Some-count_frozen.ensures.no_lower parts) (c.loop-least.invariant.no_lower parts above));
+      no_lower = λ parts above.
+          All-permutation (λ (o : Reverse OpenSide). IsWithinSlack parts o.0.slack o.0.rising.items) (new ∷ rest) later
+          pushed
+          (above_counted parts xs rest x new popped (c.in-Some-count_frozen.ensures.no_lower parts)
+          (c.loop-least.invariant.no_lower parts above));
       fewer = omega (arith, c.loop-least.invariant.fewer, c.in-Some.ensures.len, c.in_ok-push.ensures.len);
     }
 
 pub loop-least-smaller : goal.loop-least-smaller
 loop-least-smaller c =
     let work : Reverse OpenSide → ℕ = λ o. 1 + length o.0.rising.items in
-    omega (arith, sum_by_popped work c.in-Some.field-0 (heap_items c.loop-least.queue) (heap_items c.pop.new.self) c.in-Some.ensures.permutation)
+    omega (
+      arith,
+      sum_by_popped work c.in-Some.field-0 (heap_items c.loop-least.queue) (heap_items c.pop.new.self)
+          c.in-Some.ensures.permutation,
+    )
 
 pub loop-least-preserved : goal.loop-least-preserved
 loop-least-preserved c =
@@ -102,15 +126,22 @@ loop-least-preserved c =
     let rest = heap_items c.pop.new.self in
     let popped = c.in-Some.ensures.permutation in
     record {
-      sound = sound_popped flows frozen xs rest x popped (c.in-Some.ensures.heap_order c.loop-least.invariant.sound.order).0 c.loop-least.invariant.sound;
+      sound =
+          sound_popped flows frozen xs rest x popped (c.in-Some.ensures.heap_order c.loop-least.invariant.sound.order).0
+          c.loop-least.invariant.sound;
       queue = λ sides scale queue. queue_filled scale frozen sides x rest
-          (λ side account. match_none _ _ c.count_frozen.result (c.count_frozen.ensures.account side scale account) c.in_default-count_frozen.is)
+          (λ side account. match_none _ _ c.count_frozen.result (c.count_frozen.ensures.account side scale account)
+          c.in_default-count_frozen.is)
           (queue_permuted scale frozen sides xs (x ∷ rest) popped (c.loop-least.invariant.queue sides scale queue));
-      no_lower = λ parts above. All-tail (λ (o : Reverse OpenSide). IsWithinSlack parts o.0.slack o.0.rising.items) x rest (All-permutation (λ (o : Reverse OpenSide). IsWithinSlack parts o.0.slack o.0.rising.items) xs (x ∷ rest) popped (c.loop-least.invariant.no_lower parts above));
+      no_lower = λ parts above.
+          All-tail (λ (o : Reverse OpenSide). IsWithinSlack parts o.0.slack o.0.rising.items) x rest
+          (All-permutation (λ (o : Reverse OpenSide). IsWithinSlack parts o.0.slack o.0.rising.items) xs (x ∷ rest)
+          popped (c.loop-least.invariant.no_lower parts above));
       fewer = omega (arith, c.loop-least.invariant.fewer, c.in-Some.ensures.len);
     }
 
 pub returns-clause-queue : goal.returns-clause-queue
 returns-clause-queue c sides scale queue =
-    all_filled scale (frozen_at c.args.levels.now c.args.level_of.now) sides (heap_items c.loop-least.queue) (grind (arith, common_steps, c.in_default.ensures.none))
+    all_filled scale (frozen_at c.args.levels.now c.args.level_of.now) sides (heap_items c.loop-least.queue)
+    (grind (arith, common_steps, c.in_default.ensures.none))
     (c.loop-least.invariant.queue sides scale queue)

@@ -15,16 +15,27 @@ loop-side-init c = record {
 
 pub loop-side-preserved-in-Continue-branch-3 : goal.loop-side-preserved-in-Continue-branch-3
 loop-side-preserved-in-Continue-branch-3 c = record {
-  opened = opened_more c.args.scale.now c.loop-side.yielded c.in-Some.side (heap_items c.loop-side.queue) c.loop-side.invariant.opened (heap_items c.push.new.self) c.in_ok-push.ensures.permutation
+  opened =
+      opened_more c.args.scale.now c.loop-side.yielded c.in-Some.side (heap_items c.loop-side.queue)
+      c.loop-side.invariant.opened (heap_items c.push.new.self) c.in_ok-push.ensures.permutation
       c.in_ok-slack.ensures.value refl;
   order = c.in_ok-push.ensures.heap_order c.loop-side.invariant.order;
-  count = omega (arith, c.in_ok-push.ensures.len, c.loop-side.invariant.count, length-append {A = Side} c.loop-side.yielded (c.in-Some.side ∷ []));
+  count =
+      omega (
+        arith,
+        c.in_ok-push.ensures.len,
+        c.loop-side.invariant.count,
+        length-append {A = Side} c.loop-side.yielded (c.in-Some.side ∷ []),
+      );
 }
 
 pub loop-side-preserved : goal.loop-side-preserved
 loop-side-preserved c = record {
-  opened = opened_without c.args.scale.now c.loop-side.yielded c.in-Some.side (heap_items c.loop-side.queue) c.loop-side.invariant.opened
+  opened =
+      opened_without c.args.scale.now c.loop-side.yielded c.in-Some.side (heap_items c.loop-side.queue)
+      c.loop-side.invariant.opened
       (grind (arith, common_steps, c.is_empty.ensures, c.if-not-is_empty.false));
   order = c.loop-side.invariant.order;
-  count = omega (arith, c.loop-side.invariant.count, length-append {A = Side} c.loop-side.yielded (c.in-Some.side ∷ []));
+  count =
+      omega (arith, c.loop-side.invariant.count, length-append {A = Side} c.loop-side.yielded (c.in-Some.side ∷ []));
 }

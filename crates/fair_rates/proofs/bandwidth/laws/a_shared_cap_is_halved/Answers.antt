@@ -1,4 +1,5 @@
-use Rattle.fair_rates.proofs.Fairness.Example.{half_exists, halves_are_fair, less_is_unfair, more_is_unfair, no_limit_is_unfair, limit_is_unfair}
+use Rattle.fair_rates.proofs.Fairness.Example.{half_exists, halves_are_fair, less_is_unfair, more_is_unfair}
+use Rattle.fair_rates.proofs.Fairness.Example.{no_limit_is_unfair, limit_is_unfair}
 use Rattle.fair_rates.proofs.bandwidth.laws.a_shared_cap_is_halved.Goals as goal
 
 pub returns-clause-half : goal.returns-clause-half

@@ -7,4 +7,5 @@ pub returns-clause-plain : goal.returns-clause-plain
 returns-clause-plain g c = answers_are_those_of_the_caps (CalledAt g.E.FnMut) (CalledAt g.I.FnMut) NoLink
 
 pub returns-clause-linked : goal.returns-clause-linked
-returns-clause-linked g c = answers_are_those_of_the_caps (CalledAt g.E.FnMut) (CalledAt g.I.FnMut) (CalledAtTwo g.L.FnMut)
+returns-clause-linked g c =
+    answers_are_those_of_the_caps (CalledAt g.E.FnMut) (CalledAt g.I.FnMut) (CalledAtTwo g.L.FnMut)

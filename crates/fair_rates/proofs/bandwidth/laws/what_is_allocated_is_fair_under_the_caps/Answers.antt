@@ -7,4 +7,5 @@ pub returns-clause-plain : goal.returns-clause-plain
 returns-clause-plain g c = allocates_under_caps g.P.Ord.cmp (CalledAt g.E.FnMut) (CalledAt g.I.FnMut) NoLink
 
 pub returns-clause-linked : goal.returns-clause-linked
-returns-clause-linked g c = allocates_under_caps g.P.Ord.cmp (CalledAt g.E.FnMut) (CalledAt g.I.FnMut) (CalledAtTwo g.L.FnMut)
+returns-clause-linked g c =
+    allocates_under_caps g.P.Ord.cmp (CalledAt g.E.FnMut) (CalledAt g.I.FnMut) (CalledAtTwo g.L.FnMut)

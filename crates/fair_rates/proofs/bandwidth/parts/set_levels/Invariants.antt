@@ -5,5 +5,6 @@ use Rattle.fair_rates.proofs.bandwidth.parts.set_levels.Given as goal
 abbrev pub invariant-loop-user : goal.invariant-loop-user
 invariant-loop-user l = record {
   all : All (λ flow. level_at l.level_of flow ≡ Some l.place) (take l.user-index l.users);
-  others : (flow : ℕ) → Contains (take l.user-index l.users) flow ⊎ (level_at l.level_of flow ≡ level_at l.initial.level_of flow);
+  others : (flow : ℕ)
+      → Contains (take l.user-index l.users) flow ⊎ (level_at l.level_of flow ≡ level_at l.initial.level_of flow);
 }

@@ -10,6 +10,7 @@ invariant-loop-place g l = record {
   ingress : CallableOnEach (TakesAt g.I.FnMut) (CalledAt g.I.FnMut) l.ingress_cap (recipients (drop l.place l.flows));
   link : CallableOnEachPair (TakesAtTwo g.L.FnMut) (CalledAtTwo g.L.FnMut) l.link_cap (pairs (drop l.place l.flows));
   passed : Passed g.P.Ord.cmp (CalledAt g.E.FnMut) (CalledAt g.I.FnMut) (CalledAtTwo g.L.FnMut)
-      (record { egress = l.initial.egress_cap; ingress = l.initial.ingress_cap; link = l.initial.link_cap }) l.flows l.place
+      (record { egress = l.initial.egress_cap; ingress = l.initial.ingress_cap; link = l.initial.link_cap }) l.flows
+      l.place
       (record { egress = l.egress_cap; ingress = l.ingress_cap; link = l.link_cap }) l.registry;
 }

@@ -9,9 +9,12 @@ returns-in_err-rest-clause-fits c =
 
 pub returns-clause-fits : goal.returns-clause-fits
 returns-clause-fits c =
-    let stands = no_greater_is c.args.self c.args.other _ _ _ c.in_ok-over.ensures.value in
-    (λ s. record { common = c.in_ok-over.ensures.fits.0 refl; no_greater = stands.0 c.in_ok-rest.ensures.0 }, λ fits. refl)
+    let stands = no_greater_is c.args.self c.args.other _ _ _ c.in_ok-over.ensures.value in (
+      λ s. record { common = c.in_ok-over.ensures.fits.0 refl; no_greater = stands.0 c.in_ok-rest.ensures.0 },
+      λ fits. refl,
+    )
 
 pub returns-clause-value : goal.returns-clause-value
 returns-clause-value c =
-    difference_worth c.lowest.result c.args.self c.args.other _ _ _ _ c.in_ok-over.ensures.value c.in_ok-rest.ensures.1 c.lowest.ensures
+    difference_worth c.lowest.result c.args.self c.args.other _ _ _ _ c.in_ok-over.ensures.value c.in_ok-rest.ensures.1
+    c.lowest.ensures

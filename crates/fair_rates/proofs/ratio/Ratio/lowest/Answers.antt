@@ -1,20 +1,30 @@
 use Rattle.std.proofs.Common.{◌≡◌, ◌<◌, ◌∙◌, sym, ap, subst}
 use Rattle.fair_rates.specs.Numbers.Amount.{Amount, reduced}
 use Rattle.fair_rates.specs.Numbers.Fraction.{IsReduced}
-use Rattle.fair_rates.specs.Numbers.LowestTerms.{amount_is, reduced_is, reduced_lowest, reduced_positive, reduced_IsReduced, whole_IsReduced}
+use Rattle.fair_rates.specs.Numbers.LowestTerms.{amount_is, reduced_is, reduced_lowest, reduced_positive}
+use Rattle.fair_rates.specs.Numbers.LowestTerms.{reduced_IsReduced, whole_IsReduced}
 use Rattle.fair_rates.proofs.ratio.Ratio.lowest.Goals as goal
 
-found : (c : goal.After-quotient-2) → reduced c.args.num c.args.den ≡ record { num = c.quotient.result; den = c.quotient-2.result }
-found c = reduced_is c.args.num c.args.den c.gcd-divisor.result (sym c.gcd-divisor.ensures.value) ∙ amount_is (sym c.quotient.ensures) (sym c.quotient-2.ensures)
+found : (c : goal.After-quotient-2)
+    → reduced c.args.num c.args.den ≡ record { num = c.quotient.result; den = c.quotient-2.result }
+found c =
+    reduced_is c.args.num c.args.den c.gcd-divisor.result (sym c.gcd-divisor.ensures.value)
+    ∙ amount_is (sym c.quotient.ensures) (sym c.quotient-2.ensures)
 
 pub returns-then-den-eq1 : goal.returns-then-den-eq1
-returns-then-den-eq1 c = c.from_whole.ensures ∙ sym (reduced_lowest c.args.num 1 (whole_IsReduced c.args.num)) ∙ sym (ap (λ n. reduced c.args.num n) c.if-den-eq1.true)
+returns-then-den-eq1 c =
+    c.from_whole.ensures ∙ sym (reduced_lowest c.args.num 1 (whole_IsReduced c.args.num))
+    ∙ sym (ap (λ n. reduced c.args.num n) c.if-den-eq1.true)
 
 pub invariant_of-result : goal.invariant_of-result
 invariant_of-result c = record {
   positive = subst (λ (x : Amount). 0 < x.den) (found c) (reduced_positive c.args.num c.args.den c.requires);
-  reduced = subst (λ (x : Amount). IsReduced x.num x.den) (found c) (reduced_IsReduced c.args.num c.args.den c.requires);
+  reduced =
+      subst (λ (x : Amount). IsReduced x.num x.den) (found c) (reduced_IsReduced c.args.num c.args.den c.requires);
 }
 
 pub returns : goal.returns
-returns c = sym (reduced_is c.args.num c.args.den c.gcd-divisor.result (sym c.gcd-divisor.ensures.value) ∙ amount_is (sym c.quotient.ensures) (sym c.quotient-2.ensures))
+returns c =
+    sym
+    (reduced_is c.args.num c.args.den c.gcd-divisor.result (sym c.gcd-divisor.ensures.value)
+    ∙ amount_is (sym c.quotient.ensures) (sym c.quotient-2.ensures))

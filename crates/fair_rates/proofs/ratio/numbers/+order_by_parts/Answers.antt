@@ -1,6 +1,7 @@
 use Rattle.std.proofs.Common.{◌∙◌, inl, inr}
 use Rattle.fair_rates.specs.Numbers.FractionOrder.{by_wholes, by_zero_rest, by_rests}
-use Rattle.fair_rates.proofs.ratio.numbers.+order_by_parts.Goals.{then-rest-eq0-via-then-rest-eq0, then-rest-eq0-via-else-rest-eq0+then-other_rest-eq0}
+use Rattle.fair_rates.proofs.ratio.numbers.+order_by_parts.Goals.{then-rest-eq0-via-then-rest-eq0}
+use Rattle.fair_rates.proofs.ratio.numbers.+order_by_parts.Goals.{then-rest-eq0-via-else-rest-eq0+then-other_rest-eq0}
 use Rattle.fair_rates.proofs.ratio.numbers.+order_by_parts.Goals as goal
 
 pub returns-then-whole-other_whole : goal.returns-then-whole-other_whole

@@ -11,10 +11,13 @@ returns-in-Err-make-clause-reply g c =
     (planned g.P.Ord.cmp c.make.new.state.ledger) (reply_refused c.in-Err-make.error)
     (same_itself g.P.Ord.cmp g.met.P.Ord.total
     (planned g.P.Ord.cmp c.args.state.now.ledger) c.args.state.now.caps c.args.state.now.arrivals) c.in-Ok.ensures.same
-    (refused_by_rule c.args.state.now c.make.new.state _ c.in-Err-make.error c.in-Err-make.ensures.refused c.in-Err-make.ensures.unchanged)
+    (refused_by_rule c.args.state.now c.make.new.state _ c.in-Err-make.error c.in-Err-make.ensures.refused
+    c.in-Err-make.ensures.unchanged)
 
 pub returns-in-Ok-make-clause-reply : goal.returns-in-Ok-make-clause-reply
-returns-in-Ok-make-clause-reply g c = reply_same g.P.Ord.cmp g.met.P.Ord.total (planned g.P.Ord.cmp c.args.state.now.ledger) (planned g.P.Ord.cmp c.make.new.state.ledger) (reply_of c.in-Ok-make.reply)
+returns-in-Ok-make-clause-reply g c =
+    reply_same g.P.Ord.cmp g.met.P.Ord.total (planned g.P.Ord.cmp c.args.state.now.ledger)
+    (planned g.P.Ord.cmp c.make.new.state.ledger) (reply_of c.in-Ok-make.reply)
     (same_itself g.P.Ord.cmp g.met.P.Ord.total
     (planned g.P.Ord.cmp c.args.state.now.ledger) c.args.state.now.caps c.args.state.now.arrivals) c.in-Ok.ensures.same
     (answered_by_rule c.args.state.now c.make.new.state _ c.in-Ok-make.reply c.in-Ok-make.ensures.made)

@@ -8,7 +8,8 @@ use Rattle.link_scheduler.proofs.replay.Call+P.copy.Goals.{in-Advance, in-Next}
 
 pub returns-clause-same : goal.returns-clause-same
 returns-clause-same g c = elim c.match-self.branch [
-  | in-Limit+in_ok-copy_of-in-Limit w ↦ rw (w.in-Limit.is, w.result-is) (same_limit w.in_ok-copy_of-in-Limit.ensures.same)
+  | in-Limit+in_ok-copy_of-in-Limit w ↦ rw (w.in-Limit.is, w.result-is)
+      (same_limit w.in_ok-copy_of-in-Limit.ensures.same)
   | in-LimitLink+in_ok-copy_of-in-LimitLink+in_ok-copy_of-in-LimitLink-2 w ↦ rw (w.in-LimitLink.is, w.result-is)
       (same_limit_link w.in_ok-copy_of-in-LimitLink.ensures.same w.in_ok-copy_of-in-LimitLink-2.ensures.same)
   | in-Enqueue+in_ok-copy_of-in-Enqueue+in_ok-copy_of-in-Enqueue-2+in_ok-share-in-Enqueue w ↦ rw

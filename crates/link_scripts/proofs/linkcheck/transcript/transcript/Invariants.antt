@@ -6,4 +6,6 @@ use Rattle.link_scripts.proofs.linkcheck.transcript.transcript.Given as goal
 
 -- what is told, and what is to come
 abbrev pub invariant-loop-one : goal.invariant-loop-one
-invariant-loop-one l = l.text.items ++ told_of (iter_rest (zip_first l.one-iterator)) (iter_rest (zip_second l.one-iterator)) ≡ told_of l.asked l.replies
+invariant-loop-one l =
+    l.text.items ++ told_of (iter_rest (zip_first l.one-iterator)) (iter_rest (zip_second l.one-iterator))
+    ≡ told_of l.asked l.replies

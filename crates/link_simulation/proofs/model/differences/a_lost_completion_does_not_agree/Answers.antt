@@ -11,4 +11,7 @@ use Rattle.link_simulation.proofs.model.differences.a_lost_completion_does_not_a
 
 pub returns : goal.returns
 unfolding reduced gcd_within
-returns c = never_agree nat_cmp nat_cmp_total (evenly 1_000_000_000) 20 0 (call_limit 0 1 a_byte_a_nanosecond None ∷ call_enqueue 0 (message 1 2 3 2) ∷ call_advance 3 ∷ []) (reply_done [] ∷ reply_done [] ∷ reply_done [] ∷ []) refl
+returns c =
+    never_agree nat_cmp nat_cmp_total (evenly 1_000_000_000) 20 0
+    (call_limit 0 1 a_byte_a_nanosecond None ∷ call_enqueue 0 (message 1 2 3 2) ∷ call_advance 3 ∷ [])
+    (reply_done [] ∷ reply_done [] ∷ reply_done [] ∷ []) refl

@@ -11,4 +11,10 @@ use Rattle.link_simulation.proofs.model.differences.an_early_follower_does_not_a
 
 pub returns : goal.returns
 unfolding reduced gcd_within
-returns c = never_agree nat_cmp nat_cmp_total (evenly 1_000_000_000) 20 0 (call_limit 0 1 a_byte_a_nanosecond None ∷ call_enqueue 0 (message 1 2 4 3) ∷ call_enqueue 0 (message 1 2 2 1) ∷ call_advance 6 ∷ []) (reply_done [] ∷ reply_done [] ∷ reply_done [] ∷ reply_done (arrives (message 1 2 4 3) 7 ∷ arrives (message 1 2 2 1) 7 ∷ []) ∷ []) refl
+returns c =
+    never_agree nat_cmp nat_cmp_total (evenly 1_000_000_000) 20 0
+    (call_limit 0 1 a_byte_a_nanosecond None ∷ call_enqueue 0 (message 1 2 4 3) ∷ call_enqueue 0 (message 1 2 2 1)
+    ∷ call_advance 6 ∷ [])
+    (reply_done [] ∷ reply_done [] ∷ reply_done []
+    ∷ reply_done (arrives (message 1 2 4 3) 7 ∷ arrives (message 1 2 2 1) 7 ∷ []) ∷ [])
+    refl

@@ -7,7 +7,8 @@ pub returns-clause-new : goal.returns-clause-new
 returns-clause-new g c = new_is_planned g.P.Ord.cmp g.met.P.Ord.total
 
 pub returns-clause-kept : goal.returns-clause-kept
-returns-clause-kept g c = λ p q call cs planned obeys. obeys_right g.P.Ord.cmp g.met.P.Ord.total p call (goes cs q) planned obeys cs q refl
+returns-clause-kept g c = λ p q call cs planned obeys.
+    obeys_right g.P.Ord.cmp g.met.P.Ord.total p call (goes cs q) planned obeys cs q refl
 
 pub returns-clause-few : goal.returns-clause-few
 returns-clause-few g c = λ p now n course planned advances. few_events g.P.Ord.cmp g.met.P.Ord.total advances planned

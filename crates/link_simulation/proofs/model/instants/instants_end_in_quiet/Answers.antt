@@ -9,7 +9,10 @@ use Rattle.link_simulation.proofs.Simulation.OtherPairs.{ends_more}
 use Rattle.link_simulation.proofs.model.instants.instants_end_in_quiet.Goals as goal
 
 pub returns-clause-settled : goal.returns-clause-settled
-returns-clause-settled g c = λ t w. ends_more g.P.Ord.cmp g.met.P.Ord.total (NoneDone g.P.Ord.cmp g.met.P.Ord.total) (λ v. list_any (is_done g.P.Ord.cmp v) v.sending ≡ false) (settle g.P.Ord.cmp t w) (λ v k. any_from_find (is_done g.P.Ord.cmp v) v.sending k) (settle_rests g.P.Ord.cmp g.met.P.Ord.total t w)
+returns-clause-settled g c = λ t w.
+    ends_more g.P.Ord.cmp g.met.P.Ord.total (NoneDone g.P.Ord.cmp g.met.P.Ord.total)
+    (λ v. list_any (is_done g.P.Ord.cmp v) v.sending ≡ false) (settle g.P.Ord.cmp t w)
+    (λ v k. any_from_find (is_done g.P.Ord.cmp v) v.sending k) (settle_rests g.P.Ord.cmp g.met.P.Ord.total t w)
 
 pub returns-clause-woken : goal.returns-clause-woken
 returns-clause-woken g c = λ t w none. wake_ends_quiet g.P.Ord.cmp g.met.P.Ord.total t w none
@@ -18,4 +21,5 @@ pub returns-clause-both : goal.returns-clause-both
 returns-clause-both g c = λ w. instant_ends_quiet g.P.Ord.cmp g.met.P.Ord.total w
 
 pub returns-clause-unchanged : goal.returns-clause-unchanged
-returns-clause-unchanged g c = λ w. (instant_of_quiet g.P.Ord.cmp g.met.P.Ord.total w, quiet_if_unchanged g.P.Ord.cmp g.met.P.Ord.total w)
+returns-clause-unchanged g c = λ w.
+    (instant_of_quiet g.P.Ord.cmp g.met.P.Ord.total w, quiet_if_unchanged g.P.Ord.cmp g.met.P.Ord.total w)

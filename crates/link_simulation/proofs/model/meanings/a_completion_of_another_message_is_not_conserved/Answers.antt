@@ -19,7 +19,8 @@ the_same : (c : Completed ℕ) → IsConserved nat_cmp (new_planned 0) (m ∷ []
 the_same c h = by_done h.done h.completions_are (h.each_pair m)
   where
     first : (b : Bool) (d : Message ℕ)
-        → AllZip (SameMessage nat_cmp) (cond b (d ∷ []) [] ++ held_of nat_cmp m (new_planned 0)) (m ∷ []) → SameMessage nat_cmp d m
+        → AllZip (SameMessage nat_cmp) (cond b (d ∷ []) [] ++ held_of nat_cmp m (new_planned 0)) (m ∷ [])
+        → SameMessage nat_cmp d m
     first true d all = all.0
     first false d all = absurd all
 
@@ -34,14 +35,16 @@ pub returns-clause-origin : goal.returns-clause-origin
 returns-clause-origin c h =
     let (d, (t, is), same) = the_same (arrives (message 3 2 1 0) 1) h in
     let origin : 3 ≡ d.origin = ap (λ (x : Completed ℕ). x.origin) is in
-    let clash : same_peer nat_cmp 3 1 ≡ true = subst (λ (p : ℕ). same_peer nat_cmp p 1 ≡ true) (sym origin) same.origin in
+    let clash : same_peer nat_cmp 3 1 ≡ true =
+    subst (λ (p : ℕ). same_peer nat_cmp p 1 ≡ true) (sym origin) same.origin in
     cc
 
 pub returns-clause-recipient : goal.returns-clause-recipient
 returns-clause-recipient c h =
     let (d, (t, is), same) = the_same (arrives (message 1 3 1 0) 1) h in
     let recipient : 3 ≡ d.recipient = ap (λ (x : Completed ℕ). x.recipient) is in
-    let clash : same_peer nat_cmp 3 2 ≡ true = subst (λ (p : ℕ). same_peer nat_cmp p 2 ≡ true) (sym recipient) same.recipient in
+    let clash : same_peer nat_cmp 3 2 ≡ true =
+    subst (λ (p : ℕ). same_peer nat_cmp p 2 ≡ true) (sym recipient) same.recipient in
     cc
 
 pub returns-clause-channel : goal.returns-clause-channel

@@ -34,7 +34,9 @@ called : IsCalled nat_cmp (new_planned 0) in_time 0 (new_world 0)
 called = record {
   stands = new_stands nat_cmp nat_cmp_total 0;
   moment = refl;
-  turn = in_turn nat_cmp nat_cmp_total (evenly 1_000_000_000) 0 (new_world 0) 0 (new_world_sound nat_cmp nat_cmp_total 0) refl;
+  turn =
+      in_turn nat_cmp nat_cmp_total (evenly 1_000_000_000) 0 (new_world 0) 0 (new_world_sound nat_cmp nat_cmp_total 0)
+      refl;
 }
 
 no_fault : (fault : Error) → ¬ Faults nat_cmp (new_world 0) in_time fault

@@ -9,8 +9,11 @@ use Rattle.link_simulation.proofs.model.meanings.a_world_out_of_order_is_told.Go
 pub returns-clause-rate : goal.returns-clause-rate
 returns-clause-rate c h =
     let per = h.rated.per in
-    let rated : AllZip (λ rate (f : RatedFlight ℕ). f.rate ≡ rate_of per rate) (None ∷ []) (rated_flight (message 1 2 1 0) (Some (whole 1)) ∷ []) =
-    subst (λ (rates : Parts). AllZip (λ rate (f : RatedFlight ℕ). f.rate ≡ rate_of per rate) rates (rated_flight (message 1 2 1 0) (Some (whole 1)) ∷ []))
+    let rated : AllZip (λ rate (f : RatedFlight ℕ). f.rate ≡ rate_of per rate) (None ∷ [])
+    (rated_flight (message 1 2 1 0) (Some (whole 1)) ∷ []) =
+    subst
+    (λ (rates : Parts). AllZip (λ rate (f : RatedFlight ℕ). f.rate ≡ rate_of per rate) rates
+    (rated_flight (message 1 2 1 0) (Some (whole 1)) ∷ []))
     h.rated.fair.rated h.rated.rated in
     let clash : Some (whole 1) ≡ None = rated.0 in
     cc

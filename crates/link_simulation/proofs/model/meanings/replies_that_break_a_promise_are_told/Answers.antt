@@ -19,15 +19,21 @@ abbrev first : Call ℕ
 first = call_enqueue 0 (message 1 2 1 0)
 
 -- a call of a new world is in turn
-turns : (m : Message ℕ) (cs : List (Completed ℕ)) → AreInTurn nat_cmp (new_world 0) (call_enqueue 0 m ∷ []) (reply_done cs ∷ [])
-turns m cs = (in_turn nat_cmp nat_cmp_total (evenly 1_000_000_000) 20 (new_world 0) 0 (new_world_sound nat_cmp nat_cmp_total 0) refl, λ now ds v at runs. tt)
+turns : (m : Message ℕ) (cs : List (Completed ℕ))
+    → AreInTurn nat_cmp (new_world 0) (call_enqueue 0 m ∷ []) (reply_done cs ∷ [])
+turns m cs = (
+  in_turn nat_cmp nat_cmp_total (evenly 1_000_000_000) 20 (new_world 0) 0 (new_world_sound nat_cmp nat_cmp_total 0)
+      refl,
+  λ now ds v at runs. tt,
+)
 
 -- before any limit it completes at once
 completes : (now : ℕ) (ds : List (Completed ℕ)) (v : World ℕ) → moment_of first ≡ Some now
     → Runs nat_cmp (new_world 0) first now (goes ds v) → arrives (message 1 2 1 0) 0 ∷ [] ≡ ds
 completes now ds v at runs =
     let here : now ≡ 0 = cc in
-    let one = runs_are_one nat_cmp nat_cmp_total (new_world 0) first 0 _ (goes ds v) (new_world_sound nat_cmp nat_cmp_total 0)
+    let one =
+    runs_are_one nat_cmp nat_cmp_total (new_world 0) first 0 _ (goes ds v) (new_world_sound nat_cmp nat_cmp_total 0)
     (runs_so nat_cmp nat_cmp_total (evenly 1_000_000_000) (new_world 0) first 0 refl)
     (subst (λ (t : ℕ). Runs nat_cmp (new_world 0) first t (goes ds v)) here runs) in
     cc
@@ -40,7 +46,8 @@ answers (call_answers {w = w} {u = u} {call = call} {now = now} {cs = ds} at aft
     let it : call ≡ first = cc in
     let done : arrives (message 1 2 1 0) 0 ∷ [] ≡ ds =
     completes now ds u (ap moment_of (sym it) ∙ at)
-    (subst (λ (x : Call ℕ). Runs nat_cmp (new_world 0) x now (goes ds u)) it (subst (λ (x : World ℕ). Runs nat_cmp x call now (goes ds u)) here runs)) in
+    (subst (λ (x : Call ℕ). Runs nat_cmp (new_world 0) x now (goes ds u)) it
+    (subst (λ (x : World ℕ). Runs nat_cmp x call now (goes ds u)) here runs)) in
     subst (λ (cs : List (Completed ℕ)). AllZip (SameCompletion nat_cmp) [] cs) (sym done) same.0
 
 pub returns-clause-lost : goal.returns-clause-lost

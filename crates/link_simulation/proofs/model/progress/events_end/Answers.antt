@@ -4,7 +4,9 @@ use Rattle.link_simulation.proofs.Laws.FewerEvents.{counted_events, advance_fall
 use Rattle.link_simulation.proofs.model.progress.events_end.Goals as goal
 
 pub returns-clause-counted : goal.returns-clause-counted
-returns-clause-counted g c = λ p q now events cs right goes. ∥∥₁_elim right le_prop (λ planned. counted_events g.P.Ord.cmp g.met.P.Ord.total p q now events cs planned goes)
+returns-clause-counted g c = λ p q now events cs right goes.
+    ∥∥₁_elim right le_prop (λ planned. counted_events g.P.Ord.cmp g.met.P.Ord.total p q now events cs planned goes)
 
 pub returns-clause-falls : goal.returns-clause-falls
-returns-clause-falls g c = λ p q now cs right next goes. ∥∥₁_elim right le_prop (λ planned. advance_falls g.P.Ord.cmp g.met.P.Ord.total p q now cs planned next goes)
+returns-clause-falls g c = λ p q now cs right next goes.
+    ∥∥₁_elim right le_prop (λ planned. advance_falls g.P.Ord.cmp g.met.P.Ord.total p q now cs planned next goes)

@@ -11,7 +11,9 @@ use Rattle.link_simulation.proofs.model.range.a_later_call_excuses_no_refusal.Go
 -- one advance is in the range, and so are two
 one : AreInRange {P = ℕ} (call_advance 0 ∷ [])
 one = record {
-  moments = all_of_each (λ (call : Call ℕ). IfSome (moment_of call) (λ now. now < 2 ^ 63)) (call_advance 0 ∷ []) (omega arith, tt);
+  moments =
+      all_of_each (λ (call : Call ℕ). IfSome (moment_of call) (λ now. now < 2 ^ 63)) (call_advance 0 ∷ [])
+      (omega arith, tt);
   latencies = All-nil (λ (m : Message ℕ). m.latency < 2 ^ 63);
   messages = omega arith;
 }

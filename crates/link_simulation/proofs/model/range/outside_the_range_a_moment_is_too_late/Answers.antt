@@ -12,4 +12,5 @@ use Rattle.link_simulation.proofs.model.range.outside_the_range_a_moment_is_too_
 pub returns : goal.returns
 unfolding reduced gcd_within
 returns c = agrees_by_rule nat_cmp nat_cmp_total (shared 1_000_000_000) no_hint 20
-    (call_enqueue 9_223_372_036_854_775_808 (message 1 2 0 9_223_372_036_854_775_808) ∷ []) (reply_refused MomentTooLate ∷ []) refl refl
+    (call_enqueue 9_223_372_036_854_775_808 (message 1 2 0 9_223_372_036_854_775_808) ∷ [])
+    (reply_refused MomentTooLate ∷ []) refl refl

@@ -14,4 +14,9 @@ one_each w = record { per = 1; parts = λ place. 1_000_000_000 }
 
 pub returns : goal.returns
 unfolding reduced gcd_within
-returns c = answers_agree nat_cmp nat_cmp_total one_each 20 (call_limit 0 3 None a_byte_a_nanosecond ∷ call_limit 0 4 a_byte_a_nanosecond None ∷ call_enqueue 0 (dropped 4 3 2 0) ∷ call_enqueue 0 (message 1 3 2 0) ∷ call_next ∷ call_advance 2 ∷ call_next ∷ []) (new_world 0) refl
+returns c =
+    answers_agree nat_cmp nat_cmp_total one_each 20
+    (call_limit 0 3 None a_byte_a_nanosecond ∷ call_limit 0 4 a_byte_a_nanosecond None
+    ∷ call_enqueue 0 (dropped 4 3 2 0) ∷ call_enqueue 0 (message 1 3 2 0) ∷ call_next ∷ call_advance 2 ∷ call_next
+    ∷ [])
+    (new_world 0) refl

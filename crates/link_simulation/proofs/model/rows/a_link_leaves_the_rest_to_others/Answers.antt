@@ -15,4 +15,9 @@ one_and_nine w = record { per = 1; parts = λ place. cond (place == 0) 1_000_000
 
 pub returns : goal.returns
 unfolding reduced gcd_within
-returns c = answers_agree nat_cmp nat_cmp_total one_and_nine 20 (call_limit 0 1 (Some 10_000_000_000) None ∷ call_limit_link 0 1 2 a_byte_a_nanosecond ∷ call_enqueue 0 (message 1 2 10 0) ∷ call_enqueue 0 (message 1 3 9 0) ∷ call_next ∷ call_advance 1 ∷ call_next ∷ call_advance 10 ∷ call_next ∷ []) (new_world 0) refl
+returns c =
+    answers_agree nat_cmp nat_cmp_total one_and_nine 20
+    (call_limit 0 1 (Some 10_000_000_000) None ∷ call_limit_link 0 1 2 a_byte_a_nanosecond
+    ∷ call_enqueue 0 (message 1 2 10 0) ∷ call_enqueue 0 (message 1 3 9 0) ∷ call_next ∷ call_advance 1 ∷ call_next
+    ∷ call_advance 10 ∷ call_next ∷ [])
+    (new_world 0) refl

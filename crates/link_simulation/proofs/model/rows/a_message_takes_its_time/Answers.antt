@@ -10,4 +10,8 @@ use Rattle.link_simulation.proofs.model.rows.a_message_takes_its_time.Goals as g
 
 pub returns : goal.returns
 unfolding reduced gcd_within
-returns c = answers_agree nat_cmp nat_cmp_total (evenly 1_000_000_000) 20 (call_limit 0 1 a_byte_a_nanosecond None ∷ call_enqueue 0 (message 1 2 3 2) ∷ call_next ∷ call_advance 3 ∷ call_next ∷ []) (new_world 0) refl
+returns c =
+    answers_agree nat_cmp nat_cmp_total (evenly 1_000_000_000) 20
+    (call_limit 0 1 a_byte_a_nanosecond None ∷ call_enqueue 0 (message 1 2 3 2) ∷ call_next ∷ call_advance 3
+    ∷ call_next ∷ [])
+    (new_world 0) refl

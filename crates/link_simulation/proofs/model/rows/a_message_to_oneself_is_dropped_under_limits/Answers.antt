@@ -10,4 +10,7 @@ use Rattle.link_simulation.proofs.model.rows.a_message_to_oneself_is_dropped_und
 
 pub returns : goal.returns
 unfolding reduced gcd_within
-returns c = answers_agree nat_cmp nat_cmp_total (evenly 1_000_000_000) 20 (call_enqueue 0 (message 1 1 1 0) ∷ call_limit 0 1 None None ∷ call_enqueue 0 (message 1 1 1 0) ∷ call_next ∷ []) (new_world 0) refl
+returns c =
+    answers_agree nat_cmp nat_cmp_total (evenly 1_000_000_000) 20
+    (call_enqueue 0 (message 1 1 1 0) ∷ call_limit 0 1 None None ∷ call_enqueue 0 (message 1 1 1 0) ∷ call_next ∷ [])
+    (new_world 0) refl

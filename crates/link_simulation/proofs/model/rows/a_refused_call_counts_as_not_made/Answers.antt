@@ -10,5 +10,8 @@ use Rattle.link_simulation.proofs.model.rows.a_refused_call_counts_as_not_made.G
 
 pub returns : goal.returns
 unfolding reduced gcd_within
-returns c = λ turn.
-    (tt, answers_agree nat_cmp nat_cmp_total (evenly 1_000_000_000) 20 (call_enqueue 0 (message 1 2 1 0) ∷ call_next ∷ []) (new_world 0) refl)
+returns c = λ turn. (
+  tt,
+  answers_agree nat_cmp nat_cmp_total (evenly 1_000_000_000) 20 (call_enqueue 0 (message 1 2 1 0) ∷ call_next ∷ [])
+      (new_world 0) refl,
+)

@@ -10,4 +10,8 @@ use Rattle.link_simulation.proofs.model.rows.completions_come_in_order_of_start.
 
 pub returns : goal.returns
 unfolding reduced gcd_within
-returns c = answers_agree nat_cmp nat_cmp_total (evenly 1_000_000_000) 20 (call_limit 0 1 a_byte_a_nanosecond None ∷ call_enqueue 0 (message 1 3 1 0) ∷ call_enqueue 0 (message 1 2 1 0) ∷ call_next ∷ call_advance 2 ∷ []) (new_world 0) refl
+returns c =
+    answers_agree nat_cmp nat_cmp_total (evenly 1_000_000_000) 20
+    (call_limit 0 1 a_byte_a_nanosecond None ∷ call_enqueue 0 (message 1 3 1 0) ∷ call_enqueue 0 (message 1 2 1 0)
+    ∷ call_next ∷ call_advance 2 ∷ [])
+    (new_world 0) refl

@@ -10,4 +10,9 @@ use Rattle.link_simulation.proofs.model.rows.starts_come_in_the_order_of_pairs.G
 
 pub returns : goal.returns
 unfolding reduced gcd_within
-returns c = answers_agree nat_cmp nat_cmp_total (evenly 1_000_000_000) 20 (call_enqueue 0 (message 1 3 1 2) ∷ call_enqueue 0 (message 1 2 1 2) ∷ call_limit 0 1 a_byte_a_nanosecond None ∷ call_enqueue 0 (message 1 3 0 0) ∷ call_enqueue 0 (message 1 2 0 0) ∷ call_next ∷ call_advance 2 ∷ call_next ∷ []) (new_world 0) refl
+returns c =
+    answers_agree nat_cmp nat_cmp_total (evenly 1_000_000_000) 20
+    (call_enqueue 0 (message 1 3 1 2) ∷ call_enqueue 0 (message 1 2 1 2) ∷ call_limit 0 1 a_byte_a_nanosecond None
+    ∷ call_enqueue 0 (message 1 3 0 0) ∷ call_enqueue 0 (message 1 2 0 0) ∷ call_next ∷ call_advance 2 ∷ call_next
+    ∷ [])
+    (new_world 0) refl

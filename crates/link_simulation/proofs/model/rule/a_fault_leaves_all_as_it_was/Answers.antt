@@ -12,4 +12,15 @@ use Rattle.link_simulation.proofs.model.rule.a_fault_leaves_all_as_it_was.Goals 
 
 pub returns : goal.returns
 unfolding reduced gcd_within
-returns c = obeyed_so nat_cmp nat_cmp_total (shared 2_000_000_000) no_hint 20 (new_planned 0) (call_limit 0 1 (Some 2_000_000_000) None ∷ call_enqueue 18_446_744_073_709_551_614 (message 1 2 1 0) ∷ call_enqueue 18_446_744_073_709_551_614 (message 1 3 1 1) ∷ call_advance 18_446_744_073_709_551_615 ∷ call_next ∷ call_limit 18_446_744_073_709_551_614 1 None None ∷ call_next ∷ []) (reply_done [] ∷ reply_done [] ∷ reply_done [] ∷ reply_refused MomentTooLate ∷ reply_next (Some 18_446_744_073_709_551_615) ∷ reply_done (arrives (message 1 2 1 0) 18_446_744_073_709_551_614 ∷ arrives (message 1 3 1 1) 18_446_744_073_709_551_615 ∷ []) ∷ reply_next None ∷ []) refl
+returns c =
+    obeyed_so nat_cmp nat_cmp_total (shared 2_000_000_000) no_hint 20 (new_planned 0)
+    (call_limit 0 1 (Some 2_000_000_000) None ∷ call_enqueue 18_446_744_073_709_551_614 (message 1 2 1 0)
+    ∷ call_enqueue 18_446_744_073_709_551_614 (message 1 3 1 1) ∷ call_advance 18_446_744_073_709_551_615
+    ∷ call_next ∷ call_limit 18_446_744_073_709_551_614 1 None None ∷ call_next ∷ [])
+    (reply_done [] ∷ reply_done [] ∷ reply_done [] ∷ reply_refused MomentTooLate
+    ∷ reply_next (Some 18_446_744_073_709_551_615)
+    ∷ reply_done
+    (arrives (message 1 2 1 0) 18_446_744_073_709_551_614 ∷ arrives (message 1 3 1 1) 18_446_744_073_709_551_615
+    ∷ [])
+    ∷ reply_next None ∷ [])
+    refl

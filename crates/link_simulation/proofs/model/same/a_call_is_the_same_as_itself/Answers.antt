@@ -1,4 +1,5 @@
-use Rattle.link_simulation.specs.Simulation.Calls.{Call, call_limit, call_limit_link, call_enqueue, call_advance, call_next}
+use Rattle.link_simulation.specs.Simulation.Calls.{Call, call_limit, call_limit_link, call_enqueue, call_advance}
+use Rattle.link_simulation.specs.Simulation.Calls.{call_next}
 use Rattle.link_simulation.specs.Rule.SamePlanned.{same_limit, same_limit_link, same_enqueue, same_advance, same_next}
 use Rattle.link_simulation.proofs.Simulation.AlikeMessages.{same_itself, message_itself}
 use Rattle.link_simulation.proofs.model.same.a_call_is_the_same_as_itself.Goals as goal
@@ -6,7 +7,8 @@ use Rattle.link_simulation.proofs.model.same.a_call_is_the_same_as_itself.Goals 
 pub returns : goal.returns
 returns g c (call_limit now peer egress ingress) = same_limit (same_itself g.P.Ord.cmp g.met.P.Ord.total peer)
 returns g c (call_limit_link now origin recipient cap) =
-    same_limit_link (same_itself g.P.Ord.cmp g.met.P.Ord.total origin) (same_itself g.P.Ord.cmp g.met.P.Ord.total recipient)
+    same_limit_link (same_itself g.P.Ord.cmp g.met.P.Ord.total origin)
+    (same_itself g.P.Ord.cmp g.met.P.Ord.total recipient)
 returns g c (call_enqueue now m) = same_enqueue (message_itself g.P.Ord.cmp g.met.P.Ord.total m)
 returns g c (call_advance now) = same_advance
 returns g c call_next = same_next

@@ -15,8 +15,19 @@ pub returns-clause-one : goal.returns-clause-one
 returns-clause-one g c = λ w call now a b sound r s. runs_are_one g.P.Ord.cmp g.met.P.Ord.total w call now a b sound r s
 
 pub returns-clause-sound : goal.returns-clause-sound
-returns-clause-sound g c = λ w call now course sound runs. call_keeps_sound g.P.Ord.cmp g.met.P.Ord.total w call now course sound runs
+returns-clause-sound g c = λ w call now course sound runs.
+    call_keeps_sound g.P.Ord.cmp g.met.P.Ord.total w call now course sound runs
 
 pub returns-clause-quiet : goal.returns-clause-quiet
-returns-clause-quiet g c = λ w call now course quiet is after runs. ends_more g.P.Ord.cmp g.met.P.Ord.total (QuietAt g.P.Ord.cmp g.met.P.Ord.total now) (λ v. IsQuiet g.P.Ord.cmp now v × (v.moment ≡ now) × ((next : Option ℕ) → NextIs g.P.Ord.cmp v next → IfSome next (λ t. now < t))) course
-    (λ v k. (k.0, k.1, λ next n. subst (λ (m : ℕ). IfSome next (λ t. m < t)) k.1 (next_is_later g.P.Ord.cmp g.met.P.Ord.total v next n))) (call_ends_quiet g.P.Ord.cmp g.met.P.Ord.total w call now course quiet is after runs)
+returns-clause-quiet g c = λ w call now course quiet is after runs.
+    ends_more g.P.Ord.cmp g.met.P.Ord.total (QuietAt g.P.Ord.cmp g.met.P.Ord.total now)
+    (λ v. IsQuiet g.P.Ord.cmp now v × (v.moment ≡ now)
+    × ((next : Option ℕ) → NextIs g.P.Ord.cmp v next → IfSome next (λ t. now < t)))
+    course
+    (λ v k. (
+      k.0,
+      k.1,
+      λ next n.
+          subst (λ (m : ℕ). IfSome next (λ t. m < t)) k.1 (next_is_later g.P.Ord.cmp g.met.P.Ord.total v next n),
+    ))
+    (call_ends_quiet g.P.Ord.cmp g.met.P.Ord.total w call now course quiet is after runs)

@@ -6,11 +6,15 @@ use Rattle.p2p_simulated_c.proofs.opened.Opened.advance.Goals as goal
 pub returns-clause-ended : goal.returns-clause-ended
 returns-clause-ended c =
     let between : Opened = record { state = c.advance-answer.new.self; completed = c.args.self.now.completed } in
-    ended (λ done. done.items) c.advance-answer.result _ c.keep.result c.keep.new.count c.args.self.now between c.keep.new.self
-    c.keep.ensures.state c.keep.ensures.status c.keep.ensures.completed c.keep.ensures.counted refl c.advance-answer.ensures.made c.advance-answer.ensures.refused (same_plan c.advance-answer.result c.args.self.now between c.advance-answer.ensures.unchanged)
+    ended (λ done. done.items) c.advance-answer.result _ c.keep.result c.keep.new.count c.args.self.now between
+    c.keep.new.self
+    c.keep.ensures.state c.keep.ensures.status c.keep.ensures.completed c.keep.ensures.counted refl
+    c.advance-answer.ensures.made c.advance-answer.ensures.refused
+    (same_plan c.advance-answer.result c.args.self.now between c.advance-answer.ensures.unchanged)
 
 pub returns-clause-advanced : goal.returns-clause-advanced
 returns-clause-advanced c =
     let between : Opened = record { state = c.advance-answer.new.self; completed = c.args.self.now.completed } in
-    advanced (λ done. done.items) c.advance-answer.result c.args.now c.keep.result c.args.self.now between c.keep.new.self
+    advanced (λ done. done.items) c.advance-answer.result c.args.now c.keep.result c.args.self.now between
+    c.keep.new.self
     c.keep.ensures.state c.keep.ensures.status c.keep.ensures.completed c.advance-answer.ensures.advanced

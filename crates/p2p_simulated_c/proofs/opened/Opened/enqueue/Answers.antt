@@ -7,5 +7,7 @@ pub returns : goal.returns
 returns c =
     let between : Opened = record { state = c.enqueue-answer.new.self; completed = c.args.self.now.completed } in
     rw (sym c.in-Ok.ensures)
-    (ended (λ done. done.items) c.enqueue-answer.result _ c.keep.result c.keep.new.count c.args.self.now between c.keep.new.self
-    c.keep.ensures.state c.keep.ensures.status c.keep.ensures.completed c.keep.ensures.counted refl c.enqueue-answer.ensures.made c.enqueue-answer.ensures.refused c.enqueue-answer.ensures.unchanged)
+    (ended (λ done. done.items) c.enqueue-answer.result _ c.keep.result c.keep.new.count c.args.self.now between
+    c.keep.new.self
+    c.keep.ensures.state c.keep.ensures.status c.keep.ensures.completed c.keep.ensures.counted refl
+    c.enqueue-answer.ensures.made c.enqueue-answer.ensures.refused c.enqueue-answer.ensures.unchanged)

@@ -6,5 +6,8 @@ use Rattle.p2p_simulated_c.proofs.opened.Opened.limit.Goals as goal
 pub returns : goal.returns
 returns c =
     let between : Opened = record { state = c.limit-answer.new.self; completed = c.args.self.now.completed } in
-    ended (λ done. done.items) c.limit-answer.result _ c.keep.result c.keep.new.count c.args.self.now between c.keep.new.self
-    c.keep.ensures.state c.keep.ensures.status c.keep.ensures.completed c.keep.ensures.counted refl c.limit-answer.ensures.made c.limit-answer.ensures.refused (same_plan c.limit-answer.result c.args.self.now between c.limit-answer.ensures.unchanged)
+    ended (λ done. done.items) c.limit-answer.result _ c.keep.result c.keep.new.count c.args.self.now between
+    c.keep.new.self
+    c.keep.ensures.state c.keep.ensures.status c.keep.ensures.completed c.keep.ensures.counted refl
+    c.limit-answer.ensures.made c.limit-answer.ensures.refused
+    (same_plan c.limit-answer.result c.args.self.now between c.limit-answer.ensures.unchanged)

@@ -1,6 +1,7 @@
 use Rattle.std.proofs.Common.{of_calls, rules}
 use Rattle.std.proofs.lemmas.Result.{IfOk-weaker, IfErr-weaker}
-use Rattle.p2p_simulated.proofs.Callers.{callable_on_each, callable_on_each_pair, answers_if_unchanged, pair_answers_if_unchanged}
+use Rattle.p2p_simulated.proofs.Callers.{callable_on_each, callable_on_each_pair, answers_if_unchanged}
+use Rattle.p2p_simulated.proofs.Callers.{pair_answers_if_unchanged}
 use Rattle.p2p_simulated_c.specs.Planning.{caps_in}
 use Rattle.p2p_simulated_c.proofs.planner.Caps.rates.Goals as goal
 
@@ -16,15 +17,17 @@ rates_under_caps-requires-clause-link c = search (of_calls, callable_on_each_pai
 
 -- and answer by the caps
 pub returns-clause-plan : goal.returns-clause-plan
-returns-clause-plan c = IfOk-weaker c.rates_under_caps.result _ _ (λ answer plan. plan (caps_in c.args.self.now) (record {
-  by_egress = answers_if_unchanged _ _ _ (λ p a f k. search rules) _;
-  by_ingress = answers_if_unchanged _ _ _ (λ p a f k. search rules) _;
-  by_link = pair_answers_if_unchanged _ _ _ (λ p q a f k. search rules) _;
-})) c.rates_under_caps.ensures.plan
+returns-clause-plan c =
+    IfOk-weaker c.rates_under_caps.result _ _ (λ answer plan. plan (caps_in c.args.self.now) (record {
+      by_egress = answers_if_unchanged _ _ _ (λ p a f k. search rules) _;
+      by_ingress = answers_if_unchanged _ _ _ (λ p a f k. search rules) _;
+      by_link = pair_answers_if_unchanged _ _ _ (λ p q a f k. search rules) _;
+    })) c.rates_under_caps.ensures.plan
 
 pub returns-clause-refused : goal.returns-clause-refused
-returns-clause-refused c = IfErr-weaker c.rates_under_caps.result _ _ (λ why refused. refused (caps_in c.args.self.now) (record {
-  by_egress = answers_if_unchanged _ _ _ (λ p a f k. search rules) _;
-  by_ingress = answers_if_unchanged _ _ _ (λ p a f k. search rules) _;
-  by_link = pair_answers_if_unchanged _ _ _ (λ p q a f k. search rules) _;
-})) c.rates_under_caps.ensures.refused
+returns-clause-refused c =
+    IfErr-weaker c.rates_under_caps.result _ _ (λ why refused. refused (caps_in c.args.self.now) (record {
+      by_egress = answers_if_unchanged _ _ _ (λ p a f k. search rules) _;
+      by_ingress = answers_if_unchanged _ _ _ (λ p a f k. search rules) _;
+      by_link = pair_answers_if_unchanged _ _ _ (λ p q a f k. search rules) _;
+    })) c.rates_under_caps.ensures.refused

@@ -12,6 +12,17 @@ returns-then-is_before-clause-parting g t c =
     let len : c.deref-then-is_before.result.now.len ≡ node.len = search rules in
     let after : c.len.result ≡ length node.after = search rules in
     let is : g.S.Seek.is_before c.args.sought.now node.item.value ≡ true = search rules in
-    let there : c.deref-then-is_before.result.now.len - c.len.result + c.place.result ≡ length node.before + 1 + c.place.result = rw (len, after, counted) (omega (arith, length-append node.before (node.item.value ∷ node.after))) in
-    let further : are_parted (g.S.Seek.is_before c.args.sought.now) node.after ≡ true → IsParting (g.S.Seek.is_before c.args.sought.now) node.after c.place.result = search rules in
-    λ parted. subst (λ l. IsParting (g.S.Seek.is_before c.args.sought.now) l (c.deref-then-is_before.result.now.len - c.len.result + c.place.result)) (sym whole) (parting_after (g.S.Seek.is_before c.args.sought.now) node.before node.item.value node.after c.place.result (c.deref-then-is_before.result.now.len - c.len.result + c.place.result) there is (sym (ap (are_parted (g.S.Seek.is_before c.args.sought.now)) whole) ∙ parted) further)
+    let there : c.deref-then-is_before.result.now.len - c.len.result + c.place.result
+    ≡ length node.before + 1 + c.place.result =
+    rw (len, after, counted) (omega (arith, length-append node.before (node.item.value ∷ node.after))) in
+    let further : are_parted (g.S.Seek.is_before c.args.sought.now) node.after ≡ true
+    → IsParting (g.S.Seek.is_before c.args.sought.now) node.after c.place.result =
+    search rules in
+    λ parted.
+    subst
+    (λ l. IsParting (g.S.Seek.is_before c.args.sought.now) l
+    (c.deref-then-is_before.result.now.len - c.len.result + c.place.result))
+    (sym whole)
+    (parting_after (g.S.Seek.is_before c.args.sought.now) node.before node.item.value node.after c.place.result
+    (c.deref-then-is_before.result.now.len - c.len.result + c.place.result) there is
+    (sym (ap (are_parted (g.S.Seek.is_before c.args.sought.now)) whole) ∙ parted) further)

@@ -6,7 +6,8 @@ use Rattle.fair_rates.proofs.Filling.Share.{quotient_positive, whole}
 use Rattle.fair_rates.proofs.bandwidth.filling.share.whole_share.Goals as goal
 
 pub nonzero_div-factor : goal.nonzero_div-factor
-nonzero_div-factor c = omega (arith, gcd-pos c.divide-rest.result c.args.count c.requires, c.gcd_of_narrow-shared.ensures)
+nonzero_div-factor c =
+    omega (arith, gcd-pos c.divide-rest.result c.args.count c.requires, c.gcd_of_narrow-shared.ensures)
 
 pub nonzero_div-rest : goal.nonzero_div-rest
 nonzero_div-rest c = omega (arith, gcd-pos c.divide-rest.result c.args.count c.requires, c.gcd_of_narrow-shared.ensures)
@@ -14,8 +15,10 @@ nonzero_div-rest c = omega (arith, gcd-pos c.divide-rest.result c.args.count c.r
 pub returns-clause-factor : goal.returns-clause-factor
 returns-clause-factor c =
     let g = gcd-IsGcd c.divide-rest.result c.args.count in
-    quotient_positive c.args.count c.gcd_of_narrow-shared.result (c.args.count / c.gcd_of_narrow-shared.result) c.requires
-    (div-mul_cancel c.gcd_of_narrow-shared.result (subst (λ n. n ∣ c.args.count) (sym c.gcd_of_narrow-shared.ensures) g.1))
+    quotient_positive c.args.count c.gcd_of_narrow-shared.result (c.args.count / c.gcd_of_narrow-shared.result)
+    c.requires
+    (div-mul_cancel c.gcd_of_narrow-shared.result
+    (subst (λ n. n ∣ c.args.count) (sym c.gcd_of_narrow-shared.ensures) g.1))
 
 pub returns-clause-whole : goal.returns-clause-whole
 returns-clause-whole c =

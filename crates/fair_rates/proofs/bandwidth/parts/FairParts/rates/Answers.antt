@@ -1,4 +1,5 @@
-use Rattle.std.proofs.Common.{◌≡◌, ◌<◌, ◌∷◌, [], ℕ, Some, None, length, get_or, subst, sym, ap, ◌∙◌, arith, length-append}
+use Rattle.std.proofs.Common.{◌≡◌, ◌<◌, ◌∷◌, [], ℕ, Some, None, length, get_or, subst, sym, ap, ◌∙◌, arith}
+use Rattle.std.proofs.Common.{length-append}
 use Rattle.std.proofs.lemmas.List.{get_or_default}
 use Rattle.fair_rates.specs.Filling.FairParts.{IsRateAt, level_at}
 use Rattle.fair_rates.specs.declared.bandwidth.Rate.{Rate}
@@ -14,25 +15,44 @@ loop-level-preserved c =
     let rates = c.loop-level.rates.items in
     let rate = c.match-level.push in
     let i = c.loop-level.level-index in
-    let Holds : ℕ → Rate → Type 0 = λ flow r. IsRateAt c.in_ok-fractions.fractions.items (level_at self.level_of.items flow) r in
+    let Holds : ℕ → Rate → Type 0 = λ flow r.
+    IsRateAt c.in_ok-fractions.fractions.items (level_at self.level_of.items flow) r in
     let here : Holds i rate = elim c.match-level.branch [
       | in-Some w ↦
-          let is : level_at self.level_of.items i ≡ Some w.in-Some.place = ap (λ xs. get_or xs i None) (sym c.deref-level-items.ensures.value) ∙ w.in-Some.is in
+          let is : level_at self.level_of.items i ≡ Some w.in-Some.place =
+          ap (λ xs. get_or xs i None) (sym c.deref-level-items.ensures.value) ∙ w.in-Some.is in
           let place = w.in-Some.place in
-          let flow : i < length self.level_of.items = omega (arith, c.loop-level-test.true, ap length c.deref-level-items.ensures.value) in
-          let some : place < length self.levels.items = some_of_if (λ k. k < length self.levels.items) (level_at self.level_of.items i) (c.requires.inside i None flow) place is in
-          let inside : place < length c.in_ok-fractions.fractions.items = omega (arith, some, c.in_ok-fractions.ensures.levels.one_each) in
+          let flow : i < length self.level_of.items =
+          omega (arith, c.loop-level-test.true, ap length c.deref-level-items.ensures.value) in
+          let some : place < length self.levels.items =
+          some_of_if (λ k. k < length self.levels.items) (level_at self.level_of.items i)
+          (c.requires.inside i None flow) place is in
+          let inside : place < length c.in_ok-fractions.fractions.items =
+          omega (arith, some, c.in_ok-fractions.ensures.levels.one_each) in
           subst (λ o. IsRateAt c.in_ok-fractions.fractions.items o rate) (sym is) (
             inside,
-            λ d. w.push-is ∙ ap Finite (w.index.ensures ∙ get_or_default c.in_ok-fractions.fractions.items place w.index.result.now d inside),
+            λ d.
+                w.push-is
+                ∙ ap Finite
+                (w.index.ensures
+                ∙ get_or_default c.in_ok-fractions.fractions.items place w.index.result.now d inside),
           )
       | in-None w ↦
-          let is : level_at self.level_of.items i ≡ None = ap (λ xs. get_or xs i None) (sym c.deref-level-items.ensures.value) ∙ w.in-None.is in
+          let is : level_at self.level_of.items i ≡ None =
+          ap (λ xs. get_or xs i None) (sym c.deref-level-items.ensures.value) ∙ w.in-None.is in
           subst (λ o. IsRateAt c.in_ok-fractions.fractions.items o rate) (sym is) w.push-is
     ] in
     record {
-      one_each = omega (arith, ap length c.in_ok-push.ensures.items, length-append {A = Rate} rates (rate ∷ []), c.loop-level.invariant.one_each);
-      rated = subst (λ xs. (flow : ℕ) (d : Rate) → flow < length xs → Holds flow (get_or xs flow d)) (sym c.in_ok-push.ensures.items)
+      one_each =
+          omega (
+            arith,
+            ap length c.in_ok-push.ensures.items,
+            length-append {A = Rate} rates (rate ∷ []),
+            c.loop-level.invariant.one_each,
+          );
+      rated =
+          subst (λ xs. (flow : ℕ) (d : Rate) → flow < length xs → Holds flow (get_or xs flow d))
+          (sym c.in_ok-push.ensures.items)
           (rated_push Holds rates rate i c.loop-level.invariant.one_each here c.loop-level.invariant.rated);
     }
 
@@ -40,6 +60,13 @@ pub returns-clause-rates : goal.returns-clause-rates
 returns-clause-rates c = record {
   fractions = c.in_ok-fractions.fractions.items;
   levels = c.in_ok-fractions.ensures.levels;
-  one_each = omega (arith, c.loop-level.invariant.one_each, c.loop-level-test.false, c.loop-level.auto.level-index-end, ap length c.deref-level-items.ensures.value);
+  one_each =
+      omega (
+        arith,
+        c.loop-level.invariant.one_each,
+        c.loop-level-test.false,
+        c.loop-level.auto.level-index-end,
+        ap length c.deref-level-items.ensures.value,
+      );
   rated = c.loop-level.invariant.rated;
 }

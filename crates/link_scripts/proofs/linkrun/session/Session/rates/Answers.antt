@@ -24,5 +24,7 @@ returns-clause-fair c =
 
 pub returns-clause-refused : goal.returns-clause-refused
 returns-clause-refused c =
-    refused_if_err _ _ _ _ _ _ (said_caps c.args.self.now) (λ peer answer after k. search rules) (λ peer answer after k. search rules) (λ origin recipient answer after k. search rules)
-    c.allocate_linked.result _ _ c.deref.ensures.value c.allocate_linked.ensures.refused c.allocate_linked.ensures.refused_under_caps
+    refused_if_err _ _ _ _ _ _ (said_caps c.args.self.now) (λ peer answer after k. search rules)
+    (λ peer answer after k. search rules) (λ origin recipient answer after k. search rules)
+    c.allocate_linked.result _ _ c.deref.ensures.value c.allocate_linked.ensures.refused
+    c.allocate_linked.ensures.refused_under_caps

@@ -7,4 +7,8 @@ use Rattle.p2p_simulated_tests.proofs.scheduler.clones.NamePeer.clone_peer.Goals
 
 -- the copy has the same text
 pub returns : goal.returns
-returns c = record { same = ap (λ bytes. slice_cmp nat_cmp bytes c.args.self.now.text.bytes.items) c.in-Ok.ensures.cases ∙ tied_itself string_cmp_total c.args.self.now.text }
+returns c =
+    record {
+      same = ap (λ bytes. slice_cmp nat_cmp bytes c.args.self.now.text.bytes.items) c.in-Ok.ensures.cases
+          ∙ tied_itself string_cmp_total c.args.self.now.text;
+    }

@@ -1,4 +1,5 @@
-use Rattle.std.proofs.Common.{◌≡◌, ◌≢◌, ℕ, ◌+◌, ◌*◌, ◌<◌, ◌≤◌, ◌⊎◌, Some, None, length, inl, inr, arith, ◌∙◌, ap, sym, subst}
+use Rattle.std.proofs.Common.{◌≡◌, ◌≢◌, ℕ, ◌+◌, ◌*◌, ◌<◌, ◌≤◌, ◌⊎◌, Some, None, length, inl, inr, arith, ◌∙◌, ap, sym}
+use Rattle.std.proofs.Common.{subst}
 use Rattle.std.proofs.lemmas.Grind.{common_steps}
 use Rattle.std.proofs.lemmas.List.Elements.{All-weaker}
 use Rattle.std.proofs.lemmas.List.{get_or_default}
@@ -27,29 +28,51 @@ loop-place-preserved-in-Some c =
     let inside : i < length old = grind (arith, common_steps) in
     let user : ℕ = c.swap_remove.result in
     let place = c.in-Some.level in
-    let at : level_at level_of user ≡ Some place = grind (arith, common_steps, c.in-Some.is, c.index.ensures, c.swap_remove.ensures.value) in
-    let flow : user < length level_of = subst (λ n. n < length level_of) (sym c.swap_remove.ensures.value) (c.loop-place.invariant.users i user inside) in
-    let some_level : place < length levels = some_of_if (λ k. k < length levels) (level_at level_of user) (c.requires.inside user None flow) place at in
-    let is : frozen user ≡ Some parts = frozen_there levels level_of user place at ∙ ap Some (get_or_default levels place 0 parts some_level ∙ sym c.index-levels-level.is) in
+    let at : level_at level_of user ≡ Some place =
+    grind (arith, common_steps, c.in-Some.is, c.index.ensures, c.swap_remove.ensures.value) in
+    let flow : user < length level_of =
+    subst (λ n. n < length level_of) (sym c.swap_remove.ensures.value)
+    (c.loop-place.invariant.users i user inside) in
+    let some_level : place < length levels =
+    some_of_if (λ k. k < length levels) (level_at level_of user) (c.requires.inside user None flow) place at in
+    let is : frozen user ≡ Some parts =
+    frozen_there levels level_of user place at
+    ∙ ap Some (get_or_default levels place 0 parts some_level ∙ sym c.index-levels-level.is) in
     let left : rest + parts ≡ slack = omega (arith, c.sub_assign.ensures) in
     let fewer : length new + 1 ≡ length old = grind (arith, common_steps, c.swap_remove.ensures.len) in
     let here : at_level frozen 0 user * length old ≤ slack =
-    subst (λ j. at_level frozen 0 j * length old ≤ slack) (sym c.swap_remove.ensures.value) (c.loop-place.invariant.no_more i user inside) in
-    let had : parts * length old ≤ slack = omega (arith, here, ap (λ n. n * length old) (at_some frozen 0 user parts is)) in
+    subst (λ j. at_level frozen 0 j * length old ≤ slack) (sym c.swap_remove.ensures.value)
+    (c.loop-place.invariant.no_more i user inside) in
+    let had : parts * length old ≤ slack =
+    omega (arith, here, ap (λ n. n * length old) (at_some frozen 0 user parts is)) in
     record {
-      account = λ side scale account. account_more side scale frozen slack old (c.loop-place.invariant.account side scale account) i user parts rest new inside c.swap_remove.ensures.value is left
+      account = λ side scale account.
+          account_more side scale frozen slack old (c.loop-place.invariant.account side scale account) i user parts rest
+          new inside c.swap_remove.ensures.value is left
           c.swap_remove.ensures.items;
-      users = rest_of (λ flow. flow < length level_of) old new i user inside c.swap_remove.ensures.value c.swap_remove.ensures.items c.loop-place.invariant.users;
-      no_more = All-weaker (λ j. at_level frozen 0 j * length old ≤ slack) (λ j. at_level frozen 0 j * length new ≤ rest)
+      users =
+          rest_of (λ flow. flow < length level_of) old new i user inside c.swap_remove.ensures.value
+          c.swap_remove.ensures.items c.loop-place.invariant.users;
+      no_more =
+          All-weaker (λ j. at_level frozen 0 j * length old ≤ slack) (λ j. at_level frozen 0 j * length new ≤ rest)
           (λ j le. still_within (at_level frozen 0 j) parts slack rest (length old) (length new) fewer left le had) new
-          (rest_of (λ j. at_level frozen 0 j * length old ≤ slack) old new i user inside c.swap_remove.ensures.value c.swap_remove.ensures.items c.loop-place.invariant.no_more);
-      no_lower = λ more within. still_within more parts slack rest (length old) (length new) fewer left (c.loop-place.invariant.no_lower more within) had;
-      changed = inl (shorter (length c.args.self.rising.items) (length old) (length new) fewer c.loop-place.invariant.changed);
-      passed = λ k d before. let other : k ≢ i = omega arith in ap frozen (c.swap_remove.ensures.by_index.1 k d other (grind (arith, common_steps))) ∙ c.loop-place.invariant.passed k d before;
+          (rest_of (λ j. at_level frozen 0 j * length old ≤ slack) old new i user inside c.swap_remove.ensures.value
+          c.swap_remove.ensures.items c.loop-place.invariant.no_more);
+      no_lower = λ more within.
+          still_within more parts slack rest (length old) (length new) fewer left
+          (c.loop-place.invariant.no_lower more within) had;
+      changed =
+          inl
+          (shorter (length c.args.self.rising.items) (length old) (length new) fewer c.loop-place.invariant.changed);
+      passed = λ k d before.
+          let other : k ≢ i = omega arith in
+          ap frozen (c.swap_remove.ensures.by_index.1 k d other (grind (arith, common_steps)))
+          ∙ c.loop-place.invariant.passed k d before;
       within = omega arith;
     }
 
 pub returns-then-is_empty-clause-account : goal.returns-then-is_empty-clause-account
 returns-then-is_empty-clause-account c side scale account =
-    all_counted side scale (frozen_at c.args.levels.now c.args.level_of.now) c.loop-place.slack c.loop-place.rising.items (c.loop-place.invariant.account side scale account)
+    all_counted side scale (frozen_at c.args.levels.now c.args.level_of.now) c.loop-place.slack
+    c.loop-place.rising.items (c.loop-place.invariant.account side scale account)
     (grind (arith, common_steps, c.is_empty.ensures, c.if-is_empty.true))
