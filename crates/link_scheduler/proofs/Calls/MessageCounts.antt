@@ -96,10 +96,13 @@ module _ {P : Type 0} (cmp : P → P → Ordering) where
 
 -- ---- whether something is in flight
 
-pub none_flies : {P : Type 0} (scale at : ℕ) (fs : List (Rc (Flight P) Global)) → (length fs == 0) ≡ true → sending_of scale (flights_at at fs) ≡ []
+pub none_flies : {P : Type 0} (scale at : ℕ) (fs : List (Rc (Flight P) Global)) → (length fs == 0) ≡ true
+    → sending_of scale (flights_at at fs) ≡ []
 none_flies scale at [] none = refl
-none_flies scale at (f ∷ fs) none = let zero_long : length (f ∷ fs) ≡ 0 = eqb-true (length (f ∷ fs)) 0 none in absurd (omega arith)
+none_flies scale at (f ∷ fs) none =
+    let zero_long : length (f ∷ fs) ≡ 0 = eqb-true (length (f ∷ fs)) 0 none in absurd (omega arith)
 
-pub some_fly : {P : Type 0} (scale at : ℕ) (fs : List (Rc (Flight P) Global)) → (length fs == 0) ≡ false → sending_of scale (flights_at at fs) ≢ []
+pub some_fly : {P : Type 0} (scale at : ℕ) (fs : List (Rc (Flight P) Global)) → (length fs == 0) ≡ false
+    → sending_of scale (flights_at at fs) ≢ []
 some_fly scale at [] some = cc (eq-eqb 0 0 refl)
 some_fly scale at (f ∷ fs) some = λ none. cc

@@ -1,5 +1,7 @@
 -- Fair rates of a component, and of what shares no side with it.
-use Rattle.std.proofs.Common.{◌≡◌, ◌≢◌, ℕ, zero, suc, ◌+◌, ◌*◌, ◌<◌, ◌≤◌, Bool, true, false, cond, if◌then◌else◌, not, ◌&&◌, ◌||◌, List, [], ◌∷◌, Option, Result, Ok, Err, IfOk, All, map, length, sum_by, refl, sym, ap, ap₂, ◌∙◌, subst, inl, inr, arith, zero-add}
+use Rattle.std.proofs.Common.{◌≡◌, ◌≢◌, ℕ, zero, suc, ◌+◌, ◌*◌, ◌<◌, ◌≤◌, Bool, true, false, cond, if◌then◌else◌, not}
+use Rattle.std.proofs.Common.{◌&&◌, ◌||◌, List, [], ◌∷◌, Option, Result, Ok, Err, IfOk, All, map, length, sum_by, refl}
+use Rattle.std.proofs.Common.{sym, ap, ap₂, ◌∙◌, subst, inl, inr, arith, zero-add}
 use Rattle.std.specs.Prelude.{slice_index}
 use Rattle.std.specs.List.{AllZip, filter, list_all, list_any}
 use Rattle.std.specs.Cmp.{IsTotalOrder}
@@ -24,7 +26,8 @@ use Rattle.fair_rates.specs.Filling.FairParts.{flow_parts, parts_of_level}
 use Rattle.fair_rates.proofs.Lists.Members.{In, in_map, from_map, from_filter, in_filter, contains_from_in, all_pass}
 use Rattle.fair_rates.proofs.Fairness.SameSides.{still_fair}
 use Rattle.fair_rates.proofs.Numbers.Draining.{product_none}
-use Rattle.fair_rates.proofs.Fairness.Sharing.{StandsAt, AreShared, AreApart, shared_from, fair_from, part_shared, both_shared}
+use Rattle.fair_rates.proofs.Fairness.Sharing.{StandsAt, AreShared, AreApart, shared_from, fair_from, part_shared}
+use Rattle.fair_rates.proofs.Fairness.Sharing.{both_shared}
 use Rattle.link_simulation.specs.Simulation.Messages.{Message, is_delivered}
 use Rattle.link_simulation.specs.Simulation.Rates.{capped_sides}
 use Rattle.link_scheduler.specs.declared.transmitter.component.Component.{Component}
@@ -35,7 +38,9 @@ use Rattle.link_scheduler.specs.declared.transmitter.flights.Flights.{Flights}
 use Rattle.link_scheduler.specs.Flights.Flight.{UnitFlight, flight_at, AreTimed}
 use Rattle.link_scheduler.specs.Flights.InFlight.{in_units}
 use Rattle.link_scheduler.specs.Flights.Components.{is_sender, is_receiver, is_of, those_of, suits, is_closed}
-use Rattle.link_scheduler.specs.Flights.Rated.{sent_messages, rates_of, rated_ones, rates_found, rerated, AreFairlyRated, WereRated, AreFairOf, IsRatedFrom, HaveFairRates, AreOthersTimed}
+use Rattle.link_scheduler.specs.Flights.Rated.{sent_messages, rates_of, rated_ones, rates_found, rerated}
+use Rattle.link_scheduler.specs.Flights.Rated.{AreFairlyRated, WereRated, AreFairOf, IsRatedFrom, HaveFairRates}
+use Rattle.link_scheduler.specs.Flights.Rated.{AreOthersTimed}
 use Rattle.link_scheduler.specs.Flights.RatedFlights.{are_standing}
 use Rattle.link_scheduler.specs.Pairs.Messages.{message_of}
 use Rattle.link_scheduler.proofs.Flights.FairMessages.{StandsForMessage, same_sides}
@@ -67,7 +72,8 @@ module _ (g h : ℕ → ℕ) (same : (i : ℕ) → g i ≡ h i) where
   fair_alike sides per f = record {
     some_part = f.some_part;
     within = All-from_contains (λ side. load h side ≤ side.cap * per) sides (λ side listed.
-        let below : load g side ≤ side.cap * per = All-contains (λ side. load g side ≤ side.cap * per) sides side f.within listed in
+        let below : load g side ≤ side.cap * per =
+        All-contains (λ side. load g side ≤ side.cap * per) sides side f.within listed in
         omega (arith, below, same_load side));
     held = λ flow limited. same_bottleneck sides per flow (f.held flow limited);
   }
@@ -106,7 +112,8 @@ module _ {P : Type 0} (cmp : P → P → Ordering) where
   flows_are [] = refl
   flows_are (u ∷ us) = ap (λ (fs : List (Flow P)). flow_for u ∷ fs) (flows_are us)
 
-  stand_from : (g : ℕ → ℕ) (place : ℕ) (us : List (UnitFlight P)) → ((i : ℕ) → g (place + i) ≡ slice_index (rates_of us) i) → StandsAt flow_of parts_of g place (shares us)
+  stand_from : (g : ℕ → ℕ) (place : ℕ) (us : List (UnitFlight P))
+      → ((i : ℕ) → g (place + i) ≡ slice_index (rates_of us) i) → StandsAt flow_of parts_of g place (shares us)
   stand_from g place [] h = tt
   stand_from g place (u ∷ us) h = (ap g here ∙ h 0, stand_from g (place + 1) us (λ i. ap g (next i) ∙ h (suc i)))
     where
@@ -117,15 +124,27 @@ module _ {P : Type 0} (cmp : P → P → Ordering) where
       next i = omega arith
 
   -- each flow stands for its message
-  own : IsTotalOrder cmp → (us : List (UnitFlight P)) → AllZip (StandsForMessage cmp) (map flow_for us) (sent_messages us)
+  own : IsTotalOrder cmp → (us : List (UnitFlight P))
+      → AllZip (StandsForMessage cmp) (map flow_for us) (sent_messages us)
   own order [] = tt
-  own order (u ∷ us) = (record { origin = same_peer_itself cmp order u.message.origin; recipient = same_peer_itself cmp order u.message.recipient; delivered = refl }, own order us)
+  own order (u ∷ us) = (
+    record {
+      origin = same_peer_itself cmp order u.message.origin;
+      recipient = same_peer_itself cmp order u.message.recipient;
+      delivered = refl;
+    },
+    own order us,
+  )
 
-  pub standing_messages : (fs : List (Flow P)) (us : List (UnitFlight P)) → AllZip (StandsForSent cmp) fs us → AllZip (StandsForMessage cmp) fs (sent_messages us)
+  pub standing_messages : (fs : List (Flow P)) (us : List (UnitFlight P)) → AllZip (StandsForSent cmp) fs us
+      → AllZip (StandsForMessage cmp) fs (sent_messages us)
   standing_messages [] [] z = tt
   standing_messages [] (u ∷ us) z = absurd z
   standing_messages (f ∷ fs) [] z = absurd z
-  standing_messages (f ∷ fs) (u ∷ us) z = (record { origin = z.0.origin; recipient = z.0.recipient; delivered = z.0.delivered }, standing_messages fs us z.1)
+  standing_messages (f ∷ fs) (u ∷ us) z = (
+    record { origin = z.0.origin; recipient = z.0.recipient; delivered = z.0.delivered },
+    standing_messages fs us z.1,
+  )
 
   module _ (order : IsTotalOrder cmp) (caps : Caps P) (of : AreOfPeers cmp caps) (scale : ℕ) where
     abbrev AreFairShares : List (Share P) → Type 0
@@ -136,22 +155,28 @@ module _ {P : Type 0} (cmp : P → P → Ordering) where
     shared us f =
         let g : ℕ → ℕ = slice_index (rates_of us) in
         let sides = same_sides cmp order caps of (map flow_for us) (sent_messages us) (own order us) in
-        let there : IsFair (sides_under cmp caps (map flow_for us)) scale g = still_fair (capped_sides cmp caps (sent_messages us)) (sides_under cmp caps (map flow_for us)) (λ side. ((sides side).1, (sides side).0)) scale g f in
+        let there : IsFair (sides_under cmp caps (map flow_for us)) scale g =
+        still_fair (capped_sides cmp caps (sent_messages us)) (sides_under cmp caps (map flow_for us))
+        (λ side. ((sides side).1, (sides side).0)) scale g f in
         shared_from cmp caps flow_of parts_of order of (shares us) g scale (stand_from g 0 us (λ i. ap g (zero-add i)))
         (subst (λ (fs : List (Flow P)). IsFair (sides_under cmp caps fs) scale g) (sym (flows_are us)) there)
 
     fair : (us : List (UnitFlight P)) → AreFairShares (shares us) → AreFairlyRated cmp caps scale us
     fair us f =
         let g : ℕ → ℕ = slice_index (rates_of us) in
-        let there = fair_from cmp caps flow_of parts_of order of (shares us) g scale (stand_from g 0 us (λ i. ap g (zero-add i))) f in
-        still_fair (sides_under cmp caps (map flow_for us)) (capped_sides cmp caps (sent_messages us)) (same_sides cmp order caps of (map flow_for us) (sent_messages us) (own order us)) scale g
+        let there =
+        fair_from cmp caps flow_of parts_of order of (shares us) g scale
+        (stand_from g 0 us (λ i. ap g (zero-add i))) f in
+        still_fair (sides_under cmp caps (map flow_for us)) (capped_sides cmp caps (sent_messages us))
+        (same_sides cmp order caps of (map flow_for us) (sent_messages us) (own order us)) scale g
         (subst (λ (fs : List (Flow P)). IsFair (sides_under cmp caps fs) scale g) (flows_are us) there)
 
 -- ---- lists
 
 -- two tests that agree where a third passes
 module _ {X : Type 0} (p q r : X → Bool) where
-  either_way : (b : Bool) (x : X) (ys zs : List X) → filter p ys ≡ filter p zs → filter p (cond b (x ∷ ys) ys) ≡ filter p (cond b (x ∷ zs) zs)
+  either_way : (b : Bool) (x : X) (ys zs : List X) → filter p ys ≡ filter p zs
+      → filter p (cond b (x ∷ ys) ys) ≡ filter p (cond b (x ∷ zs) zs)
   either_way true x ys zs e = ap (λ l. cond (p x) (x ∷ l) l) e
   either_way false x ys zs e = e
 
@@ -159,25 +184,34 @@ module _ {X : Type 0} (p q r : X → Bool) where
   dropped true x ys h = filter_no p x ys h
   dropped false x ys h = refl
 
-  filters_agree : (xs : List X) → ((x : X) → In xs x → p x ≡ true → q x ≡ r x) → filter p (filter q xs) ≡ filter p (filter r xs)
+  filters_agree : (xs : List X) → ((x : X) → In xs x → p x ≡ true → q x ≡ r x)
+      → filter p (filter q xs) ≡ filter p (filter r xs)
   filters_agree [] h = refl
   filters_agree (x ∷ xs) h = by_test (p x) refl (filters_agree xs (λ y among. h y (inr among)))
     where
-      by_test : (b : Bool) → p x ≡ b → filter p (filter q xs) ≡ filter p (filter r xs) → filter p (filter q (x ∷ xs)) ≡ filter p (filter r (x ∷ xs))
-      by_test true is ih = either_way (q x) x (filter q xs) (filter r xs) ih ∙ ap (λ b. filter p (cond b (x ∷ filter r xs) (filter r xs))) (h x (inl refl) is)
+      by_test : (b : Bool) → p x ≡ b → filter p (filter q xs) ≡ filter p (filter r xs)
+          → filter p (filter q (x ∷ xs)) ≡ filter p (filter r (x ∷ xs))
+      by_test true is ih =
+          either_way (q x) x (filter q xs) (filter r xs) ih
+          ∙ ap (λ b. filter p (cond b (x ∷ filter r xs) (filter r xs))) (h x (inl refl) is)
       by_test false is ih = dropped (q x) x (filter q xs) is ∙ ih ∙ sym (dropped (r x) x (filter r xs) is)
 
-pub read_filter : {X Y : Type 0} (f : X → Y) (test : Y → Bool) (xs : List X) → filter test (map f xs) ≡ map f (filter (λ x. test (f x)) xs)
+pub read_filter : {X Y : Type 0} (f : X → Y) (test : Y → Bool) (xs : List X)
+    → filter test (map f xs) ≡ map f (filter (λ x. test (f x)) xs)
 read_filter f test [] = refl
 read_filter {X} {Y} f test (x ∷ xs) = by_test (test (f x)) (read_filter f test xs)
   where
-    by_test : (b : Bool) → filter test (map f xs) ≡ map f (filter (λ x. test (f x)) xs) → cond b (f x ∷ filter test (map f xs)) (filter test (map f xs)) ≡ map f (cond b (x ∷ filter (λ x. test (f x)) xs) (filter (λ x. test (f x)) xs))
+    by_test : (b : Bool) → filter test (map f xs) ≡ map f (filter (λ x. test (f x)) xs)
+        → cond b (f x ∷ filter test (map f xs)) (filter test (map f xs))
+        ≡ map f (cond b (x ∷ filter (λ x. test (f x)) xs) (filter (λ x. test (f x)) xs))
     by_test true ih = ap (λ l. f x ∷ l) ih
     by_test false ih = ih
 
 -- a scale that has not grown
-pub same_scale : (found : FairParts) (scale : ℕ) → found.scale ≡ scale * product found.growth.items → found.growth.items ≡ [] → found.scale ≡ scale
-same_scale found scale grown none = let one : scale * 1 ≡ scale = omega arith in grown ∙ ap (λ l. scale * product l) none ∙ one
+pub same_scale : (found : FairParts) (scale : ℕ) → found.scale ≡ scale * product found.growth.items
+    → found.growth.items ≡ [] → found.scale ≡ scale
+same_scale found scale grown none =
+    let one : scale * 1 ≡ scale = omega arith in grown ∙ ap (λ l. scale * product l) none ∙ one
 
 pub grows_once : (found : FairParts) → found.growth.items ≡ [] → product found.growth.items ≡ 1
 grows_once found none = ap product none
@@ -201,7 +235,8 @@ module _ {P : Type 0} (cmp : P → P → Ordering) (component : Component P) whe
   others_are us = read_filter (share_of cmp) theirs us
 
   -- whose share it is
-  whose : (us : List (UnitFlight P)) (x : Share P) → In (shares cmp us) x → (u : UnitFlight P) × In us u × (x.flow ≡ flow_for cmp u)
+  whose : (us : List (UnitFlight P)) (x : Share P) → In (shares cmp us) x
+      → (u : UnitFlight P) × In us u × (x.flow ≡ flow_for cmp u)
   whose us x among = let r = from_map (share_of cmp) us x among in (r.0, r.1, ap (λ (y : Share P). y.flow) (sym r.2))
 
   -- ---- at the rates that are given
@@ -223,24 +258,41 @@ module _ {P : Type 0} (cmp : P → P → Ordering) (component : Component P) whe
     others_kept [] (u ∷ us) = refl
     others_kept (rate ∷ rates) (u ∷ us) = by_test (is_of cmp component u) refl (λ rates. others_kept rates us)
       where
-        by_test : (b : Bool) → is_of cmp component u ≡ b → ((rates : List ℕ) → others_of (again rates us) ≡ others_of us)
+        by_test : (b : Bool) → is_of cmp component u ≡ b
+            → ((rates : List ℕ) → others_of (again rates us) ≡ others_of us)
             → others_of (cond b (anew rate u ∷ again rates us) (u ∷ again (rate ∷ rates) us)) ≡ others_of (u ∷ us)
-        by_test true is ih = filter_no (λ v. not (is_of cmp component v)) (anew rate u) (again rates us) (ap not is) ∙ ih rates ∙ sym (filter_no (λ v. not (is_of cmp component v)) u us (ap not is))
-        by_test false is ih = filter_yes (λ v. not (is_of cmp component v)) u (again (rate ∷ rates) us) (ap not is) ∙ ap (λ l. u ∷ l) (ih (rate ∷ rates)) ∙ sym (filter_yes (λ v. not (is_of cmp component v)) u us (ap not is))
+        by_test true is ih =
+            filter_no (λ v. not (is_of cmp component v)) (anew rate u) (again rates us) (ap not is) ∙ ih rates
+            ∙ sym (filter_no (λ v. not (is_of cmp component v)) u us (ap not is))
+        by_test false is ih =
+            filter_yes (λ v. not (is_of cmp component v)) u (again (rate ∷ rates) us) (ap not is)
+            ∙ ap (λ l. u ∷ l) (ih (rate ∷ rates))
+            ∙ sym (filter_yes (λ v. not (is_of cmp component v)) u us (ap not is))
 
     -- those of it are of the same messages
-    same_messages : (rates : List ℕ) (us : List (UnitFlight P)) → sent_messages (those_of cmp component (again rates us)) ≡ sent_messages (those_of cmp component us)
+    same_messages : (rates : List ℕ) (us : List (UnitFlight P))
+        → sent_messages (those_of cmp component (again rates us)) ≡ sent_messages (those_of cmp component us)
     same_messages rates [] = refl
     same_messages [] (u ∷ us) = refl
     same_messages (rate ∷ rates) (u ∷ us) = by_test (is_of cmp component u) refl (λ rates. same_messages rates us)
       where
-        by_test : (b : Bool) → is_of cmp component u ≡ b → ((rates : List ℕ) → sent_messages (those_of cmp component (again rates us)) ≡ sent_messages (those_of cmp component us))
-            → sent_messages (those_of cmp component (cond b (anew rate u ∷ again rates us) (u ∷ again (rate ∷ rates) us))) ≡ sent_messages (those_of cmp component (u ∷ us))
-        by_test true is ih = ap sent_messages (filter_yes (is_of cmp component) (anew rate u) (again rates us) is) ∙ ap (λ l. message_of u.message ∷ l) (ih rates) ∙ ap sent_messages (sym (filter_yes (is_of cmp component) u us is))
-        by_test false is ih = ap sent_messages (filter_no (is_of cmp component) u (again (rate ∷ rates) us) is) ∙ ih (rate ∷ rates) ∙ ap sent_messages (sym (filter_no (is_of cmp component) u us is))
+        by_test : (b : Bool) → is_of cmp component u ≡ b
+            → ((rates : List ℕ)
+            → sent_messages (those_of cmp component (again rates us)) ≡ sent_messages (those_of cmp component us))
+            → sent_messages
+            (those_of cmp component (cond b (anew rate u ∷ again rates us) (u ∷ again (rate ∷ rates) us)))
+            ≡ sent_messages (those_of cmp component (u ∷ us))
+        by_test true is ih =
+            ap sent_messages (filter_yes (is_of cmp component) (anew rate u) (again rates us) is)
+            ∙ ap (λ l. message_of u.message ∷ l) (ih rates)
+            ∙ ap sent_messages (sym (filter_yes (is_of cmp component) u us is))
+        by_test false is ih =
+            ap sent_messages (filter_no (is_of cmp component) u (again (rate ∷ rates) us) is) ∙ ih (rate ∷ rates)
+            ∙ ap sent_messages (sym (filter_no (is_of cmp component) u us is))
 
     -- at these rates
-    these_rates : (rates : List ℕ) (us : List (UnitFlight P)) → length rates ≡ length (those_of cmp component us) → rates_of (those_of cmp component (again rates us)) ≡ rates
+    these_rates : (rates : List ℕ) (us : List (UnitFlight P)) → length rates ≡ length (those_of cmp component us)
+        → rates_of (those_of cmp component (again rates us)) ≡ rates
     these_rates [] [] one_each = refl
     these_rates (rate ∷ rates) [] one_each = absurd (omega arith)
     these_rates [] (u ∷ us) one_each = no_rates (those_of cmp component (u ∷ us)) one_each
@@ -250,18 +302,28 @@ module _ {P : Type 0} (cmp : P → P → Ordering) (component : Component P) whe
         no_rates (v ∷ vs) e = absurd (omega arith)
     these_rates (rate ∷ rates) (u ∷ us) one_each = by_test (is_of cmp component u) refl (λ rates. these_rates rates us)
       where
-        by_test : (b : Bool) → is_of cmp component u ≡ b → ((rates : List ℕ) → length rates ≡ length (those_of cmp component us) → rates_of (those_of cmp component (again rates us)) ≡ rates)
-            → rates_of (those_of cmp component (cond b (anew rate u ∷ again rates us) (u ∷ again (rate ∷ rates) us))) ≡ rate ∷ rates
-        by_test true is ih = ap rates_of (filter_yes (is_of cmp component) (anew rate u) (again rates us) is) ∙ ap (λ l. rate ∷ l) (ih rates (omega (arith, one_each, ap length (filter_yes (is_of cmp component) u us is))))
-        by_test false is ih = ap rates_of (filter_no (is_of cmp component) u (again (rate ∷ rates) us) is) ∙ ih (rate ∷ rates) (one_each ∙ ap length (filter_no (is_of cmp component) u us is))
+        by_test : (b : Bool) → is_of cmp component u ≡ b
+            → ((rates : List ℕ) → length rates ≡ length (those_of cmp component us)
+            → rates_of (those_of cmp component (again rates us)) ≡ rates)
+            → rates_of (those_of cmp component (cond b (anew rate u ∷ again rates us) (u ∷ again (rate ∷ rates) us)))
+            ≡ rate ∷ rates
+        by_test true is ih =
+            ap rates_of (filter_yes (is_of cmp component) (anew rate u) (again rates us) is)
+            ∙ ap (λ l. rate ∷ l)
+            (ih rates (omega (arith, one_each, ap length (filter_yes (is_of cmp component) u us is))))
+        by_test false is ih =
+            ap rates_of (filter_no (is_of cmp component) u (again (rate ∷ rates) us) is)
+            ∙ ih (rate ∷ rates) (one_each ∙ ap length (filter_no (is_of cmp component) u us is))
 
     -- each is of a message that was in flight
-    was_there : (rates : List ℕ) (us : List (UnitFlight P)) (v : UnitFlight P) → In (again rates us) v → (u : UnitFlight P) × In us u × (v.message ≡ u.message)
+    was_there : (rates : List ℕ) (us : List (UnitFlight P)) (v : UnitFlight P) → In (again rates us) v
+        → (u : UnitFlight P) × In us u × (v.message ≡ u.message)
     was_there rates [] v among = absurd among
     was_there [] (u ∷ us) v among = (v, among, refl)
     was_there (rate ∷ rates) (u ∷ us) v among = by_test (is_of cmp component u) among (λ rates. was_there rates us v)
       where
-        by_test : (b : Bool) → In (cond b (anew rate u ∷ again rates us) (u ∷ again (rate ∷ rates) us)) v → ((rates : List ℕ) → In (again rates us) v → (w : UnitFlight P) × In us w × (v.message ≡ w.message))
+        by_test : (b : Bool) → In (cond b (anew rate u ∷ again rates us) (u ∷ again (rate ∷ rates) us)) v
+            → ((rates : List ℕ) → In (again rates us) v → (w : UnitFlight P) × In us w × (v.message ≡ w.message))
             → (w : UnitFlight P) × In (u ∷ us) w × (v.message ≡ w.message)
         by_test true (inl e) ih = (u, inl refl, ap (λ (x : UnitFlight P). x.message) (sym e))
         by_test true (inr h) ih = let r = ih rates h in (r.0, inr r.1, r.2)
@@ -270,50 +332,78 @@ module _ {P : Type 0} (cmp : P → P → Ordering) (component : Component P) whe
 
     -- those of it are rated from now on, and so are the others
     rated_each : (rates : List ℕ) (us : List (UnitFlight P)) → length rates ≡ length (those_of cmp component us)
-        → ((u : UnitFlight P) → In us u → is_of cmp component u ≡ false → IsRatedFrom now times u u) → AllZip (IsRatedFrom now times) us (again rates us)
+        → ((u : UnitFlight P) → In us u → is_of cmp component u ≡ false → IsRatedFrom now times u u)
+        → AllZip (IsRatedFrom now times) us (again rates us)
     rated_each rates [] one_each others = tt
     rated_each [] (u ∷ us) one_each others = by_test (is_of cmp component u) refl
-        (λ one_each. subst (AllZip (IsRatedFrom now times) us) (none_given us) (rated_each [] us one_each (λ v among. others v (inr among))))
+        (λ one_each. subst (AllZip (IsRatedFrom now times) us) (none_given us)
+        (rated_each [] us one_each (λ v among. others v (inr among))))
       where
-        by_test : (b : Bool) → is_of cmp component u ≡ b → (0 ≡ length (those_of cmp component us) → AllZip (IsRatedFrom now times) us us) → AllZip (IsRatedFrom now times) (u ∷ us) (u ∷ us)
+        by_test : (b : Bool) → is_of cmp component u ≡ b
+            → (0 ≡ length (those_of cmp component us) → AllZip (IsRatedFrom now times) us us)
+            → AllZip (IsRatedFrom now times) (u ∷ us) (u ∷ us)
         by_test true is ih = absurd (omega (arith, one_each, ap length (filter_yes (is_of cmp component) u us is)))
-        by_test false is ih = (others u (inl refl) is, ih (one_each ∙ ap length (filter_no (is_of cmp component) u us is)))
-    rated_each (rate ∷ rates) (u ∷ us) one_each others = by_test (is_of cmp component u) refl (λ rates one_each. rated_each rates us one_each (λ v among. others v (inr among)))
+        by_test false is ih =
+            (others u (inl refl) is, ih (one_each ∙ ap length (filter_no (is_of cmp component) u us is)))
+    rated_each (rate ∷ rates) (u ∷ us) one_each others =
+        by_test (is_of cmp component u) refl
+        (λ rates one_each. rated_each rates us one_each (λ v among. others v (inr among)))
       where
-        by_test : (b : Bool) → is_of cmp component u ≡ b → ((rates : List ℕ) → length rates ≡ length (those_of cmp component us) → AllZip (IsRatedFrom now times) us (again rates us))
-            → AllZip (IsRatedFrom now times) (u ∷ us) (cond b (anew rate u ∷ again rates us) (u ∷ again (rate ∷ rates) us))
-        by_test true is ih = (record { message = refl; left = refl; updated = refl; rated = refl }, ih rates (omega (arith, one_each, ap length (filter_yes (is_of cmp component) u us is))))
-        by_test false is ih = (others u (inl refl) is, ih (rate ∷ rates) (one_each ∙ ap length (filter_no (is_of cmp component) u us is)))
+        by_test : (b : Bool) → is_of cmp component u ≡ b
+            → ((rates : List ℕ) → length rates ≡ length (those_of cmp component us)
+            → AllZip (IsRatedFrom now times) us (again rates us))
+            → AllZip (IsRatedFrom now times) (u ∷ us)
+            (cond b (anew rate u ∷ again rates us) (u ∷ again (rate ∷ rates) us))
+        by_test true is ih = (
+          record { message = refl; left = refl; updated = refl; rated = refl },
+          ih rates (omega (arith, one_each, ap length (filter_yes (is_of cmp component) u us is))),
+        )
+        by_test false is ih =
+            (others u (inl refl) is, ih (rate ∷ rates) (one_each ∙ ap length (filter_no (is_of cmp component) u us is)))
 
   -- one rate is found for each of them
-  pub found_each : (caps : Caps P) (scale : ℕ) (us : List (UnitFlight P)) (found : FairParts) → AreFairOf cmp caps scale component us found → length (rates_found found) ≡ length (those_of cmp component us)
+  pub found_each : (caps : Caps P) (scale : ℕ) (us : List (UnitFlight P)) (found : FairParts)
+      → AreFairOf cmp caps scale component us found → length (rates_found found) ≡ length (those_of cmp component us)
   found_each caps scale us found of = length-map found.level_of.items (parts_of_level found.levels.items) ∙ of.one_each
 
   -- those of it alone have fair rates
-  component_alone : (caps : Caps P) (scale now times : ℕ) (us : List (UnitFlight P)) (found : FairParts) → AreFairOf cmp caps scale component us found
-      → AreFairlyRated cmp caps found.scale (those_of cmp component (rerated cmp component now times (rates_found found) us))
+  component_alone : (caps : Caps P) (scale now times : ℕ) (us : List (UnitFlight P)) (found : FairParts)
+      → AreFairOf cmp caps scale component us found
+      → AreFairlyRated cmp caps found.scale
+      (those_of cmp component (rerated cmp component now times (rates_found found) us))
   component_alone caps scale now times us found of =
-      rw (same_messages now times (rates_found found) us, these_rates now times (rates_found found) us (found_each caps scale us found of)) of.fair
+      rw (
+        same_messages now times (rates_found found) us,
+        these_rates now times (rates_found found) us (found_each caps scale us found of),
+      )
+      of.fair
 
   -- ---- all of them
 
   module _ (whole : component.whole ≡ true) where
     pub all_of : (u : UnitFlight P) → is_of cmp component u ≡ true
-    all_of u = ap (λ b. b || list_any (λ m. same_peer cmp u.message.origin m.value.origin) component.senders.items) whole
+    all_of u =
+        ap (λ b. b || list_any (λ m. same_peer cmp u.message.origin m.value.origin) component.senders.items) whole
 
     pub those_all : (us : List (UnitFlight P)) → those_of cmp component us ≡ us
     those_all [] = refl
     those_all (u ∷ us) = filter_yes (is_of cmp component) u us (all_of u) ∙ ap (λ l. u ∷ l) (those_all us)
 
-    pub whole_fair : (caps : Caps P) (scale now times : ℕ) (us : List (UnitFlight P)) (found : FairParts) → AreFairOf cmp caps scale component us found
+    pub whole_fair : (caps : Caps P) (scale now times : ℕ) (us : List (UnitFlight P)) (found : FairParts)
+        → AreFairOf cmp caps scale component us found
         → AreFairlyRated cmp caps found.scale (rerated cmp component now times (rates_found found) us)
-    whole_fair caps scale now times us found of = subst (AreFairlyRated cmp caps found.scale) (those_all (rerated cmp component now times (rates_found found) us)) (component_alone caps scale now times us found of)
+    whole_fair caps scale now times us found of =
+        subst (AreFairlyRated cmp caps found.scale) (those_all (rerated cmp component now times (rates_found found) us))
+        (component_alone caps scale now times us found of)
 
     pub no_others : (fs : List (Rc (Flight P) Global)) → AreOthersTimed cmp component fs
     no_others fs i f at out rated = absurd (false≢true (sym out ∙ all_of (flight_at 0 f.value)))
 
-    pub whole_rerated : (now times : ℕ) (rates : List ℕ) (us : List (UnitFlight P)) → length rates ≡ length (those_of cmp component us) → AllZip (IsRatedFrom now times) us (rerated cmp component now times rates us)
-    whole_rerated now times rates us one_each = rated_each now times rates us one_each (λ u among out. absurd (false≢true (sym out ∙ all_of u)))
+    pub whole_rerated : (now times : ℕ) (rates : List ℕ) (us : List (UnitFlight P))
+        → length rates ≡ length (those_of cmp component us)
+        → AllZip (IsRatedFrom now times) us (rerated cmp component now times rates us)
+    whole_rerated now times rates us one_each =
+        rated_each now times rates us one_each (λ u among out. absurd (false≢true (sym out ∙ all_of u)))
 
   -- ---- what closedness says
 
@@ -336,19 +426,25 @@ module _ {P : Type 0} (cmp : P → P → Ordering) (component : Component P) whe
     same_sender : (p q : P) → same_peer cmp p q ≡ true → is_sender cmp component p ≡ is_sender cmp component q
     same_sender p q e = ap (λ b. component.whole || b) (each component.senders.items)
       where
-        each : (ms : List (Rc (code.Message P) Global)) → list_any (λ m. same_peer cmp p m.value.origin) ms ≡ list_any (λ m. same_peer cmp q m.value.origin) ms
+        each : (ms : List (Rc (code.Message P) Global))
+            → list_any (λ m. same_peer cmp p m.value.origin) ms ≡ list_any (λ m. same_peer cmp q m.value.origin) ms
         each [] = refl
-        each (m ∷ ms) = let laws = eq_by_cmp_equiv order in ap₂ (λ a b. a || b) (laws.congr p q m.value.origin e) (each ms)
+        each (m ∷ ms) =
+            let laws = eq_by_cmp_equiv order in ap₂ (λ a b. a || b) (laws.congr p q m.value.origin e) (each ms)
 
     same_receiver : (p q : P) → same_peer cmp p q ≡ true → is_receiver cmp component p ≡ is_receiver cmp component q
     same_receiver p q e = ap (λ b. component.whole || b) (each component.receivers.items)
       where
-        each : (ms : List (Rc (code.Message P) Global)) → list_any (λ m. same_peer cmp p m.value.recipient) ms ≡ list_any (λ m. same_peer cmp q m.value.recipient) ms
+        each : (ms : List (Rc (code.Message P) Global))
+            → list_any (λ m. same_peer cmp p m.value.recipient) ms
+            ≡ list_any (λ m. same_peer cmp q m.value.recipient) ms
         each [] = refl
-        each (m ∷ ms) = let laws = eq_by_cmp_equiv order in ap₂ (λ a b. a || b) (laws.congr p q m.value.recipient e) (each ms)
+        each (m ∷ ms) =
+            let laws = eq_by_cmp_equiv order in ap₂ (λ a b. a || b) (laws.congr p q m.value.recipient e) (each ms)
 
     -- two flows that a side limits are both of it or both not
-    apart : (s : Subject P) (f g : Flow P) → HasBothOrNone f → HasBothOrNone g → limits cmp s f ≡ true → limits cmp s g ≡ true → is_sender cmp component f.origin ≡ is_sender cmp component g.origin
+    apart : (s : Subject P) (f g : Flow P) → HasBothOrNone f → HasBothOrNone g → limits cmp s f ≡ true
+        → limits cmp s g ≡ true → is_sender cmp component f.origin ≡ is_sender cmp component g.origin
     apart (sent_by p) f g at_f at_g lf lg = sym (same_sender p f.origin lf) ∙ same_sender p g.origin lg
     apart (received_by p) f g at_f at_g lf lg =
         at_f
@@ -359,13 +455,17 @@ module _ {P : Type 0} (cmp : P → P → Ordering) (component : Component P) whe
         sym (same_sender p f.origin (first_of_both (same_peer cmp p f.origin) (same_peer cmp q f.recipient) lf))
         ∙ same_sender p g.origin (first_of_both (same_peer cmp p g.origin) (same_peer cmp q g.recipient) lg)
 
-    shares_apart : (caps : Caps P) (us : List (UnitFlight P)) → ((u : UnitFlight P) → In us u → HasBothOrNone (flow_for cmp u)) → AreApart cmp caps flow_of parts_of mine (shares cmp us)
+    shares_apart : (caps : Caps P) (us : List (UnitFlight P))
+        → ((u : UnitFlight P) → In us u → HasBothOrNone (flow_for cmp u))
+        → AreApart cmp caps flow_of parts_of mine (shares cmp us)
     shares_apart caps us ends s cap x y has h g lx ly =
         let r = whose us x h in
         let t = whose us y g in
-        apart s x.flow y.flow (subst HasBothOrNone (sym r.2) (ends r.0 r.1)) (subst HasBothOrNone (sym t.2) (ends t.0 t.1)) lx ly
+        apart s x.flow y.flow (subst HasBothOrNone (sym r.2) (ends r.0 r.1))
+        (subst HasBothOrNone (sym t.2) (ends t.0 t.1)) lx ly
 
-  module _ (done : List (Rc (code.Message P) Global)) (us : List (UnitFlight P)) (closed : is_closed cmp component done us ≡ true) where
+  module _ (done : List (Rc (code.Message P) Global)) (us : List (UnitFlight P))
+      (closed : is_closed cmp component done us ≡ true) where
     suits_one : (u : UnitFlight P) → In us u → suits cmp component u ≡ true
     suits_one u h = all_pass (suits cmp component) us (second_of_both _ (list_all (suits cmp component) us) closed) u h
 
@@ -374,32 +474,50 @@ module _ {P : Type 0} (cmp : P → P → Ordering) (component : Component P) whe
 
     -- one that is not of it has got a rate
     pub rated_outside : (u : UnitFlight P) → In us u → is_of cmp component u ≡ false → u.rated ≡ true
-    rated_outside u h out = suited_out (is_of cmp component u) (is_receiver cmp component u.message.recipient) u.rated (suits_one u h) out
+    rated_outside u h out =
+        suited_out (is_of cmp component u) (is_receiver cmp component u.message.recipient) u.rated (suits_one u h) out
 
     -- at the same scale each has its rate from now on
-    pub component_rerated : (now times : ℕ) (rates : List ℕ) → times ≡ 1 → All (λ u. u.updated ≡ now) us → length rates ≡ length (those_of cmp component us) → AllZip (IsRatedFrom now times) us (rerated cmp component now times rates us)
-    component_rerated now times rates one updated one_each = rated_each now times rates us one_each (λ u among out. record {
-      message = refl;
-      left = as_much u.left;
-      updated = All-contains (λ u. u.updated ≡ now) us u updated (contains_from_in us u among);
-      rated = rated_outside u among out;
-    })
+    pub component_rerated : (now times : ℕ) (rates : List ℕ) → times ≡ 1 → All (λ u. u.updated ≡ now) us
+        → length rates ≡ length (those_of cmp component us)
+        → AllZip (IsRatedFrom now times) us (rerated cmp component now times rates us)
+    component_rerated now times rates one updated one_each =
+        rated_each now times rates us one_each (λ u among out. record {
+          message = refl;
+          left = as_much u.left;
+          updated = All-contains (λ u. u.updated ≡ now) us u updated (contains_from_in us u among);
+          rated = rated_outside u among out;
+        })
       where
         as_much : (n : ℕ) → n ≡ n * times
         as_much n = let same : n ≡ n * 1 = omega arith in same ∙ ap (λ m. n * m) (sym one)
 
-    module _ (order : IsTotalOrder cmp) (caps : Caps P) (of : AreOfPeers cmp caps) (scale : ℕ) (were : WereRated cmp caps scale us (messages done)) where
+    module _ (order : IsTotalOrder cmp) (caps : Caps P) (of : AreOfPeers cmp caps) (scale : ℕ)
+        (were : WereRated cmp caps scale us (messages done)) where
       -- what is done has both ends in it
-      both_ends : (u : UnitFlight P) → In were.before u → were.is_done u ≡ true → (is_of cmp component u ≡ true) × (is_receiver cmp component u.message.recipient ≡ true)
+      both_ends : (u : UnitFlight P) → In were.before u → were.is_done u ≡ true
+          → (is_of cmp component u ≡ true) × (is_receiver cmp component u.message.recipient ≡ true)
       both_ends u h is =
-          let there : In (messages done) (message_of u.message) = subst (λ (ms : List (Message P)). In ms (message_of u.message)) (sym were.parted.left) (in_map (λ (v : UnitFlight P). message_of v.message) (filter were.is_done were.before) u (in_filter were.is_done were.before u h is)) in
+          let there : In (messages done) (message_of u.message) =
+          subst (λ (ms : List (Message P)). In ms (message_of u.message)) (sym were.parted.left)
+          (in_map (λ (v : UnitFlight P). message_of v.message) (filter were.is_done were.before) u
+          (in_filter were.is_done were.before u h is)) in
           let m = from_map (λ (m : Rc (code.Message P) Global). message_of m.value) done (message_of u.message) there in
-          let has = all_pass (λ (m : Rc (code.Message P) Global). is_sender cmp component m.value.origin && is_receiver cmp component m.value.recipient) done (first_of_both _ (list_all (suits cmp component) us) closed) m.0 m.1 in
-          let two = subst (λ (n : Message P). (is_sender cmp component n.origin && is_receiver cmp component n.recipient) ≡ true) m.2 has in
+          let has =
+          all_pass
+          (λ (m : Rc (code.Message P) Global). is_sender cmp component m.value.origin
+          && is_receiver cmp component m.value.recipient)
+          done (first_of_both _ (list_all (suits cmp component) us) closed) m.0 m.1 in
+          let two =
+          subst
+          (λ (n : Message P). (is_sender cmp component n.origin && is_receiver cmp component n.recipient) ≡ true)
+          m.2 has in
           (first_of_both (is_of cmp component u) _ two, second_of_both (is_of cmp component u) _ two)
 
       stayed : (u : UnitFlight P) → In were.before u → were.is_done u ≡ false → In us u
-      stayed u h is = subst (λ (l : List (UnitFlight P)). In l u) (sym were.parted.stay) (in_filter (λ v. not (were.is_done v)) were.before u h (ap not is))
+      stayed u h is =
+          subst (λ (l : List (UnitFlight P)). In l u) (sym were.parted.stay)
+          (in_filter (λ v. not (were.is_done v)) were.before u h (ap not is))
 
       ends_before : (u : UnitFlight P) → In were.before u → HasBothOrNone (flow_for cmp u)
       ends_before u h = by_test (were.is_done u) refl
@@ -409,7 +527,8 @@ module _ {P : Type 0} (cmp : P → P → Ordering) (component : Component P) whe
           by_test false is = ends u (stayed u h is)
 
       -- one that is not of it had a rate, and is not done
-      kept_before : (u : UnitFlight P) → In were.before u → not (is_of cmp component u) ≡ true → u.rated ≡ not (were.is_done u)
+      kept_before : (u : UnitFlight P) → In were.before u → not (is_of cmp component u) ≡ true
+          → u.rated ≡ not (were.is_done u)
       kept_before u h out = by_test (were.is_done u) refl
         where
           not_of : is_of cmp component u ≡ false
@@ -421,38 +540,61 @@ module _ {P : Type 0} (cmp : P → P → Ordering) (component : Component P) whe
 
       -- the others are those that had a rate before
       others_stay : others_of (rated_ones were.before) ≡ others_of us
-      others_stay = filters_agree (λ u. not (is_of cmp component u)) (λ (u : UnitFlight P). u.rated) (λ u. not (were.is_done u)) were.before kept_before ∙ ap others_of (sym were.parted.stay)
+      others_stay =
+          filters_agree (λ u. not (is_of cmp component u)) (λ (u : UnitFlight P). u.rated) (λ u. not (were.is_done u))
+          were.before kept_before
+          ∙ ap others_of (sym were.parted.stay)
 
       -- they keep their fair shares
       others_fair : AreFairShares cmp order caps of scale (shares cmp (others_of us))
       others_fair =
           let vs = rated_ones were.before in
-          let part = part_shared cmp caps flow_of parts_of theirs scale (shares cmp vs) (shared cmp order caps of scale vs were.fair)
-          (λ s cap x y has h g lx ly. ap not (shares_apart order caps vs (λ u h. ends_before u (from_filter (λ (u : UnitFlight P). u.rated) were.before u h).0) s cap x y has h g lx ly)) in
+          let part =
+          part_shared cmp caps flow_of parts_of theirs scale (shares cmp vs)
+          (shared cmp order caps of scale vs were.fair)
+          (λ s cap x y has h g lx ly. ap not
+          (shares_apart order caps vs
+          (λ u h. ends_before u (from_filter (λ (u : UnitFlight P). u.rated) were.before u h).0) s cap x y has h g
+          lx ly)) in
           subst (λ (l : List (UnitFlight P)). AreFairShares cmp order caps of scale (shares cmp l)) others_stay
           (subst (AreFairShares cmp order caps of scale) (others_are vs) part)
 
       -- where its own are fair, those of all are
-      pub component_fair : (now times : ℕ) (found : FairParts) → AreFairOf cmp caps scale component us found → found.growth.items ≡ [] → AreFairlyRated cmp caps scale (rerated cmp component now times (rates_found found) us)
+      pub component_fair : (now times : ℕ) (found : FairParts) → AreFairOf cmp caps scale component us found
+          → found.growth.items ≡ []
+          → AreFairlyRated cmp caps scale (rerated cmp component now times (rates_found found) us)
       component_fair now times found of_it none =
           let vs = rerated cmp component now times (rates_found found) us in
-          let alone = subst (λ n. AreFairlyRated cmp caps n (those_of cmp component vs)) (same_scale found scale of_it.grown none) (component_alone caps scale now times us found of_it) in
-          let own = subst (AreFairShares cmp order caps of scale) (sym (own_are vs)) (shared cmp order caps of scale (those_of cmp component vs) alone) in
-          let rest = subst (AreFairShares cmp order caps of scale) (sym (others_are vs ∙ ap (shares cmp) (others_kept now times (rates_found found) us))) others_fair in
+          let alone =
+          subst (λ n. AreFairlyRated cmp caps n (those_of cmp component vs))
+          (same_scale found scale of_it.grown none) (component_alone caps scale now times us found of_it) in
+          let own =
+          subst (AreFairShares cmp order caps of scale) (sym (own_are vs))
+          (shared cmp order caps of scale (those_of cmp component vs) alone) in
+          let rest =
+          subst (AreFairShares cmp order caps of scale)
+          (sym (others_are vs ∙ ap (shares cmp) (others_kept now times (rates_found found) us))) others_fair in
           let ends_now : (v : UnitFlight P) → In vs v → HasBothOrNone (flow_for cmp v) =
           λ v h. let r = was_there now times (rates_found found) us v h in
-          subst (λ (m : code.Message P). is_sender cmp component m.origin ≡ is_receiver cmp component m.recipient) (sym r.2) (ends r.0 r.1) in
-          fair cmp order caps of scale vs (both_shared cmp caps flow_of parts_of mine scale (shares cmp vs) own rest (shares_apart order caps vs ends_now))
+          subst (λ (m : code.Message P). is_sender cmp component m.origin ≡ is_receiver cmp component m.recipient)
+          (sym r.2) (ends r.0 r.1) in
+          fair cmp order caps of scale vs
+          (both_shared cmp caps flow_of parts_of mine scale (shares cmp vs) own rest
+          (shares_apart order caps vs ends_now))
 
 -- ---- what is found for the flows of a component
 
-module _ {P : Type 0} (cmp : P → P → Ordering) (order : IsTotalOrder cmp) (caps : Caps P) (of : AreOfPeers cmp caps) (component : Component P) where
-  parts_found : (levels : List ℕ) (os : List (Option ℕ)) (i : ℕ) → flow_parts levels os i ≡ slice_index (map (parts_of_level levels) os) i
+module _ {P : Type 0} (cmp : P → P → Ordering) (order : IsTotalOrder cmp) (caps : Caps P) (of : AreOfPeers cmp caps)
+    (component : Component P) where
+  parts_found : (levels : List ℕ) (os : List (Option ℕ)) (i : ℕ)
+      → flow_parts levels os i ≡ slice_index (map (parts_of_level levels) os) i
   parts_found levels [] i = refl
   parts_found levels (o ∷ os) zero = refl
   parts_found levels (o ∷ os) (suc i) = parts_found levels os i
 
-  pub fair_of_component : (scale : ℕ) (fs : List (Flow P)) (us : List (UnitFlight P)) (found : FairParts) → are_standing cmp fs (those_of cmp component us) ≡ true → AreFairPartsUnder cmp caps fs scale found → AreFairOf cmp caps scale component us found
+  pub fair_of_component : (scale : ℕ) (fs : List (Flow P)) (us : List (UnitFlight P)) (found : FairParts)
+      → are_standing cmp fs (those_of cmp component us) ≡ true → AreFairPartsUnder cmp caps fs scale found
+      → AreFairOf cmp caps scale component us found
   fair_of_component scale fs us found stand h =
       let those = those_of cmp component us in
       let levels = found.levels.items in
@@ -461,11 +603,18 @@ module _ {P : Type 0} (cmp : P → P → Ordering) (order : IsTotalOrder cmp) (c
         grown = h.grown;
         one_each = h.one_each ∙ standing_length cmp fs those stand;
         fair =
-            fair_alike (flow_parts levels os) (slice_index (rates_found found)) (parts_found levels os) (capped_sides cmp caps (sent_messages those)) found.scale
-            (still_fair (sides_under cmp caps fs) (capped_sides cmp caps (sent_messages those)) (same_sides cmp order caps of fs (sent_messages those) (standing_messages cmp fs those (standing_zip cmp fs those stand))) found.scale (flow_parts levels os) h.fair);
+            fair_alike (flow_parts levels os) (slice_index (rates_found found)) (parts_found levels os)
+            (capped_sides cmp caps (sent_messages those)) found.scale
+            (still_fair (sides_under cmp caps fs) (capped_sides cmp caps (sent_messages those))
+            (same_sides cmp order caps of fs (sent_messages those)
+            (standing_messages cmp fs those (standing_zip cmp fs those stand)))
+            found.scale (flow_parts levels os) h.fair);
       }
 
-  pub found_if_ok : {R : Type 0} (answer : Result FairParts R) (scale : ℕ) (fs : List (Flow P)) (us : List (UnitFlight P)) → are_standing cmp fs (those_of cmp component us) ≡ true → IfOk answer (AreFairPartsUnder cmp caps fs scale) → IfOk answer (AreFairOf cmp caps scale component us)
+  pub found_if_ok : {R : Type 0} (answer : Result FairParts R) (scale : ℕ) (fs : List (Flow P))
+      (us : List (UnitFlight P))
+      → are_standing cmp fs (those_of cmp component us) ≡ true → IfOk answer (AreFairPartsUnder cmp caps fs scale)
+      → IfOk answer (AreFairOf cmp caps scale component us)
   found_if_ok (Ok found) scale fs us stand h = fair_of_component scale fs us found stand h
   found_if_ok (Err why) scale fs us stand h = tt
 
@@ -473,9 +622,11 @@ module _ {P : Type 0} (cmp : P → P → Ordering) (order : IsTotalOrder cmp) (c
 
 module _ {P : Type 0} (cmp : P → P → Ordering) (caps : Caps P) (component : Component P) (found : FairParts) where
   -- where something is left, so there is in smaller units
-  pub left_given : (scale : ℕ) (us : List (UnitFlight P)) → AreFairOf cmp caps scale component us found → All (λ u. u.left ≢ 0) us → All (λ u. u.left * product found.growth.items ≢ 0) us
+  pub left_given : (scale : ℕ) (us : List (UnitFlight P)) → AreFairOf cmp caps scale component us found
+      → All (λ u. u.left ≢ 0) us → All (λ u. u.left * product found.growth.items ≢ 0) us
   left_given scale us of_it left = All-from_contains (λ u. u.left * product found.growth.items ≢ 0) us (λ u listed none.
-      no_part u.left (product found.growth.items) (All-contains (λ u. u.left ≢ 0) us u left listed) none (subst (λ n. 0 < n) of_it.grown of_it.fair.some_part))
+      no_part u.left (product found.growth.items) (All-contains (λ u. u.left ≢ 0) us u left listed) none
+      (subst (λ n. 0 < n) of_it.grown of_it.fair.some_part))
     where
       no_part : (n times : ℕ) → n ≢ 0 → n * times ≡ 0 → 0 < scale * times → ⊥
       no_part zero times some none grows = some refl
@@ -484,14 +635,19 @@ module _ {P : Type 0} (cmp : P → P → Ordering) (caps : Caps P) (component : 
           let zeros : scale * 0 ≡ 0 = omega arith in
           omega (arith, grows, gone, zeros)
 
-  module _ {a : _} {b : _} {c : _} (old new : Flights P a b c) (of_it : AreFairOf cmp caps old.scale component (in_units old) found)
-      (given : in_units new ≡ rerated cmp component old.at (product found.growth.items) (rates_found found) (in_units old))
+  module _ {a : _} {b : _} {c : _} (old new : Flights P a b c)
+      (of_it : AreFairOf cmp caps old.scale component (in_units old) found)
+      (given : in_units new
+      ≡ rerated cmp component old.at (product found.growth.items) (rates_found found) (in_units old))
       (scaled : new.scale ≡ found.scale) (still : new.at ≡ old.at) (timed : AreTimed new.list.items) where
     one_each : length (rates_found found) ≡ length (those_of cmp component (in_units old))
     one_each = found_each cmp component caps old.scale (in_units old) found of_it
 
-    have_rates : AllZip (IsRatedFrom old.at (product found.growth.items)) (in_units old) (rerated cmp component old.at (product found.growth.items) (rates_found found) (in_units old))
-        → AreFairlyRated cmp caps found.scale (rerated cmp component old.at (product found.growth.items) (rates_found found) (in_units old)) → HaveFairRates cmp caps old new
+    have_rates : AllZip (IsRatedFrom old.at (product found.growth.items)) (in_units old)
+        (rerated cmp component old.at (product found.growth.items) (rates_found found) (in_units old))
+        → AreFairlyRated cmp caps found.scale
+        (rerated cmp component old.at (product found.growth.items) (rates_found found) (in_units old))
+        → HaveFairRates cmp caps old new
     have_rates each fairly = record {
       times = product found.growth.items;
       scale = scaled ∙ of_it.grown;
@@ -503,15 +659,23 @@ module _ {P : Type 0} (cmp : P → P → Ordering) (caps : Caps P) (component : 
 
     pub whole_given : component.whole ≡ true → HaveFairRates cmp caps old new
     whole_given whole = have_rates
-        (whole_rerated cmp component whole old.at (product found.growth.items) (rates_found found) (in_units old) one_each)
+        (whole_rerated cmp component whole old.at (product found.growth.items) (rates_found found) (in_units old)
+        one_each)
         (whole_fair cmp component whole caps old.scale old.at (product found.growth.items) (in_units old) found of_it)
 
-    pub component_given : IsTotalOrder cmp → AreOfPeers cmp caps → (done : List (Rc (code.Message P) Global)) → is_closed cmp component done (in_units old) ≡ true
-        → WereRated cmp caps old.scale (in_units old) (messages done) → All (λ u. u.updated ≡ old.at) (in_units old) → found.growth.items ≡ [] → HaveFairRates cmp caps old new
+    pub component_given : IsTotalOrder cmp → AreOfPeers cmp caps → (done : List (Rc (code.Message P) Global))
+        → is_closed cmp component done (in_units old) ≡ true
+        → WereRated cmp caps old.scale (in_units old) (messages done) → All (λ u. u.updated ≡ old.at) (in_units old)
+        → found.growth.items ≡ [] → HaveFairRates cmp caps old new
     component_given order of done closed were updated none = have_rates
-        (component_rerated cmp component done (in_units old) closed old.at (product found.growth.items) (rates_found found) (grows_once found none) updated one_each)
-        (subst (λ n. AreFairlyRated cmp caps n (rerated cmp component old.at (product found.growth.items) (rates_found found) (in_units old))) (sym (same_scale found old.scale of_it.grown none))
-        (component_fair cmp component done (in_units old) closed order caps of old.scale were old.at (product found.growth.items) found of_it none))
+        (component_rerated cmp component done (in_units old) closed old.at (product found.growth.items)
+        (rates_found found) (grows_once found none) updated one_each)
+        (subst
+        (λ n. AreFairlyRated cmp caps n
+        (rerated cmp component old.at (product found.growth.items) (rates_found found) (in_units old)))
+        (sym (same_scale found old.scale of_it.grown none))
+        (component_fair cmp component done (in_units old) closed order caps of old.scale were old.at
+        (product found.growth.items) found of_it none))
 
 pub none_there : {X : Type 0} (xs : List X) (n : ℕ) → n ≡ length xs → (n == 0) ≡ true → xs ≡ []
 none_there [] n is none = refl

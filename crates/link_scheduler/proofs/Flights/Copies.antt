@@ -18,7 +18,8 @@ module _ {P : Type 0} where
   abbrev pub AreShared : List (Rc (Flight P) Global) → List (Rc (Flight P) Global) → Type 0
   AreShared fs gs = AllZip (λ one other. other.value ≡ one.value) fs gs
 
-  pub flights_alike : (at : ℕ) (fs gs : List (Rc (Flight P) Global)) → AreShared fs gs → flights_at at gs ≡ flights_at at fs
+  pub flights_alike : (at : ℕ) (fs gs : List (Rc (Flight P) Global)) → AreShared fs gs
+      → flights_at at gs ≡ flights_at at fs
   flights_alike at [] [] z = refl
   flights_alike at [] (g ∷ gs) z = absurd z
   flights_alike at (f ∷ fs) [] z = absurd z
@@ -30,11 +31,13 @@ module _ {P : Type 0} where
   timed_alike [] (g ∷ gs) z timed i f is = absurd z
   timed_alike (f ∷ fs) [] z timed i h is = absurd z
   timed_alike (f ∷ fs) (g ∷ gs) z timed zero h is =
-      subst (λ (v : Flight P). v.rated ≡ true → IsTimed v) (sym z.0 ∙ ap (λ (x : Rc (Flight P) Global). x.value) (same_Some g h is)) (timed 0 f refl)
+      subst (λ (v : Flight P). v.rated ≡ true → IsTimed v)
+      (sym z.0 ∙ ap (λ (x : Rc (Flight P) Global). x.value) (same_Some g h is)) (timed 0 f refl)
   timed_alike (f ∷ fs) (g ∷ gs) z timed (suc i) h is = timed_alike fs gs z.1 (λ j k there. timed (suc j) k there) i h is
 
   pub past_alike : (at : ℕ) (fs gs : List (Rc (Flight P) Global)) → AreShared fs gs
-      → list_all (λ one. not one.value.rated || nat_le one.value.since at) gs ≡ list_all (λ one. not one.value.rated || nat_le one.value.since at) fs
+      → list_all (λ one. not one.value.rated || nat_le one.value.since at) gs
+      ≡ list_all (λ one. not one.value.rated || nat_le one.value.since at) fs
   past_alike at [] [] z = refl
   past_alike at [] (g ∷ gs) z = absurd z
   past_alike at (f ∷ fs) [] z = absurd z
@@ -42,11 +45,14 @@ module _ {P : Type 0} where
 
   module _ {a : _} {b : _} {c : _} (flights copy : Flights P a b c) (same : IsSameFlights flights copy) where
     pub units_alike : in_units copy ≡ in_units flights
-    units_alike = ap (λ at. flights_at at copy.list.items) same.at ∙ flights_alike flights.at flights.list.items copy.list.items same.list
+    units_alike =
+        ap (λ at. flights_at at copy.list.items) same.at
+        ∙ flights_alike flights.at flights.list.items copy.list.items same.list
 
     -- a copy is in flight as what it is of
     pub in_flight_alike : in_flight copy ≡ in_flight flights
-    in_flight_alike = ap (λ scale. sending_of scale (in_units copy)) same.scale ∙ ap (sending_of flights.scale) units_alike
+    in_flight_alike =
+        ap (λ scale. sending_of scale (in_units copy)) same.scale ∙ ap (sending_of flights.scale) units_alike
 
     -- and its rates are as good
     pub rated_copy : (cmp : P → P → Ordering) (caps : Caps P) → AreRated cmp caps flights → AreRated cmp caps copy

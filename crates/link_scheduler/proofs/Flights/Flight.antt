@@ -1,8 +1,9 @@
 -- A message in flight that drains later: what is counted on, what is brought to another moment, and when it finishes.
-use Rattle.std.proofs.Common.{◌≡◌, ◌≢◌, ℕ, zero, suc, ◌+◌, ◌-◌, ◌*◌, ◌<◌, ◌≤◌, nat_le, Bool, true, false, not, ◌||◌}
-use Rattle.std.proofs.Common.{if◌then◌else◌, List, [], ◌∷◌, ◌++◌, length, map, get_or, set, Option, Some, None, slice_get}
+use Rattle.std.proofs.Common.{◌≡◌, ℕ, zero, suc, ◌+◌, ◌-◌, ◌*◌, ◌<◌, ◌≤◌, nat_le, Bool, true, false, not, ◌||◌}
+use Rattle.std.proofs.Common.{if◌then◌else◌, List, [], ◌∷◌, length, map, get_or, set, Some}
+use Rattle.std.proofs.Common.{slice_get}
 use Rattle.std.proofs.Common.{refl, sym, ap, ◌∙◌, subst, arith, inl, inr, ◌⊎◌}
-use Rattle.std.specs.List.{AllZip, remove, list_all, list_any, filter}
+use Rattle.std.specs.List.{AllZip, remove, list_all}
 use Rattle.std.specs.declared.rc.Rc.{Rc}
 use Rattle.std.specs.declared.alloc.Global.{Global}
 use Rattle.std.proofs.lemmas.Bool.{le-leb, leb-true, and_from}
@@ -12,7 +13,8 @@ use Rattle.std.proofs.lemmas.Option.{none-some, same_Some}
 use Rattle.fair_rates.proofs.Lists.Booleans.{first_of_both, second_of_both}
 use Rattle.fair_rates.proofs.Lists.InPlace.{IsChangedUpTo, one_more}
 use Rattle.link_scheduler.specs.declared.transmitter.flight.Flight.{Flight}
-use Rattle.link_scheduler.specs.Flights.Flight.{UnitFlight, rate_of, left_by, flight_at, flights_at, has_come, IsTimed, AreTimed, DrainsTo, IsPutAt}
+use Rattle.link_scheduler.specs.Flights.Flight.{UnitFlight, rate_of, left_by, flight_at, flights_at, IsTimed}
+use Rattle.link_scheduler.specs.Flights.Flight.{AreTimed, DrainsTo, IsPutAt}
 
 -- ---- lists that change at a place
 
@@ -41,16 +43,19 @@ all_there test (y ∷ xs) (suc at) x all lt is = all_there test xs at x (second_
 pub one_same : {X : Type 0} (R : X → X → Type 0) (old now : List X) (at : ℕ) (x : X) → IsChangedUpTo R old now at
     → at < length now → x ≡ get_or now at x → R x x → IsChangedUpTo R old now (at + 1)
 one_same R old now at x h lt is r =
-    subst (λ l. IsChangedUpTo R old l (at + 1)) (ap (set now at) is ∙ set-get_or now at x) (one_more R old now at h x x lt is r)
+    subst (λ l. IsChangedUpTo R old l (at + 1)) (ap (set now at) is ∙ set-get_or now at x)
+    (one_more R old now at h x x lt is r)
 
 pub changed_length : {X : Type 0} (R : X → X → Type 0) (old now : List X) (at : ℕ) → IsChangedUpTo R old now at
     → length now ≡ length old
 changed_length R old now at h =
-    ap length h.now_is ∙ length-append h.to h.rest ∙ ap (λ n. n + length h.rest) (sym (zip-length R h.from h.to h.changed))
+    ap length h.now_is ∙ length-append h.to h.rest
+    ∙ ap (λ n. n + length h.rest) (sym (zip-length R h.from h.to h.changed))
     ∙ sym (length-append h.from h.rest) ∙ sym (ap length h.old_is)
 
 -- what is read of lists that match
-pub zip_read : {X Y : Type 0} (R : X → X → Type 0) (S : Y → Y → Type 0) (f g : X → Y) → ((x y : X) → R x y → S (f x) (g y))
+pub zip_read : {X Y : Type 0} (R : X → X → Type 0) (S : Y → Y → Type 0) (f g : X → Y)
+    → ((x y : X) → R x y → S (f x) (g y))
     → (xs ys : List X) → AllZip R xs ys → AllZip S (map f xs) (map g ys)
 zip_read R S f g reads [] [] z = tt
 zip_read R S f g reads [] (y ∷ ys) z = absurd z
@@ -66,7 +71,8 @@ zip_passes R test passes (x ∷ xs) [] z = absurd z
 zip_passes R test passes (x ∷ xs) (y ∷ ys) z = and_from (test y) _ (passes x y z.0) (zip_passes R test passes xs ys z.1)
 
 -- what stands at a place of the second stands to what stands there in the first
-pub zip_there : {X : Type 0} (R : X → X → Type 0) (xs ys : List X) (i : ℕ) (y : X) → AllZip R xs ys → slice_get ys i ≡ Some y
+pub zip_there : {X : Type 0} (R : X → X → Type 0) (xs ys : List X) (i : ℕ) (y : X) → AllZip R xs ys
+    → slice_get ys i ≡ Some y
     → (x : X) × (slice_get xs i ≡ Some x) × R x y
 zip_there R [] [] i y z is = absurd (none-some y is)
 zip_there R [] (v ∷ ys) i y z is = absurd z
@@ -81,7 +87,8 @@ pub drained_on : (left rate since at now : ℕ) → since ≤ at → at ≤ now
     → left - rate * (now - since) ≡ left - rate * (at - since) - rate * (now - at)
 drained_on left rate since at now past later =
     let whole : now - since ≡ (at - since) + (now - at) = omega arith in
-    let parts : rate * (now - since) ≡ rate * (at - since) + rate * (now - at) = ap (λ n. rate * n) whole ∙ omega arith in
+    let parts : rate * (now - since) ≡ rate * (at - since) + rate * (now - at) =
+    ap (λ n. rate * n) whole ∙ omega arith in
     omega arith
 
 module _ {P : Type 0} where
@@ -185,7 +192,9 @@ module _ {P : Type 0} where
       → rate_of g.value.rate ≡ rate_of f.value.rate → g.value.since ≡ now → g.value.rated ≡ f.value.rated
       → IsBrought at now f g
   is_brought at now f g back message left rate since rated = record {
-    drains = brought at now f.value g.value (elim back [ inl lt ↦ inl (omega arith) | inr none ↦ inr none ]) message left rate
+    drains =
+        brought at now f.value g.value (elim back [ inl lt ↦ inl (omega arith) | inr none ↦ inr none ]) message left
+        rate
         since rated;
     past_now = so_past now g (omega (arith, since));
     past_at = elim back [
@@ -201,16 +210,20 @@ module _ {P : Type 0} where
   -- ---- one after another
 
   module _ (at now : ℕ) (old so_far : List (Rc (Flight P) Global)) (i : ℕ)
-      (h : IsChangedUpTo (IsBrought at now) old so_far i) (x : Rc (Flight P) Global) (lt : i < length so_far) (is : x ≡ get_or so_far i x) where
-    pub next_brought : (f : Flight P) (new : List (Rc (Flight P) Global)) → IsPutAt i f so_far new → now < at ⊎ x.value.rated ≡ false
+      (h : IsChangedUpTo (IsBrought at now) old so_far i) (x : Rc (Flight P) Global) (lt : i < length so_far)
+      (is : x ≡ get_or so_far i x) where
+    pub next_brought : (f : Flight P) (new : List (Rc (Flight P) Global)) → IsPutAt i f so_far new
+        → now < at ⊎ x.value.rated ≡ false
         → f.message.value ≡ x.value.message.value → f.left ≡ (flight_at at x.value).left
         → rate_of f.rate ≡ rate_of x.value.rate → f.since ≡ now → f.rated ≡ x.value.rated
         → IsChangedUpTo (IsBrought at now) old new (i + 1)
     next_brought f new put back message left rate since rated =
         subst (λ l. IsChangedUpTo (IsBrought at now) old l (i + 1)) (sym put.others)
         (one_more (IsBrought at now) old so_far i h x put.one lt is
-        (is_brought at now x put.one back (ap (λ (y : Flight P). y.message.value) put.is ∙ message) (ap (λ (y : Flight P). y.left) put.is ∙ left)
-        (ap (λ (y : Flight P). rate_of y.rate) put.is ∙ rate) (ap (λ (y : Flight P). y.since) put.is ∙ since) (ap (λ (y : Flight P). y.rated) put.is ∙ rated)))
+        (is_brought at now x put.one back (ap (λ (y : Flight P). y.message.value) put.is ∙ message)
+        (ap (λ (y : Flight P). y.left) put.is ∙ left)
+        (ap (λ (y : Flight P). rate_of y.rate) put.is ∙ rate) (ap (λ (y : Flight P). y.since) put.is ∙ since)
+        (ap (λ (y : Flight P). y.rated) put.is ∙ rated)))
 
     pub next_counted_on : x.value.rated ≡ true → list_all (is_past at) so_far ≡ true → at ≤ now
         → IsChangedUpTo (IsBrought at now) old so_far (i + 1)
@@ -223,7 +236,8 @@ module _ {P : Type 0} where
   pub all_drained : (at now : ℕ) (fs gs : List (Rc (Flight P) Global)) → AllZip (IsBrought at now) fs gs
       → AllZip (DrainsTo now) (flights_at at fs) (flights_at now gs)
   all_drained at now fs gs z =
-      zip_read (IsBrought at now) (DrainsTo now) (λ f. flight_at at f.value) (λ g. flight_at now g.value) (λ f g b. b.drains) fs gs z
+      zip_read (IsBrought at now) (DrainsTo now) (λ f. flight_at at f.value) (λ g. flight_at now g.value)
+      (λ f g b. b.drains) fs gs z
 
   pub all_past : (at now : ℕ) (fs gs : List (Rc (Flight P) Global)) → AllZip (IsBrought at now) fs gs
       → list_all (is_past now) gs ≡ true

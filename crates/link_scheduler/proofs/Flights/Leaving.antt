@@ -1,7 +1,7 @@
 -- Messages in flight leave one after another.
-use Rattle.std.proofs.Common.{◌≡◌, ℕ, zero, suc, ◌<◌, Bool, true, false, cond, not, List, [], ◌∷◌, length, map, get_or}
-use Rattle.std.proofs.Common.{Some, slice_get, refl, sym, ap, ◌∙◌, subst, arith}
-use Rattle.std.specs.List.{filter, list_all, remove}
+use Rattle.std.proofs.Common.{◌≡◌, ℕ, zero, suc, Bool, true, false, cond, not, List, [], ◌∷◌, map}
+use Rattle.std.proofs.Common.{Some, slice_get, refl, sym, ap, ◌∙◌}
+use Rattle.std.specs.List.{filter, remove}
 use Rattle.std.specs.declared.rc.Rc.{Rc}
 use Rattle.std.specs.declared.alloc.Global.{Global}
 use Rattle.std.specs.declared.cmp.Ordering.{Ordering}
@@ -29,7 +29,8 @@ module _ {P : Type 0} where
   there [] (suc at) i f is = absurd (none-some f is)
   there (g ∷ fs) zero i f is = (suc i, is)
   there (g ∷ fs) (suc at) zero f is = (zero, is)
-  there (g ∷ fs) (suc at) (suc i) f is = let r : (j : ℕ) × (slice_get fs j ≡ Some f) = there fs at i f is in (suc r.0, r.1)
+  there (g ∷ fs) (suc at) (suc i) f is =
+      let r : (j : ℕ) × (slice_get fs j ≡ Some f) = there fs at i f is in (suc r.0, r.1)
 
   -- those that are left are timed, if all were
   pub timed_without : (fs : List (Rc (Flight P) Global)) (at : ℕ) → AreTimed fs → AreTimed (remove fs at)
@@ -52,7 +53,8 @@ module _ {P : Type 0} where
         rest false all = all
     limited_without (u ∷ us) (suc at) all = by_test (limited_without us at) u.rated all
       where
-        by_test : (are_limited cmp caps (rated_ones us) ≡ true → are_limited cmp caps (rated_ones (remove us at)) ≡ true)
+        by_test : (are_limited cmp caps (rated_ones us) ≡ true
+            → are_limited cmp caps (rated_ones (remove us at)) ≡ true)
             → (b : Bool) → are_limited cmp caps (cond b (u ∷ rated_ones us) (rated_ones us)) ≡ true
             → are_limited cmp caps (cond b (u ∷ rated_ones (remove us at)) (rated_ones (remove us at))) ≡ true
         by_test ih true all =
@@ -64,12 +66,14 @@ module _ {P : Type 0} where
         → are_limited cmp caps (rated_ones (flights_at at fs)) ≡ true
         → are_limited cmp caps (rated_ones (flights_at at (remove fs i))) ≡ true
     flights_limited_without at fs i all =
-        ap (λ us. are_limited cmp caps (rated_ones us)) (read_without (λ (f : Rc (Flight P) Global). flight_at at f.value) fs i)
+        ap (λ us. are_limited cmp caps (rated_ones us))
+        (read_without (λ (f : Rc (Flight P) Global). flight_at at f.value) fs i)
         ∙ limited_without (flights_at at fs) i all
 
     -- those that are done have left, and the others have stayed
     pub parted_so : (scale at : ℕ) (old now : List (Rc (Flight P) Global)) (done : List (Message P))
-        → done ≡ map (λ f. message_of f.value.message.value) (filter (λ f. is_out cmp caps scale (flight_at at f.value)) old)
+        → done
+        ≡ map (λ f. message_of f.value.message.value) (filter (λ f. is_out cmp caps scale (flight_at at f.value)) old)
         → now ≡ filter (λ f. not (is_out cmp caps scale (flight_at at f.value))) old
         → ArePartedBy (is_out cmp caps scale) (flights_at at old) done (flights_at at now)
     parted_so scale at old now done left stay =
@@ -79,6 +83,7 @@ module _ {P : Type 0} where
           stay = ap (flights_at at) stay ∙ sym (read_filter read (λ u. not (is_out cmp caps scale u)) old);
         }
       where
-        sent_of : (fs : List (Rc (Flight P) Global)) → map (λ f. message_of f.value.message.value) fs ≡ sent_messages (flights_at at fs)
+        sent_of : (fs : List (Rc (Flight P) Global))
+            → map (λ f. message_of f.value.message.value) fs ≡ sent_messages (flights_at at fs)
         sent_of [] = refl
         sent_of (f ∷ fs) = ap (λ (l : List (Message P)). message_of f.value.message.value ∷ l) (sent_of fs)

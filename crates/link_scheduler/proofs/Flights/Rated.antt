@@ -1,19 +1,19 @@
 -- Messages in flight that have got fair rates: what keeps them so, and how they are read.
-use Rattle.std.proofs.Common.{◌≡◌, ◌≢◌, ℕ, ◌-◌, ◌*◌, ◌<◌, Bool, true, false, cond, not, List, [], ◌∷◌, All, length, map}
-use Rattle.std.proofs.Common.{get_or, slice_index, refl, sym, ap, ◌∙◌, subst, arith}
-use Rattle.std.specs.List.{AllZip, filter, list_all}
+use Rattle.std.proofs.Common.{◌≡◌, ℕ, ◌-◌, ◌<◌, Bool, true, false, cond, not, List, [], ◌∷◌}
+use Rattle.std.proofs.Common.{slice_index, refl, sym, ap, ◌∙◌, subst}
+use Rattle.std.specs.List.{AllZip, filter}
 use Rattle.std.specs.declared.cmp.Ordering.{Ordering}
 use Rattle.std.proofs.Math.Logic.{∥∥₁_elim, ∥∥₁_map}
 use Rattle.std.proofs.Props.{props}
 use Rattle.fair_rates.specs.Sides.Caps.{Caps}
 use Rattle.fair_rates.proofs.Fairness.Decided.{fair_if_so}
-use Rattle.link_simulation.specs.Simulation.Messages.{Message}
-use Rattle.link_simulation.specs.Simulation.Rates.{capped_sides, is_unlimited}
-use Rattle.link_simulation.specs.Rule.Planned.{RatedFlight, rated_messages, left_at, drained_to, is_spent}
+use Rattle.link_simulation.specs.Simulation.Rates.{capped_sides}
+use Rattle.link_simulation.specs.Rule.Planned.{rated_messages, left_at, drained_to, is_spent}
 use Rattle.link_scheduler.specs.declared.transmitter.flights.Flights.{Flights}
 use Rattle.link_scheduler.specs.Flights.Flight.{UnitFlight, DrainsTo}
-use Rattle.link_scheduler.specs.Flights.InFlight.{in_units, in_flight}
-use Rattle.link_scheduler.specs.Flights.Rated.{sent_messages, rates_of, rated_ones, is_out, are_limited, AreFairlyRated, AreRated, IsAsRated}
+use Rattle.link_scheduler.specs.Flights.InFlight.{in_units}
+use Rattle.link_scheduler.specs.Flights.Rated.{sent_messages, rates_of, rated_ones, is_out, are_limited, AreFairlyRated}
+use Rattle.link_scheduler.specs.Flights.Rated.{AreRated, IsAsRated}
 use Rattle.link_scheduler.specs.Flights.RatedFlights.{rated_flight_of, sending_of}
 use Rattle.link_scheduler.specs.Pairs.Messages.{message_of}
 use Rattle.link_scheduler.proofs.Flights.Components.{read_filter}
@@ -29,7 +29,8 @@ module _ {P : Type 0} where
     rated = ap (λ x. x.rated) d;
   }
 
-  rated_alike : (us vs : List (UnitFlight P)) → AllZip IsAsRated us vs → AllZip IsAsRated (rated_ones us) (rated_ones vs)
+  rated_alike : (us vs : List (UnitFlight P)) → AllZip IsAsRated us vs
+      → AllZip IsAsRated (rated_ones us) (rated_ones vs)
   rated_alike [] [] z = tt
   rated_alike [] (v ∷ vs) z = absurd z
   rated_alike (u ∷ us) [] z = absurd z
@@ -61,7 +62,8 @@ module _ {P : Type 0} where
   sent_as_read scale (u ∷ us) = ap (λ l. message_of u.message ∷ l) (sent_as_read scale us)
 
   drained_one : (scale now : ℕ) (u v : UnitFlight P) → 0 < scale → DrainsTo now u v
-      → rated_flight_of scale v ≡ record (rated_flight_of scale u) { left = left_at now (rated_flight_of scale u); updated = now }
+      → rated_flight_of scale v
+      ≡ record (rated_flight_of scale u) { left = left_at now (rated_flight_of scale u); updated = now }
   drained_one scale now u v some d =
       ap (rated_flight_of scale) d
       ∙ ap (λ (a : _). record (rated_flight_of scale u) { left = a; updated = now })
@@ -80,7 +82,8 @@ module _ {P : Type 0} where
 module _ {P : Type 0} (cmp : P → P → Ordering) (caps : Caps P) where
   -- those that are done, as they are read
   pub out_as_read : (scale : ℕ) (us : List (UnitFlight P))
-      → rated_messages (filter (is_spent cmp caps) (sending_of scale us)) ≡ sent_messages (filter (is_out cmp caps scale) us)
+      → rated_messages (filter (is_spent cmp caps) (sending_of scale us))
+      ≡ sent_messages (filter (is_out cmp caps scale) us)
   out_as_read scale us =
       ap rated_messages (read_filter (rated_flight_of scale) (is_spent cmp caps) us)
       ∙ sent_as_read scale (filter (is_out cmp caps scale) us)
@@ -96,11 +99,13 @@ module _ {P : Type 0} (cmp : P → P → Ordering) (caps : Caps P) where
       let same = rated_alike us vs z in
       rw (messages_alike (rated_ones us) (rated_ones vs) same, rates_alike (rated_ones us) (rated_ones vs) same) f
 
-  pub still_limited : (us vs : List (UnitFlight P)) → AllZip IsAsRated us vs → are_limited cmp caps (rated_ones us) ≡ true
+  pub still_limited : (us vs : List (UnitFlight P)) → AllZip IsAsRated us vs
+      → are_limited cmp caps (rated_ones us) ≡ true
       → are_limited cmp caps (rated_ones vs) ≡ true
   still_limited us vs z all = by_messages (rated_ones us) (rated_ones vs) (rated_alike us vs z) ∙ all
     where
-      by_messages : (us vs : List (UnitFlight P)) → AllZip IsAsRated us vs → are_limited cmp caps vs ≡ are_limited cmp caps us
+      by_messages : (us vs : List (UnitFlight P)) → AllZip IsAsRated us vs
+          → are_limited cmp caps vs ≡ are_limited cmp caps us
       by_messages [] [] z = refl
       by_messages [] (v ∷ vs) z = absurd z
       by_messages (u ∷ us) [] z = absurd z

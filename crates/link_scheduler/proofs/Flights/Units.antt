@@ -1,10 +1,13 @@
--- Amounts and rates as whole numbers of units. What is left is so many of which `scale` times a billion make a byte, and a rate is so many of which `scale` make a byte a second: so many units of what is left each nanosecond.
-use Rattle.std.proofs.Common.{◌≡◌, ℕ, zero, suc, ◌+◌, ◌-◌, ◌*◌, ◌<◌, ◌≤◌, List, [], ◌∷◌, length, get_or, take, refl, sym, ap, ◌∙◌, arith, add-one}
+-- Amounts and rates as whole numbers of units. What is left is so many of which `scale` times a billion make a byte,
+-- and a rate is so many of which `scale` make a byte a second: so many units of what is left each nanosecond.
+use Rattle.std.proofs.Common.{◌≡◌, ℕ, zero, suc, ◌+◌, ◌-◌, ◌*◌, ◌<◌, ◌≤◌, List, [], ◌∷◌, length, get_or, take, refl}
+use Rattle.std.proofs.Common.{sym, ap, ◌∙◌, arith, add-one}
 use Rattle.std.proofs.Math.Nat.{mul-sub, mul-pos, mul-zero, mul_assoc}
 use Rattle.std.proofs.Math.Seq.{take-nil}
 use Rattle.fair_rates.specs.Fairness.Exists.{product}
 use Rattle.fair_rates.specs.Numbers.Amount.{reduced, drained, billion, whole}
-use Rattle.fair_rates.specs.Numbers.LowestTerms.{IsScaled, reduced_alike, reduced_scaled, reduced_scales, reduced_positive, reduced_same, reduced_lowest, whole_IsReduced}
+use Rattle.fair_rates.specs.Numbers.LowestTerms.{IsScaled, reduced_alike, reduced_scaled, reduced_scales}
+use Rattle.fair_rates.specs.Numbers.LowestTerms.{reduced_positive, reduced_same, reduced_lowest, whole_IsReduced}
 use Rattle.fair_rates.proofs.Numbers.Draining.{same_difference, drained_reduced, product_none}
 
 pub units_positive : (scale : ℕ) → 0 < scale → 0 < scale * billion
@@ -19,10 +22,14 @@ other_factor scale (suc times) grown is more = omega arith
 
 -- all units of a whole number
 pub units_of_whole : (n unit : ℕ) → 0 < unit → reduced (n * unit) unit ≡ whole n
-units_of_whole n unit h = reduced_same (n * unit) unit n 1 h (omega arith) (omega arith) ∙ reduced_lowest n 1 (whole_IsReduced n)
+units_of_whole n unit h =
+    reduced_same (n * unit) unit n 1 h (omega arith) (omega arith) ∙ reduced_lowest n 1 (whole_IsReduced n)
 
-pub units_of_bytes : (scale n left : ℕ) → 0 < scale → left ≡ scale * (n * billion) → reduced left (scale * billion) ≡ whole n
-units_of_bytes scale n left h is = reduced_alike _ _ _ _ (is ∙ regroup scale n billion) refl ∙ units_of_whole n (scale * billion) (units_positive scale h)
+pub units_of_bytes : (scale n left : ℕ) → 0 < scale → left ≡ scale * (n * billion)
+    → reduced left (scale * billion) ≡ whole n
+units_of_bytes scale n left h is =
+    reduced_alike _ _ _ _ (is ∙ regroup scale n billion) refl
+    ∙ units_of_whole n (scale * billion) (units_positive scale h)
   where
     regroup : (scale n b : ℕ) → scale * (n * b) ≡ n * (scale * b)
     regroup scale n b = omega arith
@@ -33,17 +40,23 @@ no_units unit h = reduced_same 0 unit 0 1 h (omega arith) (omega arith) ∙ redu
 
 -- where nothing is left, there are no units
 pub no_units_left : (n unit : ℕ) → 0 < unit → (reduced n unit).num ≡ 0 → n ≡ 0
-no_units_left n unit h none = let s : IsScaled n unit (reduced n unit) = reduced_scales n unit h in s.num ∙ ap (λ x. s.factor * x) none ∙ mul-zero s.factor
+no_units_left n unit h none =
+    let s : IsScaled n unit (reduced n unit) = reduced_scales n unit h in
+    s.num ∙ ap (λ x. s.factor * x) none ∙ mul-zero s.factor
 
 -- and only there
 pub nothing_left : (n unit : ℕ) → 0 < unit → n ≡ 0 → (reduced n unit).num ≡ 0
-nothing_left n unit h none = let s : IsScaled n unit (reduced n unit) = reduced_scales n unit h in product_none s.factor (reduced n unit).num s.positive (sym s.num ∙ none)
+nothing_left n unit h none =
+    let s : IsScaled n unit (reduced n unit) = reduced_scales n unit h in
+    product_none s.factor (reduced n unit).num s.positive (sym s.num ∙ none)
 
 -- what is left is worth the same in smaller units
-pub grown_left : (scale times grown left : ℕ) → 0 < scale → 0 < grown → grown ≡ scale * times → reduced (left * times) (grown * billion) ≡ reduced left (scale * billion)
+pub grown_left : (scale times grown left : ℕ) → 0 < scale → 0 < grown → grown ≡ scale * times
+    → reduced (left * times) (grown * billion) ≡ reduced left (scale * billion)
 grown_left scale times grown left some more is =
     let times_some : 0 < times = other_factor scale times grown is more in
-    reduced_alike _ _ _ _ (omega arith) (regroup scale times grown billion is) ∙ reduced_scaled times left (scale * billion) times_some (units_positive scale some)
+    reduced_alike _ _ _ _ (omega arith) (regroup scale times grown billion is)
+    ∙ reduced_scaled times left (scale * billion) times_some (units_positive scale some)
   where
     regroup : (scale times grown b : ℕ) → grown ≡ scale * times → grown * b ≡ times * (scale * b)
     regroup scale times grown b is = omega (arith, ap (λ x. x * b) is)
@@ -55,28 +68,36 @@ units_drain : (left scale rate factor num den n : ℕ) → rate ≡ factor * num
     → left * (den * billion) - n * (num * (scale * billion)) ≡ den * billion * (left - rate * n)
 units_drain left scale rate factor num den n num_is den_is =
     let unit : ℕ = den * billion in
-    let taken : n * (num * (scale * billion)) ≡ unit * (rate * n) = omega (arith, ap (λ x. x * (n * (num * billion))) den_is, ap (λ x. x * (n * unit)) num_is) in
-    same_difference (left * unit) (unit * left) (n * (num * (scale * billion))) (unit * (rate * n)) (omega arith) taken ∙ sym (mul-sub unit left (rate * n))
+    let taken : n * (num * (scale * billion)) ≡ unit * (rate * n) =
+    omega (arith, ap (λ x. x * (n * (num * billion))) den_is, ap (λ x. x * (n * unit)) num_is) in
+    same_difference (left * unit) (unit * left) (n * (num * (scale * billion))) (unit * (rate * n)) (omega arith) taken
+    ∙ sym (mul-sub unit left (rate * n))
 
 -- so many nanoseconds take so many times the rate
-pub drained_units : (left rate scale n : ℕ) → 0 < scale → drained (reduced left (scale * billion)) (reduced rate scale) n ≡ reduced (left - rate * n) (scale * billion)
+pub drained_units : (left rate scale n : ℕ) → 0 < scale
+    → drained (reduced left (scale * billion)) (reduced rate scale) n ≡ reduced (left - rate * n) (scale * billion)
 drained_units left rate scale n h =
     let r : IsScaled rate scale (reduced rate scale) = reduced_scales rate scale h in
     let unit : ℕ = (reduced rate scale).den * billion in
     let some_unit : 0 < unit = mul-pos (reduced_positive rate scale h) (omega arith) in
-    drained_reduced left (scale * billion) (reduced rate scale) n (units_positive scale h) (reduced_positive rate scale h)
-    ∙ reduced_alike _ _ _ _ (units_drain left scale rate r.factor (reduced rate scale).num (reduced rate scale).den n r.num r.den) (omega arith)
+    drained_reduced left (scale * billion) (reduced rate scale) n (units_positive scale h)
+    (reduced_positive rate scale h)
+    ∙ reduced_alike _ _ _ _
+    (units_drain left scale rate r.factor (reduced rate scale).num (reduced rate scale).den n r.num r.den)
+    (omega arith)
     ∙ reduced_scaled unit (left - rate * n) (scale * billion) some_unit (units_positive scale h)
 
 -- ---- factors, one after another
 
-pub product-take : (ns : List ℕ) (i : ℕ) → i < length ns → product (take (i + 1) ns) ≡ product (take i ns) * get_or ns i 0
+pub product-take : (ns : List ℕ) (i : ℕ) → i < length ns
+    → product (take (i + 1) ns) ≡ product (take i ns) * get_or ns i 0
 product-take ns i lt = rw add-one (one_more ns i lt)
   where
     one_more : (ns : List ℕ) (i : ℕ) → i < length ns → product (take (suc i) ns) ≡ product (take i ns) * get_or ns i 0
     one_more [] i lt = absurd (omega arith)
     one_more (n ∷ ns) zero lt = omega arith
-    one_more (n ∷ ns) (suc i) lt = ap (λ k. n * k) (one_more ns i (omega arith)) ∙ sym (mul_assoc n (product (take i ns)) (get_or ns i 0))
+    one_more (n ∷ ns) (suc i) lt =
+        ap (λ k. n * k) (one_more ns i (omega arith)) ∙ sym (mul_assoc n (product (take i ns)) (get_or ns i 0))
 
 pub product-take_all : (ns : List ℕ) (i : ℕ) → length ns ≤ i → product (take i ns) ≡ product ns
 product-take_all [] i le = rw (take-nil i) refl

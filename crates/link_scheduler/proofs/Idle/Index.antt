@@ -21,7 +21,8 @@ use Rattle.link_scheduler.specs.Idle.Departed.{is_moment}
 use Rattle.fair_rates.specs.Lists.Sorted.{are_ascending, IsPlace, IsGap}
 use Rattle.fair_rates.proofs.Lists.Sorted.{is_eq_equal, value_respects, value_insert_at, ascending_insert_at}
 use Rattle.shared_list.specs.Places.{are_parted, IsParting}
-use Rattle.link_scheduler.proofs.Idle.Places.{has_key, found_is, parted, place_of, gap_of, place_within, ascending_remove_at, value_removed, none_below}
+use Rattle.link_scheduler.proofs.Idle.Places.{has_key, found_is, parted, place_of, gap_of, place_within}
+use Rattle.link_scheduler.proofs.Idle.Places.{ascending_remove_at, value_removed, none_below}
 use Rattle.link_scheduler.proofs.Pairs.PairOrder.{pair_total, is_eq-then}
 
 -- moments and pairs are ordered totally
@@ -130,8 +131,12 @@ module _ {P : Type 0} (cmp : P → P → Ordering) where
           ascending_remove_at (idle_cmp cmp) (idle_total cmp total) idle_key es (t, (o, r)) at (place_listed listed)
           ascending
 
-      pub take_listed : is_listed cmp es t o r ≡ true → (s : ℕ) (a b : P) → is_listed cmp (remove es at) s a b ≡ (if is_eq (idle_cmp cmp (t, (o, r)) (s, (a, b))) then false else is_listed cmp es s a b)
-      take_listed listed s a b = value_removed (idle_cmp cmp) (idle_total cmp total) idle_key es (t, (o, r)) at (place_listed listed) (λ e. true) false (s, (a, b))
+      pub take_listed : is_listed cmp es t o r ≡ true → (s : ℕ) (a b : P)
+          → is_listed cmp (remove es at) s a b
+          ≡ (if is_eq (idle_cmp cmp (t, (o, r)) (s, (a, b))) then false else is_listed cmp es s a b)
+      take_listed listed s a b =
+          value_removed (idle_cmp cmp) (idle_total cmp total) idle_key es (t, (o, r)) at (place_listed listed)
+          (λ e. true) false (s, (a, b))
 
       pub put_ascending : is_listed cmp es t o r ≡ false → (c d : P) → cmp c o ≡ Equal → cmp d r ≡ Equal
           → are_ascending (idle_cmp cmp)

@@ -215,11 +215,18 @@ module _ {K : Type 0} (cmp : K → K → Ordering) (total : IsTotalOrder cmp) wh
           }
 
       -- a key has no entry any more
-      pub value_removed : {V : Type 0} (says : E → V) (none : V) (q : K) → value_at cmp key says none (remove es at) q ≡ (if is_eq (cmp k q) then none else value_at cmp key says none es q)
+      pub value_removed : {V : Type 0} (says : E → V) (none : V) (q : K)
+          → value_at cmp key says none (remove es at) q
+          ≡ (if is_eq (cmp k q) then none else value_at cmp key says none es q)
       value_removed {V} says none q =
           let others : List E → V = λ l. value_at cmp key says none l q in
-          let back : insert (remove es at) at p.entry ≡ es = insert_gap cmp total key (remove es at) k at gap_left p.entry ∙ sym p.split in
-          let is : others es ≡ (if is_eq (cmp k q) then says p.entry else others (remove es at)) = ap others (sym back) ∙ value_insert_at cmp total key says none (remove es at) k at gap_left p.entry p.same q in
+          let back : insert (remove es at) at p.entry ≡ es =
+          insert_gap cmp total key (remove es at) k at gap_left p.entry ∙ sym p.split in
+          let is : others es ≡ (if is_eq (cmp k q) then says p.entry else others (remove es at)) =
+          ap others (sym back)
+          ∙ value_insert_at cmp total key says none (remove es at) k at gap_left p.entry p.same q in
           by_bool (is_eq (cmp k q))
-          (λ h. rw h (sym (value_respects cmp total key says none (remove es at) k q (is_eq_equal _ h)) ∙ at_gap cmp total key says none (remove es at) k at gap_left))
+          (λ h. rw h
+          (sym (value_respects cmp total key says none (remove es at) k q (is_eq_equal _ h))
+          ∙ at_gap cmp total key says none (remove es at) k at gap_left))
           (λ h. rw h (sym (is ∙ ap (λ c. if c then says p.entry else others (remove es at)) h)))

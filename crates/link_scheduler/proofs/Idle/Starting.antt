@@ -1,5 +1,6 @@
 -- Whether the first waiting message of a pair starts, and what then is.
-use Rattle.std.proofs.Common.{◌≡◌, ℕ, ◌+◌, ◌-◌, ◌<◌, ◌≤◌, List, [], ◌∷◌, ◌++◌, length, Bool, true, false, not, cond, ◌&&◌, Option, Some, None, Result, Ok, Err, IfOk, refl, sym, ap, ◌∙◌, subst, arith}
+use Rattle.std.proofs.Common.{◌≡◌, ℕ, ◌+◌, ◌-◌, ◌<◌, ◌≤◌, List, [], ◌∷◌, ◌++◌, length, Bool, true, false, not, cond}
+use Rattle.std.proofs.Common.{◌&&◌, Option, Some, None, Result, Ok, Err, IfOk, refl, sym, ap, ◌∙◌, subst, arith}
 use Rattle.std.specs.Prelude.{nat_le, is_none}
 use Rattle.std.specs.List.{find, list_any}
 use Rattle.std.specs.declared.cmp.Ordering.{Ordering}
@@ -195,5 +196,9 @@ module _ {P : Type 0} (cmp : P → P → Ordering) (order : IsTotalOrder cmp) (t
         (starts may_m id (subst (λ (q : Planned P). Accounts cmp t q (f x) new) is accounts))
     started_so f (Err e) mid new id is accounts = tt
 
-    pub no_id_left : last_moment ≤ p.next_id → Launches cmp t (with_queued cmp p m) (first_of cmp (queued cmp m p.waiting) m.origin m.recipient) (meets FlowIdsUsedUp)
-    no_id_left used = no_more_ids cmp order t (with_queued cmp p m) (first_of cmp (queued cmp m p.waiting) m.origin m.recipient) (ap (may_launch_first cmp t (with_queued cmp p m)) joined ∙ may_m) used
+    pub no_id_left : last_moment ≤ p.next_id
+        → Launches cmp t (with_queued cmp p m) (first_of cmp (queued cmp m p.waiting) m.origin m.recipient)
+        (meets FlowIdsUsedUp)
+    no_id_left used =
+        no_more_ids cmp order t (with_queued cmp p m) (first_of cmp (queued cmp m p.waiting) m.origin m.recipient)
+        (ap (may_launch_first cmp t (with_queued cmp p m)) joined ∙ may_m) used

@@ -1,5 +1,5 @@
 -- How the messages in flight are read.
-use Rattle.std.specs.Prelude.{◌≡◌, ℕ, Bool, true, false, not, ◌&&◌, if◌then◌else◌, List, [], ◌∷◌, map, Option}
+use Rattle.std.specs.Prelude.{ℕ, Bool, true, false, not, ◌&&◌, if◌then◌else◌, List, [], ◌∷◌, map}
 use Rattle.std.specs.Prelude.{Some, ◌*◌}
 use Rattle.std.specs.declared.cmp.Ordering.{Ordering}
 use Rattle.fair_rates.specs.declared.bandwidth.Flow.{Flow}

@@ -1,4 +1,4 @@
-use Rattle.std.proofs.Common.{◌≡◌, Option, None, subst}
+use Rattle.std.proofs.Common.{Option, subst}
 use Rattle.std.specs.Prelude.{MatchOption}
 use Rattle.fair_rates.specs.Numbers.Amount.{Amount}
 use Rattle.link_scheduler.specs.Flights.Readings.{IsReadingOf}

@@ -13,41 +13,96 @@ use Rattle.link_scheduler.proofs.transmitter.State.handle_events.Goals as goal
 pub returns-in_err-ended-clause-refused : goal.returns-in_err-ended-clause-refused
 returns-in_err-ended-clause-refused g c =
     let p = err_from_is_err_and c.from_residual-in_err-ended.result c.from_residual-in_err-ended.ensures.1 in
-    rw (p.1, p.2) (cause_of g.P.Ord.cmp g.met.P.Ord.total (planned g.P.Ord.cmp c.args.self.now.ledger) (call_advance c.args.now) c.args.now _ refl c.ranges.now.fits
-    (advance_refused g.P.Ord.cmp g.met.P.Ord.total c.args.now (planned g.P.Ord.cmp c.args.self.now.ledger) (planned g.P.Ord.cmp c.in_ok-ledger.ledger) (same_copy g.P.Ord.cmp g.met.P.Ord.total (planned g.P.Ord.cmp c.args.self.now.ledger) (planned g.P.Ord.cmp c.in_ok-ledger.ledger) c.in_ok-ledger.ensures.cases c.args.self.now.caps c.args.self.now.arrivals) _ c.in_err-ended.ensures.refused))
+    rw (p.1, p.2)
+    (cause_of g.P.Ord.cmp g.met.P.Ord.total (planned g.P.Ord.cmp c.args.self.now.ledger) (call_advance c.args.now)
+    c.args.now _ refl c.ranges.now.fits
+    (advance_refused g.P.Ord.cmp g.met.P.Ord.total c.args.now (planned g.P.Ord.cmp c.args.self.now.ledger)
+    (planned g.P.Ord.cmp c.in_ok-ledger.ledger)
+    (same_copy g.P.Ord.cmp g.met.P.Ord.total (planned g.P.Ord.cmp c.args.self.now.ledger)
+    (planned g.P.Ord.cmp c.in_ok-ledger.ledger) c.in_ok-ledger.ensures.cases c.args.self.now.caps
+    c.args.self.now.arrivals)
+    _ c.in_err-ended.ensures.refused))
 
 pub invariant_of-self-clause-caps : goal.invariant_of-self-clause-caps
-invariant_of-self-clause-caps g c = looked_up g.P.Ord.cmp g.met.P.Ord.total c.advance.new.self.peers.entries c.advance.new.self.pairs.entries
+invariant_of-self-clause-caps g c =
+    looked_up g.P.Ord.cmp g.met.P.Ord.total c.advance.new.self.peers.entries c.advance.new.self.pairs.entries
 
 pub invariant_of-self-clause-arrivals : goal.invariant_of-self-clause-arrivals
-invariant_of-self-clause-arrivals g c = arrivals_looked_up g.P.Ord.cmp g.met.P.Ord.total c.advance.new.self.pairs.entries
+invariant_of-self-clause-arrivals g c =
+    arrivals_looked_up g.P.Ord.cmp g.met.P.Ord.total c.advance.new.self.pairs.entries
 
 pub invariant_of-self-clause-right : goal.invariant_of-self-clause-right
-invariant_of-self-clause-right g c = planned_on g.P.Ord.cmp g.met.P.Ord.total (planned g.P.Ord.cmp c.args.self.now.ledger) (planned g.P.Ord.cmp c.in_ok-ledger.ledger) (planned g.P.Ord.cmp c.advance.new.self)
+invariant_of-self-clause-right g c =
+    planned_on g.P.Ord.cmp g.met.P.Ord.total (planned g.P.Ord.cmp c.args.self.now.ledger)
+    (planned g.P.Ord.cmp c.in_ok-ledger.ledger) (planned g.P.Ord.cmp c.advance.new.self)
     (call_advance c.args.now)
-    (map ended_of c.in_ok-ended.ended.items) (same_copy g.P.Ord.cmp g.met.P.Ord.total (planned g.P.Ord.cmp c.args.self.now.ledger) (planned g.P.Ord.cmp c.in_ok-ledger.ledger) c.in_ok-ledger.ensures.cases c.args.self.now.caps c.args.self.now.arrivals) c.args.self.now.right
+    (map ended_of c.in_ok-ended.ended.items)
+    (same_copy g.P.Ord.cmp g.met.P.Ord.total (planned g.P.Ord.cmp c.args.self.now.ledger)
+    (planned g.P.Ord.cmp c.in_ok-ledger.ledger) c.in_ok-ledger.ensures.cases c.args.self.now.caps
+    c.args.self.now.arrivals)
+    c.args.self.now.right
     (c.in_ok-ended.events, c.in_ok-ended.ensures.advances)
 
 pub invariant_of-self-clause-orderly : goal.invariant_of-self-clause-orderly
-invariant_of-self-clause-orderly g c = orderly_on g.P.Ord.cmp g.met.P.Ord.total (planned g.P.Ord.cmp c.args.self.now.ledger) (planned g.P.Ord.cmp c.in_ok-ledger.ledger) (planned g.P.Ord.cmp c.advance.new.self)
+invariant_of-self-clause-orderly g c =
+    orderly_on g.P.Ord.cmp g.met.P.Ord.total (planned g.P.Ord.cmp c.args.self.now.ledger)
+    (planned g.P.Ord.cmp c.in_ok-ledger.ledger) (planned g.P.Ord.cmp c.advance.new.self)
     (call_advance c.args.now)
-    (map ended_of c.in_ok-ended.ended.items) (same_copy g.P.Ord.cmp g.met.P.Ord.total (planned g.P.Ord.cmp c.args.self.now.ledger) (planned g.P.Ord.cmp c.in_ok-ledger.ledger) c.in_ok-ledger.ensures.cases c.args.self.now.caps c.args.self.now.arrivals) c.args.self.now.orderly
+    (map ended_of c.in_ok-ended.ended.items)
+    (same_copy g.P.Ord.cmp g.met.P.Ord.total (planned g.P.Ord.cmp c.args.self.now.ledger)
+    (planned g.P.Ord.cmp c.in_ok-ledger.ledger) c.in_ok-ledger.ensures.cases c.args.self.now.caps
+    c.args.self.now.arrivals)
+    c.args.self.now.orderly
     (c.in_ok-ended.events, c.in_ok-ended.ensures.advances)
 
 pub returns-clause-counted : goal.returns-clause-counted
 returns-clause-counted g c = record {
-  by_rule = counted_answered g.P.Ord.cmp g.met.P.Ord.total c.args.now c.in_ok-ended.events (planned g.P.Ord.cmp c.args.self.now.ledger) (planned g.P.Ord.cmp c.advance.new.self) (map completed_of c.in_ok-completions.completions.items) (map ended_of c.in_ok-ended.ended.items) (rw (← c.deref.ensures.value) c.in_ok-completions.ensures.same) (advances_on g.P.Ord.cmp g.met.P.Ord.total c.args.now c.in_ok-ended.events (planned g.P.Ord.cmp c.args.self.now.ledger) (planned g.P.Ord.cmp c.in_ok-ledger.ledger) (planned g.P.Ord.cmp c.advance.new.self)
-      (map ended_of c.in_ok-ended.ended.items) (same_copy g.P.Ord.cmp g.met.P.Ord.total (planned g.P.Ord.cmp c.args.self.now.ledger) (planned g.P.Ord.cmp c.in_ok-ledger.ledger) c.in_ok-ledger.ensures.cases c.args.self.now.caps c.args.self.now.arrivals) c.in_ok-ended.ensures.advances);
-  few = few_on g.P.Ord.cmp g.met.P.Ord.total c.args.now c.in_ok-ended.events (planned g.P.Ord.cmp c.args.self.now.ledger) (planned g.P.Ord.cmp c.in_ok-ledger.ledger)
-      (goes (map ended_of c.in_ok-ended.ended.items) (planned g.P.Ord.cmp c.advance.new.self)) (same_copy g.P.Ord.cmp g.met.P.Ord.total (planned g.P.Ord.cmp c.args.self.now.ledger) (planned g.P.Ord.cmp c.in_ok-ledger.ledger) c.in_ok-ledger.ensures.cases c.args.self.now.caps c.args.self.now.arrivals) c.args.self.now.right c.in_ok-ended.ensures.advances;
+  by_rule =
+      counted_answered g.P.Ord.cmp g.met.P.Ord.total c.args.now c.in_ok-ended.events
+      (planned g.P.Ord.cmp c.args.self.now.ledger) (planned g.P.Ord.cmp c.advance.new.self)
+      (map completed_of c.in_ok-completions.completions.items) (map ended_of c.in_ok-ended.ended.items)
+      (rw (← c.deref.ensures.value) c.in_ok-completions.ensures.same)
+      (advances_on g.P.Ord.cmp g.met.P.Ord.total c.args.now c.in_ok-ended.events
+      (planned g.P.Ord.cmp c.args.self.now.ledger) (planned g.P.Ord.cmp c.in_ok-ledger.ledger)
+      (planned g.P.Ord.cmp c.advance.new.self)
+      (map ended_of c.in_ok-ended.ended.items)
+      (same_copy g.P.Ord.cmp g.met.P.Ord.total (planned g.P.Ord.cmp c.args.self.now.ledger)
+      (planned g.P.Ord.cmp c.in_ok-ledger.ledger) c.in_ok-ledger.ensures.cases c.args.self.now.caps
+      c.args.self.now.arrivals)
+      c.in_ok-ended.ensures.advances);
+  few =
+      few_on g.P.Ord.cmp g.met.P.Ord.total c.args.now c.in_ok-ended.events (planned g.P.Ord.cmp c.args.self.now.ledger)
+      (planned g.P.Ord.cmp c.in_ok-ledger.ledger)
+      (goes (map ended_of c.in_ok-ended.ended.items) (planned g.P.Ord.cmp c.advance.new.self))
+      (same_copy g.P.Ord.cmp g.met.P.Ord.total (planned g.P.Ord.cmp c.args.self.now.ledger)
+      (planned g.P.Ord.cmp c.in_ok-ledger.ledger) c.in_ok-ledger.ensures.cases c.args.self.now.caps
+      c.args.self.now.arrivals)
+      c.args.self.now.right c.in_ok-ended.ensures.advances;
 }
 
 pub returns-clause-made : goal.returns-clause-made
-returns-clause-made g c = promised_if g.P.Ord.cmp g.met.P.Ord.total (planned g.P.Ord.cmp c.args.self.now.ledger) (planned g.P.Ord.cmp c.advance.new.self) (call_advance c.args.now) c.args.now
-    (map completed_of c.in_ok-completions.completions.items) refl c.ranges.now.fits c.args.self.now.orderly (counted_goes g.P.Ord.cmp g.met.P.Ord.total c.args.now c.in_ok-ended.events (planned g.P.Ord.cmp c.args.self.now.ledger) (planned g.P.Ord.cmp c.advance.new.self) (map completed_of c.in_ok-completions.completions.items) (returns-clause-counted g c).by_rule)
+returns-clause-made g c =
+    promised_if g.P.Ord.cmp g.met.P.Ord.total (planned g.P.Ord.cmp c.args.self.now.ledger)
+    (planned g.P.Ord.cmp c.advance.new.self) (call_advance c.args.now) c.args.now
+    (map completed_of c.in_ok-completions.completions.items) refl c.ranges.now.fits c.args.self.now.orderly
+    (counted_goes g.P.Ord.cmp g.met.P.Ord.total c.args.now c.in_ok-ended.events
+    (planned g.P.Ord.cmp c.args.self.now.ledger) (planned g.P.Ord.cmp c.advance.new.self)
+    (map completed_of c.in_ok-completions.completions.items) (returns-clause-counted g c).by_rule)
 
 pub returns-clause-advanced : goal.returns-clause-advanced
 returns-clause-advanced g c = record {
-  split = split_on g.P.Ord.cmp g.met.P.Ord.total (planned g.P.Ord.cmp c.args.self.now.ledger) (planned g.P.Ord.cmp c.advance.new.self) c.args.now (map completed_of c.in_ok-completions.completions.items) c.ranges.now.fits (counted_goes g.P.Ord.cmp g.met.P.Ord.total c.args.now c.in_ok-ended.events (planned g.P.Ord.cmp c.args.self.now.ledger) (planned g.P.Ord.cmp c.advance.new.self) (map completed_of c.in_ok-completions.completions.items) (returns-clause-counted g c).by_rule);
-  within_caps = within_caps_on g.P.Ord.cmp g.met.P.Ord.total (planned g.P.Ord.cmp c.args.self.now.ledger) (planned g.P.Ord.cmp c.advance.new.self) c.args.now (map completed_of c.in_ok-completions.completions.items) c.ranges.now.fits (counted_goes g.P.Ord.cmp g.met.P.Ord.total c.args.now c.in_ok-ended.events (planned g.P.Ord.cmp c.args.self.now.ledger) (planned g.P.Ord.cmp c.advance.new.self) (map completed_of c.in_ok-completions.completions.items) (returns-clause-counted g c).by_rule);
+  split =
+      split_on g.P.Ord.cmp g.met.P.Ord.total (planned g.P.Ord.cmp c.args.self.now.ledger)
+      (planned g.P.Ord.cmp c.advance.new.self) c.args.now (map completed_of c.in_ok-completions.completions.items)
+      c.ranges.now.fits
+      (counted_goes g.P.Ord.cmp g.met.P.Ord.total c.args.now c.in_ok-ended.events
+      (planned g.P.Ord.cmp c.args.self.now.ledger) (planned g.P.Ord.cmp c.advance.new.self)
+      (map completed_of c.in_ok-completions.completions.items) (returns-clause-counted g c).by_rule);
+  within_caps =
+      within_caps_on g.P.Ord.cmp g.met.P.Ord.total (planned g.P.Ord.cmp c.args.self.now.ledger)
+      (planned g.P.Ord.cmp c.advance.new.self) c.args.now (map completed_of c.in_ok-completions.completions.items)
+      c.ranges.now.fits
+      (counted_goes g.P.Ord.cmp g.met.P.Ord.total c.args.now c.in_ok-ended.events
+      (planned g.P.Ord.cmp c.args.self.now.ledger) (planned g.P.Ord.cmp c.advance.new.self)
+      (map completed_of c.in_ok-completions.completions.items) (returns-clause-counted g c).by_rule);
 }

@@ -13,16 +13,23 @@ use Rattle.link_scheduler.proofs.transmitter.State.send.Goals as goal
 -- where the message waits
 
 pub invariant_of-self-clause-caps : goal.invariant_of-self-clause-caps
-invariant_of-self-clause-caps g c = looked_up g.P.Ord.cmp g.met.P.Ord.total c.wait.new.self.peers.entries c.wait.new.self.pairs.entries
+invariant_of-self-clause-caps g c =
+    looked_up g.P.Ord.cmp g.met.P.Ord.total c.wait.new.self.peers.entries c.wait.new.self.pairs.entries
 
 pub invariant_of-self-clause-arrivals : goal.invariant_of-self-clause-arrivals
 invariant_of-self-clause-arrivals g c = arrivals_looked_up g.P.Ord.cmp g.met.P.Ord.total c.wait.new.self.pairs.entries
 
 pub invariant_of-self-clause-right : goal.invariant_of-self-clause-right
-invariant_of-self-clause-right g c = (kept_at_once g.P.Ord.cmp g.met.P.Ord.total c.wait.result (planned g.P.Ord.cmp c.args.self.now.ledger) (planned g.P.Ord.cmp c.wait.new.self) (call_enqueue c.args.now (message_of c.args.message)) [] c.wait.ensures.enqueues c.wait.ensures.unchanged c.args.self.now.right c.args.self.now.orderly).right
+invariant_of-self-clause-right g c =
+    (kept_at_once g.P.Ord.cmp g.met.P.Ord.total c.wait.result (planned g.P.Ord.cmp c.args.self.now.ledger)
+    (planned g.P.Ord.cmp c.wait.new.self) (call_enqueue c.args.now (message_of c.args.message)) []
+    c.wait.ensures.enqueues c.wait.ensures.unchanged c.args.self.now.right c.args.self.now.orderly).right
 
 pub invariant_of-self-clause-orderly : goal.invariant_of-self-clause-orderly
-invariant_of-self-clause-orderly g c = (kept_at_once g.P.Ord.cmp g.met.P.Ord.total c.wait.result (planned g.P.Ord.cmp c.args.self.now.ledger) (planned g.P.Ord.cmp c.wait.new.self) (call_enqueue c.args.now (message_of c.args.message)) [] c.wait.ensures.enqueues c.wait.ensures.unchanged c.args.self.now.right c.args.self.now.orderly).orderly
+invariant_of-self-clause-orderly g c =
+    (kept_at_once g.P.Ord.cmp g.met.P.Ord.total c.wait.result (planned g.P.Ord.cmp c.args.self.now.ledger)
+    (planned g.P.Ord.cmp c.wait.new.self) (call_enqueue c.args.now (message_of c.args.message)) []
+    c.wait.ensures.enqueues c.wait.ensures.unchanged c.args.self.now.right c.args.self.now.orderly).orderly
 
 pub returns-in_err-wait-clause-unchanged : goal.returns-in_err-wait-clause-unchanged
 returns-in_err-wait-clause-unchanged g c =
@@ -31,35 +38,74 @@ returns-in_err-wait-clause-unchanged g c =
 
 pub returns-then-has_to_wait-clause-made : goal.returns-then-has_to_wait-clause-made
 returns-then-has_to_wait-clause-made g c =
-    rw (ap (map completed_of) c.new.ensures.items) (promised_if g.P.Ord.cmp g.met.P.Ord.total (planned g.P.Ord.cmp c.args.self.now.ledger) (planned g.P.Ord.cmp c.wait.new.self)
-    (call_enqueue c.args.now (message_of c.args.message)) c.args.now [] refl c.ranges.now.fits c.args.self.now.orderly (goes_on g.P.Ord.cmp g.met.P.Ord.total (planned g.P.Ord.cmp c.args.self.now.ledger) (planned g.P.Ord.cmp c.args.self.now.ledger) (planned g.P.Ord.cmp c.wait.new.self) (call_enqueue c.args.now (message_of c.args.message)) []
-    (same_itself g.P.Ord.cmp g.met.P.Ord.total (planned g.P.Ord.cmp c.args.self.now.ledger) c.args.self.now.caps c.args.self.now.arrivals) c.in_ok-wait.ensures.enqueues))
+    rw (ap (map completed_of) c.new.ensures.items)
+    (promised_if g.P.Ord.cmp g.met.P.Ord.total (planned g.P.Ord.cmp c.args.self.now.ledger)
+    (planned g.P.Ord.cmp c.wait.new.self)
+    (call_enqueue c.args.now (message_of c.args.message)) c.args.now [] refl c.ranges.now.fits c.args.self.now.orderly
+    (goes_on g.P.Ord.cmp g.met.P.Ord.total (planned g.P.Ord.cmp c.args.self.now.ledger)
+    (planned g.P.Ord.cmp c.args.self.now.ledger) (planned g.P.Ord.cmp c.wait.new.self)
+    (call_enqueue c.args.now (message_of c.args.message)) []
+    (same_itself g.P.Ord.cmp g.met.P.Ord.total (planned g.P.Ord.cmp c.args.self.now.ledger) c.args.self.now.caps
+    c.args.self.now.arrivals)
+    c.in_ok-wait.ensures.enqueues))
 
 -- where it goes on a copy
 
 pub returns-in_err-ended-clause-refused : goal.returns-in_err-ended-clause-refused
 returns-in_err-ended-clause-refused g c =
     let p = err_from_is_err_and c.from_residual-in_err-ended.result c.from_residual-in_err-ended.ensures.1 in
-    rw (p.1, p.2) (cause_of g.P.Ord.cmp g.met.P.Ord.total (planned g.P.Ord.cmp c.args.self.now.ledger) (call_enqueue c.args.now (message_of c.args.message)) c.args.now _ refl c.ranges.now.fits
-    (enqueue_refused g.P.Ord.cmp g.met.P.Ord.total c.args.now (message_of c.args.message) (planned g.P.Ord.cmp c.args.self.now.ledger) (planned g.P.Ord.cmp c.in_ok-ledger.ledger) (same_copy g.P.Ord.cmp g.met.P.Ord.total (planned g.P.Ord.cmp c.args.self.now.ledger) (planned g.P.Ord.cmp c.in_ok-ledger.ledger) c.in_ok-ledger.ensures.cases c.args.self.now.caps c.args.self.now.arrivals) _ c.in_err-ended.ensures.refused))
+    rw (p.1, p.2)
+    (cause_of g.P.Ord.cmp g.met.P.Ord.total (planned g.P.Ord.cmp c.args.self.now.ledger)
+    (call_enqueue c.args.now (message_of c.args.message)) c.args.now _ refl c.ranges.now.fits
+    (enqueue_refused g.P.Ord.cmp g.met.P.Ord.total c.args.now (message_of c.args.message)
+    (planned g.P.Ord.cmp c.args.self.now.ledger) (planned g.P.Ord.cmp c.in_ok-ledger.ledger)
+    (same_copy g.P.Ord.cmp g.met.P.Ord.total (planned g.P.Ord.cmp c.args.self.now.ledger)
+    (planned g.P.Ord.cmp c.in_ok-ledger.ledger) c.in_ok-ledger.ensures.cases c.args.self.now.caps
+    c.args.self.now.arrivals)
+    _ c.in_err-ended.ensures.refused))
 
 pub invariant_of-self-2-clause-caps : goal.invariant_of-self-2-clause-caps
-invariant_of-self-2-clause-caps g c = looked_up g.P.Ord.cmp g.met.P.Ord.total c.enqueue.new.self.peers.entries c.enqueue.new.self.pairs.entries
+invariant_of-self-2-clause-caps g c =
+    looked_up g.P.Ord.cmp g.met.P.Ord.total c.enqueue.new.self.peers.entries c.enqueue.new.self.pairs.entries
 
 pub invariant_of-self-2-clause-arrivals : goal.invariant_of-self-2-clause-arrivals
-invariant_of-self-2-clause-arrivals g c = arrivals_looked_up g.P.Ord.cmp g.met.P.Ord.total c.enqueue.new.self.pairs.entries
+invariant_of-self-2-clause-arrivals g c =
+    arrivals_looked_up g.P.Ord.cmp g.met.P.Ord.total c.enqueue.new.self.pairs.entries
 
 pub invariant_of-self-2-clause-right : goal.invariant_of-self-2-clause-right
-invariant_of-self-2-clause-right g c = planned_on g.P.Ord.cmp g.met.P.Ord.total (planned g.P.Ord.cmp c.args.self.now.ledger) (planned g.P.Ord.cmp c.in_ok-ledger.ledger) (planned g.P.Ord.cmp c.enqueue.new.self)
-    (call_enqueue c.args.now (message_of c.args.message)) (map ended_of c.in_ok-ended.ended.items) (same_copy g.P.Ord.cmp g.met.P.Ord.total (planned g.P.Ord.cmp c.args.self.now.ledger) (planned g.P.Ord.cmp c.in_ok-ledger.ledger) c.in_ok-ledger.ensures.cases c.args.self.now.caps c.args.self.now.arrivals) c.args.self.now.right c.in_ok-ended.ensures.enqueues
+invariant_of-self-2-clause-right g c =
+    planned_on g.P.Ord.cmp g.met.P.Ord.total (planned g.P.Ord.cmp c.args.self.now.ledger)
+    (planned g.P.Ord.cmp c.in_ok-ledger.ledger) (planned g.P.Ord.cmp c.enqueue.new.self)
+    (call_enqueue c.args.now (message_of c.args.message)) (map ended_of c.in_ok-ended.ended.items)
+    (same_copy g.P.Ord.cmp g.met.P.Ord.total (planned g.P.Ord.cmp c.args.self.now.ledger)
+    (planned g.P.Ord.cmp c.in_ok-ledger.ledger) c.in_ok-ledger.ensures.cases c.args.self.now.caps
+    c.args.self.now.arrivals)
+    c.args.self.now.right c.in_ok-ended.ensures.enqueues
 
 pub invariant_of-self-2-clause-orderly : goal.invariant_of-self-2-clause-orderly
-invariant_of-self-2-clause-orderly g c = orderly_on g.P.Ord.cmp g.met.P.Ord.total (planned g.P.Ord.cmp c.args.self.now.ledger) (planned g.P.Ord.cmp c.in_ok-ledger.ledger) (planned g.P.Ord.cmp c.enqueue.new.self)
-    (call_enqueue c.args.now (message_of c.args.message)) (map ended_of c.in_ok-ended.ended.items) (same_copy g.P.Ord.cmp g.met.P.Ord.total (planned g.P.Ord.cmp c.args.self.now.ledger) (planned g.P.Ord.cmp c.in_ok-ledger.ledger) c.in_ok-ledger.ensures.cases c.args.self.now.caps c.args.self.now.arrivals) c.args.self.now.orderly c.in_ok-ended.ensures.enqueues
+invariant_of-self-2-clause-orderly g c =
+    orderly_on g.P.Ord.cmp g.met.P.Ord.total (planned g.P.Ord.cmp c.args.self.now.ledger)
+    (planned g.P.Ord.cmp c.in_ok-ledger.ledger) (planned g.P.Ord.cmp c.enqueue.new.self)
+    (call_enqueue c.args.now (message_of c.args.message)) (map ended_of c.in_ok-ended.ended.items)
+    (same_copy g.P.Ord.cmp g.met.P.Ord.total (planned g.P.Ord.cmp c.args.self.now.ledger)
+    (planned g.P.Ord.cmp c.in_ok-ledger.ledger) c.in_ok-ledger.ensures.cases c.args.self.now.caps
+    c.args.self.now.arrivals)
+    c.args.self.now.orderly c.in_ok-ended.ensures.enqueues
 
 pub returns-clause-made : goal.returns-clause-made
-returns-clause-made g c = promised_if g.P.Ord.cmp g.met.P.Ord.total (planned g.P.Ord.cmp c.args.self.now.ledger) (planned g.P.Ord.cmp c.enqueue.new.self)
-    (call_enqueue c.args.now (message_of c.args.message)) c.args.now (map completed_of c.in_ok-completions.completions.items) refl c.ranges.now.fits c.args.self.now.orderly
-    (goes_answered g.P.Ord.cmp g.met.P.Ord.total (planned g.P.Ord.cmp c.args.self.now.ledger) (planned g.P.Ord.cmp c.enqueue.new.self) (call_enqueue c.args.now (message_of c.args.message)) (map completed_of c.in_ok-completions.completions.items) (map ended_of c.in_ok-ended.ended.items) (rw (← c.deref.ensures.value) c.in_ok-completions.ensures.same)
-    (goes_on g.P.Ord.cmp g.met.P.Ord.total (planned g.P.Ord.cmp c.args.self.now.ledger) (planned g.P.Ord.cmp c.in_ok-ledger.ledger) (planned g.P.Ord.cmp c.enqueue.new.self)
-    (call_enqueue c.args.now (message_of c.args.message)) (map ended_of c.in_ok-ended.ended.items) (same_copy g.P.Ord.cmp g.met.P.Ord.total (planned g.P.Ord.cmp c.args.self.now.ledger) (planned g.P.Ord.cmp c.in_ok-ledger.ledger) c.in_ok-ledger.ensures.cases c.args.self.now.caps c.args.self.now.arrivals) c.in_ok-ended.ensures.enqueues))
+returns-clause-made g c =
+    promised_if g.P.Ord.cmp g.met.P.Ord.total (planned g.P.Ord.cmp c.args.self.now.ledger)
+    (planned g.P.Ord.cmp c.enqueue.new.self)
+    (call_enqueue c.args.now (message_of c.args.message)) c.args.now
+    (map completed_of c.in_ok-completions.completions.items) refl c.ranges.now.fits c.args.self.now.orderly
+    (goes_answered g.P.Ord.cmp g.met.P.Ord.total (planned g.P.Ord.cmp c.args.self.now.ledger)
+    (planned g.P.Ord.cmp c.enqueue.new.self) (call_enqueue c.args.now (message_of c.args.message))
+    (map completed_of c.in_ok-completions.completions.items) (map ended_of c.in_ok-ended.ended.items)
+    (rw (← c.deref.ensures.value) c.in_ok-completions.ensures.same)
+    (goes_on g.P.Ord.cmp g.met.P.Ord.total (planned g.P.Ord.cmp c.args.self.now.ledger)
+    (planned g.P.Ord.cmp c.in_ok-ledger.ledger) (planned g.P.Ord.cmp c.enqueue.new.self)
+    (call_enqueue c.args.now (message_of c.args.message)) (map ended_of c.in_ok-ended.ended.items)
+    (same_copy g.P.Ord.cmp g.met.P.Ord.total (planned g.P.Ord.cmp c.args.self.now.ledger)
+    (planned g.P.Ord.cmp c.in_ok-ledger.ledger) c.in_ok-ledger.ensures.cases c.args.self.now.caps
+    c.args.self.now.arrivals)
+    c.in_ok-ended.ensures.enqueues))

@@ -7,22 +7,27 @@ use Rattle.link_scheduler.proofs.Calls.Promises.{new_one_stands, new_one_in_rang
 use Rattle.link_scheduler.proofs.transmitter.State.with_first_id.Goals as goal
 
 pub invariant_of-result-clause-caps : goal.invariant_of-result-clause-caps
-invariant_of-result-clause-caps g c = looked_up g.P.Ord.cmp g.met.P.Ord.total c.new.result.peers.entries c.new.result.pairs.entries
+invariant_of-result-clause-caps g c =
+    looked_up g.P.Ord.cmp g.met.P.Ord.total c.new.result.peers.entries c.new.result.pairs.entries
 
 pub invariant_of-result-clause-arrivals : goal.invariant_of-result-clause-arrivals
 invariant_of-result-clause-arrivals g c = arrivals_looked_up g.P.Ord.cmp g.met.P.Ord.total c.new.result.pairs.entries
 
 pub invariant_of-result-clause-right : goal.invariant_of-result-clause-right
-invariant_of-result-clause-right g c = ∣ subst (IsPlanned g.P.Ord.cmp) (sym c.new.ensures) (new_is_planned g.P.Ord.cmp g.met.P.Ord.total c.args.first) ∣₁
+invariant_of-result-clause-right g c =
+    ∣ subst (IsPlanned g.P.Ord.cmp) (sym c.new.ensures) (new_is_planned g.P.Ord.cmp g.met.P.Ord.total c.args.first) ∣₁
 
 pub invariant_of-result-clause-orderly : goal.invariant_of-result-clause-orderly
-invariant_of-result-clause-orderly g c = new_one_orderly g.P.Ord.cmp g.met.P.Ord.total (planned g.P.Ord.cmp c.new.result) c.args.first c.new.ensures
+invariant_of-result-clause-orderly g c =
+    new_one_orderly g.P.Ord.cmp g.met.P.Ord.total (planned g.P.Ord.cmp c.new.result) c.args.first c.new.ensures
 
 pub returns : goal.returns
 returns g c = record {
   new = record {
     planned = c.new.ensures;
     stands = new_one_stands g.P.Ord.cmp g.met.P.Ord.total (planned g.P.Ord.cmp c.new.result) c.args.first c.new.ensures;
-    in_range = new_one_in_range g.P.Ord.cmp g.met.P.Ord.total (planned g.P.Ord.cmp c.new.result) c.args.first c.new.ensures c.ranges.first.fits;
+    in_range =
+        new_one_in_range g.P.Ord.cmp g.met.P.Ord.total (planned g.P.Ord.cmp c.new.result) c.args.first c.new.ensures
+        c.ranges.first.fits;
   };
 }

@@ -1,6 +1,5 @@
-use Rattle.std.proofs.Common.{◌≡◌, not, ap, sym, ◌∙◌}
-use Rattle.std.specs.List.{filter}
-use Rattle.link_simulation.specs.Rule.Planned.{is_spent, rated_messages}
+use Rattle.std.proofs.Common.{ap, sym, ◌∙◌}
+use Rattle.link_simulation.specs.Rule.Planned.{is_spent}
 use Rattle.link_scheduler.specs.Flights.InFlight.{in_flight, in_units}
 use Rattle.link_scheduler.specs.Flights.RatedFlights.{sending_of}
 use Rattle.link_scheduler.specs.Calls.AsPlanned.{messages}
@@ -18,7 +17,8 @@ rest_all-requires g c =
     let old = c.args.flights.now in
     let parted = c.in_ok-done.ensures.parted in
     record {
-      unlisted = left_unlisted cmp g.met.P.Ord.total c.args.pairs.now.entries c.args.waiting.now.messages (is_spent cmp caps)
+      unlisted =
+          left_unlisted cmp g.met.P.Ord.total c.args.pairs.now.entries c.args.waiting.now.messages (is_spent cmp caps)
           (in_flight old) (in_flight c.take_done.new.self) (messages c.in_ok-done.done.items) c.args.idle.now.entries
           (parted.left ∙ sym (out_as_read cmp caps old.scale (in_units old))) c.requires.indexed;
     }
@@ -34,7 +34,8 @@ returns-clause-rest g c =
     let caps = caps_of g.P.Ord.cmp c.args.peers.now.entries c.args.pairs.now.entries in
     let old = c.args.flights.now in
     ap (λ n. sending_of n (in_units c.take_done.new.self)) c.take_done.ensures.scale
-    ∙ ap (sending_of old.scale) c.in_ok-done.ensures.parted.stay ∙ sym (stay_as_read g.P.Ord.cmp caps old.scale (in_units old))
+    ∙ ap (sending_of old.scale) c.in_ok-done.ensures.parted.stay
+    ∙ sym (stay_as_read g.P.Ord.cmp caps old.scale (in_units old))
 
 pub returns-clause-counted : goal.returns-clause-counted
 returns-clause-counted g c =
@@ -46,7 +47,8 @@ returns-clause-counted g c =
     ∙ ap (sending_of old.scale) parted.stay ∙ sym (stay_as_read cmp caps old.scale (in_units old)) in
     counted_left cmp c.args.busy.now.entries c.remove_all.new.self.entries (is_spent cmp caps) (in_flight old)
     (in_flight c.take_done.new.self) (messages c.in_ok-done.done.items)
-    (parted.left ∙ sym (out_as_read cmp caps old.scale (in_units old))) rest c.requires.counted c.in_ok-remove_all.ensures.counted
+    (parted.left ∙ sym (out_as_read cmp caps old.scale (in_units old))) rest c.requires.counted
+    c.in_ok-remove_all.ensures.counted
 
 pub returns-clause-indexed : goal.returns-clause-indexed
 returns-clause-indexed g c =
@@ -56,11 +58,13 @@ returns-clause-indexed g c =
     let parted = c.in_ok-done.ensures.parted in
     let rest = ap (λ n. sending_of n (in_units c.take_done.new.self)) c.take_done.ensures.scale
     ∙ ap (sending_of old.scale) parted.stay ∙ sym (stay_as_read cmp caps old.scale (in_units old)) in
-    left_index cmp g.met.P.Ord.total c.args.pairs.now.entries c.args.waiting.now.messages (is_spent cmp caps) (in_flight old)
+    left_index cmp g.met.P.Ord.total c.args.pairs.now.entries c.args.waiting.now.messages (is_spent cmp caps)
+    (in_flight old)
     (in_flight c.take_done.new.self) (messages c.in_ok-done.done.items) c.args.idle.now.entries
     (parted.left ∙ sym (out_as_read cmp caps old.scale (in_units old))) c.requires.indexed c.rest_all.new.idle.entries
     (arrivals_looked_up cmp g.met.P.Ord.total c.args.pairs.now.entries) rest
     (c.in_ok-rest_all.ensures.listed (in_flight c.take_done.new.self)
     (counted_left cmp c.args.busy.now.entries c.remove_all.new.self.entries (is_spent cmp caps) (in_flight old)
     (in_flight c.take_done.new.self) (messages c.in_ok-done.done.items)
-    (parted.left ∙ sym (out_as_read cmp caps old.scale (in_units old))) rest c.requires.counted c.in_ok-remove_all.ensures.counted))
+    (parted.left ∙ sym (out_as_read cmp caps old.scale (in_units old))) rest c.requires.counted
+    c.in_ok-remove_all.ensures.counted))

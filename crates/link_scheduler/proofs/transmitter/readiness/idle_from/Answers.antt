@@ -13,12 +13,22 @@ pub returns-then-has : goal.returns-then-has
 returns-then-has g c sending counted =
     let p : Planned g.row.P.Denot = of_pairs g.P.Ord.cmp c.args.pairs.now.entries c.args.waiting.now.messages sending in
     let busy = sym (c.has.ensures (rated_messages sending) counted) ∙ c.if-has.true in
-    sym (ap (λ b. if b then None else option_map (λ (n : Message g.row.P.Denot). first_moment (p.last_arrival c.args.origin.now c.args.recipient.now) n.latency) (first_of g.P.Ord.cmp p.waiting c.args.origin.now c.args.recipient.now)) busy)
+    sym
+    (ap
+    (λ b. if b then None else option_map
+    (λ (n : Message g.row.P.Denot). first_moment (p.last_arrival c.args.origin.now c.args.recipient.now)
+    n.latency)
+    (first_of g.P.Ord.cmp p.waiting c.args.origin.now c.args.recipient.now))
+    busy)
 
 pub returns : goal.returns
 returns g c sending counted =
     let p : Planned g.row.P.Denot = of_pairs g.P.Ord.cmp c.args.pairs.now.entries c.args.waiting.now.messages sending in
     let free = sym (c.has.ensures (rated_messages sending) counted) ∙ c.if-has.false in
-    let first : first_of g.P.Ord.cmp p.waiting c.args.origin.now c.args.recipient.now ≡ Some (message_of c.in_ok-front.front.now) = sym c.in_ok-front.ensures in
-    ap Some (c.ready_moment.ensures ∙ ap (λ last. first_moment last c.in_ok-front.front.now.latency) c.last_arrival-last.ensures)
+    let first : first_of g.P.Ord.cmp p.waiting c.args.origin.now c.args.recipient.now
+    ≡ Some (message_of c.in_ok-front.front.now) =
+    sym c.in_ok-front.ensures in
+    ap Some
+    (c.ready_moment.ensures
+    ∙ ap (λ last. first_moment last c.in_ok-front.front.now.latency) c.last_arrival-last.ensures)
     ∙ sym (idle_is g.P.Ord.cmp p c.args.origin.now c.args.recipient.now (message_of c.in_ok-front.front.now) free first)

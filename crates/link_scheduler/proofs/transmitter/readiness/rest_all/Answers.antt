@@ -1,4 +1,5 @@
-use Rattle.std.proofs.Common.{◌≡◌, ◌+◌, ◌<◌, ℕ, false, true, List, [], ◌∷◌, ◌++◌, length, None, take, sym, ap, ◌∙◌, subst, arith, rules}
+use Rattle.std.proofs.Common.{◌≡◌, ◌+◌, ◌<◌, ℕ, false, true, List, [], ◌∷◌, ◌++◌, length, None, take, sym, ap, ◌∙◌}
+use Rattle.std.proofs.Common.{subst, arith, rules}
 use Rattle.std.specs.declared.rc.Rc.{Rc}
 use Rattle.std.specs.declared.alloc.Global.{Global}
 use Rattle.std.proofs.lemmas.List.{map-append, take_more}
@@ -26,18 +27,27 @@ loop-at-preserved g c sending counted =
     let m : Message g.row.P.Denot = message_of c.as_ref-message.result.now in
     let there : message_of c.index.result.now.value ≡ m = ap message_of (sym c.as_ref-message.ensures) in
     let more : messages (take (at + 1) done) ≡ messages (take at done) ++ m ∷ [] =
-    ap messages (take_more done at c.index.result.now lt ∙ ap (λ (x : Rc (code.Message g.row.P.Denot) Global). take at done ++ x ∷ []) (sym c.index.ensures))
-    ∙ map-append (λ x. message_of x.value) (take at done) (c.index.result.now ∷ []) ∙ ap (λ x. messages (take at done) ++ x ∷ []) there in
+    ap messages
+    (take_more done at c.index.result.now lt
+    ∙ ap (λ (x : Rc (code.Message g.row.P.Denot) Global). take at done ++ x ∷ []) (sym c.index.ensures))
+    ∙ map-append (λ x. message_of x.value) (take at done) (c.index.result.now ∷ [])
+    ∙ ap (λ x. messages (take at done) ++ x ∷ []) there in
     let busy : (t : ℕ) (a b : g.row.P.Denot) → is_of_pair cmp a b m ≡ true → is_listed cmp old t a b ≡ false =
-    λ t a b h. c.requires.unlisted t a b (any_at (is_of_pair cmp a b) (λ x. message_of x.value) done at c.index.result.now lt c.index.ensures (ap (is_of_pair cmp a b) there ∙ h)) in
+    λ t a b h.
+    c.requires.unlisted t a b
+    (any_at (is_of_pair cmp a b) (λ x. message_of x.value) done at c.index.result.now lt c.index.ensures
+    (ap (is_of_pair cmp a b) there ∙ h)) in
     elim c.match-idle_from.branch [
       | in-Some+in_ok-add w ↦
           subst (λ es. AreAtRest cmp q (messages (take (at + 1) done)) old es) (sym (ap (λ x. x.entries) w.idle-is))
           (subst (λ (ms : List (Message g.row.P.Denot)). AreAtRest cmp q ms old w.add.new.self.entries) (sym more)
-          (rests_more cmp g.met.P.Ord.total q alike old (messages (take at done)) m c.loop-at.idle.entries (c.loop-at.invariant sending counted) busy _ w.add.new.self.entries (sym (c.idle_from.ensures sending counted) ∙ w.in-Some.is) w.in_ok-add.ensures.listed))
+          (rests_more cmp g.met.P.Ord.total q alike old (messages (take at done)) m c.loop-at.idle.entries
+          (c.loop-at.invariant sending counted) busy _ w.add.new.self.entries
+          (sym (c.idle_from.ensures sending counted) ∙ w.in-Some.is) w.in_ok-add.ensures.listed))
       | in_default w ↦
           let none : c.idle_from.result ≡ None = search rules in
           subst (λ es. AreAtRest cmp q (messages (take (at + 1) done)) old es) (sym (ap (λ x. x.entries) w.idle-is))
           (subst (λ (ms : List (Message g.row.P.Denot)). AreAtRest cmp q ms old c.loop-at.idle.entries) (sym more)
-          (rests_none cmp g.met.P.Ord.total q alike old (messages (take at done)) m c.loop-at.idle.entries (c.loop-at.invariant sending counted) busy (sym (c.idle_from.ensures sending counted) ∙ none)))
+          (rests_none cmp g.met.P.Ord.total q alike old (messages (take at done)) m c.loop-at.idle.entries
+          (c.loop-at.invariant sending counted) busy (sym (c.idle_from.ensures sending counted) ∙ none)))
     ]

@@ -7,5 +7,7 @@ use Rattle.link_scheduler.specs.Calls.AsPlanned.{messages}
 use Rattle.link_scheduler.proofs.transmitter.readiness.rest_all.Given as goal
 
 abbrev pub invariant-loop-at : goal.invariant-loop-at
-invariant-loop-at g l = (sending : List (RatedFlight g.row.P.Denot)) → AreCounted g.P.Ord.cmp l.busy.entries (rated_messages sending)
-    → AreAtRest g.P.Ord.cmp (of_pairs g.P.Ord.cmp l.pairs.entries l.waiting.messages sending) (messages (take l.at l.done.items)) l.initial.idle.entries l.idle.entries
+invariant-loop-at g l =
+    (sending : List (RatedFlight g.row.P.Denot)) → AreCounted g.P.Ord.cmp l.busy.entries (rated_messages sending)
+    → AreAtRest g.P.Ord.cmp (of_pairs g.P.Ord.cmp l.pairs.entries l.waiting.messages sending)
+    (messages (take l.at l.done.items)) l.initial.idle.entries l.idle.entries

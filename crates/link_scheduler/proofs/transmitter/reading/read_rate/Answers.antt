@@ -6,7 +6,8 @@ use Rattle.link_scheduler.specs.Flights.Flight.{flight_at, rate_of}
 use Rattle.link_scheduler.proofs.Flights.ShortTerms.{exact_reading}
 use Rattle.link_scheduler.proofs.Flights.Units.{no_units}
 use Rattle.link_scheduler.proofs.transmitter.reading.read_rate.Goals as goal
-use Rattle.link_scheduler.proofs.transmitter.reading.read_rate.Goals.{in_default-via-in-Some+else-flight, in_default-via-in_default}
+use Rattle.link_scheduler.proofs.transmitter.reading.read_rate.Goals.{in_default-via-in-Some+else-flight}
+use Rattle.link_scheduler.proofs.transmitter.reading.read_rate.Goals.{in_default-via-in_default}
 
 -- without a rate none is at any
 idle : (rated : Bool) (rate : Option (Rc ℕ Global)) → rate ≡ None → (if rated then rate_of rate else 0) ≡ 0
@@ -22,4 +23,6 @@ returns-in_default-clause-read g c =
     ] in
     let top : c.zero.result.numerator ≡ 0 = ap (λ (a : Amount). a.num) c.zero.ensures in
     let bottom : c.zero.result.denominator ≡ 1 = ap (λ (a : Amount). a.den) c.zero.ensures in
-    exact_reading _ _ refl (c.zero.ensures ∙ sym (ap (λ n. reduced n c.args.scale.now) none ∙ no_units c.args.scale.now c.requires)) (omega arith) (omega arith)
+    exact_reading _ _ refl
+    (c.zero.ensures ∙ sym (ap (λ n. reduced n c.args.scale.now) none ∙ no_units c.args.scale.now c.requires))
+    (omega arith) (omega arith)

@@ -19,7 +19,14 @@ loop-at-preserved g c a b =
     let lt : at < length done = omega (arith, c.loop-at-test.true, c.len-at-end.ensures, c.args.done.now.ok.0) in
     let m : Message g.row.P.Denot = message_of c.as_ref-message.result.now in
     let more : messages (take (at + 1) done) ≡ messages (take at done) ++ m ∷ [] =
-    ap messages (take_more done at c.index.result.now lt ∙ ap (λ (x : Rc (code.Message g.row.P.Denot) Global). take at done ++ x ∷ []) (sym c.index.ensures))
-    ∙ map-append (λ x. message_of x.value) (take at done) (c.index.result.now ∷ []) ∙ ap (λ x. messages (take at done) ++ message_of x ∷ []) (sym c.as_ref-message.ensures) in
-    subst (λ (ms : List (Message g.row.P.Denot)). count_of cmp c.remove.new.self.entries a b ≡ count_of cmp old a b - number_of cmp ms a b) (sym more)
-    (less_one cmp g.met.P.Ord.total old c.loop-at.self.entries c.remove.new.self.entries (messages (take at done)) m c.loop-at.invariant c.in_ok-remove.ensures.counted a b)
+    ap messages
+    (take_more done at c.index.result.now lt
+    ∙ ap (λ (x : Rc (code.Message g.row.P.Denot) Global). take at done ++ x ∷ []) (sym c.index.ensures))
+    ∙ map-append (λ x. message_of x.value) (take at done) (c.index.result.now ∷ [])
+    ∙ ap (λ x. messages (take at done) ++ message_of x ∷ []) (sym c.as_ref-message.ensures) in
+    subst
+    (λ (ms : List (Message g.row.P.Denot)). count_of cmp c.remove.new.self.entries a b
+    ≡ count_of cmp old a b - number_of cmp ms a b)
+    (sym more)
+    (less_one cmp g.met.P.Ord.total old c.loop-at.self.entries c.remove.new.self.entries (messages (take at done)) m
+    c.loop-at.invariant c.in_ok-remove.ensures.counted a b)

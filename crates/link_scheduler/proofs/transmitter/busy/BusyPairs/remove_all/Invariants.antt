@@ -4,4 +4,8 @@ use Rattle.link_scheduler.specs.Calls.AsPlanned.{messages}
 use Rattle.link_scheduler.proofs.transmitter.busy.BusyPairs.remove_all.Given as goal
 
 abbrev pub invariant-loop-at : goal.invariant-loop-at
-invariant-loop-at g l = (o r : g.row.P.Denot) → count_of g.P.Ord.cmp l.self.entries o r ≡ count_of g.P.Ord.cmp l.initial.self.entries o r - number_of g.P.Ord.cmp (messages (take l.at l.done.items)) o r
+invariant-loop-at g l =
+    (o r : g.row.P.Denot)
+    → count_of g.P.Ord.cmp l.self.entries o r
+    ≡ count_of g.P.Ord.cmp l.initial.self.entries o r
+    - number_of g.P.Ord.cmp (messages (take l.at l.done.items)) o r

@@ -8,7 +8,8 @@ use Rattle.link_scheduler.specs.Pairs.Messages.{message_of}
 use Rattle.link_scheduler.proofs.Flights.InFlight.{StandsForSent}
 use Rattle.link_scheduler.proofs.Flights.ComponentFlows.{standing_more, standing_still}
 use Rattle.link_scheduler.proofs.transmitter.flights.Flights.flows_of.Goals as goal
-use Rattle.link_scheduler.proofs.transmitter.flights.Flights.flows_of.Goals.{then-has_sender+in_ok-flow+in_ok-push, else-has_sender}
+use Rattle.link_scheduler.proofs.transmitter.flights.Flights.flows_of.Goals.{then-has_sender+in_ok-flow+in_ok-push}
+use Rattle.link_scheduler.proofs.transmitter.flights.Flights.flows_of.Goals.{else-has_sender}
 
 pub loop-one-preserved : goal.loop-one-preserved
 loop-one-preserved g c =
@@ -21,11 +22,14 @@ loop-one-preserved g c =
     let u = flight_at now one.value in
     let inside : index < length list = omega (arith, c.loop-one-test.true) in
     let test : c.has_sender.result ≡ is_of cmp component u =
-    c.has_sender.ensures ∙ ap (λ m. is_sender cmp component m.origin) (c.deref-in-loop-one.ensures ∙ ap (λ f. f.message.value) c.deref.ensures) in
+    c.has_sender.ensures
+    ∙ ap (λ m. is_sender cmp component m.origin)
+    (c.deref-in-loop-one.ensures ∙ ap (λ f. f.message.value) c.deref.ensures) in
     elim c.if-has_sender.branch [
       | then-has_sender+in_ok-flow+in_ok-push w ↦
           let f = w.in_ok-flow.field-0 in
-          let m : w.deref-then-has_sender-2.result.now ≡ u.message = w.deref-then-has_sender-2.ensures ∙ ap (λ f. f.message.value) w.deref-then-has_sender.ensures in
+          let m : w.deref-then-has_sender-2.result.now ≡ u.message =
+          w.deref-then-has_sender-2.ensures ∙ ap (λ f. f.message.value) w.deref-then-has_sender.ensures in
           let stands : StandsForSent cmp f u = record {
             origin = subst (λ m. same_peer cmp f.origin m.origin ≡ true) m w.in_ok-flow.ensures.origin;
             recipient = subst (λ m. same_peer cmp f.recipient m.recipient ≡ true) m w.in_ok-flow.ensures.recipient;
@@ -33,9 +37,13 @@ loop-one-preserved g c =
           } in
           let pushed : c.loop-one.flows.items ++ f ∷ [] ≡ w.push.new.self.items = sym w.in_ok-push.ensures.items in
           let kept : w.push.new.self.items ≡ c.if-has_sender.flows.items = ap (λ v. v.items) (sym w.flows-is) in
-          subst (λ fs. are_standing cmp fs (those_of cmp component (flights_at now (take (index + 1) list))) ≡ true) (pushed ∙ kept)
-          (standing_more cmp component now list index one inside c.one-item.is c.loop-one.flows.items f (sym test ∙ w.if-has_sender.true) stands c.loop-one.invariant)
+          subst (λ fs. are_standing cmp fs (those_of cmp component (flights_at now (take (index + 1) list))) ≡ true)
+          (pushed ∙ kept)
+          (standing_more cmp component now list index one inside c.one-item.is c.loop-one.flows.items f
+          (sym test ∙ w.if-has_sender.true) stands c.loop-one.invariant)
       | else-has_sender w ↦
-          subst (λ fs. are_standing cmp fs (those_of cmp component (flights_at now (take (index + 1) list))) ≡ true) (ap (λ v. v.items) (sym w.flows-is))
-          (standing_still cmp component now list index one inside c.one-item.is c.loop-one.flows.items (sym test ∙ w.if-has_sender.false) c.loop-one.invariant)
+          subst (λ fs. are_standing cmp fs (those_of cmp component (flights_at now (take (index + 1) list))) ≡ true)
+          (ap (λ v. v.items) (sym w.flows-is))
+          (standing_still cmp component now list index one inside c.one-item.is c.loop-one.flows.items
+          (sym test ∙ w.if-has_sender.false) c.loop-one.invariant)
     ]

@@ -6,4 +6,6 @@ use Rattle.link_scheduler.proofs.transmitter.flights.Flights.flows_of.Given as g
 
 abbrev pub invariant-loop-one : goal.invariant-loop-one
 invariant-loop-one g l =
-    are_standing g.P.Ord.cmp l.flows.items (those_of g.P.Ord.cmp l.component (flights_at l.self.at (take l.one-index l.one-items))) ≡ true
+    are_standing g.P.Ord.cmp l.flows.items
+    (those_of g.P.Ord.cmp l.component (flights_at l.self.at (take l.one-index l.one-items)))
+    ≡ true

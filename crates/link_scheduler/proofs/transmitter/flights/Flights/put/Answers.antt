@@ -1,4 +1,4 @@
-use Rattle.std.proofs.Common.{◌≡◌, ap, sym, ◌∙◌}
+use Rattle.std.proofs.Common.{ap, ◌∙◌}
 use Rattle.link_scheduler.specs.declared.transmitter.flight.Flight.{Flight}
 use Rattle.link_scheduler.proofs.Flights.Flight.{all_with, is_past_flight, is_past}
 use Rattle.link_scheduler.proofs.transmitter.flights.Flights.put.Goals as goal

@@ -7,6 +7,8 @@ pub invariant_of-self : goal.invariant_of-self
 invariant_of-self g c =
     let old = c.args.self.now in
     record {
-      past = ap (list_all (is_past old.at)) c.remove.ensures.items ∙ all_but (is_past old.at) old.list.items c.args.at old.past;
+      past =
+          ap (list_all (is_past old.at)) c.remove.ensures.items
+          ∙ all_but (is_past old.at) old.list.items c.args.at old.past;
       scaled = old.scaled;
     }

@@ -1,4 +1,5 @@
-use Rattle.std.proofs.Common.{◌≡◌, ◌<◌, ◌≤◌, [], ◌++◌, ◌∷◌, List, not, length, map, get_or, refl, ap, ap₂, sym, ◌∙◌, subst, arith}
+use Rattle.std.proofs.Common.{◌≡◌, ◌<◌, ◌≤◌, [], ◌++◌, ◌∷◌, length, get_or, refl, ap, ap₂, sym, ◌∙◌}
+use Rattle.std.proofs.Common.{subst, arith}
 use Rattle.std.specs.declared.rc.Rc.{Rc}
 use Rattle.std.specs.declared.alloc.Global.{Global}
 use Rattle.std.proofs.lemmas.List.{map-append, get_or_default}
@@ -20,7 +21,7 @@ loop-at-init g c =
     let message = λ (f : Rc (Flight g.row.P.Denot) Global). message_of f.value.message.value in
     let out = λ (f : Rc (Flight g.row.P.Denot) Global). is_out g.P.Ord.cmp caps old.scale (flight_at old.at f.value) in (
       subst (λ l. HaveLeft message out old.list.items old.list.items (messages l) 0) (sym c.new-done.ensures.items)
-      (none_left message out old.list.items),
+          (none_left message out old.list.items),
       refl,
       refl,
       λ h. h,
@@ -41,16 +42,21 @@ loop-at-preserved-then-is_done g c =
     let gone : message_of c.in_ok-clone.field-0.value ≡ message c.index.result.now =
     ap (λ (m : Message g.row.P.Denot). message_of m)
     (c.in_ok-clone.ensures.cases ∙ ap (λ (f : Flight g.row.P.Denot). f.message.value) c.deref.ensures) in
-    let here = λ (d : Rc (Flight g.row.P.Denot) Global). gone ∙ ap message (c.index.ensures ∙ get_or_default now.list.items c.loop-at.at c.index.result.now d lt) in
-    let pushed : messages c.push_back.new.self.items ≡ messages c.loop-at.done.items ++ message_of c.in_ok-clone.field-0.value ∷ [] =
-    ap messages c.in_ok-push_back.ensures.items ∙ map-append (λ m. message_of m.value) c.loop-at.done.items (c.in_ok-clone.field-0 ∷ []) in
+    let here = λ (d : Rc (Flight g.row.P.Denot) Global).
+    gone ∙ ap message (c.index.ensures ∙ get_or_default now.list.items c.loop-at.at c.index.result.now d lt) in
+    let pushed : messages c.push_back.new.self.items
+    ≡ messages c.loop-at.done.items ++ message_of c.in_ok-clone.field-0.value ∷ [] =
+    ap messages c.in_ok-push_back.ensures.items
+    ∙ map-append (λ m. message_of m.value) c.loop-at.done.items (c.in_ok-clone.field-0 ∷ []) in
     let left = step_leaves message out old.list.items now.list.items (messages c.loop-at.done.items) c.loop-at.at h.0
     (message_of c.in_ok-clone.field-0.value) c.is_done.result lt c.if-is_done.true test here in (
       rw (c.remove.ensures.list, pushed) left,
       c.remove.ensures.scale ∙ h.1,
       c.remove.ensures.at ∙ h.2,
       λ timed. rw c.remove.ensures.list (timed_without now.list.items c.loop-at.at (h.3 timed)),
-      λ all. rw (c.remove.ensures.list, c.remove.ensures.at) (flights_limited_without g.P.Ord.cmp caps now.at now.list.items c.loop-at.at (h.4 all)),
+      λ all.
+          rw (c.remove.ensures.list, c.remove.ensures.at)
+          (flights_limited_without g.P.Ord.cmp caps now.at now.list.items c.loop-at.at (h.4 all)),
     )
 
 pub loop-at-preserved : goal.loop-at-preserved
@@ -64,7 +70,9 @@ loop-at-preserved g c =
     let lt : c.loop-at.at < length now.list.items = omega arith in
     let test = λ (d : Rc (Flight g.row.P.Denot) Global). c.is_done.ensures d
     ∙ ap₂ (λ n m. is_out g.P.Ord.cmp caps n (flight_at m (get_or now.list.items c.loop-at.at d).value)) h.1 h.2 in
-    let stays = step_stays message out old.list.items now.list.items (messages c.loop-at.done.items) c.loop-at.at h.0 c.is_done.result
+    let stays =
+    step_stays message out old.list.items now.list.items (messages c.loop-at.done.items) c.loop-at.at h.0
+    c.is_done.result
     lt c.if-is_done.false test in
     (stays, h.1, h.2, h.3, h.4)
 
@@ -77,5 +85,8 @@ returns-clause-parted g c =
     let message = λ (f : Rc (Flight g.row.P.Denot) Global). message_of f.value.message.value in
     let out = λ (f : Rc (Flight g.row.P.Denot) Global). is_out g.P.Ord.cmp caps old.scale (flight_at old.at f.value) in
     let end : length now.list.items ≤ c.loop-at.at = omega arith in
-    let all = all_looked_at message out old.list.items now.list.items (messages c.loop-at.done.items) c.loop-at.at h.0 end in
-    rw h.2 (parted_so g.P.Ord.cmp caps old.scale old.at old.list.items now.list.items (messages c.loop-at.done.items) all.leavers all.stay)
+    let all =
+    all_looked_at message out old.list.items now.list.items (messages c.loop-at.done.items) c.loop-at.at h.0 end in
+    rw h.2
+    (parted_so g.P.Ord.cmp caps old.scale old.at old.list.items now.list.items (messages c.loop-at.done.items)
+    all.leavers all.stay)

@@ -17,7 +17,8 @@ invariant-loop-at g l =
     × (l.self.scale ≡ l.initial.self.scale)
     × (l.self.at ≡ l.initial.self.at)
     × (AreTimed l.initial.self.list.items → AreTimed l.self.list.items)
-    × StayRated g.P.Ord.cmp (caps_of g.P.Ord.cmp l.peers.entries l.pairs.entries) (in_units l.initial.self) (in_units l.self)
+    × StayRated g.P.Ord.cmp (caps_of g.P.Ord.cmp l.peers.entries l.pairs.entries) (in_units l.initial.self)
+    (in_units l.self)
 
 abbrev pub decreases-loop-at : goal.decreases-loop-at
 decreases-loop-at g l = length l.self.list.items - l.at

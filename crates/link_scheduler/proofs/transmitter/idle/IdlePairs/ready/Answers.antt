@@ -11,5 +11,9 @@ returns-clause-ready g c = record {
   due = c.in_ok-ready.ready.items;
   named = c.in_ok-ready.ensures.due;
   same = c.in_ok-sort_by.ensures.permutation;
-  sorted = c.in_ok-sort_by.ensures.sorted (λ j k. is_lt (pair_cmp g.P.Ord.cmp (j.origin, j.recipient) (k.origin, k.recipient))) (ranks_by (pair_total g.P.Ord.cmp g.met.P.Ord.total) (λ (k : PeerPair g.row.P.Denot). (k.origin, k.recipient))) (answers_always _ _ _ (λ f a r f' k. search rules));
+  sorted =
+      c.in_ok-sort_by.ensures.sorted
+      (λ j k. is_lt (pair_cmp g.P.Ord.cmp (j.origin, j.recipient) (k.origin, k.recipient)))
+      (ranks_by (pair_total g.P.Ord.cmp g.met.P.Ord.total) (λ (k : PeerPair g.row.P.Denot). (k.origin, k.recipient)))
+      (answers_always _ _ _ (λ f a r f' k. search rules));
 }

@@ -13,7 +13,8 @@ returns-in_err-happen-clause-refused g c =
     let p = err_from_is_err_and c.from_residual.result c.from_residual.ensures.1 in
     rw (p.1, p.2) (event_refused g.P.Ord.cmp c.args.now (planned g.P.Ord.cmp c.args.self.now)
     (planned g.P.Ord.cmp c.loop-event.self)
-    (map ended_of c.loop-event.ended.items) c.loop-event.events c.in-Some.event c.loop-event.invariant.so c.in-Some.ensures _ c.in_err-happen.ensures.refused)
+    (map ended_of c.loop-event.ended.items) c.loop-event.events c.in-Some.event c.loop-event.invariant.so
+    c.in-Some.ensures _ c.in_err-happen.ensures.refused)
 
 pub overflow_add-events : goal.overflow_add-events
 overflow_add-events g c =
@@ -21,10 +22,14 @@ overflow_add-events g c =
     let fewer : events_left g.P.Ord.cmp (planned g.P.Ord.cmp c.happen.new.self) + 1 ≤ events_left g.P.Ord.cmp
     (planned g.P.Ord.cmp c.loop-event.self) = happens_fewer g.P.Ord.cmp g.met.P.Ord.total c.args.now c.in-Some.event
     (planned g.P.Ord.cmp c.loop-event.self) (planned g.P.Ord.cmp c.happen.new.self) h.0 c.in-Some.ensures h.2 in
-    let few : c.loop-event.events + events_left g.P.Ord.cmp (planned g.P.Ord.cmp c.loop-event.self) ≤ events_left g.P.Ord.cmp (planned g.P.Ord.cmp c.args.self.now) = c.loop-event.invariant.few in
+    let few : c.loop-event.events + events_left g.P.Ord.cmp (planned g.P.Ord.cmp c.loop-event.self)
+    ≤ events_left g.P.Ord.cmp (planned g.P.Ord.cmp c.args.self.now) =
+    c.loop-event.invariant.few in
     let old = c.args.self.now in
-    let waits : length (planned g.P.Ord.cmp old).waiting ≡ length old.waiting.messages = length-map old.waiting.messages message_of in
-    let sends : length (planned g.P.Ord.cmp old).sending ≡ length old.flights.list.items = length_in_flight old.flights.scale old.flights.at old.flights.list.items in
+    let waits : length (planned g.P.Ord.cmp old).waiting ≡ length old.waiting.messages =
+    length-map old.waiting.messages message_of in
+    let sends : length (planned g.P.Ord.cmp old).sending ≡ length old.flights.list.items =
+    length_in_flight old.flights.scale old.flights.at old.flights.list.items in
     let all : events_left g.P.Ord.cmp (planned g.P.Ord.cmp old) < 340282366920938463463374607431768211456
     = events_few g.P.Ord.cmp (planned g.P.Ord.cmp old) (omega (arith, waits, old.waiting.few))
     (omega (arith, sends, old.flights.list.small, old.flights.list.ok)) in
@@ -44,13 +49,16 @@ loop-event-preserved g c =
     let fewer : events_left g.P.Ord.cmp (planned g.P.Ord.cmp c.happen.new.self) + 1 ≤ events_left g.P.Ord.cmp
     (planned g.P.Ord.cmp c.loop-event.self) = happens_fewer g.P.Ord.cmp g.met.P.Ord.total c.args.now c.in-Some.event
     (planned g.P.Ord.cmp c.loop-event.self) (planned g.P.Ord.cmp c.happen.new.self) h.0 c.in-Some.ensures h.2 in
-    let few : c.loop-event.events + events_left g.P.Ord.cmp (planned g.P.Ord.cmp c.loop-event.self) ≤ events_left g.P.Ord.cmp (planned g.P.Ord.cmp c.args.self.now) = c.loop-event.invariant.few in
+    let few : c.loop-event.events + events_left g.P.Ord.cmp (planned g.P.Ord.cmp c.loop-event.self)
+    ≤ events_left g.P.Ord.cmp (planned g.P.Ord.cmp c.args.self.now) =
+    c.loop-event.invariant.few in
     record {
       so =
           advances_step g.P.Ord.cmp c.args.now (planned g.P.Ord.cmp c.args.self.now)
           (planned g.P.Ord.cmp c.loop-event.self) (planned g.P.Ord.cmp c.happen.new.self)
           (map ended_of c.loop-event.ended.items)
-          (map ended_of c.happen.new.ended.items) h.0 c.loop-event.events c.in-Some.event c.loop-event.invariant.so c.in-Some.ensures h.2 h.1;
+          (map ended_of c.happen.new.ended.items) h.0 c.loop-event.events c.in-Some.event c.loop-event.invariant.so
+          c.in-Some.ensures h.2 h.1;
       few = omega (arith, fewer, few);
     }
 
@@ -59,7 +67,8 @@ returns-in_err-wake-clause-refused g c =
     let p = err_from_is_err_and c.from_residual-in_err-wake.result c.from_residual-in_err-wake.ensures.1 in
     rw (p.1, p.2) (wake_refused g.P.Ord.cmp c.args.now (planned g.P.Ord.cmp c.args.self.now)
     (planned g.P.Ord.cmp c.loop-event.self)
-    (map ended_of c.loop-event.ended.items) c.loop-event.events c.loop-event.invariant.so c.in_default.ensures _ c.in_err-wake.ensures.refused)
+    (map ended_of c.loop-event.ended.items) c.loop-event.events c.loop-event.invariant.so c.in_default.ensures _
+    c.in_err-wake.ensures.refused)
 
 pub returns-clause-advances : goal.returns-clause-advances
 returns-clause-advances g c =

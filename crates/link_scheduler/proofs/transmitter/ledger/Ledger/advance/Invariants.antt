@@ -7,8 +7,10 @@ use Rattle.link_scheduler.proofs.transmitter.ledger.Ledger.advance.Given as goal
 
 abbrev pub invariant-loop-event : goal.invariant-loop-event
 invariant-loop-event g l = record {
-  so : AdvancesSo g.P.Ord.cmp l.now (planned g.P.Ord.cmp l.initial.self) (planned g.P.Ord.cmp l.self) (map ended_of l.ended.items) l.events;
-  few : l.events + events_left g.P.Ord.cmp (planned g.P.Ord.cmp l.self) ≤ events_left g.P.Ord.cmp (planned g.P.Ord.cmp l.initial.self);
+  so : AdvancesSo g.P.Ord.cmp l.now (planned g.P.Ord.cmp l.initial.self) (planned g.P.Ord.cmp l.self)
+      (map ended_of l.ended.items) l.events;
+  few : l.events + events_left g.P.Ord.cmp (planned g.P.Ord.cmp l.self)
+      ≤ events_left g.P.Ord.cmp (planned g.P.Ord.cmp l.initial.self);
 }
 
 abbrev pub decreases-loop-event : goal.decreases-loop-event

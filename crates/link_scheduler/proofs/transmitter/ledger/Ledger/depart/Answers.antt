@@ -24,24 +24,37 @@ invariant_of-self-2 g c =
     let o = c.args.origin.now in
     let r = c.args.recipient.now in
     let m : Message g.row.P.Denot = message_of c.in-Some.message.value in
-    let f : RatedFlight g.row.P.Denot = record { message = m; left = whole (length m.bytes); rate = Some (whole 0); updated = c.args.now } in
+    let f : RatedFlight g.row.P.Denot =
+    record { message = m; left = whole (length m.bytes); rate = Some (whole 0); updated = c.args.now } in
     let found : first_of cmp (map message_of old.waiting.messages) o r ≡ Some m =
     sym c.in_ok-message.ensures.taken ∙ ap (option_map (λ x. message_of x.value)) c.in-Some.is in
     let taken = c.in_ok-message.ensures.rest in
-    let own = find_passes (λ (n : Message g.row.P.Denot). same_peer cmp o n.origin && same_peer cmp r n.recipient) m (map message_of old.waiting.messages) found in
+    let own =
+    find_passes (λ (n : Message g.row.P.Denot). same_peer cmp o n.origin && same_peer cmp r n.recipient) m
+    (map message_of old.waiting.messages) found in
     record {
-      rated = λ e. ∥∥₁_map (old.rated e) (still_rated cmp (caps_of cmp old.peers.entries old.pairs.entries) old.flights c.push.new.self c.push.ensures.scale c.push.ensures.rated c.push.ensures.timed);
-      indexed = departed_index cmp g.met.P.Ord.total old.pairs.entries old.waiting.messages c.take_first.new.self.messages (in_flight old.flights) (in_flight c.push.new.self) f o r old.idle.entries c.change-changed.new.self.entries
-          (arrivals_looked_up cmp g.met.P.Ord.total old.pairs.entries) taken c.in_default-push.ensures.sending own old.indexed
+      rated = λ e.
+          ∥∥₁_map (old.rated e)
+          (still_rated cmp (caps_of cmp old.peers.entries old.pairs.entries) old.flights c.push.new.self
+          c.push.ensures.scale c.push.ensures.rated c.push.ensures.timed);
+      indexed =
+          departed_index cmp g.met.P.Ord.total old.pairs.entries old.waiting.messages c.take_first.new.self.messages
+          (in_flight old.flights) (in_flight c.push.new.self) f o r old.idle.entries c.change-changed.new.self.entries
+          (arrivals_looked_up cmp g.met.P.Ord.total old.pairs.entries) taken c.in_default-push.ensures.sending own
+          old.indexed
           c.in_default-changed.ensures.listed;
-      counted = counted_sent cmp g.met.P.Ord.total old.busy.entries c.in_ok-busy.busy.entries c.add.new.self.entries (in_flight old.flights) (in_flight c.push.new.self) o r f c.in_ok-busy.ensures.cases own c.in_default-push.ensures.sending old.counted c.in_ok-add.ensures.counted;
+      counted =
+          counted_sent cmp g.met.P.Ord.total old.busy.entries c.in_ok-busy.busy.entries c.add.new.self.entries
+          (in_flight old.flights) (in_flight c.push.new.self) o r f c.in_ok-busy.ensures.cases own
+          c.in_default-push.ensures.sending old.counted c.in_ok-add.ensures.counted;
     }
 
 -- where the message cannot be in flight, its pair is not busy either
 pub invariant_of-self-in-Err-push-clause-counted : goal.invariant_of-self-in-Err-push-clause-counted
 invariant_of-self-in-Err-push-clause-counted g c =
     let old = c.args.self.now in
-    subst (λ fs. AreCounted g.P.Ord.cmp old.busy.entries (rated_messages fs)) (sym c.in-Err-push.ensures.kept) old.counted
+    subst (λ fs. AreCounted g.P.Ord.cmp old.busy.entries (rated_messages fs)) (sym c.in-Err-push.ensures.kept)
+    old.counted
 
 pub returns-clause-departed : goal.returns-clause-departed
 returns-clause-departed g c =

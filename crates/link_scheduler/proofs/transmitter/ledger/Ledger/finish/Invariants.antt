@@ -6,7 +6,9 @@ use Rattle.link_scheduler.proofs.Calls.MessageCounts.{in_system}
 use Rattle.link_scheduler.proofs.transmitter.ledger.Ledger.finish.Given as goal
 
 abbrev pub invariant-loop-message : goal.invariant-loop-message
-invariant-loop-message g l = FinishesSo g.P.Ord.cmp l.now (messages l.initial.queue.items) (planned g.P.Ord.cmp l.initial.self) (map ended_of l.initial.ended.items)
+invariant-loop-message g l =
+    FinishesSo g.P.Ord.cmp l.now (messages l.initial.queue.items) (planned g.P.Ord.cmp l.initial.self)
+    (map ended_of l.initial.ended.items)
     (messages l.queue.items) (planned g.P.Ord.cmp l.self) (map ended_of l.ended.items)
 
 abbrev pub decreases-loop-message : goal.decreases-loop-message

@@ -9,8 +9,13 @@ use Rattle.link_scheduler.proofs.transmitter.ledger.Ledger.happen.Goals as goal
 
 pub returns-in-Finish-clause-happens : goal.returns-in-Finish-clause-happens
 returns-in-Finish-clause-happens g c =
-    subst (λ (event : Event). IfOk c.settle.result (λ done. (cs : List (Completed g.row.P.Denot)) × (map ended_of c.settle.new.ended.items ≡ map ended_of c.args.ended.now.items ++ cs)
-    × Happens g.P.Ord.cmp event (planned g.P.Ord.cmp c.args.self.now) (goes cs (planned g.P.Ord.cmp c.settle.new.self)))) (sym c.in-Finish.is) c.settle.ensures.settles
+    subst
+    (λ (event : Event). IfOk c.settle.result
+    (λ done. (cs : List (Completed g.row.P.Denot))
+    × (map ended_of c.settle.new.ended.items ≡ map ended_of c.args.ended.now.items ++ cs)
+    × Happens g.P.Ord.cmp event (planned g.P.Ord.cmp c.args.self.now)
+    (goes cs (planned g.P.Ord.cmp c.settle.new.self))))
+    (sym c.in-Finish.is) c.settle.ensures.settles
 
 pub returns-in-Finish-clause-refused : goal.returns-in-Finish-clause-refused
 returns-in-Finish-clause-refused g c =

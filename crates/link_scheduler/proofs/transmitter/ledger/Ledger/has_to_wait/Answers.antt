@@ -8,4 +8,8 @@ use Rattle.link_scheduler.proofs.transmitter.ledger.Ledger.has_to_wait.Goals as 
 pub returns-then-self : goal.returns-then-self
 returns-then-self g c =
     c.has.ensures (rated_messages (in_flight c.args.self.now.flights)) c.args.self.now.counted
-    ∙ sym (ap (λ (b : Bool). b && is_sending g.P.Ord.cmp (planned g.P.Ord.cmp c.args.self.now) c.args.origin.now c.args.recipient.now) c.if-self.true)
+    ∙ sym
+    (ap
+    (λ (b : Bool). b
+    && is_sending g.P.Ord.cmp (planned g.P.Ord.cmp c.args.self.now) c.args.origin.now c.args.recipient.now)
+    c.if-self.true)

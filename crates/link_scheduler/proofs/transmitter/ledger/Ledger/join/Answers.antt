@@ -15,13 +15,20 @@ invariant_of-self-in_default g c =
     let cmp = g.P.Ord.cmp in
     let old = c.args.self.now in
     let m = message_of c.args.message in
-    let joined : map message_of c.push.new.self.messages ≡ queued cmp m (map message_of old.waiting.messages) = c.in_ok-push.ensures.waiting in
-    let own = and_from _ _ (peer_turned cmp g.met.P.Ord.total _ _ c.requires.origin) (peer_turned cmp g.met.P.Ord.total _ _ c.requires.recipient) in
+    let joined : map message_of c.push.new.self.messages ≡ queued cmp m (map message_of old.waiting.messages) =
+    c.in_ok-push.ensures.waiting in
+    let own =
+    and_from _ _ (peer_turned cmp g.met.P.Ord.total _ _ c.requires.origin)
+    (peer_turned cmp g.met.P.Ord.total _ _ c.requires.recipient) in
     record {
       counted = old.counted;
       rated = old.rated;
-      indexed = queued_index cmp g.met.P.Ord.total old.pairs.entries old.waiting.messages c.push.new.self.messages (in_flight old.flights) c.args.pair.now.origin c.args.pair.now.recipient m old.idle.entries c.change-changed.new.self.entries
-          (arrivals_looked_up cmp g.met.P.Ord.total old.pairs.entries) joined own old.indexed c.in_default.ensures.listed (c.idle_from-after.ensures (in_flight old.flights) old.counted);
+      indexed =
+          queued_index cmp g.met.P.Ord.total old.pairs.entries old.waiting.messages c.push.new.self.messages
+          (in_flight old.flights) c.args.pair.now.origin c.args.pair.now.recipient m old.idle.entries
+          c.change-changed.new.self.entries
+          (arrivals_looked_up cmp g.met.P.Ord.total old.pairs.entries) joined own old.indexed
+          c.in_default.ensures.listed (c.idle_from-after.ensures (in_flight old.flights) old.counted);
     }
 
 pub returns-clause-queued : goal.returns-clause-queued
@@ -29,7 +36,8 @@ returns-clause-queued g c =
     let cmp = g.P.Ord.cmp in
     let old = c.args.self.now in
     let m = message_of c.args.message in
-    let joined : map message_of c.push.new.self.messages ≡ queued cmp m (map message_of old.waiting.messages) = c.in_ok-push.ensures.waiting in
+    let joined : map message_of c.push.new.self.messages ≡ queued cmp m (map message_of old.waiting.messages) =
+    c.in_ok-push.ensures.waiting in
     λ i. record {
       caps = caps_of cmp old.peers.entries old.pairs.entries;
       limited = old.limited;

@@ -14,18 +14,25 @@ use Rattle.link_scheduler.proofs.transmitter.ledger.Ledger.launch.Goals as goal
 pub returns-then-not-may_launch-clause-launches : goal.returns-then-not-may_launch-clause-launches
 returns-then-not-may_launch-clause-launches g c =
     let p : Planned g.row.P.Denot = planned g.P.Ord.cmp c.args.self.now in
-    subst (λ (items : List (Rc (code.Message g.row.P.Denot) Global)). Launches g.P.Ord.cmp c.args.now p (first_of g.P.Ord.cmp p.waiting c.args.origin.now c.args.recipient.now) (goes (messages items) p)) (sym c.new.ensures.items)
+    subst
+    (λ (items : List (Rc (code.Message g.row.P.Denot) Global)). Launches g.P.Ord.cmp c.args.now p
+    (first_of g.P.Ord.cmp p.waiting c.args.origin.now c.args.recipient.now) (goes (messages items) p))
+    (sym c.new.ensures.items)
     (not_started g.P.Ord.cmp g.met.P.Ord.total c.args.now p _ (sym c.may_launch.ensures ∙ c.if-not-may_launch.true))
 
 pub returns-then-self-clause-refused : goal.returns-then-self-clause-refused
-returns-then-self-clause-refused g c = no_more_ids g.P.Ord.cmp g.met.P.Ord.total c.args.now (planned g.P.Ord.cmp c.args.self.now) _ (sym c.may_launch.ensures ∙ c.if-not-may_launch.false) (omega arith)
+returns-then-self-clause-refused g c =
+    no_more_ids g.P.Ord.cmp g.met.P.Ord.total c.args.now (planned g.P.Ord.cmp c.args.self.now) _
+    (sym c.may_launch.ensures ∙ c.if-not-may_launch.false) (omega arith)
 
 pub returns-clause-launches : goal.returns-clause-launches
 returns-clause-launches g c =
     let d = c.in_ok-depart.ensures.departed in
-    launched_so g.P.Ord.cmp g.met.P.Ord.total c.args.now (planned g.P.Ord.cmp c.args.self.now) (planned g.P.Ord.cmp c.depart.new.self) c.args.origin.now c.args.recipient.now d.message
+    launched_so g.P.Ord.cmp g.met.P.Ord.total c.args.now (planned g.P.Ord.cmp c.args.self.now)
+    (planned g.P.Ord.cmp c.depart.new.self) c.args.origin.now c.args.recipient.now d.message
     (sym c.may_launch.ensures ∙ c.if-not-may_launch.false) (omega arith) d.first d.is
-    (λ leavers. messages leavers.items) c.account.result (planned g.P.Ord.cmp c.account.new.self) c.account.ensures.accounts
+    (λ leavers. messages leavers.items) c.account.result (planned g.P.Ord.cmp c.account.new.self)
+    c.account.ensures.accounts
 
 pub returns-clause-refused : goal.returns-clause-refused
 returns-clause-refused g c =

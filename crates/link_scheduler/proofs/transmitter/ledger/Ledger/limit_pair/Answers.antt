@@ -12,5 +12,12 @@ invariant_of-self-clause-indexed g c =
     let cmp = g.P.Ord.cmp in
     let old = c.args.self.now in
     let last = c.in_ok-set_cap.ensures.arrival ∙ ap (arrival_of cmp) c.in_ok-pairs.ensures.cases in
-    subst (λ l. IsIndexOf cmp (record (new_planned 0) { sending = in_flight old.flights; waiting = map message_of old.waiting.messages; last_arrival = l }) old.idle.entries)
+    subst
+    (λ l. IsIndexOf cmp
+    (record (new_planned 0) {
+      sending = in_flight old.flights;
+      waiting = map message_of old.waiting.messages;
+      last_arrival = l;
+    })
+    old.idle.entries)
     (sym last) old.indexed

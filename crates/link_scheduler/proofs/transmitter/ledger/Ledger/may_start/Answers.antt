@@ -18,7 +18,9 @@ returns-then-has g c =
     let p = planned g.P.Ord.cmp c.args.self.now in
     let m = message_of c.args.message.now in
     let none : is_some c.first.result ≡ false = search rules in
-    may_start_is g.P.Ord.cmp g.met.P.Ord.total c.args.now p m true (nat_le (first_moment (p.last_arrival m.origin m.recipient) m.latency) c.args.now) (none_read (λ b. message_of b.now) c.first.result _ none c.first.ensures)
+    may_start_is g.P.Ord.cmp g.met.P.Ord.total c.args.now p m true
+    (nat_le (first_moment (p.last_arrival m.origin m.recipient) m.latency) c.args.now)
+    (none_read (λ b. message_of b.now) c.first.result _ none c.first.ensures)
     (sym c.if-has.true ∙ c.has.ensures (rated_messages p.sending) c.args.self.now.counted) refl
 
 pub returns : goal.returns
@@ -26,7 +28,10 @@ returns g c =
     let p = planned g.P.Ord.cmp c.args.self.now in
     let m = message_of c.args.message.now in
     let none : is_some c.first.result ≡ false = search rules in
-    let moment : c.ready_moment.result ≡ first_moment (arrival_of g.P.Ord.cmp c.args.self.now.pairs.entries m.origin m.recipient) m.latency = c.ready_moment.ensures ∙ ap (λ last. first_moment last m.latency) c.last_arrival.ensures in
-    may_start_is g.P.Ord.cmp g.met.P.Ord.total c.args.now p m false (nat_le c.ready_moment.result c.args.now) (none_read (λ b. message_of b.now) c.first.result _ none c.first.ensures)
+    let moment : c.ready_moment.result
+    ≡ first_moment (arrival_of g.P.Ord.cmp c.args.self.now.pairs.entries m.origin m.recipient) m.latency =
+    c.ready_moment.ensures ∙ ap (λ last. first_moment last m.latency) c.last_arrival.ensures in
+    may_start_is g.P.Ord.cmp g.met.P.Ord.total c.args.now p m false (nat_le c.ready_moment.result c.args.now)
+    (none_read (λ b. message_of b.now) c.first.result _ none c.first.ensures)
     (sym c.if-has.false ∙ c.has.ensures (rated_messages p.sending) c.args.self.now.counted)
     (ap (λ k. nat_le k c.args.now) moment)

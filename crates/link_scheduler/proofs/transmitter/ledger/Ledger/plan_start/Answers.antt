@@ -11,5 +11,7 @@ returns g c =
     let old = c.args.self.now in
     let start : c.map-self.result ≡ option_map (λ t. max c.args.now t) c.first.result = search rules in
     let fits : IfSome c.map-self.result (λ t. t ≤ last_moment) = search rules in
-    looks_so g.P.Ord.cmp g.met.P.Ord.total (planned g.P.Ord.cmp old) (arrivals_looked_up g.P.Ord.cmp g.met.P.Ord.total old.pairs.entries) old.idle.entries c.args.now c.map-self.result old.idle.ascending old.indexed
+    looks_so g.P.Ord.cmp g.met.P.Ord.total (planned g.P.Ord.cmp old)
+    (arrivals_looked_up g.P.Ord.cmp g.met.P.Ord.total old.pairs.entries) old.idle.entries c.args.now c.map-self.result
+    old.idle.ascending old.indexed
     (start ∙ ap (option_map (λ t. max c.args.now t)) c.first.ensures) fits

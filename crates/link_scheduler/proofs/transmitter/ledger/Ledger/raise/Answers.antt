@@ -15,10 +15,17 @@ invariant_of-self-in_default g c =
     let old = c.args.self.now in
     record {
       counted = old.counted;
-      rated = λ e. subst (λ l. ∥ AreRated g.P.Ord.cmp (record (caps_of g.P.Ord.cmp old.peers.entries old.pairs.entries) { link = l }) old.flights ∥₁)
+      rated = λ e.
+          subst
+          (λ l. ∥ AreRated g.P.Ord.cmp (record (caps_of g.P.Ord.cmp old.peers.entries old.pairs.entries) { link = l })
+          old.flights ∥₁)
           (sym c.in_ok-raise.ensures.link) (old.rated e);
-      indexed = raised_index g.P.Ord.cmp g.met.P.Ord.total old.pairs.entries c.raise.new.self.entries old.waiting.messages (in_flight old.flights) c.args.origin.now c.args.recipient.now c.args.moment old.idle.entries c.change-changed.new.self.entries
-          (arrivals_looked_up g.P.Ord.cmp g.met.P.Ord.total c.raise.new.self.entries) c.in_ok-raise.ensures.arrival old.indexed c.in_default.ensures.listed (c.idle_from-moved.ensures (in_flight old.flights) old.counted);
+      indexed =
+          raised_index g.P.Ord.cmp g.met.P.Ord.total old.pairs.entries c.raise.new.self.entries old.waiting.messages
+          (in_flight old.flights) c.args.origin.now c.args.recipient.now c.args.moment old.idle.entries
+          c.change-changed.new.self.entries
+          (arrivals_looked_up g.P.Ord.cmp g.met.P.Ord.total c.raise.new.self.entries) c.in_ok-raise.ensures.arrival
+          old.indexed c.in_default.ensures.listed (c.idle_from-moved.ensures (in_flight old.flights) old.counted);
     }
 
 pub returns-clause-raised : goal.returns-clause-raised
@@ -26,7 +33,12 @@ returns-clause-raised g c =
     let cmp = g.P.Ord.cmp in
     let old = c.args.self.now in
     λ i. record {
-      caps = record { egress = egress_of cmp old.peers.entries; ingress = ingress_of cmp old.peers.entries; link = c.in_ok-raise.ensures.link i };
+      caps =
+          record {
+            egress = egress_of cmp old.peers.entries;
+            ingress = ingress_of cmp old.peers.entries;
+            link = c.in_ok-raise.ensures.link i;
+          };
       limited = old.limited;
       sending = in_flight old.flights;
       waiting = map message_of old.waiting.messages;
@@ -43,6 +55,9 @@ invariant_of-self g c =
     let kept = c.in_err-raise.ensures.kept in
     record {
       counted = old.counted;
-      rated = λ e. subst (λ es. ∥ AreRated cmp (caps_of cmp old.peers.entries es) old.flights ∥₁) (sym kept) (old.rated e);
-      indexed = subst (λ es. IsIndexOf cmp (of_pairs cmp es old.waiting.messages (in_flight old.flights)) old.idle.entries) (sym kept) old.indexed;
+      rated = λ e.
+          subst (λ es. ∥ AreRated cmp (caps_of cmp old.peers.entries es) old.flights ∥₁) (sym kept) (old.rated e);
+      indexed =
+          subst (λ es. IsIndexOf cmp (of_pairs cmp es old.waiting.messages (in_flight old.flights)) old.idle.entries)
+          (sym kept) old.indexed;
     }

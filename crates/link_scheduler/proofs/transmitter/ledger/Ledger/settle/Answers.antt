@@ -16,9 +16,13 @@ returns-in_err-queue-clause-refused g c =
 
 pub returns-clause-settles : goal.returns-clause-settles
 returns-clause-settles g c =
-    settles_so g.P.Ord.cmp c.args.now (planned g.P.Ord.cmp c.args.self.now) (planned g.P.Ord.cmp c.account.new.self) (planned g.P.Ord.cmp c.finish.new.self) (messages c.in_ok-queue.queue.items)
-    (map ended_of c.args.ended.now.items) (map ended_of c.finish.new.ended.items) c.in_ok-queue.ensures.accounts c.finish.result c.finish.ensures.finishes
+    settles_so g.P.Ord.cmp c.args.now (planned g.P.Ord.cmp c.args.self.now) (planned g.P.Ord.cmp c.account.new.self)
+    (planned g.P.Ord.cmp c.finish.new.self) (messages c.in_ok-queue.queue.items)
+    (map ended_of c.args.ended.now.items) (map ended_of c.finish.new.ended.items) c.in_ok-queue.ensures.accounts
+    c.finish.result c.finish.ensures.finishes
 
 pub returns-clause-refused : goal.returns-clause-refused
 returns-clause-refused g c =
-    settle_finish_refused g.P.Ord.cmp c.args.now (planned g.P.Ord.cmp c.args.self.now) (planned g.P.Ord.cmp c.account.new.self) (messages c.in_ok-queue.queue.items) c.in_ok-queue.ensures.accounts c.finish.result c.finish.ensures.refused
+    settle_finish_refused g.P.Ord.cmp c.args.now (planned g.P.Ord.cmp c.args.self.now)
+    (planned g.P.Ord.cmp c.account.new.self) (messages c.in_ok-queue.queue.items) c.in_ok-queue.ensures.accounts
+    c.finish.result c.finish.ensures.refused

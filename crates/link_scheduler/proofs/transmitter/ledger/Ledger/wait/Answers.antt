@@ -16,7 +16,8 @@ pub returns-clause-enqueues : goal.returns-clause-enqueues
 returns-clause-enqueues g c =
     let cmp = g.P.Ord.cmp in
     let old = c.args.self.now in
-    enqueue_waits cmp g.met.P.Ord.total c.args.now (message_of c.args.message) (planned cmp old) _ (planned cmp c.plan_start.new.self) c.requires.limited c.requires.busy
+    enqueue_waits cmp g.met.P.Ord.total c.args.now (message_of c.args.message) (planned cmp old) _
+    (planned cmp c.plan_start.new.self) c.requires.limited c.requires.busy
     (λ i. record {
       caps = caps_of cmp old.peers.entries old.pairs.entries;
       limited = old.limited;
@@ -36,7 +37,11 @@ invariant_of-self g c =
       counted = old.counted;
       rated = old.rated;
       indexed = on_either c.push.result
-          (λ joined. waited_index cmp g.met.P.Ord.total old.pairs.entries old.waiting.messages c.push.new.self.messages (in_flight old.flights) (message_of c.args.message) old.idle.entries joined c.requires.busy (arrivals_looked_up cmp g.met.P.Ord.total old.pairs.entries) old.indexed)
-          (λ same. subst (λ ms. IsIndexOf cmp (of_pairs cmp old.pairs.entries ms (in_flight old.flights)) old.idle.entries) (sym same) old.indexed)
+          (λ joined. waited_index cmp g.met.P.Ord.total old.pairs.entries old.waiting.messages c.push.new.self.messages
+          (in_flight old.flights) (message_of c.args.message) old.idle.entries joined c.requires.busy
+          (arrivals_looked_up cmp g.met.P.Ord.total old.pairs.entries) old.indexed)
+          (λ same. subst
+          (λ ms. IsIndexOf cmp (of_pairs cmp old.pairs.entries ms (in_flight old.flights)) old.idle.entries)
+          (sym same) old.indexed)
           c.push.ensures.waiting c.push.ensures.kept;
     }

@@ -5,5 +5,7 @@ use Rattle.link_scheduler.proofs.Calls.Finishing.{WakesAt}
 use Rattle.link_scheduler.proofs.transmitter.ledger.Ledger.wake.Given as goal
 
 abbrev pub invariant-loop-pair : goal.invariant-loop-pair
-invariant-loop-pair g l = WakesAt g.P.Ord.cmp l.now (ready_messages g.P.Ord.cmp l.now (planned g.P.Ord.cmp l.initial.self)) (planned g.P.Ord.cmp l.initial.self) (map ended_of l.initial.ended.items)
+invariant-loop-pair g l =
+    WakesAt g.P.Ord.cmp l.now (ready_messages g.P.Ord.cmp l.now (planned g.P.Ord.cmp l.initial.self))
+    (planned g.P.Ord.cmp l.initial.self) (map ended_of l.initial.ended.items)
     l.pair-items l.pair-index (planned g.P.Ord.cmp l.self) (map ended_of l.ended.items)

@@ -13,10 +13,18 @@ invariant_of-result g c =
     let copy = c.in_ok-clone-6.field-0 in
     let same = c.in_ok-clone-6.ensures.cases in
     record {
-      indexed = rw (c.in_ok-clone-4.ensures.cases, c.in_ok-clone-2.ensures.cases, c.in_ok-clone-3.ensures.cases, in_flight_alike old.flights copy same) old.indexed;
+      indexed =
+          rw (
+            c.in_ok-clone-4.ensures.cases,
+            c.in_ok-clone-2.ensures.cases,
+            c.in_ok-clone-3.ensures.cases,
+            in_flight_alike old.flights copy same,
+          )
+          old.indexed;
       counted = rw (c.in_ok-clone-5.ensures.cases, in_flight_alike old.flights copy same) old.counted;
       rated = λ e. ∥∥₁_map (old.rated e) (λ f.
-          rw (c.in_ok-clone.ensures.cases, c.in_ok-clone-2.ensures.cases) (rated_copy old.flights copy same g.P.Ord.cmp (caps_of g.P.Ord.cmp old.peers.entries old.pairs.entries) f));
+          rw (c.in_ok-clone.ensures.cases, c.in_ok-clone-2.ensures.cases)
+          (rated_copy old.flights copy same g.P.Ord.cmp (caps_of g.P.Ord.cmp old.peers.entries old.pairs.entries) f));
     }
 
 pub returns : goal.returns

@@ -8,18 +8,33 @@ use Rattle.link_scheduler.proofs.transmitter.pairs.Pairs.search.Goals as goal
 
 pub returns-in-Some-clause-found : goal.returns-in-Some-clause-found
 returns-in-Some-clause-found g c =
-    let same : is_eq (pair_cmp g.P.Ord.cmp (key_of c.in-Some.pair.now) (c.args.origin.now, c.args.recipient.now)) ≡ true = search rules in
-    parting_place (pair_cmp g.P.Ord.cmp) (pair_total g.P.Ord.cmp g.met.P.Ord.total) key_of (c.args.origin.now, c.args.recipient.now) c.args.self.now.entries c.place-at.result c.args.self.now.ascending
-    (c.place-at.ensures.parting (parted (pair_cmp g.P.Ord.cmp) (pair_total g.P.Ord.cmp g.met.P.Ord.total) key_of (c.args.origin.now, c.args.recipient.now) c.args.self.now.entries c.args.self.now.ascending)) c.in-Some.pair.now c.in-Some.ensures same
+    let same : is_eq (pair_cmp g.P.Ord.cmp (key_of c.in-Some.pair.now) (c.args.origin.now, c.args.recipient.now))
+    ≡ true =
+    search rules in
+    parting_place (pair_cmp g.P.Ord.cmp) (pair_total g.P.Ord.cmp g.met.P.Ord.total) key_of
+    (c.args.origin.now, c.args.recipient.now) c.args.self.now.entries c.place-at.result c.args.self.now.ascending
+    (c.place-at.ensures.parting
+    (parted (pair_cmp g.P.Ord.cmp) (pair_total g.P.Ord.cmp g.met.P.Ord.total) key_of
+    (c.args.origin.now, c.args.recipient.now) c.args.self.now.entries c.args.self.now.ascending))
+    c.in-Some.pair.now c.in-Some.ensures same
 
 pub returns-in_default-clause-absent : goal.returns-in_default-clause-absent
 returns-in_default-clause-absent g c =
-    let other : is_eq (pair_cmp g.P.Ord.cmp (key_of c.in-Some.pair.now) (c.args.origin.now, c.args.recipient.now)) ≡ false = search rules in
-    parting_gap (pair_cmp g.P.Ord.cmp) (pair_total g.P.Ord.cmp g.met.P.Ord.total) key_of (c.args.origin.now, c.args.recipient.now) c.args.self.now.entries c.place-at.result c.args.self.now.ascending
-    (c.place-at.ensures.parting (parted (pair_cmp g.P.Ord.cmp) (pair_total g.P.Ord.cmp g.met.P.Ord.total) key_of (c.args.origin.now, c.args.recipient.now) c.args.self.now.entries c.args.self.now.ascending)) c.in-Some.pair.now c.in-Some.ensures other
+    let other : is_eq (pair_cmp g.P.Ord.cmp (key_of c.in-Some.pair.now) (c.args.origin.now, c.args.recipient.now))
+    ≡ false =
+    search rules in
+    parting_gap (pair_cmp g.P.Ord.cmp) (pair_total g.P.Ord.cmp g.met.P.Ord.total) key_of
+    (c.args.origin.now, c.args.recipient.now) c.args.self.now.entries c.place-at.result c.args.self.now.ascending
+    (c.place-at.ensures.parting
+    (parted (pair_cmp g.P.Ord.cmp) (pair_total g.P.Ord.cmp g.met.P.Ord.total) key_of
+    (c.args.origin.now, c.args.recipient.now) c.args.self.now.entries c.args.self.now.ascending))
+    c.in-Some.pair.now c.in-Some.ensures other
 
 pub returns-in_default-2-clause-absent : goal.returns-in_default-2-clause-absent
 returns-in_default-2-clause-absent g c =
-    parting_end (pair_cmp g.P.Ord.cmp) (pair_total g.P.Ord.cmp g.met.P.Ord.total) key_of (c.args.origin.now, c.args.recipient.now) c.args.self.now.entries c.place-at.result c.args.self.now.ascending
-    (c.place-at.ensures.parting (parted (pair_cmp g.P.Ord.cmp) (pair_total g.P.Ord.cmp g.met.P.Ord.total) key_of (c.args.origin.now, c.args.recipient.now) c.args.self.now.entries c.args.self.now.ascending))
+    parting_end (pair_cmp g.P.Ord.cmp) (pair_total g.P.Ord.cmp g.met.P.Ord.total) key_of
+    (c.args.origin.now, c.args.recipient.now) c.args.self.now.entries c.place-at.result c.args.self.now.ascending
+    (c.place-at.ensures.parting
+    (parted (pair_cmp g.P.Ord.cmp) (pair_total g.P.Ord.cmp g.met.P.Ord.total) key_of
+    (c.args.origin.now, c.args.recipient.now) c.args.self.now.entries c.args.self.now.ascending))
     (sym (ap (option_map (λ b. b.now)) c.in_default.is) ∙ c.get.ensures)

@@ -8,18 +8,33 @@ use Rattle.link_scheduler.proofs.transmitter.waiting.Waiting.search.Goals as goa
 
 pub returns-in-Some : goal.returns-in-Some
 returns-in-Some g c =
-    let same : is_eq (pair_cmp g.P.Ord.cmp (pair_of c.in-Some.message.now) (c.args.origin.now, c.args.recipient.now)) ≡ true = search rules in
-    first_place g.P.Ord.cmp g.met.P.Ord.total (c.args.origin.now, c.args.recipient.now) c.args.self.now.messages c.place-at.result c.args.self.now.ordered
-    (c.place-at.ensures.parting (parted_first g.P.Ord.cmp g.met.P.Ord.total (c.args.origin.now, c.args.recipient.now) c.args.self.now.messages c.args.self.now.ordered)) c.in-Some.message.now c.in-Some.ensures same
+    let same : is_eq (pair_cmp g.P.Ord.cmp (pair_of c.in-Some.message.now) (c.args.origin.now, c.args.recipient.now))
+    ≡ true =
+    search rules in
+    first_place g.P.Ord.cmp g.met.P.Ord.total (c.args.origin.now, c.args.recipient.now) c.args.self.now.messages
+    c.place-at.result c.args.self.now.ordered
+    (c.place-at.ensures.parting
+    (parted_first g.P.Ord.cmp g.met.P.Ord.total (c.args.origin.now, c.args.recipient.now) c.args.self.now.messages
+    c.args.self.now.ordered))
+    c.in-Some.message.now c.in-Some.ensures same
 
 pub returns-in_default : goal.returns-in_default
 returns-in_default g c =
-    let other : is_eq (pair_cmp g.P.Ord.cmp (pair_of c.in-Some.message.now) (c.args.origin.now, c.args.recipient.now)) ≡ false = search rules in
-    no_first g.P.Ord.cmp g.met.P.Ord.total (c.args.origin.now, c.args.recipient.now) c.args.self.now.messages c.place-at.result c.args.self.now.ordered
-    (c.place-at.ensures.parting (parted_first g.P.Ord.cmp g.met.P.Ord.total (c.args.origin.now, c.args.recipient.now) c.args.self.now.messages c.args.self.now.ordered)) c.in-Some.message.now c.in-Some.ensures other
+    let other : is_eq (pair_cmp g.P.Ord.cmp (pair_of c.in-Some.message.now) (c.args.origin.now, c.args.recipient.now))
+    ≡ false =
+    search rules in
+    no_first g.P.Ord.cmp g.met.P.Ord.total (c.args.origin.now, c.args.recipient.now) c.args.self.now.messages
+    c.place-at.result c.args.self.now.ordered
+    (c.place-at.ensures.parting
+    (parted_first g.P.Ord.cmp g.met.P.Ord.total (c.args.origin.now, c.args.recipient.now) c.args.self.now.messages
+    c.args.self.now.ordered))
+    c.in-Some.message.now c.in-Some.ensures other
 
 pub returns-in_default-2 : goal.returns-in_default-2
 returns-in_default-2 g c =
-    no_first_at_end g.P.Ord.cmp g.met.P.Ord.total (c.args.origin.now, c.args.recipient.now) c.args.self.now.messages c.place-at.result c.args.self.now.ordered
-    (c.place-at.ensures.parting (parted_first g.P.Ord.cmp g.met.P.Ord.total (c.args.origin.now, c.args.recipient.now) c.args.self.now.messages c.args.self.now.ordered))
+    no_first_at_end g.P.Ord.cmp g.met.P.Ord.total (c.args.origin.now, c.args.recipient.now) c.args.self.now.messages
+    c.place-at.result c.args.self.now.ordered
+    (c.place-at.ensures.parting
+    (parted_first g.P.Ord.cmp g.met.P.Ord.total (c.args.origin.now, c.args.recipient.now) c.args.self.now.messages
+    c.args.self.now.ordered))
     (sym (ap (option_map (λ b. b.now)) c.in_default.is) ∙ c.get.ensures)
