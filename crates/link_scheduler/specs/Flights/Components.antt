@@ -16,7 +16,8 @@ module _ {P : Type 0} (cmp : P → P → Ordering) where
 
   -- whether it is one of the receivers
   abbrev pub is_receiver : Component P → P → Bool
-  is_receiver component p = component.whole || list_any (λ m. same_peer cmp p m.value.recipient) component.receivers.items
+  is_receiver component p =
+      component.whole || list_any (λ m. same_peer cmp p m.value.recipient) component.receivers.items
 
   -- whether the message goes from one of the senders
   abbrev pub is_of : Component P → UnitFlight P → Bool

@@ -1,6 +1,6 @@
 -- A message in flight, as it is kept, and as it stands at the last account.
-use Rattle.std.specs.Prelude.{◌≡◌, ℕ, ◌-◌, ◌*◌, ◌≤◌, nat_le, Bool, true, false, if◌then◌else◌, List, map, Option, Some, None}
-use Rattle.std.specs.Prelude.{slice_get, slice_set}
+use Rattle.std.specs.Prelude.{◌≡◌, ℕ, ◌-◌, ◌*◌, ◌≤◌, nat_le, Bool, true, false, if◌then◌else◌, List, map}
+use Rattle.std.specs.Prelude.{Option, Some, None, slice_get, slice_set}
 use Rattle.std.specs.declared.rc.Rc.{Rc}
 use Rattle.std.specs.declared.alloc.Global.{Global}
 use Rattle.link_simulation.specs.Simulation.World.{last_moment}
@@ -46,7 +46,8 @@ has_come t (Some moment) = nat_le moment t
 
 -- the finish of so many units, that drain at a rate since a moment, is the moment from which on nothing is left
 abbrev pub IsFinishOf : ℕ → ℕ → ℕ → Option ℕ → Type 0
-IsFinishOf left rate since finish = (t : ℕ) → since ≤ t → t ≤ last_moment → nat_le left (rate * (t - since)) ≡ has_come t finish
+IsFinishOf left rate since finish =
+    (t : ℕ) → since ≤ t → t ≤ last_moment → nat_le left (rate * (t - since)) ≡ has_come t finish
 
 -- the finish that is kept is right
 abbrev pub IsTimed : {P : Type 0} → Flight P → Type 0

@@ -64,8 +64,8 @@ pub record IsAsRated {P : Type 0} (old new : UnitFlight P) : Type 0 where
   pub rated : new.rated ≡ old.rated
 
 -- those that pass the test have left, as these messages, and the others have stayed
-pub record ArePartedBy {P : Type 0} (test : UnitFlight P → Bool) (before : List (UnitFlight P)) (done : List (Message P))
-    (us : List (UnitFlight P)) : Type 0 where
+pub record ArePartedBy {P : Type 0} (test : UnitFlight P → Bool) (before : List (UnitFlight P))
+    (done : List (Message P)) (us : List (UnitFlight P)) : Type 0 where
   pub left : done ≡ sent_messages (filter test before)
   pub stay : us ≡ filter (λ u. not (test u)) before
 
@@ -99,8 +99,8 @@ rerated cmp component now times (rate ∷ rates) (u ∷ us) = cond (is_of cmp co
     ∷ rerated cmp component now times rates us)
     (u ∷ rerated cmp component now times (rate ∷ rates) us)
 
--- it is of the same message, of which as much is left, in units of which so many times as many are needed, from a moment
--- on at a rate
+-- it is of the same message, of which as much is left, in units of which so many times as many are needed, from a
+-- moment on at a rate
 pub record IsRatedFrom {P : Type 0} (now times : ℕ) (old new : UnitFlight P) : Type 0 where
   pub message : new.message ≡ old.message
   pub left : new.left ≡ old.left * times

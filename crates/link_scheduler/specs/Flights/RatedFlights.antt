@@ -10,8 +10,8 @@ use Rattle.link_simulation.specs.Simulation.Messages.{is_delivered}
 use Rattle.link_scheduler.specs.Pairs.Messages.{message_of}
 use Rattle.link_simulation.specs.Rule.Planned.{RatedFlight}
 
--- a message in flight. A rate is so many units of which `scale` are one byte a second, and what is left so many of which
--- as many billions are one byte
+-- a message in flight. A rate is so many units of which `scale` are one byte a second, and what is left so many of
+-- which as many billions are one byte
 abbrev pub rated_flight_of : {P : Type 0} → ℕ → UnitFlight P → RatedFlight P
 rated_flight_of scale u = record {
   message = message_of u.message;

@@ -193,7 +193,8 @@ pub fn a_late_arrival_is_refused()
         ∷ reply_done (arrives (message 1 2 1 18_446_744_073_709_551_615) 18_446_744_073_709_551_615 ∷ []) ∷ []) }
 {}
 
-/// Under limits too: a message without bytes is refused as it is enqueued, and another where an advance would finish it.
+/// Under limits too: a message without bytes is refused as it is enqueued, and another where an
+/// advance would finish it.
 pub fn a_late_arrival_is_refused_under_limits()
     ensures { Agrees nat_cmp (new_world 0)
         (call_limit 0 1 a_byte_a_nanosecond None ∷ call_enqueue 1 (message 1 2 0 18_446_744_073_709_551_615)

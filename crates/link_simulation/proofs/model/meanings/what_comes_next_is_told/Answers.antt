@@ -1,4 +1,5 @@
-use Rattle.std.proofs.Common.{◌≡◌, ◌≤◌, ℕ, zero, suc, Bool, true, false, cond, Option, Some, None, refl, arith, ap, sym, subst, ◌∙◌}
+use Rattle.std.proofs.Common.{◌≡◌, ◌≤◌, ℕ, zero, suc, Bool, true, false, cond, Option, Some, None, refl, arith, ap, sym}
+use Rattle.std.proofs.Common.{subst, ◌∙◌}
 use Rattle.std.specs.Prelude.{slice_get}
 use Rattle.std.specs.Ordering.{nat_cmp}
 use Rattle.fair_rates.specs.Numbers.Amount.{whole, reduced, gcd_within}
@@ -35,15 +36,18 @@ pub returns-clause-ready : goal.returns-clause-ready
 returns-clause-ready c = (message 1 2 1 1, refl, refl)
 
 -- the first of the pair may start at 6
-may_not : (m : Message ℕ) (b : Bool) → same_pair nat_cmp m (message 1 2 1 1) ≡ b → next_of nat_cmp two_of_a_pair m ≡ Some m
+may_not : (m : Message ℕ) (b : Bool) → same_pair nat_cmp m (message 1 2 1 1) ≡ b
+    → next_of nat_cmp two_of_a_pair m ≡ Some m
     → may_launch nat_cmp 5 two_of_a_pair m ≡ true → ⊥
 may_not m true is first may =
-    let at : Some (message 1 2 1 1) ≡ Some m = ap (λ (b : Bool). cond b (Some (message 1 2 1 1)) (cond b (Some (message 1 2 1 5)) None)) (sym is) ∙ first in
+    let at : Some (message 1 2 1 1) ≡ Some m =
+    ap (λ (b : Bool). cond b (Some (message 1 2 1 1)) (cond b (Some (message 1 2 1 5)) None)) (sym is) ∙ first in
     let same : message 1 2 1 1 ≡ m = cc in
     let clash : false ≡ true = subst (λ (n : Message ℕ). may_launch nat_cmp 5 two_of_a_pair n ≡ true) (sym same) may in
     cc
 may_not m false is first may =
-    let at : None ≡ Some m = ap (λ (b : Bool). cond b (Some (message 1 2 1 1)) (cond b (Some (message 1 2 1 5)) None)) (sym is) ∙ first in
+    let at : None ≡ Some m =
+    ap (λ (b : Bool). cond b (Some (message 1 2 1 1)) (cond b (Some (message 1 2 1 5)) None)) (sym is) ∙ first in
     cc
 
 pub returns-clause-not_ready : goal.returns-clause-not_ready
