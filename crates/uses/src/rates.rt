@@ -39,7 +39,8 @@ pub fn rates_within_caps(
     flows: &[Flow<u64>],
     egress: &BTreeMap<u64, u128>,
 ) -> Result<BTreeMap<u64, Rate>, Error>
-    ensures kept { IfOk result (λ rates. SendersKeepToCaps (get nat_cmp egress.now) flows.now (get nat_cmp rates)) }
+    ensures kept { IfOk result (λ rates. SendersKeepToCaps nat_cmp (get nat_cmp egress.now) flows.now
+        (get nat_cmp rates)) }
 {
     a_side_keeps_to_its_cap::<u64>();
     rates_of_senders(alloc, flows, egress)

@@ -25,3 +25,24 @@ pub fn with_one_message(alloc: Global, cap: usize, message: Bytes) -> Result<Sta
     state.enqueue(0, 1, 2, 0, message, 0, true)?;
     Ok(state)
 }
+
+/// That scheduler after its first event, with the moment of it: to advance to what `next` answers is
+/// in turn. Where nothing ever comes, it is the scheduler at the start, with moment 0.
+///
+/// # Errors
+///
+/// As of `with_one_message` and `State::advance`.
+pub fn at_the_first_event(
+    alloc: Global,
+    cap: usize,
+    message: Bytes,
+) -> Result<(State<u64>, u64), Error>
+    ensures stands { IfOk result (λ answer. IsAWorldAt nat_cmp (planned_of answer.0) answer.1) }
+{
+    let mut state = with_one_message(alloc, cap, message)?;
+    let Some(now) = state.next() else {
+        return Ok((state, 0));
+    };
+    state.advance(now)?;
+    Ok((state, now))
+}

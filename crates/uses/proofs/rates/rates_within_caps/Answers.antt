@@ -1,8 +1,8 @@
-use Rattle.std.proofs.Common.{refl, sym, ap, ◌∙◌}
-use Rattle.std.proofs.lemmas.Bool.{eqb-true}
+use Rattle.std.proofs.Common.{refl, ap}
+use Rattle.std.proofs.lemmas.Map.Lookups.{exact_unsigned}
+use Rattle.std.proofs.lemmas.Map.Views.{tells_apart}
 use Rattle.std.proofs.lemmas.Result.{IfOk-weaker}
 use Rattle.std.specs.BTreeMap.{get}
-use Rattle.std.specs.Cmp.{unsigned_tied}
 use Rattle.std.specs.Ordering.{nat_cmp}
 use Rattle.p2p_simulated.specs.Fairness.UnderCaps.{AreOfPeers}
 use Rattle.p2p_simulated.specs.Sides.Subjects.{sent_by}
@@ -12,7 +12,7 @@ use Rattle.uses.proofs.rates.rates_within_caps.Goals as goal
 -- numbers that are one peer are equal, so they have one cap
 of_peers : (c : goal.After-rates_of_senders) → AreOfPeers nat_cmp (sending (get nat_cmp c.args.egress.now))
 of_peers c = record {
-  egress = λ p q same. ap (get nat_cmp c.args.egress.now) (eqb-true p q (sym (unsigned_tied p q) ∙ same));
+  egress = λ p q same. ap (get nat_cmp c.args.egress.now) (tells_apart exact_unsigned p q same);
   ingress = λ p q same. refl;
   link = λ p q r s same also. refl;
 }

@@ -1,4 +1,4 @@
-use Rattle.std.proofs.Common.{◌≡◌, ◌<◌, ℕ, Some, None, IfSome, true, refl, sym, subst, arith}
+use Rattle.std.proofs.Common.{◌<◌, ℕ, Some, None, IfSome, true, refl, sym, subst, arith}
 use Rattle.std.specs.Ordering.{nat_cmp}
 use Rattle.p2p_simulated.specs.Rule.Simulated.{IsCalled}
 use Rattle.p2p_simulated.specs.Calls.State.{planned_of, sent}
