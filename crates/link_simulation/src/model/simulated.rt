@@ -1,9 +1,9 @@
 //! What a call that goes by the event rule, or is refused by it, does in the simulation.
 ghost use Rattle.std.specs.Prelude.{◌≡◌, ℕ, ◌<◌, ◌≤◌, List, Some, IfSome};
 ghost use Rattle.fair_rates.specs.declared.error.Error.{Error as AnyError};
-ghost use Rattle.link_simulation.specs.Simulation.World.{World, Completed, last_moment};
+ghost use Rattle.link_simulation.specs.Simulation.World.{World, Completed, last_moment, new_world};
 ghost use Rattle.link_simulation.specs.Simulation.Calls.{Call, call_advance, moment_of, IsInTurn};
-ghost use Rattle.link_simulation.specs.Rule.Planned.{Planned, next_event};
+ghost use Rattle.link_simulation.specs.Rule.Planned.{Planned, next_event, new_planned};
 ghost use Rattle.link_simulation.specs.Rule.Refusals.{MayBeRefused};
 ghost use Rattle.link_simulation.specs.Rule.StandsFor.{StandsFor};
 ghost use Rattle.link_simulation.specs.Rule.SamePlanned.{GoesByRule};
@@ -42,11 +42,19 @@ pub fn an_advance_keeps_to_caps<P: Ord>()
         GoesByRule P.cmp p (call_advance now) completions q → KeepsToCaps P.cmp p now q }
 {}
 
-/// A call before the planned next event comes in its turn, so it is known from what `next` answers. And so does one
-/// at the moment of a call that has just run: after it the next event is later.
+/// A call before the planned next event comes in its turn, so it is known from what `next` answers. So does any first
+/// call, an advance to any later moment, and a call at the moment of one that has just run: after it the next event is
+/// later.
 pub fn calls_before_the_next_event_are_in_turn<P: Ord>()
     ensures before { (p : Planned P) (w : World P) (call : Call P) (now : ℕ) → StandsFor P.cmp p w →
         moment_of call ≡ Some now → w.moment ≤ now → IfSome (next_event p) (λ t. now < t) → IsInTurn P.cmp w call }
+    ensures called { (p : Planned P) (w : World P) (call : Call P) (now : ℕ) → StandsFor P.cmp p w →
+        moment_of call ≡ Some now → w.moment ≤ now → IfSome (next_event p) (λ t. now < t) →
+        IsCalled P.cmp p call now w }
+    ensures first { (p : Planned P) (id now : ℕ) (call : Call P) → p ≡ new_planned id →
+        StandsFor P.cmp p (new_world id) → moment_of call ≡ Some now → IsCalled P.cmp p call now (new_world id) }
+    ensures advance { (p : Planned P) (w : World P) (now : ℕ) → StandsFor P.cmp p w → w.moment ≤ now →
+        IsCalled P.cmp p (call_advance now) now w }
     ensures at_once { (w : World P) (q : Planned P) (call other : Call P) (now : ℕ) (completions : List (Completed P)) →
         moment_of other ≡ Some now → (run : IsRun P.cmp w call now completions q) →
         IsCalled P.cmp q other now run.after }
