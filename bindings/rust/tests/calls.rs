@@ -54,7 +54,9 @@ fn a_refused_call_changes_nothing() {
 #[test]
 fn a_dropped_message_does_not_arrive() {
     let mut state = State::new(["a", "b"]).unwrap();
-    let done = state.enqueue(0, &"a", &"b", 3, b"dropped", 9, false).unwrap();
+    let done = state
+        .enqueue(0, &"a", &"b", 3, b"dropped", 9, false)
+        .unwrap();
     assert_eq!(
         (done[0].message.as_slice(), done[0].deliver_at),
         (&b"dropped"[..], None)
