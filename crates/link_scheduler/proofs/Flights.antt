@@ -8,9 +8,11 @@ pub mod Copies
 pub mod Done
 pub mod FairMessages
 pub mod Flight
+pub mod Grouped
 pub mod InFlight
 pub mod Leaving
 pub mod Rated
+pub mod RatesGiven
 pub mod Rerating
 pub mod ShortTerms
 pub mod Standing

@@ -2,7 +2,7 @@
 use Rattle.std.proofs.Common.{◌≡◌, ◌≢◌, ℕ, zero, suc, ◌+◌, ◌*◌, ◌<◌, ◌≤◌, Bool, true, false, cond, if◌then◌else◌, not}
 use Rattle.std.proofs.Common.{◌&&◌, ◌||◌, List, [], ◌∷◌, Option, Result, Ok, Err, IfOk, All, map, length, sum_by, refl}
 use Rattle.std.proofs.Common.{sym, ap, ap₂, ◌∙◌, subst, inl, inr, arith, zero-add}
-use Rattle.std.specs.Prelude.{slice_index}
+use Rattle.std.specs.Prelude.{slice_index, Contains}
 use Rattle.std.specs.List.{AllZip, filter, list_all, list_any}
 use Rattle.std.specs.Cmp.{IsTotalOrder}
 use Rattle.std.specs.declared.cmp.Ordering.{Ordering}
@@ -24,6 +24,7 @@ use Rattle.fair_rates.specs.Fairness.Fair.{Side, load, IsFair, HasBottleneck}
 use Rattle.fair_rates.specs.Fairness.UnderCaps.{AreOfPeers, limits, sides_under}
 use Rattle.fair_rates.specs.Filling.FairParts.{flow_parts, parts_of_level}
 use Rattle.fair_rates.proofs.Lists.Members.{In, in_map, from_map, from_filter, in_filter, contains_from_in, all_pass}
+use Rattle.fair_rates.proofs.Lists.Members.{in_from_contains}
 use Rattle.fair_rates.proofs.Fairness.SameSides.{still_fair}
 use Rattle.fair_rates.proofs.Numbers.Draining.{product_none}
 use Rattle.fair_rates.proofs.Fairness.Sharing.{StandsAt, AreShared, AreApart, shared_from, fair_from, part_shared}
@@ -38,6 +39,7 @@ use Rattle.link_scheduler.specs.declared.transmitter.flights.Flights.{Flights}
 use Rattle.link_scheduler.specs.Flights.Flight.{UnitFlight, flight_at, AreTimed}
 use Rattle.link_scheduler.specs.Flights.InFlight.{in_units}
 use Rattle.link_scheduler.specs.Flights.Components.{is_sender, is_receiver, is_of, those_of, suits, is_closed}
+use Rattle.link_scheduler.specs.Flights.Components.{share_an_end, AreGrouped}
 use Rattle.link_scheduler.specs.Flights.Rated.{sent_messages, rates_of, rated_ones, rates_found, rerated}
 use Rattle.link_scheduler.specs.Flights.Rated.{AreFairlyRated, WereRated, AreFairOf, IsRatedFrom, HaveFairRates}
 use Rattle.link_scheduler.specs.Flights.Rated.{AreOthersTimed}
@@ -241,12 +243,12 @@ module _ {P : Type 0} (cmp : P → P → Ordering) (component : Component P) whe
 
   -- ---- at the rates that are given
 
-  module _ (now times : ℕ) where
+  module _ (now times group : ℕ) where
     abbrev again : List ℕ → List (UnitFlight P) → List (UnitFlight P)
-    again rates us = rerated cmp component now times rates us
+    again rates us = rerated cmp component now times group rates us
 
     abbrev anew : ℕ → UnitFlight P → UnitFlight P
-    anew rate u = record u { left = u.left * times; rate = rate; updated = now; rated = true }
+    anew rate u = record u { left = u.left * times; rate = rate; updated = now; rated = true; group = group }
 
     none_given : (us : List (UnitFlight P)) → again [] us ≡ us
     none_given [] = refl
@@ -315,20 +317,70 @@ module _ {P : Type 0} (cmp : P → P → Ordering) (component : Component P) whe
             ap rates_of (filter_no (is_of cmp component) u (again (rate ∷ rates) us) is)
             ∙ ih (rate ∷ rates) (one_each ∙ ap length (filter_no (is_of cmp component) u us is))
 
-    -- each is of a message that was in flight
-    was_there : (rates : List ℕ) (us : List (UnitFlight P)) (v : UnitFlight P) → In (again rates us) v
-        → (u : UnitFlight P) × In us u × (v.message ≡ u.message)
-    was_there rates [] v among = absurd among
-    was_there [] (u ∷ us) v among = (v, among, refl)
-    was_there (rate ∷ rates) (u ∷ us) v among = by_test (is_of cmp component u) among (λ rates. was_there rates us v)
+    -- what one comes from: the same message in flight, with the new group if it is of the component
+    record ComesFrom (us : List (UnitFlight P)) (v : UnitFlight P) : Type 0 where
+      pub u : UnitFlight P
+      pub among : In us u
+      pub message : v.message ≡ u.message
+      pub new_group : is_of cmp component u ≡ true → v.group ≡ group
+      pub old_group : is_of cmp component u ≡ false → v.group ≡ u.group
+
+    later : (u : UnitFlight P) (us : List (UnitFlight P)) (v : UnitFlight P) → ComesFrom us v → ComesFrom (u ∷ us) v
+    later u us v h = record {
+      u = h.u;
+      among = inr h.among;
+      message = h.message;
+      new_group = h.new_group;
+      old_group = h.old_group;
+    }
+
+    comes_anew : (rate : ℕ) (u : UnitFlight P) (us : List (UnitFlight P)) (v : UnitFlight P)
+        → is_of cmp component u ≡ true → anew rate u ≡ v → ComesFrom (u ∷ us) v
+    comes_anew rate u us v is e = record {
+      u = u;
+      among = inl refl;
+      message = ap (λ (x : UnitFlight P). x.message) (sym e);
+      new_group = λ of. ap (λ (x : UnitFlight P). x.group) (sym e);
+      old_group = λ out. absurd (false≢true (sym out ∙ is));
+    }
+
+    comes_as_it_is : (u : UnitFlight P) (us : List (UnitFlight P)) (v : UnitFlight P) → is_of cmp component u ≡ false
+        → u ≡ v → ComesFrom (u ∷ us) v
+    comes_as_it_is u us v is e = record {
+      u = u;
+      among = inl refl;
+      message = ap (λ (x : UnitFlight P). x.message) (sym e);
+      new_group = λ of. absurd (false≢true (sym is ∙ of));
+      old_group = λ out. ap (λ (x : UnitFlight P). x.group) (sym e);
+    }
+
+    comes : (rates : List ℕ) (us : List (UnitFlight P)) → length rates ≡ length (those_of cmp component us)
+        → (v : UnitFlight P) → In (again rates us) v → ComesFrom us v
+    comes rates [] one_each v among = absurd among
+    comes [] (u ∷ us) one_each v among = by_test (is_of cmp component u) refl among
+        (λ one_each h. comes [] us one_each v (subst (λ l. In l v) (sym (none_given us)) h))
       where
-        by_test : (b : Bool) → In (cond b (anew rate u ∷ again rates us) (u ∷ again (rate ∷ rates) us)) v
-            → ((rates : List ℕ) → In (again rates us) v → (w : UnitFlight P) × In us w × (v.message ≡ w.message))
-            → (w : UnitFlight P) × In (u ∷ us) w × (v.message ≡ w.message)
-        by_test true (inl e) ih = (u, inl refl, ap (λ (x : UnitFlight P). x.message) (sym e))
-        by_test true (inr h) ih = let r = ih rates h in (r.0, inr r.1, r.2)
-        by_test false (inl e) ih = (u, inl refl, ap (λ (x : UnitFlight P). x.message) (sym e))
-        by_test false (inr h) ih = let r = ih (rate ∷ rates) h in (r.0, inr r.1, r.2)
+        by_test : (b : Bool) → is_of cmp component u ≡ b → In (u ∷ us) v
+            → (0 ≡ length (those_of cmp component us) → In us v → ComesFrom us v) → ComesFrom (u ∷ us) v
+        by_test true is h ih = absurd (omega (arith, one_each, ap length (filter_yes (is_of cmp component) u us is)))
+        by_test false is (inl e) ih = comes_as_it_is u us v is e
+        by_test false is (inr h) ih =
+            later u us v (ih (one_each ∙ ap length (filter_no (is_of cmp component) u us is)) h)
+    comes (rate ∷ rates) (u ∷ us) one_each v among =
+        by_test (is_of cmp component u) refl among (λ rates one_each h. comes rates us one_each v h)
+      where
+        by_test : (b : Bool) → is_of cmp component u ≡ b
+            → In (cond b (anew rate u ∷ again rates us) (u ∷ again (rate ∷ rates) us)) v
+            → ((rates : List ℕ) → length rates ≡ length (those_of cmp component us) → In (again rates us) v
+            → ComesFrom us v)
+            → ComesFrom (u ∷ us) v
+        by_test true is (inl e) ih = comes_anew rate u us v is e
+        by_test true is (inr h) ih =
+            later u us v
+            (ih rates (omega (arith, one_each, ap length (filter_yes (is_of cmp component) u us is))) h)
+        by_test false is (inl e) ih = comes_as_it_is u us v is e
+        by_test false is (inr h) ih =
+            later u us v (ih (rate ∷ rates) (one_each ∙ ap length (filter_no (is_of cmp component) u us is)) h)
 
     -- those of it are rated from now on, and so are the others
     rated_each : (rates : List ℕ) (us : List (UnitFlight P)) → length rates ≡ length (those_of cmp component us)
@@ -367,14 +419,14 @@ module _ {P : Type 0} (cmp : P → P → Ordering) (component : Component P) whe
   found_each caps scale us found of = length-map found.level_of.items (parts_of_level found.levels.items) ∙ of.one_each
 
   -- those of it alone have fair rates
-  component_alone : (caps : Caps P) (scale now times : ℕ) (us : List (UnitFlight P)) (found : FairParts)
+  component_alone : (caps : Caps P) (scale now times group : ℕ) (us : List (UnitFlight P)) (found : FairParts)
       → AreFairOf cmp caps scale component us found
       → AreFairlyRated cmp caps found.scale
-      (those_of cmp component (rerated cmp component now times (rates_found found) us))
-  component_alone caps scale now times us found of =
+      (those_of cmp component (rerated cmp component now times group (rates_found found) us))
+  component_alone caps scale now times group us found of =
       rw (
-        same_messages now times (rates_found found) us,
-        these_rates now times (rates_found found) us (found_each caps scale us found of),
+        same_messages now times group (rates_found found) us,
+        these_rates now times group (rates_found found) us (found_each caps scale us found of),
       )
       of.fair
 
@@ -389,21 +441,29 @@ module _ {P : Type 0} (cmp : P → P → Ordering) (component : Component P) whe
     those_all [] = refl
     those_all (u ∷ us) = filter_yes (is_of cmp component) u us (all_of u) ∙ ap (λ l. u ∷ l) (those_all us)
 
-    pub whole_fair : (caps : Caps P) (scale now times : ℕ) (us : List (UnitFlight P)) (found : FairParts)
+    pub whole_fair : (caps : Caps P) (scale now times group : ℕ) (us : List (UnitFlight P)) (found : FairParts)
         → AreFairOf cmp caps scale component us found
-        → AreFairlyRated cmp caps found.scale (rerated cmp component now times (rates_found found) us)
-    whole_fair caps scale now times us found of =
-        subst (AreFairlyRated cmp caps found.scale) (those_all (rerated cmp component now times (rates_found found) us))
-        (component_alone caps scale now times us found of)
+        → AreFairlyRated cmp caps found.scale (rerated cmp component now times group (rates_found found) us)
+    whole_fair caps scale now times group us found of =
+        subst (AreFairlyRated cmp caps found.scale) (those_all (rerated cmp component now times group (rates_found found) us))
+        (component_alone caps scale now times group us found of)
 
     pub no_others : (fs : List (Rc (Flight P) Global)) → AreOthersTimed cmp component fs
     no_others fs i f at out rated = absurd (false≢true (sym out ∙ all_of (flight_at 0 f.value)))
 
-    pub whole_rerated : (now times : ℕ) (rates : List ℕ) (us : List (UnitFlight P))
+    pub whole_rerated : (now times group : ℕ) (rates : List ℕ) (us : List (UnitFlight P))
         → length rates ≡ length (those_of cmp component us)
-        → AllZip (IsRatedFrom now times) us (rerated cmp component now times rates us)
-    whole_rerated now times rates us one_each =
-        rated_each now times rates us one_each (λ u among out. absurd (false≢true (sym out ∙ all_of u)))
+        → AllZip (IsRatedFrom now times) us (rerated cmp component now times group rates us)
+    whole_rerated now times group rates us one_each =
+        rated_each now times group rates us one_each (λ u among out. absurd (false≢true (sym out ∙ all_of u)))
+
+    pub whole_grouped : (now times group : ℕ) (rates : List ℕ) (us : List (UnitFlight P))
+        → length rates ≡ length (those_of cmp component us)
+        → AreGrouped cmp (rerated cmp component now times group rates us)
+    whole_grouped now times group rates us one_each v w hv hw shared =
+        let a = comes now times group rates us one_each v (in_from_contains _ v hv) in
+        let b = comes now times group rates us one_each w (in_from_contains _ w hw) in
+        a.new_group (all_of a.u) ∙ sym (b.new_group (all_of b.u))
 
   -- ---- what closedness says
 
@@ -477,12 +537,59 @@ module _ {P : Type 0} (cmp : P → P → Ordering) (component : Component P) whe
     rated_outside u h out =
         suited_out (is_of cmp component u) (is_receiver cmp component u.message.recipient) u.rated (suits_one u h) out
 
-    -- at the same scale each has its rate from now on
-    pub component_rerated : (now times : ℕ) (rates : List ℕ) → times ≡ 1 → All (λ u. u.updated ≡ now) us
+    -- those that share an end are both of it or both not
+    joined : IsTotalOrder cmp → (u w : UnitFlight P) → In us u → In us w → share_an_end cmp u w ≡ true
+        → is_of cmp component u ≡ is_of cmp component w
+    joined order u w hu hw shared = by_test (same_peer cmp u.message.origin w.message.origin) refl
+      where
+        by_test : (b : Bool) → same_peer cmp u.message.origin w.message.origin ≡ b
+            → is_of cmp component u ≡ is_of cmp component w
+        by_test true is = same_sender order u.message.origin w.message.origin is
+        by_test false is =
+            let other : same_peer cmp u.message.recipient w.message.recipient ≡ true =
+            sym (ap (λ b. b || same_peer cmp u.message.recipient w.message.recipient) is) ∙ shared in
+            ends u hu ∙ same_receiver order u.message.recipient w.message.recipient other ∙ sym (ends w hw)
+
+    -- one outside is among those that had a rate
+    outside : (u : UnitFlight P) → In us u → is_of cmp component u ≡ false → Contains (rated_ones us) u
+    outside u h out = contains_from_in (rated_ones us) u
+        (in_filter (λ (u : UnitFlight P). u.rated) us u h (rated_outside u h out))
+
+    -- with a group for it they are grouped, if they were
+    pub component_grouped : IsTotalOrder cmp → AreGrouped cmp (rated_ones us) → (now times group : ℕ) (rates : List ℕ)
         → length rates ≡ length (those_of cmp component us)
-        → AllZip (IsRatedFrom now times) us (rerated cmp component now times rates us)
-    component_rerated now times rates one updated one_each =
-        rated_each now times rates us one_each (λ u among out. record {
+        → AreGrouped cmp (rerated cmp component now times group rates us)
+    component_grouped order grouped now times group rates one_each v w hv hw meet =
+        by_test (is_of cmp component a.u) refl
+      where
+        a : ComesFrom now times group us v
+        a = comes now times group rates us one_each v (in_from_contains _ v hv)
+
+        b : ComesFrom now times group us w
+        b = comes now times group rates us one_each w (in_from_contains _ w hw)
+
+        shared_before : share_an_end cmp a.u b.u ≡ true
+        shared_before =
+            ap₂ (λ (m n : code.Message P). same_peer cmp m.origin n.origin || same_peer cmp m.recipient n.recipient)
+            (sym a.message) (sym b.message)
+            ∙ meet
+
+        same : is_of cmp component a.u ≡ is_of cmp component b.u
+        same = joined order a.u b.u a.among b.among shared_before
+
+        by_test : (t : Bool) → is_of cmp component a.u ≡ t → v.group ≡ w.group
+        by_test true is = a.new_group is ∙ sym (b.new_group (sym same ∙ is))
+        by_test false is =
+            a.old_group is
+            ∙ grouped a.u b.u (outside a.u a.among is) (outside b.u b.among (sym same ∙ is)) shared_before
+            ∙ sym (b.old_group (sym same ∙ is))
+
+    -- at the same scale each has its rate from now on
+    pub component_rerated : (now times group : ℕ) (rates : List ℕ) → times ≡ 1 → All (λ u. u.updated ≡ now) us
+        → length rates ≡ length (those_of cmp component us)
+        → AllZip (IsRatedFrom now times) us (rerated cmp component now times group rates us)
+    component_rerated now times group rates one updated one_each =
+        rated_each now times group rates us one_each (λ u among out. record {
           message = refl;
           left = as_much u.left;
           updated = All-contains (λ u. u.updated ≡ now) us u updated (contains_from_in us u among);
@@ -560,27 +667,40 @@ module _ {P : Type 0} (cmp : P → P → Ordering) (component : Component P) whe
           (subst (AreFairShares cmp order caps of scale) (others_are vs) part)
 
       -- where its own are fair, those of all are
-      pub component_fair : (now times : ℕ) (found : FairParts) → AreFairOf cmp caps scale component us found
+      pub component_fair : (now times group : ℕ) (found : FairParts) → AreFairOf cmp caps scale component us found
           → found.growth.items ≡ []
-          → AreFairlyRated cmp caps scale (rerated cmp component now times (rates_found found) us)
-      component_fair now times found of_it none =
-          let vs = rerated cmp component now times (rates_found found) us in
+          → AreFairlyRated cmp caps scale (rerated cmp component now times group (rates_found found) us)
+      component_fair now times group found of_it none =
+          let vs = rerated cmp component now times group (rates_found found) us in
           let alone =
           subst (λ n. AreFairlyRated cmp caps n (those_of cmp component vs))
-          (same_scale found scale of_it.grown none) (component_alone caps scale now times us found of_it) in
+          (same_scale found scale of_it.grown none) (component_alone caps scale now times group us found of_it) in
           let own =
           subst (AreFairShares cmp order caps of scale) (sym (own_are vs))
           (shared cmp order caps of scale (those_of cmp component vs) alone) in
           let rest =
           subst (AreFairShares cmp order caps of scale)
-          (sym (others_are vs ∙ ap (shares cmp) (others_kept now times (rates_found found) us))) others_fair in
+          (sym (others_are vs ∙ ap (shares cmp) (others_kept now times group (rates_found found) us))) others_fair in
           let ends_now : (v : UnitFlight P) → In vs v → HasBothOrNone (flow_for cmp v) =
-          λ v h. let r = was_there now times (rates_found found) us v h in
+          λ v h. let r = comes now times group (rates_found found) us (found_each caps scale us found of_it) v h in
           subst (λ (m : code.Message P). is_sender cmp component m.origin ≡ is_receiver cmp component m.recipient)
-          (sym r.2) (ends r.0 r.1) in
+          (sym r.message) (ends r.u r.among) in
           fair cmp order caps of scale vs
           (both_shared cmp caps flow_of parts_of mine scale (shares cmp vs) own rest
           (shares_apart order caps vs ends_now))
+
+-- those that stay are grouped, if all were
+pub grouped_rest : {P : Type 0} (cmp : P → P → Ordering) (caps : Caps P) (scale : ℕ) (us : List (UnitFlight P))
+    (done : List (Message P)) → WereRated cmp caps scale us done → AreGrouped cmp (rated_ones us)
+grouped_rest {P} cmp caps scale us done were u v hu hv shared = were.grouped u v (before u hu) (before v hv) shared
+  where
+    before : (u : UnitFlight P) → Contains (rated_ones us) u → Contains (rated_ones were.before) u
+    before u h =
+        let r = from_filter (λ (u : UnitFlight P). u.rated) us u (in_from_contains (rated_ones us) u h) in
+        let there = subst (λ (l : List (UnitFlight P)). In l u) were.parted.stay r.0 in
+        contains_from_in (rated_ones were.before) u
+        (in_filter (λ (u : UnitFlight P). u.rated) were.before u
+        (from_filter (λ v. not (were.is_done v)) were.before u there).0 r.1)
 
 -- ---- what is found for the flows of a component
 
@@ -617,65 +737,6 @@ module _ {P : Type 0} (cmp : P → P → Ordering) (order : IsTotalOrder cmp) (c
       → IfOk answer (AreFairOf cmp caps scale component us)
   found_if_ok (Ok found) scale fs us stand h = fair_of_component scale fs us found stand h
   found_if_ok (Err why) scale fs us stand h = tt
-
--- ---- rates that are given to what is in flight
-
-module _ {P : Type 0} (cmp : P → P → Ordering) (caps : Caps P) (component : Component P) (found : FairParts) where
-  -- where something is left, so there is in smaller units
-  pub left_given : (scale : ℕ) (us : List (UnitFlight P)) → AreFairOf cmp caps scale component us found
-      → All (λ u. u.left ≢ 0) us → All (λ u. u.left * product found.growth.items ≢ 0) us
-  left_given scale us of_it left = All-from_contains (λ u. u.left * product found.growth.items ≢ 0) us (λ u listed none.
-      no_part u.left (product found.growth.items) (All-contains (λ u. u.left ≢ 0) us u left listed) none
-      (subst (λ n. 0 < n) of_it.grown of_it.fair.some_part))
-    where
-      no_part : (n times : ℕ) → n ≢ 0 → n * times ≡ 0 → 0 < scale * times → ⊥
-      no_part zero times some none grows = some refl
-      no_part (suc n) times some none grows =
-          let gone : scale * times ≡ scale * 0 = ap (λ m. scale * m) (product_none (suc n) times (omega arith) none) in
-          let zeros : scale * 0 ≡ 0 = omega arith in
-          omega (arith, grows, gone, zeros)
-
-  module _ {a : _} {b : _} {c : _} (old new : Flights P a b c)
-      (of_it : AreFairOf cmp caps old.scale component (in_units old) found)
-      (given : in_units new
-      ≡ rerated cmp component old.at (product found.growth.items) (rates_found found) (in_units old))
-      (scaled : new.scale ≡ found.scale) (still : new.at ≡ old.at) (timed : AreTimed new.list.items) where
-    one_each : length (rates_found found) ≡ length (those_of cmp component (in_units old))
-    one_each = found_each cmp component caps old.scale (in_units old) found of_it
-
-    have_rates : AllZip (IsRatedFrom old.at (product found.growth.items)) (in_units old)
-        (rerated cmp component old.at (product found.growth.items) (rates_found found) (in_units old))
-        → AreFairlyRated cmp caps found.scale
-        (rerated cmp component old.at (product found.growth.items) (rates_found found) (in_units old))
-        → HaveFairRates cmp caps old new
-    have_rates each fairly = record {
-      times = product found.growth.items;
-      scale = scaled ∙ of_it.grown;
-      at = still;
-      each = subst (AllZip (IsRatedFrom old.at (product found.growth.items)) (in_units old)) (sym given) each;
-      fair = rw (scaled, given) fairly;
-      timed = timed;
-    }
-
-    pub whole_given : component.whole ≡ true → HaveFairRates cmp caps old new
-    whole_given whole = have_rates
-        (whole_rerated cmp component whole old.at (product found.growth.items) (rates_found found) (in_units old)
-        one_each)
-        (whole_fair cmp component whole caps old.scale old.at (product found.growth.items) (in_units old) found of_it)
-
-    pub component_given : IsTotalOrder cmp → AreOfPeers cmp caps → (done : List (Rc (code.Message P) Global))
-        → is_closed cmp component done (in_units old) ≡ true
-        → WereRated cmp caps old.scale (in_units old) (messages done) → All (λ u. u.updated ≡ old.at) (in_units old)
-        → found.growth.items ≡ [] → HaveFairRates cmp caps old new
-    component_given order of done closed were updated none = have_rates
-        (component_rerated cmp component done (in_units old) closed old.at (product found.growth.items)
-        (rates_found found) (grows_once found none) updated one_each)
-        (subst
-        (λ n. AreFairlyRated cmp caps n
-        (rerated cmp component old.at (product found.growth.items) (rates_found found) (in_units old)))
-        (sym (same_scale found old.scale of_it.grown none))
-        (component_fair cmp component done (in_units old) closed order caps of old.scale were old.at
-        (product found.growth.items) found of_it none))
 
 pub none_there : {X : Type 0} (xs : List X) (n : ℕ) → n ≡ length xs → (n == 0) ≡ true → xs ≡ []
 none_there [] n is none = refl

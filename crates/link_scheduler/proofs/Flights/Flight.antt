@@ -105,22 +105,30 @@ module _ {P : Type 0} where
         rate = rate_of f.rate;
         updated = now;
         rated = true;
+        group = f.group;
       }
 
   -- one that is brought to an earlier moment, or that has no rate yet, drains to that moment
   pub brought : (at now : ℕ) (f g : Flight P) → now ≤ at ⊎ f.rated ≡ false → g.message.value ≡ f.message.value
       → g.left ≡ (flight_at at f).left → rate_of g.rate ≡ rate_of f.rate → g.since ≡ now → g.rated ≡ f.rated
-      → DrainsTo now (flight_at at f) (flight_at now g)
-  brought at now f g back message left rate since rated = by_flag f.rated refl
+      → g.group ≡ f.group → DrainsTo now (flight_at at f) (flight_at now g)
+  brought at now f g back message left rate since rated group = by_flag f.rated refl
     where
       r : ℕ
       r = rate_of f.rate
 
       by_flag : (b : Bool) → f.rated ≡ b → DrainsTo now (flight_at at f) (flight_at now g)
-      by_flag true is = rw (rated, message, rate, since, is) (ap as_record rest)
+      by_flag true is = rw (rated, message, rate, since, group, is) (ap as_record rest)
         where
           as_record : ℕ → UnitFlight P
-          as_record n = record { message = f.message.value; left = n; rate = r; updated = now; rated = true }
+          as_record n = record {
+            message = f.message.value;
+            left = n;
+            rate = r;
+            updated = now;
+            rated = true;
+            group = f.group;
+          }
 
           all : g.left ≡ left_by at f
           all = left ∙ ap (λ b. if b then left_by at f else f.left) is
@@ -136,10 +144,17 @@ module _ {P : Type 0} where
 
           rest : g.left - r * (now - now) ≡ left_by at f - r * (now - at)
           rest = ap (λ k. g.left - r * k) none ∙ ap (λ n. n - r * 0) all ∙ ap (λ k. left_by at f - r * k) (sym none_too)
-      by_flag false is = rw (rated, message, since, is) (ap as_record rest)
+      by_flag false is = rw (rated, message, since, group, is) (ap as_record rest)
         where
           as_record : ℕ → UnitFlight P
-          as_record n = record { message = f.message.value; left = n; rate = 0; updated = now; rated = false }
+          as_record n = record {
+            message = f.message.value;
+            left = n;
+            rate = 0;
+            updated = now;
+            rated = false;
+            group = f.group;
+          }
 
           all : g.left ≡ f.left
           all = left ∙ ap (λ b. if b then left_by at f else f.left) is
@@ -190,12 +205,12 @@ module _ {P : Type 0} where
   pub is_brought : (at now : ℕ) (f g : Rc (Flight P) Global) → now < at ⊎ f.value.rated ≡ false
       → g.value.message.value ≡ f.value.message.value → g.value.left ≡ (flight_at at f.value).left
       → rate_of g.value.rate ≡ rate_of f.value.rate → g.value.since ≡ now → g.value.rated ≡ f.value.rated
-      → IsBrought at now f g
-  is_brought at now f g back message left rate since rated = record {
+      → g.value.group ≡ f.value.group → IsBrought at now f g
+  is_brought at now f g back message left rate since rated group = record {
     drains =
         brought at now f.value g.value (elim back [ inl lt ↦ inl (omega arith) | inr none ↦ inr none ]) message left
         rate
-        since rated;
+        since rated group;
     past_now = so_past now g (omega (arith, since));
     past_at = elim back [
       | inl lt ↦ so_past at g (omega (arith, since))
@@ -216,14 +231,14 @@ module _ {P : Type 0} where
         → now < at ⊎ x.value.rated ≡ false
         → f.message.value ≡ x.value.message.value → f.left ≡ (flight_at at x.value).left
         → rate_of f.rate ≡ rate_of x.value.rate → f.since ≡ now → f.rated ≡ x.value.rated
-        → IsChangedUpTo (IsBrought at now) old new (i + 1)
-    next_brought f new put back message left rate since rated =
+        → f.group ≡ x.value.group → IsChangedUpTo (IsBrought at now) old new (i + 1)
+    next_brought f new put back message left rate since rated group =
         subst (λ l. IsChangedUpTo (IsBrought at now) old l (i + 1)) (sym put.others)
         (one_more (IsBrought at now) old so_far i h x put.one lt is
         (is_brought at now x put.one back (ap (λ (y : Flight P). y.message.value) put.is ∙ message)
         (ap (λ (y : Flight P). y.left) put.is ∙ left)
         (ap (λ (y : Flight P). rate_of y.rate) put.is ∙ rate) (ap (λ (y : Flight P). y.since) put.is ∙ since)
-        (ap (λ (y : Flight P). y.rated) put.is ∙ rated)))
+        (ap (λ (y : Flight P). y.rated) put.is ∙ rated) (ap (λ (y : Flight P). y.group) put.is ∙ group)))
 
     pub next_counted_on : x.value.rated ≡ true → list_all (is_past at) so_far ≡ true → at ≤ now
         → IsChangedUpTo (IsBrought at now) old so_far (i + 1)

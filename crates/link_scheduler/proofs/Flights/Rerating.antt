@@ -12,7 +12,7 @@ use Rattle.std.proofs.lemmas.List.{length-append, append-nil, map-append, length
 use Rattle.std.proofs.Math.Nat.{mul-pos}
 use Rattle.std.proofs.lemmas.Map.Keys.{any_passes_from_place}
 use Rattle.std.proofs.lemmas.Option.{none-some, same_Some, slice_get-map, slice_get_within, get_or_from_slice_get}
-use Rattle.fair_rates.proofs.Lists.Members.{get_from_map}
+use Rattle.fair_rates.proofs.Lists.Members.{In, get_from_map, contains_from_in}
 use Rattle.fair_rates.proofs.Lists.Sorted.{get_or-seam, set-seam}
 use Rattle.fair_rates.specs.Numbers.Amount.{billion}
 use Rattle.fair_rates.specs.Sides.Caps.{Caps}
@@ -21,7 +21,7 @@ use Rattle.link_simulation.specs.Rule.Planned.{RatedFlight, IsLeastMoment, IsSpe
 use Rattle.link_scheduler.specs.declared.transmitter.component.Component.{Component}
 use Rattle.link_scheduler.specs.declared.transmitter.flight.Flight.{Flight}
 use Rattle.link_scheduler.specs.declared.transmitter.flights.Flights.{Flights}
-use Rattle.link_scheduler.specs.Flights.Components.{is_of, those_of}
+use Rattle.link_scheduler.specs.Flights.Components.{is_of, those_of, is_found, AreFound}
 use Rattle.link_scheduler.specs.Flights.Flight.{UnitFlight, rate_of, left_by, flight_at, flights_at, has_come, IsTimed}
 use Rattle.link_scheduler.specs.Flights.Flight.{AreTimed, IsPutAt}
 use Rattle.link_scheduler.specs.Flights.InFlight.{in_units, in_flight}
@@ -79,12 +79,12 @@ module _ {P : Type 0} where
       sym (append_assoc (flights_at now fs) (flight_at now y.value ∷ []) us)
       ∙ ap (λ l. l ++ us) (sym (map-append (λ (f : Rc (Flight P) Global). flight_at now f.value) fs (y ∷ [])))
 
-module _ {P : Type 0} (cmp : P → P → Ordering) (component : Component P) (now times : ℕ) where
+module _ {P : Type 0} (cmp : P → P → Ordering) (component : Component P) (now times group : ℕ) where
   abbrev again : List ℕ → List (UnitFlight P) → List (UnitFlight P)
-  again rates us = rerated cmp component now times rates us
+  again rates us = rerated cmp component now times group rates us
 
   abbrev anew : ℕ → UnitFlight P → UnitFlight P
-  anew rate u = record u { left = u.left * times; rate = rate; updated = now; rated = true }
+  anew rate u = record u { left = u.left * times; rate = rate; updated = now; rated = true; group = group }
 
   as_they_are : (us : List (UnitFlight P)) → us ≡ again [] us
   as_they_are [] = refl
@@ -102,12 +102,13 @@ module _ {P : Type 0} (cmp : P → P → Ordering) (component : Component P) (no
       ap (λ b. cond b (anew rate u ∷ again rates us) (u ∷ again (rate ∷ rates) us)) of
 
   anew_is : (f x : Flight P) (rate : ℕ) → f.message.value ≡ x.message.value → f.left ≡ (flight_at now x).left * times
-      → rate_of f.rate ≡ rate → f.since ≡ now → f.rated ≡ true → flight_at now f ≡ anew rate (flight_at now x)
-  anew_is f x rate message left at_rate since rated =
-      rw (rated, message, at_rate, since) (ap as_record rest)
+      → rate_of f.rate ≡ rate → f.since ≡ now → f.rated ≡ true → f.group ≡ group
+      → flight_at now f ≡ anew rate (flight_at now x)
+  anew_is f x rate message left at_rate since rated of_group =
+      rw (rated, message, at_rate, since, of_group) (ap as_record rest)
     where
       as_record : ℕ → UnitFlight P
-      as_record n = record { message = x.message.value; left = n; rate = rate; updated = now; rated = true }
+      as_record n = record { message = x.message.value; left = n; rate = rate; updated = now; rated = true; group = group }
 
       none : now - now ≡ 0
       none = omega arith
@@ -131,11 +132,12 @@ module _ {P : Type 0} (cmp : P → P → Ordering) (component : Component P) (no
       pub left : All (λ (u : UnitFlight P). u.left * times ≢ 0) (flights_at now rest)
       pub timed : AreTimed to
       pub others : AreOthersTimed cmp component rest
+      pub found : (v : UnitFlight P) → In (flights_at now rest) v → is_found cmp component v ≡ is_of cmp component v
 
     pub none_rerated : length rates ≡ length (those_of cmp component (flights_at now old))
         → All (λ (u : UnitFlight P). u.left * times ≢ 0) (flights_at now old) → AreOthersTimed cmp component old
-        → AreReratedUpTo old 0 0
-    none_rerated one_each left others = record {
+        → AreFound cmp component (flights_at now old) → AreReratedUpTo old 0 0
+    none_rerated one_each left others found = record {
       to = [];
       rest = old;
       is = refl;
@@ -146,11 +148,12 @@ module _ {P : Type 0} (cmp : P → P → Ordering) (component : Component P) (no
       left = left;
       timed = λ i f there rated. absurd (none-some f there);
       others = others;
+      found = λ v among. found v (contains_from_in (flights_at now old) v among);
     }
 
-module _ {P : Type 0} {cmp : P → P → Ordering} {component : Component P} {now times : ℕ} {rates : List ℕ}
+module _ {P : Type 0} {cmp : P → P → Ordering} {component : Component P} {now times group : ℕ} {rates : List ℕ}
     {old so_far : List (Rc (Flight P) Global)} {at next : ℕ}
-    (h : AreReratedUpTo cmp component now times rates old so_far at next) where
+    (h : AreReratedUpTo cmp component now times group rates old so_far at next) where
   -- what stands at the place
   pub record StandsNext (x : Rc (Flight P) Global) : Type 0 where
     pub rest : List (Rc (Flight P) Global)
@@ -182,14 +185,22 @@ module _ {P : Type 0} {cmp : P → P → Ordering} {component : Component P} {no
     others_all : AreOthersTimed cmp component (x ∷ s.rest)
     others_all = subst (AreOthersTimed cmp component) s.was h.others
 
+    found_all : (v : UnitFlight P) → In (u ∷ us) v → is_found cmp component v ≡ is_of cmp component v
+    found_all = subst
+        (λ l. (v : UnitFlight P) → In (flights_at now l) v → is_found cmp component v ≡ is_of cmp component v) s.was
+        h.found
+
+    pub found_here : is_found cmp component u ≡ is_of cmp component u
+    found_here = found_all u (inl refl)
+
     count_all : length rates ≡ next + length (those_of cmp component (u ∷ us))
     count_all = h.one_each ∙ ap (λ l. next + length (those_of cmp component (flights_at now l))) s.was
 
-    comes_all : rerated cmp component now times rates (flights_at now old)
-        ≡ flights_at now h.to ++ rerated cmp component now times (drop next rates) (u ∷ us)
+    comes_all : rerated cmp component now times group rates (flights_at now old)
+        ≡ flights_at now h.to ++ rerated cmp component now times group (drop next rates) (u ∷ us)
     comes_all =
         h.comes
-        ∙ ap (λ l. flights_at now h.to ++ rerated cmp component now times (drop next rates) (flights_at now l)) s.was
+        ∙ ap (λ l. flights_at now h.to ++ rerated cmp component now times group (drop next rates) (flights_at now l)) s.was
 
     pub something_left : u.left * times ≢ 0
     something_left = left_all 0 u (omega arith)
@@ -197,7 +208,7 @@ module _ {P : Type 0} {cmp : P → P → Ordering} {component : Component P} {no
     pub has_rate : is_of cmp component u ≡ true → next < length rates
     has_rate of = omega (arith, count_all, ap length (filter_yes (is_of cmp component) u us of))
 
-    pub passed : is_of cmp component u ≡ false → AreReratedUpTo cmp component now times rates old so_far (at + 1) next
+    pub passed : is_of cmp component u ≡ false → AreReratedUpTo cmp component now times group rates old so_far (at + 1) next
     passed out = record {
       to = h.to ++ x ∷ [];
       rest = s.rest;
@@ -205,23 +216,24 @@ module _ {P : Type 0} {cmp : P → P → Ordering} {component : Component P} {no
       at_is = ap (λ n. n + 1) h.at_is ∙ sym (length-append h.to (x ∷ []));
       as_many = h.as_many;
       comes = comes_all
-          ∙ ap (λ l. flights_at now h.to ++ l) (passed_over cmp component now times (drop next rates) u us out)
-          ∙ moved_on now h.to x (rerated cmp component now times (drop next rates) us);
+          ∙ ap (λ l. flights_at now h.to ++ l) (passed_over cmp component now times group (drop next rates) u us out)
+          ∙ moved_on now h.to x (rerated cmp component now times group (drop next rates) us);
       one_each = count_all ∙ ap (λ l. next + length l) (filter_no (is_of cmp component) u us out);
       left = λ i v within. left_all (suc i) v (omega arith);
       timed = more_timed h.to x h.timed (others_all 0 x refl out);
       others = λ i f there. others_all (suc i) f there;
+      found = λ v among. found_all v (inr among);
     }
 
     pub one_rerated : (f : Flight P) (new : List (Rc (Flight P) Global)) → IsPutAt at f so_far new
         → is_of cmp component u ≡ true → f.message.value ≡ x.value.message.value → f.left ≡ u.left * times
-        → rate_of f.rate ≡ get_or rates next 0 → f.since ≡ now → f.rated ≡ true → IsTimed f
-        → AreReratedUpTo cmp component now times rates old new (at + 1) (next + 1)
-    one_rerated f new put of message left rate since rated timed =
+        → rate_of f.rate ≡ get_or rates next 0 → f.since ≡ now → f.rated ≡ true → f.group ≡ group → IsTimed f
+        → AreReratedUpTo cmp component now times group rates old new (at + 1) (next + 1)
+    one_rerated f new put of message left rate since rated of_group timed =
         let y = put.one in
-        let fresh : flight_at now y.value ≡ anew cmp component now times (get_or rates next 0) u =
+        let fresh : flight_at now y.value ≡ anew cmp component now times group (get_or rates next 0) u =
         ap (flight_at now) put.is
-        ∙ anew_is cmp component now times f x.value (get_or rates next 0) message left rate since rated in
+        ∙ anew_is cmp component now times group f x.value (get_or rates next 0) message left rate since rated of_group in
         record {
           to = h.to ++ y ∷ [];
           rest = s.rest;
@@ -230,22 +242,23 @@ module _ {P : Type 0} {cmp : P → P → Ordering} {component : Component P} {no
               ∙ sym (append_assoc h.to (y ∷ []) s.rest);
           at_is = ap (λ n. n + 1) h.at_is ∙ sym (length-append h.to (y ∷ []));
           as_many = ap length put.others ∙ length-set so_far at y ∙ h.as_many;
-          comes = comes_all ∙ ap (λ l. flights_at now h.to ++ rerated cmp component now times l (u ∷ us))
+          comes = comes_all ∙ ap (λ l. flights_at now h.to ++ rerated cmp component now times group l (u ∷ us))
               (drop_more rates next 0 (has_rate of))
               ∙ ap (λ l. flights_at now h.to ++ l)
-              (given_one cmp component now times (get_or rates next 0) (drop (next + 1) rates) u us of)
-              ∙ ap (λ v. flights_at now h.to ++ v ∷ rerated cmp component now times (drop (next + 1) rates) us)
+              (given_one cmp component now times group (get_or rates next 0) (drop (next + 1) rates) u us of)
+              ∙ ap (λ v. flights_at now h.to ++ v ∷ rerated cmp component now times group (drop (next + 1) rates) us)
               (sym fresh)
-              ∙ moved_on now h.to y (rerated cmp component now times (drop (next + 1) rates) us);
+              ∙ moved_on now h.to y (rerated cmp component now times group (drop (next + 1) rates) us);
           one_each = omega (arith, count_all, ap length (filter_yes (is_of cmp component) u us of));
           left = λ i v within. left_all (suc i) v (omega arith);
           timed = more_timed h.to y h.timed (λ is. subst IsTimed (sym put.is) timed);
           others = λ i g there. others_all (suc i) g there;
+          found = λ v among. found_all v (inr among);
         }
 
   -- all of them
   pub record AreAllRerated : Type 0 where
-    pub units : flights_at now so_far ≡ rerated cmp component now times rates (flights_at now old)
+    pub units : flights_at now so_far ≡ rerated cmp component now times group rates (flights_at now old)
     pub timed : AreTimed so_far
 
   pub all_rerated : length so_far ≤ at → AreAllRerated
@@ -254,9 +267,9 @@ module _ {P : Type 0} {cmp : P → P → Ordering} {component : Component P} {no
       by_rest : (rest : List (Rc (Flight P) Global)) → h.rest ≡ rest → AreAllRerated
       by_rest [] e =
           let all : so_far ≡ h.to = h.is ∙ ap (λ l. h.to ++ l) e ∙ append-nil h.to in
-          let none_come : rerated cmp component now times rates (flights_at now old) ≡ flights_at now h.to =
+          let none_come : rerated cmp component now times group rates (flights_at now old) ≡ flights_at now h.to =
           h.comes
-          ∙ ap (λ l. flights_at now h.to ++ rerated cmp component now times (drop next rates) (flights_at now l)) e
+          ∙ ap (λ l. flights_at now h.to ++ rerated cmp component now times group (drop next rates) (flights_at now l)) e
           ∙ append-nil (flights_at now h.to) in
           record { units = ap (flights_at now) all ∙ sym none_come; timed = subst AreTimed (sym all) h.timed }
       by_rest (z ∷ rest) e =
@@ -295,7 +308,14 @@ module _ {P : Type 0} (scale : ℕ) (some : 0 < scale) where
 
   module _ (at : ℕ) (here : at ≤ last_moment) (f : Flight P) (r : RunsOn at f) where
     abbrev unit : UnitFlight P
-    unit = record { message = f.message.value; left = left_by at f; rate = rate_of f.rate; updated = at; rated = true }
+    unit = record {
+      message = f.message.value;
+      left = left_by at f;
+      rate = rate_of f.rate;
+      updated = at;
+      rated = true;
+      group = f.group;
+    }
 
     unit_is : flight_at at f ≡ unit
     unit_is = ap flagged r.rated
@@ -307,6 +327,7 @@ module _ {P : Type 0} (scale : ℕ) (some : 0 < scale) where
           rate = if b then rate_of f.rate else 0;
           updated = if b then at else f.since;
           rated = b;
+          group = f.group;
         }
 
     come_if_spent : (s : ℕ) → s ≤ last_moment → (rated_flight_of scale (flight_at at f)).updated ≤ s

@@ -1,10 +1,15 @@
-//! Which senders and receivers messages in flight join.
-ghost use Rattle.std.specs.Prelude.{◌≡◌, ◌&&◌, ℕ, true, IfOk, IfErr, IfSome};
+//! Which messages in flight are joined, directly or through others.
+//!
+//! Messages that share a sender or a receiver are of one group. So where some are done or new, only those of the groups
+//! that they touch are looked at; and of these, those that the senders and receivers join.
+ghost use Rattle.std.specs.Prelude.{◌≡◌, ◌&&◌, ◌||◌, ◌==◌, ℕ, not, true, false, IfOk, IfErr, IfSome, OnOk};
 ghost use Rattle.std.specs.List.{list_all, list_any};
 ghost use Rattle.fair_rates.specs.Sides.Subjects.{same_peer};
-ghost use Rattle.link_scheduler.specs.Flights.Components.{is_sender, is_receiver, suits, is_closed, those_of};
-ghost use Rattle.link_scheduler.specs.Flights.Flight.{flight_at, flights_at};
+ghost use Rattle.link_scheduler.specs.Flights.Components.{is_sender, is_receiver, suits, is_closed, those_of, is_near};
+ghost use Rattle.link_scheduler.specs.Flights.Components.{is_found, AreGrouped, AreFarApart, AreFound};
+ghost use Rattle.link_scheduler.specs.Flights.Flight.{flight_at};
 ghost use Rattle.link_scheduler.specs.Flights.InFlight.{in_units};
+ghost use Rattle.link_scheduler.specs.Flights.Rated.{rated_ones};
 ghost use Rattle.link_scheduler.specs.Flights.RatedFlights.{are_standing};
 
 use super::flight::Flight;
@@ -21,10 +26,12 @@ use std::rc::Rc;
 /// that is in flight.
 const MOST_ENDS: usize = 12;
 
-/// Some senders and some receivers: those of these messages; or all.
+/// Some groups of messages in flight, and some senders and receivers of these: those of these
+/// messages. Or all.
 #[derive(Drop)]
 pub(crate) struct Component<P> {
     pub(crate) whole: bool,
+    pub(crate) groups: Vec<u64>,
     pub(crate) senders: Vec<Rc<Message<P>>>,
     pub(crate) receivers: Vec<Rc<Message<P>>>,
 }
@@ -33,6 +40,7 @@ impl<P: Peer> Component<P> {
     fn new(alloc: Global) -> Component<P> {
         Component {
             whole: false,
+            groups: Vec::new(alloc),
             senders: Vec::new(alloc),
             receivers: Vec::new(alloc),
         }
@@ -44,13 +52,14 @@ impl<P: Peer> Component<P> {
     {
         Component {
             whole: true,
+            groups: Vec::new(alloc),
             senders: Vec::new(alloc),
             receivers: Vec::new(alloc),
         }
     }
 
     /// Whether the peer is one of the senders.
-    pub(crate) fn has_sender(&self, peer: &P) -> bool
+    fn has_sender(&self, peer: &P) -> bool
         ensures { result ≡ is_sender P.cmp self.now peer.now }
     {
         self.whole || sends_any(peer, &self.senders)
@@ -63,8 +72,35 @@ impl<P: Peer> Component<P> {
         self.whole || receives_any(peer, &self.receivers)
     }
 
+    /// Whether the group is one of its groups.
+    fn has_group(&self, group: u64) -> bool
+        ensures { result ≡ list_any (λ own. own == group) self.now.groups.items }
+    {
+        self.groups.iter().any(|own| *own == group)
+    }
+
+    /// Whether the message in flight is of one of its groups, or has got no rate yet.
+    fn is_near(&self, one: &Flight<P>) -> bool
+        ensures { result ≡ is_near self.now (flight_at 0 one.now) }
+    {
+        !one.rated || self.has_group(one.group)
+    }
+
+    /// Whether the message in flight is of it.
+    pub(crate) fn has(&self, one: &Flight<P>) -> bool
+        ensures { result ≡ is_found P.cmp self.now (flight_at 0 one.now) }
+    {
+        self.whole || self.is_near(one) && self.has_sender(&one.message.origin)
+    }
+
     /// Takes in the ends of the message.
     fn join(&mut self, message: &Rc<Message<P>>) -> Result<(), Error>
+        ensures groups { self.new.groups ≡ self.old.groups }
+        ensures whole { self.new.whole ≡ self.old.whole }
+        ensures senders { OnOk result ((p : P) → is_sender P.cmp self.old p ≡ false
+            → same_peer P.cmp p message.now.value.origin ≡ false → is_sender P.cmp self.new p ≡ false) }
+        ensures receivers { OnOk result ((p : P) → is_receiver P.cmp self.old p ≡ false
+            → same_peer P.cmp p message.now.value.recipient ≡ false → is_receiver P.cmp self.new p ≡ false) }
         ensures refused { IfErr result (λ e. e ≡ Error.OutOfMemory) }
     {
         if !self.has_sender(&message.origin) {
@@ -81,37 +117,41 @@ impl<P: Peer> Component<P> {
         self.senders.len() > MOST_ENDS || self.receivers.len() > MOST_ENDS
     }
 
-    /// Takes in the messages that have one end in it, in one walk. Answers whether to walk again.
-    fn grow(&mut self, list: &[Rc<Flight<P>>]) -> Result<bool, Error>
+    /// Takes in the group.
+    fn add_group(&mut self, group: u64) -> Result<(), Error>
+        ensures senders { self.new.senders ≡ self.old.senders }
+        ensures receivers { self.new.receivers ≡ self.old.receivers }
+        ensures whole { self.new.whole ≡ self.old.whole }
+        ensures added { OnOk result (list_any (λ own. own == group) self.new.groups.items ≡ true) }
+        ensures kept { OnOk result ((other : ℕ) → list_any (λ own. own == other) self.old.groups.items ≡ true
+            → list_any (λ own. own == other) self.new.groups.items ≡ true) }
         ensures refused { IfErr result (λ e. e ≡ Error.OutOfMemory) }
     {
-        let mut grown = false;
-        for one in list {
-            let sends = self.has_sender(&one.message.origin);
-            if sends != self.has_receiver(&one.message.recipient) {
-                self.join(&one.message)?;
-                grown = true;
-                if self.is_large() {
-                    return Ok(false);
-                }
-            }
+        if !self.has_group(group) {
+            self.groups.push(group)?;
         }
-        Ok(grown)
+        Ok(())
     }
 
-    /// Whether it is a component by itself: it suits all that is in flight, and has both ends of
-    /// what is done.
-    fn is_closed(&self, done: &VecDeque<Rc<Message<P>>>, list: &[Rc<Flight<P>>]) -> bool
-        ensures { (at : ℕ) → result ≡ is_closed P.cmp self.now done.now.items (flights_at at list.now) }
+    /// Whether one of the ends of the message in flight is in it.
+    fn touches(&self, one: &Flight<P>) -> bool
+        ensures { result ≡ (is_sender P.cmp self.now one.now.message.value.origin
+            || is_receiver P.cmp self.now one.now.message.value.recipient) }
     {
-        self.has_all(done) && self.suits_all(list)
+        self.has_sender(&one.message.origin) || self.has_receiver(&one.message.recipient)
     }
 
-    /// Whether it suits all that is in flight.
+    /// Whether it suits all in flight that are near.
     fn suits_all(&self, list: &[Rc<Flight<P>>]) -> bool
-        ensures { result ≡ list_all (λ one. suits P.cmp self.now (flight_at 0 one.value)) list.now }
+        ensures { result ≡ list_all (λ one. not (is_near self.now (flight_at 0 one.value))
+            || suits P.cmp self.now (flight_at 0 one.value)) list.now }
     {
-        list.iter().all(|one| self.suits(one))
+        list.iter().all(|one| !self.is_near(one) || self.suits(one))
+    }
+
+    /// Whether it has one end of the message in flight, and not the other.
+    fn has_one_end(&self, one: &Flight<P>) -> bool {
+        self.has_sender(&one.message.origin) != self.has_receiver(&one.message.recipient)
     }
 
     /// Whether it has both ends of a message in flight; or neither, where that has got a rate.
@@ -162,8 +202,31 @@ impl<P: Peer> Flights<P> {
         &self,
         done: &VecDeque<Rc<Message<P>>>,
     ) -> Result<Option<Component<P>>, Error>
+        requires { AreGrouped P.cmp (rated_ones (in_units self.now)) }
         ensures closed { IfOk result (λ found. IfSome found (λ component.
             is_closed P.cmp component done.now.items (in_units self.now) ≡ true)) }
+        ensures found { IfOk result (λ found. IfSome found (λ component.
+            AreFound P.cmp component (in_units self.now))) }
+        ensures refused { IfErr result (λ e. e ≡ Error.OutOfMemory) }
+    {
+        let mut component = self.ends(done)?;
+        self.find_groups(&mut component)?;
+        for _walk in 0..MOST_ENDS {
+            if !self.grow(&mut component)? {
+                break;
+            }
+        }
+        if component.is_large() {
+            return Ok(None);
+        }
+        if component.has_all(done) && component.suits_all(&self.list) {
+            return Ok(Some(component));
+        }
+        Ok(None)
+    }
+
+    /// The ends of the messages that are done and of those that have got no rate yet.
+    fn ends(&self, done: &VecDeque<Rc<Message<P>>>) -> Result<Component<P>, Error>
         ensures refused { IfErr result (λ e. e ≡ Error.OutOfMemory) }
     {
         let mut component = Component::new(self.alloc);
@@ -175,26 +238,53 @@ impl<P: Peer> Flights<P> {
                 component.join(&one.message)?;
             }
         }
-        for _walk in 0..MOST_ENDS {
-            if !component.grow(&self.list)? {
-                break;
+        Ok(component)
+    }
+
+    /// Takes the groups of those into the component that have an end in it.
+    fn find_groups(&self, component: &mut Component<P>) -> Result<(), Error>
+        ensures far { OnOk result (AreFarApart P.cmp component.new (in_units self.now)) }
+        ensures refused { IfErr result (λ e. e ≡ Error.OutOfMemory) }
+    {
+        for one in &self.list {
+            if one.rated && component.touches(one) {
+                component.add_group(one.group)?;
             }
         }
-        if component.is_large() || !component.is_closed(done, &self.list) {
-            return Ok(None);
+        Ok(())
+    }
+
+    /// Takes in the ends of those of its groups that have one end in the component, in one walk.
+    /// Answers whether to walk again.
+    fn grow(&self, component: &mut Component<P>) -> Result<bool, Error>
+        requires grouped { AreGrouped P.cmp (rated_ones (in_units self.now)) }
+        requires far { AreFarApart P.cmp component.old (in_units self.now) }
+        ensures far { OnOk result (AreFarApart P.cmp component.new (in_units self.now)) }
+        ensures refused { IfErr result (λ e. e ≡ Error.OutOfMemory) }
+    {
+        let mut grown = false;
+        for one in &self.list {
+            if one.rated && component.has_group(one.group) && component.has_one_end(one) {
+                component.join(&one.message)?;
+                grown = true;
+                if component.is_large() {
+                    return Ok(false);
+                }
+            }
         }
-        Ok(Some(component))
+        Ok(grown)
     }
 
     /// The flows of the component, in order of start.
     pub(crate) fn flows_of(&self, component: &Component<P>) -> Result<Vec<Flow<P>>, Error>
+        requires found { AreFound P.cmp component.now (in_units self.now) }
         ensures standing { IfOk result (λ flows. are_standing P.cmp flows.items
             (those_of P.cmp component.now (in_units self.now)) ≡ true) }
         ensures refused { IfErr result (λ e. e ≡ Error.OutOfMemory) }
     {
         let mut flows = Vec::new(self.alloc);
         for one in &self.list {
-            if component.has_sender(&one.message.origin) {
+            if component.has(one) {
                 flows.push(one.message.flow(0)?)?;
             }
         }

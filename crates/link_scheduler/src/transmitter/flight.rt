@@ -23,6 +23,9 @@ pub(crate) struct Flight<P> {
     pub(crate) finish: Option<u64>,
     /// Whether an account has given it a rate since its start.
     pub(crate) rated: bool,
+    /// The number of its group, once it has a rate: those that share a sender or a receiver are of
+    /// one group.
+    pub(crate) group: u64,
 }
 
 impl<P: Peer> Flight<P> {
@@ -71,6 +74,7 @@ impl<P: Peer> Flight<P> {
         ensures rate { IfOk result (λ one. rate_of one.rate ≡ rate_of self.now.rate) }
         ensures since { IfOk result (λ one. one.since ≡ now) }
         ensures rated { IfOk result (λ one. one.rated ≡ self.now.rated) }
+        ensures group { IfOk result (λ one. one.group ≡ self.now.group) }
         ensures refused { IfErr result (λ e. e ≡ Error.OutOfMemory) }
     {
         Ok(Flight {
@@ -80,16 +84,18 @@ impl<P: Peer> Flight<P> {
             since: now,
             finish: self.finish,
             rated: self.rated,
+            group: self.group,
         })
     }
 
-    /// The same message at that rate from `now` on, the moment of an account. What is left counts
-    /// in smaller units, of which so many times as many are needed.
+    /// The same message at that rate from `now` on, the moment of an account, and in that group.
+    /// What is left counts in smaller units, of which so many times as many are needed.
     pub(crate) fn rerated(
         &self,
         rate: Option<Rc<Natural>>,
         growth: &[u64],
         now: u64,
+        group: u64,
     ) -> Result<Flight<P>, Error>
         requires { (flight_at now self.now).left * product growth.now ≢ 0 }
         ensures message { IfOk result (λ one. one.message.value ≡ self.now.message.value) }
@@ -97,6 +103,7 @@ impl<P: Peer> Flight<P> {
         ensures rate { IfOk result (λ one. rate_of one.rate ≡ rate_of rate) }
         ensures since { IfOk result (λ one. one.since ≡ now) }
         ensures rated { IfOk result (λ one. one.rated ≡ true) }
+        ensures group { IfOk result (λ one. one.group ≡ group) }
         ensures timed { IfOk result (λ one. IsTimed one) }
         ensures refused { IfErr result (λ e. e ≡ Error.OutOfMemory) }
     {
@@ -110,6 +117,7 @@ impl<P: Peer> Flight<P> {
             since: now,
             finish,
             rated: true,
+            group,
         })
     }
 }

@@ -30,6 +30,8 @@ pub(crate) struct Flights<P: Peer> {
     pub(crate) scale: Natural,
     /// The moment of the last account.
     pub(crate) at: u64,
+    /// The number of the group that was made last.
+    pub(crate) last_group: u64,
 
     pub ghost past: { list_all (λ one. not one.value.rated || nat_le one.value.since at) list.items ≡ true },
     pub ghost scaled: { 0 < scale },
@@ -51,6 +53,7 @@ impl<P: Peer> Flights<P> {
             list: Vec::new(alloc),
             scale: Natural::from_u64(alloc, 1),
             at: 0,
+            last_group: 0,
         }
     }
 
@@ -85,6 +88,7 @@ impl<P: Peer> Flights<P> {
             since: now,
             finish: None,
             rated: false,
+            group: 0,
         };
         self.list.push(Rc::new(self.alloc, flight)?)?;
         Ok(())
@@ -101,6 +105,11 @@ impl<P: Peer> Flights<P> {
     {
         self.list[at] = Rc::new(self.alloc, flight)?;
         Ok(())
+    }
+
+    /// The number of the group that is made next.
+    pub(crate) fn next_group(&self) -> u64 {
+        self.last_group.wrapping_add(1)
     }
 
     /// The first finish of all.
@@ -127,6 +136,7 @@ impl<P: Peer> Clone for Flights<P> {
             list: self.list.clone()?,
             scale: self.scale.clone()?,
             at: self.at,
+            last_group: self.last_group,
         })
     }
 }

@@ -1,11 +1,11 @@
 //! The fair rates of what is in flight.
-ghost use Rattle.std.specs.Prelude.{◌≡◌, ◌≢◌, true, map, IfOk, IfErr, OnOk, All, ◌<◌, ◌≤◌, ◌*◌, length};
+ghost use Rattle.std.specs.Prelude.{◌≡◌, ◌≢◌, ℕ, true, map, IfOk, IfErr, OnOk, All, ◌<◌, ◌≤◌, ◌*◌, length};
 ghost use Rattle.fair_rates.specs.Fairness.Exists.{product};
 ghost use Rattle.link_simulation.specs.Rule.Planned.{IsLeastMoment, SomeSpentAt};
 ghost use Rattle.link_simulation.specs.Simulation.World.{last_moment};
 ghost use Rattle.link_scheduler.specs.Calls.AsPlanned.{messages, AreFairPartsUnder};
 ghost use Rattle.link_scheduler.specs.Pairs.CapsOf.{caps_of};
-ghost use Rattle.link_scheduler.specs.Flights.Components.{those_of};
+ghost use Rattle.link_scheduler.specs.Flights.Components.{those_of, AreFound};
 ghost use Rattle.link_scheduler.specs.Flights.Flight.{AreTimed, rate_of};
 ghost use Rattle.fair_rates.specs.Filling.FairParts.{parts_of_level};
 ghost use Rattle.link_scheduler.specs.Flights.InFlight.{in_units, in_flight};
@@ -122,6 +122,7 @@ impl<P: Peer> Flights<P> {
         peers: &Peers<P>,
         pairs: &Pairs<P>,
     ) -> Result<FairParts, Error>
+        requires found { AreFound P.cmp component.now (in_units self.now) }
         ensures fair { IfOk result (AreFairOf P.cmp (caps_of P.cmp peers.now.entries pairs.now.entries)
             self.now.scale component.now (in_units self.now)) }
         ensures refused { IfErr result (λ e. e ≡ Error.OutOfMemory) }
@@ -131,30 +132,33 @@ impl<P: Peer> Flights<P> {
     }
 
     /// Gives those of the component these rates from the last account on, in the units of these
-    /// rates.
+    /// rates. They are a group from now on.
     fn set_rates(&mut self, component: &Component<P>, rates: FairParts) -> Result<(), Error>
         requires one_each { length rates.level_of.items ≡ length (those_of P.cmp component.now (in_units self.old)) }
         requires left { All (λ u. u.left * product rates.growth.items ≢ 0) (in_units self.old) }
         requires scaled { 0 < rates.scale }
         requires others { AreOthersTimed P.cmp component.now self.old.list.items }
-        ensures rerated { OnOk result (in_units self.new ≡ rerated P.cmp component.now self.old.at
-            (product rates.growth.items) (rates_found rates) (in_units self.old)) }
+        requires found { AreFound P.cmp component.now (in_units self.old) }
+        ensures rerated { OnOk result ((group : ℕ) × (in_units self.new ≡ rerated P.cmp component.now self.old.at
+            (product rates.growth.items) group (rates_found rates) (in_units self.old))) }
         ensures timed { OnOk result (AreTimed self.new.list.items) }
         ensures scale { OnOk result (self.new.scale ≡ rates.scale) }
         ensures at { self.new.at ≡ self.old.at }
         ensures refused { IfErr result (λ e. e ≡ Error.OutOfMemory) }
     {
         let levels = shared_levels(self.alloc, rates.levels)?;
+        let group = self.next_group();
         let mut next = 0;
         for at in 0..self.list.len() {
-            if component.has_sender(&self.list[at].message.origin) {
+            if component.has(&self.list[at]) {
                 let rate = level_at(&levels, rates.level_of[next])?;
-                let one = self.list[at].rerated(rate, &rates.growth, self.at)?;
+                let one = self.list[at].rerated(rate, &rates.growth, self.at, group)?;
                 self.put(at, one)?;
                 next += 1;
             }
         }
         self.scale = rates.scale;
+        self.last_group = group;
         Ok(())
     }
 }

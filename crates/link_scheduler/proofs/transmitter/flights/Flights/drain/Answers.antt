@@ -50,7 +50,8 @@ loop-at-preserved g c =
                 ∙ ap (λ n. (flight_at n x.value).left) at_is)
                 (w.in_ok-one.ensures.rate ∙ ap (λ (f : Flight g.row.P.Denot). rate_of f.rate) value)
                 w.in_ok-one.ensures.since
-                (w.in_ok-one.ensures.rated ∙ ap (λ (f : Flight g.row.P.Denot). f.rated) value)),
+                (w.in_ok-one.ensures.rated ∙ ap (λ (f : Flight g.row.P.Denot). f.rated) value)
+                (w.in_ok-one.ensures.group ∙ ap (λ (f : Flight g.row.P.Denot). f.group) value)),
             ap (λ s. s.at) w.self-is ∙ w.put.ensures.at ∙ at_is,
             ap (λ s. s.scale) w.self-is ∙ w.put.ensures.scale ∙ c.loop-at.invariant.2,
           )

@@ -4,9 +4,17 @@ use Rattle.link_scheduler.specs.Pairs.CapsOf.{caps_of}
 use Rattle.link_scheduler.specs.Flights.Components.{is_closed}
 use Rattle.link_scheduler.specs.Flights.InFlight.{in_units}
 use Rattle.link_scheduler.proofs.Flights.Accounts.{looked_up}
-use Rattle.link_scheduler.proofs.Flights.Components.{whole_given, component_given, left_given, none_there}
+use Rattle.link_scheduler.specs.Calls.AsPlanned.{messages}
+use Rattle.link_scheduler.proofs.Flights.Components.{none_there, grouped_rest}
+use Rattle.link_scheduler.proofs.Flights.RatesGiven.{whole_given, component_given, left_given}
 use Rattle.link_scheduler.proofs.Flights.Rerating.{first_finish_is}
 use Rattle.link_scheduler.proofs.transmitter.flights.Flights.rate.Goals as goal
+
+pub component-requires : goal.component-requires
+component-requires g c =
+    let old = c.args.self.now in
+    grouped_rest g.P.Ord.cmp (caps_of g.P.Ord.cmp c.args.peers.now.entries c.args.pairs.now.entries) old.scale
+    (in_units old) (messages c.args.done.now.items) (c.requires.before c.if-were_rated.true)
 
 pub set_rates-requires-2-clause-left : goal.set_rates-requires-2-clause-left
 set_rates-requires-2-clause-left g c =
@@ -21,7 +29,8 @@ returns-then-is_empty-clause-rated g c =
     let caps = caps_of cmp c.args.peers.now.entries c.args.pairs.now.entries in
     let part = c.in_ok-part.part in
     let e = c.in_ok-set_rates.ensures in
-    component_given cmp caps c.in-Some.component part old c.set_rates.new.self c.in_ok-part.ensures.fair e.rerated
+    component_given cmp caps c.in-Some.component part old c.set_rates.new.self e.rerated.0 c.in_ok-part.ensures.fair
+    e.rerated.1
     e.scale e.at e.timed g.met.P.Ord.total
     (looked_up cmp g.met.P.Ord.total c.args.peers.now.entries c.args.pairs.now.entries)
     c.args.done.now.items
@@ -45,8 +54,8 @@ returns-clause-rated g c =
     let old = c.args.self.now in
     let caps = caps_of cmp c.args.peers.now.entries c.args.pairs.now.entries in
     let e = c.in_ok-set_rates-2.ensures in
-    whole_given cmp caps c.whole-all.result c.in_ok-rates.rates old c.set_rates-2.new.self c.in_ok-rates.ensures.fair
-    e.rerated e.scale e.at e.timed c.whole-all.ensures
+    whole_given cmp caps c.whole-all.result c.in_ok-rates.rates old c.set_rates-2.new.self e.rerated.0
+    c.in_ok-rates.ensures.fair e.rerated.1 e.scale e.at e.timed c.whole-all.ensures
 
 pub returns-clause-finish : goal.returns-clause-finish
 returns-clause-finish g c =

@@ -5,25 +5,27 @@ use Rattle.std.proofs.lemmas.List.{get_or_default, length-map}
 use Rattle.fair_rates.specs.Fairness.Exists.{product}
 use Rattle.fair_rates.specs.Filling.FairParts.{parts_of_level}
 use Rattle.link_scheduler.specs.declared.transmitter.flight.Flight.{Flight}
-use Rattle.link_scheduler.specs.Flights.Components.{is_sender, is_of}
+use Rattle.link_scheduler.specs.Flights.Components.{is_of, is_found}
 use Rattle.link_scheduler.specs.Flights.Flight.{flight_at, flights_at, rate_of}
 use Rattle.link_scheduler.specs.Flights.Rated.{rates_found}
 use Rattle.link_scheduler.proofs.Flights.InFlight.{read_at}
 use Rattle.link_scheduler.proofs.Flights.Rerating.{AreReratedUpTo, none_rerated, stands_next, something_left, has_rate}
+use Rattle.link_scheduler.proofs.Flights.Rerating.{found_here}
 use Rattle.link_scheduler.proofs.Flights.Rerating.{passed, one_rerated, all_rerated}
 use Rattle.link_scheduler.proofs.transmitter.flights.Flights.set_rates.Goals as goal
-use Rattle.link_scheduler.proofs.transmitter.flights.Flights.set_rates.Goals.{else-has_sender}
+use Rattle.link_scheduler.proofs.transmitter.flights.Flights.set_rates.Goals.{else-has}
 use Rattle.link_scheduler.proofs.transmitter.flights.Flights.set_rates.Goals.{
-  then-has_sender+in_ok-rate+in_ok-one+in_ok-put,
+  then-has+in_ok-rate+in_ok-one+in_ok-put,
 }
 
 pub loop-at-init : goal.loop-at-init
 loop-at-init g c =
     let old = c.args.self.now in
     let rates = c.args.rates in (
-      none_rerated g.P.Ord.cmp c.args.component.now old.at (product rates.growth.items) (rates_found rates)
+      none_rerated g.P.Ord.cmp c.args.component.now old.at (product rates.growth.items) c.next_group-group.result
+          (rates_found rates)
           old.list.items (length-map rates.level_of.items (parts_of_level rates.levels.items) ∙ c.requires.one_each)
-          c.requires.left c.requires.others,
+          c.requires.left c.requires.others c.requires.found,
       refl,
     )
 
@@ -33,8 +35,8 @@ index-requires g c =
     let so_far = c.loop-at.self in
     omega (arith, c.loop-at-test.true, c.len-at-end.ensures, c.args.self.now.list.ok.0, so_far.list.ok.0, h.as_many)
 
-pub index-requires-then-has_sender-2 : goal.index-requires-then-has_sender-2
-index-requires-then-has_sender-2 g c =
+pub index-requires-then-has-2 : goal.index-requires-then-has-2
+index-requires-then-has-2 g c =
     let h = c.loop-at.invariant.0 in
     let so_far = c.loop-at.self in
     omega (arith, c.loop-at-test.true, c.len-at-end.ensures, c.args.self.now.list.ok.0, so_far.list.ok.0, h.as_many)
@@ -43,8 +45,8 @@ pub put-requires-clause-place : goal.put-requires-clause-place
 put-requires-clause-place g c =
     omega (arith, c.loop-at-test.true, c.len-at-end.ensures, c.args.self.now.list.ok.0, c.loop-at.invariant.0.as_many)
 
-pub index-requires-then-has_sender : goal.index-requires-then-has_sender
-index-requires-then-has_sender g c =
+pub index-requires-then-has : goal.index-requires-then-has
+index-requires-then-has g c =
     let cmp = g.P.Ord.cmp in
     let component = c.args.component.now in
     let old = c.args.self.now in
@@ -54,11 +56,11 @@ index-requires-then-has_sender g c =
     let lt : c.loop-at.at < length so_far.list.items =
     omega (arith, c.loop-at-test.true, c.len-at-end.ensures, old.list.ok.0, h.as_many) in
     let x = c.index.result.now in
-    let test : c.has_sender.result ≡ is_of cmp component (flight_at old.at x.value) =
-    c.has_sender.ensures ∙ ap (λ m. is_sender cmp component m.origin)
-    (c.deref-in-loop-at.ensures ∙ ap (λ f. f.message.value) c.deref.ensures) in
+    let test : c.has.result ≡ is_of cmp component (flight_at old.at x.value) =
+    c.has.ensures ∙ ap (λ (f : Flight g.row.P.Denot). is_found cmp component (flight_at 0 f)) c.deref.ensures
+    ∙ found_here h x (stands_next h x lt c.index.ensures) in
     let there : c.loop-at.next < length (rates_found rates) =
-    has_rate h x (stands_next h x lt c.index.ensures) (sym test ∙ c.if-has_sender.true) in
+    has_rate h x (stands_next h x lt c.index.ensures) (sym test ∙ c.if-has.true) in
     omega (arith, there, length-map rates.level_of.items (parts_of_level rates.levels.items), rates.level_of.ok.0)
 
 pub rerated-requires : goal.rerated-requires
@@ -71,15 +73,15 @@ rerated-requires g c none =
     let so_far = c.loop-at.self in
     let lt : c.loop-at.at < length so_far.list.items =
     omega (arith, c.loop-at-test.true, c.len-at-end.ensures, old.list.ok.0, c.loop-at.invariant.0.as_many) in
-    let x = c.index-then-has_sender-2.result.now in
-    let f = c.deref-then-has_sender-2.result.now in
+    let x = c.index-then-has-2.result.now in
+    let f = c.deref-then-has-2.result.now in
     let h = c.loop-at.invariant.0 in
     let same : (flight_at old.at x.value).left * growth
-    ≡ (flight_at so_far.at f).left * product c.deref-then-has_sender-3.result.now =
+    ≡ (flight_at so_far.at f).left * product c.deref-then-has-3.result.now =
     ap (λ n. (flight_at n x.value).left * growth) (sym c.loop-at.invariant.1)
-    ∙ ap (λ (f : Flight g.row.P.Denot). (flight_at so_far.at f).left * growth) (sym c.deref-then-has_sender-2.ensures)
-    ∙ ap (λ ns. (flight_at so_far.at f).left * product ns) (sym c.deref-then-has_sender-3.ensures.value) in
-    something_left h x (stands_next h x lt c.index-then-has_sender-2.ensures) (same ∙ none)
+    ∙ ap (λ (f : Flight g.row.P.Denot). (flight_at so_far.at f).left * growth) (sym c.deref-then-has-2.ensures)
+    ∙ ap (λ ns. (flight_at so_far.at f).left * product ns) (sym c.deref-then-has-3.ensures.value) in
+    something_left h x (stands_next h x lt c.index-then-has-2.ensures) (same ∙ none)
 
 pub put-requires-clause-past : goal.put-requires-clause-past
 put-requires-clause-past g c =
@@ -98,11 +100,11 @@ overflow_add-next g c =
     let lt : c.loop-at.at < length so_far.list.items =
     omega (arith, c.loop-at-test.true, c.len-at-end.ensures, old.list.ok.0, h.as_many) in
     let x = c.index.result.now in
-    let test : c.has_sender.result ≡ is_of cmp component (flight_at old.at x.value) =
-    c.has_sender.ensures ∙ ap (λ m. is_sender cmp component m.origin)
-    (c.deref-in-loop-at.ensures ∙ ap (λ f. f.message.value) c.deref.ensures) in
+    let test : c.has.result ≡ is_of cmp component (flight_at old.at x.value) =
+    c.has.ensures ∙ ap (λ (f : Flight g.row.P.Denot). is_found cmp component (flight_at 0 f)) c.deref.ensures
+    ∙ found_here h x (stands_next h x lt c.index.ensures) in
     let there : c.loop-at.next < length (rates_found rates) =
-    has_rate h x (stands_next h x lt c.index.ensures) (sym test ∙ c.if-has_sender.true) in
+    has_rate h x (stands_next h x lt c.index.ensures) (sym test ∙ c.if-has.true) in
     omega (arith, there, length-map rates.level_of.items (parts_of_level rates.levels.items), rates.level_of.ok.0)
 
 pub returns-in_err-rate-clause-at : goal.returns-in_err-rate-clause-at
@@ -126,48 +128,48 @@ loop-at-preserved g c =
     let next = c.loop-at.next in
     let h = c.loop-at.invariant.0 in
     let at_is = c.loop-at.invariant.1 in
-    let AreUpTo = AreReratedUpTo cmp component old.at growth (rates_found rates) old.list.items in
+    let AreUpTo = AreReratedUpTo cmp component old.at growth c.next_group-group.result (rates_found rates) old.list.items in
     let lt : at < length so_far.list.items =
     omega (arith, c.loop-at-test.true, c.len-at-end.ensures, old.list.ok.0, h.as_many) in
     let x = c.index.result.now in
     let stands = stands_next h x lt c.index.ensures in
-    let test : c.has_sender.result ≡ is_of cmp component (flight_at old.at x.value) =
-    c.has_sender.ensures ∙ ap (λ m. is_sender cmp component m.origin)
-    (c.deref-in-loop-at.ensures ∙ ap (λ f. f.message.value) c.deref.ensures) in
-    elim c.if-has_sender.branch [
-      | then-has_sender+in_ok-rate+in_ok-one+in_ok-put w ↦
+    let test : c.has.result ≡ is_of cmp component (flight_at old.at x.value) =
+    c.has.ensures ∙ ap (λ (f : Flight g.row.P.Denot). is_found cmp component (flight_at 0 f)) c.deref.ensures
+    ∙ found_here h x (stands_next h x lt c.index.ensures) in
+    elim c.if-has.branch [
+      | then-has+in_ok-rate+in_ok-one+in_ok-put w ↦
           let one = w.in_ok-one in
-          let of = sym test ∙ w.if-has_sender.true in
+          let of = sym test ∙ w.if-has.true in
           let room : next < length rates.level_of.items =
           omega (arith, length-map rates.level_of.items (parts_of_level rates.levels.items), has_rate h x stands of) in
-          let same : w.index-then-has_sender-2.result.now ≡ x =
-          w.index-then-has_sender-2.ensures
-          ∙ get_or_default so_far.list.items at w.index-then-has_sender-2.result.now x lt ∙ sym c.index.ensures in
-          let f = w.deref-then-has_sender-2.result.now in
-          let value : f ≡ x.value = w.deref-then-has_sender-2.ensures ∙ ap (λ r. r.value) same in
-          let place = w.index-then-has_sender.result.now in
+          let same : w.index-then-has-2.result.now ≡ x =
+          w.index-then-has-2.ensures
+          ∙ get_or_default so_far.list.items at w.index-then-has-2.result.now x lt ∙ sym c.index.ensures in
+          let f = w.deref-then-has-2.result.now in
+          let value : f ≡ x.value = w.deref-then-has-2.ensures ∙ ap (λ r. r.value) same in
+          let place = w.index-then-has.result.now in
           let rate : rate_of one.one.rate ≡ get_or (rates_found rates) next 0 =
           one.ensures.rate ∙ w.in_ok-rate.ensures.rate
-          ∙ ap (λ ls. parts_of_level (map (λ level. level.value) ls) place) w.deref-then-has_sender.ensures.value
+          ∙ ap (λ ls. parts_of_level (map (λ level. level.value) ls) place) w.deref-then-has.ensures.value
           ∙ ap (λ ls. parts_of_level ls place) c.in_ok-levels.ensures.same
           ∙ sym (read_at (parts_of_level rates.levels.items) rates.level_of.items next place 0 room
-          w.index-then-has_sender.ensures) in
+          w.index-then-has.ensures) in
           let left : one.one.left ≡ (flight_at old.at x.value).left * growth =
           one.ensures.left
-          ∙ ap (λ ns. (flight_at so_far.at f).left * product ns) w.deref-then-has_sender-3.ensures.value
+          ∙ ap (λ ns. (flight_at so_far.at f).left * product ns) w.deref-then-has-3.ensures.value
           ∙ ap (λ (f : Flight g.row.P.Denot). (flight_at so_far.at f).left * growth) value
           ∙ ap (λ n. (flight_at n x.value).left * growth) at_is in (
-            subst (λ (s : _). AreUpTo s.list.items (at + 1) c.if-has_sender.next) (sym w.self-is)
+            subst (λ (s : _). AreUpTo s.list.items (at + 1) c.if-has.next) (sym w.self-is)
                 (subst (λ n. AreUpTo w.put.new.self.list.items (at + 1) n) (sym w.next-is)
                 (one_rerated h x stands one.one w.put.new.self.list.items w.in_ok-put.ensures.list of
                 (one.ensures.message ∙ ap (λ (f : Flight g.row.P.Denot). f.message.value) value) left rate
-                (one.ensures.since ∙ at_is) one.ensures.rated one.ensures.timed)),
+                (one.ensures.since ∙ at_is) one.ensures.rated one.ensures.group one.ensures.timed)),
             ap (λ s. s.at) w.self-is ∙ w.put.ensures.at ∙ at_is,
           )
-      | else-has_sender w ↦ (
-        subst (λ (s : _). AreUpTo s.list.items (at + 1) c.if-has_sender.next) (sym w.self-is)
+      | else-has w ↦ (
+        subst (λ (s : _). AreUpTo s.list.items (at + 1) c.if-has.next) (sym w.self-is)
             (subst (λ n. AreUpTo so_far.list.items (at + 1) n) (sym w.next-is)
-            (passed h x stands (sym test ∙ w.if-has_sender.false))),
+            (passed h x stands (sym test ∙ w.if-has.false))),
         ap (λ s. s.at) w.self-is ∙ at_is,
       )
     ]
@@ -179,7 +181,7 @@ returns-clause-rerated g c =
     let h = c.loop-at.invariant.0 in
     let end : length now.list.items ≤ c.loop-at.at =
     omega (arith, c.loop-at-test.false, c.len-at-end.ensures, old.list.ok.0, h.as_many) in
-    ap (λ n. flights_at n now.list.items) c.loop-at.invariant.1 ∙ (all_rerated h end).units
+    (c.next_group-group.result, ap (λ n. flights_at n now.list.items) c.loop-at.invariant.1 ∙ (all_rerated h end).units)
 
 pub returns-clause-timed : goal.returns-clause-timed
 returns-clause-timed g c =

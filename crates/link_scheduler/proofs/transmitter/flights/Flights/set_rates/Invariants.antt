@@ -6,6 +6,7 @@ use Rattle.link_scheduler.proofs.transmitter.flights.Flights.set_rates.Given as 
 
 abbrev pub invariant-loop-at : goal.invariant-loop-at
 invariant-loop-at g l =
-    AreReratedUpTo g.P.Ord.cmp l.component l.initial.self.at (product l.fn.rates.growth.items) (rates_found l.fn.rates)
+    AreReratedUpTo g.P.Ord.cmp l.component l.initial.self.at (product l.fn.rates.growth.items) l.group
+    (rates_found l.fn.rates)
     l.initial.self.list.items l.self.list.items l.at l.next
     × (l.self.at ≡ l.initial.self.at)

@@ -16,7 +16,8 @@ use Rattle.link_scheduler.specs.Idle.Index.{IsIndexOf}
 use Rattle.link_scheduler.proofs.Flights.Accounted.{stays_updated, all_have_rates, stays_limited, rated_limited}
 use Rattle.link_scheduler.proofs.Flights.Accounts.{accounts_so, some_units_left}
 use Rattle.link_scheduler.proofs.Flights.Rated.{drained_as_rated, drained_sending, still_fair_after, still_limited}
-use Rattle.link_scheduler.proofs.Flights.Rated.{rated_if_so}
+use Rattle.link_scheduler.proofs.Flights.Rated.{rated_if_so, still_grouped}
+use Rattle.link_scheduler.specs.Flights.Components.{AreGrouped}
 use Rattle.link_scheduler.proofs.Flights.Standing.{messages_read, messages_kept}
 use Rattle.link_scheduler.proofs.Idle.IndexChanges.{flows_drained, same_flights_index}
 use Rattle.link_scheduler.proofs.transmitter.ledger.Ledger.account.Goals as goal
@@ -153,6 +154,7 @@ rate-requires-clause-before g c e =
                   fair =
                       rw scale
                       (still_fair_after cmp caps before.scale (in_units before) (in_units drained) alike rated.fair);
+                  grouped = still_grouped cmp caps (in_units before) (in_units drained) alike rated.grouped;
                 }
             | else-not-self w ↦ absurd
                 (false≢true (sym (ap not w.if-not-self.false) ∙ sym w.were_rated-is ∙ v.if-were_rated.true))
@@ -213,6 +215,7 @@ invariant_of-self-2 g c =
         fair = rw all h.fair;
         limited = rw all (rated_limited cmp caps flying.at h.times (in_units flying) (in_units new) h.each limited);
         timed = h.timed;
+        grouped = subst (AreGrouped cmp) (sym all) h.grouped;
       } ∣₁;
     }
 
