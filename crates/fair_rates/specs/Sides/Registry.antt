@@ -53,9 +53,11 @@ module _ {P : Type 0} (cmp : P → P → Ordering) where
   FindsSides registry =
       (s : declared.Subject P) (n : ℕ) → number_of registry.numbers s ≡ Some n → n < vec_len registry.sides
 
--- the flow at a place has asked for the side of a subject
-pub record Registers {P : Type 0} (cmp : P → P → Ordering) (place : ℕ) (s : declared.Subject P) (answer : Option ℕ)
-    (old new : Registry P) : Type 0 where
-  pub asked : (asks : List (Ask P)) → IsRegistryOf cmp asks old
-      → IsRegistryOf cmp (asks ++ record { place = place; subject = subject_of s; answer = answer } ∷ []) new
+-- the flow at a place asks for the side of a subject
+abbrev pub ask_for : {P : Type 0} → ℕ → declared.Subject P → Option ℕ → Ask P
+ask_for place s answer = record { place = place; subject = subject_of s; answer = answer }
+
+-- these asks were made after those before
+pub record Registers {P : Type 0} (cmp : P → P → Ordering) (more : List (Ask P)) (old new : Registry P) : Type 0 where
+  pub asked : (asks : List (Ask P)) → IsRegistryOf cmp asks old → IsRegistryOf cmp (asks ++ more) new
   pub finds : FindsSides cmp new

@@ -1,13 +1,13 @@
 //! What limits flows: the sides that the caps make.
-ghost use Rattle.std.specs.Prelude.{◌≡◌, OnOk, ◌<◌, List, Some, IfOk, IfErr, map, All, AllPairs, length};
+ghost use Rattle.std.specs.Prelude.{◌≡◌, OnOk, ◌<◌, [], ◌∷◌, List, Some, IfOk, IfErr, map, All, AllPairs, length};
 ghost use Rattle.std.specs.Fn.{CalledAt, TakesAt, CalledAtTwo, TakesAtTwo};
 ghost use Rattle.fair_rates.specs.Sides.Answers.{Answered, AnswerInOrder, CallableOnEach, CallableOnEachPair, origins};
-ghost use Rattle.fair_rates.specs.Sides.Answers.{recipients, pairs};
-ghost use Rattle.fair_rates.specs.Sides.Subjects.{sides_of};
+ghost use Rattle.fair_rates.specs.Sides.Answers.{recipients, pairs, answered_by, answered_of};
+ghost use Rattle.fair_rates.specs.Sides.Subjects.{sides_of, asks_of_one};
 ghost use Rattle.fair_rates.specs.Sides.SideOf.{side_of};
-ghost use Rattle.fair_rates.specs.Sides.Registry.{FindsSides, Registers};
+ghost use Rattle.fair_rates.specs.Sides.Registry.{FindsSides, Registers, ask_for};
 
-use crate::bandwidth::Flow;
+use crate::bandwidth::{CappedFlow, Flow, FlowCaps};
 use crate::error::Error;
 use crate::peer::Peer;
 use std::alloc::Global;
@@ -38,6 +38,20 @@ struct Registry<'a, P: Ord> {
     numbers: BTreeMap<Subject<'a, P>, usize>,
 }
 
+impl<'a, P: Peer> Registry<'a, P> {
+    ghost use Rattle.fair_rates.specs.Sides.Registry.{IsRegistryOf};
+
+    /// No flow has asked yet.
+    fn new(alloc: Global) -> Registry<'a, P>
+        ensures { IsRegistryOf P.cmp [] result }
+    {
+        Registry {
+            sides: Vec::new(alloc),
+            numbers: BTreeMap::new(alloc),
+        }
+    }
+}
+
 /// Registers that the flow at `place` asks for the side of `subject`, and that its closure gave
 /// this answer.
 fn register<'a, P: Peer>(
@@ -48,7 +62,8 @@ fn register<'a, P: Peer>(
     answer: Option<u128>,
 ) -> Result<(), Error>
     requires { FindsSides P.cmp registry.old }
-    ensures registers { OnOk result (Registers P.cmp place subject.entry answer registry.old registry.new) }
+    ensures registers { OnOk result (Registers P.cmp (ask_for place subject.entry answer ∷ [])
+        registry.old registry.new) }
     ensures refused { IfErr result (λ e. e ≡ Error.OutOfMemory) }
 {
     if let Some(number) = registry.numbers.get(&subject).copied() {
@@ -64,6 +79,29 @@ fn register<'a, P: Peer>(
     registry.sides.push(Side { cap, users })?;
     registry.numbers.insert(subject, number)?;
     Ok(())
+}
+
+/// Registers that the flow at `place` asks for its sides, and that these were the answers.
+fn register_flow<'a, P: Peer>(
+    alloc: Global,
+    registry: &mut Registry<'a, P>,
+    place: usize,
+    flow: &'a Flow<P>,
+    answers: FlowCaps,
+) -> Result<(), Error>
+    requires { FindsSides P.cmp registry.old }
+    ensures registers { OnOk result (Registers P.cmp (asks_of_one place (answered_by flow.now answers))
+        registry.old registry.new) }
+    ensures refused { IfErr result (λ e. e ≡ Error.OutOfMemory) }
+{
+    let sent = Subject::SentBy(&flow.origin);
+    register(alloc, registry, place, sent, answers.egress)?;
+    if flow.delivered {
+        let received = Subject::ReceivedBy(&flow.recipient);
+        register(alloc, registry, place, received, answers.ingress)?;
+    }
+    let between = Subject::SentBetween(&flow.origin, &flow.recipient);
+    register(alloc, registry, place, between, answers.link)
 }
 
 /// The sides of the flows, in the order in which they come into being.
@@ -91,22 +129,38 @@ where
     ensures users_rise { IfOk result (λ sides. All (λ side. AllPairs (λ a b. a < b) side.users.items) sides.items) }
     ensures refused { IfErr result (λ e. e ≡ Error.OutOfMemory) }
 {
-    let mut registry = Registry {
-        sides: Vec::new(alloc),
-        numbers: BTreeMap::new(alloc),
-    };
+    let mut registry = Registry::new(alloc);
     for (place, flow) in flows.iter().enumerate() {
-        let answer = egress_cap(&flow.origin);
-        let subject = Subject::SentBy(&flow.origin);
-        register(alloc, &mut registry, place, subject, answer)?;
-        if flow.delivered {
-            let answer = ingress_cap(&flow.recipient);
-            let subject = Subject::ReceivedBy(&flow.recipient);
-            register(alloc, &mut registry, place, subject, answer)?;
-        }
-        let answer = link_cap(&flow.origin, &flow.recipient);
-        let subject = Subject::SentBetween(&flow.origin, &flow.recipient);
-        register(alloc, &mut registry, place, subject, answer)?;
+        let egress = egress_cap(&flow.origin);
+        let ingress = if flow.delivered {
+            ingress_cap(&flow.recipient)
+        } else {
+            None
+        };
+        let link = link_cap(&flow.origin, &flow.recipient);
+        let answers = FlowCaps {
+            egress,
+            ingress,
+            link,
+        };
+        register_flow(alloc, &mut registry, place, flow, answers)?;
+    }
+    Ok(registry.sides)
+}
+
+/// The sides of flows with known caps, in the order in which they come into being.
+pub(crate) fn sides_of_capped<P: Peer>(
+    alloc: Global,
+    flows: &[CappedFlow<P>],
+) -> Result<Vec<Side>, Error>
+    ensures sides { IfOk result (λ sides. map side_of sides.items ≡ sides_of P.cmp (map answered_of flows.now)) }
+    ensures users_are_flows { IfOk result (λ sides. All
+        (λ side. All (λ flow. flow < length flows.now) side.users.items) sides.items) }
+    ensures refused { IfErr result (λ e. e ≡ Error.OutOfMemory) }
+{
+    let mut registry = Registry::new(alloc);
+    for (place, one) in flows.iter().enumerate() {
+        register_flow(alloc, &mut registry, place, &one.flow, one.caps)?;
     }
     Ok(registry.sides)
 }
