@@ -5,7 +5,7 @@ ghost use Rattle.fair_rates.specs.Sides.Answers.{Answered, AnswerInOrder, Callab
 ghost use Rattle.fair_rates.specs.Sides.Answers.{recipients, pairs, answered_by, answered_of};
 ghost use Rattle.fair_rates.specs.Sides.Subjects.{sides_of, asks_of_one};
 ghost use Rattle.fair_rates.specs.Sides.SideOf.{side_of};
-ghost use Rattle.fair_rates.specs.Sides.Registry.{FindsSides, Registers, ask_for};
+ghost use Rattle.fair_rates.specs.Sides.Registry.{FindsSides, Registers, subject_of};
 
 use crate::bandwidth::{CappedFlow, Flow, FlowCaps};
 use crate::error::Error;
@@ -23,7 +23,7 @@ pub(crate) struct Side {
 
 /// What a side limits: all that one peer sends, all that one peer receives, or all that goes from
 /// one peer to another.
-#[derive(Clone, Copy, PartialEq, Eq, PartialOrd, Ord)]
+#[derive(Drop)]
 enum Subject<'a, P> {
     SentBy(&'a P),
     ReceivedBy(&'a P),
@@ -31,15 +31,17 @@ enum Subject<'a, P> {
 }
 
 /// The sides that have come into being, and the number of each, its place among them, by its
-/// subject.
+/// subject: there is a map for each kind, which is by peers alone and has no kind to compare.
 #[derive(Drop)]
 struct Registry<'a, P: Ord> {
     sides: Vec<Side>,
-    numbers: BTreeMap<Subject<'a, P>, usize>,
+    senders: BTreeMap<&'a P, usize>,
+    receivers: BTreeMap<&'a P, usize>,
+    pairs: BTreeMap<(&'a P, &'a P), usize>,
 }
 
 impl<'a, P: Peer> Registry<'a, P> {
-    ghost use Rattle.fair_rates.specs.Sides.Registry.{IsRegistryOf};
+    ghost use Rattle.fair_rates.specs.Sides.Registry.{IsRegistryOf, HasNumber, number_of};
 
     /// No flow has asked yet.
     fn new(alloc: Global) -> Registry<'a, P>
@@ -47,8 +49,39 @@ impl<'a, P: Peer> Registry<'a, P> {
     {
         Registry {
             sides: Vec::new(alloc),
-            numbers: BTreeMap::new(alloc),
+            senders: BTreeMap::new(alloc),
+            receivers: BTreeMap::new(alloc),
+            pairs: BTreeMap::new(alloc),
         }
+    }
+
+    /// The number of the side of the subject, if there is one.
+    fn number(&self, subject: &Subject<'a, P>) -> Option<usize>
+        ensures { result ≡ number_of P.cmp self.now (subject_of subject.now) }
+    {
+        match subject {
+            Subject::SentBy(peer) => self.senders.get(peer).copied(),
+            Subject::ReceivedBy(peer) => self.receivers.get(peer).copied(),
+            Subject::SentBetween(origin, recipient) => {
+                self.pairs.get(&(*origin, *recipient)).copied()
+            }
+        }
+    }
+
+    /// Notes the number of the side of the subject.
+    fn set_number(&mut self, subject: Subject<'a, P>, number: usize) -> Result<(), Error>
+        ensures numbers { OnOk result (HasNumber P.cmp (subject_of subject.entry) number self.old self.new) }
+        ensures sides { self.new.sides ≡ self.old.sides }
+        ensures refused { IfErr result (λ e. e ≡ Error.OutOfMemory) }
+    {
+        match subject {
+            Subject::SentBy(peer) => self.senders.insert(peer, number)?,
+            Subject::ReceivedBy(peer) => self.receivers.insert(peer, number)?,
+            Subject::SentBetween(origin, recipient) => {
+                self.pairs.insert((origin, recipient), number)?
+            }
+        };
+        Ok(())
     }
 }
 
@@ -62,11 +95,11 @@ fn register<'a, P: Peer>(
     answer: Option<u128>,
 ) -> Result<(), Error>
     requires { FindsSides P.cmp registry.old }
-    ensures registers { OnOk result (Registers P.cmp (ask_for place subject.entry answer ∷ [])
-        registry.old registry.new) }
+    ensures registers { OnOk result (Registers P.cmp
+        (record { place = place; subject = subject_of subject.entry; answer = answer } ∷ []) registry.old registry.new) }
     ensures refused { IfErr result (λ e. e ≡ Error.OutOfMemory) }
 {
-    if let Some(number) = registry.numbers.get(&subject).copied() {
+    if let Some(number) = registry.number(&subject) {
         registry.sides[number].users.push(place)?;
         return Ok(());
     }
@@ -77,8 +110,7 @@ fn register<'a, P: Peer>(
     users.push(place)?;
     let number = registry.sides.len();
     registry.sides.push(Side { cap, users })?;
-    registry.numbers.insert(subject, number)?;
-    Ok(())
+    registry.set_number(subject, number)
 }
 
 /// Registers that the flow at `place` asks for its sides, and that these were the answers.
