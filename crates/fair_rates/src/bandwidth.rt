@@ -1,13 +1,14 @@
 //! Who sends how fast.
-ghost use Rattle.std.specs.Prelude.{◌≡◌, ◌⊎◌, ◌<◌, ℕ, IfOk, IfErr};
+ghost use Rattle.std.specs.Prelude.{◌≡◌, ◌⊎◌, ◌<◌, ℕ, IfOk, IfErr, map, length};
 ghost use Rattle.std.specs.Fn.{CalledAt, TakesAt, CalledAtTwo, TakesAtTwo};
 ghost use Rattle.std.specs.Ordering.{nat_cmp};
 ghost use Rattle.std.specs.declared.cmp.Ordering.TheVariants.{Equal};
 ghost use Rattle.std.specs.BTreeMap.{get};
 ghost use Rattle.fair_rates.specs.Sides.Answers.{NoLink, CallableOnEach, CallableOnEachPair, origins, recipients};
-ghost use Rattle.fair_rates.specs.Sides.Answers.{pairs};
+ghost use Rattle.fair_rates.specs.Sides.Answers.{pairs, answered_of};
+ghost use Rattle.fair_rates.specs.Sides.Subjects.{sides_of};
 ghost use Rattle.fair_rates.specs.Fairness.Allocation.{IsAllocation, IsCountedAllocation, IsFairUnderCaps};
-ghost use Rattle.fair_rates.specs.Filling.FairParts.{AreFairParts};
+ghost use Rattle.fair_rates.specs.Filling.FairParts.{AreFairParts, AreFairPartsOn};
 ghost use Rattle.fair_rates.specs.Fairness.Rates.{last_rate};
 ghost use Rattle.fair_rates.specs.Refusals.TooLarge.{IsTooLarge, AreTooLargeUnderCaps};
 
@@ -65,6 +66,26 @@ impl<P: Peer> Flow<P> {
             delivered: self.delivered,
         })
     }
+}
+
+/// The caps that hold for a flow, in bytes a second. `None` stands for no cap.
+#[derive(Clone, Copy, Debug, PartialEq, Eq)]
+pub struct FlowCaps {
+    /// On all that its origin sends.
+    pub egress: Option<u128>,
+    /// On all that its recipient receives. That of a dropped flow does not count.
+    pub ingress: Option<u128>,
+    /// On all that goes from its origin to its recipient.
+    pub link: Option<u128>,
+}
+
+/// A flow with its caps.
+#[derive(Debug, Drop)]
+pub struct CappedFlow<P> {
+    /// The flow.
+    pub flow: Flow<P>,
+    /// What holds for it.
+    pub caps: FlowCaps,
 }
 
 /// How fast a flow may send.
@@ -287,6 +308,25 @@ where
 {
     let limits = sides::sides(alloc, flows, egress_cap, ingress_cap, link_cap)?;
     Ok(filling::fair_parts(alloc, flows.len(), limits, scale)?)
+}
+
+/// As [`fair_parts`], of flows with known caps: those are what the closures would answer.
+///
+/// So the first cap on what a peer sends is its cap for good, from that flow on, and likewise the
+/// first one on what it receives, and on what goes from one peer to another. Refused only where
+/// memory was.
+pub fn fair_parts_of_capped<P: Peer>(
+    alloc: Global,
+    flows: &[CappedFlow<P>],
+    scale: &Natural,
+) -> Result<FairParts, Error>
+    requires some_part { 0 < scale.now }
+    ensures fair { IfOk result (AreFairPartsOn (sides_of P.cmp (map answered_of flows.now)) (length flows.now)
+        scale.now) }
+    ensures refused { IfErr result (λ e. e ≡ Error.OutOfMemory) }
+{
+    let sides = sides::sides_of_capped(alloc, flows)?;
+    Ok(filling::fair_parts(alloc, flows.len(), sides, scale)?)
 }
 
 /// The rates by the ids of their flows. Of flows with one id the last counts.

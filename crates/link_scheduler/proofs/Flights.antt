@@ -2,6 +2,7 @@
 pub mod Accounted
 pub mod Accounts
 pub mod CapLookUps
+pub mod CappedFlows
 pub mod ComponentFlows
 pub mod Components
 pub mod Copies

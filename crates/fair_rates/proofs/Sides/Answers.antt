@@ -3,8 +3,11 @@ use Rattle.std.proofs.Common.{◌≡◌, ℕ, Bool, true, false, cond, List, [],
 use Rattle.std.proofs.Common.{ap₂, ◌∙◌, subst}
 use Rattle.std.specs.List.{FoldsTo}
 use Rattle.fair_rates.specs.declared.bandwidth.Flow.{Flow}
+use Rattle.std.specs.Prelude.{All}
+use Rattle.std.proofs.lemmas.List.Elements.{All-head, All-tail}
+use Rattle.fair_rates.specs.declared.bandwidth.CappedFlow.{CappedFlow}
 use Rattle.fair_rates.specs.Sides.Answers.{Answered, Calls, PairCalls, States, CallsFor, CalledIfDelivered, recipients}
-use Rattle.fair_rates.specs.Sides.Answers.{pairs}
+use Rattle.fair_rates.specs.Sides.Answers.{pairs, answered_of}
 use Rattle.fair_rates.specs.Fairness.UnderCaps.{answered_under, AnswersOnEach, AnswersOnEachPair, AnswerBy}
 use Rattle.fair_rates.specs.Fairness.UnderCaps.{AnswersAreThoseOfTheCaps}
 use Rattle.fair_rates.specs.Sides.Caps.{Caps}
@@ -65,3 +68,15 @@ answers_are_those_of_the_caps {P} egress ingress link caps first flows answered 
     let same : AnswerBy egress ingress link first (map (λ (b : Answered P). b.flow) answered) caps =
     subst (λ (fs : List (Flow P)). AnswerBy egress ingress link first fs caps) (sym a.flows_are) by in
     all_answers egress ingress link caps first answered a.last same a.calls ∙ ap (map (answered_under caps)) a.flows_are
+
+-- the flow has the caps that hold for it
+abbrev pub IsCapped : {P : Type 0} → Caps P → CappedFlow P → Type 0
+IsCapped caps c = answered_of c ≡ answered_under caps c.flow
+
+-- flows that have them
+pub capped_answers : {P : Type 0} (caps : Caps P) (flows : List (CappedFlow P)) → All (IsCapped caps) flows
+    → map answered_of flows ≡ map (answered_under caps) (map (λ c. c.flow) flows)
+capped_answers caps [] all = refl
+capped_answers {P} caps (c ∷ flows) all =
+    ap₂ (λ (b : Answered P) (bs : List (Answered P)). b ∷ bs) (All-head (IsCapped caps) c flows all)
+    (capped_answers caps flows (All-tail (IsCapped caps) c flows all))

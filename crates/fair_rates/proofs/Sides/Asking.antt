@@ -1,76 +1,59 @@
 -- What one flow asks for, one side after another.
-use Rattle.std.proofs.Common.{subst, ◌≡◌, ℕ, Bool, true, false, cond, List, [], ◌∷◌, ◌++◌, Option, sym, ap, ◌∙◌}
-use Rattle.std.proofs.Common.{append_assoc}
+use Rattle.std.proofs.Common.{subst, ◌≡◌, ℕ, Bool, true, false, cond, List, [], ◌∷◌, ◌++◌, sym, append_assoc}
 use Rattle.std.proofs.lemmas.List.{append-nil}
 use Rattle.std.specs.declared.cmp.Ordering.{Ordering}
 use Rattle.fair_rates.specs.declared.bandwidth.sides.Registry.{Registry}
-use Rattle.fair_rates.specs.declared.bandwidth.sides.Subject as declared
 use Rattle.fair_rates.specs.Sides.Answers.{Answered}
-use Rattle.fair_rates.specs.Sides.Subjects.{Subject, Ask, sent_by, received_by, sent_between, asks_of_one}
-use Rattle.fair_rates.specs.Sides.Registry.{IsRegistryOf, Registers, subject_of}
+use Rattle.fair_rates.specs.Sides.Subjects.{Ask, sent_by, received_by, sent_between, asks_of_one}
+use Rattle.fair_rates.specs.Sides.Registry.{IsRegistryOf, Registers, FindsSides}
 
 module _ {P : Type 0} (cmp : P → P → Ordering) where
-  -- the flow asks for the side of a subject
-  pub record RegistersFor (place : ℕ) (t : Subject P) (answer : Option ℕ) (old new : Registry P) : Type 0 where
-    pub subject : declared.Subject P
-    pub is : subject_of subject ≡ t
-    pub registers : Registers cmp place subject answer old new
+  -- some asks, and then others
+  registers_both : (first more : List (Ask P)) (old middle new : Registry P)
+      → Registers cmp first old middle → Registers cmp more middle new → Registers cmp (first ++ more) old new
+  registers_both first more old middle new r s = record {
+    asked = λ asks h.
+        subst (λ all. IsRegistryOf cmp all new) (append_assoc asks first more) (s.asked (asks ++ first) (r.asked asks h));
+    finds = s.finds;
+  }
 
-  -- a delivered flow asks for the ingress of its recipient, and one that is not asks for nothing
-  abbrev pub RegistersIf : Bool → ℕ → Subject P → Option ℕ → Registry P → Registry P → Type 0
-  RegistersIf true place t answer old new = RegistersFor place t answer old new
-  RegistersIf false place t answer old new = new ≡ old
+  -- no ask
+  registers_none : (old : Registry P) → FindsSides cmp old → Registers cmp [] old old
+  registers_none old finds = record {
+    asked = λ asks h. subst (λ all. IsRegistryOf cmp all old) (sym (append-nil asks)) h;
+    finds = finds;
+  }
 
-  -- what the flow at place n asks for, one after another
-  pub record Asked (n : ℕ) (a : Answered P) (old new : Registry P) : Type 0 where
-    pub one : Registry P
-    pub two : Registry P
-    pub for_origin : RegistersFor n (sent_by a.flow.origin) a.egress old one
-    pub for_recipient : RegistersIf a.flow.delivered n (received_by a.flow.recipient) a.ingress one two
-    pub for_pair : RegistersFor n (sent_between a.flow.origin a.flow.recipient) a.link two new
+  -- the flow at place n, and what was answered for it
+  module _ (n : ℕ) (a : Answered P) where
+    abbrev for_origin : Ask P
+    for_origin = record { place = n; subject = sent_by a.flow.origin; answer = a.egress }
 
-  asked_for : (n : ℕ) (t : Subject P) (answer : Option ℕ) (old new : Registry P) → RegistersFor n t answer old new
-      → (asks : List (Ask P)) → IsRegistryOf cmp asks old
-      → IsRegistryOf cmp (asks ++ record { place = n; subject = t; answer = answer } ∷ []) new
-  asked_for n t answer old new r asks h =
-      subst (λ u. IsRegistryOf cmp (asks ++ record { place = n; subject = u; answer = answer } ∷ []) new) r.is
-      (r.registers.asked asks h)
+    abbrev for_recipient : Ask P
+    for_recipient = record { place = n; subject = received_by a.flow.recipient; answer = a.ingress }
 
-  asked_if : (b : Bool) (n : ℕ) (t : Subject P) (answer : Option ℕ) (old new : Registry P)
-      → RegistersIf b n t answer old new
-      → (asks : List (Ask P)) → IsRegistryOf cmp asks old
-      → IsRegistryOf cmp (asks ++ cond b (record { place = n; subject = t; answer = answer } ∷ []) []) new
-  asked_if true n t answer old new r asks h = asked_for n t answer old new r asks h
-  asked_if false n t answer old new same asks h =
-      subst (IsRegistryOf cmp (asks ++ [])) (sym same)
-      (subst (λ more. IsRegistryOf cmp more old) (sym (append-nil asks)) h)
+    abbrev for_pair : Ask P
+    for_pair = record { place = n; subject = sent_between a.flow.origin a.flow.recipient; answer = a.link }
 
-  pub all_asked : (n : ℕ) (a : Answered P) (old new : Registry P) → Asked n a old new → (asks : List (Ask P))
-      → IsRegistryOf cmp asks old → IsRegistryOf cmp (asks ++ asks_of_one n a) new
-  all_asked n a old new h asks r =
-      let egress_ask : Ask P = record { place = n; subject = sent_by a.flow.origin; answer = a.egress } in
-      let more : List (Ask P) =
-      cond a.flow.delivered (record { place = n; subject = received_by a.flow.recipient; answer = a.ingress } ∷ [])
-      [] in
-      let link_ask : Ask P =
-      record { place = n; subject = sent_between a.flow.origin a.flow.recipient; answer = a.link } in
-      subst (λ all. IsRegistryOf cmp all new)
-      (ap (λ all. all ++ link_ask ∷ []) (append_assoc asks (egress_ask ∷ []) more)
-      ∙ append_assoc asks (egress_ask ∷ [] ++ more) (link_ask ∷ []))
-      (asked_for n (sent_between a.flow.origin a.flow.recipient) a.link h.two new h.for_pair
-      ((asks ++ egress_ask ∷ []) ++ more)
-      (asked_if a.flow.delivered n (received_by a.flow.recipient) a.ingress h.one h.two h.for_recipient
-      (asks ++ egress_ask ∷ [])
-      (asked_for n (sent_by a.flow.origin) a.egress old h.one h.for_origin asks r)))
+    -- it asks for the ingress of its recipient if it is delivered
+    abbrev RegistersIf : Bool → Registry P → Registry P → Type 0
+    RegistersIf b old new = Registers cmp (cond b (for_recipient ∷ []) []) old new
 
--- what the code does for a flow that is delivered, and for one that is dropped
-module _ {P : Type 0} (cmp : P → P → Ordering) (n : ℕ) (t : Subject P) (old : Registry P) where
-  pub registers_it : (new new' : Registry P) (b : Bool) (answer : Option ℕ) → b ≡ true → new' ≡ new
-      → RegistersFor cmp n t answer old new → RegistersIf cmp b n t answer old new'
-  registers_it new new' true answer e same r = subst (RegistersFor cmp n t answer old) (sym same) r
-  registers_it new new' false answer e same r = cc e
+    pub registers_it : (b : Bool) (old new now : Registry P) → b ≡ true → now ≡ new
+        → Registers cmp (for_recipient ∷ []) old new → RegistersIf b old now
+    registers_it true old new now e same r = subst (Registers cmp (for_recipient ∷ []) old) (sym same) r
+    registers_it false old new now e same r = cc e
 
-  pub registers_nothing : (new : Registry P) (b : Bool) (answer : Option ℕ) → b ≡ false → new ≡ old
-      → RegistersIf cmp b n t answer old new
-  registers_nothing new true answer e same = cc e
-  registers_nothing new false answer e same = same
+    pub registers_nothing : (b : Bool) (old now : Registry P) → b ≡ false → now ≡ old → FindsSides cmp old
+        → RegistersIf b old now
+    registers_nothing true old now e same finds = cc e
+    registers_nothing false old now e same finds = subst (Registers cmp [] old) (sym same) (registers_none old finds)
+
+    -- all that it asks for, one after another
+    pub registers_all : (old one two new : Registry P) → Registers cmp (for_origin ∷ []) old one
+        → RegistersIf a.flow.delivered one two → Registers cmp (for_pair ∷ []) two new
+        → Registers cmp (asks_of_one n a) old new
+    registers_all old one two new r s t =
+        let more : List (Ask P) = cond a.flow.delivered (for_recipient ∷ []) [] in
+        registers_both (for_origin ∷ []) (more ++ for_pair ∷ []) old one new r
+        (registers_both more (for_pair ∷ []) one two new s t)

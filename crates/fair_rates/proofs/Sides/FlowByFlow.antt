@@ -1,19 +1,20 @@
 -- The pass over the flows, one flow at a time.
 use Rattle.std.proofs.Common.{subst, suc, ◌≡◌, ℕ, ◌+◌, ◌<◌, Bool, true, false, cond, List, [], ◌∷◌, ◌++◌, Option, None}
-use Rattle.std.proofs.Common.{length, take, get_or, map, refl, sym, ap, ◌∙◌, arith, add-one, length-append, drop}
+use Rattle.std.proofs.Common.{length, take, get_or, map, sym, ap, ◌∙◌, arith, add-one, length-append, drop}
 use Rattle.std.proofs.Common.{drop-cons, append_assoc}
 use Rattle.std.proofs.Math.Seq.{take-suc}
-use Rattle.std.proofs.lemmas.List.{append-nil, map-append}
+use Rattle.std.proofs.lemmas.List.{append-nil, map-append, length-map, length-take-le}
 use Rattle.std.proofs.lemmas.Fn.{FoldsTo-push}
 use Rattle.std.specs.List.{FoldsTo}
 use Rattle.std.specs.declared.cmp.Ordering.{Ordering}
 use Rattle.fair_rates.specs.declared.bandwidth.Flow.{Flow}
 use Rattle.fair_rates.specs.declared.bandwidth.sides.Registry.{Registry}
 use Rattle.fair_rates.specs.Sides.Answers.{Answered, Calls, PairCalls, CalledIfDelivered, States, CallsFor}
+use Rattle.fair_rates.specs.declared.bandwidth.CappedFlow.{CappedFlow}
+use Rattle.fair_rates.specs.Sides.Answers.{answered_of}
 use Rattle.fair_rates.specs.Sides.Answers.{CallableOnEach, CallableOnEachPair, origins, recipients, pairs}
 use Rattle.fair_rates.specs.Sides.Subjects.{asks_of_one, asks_from}
-use Rattle.fair_rates.specs.Sides.Registry.{IsRegistryOf}
-use Rattle.fair_rates.proofs.Sides.Asking.{Asked, all_asked}
+use Rattle.fair_rates.specs.Sides.Registry.{IsRegistryOf, Registers}
 
 -- what one flow more asks for stands at the end
 asks_from-push : {P : Type 0} (n m : ℕ) (answered : List (Answered P)) (a : Answered P) → m ≡ n + length answered
@@ -22,6 +23,30 @@ asks_from-push n m [] a e = let k : n ≡ m = omega arith in append-nil (asks_of
 asks_from-push n m (b ∷ answered) a e =
     ap (λ asks. asks_of_one n b ++ asks) (asks_from-push (n + 1) m answered a (omega arith))
     ∙ sym (append_assoc (asks_of_one n b) (asks_from (n + 1) answered) (asks_of_one m a))
+
+-- one flow more has asked
+one_flow_more : {P : Type 0} (cmp : P → P → Ordering) (n : ℕ) (answered : List (Answered P)) (a : Answered P)
+    (old new : Registry P)
+    → length answered ≡ n → Registers cmp (asks_of_one n a) old new → IsRegistryOf cmp (asks_from 0 answered) old
+    → IsRegistryOf cmp (asks_from 0 (answered ++ a ∷ [])) new
+one_flow_more cmp n answered a old new count registers h =
+    subst (λ asks. IsRegistryOf cmp asks new) (sym (asks_from-push 0 n answered a (omega (arith, count))))
+    (registers.asked (asks_from 0 answered) h)
+
+-- flows with known caps
+pub capped_passed : {P : Type 0} (cmp : P → P → Ordering) (n : ℕ) (flows : List (CappedFlow P)) (c : CappedFlow P)
+    (old new : Registry P)
+    → n < length flows → c ≡ get_or flows n c → Registers cmp (asks_of_one n (answered_of c)) old new
+    → IsRegistryOf cmp (asks_from 0 (map answered_of (take n flows))) old
+    → IsRegistryOf cmp (asks_from 0 (map answered_of (take (n + 1) flows))) new
+capped_passed cmp n flows c old new below is registers h =
+    let answered = map answered_of (take n flows) in
+    let count : length answered ≡ n = length-map (take n flows) answered_of ∙ length-take-le n flows (omega arith) in
+    let more : answered ++ answered_of c ∷ [] ≡ map answered_of (take (n + 1) flows) =
+    sym (map-append answered_of (take n flows) (c ∷ [])) ∙ ap (λ d. map answered_of (take n flows ++ d ∷ [])) is
+    ∙ ap (map answered_of) (sym (take-suc flows n c below) ∙ ap (λ k. take k flows) (sym (add-one n))) in
+    subst (λ bs. IsRegistryOf cmp (asks_from 0 bs) new) more
+    (one_flow_more cmp n answered (answered_of c) old new count registers h)
 
 module _ {P E I L : Type 0} (cmp : P → P → Ordering) (egress : Calls E P) (ingress : Calls I P)
     (link : PairCalls L P) where
@@ -34,36 +59,34 @@ module _ {P E I L : Type 0} (cmp : P → P → Ordering) (egress : Calls E P) (i
     pub calls : FoldsTo (CallsFor egress ingress link) first answered now
     pub registered : IsRegistryOf cmp (asks_from 0 answered) registry
 
-  pub passed : (n : ℕ) (a : Answered P) (old new : Registry P) → Asked cmp n a old new
+  pub passed : (n : ℕ) (a : Answered P) (old new : Registry P) → Registers cmp (asks_of_one n a) old new
       → (first : States E I L) (flows : List (Flow P)) (before after : States E I L)
       → Passed first flows n before old
       → n < length flows
       → a.flow ≡ get_or flows n a.flow
       → CallsFor egress ingress link before a after
       → Passed first flows (n + 1) after new
-  passed n a old new asked first flows before after p below is calls =
-      let registered : IsRegistryOf cmp (asks_from 0 (p.answered ++ a ∷ [])) new =
-      subst (λ asks. IsRegistryOf cmp asks new) (sym (asks_from-push 0 n p.answered a (omega (arith, p.count))))
-      (all_asked cmp n a old new asked (asks_from 0 p.answered) p.registered) in
-      record {
-        answered = p.answered ++ a ∷ [];
-        count = omega (arith, length-append p.answered (a ∷ []), p.count);
-        flows_are = map-append (λ b. b.flow) p.answered (a ∷ []) ∙ ap (λ fs. fs ++ a.flow ∷ []) p.flows_are
-            ∙ ap (λ g. take n flows ++ g ∷ []) is ∙ sym (take-suc flows n a.flow below)
-            ∙ ap (λ k. take k flows) (sym (add-one n));
-        calls = FoldsTo-push (CallsFor egress ingress link) first p.answered before a after p.calls calls;
-        registered = registered;
-      }
+  passed n a old new registers first flows before after p below is calls = record {
+    answered = p.answered ++ a ∷ [];
+    count = omega (arith, length-append p.answered (a ∷ []), p.count);
+    flows_are = map-append (λ b. b.flow) p.answered (a ∷ []) ∙ ap (λ fs. fs ++ a.flow ∷ []) p.flows_are
+        ∙ ap (λ g. take n flows ++ g ∷ []) is ∙ sym (take-suc flows n a.flow below)
+        ∙ ap (λ k. take k flows) (sym (add-one n));
+    calls = FoldsTo-push (CallsFor egress ingress link) first p.answered before a after p.calls calls;
+    registered = one_flow_more cmp n p.answered a old new p.count registers p.registered;
+  }
 
-pub called : {P I : Type 0} (call : Calls I P) (i : I) (p : P) (answer : Option ℕ) (j : I) (b : Bool)
-    → b ≡ true → call i p answer j → CalledIfDelivered call b i p answer j
-called call i p answer j true e h = h
-called call i p answer j false e h = cc e
+-- what the code does for a flow that is delivered, and for one that is dropped
+module _ {P I : Type 0} (call : Calls I P) (i : I) (p : P) (answer : Option ℕ) (j : I) where
+  pub called : (b : Bool) (given : Option ℕ) (left : I) → b ≡ true → answer ≡ given → j ≡ left → call i p given left
+      → CalledIfDelivered call b i p answer j
+  called true given left e same unchanged h =
+      subst (λ a. call i p a j) (sym same) (subst (call i p given) (sym unchanged) h)
+  called false given left e same unchanged h = cc e
 
-pub not_called : {P I : Type 0} (call : Calls I P) (i : I) (p : P) (j : I) (b : Bool)
-    → b ≡ false → j ≡ i → CalledIfDelivered call b i p None j
-not_called call i p j true e h = cc e
-not_called call i p j false e h = (refl, h)
+  pub not_called : (b : Bool) → b ≡ false → answer ≡ None → j ≡ i → CalledIfDelivered call b i p answer j
+  not_called true e none unchanged = cc e
+  not_called false e none unchanged = (none, unchanged)
 
 -- ---- the calls to come
 
@@ -79,33 +102,17 @@ module _ {P F : Type 0} (may : F → P → Type 0) (call : Calls F P) where
       × ((a : Option ℕ) (g : F) → call f x.origin a g → CallableOnEach may call g (origins (drop (n + 1) flows)))
   origin_next f flows n x h e c = subst (λ fs. CallableOnEach may call f (origins fs)) (drop_now flows n x h e) c
 
-  one_more : (f : F) (b : Bool) (p : P) (rest : List P) → b ≡ true
-      → CallableOnEach may call f (cond b (p ∷ []) [] ++ rest)
-      → may f p × ((a : Option ℕ) (g : F) → call f p a g → CallableOnEach may call g rest)
-  one_more f true p rest e c = c
-  one_more f false p rest e c = cc e
-
-  none_more : (f : F) (b : Bool) (p : P) (rest : List P) → b ≡ false
-      → CallableOnEach may call f (cond b (p ∷ []) [] ++ rest) → CallableOnEach may call f rest
-  none_more f true p rest e c = cc e
-  none_more f false p rest e c = c
+  one_more : (f : F) (b : Bool) (p : P) (rest : List P) → CallableOnEach may call f (cond b (p ∷ []) [] ++ rest)
+      → (a : Option ℕ) (g : F) → CalledIfDelivered call b f p a g → CallableOnEach may call g rest
+  one_more f true p rest c a g called = c.1 a g called
+  one_more f false p rest c a g called = subst (λ h. CallableOnEach may call h rest) (sym called.1) c
 
   pub recipient_next : (f : F) (flows : List (Flow P)) (n : ℕ) (x : Flow P) → n < length flows → x ≡ get_or flows n x
-      → x.delivered ≡ true
       → CallableOnEach may call f (recipients (drop n flows))
-      → may f x.recipient
-      × ((a : Option ℕ) (g : F) → call f x.recipient a g
-      → CallableOnEach may call g (recipients (drop (n + 1) flows)))
-  recipient_next f flows n x h e d c =
-      one_more f x.delivered x.recipient (recipients (drop (n + 1) flows)) d
-      (subst (λ fs. CallableOnEach may call f (recipients fs)) (drop_now flows n x h e) c)
-
-  pub recipient_skip : (f : F) (flows : List (Flow P)) (n : ℕ) (x : Flow P) → n < length flows → x ≡ get_or flows n x
-      → x.delivered ≡ false
-      → CallableOnEach may call f (recipients (drop n flows))
-      → CallableOnEach may call f (recipients (drop (n + 1) flows))
-  recipient_skip f flows n x h e d c =
-      none_more f x.delivered x.recipient (recipients (drop (n + 1) flows)) d
+      → (a : Option ℕ) (g : F) → CalledIfDelivered call x.delivered f x.recipient a g
+      → CallableOnEach may call g (recipients (drop (n + 1) flows))
+  recipient_next f flows n x h e c =
+      one_more f x.delivered x.recipient (recipients (drop (n + 1) flows))
       (subst (λ fs. CallableOnEach may call f (recipients fs)) (drop_now flows n x h e) c)
 
 module _ {P F : Type 0} (may : F → P → P → Type 0) (call : PairCalls F P) where

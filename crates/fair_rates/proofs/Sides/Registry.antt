@@ -1,6 +1,6 @@
 -- What registering one ask does to the sides and to the numbers of their subjects.
-use Rattle.std.proofs.Common.{◌≡◌, ◌↔◌, ◌≢◌, ◌==◌, ℕ, suc, zero, ◌+◌, ◌<◌, Bool, true, false, cond, ◌||◌, List, [], ◌∷◌}
-use Rattle.std.proofs.Common.{◌++◌, Option, Some, None, map, length, get_or, refl, sym, ap, ◌∙◌, arith, subst, ⊎_elim}
+use Rattle.std.proofs.Common.{◌≡◌, ◌↔◌, ◌≢◌, ◌==◌, ℕ, suc, zero, ◌+◌, ◌<◌, Bool, true, false, cond, ◌||◌, ◌&&◌, List, [], ◌∷◌}
+use Rattle.std.proofs.Common.{Bor, ◌++◌, Option, Some, None, map, length, get_or, refl, sym, ap, ◌∙◌, arith, subst, ⊎_elim}
 use Rattle.std.proofs.Math.ListN.{set}
 use Rattle.std.proofs.lemmas.List.{append-nil, map-append, map-set, length-set, length-map, same_lists, get_or-set_same}
 use Rattle.std.proofs.lemmas.List.{get_or-set_other, get_or-map, get_or_append_left, get_or_push, get_or_default}
@@ -9,17 +9,16 @@ use Rattle.std.proofs.lemmas.Option.{same_Some}
 use Rattle.std.proofs.lemmas.Bool.{eqb-true, eqb-false, cases_lt, false_from_ne_true as is_false, or_right}
 use Rattle.std.specs.List.{list_any}
 use Rattle.std.specs.Map.{lookup}
-use Rattle.std.specs.BTreeMap.{BTreeMap, get_by}
 use Rattle.std.specs.Cmp.{IsTotalOrder}
-use Rattle.std.specs.Ordering.{is_eq}
 use Rattle.std.specs.declared.cmp.Ordering.{Ordering}
+use Rattle.std.specs.declared.cmp.Ordering.TheVariants.{Less, Equal, Greater}
+use Rattle.std.specs.Ordering.{is_eq, ordering_then}
 use Rattle.fair_rates.specs.Sides.SideOf.{side_of}
-use Rattle.fair_rates.specs.Sides.Subjects.{Subject, Ask, same_subject}
-use Rattle.fair_rates.specs.Sides.Registry.{subject_of, subjects_after, number_of, IsNumberOf, AreRegistered}
-use Rattle.fair_rates.specs.Sides.Registry.{IsRegistryOf, FindsSides}
+use Rattle.fair_rates.specs.Sides.Subjects.{Subject, Ask, same_peer, same_subject, sent_by, received_by, sent_between}
+use Rattle.fair_rates.specs.Sides.Registry.{subjects_after, number_of, IsNumberOf, AreRegistered}
+use Rattle.fair_rates.specs.Sides.Registry.{IsRegistryOf, FindsSides, HasNumber}
 use Rattle.fair_rates.specs.declared.bandwidth.sides.Registry.{Registry}
 use Rattle.fair_rates.specs.declared.bandwidth.sides.Side as declared_side
-use Rattle.fair_rates.specs.declared.bandwidth.sides.Subject as declared
 use Rattle.fair_rates.proofs.Sides.Subjects.{same_symm, same_congr}
 use Rattle.fair_rates.proofs.Sides.OneMoreAsk.{Share, limit_of, shares_after, opened_share, is_side_of, with_user}
 use Rattle.fair_rates.proofs.Sides.OneMoreAsk.{limits_are, subjects_are, shares_push}
@@ -87,16 +86,9 @@ lookup_agrees test other (e ∷ entries) same =
     ap (λ b. cond b (Some e.1) (lookup test entries)) (same e.0)
     ∙ ap (cond (other e.0) (Some e.1)) (lookup_agrees test other entries same)
 
--- what a map by an order of the subjects has for a subject
-pub got : {P : Type 0} (cmp : P → P → Ordering) (compare : declared.Subject P → Ordering) (s : declared.Subject P)
-    (numbers : BTreeMap (declared.Subject P) ℕ)
-    → ((q : declared.Subject P) → is_eq (compare q) ≡ same_subject cmp (subject_of s) (subject_of q))
-    → get_by compare numbers ≡ number_of cmp numbers s
-got cmp compare s numbers compares = lookup_agrees _ _ numbers.entries compares
-
 module _ {P : Type 0} (cmp : P → P → Ordering) (o : IsTotalOrder cmp) where
-  abbrev ask : ℕ → declared.Subject P → Option ℕ → Ask P
-  ask place s answer = record { place = place; subject = subject_of s; answer = answer }
+  abbrev ask : ℕ → Subject P → Option ℕ → Ask P
+  ask place s answer = record { place = place; subject = s; answer = answer }
 
   user_kept : (t : Ask P) (s : Share P) (b : Bool)
       → (cond b (record { subject = s.subject; cap = s.cap; users = s.users ++ t.place ∷ [] }) s).subject ≡ s.subject
@@ -119,75 +111,75 @@ module _ {P : Type 0} (cmp : P → P → Ordering) (o : IsTotalOrder cmp) where
       ap (λ b. limit_of (cond b (record { subject = s.subject; cap = s.cap; users = s.users ++ t.place ∷ [] }) s)) e
 
   -- the numbers, when one subject more stands at the end
-  module _ (subjects : List (Subject P)) (number number' : declared.Subject P → Option ℕ) (s : declared.Subject P)
-      (are : (q : declared.Subject P) (m : ℕ) → (number q ≡ Some m) ↔ IsNumberOf cmp subjects (subject_of q) m)
+  module _ (subjects : List (Subject P)) (number number' : Subject P → Option ℕ) (s : Subject P)
+      (are : (q : Subject P) (m : ℕ) → (number q ≡ Some m) ↔ IsNumberOf cmp subjects q m)
       (none : number s ≡ None)
-      (are' : (q : declared.Subject P)
-      → number' q ≡ cond (same_subject cmp (subject_of s) (subject_of q)) (Some (length subjects)) (number q)) where
+      (are' : (q : Subject P)
+      → number' q ≡ cond (same_subject cmp s q) (Some (length subjects)) (number q)) where
     abbrev more : List (Subject P)
-    more = subjects ++ subject_of s ∷ []
+    more = subjects ++ s ∷ []
 
     longer : length more ≡ length subjects + 1
-    longer = length_push subjects (subject_of s)
+    longer = length_push subjects s
 
-    found_then : (q : declared.Subject P) (m : ℕ) (b : Bool) → same_subject cmp (subject_of s) (subject_of q) ≡ b
-        → number' q ≡ Some m → IsNumberOf cmp more (subject_of q) m
+    found_then : (q : Subject P) (m : ℕ) (b : Bool) → same_subject cmp s q ≡ b
+        → number' q ≡ Some m → IsNumberOf cmp more q m
     found_then q m true t e =
         let last : length subjects ≡ m =
         same_Some (length subjects) m (sym (are' q ∙ ap (λ b. cond b (Some (length subjects)) (number q)) t) ∙ e) in
         record {
           within = omega (arith, longer, last);
           same = λ u.
-              ap (same_subject cmp (subject_of q)) (get_or_push subjects (subject_of s) u m last)
-              ∙ same_symm cmp o (subject_of q) (subject_of s) ∙ t;
+              ap (same_subject cmp q) (get_or_push subjects s u m last)
+              ∙ same_symm cmp o q s ∙ t;
         }
     found_then q m false t e =
         let i = (are q m).0 (sym (are' q ∙ ap (λ b. cond b (Some (length subjects)) (number q)) t) ∙ e) in
         record {
           within = omega (arith, longer, i.within);
           same = λ u.
-              ap (same_subject cmp (subject_of q)) (get_or_append_left subjects (subject_of s ∷ []) u m i.within)
+              ap (same_subject cmp q) (get_or_append_left subjects (s ∷ []) u m i.within)
               ∙ i.same u;
         }
 
-    apart_from : (q : declared.Subject P) (m : ℕ) → IsNumberOf cmp subjects (subject_of q) m
-        → same_subject cmp (subject_of s) (subject_of q) ≡ false
+    apart_from : (q : Subject P) (m : ℕ) → IsNumberOf cmp subjects q m
+        → same_subject cmp s q ≡ false
     apart_from q m i = is_false _ (λ t.
         let n : number s ≡ Some m =
         (are s m).1
         (record {
           within = i.within;
-          same = λ u. same_congr cmp o (subject_of s) (subject_of q) (get_or subjects m u) t ∙ i.same u;
+          same = λ u. same_congr cmp o s q (get_or subjects m u) t ∙ i.same u;
         }) in
         cc)
 
-    at_old : (q : declared.Subject P) (m : ℕ) → IsNumberOf cmp more (subject_of q) m → m < length subjects
+    at_old : (q : Subject P) (m : ℕ) → IsNumberOf cmp more q m → m < length subjects
         → number' q ≡ Some m
     at_old q m i below =
-        let was : IsNumberOf cmp subjects (subject_of q) m = record {
+        let was : IsNumberOf cmp subjects q m = record {
           within = below;
           same = λ u.
-              ap (same_subject cmp (subject_of q)) (sym (get_or_append_left subjects (subject_of s ∷ []) u m below))
+              ap (same_subject cmp q) (sym (get_or_append_left subjects (s ∷ []) u m below))
               ∙ i.same u;
         } in
         are' q ∙ ap (λ b. cond b (Some (length subjects)) (number q)) (apart_from q m was) ∙ (are q m).1 was
 
-    at_last : (q : declared.Subject P) (m : ℕ) → IsNumberOf cmp more (subject_of q) m → length subjects ≡ m
+    at_last : (q : Subject P) (m : ℕ) → IsNumberOf cmp more q m → length subjects ≡ m
         → number' q ≡ Some m
     at_last q m i last =
-        let t : same_subject cmp (subject_of s) (subject_of q) ≡ true = same_symm cmp o (subject_of s) (subject_of q)
-        ∙ ap (same_subject cmp (subject_of q)) (sym (get_or_push subjects (subject_of s) (subject_of s) m last))
-        ∙ i.same (subject_of s) in
+        let t : same_subject cmp s q ≡ true = same_symm cmp o s q
+        ∙ ap (same_subject cmp q) (sym (get_or_push subjects s s m last))
+        ∙ i.same s in
         are' q ∙ ap (λ b. cond b (Some (length subjects)) (number q)) t ∙ ap Some last
 
-    numbers_push : (q : declared.Subject P) (m : ℕ) → (number' q ≡ Some m) ↔ IsNumberOf cmp more (subject_of q) m
+    numbers_push : (q : Subject P) (m : ℕ) → (number' q ≡ Some m) ↔ IsNumberOf cmp more q m
     numbers_push q m = (
-      λ e. found_then q m (same_subject cmp (subject_of s) (subject_of q)) refl e,
+      λ e. found_then q m (same_subject cmp s q) refl e,
       λ i. let l = i.within in
           ⊎_elim (at_old q m i) (λ past. at_last q m i (omega (arith, longer))) (cases_lt m (length subjects)),
     )
 
-  module _ (asks : List (Ask P)) (sides : List declared_side.Side) (number : declared.Subject P → Option ℕ)
+  module _ (asks : List (Ask P)) (sides : List declared_side.Side) (number : Subject P → Option ℕ)
       (h : AreRegistered cmp asks sides number) where
     abbrev shares : List (Share P)
     shares = shares_after cmp [] asks
@@ -210,33 +202,33 @@ module _ {P : Type 0} (cmp : P → P → Ordering) (o : IsTotalOrder cmp) where
         ∙ get_or-map (λ t. t.subject) shares n d d.subject i
 
     -- a number that is found is that of a side
-    pub in_range : (s : declared.Subject P) (n : ℕ) → number s ≡ Some n → n < length sides
+    pub in_range : (s : Subject P) (n : ℕ) → number s ≡ Some n → n < length sides
     in_range s n e = let i = ((h.numbers_are s n).0 e).within in omega (arith, as_many, as_many_subjects, i)
 
     -- the side of a number is of the subject that has the number
-    same_at : (s : declared.Subject P) (n : ℕ) (d : Share P) → number s ≡ Some n
-        → same_subject cmp (get_or shares n d).subject (subject_of s) ≡ true
+    same_at : (s : Subject P) (n : ℕ) (d : Share P) → number s ≡ Some n
+        → same_subject cmp (get_or shares n d).subject s ≡ true
     same_at s n d e =
         let i = (h.numbers_are s n).0 e in
         let within : n < length shares = omega (arith, as_many_subjects, i.within) in
-        same_symm cmp o (get_or shares n d).subject (subject_of s)
-        ∙ ap (same_subject cmp (subject_of s)) (sym (subject_at n d within)) ∙ i.same d.subject
+        same_symm cmp o (get_or shares n d).subject s
+        ∙ ap (same_subject cmp s) (sym (subject_at n d within)) ∙ i.same d.subject
 
     -- and no other place is
-    number_at : (s : declared.Subject P) (n : ℕ) (d : Share P) → n < length shares
-        → same_subject cmp (get_or shares n d).subject (subject_of s) ≡ true → number s ≡ Some n
+    number_at : (s : Subject P) (n : ℕ) (d : Share P) → n < length shares
+        → same_subject cmp (get_or shares n d).subject s ≡ true → number s ≡ Some n
     number_at s n d i e =
         let within : n < length subjects = omega (arith, as_many_subjects) in
         (h.numbers_are s n).1 (record {
           within = within;
           same = λ u.
-              ap (same_subject cmp (subject_of s)) (get_or_default subjects n u d.subject within ∙ subject_at n d i)
-              ∙ same_symm cmp o (subject_of s) (get_or shares n d).subject ∙ e;
+              ap (same_subject cmp s) (get_or_default subjects n u d.subject within ∙ subject_at n d i)
+              ∙ same_symm cmp o s (get_or shares n d).subject ∙ e;
         })
 
-    module _ (s : declared.Subject P) (place : ℕ) where
+    module _ (s : Subject P) (place : ℕ) where
       nobody : Share P
-      nobody = record { subject = subject_of s; cap = 0; users = [] }
+      nobody = record { subject = s; cap = 0; users = [] }
 
       none_open : (answer : Option ℕ) → number s ≡ None → list_any (is_side_of cmp (ask place s answer)) shares ≡ false
       none_open answer e =
@@ -293,7 +285,7 @@ module _ {P : Type 0} (cmp : P → P → Ordering) (o : IsTotalOrder cmp) where
                 ∙ limits_are cmp [] (asks ++ t ∷ []);
             numbers_are =
                 subst
-                (λ us. (q : declared.Subject P) (m : ℕ) → (number q ≡ Some m) ↔ IsNumberOf cmp us (subject_of q) m)
+                (λ us. (q : Subject P) (m : ℕ) → (number q ≡ Some m) ↔ IsNumberOf cmp us q m)
                 (sym (subjects_are cmp [] asks) ∙ sym (subjects_kept t shares) ∙ ap (map (λ u. u.subject)) (sym are)
                 ∙ subjects_are cmp [] (asks ++ t ∷ []))
                 h.numbers_are;
@@ -313,7 +305,7 @@ module _ {P : Type 0} (cmp : P → P → Ordering) (o : IsTotalOrder cmp) where
             sides_are = limits ∙ ap (map limit_of) (sym are) ∙ limits_are cmp [] (asks ++ t ∷ []);
             numbers_are =
                 subst
-                (λ us. (q : declared.Subject P) (m : ℕ) → (number q ≡ Some m) ↔ IsNumberOf cmp us (subject_of q) m)
+                (λ us. (q : Subject P) (m : ℕ) → (number q ≡ Some m) ↔ IsNumberOf cmp us q m)
                 (sym (subjects_are cmp [] asks) ∙ ap (map (λ u. u.subject)) (sym are)
                 ∙ subjects_are cmp [] (asks ++ t ∷ []))
                 h.numbers_are;
@@ -321,17 +313,17 @@ module _ {P : Type 0} (cmp : P → P → Ordering) (o : IsTotalOrder cmp) where
 
       -- it comes into being now
       pub opens : (answer : Option ℕ) (cap : ℕ) (new : declared_side.Side) (sides' : List declared_side.Side)
-          (number' : declared.Subject P → Option ℕ)
+          (number' : Subject P → Option ℕ)
           → answer ≡ Some cap → number s ≡ None → sides' ≡ sides ++ new ∷ [] → new.cap ≡ cap
           → new.users.items ≡ place ∷ []
           → (n : ℕ) → n ≡ length sides
-          → ((q : declared.Subject P)
-          → number' q ≡ cond (same_subject cmp (subject_of s) (subject_of q)) (Some n) (number q))
+          → ((q : Subject P)
+          → number' q ≡ cond (same_subject cmp s q) (Some n) (number q))
           → AreRegistered cmp (asks ++ ask place s answer ∷ []) sides' number'
       opens answer cap new sides' number' answered e pushes is_cap users n last numbers =
           let t = ask place s answer in
           let none = none_open answer e in
-          let share : Share P = record { subject = subject_of s; cap = cap; users = place ∷ [] } in
+          let share : Share P = record { subject = s; cap = cap; users = place ∷ [] } in
           let are : shares_after cmp [] (asks ++ t ∷ []) ≡ shares ++ share ∷ [] =
           become answer false none ∙ ap (λ a. map (with_user cmp t) shares ++ opened_share cmp t [] a) answered
           ∙ ap (λ ss. ss ++ share ∷ [])
@@ -344,64 +336,105 @@ module _ {P : Type 0} (cmp : P → P → Ordering) (o : IsTotalOrder cmp) where
                 ∙ limits_are cmp [] (asks ++ t ∷ []);
             numbers_are =
                 subst
-                (λ us. (q : declared.Subject P) (m : ℕ) → (number' q ≡ Some m) ↔ IsNumberOf cmp us (subject_of q) m)
-                (ap (λ us. us ++ subject_of s ∷ []) (sym (subjects_are cmp [] asks))
+                (λ us. (q : Subject P) (m : ℕ) → (number' q ≡ Some m) ↔ IsNumberOf cmp us q m)
+                (ap (λ us. us ++ s ∷ []) (sym (subjects_are cmp [] asks))
                 ∙ sym (map-append (λ u. u.subject) shares (share ∷ []))
                 ∙ ap (map (λ u. u.subject)) (sym are) ∙ subjects_are cmp [] (asks ++ t ∷ []))
                 (numbers_push subjects number number' s h.numbers_are e
                 (λ q. numbers q
-                ∙ ap (λ m. cond (same_subject cmp (subject_of s) (subject_of q)) (Some m) (number q))
+                ∙ ap (λ m. cond (same_subject cmp s q) (Some m) (number q))
                 (last ∙ as_many ∙ sym as_many_subjects)));
           }
 
 -- no flow has asked yet
 pub nothing_registered : {P : Type 0} (cmp : P → P → Ordering) (registry : Registry P) → registry.sides.items ≡ []
-    → registry.numbers.entries ≡ [] → IsRegistryOf cmp [] registry
-nothing_registered cmp registry no_sides no_numbers = record {
+    → registry.senders.entries ≡ [] → registry.receivers.entries ≡ [] → registry.pairs.entries ≡ []
+    → IsRegistryOf cmp [] registry
+nothing_registered {P} cmp registry no_sides no_senders no_receivers no_pairs = record {
   sides_are = ap (map side_of) no_sides;
   numbers_are = λ s n. (
-    λ (e : number_of cmp registry.numbers s ≡ Some n).
-        let none : None ≡ Some n =
-        ap (lookup (λ other. same_subject cmp (subject_of s) (subject_of other))) (sym no_numbers) ∙ e in
-        cc none,
+    λ (e : number_of cmp registry s ≡ Some n). let none = no_number s in cc,
     λ i. absurd (omega (arith, i.within)),
   );
 }
+  where
+    no_number : (s : Subject P) → number_of cmp registry s ≡ None
+    no_number (sent_by p) = ap (lookup (λ other. same_peer cmp p other.now)) no_senders
+    no_number (received_by p) = ap (lookup (λ other. same_peer cmp p other.now)) no_receivers
+    no_number (sent_between p q) =
+        ap (lookup (λ other. same_peer cmp p other.0.now && same_peer cmp q other.1.now)) no_pairs
 
 -- so each number that the registry finds is that of a side
 pub finds_sides : {P : Type 0} (cmp : P → P → Ordering) (o : IsTotalOrder cmp) (asks : List (Ask P))
     (registry : Registry P)
     → IsRegistryOf cmp asks registry → FindsSides cmp registry
 finds_sides cmp o asks registry h s n e =
-    let within = in_range cmp o asks registry.sides.items (number_of cmp registry.numbers) h s n e in
+    let within = in_range cmp o asks registry.sides.items (number_of cmp registry) h s n e in
     omega (arith, registry.sides.ok.0, within)
 
--- the numbers, when a subject that had none gets one
-module _ {P : Type 0} (cmp : P → P → Ordering) (o : IsTotalOrder cmp) (old new : BTreeMap (declared.Subject P) ℕ)
-    (s : declared.Subject P) (n : ℕ)
-    (none : number_of cmp old s ≡ None)
-    (are : (q : declared.Subject P)
-    → number_of cmp new q ≡ cond (same_subject cmp (subject_of s) (subject_of q)) (Some n) (number_of cmp old q)) where
-  -- it is the number of the side that is new
-  pub finds_more : (sides sides' : ℕ) → n ≡ sides → sides' ≡ sides + 1
-      → ((q : declared.Subject P) (m : ℕ) → number_of cmp old q ≡ Some m → m < sides) → (q : declared.Subject P) (m : ℕ)
-      → number_of cmp new q ≡ Some m → m < sides'
-  finds_more sides sides' last more finds q m e = by (same_subject cmp (subject_of s) (subject_of q)) refl
-    where
-      by : (b : Bool) → same_subject cmp (subject_of s) (subject_of q) ≡ b → m < sides'
-      by true same =
-          let it : n ≡ m = same_Some n m (sym (are q ∙ ap (λ b. cond b (Some n) (number_of cmp old q)) same) ∙ e) in
-          omega arith
-      by false apart =
-          let it : m < sides = finds q m (sym (are q ∙ ap (λ b. cond b (Some n) (number_of cmp old q)) apart) ∙ e) in
-          omega arith
+-- the numbers, when a subject gets one: it is that of the side that is new
+pub finds_more : {P : Type 0} (cmp : P → P → Ordering) (old new : Registry P) (s : Subject P) (n : ℕ)
+    → HasNumber cmp s n old new → (sides sides' : ℕ) → n ≡ sides → sides' ≡ sides + 1
+    → ((q : Subject P) (m : ℕ) → number_of cmp old q ≡ Some m → m < sides) → (q : Subject P) (m : ℕ)
+    → number_of cmp new q ≡ Some m → m < sides'
+finds_more cmp old new s n has sides sides' last more finds q m e = by (same_subject cmp s q) refl
+  where
+    by : (b : Bool) → same_subject cmp s q ≡ b → m < sides'
+    by true same =
+        let it : n ≡ m = same_Some n m (sym (has q ∙ ap (λ b. cond b (Some n) (number_of cmp old q)) same) ∙ e) in
+        omega arith
+    by false apart =
+        let it : m < sides = finds q m (sym (has q ∙ ap (λ b. cond b (Some n) (number_of cmp old q)) apart) ∙ e) in
+        omega arith
 
--- the numbers by an order of the subjects are those by the subjects
-pub by_subject : {P : Type 0} (cmp : P → P → Ordering) (s : declared.Subject P) (n : ℕ)
-    (old new : BTreeMap (declared.Subject P) ℕ) (compare : declared.Subject P → Ordering)
-    → ((q : declared.Subject P) → number_of cmp new q ≡ cond (is_eq (compare q)) (Some n) (number_of cmp old q))
-    → ((q : declared.Subject P) → is_eq (compare q) ≡ same_subject cmp (subject_of s) (subject_of q))
-    → (q : declared.Subject P)
-    → number_of cmp new q ≡ cond (same_subject cmp (subject_of s) (subject_of q)) (Some n) (number_of cmp old q)
-by_subject cmp s n old new compare numbers compares q =
-    numbers q ∙ ap (λ b. cond b (Some n) (number_of cmp old q)) (compares q)
+-- the number that one kind of subject gets changes no other kind
+module _ {P : Type 0} (cmp : P → P → Ordering) (n : ℕ) (old new : Registry P) where
+  pub sender_numbered : (p : P) → new.receivers ≡ old.receivers → new.pairs ≡ old.pairs
+      → ((q : P) → number_of cmp new (sent_by q)
+      ≡ cond (same_peer cmp p q) (Some n) (number_of cmp old (sent_by q)))
+      → HasNumber cmp (sent_by p) n old new
+  sender_numbered p receivers pairs has (sent_by q) = has q
+  sender_numbered p receivers pairs has (received_by q) =
+      ap (λ numbers. lookup (λ other. same_peer cmp q other.now) numbers.entries) receivers
+  sender_numbered p receivers pairs has (sent_between q r) =
+      ap (λ numbers. lookup (λ other. same_peer cmp q other.0.now && same_peer cmp r other.1.now) numbers.entries) pairs
+
+  pub receiver_numbered : (p : P) → new.senders ≡ old.senders → new.pairs ≡ old.pairs
+      → ((q : P) → number_of cmp new (received_by q)
+      ≡ cond (same_peer cmp p q) (Some n) (number_of cmp old (received_by q)))
+      → HasNumber cmp (received_by p) n old new
+  receiver_numbered p senders pairs has (sent_by q) =
+      ap (λ numbers. lookup (λ other. same_peer cmp q other.now) numbers.entries) senders
+  receiver_numbered p senders pairs has (received_by q) = has q
+  receiver_numbered p senders pairs has (sent_between q r) =
+      ap (λ numbers. lookup (λ other. same_peer cmp q other.0.now && same_peer cmp r other.1.now) numbers.entries) pairs
+
+  pub pair_numbered : (o p : P) → new.senders ≡ old.senders → new.receivers ≡ old.receivers
+      → ((q r : P) → number_of cmp new (sent_between q r)
+      ≡ cond (same_peer cmp o q && same_peer cmp p r) (Some n) (number_of cmp old (sent_between q r)))
+      → HasNumber cmp (sent_between o p) n old new
+  pair_numbered o p senders receivers has (sent_by q) =
+      ap (λ numbers. lookup (λ other. same_peer cmp q other.now) numbers.entries) senders
+  pair_numbered o p senders receivers has (received_by q) =
+      ap (λ numbers. lookup (λ other. same_peer cmp q other.now) numbers.entries) receivers
+  pair_numbered o p senders receivers has (sent_between q r) = has q r
+
+both_same : (a b : Ordering) → is_eq (ordering_then a b) ≡ (is_eq a && is_eq b)
+both_same Less b = refl
+both_same Equal b = refl
+both_same Greater b = refl
+
+-- two pairs are one in the order of pairs where both peers are
+pub by_both : {P : Type 0} (cmp : P → P → Ordering) (n : ℕ) (o p q r : P) (old new : List ((Bor P × Bor P) × ℕ))
+    → lookup (λ other. is_eq (ordering_then (cmp q other.0.now) (cmp r other.1.now))) new
+    ≡ cond (is_eq (ordering_then (cmp o q) (cmp p r))) (Some n)
+    (lookup (λ other. is_eq (ordering_then (cmp q other.0.now) (cmp r other.1.now))) old)
+    → lookup (λ other. same_peer cmp q other.0.now && same_peer cmp r other.1.now) new
+    ≡ cond (same_peer cmp o q && same_peer cmp p r) (Some n)
+    (lookup (λ other. same_peer cmp q other.0.now && same_peer cmp r other.1.now) old)
+by_both cmp n o p q r old new has =
+    let had = lookup (λ other. is_eq (ordering_then (cmp q other.0.now) (cmp r other.1.now))) old in
+    lookup_agrees _ _ new (λ k. sym (both_same (cmp q k.0.now) (cmp r k.1.now))) ∙ has
+    ∙ ap (λ b. cond b (Some n) had) (both_same (cmp o q) (cmp p r))
+    ∙ ap (cond (same_peer cmp o q && same_peer cmp p r) (Some n))
+    (lookup_agrees _ _ old (λ k. both_same (cmp q k.0.now) (cmp r k.1.now)))

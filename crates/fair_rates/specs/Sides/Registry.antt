@@ -1,11 +1,10 @@
 -- Registering: the sides that have come into being while flow after flow asks for them.
-use Rattle.std.specs.Prelude.{◌≡◌, ◌↔◌, ℕ, ◌<◌, true, cond, List, [], ◌∷◌, ◌++◌, Option, Some, map, length}
+use Rattle.std.specs.Prelude.{◌≡◌, ◌↔◌, ℕ, ◌<◌, true, cond, ◌&&◌, List, [], ◌∷◌, ◌++◌, Option, Some, map, length}
 use Rattle.std.specs.Prelude.{vec_len}
 use Rattle.std.specs.Map.{lookup}
-use Rattle.std.specs.BTreeMap.{BTreeMap}
 use Rattle.std.specs.List.{HoldsAt}
 use Rattle.std.specs.declared.cmp.Ordering.{Ordering}
-use Rattle.fair_rates.specs.Sides.Subjects.{Subject, sent_by, received_by, sent_between, Ask, same_subject, is_open}
+use Rattle.fair_rates.specs.Sides.Subjects.{Subject, sent_by, received_by, sent_between, Ask, same_peer, same_subject, is_open}
 use Rattle.fair_rates.specs.Sides.Subjects.{opened}
 use Rattle.fair_rates.specs.Sides.Subjects.{sides_after}
 use Rattle.fair_rates.specs.Sides.SideOf.{side_of}
@@ -28,9 +27,17 @@ module _ {P : Type 0} (cmp : P → P → Ordering) where
       map (λ side. a.subject) (cond (is_open cmp earlier a) [] (opened cmp a later a.answer))
       ++ subjects_after (a ∷ earlier) later
 
-  -- the number that a map has for a subject
-  abbrev pub number_of : BTreeMap (declared.Subject P) ℕ → declared.Subject P → Option ℕ
-  number_of numbers s = lookup (λ other. same_subject cmp (subject_of s) (subject_of other)) numbers.entries
+  -- the number that the registry has for a subject
+  abbrev pub number_of : Registry P → Subject P → Option ℕ
+  number_of registry (sent_by p) = lookup (λ other. same_peer cmp p other.now) registry.senders.entries
+  number_of registry (received_by p) = lookup (λ other. same_peer cmp p other.now) registry.receivers.entries
+  number_of registry (sent_between p q) =
+      lookup (λ other. same_peer cmp p other.0.now && same_peer cmp q other.1.now) registry.pairs.entries
+
+  -- the new registry has that number for the subject, and for the others what the old one has
+  abbrev pub HasNumber : Subject P → ℕ → Registry P → Registry P → Type 0
+  HasNumber s n old new =
+      (other : Subject P) → number_of new other ≡ cond (same_subject cmp s other) (Some n) (number_of old other)
 
   -- that number is the place of the subject in the list
   pub record IsNumberOf (subjects : List (Subject P)) (s : Subject P) (number : ℕ) : Type 0 where
@@ -39,23 +46,19 @@ module _ {P : Type 0} (cmp : P → P → Ordering) where
 
   -- the sides are those that the asks make, and each is found by its subject
   pub record AreRegistered (asks : List (Ask P)) (sides : List declared_side.Side)
-      (number : declared.Subject P → Option ℕ) : Type 0 where
+      (number : Subject P → Option ℕ) : Type 0 where
     pub sides_are : map side_of sides ≡ sides_after cmp [] asks
-    pub numbers_are : (s : declared.Subject P) (n : ℕ)
-        → (number s ≡ Some n) ↔ IsNumberOf (subjects_after [] asks) (subject_of s) n
+    pub numbers_are : (s : Subject P) (n : ℕ) → (number s ≡ Some n) ↔ IsNumberOf (subjects_after [] asks) s n
 
   -- so it is in the registry
   abbrev pub IsRegistryOf : List (Ask P) → Registry P → Type 0
-  IsRegistryOf asks registry = AreRegistered asks registry.sides.items (number_of registry.numbers)
+  IsRegistryOf asks registry = AreRegistered asks registry.sides.items (number_of registry)
 
   -- a number that the registry finds is that of a side
   abbrev pub FindsSides : Registry P → Type 0
-  FindsSides registry =
-      (s : declared.Subject P) (n : ℕ) → number_of registry.numbers s ≡ Some n → n < vec_len registry.sides
+  FindsSides registry = (s : Subject P) (n : ℕ) → number_of registry s ≡ Some n → n < vec_len registry.sides
 
--- the flow at a place has asked for the side of a subject
-pub record Registers {P : Type 0} (cmp : P → P → Ordering) (place : ℕ) (s : declared.Subject P) (answer : Option ℕ)
-    (old new : Registry P) : Type 0 where
-  pub asked : (asks : List (Ask P)) → IsRegistryOf cmp asks old
-      → IsRegistryOf cmp (asks ++ record { place = place; subject = subject_of s; answer = answer } ∷ []) new
+-- these asks were made after those before
+pub record Registers {P : Type 0} (cmp : P → P → Ordering) (more : List (Ask P)) (old new : Registry P) : Type 0 where
+  pub asked : (asks : List (Ask P)) → IsRegistryOf cmp asks old → IsRegistryOf cmp (asks ++ more) new
   pub finds : FindsSides cmp new

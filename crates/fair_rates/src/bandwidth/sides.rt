@@ -1,13 +1,13 @@
 //! What limits flows: the sides that the caps make.
-ghost use Rattle.std.specs.Prelude.{◌≡◌, OnOk, ◌<◌, List, Some, IfOk, IfErr, map, All, AllPairs, length};
+ghost use Rattle.std.specs.Prelude.{◌≡◌, OnOk, ◌<◌, [], ◌∷◌, List, Some, IfOk, IfErr, map, All, AllPairs, length};
 ghost use Rattle.std.specs.Fn.{CalledAt, TakesAt, CalledAtTwo, TakesAtTwo};
 ghost use Rattle.fair_rates.specs.Sides.Answers.{Answered, AnswerInOrder, CallableOnEach, CallableOnEachPair, origins};
-ghost use Rattle.fair_rates.specs.Sides.Answers.{recipients, pairs};
-ghost use Rattle.fair_rates.specs.Sides.Subjects.{sides_of};
+ghost use Rattle.fair_rates.specs.Sides.Answers.{recipients, pairs, answered_by, answered_of};
+ghost use Rattle.fair_rates.specs.Sides.Subjects.{sides_of, asks_of_one};
 ghost use Rattle.fair_rates.specs.Sides.SideOf.{side_of};
-ghost use Rattle.fair_rates.specs.Sides.Registry.{FindsSides, Registers};
+ghost use Rattle.fair_rates.specs.Sides.Registry.{FindsSides, Registers, subject_of};
 
-use crate::bandwidth::Flow;
+use crate::bandwidth::{CappedFlow, Flow, FlowCaps};
 use crate::error::Error;
 use crate::peer::Peer;
 use std::alloc::Global;
@@ -23,7 +23,7 @@ pub(crate) struct Side {
 
 /// What a side limits: all that one peer sends, all that one peer receives, or all that goes from
 /// one peer to another.
-#[derive(Clone, Copy, PartialEq, Eq, PartialOrd, Ord)]
+#[derive(Drop)]
 enum Subject<'a, P> {
     SentBy(&'a P),
     ReceivedBy(&'a P),
@@ -31,11 +31,58 @@ enum Subject<'a, P> {
 }
 
 /// The sides that have come into being, and the number of each, its place among them, by its
-/// subject.
+/// subject: there is a map for each kind, which is by peers alone and has no kind to compare.
 #[derive(Drop)]
 struct Registry<'a, P: Ord> {
     sides: Vec<Side>,
-    numbers: BTreeMap<Subject<'a, P>, usize>,
+    senders: BTreeMap<&'a P, usize>,
+    receivers: BTreeMap<&'a P, usize>,
+    pairs: BTreeMap<(&'a P, &'a P), usize>,
+}
+
+impl<'a, P: Peer> Registry<'a, P> {
+    ghost use Rattle.fair_rates.specs.Sides.Registry.{IsRegistryOf, HasNumber, number_of};
+
+    /// No flow has asked yet.
+    fn new(alloc: Global) -> Registry<'a, P>
+        ensures { IsRegistryOf P.cmp [] result }
+    {
+        Registry {
+            sides: Vec::new(alloc),
+            senders: BTreeMap::new(alloc),
+            receivers: BTreeMap::new(alloc),
+            pairs: BTreeMap::new(alloc),
+        }
+    }
+
+    /// The number of the side of the subject, if there is one.
+    fn number(&self, subject: &Subject<'a, P>) -> Option<usize>
+        ensures { result ≡ number_of P.cmp self.now (subject_of subject.now) }
+    {
+        match subject {
+            Subject::SentBy(peer) => self.senders.get(peer).copied(),
+            Subject::ReceivedBy(peer) => self.receivers.get(peer).copied(),
+            Subject::SentBetween(origin, recipient) => {
+                self.pairs.get(&(*origin, *recipient)).copied()
+            }
+        }
+    }
+
+    /// Notes the number of the side of the subject.
+    fn set_number(&mut self, subject: Subject<'a, P>, number: usize) -> Result<(), Error>
+        ensures numbers { OnOk result (HasNumber P.cmp (subject_of subject.entry) number self.old self.new) }
+        ensures sides { self.new.sides ≡ self.old.sides }
+        ensures refused { IfErr result (λ e. e ≡ Error.OutOfMemory) }
+    {
+        match subject {
+            Subject::SentBy(peer) => self.senders.insert(peer, number)?,
+            Subject::ReceivedBy(peer) => self.receivers.insert(peer, number)?,
+            Subject::SentBetween(origin, recipient) => {
+                self.pairs.insert((origin, recipient), number)?
+            }
+        };
+        Ok(())
+    }
 }
 
 /// Registers that the flow at `place` asks for the side of `subject`, and that its closure gave
@@ -48,10 +95,11 @@ fn register<'a, P: Peer>(
     answer: Option<u128>,
 ) -> Result<(), Error>
     requires { FindsSides P.cmp registry.old }
-    ensures registers { OnOk result (Registers P.cmp place subject.entry answer registry.old registry.new) }
+    ensures registers { OnOk result (Registers P.cmp
+        (record { place = place; subject = subject_of subject.entry; answer = answer } ∷ []) registry.old registry.new) }
     ensures refused { IfErr result (λ e. e ≡ Error.OutOfMemory) }
 {
-    if let Some(number) = registry.numbers.get(&subject).copied() {
+    if let Some(number) = registry.number(&subject) {
         registry.sides[number].users.push(place)?;
         return Ok(());
     }
@@ -62,8 +110,30 @@ fn register<'a, P: Peer>(
     users.push(place)?;
     let number = registry.sides.len();
     registry.sides.push(Side { cap, users })?;
-    registry.numbers.insert(subject, number)?;
-    Ok(())
+    registry.set_number(subject, number)
+}
+
+/// Registers that the flow at `place` asks for its sides, and that these were the answers.
+fn register_flow<'a, P: Peer>(
+    alloc: Global,
+    registry: &mut Registry<'a, P>,
+    place: usize,
+    flow: &'a Flow<P>,
+    answers: FlowCaps,
+) -> Result<(), Error>
+    requires { FindsSides P.cmp registry.old }
+    ensures registers { OnOk result (Registers P.cmp (asks_of_one place (answered_by flow.now answers))
+        registry.old registry.new) }
+    ensures refused { IfErr result (λ e. e ≡ Error.OutOfMemory) }
+{
+    let sent = Subject::SentBy(&flow.origin);
+    register(alloc, registry, place, sent, answers.egress)?;
+    if flow.delivered {
+        let received = Subject::ReceivedBy(&flow.recipient);
+        register(alloc, registry, place, received, answers.ingress)?;
+    }
+    let between = Subject::SentBetween(&flow.origin, &flow.recipient);
+    register(alloc, registry, place, between, answers.link)
 }
 
 /// The sides of the flows, in the order in which they come into being.
@@ -91,22 +161,38 @@ where
     ensures users_rise { IfOk result (λ sides. All (λ side. AllPairs (λ a b. a < b) side.users.items) sides.items) }
     ensures refused { IfErr result (λ e. e ≡ Error.OutOfMemory) }
 {
-    let mut registry = Registry {
-        sides: Vec::new(alloc),
-        numbers: BTreeMap::new(alloc),
-    };
+    let mut registry = Registry::new(alloc);
     for (place, flow) in flows.iter().enumerate() {
-        let answer = egress_cap(&flow.origin);
-        let subject = Subject::SentBy(&flow.origin);
-        register(alloc, &mut registry, place, subject, answer)?;
-        if flow.delivered {
-            let answer = ingress_cap(&flow.recipient);
-            let subject = Subject::ReceivedBy(&flow.recipient);
-            register(alloc, &mut registry, place, subject, answer)?;
-        }
-        let answer = link_cap(&flow.origin, &flow.recipient);
-        let subject = Subject::SentBetween(&flow.origin, &flow.recipient);
-        register(alloc, &mut registry, place, subject, answer)?;
+        let egress = egress_cap(&flow.origin);
+        let ingress = if flow.delivered {
+            ingress_cap(&flow.recipient)
+        } else {
+            None
+        };
+        let link = link_cap(&flow.origin, &flow.recipient);
+        let answers = FlowCaps {
+            egress,
+            ingress,
+            link,
+        };
+        register_flow(alloc, &mut registry, place, flow, answers)?;
+    }
+    Ok(registry.sides)
+}
+
+/// The sides of flows with known caps, in the order in which they come into being.
+pub(crate) fn sides_of_capped<P: Peer>(
+    alloc: Global,
+    flows: &[CappedFlow<P>],
+) -> Result<Vec<Side>, Error>
+    ensures sides { IfOk result (λ sides. map side_of sides.items ≡ sides_of P.cmp (map answered_of flows.now)) }
+    ensures users_are_flows { IfOk result (λ sides. All
+        (λ side. All (λ flow. flow < length flows.now) side.users.items) sides.items) }
+    ensures refused { IfErr result (λ e. e ≡ Error.OutOfMemory) }
+{
+    let mut registry = Registry::new(alloc);
+    for (place, one) in flows.iter().enumerate() {
+        register_flow(alloc, &mut registry, place, &one.flow, one.caps)?;
     }
     Ok(registry.sides)
 }

@@ -157,12 +157,14 @@ returns c =
     let ended : AllFilled sides (frozen_at levels level_of) =
     subst (λ xs. AllFilled sides (frozen_at xs level_of)) d (subst (λ xs. AllFilled sides (frozen_at D xs)) e there) in
     record {
-      grown = inv.grown;
-      factors = inv.factors;
-      one_each = inv.one_each;
-      inside = course.inside;
-      fair = fair sides found.scale levels level_of course.some_part course.filled ended;
-      limited = limited sides found.scale levels level_of course.some_part course.filled ended;
+      parts = record {
+        grown = inv.grown;
+        factors = inv.factors;
+        one_each = inv.one_each;
+        inside = course.inside;
+        fair = fair sides found.scale levels level_of course.some_part course.filled ended;
+        limited = limited sides found.scale levels level_of course.some_part course.filled ended;
+      };
       rising = course.rising;
       reached = course.reached;
       few = omega (arith, inv.few, length-map c.args.sides.items side_of);
