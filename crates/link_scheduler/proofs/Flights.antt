@@ -1,7 +1,6 @@
 -- What is in flight, accounted for at a moment.
 pub mod Accounted
 pub mod Accounts
-pub mod CapLookUps
 pub mod CappedFlows
 pub mod ComponentFlows
 pub mod Components

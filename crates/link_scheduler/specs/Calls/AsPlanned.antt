@@ -9,7 +9,9 @@ use Rattle.fair_rates.specs.declared.bandwidth.Flow.{Flow}
 use Rattle.fair_rates.specs.declared.bandwidth.parts.FairParts.{FairParts}
 use Rattle.fair_rates.specs.Fairness.Fair.{IsFair}
 use Rattle.fair_rates.specs.Filling.FairParts.{flow_parts}
-use Rattle.fair_rates.specs.Fairness.UnderCaps.{sides_under}
+use Rattle.fair_rates.specs.Fairness.UnderCaps.{sides_under, answered_under}
+use Rattle.fair_rates.specs.declared.bandwidth.CappedFlow.{CappedFlow}
+use Rattle.fair_rates.specs.Sides.Answers.{answered_of}
 use Rattle.link_scheduler.specs.declared.transmitter.message.Message as code
 use Rattle.link_scheduler.specs.declared.transmitter.ledger.Ledger.{Ledger}
 use Rattle.fair_rates.specs.Sides.Caps.{Caps}
@@ -51,6 +53,10 @@ ready_messages cmp t p = filter (may_launch cmp t p) (fronts cmp p.waiting)
 pub record HasNothingDue {P : Type 0} (cmp : P → P → Ordering) (p : Planned P) (now : ℕ) : Type 0 where
   pub none_due : IfSome (next_event p) (λ t. now < t)
   pub none_ready : ¬ SomeReadyAt cmp p now
+
+-- a flow has the caps that hold for it
+abbrev pub HasItsCaps : {P : Type 0} → Caps P → CappedFlow P → Type 0
+HasItsCaps caps capped = answered_of capped ≡ answered_under caps capped.flow
 
 -- parts of a scale, which has grown from another, are the fair rates of the flows on the sides that the caps make for
 -- them

@@ -5,17 +5,15 @@
 ghost use Rattle.std.specs.Prelude.{◌≡◌, ◌&&◌, ◌||◌, ◌==◌, ℕ, not, true, false, IfOk, IfErr, IfSome, OnOk};
 ghost use Rattle.std.specs.List.{list_all, list_any};
 ghost use Rattle.fair_rates.specs.Sides.Subjects.{same_peer};
-ghost use Rattle.link_scheduler.specs.Flights.Components.{is_sender, is_receiver, suits, is_closed, those_of, is_near};
+ghost use Rattle.link_scheduler.specs.Flights.Components.{is_sender, is_receiver, suits, is_closed, is_near};
 ghost use Rattle.link_scheduler.specs.Flights.Components.{is_found, AreGrouped, AreFarApart, AreFound};
 ghost use Rattle.link_scheduler.specs.Flights.Flight.{flight_at};
 ghost use Rattle.link_scheduler.specs.Flights.InFlight.{in_units};
 ghost use Rattle.link_scheduler.specs.Flights.Rated.{rated_ones};
-ghost use Rattle.link_scheduler.specs.Flights.RatedFlights.{are_standing};
 
 use super::flight::Flight;
 use super::flights::Flights;
 use super::message::Message;
-use fair_rates::bandwidth::Flow;
 use fair_rates::error::Error;
 use fair_rates::peer::Peer;
 use std::alloc::Global;
@@ -273,21 +271,5 @@ impl<P: Peer> Flights<P> {
             }
         }
         Ok(grown)
-    }
-
-    /// The flows of the component, in order of start.
-    pub(crate) fn flows_of(&self, component: &Component<P>) -> Result<Vec<Flow<P>>, Error>
-        requires found { AreFound P.cmp component.now (in_units self.now) }
-        ensures standing { IfOk result (λ flows. are_standing P.cmp flows.items
-            (those_of P.cmp component.now (in_units self.now)) ≡ true) }
-        ensures refused { IfErr result (λ e. e ≡ Error.OutOfMemory) }
-    {
-        let mut flows = Vec::new(self.alloc);
-        for one in &self.list {
-            if component.has(one) {
-                flows.push(one.message.flow(0)?)?;
-            }
-        }
-        Ok(flows)
     }
 }

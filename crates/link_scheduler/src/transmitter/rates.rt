@@ -1,12 +1,13 @@
 //! The fair rates of what is in flight.
-ghost use Rattle.std.specs.Prelude.{◌≡◌, ◌≢◌, ℕ, true, map, IfOk, IfErr, OnOk, All, ◌<◌, ◌≤◌, ◌*◌, length};
+ghost use Rattle.std.specs.Prelude.{◌≡◌, ◌≢◌, ℕ, true, map, IfOk, IfErr, OnOk, All, ◌<◌, ◌≤◌, ◌*◌, length, IfSome};
 ghost use Rattle.fair_rates.specs.Fairness.Exists.{product};
 ghost use Rattle.link_simulation.specs.Rule.Planned.{IsLeastMoment, SomeSpentAt};
 ghost use Rattle.link_simulation.specs.Simulation.World.{last_moment};
-ghost use Rattle.link_scheduler.specs.Calls.AsPlanned.{messages, AreFairPartsUnder};
+ghost use Rattle.link_scheduler.specs.Calls.AsPlanned.{messages, AreFairPartsUnder, HasItsCaps};
 ghost use Rattle.link_scheduler.specs.Pairs.CapsOf.{caps_of};
 ghost use Rattle.link_scheduler.specs.Flights.Components.{those_of, AreFound};
 ghost use Rattle.link_scheduler.specs.Flights.Flight.{AreTimed, rate_of};
+ghost use Rattle.link_scheduler.specs.Flights.RatedFlights.{are_standing};
 ghost use Rattle.fair_rates.specs.Filling.FairParts.{parts_of_level};
 ghost use Rattle.link_scheduler.specs.Flights.InFlight.{in_units, in_flight};
 ghost use Rattle.link_scheduler.specs.Flights.Rated.{WereRated, AreFairOf, HaveFairRates};
@@ -17,7 +18,7 @@ use super::flights::Flights;
 use super::message::Message;
 use super::pairs::Pairs;
 use super::peers::Peers;
-use fair_rates::bandwidth::{FairParts, Flow, fair_parts};
+use fair_rates::bandwidth::{CappedFlow, FairParts, Flow, FlowCaps, fair_parts_of_capped};
 use fair_rates::error::Error;
 use fair_rates::peer::Peer;
 use natural::Natural;
@@ -28,27 +29,33 @@ use std::rc::Rc;
 /// Up to so many messages in flight, all are rated at each account.
 const FEW: usize = 6;
 
-/// The fair rates of flows under the caps.
-fn rates_under<P: Peer>(
-    alloc: Global,
-    flows: &[Flow<P>],
+/// The caps that hold for a flow. Flows of one sender often follow one another, so what it may send
+/// is known where the flow before is its own.
+fn caps_for<P: Peer>(
+    flow: &Flow<P>,
+    before: Option<&CappedFlow<P>>,
     peers: &Peers<P>,
     pairs: &Pairs<P>,
-    scale: &Natural,
-) -> Result<FairParts, Error>
-    requires scaled { 0 < scale.now }
-    ensures fair { IfOk result (AreFairPartsUnder P.cmp (caps_of P.cmp peers.now.entries pairs.now.entries)
-        flows.now scale.now) }
-    ensures refused { IfErr result (λ e. e ≡ Error.OutOfMemory) }
+) -> FlowCaps
+    requires before { IfSome before (λ last. HasItsCaps (caps_of P.cmp peers.now.entries pairs.now.entries) last.now) }
+    ensures { HasItsCaps (caps_of P.cmp peers.now.entries pairs.now.entries)
+        (record { flow = flow.now; caps = result }) }
 {
-    fair_parts(
-        alloc,
-        flows,
-        |peer| peers.egress(peer),
-        |peer| peers.ingress(peer),
-        |origin, recipient| pairs.cap(origin, recipient),
-        scale,
-    )
+    let egress = match before {
+        Some(last) if last.flow.origin.cmp(&flow.origin).is_eq() => last.caps.egress,
+        _ => peers.egress(&flow.origin),
+    };
+    let ingress = if flow.delivered {
+        peers.ingress(&flow.recipient)
+    } else {
+        None
+    };
+    let link = pairs.cap(&flow.origin, &flow.recipient);
+    FlowCaps {
+        egress,
+        ingress,
+        link,
+    }
 }
 
 /// Levels that those who have them share.
@@ -127,8 +134,33 @@ impl<P: Peer> Flights<P> {
             self.now.scale component.now (in_units self.now)) }
         ensures refused { IfErr result (λ e. e ≡ Error.OutOfMemory) }
     {
-        let flows = self.flows_of(component)?;
-        rates_under(self.alloc, &flows, peers, pairs, &self.scale)
+        let flows = self.flows_of(component, peers, pairs)?;
+        fair_parts_of_capped(self.alloc, &flows, &self.scale)
+    }
+
+    /// The flows of the component with their caps, in order of start.
+    fn flows_of(
+        &self,
+        component: &Component<P>,
+        peers: &Peers<P>,
+        pairs: &Pairs<P>,
+    ) -> Result<Vec<CappedFlow<P>>, Error>
+        requires found { AreFound P.cmp component.now (in_units self.now) }
+        ensures standing { IfOk result (λ flows. are_standing P.cmp (map (λ capped. capped.flow) flows.items)
+            (those_of P.cmp component.now (in_units self.now)) ≡ true) }
+        ensures capped { IfOk result (λ flows. All
+            (HasItsCaps (caps_of P.cmp peers.now.entries pairs.now.entries)) flows.items) }
+        ensures refused { IfErr result (λ e. e ≡ Error.OutOfMemory) }
+    {
+        let mut flows = Vec::new(self.alloc);
+        for one in &self.list {
+            if component.has(one) {
+                let flow = one.message.flow(0)?;
+                let caps = caps_for(&flow, flows.last(), peers, pairs);
+                flows.push(CappedFlow { flow, caps })?;
+            }
+        }
+        Ok(flows)
     }
 
     /// Gives those of the component these rates from the last account on, in the units of these

@@ -1,4 +1,6 @@
-use Rattle.std.proofs.Common.{◌≡◌, true, take}
+use Rattle.std.proofs.Common.{◌≡◌, true, take, map, All}
+use Rattle.link_scheduler.specs.Calls.AsPlanned.{HasItsCaps}
+use Rattle.link_scheduler.specs.Pairs.CapsOf.{caps_of}
 use Rattle.link_scheduler.specs.Flights.Components.{those_of}
 use Rattle.link_scheduler.specs.Flights.Flight.{flights_at}
 use Rattle.link_scheduler.specs.Flights.RatedFlights.{are_standing}
@@ -6,6 +8,7 @@ use Rattle.link_scheduler.proofs.transmitter.flights.Flights.flows_of.Given as g
 
 abbrev pub invariant-loop-one : goal.invariant-loop-one
 invariant-loop-one g l =
-    are_standing g.P.Ord.cmp l.flows.items
+    (are_standing g.P.Ord.cmp (map (λ capped. capped.flow) l.flows.items)
     (those_of g.P.Ord.cmp l.component (flights_at l.self.at (take l.one-index l.one-items)))
-    ≡ true
+    ≡ true)
+    × All (HasItsCaps (caps_of g.P.Ord.cmp l.peers.entries l.pairs.entries)) l.flows.items
