@@ -4,9 +4,10 @@ use Rattle.std.proofs.Common.{Bor, ◌++◌, Option, Some, None, map, length, ge
 use Rattle.std.proofs.Math.ListN.{set}
 use Rattle.std.proofs.lemmas.List.{append-nil, map-append, map-set, length-set, length-map, same_lists, get_or-set_same}
 use Rattle.std.proofs.lemmas.List.{get_or-set_other, get_or-map, get_or_append_left, get_or_push, get_or_default}
-use Rattle.std.proofs.lemmas.List.{length_push}
+use Rattle.std.proofs.lemmas.List.{length_push, nil_from_length}
 use Rattle.std.proofs.lemmas.Option.{same_Some}
 use Rattle.std.proofs.lemmas.Bool.{eqb-true, eqb-false, cases_lt, false_from_ne_true as is_false, or_right}
+use Rattle.std.specs.Prelude.{is_some}
 use Rattle.std.specs.List.{list_any}
 use Rattle.std.specs.Map.{lookup}
 use Rattle.std.specs.Cmp.{IsTotalOrder}
@@ -16,7 +17,7 @@ use Rattle.std.specs.Ordering.{is_eq, ordering_then}
 use Rattle.fair_rates.specs.Sides.SideOf.{side_of}
 use Rattle.fair_rates.specs.Sides.Subjects.{Subject, Ask, same_peer, same_subject, sent_by, received_by, sent_between}
 use Rattle.fair_rates.specs.Sides.Registry.{subjects_after, number_of, IsNumberOf, AreRegistered}
-use Rattle.fair_rates.specs.Sides.Registry.{IsRegistryOf, FindsSides, HasNumber}
+use Rattle.fair_rates.specs.Sides.Registry.{IsRegistryOf, FindsSides, HasNumber, Registers}
 use Rattle.fair_rates.specs.declared.bandwidth.sides.Registry.{Registry}
 use Rattle.fair_rates.specs.declared.bandwidth.sides.Side as declared_side
 use Rattle.fair_rates.proofs.Sides.Subjects.{same_symm, same_congr}
@@ -386,6 +387,22 @@ finds_more cmp old new s n has sides sides' last more finds q m e = by (same_sub
     by false apart =
         let it : m < sides = finds q m (sym (has q ∙ ap (λ b. cond b (Some n) (number_of cmp old q)) apart) ∙ e) in
         omega arith
+
+none_from : (answer : Option ℕ) → is_some answer ≡ false → answer ≡ None
+none_from None e = refl
+none_from (Some cap) e = cc e
+
+-- a flow asks for its link where no link has a cap
+pub no_pair : {P : Type 0} (cmp : P → P → Ordering) (o : IsTotalOrder cmp) (registry : Registry P) (place : ℕ)
+    (p q : P) (answer : Option ℕ) → is_some answer ≡ false → length registry.pairs.entries ≡ 0 → FindsSides cmp registry
+    → Registers cmp (record { place = place; subject = sent_between p q; answer = answer } ∷ []) registry registry
+no_pair cmp o registry place p q answer unanswered empty finds = record {
+  asked = λ asks h.
+      absent cmp o asks registry.sides.items (number_of cmp registry) h (sent_between p q) place answer (none_from answer unanswered)
+      (ap (lookup (λ other. same_peer cmp p other.0.now && same_peer cmp q other.1.now))
+      (nil_from_length registry.pairs.entries empty));
+  finds = finds;
+}
 
 -- the number that one kind of subject gets changes no other kind
 module _ {P : Type 0} (cmp : P → P → Ordering) (n : ℕ) (old new : Registry P) where

@@ -3,7 +3,7 @@ ghost use Rattle.std.specs.Prelude.{◌≡◌, OnOk, ◌<◌, [], ◌∷◌, Lis
 ghost use Rattle.std.specs.Fn.{CalledAt, TakesAt, CalledAtTwo, TakesAtTwo};
 ghost use Rattle.fair_rates.specs.Sides.Answers.{Answered, AnswerInOrder, CallableOnEach, CallableOnEachPair, origins};
 ghost use Rattle.fair_rates.specs.Sides.Answers.{recipients, pairs, answered_by, answered_of};
-ghost use Rattle.fair_rates.specs.Sides.Subjects.{sides_of, asks_of_one};
+ghost use Rattle.fair_rates.specs.Sides.Subjects.{sides_of, asks_of_one, sent_between};
 ghost use Rattle.fair_rates.specs.Sides.SideOf.{side_of};
 ghost use Rattle.fair_rates.specs.Sides.Registry.{FindsSides, Registers, subject_of};
 
@@ -12,6 +12,9 @@ use crate::error::Error;
 use crate::peer::Peer;
 use std::alloc::Global;
 use std::collections::BTreeMap;
+
+/// A new side has room for so many users, before its list has to move.
+const FEW_USERS: usize = 16;
 
 /// What limits some flows together: its cap in bytes a second, and the places of those flows in
 /// the list, in its order.
@@ -106,11 +109,35 @@ fn register<'a, P: Peer>(
     let Some(cap) = answer else {
         return Ok(());
     };
-    let mut users = Vec::new(alloc);
+    let mut users = Vec::with_capacity(alloc, FEW_USERS)?;
     users.push(place)?;
     let number = registry.sides.len();
     registry.sides.push(Side { cap, users })?;
     registry.set_number(subject, number)
+}
+
+/// Registers that the flow at `place` asks for the side of its link. Where no link has a cap, there
+/// is nothing to search for.
+fn register_link<'a, P: Peer>(
+    alloc: Global,
+    registry: &mut Registry<'a, P>,
+    place: usize,
+    flow: &'a Flow<P>,
+    answer: Option<u128>,
+) -> Result<(), Error>
+    requires { FindsSides P.cmp registry.old }
+    ensures registers { OnOk result (Registers P.cmp (record {
+      place = place;
+      subject = sent_between flow.now.origin flow.now.recipient;
+      answer = answer;
+    } ∷ []) registry.old registry.new) }
+    ensures refused { IfErr result (λ e. e ≡ Error.OutOfMemory) }
+{
+    if answer.is_none() && registry.pairs.is_empty() {
+        return Ok(());
+    }
+    let between = Subject::SentBetween(&flow.origin, &flow.recipient);
+    register(alloc, registry, place, between, answer)
 }
 
 /// Registers that the flow at `place` asks for its sides, and that these were the answers.
@@ -132,8 +159,7 @@ fn register_flow<'a, P: Peer>(
         let received = Subject::ReceivedBy(&flow.recipient);
         register(alloc, registry, place, received, answers.ingress)?;
     }
-    let between = Subject::SentBetween(&flow.origin, &flow.recipient);
-    register(alloc, registry, place, between, answers.link)
+    register_link(alloc, registry, place, flow, answers.link)
 }
 
 /// The sides of the flows, in the order in which they come into being.

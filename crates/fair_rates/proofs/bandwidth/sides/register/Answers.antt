@@ -49,7 +49,7 @@ returns-clause-registers g c =
     let last : n ≡ length old.sides.items = c.len-number.ensures ∙ old.sides.ok.0 in
     let none : number_of cmp old s ≡ None = sym c.number.ensures ∙ c.in_default.is in
     let users : c.push-2.new.self.items ≡ c.args.place ∷ [] =
-    c.in_ok-push-2.ensures.items ∙ ap (λ us. us ++ c.args.place ∷ []) c.new-users.ensures.items in
+    c.in_ok-push-2.ensures.items ∙ ap (λ us. us ++ c.args.place ∷ []) c.in_ok-users.ensures.items in
     let sides : new.sides.items ≡ old.sides.items ++ record { cap = c.in-Some-answer.cap; users = c.push-2.new.self } ∷ [] =
     ap (λ v. v.items) c.set_number.ensures.sides ∙ c.in_ok-push-3.ensures.items in
     on_ok_weaker c.set_number.result

@@ -9,8 +9,8 @@ use Rattle.fair_rates.proofs.bandwidth.sides.register_flow.Goals as goal
 pub register-requires-then-flow : goal.register-requires-then-flow
 register-requires-then-flow g c = c.in_ok-register.ensures.registers.finds
 
-pub register-requires-2 : goal.register-requires-2
-register-requires-2 g c =
+pub register_link-requires : goal.register_link-requires
+register_link-requires g c =
     elim c.if-flow.branch [
       | then-flow+in_ok-register-2 w ↦ subst (FindsSides g.P.Ord.cmp) (sym w.registry-is)
           w.in_ok-register-2.ensures.registers.finds
@@ -25,12 +25,12 @@ returns-clause-registers g c =
     let a : Answered g.row.P.Denot = answered_by flow c.args.answers in
     let first = c.in_ok-register.ensures.registers in
     let one = c.register.new.registry in
-    on_ok_weaker c.register-2.result
-    (registers_all cmp n a c.args.registry.now one c.if-flow.registry c.register-2.new.registry first
+    on_ok_weaker c.register_link.result
+    (registers_all cmp n a c.args.registry.now one c.if-flow.registry c.register_link.new.registry first
     (elim c.if-flow.branch [
       | then-flow+in_ok-register-2 w ↦ registers_it cmp n a flow.delivered one w.register-then-flow.new.registry
           c.if-flow.registry w.if-flow.true w.registry-is w.in_ok-register-2.ensures.registers
       | else-flow w ↦ registers_nothing cmp n a flow.delivered one c.if-flow.registry w.if-flow.false w.registry-is
           first.finds
     ]))
-    c.register-2.ensures.registers
+    c.register_link.ensures.registers
