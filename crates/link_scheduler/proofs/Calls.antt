@@ -4,6 +4,7 @@ pub mod Calling
 pub mod FewerEvents
 pub mod Finishing
 pub mod MessageCounts
+pub mod OneByOne
 pub mod OnlyWaiting
 pub mod Promises
 pub mod Replay
