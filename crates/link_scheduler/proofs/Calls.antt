@@ -10,3 +10,4 @@ pub mod Promises
 pub mod Replay
 pub mod SameIsPlanned
 pub mod Settling
+pub mod Standing
