@@ -4,8 +4,10 @@ pub mod Calling
 pub mod FewerEvents
 pub mod Finishing
 pub mod MessageCounts
+pub mod OneByOne
 pub mod OnlyWaiting
 pub mod Promises
 pub mod Replay
 pub mod SameIsPlanned
 pub mod Settling
+pub mod Standing

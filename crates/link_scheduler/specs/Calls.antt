@@ -2,4 +2,5 @@
 pub mod AsPlanned
 pub mod Events
 pub mod Replay
+pub mod Standing
 pub mod State

@@ -7,6 +7,7 @@ ghost use Rattle.link_simulation.specs.Simulation.Messages.{CapsAlike, PairsAlik
 ghost use Rattle.link_simulation.specs.Rule.Planned.{IsPlanned};
 
 mod account;
+mod batch;
 mod busy;
 mod completion;
 mod component;
@@ -19,6 +20,7 @@ mod idle;
 mod ledger;
 mod message;
 mod moves;
+mod outgoing;
 mod pairs;
 mod peers;
 mod rates;
@@ -33,6 +35,7 @@ use fair_rates::error::Error;
 use fair_rates::peer::Peer;
 use ledger::Ledger;
 use message::Message;
+pub use outgoing::Outgoing;
 pub use reading::{InFlight, Reading};
 use std::alloc::Global;
 
@@ -92,7 +95,7 @@ pub struct State<P: Peer> {
 impl<P: Peer> State<P> {
     ghost use Rattle.link_scheduler.specs.Pairs.Messages.{message_of};
     ghost use Rattle.link_scheduler.specs.Calls.State.{planned_of, sent, IsNew, IsMade, IsRefused, IsAdvanced};
-    ghost use Rattle.link_scheduler.specs.Calls.State.{IsCounted};
+    ghost use Rattle.link_scheduler.specs.Calls.State.{IsCounted, sends, AreMade, IsOneRefused};
     ghost use Rattle.link_scheduler.specs.Calls.State.{IsNextOf, IsQuietUntil};
 
     /// A scheduler at the start, moment 0, without limits and with nothing sent. Flow ids begin
@@ -260,6 +263,51 @@ impl<P: Peer> State<P> {
         }
         let mut ledger = self.ledger.clone()?;
         let ended = ledger.enqueue(now, message)?;
+        let completions = answers_of(ledger.alloc, &ended)?;
+        self.ledger = ledger;
+        Ok(completions)
+    }
+
+    /// Sends messages at `now`, one after another in their order, and answers what completes at that
+    /// moment, in order.
+    ///
+    /// It does what as many calls of `enqueue` would do, and answers what they would answer. But it is
+    /// made as a whole or not at all. `now` is in nanoseconds since the start. An empty list changes
+    /// nothing and is never refused.
+    ///
+    /// Where moments never go back, and caps change and messages are sent only before the next
+    /// event, each message does what it does in the simulation, as with `enqueue`.
+    ///
+    /// ```
+    /// let mut both = Vec::new(alloc);
+    /// both.push(Outgoing { origin: 1, recipient: 2, channel: 7, message, latency: 0, should_deliver: true })?;
+    /// both.push(Outgoing { origin: 1, recipient: 3, channel: 7, message: other, latency: 0, should_deliver: true })?;
+    /// let done = state.enqueue_all(0, both)?;
+    /// ```
+    ///
+    /// # Errors
+    ///
+    /// Those of the first message that `enqueue` would refuse, after the messages before it. The
+    /// scheduler then stays as it was before all of them.
+    ///
+    /// - `OutOfMemory` where memory was refused, for a list or for the clone of a peer.
+    /// - `MomentTooLate` where a message completes and would arrive past the last moment,
+    ///   18446744073709551615.
+    /// - `FlowIdsUsedUp` where a message would start and no flow id is left.
+    pub fn enqueue_all(
+        &mut self,
+        now: u64,
+        messages: Vec<Outgoing<P>>,
+    ) -> Result<Vec<Completion<P>>, Error>
+        ensures made { IfOk result (λ done. AreMade self.old (sends now messages.items) done.items self.new) }
+        ensures refused { IfErr result (IsOneRefused self.old (sends now messages.items)) }
+        ensures unchanged { OnErr result (self.new ≡ self.old) }
+    {
+        if messages.is_empty() {
+            return Ok(Vec::new(self.ledger.alloc));
+        }
+        let mut ledger = self.ledger.clone()?;
+        let ended = ledger.enqueue_all(now, messages)?;
         let completions = answers_of(ledger.alloc, &ended)?;
         self.ledger = ledger;
         Ok(completions)

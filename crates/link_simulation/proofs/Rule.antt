@@ -12,6 +12,7 @@ pub mod NewInRange
 pub mod NextEvent
 pub mod NoNumbers
 pub mod Obeys
+pub mod OneAccount
 pub mod OneCourse
 pub mod OneMeaning
 pub mod Range

@@ -1,10 +1,11 @@
 -- How a scheduler is read, and what its calls promise.
-use Rattle.std.specs.Prelude.{◌≡◌, ℕ, ◌+◌, ◌*◌, ◌≤◌, List, [], ◌∷◌, length, map, Bool, Option}
+use Rattle.std.specs.Prelude.{◌≡◌, ℕ, ◌+◌, ◌*◌, ◌≤◌, List, [], ◌∷◌, ◌++◌, length, map, Bool, Option, ◌⊎◌}
 use Rattle.std.specs.declared.cmp.Ord.{Ghosts}
 use Rattle.std.specs.declared.cmp.Ordering.{Ordering}
 use Rattle.fair_rates.specs.declared.error.Error.{Error}
 use Rattle.link_scheduler.specs.declared.transmitter.State.{State}
 use Rattle.link_scheduler.specs.declared.transmitter.completion.Completion.{Completion}
+use Rattle.link_scheduler.specs.declared.transmitter.outgoing.Outgoing.{Outgoing}
 use Rattle.link_simulation.specs.Laws.Conserved.{IsConserved}
 use Rattle.link_scheduler.specs.Pairs.Messages.{completed_of}
 use Rattle.link_simulation.specs.Rule.SamePlanned.{GoesByRule, AdvancesByRule}
@@ -12,7 +13,7 @@ use Rattle.link_simulation.specs.Rule.Simulated.{IsSimulated, KeepsRange, IsRefu
 use Rattle.link_simulation.specs.Rule.Simulated.{IsSplitAnywhere, KeepsToCaps}
 use Rattle.link_scheduler.specs.Calls.AsPlanned.{planned, HasNothingDue}
 use Rattle.link_simulation.specs.Simulation.World.{Completed, new_world}
-use Rattle.link_simulation.specs.Simulation.Calls.{Call}
+use Rattle.link_simulation.specs.Simulation.Calls.{Call, call_enqueue}
 use Rattle.link_simulation.specs.Simulation.Messages.{Message}
 use Rattle.link_simulation.specs.Laws.PairCompletions.{enqueued}
 use Rattle.link_simulation.specs.Rule.Planned.{Planned, IsRated, new_planned, next_event}
@@ -31,6 +32,14 @@ sent origin recipient channel bytes latency should_deliver =
       latency = latency;
       should_deliver = should_deliver;
     }
+
+-- a message to send
+abbrev pub outgoing : {P : Type 0} → Outgoing P (List ℕ) → Message P
+outgoing m = sent m.origin m.recipient m.channel m.message m.latency m.should_deliver
+
+-- the calls that send those messages at that moment, one after another
+abbrev pub sends : {P : Type 0} → ℕ → List (Outgoing P (List ℕ)) → List (Call P)
+sends now messages = map (λ m. call_enqueue now m) (map outgoing messages)
 
 module _ {P : Type 0} (cmp : P → P → Ordering) where
   -- a call that is made leads from the planned world p to q, with those completions
@@ -53,6 +62,21 @@ module _ {P : Type 0} (cmp : P → P → Ordering) where
     -- and in its turn as the simulation allows; in the range for memory alone
     pub simulated : IsRefusedInSimulation cmp p call why
 
+  -- calls that are made one after another lead from the planned world p to q, with those completions in their order
+  abbrev pub MakesEach : Planned P → List (Call P) → List (Completed P) → Planned P → Type 0
+  MakesEach p [] completions q = (completions ≡ []) × (q ≡ p)
+  MakesEach p (call ∷ calls) completions q =
+      (first rest : List (Completed P)) × (between : Planned P) × (completions ≡ first ++ rest)
+      × Makes p call first between × MakesEach between calls rest q
+
+  -- of calls one after another, the first ones can be made so, and the next one is then refused
+  abbrev pub RefusesOne : Planned P → List (Call P) → Error → Type 0
+  RefusesOne p [] why = ⊥
+  RefusesOne p (call ∷ calls) why =
+      Refuses p call why
+      ⊎ ((first : List (Completed P)) × (between : Planned P) × Makes p call first between
+      × RefusesOne between calls why)
+
 -- ---- of schedulers
 
 module _ {P : Type 0} {order : Ghosts P} {b : _} {c : _} where
@@ -74,6 +98,14 @@ module _ {P : Type 0} {order : Ghosts P} {b : _} {c : _} where
   -- the call may be refused so
   abbrev pub IsRefused : State P order b c → Call P → Error → Type 0
   IsRefused s call why = Refuses order.cmp (planned_of s) call why
+
+  -- the calls were made one after another, and answered so in all
+  abbrev pub AreMade : State P order b c → List (Call P) → List (Completion P) → State P order b c → Type 0
+  AreMade old calls done new = MakesEach order.cmp (planned_of old) calls (map completed_of done) (planned_of new)
+
+  -- of the calls one after another, some one may be refused so
+  abbrev pub IsOneRefused : State P order b c → List (Call P) → Error → Type 0
+  IsOneRefused s calls why = RefusesOne order.cmp (planned_of s) calls why
 
   -- what else an advance promises: to advance to any moment on the way, and then on, is the same, and no origin sends
   -- more than its cap lets go

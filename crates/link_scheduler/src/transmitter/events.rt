@@ -67,7 +67,7 @@ impl<P: Peer> Ledger<P> {
 
     /// Whether a message that is sent may start at once: none of its pair waits or is in flight, and
     /// it arrives no earlier than the pair's last one.
-    fn may_start(&self, message: &Message<P>, now: u64) -> bool
+    pub(crate) fn may_start(&self, message: &Message<P>, now: u64) -> bool
         ensures { result ≡ (is_none (first_of P.cmp (planned P.cmp self.now).waiting message.now.origin
             message.now.recipient) && may_launch P.cmp now (planned P.cmp self.now) (message_of message.now)) }
     {

@@ -1,7 +1,7 @@
 //! Changes of what is known of one pair, and of its place among the idle pairs.
 ghost use Rattle.std.specs.Prelude.{◌≡◌, ◌<◌, true, [], None, OnOk, OnErr, IfErr};
 ghost use Rattle.link_simulation.specs.Simulation.World.{goes};
-ghost use Rattle.link_simulation.specs.Rule.Events.{Enqueues, with_queued, launched};
+ghost use Rattle.link_simulation.specs.Rule.Events.{Enqueues, PlansStart, with_queued, launched};
 ghost use Rattle.link_scheduler.specs.Pairs.Messages.{message_of};
 ghost use Rattle.link_scheduler.specs.Idle.PairsOfMessages.{NamesPairOf};
 ghost use Rattle.link_scheduler.specs.Pairs.Entries.{first_of, raised_at};
@@ -127,6 +127,8 @@ impl<P: Peer> Ledger<P> {
         requires busy { is_sending P.cmp (planned P.cmp self.old) message.origin message.recipient ≡ true }
         ensures enqueues { OnOk result (Enqueues P.cmp now (message_of message) (planned P.cmp self.old)
             (goes [] (planned P.cmp self.new))) }
+        ensures waits { OnOk result (PlansStart P.cmp now
+            (with_queued P.cmp (planned P.cmp self.old) (message_of message)) (planned P.cmp self.new)) }
         ensures unchanged { OnErr result (planned P.cmp self.new ≡ planned P.cmp self.old) }
         ensures refused { IfErr result (λ e. e ≡ Error.OutOfMemory) }
     {

@@ -92,7 +92,7 @@ stays_flows t (b ∷ bs) [] all = absurd all
 stays_flows t (b ∷ bs) (f ∷ fs) all = rw (all.0.0, stays_flows t bs fs all.1) refl
 
 module _ {P : Type 0} (cmp : P → P → Ordering) (order : IsTotalOrder cmp) where
-  account_is_one : (t : ℕ) (old new other : Planned P) (ls ms : List (Message P)) → Accounts cmp t old ls new
+  pub account_is_one : (t : ℕ) (old new other : Planned P) (ls ms : List (Message P)) → Accounts cmp t old ls new
       → Accounts cmp t old ms other
       → goes ls new ≡ goes ms other
   account_is_one t old new other ls ms f g =

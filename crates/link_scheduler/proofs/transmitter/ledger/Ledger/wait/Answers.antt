@@ -6,6 +6,7 @@ use Rattle.link_scheduler.specs.Flights.InFlight.{in_flight}
 use Rattle.link_scheduler.specs.Pairs.Entries.{arrival_of}
 use Rattle.link_scheduler.specs.Calls.AsPlanned.{planned}
 use Rattle.link_scheduler.specs.Pairs.CapsOf.{caps_of}
+use Rattle.link_simulation.specs.Rule.Events.{PlansStart}
 use Rattle.link_scheduler.proofs.Flights.Accounts.{arrivals_looked_up}
 use Rattle.link_scheduler.proofs.Calls.OnlyWaiting.{enqueue_waits}
 use Rattle.link_scheduler.proofs.Idle.IndexChanges.{waited_index}
@@ -18,6 +19,22 @@ returns-clause-enqueues g c =
     let old = c.args.self.now in
     enqueue_waits cmp g.met.P.Ord.total c.args.now (message_of c.args.message) (planned cmp old) _
     (planned cmp c.plan_start.new.self) c.requires.limited c.requires.busy
+    (λ i. record {
+      caps = caps_of cmp old.peers.entries old.pairs.entries;
+      limited = old.limited;
+      sending = in_flight old.flights;
+      waiting = c.in_ok-push.ensures.waiting i;
+      last_arrival = arrival_of cmp old.pairs.entries;
+      next_id = old.next_id;
+      finish = old.finish;
+      start = old.start;
+    }) c.plan_start.ensures
+
+pub returns-clause-waits : goal.returns-clause-waits
+returns-clause-waits g c =
+    let cmp = g.P.Ord.cmp in
+    let old = c.args.self.now in
+    subst (λ p. PlansStart cmp c.args.now p (planned cmp c.plan_start.new.self))
     (λ i. record {
       caps = caps_of cmp old.peers.entries old.pairs.entries;
       limited = old.limited;

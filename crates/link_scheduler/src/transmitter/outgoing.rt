@@ -1,0 +1,39 @@
+//! A message that is to be sent.
+ghost use Rattle.std.specs.Prelude.{◌≡◌, true, false};
+ghost use Rattle.link_scheduler.specs.Pairs.Messages.{message_of};
+ghost use Rattle.link_scheduler.specs.Calls.State.{outgoing};
+
+use super::message::Message;
+use bytes::Bytes;
+
+/// A message to send by `State::enqueue_all`.
+///
+/// Its parts are the arguments of `State::enqueue`. `M` is what it has of the message: the bytes,
+/// where nothing else is said.
+#[derive(Debug, Drop)]
+pub struct Outgoing<P, M = Bytes> {
+    pub origin: P,
+    pub recipient: P,
+    pub channel: u64,
+    pub message: M,
+    /// In nanoseconds.
+    pub latency: u64,
+    /// Whether it arrives; else it is to be dropped.
+    pub should_deliver: bool,
+}
+
+impl<P> Outgoing<P> {
+    /// The message, before it waits or is in flight.
+    pub(crate) fn into_message(self) -> Message<P>
+        ensures { message_of result ≡ outgoing self }
+    {
+        Message {
+            origin: self.origin,
+            recipient: self.recipient,
+            channel: self.channel,
+            bytes: self.message,
+            latency: self.latency,
+            should_deliver: self.should_deliver,
+        }
+    }
+}

@@ -1,0 +1,662 @@
+-- Where an account was made at a moment, nothing is due to leave at it; and for several messages that start then one
+-- account is enough.
+use Rattle.std.proofs.Common.{◌≡◌, ℕ, zero, suc, ◌+◌, ◌-◌, ◌<◌, ◌≤◌, List, [], ◌∷◌, ◌++◌, map, length, Bool, true, false}
+use Rattle.std.proofs.Common.{cond, not, Option, Some, None, refl, sym, ap, ◌∙◌, subst, arith, ◌⊎◌, inl, inr}
+use Rattle.std.specs.Prelude.{◌==◌, ◌||◌, ◌&&◌, slice_get, nat_lt, if◌then◌else◌, IfSome}
+use Rattle.std.specs.List.{filter, find, list_any, AllZip}
+use Rattle.std.specs.declared.cmp.Ordering.{Ordering}
+use Rattle.std.specs.Cmp.{IsTotalOrder}
+use Rattle.std.proofs.lemmas.Bool.{cases_lt, cases_eq, or_from, or_parts}
+use Rattle.std.proofs.lemmas.List.{append-nil, map-append}
+use Rattle.std.proofs.lemmas.List.Elements.{filter-append}
+use Rattle.fair_rates.specs.declared.error.Error.TheVariants.{MomentTooLate}
+use Rattle.fair_rates.proofs.Lists.Each.{Each, each_map, each_joined}
+use Rattle.fair_rates.proofs.Lists.Zips.{zip-same, zip-append, zip_chain}
+use Rattle.fair_rates.specs.Numbers.Amount.{Amount, whole, reduced}
+use Rattle.fair_rates.specs.Numbers.LowestTerms.{reduced_positive}
+use Rattle.link_simulation.specs.Simulation.Messages.{Message, Caps, same_pair}
+use Rattle.link_simulation.specs.Simulation.Rates.{Parts, rate_of, rates_from, drained_by, is_unlimited, AreFair, IsLowest}
+use Rattle.link_simulation.specs.Simulation.World.{Completed, Course, goes, meets, last_moment, EndsWith, preceded}
+use Rattle.link_simulation.specs.Simulation.World.{completed, completion_of, raised, later_of, is_in_order}
+use Rattle.link_simulation.specs.Rule.Planned.{Planned, RatedFlight, IsLeastMoment, SomeSpentAt, rated_messages}
+use Rattle.link_simulation.specs.Rule.Planned.{drained_to, left_at, is_spent, may_launch, next_of, SomeReadyAt}
+use Rattle.link_simulation.specs.Rule.Events.{Accounts, PlansStart, launched, Launches, nothing_waits, too_early, no_id}
+use Rattle.link_simulation.specs.Rule.Events.{starts, Finishes, all_completed, late, stopped, completes, with_queued}
+use Rattle.link_simulation.specs.Rule.Events.{Enqueues, at_once, no_launch, launches, completed_at_once, landed}
+use Rattle.link_simulation.proofs.Laws.Orderly.{drained_messages, stayed_messages}
+use Rattle.link_simulation.proofs.Rule.Accounts.{each_passes}
+use Rattle.link_simulation.proofs.Rule.BeforeNext.{filter_none}
+use Rattle.link_simulation.proofs.Rule.SameSteps.{least_same}
+use Rattle.link_simulation.proofs.Simulation.Continuing.{rates_exist}
+use Rattle.link_simulation.proofs.Simulation.LowestTerms.{drained_none, drained_by_lowest, whole_lowest}
+use Rattle.link_simulation.proofs.Simulation.SettlingEnds.{ends_preceded}
+
+-- ---- lists
+
+-- what follows for the second of two lists from what goes beside it
+zip_each : {X Y : Type 0} (R : X → Y → Type 0) (Q : X → Type 0) (T : Y → Type 0)
+    → ((x : X) (y : Y) → R x y → Q x → T y) → (xs : List X) (ys : List Y) → AllZip R xs ys → Each Q xs → Each T ys
+zip_each R Q T f [] [] all each = tt
+zip_each R Q T f [] (y ∷ ys) all each = absurd all
+zip_each R Q T f (x ∷ xs) [] all each = absurd all
+zip_each R Q T f (x ∷ xs) (y ∷ ys) all each = (f x y all.0 each.0, zip_each R Q T f xs ys all.1 each.1)
+
+filter_all : {X : Type 0} (test : X → Bool) (xs : List X) → Each (λ x. test x ≡ true) xs → filter test xs ≡ xs
+filter_all test [] h = refl
+filter_all test (x ∷ xs) h = rw (h.0, filter_all test xs h.1) refl
+
+no_messages : {P : Type 0} (fs : List (RatedFlight P)) → [] ≡ rated_messages fs → fs ≡ []
+no_messages [] e = refl
+no_messages (f ∷ fs) e = cc
+
+-- ---- least moments
+
+-- of a test that is decided there is a least moment, or none up to the last one
+least_from : (Q : ℕ → Type 0) → ((t : ℕ) → Q t ⊎ (Q t → ⊥)) → (n from : ℕ) → last_moment < from + n
+    → ((s : ℕ) → Q s → from ≤ s) → (o : Option ℕ) × IsLeastMoment Q o
+least_from Q decide zero from end first =
+    (None, λ t le q. let past : from ≤ t = first t q in absurd (omega (arith, end, le, past)))
+least_from Q decide (suc n) from end first =
+    by_case (cases_lt last_moment from) (decide from) (least_from Q decide n (from + 1) (omega (arith, end)))
+  where
+    later : (Q from → ⊥) → (s : ℕ) → Q s → from + 1 ≤ s
+    later none s q = by_order (cases_lt from s)
+      where
+        by_order : from < s ⊎ s ≤ from → from + 1 ≤ s
+        by_order (inl lt) = omega arith
+        by_order (inr le) =
+            let ge : from ≤ s = first s q in
+            let same : s ≡ from = omega arith in
+            absurd (none (subst Q same q))
+
+    by_case : last_moment < from ⊎ from ≤ last_moment → Q from ⊎ (Q from → ⊥)
+        → (((s : ℕ) → Q s → from + 1 ≤ s) → (o : Option ℕ) × IsLeastMoment Q o) → (o : Option ℕ) × IsLeastMoment Q o
+    by_case (inl past) d ih =
+        (None, λ t le q. let ge : from ≤ t = first t q in absurd (omega (arith, past, le, ge)))
+    by_case (inr le) (inl q) ih = (Some from, (le, q, first))
+    by_case (inr le) (inr none) ih = ih (later none)
+
+least_exists : (Q : ℕ → Type 0) → ((t : ℕ) → Q t ⊎ (Q t → ⊥)) → (o : Option ℕ) × IsLeastMoment Q o
+least_exists Q decide = least_from Q decide (suc last_moment) 0 (omega arith) (λ s q. omega arith)
+
+-- whether something is spent can be told
+spent_or_not : {P : Type 0} (fs : List (RatedFlight P)) (t : ℕ) → SomeSpentAt fs t ⊎ (SomeSpentAt fs t → ⊥)
+spent_or_not {P} [] t = inr (λ h. none h.0 h.1 h.2)
+  where
+    none : (i : ℕ) (f : RatedFlight P) → slice_get [] i ≡ Some f → ⊥
+    none i f e = cc
+spent_or_not {P} (f ∷ fs) t = by_rest (cases_lt t f.updated) (cases_eq (left_at t f).num 0) (spent_or_not fs t)
+  where
+    rest : ((f.updated ≤ t) → ((left_at t f).num ≡ 0) → ⊥) → (SomeSpentAt fs t → ⊥) → SomeSpentAt (f ∷ fs) t → ⊥
+    rest never others h = at_place h.0 h.1 h.2 h.3 h.4
+      where
+        at_place : (i : ℕ) (g : RatedFlight P) → slice_get (f ∷ fs) i ≡ Some g → g.updated ≤ t
+            → (left_at t g).num ≡ 0 → ⊥
+        at_place zero g at le spent =
+            let same : g ≡ f = cc in
+            never (subst (λ (k : RatedFlight P). k.updated ≤ t) same le)
+            (subst (λ (k : RatedFlight P). (left_at t k).num ≡ 0) same spent)
+        at_place (suc i) g at le spent = others (i, g, at, le, spent)
+
+    by_rest : t < f.updated ⊎ f.updated ≤ t → ((left_at t f).num ≡ 0) ⊎ ((left_at t f).num ≡ 0 → ⊥)
+        → SomeSpentAt fs t ⊎ (SomeSpentAt fs t → ⊥) → SomeSpentAt (f ∷ fs) t ⊎ (SomeSpentAt (f ∷ fs) t → ⊥)
+    by_rest (inr le) (inl spent) d = inl (0, f, refl, le, spent)
+    by_rest a b (inl h) = inl (suc h.0, h.1, h.2, h.3, h.4)
+    by_rest (inl lt) b (inr none) = inr (rest (λ le spent. absurd (omega (arith, lt, le))) none)
+    by_rest (inr le) (inr left) (inr none) = inr (rest (λ le spent. left spent) none)
+
+-- ---- what is in flight
+
+-- what is left of each is in lowest terms
+abbrev pub AreLowest : {P : Type 0} → List (RatedFlight P) → Type 0
+AreLowest fs = Each (λ f. IsLowest f.left) fs
+
+-- each has numbers over numbers above zero
+abbrev pub ArePositive : {P : Type 0} → List (RatedFlight P) → Type 0
+ArePositive fs = Each (λ f. (0 < f.left.den) × IfSome f.rate (λ r. 0 < r.den)) fs
+
+abbrev Stays : {P : Type 0} → ℕ → RatedFlight P → RatedFlight P → Type 0
+Stays t f g = (g.message ≡ f.message) × (g.left ≡ f.left) × (g.updated ≡ t)
+
+-- those that have drained to a moment, and drain for no time, stay as they are
+abbrev IsKept : {P : Type 0} → ℕ → RatedFlight P → Type 0
+IsKept t f = (f.updated ≡ t) × (left_at t f ≡ f.left)
+
+drained_kept : {P : Type 0} (t : ℕ) (fs : List (RatedFlight P)) → Each (IsKept t) fs → drained_to t fs ≡ fs
+drained_kept t [] each = refl
+drained_kept t (f ∷ fs) each =
+    let rest = drained_kept t fs each.1 in
+    λ i. record f { left = each.0.1 i; updated = sym each.0.0 i } ∷ rest i
+
+drained-append : {P : Type 0} (t : ℕ) (fs gs : List (RatedFlight P))
+    → drained_to t (fs ++ gs) ≡ drained_to t fs ++ drained_to t gs
+drained-append t [] gs = refl
+drained-append t (f ∷ fs) gs = ap (λ l. record f { left = left_at t f; updated = t } ∷ l) (drained-append t fs gs)
+
+no_time : {P : Type 0} (t : ℕ) (f : RatedFlight P) (r : Amount) → f.updated ≡ t → f.rate ≡ Some r → 0 < r.den
+    → IsLowest f.left → left_at t f ≡ f.left
+no_time t f r at rate positive low =
+    let none : t - f.updated ≡ 0 = omega (arith, at) in
+    ap (λ (o : Option Amount). drained_by o (t - f.updated) f.left) rate
+    ∙ ap (λ (n : ℕ). drained_by (Some r) n f.left) none ∙ drained_none f.left r low positive
+
+left_lowest : {P : Type 0} (t : ℕ) (f : RatedFlight P) → (0 < f.left.den) × IfSome f.rate (λ r. 0 < r.den)
+    → IsLowest (left_at t f)
+left_lowest t f h = drained_by_lowest f.rate (t - f.updated) f.left h.1 h.0
+
+all_lowest : {P : Type 0} (t : ℕ) (fs : List (RatedFlight P)) → ArePositive fs → AreLowest (drained_to t fs)
+all_lowest t [] each = tt
+all_lowest t (f ∷ fs) each = (left_lowest t f each.0, all_lowest t fs each.1)
+
+each_filtered_too : {X : Type 0} (Q : X → Type 0) (test : X → Bool) (xs : List X) → Each Q xs
+    → Each Q (filter test xs)
+each_filtered_too Q test [] each = tt
+each_filtered_too {X} Q test (x ∷ xs) each = by_test (test x) (each_filtered_too Q test xs each.1)
+  where
+    by_test : (b : Bool) → Each Q (filter test xs) → Each Q (cond b (x ∷ filter test xs) (filter test xs))
+    by_test true ih = (each.0, ih)
+    by_test false ih = ih
+
+module _ {P : Type 0} (cmp : P → P → Ordering) (order : IsTotalOrder cmp) where
+  -- at that moment an account was made: what is in flight is accounted for, none of it is done, and the rates and the
+  -- finish are right
+  pub record IsAccountedAt (t : ℕ) (p : Planned P) : Type 0 where
+    pub per : ℕ
+    pub rates : Parts
+    pub none_spent : Each (λ f. (f.updated ≡ t) × (is_spent cmp p.caps f ≡ false)) p.sending
+    pub fair : AreFair cmp p.caps (rated_messages p.sending) per rates
+    pub rated : AllZip (λ rate f. f.rate ≡ rate_of per rate) rates p.sending
+    pub finish : IsLeastMoment (SomeSpentAt p.sending) p.finish
+
+  -- ---- what keeps it
+
+  stayed_unspent : (caps : Caps P) (t : ℕ) (f g : RatedFlight P) → Stays t f g
+      → not (is_spent cmp caps f) ≡ true → (g.updated ≡ t) × (is_spent cmp caps g ≡ false)
+  stayed_unspent caps t f g stays test =
+      let same : is_spent cmp caps g ≡ is_spent cmp caps f =
+      ap (λ (a : Amount). (a.num == 0) || is_unlimited cmp caps g.message) stays.1
+      ∙ ap (λ (m : Message P). (f.left.num == 0) || is_unlimited cmp caps m) stays.0 in
+      (stays.2, same ∙ turned (is_spent cmp caps f) test)
+    where
+      turned : (b : Bool) → not b ≡ true → b ≡ false
+      turned true e = cc
+      turned false e = refl
+
+  pub accounted : (t : ℕ) (old new : Planned P) (ls : List (Message P)) → Accounts cmp t old ls new
+      → IsAccountedAt t new
+  accounted t old new ls a =
+      let caps : new.caps ≡ old.caps = ap (λ (q : Planned P). q.caps) a.same in
+      record {
+        per = a.per;
+        rates = a.rates;
+        none_spent =
+            subst (λ (c : Caps P). Each (λ f. (f.updated ≡ t) × (is_spent cmp c f ≡ false)) new.sending) (sym caps)
+            (zip_each (Stays t) (λ f. not (is_spent cmp old.caps f) ≡ true)
+            (λ f. (f.updated ≡ t) × (is_spent cmp old.caps f ≡ false)) (stayed_unspent old.caps t)
+            (filter (λ f. not (is_spent cmp old.caps f)) (drained_to t old.sending)) new.sending a.stayed
+            (each_passes (λ f. not (is_spent cmp old.caps f)) (drained_to t old.sending)));
+        fair = subst (λ (c : Caps P). AreFair cmp c (rated_messages new.sending) a.per a.rates) (sym caps) a.fair;
+        rated = a.rated;
+        finish = a.finish;
+      }
+
+  planned_accounted : (t : ℕ) (p q : Planned P) → PlansStart cmp t p q → IsAccountedAt t p → IsAccountedAt t q
+  planned_accounted t p q looks h =
+      subst (IsAccountedAt t) (sym looks.same) (record {
+        per = h.per;
+        rates = h.rates;
+        none_spent = h.none_spent;
+        fair = h.fair;
+        rated = h.rated;
+        finish = h.finish;
+      })
+
+  launch_accounted : {t : ℕ} {p : Planned P} {o : Option (Message P)} {c : Course (Message P) (Planned P)}
+      → Launches cmp t p o c → (ms : List (Message P)) (q : Planned P) → c ≡ goes ms q → IsAccountedAt t p
+      → IsAccountedAt t q
+  launch_accounted {t = t} {p = p} nothing_waits ms q e h = let same : p ≡ q = cc in subst (IsAccountedAt t) same h
+  launch_accounted {t = t} {p = p} (too_early may) ms q e h = let same : p ≡ q = cc in subst (IsAccountedAt t) same h
+  launch_accounted (no_id may last) ms q e h = cc
+  launch_accounted {t = t} {p = p} (starts {m = m} {leavers = leavers} {new = new} may below account) ms q e h =
+      let same : new ≡ q = cc in
+      subst (IsAccountedAt t) same (accounted t (launched cmp t p m) new leavers account)
+
+  landed_accounted : (t : ℕ) (p : Planned P) (m : Message P) → IsAccountedAt t p → IsAccountedAt t (landed cmp t p m)
+  landed_accounted t p m h =
+      record {
+        per = h.per;
+        rates = h.rates;
+        none_spent = h.none_spent;
+        fair = h.fair;
+        rated = h.rated;
+        finish = h.finish;
+      }
+
+  finish_accounted : {t : ℕ} {ms : List (Message P)} {p : Planned P} {c : Course (Completed P) (Planned P)}
+      → Finishes cmp t ms p c → IsAccountedAt t p → EndsWith (IsAccountedAt t) c
+  finish_accounted {t = t} {p = p} (all_completed {q = q} looks) h = planned_accounted t p q looks h
+  finish_accounted (late is) h = tt
+  finish_accounted (stopped is launch) h = tt
+  finish_accounted {t = t} {p = p} (completes {m = m} {more = more} {q = q} {rest = rest} is launch finishes) h =
+      ends_preceded (IsAccountedAt t) (completed cmp t m ∷ []) rest
+      (finish_accounted finishes (launch_accounted launch more q refl (landed_accounted t p m h)))
+
+  queued_accounted : (t : ℕ) (p : Planned P) (m : Message P) → IsAccountedAt t p
+      → IsAccountedAt t (with_queued cmp p m)
+  queued_accounted t p m h =
+      record {
+        per = h.per;
+        rates = h.rates;
+        none_spent = h.none_spent;
+        fair = h.fair;
+        rated = h.rated;
+        finish = h.finish;
+      }
+
+  at_once_accounted : (t : ℕ) (p : Planned P) (m : Message P) → IsAccountedAt t p
+      → EndsWith (IsAccountedAt t) (completed_at_once cmp t p m)
+  at_once_accounted t p m h = by_late (m.should_deliver && nat_lt last_moment (t + m.latency))
+    where
+      at : ℕ
+      at = if m.should_deliver then later_of (p.last_arrival m.origin m.recipient) (t + m.latency) else t
+
+      by_late : (b : Bool) → EndsWith (IsAccountedAt t) (cond b (meets MomentTooLate)
+          (goes (completion_of m (if m.should_deliver then Some at else None) ∷ [])
+          (record p { last_arrival = raised cmp p.last_arrival m at })))
+      by_late true = tt
+      by_late false = record {
+        per = h.per;
+        rates = h.rates;
+        none_spent = h.none_spent;
+        fair = h.fair;
+        rated = h.rated;
+        finish = h.finish;
+      }
+
+  -- where an account was made, a message that is sent leaves it so
+  pub enqueue_accounted : {t : ℕ} {m : Message P} {p : Planned P} {c : Course (Completed P) (Planned P)}
+      → Enqueues cmp t m p c → IsAccountedAt t p → EndsWith (IsAccountedAt t) c
+  enqueue_accounted {t = t} {m = m} {p = p} (at_once free) h = at_once_accounted t p m h
+  enqueue_accounted (no_launch limited launch) h = tt
+  enqueue_accounted {t = t} {m = m} {p = p} (launches {leavers = ls} {mid = mid} limited launch finishes) h =
+      finish_accounted finishes (launch_accounted launch ls mid refl (queued_accounted t p m h))
+
+  start_accounted : {t : ℕ} {p : Planned P} {o : Option (Message P)} {c : Course (Message P) (Planned P)}
+      → Launches cmp t p o c → (k : Message P) → o ≡ Some k → may_launch cmp t p k ≡ true
+      → (ms : List (Message P)) (q : Planned P) → c ≡ goes ms q → IsAccountedAt t q
+  start_accounted nothing_waits k is may ms q e = cc
+  start_accounted {t = t} {p = p} (too_early {m = m} early) k is may ms q e =
+      let same : m ≡ k = cc in
+      let there : may_launch cmp t p k ≡ false = subst (λ (n : Message P). may_launch cmp t p n ≡ false) same early in
+      let wrong : true ≡ false = sym may ∙ there in
+      cc
+  start_accounted (no_id ready last) k is may ms q e = cc
+  start_accounted {t = t} {p = p} (starts {m = m} {leavers = ls} {new = new} ready below account) k is may ms q e =
+      let same : new ≡ q = cc in
+      subst (IsAccountedAt t) same (accounted t (launched cmp t p m) new ls account)
+
+  -- and a message that starts makes it so
+  pub enqueue_starts : {t : ℕ} {m : Message P} {p : Planned P} {c : Course (Completed P) (Planned P)}
+      → Enqueues cmp t m p c → p.limited ≡ true → next_of cmp (with_queued cmp p m) m ≡ Some m
+      → may_launch cmp t p m ≡ true → EndsWith (IsAccountedAt t) c
+  enqueue_starts {p = p} (at_once free) limited found may = let wrong : true ≡ false = sym limited ∙ free in cc
+  enqueue_starts (no_launch limited launch) l found may = tt
+  enqueue_starts {m = m} (launches {leavers = ls} {mid = mid} limited launch finishes) l found may =
+      finish_accounted finishes (start_accounted launch m found may ls mid refl)
+
+  -- ---- an account once more
+
+  -- each that is limited has a rate over a number above zero
+  abbrev HasRate : RatedFlight P → Type 0
+  HasRate f = (r : Amount) × (f.rate ≡ Some r) × (0 < r.den)
+
+  unspent_limited : (caps : Caps P) (f : RatedFlight P) → is_spent cmp caps f ≡ false
+      → is_unlimited cmp caps f.message ≡ false
+  unspent_limited caps f e = (or_parts (f.left.num == 0) (is_unlimited cmp caps f.message) e).1
+
+  all_have_rates : (caps : Caps P) (per : ℕ) (parts : ℕ → ℕ) (place : ℕ) (fs : List (RatedFlight P)) → 0 < per
+      → Each (λ f. is_unlimited cmp caps f.message ≡ false) fs
+      → AllZip (λ rate f. f.rate ≡ rate_of per rate) (rates_from cmp caps parts place (rated_messages fs)) fs
+      → Each HasRate fs
+  all_have_rates caps per parts place [] some limited rated = tt
+  all_have_rates caps per parts place (f ∷ fs) some limited rated =
+      let own : (if is_unlimited cmp caps f.message then None else Some (parts place)) ≡ Some (parts place) =
+      ap (λ (b : Bool). if b then None else Some (parts place)) limited.0 in
+      (
+        (reduced (parts place) per, rated.0 ∙ ap (rate_of per) own, reduced_positive (parts place) per some),
+        all_have_rates caps per parts (place + 1) fs some limited.1 rated.1,
+      )
+
+  have_rates : (t : ℕ) (p : Planned P) → IsAccountedAt t p → Each HasRate p.sending
+  have_rates t p h =
+      all_have_rates p.caps h.per h.fair.parts 0 p.sending h.fair.fair.some_part
+      (each_map (λ f. (f.updated ≡ t) × (is_spent cmp p.caps f ≡ false))
+      (λ f. is_unlimited cmp p.caps f.message ≡ false) p.sending (λ f e. unspent_limited p.caps f e.1) h.none_spent)
+      (subst (λ (rates : Parts). AllZip (λ rate f. f.rate ≡ rate_of h.per rate) rates p.sending) h.fair.rated h.rated)
+
+  all_kept : (t : ℕ) (caps : Caps P) (fs : List (RatedFlight P))
+      → Each (λ f. (f.updated ≡ t) × (is_spent cmp caps f ≡ false)) fs → Each HasRate fs → AreLowest fs
+      → Each (IsKept t) fs
+  all_kept t caps [] none rates low = tt
+  all_kept t caps (f ∷ fs) none rates low = (
+    (none.0.0, no_time t f rates.0.0 none.0.0 rates.0.1 rates.0.2 low.0),
+    all_kept t caps fs none.1 rates.1 low.1,
+  )
+
+  drained_still : (t : ℕ) (p : Planned P) → IsAccountedAt t p → AreLowest p.sending → drained_to t p.sending ≡ p.sending
+  drained_still t p h low =
+      drained_kept t p.sending (all_kept t p.caps p.sending h.none_spent (have_rates t p h) low)
+
+  none_leave : (t : ℕ) (p : Planned P) → IsAccountedAt t p → filter (is_spent cmp p.caps) p.sending ≡ []
+  none_leave t p h =
+      filter_none (is_spent cmp p.caps) p.sending
+      (each_map (λ f. (f.updated ≡ t) × (is_spent cmp p.caps f ≡ false)) (λ f. is_spent cmp p.caps f ≡ false) p.sending
+      (λ f e. e.1) h.none_spent)
+
+  all_stay : (t : ℕ) (p : Planned P) → IsAccountedAt t p
+      → filter (λ f. not (is_spent cmp p.caps f)) p.sending ≡ p.sending
+  all_stay t p h =
+      filter_all (λ f. not (is_spent cmp p.caps f)) p.sending
+      (each_map (λ f. (f.updated ≡ t) × (is_spent cmp p.caps f ≡ false)) (λ f. not (is_spent cmp p.caps f) ≡ true)
+      p.sending (λ f e. ap not e.1) h.none_spent)
+
+  stay_as_they_are : (t : ℕ) (fs : List (RatedFlight P)) (caps : Caps P)
+      → Each (λ f. (f.updated ≡ t) × (is_spent cmp caps f ≡ false)) fs → AllZip (Stays t) fs fs
+  stay_as_they_are t [] caps h = tt
+  stay_as_they_are t (f ∷ fs) caps h = ((refl, refl, h.0.0), stay_as_they_are t fs caps h.1)
+
+  -- an account at that moment once more changes nothing
+  pub account_again : (t : ℕ) (p : Planned P) → IsAccountedAt t p → AreLowest p.sending → Accounts cmp t p [] p
+  account_again t p h low =
+      let still : drained_to t p.sending ≡ p.sending = drained_still t p h low in
+      record {
+        per = h.per;
+        rates = h.rates;
+        left = sym (ap (λ (fs : List (RatedFlight P)). rated_messages (filter (is_spent cmp p.caps) fs)) still
+            ∙ ap rated_messages (none_leave t p h));
+        stayed = subst (λ (fs : List (RatedFlight P)). AllZip (Stays t) fs p.sending)
+            (sym (ap (filter (λ f. not (is_spent cmp p.caps f))) still ∙ all_stay t p h))
+            (stay_as_they_are t p.sending p.caps h.none_spent);
+        fair = h.fair;
+        rated = h.rated;
+        finish = h.finish;
+        same = refl;
+      }
+
+  -- ---- an account can always be made
+
+  -- messages in flight with fair rates
+  with_rates : Caps P → ℕ → (ℕ → ℕ) → ℕ → ℕ → List (RatedFlight P) → List (RatedFlight P)
+  with_rates caps per parts t place [] = []
+  with_rates caps per parts t place (f ∷ fs) =
+      record {
+        message = f.message;
+        left = f.left;
+        rate = rate_of per (if is_unlimited cmp caps f.message then None else Some (parts place));
+        updated = t;
+      } ∷ with_rates caps per parts t (place + 1) fs
+
+  rated_messages_same : (caps : Caps P) (per : ℕ) (parts : ℕ → ℕ) (t place : ℕ) (fs : List (RatedFlight P))
+      → rated_messages (with_rates caps per parts t place fs) ≡ rated_messages fs
+  unfolding with_rates
+  rated_messages_same caps per parts t place [] = refl
+  rated_messages_same caps per parts t place (f ∷ fs) =
+      ap (λ l. f.message ∷ l) (rated_messages_same caps per parts t (place + 1) fs)
+
+  stay_with_rates : (caps : Caps P) (per : ℕ) (parts : ℕ → ℕ) (t place : ℕ) (fs : List (RatedFlight P))
+      → AllZip (Stays t) fs (with_rates caps per parts t place fs)
+  unfolding with_rates
+  stay_with_rates caps per parts t place [] = tt
+  stay_with_rates caps per parts t place (f ∷ fs) =
+      ((refl, refl, refl), stay_with_rates caps per parts t (place + 1) fs)
+
+  rated_so : (caps : Caps P) (per : ℕ) (parts : ℕ → ℕ) (t place : ℕ) (fs : List (RatedFlight P))
+      → AllZip (λ rate f. f.rate ≡ rate_of per rate) (rates_from cmp caps parts place (rated_messages fs))
+      (with_rates caps per parts t place fs)
+  unfolding with_rates
+  rated_so caps per parts t place [] = tt
+  rated_so caps per parts t place (f ∷ fs) = (refl, rated_so caps per parts t (place + 1) fs)
+
+  -- what is left at a moment and what leaves then
+  abbrev Staying : ℕ → Planned P → List (RatedFlight P)
+  Staying t p = filter (λ f. not (is_spent cmp p.caps f)) (drained_to t p.sending)
+
+  account_with : (t : ℕ) (p : Planned P) (per : ℕ) (rates : Parts) (fair : AreFair cmp p.caps (rated_messages (Staying t p))
+      per rates) (o : Option ℕ)
+      → IsLeastMoment (SomeSpentAt (with_rates p.caps per fair.parts t 0 (Staying t p))) o
+      → Accounts cmp t p (rated_messages (filter (is_spent cmp p.caps) (drained_to t p.sending)))
+      (record p { sending = with_rates p.caps per fair.parts t 0 (Staying t p); finish = o })
+  account_with t p per rates fair o least = record {
+    per = per;
+    rates = rates;
+    left = refl;
+    stayed = stay_with_rates p.caps per fair.parts t 0 (Staying t p);
+    fair = subst (λ (ms : List (Message P)). AreFair cmp p.caps ms per rates)
+        (sym (rated_messages_same p.caps per fair.parts t 0 (Staying t p))) fair;
+    rated = subst (λ (rs : Parts). AllZip (λ rate f. f.rate ≡ rate_of per rate) rs
+        (with_rates p.caps per fair.parts t 0 (Staying t p))) (sym fair.rated)
+        (rated_so p.caps per fair.parts t 0 (Staying t p));
+    finish = least;
+    same = refl;
+  }
+
+  pub account_exists : (t : ℕ) (p : Planned P) → (ls : List (Message P)) × (q : Planned P) × Accounts cmp t p ls q
+  account_exists t p =
+      let f = rates_exist cmp order p.caps (rated_messages (Staying t p)) in
+      let sending = with_rates p.caps f.0 f.2.parts t 0 (Staying t p) in
+      let least = least_exists (SomeSpentAt sending) (spent_or_not sending) in (
+        rated_messages (filter (is_spent cmp p.caps) (drained_to t p.sending)),
+        record p { sending = sending; finish = least.0 },
+        account_with t p f.0 f.1 f.2 least.0 least.1,
+      )
+
+  -- ---- a message that starts, and the account that follows the last one
+
+  -- the message as it starts
+  abbrev starting : ℕ → Message P → RatedFlight P
+  starting t m = record { message = m; left = whole (length m.bytes); rate = Some (whole 0); updated = t }
+
+  starting_kept : (t : ℕ) (m : Message P) → drained_to t (starting t m ∷ []) ≡ starting t m ∷ []
+  starting_kept t m =
+      drained_kept t (starting t m ∷ [])
+      ((refl, no_time t (starting t m) (whole 0) refl refl (omega arith) (whole_lowest (length m.bytes))), tt)
+
+  -- where none of the first leaves, and the message that starts does not
+  one_more_stays : (t : ℕ) (caps : Caps P) (fs : List (RatedFlight P)) (m : Message P)
+      → is_spent cmp caps (starting t m) ≡ false
+      → filter (λ f. not (is_spent cmp caps f)) (drained_to t (fs ++ starting t m ∷ []))
+      ≡ filter (λ f. not (is_spent cmp caps f)) (drained_to t fs) ++ starting t m ∷ []
+  one_more_stays t caps fs m limited =
+      let test : RatedFlight P → Bool = λ f. not (is_spent cmp caps f) in
+      let alone : filter test (starting t m ∷ []) ≡ starting t m ∷ [] =
+      filter_all test (starting t m ∷ []) (ap not limited, tt) in
+      ap (filter test) (drained-append t fs (starting t m ∷ []))
+      ∙ ap (λ l. filter test (drained_to t fs ++ l)) (starting_kept t m)
+      ∙ filter-append test (drained_to t fs) (starting t m ∷ [])
+      ∙ ap (λ l. filter test (drained_to t fs) ++ l) alone
+
+  none_more_leaves : (t : ℕ) (caps : Caps P) (fs : List (RatedFlight P)) (m : Message P)
+      → is_spent cmp caps (starting t m) ≡ false → filter (is_spent cmp caps) (drained_to t fs) ≡ []
+      → filter (is_spent cmp caps) (drained_to t (fs ++ starting t m ∷ [])) ≡ []
+  none_more_leaves t caps fs m limited none =
+      ap (filter (is_spent cmp caps)) (drained-append t fs (starting t m ∷ []))
+      ∙ ap (λ l. filter (is_spent cmp caps) (drained_to t fs ++ l)) (starting_kept t m)
+      ∙ filter-append (is_spent cmp caps) (drained_to t fs) (starting t m ∷ [])
+      ∙ ap (λ l. l ++ filter (is_spent cmp caps) (starting t m ∷ [])) none
+      ∙ filter_none (is_spent cmp caps) (starting t m ∷ []) (limited, tt)
+
+  -- what is left after an account is in lowest terms
+  pub account_lowest : (t : ℕ) (p q : Planned P) (ls : List (Message P)) → Accounts cmp t p ls q
+      → ArePositive p.sending → AreLowest q.sending
+  account_lowest t p q ls a positive =
+      zip_each (Stays t) (λ f. IsLowest f.left) (λ g. IsLowest g.left)
+      (λ f g stays low. subst IsLowest (sym stays.1) low) (Staying t p) q.sending a.stayed
+      (each_filtered_too (λ f. IsLowest f.left) (λ f. not (is_spent cmp p.caps f)) (drained_to t p.sending)
+      (all_lowest t p.sending positive))
+
+  -- ---- the same messages in flight
+
+  all_but_none : (test : RatedFlight P → Bool) (fs : List (RatedFlight P)) → filter test fs ≡ []
+      → filter (λ f. not (test f)) fs ≡ fs
+  all_but_none test [] e = refl
+  all_but_none test (f ∷ fs) e = by_test (test f) e (all_but_none test fs)
+    where
+      by_test : (b : Bool) → cond b (f ∷ filter test fs) (filter test fs) ≡ []
+          → (filter test fs ≡ [] → filter (λ g. not (test g)) fs ≡ fs)
+          → cond (not b) (f ∷ filter (λ g. not (test g)) fs) (filter (λ g. not (test g)) fs) ≡ f ∷ fs
+      by_test true e ih = cc
+      by_test false e ih = ap (λ l. f ∷ l) (ih e)
+
+  pub messages_stay : (t : ℕ) (here w : Planned P) → Accounts cmp t here [] w
+      → rated_messages w.sending ≡ rated_messages here.sending
+  messages_stay t here w a =
+      stayed_messages t (Staying t here) w.sending a.stayed
+      ∙ ap rated_messages
+      (all_but_none (is_spent cmp here.caps) (drained_to t here.sending)
+      (no_messages (filter (is_spent cmp here.caps) (drained_to t here.sending)) a.left))
+      ∙ drained_messages t here.sending
+
+  -- some pair is ready at a moment, told by what waits, what is in flight and what arrived
+  abbrev IsReadyBy : List (Message P) → List (Message P) → (P → P → Option ℕ) → ℕ → Type 0
+  IsReadyBy waiting flying last u =
+      (n : Message P) × (find (same_pair cmp n) waiting ≡ Some n)
+      × ((not (list_any (same_pair cmp n) flying) && is_in_order (last n.origin n.recipient) (u + n.latency)) ≡ true)
+
+  ready_same : (p q : Planned P) → q.waiting ≡ p.waiting → q.last_arrival ≡ p.last_arrival
+      → rated_messages q.sending ≡ rated_messages p.sending → (u : ℕ) → SomeReadyAt cmp p u → SomeReadyAt cmp q u
+  ready_same p q waiting last flying u ready =
+      subst (λ (ws : List (Message P)). IsReadyBy ws (rated_messages q.sending) q.last_arrival u) (sym waiting)
+      (subst (λ (la : P → P → Option ℕ). IsReadyBy p.waiting (rated_messages q.sending) la u) (sym last)
+      (subst (λ (ms : List (Message P)). IsReadyBy p.waiting ms p.last_arrival u) (sym flying) ready))
+
+  -- the start that is planned there is the one here
+  pub planned_alike : (t : ℕ) (p q next : Planned P) → PlansStart cmp t p next → q.waiting ≡ p.waiting
+      → q.last_arrival ≡ p.last_arrival → rated_messages q.sending ≡ rated_messages p.sending
+      → PlansStart cmp t q (record q { start = next.start })
+  planned_alike t p q next looks waiting last flying =
+      record {
+        start = least_same (λ u. (t ≤ u) × SomeReadyAt cmp p u) (λ u. (t ≤ u) × SomeReadyAt cmp q u) next.start
+            (λ u h. (h.0, ready_same p q waiting last flying u h.1))
+            (λ u h. (h.0, ready_same q p (sym waiting) (sym last) (sym flying) u h.1)) looks.start;
+        same = refl;
+      }
+
+  -- ---- one message starts
+
+  module _ (t : ℕ) (m : Message P) (here next : Planned P) (fs : List (RatedFlight P)) (o : Option ℕ)
+      (limited : here.limited ≡ true) (found : next_of cmp (with_queued cmp here m) m ≡ Some m)
+      (may : may_launch cmp t here m ≡ true) (id : here.next_id < last_moment)
+      (stays : is_spent cmp here.caps (starting t m) ≡ false)
+      (looks : PlansStart cmp t (launched cmp t (with_queued cmp here m) m) next)
+      (positive : ArePositive here.sending)
+      (a : Accounts cmp t here [] (record here { sending = fs; finish = o })) where
+    h : IsAccountedAt t (record here { sending = fs; finish = o })
+    h = accounted t here (record here { sending = fs; finish = o }) [] a
+
+    low : AreLowest fs
+    low = account_lowest t here (record here { sending = fs; finish = o }) [] a positive
+
+    still : drained_to t fs ≡ fs
+    still = drained_still t (record here { sending = fs; finish = o }) h low
+
+    flying : rated_messages fs ≡ rated_messages here.sending
+    flying = messages_stay t here (record here { sending = fs; finish = o }) a
+
+    -- what stays in flight there
+    staying_there : filter (λ f. not (is_spent cmp here.caps f)) (drained_to t (fs ++ starting t m ∷ []))
+        ≡ fs ++ starting t m ∷ []
+    staying_there =
+        one_more_stays t here.caps fs m stays
+        ∙ ap (λ l. filter (λ f. not (is_spent cmp here.caps f)) l ++ starting t m ∷ []) still
+        ∙ ap (λ l. l ++ starting t m ∷ []) (all_stay t (record here { sending = fs; finish = o }) h)
+
+    none_there : filter (is_spent cmp here.caps) (drained_to t (fs ++ starting t m ∷ [])) ≡ []
+    none_there =
+        none_more_leaves t here.caps fs m stays
+        (ap (filter (is_spent cmp here.caps)) still ∙ none_leave t (record here { sending = fs; finish = o }) h)
+
+    none_here : filter (is_spent cmp here.caps) (drained_to t here.sending) ≡ []
+    none_here = no_messages (filter (is_spent cmp here.caps) (drained_to t here.sending)) a.left
+
+    abbrev Starts : Planned P → Type 0
+    Starts w = (v : Planned P) × Enqueues cmp t m w (goes [] v) × Accounts cmp t next [] v
+
+    enqueues_there : (x : Planned P)
+        → Accounts cmp t (launched cmp t (with_queued cmp (record here { sending = fs; finish = o }) m) m) [] x
+        → Enqueues cmp t m (record here { sending = fs; finish = o }) (goes [] (record x { start = next.start }))
+    enqueues_there x ax =
+        let may_there : may_launch cmp t (record here { sending = fs; finish = o }) m ≡ true =
+        ap (λ (ms : List (Message P)). not (list_any (same_pair cmp m) ms)
+        && is_in_order (here.last_arrival m.origin m.recipient) (t + m.latency)) flying ∙ may in
+        let launch =
+        subst (λ (first : Option (Message P)). Launches cmp t
+        (with_queued cmp (record here { sending = fs; finish = o }) m) first (goes [] x)) (sym found)
+        (starts may_there id ax) in
+        let flies : rated_messages x.sending
+        ≡ rated_messages (launched cmp t (with_queued cmp here m) m).sending =
+        messages_stay t (launched cmp t (with_queued cmp (record here { sending = fs; finish = o }) m) m) x ax
+        ∙ map-append (λ f. f.message) fs (starting t m ∷ [])
+        ∙ ap (λ (ms : List (Message P)). ms ++ m ∷ []) flying
+        ∙ sym (map-append (λ f. f.message) here.sending (starting t m ∷ [])) in
+        launches limited launch
+        (all_completed (planned_alike t (launched cmp t (with_queued cmp here m) m) x next looks
+        (ap (λ (q : Planned P). q.waiting) ax.same) (ap (λ (q : Planned P). q.last_arrival) ax.same) flies))
+
+    stayed_here : (x : Planned P)
+        → Accounts cmp t (launched cmp t (with_queued cmp (record here { sending = fs; finish = o }) m) m) [] x
+        → AllZip (Stays t)
+        (filter (λ f. not (is_spent cmp here.caps f)) (drained_to t (here.sending ++ starting t m ∷ []))) x.sending
+    stayed_here x ax =
+        subst (λ (l : List (RatedFlight P)). AllZip (Stays t) l x.sending)
+        (sym (one_more_stays t here.caps here.sending m stays))
+        (zip_chain (Stays t) (Stays t) (Stays t)
+        (λ f g k first second. (second.0 ∙ first.0, second.1 ∙ first.1, second.2))
+        (Staying t here ++ starting t m ∷ []) (fs ++ starting t m ∷ []) x.sending
+        (zip-append (Stays t) (Staying t here) (starting t m ∷ []) fs (starting t m ∷ []) a.stayed
+        ((refl, refl, refl), tt))
+        (subst (λ (l : List (RatedFlight P)). AllZip (Stays t) l x.sending) staying_there ax.stayed))
+
+    accounts_here : (x : Planned P)
+        → Accounts cmp t (launched cmp t (with_queued cmp (record here { sending = fs; finish = o }) m) m) [] x
+        → Accounts cmp t next [] (record x { start = next.start })
+    accounts_here x ax =
+        subst (λ (q : Planned P). Accounts cmp t q [] (record x { start = next.start })) (sym looks.same) (record {
+          per = ax.per;
+          rates = ax.rates;
+          left = sym (ap rated_messages (none_more_leaves t here.caps here.sending m stays none_here));
+          stayed = stayed_here x ax;
+          fair = ax.fair;
+          rated = ax.rated;
+          finish = ax.finish;
+          same = ap (λ (q : Planned P). record q { start = next.start }) ax.same;
+        })
+
+    one_start : (ls : List (Message P)) (x : Planned P)
+        → Accounts cmp t (launched cmp t (with_queued cmp (record here { sending = fs; finish = o }) m) m) ls x
+        → Starts (record here { sending = fs; finish = o })
+    one_start ls x ax =
+        let none : ls ≡ [] = ax.left ∙ ap rated_messages none_there in
+        let there = subst (λ (l : List (Message P)). Accounts cmp t
+        (launched cmp t (with_queued cmp (record here { sending = fs; finish = o }) m) m) l x) none ax in
+        (record x { start = next.start }, enqueues_there x there, accounts_here x there)
+
+    pub starts_there : Starts (record here { sending = fs; finish = o })
+    starts_there =
+        let x =
+        account_exists t (launched cmp t (with_queued cmp (record here { sending = fs; finish = o }) m) m) in
+        one_start x.0 x.1 x.2
+
+  -- where the planned world w is the other one after an account at which nothing leaves, a message that starts leads to
+  -- such planned worlds again
+  pub one_starts : (t : ℕ) (m : Message P) (here next w : Planned P) → Accounts cmp t here [] w
+      → ArePositive here.sending → here.limited ≡ true → next_of cmp (with_queued cmp here m) m ≡ Some m
+      → may_launch cmp t here m ≡ true → here.next_id < last_moment
+      → is_spent cmp here.caps (record { message = m; left = whole (length m.bytes); rate = Some (whole 0); updated = t })
+      ≡ false
+      → PlansStart cmp t (launched cmp t (with_queued cmp here m) m) next
+      → (v : Planned P) × Enqueues cmp t m w (goes [] v) × Accounts cmp t next [] v
+  one_starts t m here next w a positive limited found may id stays looks =
+      subst (λ (q : Planned P). (v : Planned P) × Enqueues cmp t m q (goes [] v) × Accounts cmp t next [] v)
+      (sym a.same)
+      (starts_there t m here next w.sending w.finish limited found may id stays looks positive
+      (subst (λ (q : Planned P). Accounts cmp t here [] q) a.same a))
