@@ -92,6 +92,8 @@ enum Wanted {
 #[derive(Drop)]
 struct Calls<P> {
     alloc: Global,
+    /// Whether memory was refused while the list was made.
+    is_short: bool,
     /// The first flow id.
     first: u64,
     /// How many peers were named.
@@ -101,8 +103,6 @@ struct Calls<P> {
     sent: Vec<Parcel>,
 }
 
-type Noted = Result<(), Error>;
-
 fn begin<P: Numbered>(alloc: Global) -> Calls<P> {
     begin_from(alloc, 0)
 }
@@ -110,6 +110,7 @@ fn begin<P: Numbered>(alloc: Global) -> Calls<P> {
 fn begin_from<P: Numbered>(alloc: Global, first: u64) -> Calls<P> {
     Calls {
         alloc,
+        is_short: false,
         first,
         named: 0,
         calls: Vec::new(alloc),
@@ -119,10 +120,10 @@ fn begin_from<P: Numbered>(alloc: Global, first: u64) -> Calls<P> {
 }
 
 /// At first a cap on what peer 1 sends.
-fn capped<P: Numbered>(alloc: Global, egress: usize) -> Result<Calls<P>, Error> {
+fn capped<P: Numbered>(alloc: Global, egress: usize) -> Calls<P> {
     let mut p = begin(alloc);
-    p.limit(0, 1, Some(egress), None)?;
-    Ok(p)
+    p.limit(0, 1, Some(egress), None);
+    p
 }
 
 fn contents(alloc: Global, place: usize, length: usize) -> Result<Bytes, AllocError> {
@@ -137,95 +138,101 @@ impl<P: Numbered> Calls<P> {
         P::numbered(number, self.named)
     }
 
-    fn add(&mut self, call: Call<P>) -> Noted {
-        self.calls.push(call)?;
-        Ok(self.wanted.push(Wanted::Done(Vec::new(self.alloc)))?)
+    fn add(&mut self, call: Call<P>) {
+        self.is_short |= self.calls.push(call).is_err();
+        self.wish(Wanted::Done(Vec::new(self.alloc)));
     }
 
-    fn send(&mut self, parcel: Parcel) -> Noted {
+    fn wish(&mut self, wanted: Wanted) {
+        self.is_short |= self.wanted.push(wanted).is_err();
+    }
+
+    fn send(&mut self, parcel: Parcel) {
         let place = self.sent.len();
+        let Ok(message) = contents(self.alloc, place, parcel.length) else {
+            self.is_short = true;
+            return;
+        };
         let call = Call::Enqueue {
             now: parcel.now,
             origin: self.peer(parcel.origin),
             recipient: self.peer(parcel.recipient),
             channel: place as u64,
-            message: contents(self.alloc, place, parcel.length)?,
+            message,
             latency: parcel.latency,
             should_deliver: !parcel.dropped,
         };
-        self.sent.push(parcel)?;
-        self.add(call)
+        self.is_short |= self.sent.push(parcel).is_err();
+        self.add(call);
     }
 
-    fn limit(
-        &mut self,
-        now: u64,
-        peer: u8,
-        egress: Option<usize>,
-        ingress: Option<usize>,
-    ) -> Noted {
+    fn limit(&mut self, now: u64, peer: u8, egress: Option<usize>, ingress: Option<usize>) {
         let call = Call::Limit {
             now,
             peer: self.peer(peer),
             egress,
             ingress,
         };
-        self.add(call)
+        self.add(call);
     }
 
-    fn link(&mut self, now: u64, origin: u8, recipient: u8, cap: Option<usize>) -> Noted {
+    fn link(&mut self, now: u64, origin: u8, recipient: u8, cap: Option<usize>) {
         let call = Call::LimitLink {
             now,
             origin: self.peer(origin),
             recipient: self.peer(recipient),
             cap,
         };
-        self.add(call)
+        self.add(call);
     }
 
-    fn advance(&mut self, now: u64) -> Noted {
-        self.add(Call::Advance { now })
+    fn advance(&mut self, now: u64) {
+        self.add(Call::Advance { now });
     }
 
     /// Asks for the next event, and wants that moment.
-    fn next(&mut self, moment: Option<u64>) -> Noted {
-        self.add(Call::Next)?;
-        self.want(Wanted::Next(moment))
+    fn next(&mut self, moment: Option<u64>) {
+        self.add(Call::Next);
+        self.want(Wanted::Next(moment));
     }
 
     /// The last call is to be answered so.
-    fn want(&mut self, wanted: Wanted) -> Noted {
+    fn want(&mut self, wanted: Wanted) {
         self.wanted.pop();
-        Ok(self.wanted.push(wanted)?)
+        self.wish(wanted);
     }
 
     /// At the last call these messages complete.
-    fn done(&mut self, arrivals: &[Arrival]) -> Noted {
-        let arrivals = listed(self.alloc, arrivals)?;
-        self.want(Wanted::Done(arrivals))
+    fn done(&mut self, arrivals: &[Arrival]) {
+        match listed(self.alloc, arrivals) {
+            Ok(arrivals) => self.want(Wanted::Done(arrivals)),
+            Err(_) => self.is_short = true,
+        }
     }
 
     /// The last call is an advance that goes through so many events, at which these messages
     /// complete.
-    fn counted(&mut self, arrivals: &[Arrival], events: u128) -> Noted {
-        let arrivals = listed(self.alloc, arrivals)?;
-        self.want(Wanted::Counted(arrivals, events))
+    fn counted(&mut self, arrivals: &[Arrival], events: u128) {
+        match listed(self.alloc, arrivals) {
+            Ok(arrivals) => self.want(Wanted::Counted(arrivals, events)),
+            Err(_) => self.is_short = true,
+        }
     }
 
     /// The last call is refused.
-    fn refused(&mut self, error: Error) -> Noted {
-        self.want(Wanted::Refused(error))
+    fn refused(&mut self, error: Error) {
+        self.want(Wanted::Refused(error));
     }
 
     /// Goes from event to event: at each of those moments it is next, and answers that. Then there
     /// is no event.
-    fn walk(&mut self, events: &[(u64, &[Arrival])]) -> Noted {
+    fn walk(&mut self, events: &[(u64, &[Arrival])]) {
         for (moment, arrivals) in events {
-            self.next(Some(*moment))?;
-            self.advance(*moment)?;
-            self.done(arrivals)?;
+            self.next(Some(*moment));
+            self.advance(*moment);
+            self.done(arrivals);
         }
-        self.next(None)
+        self.next(None);
     }
 
     /// Makes the calls as a list, where its flow ids begin at 0 as those of `replay` do, and then one
@@ -239,6 +246,7 @@ impl<P: Numbered> Calls<P> {
 
     /// Makes the calls one by one, and compares each reply with the wanted one.
     fn expect_each(self, rt: &impl Abort) {
+        assert!(rt; !self.is_short, "no room for the calls");
         assert_eq!(rt; self.wanted.len(), self.calls.len());
         let mut state = State::with_first_id(self.alloc, self.first);
         for (place, (call, wanted)) in self.calls.into_iter().zip(&self.wanted).enumerate() {
@@ -255,6 +263,7 @@ impl<P: Numbered> Calls<P> {
 
     /// Makes the calls as a list, and compares each reply with the wanted one.
     fn expect_list(&self, rt: &impl Abort) {
+        assert!(rt; !self.is_short, "no room for the calls");
         assert_eq!(rt; self.wanted.len(), self.calls.len());
         let replies = replay(self.alloc, &self.calls).expect(rt, "no room for the replies");
         assert_eq!(rt; replies.len(), self.calls.len());
