@@ -2,4 +2,5 @@
 pub mod ComputedDifferences
 pub mod ComputedReplies
 pub mod ComputedRule
+pub mod ComputedSteps
 pub mod LongRow

@@ -18,6 +18,7 @@ pub mod MostEvents
 pub mod Orderly
 pub mod OrderlyAlike
 pub mod PairCompletions
+pub mod PairHistories
 pub mod PartRates
 pub mod Replies
 pub mod SplitAnywhere

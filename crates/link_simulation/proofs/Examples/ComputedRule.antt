@@ -1,534 +1,106 @@
--- The event rule, found by computing: for worked examples.
-use Rattle.std.proofs.Common.{◌-◌, ◌≡◌, ◌≢◌, ℕ, zero, suc, ◌+◌, ◌<◌, ◌≤◌, List, [], ◌∷◌, ◌++◌, Bool, true, false, cond}
-use Rattle.std.proofs.Common.{not, Option, Some, None, refl, sym, ap, subst, arith, ◌∙◌, inl, inr, ◌⊎◌, length}
-use Rattle.std.specs.Prelude.{max, ◌&&◌, ◌||◌, ◌==◌, nat_le, nat_lt, if◌then◌else◌, slice_get, IfSome}
-use Rattle.std.specs.List.{find, list_any, list_all, filter, AllZip}
+-- Calls by the event rule, and the replies to them, found by computing: for worked examples.
+use Rattle.std.proofs.Common.{◌-◌, ◌≡◌, ◌≢◌, ℕ, zero, suc, ◌+◌, ◌<◌, ◌≤◌, List, [], ◌∷◌, Bool, true, false, cond}
+use Rattle.std.proofs.Common.{Option, Some, None, refl, sym, ap, subst, arith, ◌∙◌, length}
+use Rattle.std.specs.Prelude.{max, ◌&&◌, ◌==◌, nat_le, nat_lt, if◌then◌else◌, IfSome}
+use Rattle.std.specs.List.{filter, AllZip}
 use Rattle.std.specs.declared.cmp.Ordering.{Ordering}
 use Rattle.std.specs.Cmp.{IsTotalOrder}
-use Rattle.std.proofs.lemmas.Bool.{leb-true, le-leb, ltb-true, ltb-false, eqb-true, eq-eqb, cases_lt, and_parts}
-use Rattle.std.proofs.lemmas.Option.{same_Some}
-use Rattle.std.proofs.Math.Bool.{or-true}
+use Rattle.std.proofs.lemmas.Bool.{leb-true, ltb-true, ltb-false, eqb-true, eq-eqb, and_parts}
 use Rattle.fair_rates.specs.declared.error.Error.TheVariants.{OutOfMemory, NumberTooLarge, MomentTooLate, FlowIdsUsedUp}
-use Rattle.fair_rates.specs.Numbers.Amount.{Amount}
-use Rattle.link_simulation.specs.Simulation.Messages.{Message, Caps, same_pair}
-use Rattle.link_simulation.specs.Simulation.Rates.{capped_sides, rates_from, rate_of, is_unlimited}
-use Rattle.link_simulation.specs.Simulation.World.{new_world, is_in_order, Completed, Course, goes, meets, last_moment, preceded, fronts, is_in_order, is_late, completed}
-use Rattle.link_simulation.specs.Simulation.Calls.{moment_of, Call, call_limit, call_limit_link, call_enqueue, call_advance, call_next, limited_by, linked_by}
-use Rattle.link_simulation.specs.Simulation.Replies.{Agrees, Reply, reply_done, reply_next, reply_refused, SameCompletion}
-use Rattle.link_simulation.specs.Rule.Planned.{new_planned, Planned, RatedFlight, IsLeastMoment, next_event}
-use Rattle.link_simulation.specs.Rule.Planned.{rated_messages, left_at, SomeSpentAt, drained_to, next_of, may_launch}
-use Rattle.link_simulation.specs.Rule.Planned.{SomeReadyAt, is_spent}
-use Rattle.link_simulation.specs.Rule.Events.{Accounts, PlansStart, launched, Launches, nothing_waits, too_early, no_id}
-use Rattle.link_simulation.specs.Rule.Events.{starts, landed, Finishes, all_completed, late, stopped, completes}
-use Rattle.link_simulation.specs.Rule.Events.{WakesEach, all_started, no_start, no_finish, starts_one, Settles}
-use Rattle.link_simulation.specs.Rule.Events.{settling, Rebalances, none_sending, some_sending, completed_at_once}
+use Rattle.link_simulation.specs.Simulation.Messages.{Message, Caps}
+use Rattle.link_simulation.specs.Simulation.World.{new_world, Completed, Course, goes, meets, last_moment, preceded}
+use Rattle.link_simulation.specs.Simulation.World.{fronts}
+use Rattle.link_simulation.specs.Simulation.Calls.{moment_of, Call, call_limit, call_limit_link, call_enqueue}
+use Rattle.link_simulation.specs.Simulation.Calls.{call_advance, call_next, limited_by, linked_by}
+use Rattle.link_simulation.specs.Simulation.Replies.{Agrees, Reply, reply_done, reply_next, reply_refused}
+use Rattle.link_simulation.specs.Simulation.Replies.{SameCompletion}
+use Rattle.link_simulation.specs.Rule.Planned.{new_planned, Planned, RatedFlight, next_event}
+use Rattle.link_simulation.specs.Rule.Planned.{next_of, may_launch}
+use Rattle.link_simulation.specs.Rule.Events.{Launches}
+use Rattle.link_simulation.specs.Rule.Events.{Rebalances, none_sending, some_sending, completed_at_once}
 use Rattle.link_simulation.specs.Rule.Events.{with_queued, Enqueues, at_once, no_launch, launches, Advances, no_more}
 use Rattle.link_simulation.specs.Rule.Events.{at_finish, at_start, finish_stops, start_stops, Obeys}
 use Rattle.link_simulation.specs.Rule.Refusals.{MayBeRefused, Obeyed}
-use Rattle.fair_rates.proofs.Lists.Members.{In}
-use Rattle.link_simulation.proofs.Simulation.OtherPairs.{fronts_are_first}
-use Rattle.fair_rates.proofs.Lists.Each.{Each}
-use Rattle.link_simulation.proofs.Laws.MostEvents.{first_in_fronts}
-use Rattle.link_simulation.proofs.Simulation.LowestTerms.{spent_later}
 use Rattle.link_simulation.proofs.Rule.Agreeing.{obeyed_agree}
 use Rattle.link_simulation.specs.Laws.Isolation.{InTime}
-use Rattle.link_simulation.proofs.Examples.ComputedReplies.{same_all, Shares, is_fair, fair_if_so}
+use Rattle.link_simulation.proofs.Examples.ComputedReplies.{same_all, Shares}
+use Rattle.link_simulation.proofs.Examples.ComputedSteps.{the_same, bind, bound, followed, is_none_of, look}
+use Rattle.link_simulation.proofs.Examples.ComputedSteps.{look_so, launch, launch_so, finish_all, finish_all_so}
+use Rattle.link_simulation.proofs.Examples.ComputedSteps.{wake_each_so, wake_at, settle_at, settle_at_so}
 
--- ---- options
-
-the_same : {X : Type 0} {x y : X} → Some x ≡ Some y → x ≡ y
-the_same {x = x} {y = y} e = same_Some x y e
-
-abbrev pub bind : {X Y : Type 0} → Option X → (X → Option Y) → Option Y
-bind None next = None
-bind (Some x) next = next x
-
-bound : {X Y : Type 0} (o : Option X) (next : X → Option Y) (y : Y) → bind o next ≡ Some y → (x : X) × (o ≡ Some x) × (next x ≡ Some y)
-bound None next y e = cc
-bound (Some x) next y e = (x, refl, e)
-
--- only where it is so
-abbrev pub given : {X : Type 0} → Bool → Option X → Option X
-given false o = None
-given true o = o
-
-given_so : {X : Type 0} (b : Bool) (o : Option X) (x : X) → given b o ≡ Some x → (b ≡ true) × (o ≡ Some x)
-given_so false o x e = cc
-given_so true o x e = (refl, e)
-
--- what follows a course, unless it met a fault
-abbrev pub followed : {X Y S T : Type 0} → Course X S → (List X → S → Option (Course Y T)) → Option (Course Y T)
-followed (goes xs s) next = next xs s
-followed (meets fault) next = Some (meets fault)
-
-abbrev pub is_none_of : {X : Type 0} → List X → Bool
-is_none_of [] = true
-is_none_of (x ∷ xs) = false
-
--- ---- least moments
-
--- the first of so many moments, up to the last one, at which the test holds
-abbrev pub seek : (ℕ → Bool) → ℕ → ℕ → Option (Option ℕ)
-seek test zero from = None
-seek test (suc n) from = cond (nat_lt last_moment from) (Some None) (cond (test from) (Some (Some from)) (seek test n (from + 1)))
-
--- none where it never holds
-abbrev pub sought : Bool → (ℕ → Bool) → ℕ → ℕ → Option (Option ℕ)
-sought true test n from = Some None
-sought false test n from = seek test n from
-
-module _ (Q : ℕ → Type 0) (test : ℕ → Bool) (yes : (t : ℕ) → test t ≡ true → Q t) (no : (t : ℕ) → Q t → test t ≡ true) where
-  seek_so : (n from : ℕ) (o : Option ℕ) → ((s : ℕ) → Q s → from ≤ s) → seek test n from ≡ Some o → IsLeastMoment Q o
-  seek_so zero from o least e = cc
-  seek_so (suc n) from o least e = by_end (nat_lt last_moment from) refl e (seek_so n (from + 1) o)
-    where
-      later : test from ≡ false → (s : ℕ) → Q s → from + 1 ≤ s
-      later is s q = by_order (least s q) (cases_lt from s)
-        where
-          by_order : from ≤ s → from < s ⊎ s ≤ from → from + 1 ≤ s
-          by_order le (inl lt) = omega arith
-          by_order le (inr ge) = let same : s ≡ from = omega arith in let there : test from ≡ true = ap test (sym same) ∙ no s q in cc
-
-      by_test : (b : Bool) → test from ≡ b → from ≤ last_moment → cond b (Some (Some from)) (seek test n (from + 1)) ≡ Some o
-          → (((s : ℕ) → Q s → from + 1 ≤ s) → seek test n (from + 1) ≡ Some o → IsLeastMoment Q o) → IsLeastMoment Q o
-      by_test true is le e ih = subst (IsLeastMoment Q) (the_same e) (le, yes from is, least)
-      by_test false is le e ih = ih (later is) e
-
-      by_end : (b : Bool) → nat_lt last_moment from ≡ b → cond b (Some None) (cond (test from) (Some (Some from)) (seek test n (from + 1))) ≡ Some o
-          → (((s : ℕ) → Q s → from + 1 ≤ s) → seek test n (from + 1) ≡ Some o → IsLeastMoment Q o) → IsLeastMoment Q o
-      by_end true is e ih =
-          subst (IsLeastMoment Q) (the_same e)
-          (λ t le q. let past : last_moment < from = ltb-true last_moment from is in
-          let first : from ≤ t = least t q in
-          omega arith)
-      by_end false is e ih = by_test (test from) refl (ltb-false last_moment from is) e ih
-
-  sought_so : (never : Bool) (n from : ℕ) (o : Option ℕ) → (never ≡ true → (s : ℕ) → Q s → ⊥)
-      → ((s : ℕ) → Q s → from ≤ s) → sought never test n from ≡ Some o → IsLeastMoment Q o
-  sought_so true n from o none least e = let same : None ≡ o = the_same e in subst (IsLeastMoment Q) same (λ t le q. none refl t q)
-  sought_so false n from o none least e = seek_so n from o least e
-
-module _ {P : Type 0} (cmp : P → P → Ordering) (order : IsTotalOrder cmp) (plan : Caps P → List (Message P) → Shares) (hint : ℕ → List (Message P) → ℕ) (n : ℕ) where
-  -- ---- accounts
-
-  abbrev pub is_spent_at : ℕ → RatedFlight P → Bool
-  is_spent_at s f = nat_le f.updated s && ((left_at s f).num == 0)
-
-  abbrev pub is_positive : RatedFlight P → Bool
-  is_positive f = nat_lt 0 f.left.den && elim f.rate [ None ↦ true | Some r ↦ nat_lt 0 r.den ]
-
-  -- nothing is spent from t on before that moment
-  abbrev pub may_skip : ℕ → ℕ → List (RatedFlight P) → Bool
-  may_skip t from sending = (from == t) || (list_all is_positive sending && not (list_any (is_spent_at (from - 1)) sending))
-
-  abbrev pub finish_from : ℕ → List (RatedFlight P) → Option (Option ℕ)
-  finish_from t sending =
-      given (may_skip t (hint t (rated_messages sending)) sending)
-      (sought (is_none_of sending) (λ s. list_any (is_spent_at s) sending) n (hint t (rated_messages sending)))
-
-  -- what is in flight, from t on at the shares of their places
-  abbrev pub rated_flight : Caps P → Shares → ℕ → ℕ → List (RatedFlight P) → List (RatedFlight P)
-  rated_flight caps shares t place [] = []
-  rated_flight caps shares t place (f ∷ fs) =
-      record { message = f.message; left = f.left; rate = rate_of shares.per (if is_unlimited cmp caps f.message then None else Some (shares.parts place)); updated = t }
-      ∷ rated_flight caps shares t (place + 1) fs
-
-  abbrev pub staying : ℕ → Planned P → List (RatedFlight P)
-  staying t p = filter (λ f. not (is_spent cmp p.caps f)) (drained_to t p.sending)
-
-  abbrev pub leavers_of : ℕ → Planned P → List (Message P)
-  leavers_of t p = rated_messages (filter (is_spent cmp p.caps) (drained_to t p.sending))
-
-  abbrev pub shares_of : ℕ → Planned P → Shares
-  shares_of t p = plan p.caps (rated_messages (staying t p))
-
-  abbrev pub rated_at : ℕ → Planned P → List (RatedFlight P)
-  rated_at t p = rated_flight p.caps (shares_of t p) t 0 (staying t p)
-
-  abbrev pub account : ℕ → Planned P → Option (Planned P)
-  account t p =
-      given (is_fair (shares_of t p).per (shares_of t p).parts (capped_sides cmp p.caps (rated_messages (rated_at t p))))
-      (bind (finish_from t (rated_at t p)) (λ o. Some (record p { sending = rated_at t p; finish = o })))
-
-  spent_if_so : (s : ℕ) (fs : List (RatedFlight P)) → list_any (is_spent_at s) fs ≡ true → SomeSpentAt fs s
-  spent_if_so s [] e = cc
-  spent_if_so s (f ∷ fs) e = by_test (is_spent_at s f) refl e (spent_if_so s fs)
-    where
-      by_test : (b : Bool) → is_spent_at s f ≡ b → (b || list_any (is_spent_at s) fs) ≡ true
-          → (list_any (is_spent_at s) fs ≡ true → SomeSpentAt fs s) → SomeSpentAt (f ∷ fs) s
-      by_test true is e ih =
-          let two : (nat_le f.updated s ≡ true) × (((left_at s f).num == 0) ≡ true) = and_parts (nat_le f.updated s) ((left_at s f).num == 0) is in
-          (0, f, refl, leb-true f.updated s two.0, eqb-true (left_at s f).num 0 two.1)
-      by_test false is e ih = let rest : SomeSpentAt fs s = ih e in (suc rest.0, rest.1, rest.2, rest.3, rest.4)
-
-  so_if_spent : (s : ℕ) (fs : List (RatedFlight P)) (i : ℕ) (f : RatedFlight P) → slice_get fs i ≡ Some f
-      → f.updated ≤ s → (left_at s f).num ≡ 0 → list_any (is_spent_at s) fs ≡ true
-  so_if_spent s [] i f at le none = cc
-  so_if_spent s (g ∷ gs) zero f at le none =
-      let same : g ≡ f = the_same at in
-      let test : is_spent_at s f ≡ true = rw (le-leb f.updated s le, eq-eqb (left_at s f).num 0 none) refl in
-      let here : is_spent_at s g ≡ true = ap (is_spent_at s) same ∙ test in
-      rw here refl
-  so_if_spent s (g ∷ gs) (suc i) f at le none = ap (λ (b : Bool). is_spent_at s g || b) (so_if_spent s gs i f at le none) ∙ or-true (is_spent_at s g)
-
-  updated_at : (caps : Caps P) (shares : Shares) (t place : ℕ) (fs : List (RatedFlight P)) (i : ℕ) (f : RatedFlight P)
-      → slice_get (rated_flight caps shares t place fs) i ≡ Some f → f.updated ≡ t
-  updated_at caps shares t place [] i f at = cc
-  updated_at caps shares t place (g ∷ gs) zero f at = sym (ap (λ (x : RatedFlight P). x.updated) (the_same at))
-  updated_at caps shares t place (g ∷ gs) (suc i) f at = updated_at caps shares t (place + 1) gs i f at
-
-  positive_rate : (o : Option Amount) → elim o [ None ↦ true | Some r ↦ nat_lt 0 r.den ] ≡ true → IfSome o (λ r. 0 < r.den)
-  positive_rate None e = tt
-  positive_rate (Some r) e = ltb-true 0 r.den e
-
-  positive_at : (fs : List (RatedFlight P)) (i : ℕ) (f : RatedFlight P) → list_all is_positive fs ≡ true
-      → slice_get fs i ≡ Some f → (0 < f.left.den) × IfSome f.rate (λ r. 0 < r.den)
-  positive_at [] i f e at = cc
-  positive_at (g ∷ gs) i f e at =
-      let two : (is_positive g ≡ true) × (list_all is_positive gs ≡ true) = and_parts (is_positive g) (list_all is_positive gs) e in
-      by_place i at two.0 (λ j h. positive_at gs j f two.1 h)
-    where
-      by_place : (i : ℕ) → slice_get (g ∷ gs) i ≡ Some f → is_positive g ≡ true → ((j : ℕ) → slice_get gs j ≡ Some f → (0 < f.left.den) × IfSome f.rate (λ r. 0 < r.den))
-          → (0 < f.left.den) × IfSome f.rate (λ r. 0 < r.den)
-      by_place zero at here rest =
-          let same : g ≡ f = the_same at in
-          let test : is_positive f ≡ true = ap is_positive (sym same) ∙ here in
-          let two : (nat_lt 0 f.left.den ≡ true) × (elim f.rate [ None ↦ true | Some r ↦ nat_lt 0 r.den ] ≡ true)
-          = and_parts (nat_lt 0 f.left.den) (elim f.rate [ None ↦ true | Some r ↦ nat_lt 0 r.den ]) test in
-          (ltb-true 0 f.left.den two.0, positive_rate f.rate two.1)
-      by_place (suc j) at here rest = rest j at
-
-  skip_so : (t from : ℕ) (sending : List (RatedFlight P)) → may_skip t from sending ≡ true → (s : ℕ) → SomeSpentAt sending s → t ≤ s → from ≤ s
-  skip_so t from sending e s some le = by_test (from == t) refl e
-    where
-      spent_before : s < from → list_all is_positive sending ≡ true → list_any (is_spent_at (from - 1)) sending ≡ true
-      spent_before lt all =
-          let positive : (0 < some.1.left.den) × IfSome some.1.rate (λ r. 0 < r.den) = positive_at sending some.0 some.1 all some.2 in
-          let updated : some.1.updated ≤ s = some.3 in
-          let on : (left_at (from - 1) some.1).num ≡ 0 =
-          spent_later some.1.rate (s - some.1.updated) (from - 1 - some.1.updated) some.1.left positive.1 positive.0
-          (omega arith) some.4 in
-          so_if_spent (from - 1) sending some.0 some.1 some.2 (omega arith) on
-
-      not_both : (b : Bool) → b ≡ true → not b ≡ true → ⊥
-      not_both true is e = cc
-      not_both false is e = cc
-
-      by_order : s < from ⊎ from ≤ s → list_all is_positive sending ≡ true → not (list_any (is_spent_at (from - 1)) sending) ≡ true → from ≤ s
-      by_order (inl lt) all none = absurd (not_both (list_any (is_spent_at (from - 1)) sending) (spent_before lt all) none)
-      by_order (inr ge) all none = ge
-
-      by_test : (b : Bool) → (from == t) ≡ b → (b || (list_all is_positive sending && not (list_any (is_spent_at (from - 1)) sending))) ≡ true → from ≤ s
-      by_test true is e = let same : from ≡ t = eqb-true from t is in omega arith
-      by_test false is e =
-          let two : (list_all is_positive sending ≡ true) × (not (list_any (is_spent_at (from - 1)) sending) ≡ true)
-          = and_parts (list_all is_positive sending) (not (list_any (is_spent_at (from - 1)) sending)) e in
-          by_order (cases_lt s from) two.0 two.1
-
-  no_flight : (fs : List (RatedFlight P)) (s : ℕ) → is_none_of fs ≡ true → SomeSpentAt fs s → ⊥
-  no_flight [] s e some = let at : slice_get [] some.0 ≡ Some some.1 = some.2 in cc
-  no_flight (f ∷ fs) s e some = cc
-
-  stayed_so : (caps : Caps P) (shares : Shares) (t place : ℕ) (fs : List (RatedFlight P))
-      → AllZip (λ f g. (g.message ≡ f.message) × (g.left ≡ f.left) × (g.updated ≡ t)) fs
-      (rated_flight caps shares t place fs)
-  stayed_so caps shares t place [] = tt
-  stayed_so caps shares t place (f ∷ fs) = ((refl, refl, refl), stayed_so caps shares t (place + 1) fs)
-
-  rated_so : (caps : Caps P) (shares : Shares) (t place : ℕ) (fs : List (RatedFlight P))
-      → AllZip (λ rate f. f.rate ≡ rate_of shares.per rate)
-      (rates_from cmp caps shares.parts place (rated_messages (rated_flight caps shares t place fs)))
-      (rated_flight caps shares t place fs)
-  rated_so caps shares t place [] = tt
-  rated_so caps shares t place (f ∷ fs) = (refl, rated_so caps shares t (place + 1) fs)
-
-  account_so : (t : ℕ) (p q : Planned P) → account t p ≡ Some q → Accounts cmp t p (leavers_of t p) q
-  account_so t p q e =
-      let sending : List (RatedFlight P) = rated_at t p in
-      let shares : Shares = shares_of t p in
-      let two : (is_fair shares.per shares.parts (capped_sides cmp p.caps (rated_messages sending)) ≡ true)
-      × (bind (finish_from t sending) (λ o. Some (record p { sending = sending; finish = o })) ≡ Some q)
-      = given_so (is_fair shares.per shares.parts (capped_sides cmp p.caps (rated_messages sending)))
-      (bind (finish_from t sending) (λ o. Some (record p { sending = sending; finish = o }))) q e in
-      let found : (o : Option ℕ) × (finish_from t sending ≡ Some o) × (Some (record p { sending = sending; finish = o }) ≡ Some q)
-      = bound (finish_from t sending) (λ o. Some (record p { sending = sending; finish = o })) q two.1 in
-      let from : ℕ = hint t (rated_messages sending) in
-      let skip : (may_skip t from sending ≡ true) × (sought (is_none_of sending) (λ s. list_any (is_spent_at s) sending) n from ≡ Some found.0)
-      = given_so (may_skip t from sending) (sought (is_none_of sending) (λ s. list_any (is_spent_at s) sending) n from) found.0 found.1 in
-      let starts_at : (s : ℕ) → SomeSpentAt sending s → t ≤ s = λ s some. let at : some.1.updated ≡ t = updated_at p.caps shares t 0 (staying t p) some.0 some.1 some.2 in
-      let le : some.1.updated ≤ s = some.3 in
-      omega arith in
-      let same : record p { sending = sending; finish = found.0 } ≡ q = the_same found.2 in
-      subst (Accounts cmp t p (leavers_of t p)) same record {
-        per = shares.per;
-        rates = rates_from cmp p.caps shares.parts 0 (rated_messages sending);
-        left = refl;
-        stayed = stayed_so p.caps shares t 0 (staying t p);
-        fair = record { parts = shares.parts; fair = fair_if_so shares.per shares.parts (capped_sides cmp p.caps (rated_messages sending)) two.0; rated = refl };
-        rated = rated_so p.caps shares t 0 (staying t p);
-        finish =
-            sought_so (SomeSpentAt sending) (λ s. list_any (is_spent_at s) sending) (λ s h. spent_if_so s sending h)
-            (λ s h. so_if_spent s sending h.0 h.1 h.2 h.3 h.4) (is_none_of sending) n from found.0
-            (λ h s some. no_flight sending s h some) (λ s some. skip_so t from sending skip.0 s some (starts_at s some)) skip.1;
-        same = refl;
-      }
-
-  -- ---- looks
-
-  abbrev pub is_ready_at : ℕ → Planned P → ℕ → Bool
-  is_ready_at t p s = nat_le t s && list_any (may_launch cmp s p) (fronts cmp p.waiting)
-
-  -- each pair that waits has a message in flight
-  abbrev pub all_busy : Planned P → Bool
-  all_busy p = list_all (λ m. list_any (same_pair cmp m) (rated_messages p.sending)) p.waiting
-
-  abbrev pub look : ℕ → Planned P → Option (Planned P)
-  look t p = bind (sought (all_busy p) (is_ready_at t p) n t) (λ o. Some (record p { start = o }))
-
-  ready_if_so : (t : ℕ) (p : Planned P) (s : ℕ) → is_ready_at t p s ≡ true → (t ≤ s) × SomeReadyAt cmp p s
-  ready_if_so t p s e =
-      let two : (nat_le t s ≡ true) × (list_any (may_launch cmp s p) (fronts cmp p.waiting) ≡ true) =
-      and_parts (nat_le t s) (list_any (may_launch cmp s p) (fronts cmp p.waiting)) e in
-      (leb-true t s two.0, found_in (fronts cmp p.waiting) (fronts_are_first cmp order p.waiting) two.1)
-    where
-      found_in : (ms : List (Message P)) → Each (λ m. find (same_pair cmp m) p.waiting ≡ Some m) ms → list_any (may_launch cmp s p) ms ≡ true → SomeReadyAt cmp p s
-      found_in [] all e = cc
-      found_in (m ∷ ms) all e = by_test (may_launch cmp s p m) refl e (found_in ms all.1)
-        where
-          by_test : (b : Bool) → may_launch cmp s p m ≡ b → (b || list_any (may_launch cmp s p) ms) ≡ true
-              → (list_any (may_launch cmp s p) ms ≡ true → SomeReadyAt cmp p s) → SomeReadyAt cmp p s
-          by_test true is e ih = (m, all.0, is)
-          by_test false is e ih = ih e
-
-  so_if_ready : (t : ℕ) (p : Planned P) (s : ℕ) → (t ≤ s) × SomeReadyAt cmp p s → is_ready_at t p s ≡ true
-  so_if_ready t p s h =
-      ap (λ (b : Bool). b && list_any (may_launch cmp s p) (fronts cmp p.waiting)) (le-leb t s h.0)
-      ∙ among (fronts cmp p.waiting) (first_in_fronts cmp order h.1.0 p.waiting h.1.1)
-    where
-      among : (ms : List (Message P)) → In ms h.1.0 → list_any (may_launch cmp s p) ms ≡ true
-      among [] has = absurd has
-      among (m ∷ ms) (inl same) = let may : may_launch cmp s p m ≡ true = ap (may_launch cmp s p) same ∙ h.1.2 in rw may refl
-      among (m ∷ ms) (inr has) = ap (λ (b : Bool). may_launch cmp s p m || b) (among ms has) ∙ or-true (may_launch cmp s p m)
-
-  found_all : (test kind : Message P → Bool) (ws : List (Message P)) (m : Message P) → find test ws ≡ Some m → list_all kind ws ≡ true → kind m ≡ true
-  found_all test kind [] m e all = cc
-  found_all test kind (w ∷ ws) m e all =
-      let two : (kind w ≡ true) × (list_all kind ws ≡ true) = and_parts (kind w) (list_all kind ws) all in
-      by_test (test w) e two.0 (λ h. found_all test kind ws m h two.1)
-    where
-      by_test : (b : Bool) → cond b (Some w) (find test ws) ≡ Some m → kind w ≡ true → (find test ws ≡ Some m → kind m ≡ true) → kind m ≡ true
-      by_test true e here ih = ap kind (sym (the_same e)) ∙ here
-      by_test false e here ih = ih e
-
-  never_ready : (p : Planned P) (s : ℕ) → all_busy p ≡ true → SomeReadyAt cmp p s → ⊥
-  never_ready p s e some =
-      let busy : list_any (same_pair cmp some.0) (rated_messages p.sending) ≡ true
-      = found_all (same_pair cmp some.0) (λ m. list_any (same_pair cmp m) (rated_messages p.sending)) p.waiting some.0 some.1 e in
-      let may : may_launch cmp s p some.0 ≡ true = some.2 in
-      let parts : (not (list_any (same_pair cmp some.0) (rated_messages p.sending)) ≡ true)
-      × (is_in_order (p.last_arrival some.0.origin some.0.recipient) (s + some.0.latency) ≡ true)
-      = and_parts (not (list_any (same_pair cmp some.0) (rated_messages p.sending)))
-      (is_in_order (p.last_arrival some.0.origin some.0.recipient) (s + some.0.latency)) may in
-      not_both (list_any (same_pair cmp some.0) (rated_messages p.sending)) busy parts.0
-    where
-      not_both : (b : Bool) → b ≡ true → not b ≡ true → ⊥
-      not_both true is e = cc
-      not_both false is e = cc
-
-  look_so : (t : ℕ) (p q : Planned P) → look t p ≡ Some q → PlansStart cmp t p q
-  look_so t p q e =
-      let found : (o : Option ℕ) × (sought (all_busy p) (is_ready_at t p) n t ≡ Some o) × (Some (record p { start = o }) ≡ Some q)
-      = bound (sought (all_busy p) (is_ready_at t p) n t) (λ o. Some (record p { start = o })) q e in
-      let same : record p { start = found.0 } ≡ q = the_same found.2 in
-      subst (PlansStart cmp t p) same record {
-        start =
-            sought_so (λ s. (t ≤ s) × SomeReadyAt cmp p s) (is_ready_at t p) (ready_if_so t p) (so_if_ready t p)
-            (all_busy p) n t found.0 (λ h s some. never_ready p s h some.1) (λ s some. some.0) found.1;
-        same = refl;
-      }
-
-  -- ---- launches, finishes and wakes
-
-  abbrev pub launch : ℕ → Planned P → Option (Message P) → Option (Course (Message P) (Planned P))
-  launch t p None = Some (goes [] p)
-  launch t p (Some m) =
-      cond (may_launch cmp t p m)
-      (cond (nat_lt p.next_id last_moment) (bind (account t (launched cmp t p m)) (λ q. Some (goes (leavers_of t (launched cmp t p m)) q))) (Some (meets FlowIdsUsedUp)))
-      (Some (goes [] p))
-
-  launch_so : (t : ℕ) (p : Planned P) (o : Option (Message P)) (c : Course (Message P) (Planned P)) → launch t p o ≡ Some c → Launches cmp t p o c
-  launch_so t p None c e = subst (Launches cmp t p None) (the_same e) nothing_waits
-  launch_so t p (Some m) c e = by_test (may_launch cmp t p m) (nat_lt p.next_id last_moment) refl refl e
-    where
-      by_test : (b d : Bool) → may_launch cmp t p m ≡ b → nat_lt p.next_id last_moment ≡ d
-          → cond b
-          (cond d (bind (account t (launched cmp t p m)) (λ q. Some (goes (leavers_of t (launched cmp t p m)) q)))
-          (Some (meets FlowIdsUsedUp)))
-          (Some (goes [] p))
-          ≡ Some c
-          → Launches cmp t p (Some m) c
-      by_test true true may below e =
-          let found : (q : Planned P) × (account t (launched cmp t p m) ≡ Some q) × (Some (goes (leavers_of t (launched cmp t p m)) q) ≡ Some c)
-          = bound (account t (launched cmp t p m)) (λ q. Some (goes (leavers_of t (launched cmp t p m)) q)) c e in
-          subst (Launches cmp t p (Some m)) (the_same found.2) (starts may (ltb-true p.next_id last_moment below) (account_so t (launched cmp t p m) found.0 found.1))
-      by_test true false may below e = subst (Launches cmp t p (Some m)) (the_same e) (no_id may (ltb-false p.next_id last_moment below))
-      by_test false d may below e = subst (Launches cmp t p (Some m)) (the_same e) (too_early may)
-
-  -- the finishes of a queue, at most so many
-  abbrev pub finish_all : ℕ → ℕ → List (Message P) → Planned P → Option (Course (Completed P) (Planned P))
-  finish_all t zero ms p = None
-  finish_all t (suc k) [] p = bind (look t p) (λ q. Some (goes [] q))
-  finish_all t (suc k) (m ∷ ms) p = cond (is_late cmp t m) (Some (meets MomentTooLate))
-      (bind (launch t (landed cmp t p m) (next_of cmp p m))
-      (λ c. followed c
-      (λ more q. bind (finish_all t k (ms ++ more) q) (λ rest. Some (preceded (completed cmp t m ∷ []) rest)))))
-
-  abbrev AreFinishes : ℕ → ℕ → Type 0
-  AreFinishes t k = (ms : List (Message P)) (q : Planned P) (c : Course (Completed P) (Planned P)) → finish_all t k ms q ≡ Some c → Finishes cmp t ms q c
-
-  finish_all_so : (t k : ℕ) (ms : List (Message P)) (p : Planned P) (c : Course (Completed P) (Planned P)) → finish_all t k ms p ≡ Some c → Finishes cmp t ms p c
-  finish_all_so t zero ms p c e = cc
-  finish_all_so t (suc k) [] p c e =
-      let found : (q : Planned P) × (look t p ≡ Some q) × (Some (goes [] q) ≡ Some c) = bound (look t p) (λ q. Some (goes [] q)) c e in
-      subst (Finishes cmp t [] p) (the_same found.2) (all_completed (look_so t p found.0 found.1))
-  finish_all_so t (suc k) (m ∷ ms) p c e = by_late (is_late cmp t m) refl e (finish_all_so t k)
-    where
-      by_launch : (l : Course (Message P) (Planned P)) → is_late cmp t m ≡ false → Launches cmp t (landed cmp t p m) (next_of cmp p m) l
-          → followed l (λ more q. bind (finish_all t k (ms ++ more) q) (λ rest. Some (preceded (completed cmp t m ∷ []) rest))) ≡ Some c → AreFinishes t k
-          → Finishes cmp t (m ∷ ms) p c
-      by_launch (meets fault) is l e ih = subst (Finishes cmp t (m ∷ ms) p) (the_same e) (stopped is l)
-      by_launch (goes more q) is l e ih =
-          let found : (rest : Course (Completed P) (Planned P)) × (finish_all t k (ms ++ more) q ≡ Some rest) × (Some (preceded (completed cmp t m ∷ []) rest) ≡ Some c)
-          = bound (finish_all t k (ms ++ more) q) (λ rest. Some (preceded (completed cmp t m ∷ []) rest)) c e in
-          subst (Finishes cmp t (m ∷ ms) p) (the_same found.2) (completes is l (ih (ms ++ more) q found.0 found.1))
-
-      by_late : (b : Bool) → is_late cmp t m ≡ b
-          → cond b (Some (meets MomentTooLate)) (bind (launch t (landed cmp t p m) (next_of cmp p m))
-          (λ c. followed c (λ more q. bind (finish_all t k (ms ++ more) q)
-          (λ rest. Some (preceded (completed cmp t m ∷ []) rest))))) ≡ Some c
-          → AreFinishes t k → Finishes cmp t (m ∷ ms) p c
-      by_late true is e ih = subst (Finishes cmp t (m ∷ ms) p) (the_same e) (late is)
-      by_late false is e ih =
-          let found : (l : Course (Message P) (Planned P)) × (launch t (landed cmp t p m) (next_of cmp p m) ≡ Some l)
-          × (followed l (λ more q. bind (finish_all t k (ms ++ more) q)
-          (λ rest. Some (preceded (completed cmp t m ∷ []) rest))) ≡ Some c)
-          = bound (launch t (landed cmp t p m) (next_of cmp p m))
-          (λ l. followed l
-          (λ more q. bind (finish_all t k (ms ++ more) q)
-          (λ rest. Some (preceded (completed cmp t m ∷ []) rest))))
-          c e in
-          by_launch found.0 is (launch_so t (landed cmp t p m) (next_of cmp p m) found.0 found.1) found.2 ih
-
-  -- those pairs start
-  abbrev pub wake_each : ℕ → List (Message P) → Planned P → Option (Course (Completed P) (Planned P))
-  wake_each t [] p = bind (look t p) (λ q. Some (goes [] q))
-  wake_each t (m ∷ ms) p =
-      bind (launch t p (next_of cmp p m))
-      (λ c. followed c
-      (λ more q. bind (finish_all t n more q)
-      (λ d. followed d (λ cs r. bind (wake_each t ms r) (λ rest. Some (preceded cs rest))))))
-
-  abbrev AreWakes : ℕ → List (Message P) → Type 0
-  AreWakes t ms = (q : Planned P) (c : Course (Completed P) (Planned P)) → wake_each t ms q ≡ Some c → WakesEach cmp t ms q c
-
-  wake_each_so : (t : ℕ) (ms : List (Message P)) (p : Planned P) (c : Course (Completed P) (Planned P)) → wake_each t ms p ≡ Some c → WakesEach cmp t ms p c
-  wake_each_so t [] p c e =
-      let found : (q : Planned P) × (look t p ≡ Some q) × (Some (goes [] q) ≡ Some c) = bound (look t p) (λ q. Some (goes [] q)) c e in
-      subst (WakesEach cmp t [] p) (the_same found.2) (all_started (look_so t p found.0 found.1))
-  wake_each_so t (m ∷ ms) p c e =
-      let found : (l : Course (Message P) (Planned P)) × (launch t p (next_of cmp p m) ≡ Some l)
-      × (followed l (λ more q. bind (finish_all t n more q)
-      (λ d. followed d (λ cs r. bind (wake_each t ms r) (λ rest. Some (preceded cs rest))))) ≡ Some c)
-      = bound (launch t p (next_of cmp p m))
-      (λ l. followed l
-      (λ more q. bind (finish_all t n more q)
-      (λ d. followed d (λ cs r. bind (wake_each t ms r) (λ rest. Some (preceded cs rest))))))
-      c e in
-      by_launch found.0 (launch_so t p (next_of cmp p m) found.0 found.1) found.2 (wake_each_so t ms)
-    where
-      by_finish : (more : List (Message P)) (q : Planned P) (d : Course (Completed P) (Planned P))
-          → Launches cmp t p (next_of cmp p m) (goes more q) → Finishes cmp t more q d
-          → followed d (λ cs r. bind (wake_each t ms r) (λ rest. Some (preceded cs rest))) ≡ Some c → AreWakes t ms → WakesEach cmp t (m ∷ ms) p c
-      by_finish more q (meets fault) l f e ih = subst (WakesEach cmp t (m ∷ ms) p) (the_same e) (no_finish l f)
-      by_finish more q (goes cs r) l f e ih =
-          let found : (rest : Course (Completed P) (Planned P)) × (wake_each t ms r ≡ Some rest) × (Some (preceded cs rest) ≡ Some c)
-          = bound (wake_each t ms r) (λ rest. Some (preceded cs rest)) c e in
-          subst (WakesEach cmp t (m ∷ ms) p) (the_same found.2) (starts_one l f (ih r found.0 found.1))
-
-      by_launch : (l : Course (Message P) (Planned P)) → Launches cmp t p (next_of cmp p m) l
-          → followed l
-          (λ more q. bind (finish_all t n more q)
-          (λ d. followed d (λ cs r. bind (wake_each t ms r) (λ rest. Some (preceded cs rest)))))
-          ≡ Some c
-          → AreWakes t ms
-          → WakesEach cmp t (m ∷ ms) p c
-      by_launch (meets fault) l e ih = subst (WakesEach cmp t (m ∷ ms) p) (the_same e) (no_start l)
-      by_launch (goes more q) l e ih =
-          let found : (d : Course (Completed P) (Planned P)) × (finish_all t n more q ≡ Some d)
-          × (followed d (λ cs r. bind (wake_each t ms r) (λ rest. Some (preceded cs rest))) ≡ Some c)
-          = bound (finish_all t n more q) (λ d. followed d (λ cs r. bind (wake_each t ms r) (λ rest. Some (preceded cs rest)))) c e in
-          by_finish more q found.0 l (finish_all_so t n more q found.0 found.1) found.2 ih
-
-  abbrev pub wake_at : ℕ → Planned P → Option (Course (Completed P) (Planned P))
-  wake_at t p = wake_each t (filter (may_launch cmp t p) (fronts cmp p.waiting)) p
-
-  abbrev pub settle_at : ℕ → Planned P → Option (Course (Completed P) (Planned P))
-  settle_at t p = bind (account t p) (λ q. finish_all t n (leavers_of t p) q)
-
-  settle_at_so : (t : ℕ) (p : Planned P) (c : Course (Completed P) (Planned P)) → settle_at t p ≡ Some c → Settles cmp t p c
-  settle_at_so t p c e =
-      let found : (q : Planned P) × (account t p ≡ Some q) × (finish_all t n (leavers_of t p) q ≡ Some c) =
-      bound (account t p) (λ q. finish_all t n (leavers_of t p) q) c e in
-      settling (account_so t p found.0 found.1) (finish_all_so t n (leavers_of t p) found.0 c found.2)
-
+module _ {P : Type 0} (cmp : P → P → Ordering) (order : IsTotalOrder cmp) (plan : Caps P → List (Message P) → Shares)
+    (hint : ℕ → List (Message P) → ℕ) (n : ℕ) where
   -- ---- calls
 
   abbrev pub rebalance_at : ℕ → Caps P → Planned P → Option (Course (Completed P) (Planned P))
   rebalance_at now caps p =
-      if is_none_of p.sending then bind (look now (record p { caps = caps; limited = true }))
-      (λ q. Some (goes [] q)) else settle_at now (record p { caps = caps; limited = true })
+      if is_none_of p.sending then bind (look cmp order plan hint n now (record p { caps = caps; limited = true }))
+      (λ q. Some (goes [] q)) else settle_at cmp order plan hint n now (record p { caps = caps; limited = true })
 
-  rebalance_at_so : (now : ℕ) (caps : Caps P) (p : Planned P) (c : Course (Completed P) (Planned P)) → rebalance_at now caps p ≡ Some c → Rebalances cmp now caps p c
+  rebalance_at_so : (now : ℕ) (caps : Caps P) (p : Planned P) (c : Course (Completed P) (Planned P))
+      → rebalance_at now caps p ≡ Some c → Rebalances cmp now caps p c
   rebalance_at_so now caps p c e = by_sending p.sending refl e
     where
       by_sending : (fs : List (RatedFlight P)) → p.sending ≡ fs
-          → (if is_none_of fs then bind (look now (record p { caps = caps; limited = true })) (λ q. Some (goes [] q))
-          else settle_at now (record p { caps = caps; limited = true }))
+          → (if is_none_of fs then bind (look cmp order plan hint n now (record p {
+            caps = caps;
+            limited = true;
+          })) (λ q. Some (goes [] q))
+          else settle_at cmp order plan hint n now (record p { caps = caps; limited = true }))
           ≡ Some c
           → Rebalances cmp now caps p c
       by_sending [] is e =
-          let found : (q : Planned P) × (look now (record p { caps = caps; limited = true }) ≡ Some q) × (Some (goes [] q) ≡ Some c)
-          = bound (look now (record p { caps = caps; limited = true })) (λ q. Some (goes [] q)) c e in
-          subst (Rebalances cmp now caps p) (the_same found.2) (none_sending is (look_so now (record p { caps = caps; limited = true }) found.0 found.1))
-      by_sending (f ∷ fs) is e = some_sending (λ none. not_none (sym is ∙ none)) (settle_at_so now (record p { caps = caps; limited = true }) c e)
+          let found : (q : Planned P) × (look cmp order plan hint n now (record p {
+            caps = caps;
+            limited = true;
+          }) ≡ Some q) × (Some (goes [] q) ≡ Some c)
+          = bound (look cmp order plan hint n now (record p {
+            caps = caps;
+            limited = true;
+          })) (λ q. Some (goes [] q)) c e in
+          subst (Rebalances cmp now caps p) (the_same found.2)
+          (none_sending is (look_so cmp order plan hint n now (record p {
+            caps = caps;
+            limited = true;
+          }) found.0 found.1))
+      by_sending (f ∷ fs) is e = some_sending (λ none. not_none (sym is ∙ none))
+          (settle_at_so cmp order plan hint n now (record p { caps = caps; limited = true }) c e)
         where
           not_none : f ∷ fs ≡ [] → ⊥
           not_none h = cc
 
   abbrev pub enqueue_at : ℕ → Message P → Planned P → Option (Course (Completed P) (Planned P))
   enqueue_at now m p =
-      cond p.limited (bind (launch now (with_queued cmp p m) (next_of cmp (with_queued cmp p m) m)) (λ c. followed c (λ leavers mid. finish_all now n leavers mid)))
+      cond p.limited
+      (bind (launch cmp order plan hint n now (with_queued cmp p m) (next_of cmp (with_queued cmp p m) m))
+      (λ c. followed c (λ leavers mid. finish_all cmp order plan hint n now n leavers mid)))
       (Some (completed_at_once cmp now p m))
 
-  enqueue_at_so : (now : ℕ) (m : Message P) (p : Planned P) (c : Course (Completed P) (Planned P)) → enqueue_at now m p ≡ Some c → Enqueues cmp now m p c
+  enqueue_at_so : (now : ℕ) (m : Message P) (p : Planned P) (c : Course (Completed P) (Planned P))
+      → enqueue_at now m p ≡ Some c → Enqueues cmp now m p c
   enqueue_at_so now m p c e = by_limited p.limited refl e
     where
-      by_launch : (l : Course (Message P) (Planned P)) → p.limited ≡ true → Launches cmp now (with_queued cmp p m) (next_of cmp (with_queued cmp p m) m) l
-          → followed l (λ leavers mid. finish_all now n leavers mid) ≡ Some c → Enqueues cmp now m p c
+      by_launch : (l : Course (Message P) (Planned P)) → p.limited ≡ true
+          → Launches cmp now (with_queued cmp p m) (next_of cmp (with_queued cmp p m) m) l
+          → followed l (λ leavers mid. finish_all cmp order plan hint n now n leavers mid) ≡ Some c
+          → Enqueues cmp now m p c
       by_launch (meets fault) is l e = subst (Enqueues cmp now m p) (the_same e) (no_launch is l)
-      by_launch (goes leavers mid) is l e = launches is l (finish_all_so now n leavers mid c e)
+      by_launch (goes leavers mid) is l e = launches is l (finish_all_so cmp order plan hint n now n leavers mid c e)
 
       by_limited : (b : Bool) → p.limited ≡ b
-          → cond b (bind (launch now (with_queued cmp p m) (next_of cmp (with_queued cmp p m) m))
-          (λ c. followed c (λ leavers mid. finish_all now n leavers mid))) (Some (completed_at_once cmp now p m))
+          → cond b (bind (launch cmp order plan hint n now (with_queued cmp p m) (next_of cmp (with_queued cmp p m) m))
+          (λ c. followed c (λ leavers mid. finish_all cmp order plan hint n now n leavers mid)))
+          (Some (completed_at_once cmp now p m))
           ≡ Some c
           → Enqueues cmp now m p c
       by_limited true is e =
           let found : (l : Course (Message P) (Planned P))
-          × (launch now (with_queued cmp p m) (next_of cmp (with_queued cmp p m) m) ≡ Some l)
-          × (followed l (λ leavers mid. finish_all now n leavers mid) ≡ Some c)
-          = bound (launch now (with_queued cmp p m) (next_of cmp (with_queued cmp p m) m)) (λ l. followed l (λ leavers mid. finish_all now n leavers mid)) c e in
-          by_launch found.0 is (launch_so now (with_queued cmp p m) (next_of cmp (with_queued cmp p m) m) found.0 found.1) found.2
+          × (launch cmp order plan hint n now (with_queued cmp p m) (next_of cmp (with_queued cmp p m) m) ≡ Some l)
+          × (followed l (λ leavers mid. finish_all cmp order plan hint n now n leavers mid) ≡ Some c)
+          = bound (launch cmp order plan hint n now (with_queued cmp p m) (next_of cmp (with_queued cmp p m) m))
+          (λ l. followed l (λ leavers mid. finish_all cmp order plan hint n now n leavers mid)) c e in
+          by_launch found.0 is (launch_so cmp order plan hint n now (with_queued cmp p m)
+          (next_of cmp (with_queued cmp p m) m) found.0 found.1) found.2
       by_limited false is e = subst (Enqueues cmp now m p) (the_same e) (at_once is)
 
   -- whether that is the moment
@@ -543,12 +115,13 @@ module _ {P : Type 0} (cmp : P → P → Ordering) (order : IsTotalOrder cmp) (p
   -- the event that is planned at that moment
   abbrev pub event_of : Planned P → Option ℕ → Option (Course (Completed P) (Planned P))
   event_of p None = None
-  event_of p (Some t) = cond (is_moment t p.finish) (settle_at t (record p { finish = None })) (wake_at t (record p { start = None }))
+  event_of p (Some t) = cond (is_moment t p.finish) (settle_at cmp order plan hint n t (record p { finish = None }))
+      (wake_at cmp order plan hint n t (record p { start = None }))
 
   abbrev pub advance_at : ℕ → ℕ → Planned P → Option (Course (Completed P) (Planned P))
   advance_at now zero p = None
   advance_at now (suc k) p =
-      cond (is_past now (next_event p)) (wake_at now p)
+      cond (is_past now (next_event p)) (wake_at cmp order plan hint n now p)
       (bind (event_of p (next_event p))
       (λ c. followed c (λ cs q. bind (advance_at now k q) (λ rest. Some (preceded cs rest)))))
 
@@ -556,7 +129,8 @@ module _ {P : Type 0} (cmp : P → P → Ordering) (order : IsTotalOrder cmp) (p
   Advanced now p c = (m : ℕ) × Advances cmp now p m c
 
   abbrev AreAdvanced : ℕ → ℕ → Type 0
-  AreAdvanced now k = (q : Planned P) (c : Course (Completed P) (Planned P)) → advance_at now k q ≡ Some c → Advanced now q c
+  AreAdvanced now k =
+      (q : Planned P) (c : Course (Completed P) (Planned P)) → advance_at now k q ≡ Some c → Advanced now q c
 
   is_at : (t : ℕ) (o : Option ℕ) → is_moment t o ≡ true → o ≡ Some t
   is_at t None e = cc
@@ -566,44 +140,57 @@ module _ {P : Type 0} (cmp : P → P → Ordering) (order : IsTotalOrder cmp) (p
   is_not_at t None e same = cc
   is_not_at t (Some s) e same = let here : (s == t) ≡ true = eq-eqb s t (the_same same) in cc
 
-  advance_at_so : (now k : ℕ) (p : Planned P) (c : Course (Completed P) (Planned P)) → advance_at now k p ≡ Some c → Advanced now p c
+  advance_at_so : (now k : ℕ) (p : Planned P) (c : Course (Completed P) (Planned P)) → advance_at now k p ≡ Some c
+      → Advanced now p c
   advance_at_so now zero p c e = cc
   advance_at_so now (suc k) p c e = by_next (next_event p) refl e (advance_at_so now k)
     where
-      at_event : (t : ℕ) (b : Bool) (d : Course (Completed P) (Planned P)) → next_event p ≡ Some t → t ≤ now → is_moment t p.finish ≡ b
-          → cond b (settle_at t (record p { finish = None })) (wake_at t (record p { start = None })) ≡ Some d
-          → followed d (λ cs q. bind (advance_at now k q) (λ rest. Some (preceded cs rest))) ≡ Some c → AreAdvanced now k → Advanced now p c
+      at_event : (t : ℕ) (b : Bool) (d : Course (Completed P) (Planned P)) → next_event p ≡ Some t → t ≤ now
+          → is_moment t p.finish ≡ b
+          → cond b (settle_at cmp order plan hint n t (record p { finish = None }))
+          (wake_at cmp order plan hint n t (record p { start = None })) ≡ Some d
+          → followed d (λ cs q. bind (advance_at now k q) (λ rest. Some (preceded cs rest))) ≡ Some c
+          → AreAdvanced now k → Advanced now p c
       at_event t true (meets fault) is due finish e more ih =
-          subst (Advanced now p) (the_same more) (1, finish_stops (is_at t p.finish finish) is due (settle_at_so t (record p { finish = None }) (meets fault) e))
+          subst (Advanced now p) (the_same more) (
+            1,
+            finish_stops (is_at t p.finish finish) is due
+                (settle_at_so cmp order plan hint n t (record p { finish = None }) (meets fault) e),
+          )
       at_event t false (meets fault) is due finish e more ih =
           subst (Advanced now p) (the_same more) (
             1,
             start_stops (is_not_at t p.finish finish) is due
-                (wake_each_so t (filter (may_launch cmp t p) (fronts cmp p.waiting)) (record p { start = None })
+                (wake_each_so cmp order plan hint n t (filter (may_launch cmp t p) (fronts cmp p.waiting))
+                (record p { start = None })
                 (meets fault) e),
           )
       at_event t true (goes cs q) is due finish e more ih =
-          let found : (rest : Course (Completed P) (Planned P)) × (advance_at now k q ≡ Some rest) × (Some (preceded cs rest) ≡ Some c)
+          let found : (rest : Course (Completed P) (Planned P)) × (advance_at now k q ≡ Some rest)
+          × (Some (preceded cs rest) ≡ Some c)
           = bound (advance_at now k q) (λ rest. Some (preceded cs rest)) c more in
           let rest : Advanced now q found.0 = ih q found.0 found.1 in
           subst (Advanced now p) (the_same found.2) (
             rest.0 + 1,
-            at_finish (is_at t p.finish finish) is due (settle_at_so t (record p { finish = None }) (goes cs q) e)
+            at_finish (is_at t p.finish finish) is due
+                (settle_at_so cmp order plan hint n t (record p { finish = None }) (goes cs q) e)
                 rest.1,
           )
       at_event t false (goes cs q) is due finish e more ih =
-          let found : (rest : Course (Completed P) (Planned P)) × (advance_at now k q ≡ Some rest) × (Some (preceded cs rest) ≡ Some c)
+          let found : (rest : Course (Completed P) (Planned P)) × (advance_at now k q ≡ Some rest)
+          × (Some (preceded cs rest) ≡ Some c)
           = bound (advance_at now k q) (λ rest. Some (preceded cs rest)) c more in
           let rest : Advanced now q found.0 = ih q found.0 found.1 in
           subst (Advanced now p) (the_same found.2) (
             rest.0 + 1,
             at_start (is_not_at t p.finish finish) is due
-                (wake_each_so t (filter (may_launch cmp t p) (fronts cmp p.waiting)) (record p { start = None })
+                (wake_each_so cmp order plan hint n t (filter (may_launch cmp t p) (fronts cmp p.waiting))
+                (record p { start = None })
                 (goes cs q) e) rest.1,
           )
 
       by_past : (t : ℕ) (b : Bool) → next_event p ≡ Some t → nat_lt now t ≡ b
-          → cond b (wake_at now p)
+          → cond b (wake_at cmp order plan hint n now p)
           (bind (event_of p (Some t))
           (λ d. followed d (λ cs q. bind (advance_at now k q) (λ rest. Some (preceded cs rest)))))
           ≡ Some c
@@ -612,21 +199,24 @@ module _ {P : Type 0} (cmp : P → P → Ordering) (order : IsTotalOrder cmp) (p
       by_past t true is past e ih = (
         0,
         no_more (subst (λ (o : Option ℕ). IfSome o (λ s. now < s)) (sym is) (ltb-true now t past))
-            (wake_each_so now (filter (may_launch cmp now p) (fronts cmp p.waiting)) p c e),
+            (wake_each_so cmp order plan hint n now (filter (may_launch cmp now p) (fronts cmp p.waiting)) p c e),
       )
       by_past t false is past e ih =
           let found : (d : Course (Completed P) (Planned P)) × (event_of p (Some t) ≡ Some d)
           × (followed d (λ cs q. bind (advance_at now k q) (λ rest. Some (preceded cs rest))) ≡ Some c)
-          = bound (event_of p (Some t)) (λ d. followed d (λ cs q. bind (advance_at now k q) (λ rest. Some (preceded cs rest)))) c e in
+          = bound (event_of p (Some t))
+          (λ d. followed d (λ cs q. bind (advance_at now k q) (λ rest. Some (preceded cs rest)))) c e in
           at_event t (is_moment t p.finish) found.0 is (ltb-false now t past) refl found.1 found.2 ih
 
       by_next : (o : Option ℕ) → next_event p ≡ o
-          → cond (is_past now o) (wake_at now p) (bind (event_of p o) (λ d. followed d (λ cs q. bind (advance_at now k q) (λ rest. Some (preceded cs rest))))) ≡ Some c
+          → cond (is_past now o) (wake_at cmp order plan hint n now p)
+          (bind (event_of p o)
+          (λ d. followed d (λ cs q. bind (advance_at now k q) (λ rest. Some (preceded cs rest))))) ≡ Some c
           → AreAdvanced now k → Advanced now p c
       by_next None is e ih = (
         0,
         no_more (subst (λ (o : Option ℕ). IfSome o (λ s. now < s)) (sym is) tt)
-            (wake_each_so now (filter (may_launch cmp now p) (fronts cmp p.waiting)) p c e),
+            (wake_each_so cmp order plan hint n now (filter (may_launch cmp now p) (fronts cmp p.waiting)) p c e),
       )
       by_next (Some t) is e ih = by_past t (nat_lt now t) is refl e ih
 
@@ -637,16 +227,20 @@ module _ {P : Type 0} (cmp : P → P → Ordering) (order : IsTotalOrder cmp) (p
   obeys_at p (call_advance now) = advance_at now n p
   obeys_at p call_next = Some (goes [] p)
 
-  obeys_at_so : (p : Planned P) (call : Call P) (c : Course (Completed P) (Planned P)) → obeys_at p call ≡ Some c → Obeys cmp p call c
-  obeys_at_so p (call_limit now peer egress ingress) c e = rebalance_at_so now (limited_by cmp p.caps peer egress ingress) p c e
-  obeys_at_so p (call_limit_link now origin recipient cap) c e = rebalance_at_so now (linked_by cmp p.caps origin recipient cap) p c e
+  obeys_at_so : (p : Planned P) (call : Call P) (c : Course (Completed P) (Planned P)) → obeys_at p call ≡ Some c
+      → Obeys cmp p call c
+  obeys_at_so p (call_limit now peer egress ingress) c e =
+      rebalance_at_so now (limited_by cmp p.caps peer egress ingress) p c e
+  obeys_at_so p (call_limit_link now origin recipient cap) c e =
+      rebalance_at_so now (linked_by cmp p.caps origin recipient cap) p c e
   obeys_at_so p (call_enqueue now m) c e = enqueue_at_so now m p c e
   obeys_at_so p (call_advance now) c e = advance_at_so now n p c e
   obeys_at_so p call_next c e = sym (the_same e)
 
   -- ---- replies
 
-  abbrev pub replied_to : Course (Completed P) (Planned P) → Planned P → (Planned P → Option (List (Reply P))) → Option (List (Reply P))
+  abbrev pub replied_to : Course (Completed P) (Planned P) → Planned P → (Planned P → Option (List (Reply P)))
+      → Option (List (Reply P))
   replied_to (goes cs q) p rest = bind (rest q) (λ replies. Some (reply_done cs ∷ replies))
   replied_to (meets OutOfMemory) p rest = None
   replied_to (meets NumberTooLarge) p rest = None
@@ -660,9 +254,12 @@ module _ {P : Type 0} (cmp : P → P → Ordering) (order : IsTotalOrder cmp) (p
       bind (obeys_at p (call_limit now peer egress ingress)) (λ c. replied_to c p (λ q. replies_by_rule q calls))
   replies_by_rule p (call_limit_link now origin recipient cap ∷ calls) =
       bind (obeys_at p (call_limit_link now origin recipient cap)) (λ c. replied_to c p (λ q. replies_by_rule q calls))
-  replies_by_rule p (call_enqueue now m ∷ calls) = bind (obeys_at p (call_enqueue now m)) (λ c. replied_to c p (λ q. replies_by_rule q calls))
-  replies_by_rule p (call_advance now ∷ calls) = bind (obeys_at p (call_advance now)) (λ c. replied_to c p (λ q. replies_by_rule q calls))
-  replies_by_rule p (call_next ∷ calls) = bind (replies_by_rule p calls) (λ replies. Some (reply_next (next_event p) ∷ replies))
+  replies_by_rule p (call_enqueue now m ∷ calls) =
+      bind (obeys_at p (call_enqueue now m)) (λ c. replied_to c p (λ q. replies_by_rule q calls))
+  replies_by_rule p (call_advance now ∷ calls) =
+      bind (obeys_at p (call_advance now)) (λ c. replied_to c p (λ q. replies_by_rule q calls))
+  replies_by_rule p (call_next ∷ calls) =
+      bind (replies_by_rule p calls) (λ replies. Some (reply_next (next_event p) ∷ replies))
 
   -- what a reply to a call, other than for the next event, must be
   abbrev Replied : Planned P → Call P → List (Call P) → List (Reply P) → Type 0
@@ -673,21 +270,26 @@ module _ {P : Type 0} (cmp : P → P → Ordering) (order : IsTotalOrder cmp) (p
       (ds : List (Completed P)) × (q : Planned P) × Obeys cmp p call (goes ds q) × AllZip (SameCompletion cmp) cs ds
       × Obeyed cmp q calls replies
 
-  limit_obeyed : (p : Planned P) (now : ℕ) (peer : P) (egress ingress : Option ℕ) (calls : List (Call P)) (replies : List (Reply P))
-      → Replied p (call_limit now peer egress ingress) calls replies → Obeyed cmp p (call_limit now peer egress ingress ∷ calls) replies
+  limit_obeyed : (p : Planned P) (now : ℕ) (peer : P) (egress ingress : Option ℕ) (calls : List (Call P))
+      (replies : List (Reply P))
+      → Replied p (call_limit now peer egress ingress) calls replies
+      → Obeyed cmp p (call_limit now peer egress ingress ∷ calls) replies
   limit_obeyed p now peer egress ingress calls [] h = h
   limit_obeyed p now peer egress ingress calls (reply_next t ∷ replies) h = h
   limit_obeyed p now peer egress ingress calls (reply_done cs ∷ replies) h = h
   limit_obeyed p now peer egress ingress calls (reply_refused why ∷ replies) h = h
 
-  link_obeyed : (p : Planned P) (now : ℕ) (origin recipient : P) (cap : Option ℕ) (calls : List (Call P)) (replies : List (Reply P))
-      → Replied p (call_limit_link now origin recipient cap) calls replies → Obeyed cmp p (call_limit_link now origin recipient cap ∷ calls) replies
+  link_obeyed : (p : Planned P) (now : ℕ) (origin recipient : P) (cap : Option ℕ) (calls : List (Call P))
+      (replies : List (Reply P))
+      → Replied p (call_limit_link now origin recipient cap) calls replies
+      → Obeyed cmp p (call_limit_link now origin recipient cap ∷ calls) replies
   link_obeyed p now origin recipient cap calls [] h = h
   link_obeyed p now origin recipient cap calls (reply_next t ∷ replies) h = h
   link_obeyed p now origin recipient cap calls (reply_done cs ∷ replies) h = h
   link_obeyed p now origin recipient cap calls (reply_refused why ∷ replies) h = h
 
-  enqueue_obeyed : (p : Planned P) (now : ℕ) (m : Message P) (calls : List (Call P)) (replies : List (Reply P)) → Replied p (call_enqueue now m) calls replies
+  enqueue_obeyed : (p : Planned P) (now : ℕ) (m : Message P) (calls : List (Call P)) (replies : List (Reply P))
+      → Replied p (call_enqueue now m) calls replies
       → Obeyed cmp p (call_enqueue now m ∷ calls) replies
   enqueue_obeyed p now m calls [] h = h
   enqueue_obeyed p now m calls (reply_next t ∷ replies) h = h
@@ -703,33 +305,40 @@ module _ {P : Type 0} (cmp : P → P → Ordering) (order : IsTotalOrder cmp) (p
 
   replied_so : (p : Planned P) (call : Call P) (calls : List (Call P)) (replies : List (Reply P))
       → ((q : Planned P) (others : List (Reply P)) → replies_by_rule q calls ≡ Some others → Obeyed cmp q calls others)
-      → bind (obeys_at p call) (λ c. replied_to c p (λ q. replies_by_rule q calls)) ≡ Some replies → Replied p call calls replies
+      → bind (obeys_at p call) (λ c. replied_to c p (λ q. replies_by_rule q calls)) ≡ Some replies
+      → Replied p call calls replies
   replied_so p call calls replies ih e =
-      let found : (c : Course (Completed P) (Planned P)) × (obeys_at p call ≡ Some c) × (replied_to c p (λ q. replies_by_rule q calls) ≡ Some replies)
+      let found : (c : Course (Completed P) (Planned P)) × (obeys_at p call ≡ Some c)
+      × (replied_to c p (λ q. replies_by_rule q calls) ≡ Some replies)
       = bound (obeys_at p call) (λ c. replied_to c p (λ q. replies_by_rule q calls)) replies e in
       by_course found.0 (obeys_at_so p call found.0 found.1) found.2
     where
       by_course : (c : Course (Completed P) (Planned P)) → Obeys cmp p call c
           → replied_to c p (λ q. replies_by_rule q calls) ≡ Some replies → Replied p call calls replies
       by_course (goes cs q) obeys e =
-          let found : (others : List (Reply P)) × (replies_by_rule q calls ≡ Some others) × (Some (reply_done cs ∷ others) ≡ Some replies)
+          let found : (others : List (Reply P)) × (replies_by_rule q calls ≡ Some others)
+          × (Some (reply_done cs ∷ others) ≡ Some replies)
           = bound (replies_by_rule q calls) (λ others. Some (reply_done cs ∷ others)) replies e in
           subst (Replied p call calls) (the_same found.2) (cs, q, obeys, same_all cmp order cs, ih q found.0 found.1)
       by_course (meets OutOfMemory) obeys e = cc
       by_course (meets NumberTooLarge) obeys e = cc
       by_course (meets MomentTooLate) obeys e =
-          let found : (others : List (Reply P)) × (replies_by_rule p calls ≡ Some others) × (Some (reply_refused MomentTooLate ∷ others) ≡ Some replies)
+          let found : (others : List (Reply P)) × (replies_by_rule p calls ≡ Some others)
+          × (Some (reply_refused MomentTooLate ∷ others) ≡ Some replies)
           = bound (replies_by_rule p calls) (λ others. Some (reply_refused MomentTooLate ∷ others)) replies e in
           subst (Replied p call calls) (the_same found.2) (obeys, ih p found.0 found.1)
       by_course (meets FlowIdsUsedUp) obeys e =
-          let found : (others : List (Reply P)) × (replies_by_rule p calls ≡ Some others) × (Some (reply_refused FlowIdsUsedUp ∷ others) ≡ Some replies)
+          let found : (others : List (Reply P)) × (replies_by_rule p calls ≡ Some others)
+          × (Some (reply_refused FlowIdsUsedUp ∷ others) ≡ Some replies)
           = bound (replies_by_rule p calls) (λ others. Some (reply_refused FlowIdsUsedUp ∷ others)) replies e in
           subst (Replied p call calls) (the_same found.2) (obeys, ih p found.0 found.1)
 
-  pub obeyed_so : (p : Planned P) (calls : List (Call P)) (replies : List (Reply P)) → replies_by_rule p calls ≡ Some replies → Obeyed cmp p calls replies
+  pub obeyed_so : (p : Planned P) (calls : List (Call P)) (replies : List (Reply P))
+      → replies_by_rule p calls ≡ Some replies → Obeyed cmp p calls replies
   obeyed_so p [] replies e = subst (Obeyed cmp p []) (the_same e) tt
   obeyed_so p (call_limit now peer egress ingress ∷ calls) replies e =
-      limit_obeyed p now peer egress ingress calls replies (replied_so p (call_limit now peer egress ingress) calls replies (λ q others h. obeyed_so q calls others h) e)
+      limit_obeyed p now peer egress ingress calls replies
+      (replied_so p (call_limit now peer egress ingress) calls replies (λ q others h. obeyed_so q calls others h) e)
   obeyed_so p (call_limit_link now origin recipient cap ∷ calls) replies e =
       link_obeyed p now origin recipient cap calls replies
       (replied_so p (call_limit_link now origin recipient cap) calls replies
@@ -741,7 +350,8 @@ module _ {P : Type 0} (cmp : P → P → Ordering) (order : IsTotalOrder cmp) (p
       advance_obeyed p now calls replies
       (replied_so p (call_advance now) calls replies (λ q others h. obeyed_so q calls others h) e)
   obeyed_so p (call_next ∷ calls) replies e =
-      let found : (others : List (Reply P)) × (replies_by_rule p calls ≡ Some others) × (Some (reply_next (next_event p) ∷ others) ≡ Some replies)
+      let found : (others : List (Reply P)) × (replies_by_rule p calls ≡ Some others)
+      × (Some (reply_next (next_event p) ∷ others) ≡ Some replies)
       = bound (replies_by_rule p calls) (λ others. Some (reply_next (next_event p) ∷ others)) replies e in
       subst (Obeyed cmp p (call_next ∷ calls)) (the_same found.2) (refl, obeyed_so p calls found.0 found.1)
 
@@ -749,24 +359,29 @@ module _ {P : Type 0} (cmp : P → P → Ordering) (order : IsTotalOrder cmp) (p
 
 abbrev pub are_in_time : {P : Type 0} → List (Call P) → Bool
 are_in_time [] = true
-are_in_time (call ∷ calls) = elim (moment_of call) [ None ↦ true | Some now ↦ nat_le now last_moment ] && are_in_time calls
+are_in_time (call ∷ calls) =
+    elim (moment_of call) [ None ↦ true | Some now ↦ nat_le now last_moment ] && are_in_time calls
 
 in_time_so : {P : Type 0} (calls : List (Call P)) → are_in_time calls ≡ true → InTime calls
 in_time_so [] e = tt
 in_time_so (call ∷ calls) e =
-    let two : (elim (moment_of call) [ None ↦ true | Some now ↦ nat_le now last_moment ] ≡ true) × (are_in_time calls ≡ true)
+    let two : (elim (moment_of call) [ None ↦ true | Some now ↦ nat_le now last_moment ] ≡ true)
+    × (are_in_time calls ≡ true)
     = and_parts (elim (moment_of call) [ None ↦ true | Some now ↦ nat_le now last_moment ]) (are_in_time calls) e in
     (by_moment (moment_of call) two.0, in_time_so calls two.1)
   where
-    by_moment : (o : Option ℕ) → elim o [ None ↦ true | Some now ↦ nat_le now last_moment ] ≡ true → (now : ℕ) → o ≡ Some now → now ≤ last_moment
+    by_moment : (o : Option ℕ) → elim o [ None ↦ true | Some now ↦ nat_le now last_moment ] ≡ true → (now : ℕ)
+        → o ≡ Some now → now ≤ last_moment
     by_moment None e now is = cc
-    by_moment (Some t) e now is = let le : t ≤ last_moment = leb-true t last_moment e in let same : t ≡ now = the_same is in omega arith
+    by_moment (Some t) e now is =
+        let le : t ≤ last_moment = leb-true t last_moment e in let same : t ≡ now = the_same is in omega arith
 
 -- what the event rule replies agrees with the simulation
 pub agrees_by_rule : {P : Type 0} (cmp : P → P → Ordering) (order : IsTotalOrder cmp)
     (plan : Caps P → List (Message P) → Shares) (hint : ℕ → List (Message P) → ℕ) (n : ℕ) (calls : List (Call P))
     (replies : List (Reply P))
-    → are_in_time calls ≡ true → replies_by_rule cmp order plan hint n (new_planned 0) calls ≡ Some replies → Agrees cmp (new_world 0) calls replies
+    → are_in_time calls ≡ true → replies_by_rule cmp order plan hint n (new_planned 0) calls ≡ Some replies
+    → Agrees cmp (new_world 0) calls replies
 agrees_by_rule cmp order plan hint n calls replies times e =
     obeyed_agree cmp order calls replies (in_time_so calls times)
     (obeyed_so cmp order plan hint n (new_planned 0) calls replies e)

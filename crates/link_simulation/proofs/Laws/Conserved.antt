@@ -31,7 +31,7 @@ use Rattle.link_simulation.proofs.Simulation.SettlingEnds.{find_like}
 use Rattle.link_simulation.proofs.Rule.Launch.{rest_of, head_of, head_found, waits_without}
 use Rattle.fair_rates.proofs.Lists.Zips.{zip-append}
 use Rattle.link_simulation.proofs.Rule.Enqueue.{queued_last}
-use Rattle.link_simulation.proofs.Laws.PairCompletions.{filter_nothing}
+use Rattle.link_simulation.proofs.Laws.PairHistories.{filter_nothing}
 use Rattle.link_simulation.proofs.Laws.Orderly.{drained_messages, stayed_messages, any_of_fewer, IsSteady, steady}
 use Rattle.link_simulation.proofs.Laws.Orderly.{idle_if_may, launched_steady, account_orderly, launch_orderly}
 use Rattle.link_simulation.proofs.Laws.Orderly.{landed_orderly, finish_orderly, wake_orderly, settle_orderly}
@@ -296,7 +296,8 @@ module _ {P : Type 0} (cmp : P → P → Ordering) (order : IsTotalOrder cmp) wh
     where
       pub done : List (Message P)
       pub completions_are : AllZip IsCompletionOf cs done
-      pub each_pair : (k : Message P) → of_pair cmp k done ++ held_of cmp k q ≡ held_of cmp k p ++ of_pair cmp k messages
+      pub each_pair : (k : Message P) → of_pair cmp k done ++ held_of cmp k q ≡ held_of cmp k p
+          ++ of_pair cmp k messages
 
   -- if it goes
   abbrev pub KeepsAll : Planned P → List (Message P) → Course (Completed P) (Planned P) → Type 0

@@ -18,7 +18,8 @@ use Rattle.link_simulation.proofs.Laws.Isolation.{part, IsPart, IsPartOf, part_a
 
 module _ {P : Type 0} (cmp : P → P → Ordering) (order : IsTotalOrder cmp) (inside : P → Bool)
     (alike : (m n : Message P) → same_pair cmp m n ≡ true → inside m.origin ≡ inside n.origin) (T : Message P → Type 0)
-    (shares : (w : World P) → Each T (flows w) → SharesNoSide cmp w.caps (λ (m : Message P). inside m.origin) (flows w)) where
+    (shares : (w : World P) → Each T (flows w)
+    → SharesNoSide cmp w.caps (λ (m : Message P). inside m.origin) (flows w)) where
   abbrev mine : Message P → Bool
   mine m = inside m.origin
 

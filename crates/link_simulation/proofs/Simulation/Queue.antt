@@ -263,7 +263,8 @@ module _ {P : Type 0} (cmp : P → P → Ordering) (order : IsTotalOrder cmp) wh
   -- a message starts in the one world and in the other
   module _ (n t : ℕ)
       (ih : (w : World P) → OneForEachPair cmp (messages w.sending)
-      → over_state (staying cmp) (settle_within cmp n t w) ≡ finish_within cmp n t (leaving cmp w) (staying cmp w)) where
+      → over_state (staying cmp) (settle_within cmp n t w)
+      ≡ finish_within cmp n t (leaving cmp w) (staying cmp w)) where
     starting : (w : World P) (fs : List (Flight P)) (v : World P) (m : Message P)
         → OneForEachPair cmp (messages w.sending)
         → list_any (same_pair cmp m) (messages w.sending) ≡ false → leaving cmp w ≡ fs → staying cmp w ≡ v

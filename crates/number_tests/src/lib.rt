@@ -1,0 +1,7 @@
+//! Tests of natural numbers and of fractions.
+#![tactic(auto)]
+
+#[cfg(test)]
+mod naturals;
+#[cfg(test)]
+mod ratios;

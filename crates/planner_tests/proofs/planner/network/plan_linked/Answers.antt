@@ -1,0 +1,12 @@
+use Rattle.std.proofs.Common.{of_calls}
+use Rattle.fair_rates.proofs.Sides.Callable.{callable_on_each, callable_on_each_pair}
+use Rattle.planner_tests.proofs.planner.network.plan_linked.Goals as goal
+
+pub allocate_linked_counted-requires-clause-egress : goal.allocate_linked_counted-requires-clause-egress
+allocate_linked_counted-requires-clause-egress c = search (of_calls, callable_on_each)
+
+pub allocate_linked_counted-requires-clause-ingress : goal.allocate_linked_counted-requires-clause-ingress
+allocate_linked_counted-requires-clause-ingress c = search (of_calls, callable_on_each)
+
+pub allocate_linked_counted-requires-clause-link : goal.allocate_linked_counted-requires-clause-link
+allocate_linked_counted-requires-clause-link c = search (of_calls, callable_on_each_pair)

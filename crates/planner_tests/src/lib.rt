@@ -1,0 +1,5 @@
+//! Tests of the rates of flows.
+#![tactic(auto)]
+
+#[cfg(test)]
+mod planner;

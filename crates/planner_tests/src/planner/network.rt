@@ -1,0 +1,120 @@
+//! Flows between numbered peers under caps that never change, for the tests of the planner.
+use fair_rates::bandwidth::{Flow, Rate, allocate_counted, allocate_linked_counted};
+use fair_rates::error::Error;
+use fair_rates::ratio::Ratio;
+use std::alloc::Global;
+use std::collections::BTreeMap;
+use std::process::Abort;
+use std::test::Fail;
+
+/// What a cap holds for.
+#[derive(Clone, Copy, Debug, PartialEq, Eq)]
+pub enum Side {
+    /// All that a peer sends.
+    Egress(u64),
+    /// All that a peer receives.
+    Ingress(u64),
+    /// All that goes from the first peer to the second.
+    Link(u64, u64),
+}
+
+impl Side {
+    /// Whether a flow is under the cap of this side.
+    pub fn holds(self, flow: &Flow<u64>) -> bool {
+        match self {
+            Side::Egress(peer) => flow.origin == peer,
+            Side::Ingress(peer) => flow.delivered && flow.recipient == peer,
+            Side::Link(origin, recipient) => {
+                flow.origin == origin && flow.recipient == recipient
+            }
+        }
+    }
+}
+
+/// A side, and how many bytes a second go through it.
+#[derive(Clone, Copy, Debug)]
+pub struct Cap(pub Side, pub u128);
+
+/// Flows, and the caps, of which no two are of one side.
+#[derive(Clone, Copy, Debug)]
+pub struct Network<'a> {
+    pub flows: &'a [Flow<u64>],
+    pub caps: &'a [Cap],
+}
+
+/// The rates by id, and the number of rounds.
+#[derive(Debug, Drop)]
+pub struct Planned {
+    pub rates: BTreeMap<u64, Rate>,
+    pub rounds: u128,
+}
+
+/// A flow that is delivered.
+pub fn sent(id: u64, origin: u64, recipient: u64) -> Flow<u64> {
+    Flow {
+        id,
+        origin,
+        recipient,
+        delivered: true,
+    }
+}
+
+/// A flow that is dropped.
+pub fn dropped(id: u64, origin: u64, recipient: u64) -> Flow<u64> {
+    Flow {
+        id,
+        origin,
+        recipient,
+        delivered: false,
+    }
+}
+
+fn cap_of(caps: &[Cap], side: Side) -> Option<u128> {
+    caps.iter().find(|cap| cap.0 == side).map(|cap| cap.1)
+}
+
+/// What the planner answers, without caps of links.
+pub fn plan(alloc: Global, network: &Network) -> Result<Planned, Error> {
+    let caps = network.caps;
+    let (rates, rounds) = allocate_counted(
+        alloc,
+        network.flows,
+        |peer| cap_of(caps, Side::Egress(*peer)),
+        |peer| cap_of(caps, Side::Ingress(*peer)),
+    )?;
+    Ok(Planned { rates, rounds })
+}
+
+/// What the planner answers, with caps of links.
+pub fn plan_linked(alloc: Global, network: &Network) -> Result<Planned, Error> {
+    let caps = network.caps;
+    let (rates, rounds) = allocate_linked_counted(
+        alloc,
+        network.flows,
+        |peer| cap_of(caps, Side::Egress(*peer)),
+        |peer| cap_of(caps, Side::Ingress(*peer)),
+        |origin, recipient| cap_of(caps, Side::Link(*origin, *recipient)),
+    )?;
+    Ok(Planned { rates, rounds })
+}
+
+/// So many bytes a second, as a fraction.
+pub fn finite(num: u128, den: u128) -> Result<Rate, Fail> {
+    Ok(Rate::Finite(Ratio::new(num, den).ok_or("a denominator of zero")?))
+}
+
+/// The rate of an id is this fraction.
+pub fn expect_rate(
+    rt: &impl Abort,
+    planned: &Planned,
+    id: u64,
+    num: u128,
+    den: u128,
+) -> Result<(), Fail> {
+    assert_eq!(rt;
+        planned.rates.get(&id).copied(),
+        Some(finite(num, den)?),
+        "flow {id}"
+    );
+    Ok(())
+}

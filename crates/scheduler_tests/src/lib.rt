@@ -1,0 +1,5 @@
+//! Tests of the scheduler.
+#![tactic(auto)]
+
+#[cfg(test)]
+mod scheduler;
