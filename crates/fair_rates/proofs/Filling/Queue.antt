@@ -1,13 +1,11 @@
 -- The queue of open sides, as the one with the least share is taken out and another put in.
 use Rattle.std.proofs.Common.{◌≡◌, ℕ, ◌*◌, ◌<◌, ◌≤◌, ◌⊎◌, inl, inr, List, [], ◌∷◌, ◌++◌, length, map, All, Contains}
-use Rattle.std.proofs.Common.{Option, refl, sym, subst, arith, ap, get_or, true, ◌↔◌, le_of_mul-le-mul_right}
+use Rattle.std.proofs.Common.{Option, refl, sym, subst, arith}
 use Rattle.std.specs.Prelude.{IsPermutation}
 use Rattle.std.specs.BinaryHeap.{IsUpperBound, IsHeap}
 use Rattle.std.specs.Cmp.{nat_cmp_is}
-use Rattle.std.specs.Ordering.{nat_cmp, is_lt, is_le}
-use Rattle.std.specs.declared.cmp.Ordering.TheVariants.{Less, Equal}
-use Rattle.std.proofs.Math.Nat.{mul-le-mul_right, mul_right_comm}
-use Rattle.std.proofs.lemmas.Map.Keys.{le_from_is_le}
+use Rattle.std.specs.Ordering.{nat_cmp, is_lt}
+use Rattle.std.specs.declared.cmp.Ordering.TheVariants.{Less}
 use Rattle.std.specs.declared.cmp.Reverse.{Reverse}
 use Rattle.std.specs.Prelude.{false}
 use Rattle.std.proofs.lemmas.Bool.{cases_lt}
@@ -20,7 +18,6 @@ use Rattle.fair_rates.specs.Sides.SideOf.{side_of}
 use Rattle.fair_rates.specs.Fairness.Fair.{Side}
 use Rattle.fair_rates.specs.Filling.States.{AllFrozen, KeepsAccount, IsOpen, IsCovered, IsQueue, IsShareQueue}
 use Rattle.fair_rates.specs.Filling.States.{HaveNoMore, AreAbove, IsWithinSlack, AllFilled, AreOpened, queue_cmp}
-use Rattle.fair_rates.specs.Filling.States.{share_cmp, HasLeastShare}
 use Rattle.fair_rates.specs.declared.bandwidth.filling.open.OpenSide.{OpenSide}
 use Rattle.fair_rates.specs.declared.bandwidth.sides.Side as declared
 use Rattle.fair_rates.proofs.Filling.Account.{account_start}
@@ -60,42 +57,6 @@ least_first x rest upper =
     (λ o. x.0.slack * length o.0.rising.items ≤ o.0.slack * length x.0.rising.items)
     (λ o e. not_less (o.0.slack * length x.0.rising.items) (x.0.slack * length o.0.rising.items) e) rest
     (All-from_recursion (λ o. is_lt (queue_cmp x o) ≡ false) rest upper)
-
-is_le_from : (a b : ℕ) → a ≤ b → is_le (nat_cmp a b) ≡ true
-is_le_from a b le = elim (cases_lt a b) [
-  | inl lt ↦ ap is_le (sym (nat_cmp_is a b Less lt))
-  | inr ge ↦ let same : a ≡ b = omega arith in ap is_le (sym (nat_cmp_is a b Equal same))
-]
-
--- fractions that follow one another
-between : (a b c d e f : ℕ) → 0 < d → a * d ≤ c * b → c * f ≤ e * d → a * f ≤ e * b
-between a b c d e f some le later =
-    le_of_mul-le-mul_right {k = d}
-    (omega (
-      arith,
-      mul-le-mul_right f le,
-      mul-le-mul_right b later,
-      mul_right_comm a f d,
-      mul_right_comm c b f,
-      mul_right_comm e d b,
-    ))
-    some
-
--- a share is the least where it is no greater than the one on top
-pub least_by_top : (side : OpenSide) (top : Reverse OpenSide) (opens : List (Reverse OpenSide))
-    → IsUpperBound queue_cmp top opens → top ≡ get_or opens 0 top → 0 < length opens
-    → (is_le (share_cmp side top.0) ≡ true) ↔ HasLeastShare side opens
-least_by_top side top opens upper is some = (
-  λ le. All-weaker (λ o. top.0.slack * length o.0.rising.items ≤ o.0.slack * length top.0.rising.items)
-      (λ o. side.slack * length o.0.rising.items ≤ o.0.slack * length side.rising.items)
-      (λ o later. between side.slack (length side.rising.items) top.0.slack (length top.0.rising.items) o.0.slack
-      (length o.0.rising.items) top.0.some (le_from_is_le _ _ le) later) opens
-      (least_first top opens upper),
-  λ all.
-      is_le_from _ _
-      (subst (λ (o : Reverse OpenSide). side.slack * length o.0.rising.items ≤ o.0.slack * length side.rising.items)
-      (sym is) (all 0 top some)),
-)
 
 -- ---- accounts
 

@@ -113,15 +113,11 @@ pub record IsShareQueue (flows : ℕ) (frozen : ℕ → Option ℕ) (opens : Lis
 abbrev pub AreAbove : ℕ → List (Reverse OpenSide) → Type 0
 AreAbove parts opens = All (λ open_side. IsWithinSlack parts open_side.0.slack open_side.0.rising.items) opens
 
--- the share of this open side is no greater than those of the others
-abbrev pub HasLeastShare : OpenSide → List (Reverse OpenSide) → Type 0
-HasLeastShare next opens =
-    All (λ open_side. next.slack * length open_side.0.rising.items ≤ open_side.0.slack * length next.rising.items) opens
-
--- so it is, and none of its users is frozen
+-- the share of this open side is no greater than those of the others, and none of its users is frozen
 pub record IsLeast (frozen : ℕ → Option ℕ) (next : OpenSide) (opens : List (Reverse OpenSide)) : Type 0 where
   pub rise : AllRise frozen next.rising.items
-  pub least : HasLeastShare next opens
+  pub least : All (λ open_side. next.slack * length open_side.0.rising.items
+      ≤ open_side.0.slack * length next.rising.items) opens
 
 -- all users of all sides are frozen
 abbrev pub AllFilled : List Side → (ℕ → Option ℕ) → Type 0

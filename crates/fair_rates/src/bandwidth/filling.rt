@@ -7,13 +7,12 @@
 //!
 //! All numbers are whole parts of one byte a second. Where the least share is not whole, the scale
 //! grows, and all that is kept with it.
-ghost use Rattle.std.specs.Prelude.{◌≡◌, ◌↔◌, ◌<◌, ◌≤◌, ℕ, true, IfOk, IfSome, OnSome, MatchOption, Option, All, List};
+ghost use Rattle.std.specs.Prelude.{◌≡◌, ◌<◌, ◌≤◌, ℕ, IfOk, IfSome, OnSome, MatchOption, Option, All, List};
 ghost use Rattle.std.specs.Prelude.{◌∷◌, map, length};
 ghost use Rattle.std.specs.BinaryHeap.{heap_items, heap_len, IsHeap};
 ghost use Rattle.fair_rates.specs.Sides.SideOf.{side_of};
 ghost use Rattle.fair_rates.specs.Fairness.Fair.{Side as WholeSide};
 ghost use Rattle.fair_rates.specs.Filling.States.{frozen_at, AreInside, AreAbove, IsQueue, IsShareQueue, IsLeast};
-ghost use Rattle.fair_rates.specs.Filling.States.{HasLeastShare};
 ghost use Rattle.fair_rates.specs.Filling.States.{AllFilled};
 ghost use Rattle.fair_rates.specs.Filling.States.{AreOpened, AreGrown, AreFilled, queue_cmp};
 
@@ -51,17 +50,6 @@ fn open_sides(
     Ok(queue)
 }
 
-/// Whether no side of the queue has a lesser share.
-fn is_least(side: &OpenSide, queue: &BinaryHeap<Reverse<OpenSide>>) -> bool
-    requires { IsHeap queue_cmp (heap_items queue.now) }
-    ensures { (result ≡ true) ↔ HasLeastShare side.now (heap_items queue.now) }
-{
-    match queue.peek() {
-        Some(Reverse(next)) => side.cmp(next).is_le(),
-        None => true,
-    }
-}
-
 /// Takes out the side with the least share, once all its frozen users are counted.
 fn next_side(
     queue: &mut BinaryHeap<Reverse<OpenSide>>,
@@ -88,7 +76,7 @@ fn next_side(
     while let Some(Reverse(least)) = queue.pop() {
         let before = least.rising.len();
         if let Some(side) = least.count_frozen(levels, level_of) {
-            if side.rising.len() == before || is_least(&side, queue) {
+            if side.rising.len() == before {
                 return Ok(Some(side));
             }
             queue.push(Reverse(side))?;

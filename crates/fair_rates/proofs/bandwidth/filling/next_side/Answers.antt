@@ -10,8 +10,6 @@ use Rattle.fair_rates.proofs.Filling.Account.{risers_have_no_more}
 use Rattle.fair_rates.proofs.Filling.Frozen.{match_none}
 use Rattle.fair_rates.proofs.Filling.Queue.{queue_permuted, queue_counted, queue_filled, all_filled, sound_popped}
 use Rattle.fair_rates.proofs.Filling.Queue.{sound_pushed, above_counted, least_first}
-use Rattle.fair_rates.proofs.bandwidth.filling.next_side.Goals.{then-len-before-via-then-len-before}
-use Rattle.fair_rates.proofs.bandwidth.filling.next_side.Goals.{then-len-before-via-else-len-before+then-is_least}
 use Rattle.fair_rates.proofs.bandwidth.filling.next_side.Goals as goal
 
 unchanged : {P : Type 0} (n m : ℕ) → (n < m) ⊎ (P × (n ≡ m)) → n ≡ m → P
@@ -34,21 +32,18 @@ returns-then-len-before-clause-least c =
     let x : OpenSide = c.in-Some.field-0.0 in
     let new : OpenSide = c.in-Some-count_frozen.side in
     let rest = heap_items c.pop.new.self in
+    let len : length new.rising.items ≡ length x.rising.items =
+    grind (arith, common_steps, c.if-len-before.true, c.len.ensures, c.len-before.ensures) in
+    let slack : new.slack ≡ x.slack =
+    unchanged {P = new.slack ≡ x.slack} (length new.rising.items) (length x.rising.items)
+    c.in-Some-count_frozen.ensures.changed len in
     record {
       rise = c.in-Some-count_frozen.ensures.rise;
-      least = elim c.then-len-before.branch [
-        | then-len-before-via-else-len-before+then-is_least w ↦ w.is_least.ensures.0 w.if-is_least.true
-        | then-len-before-via-then-len-before w ↦
-            let len : length new.rising.items ≡ length x.rising.items =
-            grind (arith, common_steps, w.if-len-before.true, c.len.ensures, c.len-before.ensures) in
-            let slack : new.slack ≡ x.slack =
-            unchanged {P = new.slack ≡ x.slack} (length new.rising.items) (length x.rising.items)
-            c.in-Some-count_frozen.ensures.changed len in
-            All-weaker (λ (o : Reverse OpenSide). x.slack * length o.0.rising.items ≤ o.0.slack * length x.rising.items)
-            (λ o. new.slack * length o.0.rising.items ≤ o.0.slack * length new.rising.items)
-            (λ o le. omega (arith, le, ap (λ n. n * length o.0.rising.items) slack, ap (λ n. o.0.slack * n) len)) rest
-            (least_first c.in-Some.field-0 rest (c.in-Some.ensures.below_top c.loop-least.invariant.sound.order))
-      ];
+      least =
+          All-weaker (λ (o : Reverse OpenSide). x.slack * length o.0.rising.items ≤ o.0.slack * length x.rising.items)
+          (λ o. new.slack * length o.0.rising.items ≤ o.0.slack * length new.rising.items)
+          (λ o le. omega (arith, le, ap (λ n. n * length o.0.rising.items) slack, ap (λ n. o.0.slack * n) len)) rest
+          (least_first c.in-Some.field-0 rest (c.in-Some.ensures.below_top c.loop-least.invariant.sound.order));
     }
 
 pub returns-then-len-before-clause-queue : goal.returns-then-len-before-clause-queue
