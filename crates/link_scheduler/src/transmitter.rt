@@ -19,6 +19,7 @@ mod idle;
 mod ledger;
 mod message;
 mod moves;
+mod pair_list;
 mod pairs;
 mod peers;
 mod rates;
@@ -333,7 +334,7 @@ impl<P: Peer> State<P> {
         let mut ledger = self.ledger.clone()?;
         let (ended, events) = ledger.advance(now)?;
         let completions = answers_of(ledger.alloc, &ended)?;
-        self.ledger = ledger;
+        self.ledger.replace_by(ledger);
         Ok((completions, events))
     }
 

@@ -131,8 +131,12 @@ impl<T: Drop> SharedList<T> {
     }
 
     /// Another shared item comes to stand at that place.
+    ///
+    /// # Errors
+    ///
+    /// `AllocError` where memory is refused. The list stays.
     #[cycle(set)]
-    pub(crate) fn set(&mut self, at: usize, item: Rc<T>) -> Result<(), AllocError>
+    pub fn set(&mut self, at: usize, item: Rc<T>) -> Result<(), AllocError>
         requires { at < length self.old }
         ensures items { self.new ≡ (if is_ok result then slice_set self.old at item.value else self.old) }
     {
