@@ -21,6 +21,7 @@ mod ledger;
 mod message;
 mod moves;
 mod outgoing;
+mod pair_list;
 mod pairs;
 mod peers;
 mod rates;
@@ -381,7 +382,7 @@ impl<P: Peer> State<P> {
         let mut ledger = self.ledger.clone()?;
         let (ended, events) = ledger.advance(now)?;
         let completions = answers_of(ledger.alloc, &ended)?;
-        self.ledger = ledger;
+        self.ledger.replace_by(ledger);
         Ok((completions, events))
     }
 

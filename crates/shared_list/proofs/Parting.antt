@@ -1,10 +1,12 @@
 -- Where a list is parted, at a node.
 use Rattle.std.proofs.Common.{◌≡◌, ℕ, suc, ◌+◌, Bool, true, false, not, ◌&&◌, if◌then◌else◌, List, [], ◌∷◌, ◌++◌}
-use Rattle.std.proofs.Common.{length, Some, refl, sym, ap, ◌∙◌, arith, length-append}
+use Rattle.std.proofs.Common.{length, slice_get, Option, Some, None, zero, ◌≤◌, refl, sym, ap, ◌∙◌, subst, arith}
+use Rattle.std.proofs.Common.{length-append}
 use Rattle.std.specs.List.{list_all, find, position_or_len}
 use Rattle.std.specs.Option.{option_or}
-use Rattle.std.proofs.lemmas.List.Folds.{list_all-append, find-append}
+use Rattle.std.proofs.lemmas.List.Folds.{list_all-append}
 use Rattle.shared_list.specs.Places.{are_parted, IsParting}
+use Rattle.shared_list.proofs.Edits.{get_after}
 
 by_bool : {A : Type 0} (b : Bool) → (b ≡ true → A) → (b ≡ false → A) → A
 by_bool true t f = t refl
@@ -85,6 +87,93 @@ module _ {T : Type 0} (p : T → Bool) where
         above = list_all-append (λ y. not (p y)) rest.after (x ∷ ys) ∙ rw (rest.above, high.1) refl;
       }
 
+  -- ---- what is known of the whole, once a part is left to search
+
+  -- what is left to search ends at that place, and that item comes next
+  pub record IsLeft (xs rest : List T) (end : ℕ) (next : Option T) : Type 0 where
+    pub inside : length rest ≤ end
+    pub bound : end ≤ length xs
+    pub parted : are_parted p xs ≡ true → are_parted p rest ≡ true
+    pub parting : are_parted p xs ≡ true → (k at : ℕ) → at + length rest ≡ end + k → IsParting p rest k
+        → IsParting p xs at
+    pub item : (k at : ℕ) → k ≤ length rest → at + length rest ≡ end + k
+        → option_or (slice_get rest k) next ≡ slice_get xs at
+
+  same_place : (xs : List T) (k at : ℕ) → at + length xs ≡ length xs + k → k ≡ at
+  same_place xs k at there = omega (arith, there)
+
+  or_nothing : (o : Option T) → option_or o None ≡ o
+  or_nothing None = refl
+  or_nothing (Some x) = refl
+
+  -- at first all is left
+  pub all_left : (xs : List T) → IsLeft xs xs (length xs) None
+  all_left xs = record {
+    inside = omega arith;
+    bound = omega arith;
+    parted = λ h. h;
+    parting = λ h k at there w. subst (IsParting p xs) (same_place xs k at there) w;
+    item = λ k at low there. or_nothing (slice_get xs k) ∙ ap (slice_get xs) (same_place xs k at there);
+  }
+
+  one_between : (zs : List T) (x : T) (ys : List T) → length (zs ++ x ∷ ys) ≡ length zs + (1 + length ys)
+  one_between zs x ys = omega (arith, length-append zs (x ∷ ys))
+
+  item_after : (zs : List T) (x : T) (ys : List T) (k at : ℕ) → at ≡ length zs + 1 + k
+      → slice_get ys k ≡ slice_get (zs ++ x ∷ ys) at
+  item_after zs x ys k at there =
+      ap (slice_get ys) (omega (arith, there)) ∙ sym (get_after zs x ys at (omega (arith, there)))
+
+  -- past an item that is before
+  pub left_after : (xs zs : List T) (x : T) (ys : List T) (end : ℕ) (next : Option T) → p x ≡ true
+      → IsLeft xs (zs ++ x ∷ ys) end next → IsLeft xs ys end next
+  left_after xs zs x ys end next is left =
+      let long : length (zs ++ x ∷ ys) ≡ length zs + (1 + length ys) = one_between zs x ys in
+      record {
+        inside = omega (arith, left.inside, long);
+        bound = left.bound;
+        parted = λ h. (below_item zs x ys is (left.parted h)).1;
+        parting = λ h k at there w.
+            left.parting h (length zs + 1 + k) at (omega (arith, there, long))
+            (parting_after zs x ys k (length zs + 1 + k) refl is (left.parted h) (λ _. w));
+        item = λ k at low there.
+            ap (λ o. option_or o next) (item_after zs x ys k (length zs + 1 + k) refl)
+            ∙ left.item (length zs + 1 + k) at (omega (arith, low, long)) (omega (arith, there, long));
+      }
+
+  item_before : (zs : List T) (x : T) (ys : List T) (k : ℕ) (next : Option T) → k ≤ length zs
+      → option_or (slice_get zs k) (Some x) ≡ option_or (slice_get (zs ++ x ∷ ys) k) next
+  item_before [] x ys zero next low = refl
+  item_before [] x ys (suc k) next low = absurd (omega (arith, low))
+  item_before (z ∷ zs) x ys zero next low = refl
+  item_before (z ∷ zs) x ys (suc k) next low = item_before zs x ys k next (omega (arith, low))
+
+  -- up to an item that is not before
+  pub left_before : (xs zs : List T) (x : T) (ys : List T) (end to : ℕ) (next : Option T) → p x ≡ false
+      → to + (1 + length ys) ≡ end → IsLeft xs (zs ++ x ∷ ys) end next → IsLeft xs zs to (Some x)
+  left_before xs zs x ys end to next is goes left =
+      let long : length (zs ++ x ∷ ys) ≡ length zs + (1 + length ys) = one_between zs x ys in
+      record {
+        inside = omega (arith, left.inside, long, goes);
+        bound = omega (arith, left.bound, goes);
+        parted = λ h. (above_item zs x ys is (left.parted h)).0;
+        parting = λ h k at there w.
+            left.parting h k at (omega (arith, there, long, goes))
+            (parting_before zs x ys k is (left.parted h) (λ _. w));
+        item = λ k at low there.
+            item_before zs x ys k next low
+            ∙ left.item k at (omega (arith, low, long)) (omega (arith, there, long, goes));
+      }
+
+  -- where nothing is left, the place is found
+  pub found_place : (xs : List T) (end : ℕ) (next : Option T) → IsLeft xs [] end next
+      → are_parted p xs ≡ true → IsParting p xs end
+  found_place xs end next left h = left.parting h 0 end refl
+      record { before = []; after = []; split = refl; is_at = refl; below = refl; above = refl }
+
+  pub found_item : (xs : List T) (end : ℕ) (next : Option T) → IsLeft xs [] end next → next ≡ slice_get xs end
+  found_item xs end next left = left.item 0 end (omega arith) refl
+
   -- ---- the first item that is not before
 
   -- those that are before are passed over
@@ -92,18 +181,23 @@ module _ {T : Type 0} (p : T → Bool) where
   passed_over [] ys h = refl
   passed_over (x ∷ xs) ys h = rw (and_left (p x) _ h) (passed_over xs ys (and_right (p x) _ h))
 
-  pub first_after : (xs : List T) (x : T) (ys : List T) → p x ≡ true → are_parted p (xs ++ x ∷ ys) ≡ true
-      → (list_all p (xs ++ x ∷ []) ≡ true) × (are_parted p ys ≡ true)
-      × (find (λ y. not (p y)) (xs ++ x ∷ ys) ≡ find (λ y. not (p y)) ys)
-  first_after xs x ys is h =
-      let low = below_item xs x ys is h in
-      (list_all-append p xs (x ∷ []) ∙ rw (low.0, is) refl, low.1, passed_over xs (x ∷ ys) low.0 ∙ rw is refl)
+  next_one : (xs ys : List T) → slice_get (xs ++ ys) (length xs) ≡ slice_get ys 0
+  next_one [] ys = refl
+  next_one (x ∷ xs) ys = next_one xs ys
 
-  pub first_before : (xs : List T) (x : T) (ys : List T) → p x ≡ false → are_parted p (xs ++ x ∷ ys) ≡ true
-      → (are_parted p xs ≡ true)
-      × (find (λ y. not (p y)) (xs ++ x ∷ ys) ≡ option_or (find (λ y. not (p y)) xs) (Some x))
-  first_before xs x ys is h =
-      ((above_item xs x ys is h).0, find-append (λ y. not (p y)) xs (x ∷ ys) ∙ rw is refl)
+  first_of_others : (ys : List T) → others ys ≡ true → find (λ y. not (p y)) ys ≡ slice_get ys 0
+  first_of_others [] h = refl
+  first_of_others (y ∷ ys) h = rw (and_left (not (p y)) _ h) refl
+
+  -- it stands where the list is parted
+  pub first_there : (xs : List T) (at : ℕ) → IsParting p xs at → slice_get xs at ≡ find (λ y. not (p y)) xs
+  first_there xs at w =
+      ap (slice_get xs) w.is_at
+      ∙ ap (λ l. slice_get l (length w.before)) w.split
+      ∙ next_one w.before w.after
+      ∙ sym (first_of_others w.after w.above)
+      ∙ sym (passed_over w.before w.after w.below)
+      ∙ ap (find (λ y. not (p y))) (sym w.split)
 
   one_more : (x : T) (xs : List T) (k at : ℕ) → p x ≡ true → at ≡ suc k → IsParting p xs k → IsParting p (x ∷ xs) at
   one_more x xs k at is there rest = record {

@@ -58,15 +58,20 @@ impl<T: Drop> SharedList<T> {
     pub fn get(&self, at: usize) -> Option<&T>
         ensures { option_map (λ item. item.now) result ≡ slice_get self.now at }
     {
-        let node = self.root.as_ref()?;
-        let middle = node.before.len();
-        if at < middle {
-            node.before.get(at)
-        } else if at == middle {
-            Some(&node.item)
-        } else {
-            node.after.get(at - middle - 1)
+        let mut rest = self;
+        let mut at = at;
+        while let Some(node) = &rest.root {
+            let middle = node.before.len();
+            if at < middle {
+                rest = &node.before;
+            } else if at == middle {
+                return Some(&node.item);
+            } else {
+                at -= middle + 1;
+                rest = &node.after;
+            }
         }
+        None
     }
 
     /// The item at that place.
@@ -126,8 +131,12 @@ impl<T: Drop> SharedList<T> {
     }
 
     /// Another shared item comes to stand at that place.
+    ///
+    /// # Errors
+    ///
+    /// `AllocError` where memory is refused. The list stays.
     #[cycle(set)]
-    pub(crate) fn set(&mut self, at: usize, item: Rc<T>) -> Result<(), AllocError>
+    pub fn set(&mut self, at: usize, item: Rc<T>) -> Result<(), AllocError>
         requires { at < length self.old }
         ensures items { self.new ≡ (if is_ok result then slice_set self.old at item.value else self.old) }
     {
@@ -166,41 +175,45 @@ impl<T: Drop> SharedList<T> {
     }
 
     /// The number of items before what is sought, where those that are before it stand before all
+    /// others; and the item at that place, if there is one.
+    pub fn locate<S: Seek<T>>(&self, sought: &S) -> (usize, Option<&T>)
+        ensures bound { result.0 ≤ length self.now }
+        ensures parting { are_parted (S.is_before sought.now) self.now ≡ true
+            → IsParting (S.is_before sought.now) self.now result.0 }
+        ensures item { option_map (λ item. item.now) result.1 ≡ slice_get self.now result.0 }
+    {
+        let mut rest = self;
+        let mut end = self.len();
+        let mut first: Option<&T> = None;
+        while let Some(node) = &rest.root {
+            if sought.is_before(&node.item) {
+                rest = &node.after;
+            } else {
+                first = Some(&node.item);
+                end -= node.len - node.before.len();
+                rest = &node.before;
+            }
+        }
+        (end, first)
+    }
+
+    /// The number of items before what is sought, where those that are before it stand before all
     /// others.
-    #[tactic(auto, using(crate::proofs::Parting::parting_before, crate::proofs::Parting::parting_after))]
     pub fn place<S: Seek<T>>(&self, sought: &S) -> usize
         ensures bound { result ≤ length self.now }
         ensures parting { are_parted (S.is_before sought.now) self.now ≡ true
             → IsParting (S.is_before sought.now) self.now result }
     {
-        match &self.root {
-            None => 0,
-            Some(node) => {
-                if sought.is_before(&node.item) {
-                    let through = node.len - node.after.len();
-                    through + node.after.place(sought)
-                } else {
-                    node.before.place(sought)
-                }
-            }
-        }
+        self.locate(sought).0
     }
 
     /// The first item that is not before what is sought, where those that are before it stand before
     /// all others.
-    #[tactic(auto, using(crate::proofs::Parting::first_after, crate::proofs::Parting::first_before))]
     pub fn first_from<S: Seek<T>>(&self, sought: &S) -> Option<&T>
         ensures { are_parted (S.is_before sought.now) self.now ≡ true → option_map (λ item. item.now) result
             ≡ find (λ item. not (S.is_before sought.now item)) self.now }
     {
-        let node = self.root.as_ref()?;
-        if sought.is_before(&node.item) {
-            return node.after.first_from(sought);
-        }
-        match node.before.first_from(sought) {
-            None => Some(&node.item),
-            item => item,
-        }
+        self.locate(sought).1
     }
 
     /// No more items come after the middle than before it, where memory allows. The list stays.

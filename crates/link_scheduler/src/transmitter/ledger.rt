@@ -111,6 +111,15 @@ impl<P: Peer> Ledger<P> {
         Ok(())
     }
 
+    /// The state after a call takes the place of this one. Once the old lists are gone, nothing is
+    /// shared, and what is known of pairs is put in its place without a copy.
+    pub(crate) fn replace_by(&mut self, next: Ledger<P>)
+        ensures { planned P.cmp self.new ≡ planned P.cmp next }
+    {
+        *self = next;
+        self.pairs.settle();
+    }
+
     /// The earlier of the planned finish and the planned start.
     pub(crate) fn next_event(&self) -> Option<u64>
         ensures { result ≡ next_of_planned (planned P.cmp self.now) }

@@ -1,22 +1,23 @@
 //! What is known of each ordered pair of peers.
-ghost use Rattle.std.specs.Prelude.{◌≡◌, ◌<◌, ◌^◌, true, map, option_map, IfSome, IfOk, IfErr};
+ghost use Rattle.std.specs.Prelude.{◌≡◌, ◌<◌, ◌^◌, true, map, option_map, slice_get, Some, IfSome, IfOk, IfErr};
 ghost use Rattle.std.specs.List.{find};
 ghost use Rattle.std.specs.Ordering.{is_lt, is_eq};
 ghost use Rattle.fair_rates.specs.Lists.Sorted.{are_ascending, IsPlace, IsGap};
 ghost use Rattle.link_simulation.specs.Simulation.World.{later_of as latest};
 ghost use Rattle.link_scheduler.specs.Pairs.Entries.{pair_cmp, key_of};
 
+use super::pair_list::PairList;
 use super::readiness::PeerPair;
 use fair_rates::error::Error;
 use fair_rates::peer::Peer;
-use shared_list::{Seek, SharedList};
+use shared_list::Seek;
 use std::alloc::{AllocError, Global};
 use std::rc::Rc;
 
 /// What is known of one ordered pair of peers.
 #[derive(Drop)]
 pub(crate) struct Pair<P> {
-    key: Rc<PeerPair<P>>,
+    pub(crate) key: Rc<PeerPair<P>>,
     /// The cap on what goes from the one to the other, in bytes a second.
     cap: Option<usize>,
     /// No later message of the pair arrives before this moment.
@@ -26,15 +27,15 @@ pub(crate) struct Pair<P> {
 /// The ordered pairs that calls have named, in the order of pairs: by origin, then by recipient.
 #[derive(Drop)]
 pub(crate) struct Pairs<P: Peer> {
-    entries: SharedList<Pair<P>>,
+    entries: PairList<P>,
     pub ghost ascending: { are_ascending (pair_cmp P.cmp) (map key_of entries) ≡ true },
 }
 
 /// Where a pair stands among those that have been named.
 #[derive(Drop)]
-struct PlaceOfPair<'a, P> {
-    origin: &'a P,
-    recipient: &'a P,
+pub(crate) struct PlaceOfPair<'a, P> {
+    pub(crate) origin: &'a P,
+    pub(crate) recipient: &'a P,
 }
 
 impl<P: Peer> Seek<Pair<P>> for PlaceOfPair<'_, P> {
@@ -65,18 +66,20 @@ impl<P: Peer> Pairs<P> {
         ensures { result.entries ≡ [] }
     {
         Pairs {
-            entries: SharedList::new(),
+            entries: PairList::new(),
         }
     }
 
-    /// Where the pair stands, or where it would.
-    fn search(&self, origin: &P, recipient: &P) -> Result<usize, usize>
-        ensures found { IfOk result (IsPlace (pair_cmp P.cmp) key_of self.now.entries (origin.now, recipient.now)) }
+    /// Where the pair stands, and what is known of it; or where it would stand.
+    fn search(&self, origin: &P, recipient: &P) -> Result<(usize, &Pair<P>), usize>
+        ensures found { IfOk result (λ found. IsPlace (pair_cmp P.cmp) key_of self.now.entries
+            (origin.now, recipient.now) found.0) }
+        ensures pair { IfOk result (λ found. slice_get self.now.entries found.0 ≡ Some found.1.now) }
         ensures absent { IfErr result (IsGap (pair_cmp P.cmp) key_of self.now.entries (origin.now, recipient.now)) }
     {
-        let at = self.entries.place(&PlaceOfPair { origin, recipient });
-        match self.entries.get(at) {
-            Some(pair) if pair.key.compare(origin, recipient).is_eq() => Ok(at),
+        let (at, pair) = self.entries.locate(origin, recipient);
+        match pair {
+            Some(pair) if pair.key.compare(origin, recipient).is_eq() => Ok((at, pair)),
             _ => Err(at),
         }
     }
@@ -86,11 +89,9 @@ impl<P: Peer> Pairs<P> {
         ensures { option_map (λ pair. pair.now) result ≡ find
             (λ pair. is_eq (pair_cmp P.cmp (key_of pair) (origin.now, recipient.now))) self.now.entries }
     {
-        let pair = self.entries.first_from(&PlaceOfPair { origin, recipient })?;
-        if pair.key.compare(origin, recipient).is_eq() {
-            Some(pair)
-        } else {
-            None
+        match self.search(origin, recipient) {
+            Ok((_at, pair)) => Some(pair),
+            Err(_gap) => None,
         }
     }
 
@@ -126,10 +127,9 @@ impl<P: Peer> Pairs<P> {
         ensures refused { IfErr result (λ e. e ≡ Error.OutOfMemory) }
     {
         match self.search(origin, recipient) {
-            Ok(at) => {
-                let key = self.entries.at(at).key.clone()?;
+            Ok((at, pair)) => {
                 let pair = Pair {
-                    key,
+                    key: pair.key.clone()?,
                     cap,
                     last_arrival,
                 };
@@ -179,12 +179,25 @@ impl<P: Peer> Pairs<P> {
         ensures kept { OnErr result (self.new.entries ≡ self.old.entries) }
         ensures refused { IfErr result (λ e. e ≡ Error.OutOfMemory) }
     {
-        let (cap, last) = match self.find(origin, recipient) {
-            Some(pair) => (pair.cap, pair.last_arrival),
-            None => (None, None),
+        let Ok((at, pair)) = self.search(origin, recipient) else {
+            return self.set(alloc, origin, recipient, None, Some(moment));
         };
-        let arrival = later_of(last, moment);
-        self.set(alloc, origin, recipient, cap, Some(arrival))
+        let arrival = later_of(pair.last_arrival, moment);
+        let raised = Pair {
+            key: pair.key.clone()?,
+            cap: pair.cap,
+            last_arrival: Some(arrival),
+        };
+        self.entries.replace(alloc, at, raised)?;
+        Ok(())
+    }
+
+    /// All is put in its place, where memory allows. To be called once no other list shares these pairs:
+    /// then nothing is copied.
+    pub(crate) fn settle(&mut self)
+        ensures { self.new.entries ≡ self.old.entries }
+    {
+        self.entries.settle();
     }
 }
 

@@ -4,15 +4,16 @@ use Rattle.fair_rates.specs.Lists.Sorted.{are_ascending}
 use Rattle.link_scheduler.specs.Pairs.Entries.{pair_cmp, key_of}
 use Rattle.fair_rates.proofs.Lists.Sorted.{either}
 use Rattle.link_scheduler.proofs.Pairs.Entries.{pair_found, pair_added, same_key}
+use Rattle.link_scheduler.proofs.Pairs.Late.{keys_set}
 use Rattle.link_scheduler.proofs.transmitter.pairs.Pairs.set.Goals as goal
 
 pub invariant_of-self : goal.invariant_of-self
 invariant_of-self g c = record {
   ascending = rw c.replace.ensures.items (either (λ es. are_ascending (pair_cmp g.P.Ord.cmp) (map key_of es) ≡ true) _
       (pair_found g.P.Ord.cmp g.met.P.Ord.total c.args.self.now.entries c.args.origin.now c.args.recipient.now
-      c.in-Ok.at (record { key = c.in_ok-key-in-Ok.key; cap = c.args.cap; last_arrival = c.args.last_arrival })
-      c.at.result.now c.args.self.now.ascending c.in-Ok.ensures.found c.at.ensures
-      (ap (λ key. (key.origin, key.recipient)) c.in_ok-key-in-Ok.ensures.cases)).ascending
+      c.in-Ok.at (record { key = c.in_ok-clone-in-Ok.field-0; cap = c.args.cap; last_arrival = c.args.last_arrival })
+      c.in-Ok.pair.now c.args.self.now.ascending c.in-Ok.ensures.found c.in-Ok.ensures.pair
+      (ap (λ key. (key.origin, key.recipient)) c.in_ok-clone-in-Ok.ensures.cases)).ascending
       c.args.self.now.ascending);
 }
 
@@ -39,9 +40,9 @@ pub returns-in_ok-replace-in-Ok-clause-link : goal.returns-in_ok-replace-in-Ok-c
 returns-in_ok-replace-in-Ok-clause-link g c =
     rw c.in_ok-replace-in-Ok.ensures.items
     (pair_found g.P.Ord.cmp g.met.P.Ord.total c.args.self.now.entries c.args.origin.now c.args.recipient.now
-    c.in-Ok.at (record { key = c.in_ok-key-in-Ok.key; cap = c.args.cap; last_arrival = c.args.last_arrival })
-    c.at.result.now c.args.self.now.ascending c.in-Ok.ensures.found c.at.ensures
-    (ap (λ key. (key.origin, key.recipient)) c.in_ok-key-in-Ok.ensures.cases)).link_is
+    c.in-Ok.at (record { key = c.in_ok-clone-in-Ok.field-0; cap = c.args.cap; last_arrival = c.args.last_arrival })
+    c.in-Ok.pair.now c.args.self.now.ascending c.in-Ok.ensures.found c.in-Ok.ensures.pair
+    (ap (λ key. (key.origin, key.recipient)) c.in_ok-clone-in-Ok.ensures.cases)).link_is
 
 pub returns-in_ok-insert-in-Err-clause-link : goal.returns-in_ok-insert-in-Err-clause-link
 returns-in_ok-insert-in-Err-clause-link g c =
@@ -62,9 +63,9 @@ pub returns-in_ok-replace-in-Ok-clause-arrival : goal.returns-in_ok-replace-in-O
 returns-in_ok-replace-in-Ok-clause-arrival g c =
     rw c.in_ok-replace-in-Ok.ensures.items
     (pair_found g.P.Ord.cmp g.met.P.Ord.total c.args.self.now.entries c.args.origin.now c.args.recipient.now
-    c.in-Ok.at (record { key = c.in_ok-key-in-Ok.key; cap = c.args.cap; last_arrival = c.args.last_arrival })
-    c.at.result.now c.args.self.now.ascending c.in-Ok.ensures.found c.at.ensures
-    (ap (λ key. (key.origin, key.recipient)) c.in_ok-key-in-Ok.ensures.cases)).arrival_is
+    c.in-Ok.at (record { key = c.in_ok-clone-in-Ok.field-0; cap = c.args.cap; last_arrival = c.args.last_arrival })
+    c.in-Ok.pair.now c.args.self.now.ascending c.in-Ok.ensures.found c.in-Ok.ensures.pair
+    (ap (λ key. (key.origin, key.recipient)) c.in_ok-clone-in-Ok.ensures.cases)).arrival_is
 
 pub returns-in_ok-insert-in-Err-clause-arrival : goal.returns-in_ok-insert-in-Err-clause-arrival
 returns-in_ok-insert-in-Err-clause-arrival g c =
@@ -80,3 +81,10 @@ returns-in_ok-insert-in-Err-clause-arrival g c =
     (pair_added g.P.Ord.cmp g.met.P.Ord.total c.args.self.now.entries c.args.origin.now c.args.recipient.now
     c.in-Err.at (record { key = c.in_ok-key-in-Err.key; cap = c.args.cap; last_arrival = c.args.last_arrival })
     c.args.self.now.ascending c.in-Err.ensures.absent same).arrival_is
+
+pub replace-requires-clause-same : goal.replace-requires-clause-same
+replace-requires-clause-same g c =
+    keys_set key_of c.args.self.now.entries c.in-Ok.at
+    (record { key = c.in_ok-clone-in-Ok.field-0; cap = c.args.cap; last_arrival = c.args.last_arrival })
+    c.in-Ok.pair.now c.in-Ok.ensures.pair
+    (ap (λ key. (key.origin, key.recipient)) c.in_ok-clone-in-Ok.ensures.cases)
