@@ -8,7 +8,7 @@ ghost use Rattle.fair_rates.specs.Sides.Answers.{NoLink, CallableOnEach, Callabl
 ghost use Rattle.fair_rates.specs.Sides.Answers.{pairs, answered_of};
 ghost use Rattle.fair_rates.specs.Sides.Subjects.{sides_of};
 ghost use Rattle.fair_rates.specs.Fairness.Allocation.{IsAllocation, IsCountedAllocation, IsFairUnderCaps};
-ghost use Rattle.fair_rates.specs.Filling.FairParts.{AreFairParts, AreFairPartsOn};
+ghost use Rattle.fair_rates.specs.Filling.FairParts.{AreFairPartsOn};
 ghost use Rattle.fair_rates.specs.Fairness.Rates.{last_rate};
 ghost use Rattle.fair_rates.specs.Refusals.TooLarge.{IsTooLarge, AreTooLargeUnderCaps};
 
@@ -281,41 +281,17 @@ where
     Ok((by_id, found.levels.len() as u128))
 }
 
-/// The max-min fair rates of the flows, in parts of one byte a second, so many at `scale`. Where a
-/// rate is no whole number of parts, the scale grows.
+/// The max-min fair rates of flows with known caps, in parts of one byte a second, so many at `scale`.
+/// Where a rate is no whole number of parts, the scale grows.
 ///
-/// Sides and answers are as those of [`allocate_linked`]. Refused only where memory was.
-pub fn fair_parts<P, E, I, L>(
-    alloc: Global,
-    flows: &[Flow<P>],
-    egress_cap: E,
-    ingress_cap: I,
-    link_cap: L,
-    scale: &Natural,
-) -> Result<FairParts, Error>
-where
-    P: Peer,
-    E: FnMut(&P) -> Option<u128>,
-    I: FnMut(&P) -> Option<u128>,
-    L: FnMut(&P, &P) -> Option<u128>,
-    requires egress { CallableOnEach (TakesAt E.FnMut) (CalledAt E.FnMut) egress_cap (origins flows.now) }
-    requires ingress { CallableOnEach (TakesAt I.FnMut) (CalledAt I.FnMut) ingress_cap (recipients flows.now) }
-    requires link { CallableOnEachPair (TakesAtTwo L.FnMut) (CalledAtTwo L.FnMut) link_cap (pairs flows.now) }
-    requires some_part { 0 < scale.now }
-    ensures fair { IfOk result (λ found. AreFairParts P.cmp (CalledAt E.FnMut) (CalledAt I.FnMut) (CalledAtTwo L.FnMut)
-        (record { egress = egress_cap; ingress = ingress_cap; link = link_cap }) flows.now scale.now found) }
-    ensures refused { IfErr result (λ e. e ≡ Error.OutOfMemory) }
-{
-    let limits = sides::sides(alloc, flows, egress_cap, ingress_cap, link_cap)?;
-    Ok(filling::fair_parts(alloc, flows.len(), limits, scale)?)
-}
-
-/// As [`fair_parts`], of flows with known caps: those are what the closures would answer.
+/// The caps are what the closures of [`allocate_linked`] would answer: the first cap on what a peer
+/// sends is its cap for good, from that flow on, and likewise the first one on what it receives, and
+/// on what goes from one peer to another.
 ///
-/// So the first cap on what a peer sends is its cap for good, from that flow on, and likewise the
-/// first one on what it receives, and on what goes from one peer to another. Refused only where
-/// memory was.
-pub fn fair_parts_of_capped<P: Peer>(
+/// # Errors
+///
+/// `OutOfMemory` where memory was refused.
+pub fn fair_parts<P: Peer>(
     alloc: Global,
     flows: &[CappedFlow<P>],
     scale: &Natural,

@@ -1,15 +1,11 @@
 -- Fair rates as whole parts of one byte a second, so many at a scale. Equal rates share a level.
 use Rattle.std.specs.Prelude.{◌≡◌, ◌↔◌, ℕ, ◌*◌, ◌<◌, List, All, length, Option, Some, None, IsSome}
 use Rattle.std.specs.Prelude.{IfSome, slice_index, slice_index_or}
-use Rattle.std.specs.declared.cmp.Ordering.{Ordering}
 use Rattle.fair_rates.specs.Fairness.Exists.{product}
 use Rattle.fair_rates.specs.Numbers.Amount.{parts_over}
-use Rattle.fair_rates.specs.Sides.Answers.{Answered, Calls, PairCalls, States, AnswerInOrder}
 use Rattle.fair_rates.specs.Fairness.Fair.{Side, IsLimited, IsFair}
 use Rattle.fair_rates.specs.Numbers.Fits.{ReducedFits}
 use Rattle.fair_rates.specs.Numbers.Ratio.{IsWorth}
-use Rattle.fair_rates.specs.Sides.Subjects.{sides_of}
-use Rattle.fair_rates.specs.declared.bandwidth.Flow.{Flow}
 use Rattle.fair_rates.specs.declared.bandwidth.Rate.{Rate}
 use Rattle.fair_rates.specs.declared.bandwidth.Rate.TheVariants.{Unlimited, Finite}
 use Rattle.fair_rates.specs.declared.bandwidth.parts.FairParts.{FairParts}
@@ -66,11 +62,3 @@ pub record AreFairPartsOn (sides : List Side) (flows scale : ℕ) (found : FairP
   pub inside : All (λ level. IfSome level (λ place. place < length found.levels.items)) found.level_of.items
   pub fair : IsFair sides found.scale (flow_parts found.levels.items found.level_of.items)
   pub limited : (flow : ℕ) → IsSome (level_at found.level_of.items flow) ↔ IsLimited sides flow
-
--- the closures gave some answers, and on the sides that these make the flows' levels are fair
-pub record AreFairParts {P E I L : Type 0} (cmp : P → P → Ordering) (egress : Calls E P) (ingress : Calls I P)
-    (link : PairCalls L P) (first : States E I L) (flows : List (Flow P)) (scale : ℕ) (found : FairParts) : Type 0 where
-  pub answered : List (Answered P)
-  pub in_order : AnswerInOrder egress ingress link first flows answered
-  pub parts : AreFairPartsOn (sides_of cmp answered) (length flows) scale found
-  pub open parts use *

@@ -18,7 +18,7 @@ use super::flights::Flights;
 use super::message::Message;
 use super::pairs::Pairs;
 use super::peers::Peers;
-use fair_rates::bandwidth::{CappedFlow, FairParts, Flow, FlowCaps, fair_parts_of_capped};
+use fair_rates::bandwidth::{CappedFlow, FairParts, Flow, FlowCaps, fair_parts};
 use fair_rates::error::Error;
 use fair_rates::peer::Peer;
 use natural::Natural;
@@ -135,7 +135,7 @@ impl<P: Peer> Flights<P> {
         ensures refused { IfErr result (λ e. e ≡ Error.OutOfMemory) }
     {
         let flows = self.flows_of(component, peers, pairs)?;
-        fair_parts_of_capped(self.alloc, &flows, &self.scale)
+        fair_parts(self.alloc, &flows, &self.scale)
     }
 
     /// The flows of the component with their caps, in order of start.

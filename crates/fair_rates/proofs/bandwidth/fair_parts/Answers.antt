@@ -5,12 +5,6 @@ use Rattle.fair_rates.proofs.bandwidth.fair_parts.Goals as goal
 
 pub returns-clause-fair : goal.returns-clause-fair
 returns-clause-fair g c =
-    let answers = c.in_ok-limits.ensures.sides in
     let found = c.in_ok-fair_parts.field-0 in
-    record {
-      answered = answers.0;
-      in_order = answers.1;
-      parts =
-          subst (λ (s : List Side). AreFairPartsOn s (length c.args.flows.now) c.args.scale.now found) answers.2
-          c.in_ok-fair_parts.ensures.parts;
-    }
+    subst (λ (s : List Side). AreFairPartsOn s (length c.args.flows.now) c.args.scale.now found)
+    c.in_ok-sides.ensures.sides c.in_ok-fair_parts.ensures.parts

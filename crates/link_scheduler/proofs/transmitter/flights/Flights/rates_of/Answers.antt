@@ -16,8 +16,8 @@ returns-clause-fair g c =
     let caps = caps_of cmp c.args.peers.now.entries c.args.pairs.now.entries in
     let flows = c.in_ok-flows.flows.items in
     let of = looked_up cmp g.met.P.Ord.total c.args.peers.now.entries c.args.pairs.now.entries in
-    found_if_ok cmp g.met.P.Ord.total caps of c.args.component.now c.fair_parts_of_capped.result self.scale
+    found_if_ok cmp g.met.P.Ord.total caps of c.args.component.now c.fair_parts.result self.scale
     (map (λ x. x.flow) flows) (in_units self) c.in_ok-flows.ensures.standing
-    (fair_under_caps_if_ok cmp caps flows self.scale c.in_ok-flows.ensures.capped c.fair_parts_of_capped.result
-    (subst (λ fs. IfOk c.fair_parts_of_capped.result (AreFairPartsOn (sides_of cmp (map answered_of fs)) (length fs)
-    self.scale)) c.deref.ensures.value c.fair_parts_of_capped.ensures.fair))
+    (fair_under_caps_if_ok cmp caps flows self.scale c.in_ok-flows.ensures.capped c.fair_parts.result
+    (subst (λ fs. IfOk c.fair_parts.result (AreFairPartsOn (sides_of cmp (map answered_of fs)) (length fs)
+    self.scale)) c.deref.ensures.value c.fair_parts.ensures.fair))
