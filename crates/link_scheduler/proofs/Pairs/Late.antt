@@ -109,7 +109,7 @@ module _ {P : Type 0} where
   pub parting_late : (cmp : P → P → Ordering) (o r : P) (late : Option (Late P)) (pairs : List (Pair P)) (at : ℕ)
       → IsLate late pairs
       → (are_parted (λ pair. is_lt (pair_cmp cmp (key_of pair) (o, r))) pairs ≡ true
-          → IsParting (λ pair. is_lt (pair_cmp cmp (key_of pair) (o, r))) pairs at)
+      → IsParting (λ pair. is_lt (pair_cmp cmp (key_of pair) (o, r))) pairs at)
       → are_parted (λ pair. is_lt (pair_cmp cmp (key_of pair) (o, r))) (with_late late pairs) ≡ true
       → IsParting (λ pair. is_lt (pair_cmp cmp (key_of pair) (o, r))) (with_late late pairs) at
   parting_late cmp o r late pairs at is further parted =

@@ -1,5 +1,5 @@
 //! How many messages of each pair are in flight.
-ghost use Rattle.std.specs.Prelude.{◌≡◌, true, List, map, OnOk, IfOk, IfErr, if◌then◌else◌, ◌+◌, ◌-◌};
+ghost use Rattle.std.specs.Prelude.{◌≡◌, true, List, map, slice_get, Some, OnOk, IfOk, IfErr, if◌then◌else◌, ◌+◌, ◌-◌};
 ghost use Rattle.std.specs.List.{list_any};
 ghost use Rattle.std.specs.Ordering.{is_lt};
 ghost use Rattle.fair_rates.specs.Lists.Sorted.{are_ascending, IsPlace, IsGap};
@@ -44,7 +44,7 @@ impl<P: Peer> Seek<BusyPair<P>> for BusyPlace<'_, P> {
         (place.origin.now, place.recipient.now)) };
 
     fn is_before(&self, entry: &BusyPair<P>) -> bool {
-        entry.pair.compare(self.origin, self.recipient).is_lt()
+        entry.pair.is_before(self.origin, self.recipient)
     }
 }
 
@@ -62,14 +62,16 @@ impl<P: Peer> BusyPairs<P> {
         }
     }
 
-    /// Where the pair stands, or where it would.
-    fn search(&self, origin: &P, recipient: &P) -> Result<usize, usize>
-        ensures found { IfOk result (IsPlace (pair_cmp P.cmp) busy_key self.now.entries (origin.now, recipient.now)) }
+    /// Where the pair stands, and its entry; or where it would stand.
+    fn search(&self, origin: &P, recipient: &P) -> Result<(usize, &BusyPair<P>), usize>
+        ensures found { IfOk result (λ found. IsPlace (pair_cmp P.cmp) busy_key self.now.entries
+            (origin.now, recipient.now) found.0) }
+        ensures entry { IfOk result (λ found. slice_get self.now.entries found.0 ≡ Some found.1.now) }
         ensures absent { IfErr result (IsGap (pair_cmp P.cmp) busy_key self.now.entries (origin.now, recipient.now)) }
     {
-        let at = self.entries.place(&BusyPlace { origin, recipient });
-        match self.entries.get(at) {
-            Some(entry) if entry.pair.compare(origin, recipient).is_eq() => Ok(at),
+        let (at, entry) = self.entries.locate(&BusyPlace { origin, recipient });
+        match entry {
+            Some(entry) if entry.pair.compare(origin, recipient).is_eq() => Ok((at, entry)),
             _ => Err(at),
         }
     }
@@ -79,7 +81,7 @@ impl<P: Peer> BusyPairs<P> {
         ensures { result ≡ count_of P.cmp self.now.entries origin.now recipient.now }
     {
         match self.search(origin, recipient) {
-            Ok(at) => self.entries.at(at).count,
+            Ok((_at, entry)) => entry.count,
             Err(_gap) => 0,
         }
     }
@@ -100,12 +102,12 @@ impl<P: Peer> BusyPairs<P> {
         ensures refused { IfErr result (λ e. e ≡ Error.OutOfMemory) }
     {
         match self.search(origin, recipient) {
-            Ok(at) => {
+            Ok((at, entry)) => {
                 if count == 0 {
                     self.entries.remove(at)?;
                     return Ok(());
                 }
-                let pair = self.entries.at(at).pair.clone()?;
+                let pair = entry.pair.clone()?;
                 let entry = BusyPair { pair, count };
                 self.entries.replace(alloc, at, entry)?;
             }

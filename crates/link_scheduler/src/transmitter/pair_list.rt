@@ -70,7 +70,12 @@ impl<P: Peer> PairList<P> {
     }
 
     /// Something else is known of the pair at that place.
-    pub(crate) fn replace(&mut self, alloc: Global, at: usize, pair: Pair<P>) -> Result<(), AllocError>
+    pub(crate) fn replace(
+        &mut self,
+        alloc: Global,
+        at: usize,
+        pair: Pair<P>,
+    ) -> Result<(), AllocError>
         requires place { at < length self.old }
         requires same { map key_of (slice_set self.old at pair) ≡ map key_of self.old }
         ensures items { self.new ≡ (if is_ok result then slice_set self.old at pair else self.old) }
@@ -84,7 +89,12 @@ impl<P: Peer> PairList<P> {
     }
 
     /// A pair comes to stand at that place.
-    pub(crate) fn insert(&mut self, alloc: Global, at: usize, pair: Pair<P>) -> Result<(), AllocError>
+    pub(crate) fn insert(
+        &mut self,
+        alloc: Global,
+        at: usize,
+        pair: Pair<P>,
+    ) -> Result<(), AllocError>
         requires { at ≤ length self.old }
         ensures items { self.new ≡ (if is_ok result then insert self.old at pair else self.old) }
     {

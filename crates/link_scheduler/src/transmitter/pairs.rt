@@ -42,7 +42,7 @@ impl<P: Peer> Seek<Pair<P>> for PlaceOfPair<'_, P> {
     ghost is_before = { λ place pair. is_lt (pair_cmp P.cmp (key_of pair) (place.origin.now, place.recipient.now)) };
 
     fn is_before(&self, pair: &Pair<P>) -> bool {
-        pair.key.compare(self.origin, self.recipient).is_lt()
+        pair.key.is_before(self.origin, self.recipient)
     }
 }
 

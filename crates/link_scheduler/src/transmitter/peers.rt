@@ -57,8 +57,8 @@ impl<P: Peer> Peers<P> {
         ensures found { IfOk result (IsPlace P.cmp (λ entry. entry.peer.value) self.now.entries peer.now) }
         ensures absent { IfErr result (IsGap P.cmp (λ entry. entry.peer.value) self.now.entries peer.now) }
     {
-        let at = self.entries.place(&PlaceOfPeer { peer });
-        match self.entries.get(at) {
+        let (at, entry) = self.entries.locate(&PlaceOfPeer { peer });
+        match entry {
             Some(entry) if Rc::as_ref(&entry.peer).cmp(peer).is_eq() => Ok(at),
             _ => Err(at),
         }

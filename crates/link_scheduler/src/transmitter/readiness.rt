@@ -1,6 +1,7 @@
 //! Which pairs are ready, and when the next one is.
 ghost use Rattle.std.specs.Prelude.{◌≡◌, ◌↔◌, ℕ, true, false, List, IfOk, IfErr, OnOk};
 ghost use Rattle.std.specs.List.{AllZip, list_any};
+ghost use Rattle.std.specs.Ordering.{is_lt};
 ghost use Rattle.fair_rates.specs.Sides.Subjects.{same_peer};
 ghost use Rattle.link_simulation.specs.Rule.Events.{PlansStart};
 ghost use Rattle.link_simulation.specs.Rule.Planned.{RatedFlight, SomeReadyAt, rated_messages};
@@ -39,6 +40,14 @@ impl<P: Peer> PeerPair<P> {
         self.origin
             .cmp(origin)
             .then_with(|| self.recipient.cmp(recipient))
+    }
+
+    /// Whether the pair stands before that of two peers: by origin, then by recipient.
+    #[tactic(auto, using(crate::proofs::Pairs::PairOrder::is_lt_by_parts))]
+    pub(crate) fn is_before(&self, origin: &P, recipient: &P) -> bool
+        ensures { result ≡ is_lt (pair_cmp P.cmp (self.now.origin, self.now.recipient) (origin.now, recipient.now)) }
+    {
+        self.origin < *origin || (self.origin == *origin && self.recipient < *recipient)
     }
 
     /// The pair of two peers, which are cloned.

@@ -72,8 +72,8 @@ impl<P: Peer> Waiting<P> {
     fn search(&self, origin: &P, recipient: &P) -> Option<usize>
         ensures { IsFirstPlace P.cmp self.now.messages (origin.now, recipient.now) result }
     {
-        let at = self.messages.place(&PlaceOfFirst { origin, recipient });
-        match self.messages.get(at) {
+        let (at, message) = self.messages.locate(&PlaceOfFirst { origin, recipient });
+        match message {
             Some(message) if message.compare(origin, recipient).is_eq() => Some(at),
             _ => None,
         }

@@ -41,11 +41,13 @@ invariant_of-self-clause-right g c =
     (same_copy g.P.Ord.cmp g.met.P.Ord.total (planned g.P.Ord.cmp c.args.self.now.ledger)
     (planned g.P.Ord.cmp c.in_ok-ledger.ledger) c.in_ok-ledger.ensures.cases c.args.self.now.caps
     c.args.self.now.arrivals)
-    c.args.self.now.right
-    (c.in_ok-ended.events, (subst
-    (λ q. Advances g.P.Ord.cmp c.args.now (planned g.P.Ord.cmp c.in_ok-ledger.ledger) c.in_ok-ended.events
-    (goes (map ended_of c.in_ok-ended.ended.items) q))
-    (sym c.replace_by.ensures) c.in_ok-ended.ensures.advances))
+    c.args.self.now.right (
+      c.in_ok-ended.events,
+      (subst
+          (λ q. Advances g.P.Ord.cmp c.args.now (planned g.P.Ord.cmp c.in_ok-ledger.ledger) c.in_ok-ended.events
+          (goes (map ended_of c.in_ok-ended.ended.items) q))
+          (sym c.replace_by.ensures) c.in_ok-ended.ensures.advances),
+    )
 
 pub invariant_of-self-clause-orderly : goal.invariant_of-self-clause-orderly
 invariant_of-self-clause-orderly g c =
@@ -56,11 +58,13 @@ invariant_of-self-clause-orderly g c =
     (same_copy g.P.Ord.cmp g.met.P.Ord.total (planned g.P.Ord.cmp c.args.self.now.ledger)
     (planned g.P.Ord.cmp c.in_ok-ledger.ledger) c.in_ok-ledger.ensures.cases c.args.self.now.caps
     c.args.self.now.arrivals)
-    c.args.self.now.orderly
-    (c.in_ok-ended.events, (subst
-    (λ q. Advances g.P.Ord.cmp c.args.now (planned g.P.Ord.cmp c.in_ok-ledger.ledger) c.in_ok-ended.events
-    (goes (map ended_of c.in_ok-ended.ended.items) q))
-    (sym c.replace_by.ensures) c.in_ok-ended.ensures.advances))
+    c.args.self.now.orderly (
+      c.in_ok-ended.events,
+      (subst
+          (λ q. Advances g.P.Ord.cmp c.args.now (planned g.P.Ord.cmp c.in_ok-ledger.ledger) c.in_ok-ended.events
+          (goes (map ended_of c.in_ok-ended.ended.items) q))
+          (sym c.replace_by.ensures) c.in_ok-ended.ensures.advances),
+    )
 
 pub returns-clause-counted : goal.returns-clause-counted
 returns-clause-counted g c = record {
@@ -77,9 +81,9 @@ returns-clause-counted g c = record {
       (planned g.P.Ord.cmp c.in_ok-ledger.ledger) c.in_ok-ledger.ensures.cases c.args.self.now.caps
       c.args.self.now.arrivals)
       (subst
-    (λ q. Advances g.P.Ord.cmp c.args.now (planned g.P.Ord.cmp c.in_ok-ledger.ledger) c.in_ok-ended.events
-    (goes (map ended_of c.in_ok-ended.ended.items) q))
-    (sym c.replace_by.ensures) c.in_ok-ended.ensures.advances));
+      (λ q. Advances g.P.Ord.cmp c.args.now (planned g.P.Ord.cmp c.in_ok-ledger.ledger) c.in_ok-ended.events
+      (goes (map ended_of c.in_ok-ended.ended.items) q))
+      (sym c.replace_by.ensures) c.in_ok-ended.ensures.advances));
   few =
       few_on g.P.Ord.cmp g.met.P.Ord.total c.args.now c.in_ok-ended.events (planned g.P.Ord.cmp c.args.self.now.ledger)
       (planned g.P.Ord.cmp c.in_ok-ledger.ledger)
@@ -88,9 +92,9 @@ returns-clause-counted g c = record {
       (planned g.P.Ord.cmp c.in_ok-ledger.ledger) c.in_ok-ledger.ensures.cases c.args.self.now.caps
       c.args.self.now.arrivals)
       c.args.self.now.right (subst
-    (λ q. Advances g.P.Ord.cmp c.args.now (planned g.P.Ord.cmp c.in_ok-ledger.ledger) c.in_ok-ended.events
-    (goes (map ended_of c.in_ok-ended.ended.items) q))
-    (sym c.replace_by.ensures) c.in_ok-ended.ensures.advances);
+      (λ q. Advances g.P.Ord.cmp c.args.now (planned g.P.Ord.cmp c.in_ok-ledger.ledger) c.in_ok-ended.events
+      (goes (map ended_of c.in_ok-ended.ended.items) q))
+      (sym c.replace_by.ensures) c.in_ok-ended.ensures.advances);
 }
 
 pub returns-clause-made : goal.returns-clause-made

@@ -9,9 +9,9 @@ use Rattle.link_scheduler.proofs.transmitter.busy.BusyPairs.count.Goals as goal
 pub returns-in-Ok : goal.returns-in-Ok
 returns-in-Ok g c =
     ap (λ e. e.count)
-    (sym (get_or_from_slice_get c.args.self.now.entries c.in-Ok.at c.at.result.now c.at.result.now c.at.ensures))
+    (sym (get_or_from_slice_get c.args.self.now.entries c.in-Ok._at c.in-Ok.entry.now c.in-Ok.entry.now c.in-Ok.ensures.entry))
     ∙ value_there (pair_cmp g.P.Ord.cmp) (pair_total g.P.Ord.cmp g.met.P.Ord.total) busy_key (λ e. e.count) 0
-    c.args.self.now.entries (c.args.origin.now, c.args.recipient.now) c.in-Ok.at c.in-Ok.ensures.found c.at.result.now
+    c.args.self.now.entries (c.args.origin.now, c.args.recipient.now) c.in-Ok._at c.in-Ok.ensures.found c.in-Ok.entry.now
 
 pub returns-in-Err : goal.returns-in-Err
 returns-in-Err g c =

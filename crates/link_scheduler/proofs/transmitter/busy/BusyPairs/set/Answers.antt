@@ -25,7 +25,7 @@ invariant_of-self-in-Ok g c = record {
   ascending = rw c.replace.ensures.items (either (λ es. are_ascending (pair_cmp g.P.Ord.cmp) (map busy_key es) ≡ true) _
       (busy_found g.P.Ord.cmp g.met.P.Ord.total c.args.self.now.entries c.args.origin.now c.args.recipient.now
       c.in-Ok.at c.args.self.now.ascending c.in-Ok.ensures.found
-      (record { pair = c.in_ok-pair-in-Ok.pair; count = c.args.count }) c.at.result.now c.at.ensures
+      (record { pair = c.in_ok-pair-in-Ok.pair; count = c.args.count }) c.in-Ok.entry.now c.in-Ok.ensures.entry
       (ap (λ key. (key.origin, key.recipient)) c.in_ok-pair-in-Ok.ensures.cases)).ascending
       c.args.self.now.ascending);
 }
@@ -66,7 +66,7 @@ pub returns-in_ok-replace-in-Ok-clause-counted : goal.returns-in_ok-replace-in-O
 returns-in_ok-replace-in-Ok-clause-counted g c o r = rw c.in_ok-replace-in-Ok.ensures.items
     ((busy_found g.P.Ord.cmp g.met.P.Ord.total c.args.self.now.entries c.args.origin.now c.args.recipient.now c.in-Ok.at
     c.args.self.now.ascending c.in-Ok.ensures.found (record { pair = c.in_ok-pair-in-Ok.pair; count = c.args.count })
-    c.at.result.now c.at.ensures (ap (λ key. (key.origin, key.recipient)) c.in_ok-pair-in-Ok.ensures.cases)).counts
+    c.in-Ok.entry.now c.in-Ok.ensures.entry (ap (λ key. (key.origin, key.recipient)) c.in_ok-pair-in-Ok.ensures.cases)).counts
     o r)
 
 pub returns-in_ok-insert-in-Err-clause-counted : goal.returns-in_ok-insert-in-Err-clause-counted

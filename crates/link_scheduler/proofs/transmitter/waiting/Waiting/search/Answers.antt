@@ -12,11 +12,12 @@ returns-in-Some g c =
     ≡ true =
     search rules in
     first_place g.P.Ord.cmp g.met.P.Ord.total (c.args.origin.now, c.args.recipient.now) c.args.self.now.messages
-    c.place-at.result c.args.self.now.ordered
-    (c.place-at.ensures.parting
+    c.locate-at.result.0 c.args.self.now.ordered
+    (c.locate-at.ensures.parting
     (parted_first g.P.Ord.cmp g.met.P.Ord.total (c.args.origin.now, c.args.recipient.now) c.args.self.now.messages
     c.args.self.now.ordered))
-    c.in-Some.message.now c.in-Some.ensures same
+    c.in-Some.message.now
+    (sym (ap (option_map (λ b. b.now)) c.in-Some.is) ∙ c.locate-at.ensures.item) same
 
 pub returns-in_default : goal.returns-in_default
 returns-in_default g c =
@@ -24,17 +25,18 @@ returns-in_default g c =
     ≡ false =
     search rules in
     no_first g.P.Ord.cmp g.met.P.Ord.total (c.args.origin.now, c.args.recipient.now) c.args.self.now.messages
-    c.place-at.result c.args.self.now.ordered
-    (c.place-at.ensures.parting
+    c.locate-at.result.0 c.args.self.now.ordered
+    (c.locate-at.ensures.parting
     (parted_first g.P.Ord.cmp g.met.P.Ord.total (c.args.origin.now, c.args.recipient.now) c.args.self.now.messages
     c.args.self.now.ordered))
-    c.in-Some.message.now c.in-Some.ensures other
+    c.in-Some.message.now
+    (sym (ap (option_map (λ b. b.now)) c.in-Some.is) ∙ c.locate-at.ensures.item) other
 
 pub returns-in_default-2 : goal.returns-in_default-2
 returns-in_default-2 g c =
     no_first_at_end g.P.Ord.cmp g.met.P.Ord.total (c.args.origin.now, c.args.recipient.now) c.args.self.now.messages
-    c.place-at.result c.args.self.now.ordered
-    (c.place-at.ensures.parting
+    c.locate-at.result.0 c.args.self.now.ordered
+    (c.locate-at.ensures.parting
     (parted_first g.P.Ord.cmp g.met.P.Ord.total (c.args.origin.now, c.args.recipient.now) c.args.self.now.messages
     c.args.self.now.ordered))
-    (sym (ap (option_map (λ b. b.now)) c.in_default.is) ∙ c.get.ensures)
+    (sym (ap (option_map (λ b. b.now)) c.in_default.is) ∙ c.locate-at.ensures.item)
