@@ -88,8 +88,7 @@ impl<'a, P: Peer> Registry<'a, P> {
     }
 }
 
-/// Registers that the flow at `place` asks for the side of `subject`, and that its closure gave
-/// this answer.
+/// Registers that the flow at `place` asks for the side of `subject`, and that this was the answer.
 fn register<'a, P: Peer>(
     alloc: Global,
     registry: &mut Registry<'a, P>,
