@@ -250,14 +250,7 @@ impl<P: Numbered> Calls<P> {
         assert_eq!(rt; self.wanted.len(), self.calls.len());
         let mut state = State::with_first_id(self.alloc, self.first);
         for (place, (call, wanted)) in self.calls.into_iter().zip(&self.wanted).enumerate() {
-            let (reply, events) = answer(&mut state, call);
-            assert!(rt;
-                is_wanted(&self.sent, &reply, wanted),
-                "the answer to call {place}"
-            );
-            if let Wanted::Counted(_, wanted) = wanted {
-                assert_eq!(rt; events, *wanted);
-            }
+            expect_answer(rt, &self.sent, &mut state, place, call, wanted);
         }
     }
 
@@ -273,6 +266,25 @@ impl<P: Numbered> Calls<P> {
                 "the reply to call {place}"
             );
         }
+    }
+}
+
+/// Makes the call at that place of its list, and compares the reply with the wanted one.
+fn expect_answer<P: Numbered>(
+    rt: &impl Abort,
+    sent: &[Parcel],
+    state: &mut State<P>,
+    place: usize,
+    call: Call<P>,
+    wanted: &Wanted,
+) {
+    let (reply, events) = answer(state, call);
+    assert!(rt;
+        is_wanted(sent, &reply, wanted),
+        "the answer to call {place}"
+    );
+    if let Wanted::Counted(_, wanted) = wanted {
+        assert_eq!(rt; events, *wanted);
     }
 }
 

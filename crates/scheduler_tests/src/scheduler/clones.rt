@@ -64,6 +64,35 @@ fn send(
     Ok(())
 }
 
+/// Each of so many peers sends a byte at moment zero.
+fn send_each(
+    alloc: Global,
+    state: &mut State<Name>,
+    peers: u64,
+    latency: u64,
+    count: &Count,
+) -> Result<(), Error> {
+    for number in 0..peers {
+        let pair = (number, number.saturating_add(2));
+        send(alloc, state, pair, 1, latency, count)?;
+    }
+    Ok(())
+}
+
+/// A cap for each of so many peers.
+fn cap_each(
+    alloc: Global,
+    state: &mut State<Name>,
+    peers: u64,
+    count: &Count,
+) -> Result<(), Error> {
+    for number in 0..peers {
+        let peer = named(alloc, number, count)?;
+        let _done = state.limit(0, &peer, Some(1000), None)?;
+    }
+    Ok(())
+}
+
 /// So many peers with a cap each. Where `do_wait` says so, a message from each of them waits for an
 /// arrival far in the future.
 fn peers_with_caps(
@@ -73,21 +102,12 @@ fn peers_with_caps(
     count: &Count,
 ) -> Result<State<Name>, Error> {
     let mut state = State::new(alloc);
-    for number in 0..peers {
-        if do_wait {
-            let pair = (number, number.saturating_add(2));
-            send(alloc, &mut state, pair, 1, FAR, count)?;
-        }
+    if do_wait {
+        send_each(alloc, &mut state, peers, FAR, count)?;
     }
-    for number in 0..peers {
-        let peer = named(alloc, number, count)?;
-        let _done = state.limit(0, &peer, Some(1000), None)?;
-    }
-    for number in 0..peers {
-        if do_wait {
-            let pair = (number, number.saturating_add(2));
-            send(alloc, &mut state, pair, 1, 0, count)?;
-        }
+    cap_each(alloc, &mut state, peers, count)?;
+    if do_wait {
+        send_each(alloc, &mut state, peers, 0, count)?;
     }
     Ok(state)
 }

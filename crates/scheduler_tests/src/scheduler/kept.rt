@@ -58,16 +58,26 @@ fn expect_same(rt: &impl Abort, many: &[Completion<u64>], few: &[Completion<u64>
     }
 }
 
+/// From that moment on the two answer alike.
+fn take_turn(
+    rt: &(impl Abort + AllocGlobal),
+    large: &mut State<u64>,
+    small: &mut State<u64>,
+    now: u64,
+) -> Result<(), Error> {
+    let many = send_two(rt.alloc(), large, now)?;
+    let few = send_two(rt.alloc(), small, now)?;
+    expect_same(rt, &many, &few);
+    assert_eq!(rt; large.next(), small.next());
+    Ok(())
+}
+
 #[test]
 fn calls_are_answered_alike_beside_many_others(rt: HostRuntime) -> Result<(), Error> {
     let mut large = beside(rt.alloc(), 100_000)?;
     let mut small = beside(rt.alloc(), 10)?;
     for turn in 0..100u64 {
-        let now = turn * 200 * MILLI;
-        let many = send_two(rt.alloc(), &mut large, now)?;
-        let few = send_two(rt.alloc(), &mut small, now)?;
-        expect_same(&rt, &many, &few);
-        assert_eq!(rt; large.next(), small.next());
+        take_turn(&rt, &mut large, &mut small, turn * 200 * MILLI)?;
     }
     Ok(())
 }
