@@ -10,7 +10,7 @@ use Rattle.fair_rates.specs.Sides.Answers.{Calls, PairCalls, States, origins, re
 use Rattle.fair_rates.specs.Sides.Caps.{Caps}
 use Rattle.fair_rates.specs.Fairness.UnderCaps.{AnswerBy, IsFairById}
 use Rattle.fair_rates.specs.Refusals.TooLarge.{AreTooLarge, AreTooLargeUnderCaps, IsTooLarge}
-use Rattle.link_scheduler.proofs.Pairs.LookingUp.{LooksUp, LooksUpPairs}
+use Rattle.link_scripts.proofs.LookingUp.{LooksUp, LooksUpPairs}
 use Rattle.fair_rates.proofs.Sides.Answers.{answers_if_unchanged, pair_answers_if_unchanged}
 
 module _ {E I L : Type 0} (egress : Calls E ℕ) (ingress : Calls I ℕ) (link : PairCalls L ℕ) (e : E) (i : I) (l : L)

@@ -1,6 +1,7 @@
 pub mod CapAnswers
 pub mod Columns
 pub mod LinkCaps
+pub mod LookingUp
 pub mod Numerals
 pub mod Printing
 pub mod Reading

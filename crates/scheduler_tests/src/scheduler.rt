@@ -1,4 +1,5 @@
 //! The scheduler: lists of calls, each made by itself and all of them by `replay`.
+mod batches;
 mod clones;
 mod ends;
 mod idle;

@@ -1,5 +1,6 @@
 -- Messages that are sent one after another at one moment.
-use Rattle.std.proofs.Common.{◌≡◌, ◌≢◌, ℕ, ◌<◌, ◌^◌, List, [], ◌∷◌, ◌++◌, map, refl, sym, ap, ◌∙◌, subst, inl, inr, length, suc, ◌+◌}
+use Rattle.std.proofs.Common.{◌≡◌, ◌≢◌, ℕ, suc, ◌+◌, ◌<◌, ◌^◌, List, [], ◌∷◌, ◌++◌, map, length, refl, sym, ap, ◌∙◌}
+use Rattle.std.proofs.Common.{subst, inl, inr}
 use Rattle.std.proofs.Common.{length-append, arith}
 use Rattle.std.specs.Bool.{⊤}
 use Rattle.std.specs.List.{AllZip}
@@ -158,8 +159,8 @@ module _ {P : Type 0} (cmp : P → P → Ordering) where
           λ ds answers. rest_made m calls p mid q first es ds h answers same orderly ih
       one_promised m calls p mid first (meets fault) h same orderly ih = tt
 
-      after_one : (m : Message P) (p mid : Planned P) (first : List (Completed P)) → Enqueues cmp now m p (goes first mid)
-          → IsSamePlanned cmp p p → IsSamePlanned cmp mid mid
+      after_one : (m : Message P) (p mid : Planned P) (first : List (Completed P))
+          → Enqueues cmp now m p (goes first mid) → IsSamePlanned cmp p p → IsSamePlanned cmp mid mid
       after_one m p mid first h same =
           same_at_end p mid (call_enqueue now m) first (goes_on cmp order p p mid (call_enqueue now m) first same h)
 

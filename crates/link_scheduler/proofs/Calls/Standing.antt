@@ -1,19 +1,19 @@
 -- The way through a list of messages, with one account for those that only start.
-use Rattle.std.proofs.Common.{◌≡◌, ◌≢◌, ℕ, ◌+◌, ◌*◌, ◌<◌, List, [], ◌∷◌, ◌++◌, map, length, Bool, true, false}
-use Rattle.std.proofs.Common.{Option, Some, None, Result, Ok, Err, refl, sym, ap, ◌∙◌, subst, arith}
-use Rattle.std.specs.Prelude.{◌||◌, ◌&&◌, ◌==◌, is_none, OnOk}
+use Rattle.std.proofs.Common.{◌≡◌, ℕ, ◌*◌, ◌<◌, List, [], ◌∷◌, ◌++◌, length, Bool, true, false}
+use Rattle.std.proofs.Common.{Option, Some, None, refl, sym, ap, ◌∙◌, subst}
+use Rattle.std.specs.Prelude.{◌&&◌, ◌==◌, is_none}
 use Rattle.std.specs.List.{list_any}
 use Rattle.std.specs.declared.cmp.Ordering.{Ordering}
 use Rattle.std.specs.Cmp.{IsTotalOrder}
 use Rattle.std.proofs.lemmas.Bool.{or_from, eqb-true}
-use Rattle.fair_rates.specs.Numbers.Amount.{billion, reduced, whole}
+use Rattle.fair_rates.specs.Numbers.Amount.{billion, whole}
 use Rattle.fair_rates.specs.Numbers.LowestTerms.{reduced_positive}
 use Rattle.link_scheduler.specs.declared.transmitter.batch.Standing.{Standing}
 use Rattle.link_scheduler.specs.declared.transmitter.batch.Standing.TheVariants.{Open, Settled, Due}
 use Rattle.link_simulation.specs.Simulation.Messages.{Message, same_pair}
 use Rattle.link_simulation.specs.Simulation.Rates.{is_unlimited}
-use Rattle.link_simulation.specs.Simulation.World.{Completed, Course, goes, meets, EndsWith}
-use Rattle.link_simulation.specs.Rule.Planned.{Planned, RatedFlight, rated_messages, next_of, may_launch, is_spent}
+use Rattle.link_simulation.specs.Simulation.World.{Completed, goes, meets}
+use Rattle.link_simulation.specs.Rule.Planned.{Planned, next_of, may_launch, is_spent}
 use Rattle.link_simulation.specs.Rule.Events.{Accounts, PlansStart, Enqueues, launched, with_queued}
 use Rattle.link_simulation.proofs.Rule.OneAccount.{AreLowest, ArePositive, IsAccountedAt, accounted, enqueue_accounted}
 use Rattle.link_simulation.proofs.Rule.OneAccount.{enqueue_starts, account_again, messages_stay, planned_alike}
@@ -148,8 +148,8 @@ module _ {P : Type 0} (cmp : P → P → Ordering) (order : IsTotalOrder cmp) wh
       none (Some n) e = cc
 
   starting_stays : (p : Planned P) (m : Message P) (now : ℕ) → OnlyStarts cmp now p m
-      → is_spent cmp p.caps (record { message = m; left = whole (length m.bytes); rate = Some (whole 0); updated = now })
-      ≡ false
+      → is_spent cmp p.caps
+      (record { message = m; left = whole (length m.bytes); rate = Some (whole 0); updated = now }) ≡ false
   starting_stays p m now h =
       or_from (length m.bytes == 0) (is_unlimited cmp p.caps m) (not_none (length m.bytes == 0) refl) h.capped
     where
@@ -182,8 +182,10 @@ module _ {P : Type 0} (cmp : P → P → Ordering) (order : IsTotalOrder cmp) wh
       (cs : List (Completed P)) → IsStanding cmp now standing here w → w ≡ there
       → starts ≡ does_start cmp now there m → Enqueues cmp now m there (goes cs new) → AreLowest new.sending
       → Enqueues cmp now m w (goes cs new) × IsStanding cmp now (standing_after standing starts) new new
-  goes_otherwise now m standing starts here there new w cs stands is starts_is h low =
-      (subst (λ (q : Planned P). Enqueues cmp now m q (goes cs new)) (sym is) h, by_case standing starts starts_is before)
+  goes_otherwise now m standing starts here there new w cs stands is starts_is h low = (
+    subst (λ (q : Planned P). Enqueues cmp now m q (goes cs new)) (sym is) h,
+    by_case standing starts starts_is before,
+  )
     where
       settled : IsAccountedAt cmp order now new → (new ≡ new) × Accounts cmp now new [] new
       settled at = (refl, account_again cmp order now new at low)

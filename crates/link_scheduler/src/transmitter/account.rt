@@ -37,7 +37,11 @@ use std::mem;
 use std::rc::Rc;
 
 /// Whether the message uses no capped side.
-pub(super) fn is_unlimited<P: Peer>(message: &Message<P>, peers: &Peers<P>, pairs: &Pairs<P>) -> bool
+pub(super) fn is_unlimited<P: Peer>(
+    message: &Message<P>,
+    peers: &Peers<P>,
+    pairs: &Pairs<P>,
+) -> bool
     ensures { result ≡ is_free P.cmp (caps_of P.cmp peers.now.entries pairs.now.entries) (message_of message.now) }
 {
     peers.egress(&message.origin).is_none()

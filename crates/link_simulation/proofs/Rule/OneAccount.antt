@@ -1,22 +1,23 @@
 -- Where an account was made at a moment, nothing is due to leave at it; and for several messages that start then one
 -- account is enough.
-use Rattle.std.proofs.Common.{◌≡◌, ℕ, zero, suc, ◌+◌, ◌-◌, ◌<◌, ◌≤◌, List, [], ◌∷◌, ◌++◌, map, length, Bool, true, false}
+use Rattle.std.proofs.Common.{◌≡◌, ℕ, zero, suc, ◌+◌, ◌-◌, ◌<◌, ◌≤◌, List, [], ◌∷◌, ◌++◌, length, Bool, true, false}
 use Rattle.std.proofs.Common.{cond, not, Option, Some, None, refl, sym, ap, ◌∙◌, subst, arith, ◌⊎◌, inl, inr}
 use Rattle.std.specs.Prelude.{◌==◌, ◌||◌, ◌&&◌, slice_get, nat_lt, if◌then◌else◌, IfSome}
 use Rattle.std.specs.List.{filter, find, list_any, AllZip}
 use Rattle.std.specs.declared.cmp.Ordering.{Ordering}
 use Rattle.std.specs.Cmp.{IsTotalOrder}
-use Rattle.std.proofs.lemmas.Bool.{cases_lt, cases_eq, or_from, or_parts}
-use Rattle.std.proofs.lemmas.List.{append-nil, map-append}
+use Rattle.std.proofs.lemmas.Bool.{cases_lt, cases_eq, or_parts}
+use Rattle.std.proofs.lemmas.List.{map-append}
 use Rattle.std.proofs.lemmas.List.Elements.{filter-append}
 use Rattle.fair_rates.specs.declared.error.Error.TheVariants.{MomentTooLate}
-use Rattle.fair_rates.proofs.Lists.Each.{Each, each_map, each_joined}
-use Rattle.fair_rates.proofs.Lists.Zips.{zip-same, zip-append, zip_chain}
+use Rattle.fair_rates.proofs.Lists.Each.{Each, each_map}
+use Rattle.fair_rates.proofs.Lists.Zips.{zip-append, zip_chain}
 use Rattle.fair_rates.specs.Numbers.Amount.{Amount, whole, reduced}
 use Rattle.fair_rates.specs.Numbers.LowestTerms.{reduced_positive}
 use Rattle.link_simulation.specs.Simulation.Messages.{Message, Caps, same_pair}
-use Rattle.link_simulation.specs.Simulation.Rates.{Parts, rate_of, rates_from, drained_by, is_unlimited, AreFair, IsLowest}
-use Rattle.link_simulation.specs.Simulation.World.{Completed, Course, goes, meets, last_moment, EndsWith, preceded}
+use Rattle.link_simulation.specs.Simulation.Rates.{Parts, rate_of, rates_from, drained_by, is_unlimited, AreFair}
+use Rattle.link_simulation.specs.Simulation.Rates.{IsLowest}
+use Rattle.link_simulation.specs.Simulation.World.{Completed, Course, goes, meets, last_moment, EndsWith}
 use Rattle.link_simulation.specs.Simulation.World.{completed, completion_of, raised, later_of, is_in_order}
 use Rattle.link_simulation.specs.Rule.Planned.{Planned, RatedFlight, IsLeastMoment, SomeSpentAt, rated_messages}
 use Rattle.link_simulation.specs.Rule.Planned.{drained_to, left_at, is_spent, may_launch, next_of, SomeReadyAt}
@@ -421,8 +422,8 @@ module _ {P : Type 0} (cmp : P → P → Ordering) (order : IsTotalOrder cmp) wh
   abbrev Staying : ℕ → Planned P → List (RatedFlight P)
   Staying t p = filter (λ f. not (is_spent cmp p.caps f)) (drained_to t p.sending)
 
-  account_with : (t : ℕ) (p : Planned P) (per : ℕ) (rates : Parts) (fair : AreFair cmp p.caps (rated_messages (Staying t p))
-      per rates) (o : Option ℕ)
+  account_with : (t : ℕ) (p : Planned P) (per : ℕ) (rates : Parts)
+      (fair : AreFair cmp p.caps (rated_messages (Staying t p)) per rates) (o : Option ℕ)
       → IsLeastMoment (SomeSpentAt (with_rates p.caps per fair.parts t 0 (Staying t p))) o
       → Accounts cmp t p (rated_messages (filter (is_spent cmp p.caps) (drained_to t p.sending)))
       (record p { sending = with_rates p.caps per fair.parts t 0 (Staying t p); finish = o })
@@ -651,8 +652,8 @@ module _ {P : Type 0} (cmp : P → P → Ordering) (order : IsTotalOrder cmp) wh
   pub one_starts : (t : ℕ) (m : Message P) (here next w : Planned P) → Accounts cmp t here [] w
       → ArePositive here.sending → here.limited ≡ true → next_of cmp (with_queued cmp here m) m ≡ Some m
       → may_launch cmp t here m ≡ true → here.next_id < last_moment
-      → is_spent cmp here.caps (record { message = m; left = whole (length m.bytes); rate = Some (whole 0); updated = t })
-      ≡ false
+      → is_spent cmp here.caps
+      (record { message = m; left = whole (length m.bytes); rate = Some (whole 0); updated = t }) ≡ false
       → PlansStart cmp t (launched cmp t (with_queued cmp here m) m) next
       → (v : Planned P) × Enqueues cmp t m w (goes [] v) × Accounts cmp t next [] v
   one_starts t m here next w a positive limited found may id stays looks =

@@ -28,12 +28,14 @@ returns-in_err-ended-clause-refused g c =
     λ e. some (sym (length-map c.args.messages.items outgoing) ∙ e) in
     rw (p.1, p.2)
     (copies_refused g.P.Ord.cmp g.met.P.Ord.total c.args.now c.ranges.now.fits (map outgoing c.args.messages.items)
-    (planned g.P.Ord.cmp c.args.self.now.ledger) (planned g.P.Ord.cmp c.in_ok-ledger.ledger) _ c.in_ok-ledger.ensures.cases sent c.in_err-ended.ensures.refused
+    (planned g.P.Ord.cmp c.args.self.now.ledger) (planned g.P.Ord.cmp c.in_ok-ledger.ledger) _
+    c.in_ok-ledger.ensures.cases sent c.in_err-ended.ensures.refused
     c.args.self.now.caps c.args.self.now.arrivals c.args.self.now.orderly)
 
 pub returns-in_err-completions-clause-refused : goal.returns-in_err-completions-clause-refused
 returns-in_err-completions-clause-refused g c =
-    let p = err_from_is_err_and c.from_residual-in_err-completions.result c.from_residual-in_err-completions.ensures.1 in
+    let p =
+    err_from_is_err_and c.from_residual-in_err-completions.result c.from_residual-in_err-completions.ensures.1 in
     let some : length c.args.messages.items ≢ 0 = search rules in
     let sent : length (map outgoing c.args.messages.items) ≢ 0 =
     λ e. some (sym (length-map c.args.messages.items outgoing) ∙ e) in
@@ -53,7 +55,8 @@ invariant_of-self-clause-arrivals g c =
 pub invariant_of-self-clause-right : goal.invariant_of-self-clause-right
 invariant_of-self-clause-right g c =
     (copies_promised g.P.Ord.cmp g.met.P.Ord.total c.args.now c.ranges.now.fits (map outgoing c.args.messages.items)
-    (planned g.P.Ord.cmp c.args.self.now.ledger) (planned g.P.Ord.cmp c.in_ok-ledger.ledger) (planned g.P.Ord.cmp c.enqueue_all.new.self)
+    (planned g.P.Ord.cmp c.args.self.now.ledger) (planned g.P.Ord.cmp c.in_ok-ledger.ledger)
+    (planned g.P.Ord.cmp c.enqueue_all.new.self)
     (map ended_of c.in_ok-ended.ended.items) (map completed_of c.in_ok-completions.completions.items)
     c.in_ok-ledger.ensures.cases c.in_ok-ended.ensures.enqueues
     (rw (← c.deref.ensures.value) c.in_ok-completions.ensures.same) c.args.self.now.caps c.args.self.now.arrivals
@@ -62,7 +65,8 @@ invariant_of-self-clause-right g c =
 pub invariant_of-self-clause-orderly : goal.invariant_of-self-clause-orderly
 invariant_of-self-clause-orderly g c =
     (copies_promised g.P.Ord.cmp g.met.P.Ord.total c.args.now c.ranges.now.fits (map outgoing c.args.messages.items)
-    (planned g.P.Ord.cmp c.args.self.now.ledger) (planned g.P.Ord.cmp c.in_ok-ledger.ledger) (planned g.P.Ord.cmp c.enqueue_all.new.self)
+    (planned g.P.Ord.cmp c.args.self.now.ledger) (planned g.P.Ord.cmp c.in_ok-ledger.ledger)
+    (planned g.P.Ord.cmp c.enqueue_all.new.self)
     (map ended_of c.in_ok-ended.ended.items) (map completed_of c.in_ok-completions.completions.items)
     c.in_ok-ledger.ensures.cases c.in_ok-ended.ensures.enqueues
     (rw (← c.deref.ensures.value) c.in_ok-completions.ensures.same) c.args.self.now.caps c.args.self.now.arrivals
@@ -71,7 +75,8 @@ invariant_of-self-clause-orderly g c =
 pub returns-clause-made : goal.returns-clause-made
 returns-clause-made g c =
     (copies_promised g.P.Ord.cmp g.met.P.Ord.total c.args.now c.ranges.now.fits (map outgoing c.args.messages.items)
-    (planned g.P.Ord.cmp c.args.self.now.ledger) (planned g.P.Ord.cmp c.in_ok-ledger.ledger) (planned g.P.Ord.cmp c.enqueue_all.new.self)
+    (planned g.P.Ord.cmp c.args.self.now.ledger) (planned g.P.Ord.cmp c.in_ok-ledger.ledger)
+    (planned g.P.Ord.cmp c.enqueue_all.new.self)
     (map ended_of c.in_ok-ended.ended.items) (map completed_of c.in_ok-completions.completions.items)
     c.in_ok-ledger.ensures.cases c.in_ok-ended.ensures.enqueues
     (rw (← c.deref.ensures.value) c.in_ok-completions.ensures.same) c.args.self.now.caps c.args.self.now.arrivals

@@ -1,4 +1,4 @@
-use Rattle.std.proofs.Common.{◌≡◌, [], ◌++◌, map, sym, ap, ◌∙◌, subst, refl}
+use Rattle.std.proofs.Common.{[], map, sym, ap, ◌∙◌, subst, refl}
 use Rattle.std.proofs.lemmas.List.{append-nil, map-append}
 use Rattle.std.proofs.lemmas.Result.{err_from_is_err_and}
 use Rattle.link_simulation.specs.Simulation.RefusalCauses.{IsRefusedFor}
@@ -9,7 +9,8 @@ use Rattle.link_scheduler.specs.Calls.Standing.{IsStanding}
 use Rattle.link_scheduler.specs.Calls.AsPlanned.{planned}
 use Rattle.link_scheduler.specs.Flights.InFlight.{in_units}
 use Rattle.link_scheduler.specs.Pairs.Messages.{message_of, ended_of}
-use Rattle.link_scheduler.proofs.Calls.Standing.{goes_waiting, goes_starting, goes_otherwise, read_positive, read_lowest}
+use Rattle.link_scheduler.proofs.Calls.Standing.{goes_waiting, goes_starting, goes_otherwise, read_positive}
+use Rattle.link_scheduler.proofs.Calls.Standing.{read_lowest}
 use Rattle.link_scheduler.proofs.Calls.Standing.{starts_so}
 use Rattle.link_scheduler.proofs.transmitter.ledger.Ledger.enqueue_next.Goals as goal
 
