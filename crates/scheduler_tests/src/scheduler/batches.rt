@@ -1,7 +1,7 @@
 //! Lists of messages that are sent at one moment.
 use super::{Arrival, LAST, MILLI, Parcel, SECOND, are_done, contents, from_to};
-use p2p_simulated::error::Error;
-use p2p_simulated::transmitter::{Completion, Outgoing, State};
+use fair_rates::error::Error;
+use link_scheduler::transmitter::{Completion, Outgoing, State};
 use std::alloc::Global;
 use std::process::Abort;
 
