@@ -5,7 +5,8 @@ use Rattle.link_scheduler.specs.Pairs.Entries.{pair_cmp}
 use Rattle.link_scheduler.specs.Idle.Busy.{busy_key}
 use Rattle.link_scheduler.proofs.Pairs.PairOrder.{pair_total}
 use Rattle.link_scheduler.proofs.Pairs.Searching.{parted, parting_place, parting_gap, parting_end}
-use Rattle.link_scheduler.proofs.transmitter.busy.BusyPairs.search.Goals.{in_default-via-in-Some+else-is_eq, in_default-via-in_default}
+use Rattle.link_scheduler.proofs.transmitter.busy.BusyPairs.search.Goals.{in_default-via-in-Some+else-is_eq}
+use Rattle.link_scheduler.proofs.transmitter.busy.BusyPairs.search.Goals.{in_default-via-in_default}
 use Rattle.link_scheduler.proofs.transmitter.busy.BusyPairs.search.Goals as goal
 
 pub returns-in-Some-clause-found : goal.returns-in-Some-clause-found
