@@ -322,8 +322,7 @@ module _ {P : Type 0} (cmp : P → P → Ordering) (order : IsTotalOrder cmp) wh
   all_have_rates caps per parts place [] some limited rated = tt
   all_have_rates caps per parts place (f ∷ fs) some limited rated =
       let own : (if is_unlimited cmp caps f.message then None else Some (parts place)) ≡ Some (parts place) =
-      ap (λ (b : Bool). if b then None else Some (parts place)) limited.0 in
-      (
+      ap (λ (b : Bool). if b then None else Some (parts place)) limited.0 in (
         (reduced (parts place) per, rated.0 ∙ ap (rate_of per) own, reduced_positive (parts place) per some),
         all_have_rates caps per parts (place + 1) fs some limited.1 rated.1,
       )
