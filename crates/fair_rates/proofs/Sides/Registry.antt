@@ -1,6 +1,7 @@
 -- What registering one ask does to the sides and to the numbers of their subjects.
-use Rattle.std.proofs.Common.{◌≡◌, ◌↔◌, ◌≢◌, ◌==◌, ℕ, suc, zero, ◌+◌, ◌<◌, Bool, true, false, cond, ◌||◌, ◌&&◌, List, [], ◌∷◌}
-use Rattle.std.proofs.Common.{Bor, ◌++◌, Option, Some, None, map, length, get_or, refl, sym, ap, ◌∙◌, arith, subst, ⊎_elim}
+use Rattle.std.proofs.Common.{◌≡◌, ◌↔◌, ◌≢◌, ◌==◌, ℕ, suc, zero, ◌+◌, ◌<◌, Bool, true, false, cond, ◌||◌, ◌&&◌, List, []}
+use Rattle.std.proofs.Common.{◌∷◌, Bor, ◌++◌, Option, Some, None, map, length, get_or, refl, sym, ap, ◌∙◌, arith, subst}
+use Rattle.std.proofs.Common.{⊎_elim}
 use Rattle.std.proofs.Math.ListN.{set}
 use Rattle.std.proofs.lemmas.List.{append-nil, map-append, map-set, length-set, length-map, same_lists, get_or-set_same}
 use Rattle.std.proofs.lemmas.List.{get_or-set_other, get_or-map, get_or_append_left, get_or_push, get_or_default}
@@ -398,7 +399,8 @@ pub no_pair : {P : Type 0} (cmp : P → P → Ordering) (o : IsTotalOrder cmp) (
     → Registers cmp (record { place = place; subject = sent_between p q; answer = answer } ∷ []) registry registry
 no_pair cmp o registry place p q answer unanswered empty finds = record {
   asked = λ asks h.
-      absent cmp o asks registry.sides.items (number_of cmp registry) h (sent_between p q) place answer (none_from answer unanswered)
+      absent cmp o asks registry.sides.items (number_of cmp registry) h (sent_between p q) place answer
+      (none_from answer unanswered)
       (ap (lookup (λ other. same_peer cmp p other.0.now && same_peer cmp q other.1.now))
       (nil_from_length registry.pairs.entries empty));
   finds = finds;

@@ -4,7 +4,8 @@ use Rattle.std.specs.Prelude.{vec_len}
 use Rattle.std.specs.Map.{lookup}
 use Rattle.std.specs.List.{HoldsAt}
 use Rattle.std.specs.declared.cmp.Ordering.{Ordering}
-use Rattle.fair_rates.specs.Sides.Subjects.{Subject, sent_by, received_by, sent_between, Ask, same_peer, same_subject, is_open}
+use Rattle.fair_rates.specs.Sides.Subjects.{Subject, sent_by, received_by, sent_between, Ask, same_peer, same_subject}
+use Rattle.fair_rates.specs.Sides.Subjects.{is_open}
 use Rattle.fair_rates.specs.Sides.Subjects.{opened}
 use Rattle.fair_rates.specs.Sides.Subjects.{sides_after}
 use Rattle.fair_rates.specs.Sides.SideOf.{side_of}

@@ -98,7 +98,8 @@ fn register<'a, P: Peer>(
 ) -> Result<(), Error>
     requires { FindsSides P.cmp registry.old }
     ensures registers { OnOk result (Registers P.cmp
-        (record { place = place; subject = subject_of subject.entry; answer = answer } ∷ []) registry.old registry.new) }
+        (record { place = place; subject = subject_of subject.entry; answer = answer } ∷ [])
+        registry.old registry.new) }
     ensures refused { IfErr result (λ e. e ≡ Error.OutOfMemory) }
 {
     if let Some(number) = registry.number(&subject) {

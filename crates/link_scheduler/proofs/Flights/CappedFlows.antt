@@ -1,5 +1,6 @@
 -- Flows with the caps that hold for them: what is fair for them is fair under the caps.
-use Rattle.std.proofs.Common.{◌≡◌, ℕ, zero, suc, ◌<◌, List, [], ◌∷◌, ◌++◌, Option, None, cond, Result, Ok, Err, IfOk, All}
+use Rattle.std.proofs.Common.{◌≡◌, ℕ, zero, suc, ◌<◌, List, [], ◌∷◌, ◌++◌, Option, None, cond, Result, Ok, Err, IfOk}
+use Rattle.std.proofs.Common.{All}
 use Rattle.std.proofs.Common.{map, length, get_or, subst, refl, sym, ◌∙◌, arith}
 use Rattle.std.proofs.lemmas.List.{length-map}
 use Rattle.std.proofs.lemmas.List.Elements.{All-append, All-contains}

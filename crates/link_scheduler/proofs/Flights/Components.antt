@@ -445,7 +445,8 @@ module _ {P : Type 0} (cmp : P → P → Ordering) (component : Component P) whe
         → AreFairOf cmp caps scale component us found
         → AreFairlyRated cmp caps found.scale (rerated cmp component now times group (rates_found found) us)
     whole_fair caps scale now times group us found of =
-        subst (AreFairlyRated cmp caps found.scale) (those_all (rerated cmp component now times group (rates_found found) us))
+        subst (AreFairlyRated cmp caps found.scale)
+        (those_all (rerated cmp component now times group (rates_found found) us))
         (component_alone caps scale now times group us found of)
 
     pub no_others : (fs : List (Rc (Flight P) Global)) → AreOthersTimed cmp component fs

@@ -108,7 +108,14 @@ module _ {P : Type 0} (cmp : P → P → Ordering) (component : Component P) (no
       rw (rated, message, at_rate, since, of_group) (ap as_record rest)
     where
       as_record : ℕ → UnitFlight P
-      as_record n = record { message = x.message.value; left = n; rate = rate; updated = now; rated = true; group = group }
+      as_record n = record {
+        message = x.message.value;
+        left = n;
+        rate = rate;
+        updated = now;
+        rated = true;
+        group = group;
+      }
 
       none : now - now ≡ 0
       none = omega arith
@@ -200,7 +207,8 @@ module _ {P : Type 0} {cmp : P → P → Ordering} {component : Component P} {no
         ≡ flights_at now h.to ++ rerated cmp component now times group (drop next rates) (u ∷ us)
     comes_all =
         h.comes
-        ∙ ap (λ l. flights_at now h.to ++ rerated cmp component now times group (drop next rates) (flights_at now l)) s.was
+        ∙ ap (λ l. flights_at now h.to ++ rerated cmp component now times group (drop next rates) (flights_at now l))
+        s.was
 
     pub something_left : u.left * times ≢ 0
     something_left = left_all 0 u (omega arith)
@@ -208,7 +216,8 @@ module _ {P : Type 0} {cmp : P → P → Ordering} {component : Component P} {no
     pub has_rate : is_of cmp component u ≡ true → next < length rates
     has_rate of = omega (arith, count_all, ap length (filter_yes (is_of cmp component) u us of))
 
-    pub passed : is_of cmp component u ≡ false → AreReratedUpTo cmp component now times group rates old so_far (at + 1) next
+    pub passed : is_of cmp component u ≡ false
+        → AreReratedUpTo cmp component now times group rates old so_far (at + 1) next
     passed out = record {
       to = h.to ++ x ∷ [];
       rest = s.rest;
@@ -233,7 +242,8 @@ module _ {P : Type 0} {cmp : P → P → Ordering} {component : Component P} {no
         let y = put.one in
         let fresh : flight_at now y.value ≡ anew cmp component now times group (get_or rates next 0) u =
         ap (flight_at now) put.is
-        ∙ anew_is cmp component now times group f x.value (get_or rates next 0) message left rate since rated of_group in
+        ∙ anew_is cmp component now times group f x.value (get_or rates next 0) message left rate since rated
+        of_group in
         record {
           to = h.to ++ y ∷ [];
           rest = s.rest;
@@ -269,7 +279,8 @@ module _ {P : Type 0} {cmp : P → P → Ordering} {component : Component P} {no
           let all : so_far ≡ h.to = h.is ∙ ap (λ l. h.to ++ l) e ∙ append-nil h.to in
           let none_come : rerated cmp component now times group rates (flights_at now old) ≡ flights_at now h.to =
           h.comes
-          ∙ ap (λ l. flights_at now h.to ++ rerated cmp component now times group (drop next rates) (flights_at now l)) e
+          ∙ ap (λ l. flights_at now h.to ++ rerated cmp component now times group (drop next rates) (flights_at now l))
+          e
           ∙ append-nil (flights_at now h.to) in
           record { units = ap (flights_at now) all ∙ sym none_come; timed = subst AreTimed (sym all) h.timed }
       by_rest (z ∷ rest) e =
