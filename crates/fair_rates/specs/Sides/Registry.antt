@@ -1,13 +1,11 @@
 -- Registering: the sides that have come into being while flow after flow asks for them.
-use Rattle.std.specs.Prelude.{◌≡◌, ◌↔◌, ℕ, ◌<◌, true, cond, ◌&&◌, List, [], ◌∷◌, ◌++◌, Option, Some, map, length}
-use Rattle.std.specs.Prelude.{vec_len}
+use Rattle.std.specs.Prelude.{◌≡◌, ◌↔◌, ℕ, ◌<◌, true, cond, ◌&&◌, List, [], ◌∷◌, ◌++◌}
+use Rattle.std.specs.Prelude.{Option, Some, map, length, vec_len}
 use Rattle.std.specs.Map.{lookup}
 use Rattle.std.specs.List.{HoldsAt}
 use Rattle.std.specs.declared.cmp.Ordering.{Ordering}
 use Rattle.fair_rates.specs.Sides.Subjects.{Subject, sent_by, received_by, sent_between, Ask, same_peer, same_subject}
-use Rattle.fair_rates.specs.Sides.Subjects.{is_open}
-use Rattle.fair_rates.specs.Sides.Subjects.{opened}
-use Rattle.fair_rates.specs.Sides.Subjects.{sides_after}
+use Rattle.fair_rates.specs.Sides.Subjects.{is_open, opened, sides_after}
 use Rattle.fair_rates.specs.Sides.SideOf.{side_of}
 use Rattle.fair_rates.specs.declared.bandwidth.sides.Registry.{Registry}
 use Rattle.fair_rates.specs.declared.bandwidth.sides.Side as declared_side

@@ -1,7 +1,8 @@
 //! Which messages in flight are joined, directly or through others.
 //!
-//! Messages that share a sender or a receiver are of one group. So where some are done or new, only those of the groups
-//! that they touch are looked at; and of these, those that the senders and receivers join.
+//! Messages that share a sender or a receiver are of one group. So where some are done or new, only
+//! those of the groups that they touch are looked at; and of these, those that the senders and
+//! receivers join.
 ghost use Rattle.std.specs.Prelude.{◌≡◌, ◌&&◌, ◌||◌, ◌==◌, ℕ, not, true, false, IfOk, IfErr, IfSome, OnOk};
 ghost use Rattle.std.specs.List.{list_all, list_any};
 ghost use Rattle.fair_rates.specs.Sides.Subjects.{same_peer};

@@ -1,6 +1,6 @@
 //! The messages in flight.
-ghost use Rattle.std.specs.Prelude.{◌≡◌, ℕ, ◌+◌, ◌<◌, ◌≤◌, [], ◌∷◌, ◌++◌, ◌&&◌, ◌||◌, ◌==◌, Bool, true, not, map};
-ghost use Rattle.std.specs.Prelude.{length, nat_le, Some, IfOk, IfErr, OnOk, OnErr, slice_index_or, MatchOption};
+ghost use Rattle.std.specs.Prelude.{◌≡◌, ℕ, ◌<◌, [], ◌∷◌, ◌++◌, ◌||◌, ◌==◌, true, not};
+ghost use Rattle.std.specs.Prelude.{length, nat_le, Some, IfOk, IfErr, OnOk, OnErr};
 ghost use Rattle.std.specs.List.{list_all, list_any};
 
 use super::event::earlier;
@@ -94,7 +94,7 @@ impl<P: Peer> Flights<P> {
         Ok(())
     }
 
-    /// The message at that place goes on as told from now on.
+    /// The flight stands at that place from now on.
     pub(crate) fn put(&mut self, at: usize, flight: Flight<P>) -> Result<(), Error>
         requires place { at < length self.old.list.items }
         requires past { (not flight.rated || nat_le flight.since self.old.at) ≡ true }

@@ -1,5 +1,6 @@
 //! The fair rates of what is in flight.
-ghost use Rattle.std.specs.Prelude.{◌≡◌, ◌≢◌, ℕ, true, map, IfOk, IfErr, OnOk, All, ◌<◌, ◌≤◌, ◌*◌, length, IfSome};
+ghost use Rattle.std.specs.Prelude.{◌≡◌, ◌≢◌, ℕ, ◌<◌, ◌≤◌, ◌*◌, true, map, length, All};
+ghost use Rattle.std.specs.Prelude.{IfOk, IfErr, IfSome, OnOk};
 ghost use Rattle.fair_rates.specs.Fairness.Exists.{product};
 ghost use Rattle.link_simulation.specs.Rule.Planned.{IsLeastMoment, SomeSpentAt};
 ghost use Rattle.link_simulation.specs.Simulation.World.{last_moment};
