@@ -12,11 +12,15 @@ use bytes::Bytes;
 /// where nothing else is said.
 #[derive(Debug, Drop)]
 pub struct Outgoing<P, M = Bytes> {
+    /// Who sends.
     pub origin: P,
+    /// Who is to receive. It may be the origin.
     pub recipient: P,
+    /// It comes back with the completion.
     pub channel: u64,
+    /// What is sent, which comes back with the completion.
     pub message: M,
-    /// In nanoseconds.
+    /// From its completion to its arrival, in nanoseconds.
     pub latency: u64,
     /// Whether it arrives; else it is to be dropped.
     pub should_deliver: bool,
