@@ -1,7 +1,7 @@
 //! Compares the trace on standard input with what the simulation does, and prints the verdict.
 #![tactic(auto)]
 
-use p2p_simulated::linkcheck;
+use link_scripts::linkcheck;
 use std::process::ExitCode;
 
 fn main(rt: HostRuntime) -> ExitCode {

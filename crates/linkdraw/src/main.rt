@@ -1,8 +1,8 @@
 //! Draws the run of the script on standard input, as one SVG on standard output.
 #![tactic(auto)]
 
-use p2p_simulated::linkdraw;
-use p2p_simulated::linkrun::Outcome;
+use link_pictures::linkdraw;
+use link_scripts::linkrun::Outcome;
 use std::process::ExitCode;
 
 fn main(rt: HostRuntime) -> ExitCode {

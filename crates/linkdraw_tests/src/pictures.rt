@@ -1,6 +1,6 @@
 //! Pictures over memory.
-use p2p_simulated::linkdraw::run;
-use p2p_simulated::linkrun::Outcome;
+use link_pictures::linkdraw::run;
+use link_scripts::linkrun::Outcome;
 use std::io;
 use std::io::{ErrorKind, Write};
 use std::process::Abort;

@@ -1,8 +1,8 @@
 //! Runs the script on standard input, and prints its answers on standard output.
 #![tactic(auto)]
 
-use p2p_simulated::linkrun;
-use p2p_simulated::linkrun::Outcome;
+use link_scripts::linkrun;
+use link_scripts::linkrun::Outcome;
 use std::process::ExitCode;
 
 fn main(rt: HostRuntime) -> ExitCode {

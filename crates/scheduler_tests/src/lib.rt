@@ -1,5 +1,7 @@
-//! Tests of the scheduler.
+//! Tests of the scheduler, and of what is read of messages in flight.
 #![tactic(auto)]
 
+#[cfg(test)]
+mod readings;
 #[cfg(test)]
 mod scheduler;

@@ -1,8 +1,8 @@
 //! What is in flight, and how it is read.
 use bytes::Bytes;
-use p2p_simulated::error::Error;
-use p2p_simulated::ratio::Ratio;
-use p2p_simulated::transmitter::{InFlight, State};
+use fair_rates::error::Error;
+use fair_rates::ratio::Ratio;
+use link_scheduler::transmitter::{InFlight, State};
 use std::alloc::Global;
 use std::process::Abort;
 

@@ -1,5 +1,5 @@
 //! Traces that agree, and a fault in each kind of line.
-use p2p_simulated::linkcheck::{Fault, Verdict, run, status};
+use link_scripts::linkcheck::{Fault, Verdict, run, status};
 use std::io;
 use std::io::{ErrorKind, Read, Write};
 use std::process::Abort;
