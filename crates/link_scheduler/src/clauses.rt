@@ -1,7 +1,7 @@
 //! What the promises of a scheduler's calls mean: what follows from the records that their contracts name.
 //!
 //! Each function here states laws and does nothing. The records are those of
-//! `Rattle.link_scheduler.specs.Calls.State` and `Rattle.link_scheduler.specs.Flights.Readings`.
+//! `Rattle.link_scheduler.specs.Calls.State` and `Rattle.link_flights.specs.Flights.Readings`.
 ghost use Rattle.std.specs.Prelude.{◌≡◌, ◌↔◌, ℕ, ◌+◌, ◌-◌, ◌*◌, ◌≤◌, List, [], ◌∷◌, length};
 ghost use Rattle.std.specs.Prelude.{map, true, Bool, Option, Some, None};
 ghost use Rattle.std.specs.List.{AllZip};
@@ -10,12 +10,12 @@ ghost use Rattle.fair_rates.specs.Numbers.Amount.{Amount, whole};
 ghost use Rattle.fair_rates.specs.Numbers.Ratio.{amount_of};
 ghost use Rattle.fair_rates.specs.declared.error.Error.{Error as AnyError};
 ghost use Rattle.fair_rates.specs.declared.error.Error.TheVariants.{OutOfMemory, NumberTooLarge};
-ghost use Rattle.link_scheduler.specs.Pairs.Messages.{completed_of};
-ghost use Rattle.link_scheduler.specs.Flights.Readings.{HasShortTerms, IsGreatestWhole, IsReadingOf, IsReadAs};
+ghost use Rattle.link_flights.specs.Pairs.Messages.{completed_of};
+ghost use Rattle.link_flights.specs.Flights.Readings.{HasShortTerms, IsGreatestWhole, IsReadingOf, IsReadAs};
 ghost use Rattle.link_scheduler.specs.Calls.State.{planned_of, sent, Makes, Refuses, IsNew, IsAdvanced, IsCounted};
 ghost use Rattle.link_scheduler.specs.Calls.State.{IsNextOf};
-ghost use Rattle.link_scheduler.specs.declared.transmitter.reading.InFlight.{InFlight as AnyInFlight};
-ghost use Rattle.link_scheduler.specs.declared.transmitter.reading.Reading.{Reading as AnyReading};
+ghost use Rattle.link_flights.specs.declared.reading.InFlight.{InFlight as AnyInFlight};
+ghost use Rattle.link_flights.specs.declared.reading.Reading.{Reading as AnyReading};
 ghost use Rattle.link_simulation.specs.Laws.MostEvents.{most_events};
 ghost use Rattle.link_simulation.specs.Rule.SamePlanned.{IsSamePlanned, AdvancesByRule};
 ghost use Rattle.link_simulation.specs.Rule.Simulated.{IsCalled};

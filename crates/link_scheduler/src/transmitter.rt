@@ -6,38 +6,23 @@ ghost use Rattle.link_simulation.specs.Simulation.Calls.{call_limit, call_limit_
 ghost use Rattle.link_simulation.specs.Simulation.Messages.{CapsAlike, PairsAlike};
 ghost use Rattle.link_simulation.specs.Rule.Planned.{IsPlanned};
 
-mod account;
 mod batch;
-mod busy;
-mod completion;
-mod component;
 mod event;
 mod events;
-mod flight;
-mod flights;
-mod fraction;
-mod idle;
 mod ledger;
-mod message;
 mod moves;
 mod outgoing;
-mod pair_list;
-mod pairs;
-mod peers;
-mod rates;
-mod readiness;
-mod reading;
-mod waiting;
+mod plans;
 
 use bytes::Bytes;
-pub use completion::Completion;
-use completion::answers_of;
 use fair_rates::error::Error;
 use fair_rates::peer::Peer;
 use ledger::Ledger;
-use message::Message;
+pub use link_flights::completion::Completion;
+use link_flights::completion::answers_of;
+use link_flights::message::Message;
+pub use link_flights::reading::{InFlight, Reading};
 pub use outgoing::Outgoing;
-pub use reading::{InFlight, Reading};
 use std::alloc::Global;
 
 /// A scheduler of messages between capped peers: it tells when each completes and arrives.
@@ -94,7 +79,9 @@ pub struct State<P: Peer> {
 }
 
 impl<P: Peer> State<P> {
-    ghost use Rattle.link_scheduler.specs.Pairs.Messages.{message_of};
+    ghost use Rattle.std.specs.List.{AllZip};
+    ghost use Rattle.link_flights.specs.Pairs.Messages.{message_of};
+    ghost use Rattle.link_flights.specs.Flights.Readings.{IsReadAs};
     ghost use Rattle.link_scheduler.specs.Calls.State.{planned_of, sent, IsNew, IsMade, IsRefused, IsAdvanced};
     ghost use Rattle.link_scheduler.specs.Calls.State.{IsCounted, sends, AreMade, IsOneRefused};
     ghost use Rattle.link_scheduler.specs.Calls.State.{IsNextOf, IsQuietUntil};
@@ -396,5 +383,26 @@ impl<P: Peer> State<P> {
         ensures next { IsNextOf self.now result }
     {
         self.ledger.next_event()
+    }
+
+    /// What is in flight, in order of start: of each message its pair, what is left of it in bytes,
+    /// its rate in bytes a second, and since when.
+    ///
+    /// What was left of a message at the moment `since` drains at its rate from then on, until it
+    /// is done or the next event or call changes the rates. The peers are cloned. An amount is
+    /// exact where its fraction fits in 128 bits, and else rounded down to a whole number;
+    /// `Reading` says which.
+    ///
+    /// It changes nothing. It takes memory for the list and on the way, and time that grows with
+    /// the number of messages in flight and with the length of their numbers.
+    ///
+    /// # Errors
+    ///
+    /// `OutOfMemory` where memory was refused, for the list or for the clone of a peer.
+    pub fn in_flight(&self) -> Result<Vec<InFlight<P>>, Error>
+        ensures read { IfOk result (λ readings. AllZip (IsReadAs P.cmp) (planned_of self.now).sending readings.items) }
+        ensures refused { IfErr result (λ e. e ≡ Error.OutOfMemory) }
+    {
+        self.ledger.flights.read()
     }
 }

@@ -11,9 +11,9 @@ use Rattle.std.proofs.lemmas.Bool.{eqb-true, eq-eqb}
 use Rattle.fair_rates.specs.Lists.WithoutFirst.{without_first}
 use Rattle.std.specs.declared.rc.Rc.{Rc}
 use Rattle.std.specs.declared.alloc.Global.{Global}
-use Rattle.link_scheduler.specs.declared.transmitter.flight.Flight.{Flight}
-use Rattle.link_scheduler.specs.Flights.Flight.{flights_at}
-use Rattle.link_scheduler.specs.Flights.RatedFlights.{sending_of}
+use Rattle.link_flights.specs.declared.flight.Flight.{Flight}
+use Rattle.link_flights.specs.Flights.Flight.{flights_at}
+use Rattle.link_flights.specs.Flights.RatedFlights.{sending_of}
 use Rattle.fair_rates.specs.Numbers.Amount.{whole}
 use Rattle.link_simulation.specs.Simulation.Messages.{Message, same_pair}
 use Rattle.link_simulation.specs.Simulation.World.{Course, goes, meets}

@@ -22,17 +22,17 @@ use Rattle.link_simulation.proofs.Rule.OneCourse.{account_is_one}
 use Rattle.link_simulation.proofs.Simulation.LowestTerms.{reduced_lowest}
 use Rattle.link_scheduler.specs.Calls.Standing.{IsStanding, OnlyStarts, is_settled, does_start}
 use Rattle.link_scheduler.specs.Calls.Standing.{standing_after}
-use Rattle.link_scheduler.specs.Flights.Flight.{UnitFlight}
-use Rattle.link_scheduler.specs.Flights.RatedFlights.{sending_of}
-use Rattle.link_scheduler.specs.Idle.AtRest.{is_sending}
+use Rattle.link_flights.specs.Flights.Flight.{UnitFlight}
+use Rattle.link_flights.specs.Flights.RatedFlights.{sending_of}
+use Rattle.link_flights.specs.Idle.AtRest.{is_sending}
 use Rattle.link_simulation.specs.Rule.OneByOne.{EnqueuesEach}
 use Rattle.link_simulation.specs.Simulation.RefusalCauses.{IsRefusedFor}
 use Rattle.fair_rates.specs.declared.error.Error.{Error}
 use Rattle.link_scheduler.proofs.Calls.OneByOne.{EnqueuesSo, enqueues_start, enqueues_step, enqueues_end}
 use Rattle.link_scheduler.proofs.Calls.OneByOne.{enqueues_refused}
 use Rattle.link_scheduler.proofs.Calls.OnlyWaiting.{enqueue_waits}
-use Rattle.link_scheduler.proofs.Flights.Units.{units_positive}
-use Rattle.link_scheduler.proofs.Idle.Starting.{first_joined}
+use Rattle.link_flights.proofs.Flights.Units.{units_positive}
+use Rattle.link_flights.proofs.Idle.Starting.{first_joined}
 
 -- what is in flight, as it is read, has numbers over numbers above zero
 pub read_positive : {P : Type 0} (scale : ℕ) (us : List (UnitFlight P)) → 0 < scale → ArePositive (sending_of scale us)

@@ -1,6 +1,5 @@
 //! What happens next.
 ghost use Rattle.std.specs.Prelude.{◌≡◌};
-ghost use Rattle.link_simulation.specs.Rule.Planned.{earlier as earliest};
 
 /// What happens next.
 #[derive(Drop)]
@@ -21,16 +20,5 @@ impl Event {
             Event::Finish(moment) => *moment,
             Event::Start(moment) => *moment,
         }
-    }
-}
-
-/// The earlier of two moments, where there are any.
-pub(crate) fn earlier(first: Option<u64>, second: Option<u64>) -> Option<u64>
-    ensures { result ≡ earliest first second }
-{
-    match (first, second) {
-        (Some(first), Some(second)) => Some(first.min(second)),
-        (Some(first), None) => Some(first),
-        (None, second) => second,
     }
 }

@@ -1,21 +1,21 @@
 //! The state that a call works on.
 ghost use Rattle.std.specs.Prelude.{◌≡◌, true, false, OnOk, IfErr};
 ghost use Rattle.link_simulation.specs.Rule.Planned.{rated_messages};
-ghost use Rattle.link_scheduler.specs.Idle.Index.{IsIndexOf};
-ghost use Rattle.link_scheduler.specs.Idle.Busy.{AreCounted};
-ghost use Rattle.link_scheduler.specs.Flights.InFlight.{in_flight};
-ghost use Rattle.link_scheduler.specs.Idle.AtRest.{of_pairs};
-ghost use Rattle.link_scheduler.specs.Pairs.CapsOf.{caps_of};
-ghost use Rattle.link_scheduler.specs.Flights.Rated.{AreRated};
+ghost use Rattle.link_flights.specs.Idle.Index.{IsIndexOf};
+ghost use Rattle.link_flights.specs.Idle.Busy.{AreCounted};
+ghost use Rattle.link_flights.specs.Flights.InFlight.{in_flight};
+ghost use Rattle.link_flights.specs.Idle.AtRest.{of_pairs};
+ghost use Rattle.link_flights.specs.Pairs.CapsOf.{caps_of};
+ghost use Rattle.link_flights.specs.Flights.Rated.{AreRated};
 
-use super::busy::BusyPairs;
-use super::flights::Flights;
-use super::idle::IdlePairs;
-use super::pairs::Pairs;
-use super::peers::Peers;
-use super::waiting::Waiting;
 use fair_rates::error::Error;
 use fair_rates::peer::Peer;
+use link_flights::busy::BusyPairs;
+use link_flights::flight_list::Flights;
+use link_flights::idle_pairs::IdlePairs;
+use link_flights::known_pairs::Pairs;
+use link_flights::peers::Peers;
+use link_flights::waiting::Waiting;
 use std::alloc::{AllocError, Global};
 
 /// All that is kept between calls.

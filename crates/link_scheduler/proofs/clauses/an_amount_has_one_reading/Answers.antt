@@ -1,7 +1,7 @@
 use Rattle.std.proofs.Common.{◌≡◌, ℕ, Bool, true, false, refl, ap, ◌∙◌, arith}
 use Rattle.fair_rates.specs.Numbers.Amount.{Amount, whole}
 use Rattle.fair_rates.specs.Numbers.Ratio.{amount_of}
-use Rattle.link_scheduler.specs.Flights.Readings.{IsGreatestWhole}
+use Rattle.link_flights.specs.Flights.Readings.{IsGreatestWhole}
 use Rattle.link_scheduler.proofs.clauses.an_amount_has_one_reading.Goals as goal
 
 one_whole : (amount : Amount) (n m : ℕ) → IsGreatestWhole amount n → IsGreatestWhole amount m → n ≡ m

@@ -4,10 +4,10 @@ use Rattle.link_simulation.specs.Simulation.World.{goes}
 use Rattle.link_simulation.specs.Simulation.Calls.{call_advance}
 use Rattle.link_simulation.specs.Rule.Events.{Advances}
 use Rattle.link_scheduler.specs.Calls.AsPlanned.{planned}
-use Rattle.link_scheduler.specs.Pairs.Messages.{completed_of, ended_of}
+use Rattle.link_flights.specs.Pairs.Messages.{completed_of, ended_of}
 use Rattle.link_scheduler.proofs.Calls.Calling.{advance_refused, advances_on, counted_goes, same_copy, counted_answered}
 use Rattle.link_scheduler.proofs.Calls.SameIsPlanned.{planned_on, few_on}
-use Rattle.link_scheduler.proofs.Flights.Accounts.{looked_up, arrivals_looked_up}
+use Rattle.link_flights.proofs.Flights.Accounts.{looked_up, arrivals_looked_up}
 use Rattle.link_scheduler.proofs.Calls.Promises.{orderly_on, promised_if, cause_of, split_on, within_caps_on}
 use Rattle.link_scheduler.proofs.transmitter.State.handle_events.Goals as goal
 

@@ -3,10 +3,10 @@ use Rattle.std.proofs.lemmas.Result.{err_from_is_err_and}
 use Rattle.link_simulation.specs.Simulation.World.{goes}
 use Rattle.link_simulation.specs.Simulation.Calls.{call_limit, limited_by}
 use Rattle.link_scheduler.specs.Calls.AsPlanned.{planned}
-use Rattle.link_scheduler.specs.Pairs.Messages.{completed_of, ended_of}
+use Rattle.link_flights.specs.Pairs.Messages.{completed_of, ended_of}
 use Rattle.link_scheduler.proofs.Calls.Calling.{limit_refused, rebalances_on, goes_on, same_copy, goes_answered}
 use Rattle.link_scheduler.proofs.Calls.SameIsPlanned.{planned_on}
-use Rattle.link_scheduler.proofs.Flights.Accounts.{looked_up, arrivals_looked_up}
+use Rattle.link_flights.proofs.Flights.Accounts.{looked_up, arrivals_looked_up}
 use Rattle.link_scheduler.proofs.Calls.Promises.{orderly_on, promised_if, cause_of}
 use Rattle.link_scheduler.proofs.transmitter.State.limit.Goals as goal
 

@@ -2,11 +2,11 @@ use Rattle.std.proofs.Common.{[], map, ap, refl}
 use Rattle.std.proofs.lemmas.Result.{err_from_is_err_and}
 use Rattle.link_simulation.specs.Simulation.Calls.{call_enqueue}
 use Rattle.link_scheduler.specs.Calls.AsPlanned.{planned}
-use Rattle.link_scheduler.specs.Pairs.Messages.{message_of, completed_of, ended_of}
+use Rattle.link_flights.specs.Pairs.Messages.{message_of, completed_of, ended_of}
 use Rattle.link_scheduler.proofs.Calls.Calling.{enqueue_refused, goes_on, same_copy, goes_answered}
 use Rattle.link_scheduler.proofs.Calls.SameIsPlanned.{planned_on}
 use Rattle.link_simulation.proofs.Rule.SamePlanned.{same_itself}
-use Rattle.link_scheduler.proofs.Flights.Accounts.{looked_up, arrivals_looked_up}
+use Rattle.link_flights.proofs.Flights.Accounts.{looked_up, arrivals_looked_up}
 use Rattle.link_scheduler.proofs.Calls.Promises.{orderly_on, kept_at_once, promised_if, cause_of}
 use Rattle.link_scheduler.proofs.transmitter.State.send.Goals as goal
 

@@ -1,0 +1,265 @@
+-- A message in flight that drains later: what is counted on, what is brought to another moment, and when it finishes.
+use Rattle.std.proofs.Common.{◌≡◌, ℕ, zero, suc, ◌+◌, ◌-◌, ◌*◌, ◌<◌, ◌≤◌, nat_le, Bool, true, false, not, ◌||◌}
+use Rattle.std.proofs.Common.{if◌then◌else◌, List, [], ◌∷◌, length, map, get_or, set, Some}
+use Rattle.std.proofs.Common.{slice_get}
+use Rattle.std.proofs.Common.{refl, sym, ap, ◌∙◌, subst, arith, inl, inr, ◌⊎◌}
+use Rattle.std.specs.List.{AllZip, remove, list_all}
+use Rattle.std.specs.declared.rc.Rc.{Rc}
+use Rattle.std.specs.declared.alloc.Global.{Global}
+use Rattle.std.proofs.lemmas.Bool.{le-leb, leb-true, and_from}
+use Rattle.std.proofs.lemmas.List.{set-get_or, length-append}
+use Rattle.fair_rates.proofs.Lists.Zips.{zip-length}
+use Rattle.std.proofs.lemmas.Option.{none-some, same_Some}
+use Rattle.fair_rates.proofs.Lists.Booleans.{first_of_both, second_of_both}
+use Rattle.fair_rates.proofs.Lists.InPlace.{IsChangedUpTo, one_more}
+use Rattle.link_flights.specs.declared.flight.Flight.{Flight}
+use Rattle.link_flights.specs.Flights.Flight.{UnitFlight, rate_of, left_by, flight_at, flights_at, IsTimed}
+use Rattle.link_flights.specs.Flights.Flight.{AreTimed, DrainsTo, IsPutAt}
+
+-- ---- lists that change at a place
+
+pub all_with : {X : Type 0} (test : X → Bool) (xs : List X) (at : ℕ) (y : X) → list_all test xs ≡ true → test y ≡ true
+    → list_all test (set xs at y) ≡ true
+all_with test [] at y all passes = refl
+all_with test (x ∷ xs) zero y all passes = and_from (test y) _ passes (second_of_both (test x) _ all)
+all_with test (x ∷ xs) (suc at) y all passes =
+    and_from (test x) _ (first_of_both (test x) _ all) (all_with test xs at y (second_of_both (test x) _ all) passes)
+
+pub all_but : {X : Type 0} (test : X → Bool) (xs : List X) (at : ℕ) → list_all test xs ≡ true
+    → list_all test (remove xs at) ≡ true
+all_but test [] zero all = refl
+all_but test [] (suc at) all = refl
+all_but test (x ∷ xs) zero all = second_of_both (test x) _ all
+all_but test (x ∷ xs) (suc at) all =
+    and_from (test x) _ (first_of_both (test x) _ all) (all_but test xs at (second_of_both (test x) _ all))
+
+pub all_there : {X : Type 0} (test : X → Bool) (xs : List X) (at : ℕ) (x : X) → list_all test xs ≡ true → at < length xs
+    → x ≡ get_or xs at x → test x ≡ true
+all_there test [] at x all lt is = absurd (omega arith)
+all_there test (y ∷ xs) zero x all lt is = ap test is ∙ first_of_both (test y) _ all
+all_there test (y ∷ xs) (suc at) x all lt is = all_there test xs at x (second_of_both (test y) _ all) (omega arith) is
+
+-- the element at the place stands to itself so
+pub one_same : {X : Type 0} (R : X → X → Type 0) (old now : List X) (at : ℕ) (x : X) → IsChangedUpTo R old now at
+    → at < length now → x ≡ get_or now at x → R x x → IsChangedUpTo R old now (at + 1)
+one_same R old now at x h lt is r =
+    subst (λ l. IsChangedUpTo R old l (at + 1)) (ap (set now at) is ∙ set-get_or now at x)
+    (one_more R old now at h x x lt is r)
+
+pub changed_length : {X : Type 0} (R : X → X → Type 0) (old now : List X) (at : ℕ) → IsChangedUpTo R old now at
+    → length now ≡ length old
+changed_length R old now at h =
+    ap length h.now_is ∙ length-append h.to h.rest
+    ∙ ap (λ n. n + length h.rest) (sym (zip-length R h.from h.to h.changed))
+    ∙ sym (length-append h.from h.rest) ∙ sym (ap length h.old_is)
+
+-- what is read of lists that match
+pub zip_read : {X Y : Type 0} (R : X → X → Type 0) (S : Y → Y → Type 0) (f g : X → Y)
+    → ((x y : X) → R x y → S (f x) (g y))
+    → (xs ys : List X) → AllZip R xs ys → AllZip S (map f xs) (map g ys)
+zip_read R S f g reads [] [] z = tt
+zip_read R S f g reads [] (y ∷ ys) z = absurd z
+zip_read R S f g reads (x ∷ xs) [] z = absurd z
+zip_read R S f g reads (x ∷ xs) (y ∷ ys) z = (reads x y z.0, zip_read R S f g reads xs ys z.1)
+
+-- the second of lists that match pass a test
+pub zip_passes : {X : Type 0} (R : X → X → Type 0) (test : X → Bool) → ((x y : X) → R x y → test y ≡ true)
+    → (xs ys : List X) → AllZip R xs ys → list_all test ys ≡ true
+zip_passes R test passes [] [] z = refl
+zip_passes R test passes [] (y ∷ ys) z = absurd z
+zip_passes R test passes (x ∷ xs) [] z = absurd z
+zip_passes R test passes (x ∷ xs) (y ∷ ys) z = and_from (test y) _ (passes x y z.0) (zip_passes R test passes xs ys z.1)
+
+-- what stands at a place of the second stands to what stands there in the first
+pub zip_there : {X : Type 0} (R : X → X → Type 0) (xs ys : List X) (i : ℕ) (y : X) → AllZip R xs ys
+    → slice_get ys i ≡ Some y
+    → (x : X) × (slice_get xs i ≡ Some x) × R x y
+zip_there R [] [] i y z is = absurd (none-some y is)
+zip_there R [] (v ∷ ys) i y z is = absurd z
+zip_there R (x ∷ xs) [] i y z is = absurd z
+zip_there R (x ∷ xs) (v ∷ ys) zero y z is = (x, refl, subst (R x) (same_Some v y is) z.0)
+zip_there R (x ∷ xs) (v ∷ ys) (suc i) y z is = zip_there R xs ys i y z.1 is
+
+-- ---- draining
+
+-- draining to one moment and then to a later one is draining to the later one
+pub drained_on : (left rate since at now : ℕ) → since ≤ at → at ≤ now
+    → left - rate * (now - since) ≡ left - rate * (at - since) - rate * (now - at)
+drained_on left rate since at now past later =
+    let whole : now - since ≡ (at - since) + (now - at) = omega arith in
+    let parts : rate * (now - since) ≡ rate * (at - since) + rate * (now - at) =
+    ap (λ n. rate * n) whole ∙ omega arith in
+    omega arith
+
+module _ {P : Type 0} where
+  -- one that has a rate only has to be counted on
+  pub counted_on : (at now : ℕ) (f : Flight P) → f.rated ≡ true → f.since ≤ at → at ≤ now
+      → DrainsTo now (flight_at at f) (flight_at now f)
+  counted_on at now f is past later =
+      rw is (ap (λ (n : ℕ). as_record n) (drained_on f.left (rate_of f.rate) f.since at now past later))
+    where
+      as_record : ℕ → UnitFlight P
+      as_record n = record {
+        message = f.message.value;
+        left = n;
+        rate = rate_of f.rate;
+        updated = now;
+        rated = true;
+        group = f.group;
+      }
+
+  -- one that is brought to an earlier moment, or that has no rate yet, drains to that moment
+  pub brought : (at now : ℕ) (f g : Flight P) → now ≤ at ⊎ f.rated ≡ false → g.message.value ≡ f.message.value
+      → g.left ≡ (flight_at at f).left → rate_of g.rate ≡ rate_of f.rate → g.since ≡ now → g.rated ≡ f.rated
+      → g.group ≡ f.group → DrainsTo now (flight_at at f) (flight_at now g)
+  brought at now f g back message left rate since rated group = by_flag f.rated refl
+    where
+      r : ℕ
+      r = rate_of f.rate
+
+      by_flag : (b : Bool) → f.rated ≡ b → DrainsTo now (flight_at at f) (flight_at now g)
+      by_flag true is = rw (rated, message, rate, since, group, is) (ap as_record rest)
+        where
+          as_record : ℕ → UnitFlight P
+          as_record n = record {
+            message = f.message.value;
+            left = n;
+            rate = r;
+            updated = now;
+            rated = true;
+            group = f.group;
+          }
+
+          all : g.left ≡ left_by at f
+          all = left ∙ ap (λ b. if b then left_by at f else f.left) is
+
+          goes_back : now ≤ at
+          goes_back = elim back [ inl le ↦ le | inr none ↦ cc ]
+
+          none : now - now ≡ 0
+          none = omega arith
+
+          none_too : now - at ≡ 0
+          none_too = omega (arith, goes_back)
+
+          rest : g.left - r * (now - now) ≡ left_by at f - r * (now - at)
+          rest = ap (λ k. g.left - r * k) none ∙ ap (λ n. n - r * 0) all ∙ ap (λ k. left_by at f - r * k) (sym none_too)
+      by_flag false is = rw (rated, message, since, group, is) (ap as_record rest)
+        where
+          as_record : ℕ → UnitFlight P
+          as_record n = record {
+            message = f.message.value;
+            left = n;
+            rate = 0;
+            updated = now;
+            rated = false;
+            group = f.group;
+          }
+
+          all : g.left ≡ f.left
+          all = left ∙ ap (λ b. if b then left_by at f else f.left) is
+
+          rest : g.left ≡ f.left - 0 * (now - f.since)
+          rest = omega (arith, all)
+
+  -- ---- what becomes of each
+
+  -- it drains to the moment; it has its rate since no later; and where the moment does not go back, its finish is as
+  -- right as before
+  pub record IsBrought (at now : ℕ) (f g : Rc (Flight P) Global) : Type 0 where
+    pub drains : DrainsTo now (flight_at at f.value) (flight_at now g.value)
+    pub past_now : (not g.value.rated || nat_le g.value.since now) ≡ true
+    pub past_at : (not g.value.rated || nat_le g.value.since at) ≡ true
+    pub timed : at ≤ now → (f.value.rated ≡ true → IsTimed f.value) → g.value.rated ≡ true → IsTimed g.value
+
+  -- the fact that it has its rate since no later
+  abbrev pub is_past_flight : ℕ → Flight P → Bool
+  is_past_flight at f = not f.rated || nat_le f.since at
+
+  abbrev pub is_past : ℕ → Rc (Flight P) Global → Bool
+  is_past at one = is_past_flight at one.value
+
+  pub past_so : (at : ℕ) (f : Rc (Flight P) Global) → is_past at f ≡ true → f.value.rated ≡ true → f.value.since ≤ at
+  past_so at f h is = leb-true f.value.since at (sym (ap (λ b. not b || nat_le f.value.since at) is) ∙ h)
+
+  so_past : (at : ℕ) (f : Rc (Flight P) Global) → f.value.since ≤ at → is_past at f ≡ true
+  so_past at f le = by_flag f.value.rated
+    where
+      by_flag : (b : Bool) → (not b || nat_le f.value.since at) ≡ true
+      by_flag true = le-leb f.value.since at le
+      by_flag false = refl
+
+  -- one that is passed over
+  pub is_counted_on : (at now : ℕ) (f : Rc (Flight P) Global) → f.value.rated ≡ true → is_past at f ≡ true → at ≤ now
+      → IsBrought at now f f
+  is_counted_on at now f is past later =
+      let since : f.value.since ≤ at = past_so at f past is in
+      record {
+        drains = counted_on at now f.value is since later;
+        past_now = so_past now f (omega arith);
+        past_at = past;
+        timed = λ le h. h;
+      }
+
+  -- one that is brought to another moment
+  pub is_brought : (at now : ℕ) (f g : Rc (Flight P) Global) → now < at ⊎ f.value.rated ≡ false
+      → g.value.message.value ≡ f.value.message.value → g.value.left ≡ (flight_at at f.value).left
+      → rate_of g.value.rate ≡ rate_of f.value.rate → g.value.since ≡ now → g.value.rated ≡ f.value.rated
+      → g.value.group ≡ f.value.group → IsBrought at now f g
+  is_brought at now f g back message left rate since rated group = record {
+    drains =
+        brought at now f.value g.value (elim back [ inl lt ↦ inl (omega arith) | inr none ↦ inr none ]) message left
+        rate
+        since rated group;
+    past_now = so_past now g (omega (arith, since));
+    past_at = elim back [
+      | inl lt ↦ so_past at g (omega (arith, since))
+      | inr none ↦ ap (λ b. not b || nat_le g.value.since at) (rated ∙ none)
+    ];
+    timed = λ later h is. elim back [
+      | inl lt ↦ absurd (omega arith)
+      | inr none ↦ absurd (cc)
+    ];
+  }
+
+  -- ---- one after another
+
+  module _ (at now : ℕ) (old so_far : List (Rc (Flight P) Global)) (i : ℕ)
+      (h : IsChangedUpTo (IsBrought at now) old so_far i) (x : Rc (Flight P) Global) (lt : i < length so_far)
+      (is : x ≡ get_or so_far i x) where
+    pub next_brought : (f : Flight P) (new : List (Rc (Flight P) Global)) → IsPutAt i f so_far new
+        → now < at ⊎ x.value.rated ≡ false
+        → f.message.value ≡ x.value.message.value → f.left ≡ (flight_at at x.value).left
+        → rate_of f.rate ≡ rate_of x.value.rate → f.since ≡ now → f.rated ≡ x.value.rated
+        → f.group ≡ x.value.group → IsChangedUpTo (IsBrought at now) old new (i + 1)
+    next_brought f new put back message left rate since rated group =
+        subst (λ l. IsChangedUpTo (IsBrought at now) old l (i + 1)) (sym put.others)
+        (one_more (IsBrought at now) old so_far i h x put.one lt is
+        (is_brought at now x put.one back (ap (λ (y : Flight P). y.message.value) put.is ∙ message)
+        (ap (λ (y : Flight P). y.left) put.is ∙ left)
+        (ap (λ (y : Flight P). rate_of y.rate) put.is ∙ rate) (ap (λ (y : Flight P). y.since) put.is ∙ since)
+        (ap (λ (y : Flight P). y.rated) put.is ∙ rated) (ap (λ (y : Flight P). y.group) put.is ∙ group)))
+
+    pub next_counted_on : x.value.rated ≡ true → list_all (is_past at) so_far ≡ true → at ≤ now
+        → IsChangedUpTo (IsBrought at now) old so_far (i + 1)
+    next_counted_on rated past later =
+        one_same (IsBrought at now) old so_far i x h lt is
+        (is_counted_on at now x rated (all_there (is_past at) so_far i x past lt is) later)
+
+  -- ---- all of them
+
+  pub all_drained : (at now : ℕ) (fs gs : List (Rc (Flight P) Global)) → AllZip (IsBrought at now) fs gs
+      → AllZip (DrainsTo now) (flights_at at fs) (flights_at now gs)
+  all_drained at now fs gs z =
+      zip_read (IsBrought at now) (DrainsTo now) (λ f. flight_at at f.value) (λ g. flight_at now g.value)
+      (λ f g b. b.drains) fs gs z
+
+  pub all_past : (at now : ℕ) (fs gs : List (Rc (Flight P) Global)) → AllZip (IsBrought at now) fs gs
+      → list_all (is_past now) gs ≡ true
+  all_past at now fs gs z = zip_passes (IsBrought at now) (is_past now) (λ f g b. b.past_now) fs gs z
+
+  pub all_timed : (at now : ℕ) (fs gs : List (Rc (Flight P) Global)) → AllZip (IsBrought at now) fs gs → at ≤ now
+      → AreTimed fs → AreTimed gs
+  all_timed at now fs gs z later timed i g is rated =
+      let r = zip_there (IsBrought at now) fs gs i g z is in
+      r.2.timed later (timed i r.0 r.1) rated

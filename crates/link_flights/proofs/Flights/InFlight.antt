@@ -1,0 +1,193 @@
+-- The messages in flight: flows that stand for them, and those that leave.
+use Rattle.std.proofs.Common.{◌≡◌, ℕ, zero, suc, ◌+◌, ◌<◌, ◌≤◌, Bool, true, false, not, if◌then◌else◌, ◌&&◌, ◌||◌, List}
+use Rattle.std.proofs.Common.{[], ◌∷◌, ◌++◌, length, map, get_or, refl, sym, ◌∙◌, ap, arith, append_assoc}
+use Rattle.std.specs.List.{AllZip, remove, filter}
+use Rattle.std.specs.declared.cmp.Ordering.{Ordering}
+use Rattle.fair_rates.specs.declared.bandwidth.Flow.{Flow}
+use Rattle.std.specs.Bool.{◌==◌}
+use Rattle.std.proofs.lemmas.Bool.Decides.{nat_tests}
+use Rattle.fair_rates.specs.Sides.Subjects.{same_peer}
+use Rattle.link_simulation.specs.Simulation.Messages.{Message, is_delivered}
+use Rattle.std.proofs.lemmas.List.{length-append, append-nil}
+use Rattle.std.proofs.lemmas.Bool.{and_from}
+use Rattle.fair_rates.proofs.Lists.Booleans.{first_of_both, second_of_both}
+use Rattle.link_flights.specs.Flights.Flight.{UnitFlight}
+use Rattle.link_flights.specs.Flights.RatedFlights.{stands_for, are_standing}
+use Rattle.link_flights.specs.Pairs.Messages.{message_of}
+use Rattle.fair_rates.proofs.Lists.Zips.{zip-length, zip-push}
+use Rattle.fair_rates.proofs.Lists.Sorted.{get_or-seam}
+
+-- ---- a list of what is read
+
+pub read_at : {X Y : Type 0} (f : X → Y) (xs : List X) (at : ℕ) (x : X) (d : Y) → at < length xs → x ≡ get_or xs at x
+    → get_or (map f xs) at d ≡ f x
+read_at f [] at x d lt is = absurd (omega (arith, lt))
+read_at f (y ∷ xs) zero x d lt is = ap f (sym is)
+read_at f (y ∷ xs) (suc at) x d lt is = read_at f xs at x d (omega (arith, lt)) is
+
+remove-seam : {X : Type 0} (xs ys : List X) (y : X) → remove (xs ++ y ∷ ys) (length xs) ≡ xs ++ ys
+remove-seam [] ys y = refl
+remove-seam (x ∷ xs) ys y = ap (λ l. x ∷ l) (remove-seam xs ys y)
+
+-- ---- each flow stands for its message
+
+-- the flow is of the message's peers, by their order, and delivered as the message is
+pub record StandsForSent {P : Type 0} (cmp : P → P → Ordering) (flow : Flow P) (u : UnitFlight P) : Type 0 where
+  pub origin : same_peer cmp flow.origin u.message.origin ≡ true
+  pub recipient : same_peer cmp flow.recipient u.message.recipient ≡ true
+  pub delivered : flow.delivered ≡ is_delivered cmp (message_of u.message)
+
+mark : (a b : Bool) → (if b then a else not a) ≡ true → a ≡ b
+mark true true h = refl
+mark true false h = sym h
+mark false true h = h
+mark false false h = refl
+
+marks : (a b : Bool) → a ≡ b → (if b then a else not a) ≡ true
+marks true true h = refl
+marks true false h = cc
+marks false true h = cc
+marks false false h = refl
+
+module _ {P : Type 0} (cmp : P → P → Ordering) where
+  stands_so : (f : Flow P) (u : UnitFlight P) → stands_for cmp f u ≡ true → StandsForSent cmp f u
+  stands_so f u h =
+      let peers =
+      first_of_both (same_peer cmp f.origin u.message.origin && same_peer cmp f.recipient u.message.recipient) _
+      h in
+      record {
+        origin = first_of_both (same_peer cmp f.origin u.message.origin) _ peers;
+        recipient = second_of_both (same_peer cmp f.origin u.message.origin) _ peers;
+        delivered =
+            mark f.delivered _
+            (second_of_both (same_peer cmp f.origin u.message.origin && same_peer cmp f.recipient u.message.recipient)
+            _ h);
+      }
+
+  stands_if : (f : Flow P) (u : UnitFlight P) → StandsForSent cmp f u → stands_for cmp f u ≡ true
+  stands_if f u h = and_from _ _ (and_from _ _ h.origin h.recipient) (marks f.delivered _ h.delivered)
+
+  pub standing_zip : (fs : List (Flow P)) (us : List (UnitFlight P)) → are_standing cmp fs us ≡ true
+      → AllZip (StandsForSent cmp) fs us
+  standing_zip [] [] h = tt
+  standing_zip [] (u ∷ us) h = cc
+  standing_zip (f ∷ fs) [] h = cc
+  standing_zip (f ∷ fs) (u ∷ us) h = (
+    stands_so f u (first_of_both (stands_for cmp f u) _ h),
+    standing_zip fs us (second_of_both (stands_for cmp f u) _ h),
+  )
+
+  zip_standing : (fs : List (Flow P)) (us : List (UnitFlight P)) → AllZip (StandsForSent cmp) fs us
+      → are_standing cmp fs us ≡ true
+  zip_standing [] [] z = refl
+  zip_standing [] (u ∷ us) z = absurd z
+  zip_standing (f ∷ fs) [] z = absurd z
+  zip_standing (f ∷ fs) (u ∷ us) z = and_from _ _ (stands_if f u z.0) (zip_standing fs us z.1)
+
+  pub standing_length : (fs : List (Flow P)) (us : List (UnitFlight P)) → are_standing cmp fs us ≡ true
+      → length fs ≡ length us
+  standing_length fs us h = zip-length (StandsForSent cmp) fs us (standing_zip fs us h)
+
+-- with one more
+pub standing_with : {P : Type 0} (cmp : P → P → Ordering) (fs : List (Flow P)) (us : List (UnitFlight P)) (f : Flow P)
+    (u : UnitFlight P) → are_standing cmp fs us ≡ true → StandsForSent cmp f u
+    → are_standing cmp (fs ++ f ∷ []) (us ++ u ∷ []) ≡ true
+standing_with cmp fs us f u h one =
+    zip_standing cmp _ _ (zip-push (StandsForSent cmp) fs us f u (standing_zip cmp fs us h) one)
+
+-- ---- those that are done leave
+
+pub filter_yes : {X : Type 0} (t : X → Bool) (x : X) (xs : List X) → t x ≡ true → filter t (x ∷ xs) ≡ x ∷ filter t xs
+filter_yes t x xs h = rw h refl
+
+pub filter_no : {X : Type 0} (t : X → Bool) (x : X) (xs : List X) → t x ≡ false → filter t (x ∷ xs) ≡ filter t xs
+filter_no t x xs h = rw h refl
+
+module _ {P X : Type 0} (message : X → Message P) (spent : X → Bool) where
+  -- so far, up to a place: some have left, and the rest is to be looked at
+  pub record HaveLeft (old now : List X) (left : List (Message P)) (at : ℕ) : Type 0 where
+    pub before : List X
+    pub rest : List X
+    pub split : now ≡ before ++ rest
+    pub is_at : at ≡ length before
+    pub leavers : left ++ map message (filter spent rest) ≡ map message (filter spent old)
+    pub stay : before ++ filter (λ f. not (spent f)) rest ≡ filter (λ f. not (spent f)) old
+
+  pub none_left : (old : List X) → HaveLeft old old [] 0
+  none_left old = record { before = []; rest = old; split = refl; is_at = refl; leavers = refl; stay = refl }
+
+  module _ (old now : List X) (left : List (Message P)) (at : ℕ) (h : HaveLeft old now left at) where
+    pub step_leaves : (m : Message P) (t : Bool) → at < length now → t ≡ true → ((d : X) → t ≡ spent (get_or now at d))
+        → ((d : X) → m ≡ message (get_or now at d)) → HaveLeft old (remove now at) (left ++ m ∷ []) at
+    step_leaves m t lt holds test is = by_rest h.rest h.split h.leavers h.stay
+      where
+        by_rest : (rest : List X) → now ≡ h.before ++ rest
+            → left ++ map message (filter spent rest) ≡ map message (filter spent old)
+            → h.before ++ filter (λ f. not (spent f)) rest ≡ filter (λ f. not (spent f)) old
+            → HaveLeft old (remove now at) (left ++ m ∷ []) at
+        by_rest [] split leavers stay = absurd (omega (arith, h.is_at, ap length split, length-append h.before []))
+        by_rest (f ∷ tail) split leavers stay =
+            let here : get_or now at f ≡ f =
+            ap (λ l. get_or l at f) split ∙ ap (λ n. get_or (h.before ++ f ∷ tail) n f) h.is_at
+            ∙ get_or-seam h.before tail f f in
+            let passes : spent f ≡ true = ap spent (sym here) ∙ sym (test f) ∙ holds in
+            record {
+              before = h.before;
+              rest = tail;
+              is_at = h.is_at;
+              split =
+                  ap (λ l. remove l at) split ∙ ap (remove (h.before ++ f ∷ tail)) h.is_at
+                  ∙ remove-seam h.before tail f;
+              leavers =
+                  append_assoc left (m ∷ []) (map message (filter spent tail))
+                  ∙ ap (λ x. left ++ x ∷ map message (filter spent tail)) (is f ∙ ap message here)
+                  ∙ ap (λ l. left ++ map message l) (sym (filter_yes spent f tail passes)) ∙ leavers;
+              stay = ap (λ l. h.before ++ l) (sym (filter_no (λ g. not (spent g)) f tail (ap not passes))) ∙ stay;
+            }
+
+    pub step_stays : (t : Bool) → at < length now → t ≡ false → ((d : X) → t ≡ spent (get_or now at d))
+        → HaveLeft old now left (at + 1)
+    step_stays t lt fails_here test = by_rest h.rest h.split h.leavers h.stay
+      where
+        by_rest : (rest : List X) → now ≡ h.before ++ rest
+            → left ++ map message (filter spent rest) ≡ map message (filter spent old)
+            → h.before ++ filter (λ f. not (spent f)) rest ≡ filter (λ f. not (spent f)) old
+            → HaveLeft old now left (at + 1)
+        by_rest [] split leavers stay = absurd (omega (arith, h.is_at, ap length split, length-append h.before []))
+        by_rest (f ∷ tail) split leavers stay =
+            let here : get_or now at f ≡ f =
+            ap (λ l. get_or l at f) split ∙ ap (λ n. get_or (h.before ++ f ∷ tail) n f) h.is_at
+            ∙ get_or-seam h.before tail f f in
+            let fails : spent f ≡ false = ap spent (sym here) ∙ sym (test f) ∙ fails_here in
+            record {
+              before = h.before ++ f ∷ [];
+              rest = tail;
+              split = split ∙ sym (append_assoc h.before (f ∷ []) tail);
+              is_at = ap (λ n. n + 1) h.is_at ∙ sym (length-append h.before (f ∷ []));
+              leavers = ap (λ l. left ++ map message l) (sym (filter_no spent f tail fails)) ∙ leavers;
+              stay =
+                  append_assoc h.before (f ∷ []) (filter (λ g. not (spent g)) tail)
+                  ∙ ap (λ l. h.before ++ l) (sym (filter_yes (λ g. not (spent g)) f tail (ap not fails))) ∙ stay;
+            }
+
+    pub all_looked_at : length now ≤ at
+        → record { leavers : left ≡ map message (filter spent old); stay : now ≡ filter (λ f. not (spent f)) old }
+    all_looked_at le = by_rest h.rest h.split h.leavers h.stay
+      where
+        by_rest : (rest : List X) → now ≡ h.before ++ rest
+            → left ++ map message (filter spent rest) ≡ map message (filter spent old)
+            → h.before ++ filter (λ f. not (spent f)) rest ≡ filter (λ f. not (spent f)) old
+            → record { leavers : left ≡ map message (filter spent old); stay : now ≡ filter (λ f. not (spent f)) old }
+        by_rest [] split leavers stay = record { leavers = sym (append-nil left) ∙ leavers; stay = split ∙ stay }
+        by_rest (f ∷ tail) split leavers stay =
+            absurd (omega (arith, h.is_at, ap length split, length-append h.before (f ∷ tail)))
+
+pub nothing_is_done : (n : ℕ) (b : Bool) → n ≡ 0 → ((n == 0) || b) ≡ true
+nothing_is_done n b h = rw h refl
+
+pub something_is_not : (n : ℕ) (b : Bool) → (n ≡ 0 → ⊥) → ((n == 0) || b) ≡ b
+something_is_not zero b h = absurd (h refl)
+something_is_not (suc n) b h = rw (differs n) refl
+  where
+    differs : (n : ℕ) → (suc n == 0) ≡ false
+    differs n = grind (arith, nat_tests)

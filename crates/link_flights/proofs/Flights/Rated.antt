@@ -1,0 +1,152 @@
+-- Messages in flight that have got fair rates: what keeps them so, and how they are read.
+use Rattle.std.proofs.Common.{◌≡◌, ℕ, ◌-◌, ◌<◌, Bool, true, false, cond, not, List, [], ◌∷◌}
+use Rattle.std.proofs.Common.{slice_index, refl, sym, ap, ap₂, ◌∙◌, ◌||◌, subst, inl, inr}
+use Rattle.fair_rates.specs.Sides.Subjects.{same_peer}
+use Rattle.fair_rates.proofs.Lists.Members.{In, in_from_contains, contains_from_in}
+use Rattle.link_flights.specs.declared.message.Message as code
+use Rattle.link_flights.specs.Flights.Components.{AreGrouped, share_an_end}
+use Rattle.std.specs.List.{AllZip, filter}
+use Rattle.std.specs.declared.cmp.Ordering.{Ordering}
+use Rattle.std.proofs.Math.Logic.{∥∥₁_elim, ∥∥₁_map}
+use Rattle.std.proofs.Props.{props}
+use Rattle.fair_rates.specs.Sides.Caps.{Caps}
+use Rattle.fair_rates.proofs.Fairness.Decided.{fair_if_so}
+use Rattle.link_simulation.specs.Simulation.Rates.{capped_sides}
+use Rattle.link_simulation.specs.Rule.Planned.{rated_messages, left_at, drained_to, is_spent}
+use Rattle.link_flights.specs.declared.flight_list.Flights.{Flights}
+use Rattle.link_flights.specs.Flights.Flight.{UnitFlight, DrainsTo}
+use Rattle.link_flights.specs.Flights.InFlight.{in_units}
+use Rattle.link_flights.specs.Flights.Rated.{sent_messages, rates_of, rated_ones, is_out, are_limited, AreFairlyRated}
+use Rattle.link_flights.specs.Flights.Rated.{AreRated, IsAsRated}
+use Rattle.link_flights.specs.Flights.RatedFlights.{rated_flight_of, sending_of}
+use Rattle.link_flights.specs.Pairs.Messages.{message_of}
+use Rattle.link_flights.proofs.Flights.Components.{read_filter}
+use Rattle.link_flights.proofs.Flights.Units.{drained_units}
+
+-- what a thing of the one list stands for in the other
+zip_back : {X Y : Type 0} (R : X → Y → Type 0) (xs : List X) (ys : List Y) → AllZip R xs ys → (y : Y) → In ys y
+    → (x : X) × In xs x × R x y
+zip_back R [] [] z y among = absurd among
+zip_back R [] (w ∷ ys) z y among = absurd z
+zip_back R (x ∷ xs) [] z y among = absurd z
+zip_back R (x ∷ xs) (w ∷ ys) z y (inl is) = (x, inl refl, subst (R x) is z.0)
+zip_back R (x ∷ xs) (w ∷ ys) z y (inr among) =
+    let r = zip_back R xs ys z.1 y among in (r.0, inr r.1, r.2)
+
+module _ {P : Type 0} where
+  -- ---- the same messages at the same rates
+
+  pub drained_as_rated : (now : ℕ) (u v : UnitFlight P) → DrainsTo now u v → IsAsRated u v
+  drained_as_rated now u v d = record {
+    message = ap (λ x. x.message) d;
+    rate = ap (λ x. x.rate) d;
+    rated = ap (λ x. x.rated) d;
+    group = ap (λ x. x.group) d;
+  }
+
+  rated_alike : (us vs : List (UnitFlight P)) → AllZip IsAsRated us vs
+      → AllZip IsAsRated (rated_ones us) (rated_ones vs)
+  rated_alike [] [] z = tt
+  rated_alike [] (v ∷ vs) z = absurd z
+  rated_alike (u ∷ us) [] z = absurd z
+  rated_alike (u ∷ us) (v ∷ vs) z =
+      subst (λ b. AllZip IsAsRated (rated_ones (u ∷ us)) (cond b (v ∷ rated_ones vs) (rated_ones vs))) (sym z.0.rated)
+      (by_test u.rated (rated_alike us vs z.1))
+    where
+      by_test : (b : Bool) → AllZip IsAsRated (rated_ones us) (rated_ones vs)
+          → AllZip IsAsRated (cond b (u ∷ rated_ones us) (rated_ones us)) (cond b (v ∷ rated_ones vs) (rated_ones vs))
+      by_test true ih = (z.0, ih)
+      by_test false ih = ih
+
+  messages_alike : (us vs : List (UnitFlight P)) → AllZip IsAsRated us vs → sent_messages vs ≡ sent_messages us
+  messages_alike [] [] z = refl
+  messages_alike [] (v ∷ vs) z = absurd z
+  messages_alike (u ∷ us) [] z = absurd z
+  messages_alike (u ∷ us) (v ∷ vs) z = rw (z.0.message, messages_alike us vs z.1) refl
+
+  rates_alike : (us vs : List (UnitFlight P)) → AllZip IsAsRated us vs → rates_of vs ≡ rates_of us
+  rates_alike [] [] z = refl
+  rates_alike [] (v ∷ vs) z = absurd z
+  rates_alike (u ∷ us) [] z = absurd z
+  rates_alike (u ∷ us) (v ∷ vs) z = rw (z.0.rate, rates_alike us vs z.1) refl
+
+  -- ---- read as messages in flight
+
+  pub sent_as_read : (scale : ℕ) (us : List (UnitFlight P)) → rated_messages (sending_of scale us) ≡ sent_messages us
+  sent_as_read scale [] = refl
+  sent_as_read scale (u ∷ us) = ap (λ l. message_of u.message ∷ l) (sent_as_read scale us)
+
+  drained_one : (scale now : ℕ) (u v : UnitFlight P) → 0 < scale → DrainsTo now u v
+      → rated_flight_of scale v
+      ≡ record (rated_flight_of scale u) { left = left_at now (rated_flight_of scale u); updated = now }
+  drained_one scale now u v some d =
+      ap (rated_flight_of scale) d
+      ∙ ap (λ (a : _). record (rated_flight_of scale u) { left = a; updated = now })
+      (sym (drained_units u.left u.rate scale (now - u.updated) some))
+
+  pub drained_sending : (scale now : ℕ) (us vs : List (UnitFlight P)) → 0 < scale → AllZip (DrainsTo now) us vs
+      → sending_of scale vs ≡ drained_to now (sending_of scale us)
+  drained_sending scale now [] [] some z = refl
+  drained_sending scale now [] (v ∷ vs) some z = absurd z
+  drained_sending scale now (u ∷ us) [] some z = absurd z
+  drained_sending scale now (u ∷ us) (v ∷ vs) some z =
+      ap (λ x. x ∷ sending_of scale vs) (drained_one scale now u v some z.0)
+      ∙ ap (λ l. record (rated_flight_of scale u) { left = left_at now (rated_flight_of scale u); updated = now } ∷ l)
+      (drained_sending scale now us vs some z.1)
+
+module _ {P : Type 0} (cmp : P → P → Ordering) (caps : Caps P) where
+  -- those that are done, as they are read
+  pub out_as_read : (scale : ℕ) (us : List (UnitFlight P))
+      → rated_messages (filter (is_spent cmp caps) (sending_of scale us))
+      ≡ sent_messages (filter (is_out cmp caps scale) us)
+  out_as_read scale us =
+      ap rated_messages (read_filter (rated_flight_of scale) (is_spent cmp caps) us)
+      ∙ sent_as_read scale (filter (is_out cmp caps scale) us)
+
+  pub stay_as_read : (scale : ℕ) (us : List (UnitFlight P))
+      → filter (λ f. not (is_spent cmp caps f)) (sending_of scale us)
+      ≡ sending_of scale (filter (λ u. not (is_out cmp caps scale u)) us)
+  stay_as_read scale us = read_filter (rated_flight_of scale) (λ f. not (is_spent cmp caps f)) us
+
+  pub still_fair_after : (scale : ℕ) (us vs : List (UnitFlight P)) → AllZip IsAsRated us vs
+      → AreFairlyRated cmp caps scale (rated_ones us) → AreFairlyRated cmp caps scale (rated_ones vs)
+  still_fair_after scale us vs z f =
+      let same = rated_alike us vs z in
+      rw (messages_alike (rated_ones us) (rated_ones vs) same, rates_alike (rated_ones us) (rated_ones vs) same) f
+
+  -- and they are grouped as before
+  pub still_grouped : (us vs : List (UnitFlight P)) → AllZip IsAsRated us vs → AreGrouped cmp (rated_ones us)
+      → AreGrouped cmp (rated_ones vs)
+  still_grouped us vs z grouped v w hv hw shared =
+      let same = rated_alike us vs z in
+      let a = zip_back IsAsRated (rated_ones us) (rated_ones vs) same v (in_from_contains (rated_ones vs) v hv) in
+      let b = zip_back IsAsRated (rated_ones us) (rated_ones vs) same w (in_from_contains (rated_ones vs) w hw) in
+      let before : share_an_end cmp a.0 b.0 ≡ true =
+      ap₂ (λ (m n : code.Message P). same_peer cmp m.origin n.origin || same_peer cmp m.recipient n.recipient)
+      (sym a.2.message) (sym b.2.message) ∙ shared in
+      a.2.group
+      ∙ grouped a.0 b.0 (contains_from_in (rated_ones us) a.0 a.1) (contains_from_in (rated_ones us) b.0 b.1) before
+      ∙ sym b.2.group
+
+  pub still_limited : (us vs : List (UnitFlight P)) → AllZip IsAsRated us vs
+      → are_limited cmp caps (rated_ones us) ≡ true
+      → are_limited cmp caps (rated_ones vs) ≡ true
+  still_limited us vs z all = by_messages (rated_ones us) (rated_ones vs) (rated_alike us vs z) ∙ all
+    where
+      by_messages : (us vs : List (UnitFlight P)) → AllZip IsAsRated us vs
+          → are_limited cmp caps vs ≡ are_limited cmp caps us
+      by_messages [] [] z = refl
+      by_messages [] (v ∷ vs) z = absurd z
+      by_messages (u ∷ us) [] z = absurd z
+      by_messages (u ∷ us) (v ∷ vs) z = rw (z.0.message, by_messages us vs z.1) refl
+
+  -- what is known to be so is so
+  pub rated_if_so : {a : _} {b : _} {c : _} (flights : Flights P a b c) → ∥ AreRated cmp caps flights ∥₁
+      → AreRated cmp caps flights
+  rated_if_so flights so = record {
+    fair = fair_if_so (capped_sides cmp caps (sent_messages (rated_ones (in_units flights)))) flights.scale
+        (slice_index (rates_of (rated_ones (in_units flights)))) (∥∥₁_map so (λ f. f.fair));
+    limited = ∥∥₁_elim so (hlevel props) (λ f. f.limited);
+    timed = ∥∥₁_elim so (hlevel props) (λ f. f.timed);
+    grouped = ∥∥₁_elim so (hlevel props) (λ f. f.grouped);
+  }

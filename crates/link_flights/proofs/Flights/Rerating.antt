@@ -1,0 +1,457 @@
+-- Rates that are given to messages in flight one after another, and the first finish.
+use Rattle.std.proofs.Common.{◌≡◌, ◌≢◌, ℕ, zero, suc, ◌+◌, ◌-◌, ◌*◌, ◌<◌, ◌≤◌, nat_le, Bool, true, false, cond}
+use Rattle.std.proofs.Common.{if◌then◌else◌, not, ◌||◌, List, [], ◌∷◌, ◌++◌, All, Option, Some, None, length, drop}
+use Rattle.std.proofs.Common.{get_or, set, slice_get, refl, sym, ap, ◌∙◌, subst, inl, inr, ◌⊎◌, arith, append_assoc}
+use Rattle.std.specs.List.{list_any}
+use Rattle.std.specs.Prelude.{IfSome, option_map}
+use Rattle.std.specs.declared.cmp.Ordering.{Ordering}
+use Rattle.std.specs.declared.rc.Rc.{Rc}
+use Rattle.std.specs.declared.alloc.Global.{Global}
+use Rattle.std.proofs.lemmas.Bool.{le-leb, leb-true, cases_lt, false≢true}
+use Rattle.std.proofs.lemmas.List.{length-append, append-nil, map-append, length-set, drop_more}
+use Rattle.std.proofs.Math.Nat.{mul-pos}
+use Rattle.std.proofs.lemmas.Map.Keys.{any_passes_from_place}
+use Rattle.std.proofs.lemmas.Option.{none-some, same_Some, slice_get-map, slice_get_within, get_or_from_slice_get}
+use Rattle.fair_rates.proofs.Lists.Members.{In, get_from_map, contains_from_in}
+use Rattle.fair_rates.proofs.Lists.Sorted.{get_or-seam, set-seam}
+use Rattle.fair_rates.specs.Numbers.Amount.{billion}
+use Rattle.fair_rates.specs.Sides.Caps.{Caps}
+use Rattle.link_simulation.specs.Simulation.World.{last_moment}
+use Rattle.link_simulation.specs.Rule.Planned.{RatedFlight, IsLeastMoment, IsSpentAt, SomeSpentAt}
+use Rattle.link_flights.specs.declared.component.Component.{Component}
+use Rattle.link_flights.specs.declared.flight.Flight.{Flight}
+use Rattle.link_flights.specs.declared.flight_list.Flights.{Flights}
+use Rattle.link_flights.specs.Flights.Components.{is_of, those_of, is_found, AreFound}
+use Rattle.link_flights.specs.Flights.Flight.{UnitFlight, rate_of, left_by, flight_at, flights_at, has_come, IsTimed}
+use Rattle.link_flights.specs.Flights.Flight.{AreTimed, IsPutAt}
+use Rattle.link_flights.specs.Flights.InFlight.{in_units, in_flight}
+use Rattle.link_flights.specs.Flights.Rated.{rerated, IsRatedFrom, HaveFairRates, AreOthersTimed}
+use Rattle.link_flights.specs.Flights.RatedFlights.{rated_flight_of, sending_of}
+use Rattle.link_flights.proofs.Flights.Flight.{drained_on, zip_there, all_there, is_past}
+use Rattle.link_flights.proofs.Flights.InFlight.{filter_yes, filter_no}
+use Rattle.link_flights.proofs.Flights.Units.{drained_units, units_positive, no_units_left, nothing_left}
+use Rattle.link_flights.proofs.Flights.Units.{other_factor}
+
+-- ---- lists
+
+get_either : {X : Type 0} (us : List X) (v : X) (i : ℕ) (x : X) → slice_get (us ++ v ∷ []) i ≡ Some x
+    → (slice_get us i ≡ Some x) ⊎ (x ≡ v)
+get_either [] v zero x is = inr (sym (same_Some v x is))
+get_either [] v (suc i) x is = absurd (none-some x is)
+get_either (u ∷ us) v zero x is = inl is
+get_either (u ∷ us) v (suc i) x is = get_either us v i x is
+
+-- where one passes, it stands somewhere
+passes_there : {X : Type 0} (test : X → Bool) (xs : List X) → list_any test xs ≡ true
+    → (i : ℕ) × (x : X) × (slice_get xs i ≡ Some x) × (test x ≡ true)
+passes_there test [] any = absurd (false≢true any)
+passes_there {X} test (x ∷ xs) any = by_test (test x) refl (λ later. passes_there test xs later)
+  where
+    by_test : (b : Bool) → test x ≡ b
+        → (list_any test xs ≡ true → (i : ℕ) × (y : X) × (slice_get xs i ≡ Some y) × (test y ≡ true))
+        → (i : ℕ) × (y : X) × (slice_get (x ∷ xs) i ≡ Some y) × (test y ≡ true)
+    by_test true is ih = (0, x, refl, is)
+    by_test false is ih =
+        let r = ih (sym (ap (λ b. b || list_any test xs) is) ∙ any) in
+        (suc r.0, r.1, r.2, r.3)
+
+-- ---- rates, one after another
+
+module _ {P : Type 0} where
+  -- those that are timed, and one more
+  more_timed : (fs : List (Rc (Flight P) Global)) (y : Rc (Flight P) Global) → AreTimed fs
+      → (y.value.rated ≡ true → IsTimed y.value) → AreTimed (fs ++ y ∷ [])
+  more_timed fs y timed one i f there rated = elim (get_either fs y i f there) [
+    | inl before ↦ timed i f before rated
+    | inr is ↦ subst (λ (g : Rc (Flight P) Global). IsTimed g.value) (sym is)
+        (one (sym (ap (λ (g : Rc (Flight P) Global). g.value.rated) is) ∙ rated))
+  ]
+
+  unit_there : (now : ℕ) (fs : List (Rc (Flight P) Global)) (i : ℕ) (f : Rc (Flight P) Global) → slice_get fs i ≡ Some f
+      → slice_get (flights_at now fs) i ≡ Some (flight_at now f.value)
+  unit_there now fs i f there =
+      slice_get-map (λ (g : Rc (Flight P) Global). flight_at now g.value) fs i
+      ∙ ap (option_map (λ (g : Rc (Flight P) Global). flight_at now g.value)) there
+
+  moved_on : (now : ℕ) (fs : List (Rc (Flight P) Global)) (y : Rc (Flight P) Global) (us : List (UnitFlight P))
+      → flights_at now fs ++ flight_at now y.value ∷ us ≡ flights_at now (fs ++ y ∷ []) ++ us
+  moved_on now fs y us =
+      sym (append_assoc (flights_at now fs) (flight_at now y.value ∷ []) us)
+      ∙ ap (λ l. l ++ us) (sym (map-append (λ (f : Rc (Flight P) Global). flight_at now f.value) fs (y ∷ [])))
+
+module _ {P : Type 0} (cmp : P → P → Ordering) (component : Component P) (now times group : ℕ) where
+  abbrev again : List ℕ → List (UnitFlight P) → List (UnitFlight P)
+  again rates us = rerated cmp component now times group rates us
+
+  abbrev anew : ℕ → UnitFlight P → UnitFlight P
+  anew rate u = record u { left = u.left * times; rate = rate; updated = now; rated = true; group = group }
+
+  as_they_are : (us : List (UnitFlight P)) → us ≡ again [] us
+  as_they_are [] = refl
+  as_they_are (u ∷ us) = refl
+
+  passed_over : (rates : List ℕ) (u : UnitFlight P) (us : List (UnitFlight P)) → is_of cmp component u ≡ false
+      → again rates (u ∷ us) ≡ u ∷ again rates us
+  passed_over [] u us out = ap (λ l. u ∷ l) (as_they_are us)
+  passed_over (rate ∷ rates) u us out =
+      ap (λ b. cond b (anew rate u ∷ again rates us) (u ∷ again (rate ∷ rates) us)) out
+
+  given_one : (rate : ℕ) (rates : List ℕ) (u : UnitFlight P) (us : List (UnitFlight P)) → is_of cmp component u ≡ true
+      → again (rate ∷ rates) (u ∷ us) ≡ anew rate u ∷ again rates us
+  given_one rate rates u us of =
+      ap (λ b. cond b (anew rate u ∷ again rates us) (u ∷ again (rate ∷ rates) us)) of
+
+  anew_is : (f x : Flight P) (rate : ℕ) → f.message.value ≡ x.message.value → f.left ≡ (flight_at now x).left * times
+      → rate_of f.rate ≡ rate → f.since ≡ now → f.rated ≡ true → f.group ≡ group
+      → flight_at now f ≡ anew rate (flight_at now x)
+  anew_is f x rate message left at_rate since rated of_group =
+      rw (rated, message, at_rate, since, of_group) (ap as_record rest)
+    where
+      as_record : ℕ → UnitFlight P
+      as_record n = record {
+        message = x.message.value;
+        left = n;
+        rate = rate;
+        updated = now;
+        rated = true;
+        group = group;
+      }
+
+      none : now - now ≡ 0
+      none = omega arith
+
+      nothing : f.left - rate * 0 ≡ f.left
+      nothing = omega arith
+
+      rest : f.left - rate * (now - now) ≡ (flight_at now x).left * times
+      rest = ap (λ n. f.left - rate * n) none ∙ nothing ∙ left
+
+  module _ (rates : List ℕ) (old : List (Rc (Flight P) Global)) where
+    -- up to a place those of the component have got their rates, and from there on nothing has changed
+    pub record AreReratedUpTo (so_far : List (Rc (Flight P) Global)) (at next : ℕ) : Type 0 where
+      pub to : List (Rc (Flight P) Global)
+      pub rest : List (Rc (Flight P) Global)
+      pub is : so_far ≡ to ++ rest
+      pub at_is : at ≡ length to
+      pub as_many : length so_far ≡ length old
+      pub comes : again rates (flights_at now old) ≡ flights_at now to ++ again (drop next rates) (flights_at now rest)
+      pub one_each : length rates ≡ next + length (those_of cmp component (flights_at now rest))
+      pub left : All (λ (u : UnitFlight P). u.left * times ≢ 0) (flights_at now rest)
+      pub timed : AreTimed to
+      pub others : AreOthersTimed cmp component rest
+      pub found : (v : UnitFlight P) → In (flights_at now rest) v → is_found cmp component v ≡ is_of cmp component v
+
+    pub none_rerated : length rates ≡ length (those_of cmp component (flights_at now old))
+        → All (λ (u : UnitFlight P). u.left * times ≢ 0) (flights_at now old) → AreOthersTimed cmp component old
+        → AreFound cmp component (flights_at now old) → AreReratedUpTo old 0 0
+    none_rerated one_each left others found = record {
+      to = [];
+      rest = old;
+      is = refl;
+      at_is = refl;
+      as_many = refl;
+      comes = refl;
+      one_each = omega (arith, one_each);
+      left = left;
+      timed = λ i f there rated. absurd (none-some f there);
+      others = others;
+      found = λ v among. found v (contains_from_in (flights_at now old) v among);
+    }
+
+module _ {P : Type 0} {cmp : P → P → Ordering} {component : Component P} {now times group : ℕ} {rates : List ℕ}
+    {old so_far : List (Rc (Flight P) Global)} {at next : ℕ}
+    (h : AreReratedUpTo cmp component now times group rates old so_far at next) where
+  -- what stands at the place
+  pub record StandsNext (x : Rc (Flight P) Global) : Type 0 where
+    pub rest : List (Rc (Flight P) Global)
+    pub was : h.rest ≡ x ∷ rest
+
+  pub stands_next : (x : Rc (Flight P) Global) → at < length so_far → x ≡ get_or so_far at x → StandsNext x
+  stands_next x lt is = by_rest h.rest refl
+    where
+      by_rest : (rest : List (Rc (Flight P) Global)) → h.rest ≡ rest → StandsNext x
+      by_rest [] e =
+          let whole = ap length (h.is ∙ ap (λ l. h.to ++ l) e) in
+          absurd (omega (arith, lt, h.at_is, whole, length-append h.to []))
+      by_rest (z ∷ rest) e =
+          let here : x ≡ z =
+          is ∙ ap (λ l. get_or l at x) (h.is ∙ ap (λ l. h.to ++ l) e)
+          ∙ ap (λ n. get_or (h.to ++ z ∷ rest) n x) h.at_is ∙ get_or-seam h.to rest z x in
+          record { rest = rest; was = e ∙ ap (λ v. v ∷ rest) (sym here) }
+
+  module _ (x : Rc (Flight P) Global) (s : StandsNext x) where
+    abbrev u : UnitFlight P
+    u = flight_at now x.value
+
+    abbrev us : List (UnitFlight P)
+    us = flights_at now s.rest
+
+    left_all : All (λ (v : UnitFlight P). v.left * times ≢ 0) (u ∷ us)
+    left_all = subst (λ l. All (λ (v : UnitFlight P). v.left * times ≢ 0) (flights_at now l)) s.was h.left
+
+    others_all : AreOthersTimed cmp component (x ∷ s.rest)
+    others_all = subst (AreOthersTimed cmp component) s.was h.others
+
+    found_all : (v : UnitFlight P) → In (u ∷ us) v → is_found cmp component v ≡ is_of cmp component v
+    found_all = subst
+        (λ l. (v : UnitFlight P) → In (flights_at now l) v → is_found cmp component v ≡ is_of cmp component v) s.was
+        h.found
+
+    pub found_here : is_found cmp component u ≡ is_of cmp component u
+    found_here = found_all u (inl refl)
+
+    count_all : length rates ≡ next + length (those_of cmp component (u ∷ us))
+    count_all = h.one_each ∙ ap (λ l. next + length (those_of cmp component (flights_at now l))) s.was
+
+    comes_all : rerated cmp component now times group rates (flights_at now old)
+        ≡ flights_at now h.to ++ rerated cmp component now times group (drop next rates) (u ∷ us)
+    comes_all =
+        h.comes
+        ∙ ap (λ l. flights_at now h.to ++ rerated cmp component now times group (drop next rates) (flights_at now l))
+        s.was
+
+    pub something_left : u.left * times ≢ 0
+    something_left = left_all 0 u (omega arith)
+
+    pub has_rate : is_of cmp component u ≡ true → next < length rates
+    has_rate of = omega (arith, count_all, ap length (filter_yes (is_of cmp component) u us of))
+
+    pub passed : is_of cmp component u ≡ false
+        → AreReratedUpTo cmp component now times group rates old so_far (at + 1) next
+    passed out = record {
+      to = h.to ++ x ∷ [];
+      rest = s.rest;
+      is = h.is ∙ ap (λ l. h.to ++ l) s.was ∙ sym (append_assoc h.to (x ∷ []) s.rest);
+      at_is = ap (λ n. n + 1) h.at_is ∙ sym (length-append h.to (x ∷ []));
+      as_many = h.as_many;
+      comes = comes_all
+          ∙ ap (λ l. flights_at now h.to ++ l) (passed_over cmp component now times group (drop next rates) u us out)
+          ∙ moved_on now h.to x (rerated cmp component now times group (drop next rates) us);
+      one_each = count_all ∙ ap (λ l. next + length l) (filter_no (is_of cmp component) u us out);
+      left = λ i v within. left_all (suc i) v (omega arith);
+      timed = more_timed h.to x h.timed (others_all 0 x refl out);
+      others = λ i f there. others_all (suc i) f there;
+      found = λ v among. found_all v (inr among);
+    }
+
+    pub one_rerated : (f : Flight P) (new : List (Rc (Flight P) Global)) → IsPutAt at f so_far new
+        → is_of cmp component u ≡ true → f.message.value ≡ x.value.message.value → f.left ≡ u.left * times
+        → rate_of f.rate ≡ get_or rates next 0 → f.since ≡ now → f.rated ≡ true → f.group ≡ group → IsTimed f
+        → AreReratedUpTo cmp component now times group rates old new (at + 1) (next + 1)
+    one_rerated f new put of message left rate since rated of_group timed =
+        let y = put.one in
+        let fresh : flight_at now y.value ≡ anew cmp component now times group (get_or rates next 0) u =
+        ap (flight_at now) put.is
+        ∙ anew_is cmp component now times group f x.value (get_or rates next 0) message left rate since rated
+        of_group in
+        record {
+          to = h.to ++ y ∷ [];
+          rest = s.rest;
+          is = put.others ∙ ap (λ l. set l at y) (h.is ∙ ap (λ l. h.to ++ l) s.was)
+              ∙ ap (λ n. set (h.to ++ x ∷ s.rest) n y) h.at_is ∙ set-seam h.to s.rest x y
+              ∙ sym (append_assoc h.to (y ∷ []) s.rest);
+          at_is = ap (λ n. n + 1) h.at_is ∙ sym (length-append h.to (y ∷ []));
+          as_many = ap length put.others ∙ length-set so_far at y ∙ h.as_many;
+          comes = comes_all ∙ ap (λ l. flights_at now h.to ++ rerated cmp component now times group l (u ∷ us))
+              (drop_more rates next 0 (has_rate of))
+              ∙ ap (λ l. flights_at now h.to ++ l)
+              (given_one cmp component now times group (get_or rates next 0) (drop (next + 1) rates) u us of)
+              ∙ ap (λ v. flights_at now h.to ++ v ∷ rerated cmp component now times group (drop (next + 1) rates) us)
+              (sym fresh)
+              ∙ moved_on now h.to y (rerated cmp component now times group (drop (next + 1) rates) us);
+          one_each = omega (arith, count_all, ap length (filter_yes (is_of cmp component) u us of));
+          left = λ i v within. left_all (suc i) v (omega arith);
+          timed = more_timed h.to y h.timed (λ is. subst IsTimed (sym put.is) timed);
+          others = λ i g there. others_all (suc i) g there;
+          found = λ v among. found_all v (inr among);
+        }
+
+  -- all of them
+  pub record AreAllRerated : Type 0 where
+    pub units : flights_at now so_far ≡ rerated cmp component now times group rates (flights_at now old)
+    pub timed : AreTimed so_far
+
+  pub all_rerated : length so_far ≤ at → AreAllRerated
+  all_rerated end = by_rest h.rest refl
+    where
+      by_rest : (rest : List (Rc (Flight P) Global)) → h.rest ≡ rest → AreAllRerated
+      by_rest [] e =
+          let all : so_far ≡ h.to = h.is ∙ ap (λ l. h.to ++ l) e ∙ append-nil h.to in
+          let none_come : rerated cmp component now times group rates (flights_at now old) ≡ flights_at now h.to =
+          h.comes
+          ∙ ap (λ l. flights_at now h.to ++ rerated cmp component now times group (drop next rates) (flights_at now l))
+          e
+          ∙ append-nil (flights_at now h.to) in
+          record { units = ap (flights_at now) all ∙ sym none_come; timed = subst AreTimed (sym all) h.timed }
+      by_rest (z ∷ rest) e =
+          let whole = ap length (h.is ∙ ap (λ l. h.to ++ l) e) in
+          absurd (omega (arith, end, h.at_is, whole, length-append h.to (z ∷ rest)))
+
+-- ---- what is spent at a moment
+
+-- no product of two numbers above zero is none
+no_factor : (n times : ℕ) → 0 < times → n * times ≡ 0 → n ≡ 0
+no_factor zero times some is = refl
+no_factor (suc n) zero some is = absurd (omega arith)
+no_factor (suc n) (suc times) some is =
+    absurd (omega (arith, mul-pos {m = suc n} {n = suc times} (omega arith) (omega arith)))
+
+module _ {P : Type 0} (scale : ℕ) (some : 0 < scale) where
+  -- nothing is left of a message where its units run out
+  out_if_spent : (u : UnitFlight P) (t : ℕ) → IsSpentAt t (rated_flight_of scale u) → u.left ≤ u.rate * (t - u.updated)
+  out_if_spent u t spent =
+      let none : u.left - u.rate * (t - u.updated) ≡ 0 =
+      no_units_left _ (scale * billion) (units_positive scale some)
+      (sym (ap (λ a. a.num) (drained_units u.left u.rate scale (t - u.updated) some)) ∙ spent) in
+      omega arith
+
+  spent_if_out : (u : UnitFlight P) (t : ℕ) → u.left ≤ u.rate * (t - u.updated) → IsSpentAt t (rated_flight_of scale u)
+  spent_if_out u t out =
+      ap (λ a. a.num) (drained_units u.left u.rate scale (t - u.updated) some)
+      ∙ nothing_left _ (scale * billion) (units_positive scale some) (omega arith)
+
+  -- a message in flight that has a rate, and of which something is left at the last account
+  pub record RunsOn (at : ℕ) (f : Flight P) : Type 0 where
+    pub rated : f.rated ≡ true
+    pub since : f.since ≤ at
+    pub left : left_by at f ≢ 0
+    pub timed : IsTimed f
+
+  module _ (at : ℕ) (here : at ≤ last_moment) (f : Flight P) (r : RunsOn at f) where
+    abbrev unit : UnitFlight P
+    unit = record {
+      message = f.message.value;
+      left = left_by at f;
+      rate = rate_of f.rate;
+      updated = at;
+      rated = true;
+      group = f.group;
+    }
+
+    unit_is : flight_at at f ≡ unit
+    unit_is = ap flagged r.rated
+      where
+        flagged : Bool → UnitFlight P
+        flagged b = record {
+          message = f.message.value;
+          left = if b then left_by at f else f.left;
+          rate = if b then rate_of f.rate else 0;
+          updated = if b then at else f.since;
+          rated = b;
+          group = f.group;
+        }
+
+    come_if_spent : (s : ℕ) → s ≤ last_moment → (rated_flight_of scale (flight_at at f)).updated ≤ s
+        → IsSpentAt s (rated_flight_of scale (flight_at at f)) → has_come s f.finish ≡ true
+    come_if_spent s le from spent =
+        let since = r.since in
+        let later : at ≤ s = subst (λ (u : UnitFlight P). u.updated ≤ s) unit_is from in
+        let out : left_by at f ≤ rate_of f.rate * (s - at) =
+        out_if_spent unit s (subst (λ u. IsSpentAt s (rated_flight_of scale u)) unit_is spent) in
+        let all : f.left ≤ rate_of f.rate * (s - f.since) =
+        omega (arith, out, drained_on f.left (rate_of f.rate) f.since at s since later) in
+        sym (r.timed s (omega arith) le) ∙ le-leb f.left (rate_of f.rate * (s - f.since)) all
+
+    out_if_come : (s : ℕ) → f.since ≤ s → s ≤ last_moment → has_come s f.finish ≡ true
+        → f.left ≤ rate_of f.rate * (s - f.since)
+    out_if_come s from le come = leb-true f.left (rate_of f.rate * (s - f.since)) (r.timed s from le ∙ come)
+
+    -- it has not come before
+    not_before : (s : ℕ) → has_come s f.finish ≡ true → at ≤ s
+    not_before s come = elim (cases_lt s at) [
+      | inl before ↦
+          let out = out_if_come at r.since here (still_come f.finish come before) in
+          let none : left_by at f ≡ 0 = omega (arith, out) in
+          absurd (r.left none)
+      | inr later ↦ later
+    ]
+      where
+        still_come : (o : Option ℕ) → has_come s o ≡ true → s < at → has_come at o ≡ true
+        still_come None come before = absurd (false≢true come)
+        still_come (Some m) come before =
+            let m_come : m ≤ s = leb-true m s come in
+            le-leb m at (omega arith)
+
+    spent_if_come : (s : ℕ) → s ≤ last_moment → has_come s f.finish ≡ true
+        → ((rated_flight_of scale (flight_at at f)).updated ≤ s) × IsSpentAt s (rated_flight_of scale (flight_at at f))
+    spent_if_come s le come =
+        let since = r.since in
+        let later = not_before s come in
+        let all = out_if_come s (omega arith) le come in
+        let out : left_by at f ≤ rate_of f.rate * (s - at) =
+        omega (arith, all, drained_on f.left (rate_of f.rate) f.since at s since later) in (
+          subst (λ (u : UnitFlight P). u.updated ≤ s) (sym unit_is) later,
+          subst (λ u. IsSpentAt s (rated_flight_of scale u)) (sym unit_is) (spent_if_out unit s out),
+        )
+
+  module _ (at : ℕ) (here : at ≤ last_moment) (fs : List (Rc (Flight P) Global))
+      (run_on : (i : ℕ) (f : Rc (Flight P) Global) → slice_get fs i ≡ Some f → RunsOn at f.value)
+      (finish : Option ℕ) (first : (t : ℕ) → has_come t finish ≡ list_any (λ one. has_come t one.value.finish) fs) where
+    abbrev sending : List (RatedFlight P)
+    sending = sending_of scale (flights_at at fs)
+
+    some_come : (s : ℕ) → s ≤ last_moment → SomeSpentAt sending s → has_come s finish ≡ true
+    some_come s le h =
+        let u = get_from_map (rated_flight_of scale) (flights_at at fs) h.0 h.1 h.2 in
+        let f = get_from_map (λ (g : Rc (Flight P) Global). flight_at at g.value) fs h.0 u.0 u.1 in
+        let is : rated_flight_of scale (flight_at at f.0.value) ≡ h.1 = ap (rated_flight_of scale) f.2 ∙ u.2 in
+        first s ∙ any_passes_from_place (λ (one : Rc (Flight P) Global). has_come s one.value.finish) fs h.0 f.0 f.1
+        (come_if_spent at here f.0.value (run_on h.0 f.0 f.1) s le
+        (subst (λ (g : RatedFlight P). g.updated ≤ s) (sym is) h.3) (subst (IsSpentAt s) (sym is) h.4))
+
+    some_spent : (s : ℕ) → s ≤ last_moment → has_come s finish ≡ true → SomeSpentAt sending s
+    some_spent s le come =
+        let p = passes_there (λ (one : Rc (Flight P) Global). has_come s one.value.finish) fs (sym (first s) ∙ come) in
+        let spent = spent_if_come at here p.1.value (run_on p.0 p.1 p.2) s le p.3 in (
+          p.0,
+          rated_flight_of scale (flight_at at p.1.value),
+          slice_get-map (rated_flight_of scale) (flights_at at fs) p.0
+              ∙ ap (option_map (rated_flight_of scale)) (unit_there at fs p.0 p.1 p.2),
+          spent.0,
+          spent.1,
+        )
+
+    by_finish : (o : Option ℕ) → finish ≡ o → IfSome o (λ t. t ≤ last_moment)
+        → IsLeastMoment (λ s. SomeSpentAt sending s) o
+    by_finish None is fits = λ t le spent. false≢true (sym (ap (has_come t) is) ∙ some_come t le spent)
+    by_finish (Some t) is fits = (
+      fits,
+      some_spent t fits (ap (has_come t) is ∙ le-leb t t (omega arith)),
+      λ s spent. elim (cases_lt last_moment s) [
+        | inl late ↦ omega (arith, fits, late)
+        | inr le ↦ leb-true t s (sym (ap (has_come s) is) ∙ some_come s le spent)
+      ],
+    )
+
+-- the first finish is the first moment at which nothing is left of one
+module _ {P : Type 0} (cmp : P → P → Ordering) (caps : Caps P) {a : _} {b : _} {c : _} (old new : Flights P a b c)
+    (h : HaveFairRates cmp caps old new) (left : All (λ (u : UnitFlight P). u.left ≢ 0) (in_units old))
+    (here : new.at ≤ last_moment) where
+  all_run_on : (i : ℕ) (f : Rc (Flight P) Global) → slice_get new.list.items i ≡ Some f
+      → RunsOn new.scale new.scaled new.at f.value
+  all_run_on i f there =
+      let from =
+      zip_there (IsRatedFrom old.at h.times) (in_units old) (in_units new) i (flight_at new.at f.value) h.each
+      (unit_there new.at new.list.items i f there) in
+      let rated : f.value.rated ≡ true = from.2.rated in
+      let past : is_past new.at f ≡ true =
+      all_there (is_past new.at) new.list.items i f new.past (slice_get_within new.list.items i f there)
+      (sym (get_or_from_slice_get new.list.items i f f there)) in
+      let was_some : from.0.left ≢ 0 =
+      subst (λ (u : UnitFlight P). u.left ≢ 0) (get_or_from_slice_get (in_units old) i from.0 from.0 from.1)
+      (left i from.0 (slice_get_within (in_units old) i from.0 from.1)) in
+      let grows : 0 < h.times = other_factor old.scale h.times new.scale h.scale new.scaled in
+      let is : left_by new.at f.value ≡ from.0.left * h.times =
+      sym (ap (λ b. if b then left_by new.at f.value else f.value.left) rated) ∙ from.2.left in
+      record {
+        rated = rated;
+        since = leb-true f.value.since new.at (sym (ap (λ b. not b || nat_le f.value.since new.at) rated) ∙ past);
+        left = λ none. was_some (no_factor from.0.left h.times grows (sym is ∙ none));
+        timed = h.timed i f there rated;
+      }
+
+  pub first_finish_is : (finish : Option ℕ)
+      → ((t : ℕ) → has_come t finish ≡ list_any (λ one. has_come t one.value.finish) new.list.items)
+      → IfSome finish (λ t. t ≤ last_moment) → IsLeastMoment (λ s. SomeSpentAt (in_flight new) s) finish
+  first_finish_is finish first fits =
+      by_finish new.scale new.scaled new.at here new.list.items all_run_on finish first finish refl fits

@@ -1,0 +1,75 @@
+-- Messages in flight as they stand at an account, in units.
+use Rattle.std.proofs.Common.{◌≡◌, ℕ, zero, suc, false, List, [], ◌∷◌, ◌++◌, length, get_or, ◌<◌, refl, sym, ap, ◌∙◌}
+use Rattle.std.proofs.Common.{subst}
+use Rattle.link_flights.specs.Flights.Components.{AreGrouped}
+use Rattle.std.proofs.Common.{arith}
+use Rattle.std.proofs.lemmas.Option.{none-some, same_Some}
+use Rattle.std.proofs.lemmas.Bool.{false≢true}
+use Rattle.std.proofs.lemmas.List.{length-map}
+use Rattle.std.specs.List.{AllZip}
+use Rattle.std.specs.declared.rc.Rc.{Rc}
+use Rattle.std.specs.declared.alloc.Global.{Global}
+use Rattle.std.specs.declared.cmp.Ordering.{Ordering}
+use Rattle.fair_rates.specs.Sides.Caps.{Caps}
+use Rattle.link_simulation.specs.Simulation.Messages.{Message}
+use Rattle.link_simulation.specs.Rule.Planned.{RatedFlight, rated_messages}
+use Rattle.link_flights.specs.declared.flight.Flight.{Flight}
+use Rattle.link_flights.specs.Flights.Flight.{UnitFlight, flight_at, flights_at, AreTimed}
+use Rattle.link_flights.specs.Flights.Rated.{sent_messages, rated_ones, are_limited, AreRated, IsRatedFrom}
+use Rattle.link_flights.specs.Flights.RatedFlights.{rated_flight_of, sending_of}
+use Rattle.link_flights.specs.declared.flight_list.Flights.{Flights}
+use Rattle.link_flights.specs.Flights.InFlight.{in_units}
+use Rattle.link_flights.specs.Pairs.Messages.{message_of}
+use Rattle.link_flights.proofs.Flights.InFlight.{read_at}
+
+module _ {P : Type 0} where
+  -- as many are in flight as are kept
+  pub length_in_flight : (scale at : ℕ) (fs : List (Rc (Flight P) Global))
+      → length (sending_of scale (flights_at at fs)) ≡ length fs
+  length_in_flight scale at fs =
+      length-map (flights_at at fs) (rated_flight_of scale) ∙ length-map fs (λ f. flight_at at f.value)
+
+  -- their messages are read as they are
+  pub messages_read : (scale : ℕ) (us : List (UnitFlight P)) → rated_messages (sending_of scale us) ≡ sent_messages us
+  messages_read scale [] = refl
+  messages_read scale (u ∷ us) = ap (λ (ms : List (Message P)). message_of u.message ∷ ms) (messages_read scale us)
+
+  -- and stay the same as they get their rates
+  pub messages_kept : (now times : ℕ) (us vs : List (UnitFlight P)) → AllZip (IsRatedFrom now times) us vs
+      → sent_messages vs ≡ sent_messages us
+  messages_kept now times [] [] each = refl
+  messages_kept now times [] (v ∷ vs) each = absurd each
+  messages_kept now times (u ∷ us) [] each = absurd each
+  messages_kept now times (u ∷ us) (v ∷ vs) each = rw (each.0.message, messages_kept now times us vs each.1) refl
+
+  -- one that has no rate yet leaves the others timed
+  pub timed_with : (fs : List (Rc (Flight P) Global)) (g : Rc (Flight P) Global) → g.value.rated ≡ false → AreTimed fs
+      → AreTimed (fs ++ g ∷ [])
+  timed_with [] g new timed zero f is rated =
+      absurd (false≢true (sym new ∙ ap (λ (x : Rc (Flight P) Global). x.value.rated) (same_Some g f is) ∙ rated))
+  timed_with [] g new timed (suc i) f is rated = absurd (none-some f is)
+  timed_with (h ∷ fs) g new timed zero f is rated = timed 0 f is rated
+  timed_with (h ∷ fs) g new timed (suc i) f is rated =
+      timed_with fs g new (λ j k there. timed (suc j) k there) i f is rated
+
+  -- what is kept at a place, as it is read
+  pub there_in_flight : (scale at : ℕ) (fs : List (Rc (Flight P) Global)) (i : ℕ) (f : Rc (Flight P) Global)
+      (d : RatedFlight P)
+      → i < length fs → f ≡ get_or fs i f
+      → get_or (sending_of scale (flights_at at fs)) i d ≡ rated_flight_of scale (flight_at at f.value)
+  there_in_flight scale at fs i f d lt is =
+      let kept : get_or (flights_at at fs) i (flight_at at f.value) ≡ flight_at at f.value =
+      read_at (λ g. flight_at at g.value) fs i f (flight_at at f.value) lt is in
+      read_at (rated_flight_of scale) (flights_at at fs) i (flight_at at f.value) d
+      (omega (arith, lt, length-map fs (λ g. flight_at at g.value))) (sym kept)
+
+module _ {P : Type 0} (cmp : P → P → Ordering) (caps : Caps P) {a : _} {b : _} {c : _} (old new : Flights P a b c) where
+  -- the rates stay fair as long as they and their finishes are kept
+  pub still_rated : new.scale ≡ old.scale → rated_ones (in_units new) ≡ rated_ones (in_units old)
+      → (AreTimed old.list.items → AreTimed new.list.items) → AreRated cmp caps old → AreRated cmp caps new
+  still_rated scale ones timed rated = record {
+    fair = rw (scale, ones) rated.fair;
+    limited = ap (are_limited cmp caps) ones ∙ rated.limited;
+    timed = timed rated.timed;
+    grouped = subst (AreGrouped cmp) (sym ones) rated.grouped;
+  }

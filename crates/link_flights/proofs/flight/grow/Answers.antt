@@ -1,0 +1,17 @@
+use Rattle.std.proofs.Common.{◌*◌, get_or, take, ap, sym, ◌∙◌, arith}
+use Rattle.std.proofs.Math.Nat.{mul_assoc}
+use Rattle.fair_rates.specs.Fairness.Exists.{product}
+use Rattle.link_flights.proofs.Flights.Units.{product-take, product-take_all}
+use Rattle.link_flights.proofs.flight.grow.Goals as goal
+
+pub loop-factor-preserved : goal.loop-factor-preserved
+loop-factor-preserved c =
+    let factor = get_or c.args.growth.now c.loop-factor.factor-index 0 in
+    let so_far = product (take c.loop-factor.factor-index c.args.growth.now) in
+    c.in_ok-multiply.ensures.value ∙ ap (λ n. n * factor) c.loop-factor.invariant
+    ∙ mul_assoc c.args.units.now so_far factor
+    ∙ ap (λ k. c.args.units.now * k) (sym (product-take c.args.growth.now c.loop-factor.factor-index (omega arith)))
+
+pub returns-clause-grown : goal.returns-clause-grown
+returns-clause-grown c = c.loop-factor.invariant
+    ∙ ap (λ k. c.args.units.now * k) (product-take_all c.args.growth.now c.loop-factor.factor-index (omega arith))

@@ -1,0 +1,110 @@
+use Rattle.std.proofs.Common.{◌≡◌, ◌≤◌, ◌||◌, true, false, get_or, refl, ap, sym, ◌∙◌, arith}
+use Rattle.std.specs.Bool.{◌==◌}
+use Rattle.std.proofs.lemmas.List.{get_or_default}
+use Rattle.std.proofs.lemmas.Option.{slice_get_read}
+use Rattle.link_simulation.specs.Simulation.Rates.{is_unlimited}
+use Rattle.link_flights.specs.declared.flight.Flight.{Flight}
+use Rattle.link_flights.specs.Flights.Flight.{flight_at, left_by, has_come}
+use Rattle.link_flights.specs.Flights.Rated.{is_out}
+use Rattle.link_flights.specs.Pairs.CapsOf.{caps_of}
+use Rattle.link_flights.specs.Pairs.Messages.{message_of}
+use Rattle.link_flights.proofs.Flights.Done.{as_test, out_by_finish, out_by_left, out_unrated, limited_there}
+use Rattle.link_flights.proofs.Flights.Flight.{is_past, all_there, past_so}
+use Rattle.link_flights.proofs.flight_list.Flights.is_done.Goals as goal
+
+pub returns-then-were_rated : goal.returns-then-were_rated
+returns-then-were_rated g c d =
+    let old = c.args.self.now in
+    let caps = caps_of g.P.Ord.cmp c.args.peers.now.entries c.args.pairs.now.entries in
+    let x = c.index-one.result.now in
+    let is : x ≡ get_or old.list.items c.args.at x = c.index-one.ensures in
+    let here : x ≡ get_or old.list.items c.args.at d =
+    is ∙ get_or_default old.list.items c.args.at x d c.requires.place in
+    let rated : x.value.rated ≡ true =
+    sym (ap (λ (f : Flight g.row.P.Denot). f.rated) c.deref.ensures) ∙ c.if-deref.true in
+    let past : x.value.since ≤ old.at =
+    past_so old.at x (all_there (is_past old.at) old.list.items c.args.at x old.past c.requires.place is) rated in
+    c.has_finished_by.ensures
+    ∙ ap (λ (f : Flight g.row.P.Denot). has_come old.at f.finish) c.deref-then-were_rated.ensures
+    ∙ out_by_finish g.P.Ord.cmp caps old.scale old.scaled old.at x.value rated past (omega arith)
+    (c.requires.timed c.if-were_rated.true c.args.at x
+    (slice_get_read old.list.items _ c.args.at x refl c.requires.place is) rated)
+    (limited_there g.P.Ord.cmp caps old.scale old.scaled old.at old.list.items c.args.at x
+    (c.requires.limited c.if-were_rated.true)
+    c.requires.place is rated)
+    ∙ ap (λ r. is_out g.P.Ord.cmp caps old.scale (flight_at old.at r.value)) here
+
+pub returns-then-is_spent_at : goal.returns-then-is_spent_at
+returns-then-is_spent_at g c d =
+    let old = c.args.self.now in
+    let caps = caps_of g.P.Ord.cmp c.args.peers.now.entries c.args.pairs.now.entries in
+    let x = c.index-one.result.now in
+    let is : x ≡ get_or old.list.items c.args.at x = c.index-one.ensures in
+    let here : x ≡ get_or old.list.items c.args.at d =
+    is ∙ get_or_default old.list.items c.args.at x d c.requires.place in
+    let rated : x.value.rated ≡ true =
+    sym (ap (λ (f : Flight g.row.P.Denot). f.rated) c.deref.ensures) ∙ c.if-deref.true in
+    let spent =
+    c.is_spent_at.ensures ∙ ap (λ (f : Flight g.row.P.Denot). left_by old.at f == 0) c.deref-then-deref.ensures in
+    c.if-is_spent_at.true
+    ∙ ap (λ b. b || is_unlimited g.P.Ord.cmp caps (message_of x.value.message.value)) (sym c.if-is_spent_at.true)
+    ∙ out_by_left g.P.Ord.cmp caps old.scale old.scaled old.at x.value c.is_spent_at.result rated spent
+    ∙ ap (λ r. is_out g.P.Ord.cmp caps old.scale (flight_at old.at r.value)) here
+
+pub returns-else-is_spent_at : goal.returns-else-is_spent_at
+returns-else-is_spent_at g c d =
+    let old = c.args.self.now in
+    let caps = caps_of g.P.Ord.cmp c.args.peers.now.entries c.args.pairs.now.entries in
+    let x = c.index-one.result.now in
+    let is : x ≡ get_or old.list.items c.args.at x = c.index-one.ensures in
+    let here : x ≡ get_or old.list.items c.args.at d =
+    is ∙ get_or_default old.list.items c.args.at x d c.requires.place in
+    let rated : x.value.rated ≡ true =
+    sym (ap (λ (f : Flight g.row.P.Denot). f.rated) c.deref.ensures) ∙ c.if-deref.true in
+    let spent =
+    c.is_spent_at.ensures ∙ ap (λ (f : Flight g.row.P.Denot). left_by old.at f == 0) c.deref-then-deref.ensures in
+    c.is_unlimited.ensures
+    ∙ ap (λ m. is_unlimited g.P.Ord.cmp caps (message_of m))
+    (c.deref-else-is_spent_at-2.ensures
+    ∙ ap (λ (f : Flight g.row.P.Denot). f.message.value) c.deref-else-is_spent_at.ensures)
+    ∙ ap (λ b. b || is_unlimited g.P.Ord.cmp caps (message_of x.value.message.value)) (sym c.if-is_spent_at.false)
+    ∙ out_by_left g.P.Ord.cmp caps old.scale old.scaled old.at x.value c.is_spent_at.result rated spent
+    ∙ ap (λ r. is_out g.P.Ord.cmp caps old.scale (flight_at old.at r.value)) here
+
+pub returns-then-is_zero : goal.returns-then-is_zero
+returns-then-is_zero g c d =
+    let old = c.args.self.now in
+    let caps = caps_of g.P.Ord.cmp c.args.peers.now.entries c.args.pairs.now.entries in
+    let x = c.index-one.result.now in
+    let is : x ≡ get_or old.list.items c.args.at x = c.index-one.ensures in
+    let here : x ≡ get_or old.list.items c.args.at d =
+    is ∙ get_or_default old.list.items c.args.at x d c.requires.place in
+    let rated : x.value.rated ≡ false =
+    sym (ap (λ (f : Flight g.row.P.Denot). f.rated) c.deref.ensures) ∙ c.if-deref.false in
+    let none = as_test c.is_zero.result x.value.left
+    (λ e. sym (ap (λ (f : Flight g.row.P.Denot). f.left) c.deref-2.ensures) ∙ c.is_zero.ensures.0 e)
+    (λ e. c.is_zero.ensures.1 (ap (λ (f : Flight g.row.P.Denot). f.left) c.deref-2.ensures ∙ e)) in
+    c.if-is_zero.true
+    ∙ ap (λ b. b || is_unlimited g.P.Ord.cmp caps (message_of x.value.message.value)) (sym c.if-is_zero.true)
+    ∙ out_unrated g.P.Ord.cmp caps old.scale old.scaled old.at x.value c.is_zero.result rated none
+    ∙ ap (λ r. is_out g.P.Ord.cmp caps old.scale (flight_at old.at r.value)) here
+
+pub returns-else-is_zero : goal.returns-else-is_zero
+returns-else-is_zero g c d =
+    let old = c.args.self.now in
+    let caps = caps_of g.P.Ord.cmp c.args.peers.now.entries c.args.pairs.now.entries in
+    let x = c.index-one.result.now in
+    let is : x ≡ get_or old.list.items c.args.at x = c.index-one.ensures in
+    let here : x ≡ get_or old.list.items c.args.at d =
+    is ∙ get_or_default old.list.items c.args.at x d c.requires.place in
+    let rated : x.value.rated ≡ false =
+    sym (ap (λ (f : Flight g.row.P.Denot). f.rated) c.deref.ensures) ∙ c.if-deref.false in
+    let none = as_test c.is_zero.result x.value.left
+    (λ e. sym (ap (λ (f : Flight g.row.P.Denot). f.left) c.deref-2.ensures) ∙ c.is_zero.ensures.0 e)
+    (λ e. c.is_zero.ensures.1 (ap (λ (f : Flight g.row.P.Denot). f.left) c.deref-2.ensures ∙ e)) in
+    c.is_unlimited-else-is_zero.ensures
+    ∙ ap (λ m. is_unlimited g.P.Ord.cmp caps (message_of m))
+    (c.deref-else-is_zero-2.ensures ∙ ap (λ (f : Flight g.row.P.Denot). f.message.value) c.deref-else-is_zero.ensures)
+    ∙ ap (λ b. b || is_unlimited g.P.Ord.cmp caps (message_of x.value.message.value)) (sym c.if-is_zero.false)
+    ∙ out_unrated g.P.Ord.cmp caps old.scale old.scaled old.at x.value c.is_zero.result rated none
+    ∙ ap (λ r. is_out g.P.Ord.cmp caps old.scale (flight_at old.at r.value)) here

@@ -1,0 +1,60 @@
+use Rattle.std.proofs.Common.{◌≡◌, ◌++◌, ◌∷◌, [], ◌*◌, length, Some, None, false, sym, ap, ◌∙◌, subst, rules}
+use Rattle.std.proofs.lemmas.List.{map-append}
+use Rattle.std.specs.declared.rc.Rc.{Rc}
+use Rattle.std.specs.declared.alloc.Global.{Global}
+use Rattle.fair_rates.specs.Numbers.Amount.{billion}
+use Rattle.link_flights.specs.declared.flight.Flight.{Flight}
+use Rattle.link_flights.specs.Pairs.Messages.{message_of}
+use Rattle.link_flights.specs.Flights.Flight.{UnitFlight, flight_at, flights_at, AreTimed}
+use Rattle.link_flights.specs.Flights.RatedFlights.{rated_flight_of, sending_of}
+use Rattle.link_flights.specs.Flights.InFlight.{in_flight, in_units}
+use Rattle.link_flights.proofs.Flights.Standing.{timed_with}
+use Rattle.link_flights.proofs.Flights.Units.{units_of_bytes, no_units}
+use Rattle.link_flights.proofs.flight_list.Flights.push.Goals as goal
+use Rattle.link_flights.proofs.flight_list.Flights.push.Goals.{In_ok-push}
+
+-- what is in flight from now on
+abbrev started : (g : _) (c : In_ok-push g) → Flight g.row.P.Denot
+started g c =
+    record {
+      message = c.args.message;
+      left = c.in_ok-left.left;
+      rate = None;
+      since = c.args.now;
+      finish = None;
+      rated = false;
+      group = 0;
+    }
+
+pub returns-clause-sending : goal.returns-clause-sending
+returns-clause-sending g c =
+    let old = c.args.self.now in
+    let m = c.args.message in
+    let u : UnitFlight g.row.P.Denot =
+    record { message = m.value; left = c.in_ok-left.left; rate = 0; updated = c.args.now; rated = false; group = 0 } in
+    let one : c.in_ok-new.field-0.value ≡ started g c = search rules in
+    let units : flights_at old.at c.push.new.self.items ≡ in_units old ++ u ∷ [] =
+    ap (flights_at old.at) c.in_ok-push.ensures.items
+    ∙ map-append (λ (f : Rc (Flight g.row.P.Denot) Global). flight_at old.at f.value) old.list.items
+    (c.in_ok-new.field-0 ∷ [])
+    ∙ ap (λ (f : Flight g.row.P.Denot). in_units old ++ flight_at old.at f ∷ []) one in
+    let bytes : c.len.result ≡ length m.value.bytes = c.len.ensures.value ∙ ap (λ x. length x.bytes) c.deref.ensures in
+    let left : c.in_ok-left.left ≡ old.scale * (length m.value.bytes * billion) =
+    c.in_ok-left.ensures.value ∙ ap (λ n. old.scale * (n * billion)) bytes in
+    ap (sending_of old.scale) units ∙ map-append (rated_flight_of old.scale) (in_units old) (u ∷ [])
+    ∙ ap (λ x. in_flight old ++ x ∷ [])
+    (λ i.
+    record {
+      message = message_of m.value;
+      left = units_of_bytes old.scale (length m.value.bytes) c.in_ok-left.left old.scaled left i;
+      rate = Some (no_units old.scale old.scaled i);
+      updated = c.args.now;
+    })
+
+pub returns-clause-timed : goal.returns-clause-timed
+returns-clause-timed g c =
+    let one : c.in_ok-new.field-0.value ≡ started g c = search rules in
+    λ timed.
+    subst AreTimed (sym c.in_ok-push.ensures.items)
+    (timed_with c.args.self.now.list.items c.in_ok-new.field-0 (ap (λ (f : Flight g.row.P.Denot). f.rated) one)
+    timed)

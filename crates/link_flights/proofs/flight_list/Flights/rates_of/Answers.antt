@@ -1,0 +1,23 @@
+use Rattle.std.proofs.Common.{IfOk, subst, map, length}
+use Rattle.fair_rates.specs.Filling.FairParts.{AreFairPartsOn}
+use Rattle.fair_rates.specs.Sides.Answers.{answered_of}
+use Rattle.fair_rates.specs.Sides.Subjects.{sides_of}
+use Rattle.link_flights.specs.Pairs.CapsOf.{caps_of}
+use Rattle.link_flights.specs.Flights.InFlight.{in_units}
+use Rattle.link_flights.proofs.Flights.Accounts.{looked_up}
+use Rattle.link_flights.proofs.Flights.CappedFlows.{fair_under_caps_if_ok}
+use Rattle.link_flights.proofs.Flights.Components.{found_if_ok}
+use Rattle.link_flights.proofs.flight_list.Flights.rates_of.Goals as goal
+
+pub returns-clause-fair : goal.returns-clause-fair
+returns-clause-fair g c =
+    let cmp = g.P.Ord.cmp in
+    let self = c.args.self.now in
+    let caps = caps_of cmp c.args.peers.now.entries c.args.pairs.now.entries in
+    let flows = c.in_ok-flows.flows.items in
+    let of = looked_up cmp g.met.P.Ord.total c.args.peers.now.entries c.args.pairs.now.entries in
+    found_if_ok cmp g.met.P.Ord.total caps of c.args.component.now c.fair_parts.result self.scale
+    (map (λ x. x.flow) flows) (in_units self) c.in_ok-flows.ensures.standing
+    (fair_under_caps_if_ok cmp caps flows self.scale c.in_ok-flows.ensures.capped c.fair_parts.result
+    (subst (λ fs. IfOk c.fair_parts.result (AreFairPartsOn (sides_of cmp (map answered_of fs)) (length fs)
+    self.scale)) c.deref.ensures.value c.fair_parts.ensures.fair))

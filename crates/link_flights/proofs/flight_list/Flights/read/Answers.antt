@@ -1,0 +1,62 @@
+use Rattle.std.proofs.Common.{◌≡◌, ◌*◌, ◌<◌, length, get_or, sym, ◌∙◌, ap, subst, arith}
+use Rattle.std.specs.declared.cmp.Ordering.TheVariants.{Equal}
+use Rattle.link_flights.specs.declared.flight.Flight.{Flight}
+use Rattle.fair_rates.specs.Numbers.Amount.{reduced, billion}
+use Rattle.link_simulation.specs.Rule.Planned.{RatedFlight}
+use Rattle.link_flights.specs.Flights.Flight.{flight_at}
+use Rattle.link_flights.specs.Flights.RatedFlights.{rated_flight_of}
+use Rattle.link_flights.specs.Flights.InFlight.{in_flight}
+use Rattle.link_flights.specs.Flights.Readings.{IsReadAs, IsReadingOf}
+use Rattle.fair_rates.proofs.Lists.Copied.{copied_more, copied_all}
+use Rattle.link_flights.proofs.Flights.Standing.{length_in_flight, there_in_flight}
+use Rattle.link_flights.proofs.flight_list.Flights.read.Goals as goal
+
+pub loop-one-preserved : goal.loop-one-preserved
+loop-one-preserved g c =
+    let self = c.args.self.now in
+    let at = c.loop-one.one-index in
+    let one = c.one-item.result in
+    let reading = c.in_ok-read_one.field-0 in
+    let read : RatedFlight g.row.P.Denot = rated_flight_of self.scale (flight_at self.at one.value) in
+    let inside : at < length self.list.items =
+    omega (arith, c.loop-one-test.true, ap length c.deref-one-items.ensures.value) in
+    let one_is : one ≡ get_or self.list.items at one =
+    c.one-item.is ∙ ap (λ l. get_or l at one) c.deref-one-items.ensures.value in
+    let there : read ≡ get_or (in_flight self) at read =
+    sym (there_in_flight self.scale self.at self.list.items at one read inside one_is) in
+    let here : IsReadAs g.P.Ord.cmp read reading = record {
+      origin =
+          subst (λ (f : Flight g.row.P.Denot). g.P.Ord.cmp reading.origin f.message.value.origin ≡ Equal)
+          c.deref.ensures c.in_ok-read_one.ensures.origin;
+      recipient =
+          subst (λ (f : Flight g.row.P.Denot). g.P.Ord.cmp reading.recipient f.message.value.recipient ≡ Equal)
+          c.deref.ensures c.in_ok-read_one.ensures.recipient;
+      left =
+          subst
+          (λ (f : Flight g.row.P.Denot). IsReadingOf (reduced (flight_at self.at f).left (self.scale * billion))
+          reading.left)
+          c.deref.ensures
+          (subst (λ n. IsReadingOf (reduced (flight_at self.at c.deref.result.now).left n) reading.left)
+          c.in_ok-unit.ensures.value c.in_ok-read_one.ensures.left);
+      rate =
+          subst (λ (f : Flight g.row.P.Denot). IsReadingOf (reduced (flight_at self.at f).rate self.scale) reading.rate)
+          c.deref.ensures c.in_ok-read_one.ensures.rate;
+      since =
+          c.in_ok-read_one.ensures.since
+          ∙ ap (λ (f : Flight g.row.P.Denot). (flight_at self.at f).updated) c.deref.ensures;
+    } in
+    rw c.in_ok-push.ensures.items
+    (copied_more (IsReadAs g.P.Ord.cmp) (in_flight self) c.loop-one.readings.items at read reading
+    (omega (arith, inside, length_in_flight self.scale self.at self.list.items)) there c.loop-one.invariant here)
+
+pub returns-clause-read : goal.returns-clause-read
+returns-clause-read g c =
+    let self = c.args.self.now in
+    copied_all (IsReadAs g.P.Ord.cmp) (in_flight self) c.loop-one.readings.items c.loop-one.one-index
+    (omega (
+      arith,
+      length_in_flight self.scale self.at self.list.items,
+      c.loop-one-test.false,
+      ap length c.deref-one-items.ensures.value,
+    ))
+    c.loop-one.invariant

@@ -1,0 +1,8 @@
+use Rattle.std.proofs.Common.{take}
+use Rattle.std.specs.List.{AllZip}
+use Rattle.link_flights.specs.Flights.InFlight.{in_flight}
+use Rattle.link_flights.specs.Flights.Readings.{IsReadAs}
+use Rattle.link_flights.proofs.flight_list.Flights.read.Given as goal
+
+abbrev pub invariant-loop-one : goal.invariant-loop-one
+invariant-loop-one g l = AllZip (IsReadAs g.P.Ord.cmp) (take l.one-index (in_flight l.self)) l.readings.items

@@ -1,0 +1,12 @@
+use Rattle.std.proofs.Common.{◌≡◌}
+use Rattle.fair_rates.specs.Fairness.Exists.{product}
+use Rattle.link_flights.specs.Flights.Rated.{rates_found}
+use Rattle.link_flights.proofs.Flights.Rerating.{AreReratedUpTo}
+use Rattle.link_flights.proofs.flight_list.Flights.set_rates.Given as goal
+
+abbrev pub invariant-loop-at : goal.invariant-loop-at
+invariant-loop-at g l =
+    AreReratedUpTo g.P.Ord.cmp l.component l.initial.self.at (product l.fn.rates.growth.items) l.group
+    (rates_found l.fn.rates)
+    l.initial.self.list.items l.self.list.items l.at l.next
+    × (l.self.at ≡ l.initial.self.at)

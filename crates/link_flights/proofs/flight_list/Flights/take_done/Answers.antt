@@ -1,0 +1,91 @@
+use Rattle.std.proofs.Common.{◌≡◌, ◌<◌, ◌≤◌, [], ◌++◌, ◌∷◌, length, get_or, refl, ap, ap₂, sym, ◌∙◌}
+use Rattle.std.proofs.Common.{subst, arith}
+use Rattle.std.specs.declared.rc.Rc.{Rc}
+use Rattle.std.specs.declared.alloc.Global.{Global}
+use Rattle.std.proofs.lemmas.List.{map-append, get_or_default}
+use Rattle.link_flights.specs.declared.flight.Flight.{Flight}
+use Rattle.link_flights.specs.declared.message.Message.{Message}
+use Rattle.link_flights.specs.Pairs.Messages.{message_of, messages}
+use Rattle.link_flights.specs.Pairs.CapsOf.{caps_of}
+use Rattle.link_flights.specs.Flights.Flight.{flight_at}
+use Rattle.link_flights.specs.Flights.Rated.{is_out}
+use Rattle.link_flights.proofs.Flights.InFlight.{HaveLeft, none_left, step_leaves, step_stays, all_looked_at}
+use Rattle.link_flights.proofs.Flights.Leaving.{timed_without, flights_limited_without, parted_so}
+use Rattle.link_flights.proofs.flight_list.Flights.take_done.Goals as goal
+
+pub loop-at-init : goal.loop-at-init
+loop-at-init g c =
+    let old = c.args.self.now in
+    let caps = caps_of g.P.Ord.cmp c.args.peers.now.entries c.args.pairs.now.entries in
+    let message = λ (f : Rc (Flight g.row.P.Denot) Global). message_of f.value.message.value in
+    let out = λ (f : Rc (Flight g.row.P.Denot) Global). is_out g.P.Ord.cmp caps old.scale (flight_at old.at f.value) in (
+      subst (λ l. HaveLeft message out old.list.items old.list.items (messages l) 0) (sym c.new-done.ensures.items)
+          (none_left message out old.list.items),
+      refl,
+      refl,
+      λ h. h,
+      λ h. h,
+    )
+
+pub loop-at-preserved-then-is_done : goal.loop-at-preserved-then-is_done
+loop-at-preserved-then-is_done g c =
+    let old = c.args.self.now in
+    let now = c.loop-at.self in
+    let h = c.loop-at.invariant in
+    let caps = caps_of g.P.Ord.cmp c.args.peers.now.entries c.args.pairs.now.entries in
+    let message = λ (f : Rc (Flight g.row.P.Denot) Global). message_of f.value.message.value in
+    let out = λ (f : Rc (Flight g.row.P.Denot) Global). is_out g.P.Ord.cmp caps old.scale (flight_at old.at f.value) in
+    let lt : c.loop-at.at < length now.list.items = omega arith in
+    let test = λ (d : Rc (Flight g.row.P.Denot) Global). c.is_done.ensures d
+    ∙ ap₂ (λ n m. is_out g.P.Ord.cmp caps n (flight_at m (get_or now.list.items c.loop-at.at d).value)) h.1 h.2 in
+    let gone : message_of c.in_ok-clone.field-0.value ≡ message c.index.result.now =
+    ap (λ (m : Message g.row.P.Denot). message_of m)
+    (c.in_ok-clone.ensures.cases ∙ ap (λ (f : Flight g.row.P.Denot). f.message.value) c.deref.ensures) in
+    let here = λ (d : Rc (Flight g.row.P.Denot) Global).
+    gone ∙ ap message (c.index.ensures ∙ get_or_default now.list.items c.loop-at.at c.index.result.now d lt) in
+    let pushed : messages c.push_back.new.self.items
+    ≡ messages c.loop-at.done.items ++ message_of c.in_ok-clone.field-0.value ∷ [] =
+    ap messages c.in_ok-push_back.ensures.items
+    ∙ map-append (λ m. message_of m.value) c.loop-at.done.items (c.in_ok-clone.field-0 ∷ []) in
+    let left = step_leaves message out old.list.items now.list.items (messages c.loop-at.done.items) c.loop-at.at h.0
+    (message_of c.in_ok-clone.field-0.value) c.is_done.result lt c.if-is_done.true test here in (
+      rw (c.remove.ensures.list, pushed) left,
+      c.remove.ensures.scale ∙ h.1,
+      c.remove.ensures.at ∙ h.2,
+      λ timed. rw c.remove.ensures.list (timed_without now.list.items c.loop-at.at (h.3 timed)),
+      λ all.
+          rw (c.remove.ensures.list, c.remove.ensures.at)
+          (flights_limited_without g.P.Ord.cmp caps now.at now.list.items c.loop-at.at (h.4 all)),
+    )
+
+pub loop-at-preserved : goal.loop-at-preserved
+loop-at-preserved g c =
+    let old = c.args.self.now in
+    let now = c.loop-at.self in
+    let h = c.loop-at.invariant in
+    let caps = caps_of g.P.Ord.cmp c.args.peers.now.entries c.args.pairs.now.entries in
+    let message = λ (f : Rc (Flight g.row.P.Denot) Global). message_of f.value.message.value in
+    let out = λ (f : Rc (Flight g.row.P.Denot) Global). is_out g.P.Ord.cmp caps old.scale (flight_at old.at f.value) in
+    let lt : c.loop-at.at < length now.list.items = omega arith in
+    let test = λ (d : Rc (Flight g.row.P.Denot) Global). c.is_done.ensures d
+    ∙ ap₂ (λ n m. is_out g.P.Ord.cmp caps n (flight_at m (get_or now.list.items c.loop-at.at d).value)) h.1 h.2 in
+    let stays =
+    step_stays message out old.list.items now.list.items (messages c.loop-at.done.items) c.loop-at.at h.0
+    c.is_done.result
+    lt c.if-is_done.false test in
+    (stays, h.1, h.2, h.3, h.4)
+
+pub returns-clause-parted : goal.returns-clause-parted
+returns-clause-parted g c =
+    let old = c.args.self.now in
+    let now = c.loop-at.self in
+    let h = c.loop-at.invariant in
+    let caps = caps_of g.P.Ord.cmp c.args.peers.now.entries c.args.pairs.now.entries in
+    let message = λ (f : Rc (Flight g.row.P.Denot) Global). message_of f.value.message.value in
+    let out = λ (f : Rc (Flight g.row.P.Denot) Global). is_out g.P.Ord.cmp caps old.scale (flight_at old.at f.value) in
+    let end : length now.list.items ≤ c.loop-at.at = omega arith in
+    let all =
+    all_looked_at message out old.list.items now.list.items (messages c.loop-at.done.items) c.loop-at.at h.0 end in
+    rw h.2
+    (parted_so g.P.Ord.cmp caps old.scale old.at old.list.items now.list.items (messages c.loop-at.done.items)
+    all.leavers all.stay)

@@ -1,0 +1,23 @@
+use Rattle.std.proofs.Common.{◌≡◌, ◌-◌, length}
+use Rattle.link_flights.specs.Flights.Flight.{AreTimed, flight_at}
+use Rattle.link_flights.specs.Flights.InFlight.{in_units}
+use Rattle.link_flights.specs.Flights.Rated.{is_out}
+use Rattle.link_flights.specs.Pairs.Messages.{message_of, messages}
+use Rattle.link_flights.specs.Pairs.CapsOf.{caps_of}
+use Rattle.link_flights.proofs.Flights.InFlight.{HaveLeft}
+use Rattle.link_flights.proofs.Flights.Leaving.{StayRated}
+use Rattle.link_flights.proofs.flight_list.Flights.take_done.Given as goal
+
+abbrev pub invariant-loop-at : goal.invariant-loop-at
+invariant-loop-at g l =
+    HaveLeft (λ f. message_of f.value.message.value)
+    (λ f. is_out g.P.Ord.cmp (caps_of g.P.Ord.cmp l.peers.entries l.pairs.entries) l.initial.self.scale
+    (flight_at l.initial.self.at f.value)) l.initial.self.list.items l.self.list.items (messages l.done.items) l.at
+    × (l.self.scale ≡ l.initial.self.scale)
+    × (l.self.at ≡ l.initial.self.at)
+    × (AreTimed l.initial.self.list.items → AreTimed l.self.list.items)
+    × StayRated g.P.Ord.cmp (caps_of g.P.Ord.cmp l.peers.entries l.pairs.entries) (in_units l.initial.self)
+    (in_units l.self)
+
+abbrev pub decreases-loop-at : goal.decreases-loop-at
+decreases-loop-at g l = length l.self.list.items - l.at

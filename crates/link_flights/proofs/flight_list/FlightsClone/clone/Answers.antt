@@ -1,0 +1,11 @@
+use Rattle.std.proofs.Common.{◌<◌, sym, ◌∙◌, subst}
+use Rattle.link_flights.proofs.Flights.Copies.{past_alike}
+use Rattle.link_flights.proofs.flight_list.FlightsClone.clone.Goals as goal
+
+pub invariant_of-result : goal.invariant_of-result
+invariant_of-result g c =
+    let old = c.args.self.now in
+    record {
+      past = past_alike old.at old.list.items c.in_ok-clone.field-0.items c.in_ok-clone.ensures.cases.0 ∙ old.past;
+      scaled = subst (λ n. 0 < n) (sym c.in_ok-clone-2.ensures.value) old.scaled;
+    }

@@ -1,0 +1,8 @@
+-- What is in flight: how it is kept, changed and read.
+pub mod CappedFlows
+pub mod Components
+pub mod Flight
+pub mod InFlight
+pub mod Rated
+pub mod RatedFlights
+pub mod Readings

@@ -1,0 +1,21 @@
+-- What is in flight, as it is kept.
+use Rattle.std.specs.Prelude.{◌≡◌, List}
+use Rattle.std.specs.List.{AllZip}
+use Rattle.link_flights.specs.declared.flight_list.Flights.{Flights}
+use Rattle.link_simulation.specs.Rule.Planned.{RatedFlight}
+use Rattle.link_flights.specs.Flights.Flight.{UnitFlight, flights_at}
+use Rattle.link_flights.specs.Flights.RatedFlights.{sending_of}
+
+-- the messages in flight in units, as they stand at the last account
+abbrev pub in_units : {P : Type 0} {a : _} {b : _} {c : _} → Flights P a b c → List (UnitFlight P)
+in_units flights = flights_at flights.at flights.list.items
+
+-- the messages in flight, as they are kept
+abbrev pub in_flight : {P : Type 0} {a : _} {b : _} {c : _} → Flights P a b c → List (RatedFlight P)
+in_flight flights = sending_of flights.scale (in_units flights)
+
+-- the same flights
+pub record IsSameFlights {P : Type 0} {a : _} {b : _} {c : _} (flights copy : Flights P a b c) : Type 0 where
+  pub list : AllZip (λ one other. other.value ≡ one.value) flights.list.items copy.list.items
+  pub scale : copy.scale ≡ flights.scale
+  pub at : copy.at ≡ flights.at

@@ -1,0 +1,127 @@
+-- Messages in flight that have got rates, which are fair for them.
+use Rattle.std.specs.Prelude.{◌≡◌, ℕ, ◌*◌, Bool, true, false, not, List, [], ◌∷◌, cond, map, slice_index, length}
+use Rattle.std.specs.Prelude.{Some, slice_get}
+use Rattle.std.specs.List.{filter, list_all, AllZip}
+use Rattle.std.specs.declared.cmp.Ordering.{Ordering}
+use Rattle.std.specs.declared.rc.Rc.{Rc}
+use Rattle.std.specs.declared.alloc.Global.{Global}
+use Rattle.fair_rates.specs.Sides.Caps.{Caps}
+use Rattle.fair_rates.specs.Fairness.Exists.{product}
+use Rattle.fair_rates.specs.Fairness.Fair.{IsFair}
+use Rattle.fair_rates.specs.declared.bandwidth.parts.FairParts.{FairParts}
+use Rattle.fair_rates.specs.Filling.FairParts.{parts_of_level}
+use Rattle.link_simulation.specs.Simulation.Messages.{Message}
+use Rattle.link_simulation.specs.Simulation.Rates.{capped_sides, is_unlimited}
+use Rattle.link_flights.specs.declared.component.Component.{Component}
+use Rattle.link_flights.specs.declared.flight.Flight.{Flight}
+use Rattle.link_flights.specs.declared.flight_list.Flights.{Flights}
+use Rattle.link_flights.specs.Pairs.Messages.{message_of}
+use Rattle.link_flights.specs.Flights.Flight.{UnitFlight, IsTimed, AreTimed}
+use Rattle.link_flights.specs.Flights.Components.{is_sender, is_of, those_of, AreGrouped}
+use Rattle.link_flights.specs.Flights.InFlight.{in_units}
+use Rattle.link_flights.specs.Flights.RatedFlights.{rated_flight_of}
+use Rattle.link_simulation.specs.Rule.Planned.{is_spent}
+
+-- their messages
+abbrev pub sent_messages : {P : Type 0} → List (UnitFlight P) → List (Message P)
+sent_messages us = map (λ u. message_of u.message) us
+
+-- their rates
+abbrev pub rates_of : {P : Type 0} → List (UnitFlight P) → List ℕ
+rates_of us = map (λ u. u.rate) us
+
+-- those that have got a rate since their start
+abbrev pub rated_ones : {P : Type 0} → List (UnitFlight P) → List (UnitFlight P)
+rated_ones us = filter (λ u. u.rated) us
+
+module _ {P : Type 0} (cmp : P → P → Ordering) (caps : Caps P) where
+  -- rates in parts, of which so many are one byte a second, are fair under the caps for these messages alone
+  abbrev pub AreFairFor : ℕ → List (Message P) → List ℕ → Type 0
+  AreFairFor scale messages rates = IsFair (capped_sides cmp caps messages) scale (slice_index rates)
+
+  -- their rates are fair under the caps for these alone
+  abbrev pub AreFairlyRated : ℕ → List (UnitFlight P) → Type 0
+  AreFairlyRated scale us = AreFairFor scale (sent_messages us) (rates_of us)
+
+  -- each uses a capped side
+  abbrev pub are_limited : List (UnitFlight P) → Bool
+  are_limited us = list_all (λ u. not (is_unlimited cmp caps (message_of u.message))) us
+
+  -- those that have got rates have fair ones and are limited, their finishes are right, and they are grouped
+  pub record AreRated {a : _} {b : _} {c : _} (flights : Flights P a b c) : Type 0 where
+    pub fair : AreFairlyRated flights.scale (rated_ones (in_units flights))
+    pub limited : are_limited (rated_ones (in_units flights)) ≡ true
+    pub timed : AreTimed flights.list.items
+    pub grouped : AreGrouped cmp (rated_ones (in_units flights))
+
+  -- whether one is done: nothing is left of it, or it uses no capped side
+  abbrev pub is_out : ℕ → UnitFlight P → Bool
+  is_out scale u = is_spent cmp caps (rated_flight_of scale u)
+
+-- it is of the same message, at the same rate and of the same group
+pub record IsAsRated {P : Type 0} (old new : UnitFlight P) : Type 0 where
+  pub message : new.message ≡ old.message
+  pub rate : new.rate ≡ old.rate
+  pub rated : new.rated ≡ old.rated
+  pub group : new.group ≡ old.group
+
+-- those that pass the test have left, as these messages, and the others have stayed
+pub record ArePartedBy {P : Type 0} (test : UnitFlight P → Bool) (before : List (UnitFlight P))
+    (done : List (Message P)) (us : List (UnitFlight P)) : Type 0 where
+  pub left : done ≡ sent_messages (filter test before)
+  pub stay : us ≡ filter (λ u. not (test u)) before
+
+-- those that had got a rate before some of them were done had fair rates, and were grouped
+pub record WereRated {P : Type 0} (cmp : P → P → Ordering) (caps : Caps P) (scale : ℕ)
+    (us : List (UnitFlight P)) (done : List (Message P)) : Type 0 where
+  pub before : List (UnitFlight P)
+  pub is_done : UnitFlight P → Bool
+  pub parted : ArePartedBy is_done before done us
+  pub fair : AreFairlyRated cmp caps scale (rated_ones before)
+  pub grouped : AreGrouped cmp (rated_ones before)
+
+-- the rates that are found, flow by flow
+abbrev pub rates_found : FairParts → List ℕ
+rates_found found = map (parts_of_level found.levels.items) found.level_of.items
+
+-- these are the fair rates of a component alone, in parts of a scale that has grown from another
+pub record AreFairOf {P : Type 0} (cmp : P → P → Ordering) (caps : Caps P) (scale : ℕ) (component : Component P)
+    (us : List (UnitFlight P)) (found : FairParts) : Type 0 where
+  pub grown : found.scale ≡ scale * product found.growth.items
+  pub one_each : length found.level_of.items ≡ length (those_of cmp component us)
+  pub fair : AreFairFor cmp caps found.scale (sent_messages (those_of cmp component us)) (rates_found found)
+
+-- those of a component have these rates from a moment on, and are a group; what is left of them counts in units of
+-- which so many times as many are needed. The others go on as they are
+abbrev pub rerated : {P : Type 0} → (P → P → Ordering) → Component P → ℕ → ℕ → ℕ → List ℕ → List (UnitFlight P)
+    → List (UnitFlight P)
+rerated cmp component now times group rates [] = []
+rerated cmp component now times group [] (u ∷ us) = u ∷ us
+rerated cmp component now times group (rate ∷ rates) (u ∷ us) = cond (is_of cmp component u)
+    (record u { left = u.left * times; rate = rate; updated = now; rated = true; group = group }
+    ∷ rerated cmp component now times group rates us)
+    (u ∷ rerated cmp component now times group (rate ∷ rates) us)
+
+-- it is of the same message, of which as much is left, in units of which so many times as many are needed, from a
+-- moment on at a rate
+pub record IsRatedFrom {P : Type 0} (now times : ℕ) (old new : UnitFlight P) : Type 0 where
+  pub message : new.message ≡ old.message
+  pub left : new.left ≡ old.left * times
+  pub updated : new.updated ≡ now
+  pub rated : new.rated ≡ true
+
+-- each has its fair rate from the moment of the account on, and they are grouped
+pub record HaveFairRates {P : Type 0} {a : _} {b : _} {c : _} (cmp : P → P → Ordering) (caps : Caps P)
+    (old new : Flights P a b c) : Type 0 where
+  pub times : ℕ
+  pub scale : new.scale ≡ old.scale * times
+  pub at : new.at ≡ old.at
+  pub each : AllZip (IsRatedFrom old.at times) (in_units old) (in_units new)
+  pub fair : AreFairlyRated cmp caps new.scale (in_units new)
+  pub timed : AreTimed new.list.items
+  pub grouped : AreGrouped cmp (in_units new)
+
+-- those that have got a rate and are not of the component are timed
+abbrev pub AreOthersTimed : {P : Type 0} → (P → P → Ordering) → Component P → List (Rc (Flight P) Global) → Type 0
+AreOthersTimed {P} cmp component fs = (i : ℕ) (f : Rc (Flight P) Global) → slice_get fs i ≡ Some f
+    → is_sender cmp component f.value.message.value.origin ≡ false → f.value.rated ≡ true → IsTimed f.value

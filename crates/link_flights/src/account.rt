@@ -1,0 +1,179 @@
+//! What is in flight, accounted for at a moment.
+ghost use Rattle.std.specs.Prelude.{◌≡◌, ◌≢◌, ◌+◌, ◌<◌, ◌≤◌, true, not};
+ghost use Rattle.std.specs.Prelude.{length, slice_index_or, IfOk, IfErr, OnOk};
+ghost use Rattle.std.specs.List.{filter, list_all, remove, AllZip};
+ghost use Rattle.std.specs.declared.rc.Rc.{Rc as AnyRc};
+ghost use Rattle.std.specs.declared.alloc.Global.{Global as Allocator};
+ghost use Rattle.link_flights.specs.declared.flight.Flight.{Flight as AnyFlight};
+ghost use Rattle.link_simulation.specs.Rule.Planned.{RatedFlight, rated_messages, drained_to};
+ghost use Rattle.link_simulation.specs.Rule.Planned.{is_spent};
+ghost use Rattle.link_flights.specs.Idle.AtRest.{of_pairs};
+ghost use Rattle.link_flights.specs.Idle.Index.{IsIndexOf};
+ghost use Rattle.link_flights.specs.Idle.Busy.{AreCounted};
+ghost use Rattle.link_flights.specs.Flights.Flight.{flight_at, AreTimed, DrainsTo};
+ghost use Rattle.link_flights.specs.Flights.InFlight.{in_flight, in_units};
+ghost use Rattle.link_flights.specs.Flights.Rated.{ArePartedBy, is_out, are_limited, rated_ones};
+ghost use Rattle.link_flights.specs.Pairs.Messages.{message_of, messages};
+ghost use Rattle.link_flights.specs.Pairs.CapsOf.{caps_of};
+ghost use Rattle.link_simulation.specs.Simulation.Rates.{is_unlimited as is_free};
+
+use crate::busy::BusyPairs;
+use crate::flight_list::Flights;
+use crate::idle_pairs::IdlePairs;
+use crate::known_pairs::Pairs;
+use crate::message::Message;
+use crate::peers::Peers;
+use crate::readiness::rest_all;
+use crate::waiting::Waiting;
+use fair_rates::error::Error;
+use fair_rates::peer::Peer;
+use natural::Natural;
+use std::alloc::Global;
+use std::collections::VecDeque;
+use std::rc::Rc;
+
+/// Whether the message uses no capped side.
+pub fn is_unlimited<P: Peer>(message: &Message<P>, peers: &Peers<P>, pairs: &Pairs<P>) -> bool
+    ensures { result ≡ is_free P.cmp (caps_of P.cmp peers.now.entries pairs.now.entries) (message_of message.now) }
+{
+    peers.egress(&message.origin).is_none()
+        && (!message.is_delivered() || peers.ingress(&message.recipient).is_none())
+        && pairs.cap(&message.origin, &message.recipient).is_none()
+}
+
+impl<P: Peer> Flights<P> {
+    /// All drain to that moment. Those that have a rate are only counted from then on, unless the
+    /// moment goes back.
+    pub fn drain(&mut self, now: u64) -> Result<(), Error>
+        ensures drained { OnOk result (AllZip (DrainsTo now) (in_units self.old) (in_units self.new)) }
+        ensures scale { self.new.scale ≡ self.old.scale }
+        ensures at { OnOk result (self.new.at ≡ now) }
+        ensures timed { self.old.at ≤ now → AreTimed self.old.list.items → OnOk result (AreTimed self.new.list.items) }
+        ensures refused { IfErr result (λ e. e ≡ Error.OutOfMemory) }
+    {
+        let goes_back = now < self.at;
+        for at in 0..self.list.len() {
+            if goes_back || !self.list[at].rated {
+                let one = self.list[at].brought_to(self.at, now)?;
+                self.put(at, one)?;
+            }
+        }
+        self.at = now;
+        Ok(())
+    }
+
+    /// Whether the message at that place is done: nothing is left of it, or it uses no capped side.
+    /// Where the finishes are right, those of limited messages tell.
+    fn is_done(&self, at: usize, peers: &Peers<P>, pairs: &Pairs<P>, were_rated: bool) -> bool
+        requires place { at < length self.now.list.items }
+        requires limited { were_rated ≡ true → are_limited P.cmp (caps_of P.cmp peers.now.entries pairs.now.entries)
+            (rated_ones (in_units self.now)) ≡ true }
+        requires timed { were_rated ≡ true → AreTimed self.now.list.items }
+        ensures { (d : AnyRc (AnyFlight P) Allocator) → result ≡ is_out P.cmp
+            (caps_of P.cmp peers.now.entries pairs.now.entries) self.now.scale
+            (flight_at self.now.at (slice_index_or self.now.list.items at d).value) }
+    {
+        let one = &self.list[at];
+        if one.rated {
+            if were_rated {
+                return one.has_finished_by(self.at);
+            }
+            return one.is_spent_at(self.at) || is_unlimited(&one.message, peers, pairs);
+        }
+        one.left.is_zero() || is_unlimited(&one.message, peers, pairs)
+    }
+
+    /// The message at that place is in flight no more.
+    fn remove(&mut self, at: usize)
+        requires { at < length self.old.list.items }
+        ensures list { self.new.list.items ≡ remove self.old.list.items at }
+        ensures length { length self.new.list.items + 1 ≡ length self.old.list.items }
+        ensures scale { self.new.scale ≡ self.old.scale }
+        ensures at { self.new.at ≡ self.old.at }
+    {
+        self.list.remove(at);
+    }
+
+    /// Takes those that are done, in order of start.
+    fn take_done(
+        &mut self,
+        peers: &Peers<P>,
+        pairs: &Pairs<P>,
+        were_rated: bool,
+    ) -> Result<VecDeque<Rc<Message<P>>>, Error>
+        requires limited { were_rated ≡ true → are_limited P.cmp (caps_of P.cmp peers.now.entries pairs.now.entries)
+            (rated_ones (in_units self.old)) ≡ true }
+        requires timed { were_rated ≡ true → AreTimed self.old.list.items }
+        ensures parted { IfOk result (λ done. ArePartedBy (is_out P.cmp
+            (caps_of P.cmp peers.now.entries pairs.now.entries) self.old.scale)
+            (in_units self.old) (messages done.items) (in_units self.new)) }
+        ensures scale { self.new.scale ≡ self.old.scale }
+        ensures at { self.new.at ≡ self.old.at }
+        ensures timed { AreTimed self.old.list.items → AreTimed self.new.list.items }
+        ensures refused { IfErr result (λ e. e ≡ Error.OutOfMemory) }
+    {
+        let mut done = VecDeque::new(self.alloc);
+        let mut at = 0;
+        while at < self.list.len() {
+            if self.is_done(at, peers, pairs, were_rated) {
+                done.push_back(self.list[at].message.clone()?)?;
+                self.remove(at);
+            } else {
+                at += 1;
+            }
+        }
+        Ok(done)
+    }
+
+    /// Where nothing is in flight, units begin anew: one is a byte a second.
+    pub fn renew_units(&mut self)
+        ensures sending { in_flight self.new ≡ in_flight self.old }
+        ensures list { self.new.list.items ≡ self.old.list.items }
+        ensures at { self.new.at ≡ self.old.at }
+        ensures one { length self.new.list.items ≡ 0 → self.new.scale ≡ 1 }
+        ensures scale { length self.new.list.items ≢ 0 → self.new.scale ≡ self.old.scale }
+    {
+        if self.list.is_empty() {
+            self.scale = Natural::from_u64(self.alloc, 1);
+        }
+    }
+}
+
+/// What is done leaves, in order of start, and its pairs are idle from now on.
+pub fn leave<P: Peer>(
+    alloc: Global,
+    flights: &mut Flights<P>,
+    busy: &mut BusyPairs<P>,
+    idle: &mut IdlePairs<P>,
+    peers: &Peers<P>,
+    pairs: &Pairs<P>,
+    waiting: &Waiting<P>,
+    were_rated: bool,
+) -> Result<VecDeque<Rc<Message<P>>>, Error>
+    requires indexed { IsIndexOf P.cmp (of_pairs P.cmp pairs.now.entries waiting.now.messages
+        (in_flight flights.old)) idle.old.entries }
+    requires limited { were_rated ≡ true → are_limited P.cmp (caps_of P.cmp peers.now.entries pairs.now.entries)
+        (rated_ones (in_units flights.old)) ≡ true }
+    requires timed { were_rated ≡ true → AreTimed flights.old.list.items }
+    requires counted { AreCounted P.cmp busy.old.entries (rated_messages (in_flight flights.old)) }
+    ensures done { IfOk result (λ done. messages done.items
+        ≡ rated_messages (filter (is_spent P.cmp (caps_of P.cmp peers.now.entries pairs.now.entries))
+        (in_flight flights.old))) }
+    ensures rest { OnOk result (in_flight flights.new ≡ filter
+        (λ f. not (is_spent P.cmp (caps_of P.cmp peers.now.entries pairs.now.entries) f)) (in_flight flights.old)) }
+    ensures parted { IfOk result (λ done. ArePartedBy (is_out P.cmp
+        (caps_of P.cmp peers.now.entries pairs.now.entries) flights.old.scale)
+        (in_units flights.old) (messages done.items) (in_units flights.new)) }
+    ensures scale { flights.new.scale ≡ flights.old.scale }
+    ensures at { flights.new.at ≡ flights.old.at }
+    ensures timed { AreTimed flights.old.list.items → AreTimed flights.new.list.items }
+    ensures indexed { OnOk result (IsIndexOf P.cmp (of_pairs P.cmp pairs.now.entries waiting.now.messages
+        (in_flight flights.new)) idle.new.entries) }
+    ensures counted { OnOk result (AreCounted P.cmp busy.new.entries (rated_messages (in_flight flights.new))) }
+    ensures refused { IfErr result (λ e. e ≡ Error.OutOfMemory) }
+{
+    let done = flights.take_done(peers, pairs, were_rated)?;
+    busy.remove_all(alloc, &done)?;
+    rest_all(alloc, idle, busy, waiting, pairs, &done)?;
+    Ok(done)
+}

@@ -1,0 +1,276 @@
+//! Which messages in flight are joined, directly or through others.
+//!
+//! Messages that share a sender or a receiver are of one group. So where some are done or new, only
+//! those of the groups that they touch are looked at; and of these, those that the senders and
+//! receivers join.
+ghost use Rattle.std.specs.Prelude.{◌≡◌, ◌&&◌, ◌||◌, ◌==◌, ℕ, not, true, false, IfOk, IfErr, IfSome, OnOk};
+ghost use Rattle.std.specs.List.{list_all, list_any};
+ghost use Rattle.fair_rates.specs.Sides.Subjects.{same_peer};
+ghost use Rattle.link_flights.specs.Flights.Components.{is_sender, is_receiver, suits, is_closed, is_near};
+ghost use Rattle.link_flights.specs.Flights.Components.{is_found, AreGrouped, AreFarApart, AreFound};
+ghost use Rattle.link_flights.specs.Flights.Flight.{flight_at};
+ghost use Rattle.link_flights.specs.Flights.InFlight.{in_units};
+ghost use Rattle.link_flights.specs.Flights.Rated.{rated_ones};
+
+use crate::flight::Flight;
+use crate::flight_list::Flights;
+use crate::message::Message;
+use fair_rates::error::Error;
+use fair_rates::peer::Peer;
+use std::alloc::Global;
+use std::collections::VecDeque;
+use std::rc::Rc;
+
+/// How many senders and receivers a component may have. Where there are more, it pays to rate all
+/// that is in flight.
+const MOST_ENDS: usize = 12;
+
+/// Some groups of messages in flight, and some senders and receivers of these: those of these
+/// messages. Or all.
+#[derive(Drop)]
+pub(crate) struct Component<P> {
+    pub(crate) whole: bool,
+    pub(crate) groups: Vec<u64>,
+    pub(crate) senders: Vec<Rc<Message<P>>>,
+    pub(crate) receivers: Vec<Rc<Message<P>>>,
+}
+
+impl<P: Peer> Component<P> {
+    fn new(alloc: Global) -> Component<P> {
+        Component {
+            whole: false,
+            groups: Vec::new(alloc),
+            senders: Vec::new(alloc),
+            receivers: Vec::new(alloc),
+        }
+    }
+
+    /// All senders and all receivers.
+    pub(crate) fn whole(alloc: Global) -> Component<P>
+        ensures { result.whole ≡ true }
+    {
+        Component {
+            whole: true,
+            groups: Vec::new(alloc),
+            senders: Vec::new(alloc),
+            receivers: Vec::new(alloc),
+        }
+    }
+
+    /// Whether the peer is one of the senders.
+    fn has_sender(&self, peer: &P) -> bool
+        ensures { result ≡ is_sender P.cmp self.now peer.now }
+    {
+        self.whole || sends_any(peer, &self.senders)
+    }
+
+    /// Whether the peer is one of the receivers.
+    fn has_receiver(&self, peer: &P) -> bool
+        ensures { result ≡ is_receiver P.cmp self.now peer.now }
+    {
+        self.whole || receives_any(peer, &self.receivers)
+    }
+
+    /// Whether the group is one of its groups.
+    fn has_group(&self, group: u64) -> bool
+        ensures { result ≡ list_any (λ own. own == group) self.now.groups.items }
+    {
+        self.groups.iter().any(|own| *own == group)
+    }
+
+    /// Whether the message in flight is of one of its groups, or has got no rate yet.
+    fn is_near(&self, one: &Flight<P>) -> bool
+        ensures { result ≡ is_near self.now (flight_at 0 one.now) }
+    {
+        !one.rated || self.has_group(one.group)
+    }
+
+    /// Whether the message in flight is of it.
+    pub(crate) fn has(&self, one: &Flight<P>) -> bool
+        ensures { result ≡ is_found P.cmp self.now (flight_at 0 one.now) }
+    {
+        self.whole || self.is_near(one) && self.has_sender(&one.message.origin)
+    }
+
+    /// Takes in the ends of the message.
+    fn join(&mut self, message: &Rc<Message<P>>) -> Result<(), Error>
+        ensures groups { self.new.groups ≡ self.old.groups }
+        ensures whole { self.new.whole ≡ self.old.whole }
+        ensures senders { OnOk result ((p : P) → is_sender P.cmp self.old p ≡ false
+            → same_peer P.cmp p message.now.value.origin ≡ false → is_sender P.cmp self.new p ≡ false) }
+        ensures receivers { OnOk result ((p : P) → is_receiver P.cmp self.old p ≡ false
+            → same_peer P.cmp p message.now.value.recipient ≡ false → is_receiver P.cmp self.new p ≡ false) }
+        ensures refused { IfErr result (λ e. e ≡ Error.OutOfMemory) }
+    {
+        if !self.has_sender(&message.origin) {
+            self.senders.push(message.clone()?)?;
+        }
+        if !self.has_receiver(&message.recipient) {
+            self.receivers.push(message.clone()?)?;
+        }
+        Ok(())
+    }
+
+    /// Whether it has too many ends.
+    fn is_large(&self) -> bool {
+        self.senders.len() > MOST_ENDS || self.receivers.len() > MOST_ENDS
+    }
+
+    /// Takes in the group.
+    fn add_group(&mut self, group: u64) -> Result<(), Error>
+        ensures senders { self.new.senders ≡ self.old.senders }
+        ensures receivers { self.new.receivers ≡ self.old.receivers }
+        ensures whole { self.new.whole ≡ self.old.whole }
+        ensures added { OnOk result (list_any (λ own. own == group) self.new.groups.items ≡ true) }
+        ensures kept { OnOk result ((other : ℕ) → list_any (λ own. own == other) self.old.groups.items ≡ true
+            → list_any (λ own. own == other) self.new.groups.items ≡ true) }
+        ensures refused { IfErr result (λ e. e ≡ Error.OutOfMemory) }
+    {
+        if !self.has_group(group) {
+            self.groups.push(group)?;
+        }
+        Ok(())
+    }
+
+    /// Whether one of the ends of the message in flight is in it.
+    fn touches(&self, one: &Flight<P>) -> bool
+        ensures { result ≡ (is_sender P.cmp self.now one.now.message.value.origin
+            || is_receiver P.cmp self.now one.now.message.value.recipient) }
+    {
+        self.has_sender(&one.message.origin) || self.has_receiver(&one.message.recipient)
+    }
+
+    /// Whether it suits all in flight that are near.
+    fn suits_all(&self, list: &[Rc<Flight<P>>]) -> bool
+        ensures { result ≡ list_all (λ one. not (is_near self.now (flight_at 0 one.value))
+            || suits P.cmp self.now (flight_at 0 one.value)) list.now }
+    {
+        list.iter().all(|one| !self.is_near(one) || self.suits(one))
+    }
+
+    /// Whether it has one end of the message in flight, and not the other.
+    fn has_one_end(&self, one: &Flight<P>) -> bool {
+        self.has_sender(&one.message.origin) != self.has_receiver(&one.message.recipient)
+    }
+
+    /// Whether it has both ends of a message in flight; or neither, where that has got a rate.
+    fn suits(&self, one: &Flight<P>) -> bool
+        ensures { result ≡ suits P.cmp self.now (flight_at 0 one.now) }
+    {
+        let receives = self.has_receiver(&one.message.recipient);
+        if self.has_sender(&one.message.origin) {
+            receives
+        } else {
+            !receives && one.rated
+        }
+    }
+
+    /// Whether it has both ends of each of the messages.
+    fn has_all(&self, done: &VecDeque<Rc<Message<P>>>) -> bool
+        ensures { result ≡ list_all (λ m. is_sender P.cmp self.now m.value.origin
+            && is_receiver P.cmp self.now m.value.recipient) done.now.items }
+    {
+        done.iter().all(|message| {
+            self.has_sender(&message.origin) && self.has_receiver(&message.recipient)
+        })
+    }
+}
+
+/// Whether the peer sends one of the messages.
+fn sends_any<P: Peer>(peer: &P, messages: &[Rc<Message<P>>]) -> bool
+    ensures { result ≡ list_any (λ m. same_peer P.cmp peer.now m.value.origin) messages.now }
+{
+    messages
+        .iter()
+        .any(|message| peer.cmp(&message.origin).is_eq())
+}
+
+/// Whether the peer is to receive one of the messages.
+fn receives_any<P: Peer>(peer: &P, messages: &[Rc<Message<P>>]) -> bool
+    ensures { result ≡ list_any (λ m. same_peer P.cmp peer.now m.value.recipient) messages.now }
+{
+    messages
+        .iter()
+        .any(|message| peer.cmp(&message.recipient).is_eq())
+}
+
+impl<P: Peer> Flights<P> {
+    /// The component of the messages that are done and of those that have got no rate yet. None
+    /// where it is large.
+    pub(crate) fn component(
+        &self,
+        done: &VecDeque<Rc<Message<P>>>,
+    ) -> Result<Option<Component<P>>, Error>
+        requires { AreGrouped P.cmp (rated_ones (in_units self.now)) }
+        ensures closed { IfOk result (λ found. IfSome found (λ component.
+            is_closed P.cmp component done.now.items (in_units self.now) ≡ true)) }
+        ensures found { IfOk result (λ found. IfSome found (λ component.
+            AreFound P.cmp component (in_units self.now))) }
+        ensures refused { IfErr result (λ e. e ≡ Error.OutOfMemory) }
+    {
+        let mut component = self.ends(done)?;
+        self.find_groups(&mut component)?;
+        for _walk in 0..MOST_ENDS {
+            if !self.grow(&mut component)? {
+                break;
+            }
+        }
+        if component.is_large() {
+            return Ok(None);
+        }
+        if component.has_all(done) && component.suits_all(&self.list) {
+            return Ok(Some(component));
+        }
+        Ok(None)
+    }
+
+    /// The ends of the messages that are done and of those that have got no rate yet.
+    fn ends(&self, done: &VecDeque<Rc<Message<P>>>) -> Result<Component<P>, Error>
+        ensures refused { IfErr result (λ e. e ≡ Error.OutOfMemory) }
+    {
+        let mut component = Component::new(self.alloc);
+        for at in 0..done.len() {
+            component.join(&done[at])?;
+        }
+        for one in &self.list {
+            if !one.rated {
+                component.join(&one.message)?;
+            }
+        }
+        Ok(component)
+    }
+
+    /// Takes the groups of those into the component that have an end in it.
+    fn find_groups(&self, component: &mut Component<P>) -> Result<(), Error>
+        ensures far { OnOk result (AreFarApart P.cmp component.new (in_units self.now)) }
+        ensures refused { IfErr result (λ e. e ≡ Error.OutOfMemory) }
+    {
+        for one in &self.list {
+            if one.rated && component.touches(one) {
+                component.add_group(one.group)?;
+            }
+        }
+        Ok(())
+    }
+
+    /// Takes in the ends of those of its groups that have one end in the component, in one walk.
+    /// Answers whether to walk again.
+    fn grow(&self, component: &mut Component<P>) -> Result<bool, Error>
+        requires grouped { AreGrouped P.cmp (rated_ones (in_units self.now)) }
+        requires far { AreFarApart P.cmp component.old (in_units self.now) }
+        ensures far { OnOk result (AreFarApart P.cmp component.new (in_units self.now)) }
+        ensures refused { IfErr result (λ e. e ≡ Error.OutOfMemory) }
+    {
+        let mut grown = false;
+        for one in &self.list {
+            if one.rated && component.has_group(one.group) && component.has_one_end(one) {
+                component.join(&one.message)?;
+                grown = true;
+                if component.is_large() {
+                    return Ok(false);
+                }
+            }
+        }
+        Ok(grown)
+    }
+}

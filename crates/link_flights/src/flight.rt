@@ -1,0 +1,144 @@
+//! A message in flight.
+ghost use Rattle.std.specs.Prelude.{◌≡◌, ◌≢◌, ◌*◌, ◌==◌, IfOk, IfErr, OnOk, true};
+ghost use Rattle.fair_rates.specs.Fairness.Exists.{product};
+ghost use Rattle.link_flights.specs.Flights.Flight.{rate_of, left_by, flight_at, has_come, IsTimed, IsFinishOf};
+
+use crate::message::Message;
+use fair_rates::error::Error;
+use fair_rates::peer::Peer;
+use natural::Natural;
+use std::rc::Rc;
+
+/// A message in flight. What is left, and the rate, are whole numbers of the units that all
+/// messages in flight share.
+#[derive(Drop)]
+pub(crate) struct Flight<P> {
+    pub(crate) message: Rc<Message<P>>,
+    /// The units that were left at the moment `since`.
+    pub(crate) left: Natural,
+    /// The units that drain in a nanosecond from then on. `None` drains nothing.
+    pub(crate) rate: Option<Rc<Natural>>,
+    pub(crate) since: u64,
+    /// The moment from which on nothing is left, if there is one up to the last moment.
+    pub(crate) finish: Option<u64>,
+    /// Whether an account has given it a rate since its start.
+    pub(crate) rated: bool,
+    /// The number of its group, once it has a rate: those that share a sender or a receiver are of
+    /// one group.
+    pub(crate) group: u64,
+}
+
+impl<P: Peer> Flight<P> {
+    /// Whether nothing is left at that moment.
+    pub(crate) fn is_spent_at(&self, now: u64) -> bool
+        ensures { result ≡ (left_by now self.now == 0) }
+    {
+        match &self.rate {
+            None => self.left.is_zero(),
+            Some(rate) => {
+                let elapsed = now.saturating_sub(self.since);
+                self.left.compare_times(1, rate, elapsed).is_le()
+            }
+        }
+    }
+
+    /// Whether its finish has come at that moment.
+    pub(crate) fn has_finished_by(&self, now: u64) -> bool
+        ensures { result ≡ has_come now self.now.finish }
+    {
+        match self.finish {
+            Some(finish) => finish <= now,
+            None => false,
+        }
+    }
+
+    /// What is left at the moment of an account. Without a rate that is what was left.
+    pub(crate) fn left_at(&self, now: u64) -> Result<Natural, Error>
+        ensures left { IfOk result (λ left. left ≡ (flight_at now self.now).left) }
+        ensures refused { IfErr result (λ e. e ≡ Error.OutOfMemory) }
+    {
+        let mut left = self.left.clone()?;
+        if self.rated {
+            if let Some(rate) = &self.rate {
+                left.sub_times(rate, now.saturating_sub(self.since));
+            }
+        }
+        Ok(left)
+    }
+
+    /// The same message, with what is left at the moment of the last account, and `now` in the
+    /// place of that moment.
+    pub(crate) fn brought_to(&self, at: u64, now: u64) -> Result<Flight<P>, Error>
+        ensures message { IfOk result (λ one. one.message.value ≡ self.now.message.value) }
+        ensures left { IfOk result (λ one. one.left ≡ (flight_at at self.now).left) }
+        ensures rate { IfOk result (λ one. rate_of one.rate ≡ rate_of self.now.rate) }
+        ensures since { IfOk result (λ one. one.since ≡ now) }
+        ensures rated { IfOk result (λ one. one.rated ≡ self.now.rated) }
+        ensures group { IfOk result (λ one. one.group ≡ self.now.group) }
+        ensures refused { IfErr result (λ e. e ≡ Error.OutOfMemory) }
+    {
+        Ok(Flight {
+            message: self.message.clone()?,
+            left: self.left_at(at)?,
+            rate: self.rate.clone()?,
+            since: now,
+            finish: self.finish,
+            rated: self.rated,
+            group: self.group,
+        })
+    }
+
+    /// The same message at that rate from `now` on, the moment of an account, and in that group.
+    /// What is left counts in smaller units, of which so many times as many are needed.
+    pub(crate) fn rerated(
+        &self,
+        rate: Option<Rc<Natural>>,
+        growth: &[u64],
+        now: u64,
+        group: u64,
+    ) -> Result<Flight<P>, Error>
+        requires { (flight_at now self.now).left * product growth.now ≢ 0 }
+        ensures message { IfOk result (λ one. one.message.value ≡ self.now.message.value) }
+        ensures left { IfOk result (λ one. one.left ≡ (flight_at now self.now).left * product growth.now) }
+        ensures rate { IfOk result (λ one. rate_of one.rate ≡ rate_of rate) }
+        ensures since { IfOk result (λ one. one.since ≡ now) }
+        ensures rated { IfOk result (λ one. one.rated ≡ true) }
+        ensures group { IfOk result (λ one. one.group ≡ group) }
+        ensures timed { IfOk result (λ one. IsTimed one) }
+        ensures refused { IfErr result (λ e. e ≡ Error.OutOfMemory) }
+    {
+        let mut left = self.left_at(now)?;
+        grow(&mut left, growth)?;
+        let finish = finish_of(&left, &rate, now);
+        Ok(Flight {
+            message: self.message.clone()?,
+            left,
+            rate,
+            since: now,
+            finish,
+            rated: true,
+            group,
+        })
+    }
+}
+
+/// So many units, counted in smaller ones, of which so many times as many are needed.
+fn grow(units: &mut Natural, growth: &[u64]) -> Result<(), Error>
+    ensures grown { OnOk result (units.new ≡ units.old * product growth.now) }
+    ensures refused { IfErr result (λ e. e ≡ Error.OutOfMemory) }
+{
+    for factor in growth {
+        units.multiply(*factor)?;
+    }
+    Ok(())
+}
+
+/// The moment from which on nothing is left, up to the last moment, if so much drains from `now` on
+/// at that rate.
+fn finish_of(left: &Natural, rate: &Option<Rc<Natural>>, now: u64) -> Option<u64>
+    requires { left.now ≢ 0 }
+    ensures { IsFinishOf left.now (rate_of rate.now) now result }
+{
+    let time = left.least_multiple(rate.as_ref()?)?;
+    now.checked_add(time)
+}

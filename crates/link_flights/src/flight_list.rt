@@ -1,0 +1,154 @@
+//! The messages in flight.
+ghost use Rattle.std.specs.Prelude.{◌≡◌, ℕ, ◌<◌, [], ◌∷◌, ◌++◌, ◌||◌, ◌==◌, true, not};
+ghost use Rattle.std.specs.Prelude.{length, nat_le, Some, IfOk, IfErr, OnOk, OnErr};
+ghost use Rattle.std.specs.List.{list_all, list_any};
+ghost use Rattle.link_simulation.specs.Rule.Planned.{earlier as earliest};
+
+use crate::flight::Flight;
+use crate::message::Message;
+use fair_rates::error::Error;
+use fair_rates::peer::Peer;
+use natural::Natural;
+use std::alloc::{AllocError, Global};
+use std::rc::Rc;
+
+/// Units of what is left in a byte, for each unit of a rate in a byte a second: nanoseconds in a
+/// second.
+const UNITS_A_BYTE: u128 = 1_000_000_000;
+
+/// The messages in flight, in order of start.
+///
+/// All that is kept of them is whole, in units that they share. A rate is a number of units of
+/// which `scale` are one byte a second. What is left is a number of units of which a billion times
+/// `scale` are one byte, so that a rate is what drains in a nanosecond.
+///
+/// A message drains later: what is kept is what was left at the moment since which it has its rate.
+#[derive(Drop)]
+pub struct Flights<P: Peer> {
+    pub(crate) alloc: Global,
+    pub(crate) list: Vec<Rc<Flight<P>>>,
+    pub(crate) scale: Natural,
+    /// The moment of the last account.
+    pub at: u64,
+    /// The number of the group that was made last.
+    pub(crate) last_group: u64,
+
+    pub ghost past: { list_all (λ one. not one.value.rated || nat_le one.value.since at) list.items ≡ true },
+    pub ghost scaled: { 0 < scale },
+}
+
+/// The earlier of two moments, where there are any.
+fn earlier(first: Option<u64>, second: Option<u64>) -> Option<u64>
+    ensures { result ≡ earliest first second }
+{
+    match (first, second) {
+        (Some(first), Some(second)) => Some(first.min(second)),
+        (Some(first), None) => Some(first),
+        (None, second) => second,
+    }
+}
+
+impl<P: Peer> Flights<P> {
+    ghost use Rattle.fair_rates.specs.Numbers.Amount.{whole};
+    ghost use Rattle.link_simulation.specs.Rule.Planned.{RatedFlight};
+    ghost use Rattle.link_flights.specs.Pairs.Messages.{message_of};
+    ghost use Rattle.link_flights.specs.Flights.Flight.{AreTimed, has_come, IsPutAt};
+    ghost use Rattle.link_flights.specs.Flights.InFlight.{in_flight, in_units};
+    ghost use Rattle.link_flights.specs.Flights.Rated.{rated_ones};
+
+    /// No message is in flight.
+    pub fn new(alloc: Global) -> Self
+        ensures { result.list.items ≡ [] }
+    {
+        Flights {
+            alloc,
+            list: Vec::new(alloc),
+            scale: Natural::from_u64(alloc, 1),
+            at: 0,
+            last_group: 0,
+        }
+    }
+
+    /// Whether nothing is in flight.
+    pub fn is_empty(&self) -> bool
+        ensures { result ≡ (length self.now.list.items == 0) }
+    {
+        self.list.is_empty()
+    }
+
+    /// The message is in flight from now on. It gets its rate at the account that follows.
+    pub fn push(&mut self, message: Rc<Message<P>>, now: u64) -> Result<(), Error>
+        ensures sending { OnOk result (in_flight self.new ≡ in_flight self.old
+            ++ record {
+              message = message_of message.value;
+              left = whole (length message.value.bytes);
+              rate = Some (whole 0);
+              updated = now;
+            } ∷ []) }
+        ensures scale { self.new.scale ≡ self.old.scale }
+        ensures rated { rated_ones (in_units self.new) ≡ rated_ones (in_units self.old) }
+        ensures timed { AreTimed self.old.list.items → AreTimed self.new.list.items }
+        ensures kept { OnErr result (in_flight self.new ≡ in_flight self.old) }
+        ensures refused { IfErr result (λ e. e ≡ Error.OutOfMemory) }
+    {
+        let units = message.bytes.len() as u128 * UNITS_A_BYTE;
+        let left = self.scale.product(units)?;
+        let flight = Flight {
+            message,
+            left,
+            rate: None,
+            since: now,
+            finish: None,
+            rated: false,
+            group: 0,
+        };
+        self.list.push(Rc::new(self.alloc, flight)?)?;
+        Ok(())
+    }
+
+    /// The flight stands at that place from now on.
+    pub(crate) fn put(&mut self, at: usize, flight: Flight<P>) -> Result<(), Error>
+        requires place { at < length self.old.list.items }
+        requires past { (not flight.rated || nat_le flight.since self.old.at) ≡ true }
+        ensures list { OnOk result (IsPutAt at flight self.old.list.items self.new.list.items) }
+        ensures scale { self.new.scale ≡ self.old.scale }
+        ensures at { self.new.at ≡ self.old.at }
+        ensures refused { IfErr result (λ e. e ≡ Error.OutOfMemory) }
+    {
+        self.list[at] = Rc::new(self.alloc, flight)?;
+        Ok(())
+    }
+
+    /// The number of the group that is made next.
+    pub(crate) fn next_group(&self) -> u64 {
+        self.last_group.wrapping_add(1)
+    }
+
+    /// The first finish of all.
+    pub(crate) fn first_finish(&self) -> Option<u64>
+        ensures { (t : ℕ) → has_come t result ≡ list_any (λ one. has_come t one.value.finish) self.now.list.items }
+    {
+        let mut first = None;
+        for one in &self.list {
+            first = earlier(first, one.finish);
+        }
+        first
+    }
+}
+
+impl<P: Peer> Clone for Flights<P> {
+    ghost use Rattle.link_flights.specs.Flights.InFlight.{IsSameFlights};
+
+    ghost is_clone = { IsSameFlights };
+
+    /// The same messages in flight. What is known of each is shared.
+    fn clone(&self) -> Result<Flights<P>, AllocError> {
+        Ok(Flights {
+            alloc: self.alloc,
+            list: self.list.clone()?,
+            scale: self.scale.clone()?,
+            at: self.at,
+            last_group: self.last_group,
+        })
+    }
+}

@@ -1,0 +1,198 @@
+//! The fair rates of what is in flight.
+ghost use Rattle.std.specs.Prelude.{◌≡◌, ◌≢◌, ℕ, ◌<◌, ◌≤◌, ◌*◌, true, map, length, All};
+ghost use Rattle.std.specs.Prelude.{IfOk, IfErr, IfSome, OnOk};
+ghost use Rattle.fair_rates.specs.Fairness.Exists.{product};
+ghost use Rattle.link_simulation.specs.Rule.Planned.{IsLeastMoment, SomeSpentAt};
+ghost use Rattle.link_simulation.specs.Simulation.World.{last_moment};
+ghost use Rattle.link_flights.specs.Pairs.Messages.{messages};
+ghost use Rattle.link_flights.specs.Flights.CappedFlows.{AreFairPartsUnder, HasItsCaps};
+ghost use Rattle.link_flights.specs.Pairs.CapsOf.{caps_of};
+ghost use Rattle.link_flights.specs.Flights.Components.{those_of, AreFound};
+ghost use Rattle.link_flights.specs.Flights.Flight.{AreTimed, rate_of};
+ghost use Rattle.link_flights.specs.Flights.RatedFlights.{are_standing};
+ghost use Rattle.fair_rates.specs.Filling.FairParts.{parts_of_level};
+ghost use Rattle.link_flights.specs.Flights.InFlight.{in_units, in_flight};
+ghost use Rattle.link_flights.specs.Flights.Rated.{WereRated, AreFairOf, HaveFairRates};
+ghost use Rattle.link_flights.specs.Flights.Rated.{rerated, rates_found, AreOthersTimed};
+
+use crate::component::Component;
+use crate::flight_list::Flights;
+use crate::known_pairs::Pairs;
+use crate::message::Message;
+use crate::peers::Peers;
+use fair_rates::bandwidth::{CappedFlow, FairParts, Flow, FlowCaps, fair_parts};
+use fair_rates::error::Error;
+use fair_rates::peer::Peer;
+use natural::Natural;
+use std::alloc::Global;
+use std::collections::VecDeque;
+use std::rc::Rc;
+
+/// Up to so many messages in flight, all are rated at each account.
+const FEW: usize = 6;
+
+/// The caps that hold for a flow. Flows of one sender often follow one another, so what it may send
+/// is known where the flow before is its own.
+fn caps_for<P: Peer>(
+    flow: &Flow<P>,
+    before: Option<&CappedFlow<P>>,
+    peers: &Peers<P>,
+    pairs: &Pairs<P>,
+) -> FlowCaps
+    requires before { IfSome before (λ last. HasItsCaps (caps_of P.cmp peers.now.entries pairs.now.entries) last.now) }
+    ensures { HasItsCaps (caps_of P.cmp peers.now.entries pairs.now.entries)
+        (record { flow = flow.now; caps = result }) }
+{
+    let egress = match before {
+        Some(last) if last.flow.origin.cmp(&flow.origin).is_eq() => last.caps.egress,
+        _ => peers.egress(&flow.origin),
+    };
+    let ingress = if flow.delivered {
+        peers.ingress(&flow.recipient)
+    } else {
+        None
+    };
+    let link = pairs.cap(&flow.origin, &flow.recipient);
+    FlowCaps {
+        egress,
+        ingress,
+        link,
+    }
+}
+
+/// Levels that those who have them share.
+fn shared_levels(alloc: Global, levels: Vec<Natural>) -> Result<Vec<Rc<Natural>>, Error>
+    ensures same { IfOk result (λ shared. map (λ level. level.value) shared.items ≡ levels.items) }
+    ensures refused { IfErr result (λ e. e ≡ Error.OutOfMemory) }
+{
+    let mut shared = Vec::with_capacity(alloc, levels.len())?;
+    for level in levels {
+        shared.push(Rc::new(alloc, level)?)?;
+    }
+    Ok(shared)
+}
+
+/// The level at that place. None drains nothing.
+fn level_at(levels: &[Rc<Natural>], place: Option<usize>) -> Result<Option<Rc<Natural>>, Error>
+    ensures rate { IfOk result (λ level. rate_of level ≡ parts_of_level (map (λ level. level.value) levels.now) place) }
+    ensures refused { IfErr result (λ e. e ≡ Error.OutOfMemory) }
+{
+    let Some(place) = place else {
+        return Ok(None);
+    };
+    match levels.get(place) {
+        Some(level) => Ok(Some(level.clone()?)),
+        None => Ok(None),
+    }
+}
+
+impl<P: Peer> Flights<P> {
+    /// Gives each its fair rate from the last account on, once some are done. Where they had fair
+    /// rates before, those that share no side with what is done or new keep them. Answers the first
+    /// moment at which nothing is left of one.
+    pub fn rate(
+        &mut self,
+        peers: &Peers<P>,
+        pairs: &Pairs<P>,
+        done: &VecDeque<Rc<Message<P>>>,
+        were_rated: bool,
+    ) -> Result<Option<u64>, Error>
+        requires moment { self.old.at ≤ last_moment }
+        requires left { All (λ u. u.left ≢ 0) (in_units self.old) }
+        requires updated { All (λ u. u.updated ≡ self.old.at) (in_units self.old) }
+        requires before { were_rated ≡ true
+            → WereRated P.cmp (caps_of P.cmp peers.now.entries pairs.now.entries) self.old.scale
+            (in_units self.old) (messages done.now.items) }
+        requires timed { were_rated ≡ true → AreTimed self.old.list.items }
+        ensures rated { OnOk result (HaveFairRates P.cmp (caps_of P.cmp peers.now.entries pairs.now.entries)
+            self.old self.new) }
+        ensures finish { IfOk result (IsLeastMoment (λ s. SomeSpentAt (in_flight self.new) s)) }
+        ensures refused { IfErr result (λ e. e ≡ Error.OutOfMemory) }
+    {
+        if were_rated && self.list.len() > FEW {
+            if let Some(component) = self.component(done)? {
+                let part = self.rates_of(&component, peers, pairs)?;
+                if part.growth.is_empty() {
+                    self.set_rates(&component, part)?;
+                    return Ok(self.first_finish());
+                }
+            }
+        }
+        let all = Component::whole(self.alloc);
+        let rates = self.rates_of(&all, peers, pairs)?;
+        self.set_rates(&all, rates)?;
+        Ok(self.first_finish())
+    }
+
+    /// The fair rates of a component alone.
+    fn rates_of(
+        &self,
+        component: &Component<P>,
+        peers: &Peers<P>,
+        pairs: &Pairs<P>,
+    ) -> Result<FairParts, Error>
+        requires found { AreFound P.cmp component.now (in_units self.now) }
+        ensures fair { IfOk result (AreFairOf P.cmp (caps_of P.cmp peers.now.entries pairs.now.entries)
+            self.now.scale component.now (in_units self.now)) }
+        ensures refused { IfErr result (λ e. e ≡ Error.OutOfMemory) }
+    {
+        let flows = self.flows_of(component, peers, pairs)?;
+        fair_parts(self.alloc, &flows, &self.scale)
+    }
+
+    /// The flows of the component with their caps, in order of start.
+    fn flows_of(
+        &self,
+        component: &Component<P>,
+        peers: &Peers<P>,
+        pairs: &Pairs<P>,
+    ) -> Result<Vec<CappedFlow<P>>, Error>
+        requires found { AreFound P.cmp component.now (in_units self.now) }
+        ensures standing { IfOk result (λ flows. are_standing P.cmp (map (λ capped. capped.flow) flows.items)
+            (those_of P.cmp component.now (in_units self.now)) ≡ true) }
+        ensures capped { IfOk result (λ flows. All
+            (HasItsCaps (caps_of P.cmp peers.now.entries pairs.now.entries)) flows.items) }
+        ensures refused { IfErr result (λ e. e ≡ Error.OutOfMemory) }
+    {
+        let mut flows = Vec::new(self.alloc);
+        for one in &self.list {
+            if component.has(one) {
+                let flow = one.message.flow(0)?;
+                let caps = caps_for(&flow, flows.last(), peers, pairs);
+                flows.push(CappedFlow { flow, caps })?;
+            }
+        }
+        Ok(flows)
+    }
+
+    /// Gives those of the component these rates from the last account on, in the units of these
+    /// rates. They are a group from now on.
+    fn set_rates(&mut self, component: &Component<P>, rates: FairParts) -> Result<(), Error>
+        requires one_each { length rates.level_of.items ≡ length (those_of P.cmp component.now (in_units self.old)) }
+        requires left { All (λ u. u.left * product rates.growth.items ≢ 0) (in_units self.old) }
+        requires scaled { 0 < rates.scale }
+        requires others { AreOthersTimed P.cmp component.now self.old.list.items }
+        requires found { AreFound P.cmp component.now (in_units self.old) }
+        ensures rerated { OnOk result ((group : ℕ) × (in_units self.new ≡ rerated P.cmp component.now self.old.at
+            (product rates.growth.items) group (rates_found rates) (in_units self.old))) }
+        ensures timed { OnOk result (AreTimed self.new.list.items) }
+        ensures scale { OnOk result (self.new.scale ≡ rates.scale) }
+        ensures at { self.new.at ≡ self.old.at }
+        ensures refused { IfErr result (λ e. e ≡ Error.OutOfMemory) }
+    {
+        let levels = shared_levels(self.alloc, rates.levels)?;
+        let group = self.next_group();
+        let mut next = 0;
+        for at in 0..self.list.len() {
+            if component.has(&self.list[at]) {
+                let rate = level_at(&levels, rates.level_of[next])?;
+                let one = self.list[at].rerated(rate, &rates.growth, self.at, group)?;
+                self.put(at, one)?;
+                next += 1;
+            }
+        }
+        self.scale = rates.scale;
+        self.last_group = group;
+        Ok(())
+    }
+}

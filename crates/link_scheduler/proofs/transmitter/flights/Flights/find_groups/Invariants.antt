@@ -1,8 +1,0 @@
-use Rattle.std.proofs.Common.{take}
-use Rattle.link_scheduler.specs.Flights.Components.{AreFarApart}
-use Rattle.link_scheduler.specs.Flights.Flight.{flights_at}
-use Rattle.link_scheduler.proofs.transmitter.flights.Flights.find_groups.Given as goal
-
-abbrev pub invariant-loop-one : goal.invariant-loop-one
-invariant-loop-one g l =
-    AreFarApart g.P.Ord.cmp l.component (flights_at l.self.at (take l.one-index l.one-items))

@@ -1,6 +1,0 @@
-use Rattle.link_scheduler.specs.Flights.Components.{AreFarApart}
-use Rattle.link_scheduler.specs.Flights.InFlight.{in_units}
-use Rattle.link_scheduler.proofs.transmitter.flights.Flights.grow.Given as goal
-
-abbrev pub invariant-loop-one : goal.invariant-loop-one
-invariant-loop-one g l = AreFarApart g.P.Ord.cmp l.component (in_units l.self)

@@ -1,5 +1,0 @@
-use Rattle.std.proofs.Common.{◌≡◌, map}
-use Rattle.link_scheduler.proofs.transmitter.rates.shared_levels.Given as goal
-
-abbrev pub invariant-loop-level : goal.invariant-loop-level
-invariant-loop-level l = map (λ level. level.value) l.shared.items ≡ l.yielded

@@ -1,7 +1,0 @@
--- What is in flight: how it is kept, changed and read.
-pub mod Components
-pub mod Flight
-pub mod InFlight
-pub mod Rated
-pub mod RatedFlights
-pub mod Readings
