@@ -88,6 +88,22 @@ impl<P: Peer> Flight<P> {
         })
     }
 
+    /// Whether it has that rate and is of that group.
+    pub(crate) fn goes_on(&self, rate: &Option<Rc<Natural>>, group: u64) -> bool
+        ensures rated { result ≡ true → self.now.rated ≡ true }
+        ensures group { result ≡ true → self.now.group ≡ group }
+        ensures rate { result ≡ true → rate_of self.now.rate ≡ rate_of rate.now }
+    {
+        if !self.rated || self.group != group {
+            return false;
+        }
+        match (&self.rate, rate) {
+            (Some(own), Some(rate)) => Rc::as_ref(own) == Rc::as_ref(rate),
+            (None, None) => true,
+            _ => false,
+        }
+    }
+
     /// The same message at that rate from `now` on, the moment of an account, and in that group.
     /// What is left counts in smaller units, of which so many times as many are needed.
     pub(crate) fn rerated(

@@ -119,11 +119,6 @@ impl<P: Peer> Flights<P> {
         Ok(())
     }
 
-    /// The number of the group that is made next.
-    pub(crate) fn next_group(&self) -> u64 {
-        self.last_group.wrapping_add(1)
-    }
-
     /// The first finish of all.
     pub(crate) fn first_finish(&self) -> Option<u64>
         ensures { (t : ℕ) → has_come t result ≡ list_any (λ one. has_come t one.value.finish) self.now.list.items }

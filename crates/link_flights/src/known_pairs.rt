@@ -1,10 +1,11 @@
 //! What is known of each ordered pair of peers.
-ghost use Rattle.std.specs.Prelude.{◌≡◌, ◌<◌, ◌^◌, true, map, option_map, slice_get, Some, IfSome, IfOk, IfErr};
+ghost use Rattle.std.specs.Prelude.{◌≡◌, ◌<◌, ◌^◌, true, false, map, option_map, slice_get, Some, None, IfSome};
+ghost use Rattle.std.specs.Prelude.{IfOk, IfErr};
 ghost use Rattle.std.specs.List.{find};
 ghost use Rattle.std.specs.Ordering.{is_lt, is_eq};
 ghost use Rattle.fair_rates.specs.Lists.Sorted.{are_ascending, IsPlace, IsGap};
 ghost use Rattle.link_simulation.specs.Simulation.World.{later_of as latest};
-ghost use Rattle.link_flights.specs.Pairs.Entries.{pair_cmp, key_of};
+ghost use Rattle.link_flights.specs.Pairs.Entries.{pair_cmp, key_of, link_of};
 
 use crate::pair_list::PairList;
 use crate::readiness::PeerPair;
@@ -28,7 +29,10 @@ pub(crate) struct Pair<P> {
 #[derive(Drop)]
 pub struct Pairs<P: Peer> {
     entries: PairList<P>,
+    /// Whether a pair has been given a cap. Where none has, none is looked for.
+    linked: bool,
     pub ghost ascending: { are_ascending (pair_cmp P.cmp) (map key_of entries) ≡ true },
+    pub ghost unlinked: { linked ≡ false → (a b : P) → link_of P.cmp entries a b ≡ None },
 }
 
 /// Where a pair stands among those that have been named.
@@ -60,7 +64,7 @@ impl<P: Peer> Pairs<P> {
     ghost use Rattle.std.specs.Prelude.{[], OnOk, OnErr};
     ghost use Rattle.fair_rates.specs.Sides.Subjects.{same_peer};
     ghost use Rattle.link_simulation.specs.Simulation.Messages.{with_link};
-    ghost use Rattle.link_flights.specs.Pairs.Entries.{link_of, arrival_of, raised_at};
+    ghost use Rattle.link_flights.specs.Pairs.Entries.{arrival_of, raised_at};
 
     /// No pair.
     pub fn new() -> Self
@@ -68,6 +72,7 @@ impl<P: Peer> Pairs<P> {
     {
         Pairs {
             entries: PairList::new(),
+            linked: false,
         }
     }
 
@@ -101,6 +106,9 @@ impl<P: Peer> Pairs<P> {
         ensures cap { result ≡ link_of P.cmp self.now.entries origin.now recipient.now }
         ensures small { IfSome result (λ cap. cap < 2 ^ 64) }
     {
+        if !self.linked {
+            return None;
+        }
         self.find(origin, recipient)?.cap.map(|cap| cap as u128)
     }
 
@@ -120,6 +128,7 @@ impl<P: Peer> Pairs<P> {
         cap: Option<usize>,
         last_arrival: Option<u64>,
     ) -> Result<(), Error>
+        requires linked { self.old.linked ≡ false → cap ≡ None }
         ensures link { OnOk result (link_of P.cmp self.new.entries
             ≡ with_link P.cmp (link_of P.cmp self.old.entries) origin.now recipient.now cap) }
         ensures arrival { OnOk result (arrival_of P.cmp self.new.entries
@@ -163,6 +172,7 @@ impl<P: Peer> Pairs<P> {
         ensures refused { IfErr result (λ e. e ≡ Error.OutOfMemory) }
     {
         let last = self.last_arrival(origin, recipient);
+        self.linked |= cap.is_some();
         self.set(alloc, origin, recipient, cap, last)
     }
 
@@ -208,6 +218,9 @@ impl<P: Peer> Clone for Pairs<P> {
     /// The same pairs. No peer is cloned.
     fn clone(&self) -> Result<Pairs<P>, AllocError> {
         let entries = self.entries.clone()?;
-        Ok(Pairs { entries })
+        Ok(Pairs {
+            entries,
+            linked: self.linked,
+        })
     }
 }

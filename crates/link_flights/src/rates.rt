@@ -1,5 +1,5 @@
 //! The fair rates of what is in flight.
-ghost use Rattle.std.specs.Prelude.{◌≡◌, ◌≢◌, ℕ, ◌<◌, ◌≤◌, ◌*◌, true, map, length, All};
+ghost use Rattle.std.specs.Prelude.{◌≡◌, ◌≢◌, ℕ, ◌<◌, ◌≤◌, ◌*◌, true, map, length, slice_index_or, All};
 ghost use Rattle.std.specs.Prelude.{IfOk, IfErr, IfSome, OnOk};
 ghost use Rattle.fair_rates.specs.Fairness.Exists.{product};
 ghost use Rattle.link_simulation.specs.Rule.Planned.{IsLeastMoment, SomeSpentAt};
@@ -8,12 +8,15 @@ ghost use Rattle.link_flights.specs.Pairs.Messages.{messages};
 ghost use Rattle.link_flights.specs.Flights.CappedFlows.{AreFairPartsUnder, HasItsCaps};
 ghost use Rattle.link_flights.specs.Pairs.CapsOf.{caps_of};
 ghost use Rattle.link_flights.specs.Flights.Components.{those_of, AreFound};
-ghost use Rattle.link_flights.specs.Flights.Flight.{AreTimed, rate_of};
+ghost use Rattle.link_flights.specs.Flights.Flight.{AreTimed, rate_of, flight_at};
 ghost use Rattle.link_flights.specs.Flights.RatedFlights.{are_standing};
 ghost use Rattle.fair_rates.specs.Filling.FairParts.{parts_of_level};
 ghost use Rattle.link_flights.specs.Flights.InFlight.{in_units, in_flight};
 ghost use Rattle.link_flights.specs.Flights.Rated.{WereRated, AreFairOf, HaveFairRates};
-ghost use Rattle.link_flights.specs.Flights.Rated.{rerated, rates_found, AreOthersTimed};
+ghost use Rattle.link_flights.specs.Flights.Rated.{rerated, rates_found, AreOthersTimed, IsReratedAt};
+ghost use Rattle.link_flights.specs.declared.flight.Flight.{Flight as AnyFlight};
+ghost use Rattle.std.specs.declared.rc.Rc.{Rc as AnyRc};
+ghost use Rattle.std.specs.declared.alloc.Global.{Global as Allocator};
 
 use crate::component::Component;
 use crate::flight_list::Flights;
@@ -113,14 +116,14 @@ impl<P: Peer> Flights<P> {
             if let Some(component) = self.component(done)? {
                 let part = self.rates_of(&component, peers, pairs)?;
                 if part.growth.is_empty() {
-                    self.set_rates(&component, part)?;
+                    self.set_rates(&component, part, true)?;
                     return Ok(self.first_finish());
                 }
             }
         }
         let all = Component::whole(self.alloc);
         let rates = self.rates_of(&all, peers, pairs)?;
-        self.set_rates(&all, rates)?;
+        self.set_rates(&all, rates, were_rated)?;
         Ok(self.first_finish())
     }
 
@@ -167,7 +170,13 @@ impl<P: Peer> Flights<P> {
 
     /// Gives those of the component these rates from the last account on, in the units of these
     /// rates. They are a group from now on.
-    fn set_rates(&mut self, component: &Component<P>, rates: FairParts) -> Result<(), Error>
+    fn set_rates(
+        &mut self,
+        component: &Component<P>,
+        rates: FairParts,
+        were_timed: bool,
+    ) -> Result<(), Error>
+        requires timed { were_timed ≡ true → AreTimed self.old.list.items }
         requires one_each { length rates.level_of.items ≡ length (those_of P.cmp component.now (in_units self.old)) }
         requires left { All (λ u. u.left * product rates.growth.items ≢ 0) (in_units self.old) }
         requires scaled { 0 < rates.scale }
@@ -181,18 +190,59 @@ impl<P: Peer> Flights<P> {
         ensures refused { IfErr result (λ e. e ≡ Error.OutOfMemory) }
     {
         let levels = shared_levels(self.alloc, rates.levels)?;
-        let group = self.next_group();
+        let group = self.number_for(component);
         let mut next = 0;
         for at in 0..self.list.len() {
             if component.has(&self.list[at]) {
                 let rate = level_at(&levels, rates.level_of[next])?;
-                let one = self.list[at].rerated(rate, &rates.growth, self.at, group)?;
-                self.put(at, one)?;
+                self.rerate(at, rate, &rates.growth, group, were_timed)?;
                 next += 1;
             }
         }
         self.scale = rates.scale;
-        self.last_group = group;
+        self.last_group = self.last_group.max(group);
         Ok(())
+    }
+
+    /// The number of the group that those of the component are from now on. They keep the number that
+    /// they have, so that those whose rate stays need not change.
+    fn number_for(&self, component: &Component<P>) -> u64 {
+        if component.whole {
+            if let Some(first) = self.list.first() {
+                return first.group;
+            }
+        }
+        if component.groups.len() == 1 {
+            return component.groups[0];
+        }
+        self.last_group.wrapping_add(1)
+    }
+
+    /// The message at that place has that rate from the last account on, and is of that group. Where
+    /// it had both, in the same units, it goes on as it is.
+    fn rerate(
+        &mut self,
+        at: usize,
+        rate: Option<Rc<Natural>>,
+        growth: &[u64],
+        group: u64,
+        were_timed: bool,
+    ) -> Result<(), Error>
+        requires place { at < length self.old.list.items }
+        requires left { (d : AnyRc (AnyFlight P) Allocator) → (flight_at self.old.at
+            (slice_index_or self.old.list.items at d).value).left * product growth.now ≢ 0 }
+        requires timed { were_timed ≡ true → AreTimed self.old.list.items }
+        ensures rerated { OnOk result (IsReratedAt self.old.at at (product growth.now) group (rate_of rate)
+            self.old.list.items self.new.list.items) }
+        ensures scale { self.new.scale ≡ self.old.scale }
+        ensures at { self.new.at ≡ self.old.at }
+        ensures refused { IfErr result (λ e. e ≡ Error.OutOfMemory) }
+    {
+        let one = &self.list[at];
+        if were_timed && growth.is_empty() && one.goes_on(&rate, group) {
+            return Ok(());
+        }
+        let one = one.rerated(rate, growth, self.at, group)?;
+        self.put(at, one)
     }
 }

@@ -8,10 +8,11 @@ use Rattle.std.specs.declared.cmp.Ordering.{Ordering}
 use Rattle.std.specs.declared.rc.Rc.{Rc}
 use Rattle.std.specs.declared.alloc.Global.{Global}
 use Rattle.std.proofs.lemmas.Bool.{le-leb, leb-true, cases_lt, false≢true}
-use Rattle.std.proofs.lemmas.List.{length-append, append-nil, map-append, length-set, drop_more}
+use Rattle.std.proofs.lemmas.List.{length-append, append-nil, map-append, length-set, drop_more, get_or_default, set-get_or}
 use Rattle.std.proofs.Math.Nat.{mul-pos}
 use Rattle.std.proofs.lemmas.Map.Keys.{any_passes_from_place}
 use Rattle.std.proofs.lemmas.Option.{none-some, same_Some, slice_get-map, slice_get_within, get_or_from_slice_get}
+use Rattle.std.proofs.lemmas.Option.{slice_get-get_or}
 use Rattle.fair_rates.proofs.Lists.Members.{In, get_from_map, contains_from_in}
 use Rattle.fair_rates.proofs.Lists.Sorted.{get_or-seam, set-seam}
 use Rattle.fair_rates.specs.Numbers.Amount.{billion}
@@ -21,11 +22,13 @@ use Rattle.link_simulation.specs.Rule.Planned.{RatedFlight, IsLeastMoment, IsSpe
 use Rattle.link_flights.specs.declared.component.Component.{Component}
 use Rattle.link_flights.specs.declared.flight.Flight.{Flight}
 use Rattle.link_flights.specs.declared.flight_list.Flights.{Flights}
+use Rattle.link_flights.specs.declared.message.Message.{Message}
 use Rattle.link_flights.specs.Flights.Components.{is_of, those_of, is_found, AreFound}
 use Rattle.link_flights.specs.Flights.Flight.{UnitFlight, rate_of, left_by, flight_at, flights_at, has_come, IsTimed}
 use Rattle.link_flights.specs.Flights.Flight.{AreTimed, IsPutAt}
 use Rattle.link_flights.specs.Flights.InFlight.{in_units, in_flight}
-use Rattle.link_flights.specs.Flights.Rated.{rerated, IsRatedFrom, HaveFairRates, AreOthersTimed}
+use Rattle.link_flights.specs.Flights.Rated.{rerated, rated_anew, IsReratedAt, IsRatedFrom, HaveFairRates}
+use Rattle.link_flights.specs.Flights.Rated.{AreOthersTimed}
 use Rattle.link_flights.specs.Flights.RatedFlights.{rated_flight_of, sending_of}
 use Rattle.link_flights.proofs.Flights.Flight.{drained_on, zip_there, all_there, is_past}
 use Rattle.link_flights.proofs.Flights.InFlight.{filter_yes, filter_no}
@@ -79,12 +82,84 @@ module _ {P : Type 0} where
       sym (append_assoc (flights_at now fs) (flight_at now y.value ∷ []) us)
       ∙ ap (λ l. l ++ us) (sym (map-append (λ (f : Rc (Flight P) Global). flight_at now f.value) fs (y ∷ [])))
 
+-- ---- one that is rated anew, or goes on
+
+module _ {P : Type 0} (now times group rate : ℕ) where
+  abbrev as_record : Message P → ℕ → UnitFlight P
+  as_record m n = record { message = m; left = n; rate = rate; updated = now; rated = true; group = group }
+
+  anew_is : (f x : Flight P) → f.message.value ≡ x.message.value → f.left ≡ (flight_at now x).left * times
+      → rate_of f.rate ≡ rate → f.since ≡ now → f.rated ≡ true → f.group ≡ group
+      → flight_at now f ≡ rated_anew now times group rate (flight_at now x)
+  anew_is f x message left at_rate since rated of_group =
+      rw (rated, message, at_rate, since, of_group) (ap (as_record x.message.value) rest)
+    where
+      none : now - now ≡ 0
+      none = omega arith
+
+      nothing : f.left - rate * 0 ≡ f.left
+      nothing = omega arith
+
+      rest : f.left - rate * (now - now) ≡ (flight_at now x).left * times
+      rest = ap (λ n. f.left - rate * n) none ∙ nothing ∙ left
+
+  same_is : (x : Flight P) → x.rated ≡ true → x.group ≡ group → rate_of x.rate ≡ rate → times ≡ 1
+      → flight_at now x ≡ rated_anew now times group rate (flight_at now x)
+  same_is x rated of_group at_rate once =
+      rw (rated, of_group, at_rate, once) (ap (as_record x.message.value) (omega arith))
+
+  module _ (fs : List (Rc (Flight P) Global)) (at : ℕ) (x : Rc (Flight P) Global) (there : at < length fs)
+      (is : x ≡ get_or fs at x) where
+    read : (d : Rc (Flight P) Global) → x ≡ get_or fs at d
+    read d = is ∙ get_or_default fs at x d there
+
+    -- another one is put in its place
+    pub put_anew : (f : Flight P) (new : List (Rc (Flight P) Global)) → IsPutAt at f fs new
+        → f.message.value ≡ x.value.message.value → f.left ≡ (flight_at now x.value).left * times
+        → rate_of f.rate ≡ rate → f.since ≡ now → f.rated ≡ true → f.group ≡ group → IsTimed f
+        → IsReratedAt now at times group rate fs new
+    put_anew f new put message left at_rate since rated of_group timed = record {
+      one = put.one;
+      others = put.others;
+      unit = λ d. ap (flight_at now) put.is ∙ anew_is f x.value message left at_rate since rated of_group
+          ∙ ap (λ (y : Rc (Flight P) Global). rated_anew now times group rate (flight_at now y.value)) (read d);
+      timed = subst IsTimed (sym put.is) timed;
+    }
+
+    -- nothing changes
+    pub goes_on : x.value.rated ≡ true → x.value.group ≡ group → rate_of x.value.rate ≡ rate → times ≡ 1
+        → AreTimed fs → IsReratedAt now at times group rate fs fs
+    goes_on rated of_group at_rate once timed = record {
+      one = x;
+      others = sym (set-get_or fs at x) ∙ ap (set fs at) (sym is);
+      unit = λ d. same_is x.value rated of_group at_rate once
+          ∙ ap (λ (y : Rc (Flight P) Global). rated_anew now times group rate (flight_at now y.value)) (read d);
+      timed = timed at x (slice_get-get_or fs at x there ∙ ap Some (sym is)) rated;
+    }
+
+set_there : {X : Type 0} (xs : List X) (at : ℕ) (y : X) (i : ℕ) (x : X) → slice_get (set xs at y) i ≡ Some x
+    → (x ≡ y) ⊎ (slice_get xs i ≡ Some x)
+set_there [] at y i x there = inr there
+set_there (z ∷ xs) zero y zero x there = inl (sym (same_Some y x there))
+set_there (z ∷ xs) zero y (suc i) x there = inr there
+set_there (z ∷ xs) (suc at) y zero x there = inr there
+set_there (z ∷ xs) (suc at) y (suc i) x there = set_there xs at y i x there
+
+-- where one is rated anew, all are timed that were
+pub timed_set : {P : Type 0} {fs new : List (Rc (Flight P) Global)} {now at times group rate : ℕ}
+    → IsReratedAt now at times group rate fs new → AreTimed fs → AreTimed new
+timed_set {P} {fs = fs} {at = at} put timed i f there rated =
+    elim (set_there fs at put.one i f (sym (ap (λ l. slice_get l i) put.others) ∙ there)) [
+      | inl is ↦ subst (λ (g : Rc (Flight P) Global). IsTimed g.value) (sym is) put.timed
+      | inr before ↦ timed i f before rated
+    ]
+
 module _ {P : Type 0} (cmp : P → P → Ordering) (component : Component P) (now times group : ℕ) where
   abbrev again : List ℕ → List (UnitFlight P) → List (UnitFlight P)
   again rates us = rerated cmp component now times group rates us
 
   abbrev anew : ℕ → UnitFlight P → UnitFlight P
-  anew rate u = record u { left = u.left * times; rate = rate; updated = now; rated = true; group = group }
+  anew rate u = rated_anew now times group rate u
 
   as_they_are : (us : List (UnitFlight P)) → us ≡ again [] us
   as_they_are [] = refl
@@ -100,31 +175,6 @@ module _ {P : Type 0} (cmp : P → P → Ordering) (component : Component P) (no
       → again (rate ∷ rates) (u ∷ us) ≡ anew rate u ∷ again rates us
   given_one rate rates u us of =
       ap (λ b. cond b (anew rate u ∷ again rates us) (u ∷ again (rate ∷ rates) us)) of
-
-  anew_is : (f x : Flight P) (rate : ℕ) → f.message.value ≡ x.message.value → f.left ≡ (flight_at now x).left * times
-      → rate_of f.rate ≡ rate → f.since ≡ now → f.rated ≡ true → f.group ≡ group
-      → flight_at now f ≡ anew rate (flight_at now x)
-  anew_is f x rate message left at_rate since rated of_group =
-      rw (rated, message, at_rate, since, of_group) (ap as_record rest)
-    where
-      as_record : ℕ → UnitFlight P
-      as_record n = record {
-        message = x.message.value;
-        left = n;
-        rate = rate;
-        updated = now;
-        rated = true;
-        group = group;
-      }
-
-      none : now - now ≡ 0
-      none = omega arith
-
-      nothing : f.left - rate * 0 ≡ f.left
-      nothing = omega arith
-
-      rest : f.left - rate * (now - now) ≡ (flight_at now x).left * times
-      rest = ap (λ n. f.left - rate * n) none ∙ nothing ∙ left
 
   module _ (rates : List ℕ) (old : List (Rc (Flight P) Global)) where
     -- up to a place those of the component have got their rates, and from there on nothing has changed
@@ -234,16 +284,15 @@ module _ {P : Type 0} {cmp : P → P → Ordering} {component : Component P} {no
       found = λ v among. found_all v (inr among);
     }
 
-    pub one_rerated : (f : Flight P) (new : List (Rc (Flight P) Global)) → IsPutAt at f so_far new
-        → is_of cmp component u ≡ true → f.message.value ≡ x.value.message.value → f.left ≡ u.left * times
-        → rate_of f.rate ≡ get_or rates next 0 → f.since ≡ now → f.rated ≡ true → f.group ≡ group → IsTimed f
-        → AreReratedUpTo cmp component now times group rates old new (at + 1) (next + 1)
-    one_rerated f new put of message left rate since rated of_group timed =
+    pub one_rerated : (rate : ℕ) (new : List (Rc (Flight P) Global))
+        → IsReratedAt now at times group rate so_far new → x ≡ get_or so_far at x → rate ≡ get_or rates next 0
+        → is_of cmp component u ≡ true → AreReratedUpTo cmp component now times group rates old new (at + 1) (next + 1)
+    one_rerated rate new put here rate_is of =
         let y = put.one in
         let fresh : flight_at now y.value ≡ anew cmp component now times group (get_or rates next 0) u =
-        ap (flight_at now) put.is
-        ∙ anew_is cmp component now times group f x.value (get_or rates next 0) message left rate since rated
-        of_group in
+        put.unit x
+        ∙ ap (λ (z : Rc (Flight P) Global). rated_anew now times group rate (flight_at now z.value)) (sym here)
+        ∙ ap (λ n. rated_anew now times group n u) rate_is in
         record {
           to = h.to ++ y ∷ [];
           rest = s.rest;
@@ -261,7 +310,7 @@ module _ {P : Type 0} {cmp : P → P → Ordering} {component : Component P} {no
               ∙ moved_on now h.to y (rerated cmp component now times group (drop (next + 1) rates) us);
           one_each = omega (arith, count_all, ap length (filter_yes (is_of cmp component) u us of));
           left = λ i v within. left_all (suc i) v (omega arith);
-          timed = more_timed h.to y h.timed (λ is. subst IsTimed (sym put.is) timed);
+          timed = more_timed h.to y h.timed (λ is. put.timed);
           others = λ i g there. others_all (suc i) g there;
           found = λ v among. found_all v (inr among);
         }

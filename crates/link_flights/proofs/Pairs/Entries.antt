@@ -66,6 +66,12 @@ module _ {P : Type 0} (cmp : P → P → Ordering) (total : IsTotalOrder cmp) wh
         i;
   }
 
+  -- where no pair has a cap, none has one after one more has got none
+  pub link_free : (f : P → P → Option ℕ) (o r : P) (cap : Option ℕ) → cap ≡ None → ((a b : P) → f a b ≡ None)
+      → (a b : P) → with_link cmp f o r cap a b ≡ None
+  link_free f o r cap none free a b =
+      by_bool (same_peer cmp o a && same_peer cmp r b) (λ t. rw t none) (λ t. rw t (free a b))
+
   -- the clones of two peers are a pair that is equal to theirs
   pub same_key : (o r p q : P) → same_peer cmp o p ≡ true → same_peer cmp r q ≡ true
       → is_eq (pair_cmp cmp (p, q) (o, r)) ≡ true

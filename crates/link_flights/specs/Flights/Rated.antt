@@ -1,6 +1,6 @@
 -- Messages in flight that have got rates, which are fair for them.
 use Rattle.std.specs.Prelude.{◌≡◌, ℕ, ◌*◌, Bool, true, false, not, List, [], ◌∷◌, cond, map, slice_index, length}
-use Rattle.std.specs.Prelude.{Some, slice_get}
+use Rattle.std.specs.Prelude.{Some, slice_get, slice_set, slice_index_or}
 use Rattle.std.specs.List.{filter, list_all, AllZip}
 use Rattle.std.specs.declared.cmp.Ordering.{Ordering}
 use Rattle.std.specs.declared.rc.Rc.{Rc}
@@ -16,7 +16,7 @@ use Rattle.link_flights.specs.declared.component.Component.{Component}
 use Rattle.link_flights.specs.declared.flight.Flight.{Flight}
 use Rattle.link_flights.specs.declared.flight_list.Flights.{Flights}
 use Rattle.link_flights.specs.Pairs.Messages.{message_of}
-use Rattle.link_flights.specs.Flights.Flight.{UnitFlight, IsTimed, AreTimed}
+use Rattle.link_flights.specs.Flights.Flight.{UnitFlight, flight_at, IsTimed, AreTimed}
 use Rattle.link_flights.specs.Flights.Components.{is_sender, is_of, those_of, AreGrouped}
 use Rattle.link_flights.specs.Flights.InFlight.{in_units}
 use Rattle.link_flights.specs.Flights.RatedFlights.{rated_flight_of}
@@ -91,6 +91,20 @@ pub record AreFairOf {P : Type 0} (cmp : P → P → Ordering) (caps : Caps P) (
   pub one_each : length found.level_of.items ≡ length (those_of cmp component us)
   pub fair : AreFairFor cmp caps found.scale (sent_messages (those_of cmp component us)) (rates_found found)
 
+-- it has a rate from a moment on, and is of a group; what is left of it counts in units of which so many times as many
+-- are needed
+abbrev pub rated_anew : {P : Type 0} → ℕ → ℕ → ℕ → ℕ → UnitFlight P → UnitFlight P
+rated_anew now times group rate u =
+    record u { left = u.left * times; rate = rate; updated = now; rated = true; group = group }
+
+-- the one at a place is rated anew at the moment of the last account, and its finish is right
+pub record IsReratedAt {P : Type 0} (now place times group rate : ℕ) (old new : List (Rc (Flight P) Global)) : Type 0 where
+  pub one : Rc (Flight P) Global
+  pub others : new ≡ slice_set old place one
+  pub unit : (d : Rc (Flight P) Global) → flight_at now one.value
+      ≡ rated_anew now times group rate (flight_at now (slice_index_or old place d).value)
+  pub timed : IsTimed one.value
+
 -- those of a component have these rates from a moment on, and are a group; what is left of them counts in units of
 -- which so many times as many are needed. The others go on as they are
 abbrev pub rerated : {P : Type 0} → (P → P → Ordering) → Component P → ℕ → ℕ → ℕ → List ℕ → List (UnitFlight P)
@@ -98,8 +112,7 @@ abbrev pub rerated : {P : Type 0} → (P → P → Ordering) → Component P →
 rerated cmp component now times group rates [] = []
 rerated cmp component now times group [] (u ∷ us) = u ∷ us
 rerated cmp component now times group (rate ∷ rates) (u ∷ us) = cond (is_of cmp component u)
-    (record u { left = u.left * times; rate = rate; updated = now; rated = true; group = group }
-    ∷ rerated cmp component now times group rates us)
+    (rated_anew now times group rate u ∷ rerated cmp component now times group rates us)
     (u ∷ rerated cmp component now times group (rate ∷ rates) us)
 
 -- it is of the same message, of which as much is left, in units of which so many times as many are needed, from a

@@ -1,5 +1,6 @@
-use Rattle.std.proofs.Common.{◌≡◌}
+use Rattle.std.proofs.Common.{◌≡◌, true}
 use Rattle.fair_rates.specs.Fairness.Exists.{product}
+use Rattle.link_flights.specs.Flights.Flight.{AreTimed}
 use Rattle.link_flights.specs.Flights.Rated.{rates_found}
 use Rattle.link_flights.proofs.Flights.Rerating.{AreReratedUpTo}
 use Rattle.link_flights.proofs.flight_list.Flights.set_rates.Given as goal
@@ -10,3 +11,4 @@ invariant-loop-at g l =
     (rates_found l.fn.rates)
     l.initial.self.list.items l.self.list.items l.at l.next
     × (l.self.at ≡ l.initial.self.at)
+    × (l.fn.were_timed ≡ true → AreTimed l.self.list.items)

@@ -9,6 +9,7 @@ use Rattle.link_simulation.specs.Simulation.Messages.{with_link}
 use Rattle.link_flights.specs.Pairs.Entries.{pair_cmp, key_of, link_of, arrival_of}
 use Rattle.link_flights.proofs.Pairs.PairOrder.{pair_total}
 use Rattle.link_flights.proofs.Pairs.Entries.{pair_found, link_again, link_raised, links_alike, arrivals_alike}
+use Rattle.link_flights.proofs.Pairs.Entries.{link_free}
 use Rattle.link_flights.proofs.Pairs.Late.{keys_set}
 use Rattle.link_flights.proofs.Pairs.Searching.{find_place, find_gap, found_says, absent_says}
 use Rattle.link_flights.proofs.known_pairs.Pairs.raise.Goals as goal
@@ -79,6 +80,27 @@ invariant_of-self g c = record {
       c.in-Ok.pair.now c.args.self.now.ascending c.in-Ok.ensures.found c.in-Ok.ensures.pair
       (ap (λ key. (key.origin, key.recipient)) c.in_ok-clone.ensures.cases)).ascending
       c.args.self.now.ascending);
+  unlinked = λ free a b. rw c.replace.ensures.items (either (λ es. link_of g.P.Ord.cmp es a b ≡ None) _
+      (ap (λ links. links a b) (pair_found g.P.Ord.cmp g.met.P.Ord.total c.args.self.now.entries c.args.origin.now
+      c.args.recipient.now c.in-Ok.at
+      (record {
+        key = c.in_ok-clone.field-0;
+        cap = c.in-Ok.pair.now.cap;
+        last_arrival = Some c.later_of-arrival.result;
+      })
+      c.in-Ok.pair.now c.args.self.now.ascending c.in-Ok.ensures.found c.in-Ok.ensures.pair
+      (ap (λ key. (key.origin, key.recipient)) c.in_ok-clone.ensures.cases)).link_is
+      ∙ link_free g.P.Ord.cmp g.met.P.Ord.total (link_of g.P.Ord.cmp c.args.self.now.entries) c.args.origin.now
+      c.args.recipient.now c.in-Ok.pair.now.cap
+      (found_says (pair_cmp g.P.Ord.cmp) (pair_total g.P.Ord.cmp g.met.P.Ord.total) key_of
+      (c.args.origin.now, c.args.recipient.now) (λ pair. pair.cap) None c.args.self.now.entries c.in-Ok.pair.now
+      (sym
+      (find_place (pair_cmp g.P.Ord.cmp) (pair_total g.P.Ord.cmp g.met.P.Ord.total) key_of
+      (c.args.origin.now, c.args.recipient.now) c.args.self.now.entries c.in-Ok.at c.in-Ok.ensures.found
+      ∙ c.in-Ok.ensures.pair))
+      ∙ c.args.self.now.unlinked free c.args.origin.now c.args.recipient.now)
+      (c.args.self.now.unlinked free) a b)
+      (c.args.self.now.unlinked free a b));
 }
 
 pub returns-clause-arrival : goal.returns-clause-arrival

@@ -1,9 +1,9 @@
-use Rattle.std.proofs.Common.{◌≡◌, true, map, ap, ◌∙◌}
+use Rattle.std.proofs.Common.{◌≡◌, true, None, map, ap, ◌∙◌}
 use Rattle.std.specs.Ordering.{is_eq}
 use Rattle.fair_rates.specs.Lists.Sorted.{are_ascending}
-use Rattle.link_flights.specs.Pairs.Entries.{pair_cmp, key_of}
+use Rattle.link_flights.specs.Pairs.Entries.{pair_cmp, key_of, link_of}
 use Rattle.fair_rates.proofs.Lists.Sorted.{either}
-use Rattle.link_flights.proofs.Pairs.Entries.{pair_found, pair_added, same_key}
+use Rattle.link_flights.proofs.Pairs.Entries.{pair_found, pair_added, same_key, link_free}
 use Rattle.link_flights.proofs.Pairs.Late.{keys_set}
 use Rattle.link_flights.proofs.known_pairs.Pairs.set.Goals as goal
 
@@ -15,6 +15,14 @@ invariant_of-self g c = record {
       c.in-Ok.pair.now c.args.self.now.ascending c.in-Ok.ensures.found c.in-Ok.ensures.pair
       (ap (λ key. (key.origin, key.recipient)) c.in_ok-clone-in-Ok.ensures.cases)).ascending
       c.args.self.now.ascending);
+  unlinked = λ free a b. rw c.replace.ensures.items (either (λ es. link_of g.P.Ord.cmp es a b ≡ None) _
+      (ap (λ links. links a b) (pair_found g.P.Ord.cmp g.met.P.Ord.total c.args.self.now.entries c.args.origin.now c.args.recipient.now
+      c.in-Ok.at (record { key = c.in_ok-clone-in-Ok.field-0; cap = c.args.cap; last_arrival = c.args.last_arrival })
+      c.in-Ok.pair.now c.args.self.now.ascending c.in-Ok.ensures.found c.in-Ok.ensures.pair
+      (ap (λ key. (key.origin, key.recipient)) c.in_ok-clone-in-Ok.ensures.cases)).link_is
+      ∙ link_free g.P.Ord.cmp g.met.P.Ord.total (link_of g.P.Ord.cmp c.args.self.now.entries) c.args.origin.now
+      c.args.recipient.now c.args.cap (c.requires.linked free) (c.args.self.now.unlinked free) a b)
+      (c.args.self.now.unlinked free a b));
 }
 
 pub invariant_of-self-in-Err : goal.invariant_of-self-in-Err
@@ -34,6 +42,14 @@ invariant_of-self-in-Err g c =
           c.in-Err.at (record { key = c.in_ok-key-in-Err.key; cap = c.args.cap; last_arrival = c.args.last_arrival })
           c.args.self.now.ascending c.in-Err.ensures.absent same).ascending
           c.args.self.now.ascending);
+      unlinked =
+          λ free a b. rw c.insert.ensures.items (either (λ es. link_of g.P.Ord.cmp es a b ≡ None) _
+          (ap (λ links. links a b) (pair_added g.P.Ord.cmp g.met.P.Ord.total c.args.self.now.entries c.args.origin.now c.args.recipient.now
+          c.in-Err.at (record { key = c.in_ok-key-in-Err.key; cap = c.args.cap; last_arrival = c.args.last_arrival })
+          c.args.self.now.ascending c.in-Err.ensures.absent same).link_is
+          ∙ link_free g.P.Ord.cmp g.met.P.Ord.total (link_of g.P.Ord.cmp c.args.self.now.entries) c.args.origin.now
+          c.args.recipient.now c.args.cap (c.requires.linked free) (c.args.self.now.unlinked free) a b)
+          (c.args.self.now.unlinked free a b));
     }
 
 pub returns-in_ok-replace-in-Ok-clause-link : goal.returns-in_ok-replace-in-Ok-clause-link
