@@ -1,6 +1,8 @@
 //! A list of calls on a new scheduler, and what each is answered.
 ghost use Rattle.std.specs.Prelude.{◌≡◌, ◌≢◌, true, length, map, [], ◌∷◌, IfOk, IfErr, OnErr};
+ghost use Rattle.std.specs.List.{AllZip};
 ghost use Rattle.fair_rates.specs.Sides.Subjects.{same_peer};
+ghost use Rattle.link_simulation.specs.Simulation.Messages.{SameMessage};
 ghost use Rattle.link_simulation.specs.Simulation.World.{new_world};
 ghost use Rattle.link_simulation.specs.Simulation.Calls.{call_next};
 ghost use Rattle.link_simulation.specs.Laws.Isolation.{InTime};
@@ -8,13 +10,13 @@ ghost use Rattle.link_simulation.specs.Rule.Planned.{new_planned};
 ghost use Rattle.link_simulation.specs.Rule.Refusals.{Obeyed};
 ghost use Rattle.link_simulation.specs.Simulation.Replies.{Agrees};
 ghost use Rattle.link_simulation.specs.Rule.SamePlanned.{IsSameCall};
-ghost use Rattle.link_scheduler.specs.Calls.State.{planned_of};
+ghost use Rattle.link_scheduler.specs.Calls.State.{outgoing, planned_of};
 ghost use Rattle.link_simulation.specs.Laws.Conserved.{AreConserved};
 ghost use Rattle.link_simulation.specs.Laws.Replies.{AlwaysSoFar, RefusesForMemoryAlone, CompletePairsInOrder};
 ghost use Rattle.link_simulation.specs.Laws.Replies.{IsolateSets};
 ghost use Rattle.link_scheduler.specs.Calls.Replay.{call_of, reply_of, IsAnswered, MayRefuseCall, IsReplyTo};
 
-use crate::transmitter::{Completion, State};
+use crate::transmitter::{Completion, Outgoing, State};
 use bytes::Bytes;
 use fair_rates::error::Error;
 use fair_rates::peer::Peer;
@@ -22,8 +24,7 @@ use std::alloc::Global;
 
 /// A call of a scheduler, with its arguments: see the functions of `State`.
 ///
-/// `M` is what it has of a message: the bytes, where nothing else is said. A line of a script says
-/// how long the message is, and is a `Call<u64, usize>`.
+/// `M` is what it has of a message: the bytes, where nothing else is said.
 #[derive(Debug, Drop)]
 pub enum Call<P, M = Bytes> {
     /// `State::limit`.
@@ -49,6 +50,11 @@ pub enum Call<P, M = Bytes> {
         message: M,
         latency: u64,
         should_deliver: bool,
+    },
+    /// `State::enqueue_all`: the messages are sent at one moment, as a whole or not at all.
+    EnqueueAll {
+        now: u64,
+        messages: Vec<Outgoing<P, M>>,
     },
     /// `State::advance`.
     Advance {
@@ -93,7 +99,7 @@ pub fn replay<P: Peer>(alloc: Global, calls: &[Call<P>]) -> Result<Vec<Reply<P>>
     let mut replies = Vec::with_capacity(alloc, calls.len())?;
     let mut state = State::new(alloc);
     for call in calls {
-        replies.push(call.answer(&mut state)).unwrap();
+        replies.push(call.answer(alloc, &mut state)).unwrap();
     }
     Ok(replies)
 }
@@ -147,6 +153,7 @@ impl<P: Peer> Call<P> {
                 latency,
                 should_deliver,
             )?,
+            Call::EnqueueAll { now, messages } => state.enqueue_all(now, messages)?,
             Call::Advance { now } => state.advance(now)?,
             Call::Next => return Ok(Reply::Next(state.next())),
         };
@@ -154,12 +161,12 @@ impl<P: Peer> Call<P> {
     }
 
     /// Makes the call, unless it is refused.
-    fn answer(&self, state: &mut State<P>) -> Reply<P>
+    fn answer(&self, alloc: Global, state: &mut State<P>) -> Reply<P>
         ensures in_time { InTime (call_of self.now ∷ []) }
         ensures reply { IsReplyTo P.cmp (planned_of state.old) (call_of self.now) (reply_of result)
             (planned_of state.new) }
     {
-        match self.copy() {
+        match self.copy(alloc) {
             Err(error) => Reply::Refused(error),
             Ok(call) => match call.make(state) {
                 Err(error) => Reply::Refused(error),
@@ -169,7 +176,7 @@ impl<P: Peer> Call<P> {
     }
 
     /// The same call, its peers cloned. It shares the bytes.
-    fn copy(&self) -> Result<Call<P>, Error>
+    fn copy(&self, alloc: Global) -> Result<Call<P>, Error>
         ensures in_time { InTime (call_of self.now ∷ []) }
         ensures same { IfOk result (λ copy. IsSameCall P.cmp (call_of self.now) (call_of copy)) }
         ensures refused { IfErr result (λ e. (e ≡ Error.OutOfMemory) × (call_of self.now ≢ call_next)) }
@@ -214,10 +221,44 @@ impl<P: Peer> Call<P> {
                 latency: *latency,
                 should_deliver: *should_deliver,
             },
+            Call::EnqueueAll { now, messages } => Call::EnqueueAll {
+                now: *now,
+                messages: copies_of(alloc, messages)?,
+            },
             Call::Advance { now } => Call::Advance { now: *now },
             Call::Next => Call::Next,
         })
     }
+}
+
+impl<P: Peer> Outgoing<P> {
+    /// The same message, its peers cloned. It shares the bytes.
+    fn copy(&self) -> Result<Outgoing<P>, Error>
+        ensures same { IfOk result (λ copy. SameMessage P.cmp (outgoing self.now) (outgoing copy)) }
+        ensures refused { IfErr result (λ e. e ≡ Error.OutOfMemory) }
+    {
+        Ok(Outgoing {
+            origin: copy_of(&self.origin)?,
+            recipient: copy_of(&self.recipient)?,
+            channel: self.channel,
+            message: share(&self.message)?,
+            latency: self.latency,
+            should_deliver: self.should_deliver,
+        })
+    }
+}
+
+/// The same messages, in their order.
+fn copies_of<P: Peer>(alloc: Global, messages: &[Outgoing<P>]) -> Result<Vec<Outgoing<P>>, Error>
+    ensures same { IfOk result (λ copies. AllZip (SameMessage P.cmp) (map outgoing messages.now)
+        (map outgoing copies.items)) }
+    ensures refused { IfErr result (λ e. e ≡ Error.OutOfMemory) }
+{
+    let mut copies = Vec::with_capacity(alloc, messages.len())?;
+    for one in messages {
+        copies.push(one.copy()?)?;
+    }
+    Ok(copies)
 }
 
 /// An equal peer.

@@ -1,7 +1,7 @@
 -- Words that are taken column by column.
 use Rattle.std.proofs.Common.{◌≡◌, ℕ, ◌^◌, ◌<◌, ◌≤◌, Bool, true, false, ◌&&◌, eqb, List, [], ◌∷◌, ◌++◌, Option, None}
 use Rattle.std.proofs.Common.{Some, codes, refl, sym, ap, ap₂, ◌∙◌, subst, arith, eq-eqb}
-use Rattle.link_scheduler.specs.declared.replay.Call.TheVariants as calls
+use Rattle.link_scripts.specs.declared.linkrun.command.ScriptCall.TheVariants as calls
 use Rattle.link_scripts.specs.declared.linkrun.command.Command.{Command}
 use Rattle.link_scripts.specs.declared.linkrun.command.Command.TheVariants as commands
 use Rattle.link_scripts.specs.Script.{Takes, number_word, cap_word, flag_word, command_words, IsNumberInRange}

@@ -8,7 +8,7 @@ use Rattle.link_scheduler.specs.Calls.State.{Refuses}
 use Rattle.link_scheduler.specs.Calls.Replay.{MayRefuseCall}
 use Rattle.link_simulation.specs.Rule.Planned.{Planned}
 use Rattle.link_simulation.specs.Simulation.Calls.{Call, call_limit, call_limit_link, call_enqueue, call_advance}
-use Rattle.link_simulation.specs.Simulation.Calls.{call_next}
+use Rattle.link_simulation.specs.Simulation.Calls.{call_enqueue_all, call_next}
 
 refuses_for_memory : (cmp : ℕ → ℕ → Ordering) (p : Planned ℕ) (call : Call ℕ) (why : Error) → why ≡ OutOfMemory
     → Refuses cmp p call why
@@ -23,4 +23,5 @@ may_refuse_for_memory s call_next why h = absurd (h.1 refl)
 may_refuse_for_memory s (call_limit now peer egress ingress) why h = refuses_for_memory _ _ _ why h.0
 may_refuse_for_memory s (call_limit_link now origin recipient cap) why h = refuses_for_memory _ _ _ why h.0
 may_refuse_for_memory s (call_enqueue now m) why h = refuses_for_memory _ _ _ why h.0
+may_refuse_for_memory s (call_enqueue_all now ms) why h = refuses_for_memory _ _ _ why h.0
 may_refuse_for_memory s (call_advance now) why h = refuses_for_memory _ _ _ why h.0

@@ -3,8 +3,8 @@ use Rattle.std.specs.Prelude.{◌≡◌, ℕ, ◌^◌, ◌<◌, ◌≤◌, Bool,
 use Rattle.std.specs.Prelude.{Some, None, IfSome, codes, decimal}
 use Rattle.std.specs.List.{join_with_byte}
 use Rattle.fair_rates.specs.declared.bandwidth.Flow.{Flow}
-use Rattle.link_scheduler.specs.declared.replay.Call.{Call}
-use Rattle.link_scheduler.specs.declared.replay.Call.TheVariants as calls
+use Rattle.link_scripts.specs.declared.linkrun.command.ScriptCall.{ScriptCall}
+use Rattle.link_scripts.specs.declared.linkrun.command.ScriptCall.TheVariants as calls
 use Rattle.link_scripts.specs.declared.linkrun.command.Command.{Command}
 use Rattle.link_scripts.specs.declared.linkrun.command.Command.TheVariants as commands
 
@@ -27,7 +27,7 @@ abbrev pub flow_words : Flow ℕ → List (List ℕ)
 flow_words f = number_word f.id ∷ number_word f.origin ∷ number_word f.recipient ∷ flag_word f.delivered ∷ []
 
 -- the words of a call of the scheduler; its moment comes first, and a message is said by its length
-abbrev pub call_words : Call ℕ ℕ → List (List ℕ)
+abbrev pub call_words : ScriptCall → List (List ℕ)
 call_words (calls.Limit now peer egress ingress) =
     codes "limit" ∷ number_word now ∷ number_word peer ∷ cap_word egress ∷ cap_word ingress ∷ []
 call_words (calls.LimitLink now origin recipient cap) =
@@ -75,7 +75,7 @@ abbrev pub IsFlowInRange : Flow ℕ → Type 0
 IsFlowInRange f = IsNumberInRange f.id × IsNumberInRange f.origin × IsNumberInRange f.recipient
 
 -- each number of a call
-abbrev pub IsCallOfScriptInRange : Call ℕ ℕ → Type 0
+abbrev pub IsCallOfScriptInRange : ScriptCall → Type 0
 IsCallOfScriptInRange (calls.Limit now peer egress ingress) =
     IsNumberInRange now × IsNumberInRange peer × IsSmallCapInRange egress × IsSmallCapInRange ingress
 IsCallOfScriptInRange (calls.LimitLink now origin recipient cap) =

@@ -3,7 +3,7 @@ use Rattle.std.specs.Prelude.{◌≡◌, ◌⊎◌, ⊤, ℕ, ◌≤◌, List, [
 use Rattle.std.specs.Prelude.{Option, None, Some, Result, Ok, Err}
 use Rattle.std.specs.Ordering.{nat_cmp}
 use Rattle.link_scripts.specs.declared.linkcheck.asked.Asked.{Asked}
-use Rattle.link_scheduler.specs.declared.replay.Call.{Call}
+use Rattle.link_scripts.specs.declared.linkrun.command.ScriptCall.{ScriptCall}
 use Rattle.link_scripts.specs.declared.linkrun.command.Command.TheVariants as commands
 use Rattle.link_scripts.specs.Answer.{reply_text}
 use Rattle.link_scripts.specs.Schedule.{world_call}
@@ -18,22 +18,22 @@ use Rattle.link_simulation.specs.Rule.Refusals.{Obeyed}
 use Rattle.link_simulation.specs.Simulation.Replies.{Reply, Agrees}
 
 -- the call of a line
-abbrev pub call_in : Asked → Call ℕ ℕ
+abbrev pub call_in : Asked → ScriptCall
 call_in asked = asked.call
 
 -- the line of a call, with its end byte
-abbrev pub call_line : Call ℕ ℕ → List ℕ
+abbrev pub call_line : ScriptCall → List ℕ
 call_line call = line_of (commands.Schedule call) ++ 10 ∷ []
 
 -- the line of each call, and after it the lines of its reply
-abbrev pub transcript_of : List (Call ℕ ℕ) → List (Reply ℕ) → List ℕ
+abbrev pub transcript_of : List ScriptCall → List (Reply ℕ) → List ℕ
 transcript_of [] replies = []
 transcript_of (call ∷ calls) [] = []
 transcript_of (call ∷ calls) (reply ∷ replies) = call_line call ++ (reply_text reply ++ transcript_of calls replies)
 
 -- the trace is the transcript of calls and of the replies that the simulation gives to them
 pub record IsTranscript (trace : List ℕ) : Type 0 where
-  pub calls : List (Call ℕ ℕ)
+  pub calls : List ScriptCall
   pub replies : List (Reply ℕ)
   pub written : trace ≡ transcript_of calls replies
   pub agrees : Agrees nat_cmp (new_world 0) (map world_call calls) replies

@@ -1,6 +1,5 @@
 -- The event rule: the planned world, its steps, and how it stands for the simulation.
 pub mod Events
-pub mod OneByOne
 pub mod Planned
 pub mod Range
 pub mod Refusals

@@ -4,6 +4,7 @@ mod clones;
 mod ends;
 mod idle;
 mod kept;
+mod lists;
 mod long;
 mod numbers;
 mod orders;
@@ -17,7 +18,7 @@ use bytes::Bytes;
 use fair_rates::error::Error;
 use fair_rates::peer::Peer;
 use link_scheduler::replay::{Call, Reply, replay};
-use link_scheduler::transmitter::{Completion, State};
+use link_scheduler::transmitter::{Completion, Outgoing, State};
 use numbered_peers::Numbered;
 use std::alloc::{AllocError, Global};
 use std::process::Abort;
@@ -165,6 +166,53 @@ impl<P: Numbered> Calls<P> {
         };
         self.is_short |= self.sent.push(parcel).is_err();
         self.add(call);
+    }
+
+    /// Sends messages at one moment, as a list. Of each it says what completes as it is sent.
+    fn send_all(&mut self, now: u64, parcels: &[(Parcel, &[Arrival])]) {
+        let mut messages = Vec::new(self.alloc);
+        let mut arrivals = Vec::new(self.alloc);
+        for (parcel, done) in parcels {
+            self.list(&mut messages, *parcel);
+            self.is_short |= arrivals.extend_from_slice(*done).is_err();
+        }
+        self.add(Call::EnqueueAll { now, messages });
+        self.want(Wanted::Done(arrivals));
+    }
+
+    /// The message joins a list that is to be sent.
+    fn list(&mut self, messages: &mut Vec<Outgoing<P>>, parcel: Parcel) {
+        let place = self.sent.len();
+        let Ok(message) = contents(self.alloc, place, parcel.length) else {
+            self.is_short = true;
+            return;
+        };
+        let one = Outgoing {
+            origin: self.peer(parcel.origin),
+            recipient: self.peer(parcel.recipient),
+            channel: place as u64,
+            message,
+            latency: parcel.latency,
+            should_deliver: !parcel.dropped,
+        };
+        self.is_short |= self.sent.push(parcel).is_err() || messages.push(one).is_err();
+    }
+
+    /// Sends the same messages, one call for each.
+    fn send_each(&mut self, now: u64, parcels: &[(Parcel, &[Arrival])]) {
+        for (parcel, done) in parcels {
+            self.send(parcel.at(now));
+            self.done(done);
+        }
+    }
+
+    /// Sends them so or so.
+    fn send_list(&mut self, now: u64, parcels: &[(Parcel, &[Arrival])], as_list: bool) {
+        if as_list {
+            self.send_all(now, parcels);
+        } else {
+            self.send_each(now, parcels);
+        }
     }
 
     fn limit(&mut self, now: u64, peer: u8, egress: Option<usize>, ingress: Option<usize>) {

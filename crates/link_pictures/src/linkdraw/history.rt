@@ -6,9 +6,9 @@ use super::frame::Frame;
 use super::track::{Sent, Track};
 use fair_rates::error::Error;
 use fair_rates::ratio::Ratio;
-use link_scheduler::replay::{Call, Reply};
+use link_scheduler::replay::Reply;
 use link_scheduler::transmitter::{Completion, InFlight, State};
-use link_scripts::linkrun::command::Command;
+use link_scripts::linkrun::command::{Command, ScriptCall};
 use link_scripts::linkrun::zeros::Zeros;
 use std::alloc::Global;
 use std::collections::BTreeMap;
@@ -87,19 +87,21 @@ impl History {
     }
 
     /// Makes a call of the scheduler.
-    fn make(&mut self, call: Call<u64, usize>) -> Result<(), Error> {
+    fn make(&mut self, call: ScriptCall) -> Result<(), Error> {
         match &call {
-            Call::Limit { now, .. } | Call::LimitLink { now, .. } | Call::Enqueue { now, .. } => {
+            ScriptCall::Limit { now, .. }
+            | ScriptCall::LimitLink { now, .. }
+            | ScriptCall::Enqueue { now, .. } => {
                 self.change(*now, &call)?;
             }
-            Call::Advance { now } => self.advance(*now)?,
-            Call::Next => {}
+            ScriptCall::Advance { now } => self.advance(*now)?,
+            ScriptCall::Next => {}
         }
         self.look()
     }
 
     /// Makes a call that sets caps or sends a message, once time has gone on to its moment.
-    fn change(&mut self, now: u64, call: &Call<u64, usize>) -> Result<(), Error> {
+    fn change(&mut self, now: u64, call: &ScriptCall) -> Result<(), Error> {
         self.pass(now)?;
         match self.zeros.fill(self.alloc, call)?.make(&mut self.scheduler) {
             Ok(reply) => {
@@ -114,9 +116,9 @@ impl History {
     }
 
     /// Notes the caps that a call set, or the message that it sent.
-    fn note(&mut self, call: &Call<u64, usize>) -> Result<(), Error> {
+    fn note(&mut self, call: &ScriptCall) -> Result<(), Error> {
         match call {
-            Call::Limit {
+            ScriptCall::Limit {
                 peer,
                 egress,
                 ingress,
@@ -125,23 +127,23 @@ impl History {
                 self.set_cap(Side::Egress(*peer), *egress)?;
                 self.set_cap(Side::Ingress(*peer), *ingress)
             }
-            Call::LimitLink {
+            ScriptCall::LimitLink {
                 origin,
                 recipient,
                 cap,
                 ..
             } => self.set_cap(Side::Link(*origin, *recipient), *cap),
-            Call::Enqueue {
+            ScriptCall::Enqueue {
                 origin,
                 recipient,
                 channel,
-                message,
+                length,
                 should_deliver,
                 ..
             } => {
                 let sent = Sent {
                     channel: *channel,
-                    length: *message,
+                    length: *length,
                     should_deliver: *should_deliver,
                     enqueued: self.now,
                     start: None,
@@ -150,7 +152,7 @@ impl History {
                 };
                 self.send(*origin, *recipient, sent)
             }
-            Call::Advance { .. } | Call::Next => Ok(()),
+            ScriptCall::Advance { .. } | ScriptCall::Next => Ok(()),
         }
     }
 

@@ -19,7 +19,7 @@ use Rattle.link_simulation.specs.Simulation.World.{Completed, Course, goes, meet
 use Rattle.link_simulation.specs.Simulation.Calls.{Call, call_enqueue}
 use Rattle.link_simulation.specs.Rule.Planned.{Planned, IsPlanned}
 use Rattle.link_simulation.specs.Rule.Events.{Enqueues}
-use Rattle.link_simulation.specs.Rule.OneByOne.{EnqueuesEach, all_enqueued, one_stops, enqueues_one}
+use Rattle.link_simulation.specs.Rule.Events.{EnqueuesEach, all_enqueued, one_stops, enqueues_one}
 use Rattle.link_simulation.specs.Rule.SamePlanned.{IsSamePlanned, GoesByRule}
 use Rattle.link_simulation.specs.Laws.Orderly.{IsOrderly}
 use Rattle.link_scheduler.specs.Calls.State.{MakesEach, RefusesOne}

@@ -6,7 +6,8 @@ use Rattle.std.specs.declared.cmp.Ordering.{Ordering}
 use Rattle.std.specs.Cmp.{IsTotalOrder}
 use Rattle.fair_rates.specs.declared.error.Error.{Error}
 use Rattle.link_simulation.specs.Simulation.Calls.{Call, call_limit, call_limit_link, call_enqueue, call_advance}
-use Rattle.link_simulation.specs.Simulation.Calls.{call_next}
+use Rattle.link_simulation.specs.Simulation.Calls.{call_enqueue_all, call_next}
+use Rattle.link_simulation.specs.Simulation.Messages.{SameMessage}
 use Rattle.link_simulation.specs.Laws.Isolation.{InTime}
 use Rattle.link_simulation.specs.Simulation.Replies.{Reply, reply_done, reply_next, reply_refused}
 use Rattle.link_simulation.specs.Rule.Planned.{Planned}
@@ -19,8 +20,8 @@ use Rattle.link_scheduler.specs.declared.transmitter.State.{State}
 use Rattle.link_scheduler.specs.Calls.State.{planned_of}
 use Rattle.link_scheduler.specs.Calls.Replay.{reply_of, IsAnswered, MayRefuseCall, IsReplyTo}
 use Rattle.link_simulation.specs.Rule.SamePlanned.{IsSamePlanned, GoesByRule, IsSameCall, same_limit, same_limit_link}
-use Rattle.link_simulation.specs.Rule.SamePlanned.{same_enqueue, same_advance, same_next}
-use Rattle.link_simulation.proofs.Rule.SamePlanned.{same_turned, same_chain, peer_turned, message_turned}
+use Rattle.link_simulation.specs.Rule.SamePlanned.{same_enqueue, same_enqueue_all, same_advance, same_next}
+use Rattle.link_simulation.proofs.Rule.SamePlanned.{same_turned, same_chain, peer_turned, message_turned, zip_turned}
 use Rattle.link_simulation.proofs.Rule.SameSteps.{course_went}
 use Rattle.link_simulation.proofs.Rule.SameCourses.{obeys_same}
 use Rattle.link_simulation.proofs.Rule.Agreeing.{all_trans}
@@ -64,9 +65,20 @@ module _ {P : Type 0} (cmp : P → P → Ordering) (order : IsTotalOrder cmp) wh
     obeyed_same cmp order q h.after calls replies
         (same_turned cmp order h.after q h.same_after) rest,
   )
+  one_more p q (call_enqueue_all now ms) (reply_done cs) calls replies h rest = (
+    h.answers,
+    h.after,
+    h.obeys,
+    h.same_answers,
+    obeyed_same cmp order q h.after calls replies
+        (same_turned cmp order h.after q h.same_after) rest,
+  )
   one_more p q (call_enqueue now m) (reply_refused e) calls replies h rest =
       (h.0, subst (λ (r : Planned P). Obeyed cmp r calls replies) h.1 rest)
+  one_more p q (call_enqueue_all now ms) (reply_refused e) calls replies h rest =
+      (h.0, subst (λ (r : Planned P). Obeyed cmp r calls replies) h.1 rest)
   one_more p q (call_enqueue now m) (reply_next t) calls replies h rest = absurd h
+  one_more p q (call_enqueue_all now ms) (reply_next t) calls replies h rest = absurd h
   one_more p q (call_advance now) (reply_done cs) calls replies h rest = (
     h.answers,
     h.after,
@@ -86,6 +98,8 @@ module _ {P : Type 0} (cmp : P → P → Ordering) (order : IsTotalOrder cmp) wh
   call_turned (same_limit_link {origin = p} {recipient = r} {o = q} {r = s} first second) =
       same_limit_link (peer_turned cmp order p q first) (peer_turned cmp order r s second)
   call_turned (same_enqueue {m = m} {n = n} same) = same_enqueue (message_turned cmp order m n same)
+  call_turned (same_enqueue_all {ms = ms} {ns = ns} same) =
+      same_enqueue_all (zip_turned (SameMessage cmp) (SameMessage cmp) (message_turned cmp order) ms ns same)
   call_turned same_advance = same_advance
   call_turned same_next = same_next
 
@@ -123,6 +137,11 @@ module _ {P : Type 0} (cmp : P → P → Ordering) (order : IsTotalOrder cmp) wh
   reply_same p q (reply_refused why) itself (same_enqueue same) h =
       refused_same_call p q _ _ why itself (same_enqueue same) h
   reply_same p q (reply_next t) itself (same_enqueue same) h = h
+  reply_same p q (reply_done cs) itself (same_enqueue_all same) h =
+      goes_same p q _ _ cs itself (same_enqueue_all same) h
+  reply_same p q (reply_refused why) itself (same_enqueue_all same) h =
+      refused_same_call p q _ _ why itself (same_enqueue_all same) h
+  reply_same p q (reply_next t) itself (same_enqueue_all same) h = h
   reply_same p q reply itself same_advance h = h
   reply_same p q reply itself same_next h = h
 
@@ -223,9 +242,14 @@ module _ {P : Type 0} (cmp : P → P → Ordering) (order : IsTotalOrder cmp) wh
       ap suc (one_for_each p calls replies h.1)
   one_for_each p (call_limit_link now origin recipient cap ∷ calls) (reply_next t ∷ replies) h = absurd h
   one_for_each p (call_enqueue now m ∷ calls) (reply_done cs ∷ replies) h = ap suc (one_for_each h.1 calls replies h.4)
+  one_for_each p (call_enqueue_all now ms ∷ calls) (reply_done cs ∷ replies) h =
+      ap suc (one_for_each h.1 calls replies h.4)
   one_for_each p (call_enqueue now m ∷ calls) (reply_refused why ∷ replies) h =
       ap suc (one_for_each p calls replies h.1)
+  one_for_each p (call_enqueue_all now ms ∷ calls) (reply_refused why ∷ replies) h =
+      ap suc (one_for_each p calls replies h.1)
   one_for_each p (call_enqueue now m ∷ calls) (reply_next t ∷ replies) h = absurd h
+  one_for_each p (call_enqueue_all now ms ∷ calls) (reply_next t ∷ replies) h = absurd h
   one_for_each p (call_advance now ∷ calls) (reply_done cs ∷ replies) h = ap suc (one_for_each h.1 calls replies h.4)
   one_for_each p (call_advance now ∷ calls) (reply_refused why ∷ replies) h = ap suc (one_for_each p calls replies h.1)
   one_for_each p (call_advance now ∷ calls) (reply_next t ∷ replies) h = absurd h
@@ -244,8 +268,11 @@ module _ {P : Type 0} {order : Ghosts P} {b : _} {c : _} (old new : State P orde
   answered_by_rule (call_limit_link now origin recipient cap) (replies.Next moment) h = h
   answered_by_rule (call_limit_link now origin recipient cap) (replies.Refused why) h = absurd h
   answered_by_rule (call_enqueue now m) (replies.Done completions) h = h.by_rule
+  answered_by_rule (call_enqueue_all now ms) (replies.Done completions) h = h.by_rule
   answered_by_rule (call_enqueue now m) (replies.Next moment) h = h
+  answered_by_rule (call_enqueue_all now ms) (replies.Next moment) h = h
   answered_by_rule (call_enqueue now m) (replies.Refused why) h = absurd h
+  answered_by_rule (call_enqueue_all now ms) (replies.Refused why) h = absurd h
   answered_by_rule (call_advance now) (replies.Done completions) h = h.by_rule
   answered_by_rule (call_advance now) (replies.Next moment) h = h
   answered_by_rule (call_advance now) (replies.Refused why) h = absurd h
@@ -256,4 +283,5 @@ module _ {P : Type 0} {order : Ghosts P} {b : _} {c : _} (old new : State P orde
   refused_by_rule (call_limit now peer egress ingress) why h same = (h.by_rule, same)
   refused_by_rule (call_limit_link now origin recipient cap) why h same = (h.by_rule, same)
   refused_by_rule (call_enqueue now m) why h same = (h.by_rule, same)
+  refused_by_rule (call_enqueue_all now ms) why h same = (h.by_rule, same)
   refused_by_rule (call_advance now) why h same = (h.by_rule, same)

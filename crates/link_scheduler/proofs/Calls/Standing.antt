@@ -25,7 +25,7 @@ use Rattle.link_scheduler.specs.Calls.Standing.{standing_after}
 use Rattle.link_flights.specs.Flights.Flight.{UnitFlight}
 use Rattle.link_flights.specs.Flights.RatedFlights.{sending_of}
 use Rattle.link_flights.specs.Idle.AtRest.{is_sending}
-use Rattle.link_simulation.specs.Rule.OneByOne.{EnqueuesEach}
+use Rattle.link_simulation.specs.Rule.Events.{EnqueuesEach}
 use Rattle.link_simulation.specs.Simulation.RefusalCauses.{IsRefusedFor}
 use Rattle.fair_rates.specs.declared.error.Error.{Error}
 use Rattle.link_scheduler.proofs.Calls.OneByOne.{EnqueuesSo, enqueues_start, enqueues_step, enqueues_end}

@@ -8,10 +8,10 @@ use Rattle.link_scheduler.specs.declared.replay.Reply as reply_code
 use Rattle.link_scheduler.specs.declared.replay.Reply.TheVariants as replies
 use Rattle.link_scheduler.specs.declared.transmitter.State.{State}
 use Rattle.fair_rates.specs.declared.error.Error.{Error}
-use Rattle.link_scheduler.specs.Calls.State.{IsMade, IsRefused, IsNextOf}
+use Rattle.link_scheduler.specs.Calls.State.{outgoing, IsMade, IsRefused, IsNextOf}
 use Rattle.link_flights.specs.Pairs.Messages.{completed_of}
 use Rattle.link_simulation.specs.Simulation.Calls.{Call, call_limit, call_limit_link, call_enqueue, call_advance}
-use Rattle.link_simulation.specs.Simulation.Calls.{call_next}
+use Rattle.link_simulation.specs.Simulation.Calls.{call_enqueue_all, call_next}
 use Rattle.link_simulation.specs.Simulation.Replies.{Reply, reply_done, reply_next, reply_refused}
 use Rattle.link_simulation.specs.Rule.Planned.{Planned, next_event}
 use Rattle.link_simulation.specs.Rule.Refusals.{MayBeRefused}
@@ -30,6 +30,7 @@ call_of (calls.Enqueue now origin recipient channel message latency should_deliv
       latency = latency;
       should_deliver = should_deliver;
     })
+call_of (calls.EnqueueAll now messages) = call_enqueue_all now (map outgoing messages.items)
 call_of (calls.Advance now) = call_advance now
 call_of calls.Next = call_next
 

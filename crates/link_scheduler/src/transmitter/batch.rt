@@ -4,7 +4,7 @@ ghost use Rattle.link_simulation.specs.Simulation.World.{Completed, goes, meets}
 ghost use Rattle.link_simulation.specs.Simulation.RefusalCauses.{IsRefusedFor};
 ghost use Rattle.link_simulation.specs.Rule.Planned.{Planned as AnyPlanned};
 ghost use Rattle.link_simulation.specs.Rule.Events.{Enqueues};
-ghost use Rattle.link_simulation.specs.Rule.OneByOne.{EnqueuesEach};
+ghost use Rattle.link_simulation.specs.Rule.Events.{EnqueuesEach};
 ghost use Rattle.link_flights.specs.Pairs.Messages.{message_of, ended_of};
 ghost use Rattle.link_scheduler.specs.Calls.State.{outgoing};
 ghost use Rattle.link_scheduler.specs.Calls.Standing.{OnlyStarts, IsStanding, is_settled, does_start, standing_after};

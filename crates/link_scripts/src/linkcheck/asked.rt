@@ -4,8 +4,7 @@ ghost use Rattle.link_scripts.specs.Script.{line_of};
 ghost use Rattle.link_scripts.specs.declared.linkrun.command.Command.TheVariants as commands;
 
 use crate::linkcheck::{Fault, said};
-use crate::linkrun::command::Command;
-use link_scheduler::replay::Call;
+use crate::linkrun::command::{Command, ScriptCall};
 use std::alloc::Global;
 
 /// The byte that ends a line.
@@ -15,7 +14,7 @@ pub(crate) const NEWLINE: u8 = b'\n';
 #[derive(Drop)]
 pub(crate) struct Asked<'a> {
     pub(crate) line: &'a [u8],
-    pub(crate) call: Call<u64, usize>,
+    pub(crate) call: ScriptCall,
     ghost written: { line.now ≡ line_of (commands.Schedule call) },
 }
 

@@ -4,6 +4,7 @@ ghost use Rattle.link_scheduler.specs.Calls.Replay.{call_of};
 ghost use Rattle.link_simulation.specs.Simulation.Calls.{call_next};
 ghost use Rattle.link_scripts.specs.Schedule.{world_call};
 
+use crate::linkrun::command::ScriptCall;
 use bytes::Bytes;
 use fair_rates::error::Error;
 use link_scheduler::replay::Call;
@@ -28,12 +29,12 @@ impl Zeros {
     /// The call of a script as the scheduler takes it, with zero bytes of the length that it says.
     ///
     /// Its only error is `OutOfMemory`, for a message whose bytes find no memory.
-    pub fn fill(&mut self, alloc: Global, call: &Call<u64, usize>) -> Result<Call<u64>, Error>
+    pub fn fill(&mut self, alloc: Global, call: &ScriptCall) -> Result<Call<u64>, Error>
         ensures made { IfOk result (λ made. call_of made ≡ world_call call.now) }
         ensures refused { IfErr result (λ e. (e ≡ Error.OutOfMemory) × (world_call call.now ≢ call_next)) }
     {
         Ok(match call {
-            Call::Limit {
+            ScriptCall::Limit {
                 now,
                 peer,
                 egress,
@@ -44,7 +45,7 @@ impl Zeros {
                 egress: *egress,
                 ingress: *ingress,
             },
-            Call::LimitLink {
+            ScriptCall::LimitLink {
                 now,
                 origin,
                 recipient,
@@ -55,12 +56,12 @@ impl Zeros {
                 recipient: *recipient,
                 cap: *cap,
             },
-            Call::Enqueue {
+            ScriptCall::Enqueue {
                 now,
                 origin,
                 recipient,
                 channel,
-                message,
+                length,
                 latency,
                 should_deliver,
             } => Call::Enqueue {
@@ -68,12 +69,12 @@ impl Zeros {
                 origin: *origin,
                 recipient: *recipient,
                 channel: *channel,
-                message: self.part(alloc, *message)?,
+                message: self.part(alloc, *length)?,
                 latency: *latency,
                 should_deliver: *should_deliver,
             },
-            Call::Advance { now } => Call::Advance { now: *now },
-            Call::Next => Call::Next,
+            ScriptCall::Advance { now } => Call::Advance { now: *now },
+            ScriptCall::Next => Call::Next,
         })
     }
 

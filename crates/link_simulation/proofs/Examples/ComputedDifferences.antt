@@ -12,7 +12,7 @@ use Rattle.fair_rates.specs.Sides.Subjects.{same_peer}
 use Rattle.link_simulation.specs.Simulation.World.{World, new_world, Completed, Course, goes, meets, EndsWith}
 use Rattle.link_simulation.specs.Simulation.Time.{IsSound}
 use Rattle.link_simulation.specs.Simulation.Calls.{Call, call_limit, call_limit_link, call_enqueue, call_advance}
-use Rattle.link_simulation.specs.Simulation.Calls.{call_next, moment_of, Runs, IsBeforeNext}
+use Rattle.link_simulation.specs.Simulation.Calls.{call_enqueue_all, call_next, moment_of, Runs, IsBeforeNext}
 use Rattle.link_simulation.specs.Simulation.Replies.{Reply, reply_done, reply_next, reply_refused, SameCompletion}
 use Rattle.link_simulation.specs.Simulation.Replies.{Faults, MayRefuse, Agrees}
 use Rattle.link_simulation.proofs.Simulation.OneNext.{next_is_one}
@@ -105,6 +105,8 @@ module _ {P : Type 0} (cmp : P → P → Ordering) (order : IsTotalOrder cmp) (p
       (λ v. differ n v calls replies)
   differ n w (call_enqueue now m ∷ calls) (reply ∷ replies) =
       before_next n w now && differ_at w (call_enqueue now m) now reply (λ v. differ n v calls replies)
+  differ n w (call_enqueue_all now ms ∷ calls) (reply ∷ replies) =
+      before_next n w now && differ_at w (call_enqueue_all now ms) now reply (λ v. differ n v calls replies)
   differ n w (call_advance now ∷ calls) (reply ∷ replies) =
       nat_le w.moment now && differ_at w (call_advance now) now reply (λ v. differ n v calls replies)
 
@@ -280,17 +282,30 @@ module _ {P : Type 0} (cmp : P → P → Ordering) (order : IsTotalOrder cmp) (p
       not_refused n w (call_limit_link now origin recipient cap) calls now why replies (disagree n calls replies) sound
       refl two.1 (agrees (in_turn n w now sound two.0))
   disagree n (call_enqueue now m ∷ calls) (reply_next t ∷ replies) w sound e agrees = agrees
+  disagree n (call_enqueue_all now ms ∷ calls) (reply_next t ∷ replies) w sound e agrees = agrees
   disagree n (call_enqueue now m ∷ calls) (reply_done cs ∷ replies) w sound e agrees =
       let two =
       and_parts (before_next n w now) (differ_at w (call_enqueue now m) now (reply_done cs)
       (λ v. differ n v calls replies)) e in
       not_done n w (call_enqueue now m) calls now cs replies (disagree n calls replies) sound refl two.1
       (agrees (in_turn n w now sound two.0))
+  disagree n (call_enqueue_all now ms ∷ calls) (reply_done cs ∷ replies) w sound e agrees =
+      let two =
+      and_parts (before_next n w now) (differ_at w (call_enqueue_all now ms) now (reply_done cs)
+      (λ v. differ n v calls replies)) e in
+      not_done n w (call_enqueue_all now ms) calls now cs replies (disagree n calls replies) sound refl two.1
+      (agrees (in_turn n w now sound two.0))
   disagree n (call_enqueue now m ∷ calls) (reply_refused why ∷ replies) w sound e agrees =
       let two =
       and_parts (before_next n w now) (differ_at w (call_enqueue now m) now (reply_refused why)
       (λ v. differ n v calls replies)) e in
       not_refused n w (call_enqueue now m) calls now why replies (disagree n calls replies) sound refl two.1
+      (agrees (in_turn n w now sound two.0))
+  disagree n (call_enqueue_all now ms ∷ calls) (reply_refused why ∷ replies) w sound e agrees =
+      let two =
+      and_parts (before_next n w now) (differ_at w (call_enqueue_all now ms) now (reply_refused why)
+      (λ v. differ n v calls replies)) e in
+      not_refused n w (call_enqueue_all now ms) calls now why replies (disagree n calls replies) sound refl two.1
       (agrees (in_turn n w now sound two.0))
   disagree n (call_advance now ∷ calls) (reply_next t ∷ replies) w sound e agrees = agrees
   disagree n (call_advance now ∷ calls) (reply_done cs ∷ replies) w sound e agrees =

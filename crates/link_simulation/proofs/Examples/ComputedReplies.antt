@@ -1,5 +1,5 @@
 -- Fairness, ticks and replies, found by computing: for worked examples.
-use Rattle.std.proofs.Common.{map, ◌≡◌, ℕ, zero, suc, ◌+◌, ◌-◌, ◌*◌, ◌≤◌, List, [], ◌∷◌, ◌++◌, length, Bool, true}
+use Rattle.std.proofs.Common.{map, ◌≡◌, ℕ, zero, suc, ◌+◌, ◌-◌, ◌*◌, ◌≤◌, List, [], ◌∷◌, length, Bool, true}
 use Rattle.std.proofs.Common.{false, cond, not, Option, Some, None, All, Contains, refl, sym, ap, subst, arith}
 use Rattle.std.specs.Prelude.{max, ◌&&◌, ◌||◌, ◌==◌, nat_le, nat_lt}
 use Rattle.std.specs.List.{list_any, list_all, filter, AllZip}
@@ -18,7 +18,7 @@ use Rattle.fair_rates.specs.declared.error.Error.TheVariants.{OutOfMemory, Numbe
 use Rattle.link_simulation.specs.Simulation.Time.{drain_each, drifted, Drains, Ticks, no_tick, one_tick, tick_faults}
 use Rattle.link_simulation.specs.Simulation.Time.{Passes, no_time, quiet_tick, NextIs, never_comes, comes_next}
 use Rattle.link_simulation.specs.Simulation.Calls.{Call, call_limit, call_limit_link, call_enqueue, call_advance}
-use Rattle.link_simulation.specs.Simulation.Calls.{call_next, act, moment_of, Runs, IsInTurn}
+use Rattle.link_simulation.specs.Simulation.Calls.{call_enqueue_all, call_next, act, moment_of, Runs, IsInTurn}
 use Rattle.link_simulation.specs.Simulation.Replies.{Reply, reply_done, reply_next, reply_refused, SameCompletion}
 use Rattle.link_simulation.specs.Simulation.Replies.{Faults, Agrees, MayRefuse}
 use Rattle.link_simulation.proofs.Simulation.AlikeMessages.{same_itself}
@@ -304,6 +304,8 @@ module _ {P : Type 0} (cmp : P → P → Ordering) (order : IsTotalOrder cmp) (p
   answers n w (call_limit_link now origin recipient cap ∷ calls) =
       replied (course_of w (call_limit_link now origin recipient cap) now) w (λ v. answers n v calls)
   answers n w (call_enqueue now m ∷ calls) = replied (course_of w (call_enqueue now m) now) w (λ v. answers n v calls)
+  answers n w (call_enqueue_all now ms ∷ calls) =
+      replied (course_of w (call_enqueue_all now ms) now) w (λ v. answers n v calls)
   answers n w (call_advance now ∷ calls) = replied (course_of w (call_advance now) now) w (λ v. answers n v calls)
   answers n w (call_next ∷ calls) = reply_next (seek n w) ∷ answers n w calls
 
@@ -317,6 +319,8 @@ module _ {P : Type 0} (cmp : P → P → Ordering) (order : IsTotalOrder cmp) (p
       && may_reply (course_of w (call_limit_link now origin recipient cap) now) w (λ v. may_answer n v calls)
   may_answer n w (call_enqueue now m ∷ calls) =
       may_tick (now - w.moment) w && may_reply (course_of w (call_enqueue now m) now) w (λ v. may_answer n v calls)
+  may_answer n w (call_enqueue_all now ms ∷ calls) =
+      may_tick (now - w.moment) w && may_reply (course_of w (call_enqueue_all now ms) now) w (λ v. may_answer n v calls)
   may_answer n w (call_advance now ∷ calls) =
       may_tick (now - w.moment) w && may_reply (course_of w (call_advance now) now) w (λ v. may_answer n v calls)
   may_answer n w (call_next ∷ calls) = may_seek n w && may_answer n w calls
@@ -383,6 +387,13 @@ module _ {P : Type 0} (cmp : P → P → Ordering) (order : IsTotalOrder cmp) (p
   enqueue_agrees w now m calls (reply_done cs ∷ replies) h = h
   enqueue_agrees w now m calls (reply_refused why ∷ replies) h = h
 
+  all_agree : (w : World P) (now : ℕ) (ms : List (Message P)) (calls : List (Call P)) (replies : List (Reply P))
+      → Replied w (call_enqueue_all now ms) calls replies → Agrees cmp w (call_enqueue_all now ms ∷ calls) replies
+  all_agree w now ms calls [] h = h
+  all_agree w now ms calls (reply_next t ∷ replies) h = h
+  all_agree w now ms calls (reply_done cs ∷ replies) h = h
+  all_agree w now ms calls (reply_refused why ∷ replies) h = h
+
   advance_agrees : (w : World P) (now : ℕ) (calls : List (Call P)) (replies : List (Reply P))
       → Replied w (call_advance now) calls replies
       → Agrees cmp w (call_advance now ∷ calls) replies
@@ -427,6 +438,9 @@ module _ {P : Type 0} (cmp : P → P → Ordering) (order : IsTotalOrder cmp) (p
   answers_agree n (call_enqueue now m ∷ calls) w e =
       enqueue_agrees w now m calls (replied (course_of w (call_enqueue now m) now) w (λ v. answers n v calls))
       (reply_agrees n calls (answers_agree n calls) w (call_enqueue now m) now refl e)
+  answers_agree n (call_enqueue_all now ms ∷ calls) w e =
+      all_agree w now ms calls (replied (course_of w (call_enqueue_all now ms) now) w (λ v. answers n v calls))
+      (reply_agrees n calls (answers_agree n calls) w (call_enqueue_all now ms) now refl e)
   answers_agree n (call_advance now ∷ calls) w e =
       advance_agrees w now calls (replied (course_of w (call_advance now) now) w (λ v. answers n v calls))
       (reply_agrees n calls (answers_agree n calls) w (call_advance now) now refl e)

@@ -1,5 +1,5 @@
 -- Calls by the event rule, and the replies to them, found by computing: for worked examples.
-use Rattle.std.proofs.Common.{◌-◌, ◌≡◌, ◌≢◌, ℕ, zero, suc, ◌+◌, ◌<◌, ◌≤◌, List, [], ◌∷◌, Bool, true, false, cond}
+use Rattle.std.proofs.Common.{◌≡◌, ◌≢◌, ℕ, zero, suc, ◌+◌, ◌<◌, ◌≤◌, List, [], ◌∷◌, Bool, true, false, cond}
 use Rattle.std.proofs.Common.{Option, Some, None, refl, sym, ap, subst, arith, ◌∙◌, length}
 use Rattle.std.specs.Prelude.{max, ◌&&◌, ◌==◌, nat_le, nat_lt, if◌then◌else◌, IfSome}
 use Rattle.std.specs.List.{filter, AllZip}
@@ -11,7 +11,7 @@ use Rattle.link_simulation.specs.Simulation.Messages.{Message, Caps}
 use Rattle.link_simulation.specs.Simulation.World.{new_world, Completed, Course, goes, meets, last_moment, preceded}
 use Rattle.link_simulation.specs.Simulation.World.{fronts}
 use Rattle.link_simulation.specs.Simulation.Calls.{moment_of, Call, call_limit, call_limit_link, call_enqueue}
-use Rattle.link_simulation.specs.Simulation.Calls.{call_advance, call_next, limited_by, linked_by}
+use Rattle.link_simulation.specs.Simulation.Calls.{call_advance, call_enqueue_all, call_next, limited_by, linked_by}
 use Rattle.link_simulation.specs.Simulation.Replies.{Agrees, Reply, reply_done, reply_next, reply_refused}
 use Rattle.link_simulation.specs.Simulation.Replies.{SameCompletion}
 use Rattle.link_simulation.specs.Rule.Planned.{new_planned, Planned, RatedFlight, next_event}
@@ -20,6 +20,7 @@ use Rattle.link_simulation.specs.Rule.Events.{Launches}
 use Rattle.link_simulation.specs.Rule.Events.{Rebalances, none_sending, some_sending, completed_at_once}
 use Rattle.link_simulation.specs.Rule.Events.{with_queued, Enqueues, at_once, no_launch, launches, Advances, no_more}
 use Rattle.link_simulation.specs.Rule.Events.{at_finish, at_start, finish_stops, start_stops, Obeys}
+use Rattle.link_simulation.specs.Rule.Events.{EnqueuesEach, all_enqueued, one_stops, enqueues_one}
 use Rattle.link_simulation.specs.Rule.Refusals.{MayBeRefused, Obeyed}
 use Rattle.link_simulation.proofs.Rule.Agreeing.{obeyed_agree}
 use Rattle.link_simulation.specs.Laws.Isolation.{InTime}
@@ -102,6 +103,34 @@ module _ {P : Type 0} (cmp : P → P → Ordering) (order : IsTotalOrder cmp) (p
           by_launch found.0 is (launch_so cmp order plan hint n now (with_queued cmp p m)
           (next_of cmp (with_queued cmp p m) m) found.0 found.1) found.2
       by_limited false is e = subst (Enqueues cmp now m p) (the_same e) (at_once is)
+
+  abbrev pub each_at : ℕ → List (Message P) → Planned P → Option (Course (Completed P) (Planned P))
+  each_at now [] p = Some (goes [] p)
+  each_at now (m ∷ ms) p =
+      bind (enqueue_at now m p)
+      (λ c. followed c (λ cs q. bind (each_at now ms q) (λ rest. Some (preceded cs rest))))
+
+  each_at_so : (now : ℕ) (ms : List (Message P)) (p : Planned P) (c : Course (Completed P) (Planned P))
+      → each_at now ms p ≡ Some c → EnqueuesEach cmp now ms p c
+  each_at_so now [] p c e = subst (EnqueuesEach cmp now [] p) (the_same e) all_enqueued
+  each_at_so now (m ∷ ms) p c e =
+      let found : (d : Course (Completed P) (Planned P)) × (enqueue_at now m p ≡ Some d)
+      × (followed d (λ cs q. bind (each_at now ms q) (λ rest. Some (preceded cs rest))) ≡ Some c)
+      = bound (enqueue_at now m p)
+      (λ d. followed d (λ cs q. bind (each_at now ms q) (λ rest. Some (preceded cs rest)))) c e in
+      by_course found.0 (enqueue_at_so now m p found.0 found.1) found.2 (each_at_so now ms)
+    where
+      by_course : (d : Course (Completed P) (Planned P)) → Enqueues cmp now m p d
+          → followed d (λ cs q. bind (each_at now ms q) (λ rest. Some (preceded cs rest))) ≡ Some c
+          → ((q : Planned P) (f : Course (Completed P) (Planned P)) → each_at now ms q ≡ Some f
+          → EnqueuesEach cmp now ms q f)
+          → EnqueuesEach cmp now (m ∷ ms) p c
+      by_course (meets fault) one e ih = subst (EnqueuesEach cmp now (m ∷ ms) p) (the_same e) (one_stops one)
+      by_course (goes cs q) one e ih =
+          let found : (rest : Course (Completed P) (Planned P)) × (each_at now ms q ≡ Some rest)
+          × (Some (preceded cs rest) ≡ Some c)
+          = bound (each_at now ms q) (λ rest. Some (preceded cs rest)) c e in
+          subst (EnqueuesEach cmp now (m ∷ ms) p) (the_same found.2) (enqueues_one one (ih q found.0 found.1))
 
   -- whether that is the moment
   abbrev pub is_moment : ℕ → Option ℕ → Bool
@@ -224,6 +253,7 @@ module _ {P : Type 0} (cmp : P → P → Ordering) (order : IsTotalOrder cmp) (p
   obeys_at p (call_limit now peer egress ingress) = rebalance_at now (limited_by cmp p.caps peer egress ingress) p
   obeys_at p (call_limit_link now origin recipient cap) = rebalance_at now (linked_by cmp p.caps origin recipient cap) p
   obeys_at p (call_enqueue now m) = enqueue_at now m p
+  obeys_at p (call_enqueue_all now ms) = each_at now ms p
   obeys_at p (call_advance now) = advance_at now n p
   obeys_at p call_next = Some (goes [] p)
 
@@ -234,6 +264,7 @@ module _ {P : Type 0} (cmp : P → P → Ordering) (order : IsTotalOrder cmp) (p
   obeys_at_so p (call_limit_link now origin recipient cap) c e =
       rebalance_at_so now (linked_by cmp p.caps origin recipient cap) p c e
   obeys_at_so p (call_enqueue now m) c e = enqueue_at_so now m p c e
+  obeys_at_so p (call_enqueue_all now ms) c e = each_at_so now ms p c e
   obeys_at_so p (call_advance now) c e = advance_at_so now n p c e
   obeys_at_so p call_next c e = sym (the_same e)
 
@@ -256,6 +287,8 @@ module _ {P : Type 0} (cmp : P → P → Ordering) (order : IsTotalOrder cmp) (p
       bind (obeys_at p (call_limit_link now origin recipient cap)) (λ c. replied_to c p (λ q. replies_by_rule q calls))
   replies_by_rule p (call_enqueue now m ∷ calls) =
       bind (obeys_at p (call_enqueue now m)) (λ c. replied_to c p (λ q. replies_by_rule q calls))
+  replies_by_rule p (call_enqueue_all now ms ∷ calls) =
+      bind (obeys_at p (call_enqueue_all now ms)) (λ c. replied_to c p (λ q. replies_by_rule q calls))
   replies_by_rule p (call_advance now ∷ calls) =
       bind (obeys_at p (call_advance now)) (λ c. replied_to c p (λ q. replies_by_rule q calls))
   replies_by_rule p (call_next ∷ calls) =
@@ -295,6 +328,14 @@ module _ {P : Type 0} (cmp : P → P → Ordering) (order : IsTotalOrder cmp) (p
   enqueue_obeyed p now m calls (reply_next t ∷ replies) h = h
   enqueue_obeyed p now m calls (reply_done cs ∷ replies) h = h
   enqueue_obeyed p now m calls (reply_refused why ∷ replies) h = h
+
+  all_obeyed : (p : Planned P) (now : ℕ) (ms : List (Message P)) (calls : List (Call P)) (replies : List (Reply P))
+      → Replied p (call_enqueue_all now ms) calls replies
+      → Obeyed cmp p (call_enqueue_all now ms ∷ calls) replies
+  all_obeyed p now ms calls [] h = h
+  all_obeyed p now ms calls (reply_next t ∷ replies) h = h
+  all_obeyed p now ms calls (reply_done cs ∷ replies) h = h
+  all_obeyed p now ms calls (reply_refused why ∷ replies) h = h
 
   advance_obeyed : (p : Planned P) (now : ℕ) (calls : List (Call P)) (replies : List (Reply P))
       → Replied p (call_advance now) calls replies → Obeyed cmp p (call_advance now ∷ calls) replies
@@ -346,6 +387,9 @@ module _ {P : Type 0} (cmp : P → P → Ordering) (order : IsTotalOrder cmp) (p
   obeyed_so p (call_enqueue now m ∷ calls) replies e =
       enqueue_obeyed p now m calls replies
       (replied_so p (call_enqueue now m) calls replies (λ q others h. obeyed_so q calls others h) e)
+  obeyed_so p (call_enqueue_all now ms ∷ calls) replies e =
+      all_obeyed p now ms calls replies
+      (replied_so p (call_enqueue_all now ms) calls replies (λ q others h. obeyed_so q calls others h) e)
   obeyed_so p (call_advance now ∷ calls) replies e =
       advance_obeyed p now calls replies
       (replied_so p (call_advance now) calls replies (λ q others h. obeyed_so q calls others h) e)

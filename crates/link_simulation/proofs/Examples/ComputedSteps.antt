@@ -21,7 +21,6 @@ use Rattle.link_simulation.specs.Rule.Events.{Accounts, PlansStart, launched, La
 use Rattle.link_simulation.specs.Rule.Events.{starts, landed, Finishes, all_completed, late, stopped, completes}
 use Rattle.link_simulation.specs.Rule.Events.{WakesEach, all_started, no_start, no_finish, starts_one, Settles}
 use Rattle.link_simulation.specs.Rule.Events.{settling}
-use Rattle.link_simulation.specs.Rule.Events.{launches}
 use Rattle.fair_rates.proofs.Lists.Members.{In}
 use Rattle.link_simulation.proofs.Simulation.OtherPairs.{fronts_are_first}
 use Rattle.fair_rates.proofs.Lists.Each.{Each}

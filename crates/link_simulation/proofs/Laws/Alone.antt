@@ -17,7 +17,7 @@ use Rattle.link_simulation.specs.Simulation.World.{World, Flight, Completed, Cou
 use Rattle.link_simulation.specs.Simulation.World.{is_in_order, is_done, is_late, completed, completion_of, instant}
 use Rattle.link_simulation.specs.Simulation.World.{settle, wake, IsQuiet, and_then, preceded, out_of_flight}
 use Rattle.link_simulation.specs.Simulation.Calls.{call_advance, Runs, join}
-use Rattle.link_simulation.specs.Simulation.Messages.{Message, Caps, same_pair, is_delivered}
+use Rattle.link_simulation.specs.Simulation.Messages.{Message, Caps, is_delivered}
 use Rattle.link_simulation.specs.Simulation.Rates.{AreFair, capped_sides, is_unlimited}
 use Rattle.link_simulation.specs.Simulation.Time.{Drains, Passes, no_time, quiet_tick, Ticks, NextIs, comes_next}
 use Rattle.fair_rates.proofs.Numbers.Draining.{spent_from_least}

@@ -14,7 +14,7 @@ use Rattle.link_simulation.specs.Simulation.Messages.{Message, Caps, OneForEachP
 use Rattle.link_simulation.specs.Simulation.World.{Completed, Course, goes, meets, last_moment, preceded, raised}
 use Rattle.link_simulation.specs.Simulation.World.{later_of, completion_of, completed, arrival}
 use Rattle.link_simulation.specs.Simulation.Calls.{Call, call_limit, call_limit_link, call_enqueue, call_advance}
-use Rattle.link_simulation.specs.Simulation.Calls.{call_next}
+use Rattle.link_simulation.specs.Simulation.Calls.{call_enqueue_all, call_next}
 use Rattle.link_simulation.specs.Laws.PairCompletions.{enqueued, IsCompletionOf}
 use Rattle.link_simulation.specs.Rule.Planned.{Planned, RatedFlight, rated_messages, drained_to, next_of, may_launch}
 use Rattle.link_simulation.specs.Rule.Planned.{is_spent}
@@ -24,6 +24,7 @@ use Rattle.link_simulation.specs.Rule.Events.{no_start, no_finish, starts_one, S
 use Rattle.link_simulation.specs.Rule.Events.{none_sending, some_sending, Enqueues, at_once, no_launch, launches}
 use Rattle.link_simulation.specs.Rule.Events.{Advances, no_more, at_finish, at_start, finish_stops, start_stops}
 use Rattle.link_simulation.specs.Rule.Events.{launched, landed, with_queued, completed_at_once, Obeys}
+use Rattle.link_simulation.specs.Rule.Events.{EnqueuesEach, all_enqueued, one_stops, enqueues_one}
 use Rattle.link_simulation.specs.Laws.Orderly.{IsOrderly}
 use Rattle.link_simulation.specs.Laws.Conserved.{of_pair, held_of}
 use Rattle.link_simulation.proofs.Simulation.Queue.{find_passes, any_like}
@@ -36,7 +37,7 @@ use Rattle.link_simulation.proofs.Laws.Orderly.{drained_messages, stayed_message
 use Rattle.link_simulation.proofs.Laws.Orderly.{idle_if_may, launched_steady, account_orderly, launch_orderly}
 use Rattle.link_simulation.proofs.Laws.Orderly.{landed_orderly, finish_orderly, wake_orderly, settle_orderly}
 use Rattle.link_simulation.proofs.Laws.Orderly.{no_finish_steady, no_start_orderly, recapped_steady, limited_by_alike}
-use Rattle.link_simulation.proofs.Laws.Orderly.{linked_by_alike, queued_orderly}
+use Rattle.link_simulation.proofs.Laws.Orderly.{linked_by_alike, queued_orderly, obeys_orderly}
 
 headed : {X : Type 0} (xs : List X) (x : X) → head_of xs ≡ Some x → xs ≡ x ∷ rest_of xs
 headed [] x e = cc
@@ -377,6 +378,31 @@ module _ {P : Type 0} (cmp : P → P → Ordering) (order : IsTotalOrder cmp) wh
       (on_from leavers (with_queued cmp p m) mid c (launch_holds launch m leavers mid refl refl there)
       (finish_moves finishes next))
 
+  kept_then : (p q : Planned P) (ms ns : List (Message P)) (cs : List (Completed P))
+      (c : Course (Completed P) (Planned P)) → KeepsAll p ms (goes cs q) → KeepsAll q ns c
+      → KeepsAll p (ms ++ ns) (preceded cs c)
+  kept_then p q ms ns cs (goes ds r) a b = record {
+    done = a.done ++ b.done;
+    completions_are = zip-append IsCompletionOf cs ds a.done b.done a.completions_are b.completions_are;
+    each_pair = λ k.
+        ap (λ (ks : List (Message P)). ks ++ held_of cmp k r) (filter-append (same_pair cmp k) a.done b.done)
+        ∙ append_assoc (of_pair cmp k a.done) (of_pair cmp k b.done) (held_of cmp k r)
+        ∙ ap (λ (ks : List (Message P)). of_pair cmp k a.done ++ ks) (b.each_pair k)
+        ∙ sym (append_assoc (of_pair cmp k a.done) (held_of cmp k q) (of_pair cmp k ns))
+        ∙ ap (λ (ks : List (Message P)). ks ++ of_pair cmp k ns) (a.each_pair k)
+        ∙ append_assoc (held_of cmp k p) (of_pair cmp k ms) (of_pair cmp k ns)
+        ∙ ap (λ (ks : List (Message P)). held_of cmp k p ++ ks) (sym (filter-append (same_pair cmp k) ms ns));
+  }
+  kept_then p q ms ns cs (meets fault) a b = tt
+
+  each_keeps : {now : ℕ} {ms : List (Message P)} {p : Planned P} {c : Course (Completed P) (Planned P)}
+      → EnqueuesEach cmp now ms p c → IsOrderly cmp p → KeepsAll p ms c
+  each_keeps (all_enqueued {p = p}) h = none_enqueued p (goes [] p) (stays p p (λ k. refl))
+  each_keeps (one_stops one) h = tt
+  each_keeps {now = now} (enqueues_one {m = m} {ms = ms} {p = p} {q = q} {cs = cs} {rest = rest} one more) h =
+      kept_then p q (m ∷ []) ms cs rest (enqueue_keeps one h)
+      (each_keeps more (obeys_orderly cmp order p q (call_enqueue now m) cs one h))
+
   pub call_keeps : (p : Planned P) (call : Call P) (c : Course (Completed P) (Planned P)) → Obeys cmp p call c
       → IsOrderly cmp p → KeepsAll p (enqueued (call ∷ [])) c
   call_keeps p (call_limit now peer egress ingress) c obeys h =
@@ -388,6 +414,8 @@ module _ {P : Type 0} (cmp : P → P → Ordering) (order : IsTotalOrder cmp) wh
       (rebalance_moves obeys
       (recapped_steady cmp order p _ (linked_by_alike cmp order p.caps origin recipient cap h.caps) h))
   call_keeps p (call_enqueue now m) c obeys h = enqueue_keeps obeys h
+  call_keeps p (call_enqueue_all now ms) c obeys h =
+      subst (λ (ns : List (Message P)). KeepsAll p ns c) (sym (append-nil ms)) (each_keeps obeys h)
   call_keeps p (call_advance now) c obeys h = none_enqueued p c (advance_moves obeys.1 h)
   call_keeps p call_next c obeys h =
       subst (KeepsAll p []) (sym obeys) (none_enqueued p (goes [] p) (stays p p (λ k. refl)))

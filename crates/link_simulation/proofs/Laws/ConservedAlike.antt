@@ -10,7 +10,7 @@ use Rattle.fair_rates.specs.Sides.Subjects.{same_peer}
 use Rattle.link_simulation.specs.Simulation.Messages.{Message, SameMessage, same_pair}
 use Rattle.link_simulation.specs.Simulation.World.{Completed, goes}
 use Rattle.link_simulation.specs.Simulation.Calls.{Call, call_limit, call_limit_link, call_enqueue, call_advance}
-use Rattle.link_simulation.specs.Simulation.Calls.{call_next}
+use Rattle.link_simulation.specs.Simulation.Calls.{call_enqueue_all, call_next}
 use Rattle.link_simulation.specs.Laws.PairCompletions.{enqueued, answered, IsCompletionOf}
 use Rattle.link_simulation.specs.Rule.Planned.{Planned, rated_messages}
 use Rattle.link_simulation.specs.Rule.Events.{Obeys}
@@ -159,6 +159,7 @@ module _ {P : Type 0} (cmp : P → P → Ordering) (order : IsTotalOrder cmp) wh
   one_next p (call_limit now peer egress ingress) calls t replies obeyed = absurd obeyed
   one_next p (call_limit_link now origin recipient cap) calls t replies obeyed = absurd obeyed
   one_next p (call_enqueue now m) calls t replies obeyed = absurd obeyed
+  one_next p (call_enqueue_all now ms) calls t replies obeyed = absurd obeyed
   one_next p (call_advance now) calls t replies obeyed = absurd obeyed
   one_next p call_next calls t replies obeyed = obeyed.1
 
@@ -167,6 +168,7 @@ module _ {P : Type 0} (cmp : P → P → Ordering) (order : IsTotalOrder cmp) wh
   one_refused p (call_limit now peer egress ingress) calls why replies obeyed = obeyed.1
   one_refused p (call_limit_link now origin recipient cap) calls why replies obeyed = obeyed.1
   one_refused p (call_enqueue now m) calls why replies obeyed = obeyed.1
+  one_refused p (call_enqueue_all now ms) calls why replies obeyed = obeyed.1
   one_refused p (call_advance now) calls why replies obeyed = obeyed.1
   one_refused p call_next calls why replies obeyed = absurd obeyed
 
@@ -187,6 +189,8 @@ module _ {P : Type 0} (cmp : P → P → Ordering) (order : IsTotalOrder cmp) wh
   one_accepted p (call_limit_link now origin recipient cap) calls cs replies obeyed =
       record { answers = obeyed.0; after = obeyed.1; obeys = obeyed.2; same = obeyed.3; rest = obeyed.4 }
   one_accepted p (call_enqueue now m) calls cs replies obeyed =
+      record { answers = obeyed.0; after = obeyed.1; obeys = obeyed.2; same = obeyed.3; rest = obeyed.4 }
+  one_accepted p (call_enqueue_all now ms) calls cs replies obeyed =
       record { answers = obeyed.0; after = obeyed.1; obeys = obeyed.2; same = obeyed.3; rest = obeyed.4 }
   one_accepted p (call_advance now) calls cs replies obeyed =
       record { answers = obeyed.0; after = obeyed.1; obeys = obeyed.2; same = obeyed.3; rest = obeyed.4 }

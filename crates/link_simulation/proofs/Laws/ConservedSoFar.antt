@@ -3,7 +3,7 @@ use Rattle.std.proofs.Common.{ℕ, zero, suc, List, [], ◌∷◌, take}
 use Rattle.std.specs.declared.cmp.Ordering.{Ordering}
 use Rattle.std.specs.Cmp.{IsTotalOrder}
 use Rattle.link_simulation.specs.Simulation.Calls.{Call, call_limit, call_limit_link, call_enqueue, call_advance}
-use Rattle.link_simulation.specs.Simulation.Calls.{call_next}
+use Rattle.link_simulation.specs.Simulation.Calls.{call_enqueue_all, call_next}
 use Rattle.link_simulation.specs.Simulation.Replies.{Reply, reply_done, reply_next, reply_refused}
 use Rattle.link_simulation.specs.Rule.Planned.{Planned, new_planned}
 use Rattle.link_simulation.specs.Rule.Refusals.{Obeyed}
@@ -38,9 +38,14 @@ module _ {P : Type 0} (cmp : P → P → Ordering) where
       (ds, q, obeys, same, rest) =
       (ds, q, obeys, same, obeyed_so_far n q calls replies rest)
   obeyed_so_far (suc n) p (call_enqueue now m ∷ calls) (reply_next t ∷ replies) obeyed = obeyed
+  obeyed_so_far (suc n) p (call_enqueue_all now ms ∷ calls) (reply_next t ∷ replies) obeyed = obeyed
   obeyed_so_far (suc n) p (call_enqueue now m ∷ calls) (reply_refused why ∷ replies) obeyed =
       (obeyed.0, obeyed_so_far n p calls replies obeyed.1)
+  obeyed_so_far (suc n) p (call_enqueue_all now ms ∷ calls) (reply_refused why ∷ replies) obeyed =
+      (obeyed.0, obeyed_so_far n p calls replies obeyed.1)
   obeyed_so_far (suc n) p (call_enqueue now m ∷ calls) (reply_done cs ∷ replies) (ds, q, obeys, same, rest) =
+      (ds, q, obeys, same, obeyed_so_far n q calls replies rest)
+  obeyed_so_far (suc n) p (call_enqueue_all now ms ∷ calls) (reply_done cs ∷ replies) (ds, q, obeys, same, rest) =
       (ds, q, obeys, same, obeyed_so_far n q calls replies rest)
   obeyed_so_far (suc n) p (call_advance now ∷ calls) (reply_next t ∷ replies) obeyed = obeyed
   obeyed_so_far (suc n) p (call_advance now ∷ calls) (reply_refused why ∷ replies) obeyed =

@@ -13,19 +13,22 @@ use Rattle.link_simulation.specs.Simulation.World.{Completed, Course, Flight, Wo
 use Rattle.link_simulation.specs.Simulation.World.{first_waiting, flows, goes, is_done, last_moment, later_of, meets}
 use Rattle.link_simulation.specs.Simulation.World.{new_world, preceded, raised, settle, start_next, EndsWith}
 use Rattle.link_simulation.specs.Simulation.Calls.{Call, IsInTurn, Runs, act, call_advance, call_enqueue, call_limit}
-use Rattle.link_simulation.specs.Simulation.Calls.{call_limit_link, call_next, complete_at_once, moment_of, limited_by}
-use Rattle.link_simulation.specs.Simulation.Calls.{linked_by}
+use Rattle.link_simulation.specs.Simulation.Calls.{call_limit_link, complete_at_once, moment_of, limited_by}
+use Rattle.link_simulation.specs.Simulation.Calls.{call_enqueue_all, call_next}
+use Rattle.link_simulation.specs.Simulation.Calls.{linked_by, enqueue, enqueue_each}
 use Rattle.fair_rates.specs.Fairness.Part.{flagged}
-use Rattle.link_simulation.specs.Laws.Isolation.{Answers, AnswersInTurn, InTime, IsApart, IsSet, KeepsApart}
+use Rattle.link_simulation.specs.Laws.Isolation.{Answers, AnswersInTurn, InTime, AreApart, IsApart, IsSet, KeepsApart}
 use Rattle.link_simulation.specs.Laws.Isolation.{NothingElse, call_answers, answers_in_turn, inside_alone, is_kept}
-use Rattle.link_simulation.specs.Laws.Isolation.{kept_completions, no_calls, no_calls_in_turn}
+use Rattle.link_simulation.specs.Laws.Isolation.{kept_calls, kept_completions, no_calls, no_calls_in_turn}
+use Rattle.link_simulation.specs.Laws.Isolation.{without_others}
 use Rattle.link_simulation.specs.Simulation.Messages.{Caps, Message, is_delivered, same_pair}
 use Rattle.link_simulation.specs.Simulation.Rates.{AreFair, Parts}
 use Rattle.link_simulation.specs.Simulation.Time.{NextIs, Ticks, no_tick}
 use Rattle.fair_rates.specs.declared.error.Error.TheVariants.{MomentTooLate}
 use Rattle.link_simulation.proofs.Laws.PartRates.{fair_part}
 use Rattle.fair_rates.proofs.Lists.Members.{contains_from_in}
-use Rattle.link_simulation.proofs.Simulation.SettlingEnds.{ends_and_then, ends_cond, NoneDone, settle_rests}
+use Rattle.link_simulation.proofs.Simulation.SettlingEnds.{ends_and_then, ends_cond, each_ends, NoneDone}
+use Rattle.link_simulation.proofs.Simulation.SettlingEnds.{settle_rests}
 use Rattle.link_simulation.proofs.Simulation.FilteredFronts.{find_kept, none_kept}
 use Rattle.fair_rates.proofs.Lists.Each.{each_joined, Each}
 use Rattle.fair_rates.proofs.Lists.Members.{In}
@@ -306,36 +309,9 @@ module _ {P : Type 0} (cmp : P → P → Ordering) (order : IsTotalOrder cmp) (i
           (λ u l i part_u r s. settle_in_part now u l i part_u))
       by_mode false = at_once
 
-  -- ---- a call
-
-  act_kept : (w : World P) (call : Call P) (last : P → P → Option ℕ) (id : ℕ) → Within last id w → IsApart inside call
-      → is_kept inside call ≡ true
-      → Of (act cmp w call) (act cmp (Small last id w) call)
-  act_kept w (call_limit now peer egress ingress) last id is whole own =
-      settle_in_part now (record w { caps = limited_by cmp w.caps peer egress ingress; limited = true }) last id
-      (record { arrivals = is.arrivals; ids = is.ids; sending = is.sending; waiting = is.waiting })
-  act_kept w (call_limit_link now origin recipient link) last id is whole own =
-      settle_in_part now (record w { caps = linked_by cmp w.caps origin recipient link; limited = true }) last id
-      (record { arrivals = is.arrivals; ids = is.ids; sending = is.sending; waiting = is.waiting })
-  act_kept w (call_enqueue now m) last id is whole own = enqueue_mine now w m last id is whole own
-  act_kept w (call_advance now) last id is whole own = (last, id, is, refl)
-  act_kept w call_next last id is whole own = (last, id, is, refl)
-
-  act_other : (w : World P) (call : Call P) (last : P → P → Option ℕ) (id : ℕ) → Within last id w → NoneDone cmp order w
-      → IsApart inside call → is_kept inside call ≡ false
-      → Of (act cmp w call) (goes [] (Small last id w))
-  act_other w (call_limit now peer egress ingress) last id is rests whole off = cc
-  act_other w (call_limit_link now origin recipient link) last id is rests whole off = cc
-  act_other w (call_enqueue now m) last id is rests whole off = enqueue_other now w m last id is rests whole off
-  act_other w (call_advance now) last id is rests whole off = cc
-  act_other w call_next last id is rests whole off = cc
-
-  act_rests : (w : World P) (call : Call P) → NoneDone cmp order w → EndsWith (NoneDone cmp order) (act cmp w call)
-  act_rests w (call_limit now peer egress ingress) h =
-      settle_rests cmp order now (record w { caps = limited_by cmp w.caps peer egress ingress; limited = true })
-  act_rests w (call_limit_link now origin recipient link) h =
-      settle_rests cmp order now (record w { caps = linked_by cmp w.caps origin recipient link; limited = true })
-  act_rests w (call_enqueue now m) h =
+  enqueue_rests : (now : ℕ) (w : World P) (m : Message P) → NoneDone cmp order w
+      → EndsWith (NoneDone cmp order) (enqueue cmp now w m)
+  enqueue_rests now w m h =
       ends_cond (NoneDone cmp order) w.limited
       (and_then (start_next cmp now (queued cmp order w m) (first_waiting cmp (queued cmp order w m) m))
       (settle cmp now))
@@ -346,15 +322,10 @@ module _ {P : Type 0} (cmp : P → P → Ordering) (order : IsTotalOrder cmp) (i
       (λ v g. settle_rests cmp order now v))
       (ends_cond (NoneDone cmp order) (m.should_deliver && nat_lt last_moment (now + m.latency)) (meets MomentTooLate) _
       tt h)
-  act_rests w (call_advance now) h = h
-  act_rests w call_next h = h
 
-  act_moment : (w : World P) (call : Call P) (t : ℕ) → w.moment ≡ t → EndsWith (λ v. v.moment ≡ t) (act cmp w call)
-  act_moment w (call_limit now peer egress ingress) t h =
-      settle_moment cmp order now (record w { caps = limited_by cmp w.caps peer egress ingress; limited = true }) t h
-  act_moment w (call_limit_link now origin recipient link) t h =
-      settle_moment cmp order now (record w { caps = linked_by cmp w.caps origin recipient link; limited = true }) t h
-  act_moment w (call_enqueue now m) t h =
+  enqueue_moment : (now t : ℕ) (w : World P) (m : Message P) → w.moment ≡ t
+      → EndsWith (λ v. v.moment ≡ t) (enqueue cmp now w m)
+  enqueue_moment now t w m h =
       ends_cond (λ v. v.moment ≡ t) w.limited
       (and_then (start_next cmp now (queued cmp order w m) (first_waiting cmp (queued cmp order w m) m))
       (settle cmp now))
@@ -365,8 +336,90 @@ module _ {P : Type 0} (cmp : P → P → Ordering) (order : IsTotalOrder cmp) (i
       (λ v g. settle_moment cmp order now v t g))
       (ends_cond (λ v. v.moment ≡ t) (m.should_deliver && nat_lt last_moment (now + m.latency)) (meets MomentTooLate) _
       tt h)
+
+  -- ---- messages are enqueued one after another
+
+  each_kept : (now : ℕ) (ms : List (Message P)) (w : World P) (last : P → P → Option ℕ) (id : ℕ) → Within last id w
+      → NoneDone cmp order w → AreApart inside ms
+      → Of (enqueue_each cmp now w ms) (enqueue_each cmp now (Small last id w) (filter mine ms))
+  each_kept now [] w last id is rests whole = (last, id, is, refl)
+  each_kept now (m ∷ ms) w last id is rests whole =
+      by_owner (mine m) refl (λ u l i part_u r. each_kept now ms u l i part_u r whole.1)
+    where
+      by_owner : (b : Bool) → mine m ≡ b
+          → ((u : World P) (l : P → P → Option ℕ) (i : ℕ) → Within l i u → NoneDone cmp order u
+          → Of (enqueue_each cmp now u ms) (enqueue_each cmp now (Small l i u) (filter mine ms)))
+          → Of (and_then (enqueue cmp now w m) (λ v. enqueue_each cmp now v ms))
+          (enqueue_each cmp now (Small last id w) (cond b (m ∷ filter mine ms) (filter mine ms)))
+      by_owner true own ih =
+          part_then cmp order inside alike Whole (NoneDone cmp order) Any (enqueue cmp now w m)
+          (enqueue cmp now (Small last id w) m) (λ v. enqueue_each cmp now v ms)
+          (λ v. enqueue_each cmp now v (filter mine ms)) (enqueue_mine now w m last id is whole.0 own)
+          (enqueue_rests now w m rests) (ends_any (enqueue cmp now (Small last id w) m))
+          (λ u l i part_u r s. ih u l i part_u r)
+      by_owner false off ih =
+          subst
+          (λ (c : Course (Completed P) (World P)). Of
+          (and_then (enqueue cmp now w m) (λ v. enqueue_each cmp now v ms)) c)
+          (preceded_none (enqueue_each cmp now (Small last id w) (filter mine ms)))
+          (part_then cmp order inside alike Whole (NoneDone cmp order) Any (enqueue cmp now w m)
+          (goes [] (Small last id w)) (λ v. enqueue_each cmp now v ms)
+          (λ v. enqueue_each cmp now v (filter mine ms)) (enqueue_other now w m last id is rests whole.0 off)
+          (enqueue_rests now w m rests) tt (λ u l i part_u r s. ih u l i part_u r))
+
+  -- ---- a call
+
+  act_kept : (w : World P) (call : Call P) (last : P → P → Option ℕ) (id : ℕ) → Within last id w → NoneDone cmp order w
+      → IsApart inside call → is_kept inside call ≡ true
+      → Of (act cmp w call) (act cmp (Small last id w) (without_others inside call))
+  act_kept w (call_limit now peer egress ingress) last id is rests whole own =
+      settle_in_part now (record w { caps = limited_by cmp w.caps peer egress ingress; limited = true }) last id
+      (record { arrivals = is.arrivals; ids = is.ids; sending = is.sending; waiting = is.waiting })
+  act_kept w (call_limit_link now origin recipient link) last id is rests whole own =
+      settle_in_part now (record w { caps = linked_by cmp w.caps origin recipient link; limited = true }) last id
+      (record { arrivals = is.arrivals; ids = is.ids; sending = is.sending; waiting = is.waiting })
+  act_kept w (call_enqueue now m) last id is rests whole own = enqueue_mine now w m last id is whole own
+  act_kept w (call_enqueue_all now ms) last id is rests whole own = each_kept now ms w last id is rests whole
+  act_kept w (call_advance now) last id is rests whole own = (last, id, is, refl)
+  act_kept w call_next last id is rests whole own = (last, id, is, refl)
+
+  act_other : (w : World P) (call : Call P) (last : P → P → Option ℕ) (id : ℕ) → Within last id w → NoneDone cmp order w
+      → IsApart inside call → is_kept inside call ≡ false
+      → Of (act cmp w call) (goes [] (Small last id w))
+  act_other w (call_limit now peer egress ingress) last id is rests whole off = cc
+  act_other w (call_limit_link now origin recipient link) last id is rests whole off = cc
+  act_other w (call_enqueue now m) last id is rests whole off = enqueue_other now w m last id is rests whole off
+  act_other w (call_enqueue_all now ms) last id is rests whole off = cc
+  act_other w (call_advance now) last id is rests whole off = cc
+  act_other w call_next last id is rests whole off = cc
+
+  act_rests : (w : World P) (call : Call P) → NoneDone cmp order w → EndsWith (NoneDone cmp order) (act cmp w call)
+  act_rests w (call_limit now peer egress ingress) h =
+      settle_rests cmp order now (record w { caps = limited_by cmp w.caps peer egress ingress; limited = true })
+  act_rests w (call_limit_link now origin recipient link) h =
+      settle_rests cmp order now (record w { caps = linked_by cmp w.caps origin recipient link; limited = true })
+  act_rests w (call_enqueue now m) h = enqueue_rests now w m h
+  act_rests w (call_enqueue_all now ms) h = each_ends cmp (NoneDone cmp order) now (enqueue_rests now) ms w h
+  act_rests w (call_advance now) h = h
+  act_rests w call_next h = h
+
+  act_moment : (w : World P) (call : Call P) (t : ℕ) → w.moment ≡ t → EndsWith (λ v. v.moment ≡ t) (act cmp w call)
+  act_moment w (call_limit now peer egress ingress) t h =
+      settle_moment cmp order now (record w { caps = limited_by cmp w.caps peer egress ingress; limited = true }) t h
+  act_moment w (call_limit_link now origin recipient link) t h =
+      settle_moment cmp order now (record w { caps = linked_by cmp w.caps origin recipient link; limited = true }) t h
+  act_moment w (call_enqueue now m) t h = enqueue_moment now t w m h
+  act_moment w (call_enqueue_all now ms) t h = each_ends cmp (λ v. v.moment ≡ t) now (enqueue_moment now t) ms w h
   act_moment w (call_advance now) t h = h
   act_moment w call_next t h = h
+
+  same_moment : (call : Call P) → moment_of (without_others inside call) ≡ moment_of call
+  same_moment (call_limit now peer egress ingress) = refl
+  same_moment (call_limit_link now origin recipient link) = refl
+  same_moment (call_enqueue now m) = refl
+  same_moment (call_enqueue_all now ms) = refl
+  same_moment (call_advance now) = refl
+  same_moment call_next = refl
 
   -- a message of others comes before the next event
   other_is_before : (w : World P) (call : Call P) (now : ℕ) → moment_of call ≡ Some now → IsInTurn cmp w call
@@ -375,6 +428,7 @@ module _ {P : Type 0} (cmp : P → P → Ordering) (order : IsTotalOrder cmp) (i
   other_is_before w (call_limit_link s origin recipient link) now e h off t next = cc
   other_is_before w (call_enqueue s m) now e h off t next =
       let same : s ≡ now = cc in let lt : s < t = h.1 (Some t) next in omega arith
+  other_is_before w (call_enqueue_all s ms) now e h off t next = cc
   other_is_before w (call_advance s) now e h off t next = cc
   other_is_before w call_next now e h off t next = cc
 
@@ -399,7 +453,7 @@ module _ {P : Type 0} (cmp : P → P → Ordering) (order : IsTotalOrder cmp) (i
   pub isolated : {w : World P} {calls : List (Call P)} {css : List (List (Completed P))} → AnswersInTurn cmp w calls css
       → (s : World P) (last : P → P → Option ℕ) (id : ℕ)
       → Behind s w last id → KeepsApart inside calls → InTime calls
-      → Answers cmp s (filter (is_kept inside) calls) (kept_completions inside calls css) × NothingElse inside calls css
+      → Answers cmp s (kept_calls inside calls) (kept_completions inside calls css) × NothingElse inside calls css
   isolated no_calls_in_turn s last id b apart in_time = (no_calls, tt)
   isolated {w = w}
       (answers_in_turn {u = u} {call = call} {now = now} {calls = calls} {cs = cs} {css = css} is_now turn runs more) s
@@ -413,9 +467,10 @@ module _ {P : Type 0} (cmp : P → P → Ordering) (order : IsTotalOrder cmp) (i
       by_call : (k : Bool) → is_kept inside call ≡ k → (ds : List (Completed P)) (v : World P) (es : List (Completed P))
           → runs.ticked ≡ goes ds v → act cmp v call ≡ goes es u → ds ++ es ≡ cs
           → ((t : World P) (l : P → P → Option ℕ) (i : ℕ) → Behind t u l i
-          → Answers cmp t (filter (is_kept inside) calls) (kept_completions inside calls css)
+          → Answers cmp t (kept_calls inside calls) (kept_completions inside calls css)
           × NothingElse inside calls css)
-          → Answers cmp s (cond k (call ∷ filter (is_kept inside) calls) (filter (is_kept inside) calls))
+          → Answers cmp s (map (without_others inside)
+          (cond k (call ∷ filter (is_kept inside) calls) (filter (is_kept inside) calls)))
           (cond k (inside_alone inside cs ∷ kept_completions inside calls css) (kept_completions inside calls css))
           × (cond k ⊤ (inside_alone inside cs ≡ []) × NothingElse inside calls css)
       by_call true flagged ds v es ticked acted join ih =
@@ -437,15 +492,16 @@ module _ {P : Type 0} (cmp : P → P → Ordering) (order : IsTotalOrder cmp) (i
           = subst
           (λ n. Ticks cmp n s (goes (filter (λ (c : Completed P). inside c.origin) ds) (Small small.0 small.1 v)))
           count all in
-          let act_small : Of (goes es u) (act cmp (Small small.0 small.1 v) call)
-          = subst (λ (c : Course (Completed P) (World P)). Of c (act cmp (Small small.0 small.1 v) call)) acted
-          (act_kept v call small.0 small.1 small.2 apart.0 flagged) in
+          let act_small : Of (goes es u) (act cmp (Small small.0 small.1 v) (without_others inside call))
+          = subst (λ (c : Course (Completed P) (World P)). Of c
+          (act cmp (Small small.0 small.1 v) (without_others inside call))) acted
+          (act_kept v call small.0 small.1 small.2 ends.1 apart.0 flagged) in
           let both : filter (λ (c : Completed P). inside c.origin) ds
           ++ filter (λ (c : Completed P). inside c.origin) es
           ≡ filter (λ (c : Completed P). inside c.origin) cs
           = sym (filter-append (λ (c : Completed P). inside c.origin) ds es)
           ∙ ap (filter (λ (c : Completed P). inside c.origin)) join in
-          let run : Runs cmp s call now
+          let run : Runs cmp s (without_others inside call) now
           (goes (filter (λ (c : Completed P). inside c.origin) cs) (Small act_small.0 act_small.1 u)) =
           record {
             ticked = goes (filter (λ (c : Completed P). inside c.origin) ds) (Small small.0 small.1 v);
@@ -460,11 +516,11 @@ module _ {P : Type 0} (cmp : P → P → Ordering) (order : IsTotalOrder cmp) (i
           (act_rests v call ends.1) in
           let next : Behind (Small act_small.0 act_small.1 u) u act_small.0 act_small.1 =
           record { within = act_small.2; rests = rests; count = 0; ticks = no_tick; at = omega arith } in
-          let others : Answers cmp (Small act_small.0 act_small.1 u) (filter (is_kept inside) calls)
+          let others : Answers cmp (Small act_small.0 act_small.1 u) (kept_calls inside calls)
           (kept_completions inside calls css)
           × NothingElse inside calls css
           = ih (Small act_small.0 act_small.1 u) act_small.0 act_small.1 next in
-          (call_answers is_now (omega arith) run others.0, (tt, others.1))
+          (call_answers (same_moment call ∙ is_now) (omega arith) run others.0, (tt, others.1))
       by_call false dropped ds v es ticked acted join ih =
           let later : w.moment ≤ now = turn_later cmp order w call now is_now turn in
           let ends : (v.moment ≡ w.moment + (now - w.moment)) × NoneDone cmp order v =
@@ -513,7 +569,7 @@ module _ {P : Type 0} (cmp : P → P → Ordering) (order : IsTotalOrder cmp) (i
             ticks = waited;
             at = omega arith;
           } in
-          let others : Answers cmp s (filter (is_kept inside) calls) (kept_completions inside calls css)
+          let others : Answers cmp s (kept_calls inside calls) (kept_completions inside calls css)
           × NothingElse inside calls css =
           ih s act_small.0 act_small.1 next in
           (others.0, (quiet, others.1))
@@ -547,7 +603,7 @@ module _ {P : Type 0} (cmp : P → P → Ordering) (order : IsTotalOrder cmp) (i
   -- from a new world, the set's completions are those of the calls without the messages of others
   pub isolation : (id : ℕ) (calls : List (Call P)) (css : List (List (Completed P)))
       → AnswersInTurn cmp (new_world id) calls css → KeepsApart inside calls → InTime calls
-      → Answers cmp (new_world id) (filter (is_kept inside) calls) (kept_completions inside calls css)
+      → Answers cmp (new_world id) (kept_calls inside calls) (kept_completions inside calls css)
       × NothingElse inside calls css
   isolation id calls css answered apart in_time =
       let start : World P = new_world id in

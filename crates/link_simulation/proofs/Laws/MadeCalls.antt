@@ -1,12 +1,12 @@
 -- Replies that agree with the simulation, to calls in turn, are what the calls that were made answer there.
-use Rattle.std.proofs.Common.{◌≡◌, ℕ, ◌<◌, ◌≤◌, List, [], ◌∷◌, ◌++◌, Some, zero, suc, refl, sym, ap, ◌∙◌, subst, arith}
+use Rattle.std.proofs.Common.{◌≡◌, ℕ, ◌<◌, ◌≤◌, List, [], ◌∷◌, Some, zero, suc, refl, sym, ap, ◌∙◌, subst, arith}
 use Rattle.std.specs.Prelude.{IfSome, take}
 use Rattle.std.specs.List.{AllZip}
 use Rattle.std.specs.declared.cmp.Ordering.{Ordering}
 use Rattle.std.specs.Cmp.{IsTotalOrder}
 use Rattle.link_simulation.specs.Simulation.World.{World, new_world, Completed, goes, IsQuiet}
 use Rattle.link_simulation.specs.Simulation.Calls.{Call, call_limit, call_limit_link, call_enqueue, call_advance}
-use Rattle.link_simulation.specs.Simulation.Calls.{call_next, moment_of, Runs, IsBeforeNext, IsInTurn}
+use Rattle.link_simulation.specs.Simulation.Calls.{call_enqueue_all, call_next, moment_of, Runs, IsBeforeNext, IsInTurn}
 use Rattle.link_simulation.specs.Simulation.Replies.{Reply, reply_done, reply_next, reply_refused, SameCompletion}
 use Rattle.link_simulation.specs.Simulation.Replies.{Agrees, made, completions_in}
 use Rattle.link_simulation.specs.Laws.Isolation.{Answers, no_calls, call_answers, AnswersInTurn, no_calls_in_turn}
@@ -24,6 +24,7 @@ module _ {P : Type 0} (cmp : P → P → Ordering) (order : IsTotalOrder cmp) wh
   turn_later w (call_limit_link t origin recipient link) now e h =
       let same : t ≡ now = cc in let le : w.moment ≤ t = h.0 in omega arith
   turn_later w (call_enqueue t m) now e h = let same : t ≡ now = cc in let le : w.moment ≤ t = h.0 in omega arith
+  turn_later w (call_enqueue_all t ms) now e h = let same : t ≡ now = cc in let le : w.moment ≤ t = h.0 in omega arith
   turn_later w (call_advance t) now e h = let same : t ≡ now = cc in let le : w.moment ≤ t = h in omega arith
   turn_later w call_next now e h = cc
 
@@ -66,7 +67,7 @@ module _ {P : Type 0} (cmp : P → P → Ordering) (order : IsTotalOrder cmp) wh
       call_ends_quiet cmp order w call now (goes cs v) quiet at le runs in
       (ends.1, subst (λ (t : ℕ). IsQuiet cmp t v) (sym ends.1) ends.0)
 
-  before_next : (w : World P) (now : ℕ) → w.moment ≡ now → IsBeforeNext cmp now w
+  pub before_next : (w : World P) (now : ℕ) → w.moment ≡ now → IsBeforeNext cmp now w
   before_next w now same = λ next is.
       subst (λ (s : ℕ). IfSome next (λ t. s < t)) same (next_is_later cmp order w next is)
 
@@ -110,6 +111,11 @@ module _ {P : Type 0} (cmp : P → P → Ordering) (order : IsTotalOrder cmp) wh
   advanced_in_turn (call_enqueue now m ∷ calls) (reply ∷ replies) w at same quiet first =
       let equal : now ≡ at = first.0 in
       at_the_moment w (call_enqueue now m) calls reply replies at (ap Some equal) same quiet
+      (omega arith, before_next w now (omega arith))
+      (λ v there calm. advanced_in_turn calls replies v at there calm first.1)
+  advanced_in_turn (call_enqueue_all now ms ∷ calls) (reply ∷ replies) w at same quiet first =
+      let equal : now ≡ at = first.0 in
+      at_the_moment w (call_enqueue_all now ms) calls reply replies at (ap Some equal) same quiet
       (omega arith, before_next w now (omega arith))
       (λ v there calm. advanced_in_turn calls replies v at there calm first.1)
   advanced_in_turn (call_advance now ∷ calls) (reply_done cs ∷ replies) w at same quiet first =

@@ -13,7 +13,7 @@ use Rattle.link_simulation.specs.Simulation.Messages.{Message, Caps, same_pair}
 use Rattle.link_simulation.specs.Simulation.World.{Completed, Course, goes, meets, last_moment, preceded, fronts}
 use Rattle.link_simulation.specs.Simulation.World.{raised, later_of, completion_of, completed}
 use Rattle.link_simulation.specs.Simulation.Calls.{Call, call_limit, call_limit_link, call_enqueue, call_advance}
-use Rattle.link_simulation.specs.Simulation.Calls.{call_next}
+use Rattle.link_simulation.specs.Simulation.Calls.{call_enqueue_all, call_next}
 use Rattle.link_simulation.specs.Rule.Planned.{Planned, RatedFlight, IsLeastMoment, next_event, rated_messages, left_at}
 use Rattle.link_simulation.specs.Rule.Planned.{IsSpentAt, SomeSpentAt, drained_to, next_of, may_launch, SomeReadyAt}
 use Rattle.link_simulation.specs.Rule.Planned.{is_spent, IsPlanned, new_planned}
@@ -23,6 +23,7 @@ use Rattle.link_simulation.specs.Rule.Events.{no_start, no_finish, starts_one, W
 use Rattle.link_simulation.specs.Rule.Events.{none_sending, some_sending, Enqueues, at_once, no_launch, launches}
 use Rattle.link_simulation.specs.Rule.Events.{Advances, no_more, at_finish, at_start, finish_stops, start_stops}
 use Rattle.link_simulation.specs.Rule.Events.{launched, Obeys}
+use Rattle.link_simulation.specs.Rule.Events.{EnqueuesEach, all_enqueued, one_stops, enqueues_one}
 use Rattle.fair_rates.proofs.Lists.Members.{In, in_filter}
 use Rattle.link_simulation.proofs.Simulation.SettlingEnds.{find_like, length_without}
 use Rattle.link_simulation.proofs.Simulation.Queue.{find_passes, pair_sym}
@@ -464,6 +465,15 @@ module _ {P : Type 0} (cmp : P → P → Ordering) (order : IsTotalOrder cmp) wh
       both : {A : Type 0} → p.limited ≡ true → p.limited ≡ false → A
       both on off = cc
 
+  each_right : {now : ℕ} {ms : List (Message P)} {p : Planned P} {c : Course (Completed P) (Planned P)}
+      → EnqueuesEach cmp now ms p c → IsPlanned cmp p → Right c
+  unfolding Right
+  each_right all_enqueued h = h
+  each_right (one_stops one) h = tt
+  each_right (enqueues_one {q = q} {cs = cs} {rest = rest} one more) h =
+      let after : IsPlanned cmp q = enqueue_right one h in
+      right_after cs rest (each_right more after)
+
   -- what is planned is right after each call
   pub obeys_right : (p : Planned P) (call : Call P) (c : Course (Completed P) (Planned P)) → IsPlanned cmp p
       → Obeys cmp p call c → (cs : List (Completed P)) (q : Planned P)
@@ -475,6 +485,7 @@ module _ {P : Type 0} (cmp : P → P → Ordering) (order : IsTotalOrder cmp) wh
       by_call (call_limit now peer egress ingress) obeys = rebalance_right obeys h
       by_call (call_limit_link now origin recipient cap) obeys = rebalance_right obeys h
       by_call (call_enqueue now m) obeys = enqueue_right obeys h
+      by_call (call_enqueue_all now ms) obeys = each_right obeys h
       by_call (call_advance now) obeys = advance_right obeys.1 h
       by_call call_next obeys = subst Right (sym obeys) h
 

@@ -14,7 +14,7 @@ use Rattle.link_simulation.specs.Simulation.Rates.{AreFair}
 use Rattle.link_simulation.specs.Simulation.World.{Completed, Course, goes, meets, last_moment, raised, later_of}
 use Rattle.link_simulation.specs.Simulation.World.{completion_of, is_in_order, EndsWith, completed, arrival}
 use Rattle.link_simulation.specs.Simulation.Calls.{Call, call_limit, call_limit_link, call_enqueue, call_advance}
-use Rattle.link_simulation.specs.Simulation.Calls.{call_next, limited_by, linked_by}
+use Rattle.link_simulation.specs.Simulation.Calls.{call_enqueue_all, call_next, limited_by, linked_by}
 use Rattle.link_simulation.specs.Rule.Planned.{Planned, RatedFlight, new_planned, rated_messages, drained_to, next_of}
 use Rattle.link_simulation.specs.Rule.Planned.{AreInPairOrder, may_launch, is_spent, IsRated}
 use Rattle.link_simulation.specs.Rule.Events.{Accounts, PlansStart, Launches, nothing_waits, too_early, no_id, starts}
@@ -23,6 +23,7 @@ use Rattle.link_simulation.specs.Rule.Events.{no_start, no_finish, starts_one, S
 use Rattle.link_simulation.specs.Rule.Events.{none_sending, some_sending, Enqueues, at_once, no_launch, launches}
 use Rattle.link_simulation.specs.Rule.Events.{Advances, no_more, at_finish, at_start, finish_stops, start_stops}
 use Rattle.link_simulation.specs.Rule.Events.{launched, landed, with_queued, Obeys}
+use Rattle.link_simulation.specs.Rule.Events.{EnqueuesEach, all_enqueued, one_stops, enqueues_one}
 use Rattle.link_simulation.specs.Laws.Orderly.{IsOrderly}
 use Rattle.link_simulation.proofs.Simulation.AlikeMessages.{same_itself}
 use Rattle.link_simulation.proofs.Simulation.Queue.{one_pair_more}
@@ -319,6 +320,13 @@ module _ {P : Type 0} (cmp : P → P → Ordering) (order : IsTotalOrder cmp) wh
   enqueue_orderly {m = m} {p = p} (launches {leavers = leavers} {mid = mid} limits launch finishes) h =
       finish_orderly finishes (launch_orderly launch m leavers mid refl refl (queued_orderly p m limits h))
 
+  each_orderly : {now : ℕ} {ms : List (Message P)} {p : Planned P} {c : Course (Completed P) (Planned P)}
+      → EnqueuesEach cmp now ms p c → IsOrderly cmp p → EndsWith (IsOrderly cmp) c
+  each_orderly all_enqueued h = h
+  each_orderly (one_stops one) h = tt
+  each_orderly (enqueues_one {cs = cs} {rest = rest} one more) h =
+      ends_preceded (IsOrderly cmp) cs rest (each_orderly more (enqueue_orderly one h))
+
   pub limited_by_alike : (caps : Caps P) (peer : P) (egress ingress : Option ℕ) → CapsAlike cmp caps caps
       → CapsAlike cmp (limited_by cmp caps peer egress ingress) (limited_by cmp caps peer egress ingress)
   limited_by_alike caps peer egress ingress h =
@@ -337,6 +345,7 @@ module _ {P : Type 0} (cmp : P → P → Ordering) (order : IsTotalOrder cmp) wh
   call_orderly p (call_limit_link now origin recipient cap) c obeys h =
       rebalance_orderly obeys (linked_by_alike p.caps origin recipient cap h.caps) h
   call_orderly p (call_enqueue now m) c obeys h = enqueue_orderly obeys h
+  call_orderly p (call_enqueue_all now ms) c obeys h = each_orderly obeys h
   call_orderly p (call_advance now) c obeys h = advance_orderly obeys.1 h
   call_orderly p call_next c obeys h = subst (EndsWith (IsOrderly cmp)) (sym obeys) h
 

@@ -18,15 +18,16 @@ use Rattle.link_simulation.specs.Simulation.World.{settle}
 use Rattle.link_simulation.specs.Simulation.World.{instant, EndsWith}
 use Rattle.link_simulation.specs.Simulation.Time.{IsSound, Drains, Ticks, no_tick, one_tick, tick_faults}
 use Rattle.link_simulation.specs.Simulation.Calls.{Call, call_limit, call_limit_link, call_enqueue, call_advance}
-use Rattle.link_simulation.specs.Simulation.Calls.{call_next, rebalance, join, complete_at_once, act, moment_of, Runs}
-use Rattle.link_simulation.specs.Simulation.Calls.{limited_by, linked_by}
+use Rattle.link_simulation.specs.Simulation.Calls.{rebalance, join, complete_at_once, act, moment_of, Runs}
+use Rattle.link_simulation.specs.Simulation.Calls.{call_enqueue_all, call_next}
+use Rattle.link_simulation.specs.Simulation.Calls.{limited_by, linked_by, enqueue, enqueue_each}
 use Rattle.link_simulation.specs.Laws.PairCompletions.{enqueued, answered, IsCompletionOf, NeverGoDown, IsInPairOrder}
 use Rattle.link_simulation.specs.Laws.Isolation.{Answers, no_calls, call_answers}
 use Rattle.link_simulation.proofs.Simulation.Queue.{pair_sym}
 use Rattle.link_simulation.proofs.Simulation.Stretch.{flows_drained}
 use Rattle.link_simulation.proofs.Simulation.Split.{rest_is}
 use Rattle.link_simulation.proofs.Simulation.Sound.{raised_peerwise, ticks_keep_sound, call_keeps_sound}
-use Rattle.link_simulation.proofs.Simulation.Sound.{new_world_sound}
+use Rattle.link_simulation.proofs.Simulation.Sound.{new_world_sound, act_keeps_sound}
 use Rattle.link_simulation.proofs.Simulation.QuietInstants.{ends_at}
 use Rattle.link_simulation.proofs.Laws.PairHistories.{held, told_of_k, waits, last, NotPast, AllNotPast, IsHistory}
 use Rattle.link_simulation.proofs.Laws.PairHistories.{deliveries_push, not_past_later, not_past_push, raises}
@@ -40,6 +41,7 @@ pub enqueued_split : {P : Type 0} (call : Call P) (calls : List (Call P))
 enqueued_split (call_limit now peer egress ingress) calls = refl
 enqueued_split (call_limit_link now origin recipient cap) calls = refl
 enqueued_split (call_enqueue now m) calls = refl
+enqueued_split (call_enqueue_all now ms) calls = ap (λ ns. ns ++ enqueued calls) (append-nil ms)
 enqueued_split (call_advance now) calls = refl
 enqueued_split call_next calls = refl
 
@@ -268,32 +270,12 @@ module _ {P : Type 0} (cmp : P → P → Ordering) (order : IsTotalOrder cmp) (k
       by_late true = tt
       by_late false = by_pair (same_pair cmp k m) refl
 
-  act_goes : (messages : List (Message P)) (t : ℕ) (cs : List (Completed P)) (w : World P) (call : Call P)
-      → moment_of call ≡ Some t
-      → (w.limited ≡ false → (w.sending ≡ []) × (w.waiting ≡ [])) → IsHistory cmp order k messages t cs w
-      → GoesByRule cmp order k (messages ++ added call) t cs (act cmp w call)
-  act_goes messages t cs w (call_limit s peer egress ingress) e empty h =
-      let same : t ≡ s = cc in
-      subst (λ (n : ℕ). GoesByRule cmp order k (messages ++ []) t cs
-      (rebalance cmp n w (limited_by cmp w.caps peer egress ingress))) same
-      (settle_goes cmp order k (messages ++ []) t cs (record w {
-        caps = limited_by cmp w.caps peer egress ingress;
-        limited = true;
-      }) (none_more messages t cs _ (recapped_history messages t cs w
-      (limited_by cmp w.caps peer egress ingress) h)))
-  act_goes messages t cs w (call_limit_link s origin recipient cap) e empty h =
-      let same : t ≡ s = cc in
-      subst (λ (n : ℕ). GoesByRule cmp order k (messages ++ []) t cs
-      (rebalance cmp n w (linked_by cmp w.caps origin recipient cap))) same
-      (settle_goes cmp order k (messages ++ []) t cs (record w {
-        caps = linked_by cmp w.caps origin recipient cap;
-        limited = true;
-      }) (none_more messages t cs _ (recapped_history messages t cs w
-      (linked_by cmp w.caps origin recipient cap) h)))
-  act_goes messages t cs w (call_enqueue s m) e empty h =
-      let same : t ≡ s = cc in
-      subst (λ (n : ℕ). GoesByRule cmp order k (messages ++ m ∷ []) t cs (act cmp w (call_enqueue n m))) same
-      (by_mode w.limited refl)
+  -- ---- messages that are sent
+
+  enqueue_goes : (messages : List (Message P)) (t : ℕ) (cs : List (Completed P)) (w : World P) (m : Message P)
+      → IsSound cmp w → IsHistory cmp order k messages t cs w
+      → GoesByRule cmp order k (messages ++ m ∷ []) t cs (enqueue cmp t w m)
+  enqueue_goes messages t cs w m sound h = by_mode w.limited refl
     where
       waiting : World P
       waiting = record w { waiting = w.waiting ++ m ∷ [] }
@@ -309,10 +291,64 @@ module _ {P : Type 0} (cmp : P → P → Ordering) (order : IsTotalOrder cmp) (k
       by_mode : (b : Bool) → w.limited ≡ b
           → GoesByRule cmp order k (messages ++ m ∷ []) t cs (cond b (join cmp t w m) (complete_at_once cmp t w m))
       by_mode true is = joins
-      by_mode false is = at_once_goes messages t cs w m (empty is).0 (empty is).1 h
-  act_goes messages t cs w (call_advance s) e empty h =
+      by_mode false is = at_once_goes messages t cs w m (sound.empty_at_first is).0 (sound.empty_at_first is).1 h
+
+  each_goes : (ms messages : List (Message P)) (t : ℕ) (cs : List (Completed P)) (w : World P) → IsSound cmp w
+      → IsHistory cmp order k messages t cs w
+      → GoesByRule cmp order k (messages ++ ms) t cs (enqueue_each cmp t w ms)
+  unfolding GoesByRule
+  each_goes [] messages t cs w sound h = stays cmp order k (messages ++ []) t cs w (none_more messages t cs w h)
+  each_goes (m ∷ ms) messages t cs w sound h =
+      by_course (enqueue cmp t w m) (act_keeps_sound cmp order (call_enqueue t m) w sound)
+      (enqueue_goes messages t cs w m sound h) (each_goes ms)
+    where
+      by_course : (c : Course (Completed P) (World P)) → EndsWith (IsSound cmp) c
+          → GoesByRule cmp order k (messages ++ m ∷ []) t cs c
+          → ((before : List (Message P)) (s : ℕ) (ds : List (Completed P)) (u : World P) → IsSound cmp u
+          → IsHistory cmp order k before s ds u
+          → GoesByRule cmp order k (before ++ ms) s ds (enqueue_each cmp s u ms))
+          → GoesByRule cmp order k (messages ++ m ∷ ms) t cs (and_then c (λ v. enqueue_each cmp t v ms))
+      by_course (goes ds u) sound_u g ih =
+          subst (λ (ns : List (Message P)). GoesByRule cmp order k ns t cs (preceded ds (enqueue_each cmp t u ms)))
+          (append_assoc messages (m ∷ []) ms)
+          (goes_preceded cmp order k ((messages ++ m ∷ []) ++ ms) t cs ds (enqueue_each cmp t u ms)
+          (ih (messages ++ m ∷ []) t (cs ++ ds) u sound_u g))
+      by_course (meets fault) sound_u g ih = tt
+
+  act_goes : (messages : List (Message P)) (t : ℕ) (cs : List (Completed P)) (w : World P) (call : Call P)
+      → moment_of call ≡ Some t
+      → IsSound cmp w → IsHistory cmp order k messages t cs w
+      → GoesByRule cmp order k (messages ++ added call) t cs (act cmp w call)
+  act_goes messages t cs w (call_limit s peer egress ingress) e sound h =
+      let same : t ≡ s = cc in
+      subst (λ (n : ℕ). GoesByRule cmp order k (messages ++ []) t cs
+      (rebalance cmp n w (limited_by cmp w.caps peer egress ingress))) same
+      (settle_goes cmp order k (messages ++ []) t cs (record w {
+        caps = limited_by cmp w.caps peer egress ingress;
+        limited = true;
+      }) (none_more messages t cs _ (recapped_history messages t cs w
+      (limited_by cmp w.caps peer egress ingress) h)))
+  act_goes messages t cs w (call_limit_link s origin recipient cap) e sound h =
+      let same : t ≡ s = cc in
+      subst (λ (n : ℕ). GoesByRule cmp order k (messages ++ []) t cs
+      (rebalance cmp n w (linked_by cmp w.caps origin recipient cap))) same
+      (settle_goes cmp order k (messages ++ []) t cs (record w {
+        caps = linked_by cmp w.caps origin recipient cap;
+        limited = true;
+      }) (none_more messages t cs _ (recapped_history messages t cs w
+      (linked_by cmp w.caps origin recipient cap) h)))
+  act_goes messages t cs w (call_enqueue s m) e sound h =
+      let same : t ≡ s = cc in
+      subst (λ (n : ℕ). GoesByRule cmp order k (messages ++ m ∷ []) t cs (enqueue cmp n w m)) same
+      (enqueue_goes messages t cs w m sound h)
+  act_goes messages t cs w (call_enqueue_all s ms) e sound h =
+      let same : t ≡ s = cc in
+      subst (λ (n : ℕ). GoesByRule cmp order k (messages ++ (ms ++ [])) t cs (enqueue_each cmp n w ms)) same
+      (subst (λ (ns : List (Message P)). GoesByRule cmp order k (messages ++ ns) t cs (enqueue_each cmp t w ms))
+      (sym (append-nil ms)) (each_goes ms messages t cs w sound h))
+  act_goes messages t cs w (call_advance s) e sound h =
       stays cmp order k (messages ++ []) t cs w (none_more messages t cs w h)
-  act_goes messages t cs w call_next e empty h = cc
+  act_goes messages t cs w call_next e sound h = cc
 
   run_history : (messages : List (Message P)) (cs ds : List (Completed P)) (w u : World P) (call : Call P) (now : ℕ)
       → moment_of call ≡ Some now → w.moment ≤ now
@@ -336,7 +372,7 @@ module _ {P : Type 0} (cmp : P → P → Ordering) (order : IsTotalOrder cmp) (k
           runs.acts ∙ ap (λ (c : Course (Completed P) (World P)). and_then c (λ x. act cmp x call)) is in
           let all : GoesByRule cmp order k (messages ++ added call) now cs (preceded es (act cmp v call))
           = goes_preceded cmp order k (messages ++ added call) now cs es (act cmp v call)
-          (act_goes messages now (cs ++ es) v call at sound_v.empty_at_first there) in
+          (act_goes messages now (cs ++ es) v call at sound_v there) in
           subst (GoesByRule cmp order k (messages ++ added call) now cs) (sym acts) all
 
   ends_in_order : (messages : List (Message P)) (t : ℕ) (cs : List (Completed P)) (w : World P)

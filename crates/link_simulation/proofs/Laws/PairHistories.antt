@@ -1,6 +1,6 @@
 -- How far a pair is: which of its messages completed, which is in flight, which wait. Starts, completions and whole
 -- instants keep it.
-use Rattle.std.proofs.Common.{◌≡◌, ℕ, zero, suc, ◌+◌, ◌-◌, ◌≤◌, List, [], ◌∷◌, ◌++◌, map, length, Bool, true, false}
+use Rattle.std.proofs.Common.{◌≡◌, ℕ, zero, suc, ◌+◌, ◌≤◌, List, [], ◌∷◌, ◌++◌, map, length, Bool, true, false}
 use Rattle.std.proofs.Common.{cond, not, Option, Some, None, refl, sym, ap, ◌∙◌, subst, arith, append_assoc}
 use Rattle.std.proofs.Common.{append-nil}
 use Rattle.std.specs.Prelude.{⊤, ◌&&◌, ◌||◌, IfSome, nat_le, if◌then◌else◌}
@@ -20,7 +20,7 @@ use Rattle.link_simulation.specs.Simulation.World.{flows, first_waiting, may_sta
 use Rattle.link_simulation.specs.Simulation.World.{complete, settle_within, settle, least_pair, ready, turn}
 use Rattle.link_simulation.specs.Simulation.World.{wake_within, wake, instant, fronts, out_of_flight, is_late}
 use Rattle.link_simulation.specs.Simulation.World.{completed, arrival, flight_of}
-use Rattle.link_simulation.specs.Laws.PairCompletions.{enqueued, IsCompletionOf, NoneBefore, NeverGoDown}
+use Rattle.link_simulation.specs.Laws.PairCompletions.{IsCompletionOf, NoneBefore, NeverGoDown}
 use Rattle.link_simulation.specs.Laws.PairCompletions.{completes_pair}
 use Rattle.link_simulation.proofs.Simulation.Queue.{pair_like, pair_sym, find_passes, settle_none, settle_first}
 use Rattle.link_simulation.proofs.Simulation.SettlingEnds.{find_like}

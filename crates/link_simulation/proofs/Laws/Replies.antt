@@ -14,7 +14,7 @@ use Rattle.link_simulation.specs.Simulation.Replies.{Agrees, made, completions_i
 use Rattle.link_simulation.specs.Laws.PairCompletions.{enqueued, answered, IsCompletionOf, NoneBefore, NeverGoDown}
 use Rattle.link_simulation.specs.Laws.PairCompletions.{completes_pair, IsInPairOrder}
 use Rattle.link_simulation.specs.Laws.Isolation.{Answers, InTime, IsSet, NothingElse, inside_alone, is_kept}
-use Rattle.link_simulation.specs.Laws.Isolation.{kept_completions}
+use Rattle.link_simulation.specs.Laws.Isolation.{kept_calls, kept_completions}
 use Rattle.link_simulation.specs.Laws.Replies.{AlwaysSoFar, Completes, CompletesInOrder, CompletePairsInOrder}
 use Rattle.link_simulation.specs.Laws.Replies.{IsolateSets}
 use Rattle.link_simulation.proofs.Simulation.Queue.{both_alike}
@@ -173,7 +173,7 @@ module _ {P : Type 0} (cmp : P → P → Ordering) (order : IsTotalOrder cmp) wh
       let bridged : Bridged cmp order (new_world 0) (take n calls) (take n replies) =
       made_in_turn cmp order n calls replies (new_world 0) agrees turns in
       let calls_made : List (Call P) = made (take n calls) (take n replies) in
-      let isolated : Answers cmp (new_world 0) (filter (is_kept inside) calls_made)
+      let isolated : Answers cmp (new_world 0) (kept_calls inside calls_made)
       (kept_completions inside calls_made bridged.0)
       × NothingElse inside calls_made bridged.0
       = isolation cmp order inside together 0 calls_made bridged.0 bridged.1 apart

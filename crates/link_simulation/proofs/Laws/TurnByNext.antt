@@ -1,20 +1,24 @@
 -- Calls before the planned next event, and those that go by what `next` answers, come in their turn.
-use Rattle.std.proofs.Common.{◌≡◌, ℕ, ◌+◌, ◌<◌, ◌≤◌, List, [], ◌∷◌, Option, Some, None, refl, sym, ◌∙◌, subst, arith}
+use Rattle.std.proofs.Common.{◌≡◌, ℕ, ◌+◌, ◌<◌, ◌≤◌, List, [], ◌∷◌, Option, Some, None, refl, sym, subst, arith}
+use Rattle.std.proofs.Common.{◌++◌, ap, append_assoc, ◌∙◌}
 use Rattle.std.specs.Prelude.{IfSome}
 use Rattle.std.specs.declared.cmp.Ordering.{Ordering}
 use Rattle.std.specs.Cmp.{IsTotalOrder}
-use Rattle.fair_rates.specs.declared.error.Error.{Error}
-use Rattle.link_simulation.specs.Simulation.World.{World, Completed, Course, goes, new_world, EndsWith, IsQuiet}
+use Rattle.link_simulation.specs.Simulation.World.{Course, preceded, and_then, meets}
+use Rattle.link_simulation.specs.Simulation.Messages.{Message}
+use Rattle.link_simulation.specs.Simulation.Calls.{enqueue, enqueue_each}
+use Rattle.link_simulation.specs.Simulation.World.{World, Completed, goes, new_world, IsQuiet}
 use Rattle.link_simulation.specs.Simulation.Time.{NextIs, IsSound}
 use Rattle.link_simulation.specs.Simulation.Calls.{Call, call_limit, call_limit_link, call_enqueue, call_advance}
-use Rattle.link_simulation.specs.Simulation.Calls.{call_next, moment_of, Runs, IsInTurn, IsBeforeNext}
+use Rattle.link_simulation.specs.Simulation.Calls.{call_enqueue_all, call_next, moment_of, Runs, IsInTurn, IsBeforeNext}
 use Rattle.link_simulation.specs.Simulation.Replies.{Reply, reply_done, reply_next, reply_refused, Agrees}
 use Rattle.link_simulation.specs.Rule.Planned.{Planned, next_event}
 use Rattle.link_simulation.specs.Rule.StandsFor.{StandsFor}
 use Rattle.link_simulation.specs.Rule.Simulated.{IsCalled, IsRun}
 use Rattle.link_simulation.specs.Laws.Replies.{IsBetween, GoByNext, AreInTurn}
 use Rattle.link_simulation.proofs.Rule.Limit.{new_stands}
-use Rattle.link_simulation.proofs.Laws.MadeCalls.{run_ends, turn_later}
+use Rattle.link_simulation.proofs.Laws.MadeCalls.{run_ends, turn_later, before_next}
+use Rattle.link_simulation.proofs.Rule.Obeys.{acts_at_once}
 use Rattle.link_simulation.proofs.Rule.NextEvent.{next_is_planned}
 use Rattle.link_simulation.proofs.Simulation.OneNext.{next_is_one}
 use Rattle.link_simulation.proofs.Simulation.OneRun.{runs_are_one}
@@ -34,6 +38,8 @@ module _ {P : Type 0} (cmp : P → P → Ordering) (order : IsTotalOrder cmp) wh
   in_turn w (call_limit_link t origin recipient cap) now is le before =
       let same : now ≡ t = cc in (omega arith, subst (λ (s : ℕ). IsBeforeNext cmp s w) same before)
   in_turn w (call_enqueue t m) now is le before =
+      let same : now ≡ t = cc in (omega arith, subst (λ (s : ℕ). IsBeforeNext cmp s w) same before)
+  in_turn w (call_enqueue_all t ms) now is le before =
       let same : now ≡ t = cc in (omega arith, subst (λ (s : ℕ). IsBeforeNext cmp s w) same before)
   in_turn w (call_advance t) now is le before = let same : now ≡ t = cc in omega arith
   in_turn w call_next now is le before = tt
@@ -55,6 +61,46 @@ module _ {P : Type 0} (cmp : P → P → Ordering) (order : IsTotalOrder cmp) wh
     turn =
         let at : run.after.moment ≡ now =
         run.moment in turn_by_next q run.after other now run.stands is (omega arith) run.next;
+  }
+
+  -- ---- a list of messages
+
+  -- after the first message the rest is in turn, since the next event is later
+  pub rest_in_turn : (w v : World P) (now : ℕ) (m : Message P) (ms : List (Message P)) (cs : List (Completed P))
+      → IsQuiet cmp w.moment w → IsInTurn cmp w (call_enqueue_all now (m ∷ ms))
+      → Runs cmp w (call_enqueue now m) now (goes cs v) → IsInTurn cmp v (call_enqueue_all now ms)
+  rest_in_turn w v now m ms cs quiet turn runs =
+      let ends : (v.moment ≡ now) × IsQuiet cmp v.moment v =
+      run_ends cmp order w v (call_enqueue now m) now cs quiet refl turn.0 runs in
+      let at : v.moment ≡ now = ends.0 in
+      (omega arith, before_next cmp order v now at)
+
+  then_then : (c : Course (Completed P) (World P)) (f g : World P → Course (Completed P) (World P))
+      → and_then c (λ v. and_then (f v) g) ≡ and_then (and_then c f) g
+  then_then (goes cs v) f g = both (f v)
+    where
+      after : (ds : List (Completed P)) (e : Course (Completed P) (World P))
+          → preceded cs (preceded ds e) ≡ preceded (cs ++ ds) e
+      after ds (goes es u) = ap (λ (l : List (Completed P)). goes l u) (sym (append_assoc cs ds es))
+      after ds (meets fault) = refl
+
+      both : (d : Course (Completed P) (World P)) → preceded cs (and_then d g) ≡ and_then (preceded cs d) g
+      both (goes ds u) = after ds (g u)
+      both (meets fault) = refl
+  then_then (meets fault) f g = refl
+
+  -- the first message and then the rest are the list
+  pub runs_as_one : (w v : World P) (now : ℕ) (m : Message P) (ms : List (Message P)) (cs : List (Completed P))
+      (course : Course (Completed P) (World P)) → Runs cmp w (call_enqueue now m) now (goes cs v) → v.moment ≡ now
+      → Runs cmp v (call_enqueue_all now ms) now course
+      → Runs cmp w (call_enqueue_all now (m ∷ ms)) now (preceded cs course)
+  runs_as_one w v now m ms cs course first at rest = record {
+    ticked = first.ticked;
+    ticks = first.ticks;
+    acts =
+        ap (preceded cs) (acts_at_once cmp order v (call_enqueue_all now ms) now course at rest)
+        ∙ ap (λ (c : Course (Completed P) (World P)). and_then c (λ u. enqueue_each cmp now u ms)) first.acts
+        ∙ sym (then_then first.ticked (λ u. enqueue cmp now u m) (λ u. enqueue_each cmp now u ms));
   }
 
   -- ---- a list of calls
@@ -86,6 +132,8 @@ module _ {P : Type 0} (cmp : P → P → Ordering) (order : IsTotalOrder cmp) wh
       (let le : from ≤ now = between.0 in omega arith, known now between.1)
   turn_between w (call_enqueue now m) from before same known between =
       (let le : from ≤ now = between.0 in omega arith, known now between.1)
+  turn_between w (call_enqueue_all now ms) from before same known between =
+      (let le : from ≤ now = between.0 in omega arith, known now between.1)
   turn_between w (call_advance now) from before same known between = let le : from ≤ now = between in omega arith
   turn_between w call_next from before same known between = tt
 
@@ -95,6 +143,7 @@ module _ {P : Type 0} (cmp : P → P → Ordering) (order : IsTotalOrder cmp) wh
   asked w calls replies (call_limit now peer egress ingress) next agrees = absurd agrees
   asked w calls replies (call_limit_link now origin recipient cap) next agrees = absurd agrees
   asked w calls replies (call_enqueue now m) next agrees = absurd agrees
+  asked w calls replies (call_enqueue_all now ms) next agrees = absurd agrees
   asked w calls replies (call_advance now) next agrees = absurd agrees
   asked w calls replies call_next next agrees = (tt, agrees.0)
 

@@ -9,7 +9,7 @@ use Rattle.fair_rates.specs.Sides.Subjects.{same_peer}
 use Rattle.link_simulation.specs.Simulation.World.{World, new_world, Completed, Course, goes, meets, last_moment}
 use Rattle.link_simulation.specs.Simulation.Time.{NextIs}
 use Rattle.link_simulation.specs.Simulation.Calls.{Call, call_limit, call_limit_link, call_enqueue, call_advance}
-use Rattle.link_simulation.specs.Simulation.Calls.{call_next, moment_of, Runs, IsInTurn}
+use Rattle.link_simulation.specs.Simulation.Calls.{call_enqueue_all, call_next, moment_of, Runs, IsInTurn}
 use Rattle.link_simulation.specs.Simulation.Replies.{Reply, reply_done, reply_next, reply_refused, SameCompletion}
 use Rattle.link_simulation.specs.Simulation.Replies.{Faults, MayRefuse, Agrees}
 use Rattle.link_simulation.specs.Rule.Planned.{Planned, new_planned}
@@ -135,12 +135,22 @@ module _ {P : Type 0} (cmp : P → P → Ordering) (order : IsTotalOrder cmp) wh
         follows calls replies p w stands in_time.1 obeyed.1,
       )
   follows (call_enqueue now m ∷ calls) (reply_next t ∷ replies) p w stands in_time obeyed = obeyed
+  follows (call_enqueue_all now ms ∷ calls) (reply_next t ∷ replies) p w stands in_time obeyed = obeyed
   follows (call_enqueue now m ∷ calls) (reply_done cs ∷ replies) p w stands in_time obeyed =
       λ turn. accepts (call_enqueue now m) calls now cs replies p w (follows calls) stands refl (in_time.0 now refl)
       in_time.1 turn obeyed
+  follows (call_enqueue_all now ms ∷ calls) (reply_done cs ∷ replies) p w stands in_time obeyed =
+      λ turn. accepts (call_enqueue_all now ms) calls now cs replies p w (follows calls) stands refl
+      (in_time.0 now refl) in_time.1 turn obeyed
   follows (call_enqueue now m ∷ calls) (reply_refused why ∷ replies) p w stands in_time obeyed =
       λ turn. (
         refuses p w (call_enqueue now m) now why stands refl (in_time.0 now refl) turn obeyed.0,
+        follows calls
+            replies p w stands in_time.1 obeyed.1,
+      )
+  follows (call_enqueue_all now ms ∷ calls) (reply_refused why ∷ replies) p w stands in_time obeyed =
+      λ turn. (
+        refuses p w (call_enqueue_all now ms) now why stands refl (in_time.0 now refl) turn obeyed.0,
         follows calls
             replies p w stands in_time.1 obeyed.1,
       )

@@ -1,28 +1,28 @@
 -- By the event rule a call has one course, and an advance one number of events.
-use Rattle.std.proofs.Common.{◌≡◌, ◌≢◌, ℕ, suc, ◌+◌, ◌*◌, ◌<◌, ◌≤◌, List, [], ◌∷◌, ◌++◌, length, true, false, not}
+use Rattle.std.proofs.Common.{◌≡◌, ◌≢◌, ℕ, suc, ◌+◌, ◌*◌, ◌<◌, ◌≤◌, List, [], ◌∷◌, ◌++◌, true, false, not}
 use Rattle.std.proofs.Common.{Option, Some, None, refl, sym, ap, ◌∙◌, subst, arith, ◌⊎◌, inl, inr}
-use Rattle.std.specs.Prelude.{IfSome, slice_get}
+use Rattle.std.specs.Prelude.{IfSome}
 use Rattle.std.specs.List.{filter, AllZip}
 use Rattle.std.specs.declared.cmp.Ordering.{Ordering}
 use Rattle.std.specs.Cmp.{IsTotalOrder}
 use Rattle.fair_rates.specs.declared.error.Error.{Error}
 use Rattle.fair_rates.specs.declared.error.Error.TheVariants.{MomentTooLate, FlowIdsUsedUp}
-use Rattle.fair_rates.specs.Numbers.Amount.{Amount}
 use Rattle.fair_rates.specs.Numbers.LowestTerms.{reduced_same}
 use Rattle.link_simulation.specs.Simulation.Messages.{Message, Caps}
 use Rattle.link_simulation.specs.Simulation.Rates.{Parts, rate_of, AreFair}
 use Rattle.link_simulation.specs.Simulation.World.{Completed, Course, goes, meets, last_moment, preceded, is_late}
 use Rattle.link_simulation.specs.Simulation.World.{completed}
 use Rattle.link_simulation.specs.Simulation.Calls.{Call, call_limit, call_limit_link, call_enqueue, call_advance}
-use Rattle.link_simulation.specs.Simulation.Calls.{call_next}
+use Rattle.link_simulation.specs.Simulation.Calls.{call_enqueue_all, call_next}
 use Rattle.link_simulation.specs.Rule.Planned.{Planned, RatedFlight, IsLeastMoment, next_event, rated_messages}
 use Rattle.link_simulation.specs.Rule.Planned.{SomeSpentAt, drained_to, next_of, may_launch, SomeReadyAt, is_spent}
 use Rattle.link_simulation.specs.Rule.Events.{Accounts, PlansStart, launched, Launches, nothing_waits, too_early, no_id}
 use Rattle.link_simulation.specs.Rule.Events.{starts, landed, Finishes, all_completed, late, stopped, completes}
 use Rattle.link_simulation.specs.Rule.Events.{WakesEach, all_started, no_start, no_finish, starts_one, Wakes, Settles}
 use Rattle.link_simulation.specs.Rule.Events.{settling, Rebalances, none_sending, some_sending, Enqueues, at_once}
-use Rattle.link_simulation.specs.Rule.Events.{no_launch, launches, with_queued, Advances, no_more, at_finish, at_start}
+use Rattle.link_simulation.specs.Rule.Events.{no_launch, launches, Advances, no_more, at_finish, at_start}
 use Rattle.link_simulation.specs.Rule.Events.{finish_stops, start_stops, Obeys}
+use Rattle.link_simulation.specs.Rule.Events.{EnqueuesEach, all_enqueued, one_stops, enqueues_one}
 use Rattle.link_simulation.proofs.Simulation.AlikeMessages.{same_itself}
 use Rattle.link_simulation.proofs.Simulation.Rates.{Match, rates_match}
 
@@ -509,6 +509,29 @@ module _ {P : Type 0} (cmp : P → P → Ordering) (order : IsTotalOrder cmp) wh
   advance_is_one {now = now} {p = p} (start_stops {t = t} {fault = fault} finish next due event) m d a =
       event_stops now p t m fault d (inr (finish, next, due, event)) (advance_of a)
 
+  -- ---- messages one after another
+
+  each_is_one : (now : ℕ) (ms : List (Message P)) (p : Planned P) (c d : Course (Completed P) (Planned P))
+      → EnqueuesEach cmp now ms p c → EnqueuesEach cmp now ms p d → c ≡ d
+  each_is_one now [] p c d all_enqueued all_enqueued = refl
+  each_is_one now (m ∷ ms) p c d (one_stops {fault = fault} one) (one_stops {fault = other} one_too) =
+      let same : ◌≡◌ {A = Course (Completed P) (Planned P)} (meets fault) (meets other) =
+      enqueue_is_one now m p (meets fault) (meets other) one one_too in
+      let faults : fault ≡ other = cc in
+      ap meets faults
+  each_is_one now (m ∷ ms) p c d (one_stops {fault = fault} one) (enqueues_one {q = q} {cs = cs} one_too more) =
+      let same : meets fault ≡ goes cs q = enqueue_is_one now m p (meets fault) (goes cs q) one one_too in cc
+  each_is_one now (m ∷ ms) p c d (enqueues_one {q = q} {cs = cs} one more) (one_stops {fault = fault} one_too) =
+      let same : goes cs q ≡ meets fault = enqueue_is_one now m p (goes cs q) (meets fault) one one_too in cc
+  each_is_one now (m ∷ ms) p c d (enqueues_one {q = q} {cs = cs} {rest = rest} one more)
+      (enqueues_one {q = r} {cs = ds} {rest = on} one_too more_too) =
+      let same : goes cs q ≡ goes ds r = enqueue_is_one now m p (goes cs q) (goes ds r) one one_too in
+      let first : cs ≡ ds = cc in
+      let world : r ≡ q = cc in
+      let later : rest ≡ on =
+      each_is_one now ms q rest on more (subst (λ (n : Planned P). EnqueuesEach cmp now ms n on) world more_too) in
+      ap (λ (es : List (Completed P)). preceded es rest) first ∙ preceded_alike ds rest on later
+
   -- ---- any call
 
   pub course_is_one : (p : Planned P) (call : Call P) (c d : Course (Completed P) (Planned P)) → Obeys cmp p call c
@@ -516,5 +539,6 @@ module _ {P : Type 0} (cmp : P → P → Ordering) (order : IsTotalOrder cmp) wh
   course_is_one p (call_limit now peer egress ingress) c d f g = rebalance_is_one now _ p c d f g
   course_is_one p (call_limit_link now origin recipient cap) c d f g = rebalance_is_one now _ p c d f g
   course_is_one p (call_enqueue now m) c d f g = enqueue_is_one now m p c d f g
+  course_is_one p (call_enqueue_all now ms) c d f g = each_is_one now ms p c d f g
   course_is_one p (call_advance now) c d f g = (advance_is_one f.1 g.0 d g.1).1
   course_is_one p call_next c d f g = f ∙ sym g

@@ -13,7 +13,7 @@ use Rattle.link_simulation.specs.Simulation.Messages.{Message, Caps, same_pair, 
 use Rattle.link_simulation.specs.Simulation.World.{Completed, completion_of, Course, goes, meets, last_moment, preceded}
 use Rattle.link_simulation.specs.Simulation.World.{raised, later_of, is_late, completed}
 use Rattle.link_simulation.specs.Rule.Planned.{Planned, RatedFlight, rated_messages, drained_to, is_spent, next_of}
-use Rattle.link_simulation.specs.Rule.Planned.{may_launch, queued}
+use Rattle.link_simulation.specs.Rule.Planned.{queued}
 use Rattle.link_simulation.specs.Rule.Events.{Accounts, PlansStart, Launches, nothing_waits, too_early, no_id, starts}
 use Rattle.link_simulation.specs.Rule.Events.{Finishes, all_completed, late, stopped, completes, WakesEach, all_started}
 use Rattle.link_simulation.specs.Rule.Events.{no_start, no_finish, starts_one, Settles, settling, Rebalances}
@@ -74,7 +74,7 @@ module _ {P : Type 0} (cmp : P → P → Ordering) (order : IsTotalOrder cmp) (m
   GoesWell (goes cs q) = Holds q
   GoesWell (meets fault) = ⊥
 
-  goes_on : (cs : List (Completed P)) (c : Course (Completed P) (Planned P)) → GoesWell c → GoesWell (preceded cs c)
+  pub goes_on : (cs : List (Completed P)) (c : Course (Completed P) (Planned P)) → GoesWell c → GoesWell (preceded cs c)
   goes_on cs (goes ds q) h = h
   goes_on cs (meets fault) h = h
 

@@ -1,7 +1,7 @@
 -- A call in the range is refused for memory alone, and so are the calls of a list, each with those that were made
 -- before it.
 use Rattle.std.proofs.Common.{◌≡◌, ℕ, ◌+◌, ◌<◌, ◌≤◌, ◌^◌, List, [], ◌∷◌, ◌++◌, length, All, refl, sym, ◌∙◌, ap, subst}
-use Rattle.std.proofs.Common.{append_assoc, arith}
+use Rattle.std.proofs.Common.{append_assoc, append-nil, arith}
 use Rattle.std.specs.Prelude.{IfSome}
 use Rattle.std.specs.List.{AllZip}
 use Rattle.std.specs.declared.cmp.Ordering.{Ordering}
@@ -13,18 +13,19 @@ use Rattle.fair_rates.specs.declared.error.Error.TheVariants.{OutOfMemory, Numbe
 use Rattle.link_simulation.specs.Simulation.Messages.{Message}
 use Rattle.link_simulation.specs.Simulation.World.{Completed, Course, goes, meets}
 use Rattle.link_simulation.specs.Simulation.Calls.{Call, call_limit, call_limit_link, call_enqueue, call_advance}
-use Rattle.link_simulation.specs.Simulation.Calls.{call_next, moment_of}
+use Rattle.link_simulation.specs.Simulation.Calls.{call_enqueue_all, call_next, moment_of}
 use Rattle.link_simulation.specs.Laws.PairCompletions.{enqueued}
 use Rattle.link_simulation.specs.Simulation.Replies.{Reply, reply_done, reply_next, reply_refused, SameCompletion}
 use Rattle.link_simulation.specs.Rule.Planned.{Planned, new_planned}
 use Rattle.link_simulation.specs.Rule.Events.{Obeys}
+use Rattle.link_simulation.specs.Rule.Events.{EnqueuesEach, all_enqueued, one_stops, enqueues_one}
 use Rattle.link_simulation.specs.Rule.Range.{AreInRange, IsInRange, IsCallInRange}
 use Rattle.link_simulation.specs.Rule.Refusals.{MayBeRefused, Obeyed}
 use Rattle.link_simulation.specs.Laws.Replies.{RefusesForMemoryAlone}
 use Rattle.fair_rates.proofs.Lists.Each.{Each, each_of_all, all_of_each, all_of_both}
 use Rattle.link_simulation.proofs.Laws.PairCompletions.{enqueued_split}
 use Rattle.link_simulation.proofs.Rule.Range.{Holds, IsNear, IsNearFlight, GoesWell, rebalances_well, enqueues_well}
-use Rattle.link_simulation.proofs.Rule.Range.{advances_well}
+use Rattle.link_simulation.proofs.Rule.Range.{advances_well, goes_on}
 use Rattle.link_simulation.proofs.Rule.Stepwise.{obeyed_next, obeyed_refused, obeyed_done}
 
 -- ---- calls in the range
@@ -70,6 +71,32 @@ new_in_range {P} id fits =
     record { sending = All-nil (IsNearFlight {P = P}); waiting = All-nil (IsNear {P = P}); ids = omega arith }
 
 module _ {P : Type 0} (cmp : P → P → Ordering) (order : IsTotalOrder cmp) where
+  more_room : (most more : ℕ) (room : most < 2 ^ 64) (wide : more < 2 ^ 64) (p : Planned P) → most ≤ more
+      → Holds cmp order most room p → Holds cmp order more wide p
+  more_room most more room wide p le h =
+      let ids : p.next_id + length p.waiting ≤ most = h.ids in
+      record { sending = h.sending; waiting = h.waiting; ids = omega arith }
+
+  -- messages in the range, one after another
+  each_well : {now : ℕ} {ms : List (Message P)} {p : Planned P} {c : Course (Completed P) (Planned P)}
+      → EnqueuesEach cmp now ms p c → now < 2 ^ 63 → Each (IsNear {P = P}) ms
+      → (most : ℕ) (room : most < 2 ^ 64)
+      → p.next_id + length p.waiting + length ms ≤ most → Holds cmp order most room p → GoesWell cmp order most room c
+  each_well all_enqueued early near most room fits h = h
+  each_well (one_stops one) early near most room fits h =
+      enqueues_well cmp order most room one early near.0 (omega arith) h
+  each_well (enqueues_one {m = m} {ms = ms} {p = p} {q = q} {cs = cs} {rest = rest} one more) early near most room fits
+      h =
+      let first : ℕ = p.next_id + length p.waiting + 1 in
+      let some : first < 2 ^ 64 = omega arith in
+      let narrow : Holds cmp order first some p =
+      record { sending = h.sending; waiting = h.waiting; ids = omega arith } in
+      let next : Holds cmp order first some q =
+      enqueues_well cmp order first some one early near.0 (omega arith) narrow in
+      let ids : q.next_id + length q.waiting ≤ first = next.ids in
+      goes_on cmp order most room cs rest
+      (each_well more early near.1 most room (omega arith) (more_room first most some room q (omega arith) next))
+
   -- ---- one call
 
   module _ (most : ℕ) (room : most < 2 ^ 64) where
@@ -87,6 +114,11 @@ module _ {P : Type 0} (cmp : P → P → Ordering) (order : IsTotalOrder cmp) wh
     obeys_well p (call_enqueue now m) c own fits h obeys =
         enqueues_well cmp order most room obeys (soon (call_enqueue now m) own)
         (All-head (IsNear {P = P}) m [] own.latencies) fits h
+    obeys_well p (call_enqueue_all now ms) c own fits h obeys =
+        each_well obeys (soon (call_enqueue_all now ms) own)
+        (each_of_all (IsNear {P = P}) ms
+        (subst (λ (ns : List (Message P)). All (IsNear {P = P}) ns) (append-nil ms) own.latencies)) most room
+        (subst (λ (ns : List (Message P)). p.next_id + length p.waiting + length ns ≤ most) (append-nil ms) fits) h
     obeys_well p (call_advance now) c own fits h obeys =
         advances_well cmp order most room obeys.1 (soon (call_advance now) own) h
     obeys_well p call_next c own fits h obeys = subst (GoesWell cmp order most room) (sym obeys) h
@@ -143,12 +175,6 @@ module _ {P : Type 0} (cmp : P → P → Ordering) (order : IsTotalOrder cmp) wh
       (holds_in_range most range.messages p range.planned (omega arith)) may
 
   -- ---- a list of calls
-
-  more_room : (most more : ℕ) (room : most < 2 ^ 64) (wide : more < 2 ^ 64) (p : Planned P) → most ≤ more
-      → Holds cmp order most room p → Holds cmp order more wide p
-  more_room most more room wide p le h =
-      let ids : p.next_id + length p.waiting ≤ most = h.ids in
-      record { sending = h.sending; waiting = h.waiting; ids = omega arith }
 
   -- where those calls led to that planned world, it is in the range if they are
   Reached : List (Call P) → Planned P → Type 0

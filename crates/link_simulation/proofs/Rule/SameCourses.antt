@@ -20,8 +20,10 @@ use Rattle.link_simulation.specs.Rule.Events.{WakesEach, all_started, no_start, 
 use Rattle.link_simulation.specs.Rule.Events.{settling, Rebalances, none_sending, some_sending, completed_at_once}
 use Rattle.link_simulation.specs.Rule.Events.{with_queued, Enqueues, at_once, no_launch, launches, Advances, no_more}
 use Rattle.link_simulation.specs.Rule.Events.{at_finish, at_start, finish_stops, start_stops, Obeys}
+use Rattle.link_simulation.specs.Rule.Events.{EnqueuesEach, all_enqueued, one_stops, enqueues_one}
 use Rattle.link_simulation.specs.Rule.SamePlanned.{IsSameRatedFlight, IsSamePlanned, IsSameCall, same_limit}
-use Rattle.link_simulation.specs.Rule.SamePlanned.{same_limit_link, same_enqueue, same_advance, same_next, IsSameCourse}
+use Rattle.link_simulation.specs.Rule.SamePlanned.{same_limit_link, same_enqueue, same_enqueue_all}
+use Rattle.link_simulation.specs.Rule.SamePlanned.{same_advance, same_next, IsSameCourse}
 use Rattle.link_simulation.proofs.Simulation.AlikeMessages.{fair_alike}
 use Rattle.link_simulation.proofs.Rule.Launch.{OptionsAlike}
 use Rattle.fair_rates.proofs.Lists.Zips.{zip-append}
@@ -355,6 +357,29 @@ module _ {P : Type 0} (cmp : P → P → Ordering) (order : IsTotalOrder cmp) wh
       (ds : List (Completed P)) × (s : Planned P) × Q (goes ds s) × AllZip (SameCompletion cmp) cs ds
       × IsSamePlanned cmp p s
 
+  each_same : {now : ℕ} {ms : List (Message P)} {p : Planned P} {course : Course (Completed P) (Planned P)}
+      → EnqueuesEach cmp now ms p course → (ns : List (Message P)) (q : Planned P)
+      → AllZip (SameMessage cmp) ms ns → IsSamePlanned cmp p q
+      → (c : Course (Completed P) (Planned P)) × EnqueuesEach cmp now ns q c × IsSameCourse cmp course c
+  each_same all_enqueued [] q messages same = (goes [] q, all_enqueued, (tt, same))
+  each_same all_enqueued (n ∷ ns) q messages same = absurd messages
+  each_same (one_stops one) [] q messages same = absurd messages
+  each_same {now = now} (one_stops {fault = fault} one) (n ∷ ns) q messages same = (
+    meets fault,
+    one_stops (course_met cmp order (λ c. Enqueues cmp now n q c) fault (enqueue_same one n q messages.0 same)),
+    refl,
+  )
+  each_same (enqueues_one one more) [] q messages same = absurd messages
+  each_same {now = now} (enqueues_one {q = r} {cs = cs} {rest = rest} one more) (n ∷ ns) q messages same =
+      let done : Went (λ c. Enqueues cmp now n q c) cs r =
+      course_went cmp order (λ c. Enqueues cmp now n q c) cs r (enqueue_same one n q messages.0 same) in
+      let later : (c : Course (Completed P) (Planned P)) × EnqueuesEach cmp now ns done.1 c × IsSameCourse cmp rest c =
+      each_same more ns done.1 messages.1 done.4 in (
+        preceded done.0 later.0,
+        enqueues_one {rest = later.0} done.2 later.1,
+        preceded_same cs done.0 rest later.0 done.3 later.2,
+      )
+
   advance_same : {now : ℕ} {p : Planned P} {n : ℕ} {course : Course (Completed P) (Planned P)}
       → Advances cmp now p n course → (q : Planned P) → IsSamePlanned cmp p q
       → (c : Course (Completed P) (Planned P)) × Advances cmp now q n c × IsSameCourse cmp course c
@@ -427,6 +452,8 @@ module _ {P : Type 0} (cmp : P → P → Ordering) (order : IsTotalOrder cmp) wh
       (linked_by_same cmp order p.caps q.caps origin recipient o r cap same.caps origins recipients) same
   obey_same (same_enqueue {now = now} {m = m} {n = n} messages) p q course same obeys =
       enqueue_same obeys n q messages same
+  obey_same (same_enqueue_all {now = now} {ms = ms} {ns = ns} messages) p q course same obeys =
+      each_same obeys ns q messages same
   obey_same (same_advance {now = now}) p q course same (n, advances) =
       let done : (c : Course (Completed P) (Planned P)) × Advances cmp now q n c × IsSameCourse cmp course c =
       advance_same advances q same in

@@ -4,15 +4,17 @@ use Rattle.std.specs.List.{AllZip}
 use Rattle.std.specs.declared.cmp.Ordering.{Ordering}
 use Rattle.std.specs.Cmp.{IsTotalOrder}
 use Rattle.fair_rates.specs.declared.error.Error.{Error}
+use Rattle.link_simulation.specs.Simulation.Messages.{SameMessage}
 use Rattle.link_simulation.specs.Simulation.World.{Completed, goes, meets}
 use Rattle.link_simulation.specs.Simulation.Calls.{Call, call_limit, call_limit_link, call_enqueue, call_advance}
-use Rattle.link_simulation.specs.Simulation.Calls.{call_next}
+use Rattle.link_simulation.specs.Simulation.Calls.{call_enqueue_all, call_next}
 use Rattle.link_simulation.specs.Simulation.Replies.{Reply, reply_done, reply_next, reply_refused, SameCompletion}
 use Rattle.link_simulation.specs.Rule.Planned.{Planned}
 use Rattle.link_simulation.specs.Rule.Events.{Obeys}
 use Rattle.link_simulation.specs.Rule.Refusals.{MayBeRefused, Obeyed}
 use Rattle.link_simulation.specs.Rule.SamePlanned.{IsSamePlanned, IsSameCall, same_limit, same_limit_link, same_enqueue}
-use Rattle.link_simulation.specs.Rule.SamePlanned.{same_advance, same_next}
+use Rattle.link_simulation.specs.Rule.SamePlanned.{same_enqueue_all, same_advance, same_next}
+use Rattle.fair_rates.proofs.Lists.Zips.{zip-same}
 use Rattle.link_simulation.proofs.Simulation.RefusalCauses.{refused_more}
 use Rattle.link_simulation.proofs.Simulation.AlikeMessages.{same_itself as one_peer, message_itself}
 use Rattle.link_simulation.proofs.Rule.Agreeing.{all_trans}
@@ -39,6 +41,8 @@ module _ {P : Type 0} (cmp : P → P → Ordering) (order : IsTotalOrder cmp) wh
   call_itself (call_limit_link now origin recipient cap) =
       same_limit_link (one_peer cmp order origin) (one_peer cmp order recipient)
   call_itself (call_enqueue now m) = same_enqueue (message_itself cmp order m)
+  call_itself (call_enqueue_all now ms) =
+      same_enqueue_all (zip-same (SameMessage cmp) (message_itself cmp order) ms)
   call_itself (call_advance now) = same_advance
   call_itself call_next = same_next
 
@@ -86,10 +90,18 @@ module _ {P : Type 0} (cmp : P → P → Ordering) (order : IsTotalOrder cmp) wh
     obeyed_same p q calls replies same obeyed.1,
   )
   obeyed_same p q (call_enqueue now m ∷ calls) (reply_next t ∷ replies) same obeyed = obeyed
+  obeyed_same p q (call_enqueue_all now ms ∷ calls) (reply_next t ∷ replies) same obeyed = obeyed
   obeyed_same p q (call_enqueue now m ∷ calls) (reply_done cs ∷ replies) same obeyed =
       accepted_same p q (call_enqueue now m) calls cs replies same (λ n r. obeyed_same n r calls replies) obeyed
+  obeyed_same p q (call_enqueue_all now ms ∷ calls) (reply_done cs ∷ replies) same obeyed =
+      accepted_same p q (call_enqueue_all now ms) calls cs replies same (λ n r. obeyed_same n r calls replies) obeyed
   obeyed_same p q (call_enqueue now m ∷ calls) (reply_refused why ∷ replies) same obeyed = (
     refused_same p q (call_enqueue now m) (call_enqueue now m) why same (call_itself (call_enqueue now m)) obeyed.0,
+    obeyed_same p q calls replies same obeyed.1,
+  )
+  obeyed_same p q (call_enqueue_all now ms ∷ calls) (reply_refused why ∷ replies) same obeyed = (
+    refused_same p q (call_enqueue_all now ms) (call_enqueue_all now ms) why same
+        (call_itself (call_enqueue_all now ms)) obeyed.0,
     obeyed_same p q calls replies same obeyed.1,
   )
   obeyed_same p q (call_advance now ∷ calls) (reply_next t ∷ replies) same obeyed = obeyed

@@ -1,5 +1,5 @@
 -- Planned worlds that are the same up to equal peers stand for the same worlds, and are in the range alike.
-use Rattle.std.proofs.Common.{◌≡◌, ℕ, ◌+◌, ◌<◌, ◌≤◌, ◌^◌, List, [], ◌∷◌, length, true, Option, sym, ◌∙◌, subst, arith}
+use Rattle.std.proofs.Common.{◌≡◌, ℕ, ◌+◌, ◌<◌, ◌≤◌, ◌^◌, List, [], ◌∷◌, length, Option, sym, ◌∙◌, subst}
 use Rattle.std.proofs.Common.{All}
 use Rattle.std.specs.Prelude.{IfSome}
 use Rattle.std.specs.List.{filter, list_any, AllZip}
@@ -15,7 +15,7 @@ use Rattle.link_simulation.specs.Rule.Planned.{SomeSpentAt, SomeReadyAt, rated_m
 use Rattle.link_simulation.specs.Rule.Range.{IsInRange}
 use Rattle.link_simulation.specs.Rule.StandsFor.{IsSameFlight, Tallies, StandsFor}
 use Rattle.link_simulation.specs.Rule.SamePlanned.{IsSameRatedFlight, IsSamePlanned}
-use Rattle.link_simulation.proofs.Simulation.AlikeMessages.{same_itself, pairs_alike, message_itself, any_alike}
+use Rattle.link_simulation.proofs.Simulation.AlikeMessages.{pairs_alike, message_itself, any_alike}
 use Rattle.link_simulation.proofs.Simulation.AlikeMessages.{fair_alike}
 use Rattle.link_simulation.proofs.Simulation.InOrder.{before_alike}
 use Rattle.link_simulation.proofs.Rule.SamePlanned.{message_chain, pairs_chain, caps_chain, same_turned}

@@ -1,11 +1,11 @@
 -- What replies that agree with the simulation, or that follow the event rule, say of the first call.
-use Rattle.std.proofs.Common.{◌≡◌, ℕ, List, [], ◌∷◌, Option, Some}
+use Rattle.std.proofs.Common.{◌≡◌, ℕ, List, ◌∷◌, Option, Some}
 use Rattle.std.specs.List.{AllZip}
 use Rattle.std.specs.declared.cmp.Ordering.{Ordering}
 use Rattle.fair_rates.specs.declared.error.Error.{Error}
 use Rattle.link_simulation.specs.Simulation.World.{World, Completed, goes}
 use Rattle.link_simulation.specs.Simulation.Calls.{Call, call_limit, call_limit_link, call_enqueue, call_advance}
-use Rattle.link_simulation.specs.Simulation.Calls.{call_next, moment_of, Runs, IsInTurn}
+use Rattle.link_simulation.specs.Simulation.Calls.{call_enqueue_all, call_next, moment_of, Runs, IsInTurn}
 use Rattle.link_simulation.specs.Simulation.Replies.{Reply, reply_done, reply_next, reply_refused, SameCompletion}
 use Rattle.link_simulation.specs.Simulation.Replies.{Agrees}
 use Rattle.link_simulation.specs.Rule.Planned.{Planned}
@@ -21,6 +21,7 @@ module _ {P : Type 0} (cmp : P → P → Ordering) where
   agrees_next w calls replies (call_limit now peer egress ingress) next agrees = absurd agrees
   agrees_next w calls replies (call_limit_link now origin recipient cap) next agrees = absurd agrees
   agrees_next w calls replies (call_enqueue now m) next agrees = absurd agrees
+  agrees_next w calls replies (call_enqueue_all now ms) next agrees = absurd agrees
   agrees_next w calls replies (call_advance now) next agrees = absurd agrees
   agrees_next w calls replies call_next next agrees = agrees.1
 
@@ -29,6 +30,7 @@ module _ {P : Type 0} (cmp : P → P → Ordering) where
   agrees_refused w calls replies (call_limit now peer egress ingress) why agrees turn = (agrees turn).1
   agrees_refused w calls replies (call_limit_link now origin recipient cap) why agrees turn = (agrees turn).1
   agrees_refused w calls replies (call_enqueue now m) why agrees turn = (agrees turn).1
+  agrees_refused w calls replies (call_enqueue_all now ms) why agrees turn = (agrees turn).1
   agrees_refused w calls replies (call_advance now) why agrees turn = (agrees turn).1
   agrees_refused w calls replies call_next why agrees turn = absurd agrees
 
@@ -56,6 +58,9 @@ module _ {P : Type 0} (cmp : P → P → Ordering) where
   agrees_done w calls replies (call_enqueue now m) completions agrees turn =
       let (t, ds, v, at, runs, same, rest) = agrees turn in
       record { now = t; answers = ds; after = v; moment = at; runs = runs; same = same; rest = rest }
+  agrees_done w calls replies (call_enqueue_all now ms) completions agrees turn =
+      let (t, ds, v, at, runs, same, rest) = agrees turn in
+      record { now = t; answers = ds; after = v; moment = at; runs = runs; same = same; rest = rest }
   agrees_done w calls replies (call_advance now) completions agrees turn =
       let (t, ds, v, at, runs, same, rest) = agrees turn in
       record { now = t; answers = ds; after = v; moment = at; runs = runs; same = same; rest = rest }
@@ -69,6 +74,7 @@ module _ {P : Type 0} (cmp : P → P → Ordering) where
   obeyed_next p calls replies (call_limit now peer egress ingress) next obeyed = absurd obeyed
   obeyed_next p calls replies (call_limit_link now origin recipient cap) next obeyed = absurd obeyed
   obeyed_next p calls replies (call_enqueue now m) next obeyed = absurd obeyed
+  obeyed_next p calls replies (call_enqueue_all now ms) next obeyed = absurd obeyed
   obeyed_next p calls replies (call_advance now) next obeyed = absurd obeyed
   obeyed_next p calls replies call_next next obeyed = obeyed.1
 
@@ -78,6 +84,7 @@ module _ {P : Type 0} (cmp : P → P → Ordering) where
   obeyed_refused p calls replies (call_limit now peer egress ingress) why obeyed = obeyed
   obeyed_refused p calls replies (call_limit_link now origin recipient cap) why obeyed = obeyed
   obeyed_refused p calls replies (call_enqueue now m) why obeyed = obeyed
+  obeyed_refused p calls replies (call_enqueue_all now ms) why obeyed = obeyed
   obeyed_refused p calls replies (call_advance now) why obeyed = obeyed
   obeyed_refused p calls replies call_next why obeyed = absurd obeyed
 
@@ -89,5 +96,6 @@ module _ {P : Type 0} (cmp : P → P → Ordering) where
   obeyed_done p calls replies (call_limit now peer egress ingress) completions obeyed = obeyed
   obeyed_done p calls replies (call_limit_link now origin recipient cap) completions obeyed = obeyed
   obeyed_done p calls replies (call_enqueue now m) completions obeyed = obeyed
+  obeyed_done p calls replies (call_enqueue_all now ms) completions obeyed = obeyed
   obeyed_done p calls replies (call_advance now) completions obeyed = obeyed
   obeyed_done p calls replies call_next completions obeyed = absurd obeyed

@@ -13,15 +13,17 @@ use Rattle.link_simulation.specs.Simulation.World.{Completed, Course, EndsWith, 
 use Rattle.link_simulation.specs.Simulation.World.{first_waiting, fronts, goes, instant, is_done, is_idle, is_in_order}
 use Rattle.link_simulation.specs.Simulation.World.{last_moment, later_of, least_pair, may_start, meets, raised, ready}
 use Rattle.link_simulation.specs.Simulation.World.{settle, settle_within, start, start_next, turn, wake, wake_within}
-use Rattle.link_simulation.specs.Simulation.Calls.{Call, Runs, act, call_advance, call_enqueue, call_limit, call_next}
+use Rattle.link_simulation.specs.Simulation.Calls.{Call, Runs, act, call_advance, call_enqueue, call_limit}
+use Rattle.link_simulation.specs.Simulation.Calls.{call_enqueue_all, call_next}
 use Rattle.link_simulation.specs.Simulation.Calls.{complete_at_once, moment_of, limited_by, rebalance, call_limit_link}
-use Rattle.link_simulation.specs.Simulation.Calls.{linked_by}
+use Rattle.link_simulation.specs.Simulation.Calls.{linked_by, enqueue, enqueue_each}
 use Rattle.link_simulation.specs.Simulation.Messages.{Message, same_pair, Caps}
 use Rattle.link_simulation.specs.Simulation.Time.{no_time, Drains, NextIs, Passes, Ticks, comes_next, never_comes}
 use Rattle.link_simulation.specs.Simulation.Time.{no_tick, one_tick, quiet_tick, tick_faults}
 use Rattle.fair_rates.specs.declared.error.Error.TheVariants.{MomentTooLate}
 use Rattle.link_simulation.proofs.Simulation.Queue.{settle_none, preceded_none}
 use Rattle.link_simulation.proofs.Simulation.SettlingEnds.{ends_preceded, ends_and_then, ends_cond, NoneDone}
+use Rattle.link_simulation.proofs.Simulation.SettlingEnds.{each_ends}
 use Rattle.link_simulation.proofs.Simulation.SettlingEnds.{settle_rests}
 use Rattle.link_simulation.proofs.Simulation.OtherPairs.{Leaves, ends_more, leaves_like, next_leaves, start_leaves}
 use Rattle.link_simulation.proofs.Simulation.OtherPairs.{complete_leaves, ready_without, any_from_find, IsButFor}
@@ -266,6 +268,10 @@ module _ {P : Type 0} (cmp : P → P → Ordering) (order : IsTotalOrder cmp) wh
       (ends_both (IsQuiet cmp now) (IsAt now) (settle cmp now changed) (settle_ends_quiet now changed q.0.none_ready)
       (settle_stays now now changed q.1))
 
+  pub one_ends_quiet : (t : ℕ) (w : World P) (m : Message P) → QuietAt t w → EndsWith (QuietAt t) (enqueue cmp t w m)
+  one_ends_quiet t w m q =
+      ends_cond (QuietAt t) w.limited _ _ (enqueue_ends_quiet t w m q.0.none_ready q.1) (at_once_ends_quiet t w m q)
+
   act_ends_quiet : (now : ℕ) (call : Call P) (w : World P) → moment_of call ≡ Some now → QuietAt now w
       → EndsWith (QuietAt now) (act cmp w call)
   act_ends_quiet now (call_limit t peer egress ingress) w e q =
@@ -274,9 +280,11 @@ module _ {P : Type 0} (cmp : P → P → Ordering) (order : IsTotalOrder cmp) wh
       let same : now ≡ t = cc in rebalance_ends_quiet now t w (linked_by cmp w.caps origin recipient cap) same q
   act_ends_quiet now (call_enqueue t m) w e q =
       let same : now ≡ t = cc in
-      subst (λ (s : ℕ). EndsWith (QuietAt now) (act cmp w (call_enqueue s m))) same
-      (ends_cond (QuietAt now) w.limited _ _ (enqueue_ends_quiet now w m q.0.none_ready q.1)
-      (at_once_ends_quiet now w m q))
+      subst (λ (s : ℕ). EndsWith (QuietAt now) (enqueue cmp s w m)) same (one_ends_quiet now w m q)
+  act_ends_quiet now (call_enqueue_all t ms) w e q =
+      let same : now ≡ t = cc in
+      subst (λ (s : ℕ). EndsWith (QuietAt now) (enqueue_each cmp s w ms)) same
+      (each_ends cmp (QuietAt now) now (one_ends_quiet now) ms w q)
   act_ends_quiet now (call_advance t) w e q = q
   act_ends_quiet now call_next w e q = q
 

@@ -11,6 +11,7 @@ use Rattle.link_simulation.specs.Simulation.World.{goes, is_done, last_moment, m
 use Rattle.link_simulation.specs.Simulation.World.{settle_within, start, start_next, EndsWith, out_of_flight, is_late}
 use Rattle.link_simulation.specs.Simulation.World.{completed, flight_of}
 use Rattle.link_simulation.specs.Simulation.Messages.{Message, same_pair}
+use Rattle.link_simulation.specs.Simulation.Calls.{enqueue, enqueue_each}
 use Rattle.fair_rates.specs.declared.error.Error.TheVariants.{FlowIdsUsedUp, MomentTooLate}
 use Rattle.link_simulation.proofs.Simulation.Queue.{pair_like, settle_none, settle_first, find_passes}
 
@@ -28,6 +29,15 @@ pub ends_cond : {X S : Type 0} (Q : S → Type 0) (b : Bool) (c d : Course X S) 
     → EndsWith Q (cond b c d)
 ends_cond Q true c d h k = h
 ends_cond Q false c d h k = k
+
+-- what each message that is sent keeps, all that are sent one after another keep
+pub each_ends : {P : Type 0} (cmp : P → P → Ordering) (Q : World P → Type 0) (t : ℕ)
+    → ((w : World P) (m : Message P) → Q w → EndsWith Q (enqueue cmp t w m))
+    → (ms : List (Message P)) (w : World P) → Q w → EndsWith Q (enqueue_each cmp t w ms)
+each_ends cmp Q t step [] w h = h
+each_ends cmp Q t step (m ∷ ms) w h =
+    ends_and_then Q Q (enqueue cmp t w m) (λ v. enqueue_each cmp t v ms) (step w m h)
+    (λ v k. each_ends cmp Q t step ms v k)
 
 pub length_without : {X : Type 0} (test : X → Bool) (x : X) (xs : List X) → find test xs ≡ Some x
     → length (without_first test xs) + 1 ≡ length xs

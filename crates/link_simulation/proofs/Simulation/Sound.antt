@@ -1,5 +1,5 @@
 -- Each call leads from a sound world to a sound world, and to one alone.
-use Rattle.std.proofs.Common.{◌≡◌, ℕ, ◌+◌, List, [], ◌∷◌, ◌++◌, length, Bool, true, false, cond, not, Option, Some}
+use Rattle.std.proofs.Common.{◌≡◌, ℕ, ◌+◌, List, [], ◌∷◌, ◌++◌, length, Bool, true, false, cond, Option, Some}
 use Rattle.std.proofs.Common.{None, refl, sym, ap, ◌∙◌, subst, arith}
 use Rattle.std.specs.Prelude.{nat_le, ⊤, ◌&&◌, nat_lt, if◌then◌else◌}
 use Rattle.std.specs.List.{list_any}
@@ -14,8 +14,10 @@ use Rattle.link_simulation.specs.Simulation.World.{complete, first_waiting, flow
 use Rattle.link_simulation.specs.Simulation.World.{is_idle, is_in_order, last_moment, later_of, least_pair, may_start}
 use Rattle.link_simulation.specs.Simulation.World.{meets, new_world, raised, ready, settle, start, start_next, turn}
 use Rattle.link_simulation.specs.Simulation.World.{wake, out_of_flight, is_late, completed, arrival, flight_of}
-use Rattle.link_simulation.specs.Simulation.Calls.{Call, Runs, act, call_advance, call_enqueue, call_limit, call_next}
-use Rattle.link_simulation.specs.Simulation.Calls.{complete_at_once, rebalance, limited_by, call_limit_link, linked_by}
+use Rattle.link_simulation.specs.Simulation.Calls.{Call, Runs, act, call_advance, call_enqueue, call_limit}
+use Rattle.link_simulation.specs.Simulation.Calls.{call_enqueue_all, call_next}
+use Rattle.link_simulation.specs.Simulation.Calls.{complete_at_once, enqueue, rebalance, limited_by}
+use Rattle.link_simulation.specs.Simulation.Calls.{call_limit_link, linked_by}
 use Rattle.link_simulation.specs.Simulation.Messages.{Caps, Message, OneForEachPair, same_pair, with_cap, CapsAlike}
 use Rattle.link_simulation.specs.Simulation.Messages.{PairsAlike, with_link}
 use Rattle.link_simulation.specs.Simulation.Rates.{Parts}
@@ -24,7 +26,7 @@ use Rattle.link_simulation.specs.Simulation.Time.{tick_faults}
 use Rattle.fair_rates.specs.declared.error.Error.TheVariants.{FlowIdsUsedUp, MomentTooLate}
 use Rattle.link_simulation.proofs.Simulation.Queue.{peer_like, one_without, one_pair_more, messages}
 use Rattle.fair_rates.proofs.Sides.Subjects.{peer_sym}
-use Rattle.link_simulation.proofs.Simulation.SettlingEnds.{ends_preceded, ends_and_then, ends_cond}
+use Rattle.link_simulation.proofs.Simulation.SettlingEnds.{ends_preceded, ends_and_then, ends_cond, each_ends}
 use Rattle.link_simulation.proofs.Simulation.OtherPairs.{each_of, ends_more, Leaves, next_leaves, IsButFor}
 use Rattle.fair_rates.proofs.Lists.Each.{each_filtered}
 use Rattle.link_simulation.proofs.Simulation.PairOrder.{found_in, least_is}
@@ -137,11 +139,8 @@ module _ {P : Type 0} (cmp : P → P → Ordering) (order : IsTotalOrder cmp) wh
       settle_fit t (record w { caps = caps; limited = true })
       (record { positive = fit.positive; one_each = fit.one_each })
 
-  act_fit : (call : Call P) (w : World P) → IsFit w → EndsWith IsFit (act cmp w call)
-  act_fit (call_limit t peer egress ingress) w fit = rebalance_fit t w (limited_by cmp w.caps peer egress ingress) fit
-  act_fit (call_limit_link t origin recipient cap) w fit =
-      rebalance_fit t w (linked_by cmp w.caps origin recipient cap) fit
-  act_fit (call_enqueue t m) w fit =
+  enqueue_fit : (t : ℕ) (w : World P) (m : Message P) → IsFit w → EndsWith IsFit (enqueue cmp t w m)
+  enqueue_fit t w m fit =
       ends_cond IsFit w.limited _ _
       (ends_and_then IsFit IsFit (start_next cmp t (queued cmp order w m) (first_waiting cmp (queued cmp order w m) m))
       (settle cmp t)
@@ -150,6 +149,13 @@ module _ {P : Type 0} (cmp : P → P → Ordering) (order : IsTotalOrder cmp) wh
       (λ v k. settle_fit t v k))
       (ends_cond IsFit (m.should_deliver && nat_lt last_moment (t + m.latency)) (meets MomentTooLate) _ tt
       (record { positive = fit.positive; one_each = fit.one_each }))
+
+  act_fit : (call : Call P) (w : World P) → IsFit w → EndsWith IsFit (act cmp w call)
+  act_fit (call_limit t peer egress ingress) w fit = rebalance_fit t w (limited_by cmp w.caps peer egress ingress) fit
+  act_fit (call_limit_link t origin recipient cap) w fit =
+      rebalance_fit t w (linked_by cmp w.caps origin recipient cap) fit
+  act_fit (call_enqueue t m) w fit = enqueue_fit t w m fit
+  act_fit (call_enqueue_all t ms) w fit = each_ends cmp IsFit t (enqueue_fit t) ms w fit
   act_fit (call_advance t) w fit = fit
   act_fit call_next w fit = fit
 
@@ -204,11 +210,9 @@ module _ {P : Type 0} (cmp : P → P → Ordering) (order : IsTotalOrder cmp) wh
       ends_more cmp order IsLimited IsEmptyAtFirst (settle cmp t changed) empty_if_limited
       (settle_outlasts cmp order IsLimited limited_kept t changed refl)
 
-  act_empty : (call : Call P) (w : World P) → IsEmptyAtFirst w → EndsWith IsEmptyAtFirst (act cmp w call)
-  act_empty (call_limit t peer egress ingress) w h = rebalance_empty t w (limited_by cmp w.caps peer egress ingress)
-  act_empty (call_limit_link t origin recipient cap) w h =
-      rebalance_empty t w (linked_by cmp w.caps origin recipient cap)
-  act_empty (call_enqueue t m) w h = by_limited w.limited refl
+  enqueue_empty : (t : ℕ) (w : World P) (m : Message P) → IsEmptyAtFirst w
+      → EndsWith IsEmptyAtFirst (enqueue cmp t w m)
+  enqueue_empty t w m h = by_limited w.limited refl
     where
       course : Course (Completed P) (World P)
       course = start_next cmp t (queued cmp order w m) (first_waiting cmp (queued cmp order w m) m)
@@ -223,6 +227,13 @@ module _ {P : Type 0} (cmp : P → P → Ordering) (order : IsTotalOrder cmp) wh
           (λ v k. settle_outlasts cmp order IsLimited limited_kept t v k))
       by_limited false e =
           ends_cond IsEmptyAtFirst (m.should_deliver && nat_lt last_moment (t + m.latency)) (meets MomentTooLate) _ tt h
+
+  act_empty : (call : Call P) (w : World P) → IsEmptyAtFirst w → EndsWith IsEmptyAtFirst (act cmp w call)
+  act_empty (call_limit t peer egress ingress) w h = rebalance_empty t w (limited_by cmp w.caps peer egress ingress)
+  act_empty (call_limit_link t origin recipient cap) w h =
+      rebalance_empty t w (linked_by cmp w.caps origin recipient cap)
+  act_empty (call_enqueue t m) w h = enqueue_empty t w m h
+  act_empty (call_enqueue_all t ms) w h = each_ends cmp IsEmptyAtFirst t (enqueue_empty t) ms w h
   act_empty (call_advance t) w h = h
   act_empty call_next w h = h
 
@@ -324,6 +335,18 @@ module _ {P : Type 0} (cmp : P → P → Ordering) (order : IsTotalOrder cmp) wh
       settle_peerwise t (record w { caps = caps; limited = true })
       (record { caps = same; last_arrival = h.last_arrival })
 
+  enqueue_peerwise : (t : ℕ) (w : World P) (m : Message P) → IsPeerwise w → EndsWith IsPeerwise (enqueue cmp t w m)
+  enqueue_peerwise t w m h =
+      let at : ℕ = if m.should_deliver then later_of (w.last_arrival m.origin m.recipient) (t + m.latency) else t in
+      ends_cond (IsPeerwise) w.limited _ _
+      (ends_and_then (IsPeerwise) (IsPeerwise)
+      (start_next cmp t (queued cmp order w m) (first_waiting cmp (queued cmp order w m) m)) (settle cmp t)
+      (next_peerwise t (queued cmp order w m) (first_waiting cmp (queued cmp order w m) m)
+      (record { caps = h.caps; last_arrival = h.last_arrival }))
+      (λ v k. settle_peerwise t v k))
+      (ends_cond (IsPeerwise) (m.should_deliver && nat_lt last_moment (t + m.latency)) (meets MomentTooLate) _ tt
+      (landed_peerwise w w.sending m at h))
+
   act_peerwise : (call : Call P) (w : World P) → IsPeerwise w → EndsWith (IsPeerwise) (act cmp w call)
   act_peerwise (call_limit t peer egress ingress) w h =
       rebalance_peerwise t w (limited_by cmp w.caps peer egress ingress)
@@ -341,16 +364,8 @@ module _ {P : Type 0} (cmp : P → P → Ordering) (order : IsTotalOrder cmp) wh
         link = link_peerwise w.caps.link origin recipient cap h.caps.link;
       })
       h
-  act_peerwise (call_enqueue t m) w h =
-      let at : ℕ = if m.should_deliver then later_of (w.last_arrival m.origin m.recipient) (t + m.latency) else t in
-      ends_cond (IsPeerwise) w.limited _ _
-      (ends_and_then (IsPeerwise) (IsPeerwise)
-      (start_next cmp t (queued cmp order w m) (first_waiting cmp (queued cmp order w m) m)) (settle cmp t)
-      (next_peerwise t (queued cmp order w m) (first_waiting cmp (queued cmp order w m) m)
-      (record { caps = h.caps; last_arrival = h.last_arrival }))
-      (λ v k. settle_peerwise t v k))
-      (ends_cond (IsPeerwise) (m.should_deliver && nat_lt last_moment (t + m.latency)) (meets MomentTooLate) _ tt
-      (landed_peerwise w w.sending m at h))
+  act_peerwise (call_enqueue t m) w h = enqueue_peerwise t w m h
+  act_peerwise (call_enqueue_all t ms) w h = each_ends cmp IsPeerwise t (enqueue_peerwise t) ms w h
   act_peerwise (call_advance t) w h = h
   act_peerwise call_next w h = h
 

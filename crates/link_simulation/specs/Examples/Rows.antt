@@ -6,9 +6,9 @@ use Rattle.std.specs.declared.cmp.Ordering.TheVariants.{Equal}
 use Rattle.link_simulation.specs.Simulation.Messages.{Message, no_caps}
 use Rattle.link_simulation.specs.Simulation.World.{World, Completed, completion_of, flight_of}
 use Rattle.link_simulation.specs.Simulation.Calls.{Call, call_limit, call_limit_link, call_enqueue, call_advance}
-use Rattle.link_simulation.specs.Simulation.Calls.{call_next, limited_by}
+use Rattle.link_simulation.specs.Simulation.Calls.{call_enqueue_all, call_next, limited_by}
 use Rattle.link_simulation.specs.Simulation.Replies.{Reply, reply_done, reply_next, reply_refused}
-use Rattle.fair_rates.specs.declared.error.Error.TheVariants.{OutOfMemory}
+use Rattle.fair_rates.specs.declared.error.Error.TheVariants.{OutOfMemory, MomentTooLate}
 use Rattle.link_simulation.specs.Rule.Planned.{RatedFlight, Planned, new_planned}
 use Rattle.fair_rates.specs.Numbers.Amount.{Amount, whole}
 
@@ -125,3 +125,28 @@ replies_at_the_last_moment =
     reply_done [] ∷ reply_done [] ∷ reply_next (Some 18_446_744_073_709_551_615)
     ∷ reply_done (arrives (message 1 2 1 0) 18_446_744_073_709_551_615 ∷ [])
     ∷ reply_done [] ∷ reply_next None ∷ reply_done [] ∷ []
+
+-- a list of four messages: a byte that arrives at 2, nothing, a second byte of that pair, and one that no cap holds
+abbrev pub calls_of_a_list : List (Call ℕ)
+calls_of_a_list =
+    call_limit 0 1 a_byte_a_nanosecond None
+    ∷ call_enqueue_all 0 (message 1 2 1 1 ∷ message 1 3 0 2 ∷ message 1 2 1 0 ∷ message 3 4 1 0 ∷ [])
+    ∷ call_next ∷ call_advance 1 ∷ call_next ∷ call_advance 2 ∷ call_next ∷ call_advance 3 ∷ call_next ∷ []
+
+-- two of them complete as they are sent, in their order, and the second byte starts at 2
+abbrev pub replies_of_a_list : List (Reply ℕ)
+replies_of_a_list =
+    reply_done [] ∷ reply_done (arrives (message 1 3 0 2) 2 ∷ arrives (message 3 4 1 0) 0 ∷ [])
+    ∷ reply_next (Some 1) ∷ reply_done (arrives (message 1 2 1 1) 2 ∷ []) ∷ reply_next (Some 2) ∷ reply_done []
+    ∷ reply_next (Some 3) ∷ reply_done (arrives (message 1 2 1 0) 3 ∷ []) ∷ reply_next None ∷ []
+
+-- before any limit a list whose second message is late, and then a message of the pair of its first
+abbrev pub calls_of_a_late_list : List (Call ℕ)
+calls_of_a_late_list =
+    call_enqueue_all 1 (message 1 2 1 5 ∷ message 3 4 1 18_446_744_073_709_551_615 ∷ message 1 2 1 0 ∷ [])
+    ∷ call_enqueue 1 (message 1 2 1 0) ∷ call_next ∷ []
+
+-- the list is refused, and that message arrives at once
+abbrev pub replies_of_a_late_list : List (Reply ℕ)
+replies_of_a_late_list =
+    reply_refused MomentTooLate ∷ reply_done (arrives (message 1 2 1 0) 1 ∷ []) ∷ reply_next None ∷ []

@@ -1,18 +1,25 @@
 -- What becomes of the messages of a set of peers.
-use Rattle.std.specs.Prelude.{◌≡◌, ℕ, ◌≤◌, List, [], ◌∷◌, Bool, true, cond, Some, ⊤}
+use Rattle.std.specs.Prelude.{◌≡◌, ℕ, ◌≤◌, List, [], ◌∷◌, map, Bool, true, cond, Some, ⊤}
 use Rattle.std.specs.List.{filter}
 use Rattle.std.specs.declared.cmp.Ordering.{Ordering}
 use Rattle.fair_rates.specs.Sides.Subjects.{same_peer}
 use Rattle.link_simulation.specs.Simulation.World.{World, Completed, goes, last_moment}
 use Rattle.link_simulation.specs.Simulation.Calls.{Call, call_limit, call_limit_link, call_enqueue, call_advance}
-use Rattle.link_simulation.specs.Simulation.Calls.{call_next}
+use Rattle.link_simulation.specs.Simulation.Messages.{Message}
+use Rattle.link_simulation.specs.Simulation.Calls.{call_enqueue_all, call_next}
 use Rattle.link_simulation.specs.Simulation.Calls.{moment_of, IsInTurn, Runs}
+
+-- each message has both ends in the set or neither
+abbrev pub AreApart : {P : Type 0} → (P → Bool) → List (Message P) → Type 0
+AreApart inside [] = ⊤
+AreApart inside (m ∷ ms) = (inside m.origin ≡ inside m.recipient) × AreApart inside ms
 
 -- a message that is enqueued has both ends in the set or neither
 abbrev pub IsApart : {P : Type 0} → (P → Bool) → Call P → Type 0
 IsApart inside (call_limit now peer egress ingress) = ⊤
 IsApart inside (call_limit_link now origin recipient cap) = ⊤
 IsApart inside (call_enqueue now m) = inside m.origin ≡ inside m.recipient
+IsApart inside (call_enqueue_all now ms) = AreApart inside ms
 IsApart inside (call_advance now) = ⊤
 IsApart inside call_next = ⊤
 
@@ -21,13 +28,27 @@ abbrev pub KeepsApart : {P : Type 0} → (P → Bool) → List (Call P) → Type
 KeepsApart inside [] = ⊤
 KeepsApart inside (call ∷ calls) = IsApart inside call × KeepsApart inside calls
 
--- whether a call stays: all but those that enqueue messages of others
+-- whether a call stays: all but those that enqueue one message of others
 abbrev pub is_kept : {P : Type 0} → (P → Bool) → Call P → Bool
 is_kept inside (call_limit now peer egress ingress) = true
 is_kept inside (call_limit_link now origin recipient cap) = true
 is_kept inside (call_enqueue now m) = inside m.origin
+is_kept inside (call_enqueue_all now ms) = true
 is_kept inside (call_advance now) = true
 is_kept inside call_next = true
+
+-- a call that stays, without the messages of others
+abbrev pub without_others : {P : Type 0} → (P → Bool) → Call P → Call P
+without_others inside (call_limit now peer egress ingress) = call_limit now peer egress ingress
+without_others inside (call_limit_link now origin recipient cap) = call_limit_link now origin recipient cap
+without_others inside (call_enqueue now m) = call_enqueue now m
+without_others inside (call_enqueue_all now ms) = call_enqueue_all now (filter (λ m. inside m.origin) ms)
+without_others inside (call_advance now) = call_advance now
+without_others inside call_next = call_next
+
+-- the calls without the messages of others
+abbrev pub kept_calls : {P : Type 0} → (P → Bool) → List (Call P) → List (Call P)
+kept_calls inside calls = map (without_others inside) (filter (is_kept inside) calls)
 
 -- the set's completions
 abbrev pub inside_alone : {P : Type 0} → (P → Bool) → List (Completed P) → List (Completed P)

@@ -6,7 +6,7 @@ use Rattle.fair_rates.specs.Sides.Subjects.{same_peer}
 use Rattle.link_simulation.specs.Simulation.Messages.{Message, same_pair}
 use Rattle.link_simulation.specs.Simulation.World.{Completed, completion_of}
 use Rattle.link_simulation.specs.Simulation.Calls.{Call, call_limit, call_limit_link, call_enqueue, call_advance}
-use Rattle.link_simulation.specs.Simulation.Calls.{call_next}
+use Rattle.link_simulation.specs.Simulation.Calls.{call_enqueue_all, call_next}
 
 -- the messages that calls enqueue, in order
 abbrev pub enqueued : {P : Type 0} → List (Call P) → List (Message P)
@@ -14,6 +14,7 @@ enqueued [] = []
 enqueued (call_limit now peer egress ingress ∷ calls) = enqueued calls
 enqueued (call_limit_link now origin recipient cap ∷ calls) = enqueued calls
 enqueued (call_enqueue now m ∷ calls) = m ∷ enqueued calls
+enqueued (call_enqueue_all now ms ∷ calls) = ms ++ enqueued calls
 enqueued (call_advance now ∷ calls) = enqueued calls
 enqueued (call_next ∷ calls) = enqueued calls
 

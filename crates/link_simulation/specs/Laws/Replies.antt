@@ -7,15 +7,15 @@ use Rattle.fair_rates.specs.declared.error.Error.TheVariants.{OutOfMemory}
 use Rattle.link_simulation.specs.Simulation.Messages.{Message, same_pair}
 use Rattle.link_simulation.specs.Simulation.World.{World, new_world, Completed, completion_of, goes}
 use Rattle.link_simulation.specs.Simulation.Calls.{Call, call_limit, call_limit_link, call_enqueue, call_advance}
-use Rattle.link_simulation.specs.Simulation.Calls.{call_next}
+use Rattle.link_simulation.specs.Simulation.Calls.{call_enqueue_all, call_next}
 use Rattle.link_simulation.specs.Simulation.Calls.{moment_of, Runs, IsInTurn}
 use Rattle.link_simulation.specs.Simulation.Replies.{Reply, reply_done, reply_next, reply_refused, made, completions_in}
 use Rattle.link_simulation.specs.Simulation.Replies.{SameCompletion}
 use Rattle.link_simulation.specs.Rule.Range.{AreInRange}
 use Rattle.link_simulation.specs.Laws.PairCompletions.{enqueued, answered, NeverGoDown, completes_pair}
-use Rattle.link_simulation.specs.Laws.Isolation.{Answers, IsSet, KeepsApart, is_kept, kept_completions, NothingElse}
+use Rattle.link_simulation.specs.Laws.Isolation.{Answers, IsSet, KeepsApart, kept_calls, kept_completions, NothingElse}
 
--- time is advanced first: a call that changes caps or adds a message comes at the moment of the last call that was made
+-- time is advanced first: a call that changes caps or adds messages comes at the moment of the last call that was made
 abbrev pub AreAdvancedFirst : {P : Type 0} → ℕ → List (Call P) → List (Reply P) → Type 0
 AreAdvancedFirst at [] replies = ⊤
 AreAdvancedFirst at (call ∷ calls) [] = ⊤
@@ -24,6 +24,8 @@ AreAdvancedFirst at (call_limit now peer egress ingress ∷ calls) (reply ∷ re
 AreAdvancedFirst at (call_limit_link now origin recipient cap ∷ calls) (reply ∷ replies) =
     (now ≡ at) × AreAdvancedFirst at calls replies
 AreAdvancedFirst at (call_enqueue now m ∷ calls) (reply ∷ replies) = (now ≡ at) × AreAdvancedFirst at calls replies
+AreAdvancedFirst at (call_enqueue_all now ms ∷ calls) (reply ∷ replies) =
+    (now ≡ at) × AreAdvancedFirst at calls replies
 AreAdvancedFirst at (call_advance now ∷ calls) (reply_done cs ∷ replies) =
     (at ≤ now) × AreAdvancedFirst now calls replies
 AreAdvancedFirst at (call_advance now ∷ calls) (reply_next next ∷ replies) =
@@ -32,17 +34,18 @@ AreAdvancedFirst at (call_advance now ∷ calls) (reply_refused why ∷ replies)
     (at ≤ now) × AreAdvancedFirst at calls replies
 AreAdvancedFirst at (call_next ∷ calls) (reply ∷ replies) = AreAdvancedFirst at calls replies
 
--- a call comes no earlier than the one moment and, if it changes caps or adds a message, before the other, if there
+-- a call comes no earlier than the one moment and, if it changes caps or adds messages, before the other, if there
 -- is one
 abbrev pub IsBetween : {P : Type 0} → ℕ → Option ℕ → Call P → Type 0
 IsBetween from before (call_limit now peer egress ingress) = (from ≤ now) × IfSome before (λ t. now < t)
 IsBetween from before (call_limit_link now origin recipient cap) = (from ≤ now) × IfSome before (λ t. now < t)
 IsBetween from before (call_enqueue now m) = (from ≤ now) × IfSome before (λ t. now < t)
+IsBetween from before (call_enqueue_all now ms) = (from ≤ now) × IfSome before (λ t. now < t)
 IsBetween from before (call_advance now) = from ≤ now
 IsBetween from before call_next = ⊤
 
 -- the calls go by what is answered: a call comes no earlier than the last that was made and, if it changes caps or
--- adds a message, at that moment, or before what `next` has answered since
+-- adds messages, at that moment, or before what `next` has answered since
 abbrev pub GoByNext : {P : Type 0} → ℕ → Option ℕ → List (Call P) → List (Reply P) → Type 0
 GoByNext from before [] replies = ⊤
 GoByNext from before (call ∷ calls) [] = ⊤
@@ -103,7 +106,7 @@ module _ {P : Type 0} (cmp : P → P → Ordering) where
   pub record IsIsolated (inside : P → Bool) (calls : List (Call P))
       (completions : List (List (Completed P))) : Type 0 where
     pub alone : List (List (Completed P))
-    pub answers : Answers cmp (new_world 0) (filter (is_kept inside) calls) alone
+    pub answers : Answers cmp (new_world 0) (kept_calls inside calls) alone
     pub same : AllZip (AllZip (SameCompletion cmp)) (kept_completions inside calls completions) alone
     pub nothing_else : NothingElse inside calls completions
 

@@ -13,7 +13,7 @@ use Rattle.link_simulation.specs.Simulation.World.{Completed, completion_of, Cou
 use Rattle.link_simulation.specs.Simulation.World.{raised}
 use Rattle.link_simulation.specs.Simulation.World.{later_of, fronts, arrival, is_late, completed}
 use Rattle.link_simulation.specs.Simulation.Calls.{Call, call_limit, call_limit_link, call_enqueue, call_advance}
-use Rattle.link_simulation.specs.Simulation.Calls.{call_next}
+use Rattle.link_simulation.specs.Simulation.Calls.{call_enqueue_all, call_next}
 use Rattle.link_simulation.specs.Simulation.Calls.{limited_by, linked_by}
 use Rattle.link_simulation.specs.Rule.Planned.{Planned, IsLeastMoment, next_event, rated_messages, SomeSpentAt}
 use Rattle.link_simulation.specs.Rule.Planned.{drained_to, next_of, queued, may_launch, SomeReadyAt, is_spent}
@@ -136,6 +136,16 @@ module _ {P : Type 0} (cmp : P → P → Ordering) where
         → Launches now (with_queued old m) (next_of cmp (with_queued old m) m) (goes leavers mid)
         → Finishes now leavers mid course → Enqueues now m old course
 
+  -- messages are enqueued one after another, up to the first that meets a fault
+  pub data EnqueuesEach (now : ℕ) : List (Message P) → Planned P → Course (Completed P) (Planned P) → Type 0 where
+    all_enqueued : {p : Planned P} → EnqueuesEach now [] p (goes [] p)
+    one_stops : {m : Message P} {ms : List (Message P)} {p : Planned P} {fault : Error}
+        → Enqueues now m p (meets fault) → EnqueuesEach now (m ∷ ms) p (meets fault)
+    enqueues_one : {m : Message P} {ms : List (Message P)} {p q : Planned P} {cs : List (Completed P)}
+        {rest : Course (Completed P) (Planned P)}
+        → Enqueues now m p (goes cs q) → EnqueuesEach now ms q rest
+        → EnqueuesEach now (m ∷ ms) p (preceded cs rest)
+
   -- the events up to now, the finish before the start at one moment, and how many they are; a wake at now ends them
   pub data Advances (now : ℕ) : Planned P → ℕ → Course (Completed P) (Planned P) → Type 0 where
     no_more : {p : Planned P} {course : Course (Completed P) (Planned P)} → IfSome (next_event p) (λ t. now < t)
@@ -160,5 +170,6 @@ module _ {P : Type 0} (cmp : P → P → Ordering) where
   Obeys p (call_limit_link now origin recipient cap) course =
       Rebalances now (linked_by cmp p.caps origin recipient cap) p course
   Obeys p (call_enqueue now m) course = Enqueues now m p course
+  Obeys p (call_enqueue_all now ms) course = EnqueuesEach now ms p course
   Obeys p (call_advance now) course = (n : ℕ) × Advances now p n course
   Obeys p call_next course = course ≡ goes [] p

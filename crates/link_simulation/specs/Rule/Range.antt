@@ -1,6 +1,6 @@
 -- The range, in which a call is refused for memory alone. A moment and a latency in it are together no later than the
 -- last moment.
-use Rattle.std.specs.Prelude.{ℕ, ◌+◌, ◌<◌, ◌^◌, List, [], ◌∷◌, length, All, IfSome}
+use Rattle.std.specs.Prelude.{◌+◌, ◌<◌, ◌^◌, List, [], ◌∷◌, length, All, IfSome}
 use Rattle.link_simulation.specs.Simulation.Calls.{Call, moment_of}
 use Rattle.link_simulation.specs.Laws.PairCompletions.{enqueued}
 use Rattle.link_simulation.specs.Rule.Planned.{Planned}

@@ -6,7 +6,7 @@ use Rattle.link_simulation.specs.Simulation.Messages.{Message, CapsAlike, PairsA
 use Rattle.fair_rates.specs.Sides.Subjects.{same_peer}
 use Rattle.link_simulation.specs.Simulation.World.{Completed, Course, goes, meets}
 use Rattle.link_simulation.specs.Simulation.Calls.{Call, call_limit, call_limit_link, call_enqueue, call_advance}
-use Rattle.link_simulation.specs.Simulation.Calls.{call_next}
+use Rattle.link_simulation.specs.Simulation.Calls.{call_enqueue_all, call_next}
 use Rattle.link_simulation.specs.Simulation.Replies.{SameCompletion}
 use Rattle.link_simulation.specs.Rule.Planned.{Planned, RatedFlight}
 use Rattle.link_simulation.specs.Rule.Events.{Advances, Obeys}
@@ -39,6 +39,8 @@ module _ {P : Type 0} (cmp : P → P → Ordering) where
         → IsSameCall (call_limit_link now origin recipient cap) (call_limit_link now o r cap)
     same_enqueue : {now : ℕ} {m n : Message P} → SameMessage cmp m n
         → IsSameCall (call_enqueue now m) (call_enqueue now n)
+    same_enqueue_all : {now : ℕ} {ms ns : List (Message P)} → AllZip (SameMessage cmp) ms ns
+        → IsSameCall (call_enqueue_all now ms) (call_enqueue_all now ns)
     same_advance : {now : ℕ} → IsSameCall (call_advance now) (call_advance now)
     same_next : IsSameCall call_next call_next
 

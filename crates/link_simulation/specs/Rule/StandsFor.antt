@@ -1,5 +1,5 @@
 -- When a planned world stands for a world of the simulation.
-use Rattle.std.specs.Prelude.{◌≡◌, ℕ, ◌<◌, ◌≤◌, List, [], false, IfSome}
+use Rattle.std.specs.Prelude.{◌≡◌, ℕ, ◌<◌, ◌≤◌, [], false, IfSome}
 use Rattle.std.specs.List.{filter, list_any, AllZip}
 use Rattle.std.specs.declared.cmp.Ordering.{Ordering}
 use Rattle.link_simulation.specs.Simulation.Messages.{Message, SameMessage, same_pair, CapsAlike, PairsAlike}
@@ -8,7 +8,7 @@ use Rattle.link_simulation.specs.Simulation.Rates.{IsLowest}
 use Rattle.link_simulation.specs.Simulation.World.{World, Flight, Completed, Course, goes, meets, flows, is_done}
 use Rattle.link_simulation.specs.Simulation.World.{IsQuiet}
 use Rattle.link_simulation.specs.Simulation.Replies.{SameCompletion}
-use Rattle.link_simulation.specs.Rule.Planned.{Planned, RatedFlight, IsLeastMoment, rated_messages, left_at}
+use Rattle.link_simulation.specs.Rule.Planned.{Planned, RatedFlight, IsLeastMoment, left_at}
 use Rattle.link_simulation.specs.Rule.Planned.{SomeSpentAt}
 use Rattle.link_simulation.specs.Rule.Planned.{SomeReadyAt, AreInPairOrder, IsRated}
 

@@ -1,6 +1,6 @@
 -- Calls on the world of the simulation.
-use Rattle.std.specs.Prelude.{◌≡◌, ⊤, ℕ, ◌+◌, ◌-◌, ◌<◌, ◌≤◌, [], ◌∷◌, ◌++◌, true, ◌&&◌, cond}
-use Rattle.std.specs.Prelude.{if◌then◌else◌, Option, Some, None, nat_lt, IfSome}
+use Rattle.std.specs.Prelude.{◌≡◌, ⊤, ℕ, ◌+◌, ◌-◌, ◌<◌, ◌≤◌, List, [], ◌∷◌, ◌++◌, true, ◌&&◌}
+use Rattle.std.specs.Prelude.{cond, if◌then◌else◌, Option, Some, None, nat_lt, IfSome}
 use Rattle.std.specs.declared.cmp.Ordering.{Ordering}
 use Rattle.fair_rates.specs.declared.error.Error.TheVariants.{MomentTooLate}
 use Rattle.link_simulation.specs.Simulation.Messages.{Message, Caps, with_cap, with_link}
@@ -14,6 +14,7 @@ pub data Call (P : Type 0) : Type 0 where
   call_limit : (now : ℕ) → (peer : P) → (egress ingress : Option ℕ) → Call P
   call_limit_link : (now : ℕ) → (origin recipient : P) → (cap : Option ℕ) → Call P
   call_enqueue : (now : ℕ) → Message P → Call P
+  call_enqueue_all : (now : ℕ) → List (Message P) → Call P
   call_advance : (now : ℕ) → Call P
   call_next : Call P
 
@@ -22,6 +23,7 @@ abbrev pub moment_of : {P : Type 0} → Call P → Option ℕ
 moment_of (call_limit now peer egress ingress) = Some now
 moment_of (call_limit_link now origin recipient cap) = Some now
 moment_of (call_enqueue now m) = Some now
+moment_of (call_enqueue_all now ms) = Some now
 moment_of (call_advance now) = Some now
 moment_of call_next = None
 
@@ -54,11 +56,21 @@ module _ {P : Type 0} (cmp : P → P → Ordering) where
       let queued : World P = record w { waiting = w.waiting ++ m ∷ [] } in
       and_then (start_next cmp now queued (first_waiting cmp queued m)) (settle cmp now)
 
+  -- a message is sent
+  abbrev pub enqueue : ℕ → World P → Message P → Course (Completed P) (World P)
+  enqueue now w m = cond w.limited (join now w m) (complete_at_once now w m)
+
+  -- messages are sent one after another, up to the first that meets a fault
+  abbrev pub enqueue_each : ℕ → World P → List (Message P) → Course (Completed P) (World P)
+  enqueue_each now w [] = goes [] w
+  enqueue_each now w (m ∷ ms) = and_then (enqueue now w m) (λ v. enqueue_each now v ms)
+
   -- what a call does, once its moment has come
   abbrev pub act : World P → Call P → Course (Completed P) (World P)
   act w (call_limit now peer egress ingress) = rebalance now w (limited_by w.caps peer egress ingress)
   act w (call_limit_link now origin recipient cap) = rebalance now w (linked_by w.caps origin recipient cap)
-  act w (call_enqueue now m) = cond w.limited (join now w m) (complete_at_once now w m)
+  act w (call_enqueue now m) = enqueue now w m
+  act w (call_enqueue_all now ms) = enqueue_each now w ms
   act w (call_advance now) = goes [] w
   act w call_next = goes [] w
 
@@ -72,11 +84,12 @@ module _ {P : Type 0} (cmp : P → P → Ordering) where
   abbrev pub IsBeforeNext : ℕ → World P → Type 0
   IsBeforeNext now w = (next : Option ℕ) → NextIs cmp w next → IfSome next (λ t. now < t)
 
-  -- a call comes no earlier than the one before it, and one that changes caps or adds a message comes before the next
+  -- a call comes no earlier than the one before it, and one that changes caps or adds messages comes before the next
   -- event
   abbrev pub IsInTurn : World P → Call P → Type 0
   IsInTurn w (call_limit now peer egress ingress) = (w.moment ≤ now) × IsBeforeNext now w
   IsInTurn w (call_limit_link now origin recipient cap) = (w.moment ≤ now) × IsBeforeNext now w
   IsInTurn w (call_enqueue now m) = (w.moment ≤ now) × IsBeforeNext now w
+  IsInTurn w (call_enqueue_all now ms) = (w.moment ≤ now) × IsBeforeNext now w
   IsInTurn w (call_advance now) = w.moment ≤ now
   IsInTurn w call_next = ⊤

@@ -7,7 +7,7 @@ use Rattle.link_simulation.specs.Simulation.RefusalCauses.{IsRefusedFor}
 use Rattle.fair_rates.specs.Sides.Subjects.{same_peer}
 use Rattle.link_simulation.specs.Simulation.World.{World, Completed, goes, meets}
 use Rattle.link_simulation.specs.Simulation.Time.{NextIs}
-use Rattle.link_simulation.specs.Simulation.Calls.{Call, call_limit, call_limit_link, call_enqueue, call_advance}
+use Rattle.link_simulation.specs.Simulation.Calls.{Call}
 use Rattle.link_simulation.specs.Simulation.Calls.{call_next}
 use Rattle.link_simulation.specs.Simulation.Calls.{moment_of, Runs, IsInTurn}
 

@@ -5,11 +5,12 @@ ghost use Rattle.std.specs.Prelude.{◌∷◌, [], Some, None};
 ghost use Rattle.std.specs.Ordering.{nat_cmp};
 ghost use Rattle.link_simulation.specs.Simulation.World.{new_world};
 ghost use Rattle.link_simulation.specs.Simulation.Calls.{call_limit, call_limit_link, call_enqueue, call_advance};
-ghost use Rattle.link_simulation.specs.Simulation.Calls.{call_next};
+ghost use Rattle.link_simulation.specs.Simulation.Calls.{call_enqueue_all, call_next};
 ghost use Rattle.link_simulation.specs.Simulation.Replies.{reply_done, reply_next, reply_refused, Agrees};
 ghost use Rattle.fair_rates.specs.declared.error.Error.TheVariants.{OutOfMemory, NumberTooLarge};
 ghost use Rattle.fair_rates.specs.declared.error.Error.TheVariants.{MomentTooLate, FlowIdsUsedUp};
 ghost use Rattle.link_simulation.specs.Examples.Rows.{message, dropped, arrives, is_gone, a_byte_a_nanosecond};
+ghost use Rattle.link_simulation.specs.Examples.Rows.{calls_of_a_late_list};
 
 /// A reply with a wrong arrival does not agree.
 pub fn a_wrong_arrival_does_not_agree()
@@ -72,6 +73,20 @@ pub fn a_message_between_events_counts()
         (call_limit 0 1 a_byte_a_nanosecond None ∷ call_enqueue 0 (message 1 2 4 0)
         ∷ call_enqueue 3 (message 1 3 1 0) ∷ call_advance 4 ∷ [])
         (reply_done [] ∷ reply_done [] ∷ reply_done [] ∷ reply_done (arrives (message 1 2 4 0) 4 ∷ []) ∷ []) }
+{}
+
+/// Nor one that takes no notice of a list of messages between two events.
+pub fn a_list_between_events_counts()
+    ensures { ¬ Agrees nat_cmp (new_world 0)
+        (call_limit 0 1 a_byte_a_nanosecond None ∷ call_enqueue 0 (message 1 2 4 0)
+        ∷ call_enqueue_all 3 (message 1 3 1 0 ∷ []) ∷ call_advance 4 ∷ [])
+        (reply_done [] ∷ reply_done [] ∷ reply_done [] ∷ reply_done (arrives (message 1 2 4 0) 4 ∷ []) ∷ []) }
+{}
+
+/// Nor one that refuses a list and sends its first messages.
+pub fn a_refused_list_sends_nothing()
+    ensures { ¬ Agrees nat_cmp (new_world 0) calls_of_a_late_list
+        (reply_refused MomentTooLate ∷ reply_done (arrives (message 1 2 1 0) 6 ∷ []) ∷ reply_next None ∷ []) }
 {}
 
 /// Nor one that takes no notice of new caps where no event is ahead.

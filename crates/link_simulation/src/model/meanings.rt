@@ -14,7 +14,7 @@ ghost use Rattle.link_simulation.specs.Simulation.World.{flight_of, EndsWith};
 ghost use Rattle.link_simulation.specs.Laws.Bytes.{bytes_from};
 ghost use Rattle.link_simulation.specs.Simulation.Time.{NextIs, ArePositive, IsSound};
 ghost use Rattle.link_simulation.specs.Simulation.Calls.{Call, call_limit, call_limit_link, call_enqueue, call_advance};
-ghost use Rattle.link_simulation.specs.Simulation.Calls.{call_next, Runs, limited_by};
+ghost use Rattle.link_simulation.specs.Simulation.Calls.{call_enqueue_all, call_next, Runs, limited_by};
 ghost use Rattle.link_simulation.specs.Simulation.Messages.{Message, no_caps};
 ghost use Rattle.link_simulation.specs.Simulation.Rates.{drained_by, IsLowest};
 ghost use Rattle.link_simulation.specs.Rule.Planned.{Planned, new_planned, left_at, rated_messages, drained_to};
@@ -26,7 +26,7 @@ ghost use Rattle.link_simulation.specs.Examples.Rows.{five_messages, two_of_a_pa
 ghost use Rattle.link_simulation.specs.Examples.Rows.{replies_with_a_refusal};
 ghost use Rattle.link_simulation.specs.Rule.StandsFor.{StandsFor};
 ghost use Rattle.link_simulation.specs.Laws.Conserved.{held_of, IsConserved, AreConserved};
-ghost use Rattle.link_simulation.specs.Laws.Isolation.{IsSet, KeepsApart, is_kept, kept_completions, NothingElse};
+ghost use Rattle.link_simulation.specs.Laws.Isolation.{IsSet, KeepsApart, kept_calls, kept_completions, NothingElse};
 ghost use Rattle.link_simulation.specs.Laws.MostEvents.{most_events};
 ghost use Rattle.link_simulation.specs.Laws.PairCompletions.{enqueued, answered, completes_pair};
 ghost use Rattle.link_simulation.specs.Laws.Orderly.{IsOrderly};
@@ -232,6 +232,8 @@ pub fn what_was_made_is_told()
     ensures completions { completions_in replies_with_a_refusal ≡ (arrives (message 1 2 1 0) 0 ∷ []) ∷ [] ∷ []
         ∷ (arrives (message 2 1 1 0) 0 ∷ []) ∷ [] ∷ [] }
     ensures enqueued { enqueued calls_with_a_refusal ≡ message 1 2 1 0 ∷ message 1 3 1 0 ∷ message 2 1 1 0 ∷ [] }
+    ensures enqueued_in_lists { enqueued (call_enqueue_all 0 (message 1 2 1 0 ∷ message 2 1 1 0 ∷ [])
+        ∷ call_enqueue 0 (message 1 3 1 0) ∷ []) ≡ message 1 2 1 0 ∷ message 2 1 1 0 ∷ message 1 3 1 0 ∷ [] }
     ensures answered { answered (completions_in replies_with_a_refusal) ≡ arrives (message 1 2 1 0) 0
         ∷ arrives (message 2 1 1 0) 0 ∷ [] }
     ensures pair { filter (completes_pair nat_cmp (message 1 2 0 0)) (arrives (message 1 3 1 0) 1
@@ -239,17 +241,26 @@ pub fn what_was_made_is_told()
         ≡ arrives (message 1 2 2 0) 2 ∷ arrives (message 1 2 3 0) 3 ∷ [] }
 {}
 
-/// A set has equal peers together, and each call counts for what keeps apart. Of the calls all stay but messages of
-/// others, with the completions of the set's origins; and each call of others counts.
+/// A set has equal peers together, and each call, and each message of a list, counts for what keeps apart. Of the calls
+/// all stay but messages of others, with the completions of the set's origins; and each call of others counts. A list
+/// stays with the messages of the set's origins.
 pub fn what_a_set_keeps_is_told()
     ensures set { IsSet nat_cmp below_three }
     ensures equal_peers { ¬ IsSet all_equal below_three }
     ensures first_call { ¬ KeepsApart below_three (call_enqueue 0 (message 1 3 1 0) ∷ call_next ∷ []) }
     ensures later_call { ¬ KeepsApart below_three (call_next ∷ call_enqueue 0 (message 3 1 1 0) ∷ []) }
-    ensures calls { filter (is_kept below_three) (call_enqueue 0 (message 1 2 1 0) ∷ call_enqueue 0 (message 3 2 1 0)
+    ensures first_of_a_list { ¬ KeepsApart below_three
+        (call_enqueue_all 0 (message 1 3 1 0 ∷ message 1 2 1 0 ∷ []) ∷ []) }
+    ensures later_of_a_list { ¬ KeepsApart below_three
+        (call_enqueue_all 0 (message 1 2 1 0 ∷ message 3 1 1 0 ∷ []) ∷ []) }
+    ensures calls { kept_calls below_three (call_enqueue 0 (message 1 2 1 0) ∷ call_enqueue 0 (message 3 2 1 0)
         ∷ call_limit 0 3 None None ∷ call_limit_link 0 3 4 None ∷ call_advance 0 ∷ call_next ∷ [])
         ≡ call_enqueue 0 (message 1 2 1 0) ∷ call_limit 0 3 None None ∷ call_limit_link 0 3 4 None ∷ call_advance 0
         ∷ call_next ∷ [] }
+    ensures lists { kept_calls below_three
+        (call_enqueue_all 0 (message 3 4 1 0 ∷ message 1 2 1 0 ∷ message 3 2 2 0 ∷ message 2 3 3 0 ∷ [])
+        ∷ call_enqueue_all 1 (message 3 4 1 0 ∷ []) ∷ [])
+        ≡ call_enqueue_all 0 (message 1 2 1 0 ∷ message 2 3 3 0 ∷ []) ∷ call_enqueue_all 1 [] ∷ [] }
     ensures completions { kept_completions below_three
         (call_enqueue 0 (message 3 4 1 0) ∷ call_advance 1 ∷ call_enqueue 1 (message 1 2 3 0) ∷ [])
         ((arrives (message 1 2 1 0) 0 ∷ []) ∷ (arrives (message 3 2 1 0) 1 ∷ arrives (message 1 4 1 0) 1 ∷ [])

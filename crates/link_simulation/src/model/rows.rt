@@ -11,6 +11,8 @@ ghost use Rattle.link_simulation.specs.Simulation.Replies.{reply_done, reply_nex
 ghost use Rattle.fair_rates.specs.declared.error.Error.TheVariants.{OutOfMemory, MomentTooLate, FlowIdsUsedUp};
 ghost use Rattle.link_simulation.specs.Examples.Rows.{message, dropped, arrives, is_gone, a_byte_a_nanosecond, flying};
 ghost use Rattle.link_simulation.specs.Examples.Rows.{calls_of_a_follower, replies_of_a_follower};
+ghost use Rattle.link_simulation.specs.Examples.Rows.{calls_of_a_list, replies_of_a_list};
+ghost use Rattle.link_simulation.specs.Examples.Rows.{calls_of_a_late_list, replies_of_a_late_list};
 ghost use Rattle.link_simulation.specs.Examples.Rows.{calls_at_the_last_moment, replies_at_the_last_moment};
 
 /// Three bytes take three nanoseconds, and arrive their latency later.
@@ -334,4 +336,16 @@ pub fn a_refused_call_counts_as_not_made()
     ensures { Agrees nat_cmp (new_world 0)
         (call_limit 0 1 a_byte_a_nanosecond None ∷ call_enqueue 0 (message 1 2 1 0) ∷ call_next ∷ [])
         (reply_refused OutOfMemory ∷ reply_done (arrives (message 1 2 1 0) 0 ∷ []) ∷ reply_next None ∷ []) }
+{}
+
+/// The messages of a list are sent one after another at its moment: what completes as they are sent comes in their
+/// order, and the second one of a pair waits behind the first.
+pub fn a_list_goes_message_by_message()
+    ensures { Agrees nat_cmp (new_world 0) calls_of_a_list replies_of_a_list }
+{}
+
+/// A list of which one message is late is refused, and none of its messages was sent: one of the first pair then
+/// arrives before the first one would have.
+pub fn a_late_message_refuses_its_list()
+    ensures { Agrees nat_cmp (new_world 0) calls_of_a_late_list replies_of_a_late_list }
 {}

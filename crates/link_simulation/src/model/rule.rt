@@ -12,6 +12,8 @@ ghost use Rattle.link_simulation.specs.Rule.Refusals.{Obeyed};
 ghost use Rattle.fair_rates.specs.declared.error.Error.TheVariants.{MomentTooLate, FlowIdsUsedUp};
 ghost use Rattle.link_simulation.specs.Examples.Rows.{message, dropped, arrives, is_gone, a_byte_a_nanosecond};
 ghost use Rattle.link_simulation.specs.Examples.Rows.{calls_of_a_follower, replies_of_a_follower};
+ghost use Rattle.link_simulation.specs.Examples.Rows.{calls_of_a_list, replies_of_a_list};
+ghost use Rattle.link_simulation.specs.Examples.Rows.{calls_of_a_late_list, replies_of_a_late_list};
 ghost use Rattle.link_simulation.specs.Examples.Rows.{calls_at_the_last_moment, replies_at_the_last_moment};
 
 /// At moments in their order the replies are the simulation's: a follower starts when it cannot arrive before the
@@ -164,4 +166,14 @@ pub fn several_pairs_wait()
         ∷ reply_done (arrives (message 1 2 0 0) 2 ∷ arrives (message 1 3 0 0) 2 ∷ []) ∷ reply_next (Some 4)
         ∷ reply_done (arrives (message 1 2 1 0) 4 ∷ []) ∷ reply_next (Some 5)
         ∷ reply_done (arrives (message 1 3 2 0) 5 ∷ []) ∷ reply_next None ∷ []) }
+{}
+
+/// The messages of a list go one after another.
+pub fn a_list_goes_message_by_message()
+    ensures { Obeyed nat_cmp (new_planned 0) calls_of_a_list replies_of_a_list }
+{}
+
+/// A list that meets a fault changes nothing, though its first message went.
+pub fn a_late_message_refuses_its_list()
+    ensures { Obeyed nat_cmp (new_planned 0) calls_of_a_late_list replies_of_a_late_list }
 {}

@@ -13,8 +13,8 @@ ghost use Rattle.link_simulation.specs.Simulation.Time.{IsSound};
 ghost use Rattle.link_simulation.specs.Simulation.Calls.{Call, call_advance, Runs};
 ghost use Rattle.link_simulation.specs.Laws.PairCompletions.{enqueued, answered, IsInPairOrder};
 ghost use Rattle.link_simulation.specs.Laws.Bytes.{bytes_from, allowance};
-ghost use Rattle.link_simulation.specs.Laws.Isolation.{Answers, AnswersInTurn, IsSet, KeepsApart, InTime, is_kept};
-ghost use Rattle.link_simulation.specs.Laws.Isolation.{kept_completions, NothingElse};
+ghost use Rattle.link_simulation.specs.Laws.Isolation.{Answers, AnswersInTurn, IsSet, KeepsApart, InTime};
+ghost use Rattle.link_simulation.specs.Laws.Isolation.{kept_calls, kept_completions, NothingElse};
 ghost use Rattle.link_simulation.specs.Examples.Rows.{message, dropped, arrives, is_gone};
 
 /// The completions of a pair come in the order of its `enqueue` calls, and its delivery moments never go down.
@@ -62,6 +62,6 @@ pub fn a_set_is_isolated<P: Ord>()
     ensures { (inside : P → Bool) (id : ℕ) (calls : List (Call P)) (css : List (List (Completed P))) →
         IsSet P.cmp inside → KeepsApart inside calls → InTime calls →
         AnswersInTurn P.cmp (new_world id) calls css →
-        Answers P.cmp (new_world id) (filter (is_kept inside) calls) (kept_completions inside calls css)
+        Answers P.cmp (new_world id) (kept_calls inside calls) (kept_completions inside calls css)
         × NothingElse inside calls css }
 {}

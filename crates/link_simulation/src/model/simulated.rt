@@ -1,8 +1,11 @@
 //! What a call that goes by the event rule, or is refused by it, does in the simulation.
-ghost use Rattle.std.specs.Prelude.{◌≡◌, ℕ, ◌<◌, ◌≤◌, List, Some, IfSome};
+ghost use Rattle.std.specs.Prelude.{◌≡◌, ℕ, ◌<◌, ◌≤◌, List, ◌∷◌, Some, IfSome};
 ghost use Rattle.fair_rates.specs.declared.error.Error.{Error as AnyError};
-ghost use Rattle.link_simulation.specs.Simulation.World.{World, Completed, last_moment, new_world};
-ghost use Rattle.link_simulation.specs.Simulation.Calls.{Call, call_advance, moment_of, IsInTurn};
+ghost use Rattle.link_simulation.specs.Simulation.Messages.{Message};
+ghost use Rattle.link_simulation.specs.Simulation.World.{World, Completed, last_moment, new_world, IsQuiet, Course};
+ghost use Rattle.link_simulation.specs.Simulation.World.{goes, preceded};
+ghost use Rattle.link_simulation.specs.Simulation.Calls.{Call, call_enqueue, call_enqueue_all, call_advance};
+ghost use Rattle.link_simulation.specs.Simulation.Calls.{moment_of, IsInTurn, Runs};
 ghost use Rattle.link_simulation.specs.Rule.Planned.{Planned, next_event, new_planned};
 ghost use Rattle.link_simulation.specs.Rule.Refusals.{MayBeRefused};
 ghost use Rattle.link_simulation.specs.Rule.StandsFor.{StandsFor};
@@ -58,4 +61,19 @@ pub fn calls_before_the_next_event_are_in_turn<P: Ord>()
     ensures at_once { (w : World P) (q : Planned P) (call other : Call P) (now : ℕ) (completions : List (Completed P)) →
         moment_of other ≡ Some now → (run : IsRun P.cmp w call now completions q) →
         IsCalled P.cmp q other now run.after }
+{}
+
+/// Of a list of messages in turn the first is in turn, and after it the rest is. The list runs as the first one, and
+/// then as the rest.
+pub fn a_list_in_turn_goes_message_by_message<P: Ord>()
+    ensures first { (w : World P) (now : ℕ) (m : Message P) (ms : List (Message P)) →
+        IsInTurn P.cmp w (call_enqueue_all now (m ∷ ms)) → IsInTurn P.cmp w (call_enqueue now m) }
+    ensures rest { (w v : World P) (now : ℕ) (m : Message P) (ms : List (Message P)) (cs : List (Completed P)) →
+        IsQuiet P.cmp w.moment w → IsInTurn P.cmp w (call_enqueue_all now (m ∷ ms)) →
+        Runs P.cmp w (call_enqueue now m) now (goes cs v) → IsInTurn P.cmp v (call_enqueue_all now ms) }
+    ensures runs { (w v : World P) (now : ℕ) (m : Message P) (ms : List (Message P)) (cs : List (Completed P))
+        (course : Course (Completed P) (World P)) →
+        Runs P.cmp w (call_enqueue now m) now (goes cs v) → v.moment ≡ now →
+        Runs P.cmp v (call_enqueue_all now ms) now course →
+        Runs P.cmp w (call_enqueue_all now (m ∷ ms)) now (preceded cs course) }
 {}

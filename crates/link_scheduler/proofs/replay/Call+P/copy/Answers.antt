@@ -1,9 +1,11 @@
 use Rattle.std.proofs.Common.{refl, sym}
-use Rattle.link_simulation.specs.Rule.SamePlanned.{same_limit, same_limit_link, same_enqueue, same_advance, same_next}
+use Rattle.link_simulation.specs.Rule.SamePlanned.{same_limit, same_limit_link, same_enqueue, same_enqueue_all}
+use Rattle.link_simulation.specs.Rule.SamePlanned.{same_advance, same_next}
 use Rattle.link_scheduler.proofs.replay.Call+P.copy.Goals as goal
 use Rattle.link_scheduler.proofs.replay.Call+P.copy.Goals.{in-Limit+in_ok-copy_of-in-Limit}
 use Rattle.link_scheduler.proofs.replay.Call+P.copy.Goals.{in-LimitLink+in_ok-copy_of-in-LimitLink+in_ok-copy_of-in-LimitLink-2}
 use Rattle.link_scheduler.proofs.replay.Call+P.copy.Goals.{in-Enqueue+in_ok-copy_of-in-Enqueue+in_ok-copy_of-in-Enqueue-2+in_ok-share-in-Enqueue}
+use Rattle.link_scheduler.proofs.replay.Call+P.copy.Goals.{in-EnqueueAll+in_ok-copies_of-in-EnqueueAll}
 use Rattle.link_scheduler.proofs.replay.Call+P.copy.Goals.{in-Advance, in-Next}
 
 pub returns-clause-same : goal.returns-clause-same
@@ -21,6 +23,9 @@ returns-clause-same g c = elim c.match-self.branch [
         latency = refl;
         should_deliver = refl;
       }))
+  | in-EnqueueAll+in_ok-copies_of-in-EnqueueAll w ↦ rw
+      (w.in-EnqueueAll.is, w.result-is, ← w.deref.ensures.value)
+      (same_enqueue_all w.in_ok-copies_of-in-EnqueueAll.ensures.same)
   | in-Advance w ↦ rw (w.in-Advance.is, w.result-is) same_advance
   | in-Next w ↦ rw (w.in-Next.is, w.result-is) same_next
 ]

@@ -1,8 +1,14 @@
+use Rattle.std.proofs.Common.{map, rules}
 use Rattle.std.proofs.lemmas.Result.{err_from_is_err_and}
+use Rattle.link_scheduler.specs.Calls.AsPlanned.{planned}
+use Rattle.link_scheduler.specs.Calls.State.{outgoing}
+use Rattle.link_flights.specs.Pairs.Messages.{completed_of}
+use Rattle.link_scheduler.proofs.Calls.AsOneCall.{made_as_one, refused_as_one}
 use Rattle.link_scheduler.proofs.replay.Call+P.make.Goals as goal
 use Rattle.link_scheduler.proofs.replay.Call+P.make.Goals.{in-Limit+in_ok-completions-in-Limit}
 use Rattle.link_scheduler.proofs.replay.Call+P.make.Goals.{in-LimitLink+in_ok-completions-in-LimitLink}
 use Rattle.link_scheduler.proofs.replay.Call+P.make.Goals.{in-Enqueue+in_ok-completions-in-Enqueue}
+use Rattle.link_scheduler.proofs.replay.Call+P.make.Goals.{in-EnqueueAll+in_ok-completions-in-EnqueueAll}
 use Rattle.link_scheduler.proofs.replay.Call+P.make.Goals.{in-Advance+in_ok-completions-in-Advance}
 
 pub returns-clause-made : goal.returns-clause-made
@@ -13,6 +19,13 @@ returns-clause-made g c = elim c.match-self.branch [
       w.in_ok-completions-in-LimitLink.ensures.made
   | in-Enqueue+in_ok-completions-in-Enqueue w ↦ rw (w.in-Enqueue.is, w.state-is, w.completions-is)
       w.in_ok-completions-in-Enqueue.ensures.made
+  | in-EnqueueAll+in_ok-completions-in-EnqueueAll w ↦ rw (w.in-EnqueueAll.is, w.state-is, w.completions-is)
+      (made_as_one g.P.Ord.cmp g.met.P.Ord.total w.in-EnqueueAll.now (search rules)
+      (map outgoing w.in-EnqueueAll.messages.items)
+      (planned g.P.Ord.cmp c.args.state.now.ledger) (planned g.P.Ord.cmp w.enqueue_all.new.self.ledger)
+      (map completed_of w.in_ok-completions-in-EnqueueAll.completions.items) c.args.state.now.caps
+      c.args.state.now.arrivals
+      c.args.state.now.orderly w.in_ok-completions-in-EnqueueAll.ensures.made)
   | in-Advance+in_ok-completions-in-Advance w ↦ rw (w.in-Advance.is, w.state-is, w.completions-is)
       w.in_ok-completions-in-Advance.ensures.made
 ]
@@ -23,3 +36,13 @@ returns-in_err-completions-in-Enqueue-clause-unchanged g c =
     err_from_is_err_and c.from_residual-in_err-completions-in-Enqueue.result
     c.from_residual-in_err-completions-in-Enqueue.ensures.1 in
     rw p.1 c.in_err-completions-in-Enqueue.ensures.unchanged
+
+pub returns-in_err-completions-in-EnqueueAll-clause-refused : goal.returns-in_err-completions-in-EnqueueAll-clause-refused
+returns-in_err-completions-in-EnqueueAll-clause-refused g c =
+    let p =
+    err_from_is_err_and c.from_residual-in_err-completions-in-EnqueueAll.result
+    c.from_residual-in_err-completions-in-EnqueueAll.ensures.1 in
+    rw (c.in-EnqueueAll.is, p.1, p.2)
+    (refused_as_one g.P.Ord.cmp g.met.P.Ord.total c.in-EnqueueAll.now (search rules)
+    (map outgoing c.in-EnqueueAll.messages.items) (planned g.P.Ord.cmp c.args.state.now.ledger) _
+    c.in_err-completions-in-EnqueueAll.ensures.refused)

@@ -1,10 +1,10 @@
-use Rattle.std.proofs.Common.{◌≡◌, ℕ, [], ◌∷◌, refl, subst}
+use Rattle.std.proofs.Common.{◌≡◌, ℕ, refl, subst}
 use Rattle.std.specs.Ordering.{nat_cmp}
 use Rattle.std.proofs.lemmas.Cmp.{nat_cmp_total}
 use Rattle.fair_rates.specs.declared.error.Error.{Error}
 use Rattle.fair_rates.specs.declared.error.Error.TheVariants.{OutOfMemory, MomentTooLate, FlowIdsUsedUp}
-use Rattle.link_simulation.specs.Simulation.World.{World, Completed, Course, goes, meets, new_world}
-use Rattle.link_simulation.specs.Simulation.Calls.{Call, call_enqueue, moment_of, Runs}
+use Rattle.link_simulation.specs.Simulation.World.{meets, new_world}
+use Rattle.link_simulation.specs.Simulation.Calls.{Call, call_enqueue, Runs}
 use Rattle.link_simulation.specs.Rule.Planned.{new_planned}
 use Rattle.link_simulation.specs.Simulation.Replies.{Faults}
 use Rattle.link_simulation.specs.Examples.Rows.{message}

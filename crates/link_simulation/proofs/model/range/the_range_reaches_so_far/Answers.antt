@@ -7,8 +7,7 @@ use Rattle.link_simulation.specs.Simulation.Messages.{Message}
 use Rattle.link_simulation.specs.Simulation.Calls.{Call, call_limit, call_limit_link, call_enqueue, call_advance}
 use Rattle.link_simulation.specs.Simulation.Calls.{call_next, moment_of}
 use Rattle.link_simulation.specs.Laws.PairCompletions.{enqueued}
-use Rattle.link_simulation.specs.Rule.Planned.{RatedFlight, new_planned}
-use Rattle.link_simulation.specs.Rule.Range.{AreInRange}
+use Rattle.link_simulation.specs.Rule.Planned.{RatedFlight}
 use Rattle.link_simulation.specs.Examples.Rows.{message}
 use Rattle.fair_rates.proofs.Lists.Each.{all_of_each}
 use Rattle.link_simulation.proofs.model.range.the_range_reaches_so_far.Goals as goal

@@ -1,6 +1,9 @@
-use Rattle.link_simulation.specs.Simulation.Calls.{Call, call_limit, call_limit_link, call_enqueue, call_advance}
-use Rattle.link_simulation.specs.Simulation.Calls.{call_next}
-use Rattle.link_simulation.specs.Rule.SamePlanned.{same_limit, same_limit_link, same_enqueue, same_advance, same_next}
+use Rattle.link_simulation.specs.Simulation.Calls.{call_limit, call_limit_link, call_enqueue, call_advance}
+use Rattle.link_simulation.specs.Simulation.Calls.{call_enqueue_all, call_next}
+use Rattle.link_simulation.specs.Rule.SamePlanned.{same_limit, same_limit_link, same_enqueue, same_enqueue_all}
+use Rattle.link_simulation.specs.Rule.SamePlanned.{same_advance, same_next}
+use Rattle.link_simulation.specs.Simulation.Messages.{SameMessage}
+use Rattle.fair_rates.proofs.Lists.Zips.{zip-same}
 use Rattle.link_simulation.proofs.Simulation.AlikeMessages.{same_itself, message_itself}
 use Rattle.link_simulation.proofs.model.same.a_call_is_the_same_as_itself.Goals as goal
 
@@ -10,5 +13,7 @@ returns g c (call_limit_link now origin recipient cap) =
     same_limit_link (same_itself g.P.Ord.cmp g.met.P.Ord.total origin)
     (same_itself g.P.Ord.cmp g.met.P.Ord.total recipient)
 returns g c (call_enqueue now m) = same_enqueue (message_itself g.P.Ord.cmp g.met.P.Ord.total m)
+returns g c (call_enqueue_all now ms) =
+    same_enqueue_all (zip-same (SameMessage g.P.Ord.cmp) (message_itself g.P.Ord.cmp g.met.P.Ord.total) ms)
 returns g c (call_advance now) = same_advance
 returns g c call_next = same_next

@@ -1,0 +1,9 @@
+use Rattle.std.proofs.Common.{map, take}
+use Rattle.std.specs.List.{AllZip}
+use Rattle.link_simulation.specs.Simulation.Messages.{SameMessage}
+use Rattle.link_scheduler.specs.Calls.State.{outgoing}
+use Rattle.link_scheduler.proofs.replay.copies_of.Given as goal
+
+abbrev pub invariant-loop-one : goal.invariant-loop-one
+invariant-loop-one g l =
+    AllZip (SameMessage g.P.Ord.cmp) (map outgoing (take l.one-index l.messages)) (map outgoing l.copies.items)

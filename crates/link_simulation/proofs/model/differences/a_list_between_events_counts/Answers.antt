@@ -1,0 +1,19 @@
+use Rattle.std.proofs.Common.{[], ◌∷◌, None, refl}
+use Rattle.std.specs.Ordering.{nat_cmp}
+use Rattle.std.proofs.lemmas.Cmp.{nat_cmp_total}
+use Rattle.fair_rates.specs.Numbers.Amount.{reduced, gcd_within}
+use Rattle.link_simulation.specs.Simulation.Calls.{call_limit, call_enqueue, call_enqueue_all, call_advance}
+use Rattle.link_simulation.specs.Simulation.Replies.{reply_done}
+use Rattle.link_simulation.specs.Examples.Rows.{message, arrives, a_byte_a_nanosecond}
+use Rattle.link_simulation.proofs.Examples.ComputedReplies.{evenly}
+use Rattle.link_simulation.proofs.Examples.ComputedDifferences.{never_agree}
+use Rattle.link_simulation.proofs.model.differences.a_list_between_events_counts.Goals as goal
+
+pub returns : goal.returns
+unfolding reduced gcd_within
+returns c =
+    never_agree nat_cmp nat_cmp_total (evenly 1_000_000_000) 20 0
+    (call_limit 0 1 a_byte_a_nanosecond None ∷ call_enqueue 0 (message 1 2 4 0)
+    ∷ call_enqueue_all 3 (message 1 3 1 0 ∷ []) ∷ call_advance 4 ∷ [])
+    (reply_done [] ∷ reply_done [] ∷ reply_done [] ∷ reply_done (arrives (message 1 2 4 0) 4 ∷ []) ∷ [])
+    refl

@@ -1,0 +1,17 @@
+use Rattle.std.proofs.Common.{[], ◌∷◌, None, refl}
+use Rattle.std.specs.Ordering.{nat_cmp}
+use Rattle.std.proofs.lemmas.Cmp.{nat_cmp_total}
+use Rattle.fair_rates.specs.Numbers.Amount.{reduced, gcd_within}
+use Rattle.fair_rates.specs.declared.error.Error.TheVariants.{MomentTooLate}
+use Rattle.link_simulation.specs.Simulation.Replies.{reply_done, reply_next, reply_refused}
+use Rattle.link_simulation.specs.Examples.Rows.{message, arrives, calls_of_a_late_list}
+use Rattle.link_simulation.proofs.Examples.ComputedReplies.{evenly}
+use Rattle.link_simulation.proofs.Examples.ComputedDifferences.{never_agree}
+use Rattle.link_simulation.proofs.model.differences.a_refused_list_sends_nothing.Goals as goal
+
+pub returns : goal.returns
+unfolding reduced gcd_within
+returns c =
+    never_agree nat_cmp nat_cmp_total (evenly 1_000_000_000) 20 0 calls_of_a_late_list
+    (reply_refused MomentTooLate ∷ reply_done (arrives (message 1 2 1 0) 6 ∷ []) ∷ reply_next None ∷ [])
+    refl
