@@ -24,7 +24,8 @@ use std::alloc::Global;
 
 /// A call of a scheduler, with its arguments: see the functions of `State`.
 ///
-/// `M` is what it has of a message: the bytes, where nothing else is said.
+/// `M` is what it has of a message: the bytes, where nothing else is said. A line of a script says
+/// how long the message is, and is a `Call<u64, usize>`. No line says a list of messages.
 #[derive(Debug, Drop)]
 pub enum Call<P, M = Bytes> {
     /// `State::limit`.

@@ -1,7 +1,7 @@
 -- Words that are taken column by column.
 use Rattle.std.proofs.Common.{◌≡◌, ℕ, ◌^◌, ◌<◌, ◌≤◌, Bool, true, false, ◌&&◌, eqb, List, [], ◌∷◌, ◌++◌, Option, None}
 use Rattle.std.proofs.Common.{Some, codes, refl, sym, ap, ap₂, ◌∙◌, subst, arith, eq-eqb}
-use Rattle.link_scripts.specs.declared.linkrun.command.ScriptCall.TheVariants as calls
+use Rattle.link_scheduler.specs.declared.replay.Call.TheVariants as calls
 use Rattle.link_scripts.specs.declared.linkrun.command.Command.{Command}
 use Rattle.link_scripts.specs.declared.linkrun.command.Command.TheVariants as commands
 use Rattle.link_scripts.specs.Script.{Takes, number_word, cap_word, flag_word, command_words, IsNumberInRange}
@@ -125,10 +125,11 @@ IsMessageIn = AreIn IsNumberInRange (AreIn IsNumberInRange (AreIn IsNumberInRang
 
 -- ---- a command behind its first word
 
--- a command begins with that word only if it is one of those
+-- a command that a line says begins with that word only if it is one of those
 abbrev pub AreOfName : {X : Type 0} → List ℕ → (X → Command) → Type 0
 AreOfName {X} name of =
-    (v : Command) (ws rest : List (List ℕ)) → name ∷ ws ≡ command_words v ++ rest → (x : X) × (v ≡ of x)
+    (v : Command) (ws rest : List (List ℕ)) → IsCommandInRange v → name ∷ ws ≡ command_words v ++ rest
+    → (x : X) × (v ≡ of x)
 
 module _ {X : Type 0} (name : List ℕ) (words : X → List (List ℕ)) (S : X → Type 0) (of : X → Command)
     (spelled : (x : X) → command_words (of x) ≡ name ∷ words x) (into : (x : X) → IsCommandInRange (of x) → S x)
@@ -138,7 +139,7 @@ module _ {X : Type 0} (name : List ℕ) (words : X → List (List ℕ)) (S : X �
     behind : (v : Command) (rest : List (List ℕ)) → IsCommandInRange v → w0 ≡ command_words v ++ rest
         → (x : X) × (v ≡ of x) × S x × (w1 ≡ words x ++ rest)
     behind v rest range said =
-        let one = only v w1 rest (sym named ∙ said) in
+        let one = only v w1 rest range (sym named ∙ said) in
         let x = one.0 in
         let in_range = into x (subst IsCommandInRange one.1 range) in
         let all : name ∷ w1 ≡ (name ∷ words x) ++ rest =
@@ -232,57 +233,60 @@ abbrev enqueue_of : MessageColumns → Command
 enqueue_of m = commands.Schedule (calls.Enqueue m.0 m.1.0 m.1.1.0 m.1.1.1.0 m.1.1.1.1.0 m.1.1.1.1.1.0 m.1.1.1.1.1.1)
 
 only_link : AreOfName (codes "link") link_of
-only_link (commands.Link origin recipient cap) ws rest said = ((origin, (recipient, cap)), refl)
-only_link (commands.Flow f) ws rest said = absurd (apart (codes "link") (codes "flow") ws _ refl said)
-only_link (commands.Egress peer cap) ws rest said = absurd (apart (codes "link") (codes "egress") ws _ refl said)
-only_link (commands.Ingress peer cap) ws rest said = absurd (apart (codes "link") (codes "ingress") ws _ refl said)
-only_link commands.Rates ws rest said = absurd (apart (codes "link") (codes "rates") ws _ refl said)
-only_link (commands.Schedule (calls.Limit now peer egress ingress)) ws rest said =
+only_link (commands.Link origin recipient cap) ws rest range said = ((origin, (recipient, cap)), refl)
+only_link (commands.Flow f) ws rest range said = absurd (apart (codes "link") (codes "flow") ws _ refl said)
+only_link (commands.Egress peer cap) ws rest range said = absurd (apart (codes "link") (codes "egress") ws _ refl said)
+only_link (commands.Ingress peer cap) ws rest range said = absurd (apart (codes "link") (codes "ingress") ws _ refl said)
+only_link commands.Rates ws rest range said = absurd (apart (codes "link") (codes "rates") ws _ refl said)
+only_link (commands.Schedule (calls.Limit now peer egress ingress)) ws rest range said =
     absurd (apart (codes "link") (codes "limit") ws _ refl said)
-only_link (commands.Schedule (calls.LimitLink now origin recipient cap)) ws rest said =
+only_link (commands.Schedule (calls.LimitLink now origin recipient cap)) ws rest range said =
     absurd (apart (codes "link") (codes "limitlink") ws _ refl said)
-only_link (commands.Schedule (calls.Enqueue now origin recipient channel length latency should_deliver)) ws rest said =
+only_link (commands.Schedule (calls.Enqueue now origin recipient channel length latency should_deliver)) ws rest range said =
     absurd (apart (codes "link") (codes "enqueue") ws _ refl said)
-only_link (commands.Schedule (calls.Advance now)) ws rest said =
+only_link (commands.Schedule (calls.EnqueueAll now messages)) ws rest range said = absurd range
+only_link (commands.Schedule (calls.Advance now)) ws rest range said =
     absurd (apart (codes "link") (codes "advance") ws _ refl said)
-only_link (commands.Schedule calls.Next) ws rest said = absurd (apart (codes "link") (codes "next") ws _ refl said)
+only_link (commands.Schedule calls.Next) ws rest range said = absurd (apart (codes "link") (codes "next") ws _ refl said)
 
 only_limit : AreOfName (codes "limit") limit_of
-only_limit (commands.Schedule (calls.Limit now peer egress ingress)) ws rest said =
+only_limit (commands.Schedule (calls.Limit now peer egress ingress)) ws rest range said =
     ((now, (peer, (egress, ingress))), refl)
-only_limit (commands.Flow f) ws rest said = absurd (apart (codes "limit") (codes "flow") ws _ refl said)
-only_limit (commands.Egress peer cap) ws rest said = absurd (apart (codes "limit") (codes "egress") ws _ refl said)
-only_limit (commands.Ingress peer cap) ws rest said = absurd (apart (codes "limit") (codes "ingress") ws _ refl said)
-only_limit (commands.Link origin recipient cap) ws rest said =
+only_limit (commands.Flow f) ws rest range said = absurd (apart (codes "limit") (codes "flow") ws _ refl said)
+only_limit (commands.Egress peer cap) ws rest range said = absurd (apart (codes "limit") (codes "egress") ws _ refl said)
+only_limit (commands.Ingress peer cap) ws rest range said = absurd (apart (codes "limit") (codes "ingress") ws _ refl said)
+only_limit (commands.Link origin recipient cap) ws rest range said =
     absurd (apart (codes "limit") (codes "link") ws _ refl said)
-only_limit commands.Rates ws rest said = absurd (apart (codes "limit") (codes "rates") ws _ refl said)
-only_limit (commands.Schedule (calls.LimitLink now origin recipient cap)) ws rest said =
+only_limit commands.Rates ws rest range said = absurd (apart (codes "limit") (codes "rates") ws _ refl said)
+only_limit (commands.Schedule (calls.LimitLink now origin recipient cap)) ws rest range said =
     absurd (apart (codes "limit") (codes "limitlink") ws _ refl said)
-only_limit (commands.Schedule (calls.Enqueue now origin recipient channel length latency should_deliver)) ws rest said =
+only_limit (commands.Schedule (calls.Enqueue now origin recipient channel length latency should_deliver)) ws rest range said =
     absurd (apart (codes "limit") (codes "enqueue") ws _ refl said)
-only_limit (commands.Schedule (calls.Advance now)) ws rest said =
+only_limit (commands.Schedule (calls.EnqueueAll now messages)) ws rest range said = absurd range
+only_limit (commands.Schedule (calls.Advance now)) ws rest range said =
     absurd (apart (codes "limit") (codes "advance") ws _ refl said)
-only_limit (commands.Schedule calls.Next) ws rest said = absurd (apart (codes "limit") (codes "next") ws _ refl said)
+only_limit (commands.Schedule calls.Next) ws rest range said = absurd (apart (codes "limit") (codes "next") ws _ refl said)
 
 only_limit_link : AreOfName (codes "limitlink") limit_link_of
-only_limit_link (commands.Schedule (calls.LimitLink now origin recipient cap)) ws rest said =
+only_limit_link (commands.Schedule (calls.LimitLink now origin recipient cap)) ws rest range said =
     ((now, (origin, (recipient, cap))), refl)
-only_limit_link (commands.Flow f) ws rest said = absurd (apart (codes "limitlink") (codes "flow") ws _ refl said)
-only_limit_link (commands.Egress peer cap) ws rest said =
+only_limit_link (commands.Flow f) ws rest range said = absurd (apart (codes "limitlink") (codes "flow") ws _ refl said)
+only_limit_link (commands.Egress peer cap) ws rest range said =
     absurd (apart (codes "limitlink") (codes "egress") ws _ refl said)
-only_limit_link (commands.Ingress peer cap) ws rest said =
+only_limit_link (commands.Ingress peer cap) ws rest range said =
     absurd (apart (codes "limitlink") (codes "ingress") ws _ refl said)
-only_limit_link (commands.Link origin recipient cap) ws rest said =
+only_limit_link (commands.Link origin recipient cap) ws rest range said =
     absurd (apart (codes "limitlink") (codes "link") ws _ refl said)
-only_limit_link commands.Rates ws rest said = absurd (apart (codes "limitlink") (codes "rates") ws _ refl said)
-only_limit_link (commands.Schedule (calls.Limit now peer egress ingress)) ws rest said =
+only_limit_link commands.Rates ws rest range said = absurd (apart (codes "limitlink") (codes "rates") ws _ refl said)
+only_limit_link (commands.Schedule (calls.Limit now peer egress ingress)) ws rest range said =
     absurd (apart (codes "limitlink") (codes "limit") ws _ refl said)
 only_limit_link (commands.Schedule (calls.Enqueue now origin recipient channel length latency should_deliver)) ws rest
-    said =
+    range said =
     absurd (apart (codes "limitlink") (codes "enqueue") ws _ refl said)
-only_limit_link (commands.Schedule (calls.Advance now)) ws rest said =
+only_limit_link (commands.Schedule (calls.EnqueueAll now messages)) ws rest range said = absurd range
+only_limit_link (commands.Schedule (calls.Advance now)) ws rest range said =
     absurd (apart (codes "limitlink") (codes "advance") ws _ refl said)
-only_limit_link (commands.Schedule calls.Next) ws rest said =
+only_limit_link (commands.Schedule calls.Next) ws rest range said =
     absurd (apart (codes "limitlink") (codes "next") ws _ refl said)
 
 into_columns : (m : MessageColumns) → IsCommandInRange (enqueue_of m) → IsMessageIn m
@@ -293,22 +297,23 @@ of_columns m r = (r.0, r.1.0, r.1.1.0, r.1.1.1.0, r.1.1.1.1.0, r.1.1.1.1.1.0)
 
 only_enqueue : AreOfName (codes "enqueue") enqueue_of
 only_enqueue (commands.Schedule (calls.Enqueue now origin recipient channel length latency should_deliver)) ws rest
-    said =
+    range said =
     ((now, (origin, (recipient, (channel, (length, (latency, should_deliver)))))), refl)
-only_enqueue (commands.Flow f) ws rest said = absurd (apart (codes "enqueue") (codes "flow") ws _ refl said)
-only_enqueue (commands.Egress peer cap) ws rest said = absurd (apart (codes "enqueue") (codes "egress") ws _ refl said)
-only_enqueue (commands.Ingress peer cap) ws rest said =
+only_enqueue (commands.Flow f) ws rest range said = absurd (apart (codes "enqueue") (codes "flow") ws _ refl said)
+only_enqueue (commands.Egress peer cap) ws rest range said = absurd (apart (codes "enqueue") (codes "egress") ws _ refl said)
+only_enqueue (commands.Ingress peer cap) ws rest range said =
     absurd (apart (codes "enqueue") (codes "ingress") ws _ refl said)
-only_enqueue (commands.Link origin recipient cap) ws rest said =
+only_enqueue (commands.Link origin recipient cap) ws rest range said =
     absurd (apart (codes "enqueue") (codes "link") ws _ refl said)
-only_enqueue commands.Rates ws rest said = absurd (apart (codes "enqueue") (codes "rates") ws _ refl said)
-only_enqueue (commands.Schedule (calls.Limit now peer egress ingress)) ws rest said =
+only_enqueue commands.Rates ws rest range said = absurd (apart (codes "enqueue") (codes "rates") ws _ refl said)
+only_enqueue (commands.Schedule (calls.Limit now peer egress ingress)) ws rest range said =
     absurd (apart (codes "enqueue") (codes "limit") ws _ refl said)
-only_enqueue (commands.Schedule (calls.LimitLink now origin recipient cap)) ws rest said =
+only_enqueue (commands.Schedule (calls.LimitLink now origin recipient cap)) ws rest range said =
     absurd (apart (codes "enqueue") (codes "limitlink") ws _ refl said)
-only_enqueue (commands.Schedule (calls.Advance now)) ws rest said =
+only_enqueue (commands.Schedule (calls.EnqueueAll now messages)) ws rest range said = absurd range
+only_enqueue (commands.Schedule (calls.Advance now)) ws rest range said =
     absurd (apart (codes "enqueue") (codes "advance") ws _ refl said)
-only_enqueue (commands.Schedule calls.Next) ws rest said =
+only_enqueue (commands.Schedule calls.Next) ws rest range said =
     absurd (apart (codes "enqueue") (codes "next") ws _ refl said)
 
 module _ {w1 w2 : List (List ℕ)} where

@@ -3,14 +3,31 @@ use Rattle.std.proofs.Common.{◌≡◌, ◌⊎◌, ℕ, ◌-◌, ◌≤◌, Lis
 use Rattle.std.proofs.Common.{subst, take-append-drop, refl, sym, ap, ◌∙◌, arith, append_assoc, append-nil, replicate}
 use Rattle.std.proofs.Common.{⊎_elim}
 use Rattle.std.proofs.lemmas.List.{map-append, take-replicate}
+use Rattle.std.proofs.lemmas.List.Elements.{All-append, All-cons, All-map, All-nil}
 use Rattle.link_scheduler.specs.Calls.Replay.{call_of, reply_of}
 use Rattle.link_scheduler.specs.declared.replay.Call as replay_call
 use Rattle.link_scheduler.specs.declared.replay.Reply as replay_reply
 use Rattle.link_scripts.specs.Answer.{reply_text}
 use Rattle.link_scripts.specs.Schedule.{world_call}
 use Rattle.std.specs.Option.{IfSome}
+use Rattle.std.specs.List.{All}
 use Rattle.link_scripts.specs.Trace.{IsClosed, call_in, call_line, transcript_of}
+use Rattle.link_scripts.specs.Script.{IsCallOfScriptInRange}
 use Rattle.link_scripts.specs.declared.linkcheck.asked.Asked.{Asked}
+
+-- the calls of lines are in range
+pub calls_in_range : (asked : List Asked) → All (λ one. IsCallOfScriptInRange one.call) asked
+    → All IsCallOfScriptInRange (map call_in asked)
+calls_in_range asked range = All-map IsCallOfScriptInRange call_in asked range
+
+-- and one call more is
+pub one_more_in_range : (before after : List Asked) (x : Asked) → after ≡ before ++ x ∷ []
+    → All (λ one. IsCallOfScriptInRange one.call) before → IsCallOfScriptInRange x.call
+    → All (λ one. IsCallOfScriptInRange one.call) after
+one_more_in_range before after x is range this =
+    subst (All (λ one. IsCallOfScriptInRange one.call)) (sym is)
+    (All-append (λ one. IsCallOfScriptInRange one.call) before (x ∷ []) range
+    (All-cons (λ one. IsCallOfScriptInRange one.call) x [] this (All-nil (λ one. IsCallOfScriptInRange one.call))))
 
 -- one call more
 pub next_call : (done more : List Asked) (x : Asked) (calls : List (replay_call.Call ℕ (List ℕ)))

@@ -15,8 +15,8 @@ use Rattle.std.proofs.lemmas.Str.Ascii.{IsAscii-from_all, IsAscii-nil}
 use Rattle.std.proofs.lemmas.Str.Parse.{digit_from_value}
 use Rattle.std.proofs.lemmas.Bool.{and_parts}
 use Rattle.fair_rates.specs.declared.bandwidth.Flow.{Flow}
-use Rattle.link_scripts.specs.declared.linkrun.command.ScriptCall.{ScriptCall}
-use Rattle.link_scripts.specs.declared.linkrun.command.ScriptCall.TheVariants as calls
+use Rattle.link_scheduler.specs.declared.replay.Call.{Call}
+use Rattle.link_scheduler.specs.declared.replay.Call.TheVariants as calls
 use Rattle.link_scripts.specs.declared.linkrun.command.Command.{Command}
 use Rattle.link_scripts.specs.declared.linkrun.command.Command.TheVariants as commands
 use Rattle.link_scripts.specs.Script.{Takes, number_word, cap_word, flag_word, flow_words, call_words, command_words}
@@ -154,7 +154,7 @@ IsWord-small_cap : (cap : Option ℕ) → IsSmallCapInRange cap → IsWord (cap_
 IsWord-small_cap cap range = IsWord-cap cap (wider cap range)
 
 -- what calls are written with is words
-AreWords-call : (call : ScriptCall) → IsCallOfScriptInRange call → AreWords (call_words call)
+AreWords-call : (call : Call ℕ ℕ) → IsCallOfScriptInRange call → AreWords (call_words call)
 AreWords-call (calls.Limit now peer egress ingress) range = (
   refl,
   (
@@ -188,6 +188,7 @@ AreWords-call (calls.Enqueue now origin recipient channel length latency should_
     ),
   ),
 )
+AreWords-call (calls.EnqueueAll now messages) range = absurd range
 AreWords-call (calls.Advance now) range = (refl, (IsWord-small now range, tt))
 AreWords-call calls.Next range = (refl, tt)
 
@@ -218,7 +219,7 @@ IsUtf8-line_of command range =
     IsUtf8-from_ascii (line_of command) (ascii_line (command_words command) (AreWords-command command range))
 
 -- the parts of the line of a call are its words
-parts_of-call : (call : ScriptCall) → IsCallOfScriptInRange call
+parts_of-call : (call : Call ℕ ℕ) → IsCallOfScriptInRange call
     → parts_of (join_with_byte 32 (call_words call)) ≡ call_words call
 parts_of-call (calls.Limit now peer egress ingress) range =
     parts_of-join _ _ (AreWords-call (calls.Limit now peer egress ingress) range)
@@ -226,6 +227,7 @@ parts_of-call (calls.LimitLink now origin recipient cap) range =
     parts_of-join _ _ (AreWords-call (calls.LimitLink now origin recipient cap) range)
 parts_of-call (calls.Enqueue now origin recipient channel length latency should_deliver) range =
     parts_of-join _ _ (AreWords-call (calls.Enqueue now origin recipient channel length latency should_deliver) range)
+parts_of-call (calls.EnqueueAll now messages) range = absurd range
 parts_of-call (calls.Advance now) range = parts_of-join _ _ (AreWords-call (calls.Advance now) range)
 parts_of-call calls.Next range = parts_of-join _ _ (AreWords-call calls.Next range)
 

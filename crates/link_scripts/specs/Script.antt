@@ -3,8 +3,8 @@ use Rattle.std.specs.Prelude.{◌≡◌, ℕ, ◌^◌, ◌<◌, ◌≤◌, Bool,
 use Rattle.std.specs.Prelude.{Some, None, IfSome, codes, decimal}
 use Rattle.std.specs.List.{join_with_byte}
 use Rattle.fair_rates.specs.declared.bandwidth.Flow.{Flow}
-use Rattle.link_scripts.specs.declared.linkrun.command.ScriptCall.{ScriptCall}
-use Rattle.link_scripts.specs.declared.linkrun.command.ScriptCall.TheVariants as calls
+use Rattle.link_scheduler.specs.declared.replay.Call.{Call}
+use Rattle.link_scheduler.specs.declared.replay.Call.TheVariants as calls
 use Rattle.link_scripts.specs.declared.linkrun.command.Command.{Command}
 use Rattle.link_scripts.specs.declared.linkrun.command.Command.TheVariants as commands
 
@@ -26,8 +26,9 @@ flag_word true = codes "1"
 abbrev pub flow_words : Flow ℕ → List (List ℕ)
 flow_words f = number_word f.id ∷ number_word f.origin ∷ number_word f.recipient ∷ flag_word f.delivered ∷ []
 
--- the words of a call of the scheduler; its moment comes first, and a message is said by its length
-abbrev pub call_words : ScriptCall → List (List ℕ)
+-- the words of a call of the scheduler; its moment comes first, and a message is said by its length. No line says a
+-- list of messages, so that it has no words.
+abbrev pub call_words : Call ℕ ℕ → List (List ℕ)
 call_words (calls.Limit now peer egress ingress) =
     codes "limit" ∷ number_word now ∷ number_word peer ∷ cap_word egress ∷ cap_word ingress ∷ []
 call_words (calls.LimitLink now origin recipient cap) =
@@ -35,6 +36,7 @@ call_words (calls.LimitLink now origin recipient cap) =
 call_words (calls.Enqueue now origin recipient channel length latency should_deliver) =
     codes "enqueue" ∷ number_word now ∷ number_word origin ∷ number_word recipient ∷ number_word channel
     ∷ number_word length ∷ number_word latency ∷ flag_word should_deliver ∷ []
+call_words (calls.EnqueueAll now messages) = []
 call_words (calls.Advance now) = codes "advance" ∷ number_word now ∷ []
 call_words calls.Next = codes "next" ∷ []
 
@@ -74,8 +76,8 @@ IsLengthInRange n = n ≤ 67108864
 abbrev pub IsFlowInRange : Flow ℕ → Type 0
 IsFlowInRange f = IsNumberInRange f.id × IsNumberInRange f.origin × IsNumberInRange f.recipient
 
--- each number of a call
-abbrev pub IsCallOfScriptInRange : ScriptCall → Type 0
+-- each number of a call; no line says a list of messages
+abbrev pub IsCallOfScriptInRange : Call ℕ ℕ → Type 0
 IsCallOfScriptInRange (calls.Limit now peer egress ingress) =
     IsNumberInRange now × IsNumberInRange peer × IsSmallCapInRange egress × IsSmallCapInRange ingress
 IsCallOfScriptInRange (calls.LimitLink now origin recipient cap) =
@@ -83,6 +85,7 @@ IsCallOfScriptInRange (calls.LimitLink now origin recipient cap) =
 IsCallOfScriptInRange (calls.Enqueue now origin recipient channel length latency should_deliver) =
     IsNumberInRange now × IsNumberInRange origin × IsNumberInRange recipient × IsNumberInRange channel
     × IsLengthInRange length × IsNumberInRange latency
+IsCallOfScriptInRange (calls.EnqueueAll now messages) = ⊥
 IsCallOfScriptInRange (calls.Advance now) = IsNumberInRange now
 IsCallOfScriptInRange calls.Next = Unit {0}
 

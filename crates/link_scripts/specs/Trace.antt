@@ -1,13 +1,13 @@
 -- Traces: the calls of a scheduler, each with the lines that answer it. A trace and a line are lists of bytes.
-use Rattle.std.specs.Prelude.{◌≡◌, ◌⊎◌, ⊤, ℕ, ◌≤◌, List, [], ◌∷◌, ◌++◌, map, codes, decimal}
+use Rattle.std.specs.Prelude.{◌≡◌, ◌⊎◌, ⊤, ℕ, ◌≤◌, List, [], ◌∷◌, ◌++◌, All, map, codes, decimal}
 use Rattle.std.specs.Prelude.{Option, None, Some, Result, Ok, Err}
 use Rattle.std.specs.Ordering.{nat_cmp}
 use Rattle.link_scripts.specs.declared.linkcheck.asked.Asked.{Asked}
-use Rattle.link_scripts.specs.declared.linkrun.command.ScriptCall.{ScriptCall}
+use Rattle.link_scheduler.specs.declared.replay.Call.{Call}
 use Rattle.link_scripts.specs.declared.linkrun.command.Command.TheVariants as commands
 use Rattle.link_scripts.specs.Answer.{reply_text}
 use Rattle.link_scripts.specs.Schedule.{world_call}
-use Rattle.link_scripts.specs.Script.{line_of}
+use Rattle.link_scripts.specs.Script.{line_of, IsCallOfScriptInRange}
 use Rattle.link_scripts.specs.declared.linkcheck.Fault.{Fault}
 use Rattle.link_scripts.specs.declared.linkcheck.Fault.TheVariants as faults
 use Rattle.link_scripts.specs.declared.linkcheck.Verdict.{Verdict}
@@ -18,23 +18,25 @@ use Rattle.link_simulation.specs.Rule.Refusals.{Obeyed}
 use Rattle.link_simulation.specs.Simulation.Replies.{Reply, Agrees}
 
 -- the call of a line
-abbrev pub call_in : Asked → ScriptCall
+abbrev pub call_in : Asked → Call ℕ ℕ
 call_in asked = asked.call
 
 -- the line of a call, with its end byte
-abbrev pub call_line : ScriptCall → List ℕ
+abbrev pub call_line : Call ℕ ℕ → List ℕ
 call_line call = line_of (commands.Schedule call) ++ 10 ∷ []
 
 -- the line of each call, and after it the lines of its reply
-abbrev pub transcript_of : List ScriptCall → List (Reply ℕ) → List ℕ
+abbrev pub transcript_of : List (Call ℕ ℕ) → List (Reply ℕ) → List ℕ
 transcript_of [] replies = []
 transcript_of (call ∷ calls) [] = []
 transcript_of (call ∷ calls) (reply ∷ replies) = call_line call ++ (reply_text reply ++ transcript_of calls replies)
 
 -- the trace is the transcript of calls and of the replies that the simulation gives to them
 pub record IsTranscript (trace : List ℕ) : Type 0 where
-  pub calls : List ScriptCall
+  pub calls : List (Call ℕ ℕ)
   pub replies : List (Reply ℕ)
+  -- a line says each of the calls
+  pub in_range : All IsCallOfScriptInRange calls
   pub written : trace ≡ transcript_of calls replies
   pub agrees : Agrees nat_cmp (new_world 0) (map world_call calls) replies
   -- and keep to the event rule, at any moments

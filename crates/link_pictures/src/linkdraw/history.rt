@@ -6,9 +6,9 @@ use super::frame::Frame;
 use super::track::{Sent, Track};
 use fair_rates::error::Error;
 use fair_rates::ratio::Ratio;
-use link_scheduler::replay::Reply;
+use link_scheduler::replay::{Call, Reply};
 use link_scheduler::transmitter::{Completion, InFlight, State};
-use link_scripts::linkrun::command::{Command, ScriptCall};
+use link_scripts::linkrun::command::Command;
 use link_scripts::linkrun::zeros::Zeros;
 use std::alloc::Global;
 use std::collections::BTreeMap;
@@ -87,21 +87,22 @@ impl History {
     }
 
     /// Makes a call of the scheduler.
-    fn make(&mut self, call: ScriptCall) -> Result<(), Error> {
+    fn make(&mut self, call: Call<u64, usize>) -> Result<(), Error> {
         match &call {
-            ScriptCall::Limit { now, .. }
-            | ScriptCall::LimitLink { now, .. }
-            | ScriptCall::Enqueue { now, .. } => {
+            Call::Limit { now, .. }
+            | Call::LimitLink { now, .. }
+            | Call::Enqueue { now, .. }
+            | Call::EnqueueAll { now, .. } => {
                 self.change(*now, &call)?;
             }
-            ScriptCall::Advance { now } => self.advance(*now)?,
-            ScriptCall::Next => {}
+            Call::Advance { now } => self.advance(*now)?,
+            Call::Next => {}
         }
         self.look()
     }
 
-    /// Makes a call that sets caps or sends a message, once time has gone on to its moment.
-    fn change(&mut self, now: u64, call: &ScriptCall) -> Result<(), Error> {
+    /// Makes a call that sets caps or sends messages, once time has gone on to its moment.
+    fn change(&mut self, now: u64, call: &Call<u64, usize>) -> Result<(), Error> {
         self.pass(now)?;
         match self.zeros.fill(self.alloc, call)?.make(&mut self.scheduler) {
             Ok(reply) => {
@@ -115,10 +116,10 @@ impl History {
         }
     }
 
-    /// Notes the caps that a call set, or the message that it sent.
-    fn note(&mut self, call: &ScriptCall) -> Result<(), Error> {
+    /// Notes the caps that a call set, or the messages that it sent.
+    fn note(&mut self, call: &Call<u64, usize>) -> Result<(), Error> {
         match call {
-            ScriptCall::Limit {
+            Call::Limit {
                 peer,
                 egress,
                 ingress,
@@ -127,38 +128,55 @@ impl History {
                 self.set_cap(Side::Egress(*peer), *egress)?;
                 self.set_cap(Side::Ingress(*peer), *ingress)
             }
-            ScriptCall::LimitLink {
+            Call::LimitLink {
                 origin,
                 recipient,
                 cap,
                 ..
             } => self.set_cap(Side::Link(*origin, *recipient), *cap),
-            ScriptCall::Enqueue {
+            Call::Enqueue {
                 origin,
                 recipient,
                 channel,
-                length,
+                message,
                 should_deliver,
                 ..
-            } => {
-                let sent = Sent {
-                    channel: *channel,
-                    length: *length,
-                    should_deliver: *should_deliver,
-                    enqueued: self.now,
-                    start: None,
-                    done: None,
-                    deliver_at: None,
-                };
-                self.send(*origin, *recipient, sent)
+            } => self.send(*origin, *recipient, *channel, *message, *should_deliver),
+            Call::EnqueueAll { messages, .. } => {
+                for one in messages {
+                    self.send(
+                        one.origin,
+                        one.recipient,
+                        one.channel,
+                        one.message,
+                        one.should_deliver,
+                    )?;
+                }
+                Ok(())
             }
-            ScriptCall::Advance { .. } | ScriptCall::Next => Ok(()),
+            Call::Advance { .. } | Call::Next => Ok(()),
         }
     }
 
-    /// A message was sent.
-    fn send(&mut self, origin: u64, recipient: u64, sent: Sent) -> Result<(), Error> {
+    /// A message was sent now.
+    fn send(
+        &mut self,
+        origin: u64,
+        recipient: u64,
+        channel: u64,
+        length: usize,
+        should_deliver: bool,
+    ) -> Result<(), Error> {
         let alloc = self.alloc;
+        let sent = Sent {
+            channel,
+            length,
+            should_deliver,
+            enqueued: self.now,
+            start: None,
+            done: None,
+            deliver_at: None,
+        };
         self.messages = self.messages.saturating_add(1);
         self.tracks
             .entry((origin, recipient))?

@@ -1,10 +1,11 @@
 //! The calls that a trace asks.
-ghost use Rattle.std.specs.Prelude.{◌≡◌};
-ghost use Rattle.link_scripts.specs.Script.{line_of};
+ghost use Rattle.std.specs.Prelude.{◌≡◌, All, IfOk, IfSome};
+ghost use Rattle.link_scripts.specs.Script.{line_of, IsCallOfScriptInRange};
 ghost use Rattle.link_scripts.specs.declared.linkrun.command.Command.TheVariants as commands;
 
 use crate::linkcheck::{Fault, said};
-use crate::linkrun::command::{Command, ScriptCall};
+use crate::linkrun::command::Command;
+use link_scheduler::replay::Call;
 use std::alloc::Global;
 
 /// The byte that ends a line.
@@ -14,12 +15,14 @@ pub(crate) const NEWLINE: u8 = b'\n';
 #[derive(Drop)]
 pub(crate) struct Asked<'a> {
     pub(crate) line: &'a [u8],
-    pub(crate) call: ScriptCall,
+    pub(crate) call: Call<u64, usize>,
     ghost written: { line.now ≡ line_of (commands.Schedule call) },
 }
 
 /// The calls of a trace, in order.
-pub(crate) fn read_calls<'a>(alloc: Global, trace: &'a [u8]) -> Result<Vec<Asked<'a>>, Fault> {
+pub(crate) fn read_calls<'a>(alloc: Global, trace: &'a [u8]) -> Result<Vec<Asked<'a>>, Fault>
+    ensures { IfOk result (λ asked. All (λ one. IsCallOfScriptInRange one.call) asked.items) }
+{
     let mut asked = Vec::new(alloc);
     let mut number = 0u64;
     let mut rest = trace;
@@ -32,7 +35,10 @@ pub(crate) fn read_calls<'a>(alloc: Global, trace: &'a [u8]) -> Result<Vec<Asked
             return Err(Fault::BadLine(number));
         };
         match call(line) {
-            Some(call) => asked.push(call).map_err(|_| Fault::NoMemory)?,
+            Some(call) => match asked.push(call) {
+                Ok(()) => (),
+                Err(_) => return Err(Fault::NoMemory),
+            },
             None => {
                 if said::Said::of(line).is_none() {
                     return Err(Fault::BadLine(number));
@@ -45,7 +51,9 @@ pub(crate) fn read_calls<'a>(alloc: Global, trace: &'a [u8]) -> Result<Vec<Asked
 }
 
 /// The call that a line asks.
-fn call<'a>(line: &'a [u8]) -> Option<Asked<'a>> {
+fn call<'a>(line: &'a [u8]) -> Option<Asked<'a>>
+    ensures { IfSome result (λ asked. IsCallOfScriptInRange asked.call) }
+{
     match Command::parse(line) {
         Some(Command::Schedule(call)) => Some(Asked { line, call }),
         _ => None,

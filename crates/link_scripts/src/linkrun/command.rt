@@ -6,41 +6,7 @@ ghost use Rattle.link_scripts.specs.Words.{words_left};
 
 use crate::linkrun::word::Words;
 use fair_rates::bandwidth::Flow;
-
-/// A call of the scheduler in a script. A message is said by its length, and has zero bytes.
-#[derive(Debug, Drop)]
-pub enum ScriptCall {
-    /// `State::limit`.
-    Limit {
-        now: u64,
-        peer: u64,
-        egress: Option<usize>,
-        ingress: Option<usize>,
-    },
-    /// `State::limit_link`.
-    LimitLink {
-        now: u64,
-        origin: u64,
-        recipient: u64,
-        cap: Option<usize>,
-    },
-    /// `State::enqueue`.
-    Enqueue {
-        now: u64,
-        origin: u64,
-        recipient: u64,
-        channel: u64,
-        length: usize,
-        latency: u64,
-        should_deliver: bool,
-    },
-    /// `State::advance`.
-    Advance {
-        now: u64,
-    },
-    /// `State::next`.
-    Next,
-}
+use link_scheduler::replay::Call;
 
 /// A command of a script.
 #[derive(Debug, Drop)]
@@ -65,8 +31,8 @@ pub enum Command {
     },
     /// Asks for the rates of the flows.
     Rates,
-    /// Asks something of the scheduler.
-    Schedule(ScriptCall),
+    /// Asks something of the scheduler. A message is said by its length, and has zero bytes.
+    Schedule(Call<u64, usize>),
 }
 
 impl Command {
@@ -103,23 +69,23 @@ impl Command {
                 cap: words.cap()?,
             }),
             "rates" => Some(Command::Rates),
-            "limit" => Some(Command::Schedule(ScriptCall::Limit {
+            "limit" => Some(Command::Schedule(Call::Limit {
                 now: words.number()?,
                 peer: words.number()?,
                 egress: words.small_cap()?,
                 ingress: words.small_cap()?,
             })),
-            "limitlink" => Some(Command::Schedule(ScriptCall::LimitLink {
+            "limitlink" => Some(Command::Schedule(Call::LimitLink {
                 now: words.number()?,
                 origin: words.number()?,
                 recipient: words.number()?,
                 cap: words.small_cap()?,
             })),
             "enqueue" => take_enqueue(words),
-            "advance" => Some(Command::Schedule(ScriptCall::Advance {
+            "advance" => Some(Command::Schedule(Call::Advance {
                 now: words.number()?,
             })),
-            "next" => Some(Command::Schedule(ScriptCall::Next)),
+            "next" => Some(Command::Schedule(Call::Next)),
             _ => None,
         }
     }
@@ -142,12 +108,12 @@ fn take_enqueue(words: &mut Words<'_>) -> Option<Command>
     ensures { Takes command_words IsCommandInRange (codes "enqueue" ∷ words_left words.old) result
         (words_left words.new) }
 {
-    Some(Command::Schedule(ScriptCall::Enqueue {
+    Some(Command::Schedule(Call::Enqueue {
         now: words.number()?,
         origin: words.number()?,
         recipient: words.number()?,
         channel: words.number()?,
-        length: words.length()?,
+        message: words.length()?,
         latency: words.number()?,
         should_deliver: words.flag()?,
     }))

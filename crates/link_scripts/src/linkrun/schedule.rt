@@ -4,10 +4,9 @@ ghost use Rattle.link_scripts.specs.Schedule.{world_call};
 ghost use Rattle.link_scheduler.specs.Calls.Replay.{IsAnswered, MayRefuseCall};
 ghost use Rattle.link_scheduler.specs.Calls.State.{planned_of};
 
-use crate::linkrun::command::ScriptCall;
 use crate::linkrun::zeros::Zeros;
 use fair_rates::error::Error;
-use link_scheduler::replay::Reply;
+use link_scheduler::replay::{Call, Reply};
 use link_scheduler::transmitter::State;
 use std::alloc::Global;
 
@@ -17,7 +16,7 @@ pub(crate) fn make(
     alloc: Global,
     zeros: &mut Zeros,
     scheduler: &mut State<u64>,
-    call: &ScriptCall,
+    call: &Call<u64, usize>,
 ) -> Result<Reply<u64>, Error>
     ensures answer { IfOk result (λ reply. IsAnswered scheduler.old (world_call call.now) reply scheduler.new) }
     ensures refused { IfErr result (MayRefuseCall scheduler.old (world_call call.now)) }

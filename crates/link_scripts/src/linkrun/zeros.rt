@@ -1,13 +1,14 @@
 //! Zero bytes that the messages of a script share.
-ghost use Rattle.std.specs.Prelude.{◌≡◌, ◌≢◌, length, replicate, IfOk, IfErr};
+ghost use Rattle.std.specs.Prelude.{◌≡◌, ◌≢◌, length, map, replicate, IfOk, IfErr};
 ghost use Rattle.link_scheduler.specs.Calls.Replay.{call_of};
+ghost use Rattle.link_scheduler.specs.Calls.State.{outgoing};
 ghost use Rattle.link_simulation.specs.Simulation.Calls.{call_next};
-ghost use Rattle.link_scripts.specs.Schedule.{world_call};
+ghost use Rattle.link_scripts.specs.Schedule.{world_call, zeroed};
 
-use crate::linkrun::command::ScriptCall;
 use bytes::Bytes;
 use fair_rates::error::Error;
 use link_scheduler::replay::Call;
+use link_scheduler::transmitter::Outgoing;
 use std::alloc::Global;
 
 /// As many zero bytes as the longest message so far. Each message sees a part of them, so a
@@ -26,15 +27,16 @@ impl Zeros {
         }
     }
 
-    /// The call of a script as the scheduler takes it, with zero bytes of the length that it says.
+    /// The call of a script as the scheduler takes it: each message has zero bytes, as many as the
+    /// call says.
     ///
-    /// Its only error is `OutOfMemory`, for a message whose bytes find no memory.
-    pub fn fill(&mut self, alloc: Global, call: &ScriptCall) -> Result<Call<u64>, Error>
+    /// Its only error is `OutOfMemory`, for a message whose bytes find no memory, or for the list.
+    pub fn fill(&mut self, alloc: Global, call: &Call<u64, usize>) -> Result<Call<u64>, Error>
         ensures made { IfOk result (λ made. call_of made ≡ world_call call.now) }
         ensures refused { IfErr result (λ e. (e ≡ Error.OutOfMemory) × (world_call call.now ≢ call_next)) }
     {
         Ok(match call {
-            ScriptCall::Limit {
+            Call::Limit {
                 now,
                 peer,
                 egress,
@@ -45,7 +47,7 @@ impl Zeros {
                 egress: *egress,
                 ingress: *ingress,
             },
-            ScriptCall::LimitLink {
+            Call::LimitLink {
                 now,
                 origin,
                 recipient,
@@ -56,12 +58,12 @@ impl Zeros {
                 recipient: *recipient,
                 cap: *cap,
             },
-            ScriptCall::Enqueue {
+            Call::Enqueue {
                 now,
                 origin,
                 recipient,
                 channel,
-                length,
+                message,
                 latency,
                 should_deliver,
             } => Call::Enqueue {
@@ -69,12 +71,51 @@ impl Zeros {
                 origin: *origin,
                 recipient: *recipient,
                 channel: *channel,
-                message: self.part(alloc, *length)?,
+                message: self.part(alloc, *message)?,
                 latency: *latency,
                 should_deliver: *should_deliver,
             },
-            ScriptCall::Advance { now } => Call::Advance { now: *now },
-            ScriptCall::Next => Call::Next,
+            Call::EnqueueAll { now, messages } => Call::EnqueueAll {
+                now: *now,
+                messages: self.fill_all(alloc, messages)?,
+            },
+            Call::Advance { now } => Call::Advance { now: *now },
+            Call::Next => Call::Next,
+        })
+    }
+
+    /// The messages as the scheduler takes them, in their order.
+    fn fill_all(
+        &mut self,
+        alloc: Global,
+        messages: &[Outgoing<u64, usize>],
+    ) -> Result<Vec<Outgoing<u64>>, Error>
+        ensures made { IfOk result (λ made. map outgoing made.items ≡ map zeroed messages.now) }
+        ensures refused { IfErr result (λ e. e ≡ Error.OutOfMemory) }
+    {
+        let mut made = Vec::with_capacity(alloc, messages.len())?;
+        for one in messages {
+            made.push(self.fill_one(alloc, one)?)?;
+        }
+        Ok(made)
+    }
+
+    /// The message as the scheduler takes it, with zero bytes of the length that it says.
+    fn fill_one(
+        &mut self,
+        alloc: Global,
+        message: &Outgoing<u64, usize>,
+    ) -> Result<Outgoing<u64>, Error>
+        ensures made { IfOk result (λ made. outgoing made ≡ zeroed message.now) }
+        ensures refused { IfErr result (λ e. e ≡ Error.OutOfMemory) }
+    {
+        Ok(Outgoing {
+            origin: message.origin,
+            recipient: message.recipient,
+            channel: message.channel,
+            message: self.part(alloc, message.message)?,
+            latency: message.latency,
+            should_deliver: message.should_deliver,
         })
     }
 

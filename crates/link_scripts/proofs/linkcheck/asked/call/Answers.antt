@@ -6,3 +6,8 @@ pub invariant_of-result : goal.invariant_of-result
 invariant_of-result c =
     let says : c.parse.result ≡ Some (commands.Schedule c.in-Some-Schedule.call) = search rules in
     record { written = ((c.parse.ensures (commands.Schedule c.in-Some-Schedule.call)).0 says).0 }
+
+pub returns-in-Some-Schedule : goal.returns-in-Some-Schedule
+returns-in-Some-Schedule c =
+    let says : c.parse.result ≡ Some (commands.Schedule c.in-Some-Schedule.call) = search rules in
+    ((c.parse.ensures (commands.Schedule c.in-Some-Schedule.call)).0 says).1
