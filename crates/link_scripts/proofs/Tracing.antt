@@ -2,8 +2,9 @@
 use Rattle.std.proofs.Common.{◌≡◌, ◌⊎◌, ℕ, ◌-◌, ◌≤◌, List, [], ◌∷◌, ◌++◌, length, map, take, drop, Option, None, Some}
 use Rattle.std.proofs.Common.{subst, take-append-drop, refl, sym, ap, ◌∙◌, arith, append_assoc, append-nil, replicate}
 use Rattle.std.proofs.Common.{⊎_elim}
+use Rattle.std.proofs.Math.Logic.{∥∥₁_elim}
 use Rattle.std.proofs.lemmas.List.{map-append, take-replicate}
-use Rattle.std.proofs.lemmas.List.Elements.{All-append, All-cons, All-map, All-nil}
+use Rattle.std.proofs.lemmas.List.Elements.{All-cons, All-nil}
 use Rattle.link_scheduler.specs.Calls.Replay.{call_of, reply_of}
 use Rattle.link_scheduler.specs.declared.replay.Call as replay_call
 use Rattle.link_scheduler.specs.declared.replay.Reply as replay_reply
@@ -11,23 +12,22 @@ use Rattle.link_scripts.specs.Answer.{reply_text}
 use Rattle.link_scripts.specs.Schedule.{world_call}
 use Rattle.std.specs.Option.{IfSome}
 use Rattle.std.specs.List.{All}
-use Rattle.link_scripts.specs.Trace.{IsClosed, call_in, call_line, transcript_of}
+use Rattle.std.specs.Ordering.{nat_cmp}
+use Rattle.link_simulation.specs.Simulation.World.{new_world}
+use Rattle.link_simulation.specs.Simulation.Replies.{Agrees}
+use Rattle.link_simulation.specs.Rule.Planned.{new_planned}
+use Rattle.link_simulation.specs.Rule.Refusals.{Obeyed}
+use Rattle.link_scripts.specs.Trace.{IsClosed, IsTranscript, call_in, call_line, transcript_of}
 use Rattle.link_scripts.specs.Script.{IsCallOfScriptInRange}
+use Rattle.link_scripts.proofs.Ranges.{range_prop}
 use Rattle.link_scripts.specs.declared.linkcheck.asked.Asked.{Asked}
 
 -- the calls of lines are in range
-pub calls_in_range : (asked : List Asked) → All (λ one. IsCallOfScriptInRange one.call) asked
-    → All IsCallOfScriptInRange (map call_in asked)
-calls_in_range asked range = All-map IsCallOfScriptInRange call_in asked range
-
--- and one call more is
-pub one_more_in_range : (before after : List Asked) (x : Asked) → after ≡ before ++ x ∷ []
-    → All (λ one. IsCallOfScriptInRange one.call) before → IsCallOfScriptInRange x.call
-    → All (λ one. IsCallOfScriptInRange one.call) after
-one_more_in_range before after x is range this =
-    subst (All (λ one. IsCallOfScriptInRange one.call)) (sym is)
-    (All-append (λ one. IsCallOfScriptInRange one.call) before (x ∷ []) range
-    (All-cons (λ one. IsCallOfScriptInRange one.call) x [] this (All-nil (λ one. IsCallOfScriptInRange one.call))))
+pub calls_in_range : (asked : List Asked) → All IsCallOfScriptInRange (map call_in asked)
+calls_in_range [] = All-nil IsCallOfScriptInRange
+calls_in_range (one ∷ asked) =
+    All-cons IsCallOfScriptInRange one.call (map call_in asked)
+    (∥∥₁_elim one.in_range (range_prop one.call) (λ range. range)) (calls_in_range asked)
 
 -- one call more
 pub next_call : (done more : List Asked) (x : Asked) (calls : List (replay_call.Call ℕ (List ℕ)))
@@ -70,6 +70,21 @@ all_told xs rs old all over h =
     ∙ ap (λ text. old ++ text)
     (sym (⊎_elim (λ e. ap (λ l. told_of l rs) e) (λ e. ap (told_of xs) e ∙ none_told xs) over))
     ∙ h
+
+-- a trace that is told so agrees
+pub agreed : (asked : List Asked) (calls : List (replay_call.Call ℕ (List ℕ))) (replies : List (replay_reply.Reply ℕ))
+    (trace text : List ℕ) → trace ≡ text → text ≡ told_of asked replies
+    → map call_of calls ≡ map world_call (map call_in asked)
+    → Agrees nat_cmp (new_world 0) (map call_of calls) (map reply_of replies)
+    → Obeyed nat_cmp (new_planned 0) (map call_of calls) (map reply_of replies) → IsTranscript trace
+agreed asked calls replies trace text same told made agrees obeys = record {
+  calls = map call_in asked;
+  replies = map reply_of replies;
+  in_range = calls_in_range asked;
+  written = same ∙ told;
+  agrees = subst (λ cs. Agrees nat_cmp (new_world 0) cs (map reply_of replies)) made agrees;
+  obeys = subst (λ cs. Obeyed nat_cmp (new_planned 0) cs (map reply_of replies)) made obeys;
+}
 
 -- ---- the text of a trace
 

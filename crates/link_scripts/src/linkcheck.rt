@@ -87,7 +87,6 @@ impl From<io::Error> for Fault {
 /// - `BadLine` where a line is neither a call of the scheduler nor a line that answers one, or
 ///   where the last one lacks its end byte.
 /// - `NoMemory` where there is none for the calls, the replies or the verdict.
-#[tactic(auto, using(crate::proofs::Tracing::calls_in_range))]
 pub fn check(alloc: Global, trace: &[u8], tolerance: u64) -> Result<Verdict, Fault>
     ensures agrees { IfOk result (λ verdict. verdict ≡ Verdict.Agrees → IsTranscript trace.now) }
     ensures within { IfOk result (λ verdict. IsWithinTolerance verdict tolerance) }

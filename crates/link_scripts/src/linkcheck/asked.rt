@@ -1,5 +1,5 @@
 //! The calls that a trace asks.
-ghost use Rattle.std.specs.Prelude.{◌≡◌, All, IfOk, IfSome};
+ghost use Rattle.std.specs.Prelude.{◌≡◌};
 ghost use Rattle.link_scripts.specs.Script.{line_of, IsCallOfScriptInRange};
 ghost use Rattle.link_scripts.specs.declared.linkrun.command.Command.TheVariants as commands;
 
@@ -17,12 +17,11 @@ pub(crate) struct Asked<'a> {
     pub(crate) line: &'a [u8],
     pub(crate) call: Call<u64, usize>,
     ghost written: { line.now ≡ line_of (commands.Schedule call) },
+    ghost in_range: { ∥ IsCallOfScriptInRange call ∥₁ },
 }
 
 /// The calls of a trace, in order.
-pub(crate) fn read_calls<'a>(alloc: Global, trace: &'a [u8]) -> Result<Vec<Asked<'a>>, Fault>
-    ensures { IfOk result (λ asked. All (λ one. IsCallOfScriptInRange one.call) asked.items) }
-{
+pub(crate) fn read_calls<'a>(alloc: Global, trace: &'a [u8]) -> Result<Vec<Asked<'a>>, Fault> {
     let mut asked = Vec::new(alloc);
     let mut number = 0u64;
     let mut rest = trace;
@@ -35,10 +34,11 @@ pub(crate) fn read_calls<'a>(alloc: Global, trace: &'a [u8]) -> Result<Vec<Asked
             return Err(Fault::BadLine(number));
         };
         match call(line) {
-            Some(call) => match asked.push(call) {
-                Ok(()) => (),
-                Err(_) => return Err(Fault::NoMemory),
-            },
+            Some(call) => {
+                if asked.push(call).is_err() {
+                    return Err(Fault::NoMemory);
+                }
+            }
             None => {
                 if said::Said::of(line).is_none() {
                     return Err(Fault::BadLine(number));
@@ -51,9 +51,7 @@ pub(crate) fn read_calls<'a>(alloc: Global, trace: &'a [u8]) -> Result<Vec<Asked
 }
 
 /// The call that a line asks.
-fn call<'a>(line: &'a [u8]) -> Option<Asked<'a>>
-    ensures { IfSome result (λ asked. IsCallOfScriptInRange asked.call) }
-{
+fn call<'a>(line: &'a [u8]) -> Option<Asked<'a>> {
     match Command::parse(line) {
         Some(Command::Schedule(call)) => Some(Asked { line, call }),
         _ => None,

@@ -5,9 +5,5 @@ use Rattle.link_scripts.proofs.linkcheck.asked.call.Goals as goal
 pub invariant_of-result : goal.invariant_of-result
 invariant_of-result c =
     let says : c.parse.result ≡ Some (commands.Schedule c.in-Some-Schedule.call) = search rules in
-    record { written = ((c.parse.ensures (commands.Schedule c.in-Some-Schedule.call)).0 says).0 }
-
-pub returns-in-Some-Schedule : goal.returns-in-Some-Schedule
-returns-in-Some-Schedule c =
-    let says : c.parse.result ≡ Some (commands.Schedule c.in-Some-Schedule.call) = search rules in
-    ((c.parse.ensures (commands.Schedule c.in-Some-Schedule.call)).0 says).1
+    let said = (c.parse.ensures (commands.Schedule c.in-Some-Schedule.call)).0 says in
+    record { written = said.0; in_range = ∣ said.1 ∣₁ }
