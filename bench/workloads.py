@@ -13,7 +13,7 @@
 | `broadcast-N` | a bench of a consensus protocol: one of N peers sends a block to all others, then all send a vote to all others, twice; all caps are equal |
 | `mixed-N` | the same under caps that differ |
 | `idle-N` | 2000 messages of one pair, beside N pairs whose next message may start only far in the future |
-| `kept-N` | 5000 messages of one pair, each enqueued and done before the next, beside N caps and N last arrivals of others |
+| `kept-N` | 100000 messages of one pair, each enqueued and done before the next, beside N caps and N last arrivals of others |
 """
 import os
 import sys
@@ -178,7 +178,7 @@ SCRIPTS = {
     **{f"broadcast-{peers}": (broadcast, peers, False) for peers in PEERS},
     **{f"mixed-{peers}": (broadcast, peers, True) for peers in PEERS},
     **{f"idle-{waiting}": (beside, idle_pairs, waiting, 2000) for waiting in (100, 1000, 10000)},
-    **{f"kept-{others}": (beside, kept_pairs, others, 5000) for others in (10, 100000)},
+    **{f"kept-{others}": (beside, kept_pairs, others, 100000) for others in (10, 100000)},
 }
 
 
