@@ -236,36 +236,43 @@ only_link : AreOfName (codes "link") link_of
 only_link (commands.Link origin recipient cap) ws rest range said = ((origin, (recipient, cap)), refl)
 only_link (commands.Flow f) ws rest range said = absurd (apart (codes "link") (codes "flow") ws _ refl said)
 only_link (commands.Egress peer cap) ws rest range said = absurd (apart (codes "link") (codes "egress") ws _ refl said)
-only_link (commands.Ingress peer cap) ws rest range said = absurd (apart (codes "link") (codes "ingress") ws _ refl said)
+only_link (commands.Ingress peer cap) ws rest range said =
+    absurd (apart (codes "link") (codes "ingress") ws _ refl said)
 only_link commands.Rates ws rest range said = absurd (apart (codes "link") (codes "rates") ws _ refl said)
 only_link (commands.Schedule (calls.Limit now peer egress ingress)) ws rest range said =
     absurd (apart (codes "link") (codes "limit") ws _ refl said)
 only_link (commands.Schedule (calls.LimitLink now origin recipient cap)) ws rest range said =
     absurd (apart (codes "link") (codes "limitlink") ws _ refl said)
-only_link (commands.Schedule (calls.Enqueue now origin recipient channel length latency should_deliver)) ws rest range said =
+only_link (commands.Schedule (calls.Enqueue now origin recipient channel length latency should_deliver)) ws rest
+    range said =
     absurd (apart (codes "link") (codes "enqueue") ws _ refl said)
 only_link (commands.Schedule (calls.EnqueueAll now messages)) ws rest range said = absurd range
 only_link (commands.Schedule (calls.Advance now)) ws rest range said =
     absurd (apart (codes "link") (codes "advance") ws _ refl said)
-only_link (commands.Schedule calls.Next) ws rest range said = absurd (apart (codes "link") (codes "next") ws _ refl said)
+only_link (commands.Schedule calls.Next) ws rest range said =
+    absurd (apart (codes "link") (codes "next") ws _ refl said)
 
 only_limit : AreOfName (codes "limit") limit_of
 only_limit (commands.Schedule (calls.Limit now peer egress ingress)) ws rest range said =
     ((now, (peer, (egress, ingress))), refl)
 only_limit (commands.Flow f) ws rest range said = absurd (apart (codes "limit") (codes "flow") ws _ refl said)
-only_limit (commands.Egress peer cap) ws rest range said = absurd (apart (codes "limit") (codes "egress") ws _ refl said)
-only_limit (commands.Ingress peer cap) ws rest range said = absurd (apart (codes "limit") (codes "ingress") ws _ refl said)
+only_limit (commands.Egress peer cap) ws rest range said =
+    absurd (apart (codes "limit") (codes "egress") ws _ refl said)
+only_limit (commands.Ingress peer cap) ws rest range said =
+    absurd (apart (codes "limit") (codes "ingress") ws _ refl said)
 only_limit (commands.Link origin recipient cap) ws rest range said =
     absurd (apart (codes "limit") (codes "link") ws _ refl said)
 only_limit commands.Rates ws rest range said = absurd (apart (codes "limit") (codes "rates") ws _ refl said)
 only_limit (commands.Schedule (calls.LimitLink now origin recipient cap)) ws rest range said =
     absurd (apart (codes "limit") (codes "limitlink") ws _ refl said)
-only_limit (commands.Schedule (calls.Enqueue now origin recipient channel length latency should_deliver)) ws rest range said =
+only_limit (commands.Schedule (calls.Enqueue now origin recipient channel length latency should_deliver)) ws rest
+    range said =
     absurd (apart (codes "limit") (codes "enqueue") ws _ refl said)
 only_limit (commands.Schedule (calls.EnqueueAll now messages)) ws rest range said = absurd range
 only_limit (commands.Schedule (calls.Advance now)) ws rest range said =
     absurd (apart (codes "limit") (codes "advance") ws _ refl said)
-only_limit (commands.Schedule calls.Next) ws rest range said = absurd (apart (codes "limit") (codes "next") ws _ refl said)
+only_limit (commands.Schedule calls.Next) ws rest range said =
+    absurd (apart (codes "limit") (codes "next") ws _ refl said)
 
 only_limit_link : AreOfName (codes "limitlink") limit_link_of
 only_limit_link (commands.Schedule (calls.LimitLink now origin recipient cap)) ws rest range said =
@@ -300,7 +307,8 @@ only_enqueue (commands.Schedule (calls.Enqueue now origin recipient channel leng
     range said =
     ((now, (origin, (recipient, (channel, (length, (latency, should_deliver)))))), refl)
 only_enqueue (commands.Flow f) ws rest range said = absurd (apart (codes "enqueue") (codes "flow") ws _ refl said)
-only_enqueue (commands.Egress peer cap) ws rest range said = absurd (apart (codes "enqueue") (codes "egress") ws _ refl said)
+only_enqueue (commands.Egress peer cap) ws rest range said =
+    absurd (apart (codes "enqueue") (codes "egress") ws _ refl said)
 only_enqueue (commands.Ingress peer cap) ws rest range said =
     absurd (apart (codes "enqueue") (codes "ingress") ws _ refl said)
 only_enqueue (commands.Link origin recipient cap) ws rest range said =

@@ -8,7 +8,8 @@ use Rattle.std.specs.declared.cmp.Ordering.{Ordering}
 use Rattle.std.specs.declared.rc.Rc.{Rc}
 use Rattle.std.specs.declared.alloc.Global.{Global}
 use Rattle.std.proofs.lemmas.Bool.{le-leb, leb-true, cases_lt, false≢true}
-use Rattle.std.proofs.lemmas.List.{length-append, append-nil, map-append, length-set, drop_more, get_or_default, set-get_or}
+use Rattle.std.proofs.lemmas.List.{length-append, append-nil, map-append, length-set, drop_more, get_or_default}
+use Rattle.std.proofs.lemmas.List.{set-get_or}
 use Rattle.std.proofs.Math.Nat.{mul-pos}
 use Rattle.std.proofs.lemmas.Map.Keys.{any_passes_from_place}
 use Rattle.std.proofs.lemmas.Option.{none-some, same_Some, slice_get-map, slice_get_within, get_or_from_slice_get}

@@ -98,7 +98,8 @@ rated_anew now times group rate u =
     record u { left = u.left * times; rate = rate; updated = now; rated = true; group = group }
 
 -- the one at a place is rated anew at the moment of the last account, and its finish is right
-pub record IsReratedAt {P : Type 0} (now place times group rate : ℕ) (old new : List (Rc (Flight P) Global)) : Type 0 where
+pub record IsReratedAt {P : Type 0} (now place times group rate : ℕ)
+    (old new : List (Rc (Flight P) Global)) : Type 0 where
   pub one : Rc (Flight P) Global
   pub others : new ≡ slice_set old place one
   pub unit : (d : Rc (Flight P) Global) → flight_at now one.value

@@ -64,7 +64,8 @@ rerate-requires-clause-left g c d none =
     omega (arith, c.loop-at-test.true, c.len-at-end.ensures, old.list.ok.0, h.as_many) in
     let x = c.index.result.now in
     let same : (flight_at old.at x.value).left * growth
-    ≡ (flight_at so_far.at (get_or so_far.list.items c.loop-at.at d).value).left * product c.deref-then-has-2.result.now =
+    ≡ (flight_at so_far.at (get_or so_far.list.items c.loop-at.at d).value).left
+    * product c.deref-then-has-2.result.now =
     ap (λ n. (flight_at n x.value).left * growth) (sym c.loop-at.invariant.1)
     ∙ ap (λ (r : _). (flight_at so_far.at r.value).left * growth)
     (c.index.ensures ∙ get_or_default so_far.list.items c.loop-at.at x d lt)
@@ -108,7 +109,8 @@ loop-at-preserved g c =
     let next = c.loop-at.next in
     let h = c.loop-at.invariant.0 in
     let at_is = c.loop-at.invariant.1 in
-    let AreUpTo = AreReratedUpTo cmp component old.at growth c.number_for-group.result (rates_found rates) old.list.items in
+    let AreUpTo = AreReratedUpTo cmp component old.at growth c.number_for-group.result (rates_found rates)
+    old.list.items in
     let lt : at < length so_far.list.items =
     omega (arith, c.loop-at-test.true, c.len-at-end.ensures, old.list.ok.0, h.as_many) in
     let x = c.index.result.now in

@@ -16,7 +16,8 @@ invariant_of-self g c = record {
       (ap (λ key. (key.origin, key.recipient)) c.in_ok-clone-in-Ok.ensures.cases)).ascending
       c.args.self.now.ascending);
   unlinked = λ free a b. rw c.replace.ensures.items (either (λ es. link_of g.P.Ord.cmp es a b ≡ None) _
-      (ap (λ links. links a b) (pair_found g.P.Ord.cmp g.met.P.Ord.total c.args.self.now.entries c.args.origin.now c.args.recipient.now
+      (ap (λ links. links a b) (pair_found g.P.Ord.cmp g.met.P.Ord.total c.args.self.now.entries c.args.origin.now
+      c.args.recipient.now
       c.in-Ok.at (record { key = c.in_ok-clone-in-Ok.field-0; cap = c.args.cap; last_arrival = c.args.last_arrival })
       c.in-Ok.pair.now c.args.self.now.ascending c.in-Ok.ensures.found c.in-Ok.ensures.pair
       (ap (λ key. (key.origin, key.recipient)) c.in_ok-clone-in-Ok.ensures.cases)).link_is
@@ -44,7 +45,8 @@ invariant_of-self-in-Err g c =
           c.args.self.now.ascending);
       unlinked =
           λ free a b. rw c.insert.ensures.items (either (λ es. link_of g.P.Ord.cmp es a b ≡ None) _
-          (ap (λ links. links a b) (pair_added g.P.Ord.cmp g.met.P.Ord.total c.args.self.now.entries c.args.origin.now c.args.recipient.now
+          (ap (λ links. links a b) (pair_added g.P.Ord.cmp g.met.P.Ord.total c.args.self.now.entries c.args.origin.now
+          c.args.recipient.now
           c.in-Err.at (record { key = c.in_ok-key-in-Err.key; cap = c.args.cap; last_arrival = c.args.last_arrival })
           c.args.self.now.ascending c.in-Err.ensures.absent same).link_is
           ∙ link_free g.P.Ord.cmp g.met.P.Ord.total (link_of g.P.Ord.cmp c.args.self.now.entries) c.args.origin.now
