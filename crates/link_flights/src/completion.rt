@@ -27,7 +27,9 @@ pub struct Completion<P> {
 /// A message that is done, with the moment at which it arrives.
 #[derive(Drop)]
 pub struct Ended<P> {
+    /// What was sent.
     pub message: Rc<Message<P>>,
+    /// In nanoseconds since the start. `None` where it is dropped.
     pub deliver_at: Option<u64>,
 }
 

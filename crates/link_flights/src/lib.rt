@@ -1,4 +1,9 @@
 //! What is known of peers, of ordered pairs of them and of messages, and what is in flight with its rates.
+//!
+//! It serves `link_scheduler`, which passes on to callers what they see of it: completions and
+//! readings. What else is public here asks of the scheduler what it keeps. A call of the scheduler
+//! works beside its state, so where a contract does not say what stays after an error, the caller
+//! gives up what was worked on.
 #![tactic(auto)]
 
 pub mod account;

@@ -11,12 +11,17 @@ use std::cmp::Ordering;
 /// What one peer sends to another.
 #[derive(Drop)]
 pub struct Message<P> {
+    /// Who sends.
     pub origin: P,
+    /// Who is to receive. It may be the origin.
     pub recipient: P,
+    /// It comes back with the completion.
     pub channel: u64,
+    /// What is sent.
     pub bytes: Bytes,
-    /// In nanoseconds.
+    /// From its completion to its arrival, in nanoseconds.
     pub latency: u64,
+    /// Whether it arrives; else it is to be dropped.
     pub should_deliver: bool,
 }
 

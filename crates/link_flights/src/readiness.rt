@@ -26,7 +26,9 @@ use std::rc::Rc;
 /// An ordered pair of peers.
 #[derive(Drop)]
 pub struct PeerPair<P> {
+    /// Who sends.
     pub origin: P,
+    /// Who receives.
     pub recipient: P,
 }
 
