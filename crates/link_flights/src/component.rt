@@ -7,7 +7,7 @@ ghost use Rattle.std.specs.Prelude.{◌≡◌, ◌&&◌, ◌||◌, ◌==◌, ℕ
 ghost use Rattle.std.specs.List.{list_all, list_any};
 ghost use Rattle.fair_rates.specs.Sides.Subjects.{same_peer};
 ghost use Rattle.link_flights.specs.Flights.Components.{is_sender, is_receiver, suits, is_closed, is_near};
-ghost use Rattle.link_flights.specs.Flights.Components.{is_found, AreGrouped, AreFarApart, AreFound};
+ghost use Rattle.link_flights.specs.Flights.Components.{is_found, AreGrouped, AreFarApart, AreFound, AreNear};
 ghost use Rattle.link_flights.specs.Flights.Flight.{flight_at};
 ghost use Rattle.link_flights.specs.Flights.InFlight.{in_units};
 ghost use Rattle.link_flights.specs.Flights.Rated.{rated_ones};
@@ -26,11 +26,13 @@ use std::rc::Rc;
 const MOST_ENDS: usize = 12;
 
 /// Some groups of messages in flight, and some senders and receivers of these: those of these
-/// messages. Or all.
+/// messages. What is near, of one of the groups or without a rate, is gathered once it is known. Or
+/// all.
 #[derive(Drop)]
 pub(crate) struct Component<P> {
     pub(crate) whole: bool,
     pub(crate) groups: Vec<u64>,
+    pub(crate) near: Vec<Rc<Flight<P>>>,
     pub(crate) senders: Vec<Rc<Message<P>>>,
     pub(crate) receivers: Vec<Rc<Message<P>>>,
 }
@@ -40,6 +42,7 @@ impl<P: Peer> Component<P> {
         Component {
             whole: false,
             groups: Vec::new(alloc),
+            near: Vec::new(alloc),
             senders: Vec::new(alloc),
             receivers: Vec::new(alloc),
         }
@@ -52,6 +55,7 @@ impl<P: Peer> Component<P> {
         Component {
             whole: true,
             groups: Vec::new(alloc),
+            near: Vec::new(alloc),
             senders: Vec::new(alloc),
             receivers: Vec::new(alloc),
         }
@@ -140,12 +144,11 @@ impl<P: Peer> Component<P> {
         self.has_sender(&one.message.origin) || self.has_receiver(&one.message.recipient)
     }
 
-    /// Whether it suits all in flight that are near.
-    fn suits_all(&self, list: &[Rc<Flight<P>>]) -> bool
-        ensures { result ≡ list_all (λ one. not (is_near self.now (flight_at 0 one.value))
-            || suits P.cmp self.now (flight_at 0 one.value)) list.now }
+    /// Whether it suits all these in flight.
+    fn suits_all(&self, near: &[Rc<Flight<P>>]) -> bool
+        ensures { result ≡ list_all (λ one. suits P.cmp self.now (flight_at 0 one.value)) near.now }
     {
-        list.iter().all(|one| !self.is_near(one) || self.suits(one))
+        near.iter().all(|one| self.suits(one))
     }
 
     /// Whether it has one end of the message in flight, and not the other.
@@ -206,19 +209,23 @@ impl<P: Peer> Flights<P> {
             is_closed P.cmp component done.now.items (in_units self.now) ≡ true)) }
         ensures found { IfOk result (λ found. IfSome found (λ component.
             AreFound P.cmp component (in_units self.now))) }
+        ensures near { IfOk result (λ found. IfSome found (λ component.
+            AreNear component component.near.items self.now.list.items)) }
         ensures refused { IfErr result (λ e. e ≡ Error.OutOfMemory) }
     {
         let mut component = self.ends(done)?;
         self.find_groups(&mut component)?;
+        let near = self.near(&component)?;
         for _walk in 0..MOST_ENDS {
-            if !self.grow(&mut component)? {
+            if !self.grow(&near, &mut component)? {
                 break;
             }
         }
         if component.is_large() {
             return Ok(None);
         }
-        if component.has_all(done) && component.suits_all(&self.list) {
+        if component.has_all(done) && component.suits_all(&near) {
+            component.near = near;
             return Ok(Some(component));
         }
         Ok(None)
@@ -253,17 +260,34 @@ impl<P: Peer> Flights<P> {
         Ok(())
     }
 
-    /// Takes in the ends of those of its groups that have one end in the component, in one walk.
-    /// Answers whether to walk again.
-    fn grow(&self, component: &mut Component<P>) -> Result<bool, Error>
+    /// Those in flight that are near the component, in order of start.
+    fn near(&self, component: &Component<P>) -> Result<Vec<Rc<Flight<P>>>, Error>
+        ensures near { IfOk result (λ near. AreNear component.now near.items self.now.list.items) }
+        ensures refused { IfErr result (λ e. e ≡ Error.OutOfMemory) }
+    {
+        let mut near = Vec::new(self.alloc);
+        for one in &self.list {
+            if component.is_near(one) {
+                let copy = one.clone()?;
+                near.push(copy)?;
+            }
+        }
+        Ok(near)
+    }
+
+    /// Takes in the ends of those near that have one end in the component, in one walk. Answers
+    /// whether to walk again.
+    fn grow(&self, near: &[Rc<Flight<P>>], component: &mut Component<P>) -> Result<bool, Error>
         requires grouped { AreGrouped P.cmp (rated_ones (in_units self.now)) }
+        requires near { AreNear component.old near.now self.now.list.items }
         requires far { AreFarApart P.cmp component.old (in_units self.now) }
+        ensures groups { component.new.groups ≡ component.old.groups }
         ensures far { OnOk result (AreFarApart P.cmp component.new (in_units self.now)) }
         ensures refused { IfErr result (λ e. e ≡ Error.OutOfMemory) }
     {
         let mut grown = false;
-        for one in &self.list {
-            if one.rated && component.has_group(one.group) && component.has_one_end(one) {
+        for one in near {
+            if one.rated && component.has_one_end(one) {
                 component.join(&one.message)?;
                 grown = true;
                 if component.is_large() {

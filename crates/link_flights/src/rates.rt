@@ -1,14 +1,14 @@
 //! The fair rates of what is in flight.
-ghost use Rattle.std.specs.Prelude.{◌≡◌, ◌≢◌, ℕ, ◌<◌, ◌≤◌, ◌*◌, true, map, length, slice_index_or, All};
-ghost use Rattle.std.specs.Prelude.{IfOk, IfErr, IfSome, OnOk};
+ghost use Rattle.std.specs.Prelude.{◌≡◌, ◌≢◌, ℕ, ◌<◌, ◌≤◌, ◌*◌, true, false, map, length, slice_index_or};
+ghost use Rattle.std.specs.Prelude.{All, IfOk, IfErr, IfSome, OnOk};
 ghost use Rattle.fair_rates.specs.Fairness.Exists.{product};
 ghost use Rattle.link_simulation.specs.Rule.Planned.{IsLeastMoment, SomeSpentAt};
 ghost use Rattle.link_simulation.specs.Simulation.World.{last_moment};
 ghost use Rattle.link_flights.specs.Pairs.Messages.{messages};
 ghost use Rattle.link_flights.specs.Flights.CappedFlows.{AreFairPartsUnder, HasItsCaps};
 ghost use Rattle.link_flights.specs.Pairs.CapsOf.{caps_of};
-ghost use Rattle.link_flights.specs.Flights.Components.{those_of, AreFound};
-ghost use Rattle.link_flights.specs.Flights.Flight.{AreTimed, rate_of, flight_at};
+ghost use Rattle.link_flights.specs.Flights.Components.{those_of, AreFound, AreNear};
+ghost use Rattle.link_flights.specs.Flights.Flight.{AreTimed, rate_of, flight_at, flights_at};
 ghost use Rattle.link_flights.specs.Flights.RatedFlights.{are_standing};
 ghost use Rattle.fair_rates.specs.Filling.FairParts.{parts_of_level};
 ghost use Rattle.link_flights.specs.Flights.InFlight.{in_units, in_flight};
@@ -19,6 +19,7 @@ ghost use Rattle.std.specs.declared.rc.Rc.{Rc as AnyRc};
 ghost use Rattle.std.specs.declared.alloc.Global.{Global as Allocator};
 
 use crate::component::Component;
+use crate::flight::Flight;
 use crate::flight_list::Flights;
 use crate::known_pairs::Pairs;
 use crate::message::Message;
@@ -135,6 +136,7 @@ impl<P: Peer> Flights<P> {
         pairs: &Pairs<P>,
     ) -> Result<FairParts, Error>
         requires found { AreFound P.cmp component.now (in_units self.now) }
+        requires near { component.now.whole ≡ false → AreNear component.now component.now.near.items self.now.list.items }
         ensures fair { IfOk result (AreFairOf P.cmp (caps_of P.cmp peers.now.entries pairs.now.entries)
             self.now.scale component.now (in_units self.now)) }
         ensures refused { IfErr result (λ e. e ≡ Error.OutOfMemory) }
@@ -151,14 +153,36 @@ impl<P: Peer> Flights<P> {
         pairs: &Pairs<P>,
     ) -> Result<Vec<CappedFlow<P>>, Error>
         requires found { AreFound P.cmp component.now (in_units self.now) }
+        requires near { component.now.whole ≡ false → AreNear component.now component.now.near.items self.now.list.items }
         ensures standing { IfOk result (λ flows. are_standing P.cmp (map (λ capped. capped.flow) flows.items)
             (those_of P.cmp component.now (in_units self.now)) ≡ true) }
         ensures capped { IfOk result (λ flows. All
             (HasItsCaps (caps_of P.cmp peers.now.entries pairs.now.entries)) flows.items) }
         ensures refused { IfErr result (λ e. e ≡ Error.OutOfMemory) }
     {
+        if component.whole {
+            return self.flows_among(&self.list, component, peers, pairs);
+        }
+        self.flows_among(&component.near, component, peers, pairs)
+    }
+
+    /// The flows of those of a list that are of the component, with their caps, in their order.
+    fn flows_among(
+        &self,
+        list: &[Rc<Flight<P>>],
+        component: &Component<P>,
+        peers: &Peers<P>,
+        pairs: &Pairs<P>,
+    ) -> Result<Vec<CappedFlow<P>>, Error>
+        requires found { AreFound P.cmp component.now (flights_at self.now.at list.now) }
+        ensures standing { IfOk result (λ flows. are_standing P.cmp (map (λ capped. capped.flow) flows.items)
+            (those_of P.cmp component.now (flights_at self.now.at list.now)) ≡ true) }
+        ensures capped { IfOk result (λ flows. All
+            (HasItsCaps (caps_of P.cmp peers.now.entries pairs.now.entries)) flows.items) }
+        ensures refused { IfErr result (λ e. e ≡ Error.OutOfMemory) }
+    {
         let mut flows = Vec::new(self.alloc);
-        for one in &self.list {
+        for one in list {
             if component.has(one) {
                 let flow = one.message.flow(0)?;
                 let caps = caps_for(&flow, flows.last(), peers, pairs);

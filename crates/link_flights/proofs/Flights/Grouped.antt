@@ -1,26 +1,26 @@
 -- Messages in flight that are grouped: which ones are near a component, and that the others are apart from it.
 use Rattle.std.proofs.Common.{◌≡◌, ℕ, ◌+◌, ◌<◌, Bool, true, false, not, ◌&&◌, ◌||◌, if◌then◌else◌, List, [], ◌∷◌, ◌++◌}
-use Rattle.std.proofs.Common.{◌⊎◌, length, take, get_or, map, refl, sym, ap, ap₂, ◌∙◌, inl, inr, subst}
+use Rattle.std.proofs.Common.{cond, ◌⊎◌, length, take, get_or, map, refl, sym, ap, ap₂, ◌∙◌, inl, inr, subst}
 use Rattle.std.specs.Prelude.{Contains}
 use Rattle.std.specs.Bool.{◌==◌}
-use Rattle.std.specs.List.{list_all, list_any}
+use Rattle.std.specs.List.{filter, list_all, list_any}
 use Rattle.std.specs.Cmp.{IsTotalOrder}
 use Rattle.std.specs.declared.cmp.Ordering.{Ordering}
 use Rattle.std.specs.declared.rc.Rc.{Rc}
 use Rattle.std.specs.declared.alloc.Global.{Global}
 use Rattle.std.proofs.lemmas.Bool.{false≢true, and_from}
-use Rattle.std.proofs.lemmas.List.{take_more, map-append}
+use Rattle.std.proofs.lemmas.List.{append-nil, take_more, map-append}
 use Rattle.std.proofs.lemmas.List.Folds.{list_all-map}
 use Rattle.fair_rates.specs.Sides.Subjects.{same_peer}
 use Rattle.fair_rates.proofs.Lists.Booleans.{by_bool}
 use Rattle.fair_rates.proofs.Lists.Members.{In, in_from_contains, contains_from_in, in_filter, in_map}
-use Rattle.fair_rates.proofs.Lists.Members.{all_passed}
-use Rattle.std.proofs.lemmas.List.Elements.{Contains-get_or}
+use Rattle.fair_rates.proofs.Lists.Members.{all_passed, all_pass, from_filter}
+use Rattle.std.proofs.lemmas.List.Elements.{Contains-get_or, filter-append}
 use Rattle.link_flights.specs.declared.component.Component.{Component}
 use Rattle.link_flights.specs.declared.flight.Flight.{Flight}
 use Rattle.link_flights.specs.declared.message.Message as code
 use Rattle.link_flights.specs.Flights.Components.{is_sender, is_receiver, is_of, is_near, is_found, suits, is_closed}
-use Rattle.link_flights.specs.Flights.Components.{AreFarApart, AreFound, AreGrouped, share_an_end}
+use Rattle.link_flights.specs.Flights.Components.{AreFarApart, AreFound, AreGrouped, AreNear, share_an_end, those_of}
 use Rattle.link_flights.specs.Flights.Flight.{UnitFlight, flight_at, flights_at}
 use Rattle.link_flights.specs.Flights.Rated.{rated_ones}
 
@@ -48,31 +48,17 @@ module _ {P : Type 0} (cmp : P → P → Ordering) (component : Component P) (us
           ∙ apart component.whole _ (far u listed is).0
 
   -- where it suits those that are near, it suits all
-  pub suits_if_near : list_all (λ u. not (is_near component u) || suits cmp component u) us ≡ true
+  pub suits_if_near : list_all (suits cmp component) (filter (is_near component) us) ≡ true
       → list_all (suits cmp component) us ≡ true
   suits_if_near near = all_passed (suits cmp component) us (λ u among. by_near u among (is_near component u) refl)
     where
-      passes : (us : List (UnitFlight P)) → list_all (λ u. not (is_near component u) || suits cmp component u) us ≡ true
-          → (u : UnitFlight P) → In us u → (not (is_near component u) || suits cmp component u) ≡ true
-      passes [] all u among = absurd among
-      passes (v ∷ us) all u (inl is) =
-          subst (λ w. (not (is_near component w) || suits cmp component w) ≡ true) is
-          (by_bool (not (is_near component v) || suits cmp component v) (λ e. e) (λ e. absurd (false≢true
-          (sym (ap (λ b. b && list_all (λ u. not (is_near component u) || suits cmp component u) us) e) ∙ all))))
-      passes (v ∷ us) all u (inr among) =
-          passes us (rest (not (is_near component v) || suits cmp component v) _ all) u among
-        where
-          rest : (a b : Bool) → (a && b) ≡ true → b ≡ true
-          rest true b h = h
-          rest false b h = cc
-
       rated_if_far : (rated own : Bool) → (not rated || own) ≡ false → rated ≡ true
       rated_if_far true own h = refl
       rated_if_far false own h = cc
 
       by_near : (u : UnitFlight P) → In us u → (b : Bool) → is_near component u ≡ b → suits cmp component u ≡ true
-      by_near u among true is =
-          sym (ap (λ b. not b || suits cmp component u) is) ∙ passes us near u among
+      by_near u among true is = all_pass (suits cmp component) (filter (is_near component) us) near u
+          (in_filter (is_near component) us u among is)
       by_near u among false is =
           let apart = far u (contains_from_in us u among) is in
           rw (apart.0, apart.1) (rated_if_far u.rated _ is)
@@ -225,16 +211,6 @@ module _ {P : Type 0} where
             either true b h = refl
             either false b h = h
 
-    pub joined_apart : (old new : Component P) (now : ℕ) (list : List (Rc (Flight P) Global)) (at : ℕ)
-        (one : Rc (Flight P) Global) → at < length list → one ≡ get_or list at one
-        → AreGrouped cmp (rated_ones (flights_at now list)) → one.value.rated ≡ true
-        → list_any (λ own. own == one.value.group) old.groups.items ≡ true
-        → HasTakenIn one.value.message.value old new
-        → AreFarApart cmp old (flights_at now list) → AreFarApart cmp new (flights_at now list)
-    joined_apart old new now list at one inside is grouped rated own taken =
-        taken_in_apart old new (flights_at now list) (flight_at now one.value) grouped
-        (in_from_contains _ _ (listed_at now list at one inside is)) rated own taken
-
 -- ---- which ones are near
 
 module _ {P : Type 0} (component : Component P) (now : ℕ) (f : Flight P) where
@@ -253,6 +229,116 @@ module _ {P : Type 0} (component : Component P) (now : ℕ) (f : Flight P) where
 pub same_groups : {P : Type 0} (component : Component P) → HasMoreGroups component component
 same_groups component = record { whole = refl; senders = refl; receivers = refl; kept = λ group own. own }
 
+-- ---- those that are near, gathered one after another
+
+module _ {P : Type 0} (component : Component P) where
+  -- of none, none is near
+  pub none_near : AreNear component [] []
+  none_near now = refl
+
+  module _ (list : List (Rc (Flight P) Global)) (at : ℕ) (one : Rc (Flight P) Global) (inside : at < length list)
+      (is : one ≡ get_or list at one) (near : List (Rc (Flight P) Global))
+      (so_far : AreNear component near (take at list)) where
+    near_with : (now : ℕ) → filter (is_near component) (flights_at now (take (at + 1) list))
+        ≡ flights_at now near ++ filter (is_near component) (flight_at now one.value ∷ [])
+    near_with now =
+        ap (filter (is_near component)) (one_more now list at one inside is)
+        ∙ filter-append (is_near component) (flights_at now (take at list)) (flight_at now one.value ∷ [])
+        ∙ ap (λ us. us ++ filter (is_near component) (flight_at now one.value ∷ [])) (sym (so_far now))
+
+    -- one more is near
+    pub near_more : is_near component (flight_at 0 one.value) ≡ true → (copy : Rc (Flight P) Global)
+        → copy.value ≡ one.value → AreNear component (near ++ copy ∷ []) (take (at + 1) list)
+    near_more here copy same now =
+        map-append (λ (f : Rc (Flight P) Global). flight_at now f.value) near (copy ∷ [])
+        ∙ ap (λ (f : Flight P). flights_at now near ++ flight_at now f ∷ []) same
+        ∙ sym (near_with now ∙ ap (λ b. flights_at now near ++ cond b (flight_at now one.value ∷ []) []) here)
+
+    -- one more is not
+    pub near_still : is_near component (flight_at 0 one.value) ≡ false
+        → AreNear component near (take (at + 1) list)
+    near_still here now = sym (near_with now
+        ∙ ap (λ b. flights_at now near ++ cond b (flight_at now one.value ∷ []) []) here
+        ∙ append-nil (flights_at now near))
+
+  -- one that is near is in flight
+  pub near_in_flight : (now : ℕ) (near list : List (Rc (Flight P) Global)) → AreNear component near list
+      → (at : ℕ) (one : Rc (Flight P) Global) → at < length near → one ≡ get_or near at one
+      → In (flights_at now list) (flight_at now one.value) × (is_near component (flight_at now one.value) ≡ true)
+  near_in_flight now near list are at one inside is =
+      from_filter (is_near component) (flights_at now list) (flight_at now one.value)
+      (subst (λ (us : List (UnitFlight P)). In us (flight_at now one.value)) (are now)
+      (in_from_contains _ _ (listed_at now near at one inside is)))
+
+  -- one that is near and has got a rate is of one of its groups
+  pub near_has_group : (u : UnitFlight P) → is_near component u ≡ true → u.rated ≡ true
+      → list_any (λ own. own == u.group) component.groups.items ≡ true
+  near_has_group u near rated = by_rated u.rated near rated
+    where
+      by_rated : (r : Bool) → (not r || list_any (λ own. own == u.group) component.groups.items) ≡ true → r ≡ true
+          → list_any (λ own. own == u.group) component.groups.items ≡ true
+      by_rated true h is = h
+      by_rated false h is = absurd (false≢true is)
+
+-- those that are near are, whichever ends it has
+pub near_alike : {P : Type 0} (old new : Component P) → new.groups ≡ old.groups
+    → (near list : List (Rc (Flight P) Global)) → AreNear old near list → AreNear new near list
+near_alike {P} old new same near list are now = are now ∙ ap (λ (gs : _).
+    filter (λ (u : UnitFlight P). not u.rated || list_any (λ group. group == u.group) gs.items) (flights_at now list))
+    (sym same)
+
+filter_both : {X : Type 0} (near of : X → Bool) (xs : List X) → ((x : X) → In xs x → of x ≡ true → near x ≡ true)
+    → filter of (filter near xs) ≡ filter of xs
+filter_both near of [] h = refl
+filter_both {X} near of (x ∷ xs) h =
+    by_near (near x) (of x) refl refl (filter_both near of xs (λ y among. h y (inr among)))
+  where
+    by_near : (n o : Bool) → near x ≡ n → of x ≡ o → filter of (filter near xs) ≡ filter of xs
+        → filter of (cond n (x ∷ filter near xs) (filter near xs)) ≡ cond o (x ∷ filter of xs) (filter of xs)
+    by_near true true is has ih = rw has (ap (λ (ys : List X). x ∷ ys) ih)
+    by_near true false is has ih = rw has ih
+    by_near false true is has ih = absurd (false≢true (sym is ∙ h x (inl refl) has))
+    by_near false false is has ih = ih
+
+module _ {P : Type 0} (cmp : P → P → Ordering) (component : Component P) (now : ℕ)
+    (near list : List (Rc (Flight P) Global)) (are : AreNear component near list)
+    (found : AreFound cmp component (flights_at now list)) where
+  -- its messages in flight are found among those that are near
+  pub found_near : AreFound cmp component (flights_at now near)
+  found_near u listed =
+      let among = from_filter (is_near component) (flights_at now list) u
+      (subst (λ (us : List (UnitFlight P)). In us u) (are now) (in_from_contains _ u listed)) in
+      found u (contains_from_in _ u among.0)
+
+  -- and these are all of them
+  pub near_are_all : component.whole ≡ false
+      → those_of cmp component (flights_at now near) ≡ those_of cmp component (flights_at now list)
+  near_are_all part =
+      ap (those_of cmp component) (are now)
+      ∙ filter_both (is_near component) (is_of cmp component) (flights_at now list) near_if_of
+    where
+      first : (a b : Bool) → (false || a && b) ≡ true → a ≡ true
+      first true b h = refl
+      first false b h = h
+
+      near_if_of : (u : UnitFlight P) → In (flights_at now list) u → is_of cmp component u ≡ true
+          → is_near component u ≡ true
+      near_if_of u among of = first (is_near component u) (is_of cmp component u)
+          (ap (λ w. w || is_near component u && is_of cmp component u) (sym part)
+          ∙ found u (contains_from_in _ u among) ∙ of)
+
+module _ {P : Type 0} (cmp : P → P → Ordering) where
+  -- the ends of one that is near are taken in
+  pub near_taken_in : (old new : Component P) (now : ℕ) (near list : List (Rc (Flight P) Global))
+      → AreNear old near list → (at : ℕ) (one : Rc (Flight P) Global) → at < length near → one ≡ get_or near at one
+      → AreGrouped cmp (rated_ones (flights_at now list)) → one.value.rated ≡ true
+      → HasTakenIn cmp one.value.message.value old new
+      → AreFarApart cmp old (flights_at now list) → AreFarApart cmp new (flights_at now list)
+  near_taken_in old new now near list are at one inside is grouped rated taken =
+      let among = near_in_flight old now near list are at one inside is in
+      taken_in_apart cmp old new (flights_at now list) (flight_at now one.value) grouped among.0 rated
+      (near_has_group old (flight_at now one.value) among.1 rated) taken
+
 -- ---- the test
 
 module _ {P : Type 0} (cmp : P → P → Ordering) (component : Component P) where
@@ -261,9 +347,11 @@ module _ {P : Type 0} (cmp : P → P → Ordering) (component : Component P) whe
       → AreFarApart cmp component (flights_at now list)
       → list_all (λ m. is_sender cmp component m.value.origin && is_receiver cmp component m.value.recipient) done
       ≡ true
-      → list_all (λ one. not (is_near component (flight_at 0 one.value))
-      || suits cmp component (flight_at 0 one.value)) list ≡ true
+      → (near : List (Rc (Flight P) Global)) → AreNear component near list
+      → list_all (λ one. suits cmp component (flight_at 0 one.value)) near ≡ true
       → is_closed cmp component done (flights_at now list) ≡ true
-  closed_if_far done now list far has near = and_from _ _ has (suits_if_near cmp component (flights_at now list) far
-      (list_all-map (λ u. not (is_near component u) || suits cmp component u) (λ f. flight_at now f.value) list
-      ∙ near))
+  closed_if_far done now list far has near are suited =
+      and_from _ _ has (suits_if_near cmp component (flights_at now list) far
+      (ap (list_all (suits cmp component)) (sym (are now))
+      ∙ list_all-map (suits cmp component) (λ f. flight_at now f.value) near
+      ∙ suited))

@@ -6,12 +6,17 @@ use Rattle.std.specs.declared.rc.Rc.{Rc}
 use Rattle.std.specs.declared.alloc.Global.{Global}
 use Rattle.fair_rates.specs.Sides.Subjects.{same_peer}
 use Rattle.link_flights.specs.declared.message.Message.{Message}
-use Rattle.link_flights.specs.Flights.Flight.{UnitFlight}
+use Rattle.link_flights.specs.Flights.Flight.{UnitFlight, flights_at}
+use Rattle.link_flights.specs.declared.flight.Flight.{Flight}
 use Rattle.link_flights.specs.declared.component.Component.{Component}
 
 -- whether a message in flight is of one of its groups, or has got no rate yet
 abbrev pub is_near : {P : Type 0} → Component P → UnitFlight P → Bool
 is_near component u = not u.rated || list_any (λ group. group == u.group) component.groups.items
+
+-- these are the ones of a list that are near, in their order
+abbrev pub AreNear : {P : Type 0} → Component P → List (Rc (Flight P) Global) → List (Rc (Flight P) Global) → Type 0
+AreNear component near list = (now : ℕ) → flights_at now near ≡ filter (is_near component) (flights_at now list)
 
 module _ {P : Type 0} (cmp : P → P → Ordering) where
   -- whether two messages in flight go from one sender or to one receiver

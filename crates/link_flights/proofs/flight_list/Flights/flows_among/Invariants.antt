@@ -4,11 +4,11 @@ use Rattle.link_flights.specs.Pairs.CapsOf.{caps_of}
 use Rattle.link_flights.specs.Flights.Components.{those_of}
 use Rattle.link_flights.specs.Flights.Flight.{flights_at}
 use Rattle.link_flights.specs.Flights.RatedFlights.{are_standing}
-use Rattle.link_flights.proofs.flight_list.Flights.flows_of.Given as goal
+use Rattle.link_flights.proofs.flight_list.Flights.flows_among.Given as goal
 
 abbrev pub invariant-loop-one : goal.invariant-loop-one
 invariant-loop-one g l =
     (are_standing g.P.Ord.cmp (map (λ capped. capped.flow) l.flows.items)
-    (those_of g.P.Ord.cmp l.component (flights_at l.self.at (take l.one-index l.one-items)))
+    (those_of g.P.Ord.cmp l.component (flights_at l.self.at (take l.one-index l.list)))
     ≡ true)
     × All (HasItsCaps (caps_of g.P.Ord.cmp l.peers.entries l.pairs.entries)) l.flows.items
