@@ -1,5 +1,5 @@
 -- Fair rates of a component, and of what shares no side with it.
-use Rattle.std.proofs.Common.{◌≡◌, ◌≢◌, ℕ, zero, suc, ◌+◌, ◌*◌, ◌<◌, ◌≤◌, Bool, true, false, cond, if◌then◌else◌, not}
+use Rattle.std.proofs.Common.{◌≡◌, ℕ, zero, suc, ◌+◌, ◌*◌, ◌≤◌, Bool, true, false, cond, if◌then◌else◌, not}
 use Rattle.std.proofs.Common.{◌&&◌, ◌||◌, List, [], ◌∷◌, Option, Result, Ok, Err, IfOk, All, map, length, sum_by, refl}
 use Rattle.std.proofs.Common.{sym, ap, ap₂, ◌∙◌, subst, inl, inr, arith, zero-add}
 use Rattle.std.specs.Prelude.{slice_index, Contains}
@@ -26,7 +26,6 @@ use Rattle.fair_rates.specs.Filling.FairParts.{flow_parts, parts_of_level}
 use Rattle.fair_rates.proofs.Lists.Members.{In, in_map, from_map, from_filter, in_filter, contains_from_in, all_pass}
 use Rattle.fair_rates.proofs.Lists.Members.{in_from_contains}
 use Rattle.fair_rates.proofs.Fairness.SameSides.{still_fair}
-use Rattle.fair_rates.proofs.Numbers.Draining.{product_none}
 use Rattle.fair_rates.proofs.Fairness.Sharing.{StandsAt, AreShared, AreApart, shared_from, fair_from, part_shared}
 use Rattle.fair_rates.proofs.Fairness.Sharing.{both_shared}
 use Rattle.link_simulation.specs.Simulation.Messages.{Message, is_delivered}
@@ -36,13 +35,11 @@ use Rattle.link_flights.specs.declared.message.Message as code
 use Rattle.link_flights.specs.Pairs.Messages.{messages, message_of}
 use Rattle.link_flights.specs.Flights.CappedFlows.{AreFairPartsUnder}
 use Rattle.link_flights.specs.declared.flight.Flight.{Flight}
-use Rattle.link_flights.specs.declared.flight_list.Flights.{Flights}
-use Rattle.link_flights.specs.Flights.Flight.{UnitFlight, flight_at, AreTimed}
-use Rattle.link_flights.specs.Flights.InFlight.{in_units}
+use Rattle.link_flights.specs.Flights.Flight.{UnitFlight, flight_at}
 use Rattle.link_flights.specs.Flights.Components.{is_sender, is_receiver, is_of, those_of, suits, is_closed}
 use Rattle.link_flights.specs.Flights.Components.{share_an_end, AreGrouped}
 use Rattle.link_flights.specs.Flights.Rated.{sent_messages, rates_of, rated_ones, rates_found, rerated}
-use Rattle.link_flights.specs.Flights.Rated.{AreFairlyRated, WereRated, AreFairOf, IsRatedFrom, HaveFairRates}
+use Rattle.link_flights.specs.Flights.Rated.{AreFairlyRated, WereRated, AreFairOf, IsRatedFrom}
 use Rattle.link_flights.specs.Flights.Rated.{AreOthersTimed}
 use Rattle.link_flights.specs.Flights.RatedFlights.{are_standing}
 use Rattle.link_flights.proofs.Flights.FairMessages.{StandsForMessage, same_sides}

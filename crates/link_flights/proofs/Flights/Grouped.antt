@@ -1,10 +1,9 @@
 -- Messages in flight that are grouped: which ones are near a component, and that the others are apart from it.
-use Rattle.std.proofs.Common.{◌≡◌, ℕ, ◌+◌, ◌<◌, Bool, true, false, not, ◌&&◌, ◌||◌, if◌then◌else◌, List, [], ◌∷◌, ◌++◌}
-use Rattle.std.proofs.Common.{cond, ◌⊎◌, length, take, get_or, map, refl, sym, ap, ap₂, ◌∙◌, inl, inr, subst}
+use Rattle.std.proofs.Common.{◌≡◌, ℕ, ◌+◌, ◌<◌, Bool, true, false, not, ◌&&◌, ◌||◌, List, [], ◌∷◌, ◌++◌}
+use Rattle.std.proofs.Common.{cond, ◌⊎◌, length, take, get_or, refl, sym, ap, ap₂, ◌∙◌, inl, inr, subst}
 use Rattle.std.specs.Prelude.{Contains}
 use Rattle.std.specs.Bool.{◌==◌}
 use Rattle.std.specs.List.{filter, list_all, list_any}
-use Rattle.std.specs.Cmp.{IsTotalOrder}
 use Rattle.std.specs.declared.cmp.Ordering.{Ordering}
 use Rattle.std.specs.declared.rc.Rc.{Rc}
 use Rattle.std.specs.declared.alloc.Global.{Global}

@@ -3,7 +3,6 @@ use Rattle.std.specs.Ordering.{is_eq}
 use Rattle.fair_rates.specs.Sides.Answers.{Answered}
 use Rattle.link_flights.specs.Flights.CappedFlows.{HasItsCaps}
 use Rattle.link_flights.specs.Pairs.CapsOf.{caps_of}
-use Rattle.link_flights.specs.Pairs.PeerCaps.{egress_of, ingress_of}
 use Rattle.link_flights.proofs.Flights.Accounts.{looked_up}
 use Rattle.link_flights.proofs.Flights.CappedFlows.{capped_so}
 use Rattle.link_flights.proofs.rates.caps_for.Goals as goal

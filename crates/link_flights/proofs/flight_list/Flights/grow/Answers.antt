@@ -1,5 +1,4 @@
-use Rattle.std.proofs.Common.{◌≡◌, ◌<◌, ◌==◌, true, length, refl, sym, ap, ◌∙◌, subst, arith}
-use Rattle.std.specs.List.{list_any}
+use Rattle.std.proofs.Common.{◌≡◌, refl, sym, ap, ◌∙◌, subst, arith}
 use Rattle.link_flights.specs.declared.flight.Flight.{Flight}
 use Rattle.link_flights.specs.Flights.Components.{AreFarApart}
 use Rattle.link_flights.specs.Flights.InFlight.{in_units}
@@ -48,8 +47,7 @@ loop-one-preserved g c =
           w.deref-then-has_one_end.ensures
           record { groups = w.join.ensures.groups; senders = e.senders; receivers = e.receivers } in
           subst (λ (component : _). AreFarApart cmp component (in_units self)
-          × (component.groups ≡ c.args.component.now.groups)) (sym w.component-is)
-          (
+          × (component.groups ≡ c.args.component.now.groups)) (sym w.component-is) (
             near_taken_in cmp old new self.at c.args.near.now self.list.items
                 (near_alike c.args.component.now old c.loop-one.invariant.1 c.args.near.now self.list.items
                 c.requires.near)
