@@ -92,6 +92,7 @@ impl<P: Peer> Flights<P> {
         ensures at { self.new.at ≡ self.old.at }
     {
         self.list.remove(at);
+        self.rated_anew = self.rated_anew.min(self.list.len());
     }
 
     /// Takes those that are done, in order of start.

@@ -1,5 +1,5 @@
 //! The messages in flight.
-ghost use Rattle.std.specs.Prelude.{◌≡◌, ℕ, ◌<◌, [], ◌∷◌, ◌++◌, ◌||◌, ◌==◌, true, not};
+ghost use Rattle.std.specs.Prelude.{◌≡◌, ℕ, ◌<◌, ◌≤◌, [], ◌∷◌, ◌++◌, ◌||◌, ◌==◌, true, not};
 ghost use Rattle.std.specs.Prelude.{length, nat_le, Some, IfOk, IfErr, OnOk, OnErr};
 ghost use Rattle.std.specs.List.{list_all, list_any};
 ghost use Rattle.link_simulation.specs.Rule.Planned.{earlier as earliest};
@@ -32,9 +32,13 @@ pub struct Flights<P: Peer> {
     pub at: u64,
     /// The number of the group that was made last.
     pub(crate) last_group: u64,
+    /// How many were rated anew at the last account: each drained, with a rate and a finish of its
+    /// own. The others went on as they were.
+    pub rated_anew: usize,
 
     pub ghost past: { list_all (λ one. not one.value.rated || nat_le one.value.since at) list.items ≡ true },
     pub ghost scaled: { 0 < scale },
+    pub ghost counted: { rated_anew ≤ length list.items },
 }
 
 /// The earlier of two moments, where there are any.
@@ -66,6 +70,7 @@ impl<P: Peer> Flights<P> {
             scale: Natural::from_u64(alloc, 1),
             at: 0,
             last_group: 0,
+            rated_anew: 0,
         }
     }
 
@@ -113,6 +118,7 @@ impl<P: Peer> Flights<P> {
         ensures list { OnOk result (IsPutAt at flight self.old.list.items self.new.list.items) }
         ensures scale { self.new.scale ≡ self.old.scale }
         ensures at { self.new.at ≡ self.old.at }
+        ensures counted { self.new.rated_anew ≡ self.old.rated_anew }
         ensures refused { IfErr result (λ e. e ≡ Error.OutOfMemory) }
     {
         self.list[at] = Rc::new(self.alloc, flight)?;
@@ -144,6 +150,7 @@ impl<P: Peer> Clone for Flights<P> {
             scale: self.scale.clone()?,
             at: self.at,
             last_group: self.last_group,
+            rated_anew: self.rated_anew,
         })
     }
 }

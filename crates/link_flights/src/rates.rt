@@ -14,6 +14,7 @@ ghost use Rattle.fair_rates.specs.Filling.FairParts.{parts_of_level};
 ghost use Rattle.link_flights.specs.Flights.InFlight.{in_units, in_flight};
 ghost use Rattle.link_flights.specs.Flights.Rated.{WereRated, AreFairOf, HaveFairRates};
 ghost use Rattle.link_flights.specs.Flights.Rated.{rerated, rates_found, AreOthersTimed, IsReratedAt};
+ghost use Rattle.link_flights.specs.Flights.Rated.{AreKeptBut, IsCountedAt};
 ghost use Rattle.link_flights.specs.declared.flight.Flight.{Flight as AnyFlight};
 ghost use Rattle.std.specs.declared.rc.Rc.{Rc as AnyRc};
 ghost use Rattle.std.specs.declared.alloc.Global.{Global as Allocator};
@@ -110,6 +111,7 @@ impl<P: Peer> Flights<P> {
         requires timed { were_rated ≡ true → AreTimed self.old.list.items }
         ensures rated { OnOk result (HaveFairRates P.cmp (caps_of P.cmp peers.now.entries pairs.now.entries)
             self.old self.new) }
+        ensures kept { OnOk result (AreKeptBut self.new.rated_anew self.old.list.items self.new.list.items) }
         ensures finish { IfOk result (IsLeastMoment (λ s. SomeSpentAt (in_flight self.new) s)) }
         ensures refused { IfErr result (λ e. e ≡ Error.OutOfMemory) }
     {
@@ -211,10 +213,14 @@ impl<P: Peer> Flights<P> {
         ensures timed { OnOk result (AreTimed self.new.list.items) }
         ensures scale { OnOk result (self.new.scale ≡ rates.scale) }
         ensures at { self.new.at ≡ self.old.at }
+        ensures kept { OnOk result (AreKeptBut self.new.rated_anew self.old.list.items self.new.list.items) }
+        ensures counted { OnOk result
+            (self.new.rated_anew ≤ length (those_of P.cmp component.now (in_units self.old))) }
         ensures refused { IfErr result (λ e. e ≡ Error.OutOfMemory) }
     {
         let levels = shared_levels(self.alloc, rates.levels)?;
-        let group = self.number_for(component);
+        self.rated_anew = 0;
+        let group = self.number_for(component, rates.level_of.len());
         let mut next = 0;
         for at in 0..self.list.len() {
             if component.has(&self.list[at]) {
@@ -228,15 +234,16 @@ impl<P: Peer> Flights<P> {
         Ok(())
     }
 
-    /// The number of the group that those of the component are from now on. They keep the number that
-    /// they have, so that those whose rate stays need not change.
-    fn number_for(&self, component: &Component<P>) -> u64 {
+    /// The number of the group that so many of the component are from now on. Where they are all of
+    /// one group they keep the number that they have, so that those whose rate stays need not change.
+    /// Else they part from the others, with which they share no end.
+    fn number_for(&self, component: &Component<P>, count: usize) -> u64 {
         if component.whole {
             if let Some(first) = self.list.first() {
                 return first.group;
             }
         }
-        if component.groups.len() == 1 {
+        if component.groups.len() == 1 && count == component.near.len() {
             return component.groups[0];
         }
         self.last_group.wrapping_add(1)
@@ -256,10 +263,12 @@ impl<P: Peer> Flights<P> {
         requires left { (d : AnyRc (AnyFlight P) Allocator) → (flight_at self.old.at
             (slice_index_or self.old.list.items at d).value).left * product growth.now ≢ 0 }
         requires timed { were_timed ≡ true → AreTimed self.old.list.items }
+        requires counted { self.old.rated_anew ≤ at }
         ensures rerated { OnOk result (IsReratedAt self.old.at at (product growth.now) group (rate_of rate)
             self.old.list.items self.new.list.items) }
         ensures scale { self.new.scale ≡ self.old.scale }
         ensures at { self.new.at ≡ self.old.at }
+        ensures counted { OnOk result (IsCountedAt at self.old self.new) }
         ensures refused { IfErr result (λ e. e ≡ Error.OutOfMemory) }
     {
         let one = &self.list[at];
@@ -267,6 +276,8 @@ impl<P: Peer> Flights<P> {
             return Ok(());
         }
         let one = one.rerated(rate, growth, self.at, group)?;
-        self.put(at, one)
+        self.put(at, one)?;
+        self.rated_anew += 1;
+        Ok(())
     }
 }

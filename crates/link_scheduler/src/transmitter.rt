@@ -1,5 +1,5 @@
 //! When each message arrives: a scheduler of messages over capped peers.
-ghost use Rattle.std.specs.Prelude.{◌≡◌, IfOk, IfErr, IsOk, OnErr};
+ghost use Rattle.std.specs.Prelude.{◌≡◌, ◌≤◌, length, IfOk, IfErr, IsOk, OnErr};
 ghost use Rattle.link_simulation.specs.Laws.Orderly.{IsOrderly};
 ghost use Rattle.link_scheduler.specs.Calls.AsPlanned.{planned};
 ghost use Rattle.link_simulation.specs.Simulation.Calls.{call_limit, call_limit_link, call_enqueue, call_advance};
@@ -84,7 +84,7 @@ impl<P: Peer> State<P> {
     ghost use Rattle.link_flights.specs.Flights.Readings.{IsReadAs};
     ghost use Rattle.link_scheduler.specs.Calls.State.{planned_of, sent, IsNew, IsMade, IsRefused, IsAdvanced};
     ghost use Rattle.link_scheduler.specs.Calls.State.{IsCounted, sends, AreMade, IsOneRefused};
-    ghost use Rattle.link_scheduler.specs.Calls.State.{IsNextOf, IsQuietUntil};
+    ghost use Rattle.link_scheduler.specs.Calls.State.{IsNextOf, IsQuietUntil, rated_at_last};
 
     /// A scheduler at the start, moment 0, without limits and with nothing sent. Flow ids begin
     /// at 0.
@@ -404,5 +404,19 @@ impl<P: Peer> State<P> {
         ensures refused { IfErr result (λ e. e ≡ Error.OutOfMemory) }
     {
         self.ledger.flights.read()
+    }
+
+    /// How many messages in flight were rated anew when rates were last given, by the last call that
+    /// brought rates or by the last event of an advance. Each of these drained to that moment and
+    /// got a rate and a finish of its own; all others in flight were left as they were kept.
+    ///
+    /// It counts work, and has no part in what is answered: where a message starts or ends, it is no
+    /// more than the messages that share a sender or a receiver with it, directly or through others,
+    /// unless those are nearly all. It takes no memory, changes nothing and is never refused.
+    pub fn rated_anew(&self) -> usize
+        ensures counted { result ≡ rated_at_last self.now }
+        ensures at_most_all { result ≤ length (planned_of self.now).sending }
+    {
+        self.ledger.flights.rated_anew
     }
 }

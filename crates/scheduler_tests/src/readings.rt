@@ -19,6 +19,19 @@ fn send(
     Ok(())
 }
 
+/// At the start, sends so many zero bytes with no latency.
+fn send_from(
+    state: &mut State<u64>,
+    alloc: Global,
+    from: u64,
+    to: u64,
+    length: usize,
+) -> Result<(), Error> {
+    let message = Bytes::from_vec(vec![in alloc; 0u8; length]?)?;
+    state.enqueue(0, from, to, 7, message, 0, true)?;
+    Ok(())
+}
+
 /// Compares what is read of one message with a recipient, what is left, the rate and a moment.
 fn expect(
     rt: &impl Abort,
@@ -101,5 +114,30 @@ fn what_does_not_fit_is_rounded_down(rt: HostRuntime) -> Result<(), Error> {
         assert_eq!(rt; first.rate.amount, Ratio::from_whole(10_000_000));
         assert_eq!(rt; first.since, 99);
     }
+    Ok(())
+}
+
+/// Eight messages are in flight, each of a pair of its own. One that starts alone is rated alone,
+/// and one of a sender that has another one with that. Where one ends alone none is, and where a
+/// cap changes all are.
+#[test]
+fn an_event_rates_what_it_touches(rt: HostRuntime) -> Result<(), Error> {
+    let mut state = State::new(rt.alloc());
+    assert_eq!(rt; state.rated_anew(), 0);
+    for peer in 1..=8u64 {
+        state.limit(0, &peer, Some(1000), None)?;
+    }
+    for peer in 1..=8u64 {
+        send_from(&mut state, rt.alloc(), peer, peer + 100, 1000 * peer as usize)?;
+    }
+    assert_eq!(rt; state.rated_anew(), 1);
+    send_from(&mut state, rt.alloc(), 8, 200, 8000)?;
+    assert_eq!(rt; state.rated_anew(), 2);
+    let done = state.advance(1_000_000_000)?;
+    assert_eq!(rt; done.len(), 1);
+    assert_eq!(rt; state.in_flight()?.len(), 8);
+    assert_eq!(rt; state.rated_anew(), 0);
+    state.limit(1_500_000_000, &3, Some(2000), None)?;
+    assert_eq!(rt; state.rated_anew(), 8);
     Ok(())
 }

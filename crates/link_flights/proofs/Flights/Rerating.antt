@@ -29,7 +29,7 @@ use Rattle.link_flights.specs.Flights.Flight.{UnitFlight, rate_of, left_by, flig
 use Rattle.link_flights.specs.Flights.Flight.{AreTimed, IsPutAt}
 use Rattle.link_flights.specs.Flights.InFlight.{in_units, in_flight}
 use Rattle.link_flights.specs.Flights.Rated.{rerated, rated_anew, IsReratedAt, IsRatedFrom, HaveFairRates}
-use Rattle.link_flights.specs.Flights.Rated.{AreOthersTimed}
+use Rattle.link_flights.specs.Flights.Rated.{AreOthersTimed, AreKeptBut, IsCountedAt}
 use Rattle.link_flights.specs.Flights.RatedFlights.{rated_flight_of, sending_of}
 use Rattle.link_flights.proofs.Flights.Flight.{drained_on, zip_there, all_there, is_past}
 use Rattle.link_flights.proofs.Flights.InFlight.{filter_yes, filter_no}
@@ -154,6 +154,46 @@ timed_set {P} {fs = fs} {at = at} put timed i f there rated =
       | inl is ↦ subst (λ (g : Rc (Flight P) Global). IsTimed g.value) (sym is) put.timed
       | inr before ↦ timed i f before rated
     ]
+
+-- ---- how many are written anew
+
+pub all_kept : {X : Type 0} (xs : List X) → AreKeptBut 0 xs xs
+all_kept [] = refl
+all_kept (x ∷ xs) = (refl, all_kept xs)
+
+counted_more : {X : Type 0} (n : ℕ) (xs ys : List X) → AreKeptBut n xs ys → AreKeptBut (suc n) xs ys
+counted_more n [] ys kept = kept
+counted_more n (x ∷ xs) [] kept = absurd kept
+counted_more zero (x ∷ xs) (y ∷ ys) kept = inl (kept.0, counted_more zero xs ys kept.1)
+counted_more (suc n) (x ∷ xs) (y ∷ ys) (inl kept) = inl (kept.0, counted_more (suc n) xs ys kept.1)
+counted_more (suc n) (x ∷ xs) (y ∷ ys) (inr rest) = inr (counted_more n xs ys rest)
+
+set_elsewhere : {X : Type 0} (n : ℕ) (xs ys : List X) (at : ℕ) (y : X) → AreKeptBut n xs ys
+    → AreKeptBut (suc n) xs (set ys at y)
+set_elsewhere n [] ys at y kept = ap (λ l. set l at y) kept
+set_elsewhere n (x ∷ xs) [] at y kept = absurd kept
+set_elsewhere zero (x ∷ xs) (z ∷ ys) zero y kept = inr kept.1
+set_elsewhere zero (x ∷ xs) (z ∷ ys) (suc at) y kept = inl (kept.0, set_elsewhere zero xs ys at y kept.1)
+set_elsewhere (suc n) (x ∷ xs) (z ∷ ys) zero y (inl kept) = inr kept.1
+set_elsewhere (suc n) (x ∷ xs) (z ∷ ys) zero y (inr rest) = inr (counted_more n xs ys rest)
+set_elsewhere (suc n) (x ∷ xs) (z ∷ ys) (suc at) y (inl kept) = inl (kept.0, set_elsewhere (suc n) xs ys at y kept.1)
+set_elsewhere (suc n) (x ∷ xs) (z ∷ ys) (suc at) y (inr rest) = inr (set_elsewhere n xs ys at y rest)
+
+module _ {P : Type 0} {a : _} {b : _} {c : _} (at : ℕ) (old new : Flights P a b c) where
+  -- one more is written anew at most
+  pub one_counted : (first : List (Rc (Flight P) Global)) → IsCountedAt at old new
+      → AreKeptBut old.rated_anew first old.list.items → AreKeptBut new.rated_anew first new.list.items
+  one_counted first (inl same) kept =
+      subst (λ n. AreKeptBut n first new.list.items) (sym same.0)
+      (subst (AreKeptBut old.rated_anew first) (sym same.1) kept)
+  one_counted first (inr one) kept =
+      subst (λ n. AreKeptBut n first new.list.items) (sym (one.0 ∙ omega arith))
+      (subst (AreKeptBut (suc old.rated_anew) first) (sym one.1.1)
+      (set_elsewhere old.rated_anew first old.list.items at one.1.0 kept))
+
+  pub by_one : IsCountedAt at old new → new.rated_anew ≤ old.rated_anew + 1
+  by_one (inl same) = omega (arith, same.0)
+  by_one (inr one) = omega (arith, one.0)
 
 module _ {P : Type 0} (cmp : P → P → Ordering) (component : Component P) (now times group : ℕ) where
   abbrev again : List ℕ → List (UnitFlight P) → List (UnitFlight P)

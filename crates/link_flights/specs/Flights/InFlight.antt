@@ -19,3 +19,4 @@ pub record IsSameFlights {P : Type 0} {a : _} {b : _} {c : _} (flights copy : Fl
   pub list : AllZip (λ one other. other.value ≡ one.value) flights.list.items copy.list.items
   pub scale : copy.scale ≡ flights.scale
   pub at : copy.at ≡ flights.at
+  pub counted : copy.rated_anew ≡ flights.rated_anew

@@ -1,5 +1,5 @@
 -- Messages in flight that have got rates, which are fair for them.
-use Rattle.std.specs.Prelude.{◌≡◌, ℕ, ◌*◌, Bool, true, false, not, List, [], ◌∷◌, cond, map, slice_index, length}
+use Rattle.std.specs.Prelude.{◌≡◌, ℕ, zero, suc, ◌+◌, ◌*◌, ◌⊎◌, Bool, true, false, not, List, [], ◌∷◌, cond, map, slice_index, length}
 use Rattle.std.specs.Prelude.{Some, slice_get, slice_set, slice_index_or}
 use Rattle.std.specs.List.{filter, list_all, AllZip}
 use Rattle.std.specs.declared.cmp.Ordering.{Ordering}
@@ -105,6 +105,20 @@ pub record IsReratedAt {P : Type 0} (now place times group rate : ℕ)
   pub unit : (d : Rc (Flight P) Global) → flight_at now one.value
       ≡ rated_anew now times group rate (flight_at now (slice_index_or old place d).value)
   pub timed : IsTimed one.value
+
+-- all but so many at most stand in another list as they stood in a first
+abbrev pub AreKeptBut : {X : Type 0} → ℕ → List X → List X → Type 0
+AreKeptBut n [] ys = ys ≡ []
+AreKeptBut n (x ∷ xs) [] = ⊥
+AreKeptBut zero (x ∷ xs) (y ∷ ys) = (y ≡ x) × AreKeptBut zero xs ys
+AreKeptBut (suc n) (x ∷ xs) (y ∷ ys) = ((y ≡ x) × AreKeptBut (suc n) xs ys) ⊎ AreKeptBut n xs ys
+
+-- the one at a place is written anew and counted, or all are as they were
+abbrev pub IsCountedAt : {P : Type 0} {a : _} {b : _} {c : _} → ℕ → (old new : Flights P a b c) → Type 0
+IsCountedAt {P} at old new =
+    ((new.rated_anew ≡ old.rated_anew) × (new.list.items ≡ old.list.items))
+    ⊎ ((new.rated_anew ≡ old.rated_anew + 1)
+    × ((one : Rc (Flight P) Global) × (new.list.items ≡ slice_set old.list.items at one)))
 
 -- those of a component have these rates from a moment on, and are a group; what is left of them counts in units of
 -- which so many times as many are needed. The others go on as they are

@@ -129,3 +129,7 @@ module _ {P : Type 0} {order : Ghosts P} {b : _} {c : _} where
   pub record IsNextOf (s : State P order b c) (next : Option ℕ) : Type 0 where
     pub planned : next ≡ next_event (planned_of s)
     pub simulated : IsNextInSimulation order.cmp (planned_of s) next
+
+  -- how many of the messages in flight were rated anew at the last account, as they were counted
+  abbrev pub rated_at_last : State P order b c → ℕ
+  rated_at_last s = s.ledger.flights.rated_anew

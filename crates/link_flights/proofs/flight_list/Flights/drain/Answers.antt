@@ -82,6 +82,7 @@ invariant_of-self g c =
       past = all_past old.at c.args.now old.list.items now.list.items
           (all_changed R old.list.items now.list.items c.loop-at.at c.loop-at.invariant.0 end);
       scaled = now.scaled;
+      counted = now.counted;
     }
 
 pub returns-clause-drained : goal.returns-clause-drained

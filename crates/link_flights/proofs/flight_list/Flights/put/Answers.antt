@@ -1,4 +1,5 @@
-use Rattle.std.proofs.Common.{ap, ◌∙◌}
+use Rattle.std.proofs.Common.{ap, ◌∙◌, arith}
+use Rattle.std.proofs.lemmas.List.{length-set}
 use Rattle.link_flights.specs.declared.flight.Flight.{Flight}
 use Rattle.link_flights.proofs.Flights.Flight.{all_with, is_past_flight, is_past}
 use Rattle.link_flights.proofs.flight_list.Flights.put.Goals as goal
@@ -10,4 +11,5 @@ invariant_of-self g c =
       past = all_with (is_past old.at) old.list.items c.args.at c.in_ok-self.field-0 old.past
           (ap (λ (f : Flight g.row.P.Denot). is_past_flight old.at f) c.in_ok-self.ensures.ok ∙ c.requires.past);
       scaled = old.scaled;
+      counted = omega (arith, old.counted, length-set old.list.items c.args.at c.in_ok-self.field-0);
     }

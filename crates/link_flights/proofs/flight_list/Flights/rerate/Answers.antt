@@ -1,5 +1,4 @@
-use Rattle.std.proofs.Common.{◌≡◌, ◌*◌, refl, sym, ap, ◌∙◌}
-use Rattle.std.proofs.lemmas.Result.{on_ok_weaker}
+use Rattle.std.proofs.Common.{◌≡◌, ◌+◌, ◌*◌, inr, refl, sym, ap, ◌∙◌}
 use Rattle.fair_rates.specs.Fairness.Exists.{product}
 use Rattle.link_flights.specs.declared.flight.Flight.{Flight}
 use Rattle.link_flights.specs.Flights.Flight.{rate_of, flight_at}
@@ -32,11 +31,14 @@ returns-clause-rerated g c =
     let x = c.index-one.result.now in
     let one = c.in_ok-one in
     let value : c.deref-2.result.now ≡ x.value = c.deref-2.ensures in
-    on_ok_weaker c.put.result
-    (λ put. put_anew old.at (product c.args.growth.now) c.args.group (rate_of c.args.rate) old.list.items c.args.at x
-    c.requires.place c.index-one.ensures one.one c.put.new.self.list.items put
+    put_anew old.at (product c.args.growth.now) c.args.group (rate_of c.args.rate) old.list.items c.args.at x
+    c.requires.place c.index-one.ensures one.one c.put.new.self.list.items c.in_ok-put.ensures.list
     (one.ensures.message ∙ ap (λ (f : Flight g.row.P.Denot). f.message.value) value)
     (one.ensures.left
     ∙ ap (λ (f : Flight g.row.P.Denot). (flight_at old.at f).left * product c.args.growth.now) value)
-    one.ensures.rate one.ensures.since one.ensures.rated one.ensures.group one.ensures.timed)
-    c.put.ensures.list
+    one.ensures.rate one.ensures.since one.ensures.rated one.ensures.group one.ensures.timed
+
+pub returns-clause-counted : goal.returns-clause-counted
+returns-clause-counted g c =
+    let put = c.in_ok-put.ensures.list in
+    inr (ap (λ n. n + 1) c.put.ensures.counted, (put.one, put.others))

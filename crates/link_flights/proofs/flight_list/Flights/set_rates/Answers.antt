@@ -6,10 +6,11 @@ use Rattle.fair_rates.specs.Filling.FairParts.{parts_of_level}
 use Rattle.link_flights.specs.declared.flight.Flight.{Flight}
 use Rattle.link_flights.specs.Flights.Components.{is_of, is_found}
 use Rattle.link_flights.specs.Flights.Flight.{flight_at, flights_at, rate_of, AreTimed}
-use Rattle.link_flights.specs.Flights.Rated.{rates_found, IsReratedAt}
+use Rattle.link_flights.specs.Flights.Rated.{rates_found, IsReratedAt, AreKeptBut}
 use Rattle.link_flights.proofs.Flights.InFlight.{read_at}
 use Rattle.link_flights.proofs.Flights.Rerating.{AreReratedUpTo, none_rerated, stands_next, something_left, has_rate}
 use Rattle.link_flights.proofs.Flights.Rerating.{found_here, passed, one_rerated, all_rerated, timed_set}
+use Rattle.link_flights.proofs.Flights.Rerating.{all_kept, one_counted, by_one}
 use Rattle.link_flights.proofs.flight_list.Flights.set_rates.Goals as goal
 use Rattle.link_flights.proofs.flight_list.Flights.set_rates.Goals.{else-has, then-has+in_ok-rate+in_ok-rerate}
 
@@ -23,6 +24,9 @@ loop-at-init g c =
           c.requires.left c.requires.others c.requires.found,
       refl,
       c.requires.timed,
+      all_kept old.list.items,
+      omega arith,
+      omega arith,
     )
 
 pub index-requires : goal.index-requires
@@ -142,6 +146,17 @@ loop-at-preserved g c =
             ap (λ s. s.at) w.self-is ∙ w.rerate.ensures.at ∙ at_is,
             λ timed. subst (λ (s : _). AreTimed s.list.items) (sym w.self-is)
                 (timed_set put (c.loop-at.invariant.2 timed)),
+            subst (λ (s : _). AreKeptBut s.rated_anew old.list.items s.list.items) (sym w.self-is)
+                (one_counted at so_far w.rerate.new.self old.list.items w.in_ok-rerate.ensures.counted
+                c.loop-at.invariant.3),
+            omega (
+              arith,
+              ap (λ s. s.rated_anew) w.self-is,
+              w.next-is,
+              c.loop-at.invariant.4,
+              by_one at so_far w.rerate.new.self w.in_ok-rerate.ensures.counted,
+            ),
+            omega (arith, w.next-is, c.loop-at.invariant.5),
           )
       | else-has w ↦ (
         subst (λ (s : _). AreUpTo s.list.items (at + 1) c.if-has.next) (sym w.self-is)
@@ -149,6 +164,9 @@ loop-at-preserved g c =
             (passed h x stands (sym test ∙ w.if-has.false))),
         ap (λ s. s.at) w.self-is ∙ at_is,
         λ timed. subst (λ (s : _). AreTimed s.list.items) (sym w.self-is) (c.loop-at.invariant.2 timed),
+        subst (λ (s : _). AreKeptBut s.rated_anew old.list.items s.list.items) (sym w.self-is) c.loop-at.invariant.3,
+        omega (arith, ap (λ s. s.rated_anew) w.self-is, w.next-is, c.loop-at.invariant.4),
+        omega (arith, w.next-is, c.loop-at.invariant.5),
       )
     ]
 

@@ -1,7 +1,7 @@
-use Rattle.std.proofs.Common.{◌≡◌, true}
+use Rattle.std.proofs.Common.{◌≡◌, ◌≤◌, true}
 use Rattle.fair_rates.specs.Fairness.Exists.{product}
 use Rattle.link_flights.specs.Flights.Flight.{AreTimed}
-use Rattle.link_flights.specs.Flights.Rated.{rates_found}
+use Rattle.link_flights.specs.Flights.Rated.{rates_found, AreKeptBut}
 use Rattle.link_flights.proofs.Flights.Rerating.{AreReratedUpTo}
 use Rattle.link_flights.proofs.flight_list.Flights.set_rates.Given as goal
 
@@ -12,3 +12,6 @@ invariant-loop-at g l =
     l.initial.self.list.items l.self.list.items l.at l.next
     × (l.self.at ≡ l.initial.self.at)
     × (l.fn.were_timed ≡ true → AreTimed l.self.list.items)
+    × AreKeptBut l.self.rated_anew l.initial.self.list.items l.self.list.items
+    × (l.self.rated_anew ≤ l.next)
+    × (l.next ≤ l.at)

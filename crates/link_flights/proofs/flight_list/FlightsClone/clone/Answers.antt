@@ -1,4 +1,5 @@
-use Rattle.std.proofs.Common.{◌<◌, sym, ◌∙◌, subst}
+use Rattle.std.proofs.Common.{◌<◌, sym, ◌∙◌, subst, arith}
+use Rattle.std.proofs.lemmas.List.Elements.{length_all_zip}
 use Rattle.link_flights.proofs.Flights.Copies.{past_alike}
 use Rattle.link_flights.proofs.flight_list.FlightsClone.clone.Goals as goal
 
@@ -8,4 +9,9 @@ invariant_of-result g c =
     record {
       past = past_alike old.at old.list.items c.in_ok-clone.field-0.items c.in_ok-clone.ensures.cases.0 ∙ old.past;
       scaled = subst (λ n. 0 < n) (sym c.in_ok-clone-2.ensures.value) old.scaled;
+      counted = omega (
+        arith,
+        old.counted,
+        length_all_zip _ old.list.items c.in_ok-clone.field-0.items c.in_ok-clone.ensures.cases.0,
+      );
     }
