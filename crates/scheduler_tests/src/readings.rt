@@ -128,7 +128,13 @@ fn an_event_rates_what_it_touches(rt: HostRuntime) -> Result<(), Error> {
         state.limit(0, &peer, Some(1000), None)?;
     }
     for peer in 1..=8u64 {
-        send_from(&mut state, rt.alloc(), peer, peer + 100, 1000 * peer as usize)?;
+        send_from(
+            &mut state,
+            rt.alloc(),
+            peer,
+            peer + 100,
+            1000 * peer as usize,
+        )?;
     }
     assert_eq!(rt; state.rated_anew(), 1);
     send_from(&mut state, rt.alloc(), 8, 200, 8000)?;
