@@ -1,5 +1,5 @@
 //! What limits flows: the sides that the caps make.
-ghost use Rattle.std.specs.Prelude.{◌≡◌, OnOk, ◌<◌, [], ◌∷◌, List, Some, IfOk, IfErr, map, All, AllPairs, length};
+ghost use Rattle.std.specs.Prelude.{◌≡◌, OnOk, ◌<◌, [], ◌∷◌, List, Some, IfOk, IfErr, map, All, AllPairs, length, true};
 ghost use Rattle.std.specs.Fn.{CalledAt, TakesAt, CalledAtTwo, TakesAtTwo};
 ghost use Rattle.fair_rates.specs.Sides.Answers.{Answered, AnswerInOrder, CallableOnEach, CallableOnEachPair, origins};
 ghost use Rattle.fair_rates.specs.Sides.Answers.{recipients, pairs, answered_by, answered_of};
@@ -60,7 +60,7 @@ struct Latest {
 
 impl Latest {
     /// A guess at the number of the side of the subject. Flows of one sender mostly follow one
-    /// another, and their recipients come in the same order for each sender.
+    /// another, and senders mostly have the same recipients in one order.
     fn guess<P>(&self, subject: &Subject<P>) -> usize {
         match subject {
             Subject::SentBy(_) => self.sender,
@@ -113,15 +113,30 @@ impl<'a, P: Peer> Registry<'a, P> {
         }
     }
 
-    /// The number of the side of the subject, if there is one. Where it is the guess, no map is
-    /// searched.
+    /// Whether the side of that number is the one of the subject.
+    fn has(&self, number: usize, subject: &Subject<'a, P>) -> bool
+        requires { FindsSides P.cmp self.now }
+        ensures { result ≡ true → number_of P.cmp self.now (subject_of subject.now) ≡ Some number }
+    {
+        match self.subjects.get(number) {
+            Some(kept) => kept.is_same(subject),
+            None => false,
+        }
+    }
+
+    /// The number of the side of the subject, if there is one. Where it is the guess or the next
+    /// number, no map is searched.
     fn number(&self, subject: &Subject<'a, P>, guess: usize) -> Option<usize>
         requires { FindsSides P.cmp self.now }
         ensures { result ≡ number_of P.cmp self.now (subject_of subject.now) }
     {
-        match self.subjects.get(guess) {
-            Some(guessed) if guessed.is_same(subject) => Some(guess),
-            _ => self.find(subject),
+        let next = guess.wrapping_add(1);
+        if self.has(guess, subject) {
+            Some(guess)
+        } else if self.has(next, subject) {
+            Some(next)
+        } else {
+            self.find(subject)
         }
     }
 

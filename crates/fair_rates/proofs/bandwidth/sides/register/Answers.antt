@@ -18,8 +18,8 @@ returns-in-Some g c =
       registers = record {
         asked = λ asks h.
             found g.P.Ord.cmp g.met.P.Ord.total asks old.sides.items (map subject_of old.subjects.items)
-            (number_of g.P.Ord.cmp old) h s c.args.place c.args.answer c.in-Some.number c.index_mut.result.now _ _ is c.index_mut.ensures.value refl refl
-            c.in_ok-push.ensures.items;
+            (number_of g.P.Ord.cmp old) h s c.args.place c.args.answer c.in-Some.number c.index_mut.result.now _ _ is
+            c.index_mut.ensures.value refl refl c.in_ok-push.ensures.items;
         finds = record { within = c.requires.within; as_many = c.requires.as_many; named = c.requires.named };
       };
       refused = tt;
@@ -52,7 +52,8 @@ returns-clause-registers g c =
     let none : number_of cmp old s ≡ None = sym c.number.ensures ∙ c.in_default.is in
     let users : c.push-2.new.self.items ≡ c.args.place ∷ [] =
     c.in_ok-push-2.ensures.items ∙ ap (λ us. us ++ c.args.place ∷ []) c.in_ok-users.ensures.items in
-    let sides : new.sides.items ≡ old.sides.items ++ record { cap = c.in-Some-answer.cap; users = c.push-2.new.self } ∷ [] =
+    let sides : new.sides.items
+    ≡ old.sides.items ++ record { cap = c.in-Some-answer.cap; users = c.push-2.new.self } ∷ [] =
     ap (λ v. v.items) c.set_number.ensures.sides ∙ c.in_ok-push-3.ensures.items in
     let kept : new.subjects.items ≡ old.subjects.items ++ c.args.subject ∷ [] =
     c.in_ok-push-4.ensures.items ∙ ap (λ v. v.items ++ c.args.subject ∷ []) c.set_number.ensures.subjects in
