@@ -1,7 +1,7 @@
 -- What registering one ask does to the sides and to the numbers of their subjects.
 use Rattle.std.proofs.Common.{◌≡◌, ◌↔◌, ◌≢◌, ◌==◌, ℕ, suc, zero, ◌+◌, ◌<◌, Bool, true, false, cond, ◌||◌, ◌&&◌, List, []}
 use Rattle.std.proofs.Common.{◌∷◌, Bor, ◌++◌, Option, Some, None, map, length, get_or, refl, sym, ap, ◌∙◌, arith, subst}
-use Rattle.std.proofs.Common.{⊎_elim}
+use Rattle.std.proofs.Common.{⊎_elim, vec_len}
 use Rattle.std.proofs.Math.ListN.{set}
 use Rattle.std.proofs.lemmas.List.{append-nil, map-append, map-set, length-set, length-map, same_lists, get_or-set_same}
 use Rattle.std.proofs.lemmas.List.{get_or-set_other, get_or-map, get_or_append_left, get_or_push, get_or_default}
@@ -18,10 +18,11 @@ use Rattle.std.specs.Ordering.{is_eq, ordering_then}
 use Rattle.fair_rates.specs.Sides.SideOf.{side_of}
 use Rattle.fair_rates.specs.Sides.Subjects.{Subject, Ask, same_peer, same_subject, sent_by, received_by, sent_between}
 use Rattle.fair_rates.specs.Sides.Registry.{subjects_after, number_of, IsNumberOf, AreRegistered}
-use Rattle.fair_rates.specs.Sides.Registry.{IsRegistryOf, FindsSides, HasNumber, Registers}
+use Rattle.fair_rates.specs.Sides.Registry.{IsRegistryOf, FindsSides, HasNumber, Registers, subject_of}
 use Rattle.fair_rates.specs.declared.bandwidth.sides.Registry.{Registry}
 use Rattle.fair_rates.specs.declared.bandwidth.sides.Side as declared_side
-use Rattle.fair_rates.proofs.Sides.Subjects.{same_symm, same_congr}
+use Rattle.fair_rates.specs.declared.bandwidth.sides.Subject as declared
+use Rattle.fair_rates.proofs.Sides.Subjects.{same_symm, same_congr, same_itself, peer_congr}
 use Rattle.fair_rates.proofs.Sides.OneMoreAsk.{Share, limit_of, shares_after, opened_share, is_side_of, with_user}
 use Rattle.fair_rates.proofs.Sides.OneMoreAsk.{limits_are, subjects_are, shares_push}
 
@@ -181,8 +182,8 @@ module _ {P : Type 0} (cmp : P → P → Ordering) (o : IsTotalOrder cmp) where
           ⊎_elim (at_old q m i) (λ past. at_last q m i (omega (arith, longer))) (cases_lt m (length subjects)),
     )
 
-  module _ (asks : List (Ask P)) (sides : List declared_side.Side) (number : Subject P → Option ℕ)
-      (h : AreRegistered cmp asks sides number) where
+  module _ (asks : List (Ask P)) (sides : List declared_side.Side) (names : List (Subject P))
+      (number : Subject P → Option ℕ) (h : AreRegistered cmp asks sides names number) where
     abbrev shares : List (Share P)
     shares = shares_after cmp [] asks
 
@@ -255,7 +256,7 @@ module _ {P : Type 0} (cmp : P → P → Ordering) (o : IsTotalOrder cmp) where
       pub found : (answer : Option ℕ) (n : ℕ) (old new : declared_side.Side) (sides' : List declared_side.Side)
           → number s ≡ Some n → old ≡ get_or sides n old → sides' ≡ set sides n new
           → new.cap ≡ old.cap → new.users.items ≡ old.users.items ++ place ∷ []
-          → AreRegistered cmp (asks ++ ask place s answer ∷ []) sides' number
+          → AreRegistered cmp (asks ++ ask place s answer ∷ []) sides' names number
       found answer n old new sides' e at writes cap users =
           let t = ask place s answer in
           let i : n < length sides = in_range s n e in
@@ -271,6 +272,9 @@ module _ {P : Type 0} (cmp : P → P → Ordering) (o : IsTotalOrder cmp) where
           (is_false _
           (λ same. let m : number s ≡ Some k = number_at s k nobody l same in
           apart (same_Some k n (sym m ∙ e)))) in
+          let stay : subjects_after cmp [] asks ≡ subjects_after cmp [] (asks ++ t ∷ []) =
+          sym (subjects_are cmp [] asks) ∙ sym (subjects_kept t shares) ∙ ap (map (λ u. u.subject)) (sym are)
+          ∙ subjects_are cmp [] (asks ++ t ∷ []) in
           let was : side_of old ≡ limit_of here =
           ap side_of at ∙ sym (get_or-map side_of sides n old (side_of old) i)
           ∙ ap (λ ls. get_or ls n (side_of old)) limits ∙ get_or-map limit_of shares n nobody (side_of old) within in
@@ -285,17 +289,14 @@ module _ {P : Type 0} (cmp : P → P → Ordering) (o : IsTotalOrder cmp) where
                 ∙ sym (map-set limit_of shares n (with_user cmp t here))
                 ∙ ap (map limit_of) (sym (only_there (with_user cmp t) shares n nobody within others) ∙ sym are)
                 ∙ limits_are cmp [] (asks ++ t ∷ []);
+            names_are = h.names_are ∙ stay;
             numbers_are =
-                subst
-                (λ us. (q : Subject P) (m : ℕ) → (number q ≡ Some m) ↔ IsNumberOf cmp us q m)
-                (sym (subjects_are cmp [] asks) ∙ sym (subjects_kept t shares) ∙ ap (map (λ u. u.subject)) (sym are)
-                ∙ subjects_are cmp [] (asks ++ t ∷ []))
-                h.numbers_are;
+                subst (λ us. (q : Subject P) (m : ℕ) → (number q ≡ Some m) ↔ IsNumberOf cmp us q m) stay h.numbers_are;
           }
 
       -- it has not, and does not now
       pub absent : (answer : Option ℕ) → answer ≡ None → number s ≡ None
-          → AreRegistered cmp (asks ++ ask place s answer ∷ []) sides number
+          → AreRegistered cmp (asks ++ ask place s answer ∷ []) sides names number
       absent answer unanswered e =
           let t = ask place s answer in
           let none = none_open answer e in
@@ -303,26 +304,26 @@ module _ {P : Type 0} (cmp : P → P → Ordering) (o : IsTotalOrder cmp) where
           become answer false none ∙ ap (λ a. map (with_user cmp t) shares ++ opened_share cmp t [] a) unanswered
           ∙ append-nil (map (with_user cmp t) shares)
           ∙ none_changed (is_side_of cmp t) (with_user cmp t) shares (unchanged t) none in
+          let stay : subjects_after cmp [] asks ≡ subjects_after cmp [] (asks ++ t ∷ []) =
+          sym (subjects_are cmp [] asks) ∙ ap (map (λ u. u.subject)) (sym are)
+          ∙ subjects_are cmp [] (asks ++ t ∷ []) in
           record {
             sides_are = limits ∙ ap (map limit_of) (sym are) ∙ limits_are cmp [] (asks ++ t ∷ []);
+            names_are = h.names_are ∙ stay;
             numbers_are =
-                subst
-                (λ us. (q : Subject P) (m : ℕ) → (number q ≡ Some m) ↔ IsNumberOf cmp us q m)
-                (sym (subjects_are cmp [] asks) ∙ ap (map (λ u. u.subject)) (sym are)
-                ∙ subjects_are cmp [] (asks ++ t ∷ []))
-                h.numbers_are;
+                subst (λ us. (q : Subject P) (m : ℕ) → (number q ≡ Some m) ↔ IsNumberOf cmp us q m) stay h.numbers_are;
           }
 
       -- it comes into being now
       pub opens : (answer : Option ℕ) (cap : ℕ) (new : declared_side.Side) (sides' : List declared_side.Side)
-          (number' : Subject P → Option ℕ)
+          (names' : List (Subject P)) (number' : Subject P → Option ℕ)
           → answer ≡ Some cap → number s ≡ None → sides' ≡ sides ++ new ∷ [] → new.cap ≡ cap
-          → new.users.items ≡ place ∷ []
+          → new.users.items ≡ place ∷ [] → names' ≡ names ++ s ∷ []
           → (n : ℕ) → n ≡ length sides
           → ((q : Subject P)
           → number' q ≡ cond (same_subject cmp s q) (Some n) (number q))
-          → AreRegistered cmp (asks ++ ask place s answer ∷ []) sides' number'
-      opens answer cap new sides' number' answered e pushes is_cap users n last numbers =
+          → AreRegistered cmp (asks ++ ask place s answer ∷ []) sides' names' number'
+      opens answer cap new sides' names' number' answered e pushes is_cap users named n last numbers =
           let t = ask place s answer in
           let none = none_open answer e in
           let share : Share P = record { subject = s; cap = cap; users = place ∷ [] } in
@@ -330,64 +331,127 @@ module _ {P : Type 0} (cmp : P → P → Ordering) (o : IsTotalOrder cmp) where
           become answer false none ∙ ap (λ a. map (with_user cmp t) shares ++ opened_share cmp t [] a) answered
           ∙ ap (λ ss. ss ++ share ∷ [])
           (none_changed (is_side_of cmp t) (with_user cmp t) shares (unchanged t) none) in
+          let more : subjects_after cmp [] asks ++ s ∷ [] ≡ subjects_after cmp [] (asks ++ t ∷ []) =
+          ap (λ us. us ++ s ∷ []) (sym (subjects_are cmp [] asks))
+          ∙ sym (map-append (λ u. u.subject) shares (share ∷ []))
+          ∙ ap (map (λ u. u.subject)) (sym are) ∙ subjects_are cmp [] (asks ++ t ∷ []) in
           record {
             sides_are =
                 ap (map side_of) pushes ∙ map-append side_of sides (new ∷ []) ∙ ap (λ ls. ls ++ side_of new ∷ []) limits
                 ∙ (λ j. map limit_of shares ++ record { cap = is_cap j; users = users j } ∷ [])
                 ∙ sym (map-append limit_of shares (share ∷ [])) ∙ ap (map limit_of) (sym are)
                 ∙ limits_are cmp [] (asks ++ t ∷ []);
+            names_are = named ∙ ap (λ us. us ++ s ∷ []) h.names_are ∙ more;
             numbers_are =
-                subst
-                (λ us. (q : Subject P) (m : ℕ) → (number' q ≡ Some m) ↔ IsNumberOf cmp us q m)
-                (ap (λ us. us ++ s ∷ []) (sym (subjects_are cmp [] asks))
-                ∙ sym (map-append (λ u. u.subject) shares (share ∷ []))
-                ∙ ap (map (λ u. u.subject)) (sym are) ∙ subjects_are cmp [] (asks ++ t ∷ []))
+                subst (λ us. (q : Subject P) (m : ℕ) → (number' q ≡ Some m) ↔ IsNumberOf cmp us q m) more
                 (numbers_push subjects number number' s h.numbers_are e
                 (λ q. numbers q
                 ∙ ap (λ m. cond (same_subject cmp s q) (Some m) (number q))
                 (last ∙ as_many ∙ sym as_many_subjects)));
           }
 
--- no flow has asked yet
-pub nothing_registered : {P : Type 0} (cmp : P → P → Ordering) (registry : Registry P) → registry.sides.items ≡ []
-    → registry.senders.entries ≡ [] → registry.receivers.entries ≡ [] → registry.pairs.entries ≡ []
-    → IsRegistryOf cmp [] registry
-nothing_registered {P} cmp registry no_sides no_senders no_receivers no_pairs = record {
-  sides_are = ap (map side_of) no_sides;
-  numbers_are = λ s n. (
-    λ (e : number_of cmp registry s ≡ Some n). let none = no_number s in cc,
-    λ i. absurd (omega (arith, i.within)),
-  );
-}
-  where
-    no_number : (s : Subject P) → number_of cmp registry s ≡ None
-    no_number (sent_by p) = ap (lookup (λ other. same_peer cmp p other.now)) no_senders
-    no_number (received_by p) = ap (lookup (λ other. same_peer cmp p other.now)) no_receivers
-    no_number (sent_between p q) =
-        ap (lookup (λ other. same_peer cmp p other.0.now && same_peer cmp q other.1.now)) no_pairs
+-- equal subjects have one number
+number_congr : {P : Type 0} (cmp : P → P → Ordering) (o : IsTotalOrder cmp) (registry : Registry P) (s t : Subject P)
+    → same_subject cmp s t ≡ true → number_of cmp registry s ≡ number_of cmp registry t
+number_congr cmp o registry (sent_by p) (sent_by q) e =
+    lookup_agrees _ _ registry.senders.entries (λ other. peer_congr cmp o p q other.now e)
+number_congr cmp o registry (received_by p) (received_by q) e =
+    lookup_agrees _ _ registry.receivers.entries (λ other. peer_congr cmp o p q other.now e)
+number_congr cmp o registry (sent_between p q) (sent_between r s) e =
+    lookup_agrees _ _ registry.pairs.entries
+    (λ other. same_congr cmp o (sent_between p q) (sent_between r s) (sent_between other.0.now other.1.now) e)
+number_congr cmp o registry s t e = cc e
 
--- so each number that the registry finds is that of a side
-pub finds_sides : {P : Type 0} (cmp : P → P → Ordering) (o : IsTotalOrder cmp) (asks : List (Ask P))
-    (registry : Registry P)
-    → IsRegistryOf cmp asks registry → FindsSides cmp registry
-finds_sides cmp o asks registry h s n e =
-    let within = in_range cmp o asks registry.sides.items (number_of cmp registry) h s n e in
-    omega (arith, registry.sides.ok.0, within)
+-- so each number that the registry finds is that of a side, and the subject kept for a side has its number
+module _ {P : Type 0} (cmp : P → P → Ordering) (o : IsTotalOrder cmp) (asks : List (Ask P)) (registry : Registry P)
+    (h : IsRegistryOf cmp asks registry) where
+  abbrev kept : List (declared.Subject P)
+  kept = registry.subjects.items
+
+  abbrev names : List (Subject P)
+  names = map subject_of kept
+
+  names_all : length names ≡ length kept
+  names_all = length-map kept subject_of
+
+  names_open : length names ≡ length (subjects_after cmp [] asks)
+  names_open = ap length h.names_are
+
+  sides_open : length registry.sides.items ≡ length (subjects_after cmp [] asks)
+  sides_open =
+      as_many cmp o asks registry.sides.items names (number_of cmp registry) h
+      ∙ sym (as_many_subjects cmp o asks registry.sides.items names (number_of cmp registry) h)
+
+  named_at : (n : ℕ) → n < length kept → (d : declared.Subject P)
+      → number_of cmp registry (subject_of (get_or kept n d)) ≡ Some n
+  named_at n below d =
+      let s = subject_of (get_or kept n d) in
+      let within : n < length (subjects_after cmp [] asks) = omega (arith, names_all, names_open) in
+      (h.numbers_are s n).1
+      (record {
+        within = within;
+        same = λ u.
+            ap (same_subject cmp s)
+            (get_or_default (subjects_after cmp [] asks) n u (subject_of d) within
+            ∙ ap (λ us. get_or us n (subject_of d)) (sym h.names_are)
+            ∙ get_or-map subject_of kept n d (subject_of d) below)
+            ∙ same_itself cmp o s;
+      })
+
+  pub finds_sides : FindsSides cmp registry
+  finds_sides = record {
+    within = λ s n e.
+        let i = in_range cmp o asks registry.sides.items names (number_of cmp registry) h s n e in
+        omega (arith, registry.sides.ok.0, i);
+    as_many = omega (arith, registry.sides.ok.0, registry.subjects.ok.0, names_all, names_open, sides_open);
+    named = λ n below d. named_at n (omega (arith, registry.subjects.ok.0)) d;
+  }
 
 -- the numbers, when a subject gets one: it is that of the side that is new
-pub finds_more : {P : Type 0} (cmp : P → P → Ordering) (old new : Registry P) (s : Subject P) (n : ℕ)
-    → HasNumber cmp s n old new → (sides sides' : ℕ) → n ≡ sides → sides' ≡ sides + 1
-    → ((q : Subject P) (m : ℕ) → number_of cmp old q ≡ Some m → m < sides) → (q : Subject P) (m : ℕ)
-    → number_of cmp new q ≡ Some m → m < sides'
-finds_more cmp old new s n has sides sides' last more finds q m e = by (same_subject cmp s q) refl
+pub finds_more : {P : Type 0} (cmp : P → P → Ordering) (o : IsTotalOrder cmp) (old new : Registry P)
+    (s : declared.Subject P) (n : ℕ)
+    → HasNumber cmp (subject_of s) n old new → n ≡ vec_len old.sides → vec_len new.sides ≡ vec_len old.sides + 1
+    → new.subjects.items ≡ old.subjects.items ++ s ∷ [] → number_of cmp old (subject_of s) ≡ None
+    → FindsSides cmp old → FindsSides cmp new
+finds_more {P} cmp o old new s n has last more names none finds = record {
+  within = λ q m e. within q m e (same_subject cmp (subject_of s) q) refl;
+  as_many = omega (arith, old.subjects.ok.0, new.subjects.ok.0, longer, finds.as_many);
+  named = λ m below d. ⊎_elim
+      (λ early.
+      let kept : number_of cmp old (subject_of (get_or old.subjects.items m d)) ≡ Some m = finds.named m early d in
+      ap (λ k. number_of cmp new (subject_of k))
+      (ap (λ ks. get_or ks m d) names
+      ∙ get_or_append_left old.subjects.items (s ∷ []) d m (omega (arith, old.subjects.ok.0)))
+      ∙ stays (subject_of (get_or old.subjects.items m d)) m kept
+      (same_subject cmp (subject_of s) (subject_of (get_or old.subjects.items m d))) refl)
+      (λ late.
+      let end : length old.subjects.items ≡ m = omega (arith, old.subjects.ok.0, new.subjects.ok.0, longer) in
+      ap (λ k. number_of cmp new (subject_of k))
+      (ap (λ ks. get_or ks m d) names ∙ get_or_push old.subjects.items s d m end)
+      ∙ has (subject_of s)
+      ∙ ap (λ b. cond b (Some n) (number_of cmp old (subject_of s))) (same_itself cmp o (subject_of s))
+      ∙ ap Some (let it : n ≡ m = omega (arith, old.subjects.ok.0, finds.as_many) in it))
+      (cases_lt m (vec_len old.subjects));
+}
   where
-    by : (b : Bool) → same_subject cmp s q ≡ b → m < sides'
-    by true same =
+    longer : length new.subjects.items ≡ length old.subjects.items + 1
+    longer = ap length names ∙ length_push old.subjects.items s
+
+    within : (q : Subject P) (m : ℕ) → number_of cmp new q ≡ Some m → (b : Bool)
+        → same_subject cmp (subject_of s) q ≡ b → m < vec_len new.sides
+    within q m e true same =
         let it : n ≡ m = same_Some n m (sym (has q ∙ ap (λ b. cond b (Some n) (number_of cmp old q)) same) ∙ e) in
         omega arith
-    by false apart =
-        let it : m < sides = finds q m (sym (has q ∙ ap (λ b. cond b (Some n) (number_of cmp old q)) apart) ∙ e) in
+    within q m e false apart =
+        let it : m < vec_len old.sides =
+        finds.within q m (sym (has q ∙ ap (λ b. cond b (Some n) (number_of cmp old q)) apart) ∙ e) in
         omega arith
+
+    stays : (q : Subject P) (m : ℕ) → number_of cmp old q ≡ Some m → (b : Bool)
+        → same_subject cmp (subject_of s) q ≡ b → number_of cmp new q ≡ Some m
+    stays q m e true same =
+        let it : number_of cmp old q ≡ None = sym (number_congr cmp o old (subject_of s) q same) ∙ none in cc
+    stays q m e false apart = has q ∙ ap (λ b. cond b (Some n) (number_of cmp old q)) apart ∙ e
 
 none_from : (answer : Option ℕ) → is_some answer ≡ false → answer ≡ None
 none_from None e = refl
@@ -399,7 +463,8 @@ pub no_pair : {P : Type 0} (cmp : P → P → Ordering) (o : IsTotalOrder cmp) (
     → Registers cmp (record { place = place; subject = sent_between p q; answer = answer } ∷ []) registry registry
 no_pair cmp o registry place p q answer unanswered empty finds = record {
   asked = λ asks h.
-      absent cmp o asks registry.sides.items (number_of cmp registry) h (sent_between p q) place answer
+      absent cmp o asks registry.sides.items (map subject_of registry.subjects.items) (number_of cmp registry) h
+      (sent_between p q) place answer
       (none_from answer unanswered)
       (ap (lookup (λ other. same_peer cmp p other.0.now && same_peer cmp q other.1.now))
       (nil_from_length registry.pairs.entries empty));

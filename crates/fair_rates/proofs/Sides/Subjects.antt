@@ -16,7 +16,7 @@ module _ {P : Type 0} (cmp : P → P → Ordering) (o : IsTotalOrder cmp) where
   pub peer_sym : (p q : P) → same_peer cmp p q ≡ same_peer cmp q p
   peer_sym p q = ap is_eq (o.antisymm p q) ∙ reversed (cmp q p)
 
-  peer_congr : (p q r : P) → same_peer cmp p q ≡ true → same_peer cmp p r ≡ same_peer cmp q r
+  pub peer_congr : (p q r : P) → same_peer cmp p q ≡ true → same_peer cmp p r ≡ same_peer cmp q r
   peer_congr p q r e = (eq_by_cmp_equiv o).congr p q r e
 
   pub same_symm : (s t : Subject P) → same_subject cmp s t ≡ same_subject cmp t s

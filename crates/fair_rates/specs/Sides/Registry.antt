@@ -43,19 +43,24 @@ module _ {P : Type 0} (cmp : P → P → Ordering) where
     pub within : number < length subjects
     pub same : HoldsAt (λ other. same_subject cmp s other ≡ true) subjects number
 
-  -- the sides are those that the asks make, and each is found by its subject
-  pub record AreRegistered (asks : List (Ask P)) (sides : List declared_side.Side)
+  -- the sides are those that the asks make, the names are their subjects, and each is found by its subject
+  pub record AreRegistered (asks : List (Ask P)) (sides : List declared_side.Side) (names : List (Subject P))
       (number : Subject P → Option ℕ) : Type 0 where
     pub sides_are : map side_of sides ≡ sides_after cmp [] asks
+    pub names_are : names ≡ subjects_after [] asks
     pub numbers_are : (s : Subject P) (n : ℕ) → (number s ≡ Some n) ↔ IsNumberOf (subjects_after [] asks) s n
 
   -- so it is in the registry
   abbrev pub IsRegistryOf : List (Ask P) → Registry P → Type 0
-  IsRegistryOf asks registry = AreRegistered asks registry.sides.items (number_of registry)
+  IsRegistryOf asks registry =
+      AreRegistered asks registry.sides.items (map subject_of registry.subjects.items) (number_of registry)
 
-  -- a number that the registry finds is that of a side
-  abbrev pub FindsSides : Registry P → Type 0
-  FindsSides registry = (s : Subject P) (n : ℕ) → number_of registry s ≡ Some n → n < vec_len registry.sides
+  -- a number that the registry finds is that of a side, and the subject that is kept for a side has its number
+  pub record FindsSides (registry : Registry P) : Type 0 where
+    pub within : (s : Subject P) (n : ℕ) → number_of registry s ≡ Some n → n < vec_len registry.sides
+    pub as_many : vec_len registry.subjects ≡ vec_len registry.sides
+    pub named : (n : ℕ) → n < vec_len registry.subjects
+        → HoldsAt (λ s. number_of registry (subject_of s) ≡ Some n) registry.subjects.items n
 
 -- these asks were made after those before
 pub record Registers {P : Type 0} (cmp : P → P → Ordering) (more : List (Ask P)) (old new : Registry P) : Type 0 where

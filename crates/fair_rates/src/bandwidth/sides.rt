@@ -1,9 +1,9 @@
 //! What limits flows: the sides that the caps make.
-ghost use Rattle.std.specs.Prelude.{◌≡◌, OnOk, ◌<◌, [], ◌∷◌, List, Some, IfOk, IfErr, map, All, AllPairs, length};
+ghost use Rattle.std.specs.Prelude.{◌≡◌, OnOk, ◌<◌, [], ◌∷◌, List, Some, IfOk, IfErr, map, All, AllPairs, length, true};
 ghost use Rattle.std.specs.Fn.{CalledAt, TakesAt, CalledAtTwo, TakesAtTwo};
 ghost use Rattle.fair_rates.specs.Sides.Answers.{Answered, AnswerInOrder, CallableOnEach, CallableOnEachPair, origins};
 ghost use Rattle.fair_rates.specs.Sides.Answers.{recipients, pairs, answered_by, answered_of};
-ghost use Rattle.fair_rates.specs.Sides.Subjects.{sides_of, asks_of_one, sent_between};
+ghost use Rattle.fair_rates.specs.Sides.Subjects.{sides_of, asks_of_one, sent_between, same_subject};
 ghost use Rattle.fair_rates.specs.Sides.SideOf.{side_of};
 ghost use Rattle.fair_rates.specs.Sides.Registry.{FindsSides, Registers, subject_of};
 
@@ -33,11 +33,60 @@ enum Subject<'a, P> {
     SentBetween(&'a P, &'a P),
 }
 
-/// The sides that have come into being, and the number of each, its place among them, by its
-/// subject: there is a map for each kind, which is by peers alone and has no kind to compare.
+impl<'a, P: Peer> Subject<'a, P> {
+    /// Whether the sides of the two are one.
+    fn is_same(&self, other: &Subject<'a, P>) -> bool
+        ensures { result ≡ same_subject P.cmp (subject_of self.now) (subject_of other.now) }
+    {
+        match (self, other) {
+            (Subject::SentBy(one), Subject::SentBy(two)) => one.cmp(two).is_eq(),
+            (Subject::ReceivedBy(one), Subject::ReceivedBy(two)) => one.cmp(two).is_eq(),
+            (
+                Subject::SentBetween(origin, recipient),
+                Subject::SentBetween(other_origin, other_recipient),
+            ) => origin.cmp(other_origin).is_eq() && recipient.cmp(other_recipient).is_eq(),
+            _ => false,
+        }
+    }
+}
+
+/// The numbers of the sides that flows asked for last, of each kind.
+#[derive(Drop)]
+struct Latest {
+    sender: usize,
+    recipient: usize,
+    link: usize,
+}
+
+impl Latest {
+    /// A guess at the number of the side of the subject. Flows of one sender mostly follow one
+    /// another, and senders mostly have the same recipients in one order.
+    fn guess<P>(&self, subject: &Subject<P>) -> usize {
+        match subject {
+            Subject::SentBy(_) => self.sender,
+            Subject::ReceivedBy(_) => self.recipient.wrapping_add(1),
+            Subject::SentBetween(_, _) => self.link.wrapping_add(1),
+        }
+    }
+
+    /// Notes the number of the side that was asked for.
+    fn note<P>(&mut self, subject: &Subject<P>, number: usize) {
+        match subject {
+            Subject::SentBy(_) => self.sender = number,
+            Subject::ReceivedBy(_) => self.recipient = number,
+            Subject::SentBetween(_, _) => self.link = number,
+        }
+    }
+}
+
+/// The sides that have come into being, with the subject of each, and the number of each, its place
+/// among them, by its subject: there is a map for each kind, which is by peers alone and has no kind
+/// to compare.
 #[derive(Drop)]
 struct Registry<'a, P: Ord> {
     sides: Vec<Side>,
+    subjects: Vec<Subject<'a, P>>,
+    latest: Latest,
     senders: BTreeMap<&'a P, usize>,
     receivers: BTreeMap<&'a P, usize>,
     pairs: BTreeMap<(&'a P, &'a P), usize>,
@@ -52,14 +101,47 @@ impl<'a, P: Peer> Registry<'a, P> {
     {
         Registry {
             sides: Vec::new(alloc),
+            subjects: Vec::new(alloc),
+            latest: Latest {
+                sender: 0,
+                recipient: 0,
+                link: 0,
+            },
             senders: BTreeMap::new(alloc),
             receivers: BTreeMap::new(alloc),
             pairs: BTreeMap::new(alloc),
         }
     }
 
-    /// The number of the side of the subject, if there is one.
-    fn number(&self, subject: &Subject<'a, P>) -> Option<usize>
+    /// Whether the side of that number is the one of the subject.
+    fn has(&self, number: usize, subject: &Subject<'a, P>) -> bool
+        requires { FindsSides P.cmp self.now }
+        ensures { result ≡ true → number_of P.cmp self.now (subject_of subject.now) ≡ Some number }
+    {
+        match self.subjects.get(number) {
+            Some(kept) => kept.is_same(subject),
+            None => false,
+        }
+    }
+
+    /// The number of the side of the subject, if there is one. Where it is the guess or the next
+    /// number, no map is searched.
+    fn number(&self, subject: &Subject<'a, P>, guess: usize) -> Option<usize>
+        requires { FindsSides P.cmp self.now }
+        ensures { result ≡ number_of P.cmp self.now (subject_of subject.now) }
+    {
+        let next = guess.wrapping_add(1);
+        if self.has(guess, subject) {
+            Some(guess)
+        } else if self.has(next, subject) {
+            Some(next)
+        } else {
+            self.find(subject)
+        }
+    }
+
+    /// The number of the side of the subject, if there is one, as the map for its kind has it.
+    fn find(&self, subject: &Subject<'a, P>) -> Option<usize>
         ensures { result ≡ number_of P.cmp self.now (subject_of subject.now) }
     {
         match subject {
@@ -72,16 +154,17 @@ impl<'a, P: Peer> Registry<'a, P> {
     }
 
     /// Notes the number of the side of the subject.
-    fn set_number(&mut self, subject: Subject<'a, P>, number: usize) -> Result<(), Error>
-        ensures numbers { OnOk result (HasNumber P.cmp (subject_of subject.entry) number self.old self.new) }
+    fn set_number(&mut self, subject: &Subject<'a, P>, number: usize) -> Result<(), Error>
+        ensures numbers { OnOk result (HasNumber P.cmp (subject_of subject.now) number self.old self.new) }
         ensures sides { self.new.sides ≡ self.old.sides }
+        ensures subjects { self.new.subjects ≡ self.old.subjects }
         ensures refused { IfErr result (λ e. e ≡ Error.OutOfMemory) }
     {
         match subject {
             Subject::SentBy(peer) => self.senders.insert(peer, number)?,
             Subject::ReceivedBy(peer) => self.receivers.insert(peer, number)?,
             Subject::SentBetween(origin, recipient) => {
-                self.pairs.insert((origin, recipient), number)?
+                self.pairs.insert((*origin, *recipient), number)?
             }
         };
         Ok(())
@@ -102,7 +185,9 @@ fn register<'a, P: Peer>(
         registry.old registry.new) }
     ensures refused { IfErr result (λ e. e ≡ Error.OutOfMemory) }
 {
-    if let Some(number) = registry.number(&subject) {
+    let guess = registry.latest.guess(&subject);
+    if let Some(number) = registry.number(&subject, guess) {
+        registry.latest.note(&subject, number);
         registry.sides[number].users.push(place)?;
         return Ok(());
     }
@@ -113,7 +198,10 @@ fn register<'a, P: Peer>(
     users.push(place)?;
     let number = registry.sides.len();
     registry.sides.push(Side { cap, users })?;
-    registry.set_number(subject, number)
+    registry.latest.note(&subject, number);
+    registry.set_number(&subject, number)?;
+    registry.subjects.push(subject)?;
+    Ok(())
 }
 
 /// Registers that the flow at `place` asks for the side of its link. Where no link has a cap, there

@@ -1,12 +1,13 @@
-use Rattle.std.proofs.Common.{sym, ◌∙◌, ◌≡◌, refl, ap, length, vec_len, Some, None, ◌++◌, ◌∷◌, []}
-use Rattle.std.proofs.lemmas.Result.{on_ok_weaker}
-use Rattle.fair_rates.specs.Sides.Registry.{subject_of, number_of}
+use Rattle.std.proofs.Common.{sym, ◌∙◌, ◌≡◌, refl, ap, length, vec_len, map, Some, None, ◌++◌, ◌∷◌, []}
+use Rattle.std.proofs.lemmas.List.{map-append}
+use Rattle.fair_rates.specs.declared.bandwidth.sides.Registry.{Registry}
+use Rattle.fair_rates.specs.Sides.Registry.{subject_of, number_of, HasNumber}
 use Rattle.fair_rates.proofs.Sides.Registry.{found, absent, opens, finds_more}
 use Rattle.fair_rates.proofs.bandwidth.sides.register.Goals as goal
 
 pub index_mut-requires : goal.index_mut-requires
 index_mut-requires g c =
-    c.requires (subject_of c.args.subject) c.in-Some.number (sym c.number.ensures ∙ c.in-Some.is)
+    c.requires.within (subject_of c.args.subject) c.in-Some.number (sym c.number.ensures ∙ c.in-Some.is)
 
 pub returns-in-Some : goal.returns-in-Some
 returns-in-Some g c =
@@ -16,10 +17,10 @@ returns-in-Some g c =
     record {
       registers = record {
         asked = λ asks h.
-            found g.P.Ord.cmp g.met.P.Ord.total asks old.sides.items (number_of g.P.Ord.cmp old) h s c.args.place
-            c.args.answer c.in-Some.number c.index_mut.result.now _ _ is c.index_mut.ensures.value refl refl
-            c.in_ok-push.ensures.items;
-        finds = c.requires;
+            found g.P.Ord.cmp g.met.P.Ord.total asks old.sides.items (map subject_of old.subjects.items)
+            (number_of g.P.Ord.cmp old) h s c.args.place c.args.answer c.in-Some.number c.index_mut.result.now _ _ is
+            c.index_mut.ensures.value refl refl c.in_ok-push.ensures.items;
+        finds = record { within = c.requires.within; as_many = c.requires.as_many; named = c.requires.named };
       };
       refused = tt;
     }
@@ -32,9 +33,9 @@ returns-in_default-answer g c =
     record {
       registers = record {
         asked = λ asks h.
-            absent g.P.Ord.cmp g.met.P.Ord.total asks old.sides.items (number_of g.P.Ord.cmp old) h s c.args.place
-            c.args.answer c.in_default-answer.is none;
-        finds = c.requires;
+            absent g.P.Ord.cmp g.met.P.Ord.total asks old.sides.items (map subject_of old.subjects.items)
+            (number_of g.P.Ord.cmp old) h s c.args.place c.args.answer c.in_default-answer.is none;
+        finds = record { within = c.requires.within; as_many = c.requires.as_many; named = c.requires.named };
       };
       refused = tt;
     }
@@ -43,24 +44,28 @@ pub returns-clause-registers : goal.returns-clause-registers
 returns-clause-registers g c =
     let cmp = g.P.Ord.cmp in
     let old = c.args.registry.now in
-    let new = c.set_number.new.self in
+    let numbered = c.set_number.new.self in
+    let new : Registry g.row.P.Denot = record numbered { subjects = c.push-4.new.self } in
     let s = subject_of c.args.subject in
     let n = c.len-number.result in
     let last : n ≡ length old.sides.items = c.len-number.ensures ∙ old.sides.ok.0 in
     let none : number_of cmp old s ≡ None = sym c.number.ensures ∙ c.in_default.is in
     let users : c.push-2.new.self.items ≡ c.args.place ∷ [] =
     c.in_ok-push-2.ensures.items ∙ ap (λ us. us ++ c.args.place ∷ []) c.in_ok-users.ensures.items in
-    let sides : new.sides.items ≡ old.sides.items ++ record { cap = c.in-Some-answer.cap; users = c.push-2.new.self } ∷ [] =
+    let sides : new.sides.items
+    ≡ old.sides.items ++ record { cap = c.in-Some-answer.cap; users = c.push-2.new.self } ∷ [] =
     ap (λ v. v.items) c.set_number.ensures.sides ∙ c.in_ok-push-3.ensures.items in
-    on_ok_weaker c.set_number.result
-    (λ numbers.
+    let kept : new.subjects.items ≡ old.subjects.items ++ c.args.subject ∷ [] =
+    c.in_ok-push-4.ensures.items ∙ ap (λ v. v.items ++ c.args.subject ∷ []) c.set_number.ensures.subjects in
+    let numbers : HasNumber cmp s n old new = c.in_ok-set_number.ensures.numbers in
     record {
       asked = λ asks h.
-          opens cmp g.met.P.Ord.total asks old.sides.items (number_of cmp old) h s c.args.place
-          c.args.answer c.in-Some-answer.cap _ _ (number_of cmp new) c.in-Some-answer.is none sides refl users n last
-          numbers;
+          opens cmp g.met.P.Ord.total asks old.sides.items (map subject_of old.subjects.items) (number_of cmp old) h s
+          c.args.place c.args.answer c.in-Some-answer.cap _ _ (map subject_of new.subjects.items) (number_of cmp new)
+          c.in-Some-answer.is none sides refl users
+          (ap (map subject_of) kept ∙ map-append subject_of old.subjects.items (c.args.subject ∷ []))
+          n last numbers;
       finds =
-          finds_more cmp old new s n numbers (vec_len old.sides) (vec_len new.sides) c.len-number.ensures
-          (ap (λ v. vec_len v) c.set_number.ensures.sides ∙ c.in_ok-push-3.ensures.len) c.requires;
-    })
-    c.set_number.ensures.numbers
+          finds_more cmp g.met.P.Ord.total old new c.args.subject n numbers c.len-number.ensures
+          (ap (λ v. vec_len v) c.set_number.ensures.sides ∙ c.in_ok-push-3.ensures.len) kept none c.requires;
+    }
