@@ -10,11 +10,14 @@ ghost use Rattle.fair_rates.specs.Sides.Registry.{FindsSides, Registers, subject
 use crate::bandwidth::{CappedFlow, Flow, FlowCaps};
 use crate::error::Error;
 use crate::peer::Peer;
-use std::alloc::Global;
+use std::alloc::{AllocError, Global};
 use std::collections::BTreeMap;
 
 /// A new side has room for so many users, before its list has to move.
 const FEW_USERS: usize = 16;
+
+/// There is room for so many sides, before their list has to move.
+const FEW_SIDES: usize = 16;
 
 /// What limits some flows together: its cap in bytes a second, and the places of those flows in
 /// the list, in its order.
@@ -96,12 +99,12 @@ impl<'a, P: Peer> Registry<'a, P> {
     ghost use Rattle.fair_rates.specs.Sides.Registry.{IsRegistryOf, HasNumber, number_of};
 
     /// No flow has asked yet.
-    fn new(alloc: Global) -> Registry<'a, P>
-        ensures { IsRegistryOf P.cmp [] result }
+    fn new(alloc: Global) -> Result<Registry<'a, P>, AllocError>
+        ensures { IfOk result (IsRegistryOf P.cmp []) }
     {
-        Registry {
-            sides: Vec::new(alloc),
-            subjects: Vec::new(alloc),
+        Ok(Registry {
+            sides: Vec::with_capacity(alloc, FEW_SIDES)?,
+            subjects: Vec::with_capacity(alloc, FEW_SIDES)?,
             latest: Latest {
                 sender: 0,
                 recipient: 0,
@@ -110,7 +113,7 @@ impl<'a, P: Peer> Registry<'a, P> {
             senders: BTreeMap::new(alloc),
             receivers: BTreeMap::new(alloc),
             pairs: BTreeMap::new(alloc),
-        }
+        })
     }
 
     /// Whether the side of that number is the one of the subject.
@@ -275,7 +278,7 @@ where
     ensures users_rise { IfOk result (λ sides. All (λ side. AllPairs (λ a b. a < b) side.users.items) sides.items) }
     ensures refused { IfErr result (λ e. e ≡ Error.OutOfMemory) }
 {
-    let mut registry = Registry::new(alloc);
+    let mut registry = Registry::new(alloc)?;
     for (place, flow) in flows.iter().enumerate() {
         let egress = egress_cap(&flow.origin);
         let ingress = if flow.delivered {
@@ -304,7 +307,7 @@ pub(crate) fn sides_of_capped<P: Peer>(
         (λ side. All (λ flow. flow < length flows.now) side.users.items) sides.items) }
     ensures refused { IfErr result (λ e. e ≡ Error.OutOfMemory) }
 {
-    let mut registry = Registry::new(alloc);
+    let mut registry = Registry::new(alloc)?;
     for (place, one) in flows.iter().enumerate() {
         register_flow(alloc, &mut registry, place, &one.flow, one.caps)?;
     }

@@ -15,7 +15,7 @@ loop-place-init g c = record {
   egress = c.requires.egress;
   ingress = c.requires.ingress;
   link = c.requires.link;
-  passed = record { answered = []; count = refl; flows_are = refl; calls = refl; registered = c.new-registry.ensures };
+  passed = record { answered = []; count = refl; flows_are = refl; calls = refl; registered = c.in_ok-registry.ensures };
 }
 
 pub register_flow-requires : goal.register_flow-requires
