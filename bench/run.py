@@ -121,7 +121,8 @@ def main():
     program, *names = sys.argv[1:]
     at_once = names.pop(0) if names and "/" in names[0] else None
     names = names or [name for name in workloads.SCRIPTS if name not in LONG]
-    print(f"{'work':>22} {'pieces':>7} {'seconds':>8} {'us a piece':>11} {'original':>9} {'times as fast':>14} {'MB':>6}")
+    print(f"{'work':>22} {'pieces':>7} {'seconds':>8} {'us a piece':>11} "
+          f"{'original':>9} {'times as fast':>14} {'MB':>6}")
     took = {}
     with tempfile.TemporaryDirectory() as folder:
         for name in names:

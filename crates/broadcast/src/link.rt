@@ -1,4 +1,8 @@
 //! From whom to whom messages go, and how long they take.
+ghost use Rattle.std.specs.Prelude.{◌≡◌, IfOk};
+ghost use Rattle.std.specs.List.{All};
+ghost use Rattle.link_scheduler.specs.Calls.State.{outgoing};
+ghost use Rattle.broadcast.specs.Links.{IsLinkOf, message_over};
 
 use crate::chance::Chance;
 use bytes::Bytes;
@@ -20,7 +24,9 @@ pub struct Link {
 
 impl Link {
     /// A message over this link.
-    pub fn message(&self, channel: u64, bytes: Bytes) -> Outgoing<u64> {
+    pub fn message(&self, channel: u64, bytes: Bytes) -> Outgoing<u64>
+        ensures { outgoing result ≡ message_over self.now channel bytes }
+    {
         Outgoing {
             origin: self.origin,
             recipient: self.recipient,
@@ -34,7 +40,9 @@ impl Link {
 
 /// Draws the latency from each peer to each, and answers the links between different ones: by
 /// origin, and then by recipient.
-pub fn draw_links(alloc: Global, chance: &mut Chance, peers: u64) -> Result<Vec<Link>, Error> {
+pub fn draw_links(alloc: Global, chance: &mut Chance, peers: u64) -> Result<Vec<Link>, Error>
+    ensures between { IfOk result (λ links. All (IsLinkOf peers) links.items) }
+{
     let mut links = Vec::new(alloc);
     for origin in 0..peers {
         for recipient in 0..peers {

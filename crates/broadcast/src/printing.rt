@@ -1,4 +1,7 @@
 //! What is printed: the lines of `linkrun`.
+ghost use Rattle.std.specs.Prelude.{OnOk};
+ghost use Rattle.std.specs.Io.KnownBytes.{Appends};
+ghost use Rattle.broadcast.specs.Lines.{done_line, done_text, next_line};
 
 use link_scheduler::transmitter::Completion;
 use std::io;
@@ -8,7 +11,9 @@ use std::io::Write;
 pub fn print_completions<W: Write>(
     output: &mut W,
     completions: &[Completion<u64>],
-) -> io::Result<()> {
+) -> io::Result<()>
+    ensures { OnOk result (Appends (W.contents output.old) (W.contents output.new) (done_text completions.now)) }
+{
     for completion in completions {
         print_completion(output, completion)?;
     }
@@ -16,7 +21,9 @@ pub fn print_completions<W: Write>(
 }
 
 /// Prints what became of a message.
-fn print_completion<W: Write>(output: &mut W, completion: &Completion<u64>) -> io::Result<()> {
+fn print_completion<W: Write>(output: &mut W, completion: &Completion<u64>) -> io::Result<()>
+    ensures { OnOk result (Appends (W.contents output.old) (W.contents output.new) (done_line completion.now)) }
+{
     let origin = completion.origin;
     let recipient = completion.recipient;
     let channel = completion.channel;
@@ -28,7 +35,9 @@ fn print_completion<W: Write>(output: &mut W, completion: &Completion<u64>) -> i
 }
 
 /// Prints the moment of the next event.
-pub fn print_next<W: Write>(output: &mut W, moment: Option<u64>) -> io::Result<()> {
+pub fn print_next<W: Write>(output: &mut W, moment: Option<u64>) -> io::Result<()>
+    ensures { OnOk result (Appends (W.contents output.old) (W.contents output.new) (next_line moment)) }
+{
     match moment {
         Some(moment) => writeln!(output, "next {moment}"),
         None => writeln!(output, "next -"),

@@ -1,5 +1,6 @@
 //! What is sent in the workload.
-ghost use Rattle.std.specs.Prelude.{◌≡◌, length};
+ghost use Rattle.std.specs.Prelude.{◌≡◌, length, IfOk};
+ghost use Rattle.std.specs.List.{AllZip};
 
 use crate::chance::Chance;
 use crate::link::{Link, draw_links};
