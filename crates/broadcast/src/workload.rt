@@ -1,6 +1,7 @@
 //! What is sent in the workload.
 ghost use Rattle.std.specs.Prelude.{◌≡◌, length, IfOk};
 ghost use Rattle.std.specs.List.{AllZip};
+ghost use Rattle.broadcast.specs.Links.{IsVoteOver};
 
 use crate::chance::Chance;
 use crate::link::{Link, draw_links};
@@ -51,7 +52,9 @@ impl Workload {
         alloc: Global,
         chance: &mut Chance,
         leader: u64,
-    ) -> Result<Vec<Outgoing<u64>>, Error> {
+    ) -> Result<Vec<Outgoing<u64>>, Error>
+        ensures over { IfOk result (λ votes. AllZip (IsVoteOver leader) self.now.links.items votes.items) }
+    {
         let mut votes = Vec::with_capacity(alloc, self.links.len())?;
         for link in &self.links {
             let length = chance.between(SHORTEST_VOTE, LONGEST_VOTE);
