@@ -23,6 +23,11 @@ bin/linkdraw: FORCE
 	cd crates/linkdraw && rt run < /dev/null > /dev/null
 	cp crates/linkdraw/out/linkdraw bin/linkdraw
 
+bin/broadcast: FORCE
+	@mkdir -p bin
+	cd crates/broadcast && rt run -- 2 > /dev/null
+	cp crates/broadcast/out/broadcast bin/broadcast
+
 # The gate: every proof from nothing, the edits that must fail, the tests and the program. What stood in out/ before, it
 # puts back: the libraries of a gate before this one, which have no stamp, go first, so that those of this one stay.
 test:
@@ -55,8 +60,8 @@ bindings:
 	@bindings/check.sh
 
 # Times of one allocation and of one message beside those of the Rust original. `make bench work="NAME .."` runs those alone.
-bench: bin/linkrun
-	python3 bench/run.py bin/linkrun $(work)
+bench: bin/linkrun bin/broadcast
+	python3 bench/run.py bin/linkrun bin/broadcast $(work)
 
 # Refuses allocations, reads and writes one by one, and runs bad scripts. Takes a minute or two (docs/HOSTILE.md).
 hostile: bin/linkrun bin/refuse.so

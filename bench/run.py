@@ -3,6 +3,9 @@
     python3 bench/run.py bin/linkrun          all of it but what takes minutes
     python3 bench/run.py bin/linkrun NAME..   those workloads, also long ones (`bench/workloads.py` tells what they are)
 
+Where `bin/broadcast`, with a slash, stands after `bin/linkrun`, each `broadcast-N` has a second row, `at once`: that
+program prints the same for N, and asks the scheduler by one call for all that is sent at one moment.
+
 Each script is run three times (once where it takes more than ten seconds), and the least time is divided by the number
 of its allocations or messages, printing included. The original's figures were measured once, on a machine of four cores
 at 2.5 GHz on which other work ran: they move by a factor of two. `-` is not measured. Of a script whose messages are
@@ -26,15 +29,16 @@ ORIGINAL = {
 }
 LONG = {"broadcast-64", "broadcast-100", "mixed-64", "mixed-100", "groups-256-20000"}
 BESIDE = {"idle-1000": "idle-100", "idle-10000": "idle-100", "kept-100000": "kept-10"}
+AT_ONCE = ", at once"
 RUNS, SLOW = 3, 10
 
 
-def run(program, script):
+def run(command, script):
     """The seconds that a run takes, and the most memory that it was seen to hold, in megabytes."""
     most = 0
     with open(script) as lines, open(os.devnull, "w") as nowhere:
         start = time.perf_counter()
-        child = subprocess.Popen([program], stdin=lines, stdout=nowhere)
+        child = subprocess.Popen(command, stdin=lines, stdout=nowhere)
         while True:
             most = max(most, memory_of(child.pid))
             try:
@@ -44,8 +48,16 @@ def run(program, script):
                 pass
         took = time.perf_counter() - start
     if child.returncode:
-        sys.exit(f"{program} ended with {child.returncode}")
+        sys.exit(f"{command[0]} ended with {child.returncode}")
     return took, most
+
+
+def run_again(command, script):
+    """The least seconds of some runs, and the memory of the first."""
+    least, memory = run(command, script)
+    for _ in range(RUNS - 1 if least < SLOW else 0):
+        least = min(least, run(command, script)[0])
+    return least, memory
 
 
 def run_in_two(program, beginning, rest):
@@ -85,8 +97,8 @@ def pieces_in(name, lines):
     return sum(line.startswith(wanted) for line in lines)
 
 
-def measured(program, name, folder):
-    """The parts of a script: what each is called, its pieces, the least seconds that it took, and the memory."""
+def measured(program, at_once, name, folder):
+    """The parts of a workload: what each is called, its pieces, the least seconds that it took, and the memory."""
     lines, beginning = list(workloads.lines_of(name)), list(workloads.beginning_of(name))
     if beginning:
         parts = [*beginning, "next"], lines[len(beginning):]
@@ -99,23 +111,26 @@ def measured(program, name, folder):
     script = os.path.join(folder, name)
     with open(script, "w") as file:
         file.writelines(line + "\n" for line in lines)
-    least, memory = run(program, script)
-    for _ in range(RUNS - 1 if least < SLOW else 0):
-        least = min(least, run(program, script)[0])
-    yield name, pieces_in(name, lines), least, memory
+    yield name, pieces_in(name, lines), *run_again([program], script)
+    if at_once and name.startswith("broadcast"):
+        peers = name.removeprefix("broadcast-")
+        yield name + AT_ONCE, pieces_in(name, lines), *run_again([at_once, peers], os.devnull)
 
 
 def main():
-    program, names = sys.argv[1], sys.argv[2:] or [name for name in workloads.SCRIPTS if name not in LONG]
-    print(f"{'work':>18} {'pieces':>7} {'seconds':>8} {'us a piece':>11} {'original':>9} {'times as fast':>14} {'MB':>6}")
+    program, *names = sys.argv[1:]
+    at_once = names.pop(0) if names and "/" in names[0] else None
+    names = names or [name for name in workloads.SCRIPTS if name not in LONG]
+    print(f"{'work':>22} {'pieces':>7} {'seconds':>8} {'us a piece':>11} "
+          f"{'original':>9} {'times as fast':>14} {'MB':>6}")
     took = {}
     with tempfile.TemporaryDirectory() as folder:
         for name in names:
-            for part, pieces, least, memory in measured(program, name, folder):
+            for part, pieces, least, memory in measured(program, at_once, name, folder):
                 each = took[part] = least / pieces * 1e6
-                original = ORIGINAL.get(part)
+                original = ORIGINAL.get(part.removesuffix(AT_ONCE))
                 beside = f"{original:>9} {original / each:>14.1f}" if original else f"{'-':>9} {'-':>14}"
-                print(f"{part:>18} {pieces:>7} {least:>8.3f} {each:>11.1f} {beside} {memory:>6.1f}", flush=True)
+                print(f"{part:>22} {pieces:>7} {least:>8.3f} {each:>11.1f} {beside} {memory:>6.1f}", flush=True)
     for name, other in BESIDE.items():
         if name in took and other in took:
             print(f"a message of {name} takes {took[name] / took[other]:.2f} times as long as one of {other}")

@@ -10,7 +10,7 @@
 | `groups-K-M` | M messages between K capped peers in groups of four, with four ordered pairs to a group |
 | `pairs-K-M` | the same between any two of the peers |
 | `queue-M` | M messages of one pair wait behind a cap, and then the cap is lifted |
-| `broadcast-N` | a bench of a consensus protocol: one of N peers sends a block to all others, then all send a vote to all others, twice; all caps are equal |
+| `broadcast-N` | a bench of a consensus protocol: one of N peers sends a block to all others, then all send a vote to all others, twice; all caps are equal. `crates/broadcast` does the same without a script |
 | `mixed-N` | the same under caps that differ |
 | `idle-N` | 2000 messages of one pair, beside N pairs whose next message may start only far in the future |
 | `kept-N` | 100000 messages of one pair, each enqueued and done before the next, beside N caps and N last arrivals of others |

@@ -1,0 +1,3 @@
+pub mod Chance
+pub mod Lines
+pub mod Links
