@@ -9,9 +9,18 @@
 set -eu
 cd "$(dirname "$0")/../crates/p2p_simulated_c"
 mkdir -p out
+kit=$(dirname "$(dirname "$(readlink -f "$(command -v rt)")")")
+libraries=$(sed -n 's/^p2p_simulated_c staticlib: *//p' ../../crates.txt)
+
+# the path of a library that the archive uses: of this repository, or of the kit
+rlib_of() { # NAME
+    if [ -d ../"$1" ]; then echo ../"$1"/out/rlib/"$1".rlib; else echo "$kit/rlibs/$1.rlib"; fi
+}
 
 has_libraries_of_a_gate() {
-    [ -d ../p2p_simulated/out/rlib/p2p_simulated.rlib ] || return 1
+    for library in $libraries; do
+        [ -d "$(rlib_of "$library")" ] || return 1
+    done
     for rlib in ../*/out/rlib/*.rlib; do
         crate=${rlib%/out/rlib/*}
         [ ! -e "$crate/out/rlib/stamp" ] || return 1
@@ -20,10 +29,9 @@ has_libraries_of_a_gate() {
 }
 
 build_over_these() {
-    kit=$(dirname "$(dirname "$(readlink -f "$(command -v rt)")")")
-    set -- --extern p2p_simulated=../p2p_simulated/out/rlib/p2p_simulated.rlib -L dependency="$kit/rlibs"
-    for library in std bytes std_heap std_alloc core; do
-        set -- "$@" --extern $library="$kit/rlibs/$library.rlib"
+    set -- -L dependency="$kit/rlibs"
+    for library in std $libraries; do
+        set -- "$@" --extern "$library=$(rlib_of "$library")"
     done
     for folder in ../*/out/rlib; do
         set -- "$@" -L dependency="$folder"

@@ -1,13 +1,13 @@
 -- How a call on an open scheduler ends, from what its state answered and what was kept of that.
 use Rattle.std.proofs.Common.{◌≡◌, arith, ℕ, List, length, Option, Some, Result, Ok, Err, IfOk, IfErr, OnErr}
 use Rattle.std.proofs.Common.{MatchResult, inl, inr, refl, sym, ap, subst, ◌∙◌}
-use Rattle.p2p_simulated.specs.Refusals.ErrorTexts.{refusal_number}
-use Rattle.p2p_simulated.specs.Calls.State.{IsMade, IsRefused, IsAdvanced, planned_of}
-use Rattle.p2p_simulated.specs.Simulation.Calls.{Call}
-use Rattle.p2p_simulated.specs.declared.error.Error.{Error}
-use Rattle.p2p_simulated.specs.declared.error.Error.TheVariants.{OutOfMemory, NumberTooLarge, MomentTooLate}
-use Rattle.p2p_simulated.specs.declared.error.Error.TheVariants.{FlowIdsUsedUp}
-use Rattle.p2p_simulated.specs.declared.transmitter.Completion.{Completion}
+use Rattle.fair_rates.specs.Refusals.ErrorTexts.{refusal_number}
+use Rattle.link_scheduler.specs.Calls.State.{IsMade, IsRefused, IsAdvanced, planned_of}
+use Rattle.link_simulation.specs.Simulation.Calls.{Call}
+use Rattle.fair_rates.specs.declared.error.Error.{Error}
+use Rattle.fair_rates.specs.declared.error.Error.TheVariants.{OutOfMemory, NumberTooLarge, MomentTooLate}
+use Rattle.fair_rates.specs.declared.error.Error.TheVariants.{FlowIdsUsedUp}
+use Rattle.link_flights.specs.declared.completion.Completion.{Completion}
 use Rattle.p2p_simulated_c.specs.Asked.{OnHandle, at_open, Ended, Advanced}
 use Rattle.p2p_simulated_c.specs.declared.opened.Opened.{Opened}
 

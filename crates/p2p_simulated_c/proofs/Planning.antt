@@ -5,19 +5,19 @@ use Rattle.std.proofs.lemmas.List.{take_more}
 use Rattle.std.specs.BTreeMap.{get}
 use Rattle.std.specs.Cmp.{tied_then, unsigned_tied}
 use Rattle.std.specs.Ordering.{is_eq, nat_cmp}
-use Rattle.p2p_simulated.specs.Fairness.Allocation.{IsCountedAllocation}
-use Rattle.p2p_simulated.specs.Sides.Answers.{Answered, Calls, PairCalls, States}
-use Rattle.p2p_simulated.specs.Sides.Caps.{Caps}
-use Rattle.p2p_simulated.specs.Pairs.Entries.{pair_cmp}
-use Rattle.p2p_simulated.specs.Fairness.UnderCaps.{AnswerBy, AnswersAreThoseOfTheCaps}
-use Rattle.p2p_simulated.specs.Fairness.Rates.{AreFairRates, or_else}
-use Rattle.p2p_simulated.specs.Sides.Subjects.{sides_of}
-use Rattle.p2p_simulated.specs.Refusals.FairRatesFit.{FairRatesFit}
-use Rattle.p2p_simulated.specs.Refusals.TooLarge.{HasLargeAnswer, HasLargeRate, IsTooLarge}
-use Rattle.p2p_simulated.specs.declared.bandwidth.Flow.{Flow}
-use Rattle.p2p_simulated.specs.declared.bandwidth.Rate.{Rate}
-use Rattle.p2p_simulated.specs.declared.error.Error.{Error}
-use Rattle.p2p_simulated.specs.declared.error.Error.TheVariants.{OutOfMemory, NumberTooLarge}
+use Rattle.fair_rates.specs.Fairness.Allocation.{IsCountedAllocation}
+use Rattle.fair_rates.specs.Sides.Answers.{Answered, Calls, PairCalls, States}
+use Rattle.fair_rates.specs.Sides.Caps.{Caps}
+use Rattle.link_flights.specs.Pairs.Entries.{pair_cmp}
+use Rattle.fair_rates.specs.Fairness.UnderCaps.{AnswerBy, AnswersAreThoseOfTheCaps}
+use Rattle.fair_rates.specs.Fairness.Rates.{AreFairRates, or_else}
+use Rattle.fair_rates.specs.Sides.Subjects.{sides_of}
+use Rattle.fair_rates.specs.Refusals.FairRatesFit.{FairRatesFit}
+use Rattle.fair_rates.specs.Refusals.TooLarge.{HasLargeAnswer, HasLargeRate, IsTooLarge}
+use Rattle.fair_rates.specs.declared.bandwidth.Flow.{Flow}
+use Rattle.fair_rates.specs.declared.bandwidth.Rate.{Rate}
+use Rattle.fair_rates.specs.declared.error.Error.{Error}
+use Rattle.fair_rates.specs.declared.error.Error.TheVariants.{OutOfMemory, NumberTooLarge}
 use Rattle.p2p_simulated_c.specs.Plan.{IsPlan, MayRefusePlan, caps_of_records, link_cap, peer_cap}
 use Rattle.p2p_simulated_c.specs.Planning.{caps_in}
 use Rattle.p2p_simulated_c.specs.Records.{value_of}

@@ -1,6 +1,6 @@
 -- What opening a handle leads to.
 use Rattle.std.specs.Prelude.{◌≡◌, ◌⊎◌, ℕ, [], Option, Some, None}
-use Rattle.p2p_simulated.specs.Calls.State.{IsNew}
+use Rattle.link_scheduler.specs.Calls.State.{IsNew}
 use Rattle.p2p_simulated_c.specs.declared.opened.Opened.{Opened}
 
 -- a scheduler at its start, which has completed nothing, with status 0; or none, with that of too little memory

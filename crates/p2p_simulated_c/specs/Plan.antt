@@ -1,16 +1,16 @@
 -- What a plan is: flows and caps as C lists them, and what is answered for them.
 use Rattle.std.specs.Prelude.{◌≡◌, ◌⊎◌, ℕ, ◌==◌, ◌&&◌, cond, List, [], ◌∷◌, map, Option, Some, None}
 use Rattle.std.specs.Ordering.{nat_cmp}
-use Rattle.p2p_simulated.specs.Sides.Caps.{Caps}
-use Rattle.p2p_simulated.specs.Fairness.UnderCaps.{IsFairById}
-use Rattle.p2p_simulated.specs.Fairness.Rates.{HasDifferentRates, or_else}
-use Rattle.p2p_simulated.specs.Refusals.ErrorTexts.{refusal_number}
-use Rattle.p2p_simulated.specs.Refusals.TooLarge.{AreTooLarge}
-use Rattle.p2p_simulated.specs.declared.bandwidth.Flow.{Flow}
-use Rattle.p2p_simulated.specs.declared.bandwidth.Rate.{Rate}
-use Rattle.p2p_simulated.specs.declared.bandwidth.Rate.TheVariants.{Unlimited, Finite}
-use Rattle.p2p_simulated.specs.declared.error.Error.{Error}
-use Rattle.p2p_simulated.specs.declared.error.Error.TheVariants.{OutOfMemory, NumberTooLarge}
+use Rattle.fair_rates.specs.Sides.Caps.{Caps}
+use Rattle.fair_rates.specs.Fairness.UnderCaps.{IsFairById}
+use Rattle.fair_rates.specs.Fairness.Rates.{HasDifferentRates, or_else}
+use Rattle.fair_rates.specs.Refusals.ErrorTexts.{refusal_number}
+use Rattle.fair_rates.specs.Refusals.TooLarge.{AreTooLarge}
+use Rattle.fair_rates.specs.declared.bandwidth.Flow.{Flow}
+use Rattle.fair_rates.specs.declared.bandwidth.Rate.{Rate}
+use Rattle.fair_rates.specs.declared.bandwidth.Rate.TheVariants.{Unlimited, Finite}
+use Rattle.fair_rates.specs.declared.error.Error.{Error}
+use Rattle.fair_rates.specs.declared.error.Error.TheVariants.{OutOfMemory, NumberTooLarge}
 use Rattle.p2p_simulated_c.specs.declared.records.LinkCap.{LinkCap}
 use Rattle.p2p_simulated_c.specs.declared.records.PeerCap.{PeerCap}
 use Rattle.p2p_simulated_c.specs.declared.records.PlanFlow.{PlanFlow}

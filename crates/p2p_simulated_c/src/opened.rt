@@ -1,8 +1,8 @@
 //! A scheduler that is open, with what its last call completed.
 ghost use Rattle.std.specs.Prelude.{◌≡◌, [], length, min, drop, replicate, IfOk, IfErr, MatchResult};
-ghost use Rattle.p2p_simulated.specs.Refusals.ErrorTexts.{refusal_number};
-ghost use Rattle.p2p_simulated.specs.Calls.State.{IsNew, IsNextOf, sent};
-ghost use Rattle.p2p_simulated.specs.Simulation.Calls.{call_limit, call_limit_link, call_enqueue, call_advance};
+ghost use Rattle.fair_rates.specs.Refusals.ErrorTexts.{refusal_number};
+ghost use Rattle.link_scheduler.specs.Calls.State.{IsNew, IsNextOf, sent};
+ghost use Rattle.link_simulation.specs.Simulation.Calls.{call_limit, call_limit_link, call_enqueue, call_advance};
 ghost use Rattle.p2p_simulated_c.specs.Asked.{Ended, Advanced, Counted};
 ghost use Rattle.p2p_simulated_c.specs.Completions.{records_from, completed_bytes_from};
 ghost use Rattle.p2p_simulated_c.specs.Records.{moment_of_record, value_of};
@@ -11,8 +11,8 @@ ghost use Rattle.p2p_simulated_c.specs.Written.{written};
 use super::records::{Done, Moment, Wide};
 use super::status::{MADE, OUT_OF_MEMORY, number_of};
 use bytes::Bytes;
-use p2p_simulated::error::Error;
-use p2p_simulated::transmitter::{Completion, State};
+use fair_rates::error::Error;
+use link_scheduler::transmitter::{Completion, State};
 use std::alloc::Global;
 
 /// A scheduler of numbered peers, and the completions of the last call that was made on it.

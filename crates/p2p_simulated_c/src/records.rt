@@ -4,8 +4,8 @@ ghost use Rattle.std.specs.Prelude.{◌≡◌, ◌<◌, ◌^◌, Option};
 ghost use Rattle.p2p_simulated_c.specs.Plan.{flow_of, record_of_rate};
 ghost use Rattle.p2p_simulated_c.specs.Records.{cap_of_record, moment_of_record, of_moment, value_of, wide_of, done_of};
 
-use p2p_simulated::bandwidth::{Flow, Rate};
-use p2p_simulated::transmitter::Completion;
+use fair_rates::bandwidth::{Flow, Rate};
+use link_scheduler::transmitter::Completion;
 
 /// A cap in bytes a second, or none where `is_some` is 0.
 #[repr(C)]

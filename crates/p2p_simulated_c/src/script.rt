@@ -4,8 +4,8 @@ ghost use Rattle.p2p_simulated_c.specs.Ran.{HasRun, bad_line_of};
 ghost use Rattle.p2p_simulated_c.specs.Written.{written};
 
 use super::opened::copy;
-use p2p_simulated::linkrun;
-use p2p_simulated::linkrun::Outcome;
+use link_scripts::linkrun;
+use link_scripts::linkrun::Outcome;
 use std::alloc::Global;
 
 /// `linkrun::run` over a buffer: writes what the script prints, as much as there is room for, and

@@ -1,9 +1,9 @@
 //! Calls of a scheduler and their answers, both as the lines of a script say them.
 use crate::peers::{Fuse, Numbered};
 use bytes::Bytes;
-use p2p_simulated::error::Error;
-use p2p_simulated::replay::{Call, Reply, replay};
-use p2p_simulated::transmitter::{Completion, State};
+use fair_rates::error::Error;
+use link_scheduler::replay::{Call, Reply, replay};
+use link_scheduler::transmitter::{Completion, State};
 use std::alloc::{AllocError, Global};
 use std::process::Abort;
 use std::str::SplitWhitespace;

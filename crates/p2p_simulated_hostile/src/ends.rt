@@ -2,7 +2,7 @@
 use crate::calls::{Row, play, play_list};
 use crate::peers::{Name, Numbered};
 use crate::streams::printed_by;
-use p2p_simulated::linkrun::Outcome;
+use link_scripts::linkrun::Outcome;
 use std::cell::Cell;
 use std::process::Abort;
 use std::rc::Rc;

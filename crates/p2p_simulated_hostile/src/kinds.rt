@@ -2,8 +2,8 @@
 //! ample memory none is refused.
 use crate::calls::contents;
 use crate::peers::{Fuse, Name, Numbered};
-use p2p_simulated::replay::{Call, Reply, replay};
-use p2p_simulated::transmitter::State;
+use link_scheduler::replay::{Call, Reply, replay};
+use link_scheduler::transmitter::State;
 use std::alloc::{AllocError, Global};
 use std::cell::Cell;
 use std::process::Abort;

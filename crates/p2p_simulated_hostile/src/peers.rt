@@ -1,5 +1,5 @@
 //! Peers whose clones can be refused.
-use p2p_simulated::peer::Peer;
+use fair_rates::peer::Peer;
 use std::alloc::{AllocError, Global};
 use std::cell::Cell;
 use std::rc::Rc;

@@ -1,9 +1,9 @@
 //! Advances that meet nothing: they take no memory and clone no peer, so they are never refused.
 use crate::calls::contents;
 use crate::peers::{Fuse, Name, Numbered};
-use p2p_simulated::error::Error;
-use p2p_simulated::replay::{Call, Reply};
-use p2p_simulated::transmitter::State;
+use fair_rates::error::Error;
+use link_scheduler::replay::{Call, Reply};
+use link_scheduler::transmitter::State;
 use std::alloc::{AllocError, Global};
 use std::cell::Cell;
 use std::process::Abort;

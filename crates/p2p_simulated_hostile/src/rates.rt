@@ -1,8 +1,8 @@
 //! Rates, where an allocation for them may be refused.
 use crate::peers::{Fuse, Name, Numbered};
-use p2p_simulated::bandwidth::{Flow, Rate, allocate};
-use p2p_simulated::error::Error;
-use p2p_simulated::ratio::Ratio;
+use fair_rates::bandwidth::{Flow, Rate, allocate};
+use fair_rates::error::Error;
+use fair_rates::ratio::Ratio;
 use std::alloc::Global;
 use std::cell::{Cell, RefCell};
 use std::collections::BTreeMap;

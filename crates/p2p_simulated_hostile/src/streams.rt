@@ -1,5 +1,5 @@
 //! Scripts over readers and writers that fail, and scripts that nobody would write.
-use p2p_simulated::linkrun::{Outcome, run};
+use link_scripts::linkrun::{Outcome, run};
 use std::io;
 use std::io::{ErrorKind, Read, Write};
 use std::process::Abort;
