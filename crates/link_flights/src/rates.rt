@@ -138,7 +138,8 @@ impl<P: Peer> Flights<P> {
         pairs: &Pairs<P>,
     ) -> Result<FairParts, Error>
         requires found { AreFound P.cmp component.now (in_units self.now) }
-        requires near { component.now.whole ≡ false → AreNear component.now component.now.near.items self.now.list.items }
+        requires near { component.now.whole ≡ false
+            → AreNear component.now component.now.near.items self.now.list.items }
         ensures fair { IfOk result (AreFairOf P.cmp (caps_of P.cmp peers.now.entries pairs.now.entries)
             self.now.scale component.now (in_units self.now)) }
         ensures refused { IfErr result (λ e. e ≡ Error.OutOfMemory) }
@@ -155,7 +156,8 @@ impl<P: Peer> Flights<P> {
         pairs: &Pairs<P>,
     ) -> Result<Vec<CappedFlow<P>>, Error>
         requires found { AreFound P.cmp component.now (in_units self.now) }
-        requires near { component.now.whole ≡ false → AreNear component.now component.now.near.items self.now.list.items }
+        requires near { component.now.whole ≡ false
+            → AreNear component.now component.now.near.items self.now.list.items }
         ensures standing { IfOk result (λ flows. are_standing P.cmp (map (λ capped. capped.flow) flows.items)
             (those_of P.cmp component.now (in_units self.now)) ≡ true) }
         ensures capped { IfOk result (λ flows. All

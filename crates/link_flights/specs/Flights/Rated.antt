@@ -1,6 +1,6 @@
 -- Messages in flight that have got rates, which are fair for them.
-use Rattle.std.specs.Prelude.{◌≡◌, ℕ, zero, suc, ◌+◌, ◌*◌, ◌⊎◌, Bool, true, false, not, List, [], ◌∷◌, cond, map, slice_index, length}
-use Rattle.std.specs.Prelude.{Some, slice_get, slice_set, slice_index_or}
+use Rattle.std.specs.Prelude.{◌≡◌, ℕ, zero, suc, ◌+◌, ◌*◌, ◌⊎◌, Bool, true, false, not, List, [], ◌∷◌, cond, map}
+use Rattle.std.specs.Prelude.{slice_index, length, Some, slice_get, slice_set, slice_index_or}
 use Rattle.std.specs.List.{filter, list_all, AllZip}
 use Rattle.std.specs.declared.cmp.Ordering.{Ordering}
 use Rattle.std.specs.declared.rc.Rc.{Rc}

@@ -1,4 +1,5 @@
-use Rattle.std.proofs.Common.{◌≡◌, ◌+◌, ◌<◌, ◌++◌, ◌∷◌, [], true, length, take, sym, ap, ◌∙◌, subst, arith, map, All, List}
+use Rattle.std.proofs.Common.{◌≡◌, ◌+◌, ◌<◌, ◌++◌, ◌∷◌, [], true, length, take, sym, ap, ◌∙◌, subst, arith, map, All}
+use Rattle.std.proofs.Common.{List}
 use Rattle.std.proofs.lemmas.List.{map-append, take_all}
 use Rattle.fair_rates.specs.declared.bandwidth.CappedFlow.{CappedFlow}
 use Rattle.link_flights.specs.Flights.CappedFlows.{HasItsCaps}
