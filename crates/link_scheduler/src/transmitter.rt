@@ -410,9 +410,10 @@ impl<P: Peer> State<P> {
     /// brought rates or by the last event of an advance. Each of these drained to that moment and
     /// got a rate and a finish of its own; all others in flight were left as they were kept.
     ///
-    /// It counts work, and has no part in what is answered: where a message starts or ends, it is no
-    /// more than the messages that share a sender or a receiver with it, directly or through others,
-    /// unless those are nearly all. It takes no memory, changes nothing and is never refused.
+    /// It counts work, and has no part in what is answered. Where messages start or end, those that
+    /// share a sender or a receiver with them, directly or through others, are looked for. Where
+    /// these are found, no other is rated anew; where they are many, or few are in flight, or a cap
+    /// has changed, all are rated. It takes no memory, changes nothing and is never refused.
     pub fn rated_anew(&self) -> usize
         ensures counted { result ≡ rated_at_last self.now }
         ensures at_most_all { result ≤ length (planned_of self.now).sending }
