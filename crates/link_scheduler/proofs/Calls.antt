@@ -1,5 +1,6 @@
 -- From the steps of the code to calls by the event rule, and to what they promise.
 pub mod Advancing
+pub mod Answered
 pub mod AsOneCall
 pub mod Calling
 pub mod FewerEvents

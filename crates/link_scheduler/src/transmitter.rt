@@ -6,6 +6,7 @@ ghost use Rattle.link_simulation.specs.Simulation.Calls.{call_limit, call_limit_
 ghost use Rattle.link_simulation.specs.Simulation.Messages.{CapsAlike, PairsAlike};
 ghost use Rattle.link_simulation.specs.Rule.Planned.{IsPlanned};
 
+mod answers;
 mod batch;
 mod event;
 mod events;
@@ -139,10 +140,8 @@ impl<P: Peer> State<P> {
         ensures unchanged { OnErr result (self.new ≡ self.old) }
     {
         let mut ledger = self.ledger.clone()?;
-        ledger.limit_peer(peer, egress, ingress)?;
-        let ended = ledger.rebalance(now)?;
-        let completions = answers_of(ledger.alloc, &ended)?;
-        self.ledger = ledger;
+        let completions = ledger.answer_limit(now, peer, egress, ingress)?;
+        self.ledger.replace_by(ledger);
         Ok(completions)
     }
 
@@ -178,10 +177,8 @@ impl<P: Peer> State<P> {
         ensures unchanged { OnErr result (self.new ≡ self.old) }
     {
         let mut ledger = self.ledger.clone()?;
-        ledger.limit_pair(origin, recipient, cap)?;
-        let ended = ledger.rebalance(now)?;
-        let completions = answers_of(ledger.alloc, &ended)?;
-        self.ledger = ledger;
+        let completions = ledger.answer_limit_link(now, origin, recipient, cap)?;
+        self.ledger.replace_by(ledger);
         Ok(completions)
     }
 
@@ -250,9 +247,8 @@ impl<P: Peer> State<P> {
             return Ok(Vec::new(self.ledger.alloc));
         }
         let mut ledger = self.ledger.clone()?;
-        let ended = ledger.enqueue(now, message)?;
-        let completions = answers_of(ledger.alloc, &ended)?;
-        self.ledger = ledger;
+        let completions = ledger.answer_enqueue(now, message)?;
+        self.ledger.replace_by(ledger);
         Ok(completions)
     }
 
@@ -295,9 +291,8 @@ impl<P: Peer> State<P> {
             return Ok(Vec::new(self.ledger.alloc));
         }
         let mut ledger = self.ledger.clone()?;
-        let ended = ledger.enqueue_all(now, messages)?;
-        let completions = answers_of(ledger.alloc, &ended)?;
-        self.ledger = ledger;
+        let completions = ledger.answer_enqueue_all(now, messages)?;
+        self.ledger.replace_by(ledger);
         Ok(completions)
     }
 

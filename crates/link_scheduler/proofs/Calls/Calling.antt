@@ -122,30 +122,24 @@ module _ {P : Type 0} (cmp : P → P → Ordering) (order : IsTotalOrder cmp) wh
   rebalances_on now caps q mid course is h =
       rebalance_there now caps q course (subst (λ (r : Planned P). Rebalances cmp now r.caps r course) is h)
 
-  -- a call on the copy is refused as one on what is kept
-  pub limit_refused : (now : ℕ) (peer : P) (egress ingress : Option ℕ) (p q mid : Planned P) → IsSamePlanned cmp p q
+  -- new caps are refused as what is done under them
+  pub limit_refused : (now : ℕ) (peer : P) (egress ingress : Option ℕ) (q mid : Planned P)
       → mid ≡ record q { caps = limited_by cmp q.caps peer egress ingress; limited = true } → (e : Error)
       → IsRefusedFor (λ fault. Rebalances cmp now mid.caps mid (meets fault)) e
-      → MayBeRefused cmp p (call_limit now peer egress ingress) e
-  limit_refused now peer egress ingress p q mid same is e h =
-      refused_on p q (call_limit now peer egress ingress) e same
-      (refused_more (λ fault. Rebalances cmp now mid.caps mid (meets fault))
+      → MayBeRefused cmp q (call_limit now peer egress ingress) e
+  limit_refused now peer egress ingress q mid is e h =
+      refused_more (λ fault. Rebalances cmp now mid.caps mid (meets fault))
       (λ fault. Obeys cmp q (call_limit now peer egress ingress) (meets fault))
-      (λ fault. rebalances_on now (limited_by cmp q.caps peer egress ingress) q mid (meets fault) is) e h)
+      (λ fault. rebalances_on now (limited_by cmp q.caps peer egress ingress) q mid (meets fault) is) e h
 
-  pub link_refused : (now : ℕ) (origin recipient : P) (cap : Option ℕ) (p q mid : Planned P) → IsSamePlanned cmp p q
+  pub link_refused : (now : ℕ) (origin recipient : P) (cap : Option ℕ) (q mid : Planned P)
       → mid ≡ record q { caps = linked_by cmp q.caps origin recipient cap; limited = true } → (e : Error)
       → IsRefusedFor (λ fault. Rebalances cmp now mid.caps mid (meets fault)) e
-      → MayBeRefused cmp p (call_limit_link now origin recipient cap) e
-  link_refused now origin recipient cap p q mid same is e h =
-      refused_on p q (call_limit_link now origin recipient cap) e same
-      (refused_more (λ fault. Rebalances cmp now mid.caps mid (meets fault))
+      → MayBeRefused cmp q (call_limit_link now origin recipient cap) e
+  link_refused now origin recipient cap q mid is e h =
+      refused_more (λ fault. Rebalances cmp now mid.caps mid (meets fault))
       (λ fault. Obeys cmp q (call_limit_link now origin recipient cap) (meets fault))
-      (λ fault. rebalances_on now (linked_by cmp q.caps origin recipient cap) q mid (meets fault) is) e h)
-
-  pub enqueue_refused : (now : ℕ) (m : Message P) (p q : Planned P) → IsSamePlanned cmp p q → (e : Error)
-      → IsRefusedFor (λ fault. Enqueues cmp now m q (meets fault)) e → MayBeRefused cmp p (call_enqueue now m) e
-  enqueue_refused now m p q same e h = refused_on p q (call_enqueue now m) e same h
+      (λ fault. rebalances_on now (linked_by cmp q.caps origin recipient cap) q mid (meets fault) is) e h
 
   pub advance_refused : (now : ℕ) (p q : Planned P) → IsSamePlanned cmp p q → (e : Error)
       → IsRefusedFor (λ fault. (n : ℕ) × Advances cmp now q n (meets fault)) e → MayBeRefused cmp p (call_advance now) e

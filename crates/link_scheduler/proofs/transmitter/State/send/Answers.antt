@@ -2,12 +2,12 @@ use Rattle.std.proofs.Common.{[], map, ap, refl}
 use Rattle.std.proofs.lemmas.Result.{err_from_is_err_and}
 use Rattle.link_simulation.specs.Simulation.Calls.{call_enqueue}
 use Rattle.link_scheduler.specs.Calls.AsPlanned.{planned}
-use Rattle.link_flights.specs.Pairs.Messages.{message_of, completed_of, ended_of}
-use Rattle.link_scheduler.proofs.Calls.Calling.{enqueue_refused, goes_on, same_copy, goes_answered}
-use Rattle.link_scheduler.proofs.Calls.SameIsPlanned.{planned_on}
+use Rattle.link_flights.specs.Pairs.Messages.{message_of, completed_of}
+use Rattle.link_scheduler.proofs.Calls.Calling.{goes_on}
+use Rattle.link_scheduler.proofs.Calls.Answered.{made_on_copy, refused_on_copy}
 use Rattle.link_simulation.proofs.Rule.SamePlanned.{same_itself}
 use Rattle.link_flights.proofs.Flights.Accounts.{looked_up, arrivals_looked_up}
-use Rattle.link_scheduler.proofs.Calls.Promises.{orderly_on, kept_at_once, promised_if, cause_of}
+use Rattle.link_scheduler.proofs.Calls.Promises.{kept_at_once, promised_if}
 use Rattle.link_scheduler.proofs.transmitter.State.send.Goals as goal
 
 -- where the message waits
@@ -51,61 +51,48 @@ returns-then-has_to_wait-clause-made g c =
 
 -- where it goes on a copy
 
-pub returns-in_err-ended-clause-refused : goal.returns-in_err-ended-clause-refused
-returns-in_err-ended-clause-refused g c =
-    let p = err_from_is_err_and c.from_residual-in_err-ended.result c.from_residual-in_err-ended.ensures.1 in
+pub returns-in_err-completions-clause-refused : goal.returns-in_err-completions-clause-refused
+returns-in_err-completions-clause-refused g c =
+    let p = err_from_is_err_and c.from_residual-in_err-completions.result c.from_residual-in_err-completions.ensures.1 in
     rw (p.1, p.2)
-    (cause_of g.P.Ord.cmp g.met.P.Ord.total (planned g.P.Ord.cmp c.args.self.now.ledger)
-    (call_enqueue c.args.now (message_of c.args.message)) c.args.now _ refl c.ranges.now.fits
-    (enqueue_refused g.P.Ord.cmp g.met.P.Ord.total c.args.now (message_of c.args.message)
-    (planned g.P.Ord.cmp c.args.self.now.ledger) (planned g.P.Ord.cmp c.in_ok-ledger.ledger)
-    (same_copy g.P.Ord.cmp g.met.P.Ord.total (planned g.P.Ord.cmp c.args.self.now.ledger)
-    (planned g.P.Ord.cmp c.in_ok-ledger.ledger) c.in_ok-ledger.ensures.cases c.args.self.now.caps
-    c.args.self.now.arrivals)
-    _ c.in_err-ended.ensures.refused))
+    (refused_on_copy g.P.Ord.cmp g.met.P.Ord.total (planned g.P.Ord.cmp c.args.self.now.ledger)
+    (planned g.P.Ord.cmp c.in_ok-ledger.ledger) (call_enqueue c.args.now (message_of c.args.message)) c.args.now _ refl c.ranges.now.fits
+    c.in_ok-ledger.ensures.cases c.in_err-completions.ensures.refused)
 
 pub invariant_of-self-2-clause-caps : goal.invariant_of-self-2-clause-caps
 invariant_of-self-2-clause-caps g c =
-    looked_up g.P.Ord.cmp g.met.P.Ord.total c.enqueue.new.self.peers.entries c.enqueue.new.self.pairs.entries
+    looked_up g.P.Ord.cmp g.met.P.Ord.total c.replace_by.new.self.peers.entries c.replace_by.new.self.pairs.entries
 
 pub invariant_of-self-2-clause-arrivals : goal.invariant_of-self-2-clause-arrivals
 invariant_of-self-2-clause-arrivals g c =
-    arrivals_looked_up g.P.Ord.cmp g.met.P.Ord.total c.enqueue.new.self.pairs.entries
+    arrivals_looked_up g.P.Ord.cmp g.met.P.Ord.total c.replace_by.new.self.pairs.entries
 
 pub invariant_of-self-2-clause-right : goal.invariant_of-self-2-clause-right
 invariant_of-self-2-clause-right g c =
-    planned_on g.P.Ord.cmp g.met.P.Ord.total (planned g.P.Ord.cmp c.args.self.now.ledger)
-    (planned g.P.Ord.cmp c.in_ok-ledger.ledger) (planned g.P.Ord.cmp c.enqueue.new.self)
-    (call_enqueue c.args.now (message_of c.args.message)) (map ended_of c.in_ok-ended.ended.items)
-    (same_copy g.P.Ord.cmp g.met.P.Ord.total (planned g.P.Ord.cmp c.args.self.now.ledger)
-    (planned g.P.Ord.cmp c.in_ok-ledger.ledger) c.in_ok-ledger.ensures.cases c.args.self.now.caps
-    c.args.self.now.arrivals)
-    c.args.self.now.right c.in_ok-ended.ensures.enqueues
+    (made_on_copy g.P.Ord.cmp g.met.P.Ord.total (planned g.P.Ord.cmp c.args.self.now.ledger)
+    (planned g.P.Ord.cmp c.in_ok-ledger.ledger) (planned g.P.Ord.cmp c.answer_enqueue.new.self)
+    (planned g.P.Ord.cmp c.replace_by.new.self)
+    (call_enqueue c.args.now (message_of c.args.message)) c.args.now
+    (map completed_of c.in_ok-completions.completions.items) refl c.ranges.now.fits c.in_ok-ledger.ensures.cases
+    c.in_ok-completions.ensures.answered c.replace_by.ensures c.args.self.now.caps c.args.self.now.arrivals
+    c.args.self.now.right c.args.self.now.orderly).right
 
 pub invariant_of-self-2-clause-orderly : goal.invariant_of-self-2-clause-orderly
 invariant_of-self-2-clause-orderly g c =
-    orderly_on g.P.Ord.cmp g.met.P.Ord.total (planned g.P.Ord.cmp c.args.self.now.ledger)
-    (planned g.P.Ord.cmp c.in_ok-ledger.ledger) (planned g.P.Ord.cmp c.enqueue.new.self)
-    (call_enqueue c.args.now (message_of c.args.message)) (map ended_of c.in_ok-ended.ended.items)
-    (same_copy g.P.Ord.cmp g.met.P.Ord.total (planned g.P.Ord.cmp c.args.self.now.ledger)
-    (planned g.P.Ord.cmp c.in_ok-ledger.ledger) c.in_ok-ledger.ensures.cases c.args.self.now.caps
-    c.args.self.now.arrivals)
-    c.args.self.now.orderly c.in_ok-ended.ensures.enqueues
+    (made_on_copy g.P.Ord.cmp g.met.P.Ord.total (planned g.P.Ord.cmp c.args.self.now.ledger)
+    (planned g.P.Ord.cmp c.in_ok-ledger.ledger) (planned g.P.Ord.cmp c.answer_enqueue.new.self)
+    (planned g.P.Ord.cmp c.replace_by.new.self)
+    (call_enqueue c.args.now (message_of c.args.message)) c.args.now
+    (map completed_of c.in_ok-completions.completions.items) refl c.ranges.now.fits c.in_ok-ledger.ensures.cases
+    c.in_ok-completions.ensures.answered c.replace_by.ensures c.args.self.now.caps c.args.self.now.arrivals
+    c.args.self.now.right c.args.self.now.orderly).orderly
 
 pub returns-clause-made : goal.returns-clause-made
 returns-clause-made g c =
-    promised_if g.P.Ord.cmp g.met.P.Ord.total (planned g.P.Ord.cmp c.args.self.now.ledger)
-    (planned g.P.Ord.cmp c.enqueue.new.self)
+    (made_on_copy g.P.Ord.cmp g.met.P.Ord.total (planned g.P.Ord.cmp c.args.self.now.ledger)
+    (planned g.P.Ord.cmp c.in_ok-ledger.ledger) (planned g.P.Ord.cmp c.answer_enqueue.new.self)
+    (planned g.P.Ord.cmp c.replace_by.new.self)
     (call_enqueue c.args.now (message_of c.args.message)) c.args.now
-    (map completed_of c.in_ok-completions.completions.items) refl c.ranges.now.fits c.args.self.now.orderly
-    (goes_answered g.P.Ord.cmp g.met.P.Ord.total (planned g.P.Ord.cmp c.args.self.now.ledger)
-    (planned g.P.Ord.cmp c.enqueue.new.self) (call_enqueue c.args.now (message_of c.args.message))
-    (map completed_of c.in_ok-completions.completions.items) (map ended_of c.in_ok-ended.ended.items)
-    (rw (← c.deref.ensures.value) c.in_ok-completions.ensures.same)
-    (goes_on g.P.Ord.cmp g.met.P.Ord.total (planned g.P.Ord.cmp c.args.self.now.ledger)
-    (planned g.P.Ord.cmp c.in_ok-ledger.ledger) (planned g.P.Ord.cmp c.enqueue.new.self)
-    (call_enqueue c.args.now (message_of c.args.message)) (map ended_of c.in_ok-ended.ended.items)
-    (same_copy g.P.Ord.cmp g.met.P.Ord.total (planned g.P.Ord.cmp c.args.self.now.ledger)
-    (planned g.P.Ord.cmp c.in_ok-ledger.ledger) c.in_ok-ledger.ensures.cases c.args.self.now.caps
-    c.args.self.now.arrivals)
-    c.in_ok-ended.ensures.enqueues))
+    (map completed_of c.in_ok-completions.completions.items) refl c.ranges.now.fits c.in_ok-ledger.ensures.cases
+    c.in_ok-completions.ensures.answered c.replace_by.ensures c.args.self.now.caps c.args.self.now.arrivals
+    c.args.self.now.right c.args.self.now.orderly).made

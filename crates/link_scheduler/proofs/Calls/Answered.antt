@@ -1,0 +1,64 @@
+-- Calls on what is worked on: how they are answered, and what is promised then of what was kept.
+use Rattle.std.proofs.Common.{◌≡◌, ℕ, ◌<◌, ◌^◌, List, Option, Some, Result, Ok, Err, IfOk, sym, subst}
+use Rattle.std.specs.List.{AllZip}
+use Rattle.std.specs.declared.cmp.Ordering.{Ordering}
+use Rattle.std.specs.Cmp.{IsTotalOrder}
+use Rattle.fair_rates.specs.declared.error.Error.{Error}
+use Rattle.link_simulation.specs.Simulation.Messages.{CapsAlike, PairsAlike}
+use Rattle.link_simulation.specs.Simulation.World.{Completed, goes}
+use Rattle.link_simulation.specs.Simulation.Calls.{Call, moment_of}
+use Rattle.link_simulation.specs.Simulation.Replies.{SameCompletion}
+use Rattle.link_simulation.specs.Rule.Planned.{Planned, IsPlanned}
+use Rattle.link_simulation.specs.Rule.Events.{Obeys}
+use Rattle.link_simulation.specs.Rule.Refusals.{MayBeRefused}
+use Rattle.link_simulation.specs.Rule.SamePlanned.{IsSamePlanned}
+use Rattle.link_simulation.specs.Laws.Orderly.{IsOrderly}
+use Rattle.link_simulation.proofs.Rule.SamePlanned.{same_itself}
+use Rattle.link_scheduler.specs.Calls.Answered.{IsAnswered}
+use Rattle.link_scheduler.specs.Calls.State.{Makes, Refuses}
+use Rattle.link_scheduler.proofs.Calls.Calling.{goes_on, goes_answered}
+use Rattle.link_scheduler.proofs.Calls.Promises.{orderly_on, promised_if, cause_of}
+use Rattle.link_scheduler.proofs.Calls.SameIsPlanned.{planned_on}
+
+-- what goes so is answered with clones of what came out, if memory is not refused
+pub answered_if : {X E P : Type 0} (cmp : P → P → Ordering) (r : Result X E) (answers : X → List (Completed P))
+    (p q : Planned P) (call : Call P) (cs : List (Completed P))
+    → IfOk r (λ x. AllZip (SameCompletion cmp) (answers x) cs) → Obeys cmp p call (goes cs q)
+    → IfOk r (λ x. IsAnswered cmp p call (answers x) q)
+answered_if cmp (Ok x) answers p q call cs same obeys = record { completed = cs; obeys = obeys; same = same }
+answered_if cmp (Err e) answers p q call cs same obeys = tt
+
+module _ {P : Type 0} (cmp : P → P → Ordering) (order : IsTotalOrder cmp) where
+  -- what is promised of a call, and stays known of what is planned
+  pub record IsMadeSo (p : Planned P) (call : Call P) (cs : List (Completed P)) (q : Planned P) : Type 0 where
+    pub right : ∥ IsPlanned cmp q ∥₁
+    pub orderly : ∥ IsOrderly cmp q ∥₁
+    pub made : Makes cmp p call cs q
+
+  made_so : (p q : Planned P) (call : Call P) (now : ℕ) (cs ds : List (Completed P)) → moment_of call ≡ Some now
+      → now < 2 ^ 64 → IsSamePlanned cmp p p → Obeys cmp p call (goes ds q) → IsAnswered cmp p call cs q
+      → ∥ IsPlanned cmp p ∥₁ → ∥ IsOrderly cmp p ∥₁ → IsMadeSo p call cs q
+  made_so p q call now cs ds at fits alike obeys h right orderly = record {
+    right = planned_on cmp order p p q call ds alike right obeys;
+    orderly = orderly_on cmp order p p q call ds alike orderly obeys;
+    made = promised_if cmp order p q call now cs at fits orderly
+        (goes_answered cmp order p q call cs h.completed h.same
+        (goes_on cmp order p p q call h.completed alike h.obeys));
+  }
+
+  pub made_on_copy : (p copy there q : Planned P) (call : Call P) (now : ℕ) (cs : List (Completed P))
+      → moment_of call ≡ Some now → now < 2 ^ 64 → copy ≡ p → IsAnswered cmp copy call cs there → q ≡ there
+      → CapsAlike cmp p.caps p.caps → PairsAlike cmp p.last_arrival p.last_arrival
+      → ∥ IsPlanned cmp p ∥₁ → ∥ IsOrderly cmp p ∥₁ → IsMadeSo p call cs q
+  made_on_copy p copy there q call now cs at fits same h is caps arrivals right orderly =
+      let here : IsAnswered cmp p call cs q =
+      subst (λ (r : Planned P). IsAnswered cmp p call cs r) (sym is)
+      (subst (λ (r : Planned P). IsAnswered cmp r call cs there) same h) in
+      made_so p q call now cs here.completed at fits (same_itself cmp order p caps arrivals) here.obeys here right
+      orderly
+
+  pub refused_on_copy : (p copy : Planned P) (call : Call P) (now : ℕ) (why : Error) → moment_of call ≡ Some now
+      → now < 2 ^ 64 → copy ≡ p → MayBeRefused cmp copy call why → Refuses cmp p call why
+  refused_on_copy p copy call now why at fits same h =
+      cause_of cmp order p call now why at fits
+      (subst (λ (r : Planned P). MayBeRefused cmp r call why) same h)
