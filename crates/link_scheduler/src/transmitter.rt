@@ -20,7 +20,6 @@ use fair_rates::error::Error;
 use fair_rates::peer::Peer;
 use ledger::Ledger;
 pub use link_flights::completion::Completion;
-use link_flights::completion::answers_of;
 use link_flights::message::Message;
 pub use link_flights::reading::{InFlight, Reading};
 pub use outgoing::Outgoing;
@@ -362,8 +361,7 @@ impl<P: Peer> State<P> {
         ensures unchanged { OnErr result (self.new ≡ self.old) }
     {
         let mut ledger = self.ledger.clone()?;
-        let (ended, events) = ledger.advance(now)?;
-        let completions = answers_of(ledger.alloc, &ended)?;
+        let (completions, events) = ledger.answer_advance(now)?;
         self.ledger.replace_by(ledger);
         Ok((completions, events))
     }

@@ -20,7 +20,7 @@ use Rattle.link_simulation.proofs.Simulation.RefusalCauses.{refused_more}
 use Rattle.link_simulation.proofs.Rule.Agreeing.{all_trans}
 use Rattle.link_simulation.proofs.Rule.SamePlanned.{same_itself, same_turned}
 use Rattle.link_simulation.proofs.Rule.SameCourses.{obeys_same, advances_same}
-use Rattle.link_simulation.proofs.Rule.SameRefusals.{refused_same, call_itself}
+use Rattle.link_simulation.proofs.Rule.SameRefusals.{call_itself}
 
 module _ {P : Type 0} (cmp : P → P → Ordering) (order : IsTotalOrder cmp) where
   -- ---- on the copy, and so on the kept one
@@ -103,11 +103,6 @@ module _ {P : Type 0} (cmp : P → P → Ordering) (order : IsTotalOrder cmp) wh
         same_after = counted.same_after;
       }
 
-  refused_on : (p q : Planned P) (call : Call P) (e : Error) → IsSamePlanned cmp p q → MayBeRefused cmp q call e
-      → MayBeRefused cmp p call e
-  refused_on p q call e same refused =
-      refused_same cmp order q p call call e (same_turned cmp order p q same) (call_itself cmp order call) refused
-
   -- ---- the calls
 
   -- new caps that are there already
@@ -140,7 +135,3 @@ module _ {P : Type 0} (cmp : P → P → Ordering) (order : IsTotalOrder cmp) wh
       refused_more (λ fault. Rebalances cmp now mid.caps mid (meets fault))
       (λ fault. Obeys cmp q (call_limit_link now origin recipient cap) (meets fault))
       (λ fault. rebalances_on now (linked_by cmp q.caps origin recipient cap) q mid (meets fault) is) e h
-
-  pub advance_refused : (now : ℕ) (p q : Planned P) → IsSamePlanned cmp p q → (e : Error)
-      → IsRefusedFor (λ fault. (n : ℕ) × Advances cmp now q n (meets fault)) e → MayBeRefused cmp p (call_advance now) e
-  advance_refused now p q same e h = refused_on p q (call_advance now) e same h

@@ -1,9 +1,10 @@
 //! Calls on the state that is worked on, with their answers.
 ghost use Rattle.std.specs.Prelude.{map, IfOk, IfErr};
 ghost use Rattle.link_simulation.specs.Simulation.Calls.{call_limit, call_limit_link, call_enqueue, call_enqueue_all};
+ghost use Rattle.link_simulation.specs.Simulation.Calls.{call_advance};
 ghost use Rattle.link_simulation.specs.Rule.Refusals.{MayBeRefused};
 ghost use Rattle.link_flights.specs.Pairs.Messages.{message_of, completed_of};
-ghost use Rattle.link_scheduler.specs.Calls.Answered.{IsAnswered};
+ghost use Rattle.link_scheduler.specs.Calls.Answered.{IsAnswered, IsAnsweredIn};
 ghost use Rattle.link_scheduler.specs.Calls.State.{outgoing};
 
 use super::ledger::Ledger;
@@ -81,5 +82,16 @@ impl<P: Peer> Ledger<P> {
     {
         let ended = self.enqueue_all(now, messages)?;
         answers_of(self.alloc, &ended)
+    }
+
+    /// Lets time go on to `now`, and answers what completes, with the number of events.
+    pub(crate) fn answer_advance(&mut self, now: u64) -> Result<(Vec<Completion<P>>, u128), Error>
+        ensures answered { IfOk result (λ answer. IsAnsweredIn P.cmp now (planned P.cmp self.old) answer.1
+            (map completed_of answer.0.items) (planned P.cmp self.new)) }
+        ensures refused { IfErr result (MayBeRefused P.cmp (planned P.cmp self.old) (call_advance now)) }
+    {
+        let (ended, events) = self.advance(now)?;
+        let completions = answers_of(self.alloc, &ended)?;
+        Ok((completions, events))
     }
 }

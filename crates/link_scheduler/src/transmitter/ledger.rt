@@ -1,9 +1,9 @@
 //! The state that a call works on.
-ghost use Rattle.std.specs.Prelude.{◌≡◌, true, false, OnOk, IfErr};
+ghost use Rattle.std.specs.Prelude.{◌≡◌, true, false, OnOk, IfOk, IfErr};
 ghost use Rattle.link_simulation.specs.Rule.Planned.{rated_messages};
 ghost use Rattle.link_flights.specs.Idle.Index.{IsIndexOf};
 ghost use Rattle.link_flights.specs.Idle.Busy.{AreCounted};
-ghost use Rattle.link_flights.specs.Flights.InFlight.{in_flight};
+ghost use Rattle.link_flights.specs.Flights.InFlight.{in_flight, IsSameFlights};
 ghost use Rattle.link_flights.specs.Idle.AtRest.{of_pairs};
 ghost use Rattle.link_flights.specs.Pairs.CapsOf.{caps_of};
 ghost use Rattle.link_flights.specs.Flights.Rated.{AreRated};
@@ -120,6 +120,33 @@ impl<P: Peer> Ledger<P> {
         self.pairs.settle();
     }
 
+    /// The same caps and last arrivals, and the same messages that wait.
+    fn clone_known(&self) -> Result<(Peers<P>, Pairs<P>, Waiting<P>), AllocError>
+        ensures peers { IfOk result (λ known. known.0.entries ≡ self.now.peers.entries) }
+        ensures pairs { IfOk result (λ known. known.1.entries ≡ self.now.pairs.entries) }
+        ensures waiting { IfOk result (λ known. known.2.messages ≡ self.now.waiting.messages) }
+    {
+        Ok((
+            self.peers.clone()?,
+            self.pairs.clone()?,
+            self.waiting.clone()?,
+        ))
+    }
+
+    /// The same messages in flight, and what is known of the pairs that are idle and of those that
+    /// are busy.
+    fn clone_sending(&self) -> Result<(IdlePairs<P>, BusyPairs<P>, Flights<P>), AllocError>
+        ensures idle { IfOk result (λ sending. sending.0.entries ≡ self.now.idle.entries) }
+        ensures busy { IfOk result (λ sending. sending.1.entries ≡ self.now.busy.entries) }
+        ensures flights { IfOk result (λ sending. IsSameFlights self.now.flights sending.2) }
+    {
+        Ok((
+            self.idle.clone()?,
+            self.busy.clone()?,
+            self.flights.clone()?,
+        ))
+    }
+
     /// The earlier of the planned finish and the planned start.
     pub(crate) fn next_event(&self) -> Option<u64>
         ensures { result ≡ next_of_planned (planned P.cmp self.now) }
@@ -140,14 +167,16 @@ impl<P: Peer> Clone for Ledger<P> {
 
     /// The same state, the peers cloned.
     fn clone(&self) -> Result<Ledger<P>, AllocError> {
+        let (peers, pairs, waiting) = self.clone_known()?;
+        let (idle, busy, flights) = self.clone_sending()?;
         Ok(Ledger {
             alloc: self.alloc,
-            peers: self.peers.clone()?,
-            pairs: self.pairs.clone()?,
-            waiting: self.waiting.clone()?,
-            idle: self.idle.clone()?,
-            busy: self.busy.clone()?,
-            flights: self.flights.clone()?,
+            peers,
+            pairs,
+            waiting,
+            idle,
+            busy,
+            flights,
             limited: self.limited,
             next_id: self.next_id,
             finish: self.finish,

@@ -10,20 +10,20 @@ use Rattle.link_scheduler.proofs.transmitter.ledger.LedgerClone.clone.Goals as g
 pub invariant_of-result : goal.invariant_of-result
 invariant_of-result g c =
     let old = c.args.self.now in
-    let copy = c.in_ok-clone-6.field-0 in
-    let same = c.in_ok-clone-6.ensures.cases in
+    let copy = c.in_ok-idle.flights in
+    let same = c.in_ok-idle.ensures.flights in
     record {
       indexed =
           rw (
-            c.in_ok-clone-4.ensures.cases,
-            c.in_ok-clone-2.ensures.cases,
-            c.in_ok-clone-3.ensures.cases,
+            c.in_ok-idle.ensures.idle,
+            c.in_ok-peers.ensures.pairs,
+            c.in_ok-peers.ensures.waiting,
             in_flight_alike old.flights copy same,
           )
           old.indexed;
-      counted = rw (c.in_ok-clone-5.ensures.cases, in_flight_alike old.flights copy same) old.counted;
+      counted = rw (c.in_ok-idle.ensures.busy, in_flight_alike old.flights copy same) old.counted;
       rated = λ e. ∥∥₁_map (old.rated e) (λ f.
-          rw (c.in_ok-clone.ensures.cases, c.in_ok-clone-2.ensures.cases)
+          rw (c.in_ok-peers.ensures.peers, c.in_ok-peers.ensures.pairs)
           (rated_copy old.flights copy same g.P.Ord.cmp (caps_of g.P.Ord.cmp old.peers.entries old.pairs.entries) f));
     }
 
@@ -34,14 +34,14 @@ returns g c =
     record {
       cases = λ i. record {
         caps = record {
-          egress = egress_of cmp (c.in_ok-clone.ensures.cases i);
-          ingress = ingress_of cmp (c.in_ok-clone.ensures.cases i);
-          link = link_of cmp (c.in_ok-clone-2.ensures.cases i);
+          egress = egress_of cmp (c.in_ok-peers.ensures.peers i);
+          ingress = ingress_of cmp (c.in_ok-peers.ensures.peers i);
+          link = link_of cmp (c.in_ok-peers.ensures.pairs i);
         };
         limited = old.limited;
-        sending = in_flight_alike old.flights c.in_ok-clone-6.field-0 c.in_ok-clone-6.ensures.cases i;
-        waiting = map message_of (c.in_ok-clone-3.ensures.cases i);
-        last_arrival = arrival_of cmp (c.in_ok-clone-2.ensures.cases i);
+        sending = in_flight_alike old.flights c.in_ok-idle.flights c.in_ok-idle.ensures.flights i;
+        waiting = map message_of (c.in_ok-peers.ensures.waiting i);
+        last_arrival = arrival_of cmp (c.in_ok-peers.ensures.pairs i);
         next_id = old.next_id;
         finish = old.finish;
         start = old.start;
