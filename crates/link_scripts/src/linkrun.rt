@@ -83,16 +83,29 @@ pub fn run<R: Read, W: Write>(alloc: Global, input: &mut R, output: &mut W) -> O
     let Ok(mut writer) = BufWriter::new(alloc, output) else {
         return Outcome::NoMemory;
     };
-    let outcome = run_lines(Session::new(alloc), &mut reader, &mut writer, &mut line);
+    let outcome = run_session(alloc, &mut reader, &mut writer, &mut line);
     match writer.flush() {
         Ok(()) => outcome.unwrap_or(Outcome::InputOutput),
         Err(_) => Outcome::InputOutput,
     }
 }
 
+/// Runs the lines of `input` from a new session on.
+fn run_session<R: Read, W: Write + Drop>(
+    alloc: Global,
+    input: &mut BufReader<R>,
+    output: &mut BufWriter<W>,
+    line: &mut Vec<u8>,
+) -> io::Result<Outcome>
+    ensures { IfOk result CountsFromOne }
+{
+    let mut session = Session::new(alloc);
+    run_lines(&mut session, input, output, line)
+}
+
 /// Runs the lines of `input` in order, up to its end or to a bad line. `line` is room for one.
 fn run_lines<R: Read, W: Write + Drop>(
-    mut session: Session,
+    session: &mut Session,
     input: &mut BufReader<R>,
     output: &mut BufWriter<W>,
     line: &mut Vec<u8>,
