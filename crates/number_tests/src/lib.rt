@@ -5,3 +5,5 @@
 mod naturals;
 #[cfg(test)]
 mod ratios;
+#[cfg(test)]
+mod table;
