@@ -15,6 +15,27 @@ const HEAD: u64 = 150;
 /// The most rows of each kind.
 const MOST_ROWS: usize = 500;
 
+/// The styles of the shapes.
+const STYLE: &str = r#"<style>text{font:22px sans-serif;fill:#333}
+.n{text-anchor:end}.t{text-anchor:middle;fill:#666}
+path{fill:none}.g{stroke:#e4e4e4;stroke-width:2}
+.f{stroke:#999;stroke-width:2}.s{fill:#4c78a8}.i{stroke:#4c78a8;stroke-width:2;pointer-events:none}
+.w{stroke:#b0a090;stroke-width:3}.l{stroke:#e0a030;stroke-width:3}
+.a{stroke:#2a8a3a;stroke-width:4}.d{stroke:#d03030;stroke-width:4}
+.m{fill:#fff;fill-opacity:0;stroke:#fff;stroke-width:2}
+.k{stroke:#222;stroke-width:3}.u{stroke:#d03030;stroke-width:6}
+.c0{fill:#4c78a8}.c1{fill:#f2a65a}.c2{fill:#72b7b2}
+.c3{fill:#b279a2}.c4{fill:#86b958}.c5{fill:#d8b365}</style>"#;
+
+/// What the shapes mean.
+const LEGEND: &str = r#"<path class="w" d="M220 40H260"/><text x="270" y="48">waits</text>
+<path class="s" d="M370 50V30H410V50z"/><text x="420" y="48">is sent (height: its rate)</text>
+<path class="l" d="M720 40H760"/><text x="770" y="48">in latency</text>
+<path class="a" d="M910 30V50"/><text x="920" y="48">arrives</text>
+<path class="d" d="M1030 34l12 12m0-12l-12 12"/><text x="1052" y="48">is dropped</text>
+<path class="k" d="M1200 40H1240"/><text x="1250" y="48">cap</text>
+<path class="u" d="M1330 40H1370"/><text x="1380" y="48">is full</text>"#;
+
 /// Draws the picture.
 pub(crate) fn draw<W: Write>(
     out: &mut W,
@@ -26,7 +47,7 @@ pub(crate) fn draw<W: Write>(
     let sides = history.caps.len().min(MOST_ROWS) as u64;
     let foot = HEAD + pairs * ROW + sides * STACK;
     open(out, foot)?;
-    draw_legend(out)?;
+    writeln!(out, "{LEGEND}")?;
     draw_axis(out, frame, foot)?;
     let mut top = HEAD;
     for (pair, track) in history.tracks.iter().take(MOST_ROWS) {
@@ -49,75 +70,10 @@ fn open<W: Write>(out: &mut W, foot: u64) -> io::Result<()> {
         out,
         "<svg xmlns=\"http://www.w3.org/2000/svg\" width=\"1000\" height=\"{shown}\" viewBox=\"0 0 {WIDTH} {height}\">"
     )?;
-    writeln!(out, "<style>text{{font:22px sans-serif;fill:#333}}")?;
-    writeln!(
-        out,
-        ".n{{text-anchor:end}}.t{{text-anchor:middle;fill:#666}}"
-    )?;
-    writeln!(out, "path{{fill:none}}.g{{stroke:#e4e4e4;stroke-width:2}}")?;
-    writeln!(
-        out,
-        ".f{{stroke:#999;stroke-width:2}}.s{{fill:#4c78a8}}.i{{stroke:#4c78a8;stroke-width:2;pointer-events:none}}"
-    )?;
-    writeln!(
-        out,
-        ".w{{stroke:#b0a090;stroke-width:3}}.l{{stroke:#e0a030;stroke-width:3}}"
-    )?;
-    writeln!(
-        out,
-        ".a{{stroke:#2a8a3a;stroke-width:4}}.d{{stroke:#d03030;stroke-width:4}}"
-    )?;
-    writeln!(
-        out,
-        ".m{{fill:#fff;fill-opacity:0;stroke:#fff;stroke-width:2}}"
-    )?;
-    writeln!(
-        out,
-        ".k{{stroke:#222;stroke-width:3}}.u{{stroke:#d03030;stroke-width:6}}"
-    )?;
-    writeln!(
-        out,
-        ".c0{{fill:#4c78a8}}.c1{{fill:#f2a65a}}.c2{{fill:#72b7b2}}"
-    )?;
-    writeln!(
-        out,
-        ".c3{{fill:#b279a2}}.c4{{fill:#86b958}}.c5{{fill:#d8b365}}</style>"
-    )?;
+    writeln!(out, "{STYLE}")?;
     writeln!(
         out,
         "<rect width=\"{WIDTH}\" height=\"{height}\" fill=\"#fff\"/>"
-    )
-}
-
-/// What the shapes mean.
-fn draw_legend<W: Write>(out: &mut W) -> io::Result<()> {
-    writeln!(
-        out,
-        "<path class=\"w\" d=\"M220 40H260\"/><text x=\"270\" y=\"48\">waits</text>"
-    )?;
-    writeln!(
-        out,
-        "<path class=\"s\" d=\"M370 50V30H410V50z\"/><text x=\"420\" y=\"48\">is sent (height: its rate)</text>"
-    )?;
-    writeln!(
-        out,
-        "<path class=\"l\" d=\"M720 40H760\"/><text x=\"770\" y=\"48\">in latency</text>"
-    )?;
-    writeln!(
-        out,
-        "<path class=\"a\" d=\"M910 30V50\"/><text x=\"920\" y=\"48\">arrives</text>"
-    )?;
-    writeln!(
-        out,
-        "<path class=\"d\" d=\"M1030 34l12 12m0-12l-12 12\"/><text x=\"1052\" y=\"48\">is dropped</text>"
-    )?;
-    writeln!(
-        out,
-        "<path class=\"k\" d=\"M1200 40H1240\"/><text x=\"1250\" y=\"48\">cap</text>"
-    )?;
-    writeln!(
-        out,
-        "<path class=\"u\" d=\"M1330 40H1370\"/><text x=\"1380\" y=\"48\">is full</text>"
     )
 }
 

@@ -160,21 +160,27 @@ fn draw_hover<W: Write>(
         out,
         "{origin} → {recipient}, channel {channel}: {length} B\n"
     )?;
+    write_moments(out, message, start)?;
+    writeln!(out, "</title></rect>")
+}
+
+/// When the message was enqueued, starts, is done and arrives.
+fn write_moments<W: Write>(out: &mut W, message: &Sent, start: u64) -> io::Result<()> {
     let enqueued = Moment(message.enqueued);
     let start = Moment(start);
     write!(out, "enqueued {enqueued}, starts {start}")?;
-    if let Some(done) = message.done {
-        let done = Moment(done);
-        write!(out, ", done {done}")?;
-        match message.deliver_at {
-            Some(arrives) => {
-                let arrives = Moment(arrives);
-                write!(out, ", arrives {arrives}")?;
-            }
-            None => write!(out, ", dropped")?,
+    let Some(done) = message.done else {
+        return Ok(());
+    };
+    let done = Moment(done);
+    write!(out, ", done {done}")?;
+    match message.deliver_at {
+        Some(arrives) => {
+            let arrives = Moment(arrives);
+            write!(out, ", arrives {arrives}")
         }
+        None => write!(out, ", dropped"),
     }
-    writeln!(out, "</title></rect>")
 }
 
 /// The lines of messages that follow each other lie one above the other.
