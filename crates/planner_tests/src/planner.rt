@@ -7,6 +7,7 @@ mod plain;
 mod sizes;
 mod wide;
 
+use self::network::{Cap, Side, egress_cap, have_links, ingress_cap, link_cap};
 use fair_rates::bandwidth::{
     Flow, Rate, allocate, allocate_counted, allocate_linked, allocate_linked_counted,
 };
@@ -20,28 +21,18 @@ use std::process::Abort;
 use std::test::Fail;
 
 /// A flow from one peer to another, by their numbers, and whether it is delivered.
-#[derive(Clone, Copy, Debug)]
+#[derive(Clone, Copy)]
 struct Arrow(u64, u8, u8, bool);
 
-/// The cap of a peer, by its number.
-#[derive(Clone, Copy, Debug)]
-struct Cap(u8, u128);
-
-/// The cap of what goes from one peer to another, by their numbers.
-#[derive(Clone, Copy, Debug)]
-struct LinkCap(u8, u8, u128);
-
 /// The rate that is wanted for an id: a fraction, or `None` for no limit.
-#[derive(Clone, Copy, Debug)]
+#[derive(Clone, Copy)]
 struct Wanted(u64, Option<(u128, u128)>);
 
 /// Flows under caps that never change, the rates that they are to have, and the rounds of filling.
-#[derive(Clone, Copy, Debug)]
+#[derive(Clone, Copy)]
 struct Case<'a> {
     flows: &'a [Arrow],
-    egress: &'a [Cap],
-    ingress: &'a [Cap],
-    links: &'a [LinkCap],
+    caps: &'a [Cap],
     wanted: &'a [Wanted],
     rounds: u128,
 }
@@ -62,77 +53,61 @@ fn flows_of<P: Numbered>(
     Ok(flows)
 }
 
-fn cap_of(caps: &[Cap], peer: u8) -> Option<u128> {
-    caps.iter().find(|cap| cap.0 == peer).map(|cap| cap.1)
-}
-
-fn link_cap_of(caps: &[LinkCap], origin: u8, recipient: u8) -> Option<u128> {
-    caps.iter()
-        .find(|cap| cap.0 == origin && cap.1 == recipient)
-        .map(|cap| cap.2)
-}
-
+/// What `allocate` answers.
 fn rates<P: Numbered>(
     alloc: Global,
     flows: &[Flow<P>],
-    case: &Case,
+    caps: &[Cap],
 ) -> Result<BTreeMap<u64, Rate>, Error> {
-    let egress = case.egress;
-    let ingress = case.ingress;
     allocate(
         alloc,
         flows,
-        |peer| cap_of(egress, peer.number()),
-        |peer| cap_of(ingress, peer.number()),
+        |peer| egress_cap(caps, peer),
+        |peer| ingress_cap(caps, peer),
     )
 }
 
+/// What `allocate_linked` answers.
 fn linked_rates<P: Numbered>(
     alloc: Global,
     flows: &[Flow<P>],
-    case: &Case,
+    caps: &[Cap],
 ) -> Result<BTreeMap<u64, Rate>, Error> {
-    let egress = case.egress;
-    let ingress = case.ingress;
-    let links = case.links;
     allocate_linked(
         alloc,
         flows,
-        |peer| cap_of(egress, peer.number()),
-        |peer| cap_of(ingress, peer.number()),
-        |origin, recipient| link_cap_of(links, origin.number(), recipient.number()),
+        |peer| egress_cap(caps, peer),
+        |peer| ingress_cap(caps, peer),
+        |origin, recipient| link_cap(caps, origin, recipient),
     )
 }
 
+/// What `allocate_counted` answers.
 fn counted_rates<P: Numbered>(
     alloc: Global,
     flows: &[Flow<P>],
-    case: &Case,
+    caps: &[Cap],
 ) -> Result<(BTreeMap<u64, Rate>, u128), Error> {
-    let egress = case.egress;
-    let ingress = case.ingress;
     allocate_counted(
         alloc,
         flows,
-        |peer| cap_of(egress, peer.number()),
-        |peer| cap_of(ingress, peer.number()),
+        |peer| egress_cap(caps, peer),
+        |peer| ingress_cap(caps, peer),
     )
 }
 
+/// What `allocate_linked_counted` answers.
 fn linked_counted_rates<P: Numbered>(
     alloc: Global,
     flows: &[Flow<P>],
-    case: &Case,
+    caps: &[Cap],
 ) -> Result<(BTreeMap<u64, Rate>, u128), Error> {
-    let egress = case.egress;
-    let ingress = case.ingress;
-    let links = case.links;
     allocate_linked_counted(
         alloc,
         flows,
-        |peer| cap_of(egress, peer.number()),
-        |peer| cap_of(ingress, peer.number()),
-        |origin, recipient| link_cap_of(links, origin.number(), recipient.number()),
+        |peer| egress_cap(caps, peer),
+        |peer| ingress_cap(caps, peer),
+        |origin, recipient| link_cap(caps, origin, recipient),
     )
 }
 
@@ -150,20 +125,52 @@ fn expect(rt: &impl Abort, rates: &BTreeMap<u64, Rate>, wanted: &[Wanted]) -> Re
     Ok(())
 }
 
+/// Rates and rounds are those of the case.
+fn expect_counted(
+    rt: &impl Abort,
+    answer: &(BTreeMap<u64, Rate>, u128),
+    case: &Case,
+) -> Result<(), Fail> {
+    assert_eq!(rt; answer.1, case.rounds);
+    expect(rt, &answer.0, case.wanted)
+}
+
+/// The calls without links answer what the case says.
+fn holds_plainly<P: Numbered>(
+    rt: &(impl Abort + AllocGlobal),
+    flows: &[Flow<P>],
+    case: &Case,
+) -> Result<(), Fail> {
+    expect(rt, &rates(rt.alloc(), flows, case.caps)?, case.wanted)?;
+    expect_counted(rt, &counted_rates(rt.alloc(), flows, case.caps)?, case)
+}
+
+/// The calls with links answer what the case says.
+fn holds_linked<P: Numbered>(
+    rt: &(impl Abort + AllocGlobal),
+    flows: &[Flow<P>],
+    case: &Case,
+) -> Result<(), Fail> {
+    expect(
+        rt,
+        &linked_rates(rt.alloc(), flows, case.caps)?,
+        case.wanted,
+    )?;
+    expect_counted(
+        rt,
+        &linked_counted_rates(rt.alloc(), flows, case.caps)?,
+        case,
+    )
+}
+
 /// The flows have the rates, between peers of one type.
 fn holds<P: Numbered>(rt: &(impl Abort + AllocGlobal), case: &Case) -> Result<(), Fail> {
     let flows = flows_of::<P>(rt.alloc(), case.flows)?;
-    expect(rt, &linked_rates(rt.alloc(), &flows, case)?, case.wanted)?;
-    let (found, rounds) = linked_counted_rates(rt.alloc(), &flows, case)?;
-    expect(rt, &found, case.wanted)?;
-    assert_eq!(rt; rounds, case.rounds);
-    if case.links.is_empty() {
-        expect(rt, &rates(rt.alloc(), &flows, case)?, case.wanted)?;
-        let (found, rounds) = counted_rates(rt.alloc(), &flows, case)?;
-        expect(rt, &found, case.wanted)?;
-        assert_eq!(rt; rounds, case.rounds);
+    holds_linked(rt, &flows, case)?;
+    if have_links(case.caps) {
+        return Ok(());
     }
-    Ok(())
+    holds_plainly(rt, &flows, case)
 }
 
 /// Between peers of each type.
@@ -180,9 +187,7 @@ fn one_cap_is_shared(rt: HostRuntime) -> Result<(), Fail> {
     let halves = [Wanted(1, Some((500, 1))), Wanted(2, Some((500, 1)))];
     let case = Case {
         flows: &flows,
-        egress: &[Cap(1, 1000)],
-        ingress: &[],
-        links: &[],
+        caps: &[Cap(Side::Egress(1), 1000)],
         wanted: &halves,
         rounds: 1,
     };
@@ -215,9 +220,14 @@ fn filling_goes_round_by_round(rt: HostRuntime) -> Result<(), Fail> {
     ];
     let case = Case {
         flows: &flows,
-        egress: &[Cap(1, 1000000), Cap(2, 750000), Cap(3, 100000)],
-        ingress: &[Cap(1, 500000), Cap(2, 250000), Cap(3, 1000000)],
-        links: &[],
+        caps: &[
+            Cap(Side::Egress(1), 1000000),
+            Cap(Side::Egress(2), 750000),
+            Cap(Side::Egress(3), 100000),
+            Cap(Side::Ingress(1), 500000),
+            Cap(Side::Ingress(2), 250000),
+            Cap(Side::Ingress(3), 1000000),
+        ],
         wanted: &wanted,
         rounds: 2,
     };
@@ -247,9 +257,7 @@ fn the_order_of_the_flows_plays_no_part(rt: HostRuntime) -> Result<(), Fail> {
     ];
     let case = Case {
         flows: &flows,
-        egress: &[Cap(3, 3)],
-        ingress: &[Cap(2, 1)],
-        links: &[],
+        caps: &[Cap(Side::Egress(3), 3), Cap(Side::Ingress(2), 1)],
         wanted: &wanted,
         rounds: 2,
     };
@@ -268,16 +276,23 @@ fn what_is_left_is_used(rt: HostRuntime) -> Result<(), Fail> {
     let wanted = [Wanted(1, Some((1000, 1))), Wanted(2, Some((49000, 1)))];
     let case = Case {
         flows: &flows,
-        egress: &[Cap(1, 50000)],
-        ingress: &[Cap(2, 1000), Cap(3, 500000)],
-        links: &[],
+        caps: &[
+            Cap(Side::Egress(1), 50000),
+            Cap(Side::Ingress(2), 1000),
+            Cap(Side::Ingress(3), 500000),
+        ],
         wanted: &wanted,
         rounds: 2,
     };
     holds_at_each_type(&rt, &case)?;
     let limited = [Wanted(1, Some((1000, 1))), Wanted(2, Some((20000, 1)))];
     let linked = Case {
-        links: &[LinkCap(1, 3, 20000)],
+        caps: &[
+            Cap(Side::Egress(1), 50000),
+            Cap(Side::Ingress(2), 1000),
+            Cap(Side::Ingress(3), 500000),
+            Cap(Side::Link(1, 3), 20000),
+        ],
         wanted: &limited,
         ..case
     };
@@ -287,10 +302,10 @@ fn what_is_left_is_used(rt: HostRuntime) -> Result<(), Fail> {
         Wanted(2, Some((903890459611768029184000, 1))),
     ];
     let wide = Case {
-        egress: &[Cap(1, 922337203685477580800000)],
-        ingress: &[
-            Cap(2, 18446744073709551616000),
-            Cap(3, 9223372036854775808000000),
+        caps: &[
+            Cap(Side::Egress(1), 922337203685477580800000),
+            Cap(Side::Ingress(2), 18446744073709551616000),
+            Cap(Side::Ingress(3), 9223372036854775808000000),
         ],
         wanted: &large,
         ..case
@@ -305,16 +320,17 @@ fn dropped_flows_charge_their_origin(rt: HostRuntime) -> Result<(), Fail> {
     let wanted = [Wanted(1, Some((0, 1))), Wanted(2, Some((100, 1)))];
     let case = Case {
         flows: &flows,
-        egress: &[Cap(1, 100)],
-        ingress: &[Cap(2, 0), Cap(3, 0)],
-        links: &[],
+        caps: &[
+            Cap(Side::Egress(1), 100),
+            Cap(Side::Ingress(2), 0),
+            Cap(Side::Ingress(3), 0),
+        ],
         wanted: &wanted,
         rounds: 2,
     };
     holds_at_each_type(&rt, &case)?;
     let linked = Case {
-        ingress: &[],
-        links: &[LinkCap(1, 2, 0)],
+        caps: &[Cap(Side::Egress(1), 100), Cap(Side::Link(1, 2), 0)],
         ..case
     };
     holds_at_each_type(&rt, &linked)
@@ -326,9 +342,7 @@ fn the_last_of_an_id_decides(rt: HostRuntime) -> Result<(), Fail> {
     let flows = [Arrow(7, 1, 2, true), Arrow(7, 1, 3, true)];
     let case = Case {
         flows: &flows,
-        egress: &[Cap(1, 10)],
-        ingress: &[Cap(2, 2)],
-        links: &[],
+        caps: &[Cap(Side::Egress(1), 10), Cap(Side::Ingress(2), 2)],
         wanted: &[Wanted(7, Some((8, 1)))],
         rounds: 2,
     };
@@ -336,8 +350,7 @@ fn the_last_of_an_id_decides(rt: HostRuntime) -> Result<(), Fail> {
     let flows = [Arrow(7, 1, 3, true), Arrow(7, 2, 3, true)];
     let last_is_free = Case {
         flows: &flows,
-        egress: &[Cap(1, 5)],
-        ingress: &[],
+        caps: &[Cap(Side::Egress(1), 5)],
         wanted: &[Wanted(7, None)],
         rounds: 1,
         ..case
@@ -367,9 +380,7 @@ fn links_have_caps(rt: HostRuntime) -> Result<(), Fail> {
     ];
     let case = Case {
         flows: &flows,
-        egress: &[],
-        ingress: &[],
-        links: &[LinkCap(1, 2, 10)],
+        caps: &[Cap(Side::Link(1, 2), 10)],
         wanted: &wanted,
         rounds: 1,
     };
@@ -377,7 +388,7 @@ fn links_have_caps(rt: HostRuntime) -> Result<(), Fail> {
 }
 
 /// What each closure answers, one call after another, and then none.
-#[derive(Clone, Copy, Debug)]
+#[derive(Clone, Copy)]
 struct Answers<'a> {
     egress: &'a [Option<u128>],
     ingress: &'a [Option<u128>],
@@ -406,7 +417,16 @@ fn answered_rates(
     )
 }
 
-/// A side comes into being with the first number that is answered for it, and keeps that cap.
+/// The flows have these rates where the closures answer from lists.
+fn expect_answered(
+    rt: &(impl Abort + AllocGlobal),
+    flows: &[Flow<u64>],
+    answers: &Answers,
+    wanted: &[Wanted],
+) -> Result<(), Fail> {
+    expect(rt, &answered_rates(rt.alloc(), flows, answers)?, wanted)
+}
+
 /// Nothing is answered.
 const NONE: Answers<'static> = Answers {
     egress: &[],
@@ -421,6 +441,7 @@ const FROM_THE_SECOND: [Wanted; 3] = [
     Wanted(3, Some((2, 1))),
 ];
 
+/// A side comes into being with the first number that is answered for it, and keeps that cap.
 #[test]
 fn the_first_number_is_the_cap(rt: HostRuntime) -> Result<(), Fail> {
     let dropped = [
@@ -438,29 +459,17 @@ fn the_first_number_is_the_cap(rt: HostRuntime) -> Result<(), Fail> {
         Wanted(2, Some((10, 3))),
         Wanted(3, Some((10, 3))),
     ];
-    expect(
-        &rt,
-        &answered_rates(rt.alloc(), &dropped, &falling)?,
-        &thirds,
-    )?;
+    expect_answered(&rt, &dropped, &falling, &thirds)?;
     let late = Answers {
         egress: &[None, Some(4)],
         ..NONE
     };
-    expect(
-        &rt,
-        &answered_rates(rt.alloc(), &dropped, &late)?,
-        &FROM_THE_SECOND,
-    )?;
+    expect_answered(&rt, &dropped, &late, &FROM_THE_SECOND)?;
     let late_link = Answers {
         links: &[None, Some(4), None],
         ..NONE
     };
-    expect(
-        &rt,
-        &answered_rates(rt.alloc(), &dropped, &late_link)?,
-        &FROM_THE_SECOND,
-    )
+    expect_answered(&rt, &dropped, &late_link, &FROM_THE_SECOND)
 }
 
 #[test]
@@ -475,11 +484,7 @@ fn the_first_number_of_an_ingress_is_its_cap(rt: HostRuntime) -> Result<(), Fail
         ingress: &[None, Some(4), None],
         ..NONE
     };
-    expect(
-        &rt,
-        &answered_rates(rt.alloc(), &arriving, &between)?,
-        &FROM_THE_SECOND,
-    )
+    expect_answered(&rt, &arriving, &between, &FROM_THE_SECOND)
 }
 
 /// The rates where the closures for peers answer from lists, without one for links.
@@ -515,7 +520,7 @@ fn a_late_cap_holds_for_the_later_flow_alone(rt: HostRuntime) -> Result<(), Fail
         links: &late,
         ..NONE
     };
-    expect(&rt, &answered_rates(rt.alloc(), &flows, &link)?, &wanted)
+    expect_answered(&rt, &flows, &link, &wanted)
 }
 
 /// A link of cap zero stops its own flow, and leaves all of the egress to the other.
@@ -525,9 +530,7 @@ fn a_closed_link_leaves_the_egress_to_others(rt: HostRuntime) -> Result<(), Fail
     let wanted = [Wanted(1, Some((0, 1))), Wanted(2, Some((100, 1)))];
     let case = Case {
         flows: &flows,
-        egress: &[Cap(1, 100)],
-        ingress: &[],
-        links: &[LinkCap(1, 2, 0)],
+        caps: &[Cap(Side::Egress(1), 100), Cap(Side::Link(1, 2), 0)],
         wanted: &wanted,
         rounds: 2,
     };

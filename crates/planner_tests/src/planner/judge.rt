@@ -122,6 +122,15 @@ fn the_judge_tells(rt: HostRuntime) -> Result<(), Fail> {
     Ok(())
 }
 
+/// The rates of the plain planner by id. Of flows with one id the last decides.
+fn by_id(alloc: Global, network: &Network, filled: &Filled) -> Result<BTreeMap<u64, Rate>, Fail> {
+    let mut by_id = BTreeMap::new(alloc);
+    for (flow, rate) in network.flows.iter().zip(&filled.rates) {
+        by_id.insert(flow.id, *rate)?;
+    }
+    Ok(by_id)
+}
+
 /// The planner answers the rates and the rounds of the plain one.
 fn expect_same(
     rt: &(impl Abort + AllocGlobal),
@@ -129,10 +138,7 @@ fn expect_same(
     filled: &Filled,
     planned: &Planned,
 ) -> Result<(), Fail> {
-    let mut by_id = BTreeMap::new(rt.alloc());
-    for (flow, rate) in network.flows.iter().zip(&filled.rates) {
-        by_id.insert(flow.id, *rate)?;
-    }
+    let by_id = by_id(rt.alloc(), network, filled)?;
     assert_eq!(rt; planned.rates.len(), by_id.len());
     for flow in network.flows {
         assert_eq!(rt;
@@ -194,25 +200,40 @@ fn a_plain_planner_agrees(rt: HostRuntime) -> Result<(), Fail> {
     Ok(())
 }
 
-/// The planner answers the same rates for the flows in the other order, where no two have one id.
-fn expect_turned(rt: &(impl Abort + AllocGlobal), network: &Network) -> Result<(), Fail> {
-    let mut backward = Vec::new(rt.alloc());
-    for flow in network.flows.iter().rev() {
+/// The flows in the other order.
+fn turned(alloc: Global, flows: &[Flow<u64>]) -> Result<Vec<Flow<u64>>, Fail> {
+    let mut backward = Vec::new(alloc);
+    for flow in flows.iter().rev() {
         backward.push(flow.clone()?)?;
     }
-    let turned = Network {
+    Ok(backward)
+}
+
+/// Both answers have the same rounds, and the same rate for each of the flows.
+fn expect_equal(rt: &impl Abort, flows: &[Flow<u64>], one: &Planned, other: &Planned) {
+    assert_eq!(rt; one.rounds, other.rounds);
+    for flow in flows {
+        assert_eq!(rt;
+            one.rates.get(&flow.id).copied(),
+            other.rates.get(&flow.id).copied()
+        );
+    }
+}
+
+/// The planner answers the same rates for the flows in the other order, where no two have one id.
+fn expect_turned(rt: &(impl Abort + AllocGlobal), network: &Network) -> Result<(), Fail> {
+    let backward = turned(rt.alloc(), network.flows)?;
+    let other = Network {
         flows: &backward,
         ..*network
     };
     let planned = plan_linked(rt.alloc(), network)?;
-    let other = plan_linked(rt.alloc(), &turned)?;
-    assert_eq!(rt; planned.rounds, other.rounds);
-    for flow in network.flows {
-        assert_eq!(rt;
-            planned.rates.get(&flow.id).copied(),
-            other.rates.get(&flow.id).copied()
-        );
-    }
+    expect_equal(
+        rt,
+        network.flows,
+        &planned,
+        &plan_linked(rt.alloc(), &other)?,
+    );
     Ok(())
 }
 

@@ -5,7 +5,7 @@ use std::alloc::Global;
 use std::test::Fail;
 
 /// Numbers of which each is the one before times 48271, modulo 2^31 - 1.
-#[derive(Clone, Copy, Debug)]
+#[derive(Clone, Copy)]
 pub struct Chance(pub u64);
 
 impl Chance {
@@ -35,7 +35,7 @@ impl Chance {
 }
 
 /// How lists are made.
-#[derive(Clone, Copy, Debug)]
+#[derive(Clone, Copy)]
 pub struct Kind {
     /// The most flows of a list, at least one.
     pub flows: u64,
@@ -50,7 +50,7 @@ pub struct Kind {
 }
 
 /// Flows and caps.
-#[derive(Debug, Drop)]
+#[derive(Drop)]
 pub struct List {
     pub flows: Vec<Flow<u64>>,
     pub caps: Vec<Cap>,

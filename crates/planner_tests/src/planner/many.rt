@@ -1,7 +1,7 @@
 //! Many flows of one origin, planned by the calls that count no rounds.
-use super::network::{finite, sent};
-use fair_rates::bandwidth::{Flow, Rate, allocate, allocate_linked};
-use fair_rates::error::Error;
+use super::network::{Cap, Side, finite, sent};
+use super::{linked_rates, rates};
+use fair_rates::bandwidth::{Flow, Rate};
 use std::alloc::Global;
 use std::collections::BTreeMap;
 use std::process::Abort;
@@ -16,37 +16,6 @@ fn fan(alloc: Global, flows: u64) -> Result<Vec<Flow<u64>>, Fail> {
     Ok(fan)
 }
 
-/// Peer 1 may send so much, and peer 2 may receive so much.
-fn rates(
-    alloc: Global,
-    flows: &[Flow<u64>],
-    egress: u128,
-    ingress: Option<u128>,
-) -> Result<BTreeMap<u64, Rate>, Error> {
-    allocate(
-        alloc,
-        flows,
-        |peer| if *peer == 1 { Some(egress) } else { None },
-        |peer| if *peer == 2 { ingress } else { None },
-    )
-}
-
-/// Peer 1 may send so much, and so much of it to peer 2.
-fn linked_rates(
-    alloc: Global,
-    flows: &[Flow<u64>],
-    egress: u128,
-    link: Option<u128>,
-) -> Result<BTreeMap<u64, Rate>, Error> {
-    allocate_linked(
-        alloc,
-        flows,
-        |peer| if *peer == 1 { Some(egress) } else { None },
-        |_peer| None,
-        |_origin, recipient| if *recipient == 2 { link } else { None },
-    )
-}
-
 /// There are so many rates: the first is this one, and all others are that one.
 fn expect(rt: &impl Abort, rates: &BTreeMap<u64, Rate>, flows: u64, first: Rate, other: Rate) {
     assert_eq!(rt; rates.len() as u64, flows);
@@ -56,30 +25,53 @@ fn expect(rt: &impl Abort, rates: &BTreeMap<u64, Rate>, flows: u64, first: Rate,
     }
 }
 
+/// Peer 1 may send so much.
+const EGRESS: [Cap; 1] = [Cap(Side::Egress(1), 1_000_000)];
+
 #[test]
 fn a_cap_is_shared_by_any_number_of_flows(rt: HostRuntime) -> Result<(), Fail> {
     for flows in [5u64, 16, 17, 100, 2000] {
-        let fan = fan(rt.alloc(), flows)?;
         let share = finite(1_000_000, flows as u128)?;
-        let planned = rates(rt.alloc(), &fan, 1_000_000, None)?;
-        expect(&rt, &planned, flows, share, share);
-        let planned = linked_rates(rt.alloc(), &fan, 1_000_000, None)?;
-        expect(&rt, &planned, flows, share, share);
+        let fan = fan(rt.alloc(), flows)?;
+        expect(&rt, &rates(rt.alloc(), &fan, &EGRESS)?, flows, share, share);
+        expect(
+            &rt,
+            &linked_rates(rt.alloc(), &fan, &EGRESS)?,
+            flows,
+            share,
+            share,
+        );
     }
     Ok(())
 }
 
+/// Peer 1 may send so much, and peer 2 may receive so much.
+const HELD_BY_INGRESS: [Cap; 2] = [Cap(Side::Egress(1), 1_000_000), Cap(Side::Ingress(2), 10)];
+
+/// Peer 1 may send so much, and so much of it to peer 2.
+const HELD_BY_LINK: [Cap; 2] = [Cap(Side::Egress(1), 1_000_000), Cap(Side::Link(1, 2), 10)];
+
 /// The first flow is held by a cap of its own, and the others share what it leaves.
 #[test]
 fn what_one_flow_leaves_is_shared_by_the_others(rt: HostRuntime) -> Result<(), Fail> {
+    let own = finite(10, 1)?;
     for (flows, others) in [(5u64, 4u128), (16, 15), (17, 16), (100, 99), (2000, 1999)] {
-        let fan = fan(rt.alloc(), flows)?;
-        let own = finite(10, 1)?;
         let share = finite(999_990, others)?;
-        let planned = rates(rt.alloc(), &fan, 1_000_000, Some(10))?;
-        expect(&rt, &planned, flows, own, share);
-        let planned = linked_rates(rt.alloc(), &fan, 1_000_000, Some(10))?;
-        expect(&rt, &planned, flows, own, share);
+        let fan = fan(rt.alloc(), flows)?;
+        expect(
+            &rt,
+            &rates(rt.alloc(), &fan, &HELD_BY_INGRESS)?,
+            flows,
+            own,
+            share,
+        );
+        expect(
+            &rt,
+            &linked_rates(rt.alloc(), &fan, &HELD_BY_LINK)?,
+            flows,
+            own,
+            share,
+        );
     }
     Ok(())
 }

@@ -1,14 +1,16 @@
 //! Flows between numbered peers under caps that never change, for the tests of the planner.
-use fair_rates::bandwidth::{Flow, Rate, allocate_counted, allocate_linked_counted};
+use super::{counted_rates, linked_counted_rates};
+use fair_rates::bandwidth::{Flow, Rate};
 use fair_rates::error::Error;
 use fair_rates::ratio::Ratio;
+use numbered_peers::Numbered;
 use std::alloc::Global;
 use std::collections::BTreeMap;
 use std::process::Abort;
 use std::test::Fail;
 
 /// What a cap holds for.
-#[derive(Clone, Copy, Debug, PartialEq, Eq)]
+#[derive(Clone, Copy, PartialEq, Eq)]
 pub enum Side {
     /// All that a peer sends.
     Egress(u64),
@@ -32,18 +34,18 @@ impl Side {
 }
 
 /// A side, and how many bytes a second go through it.
-#[derive(Clone, Copy, Debug)]
+#[derive(Clone, Copy)]
 pub struct Cap(pub Side, pub u128);
 
-/// Flows, and the caps, of which no two are of one side.
-#[derive(Clone, Copy, Debug)]
+/// Flows, and the caps, of which no two are of one side. A peer with a cap has a number below 255.
+#[derive(Clone, Copy)]
 pub struct Network<'a> {
     pub flows: &'a [Flow<u64>],
     pub caps: &'a [Cap],
 }
 
 /// The rates by id, and the number of rounds.
-#[derive(Debug, Drop)]
+#[derive(Drop)]
 pub struct Planned {
     pub rates: BTreeMap<u64, Rate>,
     pub rounds: u128,
@@ -73,28 +75,41 @@ fn cap_of(caps: &[Cap], side: Side) -> Option<u128> {
     caps.iter().find(|cap| cap.0 == side).map(|cap| cap.1)
 }
 
+/// The cap of all that a peer sends.
+pub fn egress_cap<P: Numbered>(caps: &[Cap], peer: &P) -> Option<u128> {
+    cap_of(caps, Side::Egress(u64::from(peer.number())))
+}
+
+/// The cap of all that a peer receives.
+pub fn ingress_cap<P: Numbered>(caps: &[Cap], peer: &P) -> Option<u128> {
+    cap_of(caps, Side::Ingress(u64::from(peer.number())))
+}
+
+/// The cap of all that goes from one peer to another.
+pub fn link_cap<P: Numbered>(caps: &[Cap], origin: &P, recipient: &P) -> Option<u128> {
+    let (origin, recipient) = (origin.number(), recipient.number());
+    cap_of(caps, Side::Link(u64::from(origin), u64::from(recipient)))
+}
+
+/// Whether one of the caps is of a link.
+pub fn have_links(caps: &[Cap]) -> bool {
+    for cap in caps {
+        if let Side::Link(..) = cap.0 {
+            return true;
+        }
+    }
+    false
+}
+
 /// What the planner answers, without caps of links.
 pub fn plan(alloc: Global, network: &Network) -> Result<Planned, Error> {
-    let caps = network.caps;
-    let (rates, rounds) = allocate_counted(
-        alloc,
-        network.flows,
-        |peer| cap_of(caps, Side::Egress(*peer)),
-        |peer| cap_of(caps, Side::Ingress(*peer)),
-    )?;
+    let (rates, rounds) = counted_rates(alloc, network.flows, network.caps)?;
     Ok(Planned { rates, rounds })
 }
 
 /// What the planner answers, with caps of links.
 pub fn plan_linked(alloc: Global, network: &Network) -> Result<Planned, Error> {
-    let caps = network.caps;
-    let (rates, rounds) = allocate_linked_counted(
-        alloc,
-        network.flows,
-        |peer| cap_of(caps, Side::Egress(*peer)),
-        |peer| cap_of(caps, Side::Ingress(*peer)),
-        |origin, recipient| cap_of(caps, Side::Link(*origin, *recipient)),
-    )?;
+    let (rates, rounds) = linked_counted_rates(alloc, network.flows, network.caps)?;
     Ok(Planned { rates, rounds })
 }
 

@@ -110,7 +110,7 @@ pub fn judge(network: &Network, rates: &[Rate]) -> Verdict {
 }
 
 /// The rates of a plain planner, one for each flow, and its rounds.
-#[derive(Debug, Drop)]
+#[derive(Drop)]
 pub struct Filled {
     pub rates: Vec<Rate>,
     pub rounds: u64,

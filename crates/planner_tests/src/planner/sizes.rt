@@ -15,7 +15,7 @@ const LARGEST: u128 = 340282366920938463463374607431768211455;
 
 /// How many flows a side of a chain holds that no side before it holds, its cap, and the rate that
 /// each of these flows is to have, as a fraction.
-#[derive(Clone, Copy, Debug)]
+#[derive(Clone, Copy)]
 struct Group(u64, u128, u128, u128);
 
 /// The side of a chain at a place. The sides take turns in sending and receiving.
@@ -74,7 +74,20 @@ fn expect_groups(rt: &impl Abort, planned: &Planned, chain: &[Group]) -> Result<
     Ok(())
 }
 
-/// The flows of a chain are answered, by both calls, with a round for each side.
+/// Both calls answer the rates of a chain, the one without links with a round for each side.
+fn expect_chain(
+    rt: &(impl Abort + AllocGlobal),
+    network: &Network,
+    chain: &[Group],
+) -> Result<(), Fail> {
+    let planned = plan(rt.alloc(), network)?;
+    assert_eq!(rt; planned.rates.len(), network.flows.len());
+    assert_eq!(rt; planned.rounds, chain.len() as u128);
+    expect_groups(rt, &planned, chain)?;
+    expect_groups(rt, &plan_linked(rt.alloc(), network)?, chain)
+}
+
+/// The flows of a chain are answered, by both calls.
 fn is_answered(rt: &(impl Abort + AllocGlobal), chain: &[Group]) -> Result<(), Fail> {
     let flows = flows_of(rt.alloc(), chain)?;
     let caps = caps_of(rt.alloc(), chain)?;
@@ -82,11 +95,14 @@ fn is_answered(rt: &(impl Abort + AllocGlobal), chain: &[Group]) -> Result<(), F
         flows: &flows,
         caps: &caps,
     };
-    let planned = plan(rt.alloc(), &network)?;
-    assert_eq!(rt; planned.rates.len(), flows.len());
-    assert_eq!(rt; planned.rounds, chain.len() as u128);
-    expect_groups(rt, &planned, chain)?;
-    expect_groups(rt, &plan_linked(rt.alloc(), &network)?, chain)
+    expect_chain(rt, &network, chain)
+}
+
+/// Both calls refuse the flows.
+fn expect_refused(rt: &(impl Abort + AllocGlobal), network: &Network) {
+    let refusal = Some(Error::NumberTooLarge);
+    assert_eq!(rt; plan(rt.alloc(), network).err(), refusal);
+    assert_eq!(rt; plan_linked(rt.alloc(), network).err(), refusal);
 }
 
 /// The flows of a chain are refused, by both calls.
@@ -97,14 +113,7 @@ fn is_refused(rt: &(impl Abort + AllocGlobal), chain: &[Group]) -> Result<(), Fa
         flows: &flows,
         caps: &caps,
     };
-    assert_eq!(rt;
-        plan(rt.alloc(), &network).err(),
-        Some(Error::NumberTooLarge)
-    );
-    assert_eq!(rt;
-        plan_linked(rt.alloc(), &network).err(),
-        Some(Error::NumberTooLarge)
-    );
+    expect_refused(rt, &network);
     Ok(())
 }
 

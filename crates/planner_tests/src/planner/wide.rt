@@ -1,6 +1,7 @@
 //! Rates next to 2^128.
-use super::network::{Cap, Network, Side, expect_rate, plan, plan_linked, sent};
+use super::network::{Cap, Network, Planned, Side, expect_rate, plan, plan_linked, sent};
 use fair_rates::error::Error;
+use std::process::Abort;
 use std::test::Fail;
 
 const LARGEST: u128 = 340282366920938463463374607431768211455;
@@ -37,6 +38,17 @@ fn one_rate_that_is_no_fraction_is_refused(rt: HostRuntime) -> Result<(), Fail> 
     Ok(())
 }
 
+/// The rates of five flows, after three rounds.
+fn expect_five_rates(rt: &impl Abort, planned: &Planned) -> Result<(), Fail> {
+    expect_rate(rt, planned, 0, 170141183460469231731687303715884105729, 2)?;
+    expect_rate(rt, planned, 1, 170141183460469231731687303715884105729, 2)?;
+    expect_rate(rt, planned, 2, 170141183460469231731687303715884105731, 2)?;
+    expect_rate(rt, planned, 3, 170141183460469231731687303715884105731, 2)?;
+    expect_rate(rt, planned, 4, 170141183460469231731687303715884105725, 1)?;
+    assert_eq!(rt; planned.rounds, 3);
+    Ok(())
+}
+
 /// The flows of peer 1 to peers 2 and 3 have more than 2^128 halves together, and each rate is a
 /// fraction of 128 bits.
 #[test]
@@ -55,16 +67,6 @@ fn rates_whose_sums_are_no_fractions_are_answered(rt: HostRuntime) -> Result<(),
             Cap(Side::Ingress(3), HALF + 3),
         ],
     };
-    for planned in [
-        plan(rt.alloc(), &network)?,
-        plan_linked(rt.alloc(), &network)?,
-    ] {
-        expect_rate(&rt, &planned, 0, 170141183460469231731687303715884105729, 2)?;
-        expect_rate(&rt, &planned, 1, 170141183460469231731687303715884105729, 2)?;
-        expect_rate(&rt, &planned, 2, 170141183460469231731687303715884105731, 2)?;
-        expect_rate(&rt, &planned, 3, 170141183460469231731687303715884105731, 2)?;
-        expect_rate(&rt, &planned, 4, 170141183460469231731687303715884105725, 1)?;
-        assert_eq!(rt; planned.rounds, 3);
-    }
-    Ok(())
+    expect_five_rates(&rt, &plan(rt.alloc(), &network)?)?;
+    expect_five_rates(&rt, &plan_linked(rt.alloc(), &network)?)
 }
