@@ -21,7 +21,20 @@ fn number(words: &mut SplitWhitespace<'_>) -> u64 {
 
 /// A number of 64 bits, or none.
 fn moment(words: &mut SplitWhitespace<'_>) -> Option<u64> {
-    words.next()?.parse().ok()
+    number_in(words.next()?)
+}
+
+/// The number of 64 bits that a word is.
+fn number_in(word: &str) -> Option<u64> {
+    word.parse().ok()
+}
+
+/// Takes a word. Answers whether it is that one.
+fn takes(words: &mut SplitWhitespace<'_>, wanted: &str) -> bool {
+    match words.next() {
+        Some(word) => word == wanted,
+        None => false,
+    }
 }
 
 fn cap(words: &mut SplitWhitespace<'_>) -> Option<usize> {
@@ -100,7 +113,7 @@ fn arguments_of(name: &str) -> Option<u64> {
 
 /// Whether the word is a number of 64 bits, or stands for none.
 fn is_argument(word: &str) -> bool {
-    word == "-" || word.parse::<u64>().is_ok()
+    word == "-" || number_in(word).is_some()
 }
 
 /// Whether a line is a name of a call and as many arguments as it has.
@@ -134,20 +147,20 @@ fn says_done<P: Numbered>(words: &mut SplitWhitespace<'_>, done: &Completion<P>)
 
 /// Whether the words go on with `done` and the two peers.
 fn says_pair<P: Numbered>(words: &mut SplitWhitespace<'_>, done: &Completion<P>) -> bool {
-    words.next() == Some("done")
+    takes(words, "done")
         && number(words) == done.origin.number() as u64
         && number(words) == done.recipient.number() as u64
 }
 
 /// Whether the words go on with the channel, the length and the arrival.
-fn says_message<P>(words: &mut SplitWhitespace<'_>, done: &Completion<P>) -> bool {
+fn says_message<P: Numbered>(words: &mut SplitWhitespace<'_>, done: &Completion<P>) -> bool {
     number(words) == done.channel
         && number(words) == done.message.len() as u64
         && moment(words) == done.deliver_at
 }
 
 /// Whether the first byte and the last are the channel, where there are any.
-fn are_bytes_of<P>(done: &Completion<P>) -> bool {
+fn are_bytes_of<P: Numbered>(done: &Completion<P>) -> bool {
     let bytes = done.message.as_slice();
     let mut ends = bytes.first().into_iter().chain(bytes.last());
     ends.all(|byte| *byte == (done.channel % 256) as u8)
@@ -183,14 +196,14 @@ fn is_wanted<P: Numbered>(reply: &Reply<P>, wanted: &str) -> bool {
 }
 
 fn says_next(words: &mut SplitWhitespace<'_>, next: Option<u64>) -> bool {
-    words.next() == Some("next") && moment(words) == next && words.next().is_none()
+    takes(words, "next") && moment(words) == next && words.next().is_none()
 }
 
 fn says_refused(words: &mut SplitWhitespace<'_>, error: Error) -> bool {
-    words.next() == Some("refused") && number(words) == number_of(error) && words.next().is_none()
+    takes(words, "refused") && number(words) == number_of(error) && words.next().is_none()
 }
 
-fn lacks_memory<P>(reply: &Reply<P>) -> bool {
+fn lacks_memory<P: Numbered>(reply: &Reply<P>) -> bool {
     matches!(reply, Reply::Refused(Error::OutOfMemory))
 }
 
@@ -210,7 +223,7 @@ pub fn replayed<P: Numbered>(alloc: Global, calls: &[Call<P>]) -> Result<Vec<Rep
 }
 
 /// The messages that are done, where nothing else is answered.
-pub fn done_of<P>(reply: &Reply<P>) -> Option<&[Completion<P>]> {
+pub fn done_of<P: Numbered>(reply: &Reply<P>) -> Option<&[Completion<P>]> {
     match reply {
         Reply::Done(completions) => Some(completions),
         _ => None,
@@ -245,6 +258,25 @@ fn answer<P: Numbered>(
     }
 }
 
+/// Makes the call of a line, and compares the answer. Answers whether it was refused for want of
+/// memory instead, where it may be.
+fn is_refused<P: Numbered>(
+    rt: &(impl Abort + AllocGlobal),
+    state: &mut State<P>,
+    row: &str,
+    may_be_refused: bool,
+    fuse: &Fuse,
+) -> bool {
+    let (line, wanted) = parts_of(rt, row);
+    let reply = answer(rt, state, line, fuse);
+    let is_refused = may_be_refused && lacks_memory(&reply);
+    assert!(rt;
+        is_refused || is_wanted(&reply, wanted),
+        "the answer to {line}"
+    );
+    is_refused
+}
+
 /// Makes the call of a row, and compares the answer. It may be refused for want of memory where none
 /// was so far, and is made again. Answers whether one was.
 fn play_row<P: Numbered>(
@@ -254,19 +286,11 @@ fn play_row<P: Numbered>(
     was_refused: bool,
     fuse: &Fuse,
 ) -> bool {
-    let (line, wanted) = parts_of(rt, row);
-    let first = answer(rt, state, line, fuse);
-    if was_refused || !lacks_memory(&first) {
-        expect(rt, &first, line, wanted);
-        return was_refused;
+    if is_refused(rt, state, row, !was_refused, fuse) {
+        let _is_refused = is_refused(rt, state, row, false, fuse);
+        return true;
     }
-    expect(rt, &answer(rt, state, line, fuse), line, wanted);
-    true
-}
-
-/// Compares the answer to a line.
-fn expect<P: Numbered>(rt: &impl Abort, reply: &Reply<P>, line: &str, wanted: &str) {
-    assert!(rt; is_wanted(reply, wanted), "the answer to {line}");
+    was_refused
 }
 
 /// Makes the calls on a scheduler whose flow ids begin at `first`, and compares each answer. One
@@ -346,6 +370,11 @@ pub fn play_list<P: Numbered>(rt: &(impl Abort + AllocGlobal), rows: &str, fuse:
     }
 }
 
+/// Compares the answer to a line.
+fn expect<P: Numbered>(rt: &impl Abort, reply: &Reply<P>, line: &str, wanted: &str) {
+    assert!(rt; is_wanted(reply, wanted), "the reply to {line}");
+}
+
 /// The first replies are those of the rows.
 fn expect_replies<P: Numbered>(rt: &impl Abort, replies: &[Reply<P>], rows: &str) {
     for (reply, row) in replies.iter().zip(rows.split('\n')) {
@@ -408,10 +437,10 @@ fn is_same_done<P: Numbered>(one: &Completion<P>, other: &Completion<P>) -> bool
 }
 
 /// Whether the messages are the same and arrive at the same moment.
-fn is_same_message<P>(one: &Completion<P>, other: &Completion<P>) -> bool {
+fn is_same_message<P: Numbered>(one: &Completion<P>, other: &Completion<P>) -> bool {
     one.channel == other.channel
+        && one.deliver_at == other.deliver_at
         && one.message.len() == other.message.len()
         && are_bytes_of(one)
         && are_bytes_of(other)
-        && one.deliver_at == other.deliver_at
 }

@@ -110,29 +110,29 @@ fn send<P: Numbered>(
 }
 
 /// The calls that lead to what the message finds.
-fn calls_before<P: Numbered>(
+fn put_before<P: Numbered>(
     alloc: Global,
     kind: &Kind,
+    calls: &mut Vec<Call<P>>,
     fuse: &Fuse,
-) -> Result<Vec<Call<P>>, AllocError> {
-    let mut calls = Vec::new(alloc);
+) -> Result<(), AllocError> {
     match kind.found {
         Found::NoLimit => {}
         Found::Idle | Found::Busy => calls.push(limit(alloc, kind.now, 1000, fuse)?)?,
     }
     if let Found::Busy = kind.found {
-        calls.push(send(alloc, &busy(kind.now), 2, fuse)?)?;
+        calls.push(send(alloc, &message(kind.now, 5, 1000), 2, fuse)?)?;
     }
-    Ok(calls)
+    Ok(())
 }
 
-/// The message that is in flight for a second.
-fn busy(now: u64) -> Kind {
+/// A message that is delivered with no latency.
+fn message(now: u64, channel: u64, length: u64) -> Kind {
     Kind {
         found: Found::Idle,
         now,
-        channel: 5,
-        length: 1000,
+        channel,
+        length,
         latency: 0,
         should_deliver: true,
     }
@@ -144,12 +144,19 @@ fn calls_of<P: Numbered>(
     kind: &Kind,
     fuse: &Fuse,
 ) -> Result<Vec<Call<P>>, AllocError> {
-    let mut calls = calls_before(alloc, kind, fuse)?;
+    let mut calls = Vec::new(alloc);
+    put_before(alloc, kind, &mut calls, fuse)?;
     calls.push(send(alloc, kind, 2, fuse)?)?;
     calls.push(Call::Advance {
         now: kind.done_at(),
     })?;
     Ok(calls)
+}
+
+/// Puts a reply down.
+fn put<P: Numbered>(replies: &mut Vec<Reply<P>>, reply: Reply<P>) -> Result<(), AllocError> {
+    replies.push(reply)?;
+    Ok(())
 }
 
 /// Makes a call, and puts its reply down.
@@ -159,8 +166,7 @@ fn put_reply<P: Numbered>(
     replies: &mut Vec<Reply<P>>,
 ) -> Result<(), Error> {
     let reply = make(state, call)?;
-    replies.push(reply)?;
-    Ok(())
+    Ok(put(replies, reply)?)
 }
 
 /// Makes the calls one by one on that scheduler.
@@ -184,7 +190,7 @@ fn made<P: Numbered>(alloc: Global, calls: Vec<Call<P>>) -> Result<Vec<Reply<P>>
 }
 
 /// Whether a message is done as one of the kind is.
-fn is_of<P>(kind: &Kind, done: &Completion<P>) -> bool {
+fn is_of<P: Numbered>(kind: &Kind, done: &Completion<P>) -> bool {
     done.channel == kind.channel
         && done.message.len() as u64 == kind.length
         && done.deliver_at == kind.arrives_at()
@@ -294,26 +300,37 @@ fn cap<P: Numbered>(
 }
 
 /// The calls before a cap, at 1000 bytes a second, with a message that began then, or with none.
-fn uncapped<P: Numbered>(
+fn put_uncapped<P: Numbered>(
     alloc: Global,
     begun: u64,
     is_sent: bool,
+    calls: &mut Vec<Call<P>>,
     fuse: &Fuse,
-) -> Result<Vec<Call<P>>, AllocError> {
-    let mut calls = Vec::new(alloc);
+) -> Result<(), AllocError> {
     calls.push(limit(alloc, begun, 1000, fuse)?)?;
     if is_sent {
-        let kind = Kind {
-            length: 2000,
-            channel: 0,
-            ..busy(begun)
-        };
-        calls.push(send(alloc, &kind, 2, fuse)?)?;
+        calls.push(send(alloc, &message(begun, 0, 2000), 2, fuse)?)?;
     }
-    Ok(calls)
+    Ok(())
 }
 
-/// The calls up to the cap, with a message that began then, or with none; and the next event.
+/// An advance to the cap, the cap, and the next event.
+fn put_cap<P: Numbered>(
+    alloc: Global,
+    now: u64,
+    side: Side,
+    most: Option<usize>,
+    calls: &mut Vec<Call<P>>,
+    fuse: &Fuse,
+) -> Result<(), AllocError> {
+    calls.push(Call::Advance { now })?;
+    calls.push(cap(alloc, now, side, most, fuse)?)?;
+    calls.push(Call::Next)?;
+    Ok(())
+}
+
+/// The calls up to the cap a second later, with a message that began then, or with none; and the
+/// next event.
 fn capped<P: Numbered>(
     alloc: Global,
     begun: u64,
@@ -323,22 +340,21 @@ fn capped<P: Numbered>(
 ) -> Result<Vec<Call<P>>, AllocError> {
     let fuse = fuse_of(alloc, 0)?;
     let now = begun.saturating_add(SECOND);
-    let mut calls = uncapped(alloc, begun, is_sent, &fuse)?;
-    calls.push(Call::Advance { now })?;
-    calls.push(cap(alloc, now, side, most, &fuse)?)?;
-    calls.push(Call::Next)?;
+    let mut calls = Vec::new(alloc);
+    put_uncapped(alloc, begun, is_sent, &mut calls, &fuse)?;
+    put_cap(alloc, now, side, most, &mut calls, &fuse)?;
     Ok(calls)
 }
 
 /// Whether a call is answered, and no message is done.
-fn is_quiet<P>(reply: &Reply<P>) -> bool {
+fn is_quiet<P: Numbered>(reply: &Reply<P>) -> bool {
     match done_of(reply) {
         Some(completions) => completions.is_empty(),
         None => false,
     }
 }
 
-fn says_next<P>(reply: &Reply<P>, wanted: Option<u64>) -> bool {
+fn says_next<P: Numbered>(reply: &Reply<P>, wanted: Option<u64>) -> bool {
     match reply {
         Reply::Next(next) => *next == wanted,
         _ => false,
@@ -346,7 +362,7 @@ fn says_next<P>(reply: &Reply<P>, wanted: Option<u64>) -> bool {
 }
 
 /// Nothing is done, the last call answers that moment, and none is refused.
-fn is_next<P>(replies: &[Reply<P>], wanted: Option<u64>) -> bool {
+fn is_next<P: Numbered>(replies: &[Reply<P>], wanted: Option<u64>) -> bool {
     let mut is_next = false;
     for reply in replies {
         is_next = says_next(reply, wanted);
@@ -427,7 +443,7 @@ fn send_to_crowd<P: Numbered>(
     calls: &mut Vec<Call<P>>,
     fuse: &Fuse,
 ) -> Result<(), AllocError> {
-    let kind = Kind { channel, ..busy(0) };
+    let kind = message(0, channel, 1000);
     for peer in CROWD.0..CROWD.1 {
         calls.push(send(alloc, &kind, peer, fuse)?)?;
     }
@@ -469,7 +485,7 @@ fn are_done<P: Numbered>(reply: &Reply<P>, channel: u64, now: u64) -> bool {
 }
 
 /// Whether no message is done by any of the calls.
-fn are_quiet<P>(replies: &[Reply<P>]) -> bool {
+fn are_quiet<P: Numbered>(replies: &[Reply<P>]) -> bool {
     let mut are_quiet = true;
     for reply in replies {
         are_quiet = is_quiet(reply) && are_quiet;

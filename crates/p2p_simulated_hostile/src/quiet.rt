@@ -138,11 +138,16 @@ fn expect_done<P: Numbered>(
 
 fn take_all<P: Numbered>(rt: &(impl Abort + AllocGlobal), fuse: &Fuse) {
     let mut state = State::<P>::new(rt.alloc());
+    take_each(rt, &mut state, fuse);
+}
+
+/// Takes the steps on that scheduler.
+fn take_each<P: Numbered>(rt: &(impl Abort + AllocGlobal), state: &mut State<P>, fuse: &Fuse) {
     for step in STEPS {
         match step {
-            Step::Rest(now) => rest(rt, &mut state, now, fuse),
-            Step::Limit(_) | Step::Send(_, _) => expect_done(rt, &mut state, step, 0, fuse),
-            Step::Advance(_, done) => expect_done(rt, &mut state, step, done, fuse),
+            Step::Rest(now) => rest(rt, state, now, fuse),
+            Step::Limit(_) | Step::Send(_, _) => expect_done(rt, state, step, 0, fuse),
+            Step::Advance(_, done) => expect_done(rt, state, step, done, fuse),
         }
     }
 }
