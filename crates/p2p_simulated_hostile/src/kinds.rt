@@ -1,13 +1,12 @@
 //! Messages and caps of each kind, made one by one and as a list, and many messages in flight: with
 //! ample memory none is refused.
-use crate::calls::contents;
+use crate::calls::{contents, done_of, fuse_of, make, replayed};
 use crate::peers::{Fuse, Name, Numbered};
-use link_scheduler::replay::{Call, Reply, replay};
-use link_scheduler::transmitter::State;
+use fair_rates::error::Error;
+use link_scheduler::replay::{Call, Reply};
+use link_scheduler::transmitter::{Completion, State};
 use std::alloc::{AllocError, Global};
-use std::cell::Cell;
 use std::process::Abort;
-use std::rc::Rc;
 use std::test::Fail;
 
 const SECOND: u64 = 1_000_000_000;
@@ -110,6 +109,35 @@ fn send<P: Numbered>(
     })
 }
 
+/// The calls that lead to what the message finds.
+fn put_before<P: Numbered>(
+    alloc: Global,
+    kind: &Kind,
+    calls: &mut Vec<Call<P>>,
+    fuse: &Fuse,
+) -> Result<(), AllocError> {
+    match kind.found {
+        Found::NoLimit => {}
+        Found::Idle | Found::Busy => calls.push(limit(alloc, kind.now, 1000, fuse)?)?,
+    }
+    if let Found::Busy = kind.found {
+        calls.push(send(alloc, &message(kind.now, 5, 1000), 2, fuse)?)?;
+    }
+    Ok(())
+}
+
+/// A message that is delivered with no latency.
+fn message(now: u64, channel: u64, length: u64) -> Kind {
+    Kind {
+        found: Found::Idle,
+        now,
+        channel,
+        length,
+        latency: 0,
+        should_deliver: true,
+    }
+}
+
 /// The calls that lead to what the message finds, the message, and an advance to where it is done.
 fn calls_of<P: Numbered>(
     alloc: Global,
@@ -117,21 +145,7 @@ fn calls_of<P: Numbered>(
     fuse: &Fuse,
 ) -> Result<Vec<Call<P>>, AllocError> {
     let mut calls = Vec::new(alloc);
-    match kind.found {
-        Found::NoLimit => {}
-        Found::Idle | Found::Busy => calls.push(limit(alloc, kind.now, 1000, fuse)?)?,
-    }
-    if let Found::Busy = kind.found {
-        let before = Kind {
-            found: Found::Idle,
-            now: kind.now,
-            channel: 5,
-            length: 1000,
-            latency: 0,
-            should_deliver: true,
-        };
-        calls.push(send(alloc, &before, 2, fuse)?)?;
-    }
+    put_before(alloc, kind, &mut calls, fuse)?;
     calls.push(send(alloc, kind, 2, fuse)?)?;
     calls.push(Call::Advance {
         now: kind.done_at(),
@@ -139,31 +153,58 @@ fn calls_of<P: Numbered>(
     Ok(calls)
 }
 
-/// Makes the calls one by one.
-fn made<P: Numbered>(
-    rt: &(impl Abort + AllocGlobal),
+/// Puts a reply down.
+fn put<P: Numbered>(replies: &mut Vec<Reply<P>>, reply: Reply<P>) -> Result<(), AllocError> {
+    replies.push(reply)?;
+    Ok(())
+}
+
+/// Makes a call, and puts its reply down.
+fn put_reply<P: Numbered>(
+    state: &mut State<P>,
+    call: Call<P>,
+    replies: &mut Vec<Reply<P>>,
+) -> Result<(), Error> {
+    let reply = make(state, call)?;
+    Ok(put(replies, reply)?)
+}
+
+/// Makes the calls one by one on that scheduler.
+fn made_on<P: Numbered>(
+    state: &mut State<P>,
     calls: Vec<Call<P>>,
-) -> Result<Vec<Reply<P>>, Fail> {
-    let mut state = State::new(rt.alloc());
-    let mut replies = Vec::new(rt.alloc());
+    replies: &mut Vec<Reply<P>>,
+) -> Result<(), Error> {
     for call in calls {
-        let reply = call.make(&mut state)?;
-        replies.push(reply)?;
+        put_reply(state, call, replies)?;
     }
+    Ok(())
+}
+
+/// Makes the calls one by one.
+fn made<P: Numbered>(alloc: Global, calls: Vec<Call<P>>) -> Result<Vec<Reply<P>>, Error> {
+    let mut state = State::new(alloc);
+    let mut replies = Vec::new(alloc);
+    made_on(&mut state, calls, &mut replies)?;
     Ok(replies)
+}
+
+/// Whether a message is done as one of the kind is.
+fn is_of<P: Numbered>(kind: &Kind, done: &Completion<P>) -> bool {
+    done.channel == kind.channel
+        && done.message.len() as u64 == kind.length
+        && done.deliver_at == kind.arrives_at()
 }
 
 /// The message is done last, and none of the calls is refused.
 fn is_last<P: Numbered>(kind: &Kind, replies: &[Reply<P>]) -> bool {
     let mut is_last = false;
     for reply in replies {
-        let Reply::Done(completions) = reply else {
+        let Some(completions) = done_of(reply) else {
             return false;
         };
-        for done in completions {
-            is_last = done.channel == kind.channel
-                && done.message.len() as u64 == kind.length
-                && done.deliver_at == kind.arrives_at();
+        if let Some(done) = completions.last() {
+            is_last = is_of(kind, done);
         }
     }
     is_last
@@ -171,11 +212,11 @@ fn is_last<P: Numbered>(kind: &Kind, replies: &[Reply<P>]) -> bool {
 
 /// The message is sent on a scheduler and in a list of calls.
 fn expect<P: Numbered>(rt: &(impl Abort + AllocGlobal), kind: &Kind) -> Result<(), Fail> {
-    let fuse = Rc::new(rt.alloc(), Cell::new(0))?;
+    let fuse = fuse_of(rt.alloc(), 0)?;
     let calls = calls_of::<P>(rt.alloc(), kind, &fuse)?;
-    let listed = replay(rt.alloc(), &calls)?;
+    let listed = replayed(rt.alloc(), &calls)?;
     assert!(rt; is_last(kind, &listed), "replay, {kind:?}");
-    let one_by_one = made(rt, calls)?;
+    let one_by_one = made(rt.alloc(), calls)?;
     assert!(rt; is_last(kind, &one_by_one), "{kind:?}");
     Ok(())
 }
@@ -258,7 +299,38 @@ fn cap<P: Numbered>(
     })
 }
 
-/// The calls up to the cap, with a message that began then, or with none; and the next event.
+/// The calls before a cap, at 1000 bytes a second, with a message that began then, or with none.
+fn put_uncapped<P: Numbered>(
+    alloc: Global,
+    begun: u64,
+    is_sent: bool,
+    calls: &mut Vec<Call<P>>,
+    fuse: &Fuse,
+) -> Result<(), AllocError> {
+    calls.push(limit(alloc, begun, 1000, fuse)?)?;
+    if is_sent {
+        calls.push(send(alloc, &message(begun, 0, 2000), 2, fuse)?)?;
+    }
+    Ok(())
+}
+
+/// An advance to the cap, the cap, and the next event.
+fn put_cap<P: Numbered>(
+    alloc: Global,
+    now: u64,
+    side: Side,
+    most: Option<usize>,
+    calls: &mut Vec<Call<P>>,
+    fuse: &Fuse,
+) -> Result<(), AllocError> {
+    calls.push(Call::Advance { now })?;
+    calls.push(cap(alloc, now, side, most, fuse)?)?;
+    calls.push(Call::Next)?;
+    Ok(())
+}
+
+/// The calls up to the cap a second later, with a message that began then, or with none; and the
+/// next event.
 fn capped<P: Numbered>(
     alloc: Global,
     begun: u64,
@@ -266,38 +338,52 @@ fn capped<P: Numbered>(
     side: Side,
     most: Option<usize>,
 ) -> Result<Vec<Call<P>>, AllocError> {
-    let fuse = Rc::new(alloc, Cell::new(0))?;
-    let mut calls = Vec::new(alloc);
-    calls.push(limit(alloc, begun, 1000, &fuse)?)?;
-    if is_sent {
-        let kind = Kind {
-            found: Found::Idle,
-            now: begun,
-            channel: 0,
-            length: 2000,
-            latency: 0,
-            should_deliver: true,
-        };
-        calls.push(send(alloc, &kind, 2, &fuse)?)?;
-    }
+    let fuse = fuse_of(alloc, 0)?;
     let now = begun.saturating_add(SECOND);
-    calls.push(Call::Advance { now })?;
-    calls.push(cap(alloc, now, side, most, &fuse)?)?;
-    calls.push(Call::Next)?;
+    let mut calls = Vec::new(alloc);
+    put_uncapped(alloc, begun, is_sent, &mut calls, &fuse)?;
+    put_cap(alloc, now, side, most, &mut calls, &fuse)?;
     Ok(calls)
 }
 
+/// Whether a call is answered, and no message is done.
+fn is_quiet<P: Numbered>(reply: &Reply<P>) -> bool {
+    match done_of(reply) {
+        Some(completions) => completions.is_empty(),
+        None => false,
+    }
+}
+
+fn says_next<P: Numbered>(reply: &Reply<P>, wanted: Option<u64>) -> bool {
+    match reply {
+        Reply::Next(next) => *next == wanted,
+        _ => false,
+    }
+}
+
 /// Nothing is done, the last call answers that moment, and none is refused.
-fn is_next<P>(replies: &[Reply<P>], wanted: Option<u64>) -> bool {
+fn is_next<P: Numbered>(replies: &[Reply<P>], wanted: Option<u64>) -> bool {
     let mut is_next = false;
     for reply in replies {
-        is_next = match reply {
-            Reply::Done(completions) if completions.is_empty() => false,
-            Reply::Next(next) => *next == wanted,
-            _ => return false,
-        };
+        is_next = says_next(reply, wanted);
+        if !is_next && !is_quiet(reply) {
+            return false;
+        }
     }
     is_next
+}
+
+/// The cap is set in calls that are made one by one, and in a list of them.
+fn expect_next<P: Numbered>(
+    rt: &(impl Abort + AllocGlobal),
+    calls: Vec<Call<P>>,
+    wanted: Option<u64>,
+) -> Result<(), Fail> {
+    let listed = replayed(rt.alloc(), &calls)?;
+    assert!(rt; is_next(&listed, wanted), "replay, {wanted:?}");
+    let one_by_one = made(rt.alloc(), calls)?;
+    assert!(rt; is_next(&one_by_one, wanted), "{wanted:?}");
+    Ok(())
 }
 
 fn expect_cap<P: Numbered>(
@@ -313,13 +399,7 @@ fn expect_cap<P: Numbered>(
                 None
             };
             let calls = capped::<P>(rt.alloc(), begun, is_sent, side, most)?;
-            let listed = replay(rt.alloc(), &calls)?;
-            assert!(rt;
-                is_next(&listed, wanted),
-                "replay, {begun} {side:?} {most:?}"
-            );
-            let one_by_one = made(rt, calls)?;
-            assert!(rt; is_next(&one_by_one, wanted), "{begun} {side:?} {most:?}");
+            expect_next(rt, calls, wanted)?;
         }
     }
     Ok(())
@@ -339,67 +419,97 @@ fn caps_of_each_kind_are_set(rt: HostRuntime) -> Result<(), Fail> {
 /// The peers of the crowd are those from the first number to before the last.
 const CROWD: (u8, u8) = (2, 66);
 
-/// Each of the crowd may receive 1000 bytes a second, and peer 1 sends each of them that, twice. So
-/// one message to each is in flight, and one waits.
-fn crowd<P: Numbered>(alloc: Global) -> Result<Vec<Call<P>>, AllocError> {
-    let fuse = Rc::new(alloc, Cell::new(0))?;
-    let mut calls = Vec::new(alloc);
+/// Each of the crowd may receive 1000 bytes a second.
+fn limit_crowd<P: Numbered>(
+    alloc: Global,
+    calls: &mut Vec<Call<P>>,
+    fuse: &Fuse,
+) -> Result<(), AllocError> {
     for peer in CROWD.0..CROWD.1 {
         calls.push(Call::Limit {
             now: 0,
-            peer: P::numbered(alloc, peer, &fuse)?,
+            peer: P::numbered(alloc, peer, fuse)?,
             egress: None,
             ingress: Some(1000),
         })?;
     }
-    for channel in 0..2u64 {
-        let kind = Kind {
-            found: Found::Idle,
-            now: 0,
-            channel,
-            length: 1000,
-            latency: 0,
-            should_deliver: true,
-        };
-        for peer in CROWD.0..CROWD.1 {
-            calls.push(send(alloc, &kind, peer, &fuse)?)?;
-        }
+    Ok(())
+}
+
+/// Peer 1 sends each of the crowd 1000 bytes.
+fn send_to_crowd<P: Numbered>(
+    alloc: Global,
+    channel: u64,
+    calls: &mut Vec<Call<P>>,
+    fuse: &Fuse,
+) -> Result<(), AllocError> {
+    let kind = message(0, channel, 1000);
+    for peer in CROWD.0..CROWD.1 {
+        calls.push(send(alloc, &kind, peer, fuse)?)?;
     }
+    Ok(())
+}
+
+/// Each of the crowd may receive 1000 bytes a second, and peer 1 sends each of them that, twice. So
+/// one message to each is in flight, and one waits.
+fn crowd<P: Numbered>(alloc: Global) -> Result<Vec<Call<P>>, AllocError> {
+    let fuse = fuse_of(alloc, 0)?;
+    let mut calls = Vec::new(alloc);
+    limit_crowd(alloc, &mut calls, &fuse)?;
+    send_to_crowd(alloc, 0, &mut calls, &fuse)?;
+    send_to_crowd(alloc, 1, &mut calls, &fuse)?;
     calls.push(Call::Advance { now: SECOND })?;
     calls.push(Call::Advance { now: 2 * SECOND })?;
     Ok(calls)
 }
 
-/// The message to each of the crowd is done at that moment, in the order of the peers.
-fn are_done<P: Numbered>(reply: Option<&Reply<P>>, channel: u64, now: u64) -> bool {
-    let Some(Reply::Done(completions)) = reply else {
-        return false;
-    };
-    completions.len() == 64
-        && (CROWD.0..CROWD.1).zip(completions).all(|(peer, done)| {
-            done.recipient.number() == peer
-                && done.channel == channel
-                && done.message.len() == 1000
-                && done.deliver_at == Some(now)
-        })
+/// Whether a message of 1000 bytes to that peer is done.
+fn is_done<P: Numbered>(done: &Completion<P>, peer: u8, channel: u64, now: u64) -> bool {
+    done.recipient.number() == peer
+        && done.channel == channel
+        && done.message.len() == 1000
+        && done.deliver_at == Some(now)
 }
 
-fn expect_crowd<P: Numbered>(rt: &(impl Abort + AllocGlobal), mut replies: Vec<Reply<P>>) {
-    let second = replies.pop();
-    let first = replies.pop();
-    assert!(rt; are_done(first.as_ref(), 0, SECOND));
-    assert!(rt; are_done(second.as_ref(), 1, 2 * SECOND));
-    for reply in &replies {
-        assert!(rt; matches!(reply, Reply::Done(completions) if completions.is_empty()));
+/// The message to each of the crowd is done at that moment, in the order of the peers.
+fn are_done<P: Numbered>(reply: &Reply<P>, channel: u64, now: u64) -> bool {
+    let Some(completions) = done_of(reply) else {
+        return false;
+    };
+    for (peer, done) in (CROWD.0..CROWD.1).zip(completions) {
+        if !is_done(done, peer, channel, now) {
+            return false;
+        }
     }
+    completions.len() == 64
+}
+
+/// Whether no message is done by any of the calls.
+fn are_quiet<P: Numbered>(replies: &[Reply<P>]) -> bool {
+    let mut are_quiet = true;
+    for reply in replies {
+        are_quiet = is_quiet(reply) && are_quiet;
+    }
+    are_quiet
+}
+
+/// The messages are done by the last two calls.
+fn are_crowd<P: Numbered>(replies: &[Reply<P>]) -> bool {
+    let Some((second, others)) = replies.split_last() else {
+        return false;
+    };
+    let Some((first, others)) = others.split_last() else {
+        return false;
+    };
+    are_done(first, 0, SECOND) && are_done(second, 1, 2 * SECOND) && are_quiet(others)
 }
 
 fn many_at_once<P: Numbered>(rt: &(impl Abort + AllocGlobal)) -> Result<(), Fail> {
     let calls = crowd::<P>(rt.alloc())?;
-    let listed = replay(rt.alloc(), &calls)?;
-    expect_crowd(rt, listed);
-    let one_by_one = made(rt, calls)?;
-    expect_crowd(rt, one_by_one);
+    let listed = replayed(rt.alloc(), &calls)?;
+    assert!(rt; are_crowd(&listed), "replay");
+    let one_by_one = made(rt.alloc(), calls)?;
+    assert!(rt; are_crowd(&one_by_one));
     Ok(())
 }
 

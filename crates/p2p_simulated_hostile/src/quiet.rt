@@ -1,13 +1,11 @@
 //! Advances that meet nothing: they take no memory and clone no peer, so they are never refused.
-use crate::calls::contents;
+use crate::calls::{contents, fuse_of, make};
 use crate::peers::{Fuse, Name, Numbered};
 use fair_rates::error::Error;
 use link_scheduler::replay::{Call, Reply};
 use link_scheduler::transmitter::State;
 use std::alloc::{AllocError, Global};
-use std::cell::Cell;
 use std::process::Abort;
-use std::rc::Rc;
 use std::test::Fail;
 
 /// What is done with a scheduler.
@@ -67,6 +65,15 @@ fn call_of<P: Numbered>(alloc: Global, step: Step, fuse: &Fuse) -> Result<Call<P
     })
 }
 
+/// How many messages are done.
+fn count_done<P>(reply: &Reply<P>) -> Result<usize, Error> {
+    match reply {
+        Reply::Done(done) => Ok(done.len()),
+        Reply::Next(_) => Ok(0),
+        Reply::Refused(error) => Err(*error),
+    }
+}
+
 /// Makes the call of a step. Answers how many messages are done.
 fn take<P: Numbered>(
     alloc: Global,
@@ -75,11 +82,8 @@ fn take<P: Numbered>(
     fuse: &Fuse,
 ) -> Result<usize, Error> {
     let call = call_of(alloc, step, fuse)?;
-    match call.make(state)? {
-        Reply::Done(done) => Ok(done.len()),
-        Reply::Next(_) => Ok(0),
-        Reply::Refused(error) => Err(error),
-    }
+    let reply = make(state, call)?;
+    count_done(&reply)
 }
 
 /// Takes a step that may be refused once for want of memory.
@@ -95,34 +99,55 @@ fn take_at_last<P: Numbered>(
     }
 }
 
+/// `State::advance`. Answers how many messages are done.
+fn advance<P: Numbered>(state: &mut State<P>, now: u64) -> Result<usize, Error> {
+    Ok(state.advance(now)?.len())
+}
+
+/// `State::advance_counted`. Answers how many messages are done, and how much happens.
+fn advance_counted<P: Numbered>(state: &mut State<P>, now: u64) -> Result<(usize, u128), Error> {
+    let (done, events) = state.advance_counted(now)?;
+    Ok((done.len(), events))
+}
+
 /// Lets time go on to a moment up to which nothing happens, with the next clone of a peer refused.
 fn rest<P: Numbered>(rt: &impl Abort, state: &mut State<P>, now: u64, fuse: &Fuse) {
     let next = state.next();
     fuse.set(1);
-    let done = state.advance(now).expect(rt, "a rest is refused");
-    assert!(rt; done.is_empty(), "a rest up to {now}");
-    let counted = state.advance_counted(now);
-    let (done, events) = counted.expect(rt, "a counted rest is refused");
-    assert!(rt; done.is_empty(), "a counted rest up to {now}");
-    assert_eq!(rt; events, 0);
-    assert_eq!(rt; state.next(), next);
-    assert_eq!(rt; fuse.get(), 1, "a clone up to {now}");
+    assert!(rt; advance(state, now) == Ok(0), "a rest up to {now}");
+    assert!(rt;
+        advance_counted(state, now) == Ok((0, 0)),
+        "a counted rest up to {now}"
+    );
+    assert!(rt; state.next() == next, "next after {now}");
+    assert!(rt; fuse.get() == 1, "a clone up to {now}");
     fuse.set(0);
+}
+
+/// Takes a step by which so many messages are done.
+fn expect_done<P: Numbered>(
+    rt: &(impl Abort + AllocGlobal),
+    state: &mut State<P>,
+    step: Step,
+    done: usize,
+    fuse: &Fuse,
+) {
+    let taken = take_at_last(rt.alloc(), state, step, fuse);
+    assert!(rt; taken == Ok(done), "{taken:?}");
 }
 
 fn take_all<P: Numbered>(rt: &(impl Abort + AllocGlobal), fuse: &Fuse) {
     let mut state = State::<P>::new(rt.alloc());
+    take_each(rt, &mut state, fuse);
+}
+
+/// Takes the steps on that scheduler.
+fn take_each<P: Numbered>(rt: &(impl Abort + AllocGlobal), state: &mut State<P>, fuse: &Fuse) {
     for step in STEPS {
         match step {
-            Step::Rest(now) => rest(rt, &mut state, now, fuse),
-            Step::Limit(_) | Step::Send(_, _) => {
-                let taken = take_at_last(rt.alloc(), &mut state, step, fuse);
-                assert_eq!(rt; taken, Ok(0));
-            }
-            Step::Advance(_, done) => {
-                let taken = take_at_last(rt.alloc(), &mut state, step, fuse);
-                assert_eq!(rt; taken, Ok(done));
-            }
+            Step::Rest(now) => rest(rt, state, now, fuse),
+            Step::Limit(_) | Step::Send(_, _) => expect_done(rt, state, step, 0, fuse),
+            Step::Advance(_, done) => expect_done(rt, state, step, done, fuse),
         }
     }
 }
@@ -130,9 +155,9 @@ fn take_all<P: Numbered>(rt: &(impl Abort + AllocGlobal), fuse: &Fuse) {
 /// In the gate no allocation is refused, and in `make hostile` each in turn.
 #[test]
 fn rests_with_little_memory(rt: HostRuntime) -> Result<(), Fail> {
-    let fuse = match Rc::new(rt.alloc(), Cell::new(0)) {
+    let fuse = match fuse_of(rt.alloc(), 0) {
         Ok(fuse) => fuse,
-        Err(_) => Rc::new(rt.alloc(), Cell::new(0))?,
+        Err(_) => fuse_of(rt.alloc(), 0)?,
     };
     take_all::<u64>(&rt, &fuse);
     take_all::<Name>(&rt, &fuse);

@@ -1,13 +1,13 @@
 //! Rates, where an allocation for them may be refused.
+use crate::calls::fuse_of;
 use crate::peers::{Fuse, Name, Numbered};
 use fair_rates::bandwidth::{Flow, Rate, allocate};
 use fair_rates::error::Error;
 use fair_rates::ratio::Ratio;
-use std::alloc::Global;
-use std::cell::{Cell, RefCell};
+use std::alloc::{AllocError, Global};
+use std::cell::RefCell;
 use std::collections::BTreeMap;
 use std::process::Abort;
-use std::rc::Rc;
 
 /// A call of one of the closures, by the number of the peer.
 #[derive(Clone, Copy, Debug, PartialEq, Eq)]
@@ -75,15 +75,25 @@ fn plan<P: Numbered>(
     )
 }
 
-fn flows_of<P: Numbered>(alloc: Global, fuse: &Fuse) -> Result<Vec<Flow<P>>, Error> {
+/// A flow between two peers that are numbered.
+fn flow_of<P: Numbered>(
+    alloc: Global,
+    id: u64,
+    pair: (u8, u8),
+    fuse: &Fuse,
+) -> Result<Flow<P>, AllocError> {
+    Ok(Flow {
+        id,
+        origin: P::numbered(alloc, pair.0, fuse)?,
+        recipient: P::numbered(alloc, pair.1, fuse)?,
+        delivered: true,
+    })
+}
+
+fn flows_of<P: Numbered>(alloc: Global, fuse: &Fuse) -> Result<Vec<Flow<P>>, AllocError> {
     let mut flows = Vec::with_capacity(alloc, FLOWS.len())?;
-    for (place, (origin, recipient)) in FLOWS.iter().enumerate() {
-        flows.push(Flow {
-            id: (place as u64).saturating_add(1),
-            origin: P::numbered(alloc, *origin, fuse)?,
-            recipient: P::numbered(alloc, *recipient, fuse)?,
-            delivered: true,
-        })?;
+    for (id, pair) in (1u64..).zip(FLOWS) {
+        flows.push(flow_of(alloc, id, pair, fuse)?)?;
     }
     Ok(flows)
 }
@@ -99,7 +109,7 @@ fn are_right(rates: &BTreeMap<u64, Rate>) -> bool {
 
 /// Asks for the rates. Where they are refused, the closures were called as always, up to some call.
 fn expect_plan<P: Numbered>(rt: &(impl Abort + AllocGlobal)) -> Result<(), Error> {
-    let fuse = Rc::new(rt.alloc(), Cell::new(0))?;
+    let fuse = fuse_of(rt.alloc(), 0)?;
     let flows = flows_of::<P>(rt.alloc(), &fuse)?;
     let asked = RefCell::new(Vec::with_capacity(rt.alloc(), ASKED.len())?);
     let planned = plan(rt.alloc(), &flows, &asked);
@@ -120,8 +130,8 @@ fn with_ample_memory_there_are_rates(rt: HostRuntime) -> Result<(), Error> {
 /// One refusal is of memory, and the rates come when they are asked for again.
 fn expect_plan_at_last<P: Numbered>(rt: &(impl Abort + AllocGlobal)) {
     if let Err(error) = expect_plan::<P>(rt) {
-        assert_eq!(rt; error, Error::OutOfMemory);
-        assert_eq!(rt; expect_plan::<P>(rt), Ok(()));
+        assert!(rt; error == Error::OutOfMemory, "{error:?}");
+        expect_plan::<P>(rt).expect(rt, "no rates once more");
     }
 }
 

@@ -1,5 +1,6 @@
 //! Scripts over readers and writers that fail, and scripts that nobody would write.
 use link_scripts::linkrun::{Outcome, run};
+use std::alloc::{AllocError, Global};
 use std::io;
 use std::io::{ErrorKind, Read, Write};
 use std::process::Abort;
@@ -27,13 +28,21 @@ next -\n";
 /// No script here is read or written by as many calls.
 const MOST: u64 = 1000;
 
+/// Runs a script over memory.
+fn run_over(alloc: Global, script: &[u8], printed: &mut Vec<u8>) -> Outcome {
+    let mut input = script;
+    run(alloc, &mut input, printed)
+}
+
 /// Runs a script over memory, and compares what it prints and how it ends.
 pub fn printed_by(rt: &(impl Abort + AllocGlobal), script: &[u8], wanted: &str, outcome: Outcome) {
-    let mut input = script;
     let mut printed = Vec::new(rt.alloc());
-    let ended = run(rt.alloc(), &mut input, &mut printed);
-    assert_eq!(rt; ended, outcome, "{script:?}");
-    assert_eq!(rt; printed.as_slice(), wanted.as_bytes(), "{script:?}");
+    let ended = run_over(rt.alloc(), script, &mut printed);
+    assert!(rt; ended == outcome, "{ended:?}, {script:?}");
+    assert!(rt;
+        printed.as_slice() == wanted.as_bytes(),
+        "{printed:?}, {script:?}"
+    );
 }
 
 /// Counts a call. Answers whether it fails: 1 is the next, and at 0 none does, any more.
@@ -91,6 +100,11 @@ impl Write for Sink {
     }
 }
 
+/// Runs the script over a reader and a writer.
+fn run_between(alloc: Global, source: &mut Source, sink: &mut Sink) -> Outcome {
+    run(alloc, source, sink)
+}
+
 /// Runs the script with one read and one write failing. Answers whether one failed. Then what was
 /// written is a beginning.
 fn is_broken(rt: &(impl Abort + AllocGlobal), reads: u64, writes: u64) -> bool {
@@ -102,20 +116,22 @@ fn is_broken(rt: &(impl Abort + AllocGlobal), reads: u64, writes: u64) -> bool {
         written: Vec::new(rt.alloc()),
         failing: writes,
     };
-    let outcome = run(rt.alloc(), &mut source, &mut sink);
+    let outcome = run_between(rt.alloc(), &mut source, &mut sink);
     let has_failed = source.failing == 0 && reads > 0 || sink.failing == 0 && writes > 0;
+    expect_broken(rt, has_failed, outcome, &sink.written);
+    has_failed
+}
+
+/// What was written with a fault is a beginning, and without one it is all.
+fn expect_broken(rt: &impl Abort, has_failed: bool, outcome: Outcome, written: &[u8]) {
     let wanted = if has_failed {
         Outcome::InputOutput
     } else {
         Outcome::Whole
     };
-    assert_eq!(rt; outcome, wanted, "read {reads} and write {writes}");
-    assert!(rt;
-        PRINTED.starts_with(&sink.written),
-        "read {reads} and write {writes}"
-    );
-    assert!(rt; has_failed || sink.written.len() == PRINTED.len());
-    has_failed
+    assert!(rt; outcome == wanted, "{outcome:?} after {written:?}");
+    assert!(rt; PRINTED.starts_with(written), "{written:?}");
+    assert!(rt; has_failed || written.len() == PRINTED.len(), "{written:?}");
 }
 
 fn count_broken_reads(rt: &(impl Abort + AllocGlobal)) -> u64 {
@@ -177,21 +193,35 @@ fn bytes_by_chance_are_a_bad_line(rt: HostRuntime) -> Result<(), Fail> {
     Ok(())
 }
 
+/// What stands in a line before a number and after it.
+const AROUND: [(&str, &str); 4] = [
+    ("advance ", "\n"),
+    ("egress 1 ", ""),
+    ("flow 1 2 3 ", "\nnext"),
+    ("enqueue 0 1 2 0 ", " 0 1\n"),
+];
+
+/// A script with a word of so many digits between those texts in its second line.
+fn digits_between(
+    alloc: Global,
+    before: &str,
+    digits: usize,
+    after: &str,
+) -> Result<Vec<u8>, AllocError> {
+    let mut script = Vec::new(alloc);
+    script.extend_from_slice(b"next\n")?;
+    script.extend_from_slice(before.as_bytes())?;
+    for _ in 0..digits {
+        script.push(b'9')?;
+    }
+    script.extend_from_slice(after.as_bytes())?;
+    Ok(script)
+}
+
 /// A word of so many digits stands where a number may stand.
 fn expect_bad_number(rt: &(impl Abort + AllocGlobal), digits: usize) -> Result<(), Fail> {
-    for (before, after) in [
-        ("advance ", "\n"),
-        ("egress 1 ", ""),
-        ("flow 1 2 3 ", "\nnext"),
-        ("enqueue 0 1 2 0 ", " 0 1\n"),
-    ] {
-        let mut script = Vec::new(rt.alloc());
-        script.extend_from_slice(b"next\n")?;
-        script.extend_from_slice(before.as_bytes())?;
-        for _ in 0..digits {
-            script.push(b'9')?;
-        }
-        script.extend_from_slice(after.as_bytes())?;
+    for (before, after) in AROUND {
+        let script = digits_between(rt.alloc(), before, digits, after)?;
         printed_by(rt, &script, "next -\n", Outcome::BadLine(2));
     }
     Ok(())

@@ -2,7 +2,8 @@
 //! twice.
 //!
 //! What is to be printed was printed by the Rust original. It stands in `examples/`, and here by its length and a hash.
-use link_scripts::linkrun::{Outcome, run};
+use super::run_over;
+use link_scripts::linkrun::Outcome;
 use std::alloc::{AllocError, Global};
 use std::process::Abort;
 
@@ -63,6 +64,75 @@ fn latency(latencies: &[u64], origin: u64, recipient: u64) -> u64 {
     latencies.get(place as usize).copied().unwrap_or(0)
 }
 
+/// The block that the peer of the round sends to all others.
+fn block(script: &mut String, latencies: &[u64], start: u64, round: u64) -> Result<(), AllocError> {
+    for peer in 0..PEERS {
+        if peer != round {
+            let latency = latency(latencies, round, peer);
+            writeln!(
+                script,
+                "enqueue {start} {round} {peer} {round} 1000000 {latency} 1"
+            )?;
+        }
+    }
+    Ok(())
+}
+
+/// The vote that a peer sends to another.
+fn vote(
+    script: &mut String,
+    now: u64,
+    pair: (u64, u64),
+    round: u64,
+    size: u64,
+    latency: u64,
+) -> Result<(), AllocError> {
+    let (origin, peer) = pair;
+    writeln!(
+        script,
+        "enqueue {now} {origin} {peer} {round} {size} {latency} 1"
+    )?;
+    Ok(())
+}
+
+/// The votes that a peer sends to all others.
+fn votes_of(
+    script: &mut String,
+    chance: &mut Chance,
+    latencies: &[u64],
+    now: u64,
+    origin: u64,
+    round: u64,
+) -> Result<(), AllocError> {
+    for peer in 0..PEERS {
+        if peer != origin {
+            let size = chance.between(100, 299);
+            let latency = latency(latencies, origin, peer);
+            vote(script, now, (origin, peer), round, size, latency)?;
+        }
+    }
+    Ok(())
+}
+
+/// A round of four seconds: the block, and the votes three seconds later.
+fn one_round(
+    script: &mut String,
+    chance: &mut Chance,
+    latencies: &[u64],
+    round: u64,
+) -> Result<(), AllocError> {
+    let start = round.saturating_mul(4 * SECOND);
+    let votes = start.saturating_add(3 * SECOND);
+    let end = start.saturating_add(4 * SECOND);
+    block(script, latencies, start, round)?;
+    writeln!(script, "advance {votes}")?;
+    for origin in 0..PEERS {
+        votes_of(script, chance, latencies, votes, origin, round)?;
+    }
+    writeln!(script, "advance {end}")?;
+    Ok(())
+}
+
 /// The script of two rounds.
 fn broadcast(alloc: Global, mixed: bool) -> Result<String, AllocError> {
     let mut script = String::new(alloc);
@@ -71,34 +141,8 @@ fn broadcast(alloc: Global, mixed: bool) -> Result<String, AllocError> {
     };
     caps(&mut script, &mut chance, mixed)?;
     let latencies = latencies(alloc, &mut chance)?;
-    for round in 0..2 {
-        let start = round * 4 * SECOND;
-        for peer in 0..PEERS {
-            if peer != round {
-                let latency = latency(&latencies, round, peer);
-                writeln!(
-                    script,
-                    "enqueue {start} {round} {peer} {round} 1000000 {latency} 1"
-                )?;
-            }
-        }
-        let votes = start + 3 * SECOND;
-        writeln!(script, "advance {votes}")?;
-        for origin in 0..PEERS {
-            for peer in 0..PEERS {
-                if peer != origin {
-                    let size = chance.between(100, 299);
-                    let latency = latency(&latencies, origin, peer);
-                    writeln!(
-                        script,
-                        "enqueue {votes} {origin} {peer} {round} {size} {latency} 1"
-                    )?;
-                }
-            }
-        }
-        let end = start + 4 * SECOND;
-        writeln!(script, "advance {end}")?;
-    }
+    one_round(&mut script, &mut chance, &latencies, 0)?;
+    one_round(&mut script, &mut chance, &latencies, 1)?;
     writeln!(script, "advance 36028797018963968\nnext")?;
     Ok(script)
 }
@@ -114,12 +158,11 @@ fn hash(bytes: &[u8]) -> u64 {
 
 fn expect(rt: &(impl Abort + AllocGlobal), mixed: bool, wanted: u64) {
     let script = broadcast(rt.alloc(), mixed).expect(rt, "no room");
-    let mut input = script.as_bytes();
     let mut printed = Vec::new(rt.alloc());
-    let ended = run(rt.alloc(), &mut input, &mut printed);
-    assert_eq!(rt; ended, Outcome::Whole);
-    assert_eq!(rt; printed.len(), 31384);
-    assert_eq!(rt; hash(&printed), wanted);
+    let ended = run_over(rt.alloc(), script.as_bytes(), &mut printed);
+    assert!(rt; ended == Outcome::Whole, "{ended:?}");
+    assert!(rt; printed.len() == 31384);
+    assert!(rt; hash(&printed) == wanted);
 }
 
 #[test]

@@ -1,5 +1,6 @@
 //! A partner that asks line by line, and looks at what was written before each line.
 use link_scripts::linkrun::{Outcome, run};
+use std::alloc::Global;
 use std::cell::Cell;
 use std::io;
 use std::io::{ErrorKind, Read, Write};
@@ -63,6 +64,11 @@ impl Read for Asking<'_> {
     }
 }
 
+/// Runs a script over the reader and the writer.
+fn run_between(alloc: Global, input: &mut Asking<'_>, output: &mut Counting<'_>) -> Outcome {
+    run(alloc, input, output)
+}
+
 /// Runs the pieces, and compares what was flushed before each read, and what was printed.
 fn expect(
     rt: &(impl Abort + AllocGlobal),
@@ -88,9 +94,10 @@ fn expect(
         given: 0,
         before: Vec::new(rt.alloc()),
     };
-    assert_eq!(rt; run(rt.alloc(), &mut input, &mut output), outcome);
-    assert_eq!(rt; input.before.as_slice(), before);
-    assert_eq!(rt; output.printed.as_slice(), printed.as_bytes());
+    let ended = run_between(rt.alloc(), &mut input, &mut output);
+    assert!(rt; ended == outcome, "{ended:?}");
+    assert!(rt; input.before.as_slice() == before);
+    assert!(rt; output.printed.as_slice() == printed.as_bytes());
 }
 
 #[test]
