@@ -1,8 +1,6 @@
 //! The last moment and the last flow id, by single calls and by lists of calls.
 use crate::calls::{fuse_of, play, play_list};
 use crate::peers::{Name, Numbered};
-use crate::streams::printed_by;
-use link_scripts::linkrun::Outcome;
 use std::process::Abort;
 use std::test::Fail;
 
@@ -185,22 +183,4 @@ fn expect_all<P: Numbered>(rt: &(impl Abort + AllocGlobal)) -> Result<(), Fail> 
 fn the_ends_of_time_and_of_the_ids_are_met(rt: HostRuntime) -> Result<(), Fail> {
     expect_all::<u64>(&rt)?;
     expect_all::<Name>(&rt)
-}
-
-#[test]
-fn a_script_goes_on_at_the_end_of_time(rt: HostRuntime) {
-    let script = "enqueue 0 1 2 0 1 18446744073709551615 1\n\
-limit 0 1 1000000000 -\n\
-enqueue 0 1 2 0 1 1 1\n\
-next\n\
-advance 18446744073709551614\n\
-next\n\
-advance 18446744073709551615\n\
-next\n";
-    let printed = "done 1 2 0 1 18446744073709551615\n\
-next 18446744073709551614\n\
-next 18446744073709551615\n\
-refused 3 moment too late\n\
-next 18446744073709551615\n";
-    printed_by(&rt, script.as_bytes(), printed, Outcome::Whole);
 }

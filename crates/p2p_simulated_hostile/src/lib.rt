@@ -1,5 +1,5 @@
-//! Tests under hostile use: what is needed is refused, one thing after another, and the calls, the
-//! numbers and the scripts are those that nobody means well with.
+//! Tests under hostile use: what is needed is refused, one thing after another, and the calls and
+//! the numbers are those that nobody means well with.
 #![tactic(auto)]
 
 #[cfg(test)]
@@ -18,5 +18,3 @@ mod rates;
 mod refusals;
 #[cfg(test)]
 mod rows;
-#[cfg(test)]
-mod streams;

@@ -35,7 +35,7 @@ fn run_over(alloc: Global, script: &[u8], printed: &mut Vec<u8>) -> Outcome {
 }
 
 /// Runs a script over memory, and compares what it prints and how it ends.
-pub fn printed_by(rt: &(impl Abort + AllocGlobal), script: &[u8], wanted: &str, outcome: Outcome) {
+fn printed_by(rt: &(impl Abort + AllocGlobal), script: &[u8], wanted: &str, outcome: Outcome) {
     let mut printed = Vec::new(rt.alloc());
     let ended = run_over(rt.alloc(), script, &mut printed);
     assert!(rt; ended == outcome, "{ended:?}, {script:?}");
@@ -233,4 +233,22 @@ fn numbers_of_many_digits_are_bad(rt: HostRuntime) -> Result<(), Fail> {
         expect_bad_number(&rt, digits)?;
     }
     Ok(())
+}
+
+#[test]
+fn a_script_goes_on_at_the_end_of_time(rt: HostRuntime) {
+    let script = "enqueue 0 1 2 0 1 18446744073709551615 1\n\
+limit 0 1 1000000000 -\n\
+enqueue 0 1 2 0 1 1 1\n\
+next\n\
+advance 18446744073709551614\n\
+next\n\
+advance 18446744073709551615\n\
+next\n";
+    let printed = "done 1 2 0 1 18446744073709551615\n\
+next 18446744073709551614\n\
+next 18446744073709551615\n\
+refused 3 moment too late\n\
+next 18446744073709551615\n";
+    printed_by(&rt, script.as_bytes(), printed, Outcome::Whole);
 }
