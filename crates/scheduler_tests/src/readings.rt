@@ -1,35 +1,20 @@
 //! What is in flight, and how it is read.
-use bytes::Bytes;
-use fair_rates::error::Error;
+use crate::scheduler::calls::{Calls, Parcel, bytes_from};
 use fair_rates::ratio::Ratio;
 use link_scheduler::transmitter::{InFlight, State};
-use std::alloc::Global;
 use std::process::Abort;
+use std::test::Fail;
 
-/// Sends so many zero bytes from peer 1, with no latency.
-fn send(
-    state: &mut State<u64>,
-    alloc: Global,
-    now: u64,
-    to: u64,
-    length: usize,
-) -> Result<(), Error> {
-    let message = Bytes::from_vec(vec![in alloc; 0u8; length]?)?;
-    state.enqueue(now, 1, to, 7, message, 0, true)?;
-    Ok(())
+/// The scheduler after the calls of a text.
+fn after(rt: &(impl Abort + AllocGlobal), text: &str) -> Result<State<u64>, Fail> {
+    let mut calls = Calls::<u64>::new(rt.alloc(), 0, true);
+    calls.read(text)?;
+    Ok(calls.made_each(rt))
 }
 
-/// At the start, sends so many zero bytes with no latency.
-fn send_from(
-    state: &mut State<u64>,
-    alloc: Global,
-    from: u64,
-    to: u64,
-    length: usize,
-) -> Result<(), Error> {
-    let message = Bytes::from_vec(vec![in alloc; 0u8; length]?)?;
-    state.enqueue(0, from, to, 7, message, 0, true)?;
-    Ok(())
+/// What is read of the messages in flight.
+fn flying(rt: &impl Abort, state: &State<u64>) -> Vec<InFlight<u64>> {
+    state.in_flight().expect(rt, "no room for the readings")
 }
 
 /// Compares what is read of one message with a recipient, what is left, the rate and a moment.
@@ -54,26 +39,45 @@ fn expect(
 }
 
 #[test]
-fn two_messages_share_a_cap(rt: HostRuntime) -> Result<(), Error> {
-    let mut state = State::new(rt.alloc());
-    state.limit(0, &1u64, Some(1000), None)?;
-    send(&mut state, rt.alloc(), 0, 2, 1000)?;
-    send(&mut state, rt.alloc(), 0, 3, 500)?;
-    send(&mut state, rt.alloc(), 0, 3, 700)?;
-    let readings = state.in_flight()?;
-    assert_eq!(rt; readings.len(), 2);
+fn two_messages_share_a_cap(rt: HostRuntime) -> Result<(), Fail> {
+    let state = after(
+        &rt,
+        "\
+limit 0 1 1000 -
+send 0 1 2 1000 0
+send 0 1 3 500 0
+send 0 1 3 700 0
+flying 2
+",
+    )?;
+    let readings = flying(&rt, &state);
     expect(&rt, readings.get(0), 2, (1000, 1), (500, 1), 0);
     expect(&rt, readings.get(1), 3, (500, 1), (500, 1), 0);
-    state.limit(400_000_001, &1, Some(1001), None)?;
-    let readings = state.in_flight()?;
-    assert_eq!(rt; readings.len(), 2);
+    Ok(())
+}
+
+#[test]
+fn two_messages_share_a_cap_that_changes(rt: HostRuntime) -> Result<(), Fail> {
+    let state = after(
+        &rt,
+        "\
+limit 0 1 1000 -
+send 0 1 2 1000 0
+send 0 1 3 500 0
+send 0 1 3 700 0
+limit 400000001 1 1001 -
+flying 2
+",
+    )?;
+    let readings = flying(&rt, &state);
+    let since = 400_000_001;
     expect(
         &rt,
         readings.get(0),
         2,
         (1_599_999_999, 2_000_000),
         (1001, 2),
-        400_000_001,
+        since,
     );
     expect(
         &rt,
@@ -81,69 +85,91 @@ fn two_messages_share_a_cap(rt: HostRuntime) -> Result<(), Error> {
         3,
         (599_999_999, 2_000_000),
         (1001, 2),
-        400_000_001,
+        since,
     );
     Ok(())
 }
 
 #[test]
-fn nothing_is_in_flight_before_any_limit(rt: HostRuntime) -> Result<(), Error> {
-    let mut state = State::new(rt.alloc());
-    assert_eq!(rt; state.in_flight()?.len(), 0);
-    send(&mut state, rt.alloc(), 0, 2, 1000)?;
-    assert_eq!(rt; state.in_flight()?.len(), 0);
+fn nothing_is_in_flight_before_any_limit(rt: HostRuntime) -> Result<(), Fail> {
+    let state = State::<u64>::new(rt.alloc());
+    assert_eq!(rt; flying(&rt, &state).len(), 0);
+    let _state = after(&rt, "send 0 1 2 1000 0\ndone 0 0\nflying 0\n")?;
     Ok(())
 }
 
 /// For a nanosecond each the first of many messages has a rate of a first, a half, a third and so
-/// on of 10^9 bytes a second. What is left of it after 99 of these has a denominator of more than
-/// 128 bits. It is 1000000 less 5.177.
-#[test]
-fn what_does_not_fit_is_rounded_down(rt: HostRuntime) -> Result<(), Error> {
-    let mut state = State::new(rt.alloc());
-    state.limit(0, &1u64, Some(1_000_000_000), None)?;
-    for count in 0..100u64 {
-        send(&mut state, rt.alloc(), count, count + 2, 1_000_000)?;
+/// on of 10^9 bytes a second.
+fn hundred_shares(rt: &(impl Abort + AllocGlobal)) -> Result<State<u64>, Fail> {
+    let mut calls = Calls::<u64>::new(rt.alloc(), 0, true);
+    calls.read("limit 0 1 1000000000 -\n")?;
+    for place in 0..100u8 {
+        calls.send(Parcel {
+            now: place as u64,
+            ..bytes_from(1, place + 2, 1_000_000)
+        })?;
     }
-    let readings = state.in_flight()?;
-    assert_eq!(rt; readings.len(), 100);
-    if let Some(first) = readings.get(0) {
+    calls.flying(100)?;
+    Ok(calls.made_each(rt))
+}
+
+/// Compares what is read of the first of them.
+fn expect_rounded(rt: &impl Abort, reading: Option<&InFlight<u64>>) {
+    assert!(rt; reading.is_some());
+    if let Some(first) = reading {
         assert!(rt; !first.left.is_exact);
         assert_eq!(rt; first.left.amount, Ratio::from_whole(999_994));
         assert!(rt; first.rate.is_exact);
         assert_eq!(rt; first.rate.amount, Ratio::from_whole(10_000_000));
         assert_eq!(rt; first.since, 99);
     }
+}
+
+/// What is left of the first of the messages after 99 nanoseconds has a denominator of more than 128
+/// bits. It is 1000000 less 5.177.
+#[test]
+fn what_does_not_fit_is_rounded_down(rt: HostRuntime) -> Result<(), Fail> {
+    let state = hundred_shares(&rt)?;
+    let readings = flying(&rt, &state);
+    expect_rounded(&rt, readings.get(0));
     Ok(())
 }
 
-/// Eight messages are in flight, each of a pair of its own. One that starts alone is rated alone,
-/// and one of a sender that has another one with that. Where one ends alone none is, and where a
-/// cap changes all are.
+/// Before any call none is rated. Then eight messages are in flight, each of a pair of its own. One
+/// that starts alone is rated alone, and one of a sender that has another one with that. Where one
+/// ends alone none is, and where a cap changes all are.
 #[test]
-fn an_event_rates_what_it_touches(rt: HostRuntime) -> Result<(), Error> {
-    let mut state = State::new(rt.alloc());
-    assert_eq!(rt; state.rated_anew(), 0);
-    for peer in 1..=8u64 {
-        state.limit(0, &peer, Some(1000), None)?;
-    }
-    for peer in 1..=8u64 {
-        send_from(
-            &mut state,
-            rt.alloc(),
-            peer,
-            peer + 100,
-            1000 * peer as usize,
-        )?;
-    }
-    assert_eq!(rt; state.rated_anew(), 1);
-    send_from(&mut state, rt.alloc(), 8, 200, 8000)?;
-    assert_eq!(rt; state.rated_anew(), 2);
-    let done = state.advance(1_000_000_000)?;
-    assert_eq!(rt; done.len(), 1);
-    assert_eq!(rt; state.in_flight()?.len(), 8);
-    assert_eq!(rt; state.rated_anew(), 0);
-    state.limit(1_500_000_000, &3, Some(2000), None)?;
-    assert_eq!(rt; state.rated_anew(), 8);
+fn an_event_rates_what_it_touches(rt: HostRuntime) -> Result<(), Fail> {
+    assert_eq!(rt; State::<u64>::new(rt.alloc()).rated_anew(), 0);
+    let _state = after(
+        &rt,
+        "\
+limit 0 1 1000 -
+limit 0 2 1000 -
+limit 0 3 1000 -
+limit 0 4 1000 -
+limit 0 5 1000 -
+limit 0 6 1000 -
+limit 0 7 1000 -
+limit 0 8 1000 -
+send 0 1 101 1000 0
+send 0 2 102 2000 0
+send 0 3 103 3000 0
+send 0 4 104 4000 0
+send 0 5 105 5000 0
+send 0 6 106 6000 0
+send 0 7 107 7000 0
+send 0 8 108 8000 0
+rated 1
+send 0 8 200 8000 0
+rated 2
+advance 1s
+done 0 1s
+flying 8
+rated 0
+limit 1500ms 3 2000 -
+rated 8
+",
+    )?;
     Ok(())
 }

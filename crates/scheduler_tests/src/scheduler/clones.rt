@@ -1,5 +1,6 @@
 //! How many peers a call clones.
-use super::{MILLI, contents};
+use super::calls::contents;
+use super::text::MILLI;
 use fair_rates::error::Error;
 use fair_rates::peer::Peer;
 use link_scheduler::transmitter::{Completion, State};
@@ -95,21 +96,21 @@ fn cap_each(
 
 /// So many peers with a cap each. Where `do_wait` says so, a message from each of them waits for an
 /// arrival far in the future.
-fn peers_with_caps(
+fn put_peers(
     alloc: Global,
+    state: &mut State<Name>,
     peers: u64,
     do_wait: bool,
     count: &Count,
-) -> Result<State<Name>, Error> {
-    let mut state = State::new(alloc);
+) -> Result<(), Error> {
     if do_wait {
-        send_each(alloc, &mut state, peers, FAR, count)?;
+        send_each(alloc, state, peers, FAR, count)?;
     }
-    cap_each(alloc, &mut state, peers, count)?;
+    cap_each(alloc, state, peers, count)?;
     if do_wait {
-        send_each(alloc, &mut state, peers, 0, count)?;
+        send_each(alloc, state, peers, 0, count)?;
     }
-    Ok(state)
+    Ok(())
 }
 
 /// The message is done.
@@ -127,15 +128,27 @@ fn expect_done(rt: &impl Abort, done: &[Completion<Name>]) {
 
 /// Of so many peers the first sends a message to the second. Answers the clones that the advance
 /// makes in which it is done.
-fn clones_beside(rt: &(impl Abort + AllocGlobal), peers: u64, do_wait: bool) -> Result<u64, Error> {
-    let count = Rc::new(rt.alloc(), Cell::new(0))?;
-    let mut state = peers_with_caps(rt.alloc(), peers, do_wait, &count)?;
-    send(rt.alloc(), &mut state, (0, 1), 100, 0, &count)?;
+fn clones_of(
+    rt: &(impl Abort + AllocGlobal),
+    state: &mut State<Name>,
+    peers: u64,
+    do_wait: bool,
+    count: &Count,
+) -> Result<u64, Error> {
+    put_peers(rt.alloc(), state, peers, do_wait, count)?;
+    send(rt.alloc(), state, (0, 1), 100, 0, count)?;
     assert_eq!(rt; state.next(), Some(100 * MILLI));
     let before = count.get();
     let done = state.advance(100 * MILLI)?;
     expect_done(rt, &done);
     Ok(count.get().saturating_sub(before))
+}
+
+/// The same on a new scheduler.
+fn clones_beside(rt: &(impl Abort + AllocGlobal), peers: u64, do_wait: bool) -> Result<u64, Error> {
+    let count = Rc::new(rt.alloc(), Cell::new(0))?;
+    let mut state = State::new(rt.alloc());
+    clones_of(rt, &mut state, peers, do_wait, &count)
 }
 
 #[test]

@@ -1,5 +1,6 @@
 //! Calls between two peers, beside much that is kept of others.
-use super::{MILLI, contents};
+use super::calls::contents;
+use super::text::MILLI;
 use bytes::Bytes;
 use fair_rates::error::Error;
 use link_scheduler::transmitter::{Completion, State};
@@ -7,8 +8,7 @@ use std::alloc::Global;
 use std::process::Abort;
 
 /// A cap for peer 1 and for so many others, each of which has sent a message that is done.
-fn beside(alloc: Global, others: u64) -> Result<State<u64>, Error> {
-    let mut state = State::new(alloc);
+fn put_beside(state: &mut State<u64>, others: u64) -> Result<(), Error> {
     for other in 0..others {
         let origin = other.saturating_add(10);
         let recipient = origin.saturating_add(1);
@@ -19,7 +19,7 @@ fn beside(alloc: Global, others: u64) -> Result<State<u64>, Error> {
         let _done = state.limit(0, &peer, Some(1000), Some(1000))?;
     }
     let _done = state.limit(0, &1, Some(1000), None)?;
-    Ok(state)
+    Ok(())
 }
 
 /// Two messages of 100 milliseconds each, of which the second waits for the first, and the advances
@@ -72,12 +72,23 @@ fn take_turn(
     Ok(())
 }
 
-#[test]
-fn calls_are_answered_alike_beside_many_others(rt: HostRuntime) -> Result<(), Error> {
-    let mut large = beside(rt.alloc(), 100_000)?;
-    let mut small = beside(rt.alloc(), 10)?;
+/// Puts many others beside the one and a few beside the other, and takes a hundred turns.
+fn take_turns(
+    rt: &(impl Abort + AllocGlobal),
+    large: &mut State<u64>,
+    small: &mut State<u64>,
+) -> Result<(), Error> {
+    put_beside(large, 100_000)?;
+    put_beside(small, 10)?;
     for turn in 0..100u64 {
-        take_turn(&rt, &mut large, &mut small, turn * 200 * MILLI)?;
+        take_turn(rt, large, small, turn * 200 * MILLI)?;
     }
     Ok(())
+}
+
+#[test]
+fn calls_are_answered_alike_beside_many_others(rt: HostRuntime) -> Result<(), Error> {
+    let mut large = State::new(rt.alloc());
+    let mut small = State::new(rt.alloc());
+    take_turns(&rt, &mut large, &mut small)
 }

@@ -1,73 +1,92 @@
 //! Long queues, and long lists of calls.
-use super::{Calls, MILLI, SECOND, capped, from_to};
-use fair_rates::error::Error;
+use super::calls::{Calls, Parcel, bytes_from};
+use super::play;
+use super::text::MILLI;
 use std::alloc::Global;
+use std::test::Fail;
 
 /// So many messages of one pair, of which the first is in flight, complete as the cap is lifted.
-fn emptied(alloc: Global, length: usize) -> Result<Calls<u64>, Error> {
-    let mut p = capped(alloc, 1000);
-    let mut wanted = Vec::new(alloc);
-    for place in 0..length {
-        p.send(from_to(1, 2).of(100));
-        wanted.push((place, Some(0)))?;
+fn emptied(alloc: Global, length: usize) -> Result<Calls<u64>, Fail> {
+    let mut calls = Calls::new(alloc, 0, true);
+    calls.limit(0, 1, Some(1000), None)?;
+    for _ in 0..length {
+        calls.send(bytes_from(1, 2, 100))?;
     }
-    p.limit(0, 1, None, None);
-    p.done(&wanted);
-    p.next(None);
-    Ok(p)
+    calls.limit(0, 1, None, None)?;
+    for place in 0..length {
+        calls.done(place, Some(0))?;
+    }
+    calls.next(None)?;
+    Ok(calls)
 }
 
 #[test]
-fn a_long_queue_empties_in_one_call(rt: HostRuntime) -> Result<(), Error> {
+fn a_long_queue_empties_in_one_call(rt: HostRuntime) -> Result<(), Fail> {
     emptied(rt.alloc(), 2001)?.expect(&rt);
     Ok(())
 }
 
 #[test]
-fn a_very_long_queue_empties_in_one_call(rt: HostRuntime) -> Result<(), Error> {
+fn a_very_long_queue_empties_in_one_call(rt: HostRuntime) -> Result<(), Fail> {
     emptied(rt.alloc(), 100_000)?.expect_each(&rt);
     Ok(())
 }
 
-/// More than two years, in nanoseconds.
-const LATE: u64 = 72_057_594_037_927_936;
-
 #[test]
-fn a_long_message_takes_its_time(rt: HostRuntime) {
-    let mut p = capped::<u64>(rt.alloc(), 1000);
-    p.send(from_to(1, 2).of(6001).after(SECOND));
-    let done = 6_001_000_000;
-    p.walk(&[(done, [(0, Some(done + SECOND))].as_slice())]);
-    p.expect(&rt);
+fn a_long_message_takes_its_time(rt: HostRuntime) -> Result<(), Fail> {
+    play::<u64>(
+        &rt,
+        0,
+        "\
+limit 0 1 1000 -
+send 0 1 2 6001 1s
+event 6001ms
+done 0 7001ms
+next -
+",
+    )
 }
 
 #[test]
-fn an_advance_may_be_long(rt: HostRuntime) {
-    let mut p = capped::<u64>(rt.alloc(), 1);
-    p.send(from_to(1, 2).of(6000));
-    p.send(from_to(1, 2).of(1));
-    let wanted = [(0, Some(6000 * SECOND)), (1, Some(6001 * SECOND))];
-    p.advance(LATE);
-    p.counted(&wanted, 2);
-    p.send(from_to(1, 2).of(6000).at(LATE));
-    let done = LATE + 6000 * SECOND;
-    p.walk(&[(done, [(2, Some(done))].as_slice())]);
-    p.expect(&rt);
+fn an_advance_may_be_long(rt: HostRuntime) -> Result<(), Fail> {
+    play::<u64>(
+        &rt,
+        0,
+        "\
+limit 0 1 1 -
+send 0 1 2 6000 0
+send 0 1 2 1 0
+advance 72057594037927936
+done 0 6000s
+done 1 6001s
+events 2
+send 72057594037927936 1 2 6000 0
+event 72063594037927936
+done 2 72063594037927936
+next -
+",
+    )
 }
 
 /// A thousand messages of a millisecond each, one sent as the one before it is done: three thousand
 /// calls, and the limit before them.
 #[test]
-fn thousands_of_calls_are_made(rt: HostRuntime) {
-    let mut p = capped::<u64>(rt.alloc(), 1000);
+fn thousands_of_calls_are_made(rt: HostRuntime) -> Result<(), Fail> {
+    let mut calls = Calls::<u64>::new(rt.alloc(), 0, true);
+    calls.limit(0, 1, Some(1000), None)?;
     for place in 0..1000usize {
         let now = place as u64 * MILLI;
         let end = now + MILLI;
-        p.send(from_to(1, 2).at(now).after(3));
-        p.next(Some(end));
-        p.advance(end);
-        p.done(&[(place, Some(end + 3))]);
+        calls.send(Parcel {
+            now,
+            latency: 3,
+            ..bytes_from(1, 2, 1)
+        })?;
+        calls.next(Some(end))?;
+        calls.advance(end)?;
+        calls.done(place, Some(end + 3))?;
     }
-    p.next(None);
-    p.expect(&rt);
+    calls.next(None)?;
+    calls.expect(&rt);
+    Ok(())
 }

@@ -1,107 +1,162 @@
 //! Large numbers, shares that are no whole numbers, calls in two steps, and peers that never meet.
-use super::{MILLI, SECOND, begin, capped, from_to};
+use super::play;
+use std::test::Fail;
 
 #[test]
-fn the_last_moment_in_the_range_is_met(rt: HostRuntime) {
-    let now = 72_057_594_037_927_932;
-    let mut p = capped::<u64>(rt.alloc(), 4_294_967_295);
-    for recipient in 2..6u8 {
-        p.send(from_to(1, recipient).of(3).at(now));
-    }
-    let last = now + 3;
-    let at = Some(last);
-    p.walk(&[(last, [(0, at), (1, at), (2, at), (3, at)].as_slice())]);
-    p.expect(&rt);
+fn the_last_moment_in_the_range_is_met(rt: HostRuntime) -> Result<(), Fail> {
+    play::<u64>(
+        &rt,
+        0,
+        "\
+limit 0 1 4294967295 -
+send 72057594037927932 1 2 3 0
+send 72057594037927932 1 3 3 0
+send 72057594037927932 1 4 3 0
+send 72057594037927932 1 5 3 0
+event 72057594037927935
+done 0 72057594037927935
+done 1 72057594037927935
+done 2 72057594037927935
+done 3 72057594037927935
+next -
+",
+    )
 }
 
 #[test]
-fn a_cap_changes_after_one_nanosecond(rt: HostRuntime) {
-    let mut p = capped::<u64>(rt.alloc(), 7);
-    for recipient in 2..5u8 {
-        p.send(from_to(1, recipient));
-    }
-    p.limit(1, 1, Some(5), None);
-    let at = Some(600 * MILLI);
-    p.walk(&[(600 * MILLI, [(0, at), (1, at), (2, at)].as_slice())]);
-    p.expect(&rt);
+fn a_cap_changes_after_one_nanosecond(rt: HostRuntime) -> Result<(), Fail> {
+    play::<u64>(
+        &rt,
+        0,
+        "\
+limit 0 1 7 -
+send 0 1 2 1 0
+send 0 1 3 1 0
+send 0 1 4 1 0
+limit 1 1 5 -
+event 600ms
+done 0 600ms
+done 1 600ms
+done 2 600ms
+next -
+",
+    )
 }
 
 #[test]
-fn two_advances_answer_what_one_does(rt: HostRuntime) {
-    let mut p = capped::<u64>(rt.alloc(), 500_000);
-    p.send(from_to(1, 2).of(1_000_000).after(500 * MILLI));
-    p.send(from_to(1, 2).of(500_000).after(100 * MILLI));
-    p.advance(2500 * MILLI);
-    p.done(&[(0, Some(2500 * MILLI))]);
-    p.advance(3400 * MILLI);
-    p.done(&[(1, Some(3500 * MILLI))]);
-    p.next(None);
-    p.expect(&rt);
+fn two_advances_answer_what_one_does(rt: HostRuntime) -> Result<(), Fail> {
+    play::<u64>(
+        &rt,
+        0,
+        "\
+limit 0 1 500000 -
+send 0 1 2 1000000 500ms
+send 0 1 2 500000 100ms
+advance 2500ms
+done 0 2500ms
+advance 3400ms
+done 1 3500ms
+next -
+",
+    )
 }
 
 #[test]
-fn peers_that_never_meet_change_nothing(rt: HostRuntime) {
-    let early = 142_857_143;
-    let mut p = capped::<u64>(rt.alloc(), 1000);
-    p.limit(0, 3, Some(7), None);
-    p.send(from_to(1, 2).of(1000));
-    p.send(from_to(3, 4));
-    p.advance(SECOND);
-    p.done(&[(1, Some(early)), (0, Some(SECOND))]);
-    p.next(None);
-    p.expect(&rt);
-    let mut p = capped::<u64>(rt.alloc(), 1000);
-    p.limit(0, 3, Some(7), None);
-    p.send(from_to(1, 2).of(1000));
-    p.advance(SECOND);
-    p.done(&[(0, Some(SECOND))]);
-    p.next(None);
-    p.expect(&rt);
+fn peers_that_never_meet_change_nothing(rt: HostRuntime) -> Result<(), Fail> {
+    play::<u64>(
+        &rt,
+        0,
+        "\
+limit 0 1 1000 -
+limit 0 3 7 -
+send 0 1 2 1000 0
+send 0 3 4 1 0
+advance 1s
+done 1 142857143
+done 0 1s
+next -
+",
+    )?;
+    play::<u64>(
+        &rt,
+        0,
+        "\
+limit 0 1 1000 -
+limit 0 3 7 -
+send 0 1 2 1000 0
+advance 1s
+done 0 1s
+next -
+",
+    )
 }
 
 #[test]
-fn the_last_caps_of_a_peer_hold(rt: HostRuntime) {
-    let mut p = capped::<u64>(rt.alloc(), 10);
-    p.limit(0, 1, Some(20), None);
-    p.send(from_to(1, 2).of(20));
-    p.next(Some(SECOND));
-    p.limit(0, 1, None, Some(5));
-    p.done(&[(0, Some(0))]);
-    p.next(None);
-    p.send(from_to(2, 1).of(5));
-    p.walk(&[(SECOND, [(1, Some(SECOND))].as_slice())]);
-    p.expect(&rt);
+fn the_last_caps_of_a_peer_hold(rt: HostRuntime) -> Result<(), Fail> {
+    play::<u64>(
+        &rt,
+        0,
+        "\
+limit 0 1 10 -
+limit 0 1 20 -
+send 0 1 2 20 0
+next 1s
+limit 0 1 - 5
+done 0 0
+next -
+send 0 2 1 5 0
+event 1s
+done 1 1s
+next -
+",
+    )
 }
 
 #[test]
-fn a_message_to_oneself_takes_its_time(rt: HostRuntime) {
-    let mut p = capped::<u64>(rt.alloc(), 1);
-    p.send(from_to(1, 1));
-    p.walk(&[(SECOND, [(0, None)].as_slice())]);
-    p.expect(&rt);
+fn a_message_to_oneself_takes_its_time(rt: HostRuntime) -> Result<(), Fail> {
+    play::<u64>(
+        &rt,
+        0,
+        "\
+limit 0 1 1 -
+send 0 1 1 1 0
+event 1s
+done 0 -
+next -
+",
+    )
 }
 
 #[test]
-fn a_limit_finishes_what_is_overdue_at_its_own_moment(rt: HostRuntime) {
-    let mut p = capped::<u64>(rt.alloc(), 1000);
-    p.send(from_to(1, 2).of(1000));
-    p.limit(3 * SECOND, 9, None, None);
-    p.done(&[(0, Some(3 * SECOND))]);
-    p.next(None);
-    p.expect(&rt);
+fn a_limit_finishes_what_is_overdue_at_its_own_moment(rt: HostRuntime) -> Result<(), Fail> {
+    play::<u64>(
+        &rt,
+        0,
+        "\
+limit 0 1 1000 -
+send 0 1 2 1000 0
+limit 3s 9 - -
+done 0 3s
+next -
+",
+    )
 }
 
 #[test]
-fn nothing_sent_is_nothing_done(rt: HostRuntime) {
-    let mut p = begin::<u64>(rt.alloc());
-    p.next(None);
-    p.advance(SECOND);
-    p.counted(&[], 0);
-    p.next(None);
-    p.limit(0, 1, Some(1000), None);
-    p.next(None);
-    p.advance(SECOND);
-    p.counted(&[], 0);
-    p.next(None);
-    p.expect(&rt);
+fn nothing_sent_is_nothing_done(rt: HostRuntime) -> Result<(), Fail> {
+    play::<u64>(
+        &rt,
+        0,
+        "\
+next -
+advance 1s
+events 0
+next -
+limit 0 1 1000 -
+next -
+advance 1s
+events 0
+next -
+",
+    )
 }

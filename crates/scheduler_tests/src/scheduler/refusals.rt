@@ -1,10 +1,11 @@
 //! Calls that are refused, and the calls after them.
 ghost use Rattle.std.specs.Prelude.{nat_lt, if◌then◌else◌, ◌-◌};
 
-use super::{MILLI, SECOND, begin, from_to};
-use fair_rates::error::Error;
+use super::calls::{Calls, Parcel, bytes_from};
+use super::{play, play_list};
 use fair_rates::peer::Peer;
 use numbered_peers::Numbered;
+use std::test::Fail;
 
 /// Values of these numbers and above cannot be cloned.
 const ALONE: u8 = 200;
@@ -55,122 +56,135 @@ impl Numbered for Rare {
 }
 
 #[test]
-fn a_call_that_is_refused_half_way_changes_nothing(rt: HostRuntime) {
-    let start = u64::MAX - SECOND;
-    let mut p = begin::<u64>(rt.alloc());
-    p.limit(0, 1, Some(2), None);
-    p.send(from_to(1, 2).at(start));
-    p.send(from_to(1, 3).at(start).after(1));
-    p.advance(u64::MAX);
-    p.refused(Error::MomentTooLate);
-    p.next(Some(u64::MAX));
-    p.limit(u64::MAX - 1, 1, None, None);
-    p.done(&[(0, Some(u64::MAX - 1)), (1, Some(u64::MAX))]);
-    p.next(None);
-    p.expect(&rt);
+fn a_call_that_is_refused_half_way_changes_nothing(rt: HostRuntime) -> Result<(), Fail> {
+    play::<u64>(
+        &rt,
+        0,
+        "\
+limit 0 1 2 -
+send last-1s 1 2 1 0
+send last-1s 1 3 1 1
+advance last
+refused late
+next last
+limit last-1 1 - -
+done 0 last-1
+done 1 last
+next -
+",
+    )
 }
 
 /// A refused call of each kind, and then the calls that are made.
 #[test]
-fn calls_go_on_after_refusals(rt: HostRuntime) {
-    let mut p = begin::<char>(rt.alloc());
-    p.send(from_to(1, 2).at(u64::MAX).after(1));
-    p.refused(Error::MomentTooLate);
-    p.next(None);
-    p.send(from_to(1, 2).after(u64::MAX));
-    p.done(&[(1, Some(u64::MAX))]);
-    p.limit(0, 1, Some(1_000_000_000), None);
-    p.send(from_to(1, 2).after(1));
-    p.advance(u64::MAX - 1);
-    p.next(Some(u64::MAX));
-    p.advance(u64::MAX);
-    p.refused(Error::MomentTooLate);
-    p.link(u64::MAX, 1, 2, None);
-    p.refused(Error::MomentTooLate);
-    p.limit(u64::MAX, 1, None, None);
-    p.refused(Error::MomentTooLate);
-    p.send(from_to(1, 3).at(u64::MAX));
-    p.refused(Error::MomentTooLate);
-    p.next(Some(u64::MAX));
-    p.limit(u64::MAX - 1, 1, None, None);
-    p.done(&[(2, Some(u64::MAX))]);
-    p.next(None);
-    p.expect(&rt);
+fn calls_go_on_after_refusals(rt: HostRuntime) -> Result<(), Fail> {
+    play::<char>(
+        &rt,
+        0,
+        "\
+send last 1 2 1 1
+refused late
+next -
+send 0 1 2 1 last
+done 1 last
+limit 0 1 1000000000 -
+send 0 1 2 1 1
+advance last-1
+next last
+advance last
+refused late
+link last 1 2 -
+refused late
+limit last 1 - -
+refused late
+send last 1 3 1 0
+refused late
+next last
+limit last-1 1 - -
+done 2 last
+next -
+",
+    )
 }
 
 /// The parts of an amount that drains at one share after another grow past 128 bits. All is answered
 /// exactly.
 #[test]
-fn parts_past_128_bits_are_answered(rt: HostRuntime) -> Result<(), Error> {
-    let mut p = begin::<u64>(rt.alloc());
-    p.limit(0, 1, Some(4_294_967_291), None);
-    let mut others = Vec::new(rt.alloc());
+fn parts_past_128_bits_are_answered(rt: HostRuntime) -> Result<(), Fail> {
+    let mut calls = Calls::<u64>::new(rt.alloc(), 0, true);
+    calls.limit(0, 1, Some(4_294_967_291), None)?;
     for place in 0..60u8 {
         let now = place as u64;
-        p.send(from_to(1, 2 + place).of(4096).at(now));
+        calls.send(Parcel {
+            now,
+            ..bytes_from(1, 2 + place, 4096)
+        })?;
         if place > 50 {
-            p.next(Some(49_408 + 949 * (now - 51)));
-        }
-        if place > 0 {
-            others.push((place as usize, Some(51)))?;
+            calls.next(Some(49_408 + 949 * (now - 51)))?;
         }
     }
-    p.advance(57_000);
-    p.done(&[(0, Some(57_000))]);
-    p.next(Some(57_059));
-    p.limit(51, 1, None, None);
-    p.done(&others);
-    p.next(None);
-    p.expect(&rt);
+    calls.read("advance 57000\ndone 0 57000\nnext 57059\nlimit 51 1 - -\n")?;
+    for place in 1..60usize {
+        calls.done(place, Some(51))?;
+    }
+    calls.next(None)?;
+    calls.expect(&rt);
     Ok(())
 }
 
 /// Before any limit: the calls whose arguments cannot be cloned are not made, so no limit comes.
 #[test]
-fn a_call_that_cannot_be_cloned_ends_no_unlimited_mode(rt: HostRuntime) {
-    let mut p = begin::<Rare>(rt.alloc());
-    p.limit(0, ALONE + 1, None, None);
-    p.refused(Error::OutOfMemory);
-    p.send(from_to(1, 2).after(100));
-    p.done(&[(0, Some(100))]);
-    p.link(0, ALONE + 1, 2, None);
-    p.refused(Error::OutOfMemory);
-    p.link(0, 1, ALONE + 2, None);
-    p.refused(Error::OutOfMemory);
-    p.send(from_to(ALONE + 1, 2).after(300));
-    p.refused(Error::OutOfMemory);
-    p.send(from_to(1, ALONE + 2).after(300));
-    p.refused(Error::OutOfMemory);
-    p.send(from_to(1, 2).after(50));
-    p.done(&[(3, Some(100))]);
-    p.next(None);
-    p.expect_list(&rt);
+fn a_call_that_cannot_be_cloned_ends_no_unlimited_mode(rt: HostRuntime) -> Result<(), Fail> {
+    play_list::<Rare>(
+        &rt,
+        "\
+limit 0 201 - -
+refused memory
+send 0 1 2 1 100
+done 0 100
+link 0 201 2 -
+refused memory
+link 0 1 202 -
+refused memory
+send 0 201 2 1 300
+refused memory
+send 0 1 202 1 300
+refused memory
+send 0 1 2 1 50
+done 3 100
+next -
+",
+    )
 }
 
 /// Under a limit: the calls whose arguments cannot be cloned change no cap and send nothing, and the
 /// calls after them are made.
 #[test]
-fn a_call_that_cannot_be_cloned_is_not_made(rt: HostRuntime) {
-    let mut p = begin::<Rare>(rt.alloc());
-    p.limit(0, 1, Some(1000), None);
-    p.link(0, 1, 2, Some(500));
-    p.send(from_to(1, 2).of(1000));
-    p.next(Some(2 * SECOND));
-    p.limit(SECOND, ALONE + 1, Some(250), None);
-    p.refused(Error::OutOfMemory);
-    p.link(SECOND, ALONE + 1, 2, Some(100));
-    p.refused(Error::OutOfMemory);
-    p.link(SECOND, 1, ALONE + 2, Some(100));
-    p.refused(Error::OutOfMemory);
-    p.send(from_to(ALONE + 1, 3).of(0));
-    p.refused(Error::OutOfMemory);
-    p.send(from_to(1, ALONE + 3).of(1000));
-    p.refused(Error::OutOfMemory);
-    p.next(Some(2 * SECOND));
-    p.send(from_to(1, 3).of(250).at(SECOND));
-    p.walk(&[
-        (1500 * MILLI, [(3, Some(1500 * MILLI))].as_slice()),
-        (2 * SECOND, [(0, Some(2 * SECOND))].as_slice()),
-    ]);
-    p.expect_list(&rt);
+fn a_call_that_cannot_be_cloned_is_not_made(rt: HostRuntime) -> Result<(), Fail> {
+    play_list::<Rare>(
+        &rt,
+        "\
+limit 0 1 1000 -
+link 0 1 2 500
+send 0 1 2 1000 0
+next 2s
+limit 1s 201 250 -
+refused memory
+link 1s 201 2 100
+refused memory
+link 1s 1 202 100
+refused memory
+send 0 201 3 0 0
+refused memory
+send 0 1 203 1000 0
+refused memory
+next 2s
+send 1s 1 3 250 0
+event 1500ms
+done 3 1500ms
+event 2s
+done 0 2s
+next -
+",
+    )
 }

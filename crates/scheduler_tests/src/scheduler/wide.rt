@@ -1,129 +1,194 @@
 //! Links, many pairs, and moments that go back.
-use super::{MILLI, SECOND, begin, from_to};
-use fair_rates::error::Error;
+use super::calls::{Calls, bytes_from};
+use super::play;
+use std::process::Abort;
+use std::test::Fail;
 
 #[test]
-fn a_link_has_a_cap_of_its_own(rt: HostRuntime) {
-    let mut p = begin::<u64>(rt.alloc());
-    p.link(0, 1, 2, Some(100));
-    p.send(from_to(1, 2).of(100));
-    p.send(from_to(1, 3).of(100));
-    p.done(&[(1, Some(0))]);
-    p.next(Some(SECOND));
-    p.link(500 * MILLI, 1, 2, Some(25));
-    p.walk(&[(2500 * MILLI, [(0, Some(2500 * MILLI))].as_slice())]);
-    p.expect(&rt);
+fn a_link_has_a_cap_of_its_own(rt: HostRuntime) -> Result<(), Fail> {
+    play::<u64>(
+        &rt,
+        0,
+        "\
+link 0 1 2 100
+send 0 1 2 100 0
+send 0 1 3 100 0
+done 1 0
+next 1s
+link 500ms 1 2 25
+event 2500ms
+done 0 2500ms
+next -
+",
+    )
 }
 
 /// A link from a greater peer to a lesser one, beside one the other way.
 #[test]
-fn a_link_may_lead_to_a_lesser_peer(rt: HostRuntime) {
-    let mut p = begin::<u64>(rt.alloc());
-    p.link(0, 2, 1, Some(100));
-    p.send(from_to(2, 1).of(100));
-    p.send(from_to(1, 2).of(100));
-    p.done(&[(1, Some(0))]);
-    p.link(0, 1, 2, Some(50));
-    p.send(from_to(1, 2).of(100));
-    p.walk(&[
-        (SECOND, [(0, Some(SECOND))].as_slice()),
-        (2 * SECOND, [(2, Some(2 * SECOND))].as_slice()),
-    ]);
-    p.expect(&rt);
+fn a_link_may_lead_to_a_lesser_peer(rt: HostRuntime) -> Result<(), Fail> {
+    play::<u64>(
+        &rt,
+        0,
+        "\
+link 0 2 1 100
+send 0 2 1 100 0
+send 0 1 2 100 0
+done 1 0
+link 0 1 2 50
+send 0 1 2 100 0
+event 1s
+done 0 1s
+event 2s
+done 2 2s
+next -
+",
+    )
 }
 
 #[test]
-fn a_link_to_oneself_holds(rt: HostRuntime) {
-    let mut p = begin::<u64>(rt.alloc());
-    p.link(0, 1, 1, None);
-    p.send(from_to(1, 1));
-    p.done(&[(0, None)]);
-    p.expect(&rt);
-    let mut p = begin::<u64>(rt.alloc());
-    p.link(0, 1, 1, Some(1));
-    p.send(from_to(1, 1));
-    p.walk(&[(SECOND, [(0, None)].as_slice())]);
-    p.expect(&rt);
+fn a_link_to_oneself_holds(rt: HostRuntime) -> Result<(), Fail> {
+    play::<u64>(
+        &rt,
+        0,
+        "\
+link 0 1 1 -
+send 0 1 1 1 0
+done 0 -
+",
+    )?;
+    play::<u64>(
+        &rt,
+        0,
+        "\
+link 0 1 1 1
+send 0 1 1 1 0
+event 1s
+done 0 -
+next -
+",
+    )
 }
 
 #[test]
-fn a_link_leaves_the_rest_to_others(rt: HostRuntime) {
-    let mut p = begin::<u64>(rt.alloc());
-    p.limit(0, 1, Some(1000), None);
-    p.link(0, 1, 2, Some(100));
-    p.send(from_to(1, 2).of(1000));
-    p.send(from_to(1, 3).of(900));
-    p.walk(&[
-        (SECOND, [(1, Some(SECOND))].as_slice()),
-        (10 * SECOND, [(0, Some(10 * SECOND))].as_slice()),
-    ]);
-    p.expect(&rt);
+fn a_link_leaves_the_rest_to_others(rt: HostRuntime) -> Result<(), Fail> {
+    play::<u64>(
+        &rt,
+        0,
+        "\
+limit 0 1 1000 -
+link 0 1 2 100
+send 0 1 2 1000 0
+send 0 1 3 900 0
+event 1s
+done 1 1s
+event 10s
+done 0 10s
+next -
+",
+    )
 }
 
+/// Thirteen messages of one sender beside three of another one.
+const TWO_GROUPS: &str = "\
+limit 0 1 1000 -
+limit 0 20 1000 -
+send 0 1 2 1 0
+send 0 1 3 1 0
+send 0 1 4 1 0
+send 0 1 5 1 0
+send 0 1 6 1 0
+send 0 1 7 1 0
+send 0 1 8 1 0
+send 0 1 9 1 0
+send 0 1 10 1 0
+send 0 1 11 1 0
+send 0 1 12 1 0
+send 0 1 13 1 0
+send 0 1 14 1 0
+send 0 20 30 1 0
+send 0 20 31 1 0
+send 0 20 32 1 0
+event 3ms
+done 13 3ms
+done 14 3ms
+done 15 3ms
+event 13ms
+done 0 13ms
+done 1 13ms
+done 2 13ms
+done 3 13ms
+done 4 13ms
+done 5 13ms
+done 6 13ms
+done 7 13ms
+done 8 13ms
+done 9 13ms
+done 10 13ms
+done 11 13ms
+done 12 13ms
+next -
+";
+
 #[test]
-fn two_groups_drain_apart(rt: HostRuntime) -> Result<(), Error> {
-    let mut p = begin::<u64>(rt.alloc());
-    for origin in [1, 20] {
-        p.limit(0, origin, Some(1000), None);
+fn two_groups_drain_apart(rt: HostRuntime) -> Result<(), Fail> {
+    play::<u64>(&rt, 0, TWO_GROUPS)
+}
+
+/// So many messages of a byte each, to as many peers, take a second together.
+fn share_a_cap(rt: &(impl Abort + AllocGlobal), flows: usize) -> Result<(), Fail> {
+    let mut calls = Calls::<u64>::new(rt.alloc(), 0, true);
+    calls.limit(0, 1, Some(flows), None)?;
+    for (_, recipient) in (0..flows).zip(2..=u8::MAX) {
+        calls.send(bytes_from(1, recipient, 1))?;
     }
-    for recipient in 2..15u8 {
-        p.send(from_to(1, recipient));
+    calls.read("event 1s\n")?;
+    for place in 0..flows {
+        calls.done(place, Some(1_000_000_000))?;
     }
-    for recipient in 30..33u8 {
-        p.send(from_to(20, recipient));
-    }
-    let early = Some(3 * MILLI);
-    let mut late = Vec::new(rt.alloc());
-    for place in 0..13usize {
-        late.push((place, Some(13 * MILLI)))?;
-    }
-    p.walk(&[
-        (
-            3 * MILLI,
-            [(13, early), (14, early), (15, early)].as_slice(),
-        ),
-        (13 * MILLI, late.as_slice()),
-    ]);
-    p.expect(&rt);
+    calls.next(None)?;
+    calls.expect(rt);
     Ok(())
 }
 
 #[test]
-fn more_than_sixteen_flows_share_a_cap(rt: HostRuntime) -> Result<(), Error> {
-    for flows in [16usize, 17, 40] {
-        let mut p = begin::<u64>(rt.alloc());
-        p.limit(0, 1, Some(flows), None);
-        let mut wanted = Vec::new(rt.alloc());
-        for (place, recipient) in (0..flows).zip(2..=u8::MAX) {
-            p.send(from_to(1, recipient));
-            wanted.push((place, Some(SECOND)))?;
-        }
-        p.walk(&[(SECOND, wanted.as_slice())]);
-        p.expect(&rt);
-    }
-    Ok(())
+fn more_than_sixteen_flows_share_a_cap(rt: HostRuntime) -> Result<(), Fail> {
+    share_a_cap(&rt, 16)?;
+    share_a_cap(&rt, 17)?;
+    share_a_cap(&rt, 40)
 }
 
 #[test]
-fn an_update_moment_may_go_back(rt: HostRuntime) {
-    let mut p = begin::<u64>(rt.alloc());
-    p.limit(0, 1, Some(1000), None);
-    p.send(from_to(1, 2).of(1000));
-    p.limit(600 * MILLI, 9, None, None);
-    p.next(Some(1000 * MILLI));
-    p.limit(100 * MILLI, 9, None, None);
-    p.walk(&[(500 * MILLI, [(0, Some(500 * MILLI))].as_slice())]);
-    p.expect(&rt);
+fn an_update_moment_may_go_back(rt: HostRuntime) -> Result<(), Fail> {
+    play::<u64>(
+        &rt,
+        0,
+        "\
+limit 0 1 1000 -
+send 0 1 2 1000 0
+limit 600ms 9 - -
+next 1s
+limit 100ms 9 - -
+event 500ms
+done 0 500ms
+next -
+",
+    )
 }
 
 #[test]
-fn an_overdue_event_starts_a_later_message(rt: HostRuntime) {
-    let mut p = begin::<u64>(rt.alloc());
-    p.limit(0, 1, Some(1000), None);
-    p.send(from_to(1, 2).of(1000));
-    p.send(from_to(1, 2).of(1000).at(3 * SECOND));
-    p.next(Some(SECOND));
-    p.advance(3 * SECOND);
-    p.counted(&[(0, Some(SECOND)), (1, Some(2 * SECOND))], 2);
-    p.expect(&rt);
+fn an_overdue_event_starts_a_later_message(rt: HostRuntime) -> Result<(), Fail> {
+    play::<u64>(
+        &rt,
+        0,
+        "\
+limit 0 1 1000 -
+send 0 1 2 1000 0
+send 3s 1 2 1000 0
+next 1s
+advance 3s
+done 0 1s
+done 1 2s
+events 2
+",
+    )
 }
