@@ -22,7 +22,8 @@ returns-in_err-ledger-clause-refused g c =
 
 pub returns-in_err-completions-clause-refused : goal.returns-in_err-completions-clause-refused
 returns-in_err-completions-clause-refused g c =
-    let p = err_from_is_err_and c.from_residual-in_err-completions.result c.from_residual-in_err-completions.ensures.1 in
+    let p =
+    err_from_is_err_and c.from_residual-in_err-completions.result c.from_residual-in_err-completions.ensures.1 in
     let some : length c.args.messages.items ≢ 0 = search rules in
     let sent : length (map outgoing c.args.messages.items) ≢ 0 =
     λ e. some (sym (length-map c.args.messages.items outgoing) ∙ e) in

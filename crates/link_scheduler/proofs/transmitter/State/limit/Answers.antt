@@ -9,10 +9,13 @@ use Rattle.link_scheduler.proofs.transmitter.State.limit.Goals as goal
 
 pub returns-in_err-completions-clause-refused : goal.returns-in_err-completions-clause-refused
 returns-in_err-completions-clause-refused g c =
-    let p = err_from_is_err_and c.from_residual-in_err-completions.result c.from_residual-in_err-completions.ensures.1 in
+    let p =
+    err_from_is_err_and c.from_residual-in_err-completions.result c.from_residual-in_err-completions.ensures.1 in
     rw (p.1, p.2)
     (refused_on_copy g.P.Ord.cmp g.met.P.Ord.total (planned g.P.Ord.cmp c.args.self.now.ledger)
-    (planned g.P.Ord.cmp c.in_ok-ledger.ledger) (call_limit c.args.now c.args.peer.now c.args.egress c.args.ingress) c.args.now _ refl c.ranges.now.fits
+    (planned g.P.Ord.cmp c.in_ok-ledger.ledger)
+    (call_limit c.args.now c.args.peer.now c.args.egress c.args.ingress)
+    c.args.now _ refl c.ranges.now.fits
     c.in_ok-ledger.ensures.cases c.in_err-completions.ensures.refused)
 
 pub invariant_of-self-clause-caps : goal.invariant_of-self-clause-caps

@@ -7,7 +7,9 @@ use Rattle.link_scheduler.proofs.transmitter.ledger.Ledger.answer_enqueue.Goals 
 
 pub returns-clause-answered : goal.returns-clause-answered
 returns-clause-answered g c =
-    answered_if g.P.Ord.cmp c.answers_of.result (λ done. map completed_of done.items) (planned g.P.Ord.cmp c.args.self.now)
-    (planned g.P.Ord.cmp c.enqueue.new.self) (call_enqueue c.args.now (message_of c.args.message)) (map ended_of c.in_ok-ended.ended.items)
+    answered_if g.P.Ord.cmp c.answers_of.result (λ done. map completed_of done.items)
+    (planned g.P.Ord.cmp c.args.self.now)
+    (planned g.P.Ord.cmp c.enqueue.new.self) (call_enqueue c.args.now (message_of c.args.message))
+    (map ended_of c.in_ok-ended.ended.items)
     (rw (← c.deref.ensures.value) c.answers_of.ensures.same)
     c.in_ok-ended.ensures.enqueues

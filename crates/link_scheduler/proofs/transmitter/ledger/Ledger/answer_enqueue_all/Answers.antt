@@ -8,7 +8,9 @@ use Rattle.link_scheduler.proofs.transmitter.ledger.Ledger.answer_enqueue_all.Go
 
 pub returns-clause-answered : goal.returns-clause-answered
 returns-clause-answered g c =
-    answered_if g.P.Ord.cmp c.answers_of.result (λ done. map completed_of done.items) (planned g.P.Ord.cmp c.args.self.now)
-    (planned g.P.Ord.cmp c.enqueue_all.new.self) (call_enqueue_all c.args.now (map outgoing c.args.messages.items)) (map ended_of c.in_ok-ended.ended.items)
+    answered_if g.P.Ord.cmp c.answers_of.result (λ done. map completed_of done.items)
+    (planned g.P.Ord.cmp c.args.self.now)
+    (planned g.P.Ord.cmp c.enqueue_all.new.self) (call_enqueue_all c.args.now (map outgoing c.args.messages.items))
+    (map ended_of c.in_ok-ended.ended.items)
     (rw (← c.deref.ensures.value) c.answers_of.ensures.same)
     c.in_ok-ended.ensures.enqueues

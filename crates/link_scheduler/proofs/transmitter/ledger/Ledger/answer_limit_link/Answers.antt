@@ -18,8 +18,11 @@ returns-in_err-ended-clause-refused g c =
 
 pub returns-clause-answered : goal.returns-clause-answered
 returns-clause-answered g c =
-    answered_if g.P.Ord.cmp c.answers_of.result (λ done. map completed_of done.items) (planned g.P.Ord.cmp c.args.self.now)
-    (planned g.P.Ord.cmp c.rebalance.new.self) (call_limit_link c.args.now c.args.origin.now c.args.recipient.now c.args.cap) (map ended_of c.in_ok-ended.ended.items)
+    answered_if g.P.Ord.cmp c.answers_of.result (λ done. map completed_of done.items)
+    (planned g.P.Ord.cmp c.args.self.now)
+    (planned g.P.Ord.cmp c.rebalance.new.self)
+    (call_limit_link c.args.now c.args.origin.now c.args.recipient.now c.args.cap)
+    (map ended_of c.in_ok-ended.ended.items)
     (rw (← c.deref.ensures.value) c.answers_of.ensures.same)
     (rebalances_on g.P.Ord.cmp g.met.P.Ord.total c.args.now
     (linked_by g.P.Ord.cmp (planned g.P.Ord.cmp c.args.self.now).caps c.args.origin.now c.args.recipient.now c.args.cap)
