@@ -3,7 +3,7 @@ use Rattle.std.proofs.Common.{◌≡◌, ℕ, List, [], ◌∷◌, ◌++◌, Opt
 use Rattle.std.proofs.Common.{append_assoc, append-nil, codes, decimal, length, refl}
 use Rattle.std.specs.Io.KnownBytes.{Appends}
 use Rattle.std.proofs.lemmas.List.Concat.{flat_map-append}
-use Rattle.link_flights.specs.declared.completion.Completion.{Completion}
+use Rattle.link_pairs.specs.declared.completion.Completion.{Completion}
 use Rattle.broadcast.specs.Lines.{moment_word, done_line, done_text}
 
 -- one text after another

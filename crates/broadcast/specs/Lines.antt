@@ -1,7 +1,7 @@
 -- The lines that are printed.
 use Rattle.std.specs.Prelude.{ℕ, List, [], ◌∷◌, ◌++◌, length, Option, Some, None, codes, decimal}
 use Rattle.std.specs.List.{flat_map}
-use Rattle.link_flights.specs.declared.completion.Completion.{Completion}
+use Rattle.link_pairs.specs.declared.completion.Completion.{Completion}
 
 -- a moment, or `-` where there is none
 abbrev pub moment_word : Option ℕ → List ℕ

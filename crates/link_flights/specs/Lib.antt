@@ -1,3 +1,1 @@
 pub mod Flights
-pub mod Idle
-pub mod Pairs

@@ -7,26 +7,19 @@ ghost use Rattle.std.specs.declared.alloc.Global.{Global as Allocator};
 ghost use Rattle.link_flights.specs.declared.flight.Flight.{Flight as AnyFlight};
 ghost use Rattle.link_simulation.specs.Rule.Planned.{RatedFlight, rated_messages, drained_to};
 ghost use Rattle.link_simulation.specs.Rule.Planned.{is_spent};
-ghost use Rattle.link_flights.specs.Idle.AtRest.{of_pairs};
-ghost use Rattle.link_flights.specs.Idle.Index.{IsIndexOf};
-ghost use Rattle.link_flights.specs.Idle.Busy.{AreCounted};
 ghost use Rattle.link_flights.specs.Flights.Flight.{flight_at, AreTimed, DrainsTo};
 ghost use Rattle.link_flights.specs.Flights.InFlight.{in_flight, in_units};
 ghost use Rattle.link_flights.specs.Flights.Rated.{ArePartedBy, is_out, are_limited, rated_ones};
-ghost use Rattle.link_flights.specs.Pairs.Messages.{message_of, messages};
-ghost use Rattle.link_flights.specs.Pairs.CapsOf.{caps_of};
+ghost use Rattle.link_pairs.specs.Pairs.Messages.{message_of, messages};
+ghost use Rattle.link_pairs.specs.Pairs.CapsOf.{caps_of};
 ghost use Rattle.link_simulation.specs.Simulation.Rates.{is_unlimited as is_free};
 
-use crate::busy::BusyPairs;
 use crate::flight_list::Flights;
-use crate::idle_pairs::IdlePairs;
-use crate::known_pairs::Pairs;
-use crate::message::Message;
-use crate::peers::Peers;
-use crate::readiness::rest_all;
-use crate::waiting::Waiting;
 use fair_rates::error::Error;
 use fair_rates::peer::Peer;
+use link_pairs::known_pairs::Pairs;
+use link_pairs::message::Message;
+use link_pairs::peers::Peers;
 use natural::Natural;
 use std::alloc::Global;
 use std::collections::VecDeque;
@@ -96,7 +89,7 @@ impl<P: Peer> Flights<P> {
     }
 
     /// Takes those that are done, in order of start.
-    fn take_done(
+    pub fn take_done(
         &mut self,
         peers: &Peers<P>,
         pairs: &Pairs<P>,
@@ -138,43 +131,4 @@ impl<P: Peer> Flights<P> {
             self.scale = Natural::from_u64(self.alloc, 1);
         }
     }
-}
-
-/// What is done leaves, in order of start, and its pairs are idle from now on.
-pub fn leave<P: Peer>(
-    alloc: Global,
-    flights: &mut Flights<P>,
-    busy: &mut BusyPairs<P>,
-    idle: &mut IdlePairs<P>,
-    peers: &Peers<P>,
-    pairs: &Pairs<P>,
-    waiting: &Waiting<P>,
-    were_rated: bool,
-) -> Result<VecDeque<Rc<Message<P>>>, Error>
-    requires indexed { IsIndexOf P.cmp (of_pairs P.cmp pairs.now.entries waiting.now.messages
-        (in_flight flights.old)) idle.old.entries }
-    requires limited { were_rated ≡ true → are_limited P.cmp (caps_of P.cmp peers.now.entries pairs.now.entries)
-        (rated_ones (in_units flights.old)) ≡ true }
-    requires timed { were_rated ≡ true → AreTimed flights.old.list.items }
-    requires counted { AreCounted P.cmp busy.old.entries (rated_messages (in_flight flights.old)) }
-    ensures done { IfOk result (λ done. messages done.items
-        ≡ rated_messages (filter (is_spent P.cmp (caps_of P.cmp peers.now.entries pairs.now.entries))
-        (in_flight flights.old))) }
-    ensures rest { OnOk result (in_flight flights.new ≡ filter
-        (λ f. not (is_spent P.cmp (caps_of P.cmp peers.now.entries pairs.now.entries) f)) (in_flight flights.old)) }
-    ensures parted { IfOk result (λ done. ArePartedBy (is_out P.cmp
-        (caps_of P.cmp peers.now.entries pairs.now.entries) flights.old.scale)
-        (in_units flights.old) (messages done.items) (in_units flights.new)) }
-    ensures scale { flights.new.scale ≡ flights.old.scale }
-    ensures at { flights.new.at ≡ flights.old.at }
-    ensures timed { AreTimed flights.old.list.items → AreTimed flights.new.list.items }
-    ensures indexed { OnOk result (IsIndexOf P.cmp (of_pairs P.cmp pairs.now.entries waiting.now.messages
-        (in_flight flights.new)) idle.new.entries) }
-    ensures counted { OnOk result (AreCounted P.cmp busy.new.entries (rated_messages (in_flight flights.new))) }
-    ensures refused { IfErr result (λ e. e ≡ Error.OutOfMemory) }
-{
-    let done = flights.take_done(peers, pairs, were_rated)?;
-    busy.remove_all(alloc, &done)?;
-    rest_all(alloc, idle, busy, waiting, pairs, &done)?;
-    Ok(done)
 }

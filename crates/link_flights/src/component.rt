@@ -14,9 +14,9 @@ ghost use Rattle.link_flights.specs.Flights.Rated.{rated_ones};
 
 use crate::flight::Flight;
 use crate::flight_list::Flights;
-use crate::message::Message;
 use fair_rates::error::Error;
 use fair_rates::peer::Peer;
+use link_pairs::message::Message;
 use std::alloc::Global;
 use std::collections::VecDeque;
 use std::rc::Rc;

@@ -3,9 +3,9 @@ ghost use Rattle.std.specs.Prelude.{◌≡◌, ◌≢◌, ◌*◌, ◌==◌, IfO
 ghost use Rattle.fair_rates.specs.Fairness.Exists.{product};
 ghost use Rattle.link_flights.specs.Flights.Flight.{rate_of, left_by, flight_at, has_come, IsTimed, IsFinishOf};
 
-use crate::message::Message;
 use fair_rates::error::Error;
 use fair_rates::peer::Peer;
+use link_pairs::message::Message;
 use natural::Natural;
 use std::rc::Rc;
 

@@ -5,9 +5,9 @@ ghost use Rattle.std.specs.List.{list_all, list_any};
 ghost use Rattle.link_simulation.specs.Rule.Planned.{earlier as earliest};
 
 use crate::flight::Flight;
-use crate::message::Message;
 use fair_rates::error::Error;
 use fair_rates::peer::Peer;
+use link_pairs::message::Message;
 use natural::Natural;
 use std::alloc::{AllocError, Global};
 use std::rc::Rc;
@@ -55,7 +55,7 @@ fn earlier(first: Option<u64>, second: Option<u64>) -> Option<u64>
 impl<P: Peer> Flights<P> {
     ghost use Rattle.fair_rates.specs.Numbers.Amount.{whole};
     ghost use Rattle.link_simulation.specs.Rule.Planned.{RatedFlight};
-    ghost use Rattle.link_flights.specs.Pairs.Messages.{message_of};
+    ghost use Rattle.link_pairs.specs.Pairs.Messages.{message_of};
     ghost use Rattle.link_flights.specs.Flights.Flight.{AreTimed, has_come, IsPutAt};
     ghost use Rattle.link_flights.specs.Flights.InFlight.{in_flight, in_units};
     ghost use Rattle.link_flights.specs.Flights.Rated.{rated_ones};

@@ -10,7 +10,7 @@ ghost use Rattle.fair_rates.specs.Numbers.Amount.{Amount, whole};
 ghost use Rattle.fair_rates.specs.Numbers.Ratio.{amount_of};
 ghost use Rattle.fair_rates.specs.declared.error.Error.{Error as AnyError};
 ghost use Rattle.fair_rates.specs.declared.error.Error.TheVariants.{OutOfMemory, NumberTooLarge};
-ghost use Rattle.link_flights.specs.Pairs.Messages.{completed_of};
+ghost use Rattle.link_pairs.specs.Pairs.Messages.{completed_of};
 ghost use Rattle.link_flights.specs.Flights.Readings.{HasShortTerms, IsGreatestWhole, IsReadingOf, IsReadAs};
 ghost use Rattle.link_scheduler.specs.Calls.State.{planned_of, sent, Makes, Refuses, IsNew, IsAdvanced, IsCounted};
 ghost use Rattle.link_scheduler.specs.Calls.State.{IsNextOf};

@@ -10,6 +10,7 @@ mod answers;
 mod batch;
 mod event;
 mod events;
+mod leave;
 mod ledger;
 mod moves;
 mod outgoing;
@@ -19,9 +20,9 @@ use bytes::Bytes;
 use fair_rates::error::Error;
 use fair_rates::peer::Peer;
 use ledger::Ledger;
-pub use link_flights::completion::Completion;
-use link_flights::message::Message;
 pub use link_flights::reading::{InFlight, Reading};
+pub use link_pairs::completion::Completion;
+use link_pairs::message::Message;
 pub use outgoing::Outgoing;
 use std::alloc::Global;
 
@@ -80,7 +81,7 @@ pub struct State<P: Peer> {
 
 impl<P: Peer> State<P> {
     ghost use Rattle.std.specs.List.{AllZip};
-    ghost use Rattle.link_flights.specs.Pairs.Messages.{message_of};
+    ghost use Rattle.link_pairs.specs.Pairs.Messages.{message_of};
     ghost use Rattle.link_flights.specs.Flights.Readings.{IsReadAs};
     ghost use Rattle.link_scheduler.specs.Calls.State.{planned_of, sent, IsNew, IsMade, IsRefused, IsAdvanced};
     ghost use Rattle.link_scheduler.specs.Calls.State.{IsCounted, sends, AreMade, IsOneRefused};

@@ -3,7 +3,7 @@ use Rattle.std.proofs.Common.{◌≡◌, ℕ, cond, ◌&&◌, eqb, Option, sym, 
 use Rattle.std.specs.Cmp.{tied_then}
 use Rattle.std.specs.Ordering.{is_eq, nat_cmp}
 use Rattle.std.proofs.lemmas.Bool.Decides.{nat_tests}
-use Rattle.link_flights.specs.Pairs.Entries.{pair_cmp}
+use Rattle.link_pairs.specs.Pairs.Entries.{pair_cmp}
 use Rattle.link_scripts.specs.Session.{with_said_link}
 
 -- the order of numbers tells equal ones

@@ -7,8 +7,8 @@ use Rattle.std.specs.Map.Iter.{deref_pair}
 use Rattle.std.proofs.lemmas.List.{map-append}
 use Rattle.std.proofs.lemmas.List.Concat.{flat_map-append}
 use Rattle.fair_rates.specs.declared.bandwidth.Rate.{Rate}
-use Rattle.link_flights.specs.declared.completion.Completion.{Completion}
-use Rattle.link_flights.specs.Pairs.Messages.{completed_of}
+use Rattle.link_pairs.specs.declared.completion.Completion.{Completion}
+use Rattle.link_pairs.specs.Pairs.Messages.{completed_of}
 use Rattle.link_simulation.specs.Simulation.World.{Completed}
 use Rattle.link_scripts.specs.Answer.{rate_line, rates_text, moment_word, done_line, done_text}
 

@@ -11,7 +11,7 @@ use Rattle.link_scripts.specs.declared.linkrun.command.Command.{Command}
 use Rattle.link_scripts.specs.declared.linkrun.command.Command.TheVariants as commands
 use Rattle.link_scripts.specs.declared.linkrun.session.Session.{Session}
 use Rattle.fair_rates.specs.Sides.Caps.{Caps}
-use Rattle.link_flights.specs.Pairs.Entries.{pair_cmp}
+use Rattle.link_pairs.specs.Pairs.Entries.{pair_cmp}
 use Rattle.fair_rates.specs.Fairness.UnderCaps.{IsFairById}
 use Rattle.link_scripts.specs.Schedule.{world_call, AnswersCall}
 use Rattle.link_scheduler.specs.Calls.Replay.{MayRefuseCall}

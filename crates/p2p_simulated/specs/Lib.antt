@@ -10,8 +10,8 @@ pub use Rattle.link_simulation.specs.Rule
 pub use Rattle.link_simulation.specs.Examples
 pub use Rattle.link_scheduler.specs.Calls
 pub use Rattle.link_flights.specs.Flights
-pub use Rattle.link_flights.specs.Idle
-pub use Rattle.link_flights.specs.Pairs
+pub use Rattle.link_waiting.specs.Idle
+pub use Rattle.link_pairs.specs.Pairs
 pub use Rattle.link_scripts.specs.Answer
 pub use Rattle.link_scripts.specs.Lines
 pub use Rattle.link_scripts.specs.Outcome

@@ -7,7 +7,7 @@ use Rattle.link_simulation.specs.Simulation.Calls.{Call}
 use Rattle.fair_rates.specs.declared.error.Error.{Error}
 use Rattle.fair_rates.specs.declared.error.Error.TheVariants.{OutOfMemory, NumberTooLarge, MomentTooLate}
 use Rattle.fair_rates.specs.declared.error.Error.TheVariants.{FlowIdsUsedUp}
-use Rattle.link_flights.specs.declared.completion.Completion.{Completion}
+use Rattle.link_pairs.specs.declared.completion.Completion.{Completion}
 use Rattle.p2p_simulated_c.specs.Asked.{OnHandle, at_open, Ended, Advanced}
 use Rattle.p2p_simulated_c.specs.declared.opened.Opened.{Opened}
 

@@ -8,7 +8,7 @@ use Rattle.std.specs.Ordering.{is_eq, nat_cmp}
 use Rattle.fair_rates.specs.Fairness.Allocation.{IsCountedAllocation}
 use Rattle.fair_rates.specs.Sides.Answers.{Answered, Calls, PairCalls, States}
 use Rattle.fair_rates.specs.Sides.Caps.{Caps}
-use Rattle.link_flights.specs.Pairs.Entries.{pair_cmp}
+use Rattle.link_pairs.specs.Pairs.Entries.{pair_cmp}
 use Rattle.fair_rates.specs.Fairness.UnderCaps.{AnswerBy, AnswersAreThoseOfTheCaps}
 use Rattle.fair_rates.specs.Fairness.Rates.{AreFairRates, or_else}
 use Rattle.fair_rates.specs.Sides.Subjects.{sides_of}

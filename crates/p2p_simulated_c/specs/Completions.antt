@@ -1,6 +1,6 @@
 -- What can be copied of the completions that an open scheduler has.
 use Rattle.std.specs.Prelude.{ℕ, List, [], drop, map, Option, Some, None, slice_get}
-use Rattle.link_flights.specs.declared.completion.Completion.{Completion}
+use Rattle.link_pairs.specs.declared.completion.Completion.{Completion}
 use Rattle.p2p_simulated_c.specs.declared.opened.Opened.{Opened}
 use Rattle.p2p_simulated_c.specs.declared.records.Done.{Done}
 use Rattle.p2p_simulated_c.specs.Records.{done_of}

@@ -1,7 +1,7 @@
 -- How the records that cross to C are read.
 use Rattle.std.specs.Prelude.{ℕ, ◌+◌, ◌*◌, ◌/◌, ◌%◌, ◌^◌, ◌==◌, if◌then◌else◌, Bool, not, length, Option}
 use Rattle.std.specs.Prelude.{Some, None}
-use Rattle.link_flights.specs.declared.completion.Completion.{Completion}
+use Rattle.link_pairs.specs.declared.completion.Completion.{Completion}
 use Rattle.p2p_simulated_c.specs.declared.records.Cap.{Cap}
 use Rattle.p2p_simulated_c.specs.declared.records.Done.{Done}
 use Rattle.p2p_simulated_c.specs.declared.records.Moment.{Moment}

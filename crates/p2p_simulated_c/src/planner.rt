@@ -5,7 +5,7 @@ ghost use Rattle.std.specs.Fn.{CalledAt, TakesAt, CalledAtTwo, TakesAtTwo};
 ghost use Rattle.std.specs.Ordering.{nat_cmp};
 ghost use Rattle.fair_rates.specs.Sides.Answers.{CallableOnEach, CallableOnEachPair, origins, recipients, pairs};
 ghost use Rattle.fair_rates.specs.Sides.Caps.{Caps as CapsOf};
-ghost use Rattle.link_flights.specs.Pairs.Entries.{pair_cmp};
+ghost use Rattle.link_pairs.specs.Pairs.Entries.{pair_cmp};
 ghost use Rattle.fair_rates.specs.Fairness.UnderCaps.{AnswerBy};
 ghost use Rattle.p2p_simulated_c.specs.Plan.{IsPlan, IsPlanned, MayRefusePlan, caps_of_records, flow_of};
 ghost use Rattle.p2p_simulated_c.specs.Plan.{link_cap, peer_cap, rates_of};

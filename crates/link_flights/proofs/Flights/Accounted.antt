@@ -11,7 +11,7 @@ use Rattle.link_simulation.specs.Simulation.Rates.{is_unlimited}
 use Rattle.link_flights.specs.Flights.Flight.{UnitFlight, DrainsTo}
 use Rattle.link_flights.specs.Flights.Rated.{rated_ones, is_out, are_limited, IsRatedFrom}
 use Rattle.link_flights.specs.Flights.RatedFlights.{rated_flight_of}
-use Rattle.link_flights.specs.Pairs.Messages.{message_of}
+use Rattle.link_pairs.specs.Pairs.Messages.{message_of}
 
 module _ {P : Type 0} where
   there : (now : ℕ) (us vs : List (UnitFlight P)) → AllZip (DrainsTo now) us vs → (v : UnitFlight P) → In vs v

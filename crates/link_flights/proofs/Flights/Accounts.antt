@@ -10,47 +10,20 @@ use Rattle.std.specs.declared.cmp.Ordering.{Ordering}
 use Rattle.std.proofs.lemmas.List.Elements.{filter_passes}
 use Rattle.std.proofs.lemmas.Bool.{and_from}
 use Rattle.fair_rates.proofs.Lists.Booleans.{first_of_both, second_of_both}
-use Rattle.link_flights.specs.declared.known_pairs.Pair.{Pair}
-use Rattle.link_flights.specs.declared.peers.PeerCaps.{PeerCaps}
 use Rattle.fair_rates.specs.Numbers.Amount.{reduced, billion}
 use Rattle.fair_rates.specs.Sides.Caps.{Caps}
-use Rattle.fair_rates.specs.Fairness.UnderCaps.{AreOfPeers}
-use Rattle.link_flights.specs.Pairs.Entries.{arrival_of}
-use Rattle.link_flights.specs.Pairs.Messages.{message_of}
-use Rattle.link_flights.specs.Pairs.CapsOf.{caps_of}
+use Rattle.link_pairs.specs.Pairs.Messages.{message_of}
 use Rattle.link_flights.specs.Flights.Flight.{UnitFlight}
 use Rattle.link_flights.specs.Flights.Rated.{AreFairlyRated, IsRatedFrom, rates_of}
 use Rattle.link_flights.specs.Flights.RatedFlights.{rated_flight_of, sending_of}
 use Rattle.link_simulation.specs.Rule.Events.{Accounts}
-use Rattle.link_simulation.specs.Simulation.Messages.{Message, PairsAlike}
+use Rattle.link_simulation.specs.Simulation.Messages.{Message}
 use Rattle.link_simulation.specs.Rule.Planned.{Planned, RatedFlight, IsLeastMoment, SomeSpentAt, rated_messages}
 use Rattle.link_simulation.specs.Rule.Planned.{drained_to, is_spent}
 use Rattle.link_simulation.specs.Simulation.Rates.{AreFair, is_unlimited, rate_of, rates_from}
 use Rattle.link_flights.proofs.Flights.InFlight.{nothing_is_done}
 use Rattle.link_flights.proofs.Flights.Standing.{messages_read, messages_kept}
 use Rattle.link_flights.proofs.Flights.Units.{grown_left, units_positive, nothing_left}
-use Rattle.link_flights.proofs.Pairs.Entries.{links_alike, arrivals_alike}
-use Rattle.fair_rates.proofs.Lists.Sorted.{is_eq_equal, value_respects}
-
--- ---- the caps that are looked up
-
--- they are those of the peers
-pub looked_up : {P : Type 0} (cmp : P → P → Ordering) → IsTotalOrder cmp
-    → (peers : List (PeerCaps P)) (pairs : List (Pair P)) → AreOfPeers cmp (caps_of cmp peers pairs)
-looked_up {P} cmp order peers pairs = record {
-  egress = λ p q same.
-      value_respects cmp order (λ (entry : PeerCaps P). entry.peer.value) (λ (entry : PeerCaps P). entry.egress) None
-      peers p q (is_eq_equal _ same);
-  ingress = λ p q same.
-      value_respects cmp order (λ (entry : PeerCaps P). entry.peer.value) (λ (entry : PeerCaps P). entry.ingress) None
-      peers p q (is_eq_equal _ same);
-  link = links_alike cmp order pairs;
-}
-
--- the last arrivals of equal pairs are the same
-pub arrivals_looked_up : {P : Type 0} (cmp : P → P → Ordering) → IsTotalOrder cmp → (es : List (Pair P))
-    → PairsAlike cmp (arrival_of cmp es) (arrival_of cmp es)
-arrivals_looked_up cmp order es = arrivals_alike cmp order es
 
 -- ---- what is in flight, and what it becomes
 

@@ -31,8 +31,8 @@ use Rattle.fair_rates.proofs.Fairness.Sharing.{both_shared}
 use Rattle.link_simulation.specs.Simulation.Messages.{Message, is_delivered}
 use Rattle.link_simulation.specs.Simulation.Rates.{capped_sides}
 use Rattle.link_flights.specs.declared.component.Component.{Component}
-use Rattle.link_flights.specs.declared.message.Message as code
-use Rattle.link_flights.specs.Pairs.Messages.{messages, message_of}
+use Rattle.link_pairs.specs.declared.message.Message as code
+use Rattle.link_pairs.specs.Pairs.Messages.{messages, message_of}
 use Rattle.link_flights.specs.Flights.CappedFlows.{AreFairPartsUnder}
 use Rattle.link_flights.specs.declared.flight.Flight.{Flight}
 use Rattle.link_flights.specs.Flights.Flight.{UnitFlight, flight_at}

@@ -16,7 +16,7 @@ use Rattle.link_simulation.specs.Simulation.World.{last_moment}
 use Rattle.link_flights.specs.declared.flight.Flight.{Flight}
 use Rattle.link_flights.specs.Flights.Flight.{UnitFlight, rate_of, left_by, flight_at, flights_at, has_come, IsTimed}
 use Rattle.link_flights.specs.Flights.Rated.{is_out, are_limited, rated_ones}
-use Rattle.link_flights.specs.Pairs.Messages.{message_of}
+use Rattle.link_pairs.specs.Pairs.Messages.{message_of}
 use Rattle.link_flights.proofs.Flights.Units.{units_positive, no_units_left, nothing_left}
 
 -- two tests that pass in the same cases

@@ -17,7 +17,7 @@ use Rattle.fair_rates.proofs.Lists.Members.{all_passed, all_pass, from_filter}
 use Rattle.std.proofs.lemmas.List.Elements.{Contains-get_or, filter-append}
 use Rattle.link_flights.specs.declared.component.Component.{Component}
 use Rattle.link_flights.specs.declared.flight.Flight.{Flight}
-use Rattle.link_flights.specs.declared.message.Message as code
+use Rattle.link_pairs.specs.declared.message.Message as code
 use Rattle.link_flights.specs.Flights.Components.{is_sender, is_receiver, is_of, is_near, is_found, suits, is_closed}
 use Rattle.link_flights.specs.Flights.Components.{AreFarApart, AreFound, AreGrouped, AreNear, share_an_end, those_of}
 use Rattle.link_flights.specs.Flights.Flight.{UnitFlight, flight_at, flights_at}

@@ -13,7 +13,7 @@ use Rattle.std.proofs.lemmas.Bool.{and_from}
 use Rattle.fair_rates.proofs.Lists.Booleans.{first_of_both, second_of_both}
 use Rattle.link_flights.specs.Flights.Flight.{UnitFlight}
 use Rattle.link_flights.specs.Flights.RatedFlights.{stands_for, are_standing}
-use Rattle.link_flights.specs.Pairs.Messages.{message_of}
+use Rattle.link_pairs.specs.Pairs.Messages.{message_of}
 use Rattle.fair_rates.proofs.Lists.Zips.{zip-length, zip-push}
 use Rattle.fair_rates.proofs.Lists.Sorted.{get_or-seam}
 

@@ -3,7 +3,7 @@ use Rattle.std.proofs.Common.{◌≡◌, ℕ, ◌-◌, ◌<◌, Bool, true, fals
 use Rattle.std.proofs.Common.{slice_index, refl, sym, ap, ap₂, ◌∙◌, ◌||◌, subst, inl, inr}
 use Rattle.fair_rates.specs.Sides.Subjects.{same_peer}
 use Rattle.fair_rates.proofs.Lists.Members.{In, in_from_contains, contains_from_in}
-use Rattle.link_flights.specs.declared.message.Message as code
+use Rattle.link_pairs.specs.declared.message.Message as code
 use Rattle.link_flights.specs.Flights.Components.{AreGrouped, share_an_end}
 use Rattle.std.specs.List.{AllZip, filter}
 use Rattle.std.specs.declared.cmp.Ordering.{Ordering}
@@ -19,7 +19,7 @@ use Rattle.link_flights.specs.Flights.InFlight.{in_units}
 use Rattle.link_flights.specs.Flights.Rated.{sent_messages, rates_of, rated_ones, is_out, are_limited, AreFairlyRated}
 use Rattle.link_flights.specs.Flights.Rated.{AreRated, IsAsRated}
 use Rattle.link_flights.specs.Flights.RatedFlights.{rated_flight_of, sending_of}
-use Rattle.link_flights.specs.Pairs.Messages.{message_of}
+use Rattle.link_pairs.specs.Pairs.Messages.{message_of}
 use Rattle.link_flights.proofs.Flights.Components.{read_filter}
 use Rattle.link_flights.proofs.Flights.Units.{drained_units}
 

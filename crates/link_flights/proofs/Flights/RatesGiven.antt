@@ -14,8 +14,8 @@ use Rattle.fair_rates.specs.Sides.Caps.{Caps}
 use Rattle.fair_rates.specs.Fairness.UnderCaps.{AreOfPeers}
 use Rattle.fair_rates.proofs.Numbers.Draining.{product_none}
 use Rattle.link_flights.specs.declared.component.Component.{Component}
-use Rattle.link_flights.specs.declared.message.Message as code
-use Rattle.link_flights.specs.Pairs.Messages.{messages}
+use Rattle.link_pairs.specs.declared.message.Message as code
+use Rattle.link_pairs.specs.Pairs.Messages.{messages}
 use Rattle.link_flights.specs.declared.flight_list.Flights.{Flights}
 use Rattle.link_flights.specs.Flights.Flight.{UnitFlight, AreTimed}
 use Rattle.link_flights.specs.Flights.InFlight.{in_units}

@@ -19,7 +19,7 @@ use Rattle.link_flights.specs.Flights.Rated.{sent_messages, rated_ones, are_limi
 use Rattle.link_flights.specs.Flights.RatedFlights.{rated_flight_of, sending_of}
 use Rattle.link_flights.specs.declared.flight_list.Flights.{Flights}
 use Rattle.link_flights.specs.Flights.InFlight.{in_units}
-use Rattle.link_flights.specs.Pairs.Messages.{message_of}
+use Rattle.link_pairs.specs.Pairs.Messages.{message_of}
 use Rattle.link_flights.proofs.Flights.InFlight.{read_at}
 
 module _ {P : Type 0} where

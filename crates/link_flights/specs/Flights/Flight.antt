@@ -5,7 +5,7 @@ use Rattle.std.specs.declared.rc.Rc.{Rc}
 use Rattle.std.specs.declared.alloc.Global.{Global}
 use Rattle.link_simulation.specs.Simulation.World.{last_moment}
 use Rattle.link_flights.specs.declared.flight.Flight.{Flight}
-use Rattle.link_flights.specs.declared.message.Message.{Message}
+use Rattle.link_pairs.specs.declared.message.Message.{Message}
 
 -- the units that drain in a nanosecond
 abbrev pub rate_of : Option (Rc ℕ Global) → ℕ

@@ -15,7 +15,7 @@ use Rattle.link_simulation.specs.Simulation.Rates.{capped_sides, is_unlimited}
 use Rattle.link_flights.specs.declared.component.Component.{Component}
 use Rattle.link_flights.specs.declared.flight.Flight.{Flight}
 use Rattle.link_flights.specs.declared.flight_list.Flights.{Flights}
-use Rattle.link_flights.specs.Pairs.Messages.{message_of}
+use Rattle.link_pairs.specs.Pairs.Messages.{message_of}
 use Rattle.link_flights.specs.Flights.Flight.{UnitFlight, flight_at, IsTimed, AreTimed}
 use Rattle.link_flights.specs.Flights.Components.{is_sender, is_of, those_of, AreGrouped}
 use Rattle.link_flights.specs.Flights.InFlight.{in_units}

@@ -7,7 +7,7 @@ use Rattle.link_flights.specs.Flights.Flight.{UnitFlight}
 use Rattle.fair_rates.specs.Numbers.Amount.{reduced, billion}
 use Rattle.fair_rates.specs.Sides.Subjects.{same_peer}
 use Rattle.link_simulation.specs.Simulation.Messages.{is_delivered}
-use Rattle.link_flights.specs.Pairs.Messages.{message_of}
+use Rattle.link_pairs.specs.Pairs.Messages.{message_of}
 use Rattle.link_simulation.specs.Rule.Planned.{RatedFlight}
 
 -- a message in flight. A rate is so many units of which `scale` are one byte a second, and what is left so many of

@@ -10,10 +10,10 @@ use Rattle.std.proofs.lemmas.List.{append-nil}
 use Rattle.std.proofs.lemmas.Bool.{and_from}
 use Rattle.fair_rates.specs.declared.error.Error.{Error}
 use Rattle.fair_rates.specs.declared.error.Error.TheVariants.{MomentTooLate}
-use Rattle.link_flights.specs.declared.readiness.PeerPair.{PeerPair}
-use Rattle.link_flights.specs.Idle.PairsOfMessages.{NamesPairOf}
+use Rattle.link_pairs.specs.declared.pair.PeerPair.{PeerPair}
+use Rattle.link_waiting.specs.Idle.PairsOfMessages.{NamesPairOf}
 use Rattle.fair_rates.specs.Sides.Subjects.{same_peer}
-use Rattle.link_flights.specs.Pairs.Entries.{first_of, raised_at}
+use Rattle.link_pairs.specs.Pairs.Entries.{first_of, raised_at}
 use Rattle.link_simulation.specs.Simulation.Messages.{Message, same_pair}
 use Rattle.link_simulation.specs.Simulation.World.{Completed, Course, goes, meets, preceded, is_late, arrival}
 use Rattle.link_simulation.specs.Simulation.World.{completed}

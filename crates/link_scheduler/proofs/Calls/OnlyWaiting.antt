@@ -4,7 +4,7 @@ use Rattle.std.specs.Prelude.{◌&&◌}
 use Rattle.std.specs.List.{list_any}
 use Rattle.std.specs.declared.cmp.Ordering.{Ordering}
 use Rattle.std.specs.Cmp.{IsTotalOrder}
-use Rattle.link_flights.specs.Idle.AtRest.{is_sending}
+use Rattle.link_waiting.specs.Idle.AtRest.{is_sending}
 use Rattle.link_simulation.specs.Simulation.World.{is_in_order, goes}
 use Rattle.link_simulation.specs.Simulation.Messages.{Message, same_pair}
 use Rattle.link_simulation.specs.Rule.Planned.{Planned, next_of, rated_messages}

@@ -7,9 +7,9 @@ use Rattle.std.specs.declared.cmp.Ordering.{Ordering}
 use Rattle.std.specs.Cmp.{IsTotalOrder}
 use Rattle.fair_rates.specs.declared.error.Error.{Error}
 use Rattle.fair_rates.specs.declared.error.Error.TheVariants.{MomentTooLate}
-use Rattle.link_flights.specs.declared.readiness.PeerPair.{PeerPair}
-use Rattle.link_flights.specs.Idle.PairsOfMessages.{NamesPairOf}
-use Rattle.link_flights.specs.Pairs.Entries.{first_of}
+use Rattle.link_pairs.specs.declared.pair.PeerPair.{PeerPair}
+use Rattle.link_waiting.specs.Idle.PairsOfMessages.{NamesPairOf}
+use Rattle.link_pairs.specs.Pairs.Entries.{first_of}
 use Rattle.link_simulation.specs.Simulation.Messages.{Message}
 use Rattle.link_simulation.specs.Simulation.World.{Completed, Course, goes, meets, completion_of, last_moment, later_of}
 use Rattle.link_simulation.specs.Simulation.World.{raised}

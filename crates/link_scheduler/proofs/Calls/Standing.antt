@@ -24,7 +24,7 @@ use Rattle.link_scheduler.specs.Calls.Standing.{IsStanding, OnlyStarts, is_settl
 use Rattle.link_scheduler.specs.Calls.Standing.{standing_after}
 use Rattle.link_flights.specs.Flights.Flight.{UnitFlight}
 use Rattle.link_flights.specs.Flights.RatedFlights.{sending_of}
-use Rattle.link_flights.specs.Idle.AtRest.{is_sending}
+use Rattle.link_waiting.specs.Idle.AtRest.{is_sending}
 use Rattle.link_simulation.specs.Rule.Events.{EnqueuesEach}
 use Rattle.link_simulation.specs.Simulation.RefusalCauses.{IsRefusedFor}
 use Rattle.fair_rates.specs.declared.error.Error.{Error}
@@ -32,7 +32,7 @@ use Rattle.link_scheduler.proofs.Calls.OneByOne.{EnqueuesSo, enqueues_start, enq
 use Rattle.link_scheduler.proofs.Calls.OneByOne.{enqueues_refused}
 use Rattle.link_scheduler.proofs.Calls.OnlyWaiting.{enqueue_waits}
 use Rattle.link_flights.proofs.Flights.Units.{units_positive}
-use Rattle.link_flights.proofs.Idle.Starting.{first_joined}
+use Rattle.link_waiting.proofs.Idle.Starting.{first_joined}
 
 -- what is in flight, as it is read, has numbers over numbers above zero
 pub read_positive : {P : Type 0} (scale : ℕ) (us : List (UnitFlight P)) → 0 < scale → ArePositive (sending_of scale us)

@@ -3,9 +3,9 @@ use Rattle.std.specs.Prelude.{ℕ, ◌<◌, IfSome, map}
 use Rattle.std.specs.declared.cmp.Ordering.{Ordering}
 use Rattle.link_scheduler.specs.declared.transmitter.ledger.Ledger.{Ledger}
 use Rattle.link_simulation.specs.Rule.Planned.{Planned, SomeReadyAt, next_event}
-use Rattle.link_flights.specs.Pairs.Messages.{message_of}
-use Rattle.link_flights.specs.Pairs.CapsOf.{caps_of}
-use Rattle.link_flights.specs.Pairs.Entries.{arrival_of}
+use Rattle.link_pairs.specs.Pairs.Messages.{message_of}
+use Rattle.link_pairs.specs.Pairs.CapsOf.{caps_of}
+use Rattle.link_pairs.specs.Pairs.Entries.{arrival_of}
 use Rattle.link_flights.specs.Flights.InFlight.{in_flight}
 
 -- a scheduler's state as a planned world

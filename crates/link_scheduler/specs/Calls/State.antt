@@ -5,10 +5,10 @@ use Rattle.std.specs.declared.cmp.Ord.{Ghosts}
 use Rattle.std.specs.declared.cmp.Ordering.{Ordering}
 use Rattle.fair_rates.specs.declared.error.Error.{Error}
 use Rattle.link_scheduler.specs.declared.transmitter.State.{State}
-use Rattle.link_flights.specs.declared.completion.Completion.{Completion}
+use Rattle.link_pairs.specs.declared.completion.Completion.{Completion}
 use Rattle.link_scheduler.specs.declared.transmitter.outgoing.Outgoing.{Outgoing}
 use Rattle.link_simulation.specs.Laws.Conserved.{IsConserved}
-use Rattle.link_flights.specs.Pairs.Messages.{completed_of}
+use Rattle.link_pairs.specs.Pairs.Messages.{completed_of}
 use Rattle.link_simulation.specs.Rule.SamePlanned.{GoesByRule, AdvancesByRule}
 use Rattle.link_simulation.specs.Rule.Simulated.{IsSimulated, KeepsRange, IsRefusedInSimulation, IsNextInSimulation}
 use Rattle.link_simulation.specs.Rule.Simulated.{IsSplitAnywhere, KeepsToCaps}

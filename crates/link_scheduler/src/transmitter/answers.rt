@@ -3,7 +3,7 @@ ghost use Rattle.std.specs.Prelude.{map, IfOk, IfErr};
 ghost use Rattle.link_simulation.specs.Simulation.Calls.{call_limit, call_limit_link, call_enqueue, call_enqueue_all};
 ghost use Rattle.link_simulation.specs.Simulation.Calls.{call_advance};
 ghost use Rattle.link_simulation.specs.Rule.Refusals.{MayBeRefused};
-ghost use Rattle.link_flights.specs.Pairs.Messages.{message_of, completed_of};
+ghost use Rattle.link_pairs.specs.Pairs.Messages.{message_of, completed_of};
 ghost use Rattle.link_scheduler.specs.Calls.Answered.{IsAnswered, IsAnsweredIn};
 ghost use Rattle.link_scheduler.specs.Calls.State.{outgoing};
 
@@ -11,8 +11,8 @@ use super::ledger::Ledger;
 use super::outgoing::Outgoing;
 use fair_rates::error::Error;
 use fair_rates::peer::Peer;
-use link_flights::completion::{Completion, answers_of};
-use link_flights::message::Message;
+use link_pairs::completion::{Completion, answers_of};
+use link_pairs::message::Message;
 
 impl<P: Peer> Ledger<P> {
     ghost use Rattle.link_scheduler.specs.Calls.AsPlanned.{planned};

@@ -5,7 +5,7 @@ ghost use Rattle.link_simulation.specs.Simulation.RefusalCauses.{IsRefusedFor};
 ghost use Rattle.link_simulation.specs.Rule.Planned.{Planned as AnyPlanned};
 ghost use Rattle.link_simulation.specs.Rule.Events.{Enqueues};
 ghost use Rattle.link_simulation.specs.Rule.Events.{EnqueuesEach};
-ghost use Rattle.link_flights.specs.Pairs.Messages.{message_of, ended_of};
+ghost use Rattle.link_pairs.specs.Pairs.Messages.{message_of, ended_of};
 ghost use Rattle.link_scheduler.specs.Calls.State.{outgoing};
 ghost use Rattle.link_scheduler.specs.Calls.Standing.{OnlyStarts, IsStanding, is_settled, does_start, standing_after};
 
@@ -14,8 +14,8 @@ use super::outgoing::Outgoing;
 use fair_rates::error::Error;
 use fair_rates::peer::Peer;
 use link_flights::account::is_unlimited;
-use link_flights::completion::Ended;
-use link_flights::message::Message;
+use link_pairs::completion::Ended;
+use link_pairs::message::Message;
 
 /// How what is in flight stands at the moment of the messages.
 #[derive(Clone, Copy)]

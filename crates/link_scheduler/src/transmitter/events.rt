@@ -9,27 +9,28 @@ ghost use Rattle.link_simulation.specs.Rule.Planned.{next_of, may_launch};
 ghost use Rattle.link_simulation.specs.Rule.Events.{Launches, Finishes, Settles, Wakes, Rebalances, Enqueues, Advances};
 ghost use Rattle.link_simulation.specs.Rule.Events.{landed, completed_at_once, with_queued};
 ghost use Rattle.link_simulation.specs.Simulation.RefusalCauses.{IsRefusedFor};
-ghost use Rattle.link_flights.specs.Pairs.Messages.{message_of, ended_of};
-ghost use Rattle.link_flights.specs.Pairs.Entries.{first_of, arrival_of};
+ghost use Rattle.link_pairs.specs.Pairs.Messages.{message_of, ended_of};
+ghost use Rattle.link_pairs.specs.Pairs.Entries.{first_of, arrival_of};
 ghost use Rattle.link_scheduler.specs.Calls.Events.{IsDue, Happens};
 
 use super::event::Event;
 use super::ledger::Ledger;
 use fair_rates::error::Error;
 use fair_rates::peer::Peer;
-use link_flights::completion::Ended;
-use link_flights::known_pairs::later_of;
-use link_flights::message::Message;
-use link_flights::readiness::{PeerPair, idle_from, ready_moment};
+use link_pairs::completion::Ended;
+use link_pairs::known_pairs::later_of;
+use link_pairs::message::Message;
+use link_pairs::pair::PeerPair;
+use link_waiting::readiness::{idle_from, ready_moment};
 use std::collections::VecDeque;
 use std::rc::Rc;
 
 impl<P: Peer> Ledger<P> {
     ghost use Rattle.link_scheduler.specs.Calls.AsPlanned.{planned};
-    ghost use Rattle.link_flights.specs.Pairs.Messages.{messages};
-    ghost use Rattle.link_flights.specs.Idle.Starting.{may_launch_first, ready_messages};
+    ghost use Rattle.link_pairs.specs.Pairs.Messages.{messages};
+    ghost use Rattle.link_waiting.specs.Idle.Starting.{may_launch_first, ready_messages};
     ghost use Rattle.link_scheduler.specs.Calls.AsPlanned.{HasNothingDue};
-    ghost use Rattle.link_flights.specs.Idle.AtRest.{is_sending};
+    ghost use Rattle.link_waiting.specs.Idle.AtRest.{is_sending};
 
     /// Whether the first waiting message of the pair may start: the pair is idle, and the message
     /// arrives no earlier than the pair's last one.

@@ -1,21 +1,21 @@
 //! The state that a call works on.
 ghost use Rattle.std.specs.Prelude.{◌≡◌, true, false, OnOk, IfOk, IfErr};
 ghost use Rattle.link_simulation.specs.Rule.Planned.{rated_messages};
-ghost use Rattle.link_flights.specs.Idle.Index.{IsIndexOf};
-ghost use Rattle.link_flights.specs.Idle.Busy.{AreCounted};
+ghost use Rattle.link_waiting.specs.Idle.Index.{IsIndexOf};
+ghost use Rattle.link_waiting.specs.Idle.Busy.{AreCounted};
 ghost use Rattle.link_flights.specs.Flights.InFlight.{in_flight, IsSameFlights};
-ghost use Rattle.link_flights.specs.Idle.AtRest.{of_pairs};
-ghost use Rattle.link_flights.specs.Pairs.CapsOf.{caps_of};
+ghost use Rattle.link_waiting.specs.Idle.AtRest.{of_pairs};
+ghost use Rattle.link_pairs.specs.Pairs.CapsOf.{caps_of};
 ghost use Rattle.link_flights.specs.Flights.Rated.{AreRated};
 
 use fair_rates::error::Error;
 use fair_rates::peer::Peer;
-use link_flights::busy::BusyPairs;
 use link_flights::flight_list::Flights;
-use link_flights::idle_pairs::IdlePairs;
-use link_flights::known_pairs::Pairs;
-use link_flights::peers::Peers;
-use link_flights::waiting::Waiting;
+use link_pairs::known_pairs::Pairs;
+use link_pairs::peers::Peers;
+use link_waiting::busy::BusyPairs;
+use link_waiting::idle_pairs::IdlePairs;
+use link_waiting::waiting::Waiting;
 use std::alloc::{AllocError, Global};
 
 /// All that is kept between calls.

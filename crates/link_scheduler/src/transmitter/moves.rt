@@ -2,24 +2,25 @@
 ghost use Rattle.std.specs.Prelude.{◌≡◌, ◌<◌, true, [], None, OnOk, OnErr, IfErr};
 ghost use Rattle.link_simulation.specs.Simulation.World.{goes};
 ghost use Rattle.link_simulation.specs.Rule.Events.{Enqueues, PlansStart, with_queued, launched};
-ghost use Rattle.link_flights.specs.Pairs.Messages.{message_of};
-ghost use Rattle.link_flights.specs.Idle.PairsOfMessages.{NamesPairOf};
-ghost use Rattle.link_flights.specs.Pairs.Entries.{first_of, raised_at};
-ghost use Rattle.link_flights.specs.Idle.Departed.{HasDeparted};
+ghost use Rattle.link_pairs.specs.Pairs.Messages.{message_of};
+ghost use Rattle.link_waiting.specs.Idle.PairsOfMessages.{NamesPairOf};
+ghost use Rattle.link_pairs.specs.Pairs.Entries.{first_of, raised_at};
+ghost use Rattle.link_waiting.specs.Idle.Departed.{HasDeparted};
 
 use super::ledger::Ledger;
 use fair_rates::error::Error;
 use fair_rates::peer::Peer;
-use link_flights::idle_pairs::IdlePairs;
-use link_flights::message::Message;
-use link_flights::readiness::{PeerPair, idle_from};
-use link_flights::waiting::Waiting;
+use link_pairs::message::Message;
+use link_pairs::pair::PeerPair;
+use link_waiting::idle_pairs::IdlePairs;
+use link_waiting::readiness::idle_from;
+use link_waiting::waiting::Waiting;
 use std::rc::Rc;
 
 impl<P: Peer> Ledger<P> {
     ghost use Rattle.link_scheduler.specs.Calls.AsPlanned.{planned};
-    ghost use Rattle.link_flights.specs.Idle.Starting.{may_launch_first};
-    ghost use Rattle.link_flights.specs.Idle.AtRest.{is_sending};
+    ghost use Rattle.link_waiting.specs.Idle.Starting.{may_launch_first};
+    ghost use Rattle.link_waiting.specs.Idle.AtRest.{is_sending};
 
     /// From now on no message of the pair arrives before that moment.
     pub(crate) fn raise(&mut self, origin: &P, recipient: &P, moment: u64) -> Result<(), Error>

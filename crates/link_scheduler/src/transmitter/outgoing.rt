@@ -1,10 +1,10 @@
 //! A message that is to be sent.
 ghost use Rattle.std.specs.Prelude.{◌≡◌, true, false};
-ghost use Rattle.link_flights.specs.Pairs.Messages.{message_of};
+ghost use Rattle.link_pairs.specs.Pairs.Messages.{message_of};
 ghost use Rattle.link_scheduler.specs.Calls.State.{outgoing};
 
 use bytes::Bytes;
-use link_flights::message::Message;
+use link_pairs::message::Message;
 
 /// A message to send by `State::enqueue_all`.
 ///

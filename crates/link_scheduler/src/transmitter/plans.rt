@@ -3,26 +3,26 @@ ghost use Rattle.std.specs.Prelude.{◌≡◌, ◌↔◌, true, IfOk, IfErr};
 ghost use Rattle.std.specs.List.{AllZip};
 ghost use Rattle.link_simulation.specs.Rule.Events.{Accounts, PlansStart};
 ghost use Rattle.link_simulation.specs.Rule.Planned.{SomeReadyAt};
-ghost use Rattle.link_flights.specs.Pairs.Messages.{messages};
+ghost use Rattle.link_pairs.specs.Pairs.Messages.{messages};
 
+use super::leave::leave;
 use super::ledger::Ledger;
 use fair_rates::error::Error;
 use fair_rates::peer::Peer;
-use link_flights::account::leave;
-use link_flights::busy::BusyPairs;
 use link_flights::flight_list::Flights;
-use link_flights::idle_pairs::IdlePairs;
-use link_flights::message::Message;
-use link_flights::readiness::PeerPair;
-use link_flights::waiting::Waiting;
+use link_pairs::message::Message;
+use link_pairs::pair::PeerPair;
+use link_waiting::busy::BusyPairs;
+use link_waiting::idle_pairs::IdlePairs;
+use link_waiting::waiting::Waiting;
 use std::collections::VecDeque;
 use std::mem;
 use std::rc::Rc;
 
 impl<P: Peer> Ledger<P> {
     ghost use Rattle.link_scheduler.specs.Calls.AsPlanned.{planned};
-    ghost use Rattle.link_flights.specs.Idle.PairsOfMessages.{NamesPairOf};
-    ghost use Rattle.link_flights.specs.Idle.Starting.{ready_messages};
+    ghost use Rattle.link_waiting.specs.Idle.PairsOfMessages.{NamesPairOf};
+    ghost use Rattle.link_waiting.specs.Idle.Starting.{ready_messages};
 
     /// All that is in flight drains to that moment. What is done leaves, in order of start, and the
     /// rest gets its fair rates. The finish is planned anew.

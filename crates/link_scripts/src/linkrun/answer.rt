@@ -4,7 +4,7 @@ ghost use Rattle.std.specs.Io.KnownBytes.{Appends};
 ghost use Rattle.link_scripts.specs.Answer.{rate_line, rates_text, moment_word, done_line, done_text, next_line};
 ghost use Rattle.link_scripts.specs.Answer.{answer_text, reply_text, refusal_line};
 ghost use Rattle.link_scheduler.specs.Calls.Replay.{reply_of};
-ghost use Rattle.link_flights.specs.Pairs.Messages.{completed_of};
+ghost use Rattle.link_pairs.specs.Pairs.Messages.{completed_of};
 ghost use Rattle.fair_rates.specs.Refusals.ErrorTexts.{refusal_number};
 
 use fair_rates::bandwidth::Rate;

@@ -3,7 +3,7 @@ ghost use Rattle.std.specs.Prelude.{◌≡◌, ◌⊎◌, ℕ, [], IfOk, IfErr, 
 ghost use Rattle.std.specs.Ordering.{nat_cmp};
 ghost use Rattle.std.specs.BTreeMap.{get, IsUnchanged};
 ghost use Rattle.fair_rates.specs.Sides.Caps.{no_caps};
-ghost use Rattle.link_flights.specs.Pairs.Entries.{pair_cmp};
+ghost use Rattle.link_pairs.specs.Pairs.Entries.{pair_cmp};
 ghost use Rattle.fair_rates.specs.Fairness.UnderCaps.{IsFairById};
 ghost use Rattle.fair_rates.specs.Refusals.TooLarge.{AreTooLarge};
 ghost use Rattle.link_scheduler.specs.Calls.State.{planned_of};

@@ -2,8 +2,8 @@ use Rattle.std.proofs.Common.{◌≡◌, ap, ◌∙◌, sym, cond, None, IfSome,
 use Rattle.std.specs.Ordering.{is_eq}
 use Rattle.fair_rates.specs.Sides.Answers.{Answered}
 use Rattle.link_flights.specs.Flights.CappedFlows.{HasItsCaps}
-use Rattle.link_flights.specs.Pairs.CapsOf.{caps_of}
-use Rattle.link_flights.proofs.Flights.Accounts.{looked_up}
+use Rattle.link_pairs.specs.Pairs.CapsOf.{caps_of}
+use Rattle.link_pairs.proofs.Pairs.LookedUp.{looked_up}
 use Rattle.link_flights.proofs.Flights.CappedFlows.{capped_so}
 use Rattle.link_flights.proofs.rates.caps_for.Goals as goal
 use Rattle.link_flights.proofs.rates.caps_for.Goals.{in-Some, in_default, then-flow, else-flow}

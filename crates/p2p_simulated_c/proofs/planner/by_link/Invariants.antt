@@ -1,7 +1,7 @@
 use Rattle.std.proofs.Common.{◌≡◌, ℕ, take}
 use Rattle.std.specs.BTreeMap.{get}
 use Rattle.std.specs.Ordering.{nat_cmp}
-use Rattle.link_flights.specs.Pairs.Entries.{pair_cmp}
+use Rattle.link_pairs.specs.Pairs.Entries.{pair_cmp}
 use Rattle.p2p_simulated_c.specs.Plan.{link_cap}
 use Rattle.p2p_simulated_c.proofs.planner.by_link.Given as goal
 

@@ -3,7 +3,7 @@ use Rattle.std.proofs.Common.{List}
 use Rattle.std.proofs.lemmas.List.{map-append, take_all}
 use Rattle.fair_rates.specs.declared.bandwidth.CappedFlow.{CappedFlow}
 use Rattle.link_flights.specs.Flights.CappedFlows.{HasItsCaps}
-use Rattle.link_flights.specs.Pairs.CapsOf.{caps_of}
+use Rattle.link_pairs.specs.Pairs.CapsOf.{caps_of}
 use Rattle.link_flights.proofs.Flights.CappedFlows.{one_more_capped, last_capped}
 use Rattle.std.specs.Option.{option_copied}
 use Rattle.std.proofs.Common.{ℕ, ◌-◌, slice_get, IfSome}
@@ -15,7 +15,7 @@ use Rattle.link_flights.specs.Flights.Components.{is_found, is_of, those_of}
 use Rattle.link_flights.proofs.Flights.Grouped.{listed_at}
 use Rattle.link_flights.specs.Flights.Flight.{flight_at, flights_at}
 use Rattle.link_flights.specs.Flights.RatedFlights.{are_standing}
-use Rattle.link_flights.specs.Pairs.Messages.{message_of}
+use Rattle.link_pairs.specs.Pairs.Messages.{message_of}
 use Rattle.link_flights.proofs.Flights.InFlight.{StandsForSent}
 use Rattle.link_flights.proofs.Flights.ComponentFlows.{standing_more, standing_still}
 use Rattle.link_flights.proofs.flight_list.Flights.flows_among.Goals as goal

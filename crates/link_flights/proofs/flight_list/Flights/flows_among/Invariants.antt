@@ -1,6 +1,6 @@
 use Rattle.std.proofs.Common.{◌≡◌, true, take, map, All}
 use Rattle.link_flights.specs.Flights.CappedFlows.{HasItsCaps}
-use Rattle.link_flights.specs.Pairs.CapsOf.{caps_of}
+use Rattle.link_pairs.specs.Pairs.CapsOf.{caps_of}
 use Rattle.link_flights.specs.Flights.Components.{those_of}
 use Rattle.link_flights.specs.Flights.Flight.{flights_at}
 use Rattle.link_flights.specs.Flights.RatedFlights.{are_standing}

@@ -6,8 +6,8 @@ use Rattle.link_simulation.specs.Simulation.Rates.{is_unlimited}
 use Rattle.link_flights.specs.declared.flight.Flight.{Flight}
 use Rattle.link_flights.specs.Flights.Flight.{flight_at, left_by, has_come}
 use Rattle.link_flights.specs.Flights.Rated.{is_out}
-use Rattle.link_flights.specs.Pairs.CapsOf.{caps_of}
-use Rattle.link_flights.specs.Pairs.Messages.{message_of}
+use Rattle.link_pairs.specs.Pairs.CapsOf.{caps_of}
+use Rattle.link_pairs.specs.Pairs.Messages.{message_of}
 use Rattle.link_flights.proofs.Flights.Done.{as_test, out_by_finish, out_by_left, out_unrated, limited_there}
 use Rattle.link_flights.proofs.Flights.Flight.{is_past, all_there, past_so}
 use Rattle.link_flights.proofs.flight_list.Flights.is_done.Goals as goal

@@ -4,7 +4,7 @@ use Rattle.std.specs.declared.rc.Rc.{Rc}
 use Rattle.std.specs.declared.alloc.Global.{Global}
 use Rattle.fair_rates.specs.Numbers.Amount.{billion}
 use Rattle.link_flights.specs.declared.flight.Flight.{Flight}
-use Rattle.link_flights.specs.Pairs.Messages.{message_of}
+use Rattle.link_pairs.specs.Pairs.Messages.{message_of}
 use Rattle.link_flights.specs.Flights.Flight.{UnitFlight, flight_at, flights_at, AreTimed}
 use Rattle.link_flights.specs.Flights.RatedFlights.{rated_flight_of, sending_of}
 use Rattle.link_flights.specs.Flights.InFlight.{in_flight, in_units}

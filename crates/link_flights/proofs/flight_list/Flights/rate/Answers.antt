@@ -1,10 +1,10 @@
 use Rattle.std.proofs.Common.{rules, ◌≡◌, ◌≤◌, true, IfSome, sym, ◌∙◌, subst, arith}
 use Rattle.link_simulation.specs.Simulation.World.{last_moment}
-use Rattle.link_flights.specs.Pairs.CapsOf.{caps_of}
+use Rattle.link_pairs.specs.Pairs.CapsOf.{caps_of}
 use Rattle.link_flights.specs.Flights.Components.{is_closed}
 use Rattle.link_flights.specs.Flights.InFlight.{in_units}
-use Rattle.link_flights.proofs.Flights.Accounts.{looked_up}
-use Rattle.link_flights.specs.Pairs.Messages.{messages}
+use Rattle.link_pairs.proofs.Pairs.LookedUp.{looked_up}
+use Rattle.link_pairs.specs.Pairs.Messages.{messages}
 use Rattle.link_flights.proofs.Flights.Components.{none_there, grouped_rest}
 use Rattle.link_flights.proofs.Flights.RatesGiven.{whole_given, component_given, left_given}
 use Rattle.link_flights.proofs.Flights.Rerating.{first_finish_is}

@@ -2,9 +2,9 @@ use Rattle.std.proofs.Common.{IfOk, subst, map, length}
 use Rattle.fair_rates.specs.Filling.FairParts.{AreFairPartsOn}
 use Rattle.fair_rates.specs.Sides.Answers.{answered_of}
 use Rattle.fair_rates.specs.Sides.Subjects.{sides_of}
-use Rattle.link_flights.specs.Pairs.CapsOf.{caps_of}
+use Rattle.link_pairs.specs.Pairs.CapsOf.{caps_of}
 use Rattle.link_flights.specs.Flights.InFlight.{in_units}
-use Rattle.link_flights.proofs.Flights.Accounts.{looked_up}
+use Rattle.link_pairs.proofs.Pairs.LookedUp.{looked_up}
 use Rattle.link_flights.proofs.Flights.CappedFlows.{fair_under_caps_if_ok}
 use Rattle.link_flights.proofs.Flights.Components.{found_if_ok}
 use Rattle.link_flights.proofs.flight_list.Flights.rates_of.Goals as goal

@@ -4,9 +4,9 @@ use Rattle.std.specs.declared.rc.Rc.{Rc}
 use Rattle.std.specs.declared.alloc.Global.{Global}
 use Rattle.std.proofs.lemmas.List.{map-append, get_or_default}
 use Rattle.link_flights.specs.declared.flight.Flight.{Flight}
-use Rattle.link_flights.specs.declared.message.Message.{Message}
-use Rattle.link_flights.specs.Pairs.Messages.{message_of, messages}
-use Rattle.link_flights.specs.Pairs.CapsOf.{caps_of}
+use Rattle.link_pairs.specs.declared.message.Message.{Message}
+use Rattle.link_pairs.specs.Pairs.Messages.{message_of, messages}
+use Rattle.link_pairs.specs.Pairs.CapsOf.{caps_of}
 use Rattle.link_flights.specs.Flights.Flight.{flight_at}
 use Rattle.link_flights.specs.Flights.Rated.{is_out}
 use Rattle.link_flights.proofs.Flights.InFlight.{HaveLeft, none_left, step_leaves, step_stays, all_looked_at}

@@ -2,8 +2,8 @@ use Rattle.std.proofs.Common.{◌≡◌, ◌-◌, length}
 use Rattle.link_flights.specs.Flights.Flight.{AreTimed, flight_at}
 use Rattle.link_flights.specs.Flights.InFlight.{in_units}
 use Rattle.link_flights.specs.Flights.Rated.{is_out}
-use Rattle.link_flights.specs.Pairs.Messages.{message_of, messages}
-use Rattle.link_flights.specs.Pairs.CapsOf.{caps_of}
+use Rattle.link_pairs.specs.Pairs.Messages.{message_of, messages}
+use Rattle.link_pairs.specs.Pairs.CapsOf.{caps_of}
 use Rattle.link_flights.proofs.Flights.InFlight.{HaveLeft}
 use Rattle.link_flights.proofs.Flights.Leaving.{StayRated}
 use Rattle.link_flights.proofs.flight_list.Flights.take_done.Given as goal

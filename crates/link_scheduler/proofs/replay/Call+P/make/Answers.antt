@@ -2,7 +2,7 @@ use Rattle.std.proofs.Common.{map, rules}
 use Rattle.std.proofs.lemmas.Result.{err_from_is_err_and}
 use Rattle.link_scheduler.specs.Calls.AsPlanned.{planned}
 use Rattle.link_scheduler.specs.Calls.State.{outgoing}
-use Rattle.link_flights.specs.Pairs.Messages.{completed_of}
+use Rattle.link_pairs.specs.Pairs.Messages.{completed_of}
 use Rattle.link_scheduler.proofs.Calls.AsOneCall.{made_as_one, refused_as_one}
 use Rattle.link_scheduler.proofs.replay.Call+P.make.Goals as goal
 use Rattle.link_scheduler.proofs.replay.Call+P.make.Goals.{in-Limit+in_ok-completions-in-Limit}

@@ -2,11 +2,11 @@ use Rattle.std.proofs.Common.{[], map, ap, refl, arith}
 use Rattle.link_simulation.specs.Simulation.Calls.{call_advance}
 use Rattle.link_simulation.specs.Rule.SamePlanned.{GoesByRule, AdvancesByRule}
 use Rattle.link_scheduler.specs.Calls.AsPlanned.{planned}
-use Rattle.link_flights.specs.Pairs.Messages.{completed_of}
+use Rattle.link_pairs.specs.Pairs.Messages.{completed_of}
 use Rattle.link_simulation.proofs.Rule.SamePlanned.{same_itself}
 use Rattle.link_scheduler.proofs.Calls.Calling.{advances_on, counted_goes}
 use Rattle.link_scheduler.proofs.Calls.SameIsPlanned.{planned_on}
-use Rattle.link_flights.proofs.Flights.Accounts.{looked_up, arrivals_looked_up}
+use Rattle.link_pairs.proofs.Pairs.LookedUp.{looked_up, arrivals_looked_up}
 use Rattle.link_scheduler.proofs.Calls.Promises.{orderly_on, promised_if, split_on, within_caps_on}
 use Rattle.link_scheduler.proofs.transmitter.State.advance_counted.Goals as goal
 

@@ -4,9 +4,9 @@ use Rattle.std.proofs.lemmas.Result.{err_from_is_err_and}
 use Rattle.fair_rates.specs.declared.error.Error.TheVariants.{OutOfMemory}
 use Rattle.link_scheduler.specs.Calls.AsPlanned.{planned}
 use Rattle.link_scheduler.specs.Calls.State.{outgoing}
-use Rattle.link_flights.specs.Pairs.Messages.{completed_of}
+use Rattle.link_pairs.specs.Pairs.Messages.{completed_of}
 use Rattle.link_scheduler.proofs.Calls.OneByOne.{copies_promised, copies_refused}
-use Rattle.link_flights.proofs.Flights.Accounts.{looked_up, arrivals_looked_up}
+use Rattle.link_pairs.proofs.Pairs.LookedUp.{looked_up, arrivals_looked_up}
 use Rattle.link_scheduler.proofs.transmitter.State.enqueue_all.Goals as goal
 
 pub returns-in_err-ledger-clause-refused : goal.returns-in_err-ledger-clause-refused

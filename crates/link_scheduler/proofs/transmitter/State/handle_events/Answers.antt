@@ -2,8 +2,8 @@ use Rattle.std.proofs.Common.{map, refl}
 use Rattle.std.proofs.lemmas.Result.{err_from_is_err_and}
 use Rattle.link_simulation.specs.Simulation.Calls.{call_advance}
 use Rattle.link_scheduler.specs.Calls.AsPlanned.{planned}
-use Rattle.link_flights.specs.Pairs.Messages.{completed_of}
-use Rattle.link_flights.proofs.Flights.Accounts.{looked_up, arrivals_looked_up}
+use Rattle.link_pairs.specs.Pairs.Messages.{completed_of}
+use Rattle.link_pairs.proofs.Pairs.LookedUp.{looked_up, arrivals_looked_up}
 use Rattle.link_scheduler.proofs.Calls.Answered.{advanced_on_copy, refused_on_copy}
 use Rattle.link_scheduler.proofs.Calls.Calling.{counted_goes}
 use Rattle.link_scheduler.proofs.Calls.Promises.{promised_if, split_on, within_caps_on}

@@ -2,11 +2,11 @@ use Rattle.std.proofs.Common.{[], map, ap, refl}
 use Rattle.std.proofs.lemmas.Result.{err_from_is_err_and}
 use Rattle.link_simulation.specs.Simulation.Calls.{call_enqueue}
 use Rattle.link_scheduler.specs.Calls.AsPlanned.{planned}
-use Rattle.link_flights.specs.Pairs.Messages.{message_of, completed_of}
+use Rattle.link_pairs.specs.Pairs.Messages.{message_of, completed_of}
 use Rattle.link_scheduler.proofs.Calls.Calling.{goes_on}
 use Rattle.link_scheduler.proofs.Calls.Answered.{made_on_copy, refused_on_copy}
 use Rattle.link_simulation.proofs.Rule.SamePlanned.{same_itself}
-use Rattle.link_flights.proofs.Flights.Accounts.{looked_up, arrivals_looked_up}
+use Rattle.link_pairs.proofs.Pairs.LookedUp.{looked_up, arrivals_looked_up}
 use Rattle.link_scheduler.proofs.Calls.Promises.{kept_at_once, promised_if}
 use Rattle.link_scheduler.proofs.transmitter.State.send.Goals as goal
 

@@ -1,6 +1,6 @@
 use Rattle.std.proofs.Common.{map, take}
 use Rattle.std.specs.Io.KnownBytes.{Appends}
-use Rattle.link_flights.specs.Pairs.Messages.{completed_of}
+use Rattle.link_pairs.specs.Pairs.Messages.{completed_of}
 use Rattle.link_scripts.specs.Answer.{done_text}
 use Rattle.link_scripts.proofs.linkrun.answer.print_completions.Given as goal
 

@@ -1,7 +1,7 @@
 use Rattle.std.proofs.Common.{ap, sym, subst, ◌∙◌, map}
 use Rattle.std.proofs.lemmas.Result.{on_ok_weaker}
 use Rattle.std.specs.Io.KnownBytes.{Appends}
-use Rattle.link_flights.specs.Pairs.Messages.{completed_of}
+use Rattle.link_pairs.specs.Pairs.Messages.{completed_of}
 use Rattle.link_scheduler.specs.Calls.Replay.{reply_of}
 use Rattle.link_scripts.specs.Answer.{done_text, reply_text}
 use Rattle.link_scripts.proofs.linkrun.answer.print_reply.Goals as goal

@@ -1,7 +1,7 @@
 use Rattle.std.proofs.Common.{◌∙◌}
 use Rattle.std.specs.Ordering.{nat_cmp}
 use Rattle.std.specs.BTreeMap.{get}
-use Rattle.link_flights.specs.Pairs.Entries.{pair_cmp}
+use Rattle.link_pairs.specs.Pairs.Entries.{pair_cmp}
 use Rattle.link_scripts.proofs.LinkCaps.{with_one_link}
 use Rattle.link_scripts.proofs.linkrun.session.set_link.Goals as goal
 

@@ -5,22 +5,22 @@ use Rattle.fair_rates.proofs.Lists.Zips.{zip_weaker}
 use Rattle.link_simulation.specs.Rule.Planned.{Planned, rated_messages}
 use Rattle.link_simulation.specs.Rule.Planned.{drained_to, is_spent}
 use Rattle.link_scheduler.specs.Calls.AsPlanned.{planned}
-use Rattle.link_flights.specs.Pairs.Messages.{messages}
+use Rattle.link_pairs.specs.Pairs.Messages.{messages}
 use Rattle.link_flights.specs.Flights.Flight.{DrainsTo, flights_at}
 use Rattle.link_flights.specs.Flights.InFlight.{in_flight, in_units}
 use Rattle.link_flights.specs.Flights.Rated.{AreRated, IsAsRated, IsRatedFrom, is_out, are_limited}
 use Rattle.link_flights.specs.Flights.RatedFlights.{sending_of}
-use Rattle.link_flights.specs.Pairs.CapsOf.{caps_of}
-use Rattle.link_flights.specs.Idle.AtRest.{of_pairs}
-use Rattle.link_flights.specs.Idle.Busy.{AreCounted}
-use Rattle.link_flights.specs.Idle.Index.{IsIndexOf}
+use Rattle.link_pairs.specs.Pairs.CapsOf.{caps_of}
+use Rattle.link_waiting.specs.Idle.AtRest.{of_pairs}
+use Rattle.link_waiting.specs.Idle.Busy.{AreCounted}
+use Rattle.link_waiting.specs.Idle.Index.{IsIndexOf}
 use Rattle.link_flights.proofs.Flights.Accounted.{stays_updated, all_have_rates, stays_limited, rated_limited}
 use Rattle.link_flights.proofs.Flights.Accounts.{accounts_so, some_units_left}
 use Rattle.link_flights.proofs.Flights.Rated.{drained_as_rated, drained_sending, still_fair_after, still_limited}
 use Rattle.link_flights.proofs.Flights.Rated.{rated_if_so, still_grouped}
 use Rattle.link_flights.specs.Flights.Components.{AreGrouped}
 use Rattle.link_flights.proofs.Flights.Standing.{messages_read, messages_kept}
-use Rattle.link_flights.proofs.Idle.IndexChanges.{flows_drained, same_flights_index}
+use Rattle.link_waiting.proofs.Idle.IndexChanges.{flows_drained, same_flights_index}
 use Rattle.link_scheduler.proofs.transmitter.ledger.Ledger.account.Goals as goal
 use Rattle.link_scheduler.proofs.transmitter.ledger.Ledger.account.Goals.{then-not-self, else-not-self, then-were_rated}
 use Rattle.link_scheduler.proofs.transmitter.ledger.Ledger.account.Goals.{else-were_rated}

@@ -2,7 +2,7 @@ use Rattle.std.proofs.Common.{◌≡◌, ◌+◌, ◌<◌, ◌≤◌, map, lengt
 use Rattle.std.proofs.lemmas.List.{length-map}
 use Rattle.std.proofs.lemmas.Result.{err_from_is_err_and}
 use Rattle.link_scheduler.specs.Calls.AsPlanned.{planned}
-use Rattle.link_flights.specs.Pairs.Messages.{message_of, ended_of}
+use Rattle.link_pairs.specs.Pairs.Messages.{message_of, ended_of}
 use Rattle.link_flights.proofs.Flights.Standing.{length_in_flight}
 use Rattle.link_scheduler.proofs.Calls.Advancing.{advances_step, advances_end, event_refused, wake_refused}
 use Rattle.link_scheduler.proofs.Calls.FewerEvents.{events_left, happens_fewer, events_few}

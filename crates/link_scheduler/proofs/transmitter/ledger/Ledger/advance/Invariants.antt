@@ -1,6 +1,6 @@
 use Rattle.std.proofs.Common.{◌+◌, ◌≤◌, map}
 use Rattle.link_scheduler.specs.Calls.AsPlanned.{planned}
-use Rattle.link_flights.specs.Pairs.Messages.{ended_of}
+use Rattle.link_pairs.specs.Pairs.Messages.{ended_of}
 use Rattle.link_scheduler.proofs.Calls.Advancing.{AdvancesSo}
 use Rattle.link_scheduler.proofs.Calls.FewerEvents.{events_left}
 use Rattle.link_scheduler.proofs.transmitter.ledger.Ledger.advance.Given as goal

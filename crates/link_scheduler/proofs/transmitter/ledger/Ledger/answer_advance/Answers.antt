@@ -1,5 +1,5 @@
 use Rattle.std.proofs.Common.{map}
-use Rattle.link_flights.specs.Pairs.Messages.{ended_of}
+use Rattle.link_pairs.specs.Pairs.Messages.{ended_of}
 use Rattle.link_scheduler.proofs.transmitter.ledger.Ledger.answer_advance.Goals as goal
 
 pub returns-clause-answered : goal.returns-clause-answered

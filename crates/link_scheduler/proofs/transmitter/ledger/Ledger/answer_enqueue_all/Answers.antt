@@ -2,7 +2,7 @@ use Rattle.std.proofs.Common.{map}
 use Rattle.link_simulation.specs.Simulation.Calls.{call_enqueue_all}
 use Rattle.link_scheduler.specs.Calls.AsPlanned.{planned}
 use Rattle.link_scheduler.specs.Calls.State.{outgoing}
-use Rattle.link_flights.specs.Pairs.Messages.{completed_of, ended_of}
+use Rattle.link_pairs.specs.Pairs.Messages.{completed_of, ended_of}
 use Rattle.link_scheduler.proofs.Calls.Answered.{answered_if}
 use Rattle.link_scheduler.proofs.transmitter.ledger.Ledger.answer_enqueue_all.Goals as goal
 

@@ -3,7 +3,7 @@ use Rattle.std.proofs.lemmas.Result.{err_from_is_err_and}
 use Rattle.link_simulation.specs.Simulation.World.{goes}
 use Rattle.link_simulation.specs.Simulation.Calls.{call_limit_link, linked_by}
 use Rattle.link_scheduler.specs.Calls.AsPlanned.{planned}
-use Rattle.link_flights.specs.Pairs.Messages.{completed_of, ended_of}
+use Rattle.link_pairs.specs.Pairs.Messages.{completed_of, ended_of}
 use Rattle.link_scheduler.proofs.Calls.Answered.{answered_if}
 use Rattle.link_scheduler.proofs.Calls.Calling.{link_refused, rebalances_on}
 use Rattle.link_scheduler.proofs.transmitter.ledger.Ledger.answer_limit_link.Goals as goal

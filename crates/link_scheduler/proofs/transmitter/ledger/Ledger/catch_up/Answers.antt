@@ -1,6 +1,6 @@
 use Rattle.std.proofs.Common.{subst}
 use Rattle.link_scheduler.specs.Calls.AsPlanned.{planned}
-use Rattle.link_flights.specs.Pairs.Messages.{messages}
+use Rattle.link_pairs.specs.Pairs.Messages.{messages}
 use Rattle.link_scheduler.specs.Calls.Standing.{IsStanding}
 use Rattle.link_scheduler.proofs.Calls.Standing.{account_due}
 use Rattle.link_scheduler.proofs.transmitter.ledger.Ledger.catch_up.Goals as goal

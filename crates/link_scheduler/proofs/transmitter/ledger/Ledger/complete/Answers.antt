@@ -5,7 +5,7 @@ use Rattle.link_simulation.specs.Simulation.RefusalCauses.{IsRefusedFor}
 use Rattle.link_simulation.specs.Simulation.World.{goes, meets, completion_of, completed, is_late}
 use Rattle.link_simulation.specs.Rule.Planned.{next_of}
 use Rattle.link_simulation.specs.Rule.Events.{Launches, Finishes, landed}
-use Rattle.link_flights.specs.Pairs.Messages.{message_of, ended_of, messages}
+use Rattle.link_pairs.specs.Pairs.Messages.{message_of, ended_of, messages}
 use Rattle.link_scheduler.specs.Calls.AsPlanned.{planned}
 use Rattle.link_scheduler.proofs.Calls.Finishing.{refused_late, refused_launch, landed_so, launches_landed}
 use Rattle.link_scheduler.proofs.Calls.Finishing.{then_some_is}

@@ -1,7 +1,7 @@
 use Rattle.std.proofs.Common.{◌≡◌, [], ◌∷◌, map, ap, ◌∙◌}
 use Rattle.std.proofs.lemmas.Result.{err_from_is_err_and}
 use Rattle.link_simulation.specs.Simulation.World.{Completed, completion_of}
-use Rattle.link_flights.specs.Pairs.Messages.{message_of, ended_of}
+use Rattle.link_pairs.specs.Pairs.Messages.{message_of, ended_of}
 use Rattle.link_scheduler.specs.Calls.AsPlanned.{planned}
 use Rattle.std.proofs.lemmas.List.{map-append}
 use Rattle.link_scheduler.proofs.Calls.Settling.{completes_so, too_late_refused}

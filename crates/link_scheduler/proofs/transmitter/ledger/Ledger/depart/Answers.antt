@@ -7,13 +7,13 @@ use Rattle.link_simulation.specs.Simulation.Messages.{Message}
 use Rattle.link_simulation.specs.Rule.Planned.{RatedFlight, rated_messages}
 use Rattle.link_simulation.proofs.Simulation.Queue.{find_passes}
 use Rattle.link_flights.specs.Flights.InFlight.{in_flight}
-use Rattle.link_flights.specs.Idle.Busy.{AreCounted}
-use Rattle.link_flights.specs.Pairs.Messages.{message_of}
-use Rattle.link_flights.specs.Pairs.Entries.{first_of, arrival_of}
-use Rattle.link_flights.specs.Pairs.CapsOf.{caps_of}
-use Rattle.link_flights.proofs.Flights.Accounts.{arrivals_looked_up}
-use Rattle.link_flights.proofs.Idle.Busy.{counted_sent}
-use Rattle.link_flights.proofs.Idle.IndexChanges.{departed_index}
+use Rattle.link_waiting.specs.Idle.Busy.{AreCounted}
+use Rattle.link_pairs.specs.Pairs.Messages.{message_of}
+use Rattle.link_pairs.specs.Pairs.Entries.{first_of, arrival_of}
+use Rattle.link_pairs.specs.Pairs.CapsOf.{caps_of}
+use Rattle.link_pairs.proofs.Pairs.LookedUp.{arrivals_looked_up}
+use Rattle.link_waiting.proofs.Idle.Busy.{counted_sent}
+use Rattle.link_waiting.proofs.Idle.IndexChanges.{departed_index}
 use Rattle.link_flights.proofs.Flights.Standing.{still_rated}
 use Rattle.link_scheduler.proofs.transmitter.ledger.Ledger.depart.Goals as goal
 

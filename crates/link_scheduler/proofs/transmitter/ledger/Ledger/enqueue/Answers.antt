@@ -1,9 +1,9 @@
 use Rattle.std.proofs.Common.{[], ◌∷◌, ◌++◌, map, refl, ap, ◌∙◌}
 use Rattle.std.proofs.lemmas.Result.{err_from_is_err_and}
-use Rattle.link_flights.specs.Pairs.Messages.{message_of, ended_of, messages}
+use Rattle.link_pairs.specs.Pairs.Messages.{message_of, ended_of, messages}
 use Rattle.fair_rates.proofs.Sides.EqualSubjects.{same_peer_itself}
 use Rattle.link_simulation.specs.Rule.Events.{with_queued}
-use Rattle.link_flights.specs.declared.readiness.PeerPair.{PeerPair}
+use Rattle.link_pairs.specs.declared.pair.PeerPair.{PeerPair}
 use Rattle.link_scheduler.specs.Calls.AsPlanned.{planned}
 use Rattle.link_scheduler.proofs.Calls.Settling.{at_once_refused, enqueues_at_once, enqueue_launch_refused}
 use Rattle.link_scheduler.proofs.Calls.Settling.{enqueue_finish_refused, enqueues_launched}

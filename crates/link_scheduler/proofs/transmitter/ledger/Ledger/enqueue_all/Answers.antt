@@ -5,7 +5,7 @@ use Rattle.std.proofs.lemmas.Iterator.Consumers.{YieldsList-end}
 use Rattle.std.specs.Vec.{vec_len}
 use Rattle.std.specs.Vec.Iter.{into_iter_items}
 use Rattle.link_simulation.specs.Simulation.Messages.{Message}
-use Rattle.link_flights.specs.Pairs.Messages.{message_of, ended_of}
+use Rattle.link_pairs.specs.Pairs.Messages.{message_of, ended_of}
 use Rattle.link_scheduler.specs.Calls.State.{outgoing}
 use Rattle.link_scheduler.specs.Calls.AsPlanned.{planned}
 use Rattle.link_scheduler.proofs.Calls.OneByOne.{given_so_far, none_behind}

@@ -1,6 +1,6 @@
 use Rattle.std.proofs.Common.{map}
 use Rattle.std.specs.Vec.Iter.{into_iter_items}
-use Rattle.link_flights.specs.Pairs.Messages.{ended_of}
+use Rattle.link_pairs.specs.Pairs.Messages.{ended_of}
 use Rattle.link_scheduler.specs.Calls.State.{outgoing}
 use Rattle.link_scheduler.specs.Calls.AsPlanned.{planned}
 use Rattle.link_scheduler.proofs.Calls.Standing.{StandsSo}

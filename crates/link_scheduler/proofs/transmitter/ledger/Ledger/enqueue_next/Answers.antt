@@ -8,7 +8,7 @@ use Rattle.fair_rates.proofs.Lists.Booleans.{first_of_both, second_of_both}
 use Rattle.link_scheduler.specs.Calls.Standing.{IsStanding}
 use Rattle.link_scheduler.specs.Calls.AsPlanned.{planned}
 use Rattle.link_flights.specs.Flights.InFlight.{in_units}
-use Rattle.link_flights.specs.Pairs.Messages.{message_of, ended_of}
+use Rattle.link_pairs.specs.Pairs.Messages.{message_of, ended_of}
 use Rattle.link_scheduler.proofs.Calls.Standing.{goes_waiting, goes_starting, goes_otherwise, read_positive}
 use Rattle.link_scheduler.proofs.Calls.Standing.{read_lowest}
 use Rattle.link_scheduler.proofs.Calls.Standing.{starts_so}

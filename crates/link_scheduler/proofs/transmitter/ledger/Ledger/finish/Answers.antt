@@ -2,7 +2,7 @@ use Rattle.std.proofs.Common.{◌≡◌, ◌+◌, List, [], ◌∷◌, ◌++◌,
 use Rattle.std.proofs.Common.{length-append, rules}
 use Rattle.std.proofs.lemmas.Result.{err_from_is_err_and}
 use Rattle.link_simulation.specs.Simulation.Messages.{Message, same_pair}
-use Rattle.link_flights.specs.Pairs.Messages.{message_of, ended_of, messages}
+use Rattle.link_pairs.specs.Pairs.Messages.{message_of, ended_of, messages}
 use Rattle.link_scheduler.specs.Calls.AsPlanned.{planned}
 use Rattle.link_scheduler.proofs.Calls.Finishing.{FinishesSo, finishes_start, finishes_step, finishes_end}
 use Rattle.link_scheduler.proofs.Calls.Finishing.{finishes_refused}

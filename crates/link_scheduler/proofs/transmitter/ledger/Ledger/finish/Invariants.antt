@@ -1,6 +1,6 @@
 use Rattle.std.proofs.Common.{◌+◌, map, length}
 use Rattle.link_scheduler.specs.Calls.AsPlanned.{planned}
-use Rattle.link_flights.specs.Pairs.Messages.{messages, ended_of}
+use Rattle.link_pairs.specs.Pairs.Messages.{messages, ended_of}
 use Rattle.link_scheduler.proofs.Calls.Finishing.{FinishesSo}
 use Rattle.link_scheduler.proofs.Calls.MessageCounts.{in_system}
 use Rattle.link_scheduler.proofs.transmitter.ledger.Ledger.finish.Given as goal

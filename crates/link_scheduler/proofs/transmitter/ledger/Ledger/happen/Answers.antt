@@ -4,7 +4,7 @@ use Rattle.link_simulation.specs.Simulation.World.{Completed, goes, meets}
 use Rattle.link_scheduler.specs.Calls.Events.{Happens}
 use Rattle.link_simulation.specs.Simulation.RefusalCauses.{IsRefusedFor}
 use Rattle.link_scheduler.specs.Calls.AsPlanned.{planned}
-use Rattle.link_flights.specs.Pairs.Messages.{ended_of}
+use Rattle.link_pairs.specs.Pairs.Messages.{ended_of}
 use Rattle.link_scheduler.proofs.transmitter.ledger.Ledger.happen.Goals as goal
 
 pub returns-in-Finish-clause-happens : goal.returns-in-Finish-clause-happens

@@ -2,7 +2,7 @@ use Rattle.std.proofs.Common.{Bool, ◌&&◌, sym, ap, ◌∙◌}
 use Rattle.link_simulation.specs.Rule.Planned.{rated_messages}
 use Rattle.link_flights.specs.Flights.InFlight.{in_flight}
 use Rattle.link_scheduler.specs.Calls.AsPlanned.{planned}
-use Rattle.link_flights.specs.Idle.AtRest.{is_sending}
+use Rattle.link_waiting.specs.Idle.AtRest.{is_sending}
 use Rattle.link_scheduler.proofs.transmitter.ledger.Ledger.has_to_wait.Goals as goal
 
 pub returns-then-self : goal.returns-then-self

@@ -1,7 +1,7 @@
 use Rattle.std.proofs.Common.{refl, sym, ◌∙◌}
 use Rattle.link_scheduler.specs.Calls.AsPlanned.{planned}
-use Rattle.link_flights.proofs.Flights.Accounts.{arrivals_looked_up}
-use Rattle.link_flights.proofs.Idle.FirstStart.{none_listed, ready_first}
+use Rattle.link_pairs.proofs.Pairs.LookedUp.{arrivals_looked_up}
+use Rattle.link_waiting.proofs.Idle.FirstStart.{none_listed, ready_first}
 use Rattle.link_scheduler.proofs.transmitter.ledger.Ledger.is_ready.Goals as goal
 
 pub returns-in-Some : goal.returns-in-Some

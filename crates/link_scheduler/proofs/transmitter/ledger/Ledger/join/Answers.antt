@@ -3,11 +3,11 @@ use Rattle.std.proofs.lemmas.Bool.{and_from}
 use Rattle.link_simulation.specs.Rule.Planned.{queued}
 use Rattle.link_simulation.proofs.Rule.SamePlanned.{peer_turned}
 use Rattle.link_flights.specs.Flights.InFlight.{in_flight}
-use Rattle.link_flights.specs.Pairs.Messages.{message_of}
-use Rattle.link_flights.specs.Pairs.CapsOf.{caps_of}
-use Rattle.link_flights.specs.Pairs.Entries.{arrival_of}
-use Rattle.link_flights.proofs.Flights.Accounts.{arrivals_looked_up}
-use Rattle.link_flights.proofs.Idle.IndexChanges.{queued_index}
+use Rattle.link_pairs.specs.Pairs.Messages.{message_of}
+use Rattle.link_pairs.specs.Pairs.CapsOf.{caps_of}
+use Rattle.link_pairs.specs.Pairs.Entries.{arrival_of}
+use Rattle.link_pairs.proofs.Pairs.LookedUp.{arrivals_looked_up}
+use Rattle.link_waiting.proofs.Idle.IndexChanges.{queued_index}
 use Rattle.link_scheduler.proofs.transmitter.ledger.Ledger.join.Goals as goal
 
 pub invariant_of-self-in_default : goal.invariant_of-self-in_default

@@ -1,15 +1,15 @@
 use Rattle.std.proofs.Common.{List, sym, ◌∙◌, subst, arith}
 use Rattle.std.specs.declared.rc.Rc.{Rc}
 use Rattle.std.specs.declared.alloc.Global.{Global}
-use Rattle.link_flights.specs.declared.message.Message as code
+use Rattle.link_pairs.specs.declared.message.Message as code
 use Rattle.link_simulation.specs.Simulation.World.{goes, meets}
 use Rattle.link_simulation.specs.Rule.Planned.{Planned}
 use Rattle.link_simulation.specs.Rule.Events.{Launches}
-use Rattle.link_flights.specs.Pairs.Entries.{first_of}
+use Rattle.link_pairs.specs.Pairs.Entries.{first_of}
 use Rattle.link_scheduler.specs.Calls.AsPlanned.{planned}
-use Rattle.link_flights.specs.Pairs.Messages.{messages}
+use Rattle.link_pairs.specs.Pairs.Messages.{messages}
 use Rattle.link_simulation.proofs.Simulation.RefusalCauses.{memory_refuses}
-use Rattle.link_flights.proofs.Idle.Starting.{not_started, no_more_ids, launched_so}
+use Rattle.link_waiting.proofs.Idle.Starting.{not_started, no_more_ids, launched_so}
 use Rattle.link_scheduler.proofs.transmitter.ledger.Ledger.launch.Goals as goal
 
 pub returns-then-not-may_launch-clause-launches : goal.returns-then-not-may_launch-clause-launches

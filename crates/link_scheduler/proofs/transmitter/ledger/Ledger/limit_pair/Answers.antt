@@ -1,9 +1,9 @@
 use Rattle.std.proofs.Common.{map, sym, ap, ◌∙◌, subst}
 use Rattle.link_simulation.specs.Rule.Planned.{new_planned}
-use Rattle.link_flights.specs.Idle.Index.{IsIndexOf}
+use Rattle.link_waiting.specs.Idle.Index.{IsIndexOf}
 use Rattle.link_flights.specs.Flights.InFlight.{in_flight}
-use Rattle.link_flights.specs.Pairs.Messages.{message_of}
-use Rattle.link_flights.specs.Pairs.Entries.{arrival_of}
+use Rattle.link_pairs.specs.Pairs.Messages.{message_of}
+use Rattle.link_pairs.specs.Pairs.Entries.{arrival_of}
 use Rattle.link_scheduler.proofs.transmitter.ledger.Ledger.limit_pair.Goals as goal
 
 -- the last arrivals stay, and so does when each pair may start

@@ -1,6 +1,6 @@
 use Rattle.std.proofs.Common.{true, map}
-use Rattle.link_flights.specs.Pairs.Entries.{link_of, arrival_of}
-use Rattle.link_flights.specs.Pairs.Messages.{message_of}
+use Rattle.link_pairs.specs.Pairs.Entries.{link_of, arrival_of}
+use Rattle.link_pairs.specs.Pairs.Messages.{message_of}
 use Rattle.link_flights.specs.Flights.InFlight.{in_flight}
 use Rattle.link_scheduler.proofs.Calls.Settling.{on_ok_both}
 use Rattle.link_scheduler.proofs.transmitter.ledger.Ledger.limit_peer.Goals as goal

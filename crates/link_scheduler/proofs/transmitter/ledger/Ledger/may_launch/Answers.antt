@@ -1,9 +1,9 @@
 use Rattle.std.proofs.Common.{sym, ap, ◌∙◌}
 use Rattle.link_scheduler.specs.Calls.AsPlanned.{planned}
 use Rattle.link_flights.specs.Flights.InFlight.{in_flight}
-use Rattle.link_flights.proofs.Flights.Accounts.{arrivals_looked_up}
-use Rattle.link_flights.proofs.Idle.DueMessages.{has_come, may_first}
-use Rattle.link_flights.proofs.Pairs.Waiting.{in_pair_order}
+use Rattle.link_pairs.proofs.Pairs.LookedUp.{arrivals_looked_up}
+use Rattle.link_waiting.proofs.Idle.DueMessages.{has_come, may_first}
+use Rattle.link_waiting.proofs.Idle.Waiting.{in_pair_order}
 use Rattle.link_scheduler.proofs.transmitter.ledger.Ledger.may_launch.Goals as goal
 
 pub returns-in-Some : goal.returns-in-Some

@@ -1,11 +1,11 @@
 use Rattle.std.proofs.Common.{◌≡◌, true, false, Option, None, Some, option_map, refl, sym, ap, ◌∙◌, rules}
 use Rattle.std.specs.Prelude.{is_some, nat_le}
-use Rattle.link_flights.specs.Idle.FirstMoment.{first_moment}
-use Rattle.link_flights.specs.Pairs.Messages.{message_of}
-use Rattle.link_flights.specs.Pairs.Entries.{arrival_of}
+use Rattle.link_waiting.specs.Idle.FirstMoment.{first_moment}
+use Rattle.link_pairs.specs.Pairs.Messages.{message_of}
+use Rattle.link_pairs.specs.Pairs.Entries.{arrival_of}
 use Rattle.link_scheduler.specs.Calls.AsPlanned.{planned}
 use Rattle.link_simulation.specs.Rule.Planned.{rated_messages}
-use Rattle.link_flights.proofs.Idle.Starting.{may_start_is}
+use Rattle.link_waiting.proofs.Idle.Starting.{may_start_is}
 use Rattle.link_scheduler.proofs.transmitter.ledger.Ledger.may_start.Goals as goal
 
 -- what is none is read as none

@@ -2,8 +2,8 @@ use Rattle.std.proofs.Common.{◌≡◌, ◌≤◌, ap, ◌∙◌, rules}
 use Rattle.std.specs.Prelude.{max, option_map, IfSome}
 use Rattle.link_simulation.specs.Simulation.World.{last_moment}
 use Rattle.link_scheduler.specs.Calls.AsPlanned.{planned}
-use Rattle.link_flights.proofs.Flights.Accounts.{arrivals_looked_up}
-use Rattle.link_flights.proofs.Idle.FirstStart.{looks_so}
+use Rattle.link_pairs.proofs.Pairs.LookedUp.{arrivals_looked_up}
+use Rattle.link_waiting.proofs.Idle.FirstStart.{looks_so}
 use Rattle.link_scheduler.proofs.transmitter.ledger.Ledger.plan_start.Goals as goal
 
 pub returns : goal.returns

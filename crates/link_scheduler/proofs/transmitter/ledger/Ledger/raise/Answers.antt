@@ -1,13 +1,13 @@
 use Rattle.std.proofs.Common.{map, sym, subst}
-use Rattle.link_flights.specs.Idle.AtRest.{of_pairs}
-use Rattle.link_flights.specs.Idle.Index.{IsIndexOf}
+use Rattle.link_waiting.specs.Idle.AtRest.{of_pairs}
+use Rattle.link_waiting.specs.Idle.Index.{IsIndexOf}
 use Rattle.link_flights.specs.Flights.InFlight.{in_flight}
-use Rattle.link_flights.specs.Pairs.Messages.{message_of}
-use Rattle.link_flights.specs.Pairs.CapsOf.{caps_of}
+use Rattle.link_pairs.specs.Pairs.Messages.{message_of}
+use Rattle.link_pairs.specs.Pairs.CapsOf.{caps_of}
 use Rattle.link_flights.specs.Flights.Rated.{AreRated}
-use Rattle.link_flights.specs.Pairs.PeerCaps.{egress_of, ingress_of}
-use Rattle.link_flights.proofs.Flights.Accounts.{arrivals_looked_up}
-use Rattle.link_flights.proofs.Idle.IndexChanges.{raised_index}
+use Rattle.link_pairs.specs.Pairs.PeerCaps.{egress_of, ingress_of}
+use Rattle.link_pairs.proofs.Pairs.LookedUp.{arrivals_looked_up}
+use Rattle.link_waiting.proofs.Idle.IndexChanges.{raised_index}
 use Rattle.link_scheduler.proofs.transmitter.ledger.Ledger.raise.Goals as goal
 
 pub invariant_of-self-in_default : goal.invariant_of-self-in_default

@@ -1,8 +1,8 @@
 use Rattle.link_scheduler.specs.Calls.AsPlanned.{planned}
-use Rattle.link_flights.proofs.Flights.Accounts.{arrivals_looked_up}
-use Rattle.link_flights.proofs.Idle.DueMessages.{ready_so}
+use Rattle.link_pairs.proofs.Pairs.LookedUp.{arrivals_looked_up}
+use Rattle.link_waiting.proofs.Idle.DueMessages.{ready_so}
 use Rattle.link_scheduler.proofs.Calls.Settling.{if_ok}
-use Rattle.link_flights.proofs.Pairs.Waiting.{in_pair_order}
+use Rattle.link_waiting.proofs.Idle.Waiting.{in_pair_order}
 use Rattle.link_scheduler.proofs.transmitter.ledger.Ledger.ready.Goals as goal
 
 pub returns-clause-ready : goal.returns-clause-ready

@@ -4,7 +4,7 @@ use Rattle.link_simulation.specs.Simulation.World.{goes}
 use Rattle.link_simulation.specs.Rule.Planned.{Planned}
 use Rattle.link_simulation.specs.Rule.Events.{Rebalances}
 use Rattle.link_scheduler.specs.Calls.AsPlanned.{planned}
-use Rattle.link_flights.specs.Pairs.Messages.{ended_of}
+use Rattle.link_pairs.specs.Pairs.Messages.{ended_of}
 use Rattle.link_scheduler.proofs.Calls.Settling.{rebalance_refused, rebalances_settled, rebalances_looked}
 use Rattle.link_scheduler.proofs.Calls.MessageCounts.{none_flies, some_fly}
 use Rattle.link_scheduler.proofs.transmitter.ledger.Ledger.rebalance.Goals as goal

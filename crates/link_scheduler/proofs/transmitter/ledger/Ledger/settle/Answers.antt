@@ -1,7 +1,7 @@
 use Rattle.std.proofs.Common.{map}
 use Rattle.std.proofs.lemmas.Result.{err_from_is_err_and}
 use Rattle.link_scheduler.specs.Calls.AsPlanned.{planned}
-use Rattle.link_flights.specs.Pairs.Messages.{messages, ended_of}
+use Rattle.link_pairs.specs.Pairs.Messages.{messages, ended_of}
 use Rattle.link_simulation.specs.Simulation.World.{meets}
 use Rattle.link_simulation.specs.Rule.Events.{Settles}
 use Rattle.link_simulation.proofs.Simulation.RefusalCauses.{refused_memory}

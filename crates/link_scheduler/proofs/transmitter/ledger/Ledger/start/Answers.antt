@@ -1,20 +1,20 @@
 use Rattle.std.proofs.Common.{◌≡◌, ◌+◌, subst, [], ◌∷◌, ◌++◌, length, map, Some, sym, ap, ◌∙◌, rules}
-use Rattle.link_flights.specs.Idle.AtRest.{of_pairs}
-use Rattle.link_flights.specs.Idle.Index.{IsIndexOf}
+use Rattle.link_waiting.specs.Idle.AtRest.{of_pairs}
+use Rattle.link_waiting.specs.Idle.Index.{IsIndexOf}
 use Rattle.std.proofs.Math.Logic.{∥∥₁_map}
-use Rattle.link_flights.specs.Idle.Busy.{AreCounted}
+use Rattle.link_waiting.specs.Idle.Busy.{AreCounted}
 use Rattle.fair_rates.specs.Numbers.Amount.{whole}
 use Rattle.link_simulation.specs.Simulation.Messages.{Message}
 use Rattle.link_simulation.specs.Rule.Planned.{RatedFlight, rated_messages}
-use Rattle.link_flights.specs.declared.message.Message as code
+use Rattle.link_pairs.specs.declared.message.Message as code
 use Rattle.link_flights.specs.Flights.InFlight.{in_flight}
-use Rattle.link_flights.specs.Pairs.Messages.{message_of}
-use Rattle.link_flights.specs.Pairs.Entries.{arrival_of}
-use Rattle.link_flights.specs.Pairs.CapsOf.{caps_of}
-use Rattle.link_flights.proofs.Flights.Accounts.{arrivals_looked_up}
-use Rattle.link_flights.proofs.Idle.Busy.{of_own_pair, counted_sent}
-use Rattle.link_flights.proofs.Idle.IndexChanges.{started_index}
-use Rattle.link_flights.proofs.Idle.Starting.{without_joined}
+use Rattle.link_pairs.specs.Pairs.Messages.{message_of}
+use Rattle.link_pairs.specs.Pairs.Entries.{arrival_of}
+use Rattle.link_pairs.specs.Pairs.CapsOf.{caps_of}
+use Rattle.link_pairs.proofs.Pairs.LookedUp.{arrivals_looked_up}
+use Rattle.link_waiting.proofs.Idle.Busy.{of_own_pair, counted_sent}
+use Rattle.link_waiting.proofs.Idle.IndexChanges.{started_index}
+use Rattle.link_waiting.proofs.Idle.Starting.{without_joined}
 use Rattle.link_flights.proofs.Flights.Standing.{still_rated}
 use Rattle.link_scheduler.proofs.transmitter.ledger.Ledger.start.Goals as goal
 

@@ -1,7 +1,7 @@
 use Rattle.std.proofs.Common.{arith}
-use Rattle.link_flights.specs.Pairs.Messages.{message_of, messages}
+use Rattle.link_pairs.specs.Pairs.Messages.{message_of, messages}
 use Rattle.link_scheduler.specs.Calls.AsPlanned.{planned}
-use Rattle.link_flights.proofs.Idle.Starting.{started_so, no_id_left}
+use Rattle.link_waiting.proofs.Idle.Starting.{started_so, no_id_left}
 use Rattle.link_scheduler.proofs.transmitter.ledger.Ledger.start_at_once.Goals as goal
 
 pub returns-then-self-lt18446744073709551615-clause-launches : goal.returns-then-self-lt18446744073709551615-clause-launches

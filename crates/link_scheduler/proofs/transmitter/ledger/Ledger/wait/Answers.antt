@@ -1,15 +1,15 @@
 use Rattle.std.proofs.Common.{sym, subst}
-use Rattle.link_flights.specs.Pairs.Messages.{message_of}
-use Rattle.link_flights.specs.Idle.AtRest.{of_pairs}
-use Rattle.link_flights.specs.Idle.Index.{IsIndexOf}
+use Rattle.link_pairs.specs.Pairs.Messages.{message_of}
+use Rattle.link_waiting.specs.Idle.AtRest.{of_pairs}
+use Rattle.link_waiting.specs.Idle.Index.{IsIndexOf}
 use Rattle.link_flights.specs.Flights.InFlight.{in_flight}
-use Rattle.link_flights.specs.Pairs.Entries.{arrival_of}
+use Rattle.link_pairs.specs.Pairs.Entries.{arrival_of}
 use Rattle.link_scheduler.specs.Calls.AsPlanned.{planned}
-use Rattle.link_flights.specs.Pairs.CapsOf.{caps_of}
+use Rattle.link_pairs.specs.Pairs.CapsOf.{caps_of}
 use Rattle.link_simulation.specs.Rule.Events.{PlansStart}
-use Rattle.link_flights.proofs.Flights.Accounts.{arrivals_looked_up}
+use Rattle.link_pairs.proofs.Pairs.LookedUp.{arrivals_looked_up}
 use Rattle.link_scheduler.proofs.Calls.OnlyWaiting.{enqueue_waits}
-use Rattle.link_flights.proofs.Idle.IndexChanges.{waited_index}
+use Rattle.link_waiting.proofs.Idle.IndexChanges.{waited_index}
 use Rattle.link_scheduler.proofs.Calls.Settling.{on_either}
 use Rattle.link_scheduler.proofs.transmitter.ledger.Ledger.wait.Goals as goal
 

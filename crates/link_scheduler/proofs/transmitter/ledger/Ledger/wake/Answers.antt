@@ -1,16 +1,16 @@
 use Rattle.std.proofs.Common.{map, List, Option, refl, sym, subst}
 use Rattle.std.specs.List.{AllZip}
 use Rattle.std.proofs.lemmas.Result.{err_from_is_err_and}
-use Rattle.link_flights.specs.declared.readiness.PeerPair.{PeerPair}
-use Rattle.link_flights.specs.Idle.PairsOfMessages.{NamesPairOf}
+use Rattle.link_pairs.specs.declared.pair.PeerPair.{PeerPair}
+use Rattle.link_waiting.specs.Idle.PairsOfMessages.{NamesPairOf}
 use Rattle.link_simulation.specs.Simulation.Messages.{Message}
 use Rattle.link_simulation.specs.Simulation.World.{goes, meets}
 use Rattle.link_simulation.specs.Rule.Planned.{Planned}
 use Rattle.link_simulation.specs.Rule.Events.{Launches}
 use Rattle.link_simulation.specs.Simulation.RefusalCauses.{IsRefusedFor}
 use Rattle.link_scheduler.specs.Calls.AsPlanned.{planned}
-use Rattle.link_flights.specs.Pairs.Messages.{messages, ended_of}
-use Rattle.link_flights.specs.Idle.Starting.{ready_messages}
+use Rattle.link_pairs.specs.Pairs.Messages.{messages, ended_of}
+use Rattle.link_waiting.specs.Idle.Starting.{ready_messages}
 use Rattle.link_scheduler.proofs.Calls.Finishing.{wakes_start, wakes_step, wakes_end, wakes_launch_refused}
 use Rattle.link_scheduler.proofs.Calls.Finishing.{wakes_finish_refused, next_at, none_at}
 use Rattle.link_scheduler.proofs.Calls.Settling.{of_message}

@@ -1,7 +1,7 @@
 use Rattle.std.proofs.Common.{map}
 use Rattle.link_scheduler.specs.Calls.AsPlanned.{planned}
-use Rattle.link_flights.specs.Idle.Starting.{ready_messages}
-use Rattle.link_flights.specs.Pairs.Messages.{ended_of}
+use Rattle.link_waiting.specs.Idle.Starting.{ready_messages}
+use Rattle.link_pairs.specs.Pairs.Messages.{ended_of}
 use Rattle.link_scheduler.proofs.Calls.Finishing.{WakesAt}
 use Rattle.link_scheduler.proofs.transmitter.ledger.Ledger.wake.Given as goal
 

@@ -1,9 +1,9 @@
 use Rattle.std.proofs.Common.{map}
-use Rattle.link_flights.specs.Pairs.Messages.{message_of}
-use Rattle.link_flights.specs.Pairs.Entries.{link_of, arrival_of}
-use Rattle.link_flights.specs.Pairs.PeerCaps.{egress_of, ingress_of}
+use Rattle.link_pairs.specs.Pairs.Messages.{message_of}
+use Rattle.link_pairs.specs.Pairs.Entries.{link_of, arrival_of}
+use Rattle.link_pairs.specs.Pairs.PeerCaps.{egress_of, ingress_of}
 use Rattle.std.proofs.Math.Logic.{∥∥₁_map}
-use Rattle.link_flights.specs.Pairs.CapsOf.{caps_of}
+use Rattle.link_pairs.specs.Pairs.CapsOf.{caps_of}
 use Rattle.link_flights.proofs.Flights.Copies.{in_flight_alike, rated_copy}
 use Rattle.link_scheduler.proofs.transmitter.ledger.LedgerClone.clone.Goals as goal
 

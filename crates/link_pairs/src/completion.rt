@@ -1,0 +1,86 @@
+//! What is answered of a message.
+ghost use Rattle.std.specs.Prelude.{◌≡◌, map, IfOk, IfErr};
+ghost use Rattle.std.specs.List.{AllZip};
+ghost use Rattle.std.specs.declared.cmp.Ordering.TheVariants.{Equal};
+ghost use Rattle.link_simulation.specs.Simulation.Replies.{SameCompletion};
+ghost use Rattle.link_pairs.specs.Pairs.Messages.{completed_of, ended_of};
+
+use crate::message::Message;
+use bytes::Bytes;
+use fair_rates::error::Error;
+use fair_rates::peer::Peer;
+use std::alloc::Global;
+use std::rc::Rc;
+
+/// What became of a message.
+#[derive(Drop)]
+pub struct Completion<P> {
+    pub origin: P,
+    pub recipient: P,
+    pub channel: u64,
+    pub message: Bytes,
+    /// The moment at which it arrives, in nanoseconds since the start, or `None` for a dropped
+    /// message.
+    pub deliver_at: Option<u64>,
+}
+
+/// A message that is done, with the moment at which it arrives.
+#[derive(Drop)]
+pub struct Ended<P> {
+    /// What was sent.
+    pub message: Rc<Message<P>>,
+    /// In nanoseconds since the start. `None` where it is dropped.
+    pub deliver_at: Option<u64>,
+}
+
+impl<P: Peer> Ended<P> {
+    /// What is answered of it: its peers are cloned, the bytes shared.
+    fn answer(&self) -> Result<Completion<P>, Error>
+        ensures same { IfOk result (λ answer. SameCompletion P.cmp (completed_of answer) (ended_of self.now)) }
+        ensures refused { IfErr result (λ e. e ≡ Error.OutOfMemory) }
+    {
+        let message = &self.message;
+        Ok(Completion {
+            origin: message.origin.clone_peer().ok_or(Error::OutOfMemory)?,
+            recipient: message.recipient.clone_peer().ok_or(Error::OutOfMemory)?,
+            channel: message.channel,
+            message: message.bytes.slice(..)?,
+            deliver_at: self.deliver_at,
+        })
+    }
+}
+
+/// What is answered of messages that are done.
+pub fn answers_of<P: Peer>(alloc: Global, ended: &[Ended<P>]) -> Result<Vec<Completion<P>>, Error>
+    ensures same { IfOk result (λ answers. AllZip (SameCompletion P.cmp) (map completed_of answers.items)
+        (map ended_of ended.now)) }
+    ensures refused { IfErr result (λ e. e ≡ Error.OutOfMemory) }
+{
+    let mut answers = Vec::with_capacity(alloc, ended.len())?;
+    for one in ended {
+        answers.push(one.answer()?)?;
+    }
+    Ok(answers)
+}
+
+impl<P: Peer> Completion<P> {
+    /// The same completion, its peers cloned. It shares the bytes.
+    ///
+    /// Its only error is `OutOfMemory`.
+    pub fn clone(&self) -> Result<Completion<P>, Error>
+        ensures origin { IfOk result (λ copy. P.cmp copy.origin self.now.origin ≡ Equal) }
+        ensures recipient { IfOk result (λ copy. P.cmp copy.recipient self.now.recipient ≡ Equal) }
+        ensures channel { IfOk result (λ copy. copy.channel ≡ self.now.channel) }
+        ensures message { IfOk result (λ copy. copy.message ≡ self.now.message) }
+        ensures deliver_at { IfOk result (λ copy. copy.deliver_at ≡ self.now.deliver_at) }
+        ensures refused { IfErr result (λ e. e ≡ Error.OutOfMemory) }
+    {
+        Ok(Completion {
+            origin: self.origin.clone_peer().ok_or(Error::OutOfMemory)?,
+            recipient: self.recipient.clone_peer().ok_or(Error::OutOfMemory)?,
+            channel: self.channel,
+            message: self.message.slice(..)?,
+            deliver_at: self.deliver_at,
+        })
+    }
+}

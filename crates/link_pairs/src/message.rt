@@ -1,0 +1,100 @@
+//! A message that waits or is in flight.
+ghost use Rattle.std.specs.Prelude.{◌≡◌, true, false, IfOk, IfErr};
+
+use bytes::Bytes;
+use fair_rates::bandwidth::Flow;
+use fair_rates::error::Error;
+use fair_rates::peer::Peer;
+use std::alloc::AllocError;
+use std::cmp::Ordering;
+
+/// What one peer sends to another.
+#[derive(Drop)]
+pub struct Message<P> {
+    /// Who sends.
+    pub origin: P,
+    /// Who is to receive. It may be the origin.
+    pub recipient: P,
+    /// It comes back with the completion.
+    pub channel: u64,
+    /// What is sent.
+    pub bytes: Bytes,
+    /// From its completion to its arrival, in nanoseconds.
+    pub latency: u64,
+    /// Whether it arrives; else it is to be dropped.
+    pub should_deliver: bool,
+}
+
+impl<P: Peer> Message<P> {
+    ghost use Rattle.link_simulation.specs.Simulation.Messages.{is_delivered};
+    ghost use Rattle.link_simulation.specs.Simulation.World.{is_late, arrival};
+    ghost use Rattle.link_pairs.specs.Pairs.Messages.{message_of};
+    ghost use Rattle.link_pairs.specs.Pairs.Entries.{pair_cmp};
+    ghost use Rattle.link_pairs.specs.Pairs.Messages.{pair_of};
+    ghost use Rattle.fair_rates.specs.Sides.Subjects.{same_peer};
+
+    /// How its pair stands to that of two peers: by origin, then by recipient.
+    pub fn compare(&self, origin: &P, recipient: &P) -> Ordering
+        ensures { result ≡ pair_cmp P.cmp (pair_of self.now) (origin.now, recipient.now) }
+    {
+        self.origin
+            .cmp(origin)
+            .then_with(|| self.recipient.cmp(recipient))
+    }
+
+    /// Whether it arrives, under limits: a message to oneself does not.
+    pub fn is_delivered(&self) -> bool
+        ensures { result ≡ is_delivered P.cmp (message_of self.now) }
+    {
+        self.should_deliver && self.origin.cmp(&self.recipient).is_ne()
+    }
+
+    /// Its flow, under that id.
+    pub fn flow(&self, id: u64) -> Result<Flow<P>, Error>
+        ensures id { IfOk result (λ flow. flow.id ≡ id) }
+        ensures origin { IfOk result (λ flow. same_peer P.cmp flow.origin self.now.origin ≡ true) }
+        ensures recipient { IfOk result (λ flow. same_peer P.cmp flow.recipient self.now.recipient ≡ true) }
+        ensures delivered { IfOk result (λ flow. flow.delivered ≡ is_delivered P.cmp (message_of self.now)) }
+        ensures refused { IfErr result (λ e. e ≡ Error.OutOfMemory) }
+    {
+        Ok(Flow {
+            id,
+            origin: self.origin.clone_peer().ok_or(Error::OutOfMemory)?,
+            recipient: self.recipient.clone_peer().ok_or(Error::OutOfMemory)?,
+            delivered: self.is_delivered(),
+        })
+    }
+
+    /// The moment at which it arrives if it is done at `now`, or `now` if it does not arrive.
+    pub fn arrival(&self, now: u64) -> Result<u64, Error>
+        ensures in_time { IfOk result (λ moment. is_late P.cmp now (message_of self.now) ≡ false) }
+        ensures moment { IfOk result (λ moment. moment ≡ arrival P.cmp now (message_of self.now)) }
+        ensures refused { IfErr result (λ e. (e ≡ Error.MomentTooLate)
+            × (is_late P.cmp now (message_of self.now) ≡ true)) }
+    {
+        if self.is_delivered() {
+            now.checked_add(self.latency).ok_or(Error::MomentTooLate)
+        } else {
+            Ok(now)
+        }
+    }
+}
+
+impl<P: Peer> Clone for Message<P> {
+    ghost use Rattle.link_simulation.specs.Simulation.Messages.{SameMessage};
+    ghost use Rattle.link_pairs.specs.Pairs.Messages.{message_of};
+
+    ghost is_clone = { λ message copy. SameMessage P.cmp (message_of message) (message_of copy) };
+
+    /// The same message, its peers cloned. It shares the bytes.
+    fn clone(&self) -> Result<Message<P>, AllocError> {
+        Ok(Message {
+            origin: self.origin.clone_peer().ok_or(AllocError)?,
+            recipient: self.recipient.clone_peer().ok_or(AllocError)?,
+            channel: self.channel,
+            bytes: self.bytes.slice(..)?,
+            latency: self.latency,
+            should_deliver: self.should_deliver,
+        })
+    }
+}

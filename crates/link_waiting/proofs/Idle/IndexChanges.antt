@@ -1,0 +1,478 @@
+-- The index of idle pairs after a change of the planned world.
+use Rattle.std.proofs.Common.{◌≡◌, ℕ, zero, suc, ◌<◌, map, get_or, arith, Bool, true, false, not, ◌&&◌, ◌||◌, cond}
+use Rattle.std.proofs.Common.{if◌then◌else◌, List, [], ◌∷◌, ◌++◌, length, Option, Some, None, refl, sym, ◌∙◌, ap}
+use Rattle.std.specs.Prelude.{option_map, ◌==◌}
+use Rattle.std.specs.List.{find, filter, list_any, AllZip}
+use Rattle.std.specs.declared.cmp.Ordering.{Ordering}
+use Rattle.std.specs.Ordering.{is_eq}
+use Rattle.std.specs.Cmp.{IsTotalOrder}
+use Rattle.std.proofs.lemmas.Bool.{and_from, or_left, or_parts}
+use Rattle.std.proofs.Math.Bool.{and-false, or-true}
+use Rattle.fair_rates.proofs.Lists.Booleans.{by_bool, first_of_both, second_of_both}
+use Rattle.fair_rates.specs.Lists.WithoutFirst.{without_first}
+use Rattle.link_waiting.specs.declared.idle_pairs.IdlePair.{IdlePair}
+use Rattle.fair_rates.specs.Sides.Subjects.{same_peer}
+use Rattle.link_simulation.specs.Simulation.Messages.{Message, PairsAlike, pair_before}
+use Rattle.link_simulation.specs.Rule.Events.{with_queued}
+use Rattle.link_simulation.specs.Rule.Planned.{Planned, RatedFlight, rated_messages, queued, drained_to}
+use Rattle.link_waiting.specs.Idle.Index.{idle_cmp, is_listed, idle_from, IsIndexOf, is_of_pair, AreAtRest}
+use Rattle.link_waiting.specs.Idle.FirstMoment.{first_moment}
+use Rattle.link_pairs.specs.Pairs.Entries.{first_of, arrival_of, raised_at}
+use Rattle.link_waiting.specs.Idle.Departed.{is_moment}
+use Rattle.link_waiting.specs.Idle.AtRest.{is_sending, of_pairs}
+use Rattle.link_pairs.specs.Pairs.Messages.{message_of}
+use Rattle.link_pairs.specs.declared.message.Message as code
+use Rattle.link_pairs.specs.declared.known_pairs.Pair.{Pair}
+use Rattle.link_simulation.proofs.Simulation.Queue.{pair_like, pair_sym}
+use Rattle.fair_rates.proofs.Sides.EqualSubjects.{same_peer_itself}
+use Rattle.link_waiting.proofs.Idle.Index.{same_two, same_idle}
+use Rattle.link_waiting.proofs.Idle.FirstStart.{idle_respects}
+
+module _ {P : Type 0} (cmp : P → P → Ordering) where
+  -- two planned worlds that agree on a pair
+  pub alike_from : (p q : Planned P) (a b : P) → is_sending cmp q a b ≡ is_sending cmp p a b
+      → first_of cmp q.waiting a b ≡ first_of cmp p.waiting a b → q.last_arrival a b ≡ p.last_arrival a b
+      → idle_from cmp q a b ≡ idle_from cmp p a b
+  alike_from p q a b sends first last i =
+      if sends i then None else option_map (λ (m : Message P). first_moment (last i) m.latency) (first i)
+
+  -- no earlier arrival of one pair: the others are as they were
+  pub raised_else : (p : Planned P) (o r : P) (at : ℕ) (a b : P) → same_two cmp o r a b ≡ false
+      → idle_from cmp (record p { last_arrival = raised_at cmp p.last_arrival o r at }) a b ≡ idle_from cmp p a b
+  raised_else p o r at a b apart =
+      alike_from p (record p { last_arrival = raised_at cmp p.last_arrival o r at }) a b refl refl (rw apart refl)
+
+  module _ (order : IsTotalOrder cmp) where
+    -- ---- from one world to another
+
+    -- where one pair alone may start from another moment on, the index in which that pair is changed is that of the new
+    -- world
+    pub follows : (p q : Planned P) (o r : P) (old new : List (IdlePair P))
+        → PairsAlike cmp q.last_arrival q.last_arrival
+        → ((a b : P) → same_two cmp o r a b ≡ false → idle_from cmp q a b ≡ idle_from cmp p a b) → IsIndexOf cmp p old
+        → ((t : ℕ) (a b : P)
+        → is_listed cmp new t a b
+        ≡ (if same_peer cmp o a
+        && same_peer cmp r b then is_moment t (idle_from cmp q o r) else is_listed cmp old t a b))
+        → IsIndexOf cmp q new
+    follows p q o r old new alike others index changed t a b = changed t a b ∙ by_bool (same_two cmp o r a b)
+        (λ h. rw h
+        (ap (is_moment t)
+        (idle_respects cmp order q alike o r a b (first_of_both (same_peer cmp o a) _ h)
+        (second_of_both (same_peer cmp o a) _ h))))
+        (λ h. rw h (index t a b ∙ ap (is_moment t) (sym (others a b h))))
+
+    -- where no pair may start from another moment on, the index stays
+    pub stays_index : (p q : Planned P) (es : List (IdlePair P))
+        → ((a b : P) → idle_from cmp q a b ≡ idle_from cmp p a b) → IsIndexOf cmp p es → IsIndexOf cmp q es
+    stays_index p q es same index t a b = index t a b ∙ ap (is_moment t) (sym (same a b))
+
+    -- ---- messages of one pair, and those of another
+
+    module _ (o r a b : P) (apart : same_two cmp o r a b ≡ false) where
+      abbrev of_one : Message P → Bool
+      of_one n = same_peer cmp o n.origin && same_peer cmp r n.recipient
+
+      abbrev of_other : Message P → Bool
+      of_other n = same_peer cmp a n.origin && same_peer cmp b n.recipient
+
+      -- what is of the one is not of the other
+      not_other : (n : Message P) → of_one n ≡ true → of_other n ≡ false
+      not_other n is =
+          let k : Message P = record n { origin = o; recipient = r } in
+          let l : Message P = record n { origin = a; recipient = b } in
+          pair_sym cmp order l n ∙ pair_like cmp order k n l is ∙ apart
+
+      first_without : (ns : List (Message P)) → find of_other (without_first of_one ns) ≡ find of_other ns
+      first_without [] = refl
+      first_without (n ∷ ns) = by_bool (of_one n)
+          (λ h. rw h (sym (ap (λ c. cond c (Some n) (find of_other ns)) (not_other n h))))
+          (λ h. rw h (ap (λ f. cond (of_other n) (Some n) f) (first_without ns)))
+
+      first_queued : (m : Message P) → of_one m ≡ true → (ns : List (Message P))
+          → find of_other (queued cmp m ns) ≡ find of_other ns
+      first_queued m is [] = ap (λ c. cond c (Some m) None) (not_other m is)
+      first_queued m is (n ∷ ns) = by_bool (pair_before cmp m n)
+          (λ h. rw h (ap (λ c. cond c (Some m) (find of_other (n ∷ ns))) (not_other m is)))
+          (λ h. rw h (ap (λ f. cond (of_other n) (Some n) f) (first_queued m is ns)))
+
+      sends_more : (fs : List (RatedFlight P)) (f : RatedFlight P) → of_one f.message ≡ true
+          → list_any of_other (rated_messages (fs ++ f ∷ [])) ≡ list_any of_other (rated_messages fs)
+      sends_more [] f is = ap (λ c. c || false) (not_other f.message is)
+      sends_more (g ∷ fs) f is = ap (λ c. of_other g.message || c) (sends_more fs f is)
+
+      -- the first message of a pair starts: the other pairs are as they were
+      pub pushed_else : (p : Planned P) (f : RatedFlight P) (id : ℕ)
+          → same_two cmp o r f.message.origin f.message.recipient ≡ true
+          → idle_from cmp
+          (record p {
+            sending = p.sending ++ f ∷ [];
+            waiting = without_first (λ (n : Message P). same_peer cmp o n.origin && same_peer cmp r n.recipient)
+                p.waiting;
+            next_id = id;
+          })
+          a b
+          ≡ idle_from cmp p a b
+      pushed_else p f id is =
+          alike_from p
+          (record p {
+            sending = p.sending ++ f ∷ [];
+            waiting = without_first (λ (n : Message P). same_peer cmp o n.origin && same_peer cmp r n.recipient)
+                p.waiting;
+            next_id = id;
+          })
+          a b (sends_more p.sending f is) (first_without p.waiting) refl
+
+      -- a message of a pair joins those that wait: the other pairs are as they were
+      pub queued_else : (p : Planned P) (m : Message P) → same_two cmp o r m.origin m.recipient ≡ true
+          → idle_from cmp (with_queued cmp p m) a b ≡ idle_from cmp p a b
+      queued_else p m is = alike_from p (with_queued cmp p m) a b refl (first_queued m is p.waiting) refl
+
+  -- ---- an account
+
+  module _ (u : Message P → Bool) where
+    -- nothing that left is of the pair, so it is what stays that is
+    pub left_else : (spent : RatedFlight P → Bool) (fs : List (RatedFlight P))
+        → list_any u (rated_messages (filter spent fs)) ≡ false
+        → list_any u (rated_messages (filter (λ f. not (spent f)) fs)) ≡ list_any u (rated_messages fs)
+    left_else spent [] none = refl
+    left_else spent (f ∷ fs) none = by_test (spent f) refl none (left_else spent fs)
+      where
+        by_test : (c : Bool) → spent f ≡ c
+            → list_any u (rated_messages (cond c (f ∷ filter spent fs) (filter spent fs))) ≡ false
+            → (list_any u (rated_messages (filter spent fs)) ≡ false
+            → list_any u (rated_messages (filter (λ g. not (spent g)) fs)) ≡ list_any u (rated_messages fs))
+            → list_any u
+            (rated_messages
+            (cond (not (spent f)) (f ∷ filter (λ g. not (spent g)) fs) (filter (λ g. not (spent g)) fs)))
+            ≡ (u f.message || list_any u (rated_messages fs))
+        by_test true is none ih =
+            let parts : (u f.message ≡ false) × (list_any u (rated_messages (filter spent fs)) ≡ false) =
+            or_parts (u f.message) (list_any u (rated_messages (filter spent fs))) none in
+            rw (is, parts.0) (ih parts.1)
+        by_test false is none ih = rw is (ap (λ c. u f.message || c) (ih none))
+
+    pub drained_else : (t : ℕ) (fs : List (RatedFlight P))
+        → list_any u (rated_messages (drained_to t fs)) ≡ list_any u (rated_messages fs)
+    drained_else t [] = refl
+    drained_else t (f ∷ fs) = ap (λ c. u f.message || c) (drained_else t fs)
+
+    stayed_else : (t : ℕ) (fs gs : List (RatedFlight P))
+        → AllZip (λ f g. (g.message ≡ f.message) × (g.left ≡ f.left) × (g.updated ≡ t)) fs gs
+        → list_any u (rated_messages gs) ≡ list_any u (rated_messages fs)
+    stayed_else t [] [] zip = refl
+    stayed_else t [] (g ∷ gs) zip = absurd zip
+    stayed_else t (f ∷ fs) [] zip = absurd zip
+    stayed_else t (f ∷ fs) (g ∷ gs) zip = rw (zip.0.0, stayed_else t fs gs zip.1) refl
+
+    -- what left was in flight
+    pub left_in_flight : (spent : RatedFlight P → Bool) (fs : List (RatedFlight P))
+        → list_any u (rated_messages (filter spent fs)) ≡ true → list_any u (rated_messages fs) ≡ true
+    left_in_flight spent [] some = some
+    left_in_flight spent (f ∷ fs) some = by_test (spent f) some (left_in_flight spent fs)
+      where
+        by_test : (c : Bool) → list_any u (rated_messages (cond c (f ∷ filter spent fs) (filter spent fs))) ≡ true
+            → (list_any u (rated_messages (filter spent fs)) ≡ true → list_any u (rated_messages fs) ≡ true)
+            → (u f.message || list_any u (rated_messages fs)) ≡ true
+        by_test true some ih = either_true (u f.message) some ih
+          where
+            either_true : (c : Bool) → (c || list_any u (rated_messages (filter spent fs))) ≡ true
+                → (list_any u (rated_messages (filter spent fs)) ≡ true → list_any u (rated_messages fs) ≡ true)
+                → (c || list_any u (rated_messages fs)) ≡ true
+            either_true true h on = refl
+            either_true false h on = on h
+        by_test false some ih = rw (ih some) (or-true (u f.message))
+
+-- ---- the pairs of what left are at rest
+
+or_else : (c d : Bool) → c ≡ false → (d || c) ≡ d
+or_else c true h = refl
+or_else c false h = h
+
+any_more : {X : Type 0} (u : X → Bool) (xs : List X) (x : X) → list_any u (xs ++ x ∷ []) ≡ (list_any u xs || u x)
+any_more u [] x = or_else false (u x) refl
+any_more u (y ∷ xs) x = ap (λ c. u y || c) (any_more u xs x) ∙ sym (or_assoc (u y) (list_any u xs) (u x))
+  where
+    or_assoc : (a b c : Bool) → ((a || b) || c) ≡ (a || (b || c))
+    or_assoc true b c = refl
+    or_assoc false b c = refl
+
+module _ {P : Type 0} (cmp : P → P → Ordering) (order : IsTotalOrder cmp) (q : Planned P)
+    (alike : PairsAlike cmp q.last_arrival q.last_arrival) (old : List (IdlePair P)) where
+  module _ (done : List (Message P)) (m : Message P) (es : List (IdlePair P)) (so : AreAtRest cmp q done old es)
+      (busy : (t : ℕ) (a b : P) → is_of_pair cmp a b m ≡ true → is_listed cmp old t a b ≡ false) where
+    -- what the rest says of the pair of the message
+    own : (t : ℕ) (a b : P) → is_of_pair cmp a b m ≡ true → idle_from cmp q a b ≡ idle_from cmp q m.origin m.recipient
+    own t a b h =
+        idle_respects cmp order q alike a b m.origin m.recipient (first_of_both (same_peer cmp a m.origin) _ h)
+        (second_of_both (same_peer cmp a m.origin) _ h)
+
+    -- before, it is listed under its moment or not at all
+    listed_so : (t : ℕ) (a b : P) → is_of_pair cmp a b m ≡ true
+        → is_moment t (idle_from cmp q m.origin m.recipient) ≡ false → is_listed cmp es t a b ≡ false
+    listed_so t a b h other =
+        so t a b
+        ∙ by_bool (list_any (is_of_pair cmp a b) done) (λ k. rw k (ap (is_moment t) (own t a b h) ∙ other))
+        (λ k. rw k (busy t a b h))
+
+    more_true : (a b : P) → is_of_pair cmp a b m ≡ true → list_any (is_of_pair cmp a b) (done ++ m ∷ []) ≡ true
+    more_true a b h = any_more (is_of_pair cmp a b) done m ∙ rw h (or-true (list_any (is_of_pair cmp a b) done))
+
+    more_false : (a b : P) → is_of_pair cmp a b m ≡ false
+        → list_any (is_of_pair cmp a b) (done ++ m ∷ []) ≡ list_any (is_of_pair cmp a b) done
+    more_false a b h =
+        any_more (is_of_pair cmp a b) done m ∙ or_else (is_of_pair cmp a b m) (list_any (is_of_pair cmp a b) done) h
+
+    pub rests_none : idle_from cmp q m.origin m.recipient ≡ None → AreAtRest cmp q (done ++ m ∷ []) old es
+    rests_none none t a b = by_bool (is_of_pair cmp a b m)
+        (λ h. rw (more_true a b h)
+        (listed_so t a b h (ap (is_moment t) none) ∙ sym (ap (is_moment t) (own t a b h ∙ none))))
+        (λ h. rw (more_false a b h) (so t a b))
+
+    pub rests_more : (k : ℕ) (new : List (IdlePair P)) → idle_from cmp q m.origin m.recipient ≡ Some k
+        → ((t : ℕ) (a b : P)
+        → is_listed cmp new t a b
+        ≡ (if is_eq (idle_cmp cmp (k, (m.origin, m.recipient)) (t, (a, b))) then true else is_listed cmp es t a b))
+        → AreAtRest cmp q (done ++ m ∷ []) old new
+    rests_more k new is added t a b =
+        by_bool (is_of_pair cmp a b m) (λ h. rw (more_true a b h) (here h)) (λ h. rw (more_false a b h) (there h))
+      where
+        test : is_eq (idle_cmp cmp (k, (m.origin, m.recipient)) (t, (a, b))) ≡ ((k == t) && is_of_pair cmp a b m)
+        test = same_idle cmp k t m.origin m.recipient a b ∙ ap (λ c. (k == t) && c) (turned a b)
+          where
+            turned : (a b : P) → same_two cmp m.origin m.recipient a b ≡ is_of_pair cmp a b m
+            turned a b = pair_sym cmp order m (record m { origin = a; recipient = b })
+
+        here : is_of_pair cmp a b m ≡ true → is_listed cmp new t a b ≡ is_moment t (idle_from cmp q a b)
+        here h =
+            let moment : is_moment t (idle_from cmp q a b) ≡ (k == t) = ap (is_moment t) (own t a b h ∙ is) in
+            added t a b ∙ ap (λ c. if c then true else is_listed cmp es t a b) (test ∙ ap (λ c. (k == t) && c) h)
+            ∙ by_bool (k == t)
+            (λ same. rw same (sym (moment ∙ same)))
+            (λ other. rw other (listed_so t a b h (ap (is_moment t) is ∙ other) ∙ sym (moment ∙ other)))
+
+        there : is_of_pair cmp a b m ≡ false
+            → is_listed cmp new t a b
+            ≡ (if list_any (is_of_pair cmp a b) done then is_moment t (idle_from cmp q a b) else is_listed cmp old t a
+            b)
+        there h =
+            let apart : is_eq (idle_cmp cmp (k, (m.origin, m.recipient)) (t, (a, b))) ≡ false =
+            test ∙ ap (λ c. (k == t) && c) h ∙ and-false (k == t) in
+            added t a b ∙ ap (λ c. if c then true else is_listed cmp es t a b) apart ∙ so t a b
+
+  -- all that left is at rest, so the index is that of what stays
+  pub rests_index : (p : Planned P) (leavers : List (Message P)) (new : List (IdlePair P))
+      → ((a b : P) → list_any (is_of_pair cmp a b) leavers ≡ false → idle_from cmp q a b ≡ idle_from cmp p a b)
+      → IsIndexOf cmp p old → AreAtRest cmp q leavers old new → IsIndexOf cmp q new
+  rests_index p leavers new others index rests t a b = rests t a b ∙ by_bool (list_any (is_of_pair cmp a b) leavers)
+      (λ h. rw h refl)
+      (λ h. rw h (index t a b ∙ ap (is_moment t) (sym (others a b h))))
+
+-- what passes at a place passes somewhere
+pub any_at : {X Y : Type 0} (u : Y → Bool) (f : X → Y) (xs : List X) (at : ℕ) (x : X) → at < length xs
+    → x ≡ get_or xs at x → u (f x) ≡ true → list_any u (map f xs) ≡ true
+any_at u f [] at x lt is h = absurd (omega (arith, lt))
+any_at u f (y ∷ xs) zero x lt is h = or_left (u (f y)) (list_any u (map f xs)) (ap (λ z. u (f z)) (sym is) ∙ h)
+any_at u f (y ∷ xs) (suc at) x lt is h = rw (any_at u f xs at x (omega (arith, lt)) is h) (or-true (u (f y)))
+
+-- ---- the index of what is kept, after a change of one pair
+
+module _ {P : Type 0} (cmp : P → P → Ordering) (order : IsTotalOrder cmp) where
+  pub raised_index : (pairs others : List (Pair P)) (ms : List (code.Message P)) (sending : List (RatedFlight P))
+      (o r : P) (at : ℕ) (es new : List (IdlePair P)) {after : Option ℕ}
+      → PairsAlike cmp (arrival_of cmp others) (arrival_of cmp others)
+      → arrival_of cmp others ≡ raised_at cmp (arrival_of cmp pairs) o r at
+      → IsIndexOf cmp (of_pairs cmp pairs ms sending) es
+      → ((t : ℕ) (a b : P)
+      → is_listed cmp new t a b
+      ≡ (if same_peer cmp o a && same_peer cmp r b then is_moment t after else is_listed cmp es t a b))
+      → after ≡ idle_from cmp (of_pairs cmp others ms sending) o r
+      → IsIndexOf cmp (of_pairs cmp others ms sending) new
+  raised_index pairs others ms sending o r at es new {after} alike raised index changed is =
+      let p : Planned P = of_pairs cmp pairs ms sending in
+      let q : Planned P = of_pairs cmp others ms sending in
+      let same : q ≡ record p { last_arrival = raised_at cmp p.last_arrival o r at } = λ i.
+      record p { last_arrival = raised i } in
+      follows cmp order p q o r es new alike
+      (λ a b apart. ap (λ (w : Planned P). idle_from cmp w a b) same ∙ raised_else cmp p o r at a b apart) index
+      (λ t a b. changed t a b
+      ∙ ap
+      (λ (m : Option ℕ). if same_peer cmp o a && same_peer cmp r b then is_moment t m else is_listed cmp es t a b)
+      is)
+
+  pub queued_index : (pairs : List (Pair P)) (ms ns : List (code.Message P)) (sending : List (RatedFlight P)) (o r : P)
+      (m : Message P) (es new : List (IdlePair P)) {after : Option ℕ}
+      → PairsAlike cmp (arrival_of cmp pairs) (arrival_of cmp pairs)
+      → map message_of ns ≡ queued cmp m (map message_of ms) → same_two cmp o r m.origin m.recipient ≡ true
+      → IsIndexOf cmp (of_pairs cmp pairs ms sending) es
+      → ((t : ℕ) (a b : P)
+      → is_listed cmp new t a b
+      ≡ (if same_peer cmp o a && same_peer cmp r b then is_moment t after else is_listed cmp es t a b))
+      → after ≡ idle_from cmp (of_pairs cmp pairs ns sending) o r
+      → IsIndexOf cmp (of_pairs cmp pairs ns sending) new
+  queued_index pairs ms ns sending o r m es new {after} alike joined own index changed is =
+      let p : Planned P = of_pairs cmp pairs ms sending in
+      let q : Planned P = of_pairs cmp pairs ns sending in
+      let same : q ≡ with_queued cmp p m = λ i. record p { waiting = joined i } in
+      follows cmp order p q o r es new alike
+      (λ a b apart. ap (λ (w : Planned P). idle_from cmp w a b) same ∙ queued_else cmp order o r a b apart p m own)
+      index
+      (λ t a b. changed t a b
+      ∙ ap
+      (λ (m : Option ℕ). if same_peer cmp o a && same_peer cmp r b then is_moment t m else is_listed cmp es t a b)
+      is)
+
+  -- a message joins those that wait behind one that is in flight: no idle pair is another
+  pub waited_index : (pairs : List (Pair P)) (ms ns : List (code.Message P)) (sending : List (RatedFlight P))
+      (m : Message P) (es : List (IdlePair P))
+      → map message_of ns ≡ queued cmp m (map message_of ms)
+      → is_sending cmp (of_pairs cmp pairs ms sending) m.origin m.recipient ≡ true
+      → PairsAlike cmp (arrival_of cmp pairs) (arrival_of cmp pairs)
+      → IsIndexOf cmp (of_pairs cmp pairs ms sending) es → IsIndexOf cmp (of_pairs cmp pairs ns sending) es
+  waited_index pairs ms ns sending m es joined busy alike index =
+      let p : Planned P = of_pairs cmp pairs ms sending in
+      let q : Planned P = of_pairs cmp pairs ns sending in
+      let same : q ≡ with_queued cmp p m = λ i. record p { waiting = joined i } in
+      let own : same_two cmp m.origin m.recipient m.origin m.recipient ≡ true =
+      and_from (same_peer cmp m.origin m.origin) (same_peer cmp m.recipient m.recipient)
+      (same_peer_itself cmp order m.origin) (same_peer_itself cmp order m.recipient) in
+      stays_index cmp order p q es (λ a b. by_bool (same_two cmp m.origin m.recipient a b)
+      (λ h.
+      let first = first_of_both (same_peer cmp m.origin a) _ h in
+      let second = second_of_both (same_peer cmp m.origin a) _ h in
+      sym (idle_respects cmp order q alike m.origin m.recipient a b first second)
+      ∙ busy_none q m.origin m.recipient busy ∙ sym (busy_none p m.origin m.recipient busy)
+      ∙ idle_respects cmp order p alike m.origin m.recipient a b first second)
+      (λ h. ap (λ (w : Planned P). idle_from cmp w a b) same
+      ∙ queued_else cmp order m.origin m.recipient a b h p m own))
+      index
+    where
+      busy_none : (w : Planned P) (o r : P) → is_sending cmp w o r ≡ true → idle_from cmp w o r ≡ None
+      busy_none w o r h =
+          ap
+          (λ (c : Bool). if c then None else option_map
+          (λ (m : Message P). first_moment (w.last_arrival o r) m.latency) (first_of cmp w.waiting o r))
+          h
+
+  -- a message of a pair of which none waits is in flight: no idle pair is another
+  pub started_index : (pairs : List (Pair P)) (ms : List (code.Message P)) (sending after : List (RatedFlight P))
+      (f : RatedFlight P) (es : List (IdlePair P))
+      → PairsAlike cmp (arrival_of cmp pairs) (arrival_of cmp pairs)
+      → first_of cmp (map message_of ms) f.message.origin f.message.recipient ≡ None → after ≡ sending ++ f ∷ []
+      → IsIndexOf cmp (of_pairs cmp pairs ms sending) es → IsIndexOf cmp (of_pairs cmp pairs ms after) es
+  started_index pairs ms sending after f es alike alone pushed index =
+      let p : Planned P = of_pairs cmp pairs ms sending in
+      let q : Planned P = of_pairs cmp pairs ms after in
+      let o : P = f.message.origin in
+      let r : P = f.message.recipient in
+      let own : same_two cmp o r o r ≡ true =
+      and_from (same_peer cmp o o) (same_peer cmp r r) (same_peer_itself cmp order o)
+      (same_peer_itself cmp order r) in
+      stays_index cmp order p q es (λ a b. by_bool (same_two cmp o r a b)
+      (λ h.
+      let first = first_of_both (same_peer cmp o a) _ h in
+      let second = second_of_both (same_peer cmp o a) _ h in
+      sym (idle_respects cmp order q alike o r a b first second) ∙ none_idle q alone ∙ sym (none_idle p alone)
+      ∙ idle_respects cmp order p alike o r a b first second)
+      (λ h. alike_from cmp p q a b
+      (ap (λ l. list_any (is_of_pair cmp a b) (rated_messages l)) pushed
+      ∙ sends_more cmp order o r a b h sending f own)
+      refl refl))
+      index
+    where
+      none_idle : (w : Planned P) → first_of cmp w.waiting f.message.origin f.message.recipient ≡ None
+          → idle_from cmp w f.message.origin f.message.recipient ≡ None
+      none_idle w none =
+          ap
+          (λ (first : Option (Message P)). if is_sending cmp w f.message.origin f.message.recipient then None else
+          option_map
+          (λ (m : Message P). first_moment (w.last_arrival f.message.origin f.message.recipient) m.latency) first)
+          none
+          ∙ by_bool (is_sending cmp w f.message.origin f.message.recipient) (λ t. rw t refl) (λ t. rw t refl)
+
+  -- the first message of a pair is in flight: the pair is idle no more
+  pub departed_index : (pairs : List (Pair P)) (ms ns : List (code.Message P)) (sending after : List (RatedFlight P))
+      (f : RatedFlight P) (o r : P) (es new : List (IdlePair P))
+      → PairsAlike cmp (arrival_of cmp pairs) (arrival_of cmp pairs)
+      → map message_of ns
+      ≡ without_first (λ (n : Message P). same_peer cmp o n.origin && same_peer cmp r n.recipient) (map message_of ms)
+      → after ≡ sending ++ f ∷ [] → same_two cmp o r f.message.origin f.message.recipient ≡ true
+      → IsIndexOf cmp (of_pairs cmp pairs ms sending) es
+      → ((t : ℕ) (a b : P)
+      → is_listed cmp new t a b
+      ≡ (if same_peer cmp o a && same_peer cmp r b then is_moment t None else is_listed cmp es t a b))
+      → IsIndexOf cmp (of_pairs cmp pairs ns after) new
+  departed_index pairs ms ns sending after f o r es new alike taken pushed own index changed =
+      let p : Planned P = of_pairs cmp pairs ms sending in
+      let q : Planned P = of_pairs cmp pairs ns after in
+      let same : q
+      ≡ record p {
+        sending = p.sending ++ f ∷ [];
+        waiting = without_first (λ (n : Message P). same_peer cmp o n.origin && same_peer cmp r n.recipient)
+            p.waiting;
+        next_id = 0;
+      } =
+      λ i. record p { sending = pushed i; waiting = taken i } in
+      let flies : is_sending cmp q o r ≡ true =
+      ap (λ l. list_any (is_of_pair cmp o r) (rated_messages l)) pushed ∙ last_flies sending in
+      let none : idle_from cmp q o r ≡ None =
+      ap
+      (λ (c : Bool). if c then None else option_map
+      (λ (m : Message P). first_moment (q.last_arrival o r) m.latency) (first_of cmp q.waiting o r))
+      flies in
+      follows cmp order p q o r es new alike
+      (λ a b apart. ap (λ (w : Planned P). idle_from cmp w a b) same ∙ pushed_else cmp order o r a b apart p f 0 own)
+      index
+      (λ t a b. changed t a b
+      ∙ ap
+      (λ (m : Option ℕ). if same_peer cmp o a && same_peer cmp r b then is_moment t m else is_listed cmp es t a b)
+      (sym none))
+    where
+      last_flies : (fs : List (RatedFlight P)) → list_any (is_of_pair cmp o r) (rated_messages (fs ++ f ∷ [])) ≡ true
+      last_flies [] = or_left (is_of_pair cmp o r f.message) false own
+      last_flies (g ∷ fs) = rw (last_flies fs) (or-true (is_of_pair cmp o r g.message))
+
+pub flows_drained : {P : Type 0} (t : ℕ) (fs : List (RatedFlight P))
+    → rated_messages (drained_to t fs) ≡ rated_messages fs
+flows_drained t [] = refl
+flows_drained t (f ∷ fs) = ap (λ l. f.message ∷ l) (flows_drained t fs)
+
+module _ {P : Type 0} (cmp : P → P → Ordering) (order : IsTotalOrder cmp) (pairs : List (Pair P))
+    (ms : List (code.Message P)) where
+  -- while the same messages are in flight, the same pairs are idle
+  pub same_flights_index : (sending after : List (RatedFlight P)) (es : List (IdlePair P))
+      → rated_messages after ≡ rated_messages sending → IsIndexOf cmp (of_pairs cmp pairs ms sending) es
+      → IsIndexOf cmp (of_pairs cmp pairs ms after) es
+  same_flights_index sending after es same =
+      stays_index cmp order (of_pairs cmp pairs ms sending) (of_pairs cmp pairs ms after) es
+      (λ a b. alike_from cmp (of_pairs cmp pairs ms sending) (of_pairs cmp pairs ms after) a b
+      (ap (list_any (is_of_pair cmp a b)) same) refl refl)
+
+  module _ (spent : RatedFlight P → Bool) (sending after : List (RatedFlight P)) (leavers : List (Message P))
+      (es : List (IdlePair P)) (left : leavers ≡ rated_messages (filter spent sending))
+      (index : IsIndexOf cmp (of_pairs cmp pairs ms sending) es) where
+    -- the pairs of what left were not idle
+    pub left_unlisted : (t : ℕ) (a b : P) → list_any (is_of_pair cmp a b) leavers ≡ true
+        → is_listed cmp es t a b ≡ false
+    left_unlisted t a b some =
+        let p : Planned P = of_pairs cmp pairs ms sending in
+        let busy : is_sending cmp p a b ≡ true =
+        left_in_flight cmp (is_of_pair cmp a b) spent sending
+        (ap (list_any (is_of_pair cmp a b)) (sym left) ∙ some) in
+        index t a b
+        ∙ ap (is_moment t)
+        (ap
+        (λ (c : Bool). if c then None else option_map
+        (λ (m : Message P). first_moment (p.last_arrival a b) m.latency) (first_of cmp p.waiting a b))
+        busy)
+
+    pub left_index : (new : List (IdlePair P)) → PairsAlike cmp (arrival_of cmp pairs) (arrival_of cmp pairs)
+        → after ≡ filter (λ f. not (spent f)) sending → AreAtRest cmp (of_pairs cmp pairs ms after) leavers es new
+        → IsIndexOf cmp (of_pairs cmp pairs ms after) new
+    left_index new alike stays rests =
+        rests_index cmp order (of_pairs cmp pairs ms after) alike es (of_pairs cmp pairs ms sending) leavers new
+        (λ a b none. alike_from cmp (of_pairs cmp pairs ms sending) (of_pairs cmp pairs ms after) a b
+        (ap (λ l. list_any (is_of_pair cmp a b) (rated_messages l)) stays
+        ∙ left_else cmp (is_of_pair cmp a b) spent sending (ap (list_any (is_of_pair cmp a b)) (sym left) ∙ none))
+        refl refl)
+        index rests

@@ -1,0 +1,52 @@
+use Rattle.std.proofs.Common.{◌≡◌, ◌+◌, ◌<◌, ℕ, false, true, List, [], ◌∷◌, ◌++◌, length, None, take, sym, ap, ◌∙◌}
+use Rattle.std.proofs.Common.{subst, arith, rules}
+use Rattle.std.specs.declared.rc.Rc.{Rc}
+use Rattle.std.specs.declared.alloc.Global.{Global}
+use Rattle.std.proofs.lemmas.List.{map-append, take_more}
+use Rattle.link_simulation.specs.Simulation.Messages.{Message}
+use Rattle.link_simulation.specs.Rule.Planned.{Planned}
+use Rattle.link_pairs.specs.declared.message.Message as code
+use Rattle.link_waiting.specs.Idle.AtRest.{of_pairs}
+use Rattle.link_waiting.specs.Idle.Index.{is_listed, is_of_pair, AreAtRest}
+use Rattle.link_pairs.specs.Pairs.Messages.{message_of, messages}
+use Rattle.link_pairs.proofs.Pairs.LookedUp.{arrivals_looked_up}
+use Rattle.link_waiting.proofs.Idle.IndexChanges.{any_at, rests_more, rests_none}
+use Rattle.link_waiting.proofs.readiness.rest_all.Goals as goal
+use Rattle.link_waiting.proofs.readiness.rest_all.Goals.{in-Some+in_ok-add, in_default}
+
+pub loop-at-preserved : goal.loop-at-preserved
+loop-at-preserved g c sending counted =
+    let cmp = g.P.Ord.cmp in
+    let q : Planned g.row.P.Denot = of_pairs cmp c.args.pairs.now.entries c.args.waiting.now.messages sending in
+    let alike = arrivals_looked_up cmp g.met.P.Ord.total c.args.pairs.now.entries in
+    let old = c.args.idle.now.entries in
+    let done = c.args.done.now.items in
+    let at = c.loop-at.at in
+    let lt : at < length done = omega (arith, c.loop-at-test.true, c.len-at-end.ensures, c.args.done.now.ok.0) in
+    let m : Message g.row.P.Denot = message_of c.as_ref-message.result.now in
+    let there : message_of c.index.result.now.value ≡ m = ap message_of (sym c.as_ref-message.ensures) in
+    let more : messages (take (at + 1) done) ≡ messages (take at done) ++ m ∷ [] =
+    ap messages
+    (take_more done at c.index.result.now lt
+    ∙ ap (λ (x : Rc (code.Message g.row.P.Denot) Global). take at done ++ x ∷ []) (sym c.index.ensures))
+    ∙ map-append (λ x. message_of x.value) (take at done) (c.index.result.now ∷ [])
+    ∙ ap (λ x. messages (take at done) ++ x ∷ []) there in
+    let busy : (t : ℕ) (a b : g.row.P.Denot) → is_of_pair cmp a b m ≡ true → is_listed cmp old t a b ≡ false =
+    λ t a b h.
+    c.requires.unlisted t a b
+    (any_at (is_of_pair cmp a b) (λ x. message_of x.value) done at c.index.result.now lt c.index.ensures
+    (ap (is_of_pair cmp a b) there ∙ h)) in
+    elim c.match-idle_from.branch [
+      | in-Some+in_ok-add w ↦
+          subst (λ es. AreAtRest cmp q (messages (take (at + 1) done)) old es) (sym (ap (λ x. x.entries) w.idle-is))
+          (subst (λ (ms : List (Message g.row.P.Denot)). AreAtRest cmp q ms old w.add.new.self.entries) (sym more)
+          (rests_more cmp g.met.P.Ord.total q alike old (messages (take at done)) m c.loop-at.idle.entries
+          (c.loop-at.invariant sending counted) busy _ w.add.new.self.entries
+          (sym (c.idle_from.ensures sending counted) ∙ w.in-Some.is) w.in_ok-add.ensures.listed))
+      | in_default w ↦
+          let none : c.idle_from.result ≡ None = search rules in
+          subst (λ es. AreAtRest cmp q (messages (take (at + 1) done)) old es) (sym (ap (λ x. x.entries) w.idle-is))
+          (subst (λ (ms : List (Message g.row.P.Denot)). AreAtRest cmp q ms old c.loop-at.idle.entries) (sym more)
+          (rests_none cmp g.met.P.Ord.total q alike old (messages (take at done)) m c.loop-at.idle.entries
+          (c.loop-at.invariant sending counted) busy (sym (c.idle_from.ensures sending counted) ∙ none)))
+    ]
