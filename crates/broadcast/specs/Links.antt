@@ -1,8 +1,8 @@
 -- Links between peers, and the messages that go over them.
 use Rattle.std.specs.Prelude.{◌≡◌, ◌≢◌, ℕ, ◌≤◌, ◌<◌, List, length, true}
 use Rattle.link_simulation.specs.Simulation.Messages.{Message}
-use Rattle.link_scheduler.specs.Calls.State.{sent, outgoing}
-use Rattle.link_scheduler.specs.declared.transmitter.outgoing.Outgoing.{Outgoing}
+use Rattle.link_events.specs.Events.Outgoing.{sent, outgoing}
+use Rattle.link_events.specs.declared.outgoing.Outgoing.{Outgoing}
 use Rattle.broadcast.specs.declared.link.Link.{Link}
 
 -- from one to another of so many peers, in 1 to 200 milliseconds

@@ -12,7 +12,8 @@ ghost use Rattle.fair_rates.specs.declared.error.Error.{Error as AnyError};
 ghost use Rattle.fair_rates.specs.declared.error.Error.TheVariants.{OutOfMemory, NumberTooLarge};
 ghost use Rattle.link_pairs.specs.Pairs.Messages.{completed_of};
 ghost use Rattle.link_flights.specs.Flights.Readings.{HasShortTerms, IsGreatestWhole, IsReadingOf, IsReadAs};
-ghost use Rattle.link_scheduler.specs.Calls.State.{planned_of, sent, Makes, Refuses, IsNew, IsAdvanced, IsCounted};
+ghost use Rattle.link_scheduler.specs.Calls.State.{planned_of, Makes, Refuses, IsNew, IsAdvanced, IsCounted};
+ghost use Rattle.link_events.specs.Events.Outgoing.{sent};
 ghost use Rattle.link_scheduler.specs.Calls.State.{IsNextOf};
 ghost use Rattle.link_flights.specs.declared.reading.InFlight.{InFlight as AnyInFlight};
 ghost use Rattle.link_flights.specs.declared.reading.Reading.{Reading as AnyReading};
@@ -23,7 +24,6 @@ ghost use Rattle.link_simulation.specs.Simulation.World.{World, Completed, goes}
 ghost use Rattle.link_simulation.specs.Laws.Bytes.{bytes_from};
 ghost use Rattle.link_simulation.specs.Simulation.Calls.{Call, call_advance, Runs};
 ghost use Rattle.link_simulation.specs.Rule.Events.{Obeys};
-ghost use Rattle.link_simulation.specs.Simulation.Messages.{Message};
 ghost use Rattle.link_simulation.specs.Laws.PairCompletions.{enqueued};
 ghost use Rattle.link_simulation.specs.Rule.Planned.{Planned, RatedFlight, IsRated, new_planned, next_event};
 ghost use Rattle.link_simulation.specs.Rule.Range.{IsInRange, IsCallInRange};

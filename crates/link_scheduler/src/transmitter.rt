@@ -1,29 +1,19 @@
 //! When each message arrives: a scheduler of messages over capped peers.
 ghost use Rattle.std.specs.Prelude.{◌≡◌, ◌≤◌, length, IfOk, IfErr, IsOk, OnErr};
 ghost use Rattle.link_simulation.specs.Laws.Orderly.{IsOrderly};
-ghost use Rattle.link_scheduler.specs.Calls.AsPlanned.{planned};
+ghost use Rattle.link_events.specs.Events.AsPlanned.{planned};
 ghost use Rattle.link_simulation.specs.Simulation.Calls.{call_limit, call_limit_link, call_enqueue, call_advance};
 ghost use Rattle.link_simulation.specs.Simulation.Messages.{CapsAlike, PairsAlike};
 ghost use Rattle.link_simulation.specs.Rule.Planned.{IsPlanned};
 
-mod answers;
-mod batch;
-mod event;
-mod events;
-mod leave;
-mod ledger;
-mod moves;
-mod outgoing;
-mod plans;
-
 use bytes::Bytes;
 use fair_rates::error::Error;
 use fair_rates::peer::Peer;
-use ledger::Ledger;
+use link_events::ledger::Ledger;
+pub use link_events::outgoing::Outgoing;
 pub use link_flights::reading::{InFlight, Reading};
 pub use link_pairs::completion::Completion;
 use link_pairs::message::Message;
-pub use outgoing::Outgoing;
 use std::alloc::Global;
 
 /// A scheduler of messages between capped peers: it tells when each completes and arrives.
@@ -83,7 +73,8 @@ impl<P: Peer> State<P> {
     ghost use Rattle.std.specs.List.{AllZip};
     ghost use Rattle.link_pairs.specs.Pairs.Messages.{message_of};
     ghost use Rattle.link_flights.specs.Flights.Readings.{IsReadAs};
-    ghost use Rattle.link_scheduler.specs.Calls.State.{planned_of, sent, IsNew, IsMade, IsRefused, IsAdvanced};
+    ghost use Rattle.link_scheduler.specs.Calls.State.{planned_of, IsNew, IsMade, IsRefused, IsAdvanced};
+    ghost use Rattle.link_events.specs.Events.Outgoing.{sent};
     ghost use Rattle.link_scheduler.specs.Calls.State.{IsCounted, sends, AreMade, IsOneRefused};
     ghost use Rattle.link_scheduler.specs.Calls.State.{IsNextOf, IsQuietUntil, rated_at_last};
 

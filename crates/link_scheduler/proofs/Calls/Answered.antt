@@ -1,6 +1,6 @@
 -- Calls on what is worked on: how they are answered, and what is promised then of what was kept.
 use Rattle.std.proofs.Common.{◌≡◌, ℕ, ◌<◌, ◌+◌, ◌*◌, ◌^◌, ◌≤◌, List, length}
-use Rattle.std.proofs.Common.{Option, Some, Result, Ok, Err, IfOk, sym, subst}
+use Rattle.std.proofs.Common.{Some, sym, subst}
 use Rattle.std.specs.List.{AllZip}
 use Rattle.std.specs.declared.cmp.Ordering.{Ordering}
 use Rattle.std.specs.Cmp.{IsTotalOrder}
@@ -15,19 +15,11 @@ use Rattle.link_simulation.specs.Rule.Refusals.{MayBeRefused}
 use Rattle.link_simulation.specs.Rule.SamePlanned.{IsSamePlanned, AdvancesByRule}
 use Rattle.link_simulation.specs.Laws.Orderly.{IsOrderly}
 use Rattle.link_simulation.proofs.Rule.SamePlanned.{same_itself}
-use Rattle.link_scheduler.specs.Calls.Answered.{IsAnswered, IsAnsweredIn}
+use Rattle.link_events.specs.Events.Answered.{IsAnswered, IsAnsweredIn}
 use Rattle.link_scheduler.specs.Calls.State.{Makes, Refuses}
 use Rattle.link_scheduler.proofs.Calls.Calling.{goes_on, goes_answered, advances_on, counted_answered}
 use Rattle.link_scheduler.proofs.Calls.Promises.{orderly_on, promised_if, cause_of}
 use Rattle.link_scheduler.proofs.Calls.SameIsPlanned.{planned_on, few_on}
-
--- what goes so is answered with clones of what came out, if memory is not refused
-pub answered_if : {X E P : Type 0} (cmp : P → P → Ordering) (r : Result X E) (answers : X → List (Completed P))
-    (p q : Planned P) (call : Call P) (cs : List (Completed P))
-    → IfOk r (λ x. AllZip (SameCompletion cmp) (answers x) cs) → Obeys cmp p call (goes cs q)
-    → IfOk r (λ x. IsAnswered cmp p call (answers x) q)
-answered_if cmp (Ok x) answers p q call cs same obeys = record { completed = cs; obeys = obeys; same = same }
-answered_if cmp (Err e) answers p q call cs same obeys = tt
 
 module _ {P : Type 0} (cmp : P → P → Ordering) (order : IsTotalOrder cmp) where
   -- what is promised of a call, and stays known of what is planned

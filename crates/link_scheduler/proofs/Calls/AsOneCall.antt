@@ -1,13 +1,12 @@
 -- Messages that are sent one after another at one moment are sent by one call.
-use Rattle.std.proofs.Common.{◌≡◌, ℕ, ◌<◌, ◌^◌, List, [], ◌∷◌, ◌++◌, map, refl, sym, subst, inl, inr}
-use Rattle.std.specs.List.{AllZip}
+use Rattle.std.proofs.Common.{ℕ, ◌<◌, ◌^◌, List, [], ◌∷◌, ◌++◌, map, refl, sym, subst, inl, inr}
 use Rattle.std.specs.declared.cmp.Ordering.{Ordering}
 use Rattle.std.specs.Cmp.{IsTotalOrder}
 use Rattle.fair_rates.specs.declared.error.Error.{Error}
 use Rattle.fair_rates.proofs.Lists.Zips.{zip-append}
 use Rattle.link_simulation.specs.Simulation.Messages.{Message, CapsAlike, PairsAlike}
 use Rattle.link_simulation.specs.Simulation.Replies.{SameCompletion}
-use Rattle.link_simulation.specs.Simulation.World.{Completed, Course, goes, meets}
+use Rattle.link_simulation.specs.Simulation.World.{Completed, goes, meets}
 use Rattle.link_simulation.specs.Simulation.Calls.{call_enqueue, call_enqueue_all}
 use Rattle.link_simulation.specs.Rule.Planned.{Planned}
 use Rattle.link_simulation.specs.Rule.Events.{Enqueues, EnqueuesEach, all_enqueued, one_stops, enqueues_one}

@@ -1,22 +1,16 @@
 -- The calls of a scheduler, which work on a planned world that is the same as the one kept.
-use Rattle.std.proofs.Common.{◌≡◌, ℕ, List, Option, true, sym, subst}
+use Rattle.std.proofs.Common.{◌≡◌, ℕ, List, sym, subst}
 use Rattle.std.specs.List.{AllZip}
 use Rattle.std.specs.declared.cmp.Ordering.{Ordering}
 use Rattle.std.specs.Cmp.{IsTotalOrder}
-use Rattle.fair_rates.specs.declared.error.Error.{Error}
-use Rattle.fair_rates.specs.Sides.Caps.{Caps}
-use Rattle.link_simulation.specs.Simulation.Messages.{Message, CapsAlike, PairsAlike}
+use Rattle.link_simulation.specs.Simulation.Messages.{CapsAlike, PairsAlike}
 use Rattle.link_simulation.specs.Simulation.Replies.{SameCompletion}
 use Rattle.link_simulation.specs.Simulation.World.{Completed, Course, goes, meets}
-use Rattle.link_simulation.specs.Simulation.Calls.{Call, call_limit, call_limit_link, call_enqueue, call_advance}
-use Rattle.link_simulation.specs.Simulation.Calls.{limited_by, linked_by}
+use Rattle.link_simulation.specs.Simulation.Calls.{Call, call_advance}
 use Rattle.link_simulation.specs.Rule.Planned.{Planned}
-use Rattle.link_simulation.specs.Rule.Events.{Rebalances, none_sending, some_sending, Enqueues, Advances}
-use Rattle.link_simulation.specs.Simulation.RefusalCauses.{IsRefusedFor}
+use Rattle.link_simulation.specs.Rule.Events.{Advances}
 use Rattle.link_simulation.specs.Rule.Events.{Obeys}
-use Rattle.link_simulation.specs.Rule.Refusals.{MayBeRefused}
 use Rattle.link_simulation.specs.Rule.SamePlanned.{IsSamePlanned, IsSameCourse, GoesByRule, AdvancesByRule}
-use Rattle.link_simulation.proofs.Simulation.RefusalCauses.{refused_more}
 use Rattle.link_simulation.proofs.Rule.Agreeing.{all_trans}
 use Rattle.link_simulation.proofs.Rule.SamePlanned.{same_itself, same_turned}
 use Rattle.link_simulation.proofs.Rule.SameCourses.{obeys_same, advances_same}
@@ -102,36 +96,3 @@ module _ {P : Type 0} (cmp : P → P → Ordering) (order : IsTotalOrder cmp) wh
         same_answers = counted.same_answers;
         same_after = counted.same_after;
       }
-
-  -- ---- the calls
-
-  -- new caps that are there already
-  rebalance_there : (now : ℕ) (caps : Caps P) (q : Planned P) (course : Course (Completed P) (Planned P))
-      → Rebalances cmp now caps (record q { caps = caps; limited = true }) course → Rebalances cmp now caps q course
-  rebalance_there now caps q course (none_sending none looks) = none_sending none looks
-  rebalance_there now caps q course (some_sending some settles) = some_sending some settles
-
-  pub rebalances_on : (now : ℕ) (caps : Caps P) (q mid : Planned P) (course : Course (Completed P) (Planned P))
-      → mid ≡ record q { caps = caps; limited = true } → Rebalances cmp now mid.caps mid course
-      → Rebalances cmp now caps q course
-  rebalances_on now caps q mid course is h =
-      rebalance_there now caps q course (subst (λ (r : Planned P). Rebalances cmp now r.caps r course) is h)
-
-  -- new caps are refused as what is done under them
-  pub limit_refused : (now : ℕ) (peer : P) (egress ingress : Option ℕ) (q mid : Planned P)
-      → mid ≡ record q { caps = limited_by cmp q.caps peer egress ingress; limited = true } → (e : Error)
-      → IsRefusedFor (λ fault. Rebalances cmp now mid.caps mid (meets fault)) e
-      → MayBeRefused cmp q (call_limit now peer egress ingress) e
-  limit_refused now peer egress ingress q mid is e h =
-      refused_more (λ fault. Rebalances cmp now mid.caps mid (meets fault))
-      (λ fault. Obeys cmp q (call_limit now peer egress ingress) (meets fault))
-      (λ fault. rebalances_on now (limited_by cmp q.caps peer egress ingress) q mid (meets fault) is) e h
-
-  pub link_refused : (now : ℕ) (origin recipient : P) (cap : Option ℕ) (q mid : Planned P)
-      → mid ≡ record q { caps = linked_by cmp q.caps origin recipient cap; limited = true } → (e : Error)
-      → IsRefusedFor (λ fault. Rebalances cmp now mid.caps mid (meets fault)) e
-      → MayBeRefused cmp q (call_limit_link now origin recipient cap) e
-  link_refused now origin recipient cap q mid is e h =
-      refused_more (λ fault. Rebalances cmp now mid.caps mid (meets fault))
-      (λ fault. Obeys cmp q (call_limit_link now origin recipient cap) (meets fault))
-      (λ fault. rebalances_on now (linked_by cmp q.caps origin recipient cap) q mid (meets fault) is) e h

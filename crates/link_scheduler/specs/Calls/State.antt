@@ -1,42 +1,25 @@
 -- How a scheduler is read, and what its calls promise.
-use Rattle.std.specs.Prelude.{◌≡◌, ℕ, ◌+◌, ◌*◌, ◌≤◌, ◌⊎◌, Bool, Option}
+use Rattle.std.specs.Prelude.{◌≡◌, ℕ, ◌+◌, ◌*◌, ◌≤◌, ◌⊎◌, Option}
 use Rattle.std.specs.Prelude.{List, [], ◌∷◌, ◌++◌, length, map}
 use Rattle.std.specs.declared.cmp.Ord.{Ghosts}
 use Rattle.std.specs.declared.cmp.Ordering.{Ordering}
 use Rattle.fair_rates.specs.declared.error.Error.{Error}
 use Rattle.link_scheduler.specs.declared.transmitter.State.{State}
 use Rattle.link_pairs.specs.declared.completion.Completion.{Completion}
-use Rattle.link_scheduler.specs.declared.transmitter.outgoing.Outgoing.{Outgoing}
+use Rattle.link_events.specs.declared.outgoing.Outgoing.{Outgoing}
 use Rattle.link_simulation.specs.Laws.Conserved.{IsConserved}
 use Rattle.link_pairs.specs.Pairs.Messages.{completed_of}
 use Rattle.link_simulation.specs.Rule.SamePlanned.{GoesByRule, AdvancesByRule}
 use Rattle.link_simulation.specs.Rule.Simulated.{IsSimulated, KeepsRange, IsRefusedInSimulation, IsNextInSimulation}
 use Rattle.link_simulation.specs.Rule.Simulated.{IsSplitAnywhere, KeepsToCaps}
-use Rattle.link_scheduler.specs.Calls.AsPlanned.{planned, HasNothingDue}
+use Rattle.link_events.specs.Events.AsPlanned.{planned, HasNothingDue}
 use Rattle.link_simulation.specs.Simulation.World.{Completed, new_world}
 use Rattle.link_simulation.specs.Simulation.Calls.{Call, call_enqueue}
-use Rattle.link_simulation.specs.Simulation.Messages.{Message}
 use Rattle.link_simulation.specs.Laws.PairCompletions.{enqueued}
 use Rattle.link_simulation.specs.Rule.Planned.{Planned, IsRated, new_planned, next_event}
 use Rattle.link_simulation.specs.Rule.Range.{IsInRange}
 use Rattle.link_simulation.specs.Rule.Refusals.{MayBeRefused}
 use Rattle.link_simulation.specs.Rule.StandsFor.{StandsFor}
-
--- the message of an `enqueue`
-abbrev pub sent : {P : Type 0} → P → P → ℕ → List ℕ → ℕ → Bool → Message P
-sent origin recipient channel bytes latency should_deliver =
-    record {
-      origin = origin;
-      recipient = recipient;
-      channel = channel;
-      bytes = bytes;
-      latency = latency;
-      should_deliver = should_deliver;
-    }
-
--- a message to send
-abbrev pub outgoing : {P : Type 0} → Outgoing P (List ℕ) → Message P
-outgoing m = sent m.origin m.recipient m.channel m.message m.latency m.should_deliver
 
 -- the calls that send those messages at that moment, one after another
 abbrev pub sends : {P : Type 0} → ℕ → List (Outgoing P (List ℕ)) → List (Call P)

@@ -4,8 +4,8 @@ use Rattle.std.proofs.lemmas.List.{map-append, take_more}
 use Rattle.std.proofs.Math.Seq.{take-length}
 use Rattle.fair_rates.proofs.Lists.Zips.{zip-push}
 use Rattle.link_simulation.specs.Simulation.Messages.{Message, SameMessage}
-use Rattle.link_scheduler.specs.declared.transmitter.outgoing.Outgoing.{Outgoing}
-use Rattle.link_scheduler.specs.Calls.State.{outgoing}
+use Rattle.link_events.specs.declared.outgoing.Outgoing.{Outgoing}
+use Rattle.link_events.specs.Events.Outgoing.{outgoing}
 use Rattle.link_scheduler.proofs.replay.copies_of.Goals as goal
 
 pub loop-one-preserved : goal.loop-one-preserved

@@ -1,0 +1,11 @@
+-- What happens, one step after another, is what the event rule says.
+pub mod Advancing
+pub mod Answered
+pub mod Batch
+pub mod FewerEvents
+pub mod Finishing
+pub mod Limits
+pub mod MessageCounts
+pub mod OnlyWaiting
+pub mod Settling
+pub mod Standing

@@ -1,0 +1,178 @@
+-- What an account and its finishes make of a call's parts.
+use Rattle.std.proofs.Common.{◌≡◌, ◌≢◌, ℕ, ◌+◌, List, [], ◌∷◌, ◌++◌, Bool, true, false, cond, ◌&&◌, if◌then◌else◌}
+use Rattle.std.proofs.Common.{Option, Some, None, Result, Ok, Err, IfOk, IfErr, OnOk, OnErr, refl, sym, ap, ◌∙◌, subst}
+use Rattle.std.specs.Prelude.{nat_lt}
+use Rattle.std.specs.Bool.{then_some}
+use Rattle.std.specs.declared.cmp.Ordering.{Ordering}
+use Rattle.std.specs.Cmp.{IsTotalOrder}
+use Rattle.fair_rates.specs.declared.error.Error.{Error}
+use Rattle.fair_rates.specs.declared.error.Error.TheVariants.{MomentTooLate}
+use Rattle.link_pairs.specs.declared.pair.PeerPair.{PeerPair}
+use Rattle.link_waiting.specs.Idle.PairsOfMessages.{NamesPairOf}
+use Rattle.link_pairs.specs.Pairs.Entries.{first_of}
+use Rattle.link_simulation.specs.Simulation.Messages.{Message}
+use Rattle.link_simulation.specs.Simulation.World.{Completed, Course, goes, meets, completion_of, last_moment, later_of}
+use Rattle.link_simulation.specs.Simulation.World.{raised}
+use Rattle.link_simulation.specs.Rule.Planned.{Planned, next_of}
+use Rattle.link_simulation.specs.Rule.Events.{Accounts, PlansStart, Launches, Finishes, Settles, settling, Rebalances}
+use Rattle.link_simulation.specs.Rule.Events.{none_sending, some_sending, Enqueues, at_once, no_launch, launches}
+use Rattle.link_simulation.specs.Rule.Events.{with_queued, completed_at_once}
+use Rattle.link_simulation.specs.Simulation.RefusalCauses.{IsRefusedFor}
+use Rattle.link_simulation.proofs.Simulation.RefusalCauses.{refused_more}
+use Rattle.link_events.proofs.Events.Finishing.{first_of_key, then_some_is}
+
+-- two facts of an answer make a third
+pub on_ok_both : {X E A B C : Type 0} (r : Result X E) → (A → B → C) → OnOk r A → OnOk r B → OnOk r C
+on_ok_both (Ok x) f a b = f a b
+on_ok_both (Err e) f a b = tt
+
+-- what follows from an answer and from a refusal
+pub on_either : {X E A B C : Type 0} (r : Result X E) → (A → C) → (B → C) → OnOk r A → OnErr r B → C
+on_either (Ok x) f h a b = f a
+on_either (Err e) f h a b = h b
+
+-- what an answer makes of a fact about it
+pub if_ok : {X E : Type 0} {A B : X → Type 0} (r : Result X E) → ((x : X) → A x → B x) → IfOk r A → IfOk r B
+if_ok (Ok x) f a = f x a
+if_ok (Err e) f a = tt
+
+module _ {P : Type 0} (cmp : P → P → Ordering) where
+  -- ---- settling
+
+  pub settle_finish_refused : {X : Type 0} (t : ℕ) (p mid : Planned P) (leavers : List (Message P))
+      → Accounts cmp t p leavers mid → (result : Result X Error)
+      → IfErr result (IsRefusedFor (λ fault. Finishes cmp t leavers mid (meets fault)))
+      → IfErr result (IsRefusedFor (λ fault. Settles cmp t p (meets fault)))
+  settle_finish_refused t p mid leavers a (Ok x) refused = tt
+  settle_finish_refused t p mid leavers a (Err e) refused =
+      refused_more (λ fault. Finishes cmp t leavers mid (meets fault)) (λ fault. Settles cmp t p (meets fault))
+      (λ fault h. settling a h) e refused
+
+  pub settles_so : {X : Type 0} (t : ℕ) (p mid new : Planned P) (leavers : List (Message P))
+      (before after : List (Completed P))
+      → Accounts cmp t p leavers mid → (result : Result X Error)
+      → IfOk result
+      (λ done. (cs : List (Completed P)) × (after ≡ before ++ cs) × Finishes cmp t leavers mid (goes cs new))
+      → IfOk result (λ done. (cs : List (Completed P)) × (after ≡ before ++ cs) × Settles cmp t p (goes cs new))
+  settles_so t p mid new leavers before after a (Ok x) h = (h.0, h.1, settling a h.2)
+  settles_so t p mid new leavers before after a (Err e) h = tt
+
+  -- ---- new caps
+
+  pub as_recapped : (p : Planned P) → p.limited ≡ true → p ≡ record p { caps = p.caps; limited = true }
+  as_recapped p limited i = record p { limited = limited i }
+
+  pub rebalance_refused : (t : ℕ) (p : Planned P) → p.limited ≡ true → p.sending ≢ [] → (e : Error)
+      → IsRefusedFor (λ fault. Settles cmp t p (meets fault)) e
+      → IsRefusedFor (λ fault. Rebalances cmp t p.caps p (meets fault)) e
+  rebalance_refused t p limited sends =
+      refused_more (λ fault. Settles cmp t p (meets fault)) (λ fault. Rebalances cmp t p.caps p (meets fault))
+      (λ fault h. some_sending sends (subst (λ (q : Planned P). Settles cmp t q (meets fault)) (as_recapped p limited)
+      h))
+
+  pub rebalances_settled : (t : ℕ) (p new : Planned P) (cs out : List (Completed P)) → p.limited ≡ true → p.sending ≢ []
+      → Settles cmp t p (goes cs new) → out ≡ [] ++ cs → Rebalances cmp t p.caps p (goes out new)
+  rebalances_settled t p new cs out limited sends h is =
+      subst (λ (l : List (Completed P)). Rebalances cmp t p.caps p (goes l new)) (sym is)
+      (some_sending sends (subst (λ (q : Planned P). Settles cmp t q (goes cs new)) (as_recapped p limited) h))
+
+  pub rebalances_looked : (t : ℕ) (p new : Planned P) (out : List (Completed P)) → p.limited ≡ true → p.sending ≡ []
+      → PlansStart cmp t p new → out ≡ [] → Rebalances cmp t p.caps p (goes out new)
+  rebalances_looked t p new out limited none h is =
+      subst (λ (l : List (Completed P)). Rebalances cmp t p.caps p (goes l new)) (sym is)
+      (none_sending none (subst (λ (q : Planned P). PlansStart cmp t q new) (as_recapped p limited) h))
+
+  -- ---- a message is sent
+
+  pub at_once_refused : (t : ℕ) (m : Message P) (p : Planned P) → p.limited ≡ false → (e : Error)
+      → IsRefusedFor (λ fault. completed_at_once cmp t p m ≡ meets fault) e
+      → IsRefusedFor (λ fault. Enqueues cmp t m p (meets fault)) e
+  at_once_refused t m p free =
+      refused_more (λ fault. completed_at_once cmp t p m ≡ meets fault) (λ fault. Enqueues cmp t m p (meets fault))
+      (λ fault h. subst (Enqueues cmp t m p) h (at_once free))
+
+  pub enqueues_at_once : (t : ℕ) (m : Message P) (p new : Planned P) (c : Completed P) (out : List (Completed P))
+      → p.limited ≡ false → completed_at_once cmp t p m ≡ goes (c ∷ []) new → out ≡ [] ++ c ∷ []
+      → Enqueues cmp t m p (goes out new)
+  enqueues_at_once t m p new c out free h is =
+      subst (λ (l : List (Completed P)). Enqueues cmp t m p (goes l new)) (sym is)
+      (subst (Enqueues cmp t m p) h (at_once free))
+
+  -- the completion of a message before any limit
+  pub completes_so : (t : ℕ) (p new : Planned P) (m : Message P) (at : ℕ) (c : Completed P)
+      → (m.should_deliver && nat_lt last_moment (t + m.latency)) ≡ false
+      → at ≡ (if m.should_deliver then later_of (p.last_arrival m.origin m.recipient) (t + m.latency) else t)
+      → c ≡ completion_of m (then_some m.should_deliver at)
+      → new ≡ record p { last_arrival = raised cmp p.last_arrival m at }
+      → completed_at_once cmp t p m ≡ goes (c ∷ []) new
+  completes_so t p new m at c in_time is completion world =
+      let when = if m.should_deliver then later_of (p.last_arrival m.origin m.recipient) (t + m.latency) else t in
+      let course : Course (Completed P) (Planned P) =
+      goes (completion_of m (if m.should_deliver then Some when else None) ∷ [])
+      (record p { last_arrival = raised cmp p.last_arrival m when }) in
+      let here : completed_at_once cmp t p m ≡ course =
+      ap (λ (b : Bool). cond b (meets MomentTooLate) course) in_time in
+      let answer : c ≡ completion_of m (if m.should_deliver then Some when else None) =
+      completion ∙ ap (completion_of m) (then_some_is m.should_deliver m.should_deliver at when refl is) in
+      let after : new ≡ record p { last_arrival = raised cmp p.last_arrival m when } =
+      world ∙ ap (λ (n : ℕ). record p { last_arrival = raised cmp p.last_arrival m n }) is in
+      here ∙ sym (λ i. goes (answer i ∷ []) (after i))
+
+  pub too_late : (t : ℕ) (p : Planned P) (m : Message P)
+      → (m.should_deliver && nat_lt last_moment (t + m.latency)) ≡ true
+      → completed_at_once cmp t p m ≡ meets MomentTooLate
+  too_late t p m is =
+      let when = if m.should_deliver then later_of (p.last_arrival m.origin m.recipient) (t + m.latency) else t in
+      let course : Course (Completed P) (Planned P) =
+      goes (completion_of m (if m.should_deliver then Some when else None) ∷ [])
+      (record p { last_arrival = raised cmp p.last_arrival m when }) in
+      ap (λ (b : Bool). cond b (meets MomentTooLate) course) is
+
+  pub too_late_refused : (t : ℕ) (p : Planned P) (m : Message P) (e : Error)
+      → (m.should_deliver && nat_lt last_moment (t + m.latency)) ≡ true → e ≡ MomentTooLate
+      → IsRefusedFor (λ fault. completed_at_once cmp t p m ≡ meets fault) e
+  too_late_refused t p m e is e_is =
+      subst (IsRefusedFor (λ fault. completed_at_once cmp t p m ≡ meets fault)) (sym e_is) (too_late t p m is)
+
+  module _ (order : IsTotalOrder cmp) where
+    -- what is said of the first message of a key's pair in one world is said of a message's pair in an equal one
+    pub of_message : (F : Planned P → Option (Message P) → Type 0) (p q : Planned P) (key : PeerPair P) (m : Message P)
+        → p ≡ q → NamesPairOf cmp key m → F p (first_of cmp p.waiting key.origin key.recipient) → F q (next_of cmp q m)
+    of_message F p q key m same is h =
+        subst (F q) (first_of_key cmp order key m q.waiting is)
+        (subst (λ (r : Planned P). F r (first_of cmp r.waiting key.origin key.recipient)) same h)
+
+    pub enqueue_launch_refused : (t : ℕ) (m : Message P) (p mid : Planned P) (key : PeerPair P) → p.limited ≡ true
+        → mid ≡ with_queued cmp p m → NamesPairOf cmp key m → (e : Error)
+        → IsRefusedFor (λ fault. Launches cmp t mid (first_of cmp mid.waiting key.origin key.recipient) (meets fault)) e
+        → IsRefusedFor (λ fault. Enqueues cmp t m p (meets fault)) e
+    enqueue_launch_refused t m p mid key limited same is =
+        refused_more (λ fault. Launches cmp t mid (first_of cmp mid.waiting key.origin key.recipient) (meets fault))
+        (λ fault. Enqueues cmp t m p (meets fault))
+        (λ fault h. no_launch limited (of_message (λ q first. Launches cmp t q first (meets fault)) mid
+        (with_queued cmp p m) key m same is h))
+
+    pub enqueue_finish_refused : (t : ℕ) (m : Message P) (p mid next : Planned P) (key : PeerPair P)
+        (leavers : List (Message P))
+        → p.limited ≡ true → mid ≡ with_queued cmp p m → NamesPairOf cmp key m
+        → Launches cmp t mid (first_of cmp mid.waiting key.origin key.recipient) (goes leavers next) → (e : Error)
+        → IsRefusedFor (λ fault. Finishes cmp t leavers next (meets fault)) e
+        → IsRefusedFor (λ fault. Enqueues cmp t m p (meets fault)) e
+    enqueue_finish_refused t m p mid next key leavers limited same is launch =
+        let there =
+        of_message (λ q first. Launches cmp t q first (goes leavers next)) mid (with_queued cmp p m) key m same is
+        launch in
+        refused_more (λ fault. Finishes cmp t leavers next (meets fault)) (λ fault. Enqueues cmp t m p (meets fault))
+        (λ fault h. launches limited there h)
+
+    pub enqueues_launched : (t : ℕ) (m : Message P) (p mid next new : Planned P) (key : PeerPair P)
+        (leavers : List (Message P)) (cs out : List (Completed P))
+        → p.limited ≡ true → mid ≡ with_queued cmp p m → NamesPairOf cmp key m
+        → Launches cmp t mid (first_of cmp mid.waiting key.origin key.recipient) (goes leavers next)
+        → Finishes cmp t leavers next (goes cs new) → out ≡ [] ++ cs → Enqueues cmp t m p (goes out new)
+    enqueues_launched t m p mid next new key leavers cs out limited same is launch finishes out_is =
+        subst (λ (l : List (Completed P)). Enqueues cmp t m p (goes l new)) (sym out_is)
+        (launches limited
+        (of_message (λ q first. Launches cmp t q first (goes leavers next)) mid (with_queued cmp p m) key m same is
+        launch)
+        finishes)

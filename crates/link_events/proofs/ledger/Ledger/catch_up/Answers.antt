@@ -1,0 +1,13 @@
+use Rattle.std.proofs.Common.{subst}
+use Rattle.link_events.specs.Events.AsPlanned.{planned}
+use Rattle.link_pairs.specs.Pairs.Messages.{messages}
+use Rattle.link_events.specs.Events.Standing.{IsStanding}
+use Rattle.link_events.proofs.Events.Standing.{account_due}
+use Rattle.link_events.proofs.ledger.Ledger.catch_up.Goals as goal
+
+pub returns-in_ok-account-clause-caught_up : goal.returns-in_ok-account-clause-caught_up
+returns-in_ok-account-clause-caught_up g c =
+    λ w h. account_due g.P.Ord.cmp g.met.P.Ord.total c.args.now (planned g.P.Ord.cmp c.args.self.now) w
+    (planned g.P.Ord.cmp c.account.new.self) (messages c.in_ok-account.field-0.items)
+    (subst (λ s. IsStanding g.P.Ord.cmp c.args.now s (planned g.P.Ord.cmp c.args.self.now) w) c.in-Due.is h)
+    c.in_ok-account.ensures.accounts

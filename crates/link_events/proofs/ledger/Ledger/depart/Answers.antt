@@ -1,0 +1,82 @@
+use Rattle.std.proofs.Common.{◌≡◌, ◌+◌, length, map, Some, sym, ap, subst, ◌∙◌}
+use Rattle.std.specs.Prelude.{option_map, ◌&&◌}
+use Rattle.std.proofs.Math.Logic.{∥∥₁_map}
+use Rattle.fair_rates.specs.Numbers.Amount.{whole}
+use Rattle.fair_rates.specs.Sides.Subjects.{same_peer}
+use Rattle.link_simulation.specs.Simulation.Messages.{Message}
+use Rattle.link_simulation.specs.Rule.Planned.{RatedFlight, rated_messages}
+use Rattle.link_simulation.proofs.Simulation.Queue.{find_passes}
+use Rattle.link_flights.specs.Flights.InFlight.{in_flight}
+use Rattle.link_waiting.specs.Idle.Busy.{AreCounted}
+use Rattle.link_pairs.specs.Pairs.Messages.{message_of}
+use Rattle.link_pairs.specs.Pairs.Entries.{first_of, arrival_of}
+use Rattle.link_pairs.specs.Pairs.CapsOf.{caps_of}
+use Rattle.link_pairs.proofs.Pairs.LookedUp.{arrivals_looked_up}
+use Rattle.link_waiting.proofs.Idle.Busy.{counted_sent}
+use Rattle.link_waiting.proofs.Idle.IndexChanges.{departed_index}
+use Rattle.link_flights.proofs.Flights.Standing.{still_rated}
+use Rattle.link_events.proofs.ledger.Ledger.depart.Goals as goal
+
+pub invariant_of-self-2 : goal.invariant_of-self-2
+invariant_of-self-2 g c =
+    let cmp = g.P.Ord.cmp in
+    let old = c.args.self.now in
+    let o = c.args.origin.now in
+    let r = c.args.recipient.now in
+    let m : Message g.row.P.Denot = message_of c.in-Some.message.value in
+    let f : RatedFlight g.row.P.Denot =
+    record { message = m; left = whole (length m.bytes); rate = Some (whole 0); updated = c.args.now } in
+    let found : first_of cmp (map message_of old.waiting.messages) o r ≡ Some m =
+    sym c.in_ok-message.ensures.taken ∙ ap (option_map (λ x. message_of x.value)) c.in-Some.is in
+    let taken = c.in_ok-message.ensures.rest in
+    let own =
+    find_passes (λ (n : Message g.row.P.Denot). same_peer cmp o n.origin && same_peer cmp r n.recipient) m
+    (map message_of old.waiting.messages) found in
+    record {
+      rated = λ e.
+          ∥∥₁_map (old.rated e)
+          (still_rated cmp (caps_of cmp old.peers.entries old.pairs.entries) old.flights c.push.new.self
+          c.push.ensures.scale c.push.ensures.rated c.push.ensures.timed);
+      indexed =
+          departed_index cmp g.met.P.Ord.total old.pairs.entries old.waiting.messages c.take_first.new.self.messages
+          (in_flight old.flights) (in_flight c.push.new.self) f o r old.idle.entries c.change-changed.new.self.entries
+          (arrivals_looked_up cmp g.met.P.Ord.total old.pairs.entries) taken c.in_default-push.ensures.sending own
+          old.indexed
+          c.in_default-changed.ensures.listed;
+      counted =
+          counted_sent cmp g.met.P.Ord.total old.busy.entries c.in_ok-busy.busy.entries c.add.new.self.entries
+          (in_flight old.flights) (in_flight c.push.new.self) o r f c.in_ok-busy.ensures.cases own
+          c.in_default-push.ensures.sending old.counted c.in_ok-add.ensures.counted;
+    }
+
+-- where the message cannot be in flight, its pair is not busy either
+pub invariant_of-self-in-Err-push-clause-counted : goal.invariant_of-self-in-Err-push-clause-counted
+invariant_of-self-in-Err-push-clause-counted g c =
+    let old = c.args.self.now in
+    subst (λ fs. AreCounted g.P.Ord.cmp old.busy.entries (rated_messages fs)) (sym c.in-Err-push.ensures.kept)
+    old.counted
+
+pub returns-clause-departed : goal.returns-clause-departed
+returns-clause-departed g c =
+    let cmp = g.P.Ord.cmp in
+    let old = c.args.self.now in
+    let o = c.args.origin.now in
+    let r = c.args.recipient.now in
+    let m : Message g.row.P.Denot = message_of c.in-Some.message.value in
+    let found : first_of cmp (map message_of old.waiting.messages) o r ≡ Some m =
+    sym c.in_ok-message.ensures.taken ∙ ap (option_map (λ x. message_of x.value)) c.in-Some.is in
+    let taken = c.in_ok-message.ensures.rest in
+    record {
+      message = m;
+      first = found;
+      is = λ i. record {
+        caps = caps_of cmp old.peers.entries old.pairs.entries;
+        limited = old.limited;
+        sending = c.in_default-push.ensures.sending i;
+        waiting = taken i;
+        last_arrival = arrival_of cmp old.pairs.entries;
+        next_id = old.next_id + 1;
+        finish = old.finish;
+        start = old.start;
+      };
+    }

@@ -1,0 +1,83 @@
+use Rattle.std.proofs.Common.{◌≡◌, ◌+◌, List, [], ◌∷◌, ◌++◌, map, length, refl, sym, ap, ◌∙◌, subst, arith}
+use Rattle.std.proofs.Common.{length-append, rules}
+use Rattle.std.proofs.lemmas.Result.{err_from_is_err_and}
+use Rattle.link_simulation.specs.Simulation.Messages.{Message, same_pair}
+use Rattle.link_pairs.specs.Pairs.Messages.{message_of, ended_of, messages}
+use Rattle.link_events.specs.Events.AsPlanned.{planned}
+use Rattle.link_events.proofs.Events.Finishing.{FinishesSo, finishes_start, finishes_step, finishes_end}
+use Rattle.link_events.proofs.Events.Finishing.{finishes_refused}
+use Rattle.link_events.proofs.Events.MessageCounts.{in_system, launch_keeps}
+use Rattle.link_events.proofs.ledger.Ledger.finish.Goals as goal
+use Rattle.std.proofs.lemmas.List.{map-append, length-map}
+
+pub loop-message-init : goal.loop-message-init
+loop-message-init g c =
+    finishes_start g.P.Ord.cmp c.args.now (messages c.args.queue.items) (planned g.P.Ord.cmp c.args.self.now)
+    (map ended_of c.args.ended.now.items)
+
+pub returns-in_err-more-clause-refused : goal.returns-in_err-more-clause-refused
+returns-in_err-more-clause-refused g c =
+    let p = err_from_is_err_and c.from_residual.result c.from_residual.ensures.1 in
+    let so = subst (λ (ms : List (Message g.row.P.Denot)). FinishesSo g.P.Ord.cmp c.args.now
+    (messages c.args.queue.items) (planned g.P.Ord.cmp c.args.self.now) (map ended_of c.args.ended.now.items) ms
+    (planned g.P.Ord.cmp c.loop-message.self) (map ended_of c.loop-message.ended.items))
+    (ap messages c.in-Some.ensures.items) c.loop-message.invariant in
+    rw (p.1, p.2)
+    (finishes_refused g.P.Ord.cmp c.args.now (messages c.args.queue.items) (planned g.P.Ord.cmp c.args.self.now)
+    (map ended_of c.args.ended.now.items)
+    (message_of c.in-Some.message.value ∷ messages c.pop_front.new.self.items) (planned g.P.Ord.cmp c.loop-message.self)
+    (map ended_of c.loop-message.ended.items) so _
+    (c.in_err-more.ensures.refused (messages c.pop_front.new.self.items)))
+
+pub loop-message-smaller : goal.loop-message-smaller
+loop-message-smaller g c =
+    let kept : length (messages c.in_ok-more.more.items) + in_system (planned g.P.Ord.cmp c.complete.new.self)
+    ≡ in_system (planned g.P.Ord.cmp c.loop-message.self) =
+    launch_keeps g.P.Ord.cmp g.met.P.Ord.total c.in_ok-more.ensures.launches
+    (same_pair g.P.Ord.cmp (message_of c.in-Some.message.value)) (messages c.in_ok-more.more.items)
+    (planned g.P.Ord.cmp c.complete.new.self) refl refl in
+    let popped : length c.loop-message.queue.items ≡ length (c.in-Some.message ∷ c.pop_front.new.self.items) =
+    ap length c.in-Some.ensures.items in
+    let joined : length c.append.new.self.items ≡ length (c.pop_front.new.self.items ++ c.in_ok-more.more.items) =
+    ap length c.in_ok-append.ensures.items in
+    let both : length (c.pop_front.new.self.items ++ c.in_ok-more.more.items)
+    ≡ length c.pop_front.new.self.items + length c.in_ok-more.more.items
+    = length-append c.pop_front.new.self.items c.in_ok-more.more.items in
+    let more : length (messages c.in_ok-more.more.items) ≡ length c.in_ok-more.more.items =
+    length-map c.in_ok-more.more.items (λ m. message_of m.value) in
+    let here : length (messages c.loop-message.queue.items) ≡ length c.loop-message.queue.items =
+    length-map c.loop-message.queue.items (λ m. message_of m.value) in
+    let next : length (messages c.append.new.self.items) ≡ length c.append.new.self.items =
+    length-map c.append.new.self.items (λ m. message_of m.value) in
+    omega (arith, kept, popped, joined, both, more, here, next)
+
+pub loop-message-preserved : goal.loop-message-preserved
+loop-message-preserved g c =
+    let so = subst (λ (ms : List (Message g.row.P.Denot)). FinishesSo g.P.Ord.cmp c.args.now
+    (messages c.args.queue.items) (planned g.P.Ord.cmp c.args.self.now) (map ended_of c.args.ended.now.items) ms
+    (planned g.P.Ord.cmp c.loop-message.self) (map ended_of c.loop-message.ended.items))
+    (ap messages c.in-Some.ensures.items) c.loop-message.invariant in
+    let joined : messages c.append.new.self.items ≡ messages c.pop_front.new.self.items
+    ++ messages c.in_ok-more.more.items = ap messages c.in_ok-append.ensures.items
+    ∙ map-append (λ m. message_of m.value) c.pop_front.new.self.items c.in_ok-more.more.items in
+    subst (λ (ms : List (Message g.row.P.Denot)). FinishesSo g.P.Ord.cmp c.args.now (messages c.args.queue.items)
+    (planned g.P.Ord.cmp c.args.self.now) (map ended_of c.args.ended.now.items) ms
+    (planned g.P.Ord.cmp c.complete.new.self) (map ended_of c.complete.new.ended.items))
+    (sym joined)
+    (finishes_step g.P.Ord.cmp c.args.now (messages c.args.queue.items) (planned g.P.Ord.cmp c.args.self.now)
+    (map ended_of c.args.ended.now.items) (message_of c.in-Some.message.value) (messages c.pop_front.new.self.items)
+    (messages c.in_ok-more.more.items)
+    (planned g.P.Ord.cmp c.loop-message.self) (planned g.P.Ord.cmp c.complete.new.self)
+    (map ended_of c.loop-message.ended.items)
+    (map ended_of c.complete.new.ended.items) so c.in_ok-more.ensures.in_time c.in_ok-more.ensures.completion
+    c.in_ok-more.ensures.launches)
+
+pub returns-clause-finishes : goal.returns-clause-finishes
+returns-clause-finishes g c =
+    let none : c.loop-message.queue.items ≡ [] = search rules in
+    let w = finishes_end g.P.Ord.cmp c.args.now (messages c.args.queue.items) (planned g.P.Ord.cmp c.args.self.now)
+    (map ended_of c.args.ended.now.items) (messages c.loop-message.queue.items)
+    (planned g.P.Ord.cmp c.loop-message.self) (planned g.P.Ord.cmp c.plan_start.new.self)
+    (map ended_of c.loop-message.ended.items)
+    c.loop-message.invariant (ap messages none) c.plan_start.ensures in
+    (w.done, w.out, w.finishes)

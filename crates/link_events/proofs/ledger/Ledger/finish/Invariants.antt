@@ -1,0 +1,15 @@
+use Rattle.std.proofs.Common.{◌+◌, map, length}
+use Rattle.link_events.specs.Events.AsPlanned.{planned}
+use Rattle.link_pairs.specs.Pairs.Messages.{messages, ended_of}
+use Rattle.link_events.proofs.Events.Finishing.{FinishesSo}
+use Rattle.link_events.proofs.Events.MessageCounts.{in_system}
+use Rattle.link_events.proofs.ledger.Ledger.finish.Given as goal
+
+abbrev pub invariant-loop-message : goal.invariant-loop-message
+invariant-loop-message g l =
+    FinishesSo g.P.Ord.cmp l.now (messages l.initial.queue.items) (planned g.P.Ord.cmp l.initial.self)
+    (map ended_of l.initial.ended.items)
+    (messages l.queue.items) (planned g.P.Ord.cmp l.self) (map ended_of l.ended.items)
+
+abbrev pub decreases-loop-message : goal.decreases-loop-message
+decreases-loop-message g l = length (messages l.queue.items) + in_system (planned g.P.Ord.cmp l.self)

@@ -1,0 +1,63 @@
+use Rattle.std.proofs.Common.{map, sym, subst}
+use Rattle.link_waiting.specs.Idle.AtRest.{of_pairs}
+use Rattle.link_waiting.specs.Idle.Index.{IsIndexOf}
+use Rattle.link_flights.specs.Flights.InFlight.{in_flight}
+use Rattle.link_pairs.specs.Pairs.Messages.{message_of}
+use Rattle.link_pairs.specs.Pairs.CapsOf.{caps_of}
+use Rattle.link_flights.specs.Flights.Rated.{AreRated}
+use Rattle.link_pairs.specs.Pairs.PeerCaps.{egress_of, ingress_of}
+use Rattle.link_pairs.proofs.Pairs.LookedUp.{arrivals_looked_up}
+use Rattle.link_waiting.proofs.Idle.IndexChanges.{raised_index}
+use Rattle.link_events.proofs.ledger.Ledger.raise.Goals as goal
+
+pub invariant_of-self-in_default : goal.invariant_of-self-in_default
+invariant_of-self-in_default g c =
+    let old = c.args.self.now in
+    record {
+      counted = old.counted;
+      rated = λ e.
+          subst
+          (λ l. ∥ AreRated g.P.Ord.cmp (record (caps_of g.P.Ord.cmp old.peers.entries old.pairs.entries) { link = l })
+          old.flights ∥₁)
+          (sym c.in_ok-raise.ensures.link) (old.rated e);
+      indexed =
+          raised_index g.P.Ord.cmp g.met.P.Ord.total old.pairs.entries c.raise.new.self.entries old.waiting.messages
+          (in_flight old.flights) c.args.origin.now c.args.recipient.now c.args.moment old.idle.entries
+          c.change-changed.new.self.entries
+          (arrivals_looked_up g.P.Ord.cmp g.met.P.Ord.total c.raise.new.self.entries) c.in_ok-raise.ensures.arrival
+          old.indexed c.in_default.ensures.listed (c.idle_from-moved.ensures (in_flight old.flights) old.counted);
+    }
+
+pub returns-clause-raised : goal.returns-clause-raised
+returns-clause-raised g c =
+    let cmp = g.P.Ord.cmp in
+    let old = c.args.self.now in
+    λ i. record {
+      caps =
+          record {
+            egress = egress_of cmp old.peers.entries;
+            ingress = ingress_of cmp old.peers.entries;
+            link = c.in_ok-raise.ensures.link i;
+          };
+      limited = old.limited;
+      sending = in_flight old.flights;
+      waiting = map message_of old.waiting.messages;
+      last_arrival = c.in_ok-raise.ensures.arrival i;
+      next_id = old.next_id;
+      finish = old.finish;
+      start = old.start;
+    }
+
+pub invariant_of-self : goal.invariant_of-self
+invariant_of-self g c =
+    let cmp = g.P.Ord.cmp in
+    let old = c.args.self.now in
+    let kept = c.in_err-raise.ensures.kept in
+    record {
+      counted = old.counted;
+      rated = λ e.
+          subst (λ es. ∥ AreRated cmp (caps_of cmp old.peers.entries es) old.flights ∥₁) (sym kept) (old.rated e);
+      indexed =
+          subst (λ es. IsIndexOf cmp (of_pairs cmp es old.waiting.messages (in_flight old.flights)) old.idle.entries)
+          (sym kept) old.indexed;
+    }

@@ -1,0 +1,91 @@
+use Rattle.std.proofs.Common.{◌≡◌, ◌+◌, subst, [], ◌∷◌, ◌++◌, length, map, Some, sym, ap, ◌∙◌, rules}
+use Rattle.link_waiting.specs.Idle.AtRest.{of_pairs}
+use Rattle.link_waiting.specs.Idle.Index.{IsIndexOf}
+use Rattle.std.proofs.Math.Logic.{∥∥₁_map}
+use Rattle.link_waiting.specs.Idle.Busy.{AreCounted}
+use Rattle.fair_rates.specs.Numbers.Amount.{whole}
+use Rattle.link_simulation.specs.Simulation.Messages.{Message}
+use Rattle.link_simulation.specs.Rule.Planned.{RatedFlight, rated_messages}
+use Rattle.link_pairs.specs.declared.message.Message as code
+use Rattle.link_flights.specs.Flights.InFlight.{in_flight}
+use Rattle.link_pairs.specs.Pairs.Messages.{message_of}
+use Rattle.link_pairs.specs.Pairs.Entries.{arrival_of}
+use Rattle.link_pairs.specs.Pairs.CapsOf.{caps_of}
+use Rattle.link_pairs.proofs.Pairs.LookedUp.{arrivals_looked_up}
+use Rattle.link_waiting.proofs.Idle.Busy.{of_own_pair, counted_sent}
+use Rattle.link_waiting.proofs.Idle.IndexChanges.{started_index}
+use Rattle.link_waiting.proofs.Idle.Starting.{without_joined}
+use Rattle.link_flights.proofs.Flights.Standing.{still_rated}
+use Rattle.link_events.proofs.ledger.Ledger.start.Goals as goal
+
+pub invariant_of-self-2 : goal.invariant_of-self-2
+invariant_of-self-2 g c =
+    let cmp = g.P.Ord.cmp in
+    let old = c.args.self.now in
+    let m : Message g.row.P.Denot = message_of c.in_ok-message.message.value in
+    let f : RatedFlight g.row.P.Denot =
+    record { message = m; left = whole (length m.bytes); rate = Some (whole 0); updated = c.args.now } in
+    let same : c.in_ok-message.message.value ≡ c.args.message = search rules in
+    record {
+      rated = λ e.
+          ∥∥₁_map (old.rated e)
+          (still_rated cmp (caps_of cmp old.peers.entries old.pairs.entries) old.flights c.push.new.self
+          c.push.ensures.scale c.push.ensures.rated c.push.ensures.timed);
+      indexed =
+          started_index cmp g.met.P.Ord.total old.pairs.entries old.waiting.messages (in_flight old.flights)
+          (in_flight c.push.new.self) f old.idle.entries (arrivals_looked_up cmp g.met.P.Ord.total old.pairs.entries)
+          (rw same c.requires.alone) c.in_ok-push.ensures.sending old.indexed;
+      counted =
+          counted_sent cmp g.met.P.Ord.total old.busy.entries c.in_ok-busy.busy.entries c.add.new.self.entries
+          (in_flight old.flights) (in_flight c.push.new.self) c.args.message.origin c.args.message.recipient f
+          c.in_ok-busy.ensures.cases (rw same (of_own_pair cmp g.met.P.Ord.total (message_of c.args.message)))
+          c.in_ok-push.ensures.sending old.counted c.in_ok-add.ensures.counted;
+    }
+
+pub returns-clause-started : goal.returns-clause-started
+returns-clause-started g c =
+    let cmp = g.P.Ord.cmp in
+    let old = c.args.self.now in
+    let m : Message g.row.P.Denot = message_of c.args.message in
+    let same : c.in_ok-message.message.value ≡ c.args.message = search rules in
+    let sending : in_flight c.push.new.self
+    ≡ in_flight old.flights
+    ++ record { message = m; left = whole (length m.bytes); rate = Some (whole 0); updated = c.args.now } ∷ [] =
+    c.in_ok-push.ensures.sending
+    ∙ ap
+    (λ (v : code.Message g.row.P.Denot). in_flight old.flights
+    ++ record {
+      message = message_of v;
+      left = whole (length v.bytes);
+      rate = Some (whole 0);
+      updated = c.args.now;
+    }
+    ∷ [])
+    same in
+    λ i. record {
+      caps = caps_of cmp old.peers.entries old.pairs.entries;
+      limited = old.limited;
+      sending = sending i;
+      waiting = sym (without_joined cmp g.met.P.Ord.total m (map message_of old.waiting.messages) c.requires.alone) i;
+      last_arrival = arrival_of cmp old.pairs.entries;
+      next_id = old.next_id + 1;
+      finish = old.finish;
+      start = old.start;
+    }
+
+pub invariant_of-self : goal.invariant_of-self
+invariant_of-self g c =
+    let cmp = g.P.Ord.cmp in
+    let old = c.args.self.now in
+    record {
+      rated = λ e.
+          ∥∥₁_map (old.rated e)
+          (still_rated cmp (caps_of cmp old.peers.entries old.pairs.entries) old.flights c.push.new.self
+          c.push.ensures.scale c.push.ensures.rated c.push.ensures.timed);
+      indexed =
+          subst (λ fs. IsIndexOf cmp (of_pairs cmp old.pairs.entries old.waiting.messages fs) old.idle.entries)
+          (sym c.in_err-push.ensures.kept) old.indexed;
+      counted =
+          subst (λ fs. AreCounted cmp old.busy.entries (rated_messages fs)) (sym c.in_err-push.ensures.kept)
+          old.counted;
+    }

@@ -1,0 +1,64 @@
+use Rattle.std.proofs.Common.{sym, subst}
+use Rattle.link_pairs.specs.Pairs.Messages.{message_of}
+use Rattle.link_waiting.specs.Idle.AtRest.{of_pairs}
+use Rattle.link_waiting.specs.Idle.Index.{IsIndexOf}
+use Rattle.link_flights.specs.Flights.InFlight.{in_flight}
+use Rattle.link_pairs.specs.Pairs.Entries.{arrival_of}
+use Rattle.link_events.specs.Events.AsPlanned.{planned}
+use Rattle.link_pairs.specs.Pairs.CapsOf.{caps_of}
+use Rattle.link_simulation.specs.Rule.Events.{PlansStart}
+use Rattle.link_pairs.proofs.Pairs.LookedUp.{arrivals_looked_up}
+use Rattle.link_events.proofs.Events.OnlyWaiting.{enqueue_waits}
+use Rattle.link_waiting.proofs.Idle.IndexChanges.{waited_index}
+use Rattle.link_events.proofs.Events.Settling.{on_either}
+use Rattle.link_events.proofs.ledger.Ledger.wait.Goals as goal
+
+pub returns-clause-enqueues : goal.returns-clause-enqueues
+returns-clause-enqueues g c =
+    let cmp = g.P.Ord.cmp in
+    let old = c.args.self.now in
+    enqueue_waits cmp g.met.P.Ord.total c.args.now (message_of c.args.message) (planned cmp old) _
+    (planned cmp c.plan_start.new.self) c.requires.limited c.requires.busy
+    (λ i. record {
+      caps = caps_of cmp old.peers.entries old.pairs.entries;
+      limited = old.limited;
+      sending = in_flight old.flights;
+      waiting = c.in_ok-push.ensures.waiting i;
+      last_arrival = arrival_of cmp old.pairs.entries;
+      next_id = old.next_id;
+      finish = old.finish;
+      start = old.start;
+    }) c.plan_start.ensures
+
+pub returns-clause-waits : goal.returns-clause-waits
+returns-clause-waits g c =
+    let cmp = g.P.Ord.cmp in
+    let old = c.args.self.now in
+    subst (λ p. PlansStart cmp c.args.now p (planned cmp c.plan_start.new.self))
+    (λ i. record {
+      caps = caps_of cmp old.peers.entries old.pairs.entries;
+      limited = old.limited;
+      sending = in_flight old.flights;
+      waiting = c.in_ok-push.ensures.waiting i;
+      last_arrival = arrival_of cmp old.pairs.entries;
+      next_id = old.next_id;
+      finish = old.finish;
+      start = old.start;
+    }) c.plan_start.ensures
+
+pub invariant_of-self : goal.invariant_of-self
+invariant_of-self g c =
+    let cmp = g.P.Ord.cmp in
+    let old = c.args.self.now in
+    record {
+      counted = old.counted;
+      rated = old.rated;
+      indexed = on_either c.push.result
+          (λ joined. waited_index cmp g.met.P.Ord.total old.pairs.entries old.waiting.messages c.push.new.self.messages
+          (in_flight old.flights) (message_of c.args.message) old.idle.entries joined c.requires.busy
+          (arrivals_looked_up cmp g.met.P.Ord.total old.pairs.entries) old.indexed)
+          (λ same. subst
+          (λ ms. IsIndexOf cmp (of_pairs cmp old.pairs.entries ms (in_flight old.flights)) old.idle.entries)
+          (sym same) old.indexed)
+          c.push.ensures.waiting c.push.ensures.kept;
+    }

@@ -1,0 +1,109 @@
+use Rattle.std.proofs.Common.{map, List, Option, refl, sym, subst}
+use Rattle.std.specs.List.{AllZip}
+use Rattle.std.proofs.lemmas.Result.{err_from_is_err_and}
+use Rattle.link_pairs.specs.declared.pair.PeerPair.{PeerPair}
+use Rattle.link_waiting.specs.Idle.PairsOfMessages.{NamesPairOf}
+use Rattle.link_simulation.specs.Simulation.Messages.{Message}
+use Rattle.link_simulation.specs.Simulation.World.{goes, meets}
+use Rattle.link_simulation.specs.Rule.Planned.{Planned}
+use Rattle.link_simulation.specs.Rule.Events.{Launches}
+use Rattle.link_simulation.specs.Simulation.RefusalCauses.{IsRefusedFor}
+use Rattle.link_events.specs.Events.AsPlanned.{planned}
+use Rattle.link_pairs.specs.Pairs.Messages.{messages, ended_of}
+use Rattle.link_waiting.specs.Idle.Starting.{ready_messages}
+use Rattle.link_events.proofs.Events.Finishing.{wakes_start, wakes_step, wakes_end, wakes_launch_refused}
+use Rattle.link_events.proofs.Events.Finishing.{wakes_finish_refused, next_at, none_at}
+use Rattle.link_events.proofs.Events.Settling.{of_message}
+use Rattle.link_events.proofs.ledger.Ledger.wake.Goals as goal
+
+pub loop-pair-init : goal.loop-pair-init
+loop-pair-init g c = record {
+  rest = ready_messages g.P.Ord.cmp c.args.now (planned g.P.Ord.cmp c.args.self.now);
+  are_keys =
+      subst
+      (λ (keys : List (PeerPair g.row.P.Denot)). AllZip (NamesPairOf g.P.Ord.cmp) keys
+      (ready_messages g.P.Ord.cmp c.args.now (planned g.P.Ord.cmp c.args.self.now)))
+      (sym c.deref-pair-items.ensures.value) c.in_ok-ready.ensures.ready;
+  so =
+      wakes_start g.P.Ord.cmp c.args.now (ready_messages g.P.Ord.cmp c.args.now (planned g.P.Ord.cmp c.args.self.now))
+      (planned g.P.Ord.cmp c.args.self.now) (map ended_of c.args.ended.now.items);
+}
+
+pub returns-in_err-queue-clause-refused : goal.returns-in_err-queue-clause-refused
+returns-in_err-queue-clause-refused g c =
+    let p = err_from_is_err_and c.from_residual-in_err-queue.result c.from_residual-in_err-queue.ensures.1 in
+    let here = planned g.P.Ord.cmp c.loop-pair.self in
+    let n =
+    next_at g.P.Ord.cmp c.args.now (ready_messages g.P.Ord.cmp c.args.now (planned g.P.Ord.cmp c.args.self.now))
+    (planned g.P.Ord.cmp c.args.self.now) (map ended_of c.args.ended.now.items) c.deref-pair-items.result.now
+    c.loop-pair.pair-index here (map ended_of c.loop-pair.ended.items)
+    c.pair-item.result c.loop-pair.invariant c.loop-pair-test.true c.pair-item.is in
+    rw (p.1, p.2)
+    (wakes_launch_refused g.P.Ord.cmp c.args.now
+    (ready_messages g.P.Ord.cmp c.args.now (planned g.P.Ord.cmp c.args.self.now))
+    (planned g.P.Ord.cmp c.args.self.now) (map ended_of c.args.ended.now.items) n.message n.rest here
+    (map ended_of c.loop-pair.ended.items) n.so _
+    (of_message g.P.Ord.cmp g.met.P.Ord.total (λ (q : Planned g.row.P.Denot)
+    (first : Option (Message g.row.P.Denot)). IsRefusedFor
+    (λ fault. Launches g.P.Ord.cmp c.args.now q first (meets fault)) c.in_err-queue.field-0.0)
+    here here c.pair-item.result n.message refl n.is_key c.in_err-queue.ensures.refused))
+
+pub returns-in_err-finish-clause-refused : goal.returns-in_err-finish-clause-refused
+returns-in_err-finish-clause-refused g c =
+    let p = err_from_is_err_and c.from_residual-in_err-finish.result c.from_residual-in_err-finish.ensures.1 in
+    let here = planned g.P.Ord.cmp c.loop-pair.self in
+    let n =
+    next_at g.P.Ord.cmp c.args.now (ready_messages g.P.Ord.cmp c.args.now (planned g.P.Ord.cmp c.args.self.now))
+    (planned g.P.Ord.cmp c.args.self.now) (map ended_of c.args.ended.now.items) c.deref-pair-items.result.now
+    c.loop-pair.pair-index here (map ended_of c.loop-pair.ended.items)
+    c.pair-item.result c.loop-pair.invariant c.loop-pair-test.true c.pair-item.is in
+    rw (p.1, p.2)
+    (wakes_finish_refused g.P.Ord.cmp c.args.now
+    (ready_messages g.P.Ord.cmp c.args.now (planned g.P.Ord.cmp c.args.self.now))
+    (planned g.P.Ord.cmp c.args.self.now) (map ended_of c.args.ended.now.items) n.message n.rest
+    (messages c.in_ok-queue.queue.items) here (planned g.P.Ord.cmp c.launch.new.self)
+    (map ended_of c.loop-pair.ended.items) n.so
+    (of_message g.P.Ord.cmp g.met.P.Ord.total
+    (λ (q : Planned g.row.P.Denot) (first : Option (Message g.row.P.Denot)). Launches g.P.Ord.cmp c.args.now q first
+    (goes (messages c.in_ok-queue.queue.items) (planned g.P.Ord.cmp c.launch.new.self)))
+    here here c.pair-item.result n.message refl n.is_key c.in_ok-queue.ensures.launches) _
+    c.in_err-finish.ensures.refused)
+
+pub loop-pair-preserved : goal.loop-pair-preserved
+loop-pair-preserved g c =
+    let here = planned g.P.Ord.cmp c.loop-pair.self in
+    let n =
+    next_at g.P.Ord.cmp c.args.now (ready_messages g.P.Ord.cmp c.args.now (planned g.P.Ord.cmp c.args.self.now))
+    (planned g.P.Ord.cmp c.args.self.now) (map ended_of c.args.ended.now.items) c.deref-pair-items.result.now
+    c.loop-pair.pair-index here (map ended_of c.loop-pair.ended.items)
+    c.pair-item.result c.loop-pair.invariant c.loop-pair-test.true c.pair-item.is in
+    let h = c.in_ok-finish.ensures.finishes in
+    record {
+      rest = n.rest;
+      are_keys = n.are_keys;
+      so =
+          wakes_step g.P.Ord.cmp c.args.now
+          (ready_messages g.P.Ord.cmp c.args.now (planned g.P.Ord.cmp c.args.self.now))
+          (planned g.P.Ord.cmp c.args.self.now) (map ended_of c.args.ended.now.items) n.message n.rest
+          (messages c.in_ok-queue.queue.items) here (planned g.P.Ord.cmp c.launch.new.self)
+          (planned g.P.Ord.cmp c.finish.new.self)
+          (map ended_of c.loop-pair.ended.items) (map ended_of c.finish.new.ended.items) h.0 n.so
+          (of_message g.P.Ord.cmp g.met.P.Ord.total
+          (λ (q : Planned g.row.P.Denot) (first : Option (Message g.row.P.Denot)). Launches g.P.Ord.cmp c.args.now q
+          first (goes (messages c.in_ok-queue.queue.items) (planned g.P.Ord.cmp c.launch.new.self)))
+          here here c.pair-item.result n.message refl n.is_key c.in_ok-queue.ensures.launches) h.2 h.1;
+    }
+
+pub returns-clause-wakes : goal.returns-clause-wakes
+returns-clause-wakes g c =
+    let here = planned g.P.Ord.cmp c.loop-pair.self in
+    let w =
+    wakes_end g.P.Ord.cmp c.args.now (ready_messages g.P.Ord.cmp c.args.now (planned g.P.Ord.cmp c.args.self.now))
+    (planned g.P.Ord.cmp c.args.self.now) (map ended_of c.args.ended.now.items) c.loop-pair.invariant.rest here
+    (planned g.P.Ord.cmp c.plan_start.new.self) (map ended_of c.loop-pair.ended.items)
+    c.loop-pair.invariant.so
+    (none_at g.P.Ord.cmp c.args.now (ready_messages g.P.Ord.cmp c.args.now (planned g.P.Ord.cmp c.args.self.now))
+    (planned g.P.Ord.cmp c.args.self.now) (map ended_of c.args.ended.now.items) c.deref-pair-items.result.now
+    c.loop-pair.pair-index here (map ended_of c.loop-pair.ended.items) c.loop-pair.invariant c.loop-pair-test.false)
+    c.plan_start.ensures in
+    (w.done, w.out, w.wakes)

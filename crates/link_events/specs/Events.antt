@@ -1,0 +1,6 @@
+-- What is kept between calls, what is due, and what comes of a call.
+pub mod Answered
+pub mod AsPlanned
+pub mod Due
+pub mod Outgoing
+pub mod Standing

@@ -1,0 +1,42 @@
+-- How a planned world on the way through a list of messages stands for the one that the event rule speaks of.
+use Rattle.std.specs.Prelude.{◌≡◌, ◌≢◌, ℕ, ◌<◌, ◌&&◌, [], Bool, true, false, length, is_none}
+use Rattle.std.specs.declared.cmp.Ordering.{Ordering}
+use Rattle.link_events.specs.declared.batch.Standing.{Standing}
+use Rattle.link_events.specs.declared.batch.Standing.TheVariants.{Open, Settled, Due}
+use Rattle.link_simulation.specs.Simulation.Messages.{Message}
+use Rattle.link_simulation.specs.Simulation.Rates.{is_unlimited}
+use Rattle.link_simulation.specs.Simulation.World.{last_moment}
+use Rattle.link_simulation.specs.Rule.Planned.{Planned, next_of, may_launch}
+use Rattle.link_simulation.specs.Rule.Events.{Accounts}
+
+-- whether an account was made
+abbrev pub is_settled : Standing → Bool
+is_settled Open = false
+is_settled Settled = true
+is_settled Due = true
+
+-- how it stands once the account that was due is made, and a message was sent that starts, or waits
+abbrev pub standing_after : Standing → Bool → Standing
+standing_after Open false = Open
+standing_after Open true = Settled
+standing_after Settled starts = Settled
+standing_after Due starts = Settled
+
+module _ {P : Type 0} (cmp : P → P → Ordering) where
+  -- whether limits hold, and a message that is sent starts at once
+  abbrev pub does_start : ℕ → Planned P → Message P → Bool
+  does_start now p m = p.limited && (is_none (next_of cmp p m) && may_launch cmp now p m)
+
+  -- the planned world `here` stands for w at that moment: it is w; an account once more changes nothing; or w is what
+  -- the account that is due makes of it, and nothing leaves at it
+  abbrev pub IsStanding : ℕ → Standing → Planned P → Planned P → Type 0
+  IsStanding now Open here w = w ≡ here
+  IsStanding now Settled here w = (w ≡ here) × Accounts cmp now here [] here
+  IsStanding now Due here w = Accounts cmp now here [] w
+
+  -- a message that is sent starts at once, and is not done at the account that follows
+  pub record OnlyStarts (now : ℕ) (p : Planned P) (m : Message P) : Type 0 where
+    pub starts : does_start now p m ≡ true
+    pub id : p.next_id < last_moment
+    pub some_bytes : length m.bytes ≢ 0
+    pub capped : is_unlimited cmp p.caps m ≡ false

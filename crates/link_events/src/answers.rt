@@ -1,0 +1,97 @@
+//! Calls on the state that is worked on, with their answers.
+ghost use Rattle.std.specs.Prelude.{map, IfOk, IfErr};
+ghost use Rattle.link_simulation.specs.Simulation.Calls.{call_limit, call_limit_link, call_enqueue, call_enqueue_all};
+ghost use Rattle.link_simulation.specs.Simulation.Calls.{call_advance};
+ghost use Rattle.link_simulation.specs.Rule.Refusals.{MayBeRefused};
+ghost use Rattle.link_pairs.specs.Pairs.Messages.{message_of, completed_of};
+ghost use Rattle.link_events.specs.Events.Answered.{IsAnswered, IsAnsweredIn};
+ghost use Rattle.link_events.specs.Events.Outgoing.{outgoing};
+
+use crate::ledger::Ledger;
+use crate::outgoing::Outgoing;
+use fair_rates::error::Error;
+use fair_rates::peer::Peer;
+use link_pairs::completion::{Completion, answers_of};
+use link_pairs::message::Message;
+
+impl<P: Peer> Ledger<P> {
+    ghost use Rattle.link_events.specs.Events.AsPlanned.{planned};
+
+    /// Sets the caps of a peer, and answers what completes under them.
+    pub fn answer_limit(
+        &mut self,
+        now: u64,
+        peer: &P,
+        egress: Option<usize>,
+        ingress: Option<usize>,
+    ) -> Result<Vec<Completion<P>>, Error>
+        ensures answered { IfOk result (λ done. IsAnswered P.cmp (planned P.cmp self.old)
+            (call_limit now peer.now egress ingress) (map completed_of done.items) (planned P.cmp self.new)) }
+        ensures refused { IfErr result (MayBeRefused P.cmp (planned P.cmp self.old)
+            (call_limit now peer.now egress ingress)) }
+    {
+        self.limit_peer(peer, egress, ingress)?;
+        let ended = self.rebalance(now)?;
+        answers_of(self.alloc, &ended)
+    }
+
+    /// Sets the cap of an ordered pair, and answers what completes under it.
+    pub fn answer_limit_link(
+        &mut self,
+        now: u64,
+        origin: &P,
+        recipient: &P,
+        cap: Option<usize>,
+    ) -> Result<Vec<Completion<P>>, Error>
+        ensures answered { IfOk result (λ done. IsAnswered P.cmp (planned P.cmp self.old)
+            (call_limit_link now origin.now recipient.now cap) (map completed_of done.items) (planned P.cmp self.new)) }
+        ensures refused { IfErr result (MayBeRefused P.cmp (planned P.cmp self.old)
+            (call_limit_link now origin.now recipient.now cap)) }
+    {
+        self.limit_pair(origin, recipient, cap)?;
+        let ended = self.rebalance(now)?;
+        answers_of(self.alloc, &ended)
+    }
+
+    /// Sends a message, and answers what completes.
+    pub fn answer_enqueue(
+        &mut self,
+        now: u64,
+        message: Message<P>,
+    ) -> Result<Vec<Completion<P>>, Error>
+        ensures answered { IfOk result (λ done. IsAnswered P.cmp (planned P.cmp self.old)
+            (call_enqueue now (message_of message)) (map completed_of done.items) (planned P.cmp self.new)) }
+        ensures refused { IfErr result (MayBeRefused P.cmp (planned P.cmp self.old)
+            (call_enqueue now (message_of message))) }
+    {
+        let ended = self.enqueue(now, message)?;
+        answers_of(self.alloc, &ended)
+    }
+
+    /// Sends messages one after another, and answers what completes.
+    pub fn answer_enqueue_all(
+        &mut self,
+        now: u64,
+        messages: Vec<Outgoing<P>>,
+    ) -> Result<Vec<Completion<P>>, Error>
+        ensures answered { IfOk result (λ done. IsAnswered P.cmp (planned P.cmp self.old)
+            (call_enqueue_all now (map outgoing messages.items)) (map completed_of done.items)
+            (planned P.cmp self.new)) }
+        ensures refused { IfErr result (MayBeRefused P.cmp (planned P.cmp self.old)
+            (call_enqueue_all now (map outgoing messages.items))) }
+    {
+        let ended = self.enqueue_all(now, messages)?;
+        answers_of(self.alloc, &ended)
+    }
+
+    /// Lets time go on to `now`, and answers what completes, with the number of events.
+    pub fn answer_advance(&mut self, now: u64) -> Result<(Vec<Completion<P>>, u128), Error>
+        ensures answered { IfOk result (λ answer. IsAnsweredIn P.cmp now (planned P.cmp self.old) answer.1
+            (map completed_of answer.0.items) (planned P.cmp self.new)) }
+        ensures refused { IfErr result (MayBeRefused P.cmp (planned P.cmp self.old) (call_advance now)) }
+    {
+        let (ended, events) = self.advance(now)?;
+        let completions = answers_of(self.alloc, &ended)?;
+        Ok((completions, events))
+    }
+}

@@ -1,0 +1,146 @@
+//! A list of messages that are sent at one moment, with one account for those that only start.
+ghost use Rattle.std.specs.Prelude.{◌≡◌, ◌++◌, ◌<◌, true, false, map, List, IfOk, IfErr, OnOk, ◌&&◌};
+ghost use Rattle.link_simulation.specs.Simulation.World.{Completed, goes, meets};
+ghost use Rattle.link_simulation.specs.Simulation.RefusalCauses.{IsRefusedFor};
+ghost use Rattle.link_simulation.specs.Rule.Planned.{Planned as AnyPlanned};
+ghost use Rattle.link_simulation.specs.Rule.Events.{Enqueues};
+ghost use Rattle.link_simulation.specs.Rule.Events.{EnqueuesEach};
+ghost use Rattle.link_pairs.specs.Pairs.Messages.{message_of, ended_of};
+ghost use Rattle.link_events.specs.Events.Outgoing.{outgoing};
+ghost use Rattle.link_events.specs.Events.Standing.{OnlyStarts, IsStanding, is_settled, does_start, standing_after};
+
+use crate::ledger::Ledger;
+use crate::outgoing::Outgoing;
+use fair_rates::error::Error;
+use fair_rates::peer::Peer;
+use link_flights::account::is_unlimited;
+use link_pairs::completion::Ended;
+use link_pairs::message::Message;
+
+/// How what is in flight stands at the moment of the messages.
+#[derive(Clone, Copy)]
+pub(crate) enum Standing {
+    /// No account was made at that moment.
+    Open,
+    /// An account was made at that moment, so nothing is due to leave.
+    Settled,
+    /// So it was, and messages have started since. They get their rates at an account that is due.
+    Due,
+}
+
+impl Standing {
+    /// Whether an account was made.
+    fn is_settled(self) -> bool
+        ensures { result ≡ is_settled self }
+    {
+        match self {
+            Standing::Open => false,
+            Standing::Settled | Standing::Due => true,
+        }
+    }
+
+    /// How it stands once the account that was due is made, and a message was sent that starts, or
+    /// waits.
+    fn after(self, starts: bool) -> Standing
+        ensures { result ≡ standing_after self starts }
+    {
+        match (self, starts) {
+            (Standing::Open, false) => Standing::Open,
+            _ => Standing::Settled,
+        }
+    }
+}
+
+impl<P: Peer> Ledger<P> {
+    ghost use Rattle.link_events.specs.Events.AsPlanned.{planned};
+
+    /// Messages are sent one after another. Those that only start share one account.
+    pub(crate) fn enqueue_all(
+        &mut self,
+        now: u64,
+        messages: Vec<Outgoing<P>>,
+    ) -> Result<Vec<Ended<P>>, Error>
+        ensures enqueues { IfOk result (λ ended. EnqueuesEach P.cmp now (map outgoing messages.items)
+            (planned P.cmp self.old) (goes (map ended_of ended.items) (planned P.cmp self.new))) }
+        ensures refused { IfErr result (IsRefusedFor (λ fault. EnqueuesEach P.cmp now (map outgoing messages.items)
+            (planned P.cmp self.old) (meets fault))) }
+    {
+        let mut ended = Vec::new(self.alloc);
+        let mut standing = Standing::Open;
+        for message in messages {
+            standing = self.enqueue_next(now, message.into_message(), standing, &mut ended)?;
+        }
+        self.catch_up(now, standing)?;
+        Ok(ended)
+    }
+
+    /// The next message is sent. Where it only starts, the account that it asks for is left due.
+    fn enqueue_next(
+        &mut self,
+        now: u64,
+        message: Message<P>,
+        standing: Standing,
+        ended: &mut Vec<Ended<P>>,
+    ) -> Result<Standing, Error>
+        ensures enqueues { IfOk result (λ next. (w : AnyPlanned P) →
+            IsStanding P.cmp now standing (planned P.cmp self.old) w →
+            (cs : List (Completed P)) × (v : AnyPlanned P)
+            × (map ended_of ended.new.items ≡ map ended_of ended.old.items ++ cs)
+            × Enqueues P.cmp now (message_of message) w (goes cs v)
+            × IsStanding P.cmp now next (planned P.cmp self.new) v) }
+        ensures refused { IfErr result (λ e. (w : AnyPlanned P) →
+            IsStanding P.cmp now standing (planned P.cmp self.old) w →
+            IsRefusedFor (λ fault. Enqueues P.cmp now (message_of message) w (meets fault)) e) }
+    {
+        if self.has_to_wait(&message.origin, &message.recipient) {
+            self.wait(now, message)?;
+            return Ok(standing);
+        }
+        if standing.is_settled() && self.only_starts(&message, now) {
+            self.start(message, now)?;
+            self.plan_start(now);
+            return Ok(Standing::Due);
+        }
+        self.catch_up(now, standing)?;
+        let starts = self.starts_at_once(&message, now);
+        let mut more = self.enqueue(now, message)?;
+        ended.append(&mut more)?;
+        Ok(standing.after(starts))
+    }
+
+    /// Whether limits hold, and a message that is sent starts at once.
+    fn starts_at_once(&self, message: &Message<P>, now: u64) -> bool
+        ensures { result ≡ does_start P.cmp now (planned P.cmp self.now) (message_of message.now) }
+    {
+        self.limited && self.may_start(message, now)
+    }
+
+    /// Whether a message that is sent starts at once, and stays in flight at the account that
+    /// follows: an id is left for it, it has bytes, and it uses a capped side.
+    fn only_starts(&self, message: &Message<P>, now: u64) -> bool
+        ensures { result ≡ true → OnlyStarts P.cmp now (planned P.cmp self.now) (message_of message.now) }
+    {
+        if self.next_id == u64::MAX {
+            return false;
+        }
+        if message.bytes.is_empty() {
+            return false;
+        }
+        if is_unlimited(message, &self.peers, &self.pairs) {
+            return false;
+        }
+        self.starts_at_once(message, now)
+    }
+
+    /// Makes the account that is due, if one is. Nothing leaves at it.
+    fn catch_up(&mut self, now: u64, standing: Standing) -> Result<(), Error>
+        ensures caught_up { OnOk result ((w : AnyPlanned P) →
+            IsStanding P.cmp now standing (planned P.cmp self.old) w → w ≡ planned P.cmp self.new) }
+        ensures refused { IfErr result (λ e. e ≡ Error.OutOfMemory) }
+    {
+        if let Standing::Due = standing {
+            self.account(now)?;
+        }
+        Ok(())
+    }
+}

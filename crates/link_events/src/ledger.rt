@@ -1,0 +1,186 @@
+//! The state that a call works on.
+ghost use Rattle.std.specs.Prelude.{◌≡◌, true, false, OnOk, IfOk, IfErr};
+ghost use Rattle.link_simulation.specs.Rule.Planned.{rated_messages};
+ghost use Rattle.link_waiting.specs.Idle.Index.{IsIndexOf};
+ghost use Rattle.link_waiting.specs.Idle.Busy.{AreCounted};
+ghost use Rattle.link_flights.specs.Flights.InFlight.{in_flight, IsSameFlights};
+ghost use Rattle.link_waiting.specs.Idle.AtRest.{of_pairs};
+ghost use Rattle.link_pairs.specs.Pairs.CapsOf.{caps_of};
+ghost use Rattle.link_flights.specs.Flights.Rated.{AreRated};
+
+use fair_rates::error::Error;
+use fair_rates::peer::Peer;
+use link_flights::flight_list::Flights;
+use link_pairs::known_pairs::Pairs;
+use link_pairs::peers::Peers;
+use link_waiting::busy::BusyPairs;
+use link_waiting::idle_pairs::IdlePairs;
+use link_waiting::waiting::Waiting;
+use std::alloc::{AllocError, Global};
+
+/// All that is kept between calls.
+#[derive(Drop)]
+pub struct Ledger<P: Peer> {
+    pub alloc: Global,
+    pub(crate) peers: Peers<P>,
+    pub(crate) pairs: Pairs<P>,
+    pub(crate) waiting: Waiting<P>,
+    pub(crate) idle: IdlePairs<P>,
+    pub(crate) busy: BusyPairs<P>,
+    pub flights: Flights<P>,
+    /// Whether a limit has come.
+    pub(crate) limited: bool,
+    /// The id of the next flow.
+    pub(crate) next_id: u64,
+    /// The moment at which a message in flight finishes next.
+    pub(crate) finish: Option<u64>,
+    /// The moment at which a waiting message starts next.
+    pub(crate) start: Option<u64>,
+    /// Whether the caps have changed since the last account, or that one was refused.
+    pub(crate) stale: bool,
+    pub ghost indexed: { IsIndexOf P.cmp (of_pairs P.cmp pairs.entries waiting.messages
+        (in_flight flights)) idle.entries },
+    pub ghost counted: { AreCounted P.cmp busy.entries (rated_messages (in_flight flights)) },
+    pub ghost rated: { stale ≡ false → ∥ AreRated P.cmp (caps_of P.cmp peers.entries pairs.entries) flights ∥₁ },
+}
+
+impl<P: Peer> Ledger<P> {
+    ghost use Rattle.link_simulation.specs.Simulation.Calls.{limited_by, linked_by};
+    ghost use Rattle.link_simulation.specs.Rule.Planned.{new_planned, next_event as next_of_planned};
+    ghost use Rattle.link_events.specs.Events.AsPlanned.{planned};
+
+    pub fn new(alloc: Global, first: u64) -> Self
+        ensures { planned P.cmp result ≡ new_planned first }
+    {
+        Ledger {
+            alloc,
+            peers: Peers::new(),
+            pairs: Pairs::new(),
+            waiting: Waiting::new(),
+            idle: IdlePairs::new(),
+            busy: BusyPairs::new(),
+            flights: Flights::new(alloc),
+            limited: false,
+            next_id: first,
+            finish: None,
+            start: None,
+            stale: true,
+        }
+    }
+
+    /// Sets the caps of a peer.
+    pub(crate) fn limit_peer(
+        &mut self,
+        peer: &P,
+        egress: Option<usize>,
+        ingress: Option<usize>,
+    ) -> Result<(), Error>
+        ensures limited { OnOk result (planned P.cmp self.new
+            ≡ record (planned P.cmp self.old) {
+              caps = limited_by P.cmp
+                  (planned P.cmp self.old).caps peer.now egress ingress;
+              limited = true;
+            }) }
+        ensures refused { IfErr result (λ e. e ≡ Error.OutOfMemory) }
+    {
+        self.limited = true;
+        self.stale = true;
+        self.peers.set(self.alloc, peer, egress, ingress)
+    }
+
+    /// Sets the cap of an ordered pair.
+    pub(crate) fn limit_pair(
+        &mut self,
+        origin: &P,
+        recipient: &P,
+        cap: Option<usize>,
+    ) -> Result<(), Error>
+        ensures limited { OnOk result (planned P.cmp self.new
+            ≡ record (planned P.cmp self.old) {
+              caps = linked_by P.cmp
+                  (planned P.cmp self.old).caps origin.now recipient.now cap;
+              limited = true;
+            }) }
+        ensures refused { IfErr result (λ e. e ≡ Error.OutOfMemory) }
+    {
+        let mut pairs = self.pairs.clone()?;
+        pairs.set_cap(self.alloc, origin, recipient, cap)?;
+        self.limited = true;
+        self.stale = true;
+        self.pairs = pairs;
+        Ok(())
+    }
+
+    /// The state after a call takes the place of this one. Once the old lists are gone, nothing is
+    /// shared, and what is known of pairs is put in its place without a copy.
+    pub fn replace_by(&mut self, next: Ledger<P>)
+        ensures { planned P.cmp self.new ≡ planned P.cmp next }
+    {
+        *self = next;
+        self.pairs.settle();
+    }
+
+    /// The same caps and last arrivals, and the same messages that wait.
+    fn clone_known(&self) -> Result<(Peers<P>, Pairs<P>, Waiting<P>), AllocError>
+        ensures peers { IfOk result (λ known. known.0.entries ≡ self.now.peers.entries) }
+        ensures pairs { IfOk result (λ known. known.1.entries ≡ self.now.pairs.entries) }
+        ensures waiting { IfOk result (λ known. known.2.messages ≡ self.now.waiting.messages) }
+    {
+        Ok((
+            self.peers.clone()?,
+            self.pairs.clone()?,
+            self.waiting.clone()?,
+        ))
+    }
+
+    /// The same messages in flight, and what is known of the pairs that are idle and of those that
+    /// are busy.
+    fn clone_sending(&self) -> Result<(IdlePairs<P>, BusyPairs<P>, Flights<P>), AllocError>
+        ensures idle { IfOk result (λ sending. sending.0.entries ≡ self.now.idle.entries) }
+        ensures busy { IfOk result (λ sending. sending.1.entries ≡ self.now.busy.entries) }
+        ensures flights { IfOk result (λ sending. IsSameFlights self.now.flights sending.2) }
+    {
+        Ok((
+            self.idle.clone()?,
+            self.busy.clone()?,
+            self.flights.clone()?,
+        ))
+    }
+
+    /// The earlier of the planned finish and the planned start.
+    pub fn next_event(&self) -> Option<u64>
+        ensures { result ≡ next_of_planned (planned P.cmp self.now) }
+    {
+        match (self.finish, self.start) {
+            (Some(finish), Some(start)) => Some(finish.min(start)),
+            (Some(finish), None) => Some(finish),
+            (None, start) => start,
+        }
+    }
+}
+
+impl<P: Peer> Clone for Ledger<P> {
+    ghost use Rattle.link_events.specs.Events.AsPlanned.{planned};
+
+    ghost is_clone = { λ ledger copy. planned P.cmp copy ≡ planned P.cmp ledger };
+
+    /// The same state, the peers cloned.
+    fn clone(&self) -> Result<Ledger<P>, AllocError> {
+        let (peers, pairs, waiting) = self.clone_known()?;
+        let (idle, busy, flights) = self.clone_sending()?;
+        Ok(Ledger {
+            alloc: self.alloc,
+            peers,
+            pairs,
+            waiting,
+            idle,
+            busy,
+            flights,
+            limited: self.limited,
+            next_id: self.next_id,
+            finish: self.finish,
+            start: self.start,
+            stale: self.stale,
+        })
+    }
+}

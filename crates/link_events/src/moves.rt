@@ -1,0 +1,141 @@
+//! Changes of what is known of one pair, and of its place among the idle pairs.
+ghost use Rattle.std.specs.Prelude.{◌≡◌, ◌<◌, true, [], None, OnOk, OnErr, IfErr};
+ghost use Rattle.link_simulation.specs.Simulation.World.{goes};
+ghost use Rattle.link_simulation.specs.Rule.Events.{Enqueues, PlansStart, with_queued, launched};
+ghost use Rattle.link_pairs.specs.Pairs.Messages.{message_of};
+ghost use Rattle.link_waiting.specs.Idle.PairsOfMessages.{NamesPairOf};
+ghost use Rattle.link_pairs.specs.Pairs.Entries.{first_of, raised_at};
+ghost use Rattle.link_waiting.specs.Idle.Departed.{HasDeparted};
+
+use crate::ledger::Ledger;
+use fair_rates::error::Error;
+use fair_rates::peer::Peer;
+use link_pairs::message::Message;
+use link_pairs::pair::PeerPair;
+use link_waiting::idle_pairs::IdlePairs;
+use link_waiting::readiness::idle_from;
+use link_waiting::waiting::Waiting;
+use std::rc::Rc;
+
+impl<P: Peer> Ledger<P> {
+    ghost use Rattle.link_events.specs.Events.AsPlanned.{planned};
+    ghost use Rattle.link_waiting.specs.Idle.Starting.{may_launch_first};
+    ghost use Rattle.link_waiting.specs.Idle.AtRest.{is_sending};
+
+    /// From now on no message of the pair arrives before that moment.
+    pub(crate) fn raise(&mut self, origin: &P, recipient: &P, moment: u64) -> Result<(), Error>
+        ensures raised { OnOk result (planned P.cmp self.new
+            ≡ record (planned P.cmp self.old) {
+              last_arrival = raised_at P.cmp
+                  (planned P.cmp self.old).last_arrival origin.now recipient.now moment;
+            }) }
+        ensures refused { IfErr result (λ e. e ≡ Error.OutOfMemory) }
+    {
+        let before = idle_from(&self.busy, &self.waiting, &self.pairs, origin, recipient);
+        self.pairs.raise(self.alloc, origin, recipient, moment)?;
+        let moved = idle_from(&self.busy, &self.waiting, &self.pairs, origin, recipient);
+        let changed = self
+            .idle
+            .change(self.alloc, origin, recipient, before, moved);
+        if let Err(error) = changed {
+            // What stopped half-way is given up.
+            self.waiting = Waiting::new();
+            self.idle = IdlePairs::new();
+            self.stale = true;
+            return Err(error);
+        }
+        Ok(())
+    }
+
+    /// The message joins those that wait for its pair, as the last one.
+    pub(crate) fn join(&mut self, pair: &PeerPair<P>, message: Message<P>) -> Result<(), Error>
+        requires { NamesPairOf P.cmp pair.now (message_of message) }
+        ensures queued { OnOk result (planned P.cmp self.new
+            ≡ with_queued P.cmp (planned P.cmp self.old) (message_of message)) }
+        ensures refused { IfErr result (λ e. e ≡ Error.OutOfMemory) }
+    {
+        let (origin, recipient) = (&pair.origin, &pair.recipient);
+        let before = idle_from(&self.busy, &self.waiting, &self.pairs, origin, recipient);
+        self.waiting.push(self.alloc, message)?;
+        let after = idle_from(&self.busy, &self.waiting, &self.pairs, origin, recipient);
+        let changed = self
+            .idle
+            .change(self.alloc, origin, recipient, before, after);
+        if let Err(error) = changed {
+            // What stopped half-way is given up.
+            self.waiting = Waiting::new();
+            self.idle = IdlePairs::new();
+            return Err(error);
+        }
+        Ok(())
+    }
+
+    /// The first message that waits for the pair is in flight from now on, under the next flow id.
+    pub(crate) fn depart(&mut self, origin: &P, recipient: &P, now: u64) -> Result<(), Error>
+        requires ready { may_launch_first P.cmp now (planned P.cmp self.old)
+            (first_of P.cmp (planned P.cmp self.old).waiting origin.now recipient.now) ≡ true }
+        requires id { self.old.next_id < 18446744073709551615 }
+        ensures departed { OnOk result (HasDeparted P.cmp now (planned P.cmp self.old) origin.now recipient.now
+            (planned P.cmp self.new)) }
+        ensures refused { IfErr result (λ e. e ≡ Error.OutOfMemory) }
+    {
+        let before = idle_from(&self.busy, &self.waiting, &self.pairs, origin, recipient);
+        let mut busy = self.busy.clone()?;
+        busy.add(self.alloc, origin, recipient)?;
+        let Some(message) = self.waiting.take_first(origin, recipient)? else {
+            return Ok(());
+        };
+        let changed = self
+            .idle
+            .change(self.alloc, origin, recipient, before, None);
+        if let Err(error) = changed {
+            // What stopped half-way is given up.
+            self.waiting = Waiting::new();
+            self.idle = IdlePairs::new();
+            return Err(error);
+        }
+        if let Err(error) = self.flights.push(message, now) {
+            // What stopped half-way is given up.
+            self.waiting = Waiting::new();
+            self.idle = IdlePairs::new();
+            self.stale = true;
+            return Err(error);
+        }
+        self.busy = busy;
+        self.next_id += 1;
+        Ok(())
+    }
+
+    /// A message of a pair of which none waits is in flight from now on, under the next flow id.
+    pub(crate) fn start(&mut self, message: Message<P>, now: u64) -> Result<(), Error>
+        requires alone { first_of P.cmp (planned P.cmp self.old).waiting message.origin message.recipient ≡ None }
+        requires id { self.old.next_id < 18446744073709551615 }
+        ensures started { OnOk result (planned P.cmp self.new ≡ launched P.cmp now
+            (with_queued P.cmp (planned P.cmp self.old) (message_of message)) (message_of message)) }
+        ensures refused { IfErr result (λ e. e ≡ Error.OutOfMemory) }
+    {
+        let mut busy = self.busy.clone()?;
+        busy.add(self.alloc, &message.origin, &message.recipient)?;
+        let message = Rc::new(self.alloc, message)?;
+        self.flights.push(message, now)?;
+        self.busy = busy;
+        self.next_id += 1;
+        Ok(())
+    }
+
+    /// A message waits behind the one of its pair that is in flight.
+    pub fn wait(&mut self, now: u64, message: Message<P>) -> Result<(), Error>
+        requires limited { (planned P.cmp self.old).limited ≡ true }
+        requires busy { is_sending P.cmp (planned P.cmp self.old) message.origin message.recipient ≡ true }
+        ensures enqueues { OnOk result (Enqueues P.cmp now (message_of message) (planned P.cmp self.old)
+            (goes [] (planned P.cmp self.new))) }
+        ensures waits { OnOk result (PlansStart P.cmp now
+            (with_queued P.cmp (planned P.cmp self.old) (message_of message)) (planned P.cmp self.new)) }
+        ensures unchanged { OnErr result (planned P.cmp self.new ≡ planned P.cmp self.old) }
+        ensures refused { IfErr result (λ e. e ≡ Error.OutOfMemory) }
+    {
+        self.waiting.push(self.alloc, message)?;
+        self.plan_start(now);
+        Ok(())
+    }
+}

@@ -1,8 +1,0 @@
-use Rattle.link_scheduler.specs.Calls.AsPlanned.{planned}
-use Rattle.link_scheduler.proofs.Calls.Advancing.{rests}
-use Rattle.link_scheduler.proofs.transmitter.ledger.Ledger.rest.Goals as goal
-
-pub returns : goal.returns
-returns g c =
-    rests g.P.Ord.cmp g.met.P.Ord.total c.args.now (planned g.P.Ord.cmp c.args.self.now)
-    (planned g.P.Ord.cmp c.plan_start.new.self) c.requires c.plan_start.ensures
