@@ -4,9 +4,7 @@ pub mod LinkCaps
 pub mod LookingUp
 pub mod Numerals
 pub mod Printing
-pub mod Ranges
 pub mod Reading
 pub mod Scheduling
 pub mod Splitting
-pub mod Tracing
 pub mod Wording

@@ -4,5 +4,4 @@ pub mod Outcome
 pub mod Schedule
 pub mod Script
 pub mod Session
-pub mod Trace
 pub mod Words

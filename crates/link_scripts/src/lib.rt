@@ -1,5 +1,4 @@
 //! The language of `linkrun`: scripts of flows, caps, messages and moments.
 #![tactic(auto)]
 
-pub mod linkcheck;
 pub mod linkrun;

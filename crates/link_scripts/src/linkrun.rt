@@ -2,12 +2,12 @@
 ghost use Rattle.std.specs.Prelude.{◌≡◌, Some, IfOk};
 ghost use Rattle.link_scripts.specs.Outcome.{status_of, outcome_text, CountsFromOne};
 
-pub(crate) mod answer;
+pub mod answer;
 pub mod command;
 pub mod line;
 pub(crate) mod schedule;
 mod session;
-pub(crate) mod word;
+pub mod word;
 pub mod zeros;
 
 use crate::linkrun::command::Command;

@@ -1,7 +1,7 @@
 //! Compares the trace on standard input with what the simulation does, and prints the verdict.
 #![tactic(auto)]
 
-use link_scripts::linkcheck;
+use link_traces::linkcheck;
 use std::process::ExitCode;
 
 fn main(rt: HostRuntime) -> ExitCode {

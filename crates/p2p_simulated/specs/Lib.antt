@@ -9,6 +9,7 @@ pub use Rattle.link_simulation.specs.Simulation
 pub use Rattle.link_simulation.specs.Rule
 pub use Rattle.link_simulation.specs.Examples
 pub use Rattle.link_scheduler.specs.Calls
+pub use Rattle.link_events.specs.Events
 pub use Rattle.link_flights.specs.Flights
 pub use Rattle.link_waiting.specs.Idle
 pub use Rattle.link_pairs.specs.Pairs
@@ -18,5 +19,5 @@ pub use Rattle.link_scripts.specs.Outcome
 pub use Rattle.link_scripts.specs.Schedule
 pub use Rattle.link_scripts.specs.Script
 pub use Rattle.link_scripts.specs.Session
-pub use Rattle.link_scripts.specs.Trace
+pub use Rattle.link_traces.specs.Trace
 pub use Rattle.link_scripts.specs.Words

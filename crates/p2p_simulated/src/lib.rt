@@ -2,7 +2,7 @@
 //!
 //! The modules are those of the crates that this one passes on: rates of `fair_rates`, the
 //! scheduler of `link_scheduler` and what follows from its promises, its definitions and their laws
-//! of `link_simulation`, scripts and traces of `link_scripts`, and pictures of `link_pictures`. So
+//! of `link_simulation`, scripts of `link_scripts`, traces of `link_traces`, and pictures of `link_pictures`. So
 //! are the definitions that contracts cite: `Rattle.p2p_simulated.specs.Calls.State` is that of
 //! `link_scheduler`.
 #![tactic(auto)]
@@ -10,5 +10,6 @@
 pub use fair_rates::{bandwidth, error, peer, ratio};
 pub use link_pictures::linkdraw;
 pub use link_scheduler::{clauses, replay, transmitter};
-pub use link_scripts::{linkcheck, linkrun};
+pub use link_scripts::linkrun;
 pub use link_simulation::model;
+pub use link_traces::linkcheck;

@@ -1,5 +1,5 @@
 //! Traces that agree, and a fault in each kind of line.
-use link_scripts::linkcheck::{Fault, Verdict, run, status};
+use link_traces::linkcheck::{Fault, Verdict, run, status};
 use std::alloc::{AllocError, Global};
 use std::io;
 use std::io::{ErrorKind, Read, Write};

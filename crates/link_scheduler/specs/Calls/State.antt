@@ -7,6 +7,7 @@ use Rattle.fair_rates.specs.declared.error.Error.{Error}
 use Rattle.link_scheduler.specs.declared.transmitter.State.{State}
 use Rattle.link_pairs.specs.declared.completion.Completion.{Completion}
 use Rattle.link_events.specs.declared.outgoing.Outgoing.{Outgoing}
+pub use Rattle.link_events.specs.Events.Outgoing.{sent, outgoing}
 use Rattle.link_simulation.specs.Laws.Conserved.{IsConserved}
 use Rattle.link_pairs.specs.Pairs.Messages.{completed_of}
 use Rattle.link_simulation.specs.Rule.SamePlanned.{GoesByRule, AdvancesByRule}

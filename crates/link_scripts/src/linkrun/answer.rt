@@ -41,7 +41,7 @@ pub(crate) fn print<W: Write>(output: &mut W, answer: Result<Answer, Error>) -> 
 }
 
 /// Prints what the scheduler replied, a line each.
-pub(crate) fn print_reply<W: Write>(output: &mut W, reply: &Reply<u64>) -> io::Result<()>
+pub fn print_reply<W: Write>(output: &mut W, reply: &Reply<u64>) -> io::Result<()>
     ensures { OnOk result (Appends (W.contents output.old) (W.contents output.new) (reply_text (reply_of reply.now))) }
 {
     match reply {

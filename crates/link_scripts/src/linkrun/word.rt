@@ -12,7 +12,7 @@ const MOST_LENGTH: usize = 67_108_864;
 
 /// The words of a line that are not taken yet. They stand with one space between each two.
 #[derive(Drop)]
-pub(crate) struct Words<'a> {
+pub struct Words<'a> {
     parts: Split<'a, char>,
     ghost at_spaces: { split_pattern parts ≡ 32 },
 }
@@ -21,7 +21,7 @@ impl<'a> Words<'a> {
     ghost use Rattle.link_scripts.specs.Words.{parts_of, words_left};
 
     /// All the words of a line.
-    pub(crate) fn of(line: &'a str) -> Words<'a>
+    pub fn of(line: &'a str) -> Words<'a>
         ensures { words_left result ≡ parts_of line.now }
     {
         Words {
@@ -30,7 +30,7 @@ impl<'a> Words<'a> {
     }
 
     /// Takes the next word.
-    pub(crate) fn next(&mut self) -> Option<&'a str>
+    pub fn next(&mut self) -> Option<&'a str>
         ensures taken { words_left self.old ≡ option_to_list (option_copied result) ++ words_left self.new }
         ensures none { IfNone result (words_left self.old ≡ []) }
     {
@@ -38,7 +38,7 @@ impl<'a> Words<'a> {
     }
 
     /// Takes the next word, a number of 64 bits.
-    pub(crate) fn number(&mut self) -> Option<u64>
+    pub fn number(&mut self) -> Option<u64>
         ensures { Takes (λ n. number_word n ∷ []) IsNumberInRange (words_left self.old) result (words_left self.new) }
     {
         u64::try_from(number(self.next()?)?).ok()
@@ -78,7 +78,7 @@ impl<'a> Words<'a> {
     }
 
     /// Takes the next word, `0` or `1`.
-    pub(crate) fn flag(&mut self) -> Option<bool>
+    pub fn flag(&mut self) -> Option<bool>
         ensures { Takes (λ flag. flag_word flag ∷ []) (λ _. Unit {0})
             (words_left self.old) result (words_left self.new) }
     {

@@ -17,10 +17,10 @@ use Rattle.link_simulation.specs.Simulation.World.{new_world}
 use Rattle.link_simulation.specs.Simulation.Replies.{Agrees}
 use Rattle.link_simulation.specs.Rule.Planned.{new_planned}
 use Rattle.link_simulation.specs.Rule.Refusals.{Obeyed}
-use Rattle.link_scripts.specs.Trace.{IsClosed, IsTranscript, call_in, call_line, transcript_of}
+use Rattle.link_traces.specs.Trace.{IsClosed, IsTranscript, call_in, call_line, transcript_of}
 use Rattle.link_scripts.specs.Script.{IsCallOfScriptInRange}
-use Rattle.link_scripts.proofs.Ranges.{range_prop}
-use Rattle.link_scripts.specs.declared.linkcheck.asked.Asked.{Asked}
+use Rattle.link_traces.proofs.Ranges.{range_prop}
+use Rattle.link_traces.specs.declared.linkcheck.asked.Asked.{Asked}
 
 -- the calls of lines are in range
 pub calls_in_range : (asked : List Asked) → All IsCallOfScriptInRange (map call_in asked)

@@ -2,12 +2,12 @@
 ghost use Rattle.std.specs.Prelude.{◌≡◌, map, IfOk};
 ghost use Rattle.link_scheduler.specs.Calls.Replay.{call_of};
 ghost use Rattle.link_scripts.specs.Schedule.{world_call};
-ghost use Rattle.link_scripts.specs.Trace.{call_in};
+ghost use Rattle.link_traces.specs.Trace.{call_in};
 
 use crate::linkcheck::asked::Asked;
-use crate::linkrun::zeros::Zeros;
 use fair_rates::error::Error;
 use link_scheduler::replay::Call;
+use link_scripts::linkrun::zeros::Zeros;
 use std::alloc::Global;
 
 /// The calls, each with a message of so many zero bytes.

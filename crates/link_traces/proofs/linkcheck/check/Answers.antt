@@ -2,10 +2,10 @@ use Rattle.std.proofs.Common.{rules, ◌≡◌, ℕ, List, map, ap, ◌∙◌}
 use Rattle.link_scheduler.specs.Calls.Replay.{call_of}
 use Rattle.link_scheduler.specs.declared.replay.Call as replay_call
 use Rattle.link_scripts.specs.Schedule.{world_call}
-use Rattle.link_scripts.specs.Trace.{call_in}
-use Rattle.link_scripts.specs.declared.linkcheck.asked.Asked.{Asked}
-use Rattle.link_scripts.proofs.Tracing.{told_of, agreed}
-use Rattle.link_scripts.proofs.linkcheck.check.Goals as goal
+use Rattle.link_traces.specs.Trace.{call_in}
+use Rattle.link_traces.specs.declared.linkcheck.asked.Asked.{Asked}
+use Rattle.link_traces.proofs.Tracing.{told_of, agreed}
+use Rattle.link_traces.proofs.linkcheck.check.Goals as goal
 
 pub returns-then-eq-clause-agrees : goal.returns-then-eq-clause-agrees
 returns-then-eq-clause-agrees c =

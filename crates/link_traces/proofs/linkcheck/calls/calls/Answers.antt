@@ -1,8 +1,8 @@
 use Rattle.std.proofs.Common.{◌≡◌, ◌+◌, ◌∷◌, ◌++◌, [], take, map, rules, ap, ◌∙◌}
 use Rattle.std.proofs.lemmas.List.{take_more}
 use Rattle.link_scheduler.specs.Calls.Replay.{call_of}
-use Rattle.link_scripts.proofs.Tracing.{next_call}
-use Rattle.link_scripts.proofs.linkcheck.calls.calls.Goals as goal
+use Rattle.link_traces.proofs.Tracing.{next_call}
+use Rattle.link_traces.proofs.linkcheck.calls.calls.Goals as goal
 
 pub loop-one-preserved : goal.loop-one-preserved
 loop-one-preserved c =

@@ -2,16 +2,16 @@
 use Rattle.std.specs.Prelude.{◌≡◌, ◌⊎◌, ⊤, ℕ, ◌≤◌, List, [], ◌∷◌, ◌++◌, All, map, codes, decimal}
 use Rattle.std.specs.Prelude.{Option, None, Some, Result, Ok, Err}
 use Rattle.std.specs.Ordering.{nat_cmp}
-use Rattle.link_scripts.specs.declared.linkcheck.asked.Asked.{Asked}
+use Rattle.link_traces.specs.declared.linkcheck.asked.Asked.{Asked}
 use Rattle.link_scheduler.specs.declared.replay.Call.{Call}
 use Rattle.link_scripts.specs.declared.linkrun.command.Command.TheVariants as commands
 use Rattle.link_scripts.specs.Answer.{reply_text}
 use Rattle.link_scripts.specs.Schedule.{world_call}
 use Rattle.link_scripts.specs.Script.{line_of, IsCallOfScriptInRange}
-use Rattle.link_scripts.specs.declared.linkcheck.Fault.{Fault}
-use Rattle.link_scripts.specs.declared.linkcheck.Fault.TheVariants as faults
-use Rattle.link_scripts.specs.declared.linkcheck.Verdict.{Verdict}
-use Rattle.link_scripts.specs.declared.linkcheck.Verdict.TheVariants as verdicts
+use Rattle.link_traces.specs.declared.linkcheck.Fault.{Fault}
+use Rattle.link_traces.specs.declared.linkcheck.Fault.TheVariants as faults
+use Rattle.link_traces.specs.declared.linkcheck.Verdict.{Verdict}
+use Rattle.link_traces.specs.declared.linkcheck.Verdict.TheVariants as verdicts
 use Rattle.link_simulation.specs.Simulation.World.{new_world}
 use Rattle.link_simulation.specs.Rule.Planned.{new_planned}
 use Rattle.link_simulation.specs.Rule.Refusals.{Obeyed}

@@ -4,8 +4,8 @@ ghost use Rattle.link_scripts.specs.Script.{line_of, IsCallOfScriptInRange};
 ghost use Rattle.link_scripts.specs.declared.linkrun.command.Command.TheVariants as commands;
 
 use crate::linkcheck::{Fault, said};
-use crate::linkrun::command::Command;
 use link_scheduler::replay::Call;
+use link_scripts::linkrun::command::Command;
 use std::alloc::Global;
 
 /// The byte that ends a line.

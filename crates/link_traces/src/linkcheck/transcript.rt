@@ -2,11 +2,11 @@
 ghost use Rattle.std.specs.Prelude.{◌≡◌, ◌++◌, map, IfOk, OnOk};
 ghost use Rattle.link_scheduler.specs.Calls.Replay.{reply_of};
 ghost use Rattle.link_scripts.specs.Answer.{reply_text};
-ghost use Rattle.link_scripts.specs.Trace.{transcript_of, call_in, call_line};
+ghost use Rattle.link_traces.specs.Trace.{transcript_of, call_in, call_line};
 
 use crate::linkcheck::asked::{Asked, NEWLINE};
-use crate::linkrun::answer;
 use link_scheduler::replay::Reply;
+use link_scripts::linkrun::answer;
 use std::alloc::Global;
 use std::io;
 

@@ -1,6 +1,6 @@
 use Rattle.std.proofs.Common.{rules, ◌≡◌, Some}
 use Rattle.link_scripts.specs.declared.linkrun.command.Command.TheVariants as commands
-use Rattle.link_scripts.proofs.linkcheck.asked.call.Goals as goal
+use Rattle.link_traces.proofs.linkcheck.asked.call.Goals as goal
 
 pub invariant_of-result : goal.invariant_of-result
 invariant_of-result c =

@@ -1,8 +1,8 @@
 //! Whether a trace is what the simulation does: the calls of a scheduler, and the lines that
 //! another simulator answered to each.
 ghost use Rattle.std.specs.Prelude.{◌≡◌, IfOk, IfSome, OnOk, Some};
-ghost use Rattle.link_scripts.specs.Trace.{IsTranscript, IsWithinTolerance, IsHeadedTranscript, IsClosed, IsAgreed};
-ghost use Rattle.link_scripts.specs.Trace.{fault_text, verdict_status};
+ghost use Rattle.link_traces.specs.Trace.{IsTranscript, IsWithinTolerance, IsHeadedTranscript, IsClosed, IsAgreed};
+ghost use Rattle.link_traces.specs.Trace.{fault_text, verdict_status};
 
 mod asked;
 mod calls;

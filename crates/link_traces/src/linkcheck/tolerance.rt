@@ -1,9 +1,9 @@
 //! The tolerance of a trace.
 ghost use Rattle.std.specs.Prelude.{◌≡◌, ◌++◌, IfOk, IfSome};
-ghost use Rattle.link_scripts.specs.Trace.{IsAfterTolerance};
+ghost use Rattle.link_traces.specs.Trace.{IsAfterTolerance};
 
 use crate::linkcheck::asked::split_line;
-use crate::linkrun::word::Words;
+use link_scripts::linkrun::word::Words;
 use std::alloc::Global;
 use std::io;
 use std::io::Write;

@@ -1,6 +1,6 @@
 use Rattle.std.proofs.lemmas.Slice.Zip.{Zip-more, either_empty_from_Zip}
-use Rattle.link_scripts.proofs.Tracing.{told, all_told}
-use Rattle.link_scripts.proofs.linkcheck.transcript.transcript.Goals as goal
+use Rattle.link_traces.proofs.Tracing.{told, all_told}
+use Rattle.link_traces.proofs.linkcheck.transcript.transcript.Goals as goal
 
 pub loop-one-preserved : goal.loop-one-preserved
 loop-one-preserved c =

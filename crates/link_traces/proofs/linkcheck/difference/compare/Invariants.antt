@@ -1,5 +1,5 @@
 use Rattle.std.proofs.Common.{◌≤◌}
-use Rattle.link_scripts.proofs.linkcheck.difference.compare.Given as goal
+use Rattle.link_traces.proofs.linkcheck.difference.compare.Given as goal
 
 -- moments are off by no more than the tolerance so far
 abbrev pub invariant-loop : goal.invariant-loop

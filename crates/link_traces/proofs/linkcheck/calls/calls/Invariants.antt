@@ -1,8 +1,8 @@
 use Rattle.std.proofs.Common.{◌≡◌, map, take}
 use Rattle.link_scheduler.specs.Calls.Replay.{call_of}
 use Rattle.link_scripts.specs.Schedule.{world_call}
-use Rattle.link_scripts.specs.Trace.{call_in}
-use Rattle.link_scripts.proofs.linkcheck.calls.calls.Given as goal
+use Rattle.link_traces.specs.Trace.{call_in}
+use Rattle.link_traces.proofs.linkcheck.calls.calls.Given as goal
 
 -- the calls so far
 abbrev pub invariant-loop-one : goal.invariant-loop-one

@@ -1,8 +1,8 @@
 use Rattle.std.proofs.Common.{◌≡◌, ◌++◌}
 use Rattle.std.specs.Iterator.Adapters.{zip_first, zip_second}
 use Rattle.std.specs.Slice.Iter.{iter_rest}
-use Rattle.link_scripts.proofs.Tracing.{told_of}
-use Rattle.link_scripts.proofs.linkcheck.transcript.transcript.Given as goal
+use Rattle.link_traces.proofs.Tracing.{told_of}
+use Rattle.link_traces.proofs.linkcheck.transcript.transcript.Given as goal
 
 -- what is told, and what is to come
 abbrev pub invariant-loop-one : goal.invariant-loop-one

@@ -1,6 +1,6 @@
 //! Where a trace and the simulation differ.
 ghost use Rattle.std.specs.Prelude.{◌≢◌, ℕ, IfOk};
-ghost use Rattle.link_scripts.specs.Trace.{IsWithinTolerance};
+ghost use Rattle.link_traces.specs.Trace.{IsWithinTolerance};
 
 use crate::linkcheck::asked::split_line;
 use crate::linkcheck::said::Said;
