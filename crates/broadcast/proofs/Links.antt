@@ -2,7 +2,7 @@
 use Rattle.std.proofs.Common.{◌≡◌, ℕ, ◌≤◌, List, length, ◌-◌, sym, ap, ◌∙◌, subst, arith}
 use Rattle.std.proofs.lemmas.List.{length-take-le}
 use Rattle.std.specs.List.{slice_range}
-use Rattle.link_events.specs.Events.Outgoing.{outgoing}
+use Rattle.link_events.specs.Steps.Outgoing.{outgoing}
 use Rattle.link_events.specs.declared.outgoing.Outgoing.{Outgoing}
 use Rattle.broadcast.specs.declared.link.Link.{Link}
 use Rattle.broadcast.specs.Links.{message_over, IsVoteOver}

@@ -1,7 +1,7 @@
 -- Links between peers, and the messages that go over them.
 use Rattle.std.specs.Prelude.{◌≡◌, ◌≢◌, ℕ, ◌≤◌, ◌<◌, List, length, true}
 use Rattle.link_simulation.specs.Simulation.Messages.{Message}
-use Rattle.link_events.specs.Events.Outgoing.{sent, outgoing}
+use Rattle.link_events.specs.Steps.Outgoing.{sent, outgoing}
 use Rattle.link_events.specs.declared.outgoing.Outgoing.{Outgoing}
 use Rattle.broadcast.specs.declared.link.Link.{Link}
 

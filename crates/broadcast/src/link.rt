@@ -1,7 +1,7 @@
 //! From whom to whom messages go, and how long they take.
 ghost use Rattle.std.specs.Prelude.{◌≡◌, IfOk};
 ghost use Rattle.std.specs.List.{All};
-ghost use Rattle.link_events.specs.Events.Outgoing.{outgoing};
+ghost use Rattle.link_events.specs.Steps.Outgoing.{outgoing};
 ghost use Rattle.broadcast.specs.Links.{IsLinkOf, message_over};
 
 use crate::chance::Chance;

@@ -4,8 +4,8 @@ ghost use Rattle.link_simulation.specs.Simulation.Calls.{call_limit, call_limit_
 ghost use Rattle.link_simulation.specs.Simulation.Calls.{call_advance};
 ghost use Rattle.link_simulation.specs.Rule.Refusals.{MayBeRefused};
 ghost use Rattle.link_pairs.specs.Pairs.Messages.{message_of, completed_of};
-ghost use Rattle.link_events.specs.Events.Answered.{IsAnswered, IsAnsweredIn};
-ghost use Rattle.link_events.specs.Events.Outgoing.{outgoing};
+ghost use Rattle.link_events.specs.Steps.Answered.{IsAnswered, IsAnsweredIn};
+ghost use Rattle.link_events.specs.Steps.Outgoing.{outgoing};
 
 use crate::ledger::Ledger;
 use crate::outgoing::Outgoing;
@@ -15,7 +15,7 @@ use link_pairs::completion::{Completion, answers_of};
 use link_pairs::message::Message;
 
 impl<P: Peer> Ledger<P> {
-    ghost use Rattle.link_events.specs.Events.AsPlanned.{planned};
+    ghost use Rattle.link_events.specs.Steps.AsPlanned.{planned};
 
     /// Sets the caps of a peer, and answers what completes under them.
     pub fn answer_limit(

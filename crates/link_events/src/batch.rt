@@ -6,8 +6,8 @@ ghost use Rattle.link_simulation.specs.Rule.Planned.{Planned as AnyPlanned};
 ghost use Rattle.link_simulation.specs.Rule.Events.{Enqueues};
 ghost use Rattle.link_simulation.specs.Rule.Events.{EnqueuesEach};
 ghost use Rattle.link_pairs.specs.Pairs.Messages.{message_of, ended_of};
-ghost use Rattle.link_events.specs.Events.Outgoing.{outgoing};
-ghost use Rattle.link_events.specs.Events.Standing.{OnlyStarts, IsStanding, is_settled, does_start, standing_after};
+ghost use Rattle.link_events.specs.Steps.Outgoing.{outgoing};
+ghost use Rattle.link_events.specs.Steps.Standing.{OnlyStarts, IsStanding, is_settled, does_start, standing_after};
 
 use crate::ledger::Ledger;
 use crate::outgoing::Outgoing;
@@ -52,7 +52,7 @@ impl Standing {
 }
 
 impl<P: Peer> Ledger<P> {
-    ghost use Rattle.link_events.specs.Events.AsPlanned.{planned};
+    ghost use Rattle.link_events.specs.Steps.AsPlanned.{planned};
 
     /// Messages are sent one after another. Those that only start share one account.
     pub(crate) fn enqueue_all(

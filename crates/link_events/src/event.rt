@@ -11,7 +11,7 @@ pub(crate) enum Event {
 }
 
 impl Event {
-    ghost use Rattle.link_events.specs.Events.Due.{event_moment};
+    ghost use Rattle.link_events.specs.Steps.Due.{event_moment};
 
     pub(crate) fn moment(&self) -> u64
         ensures { result ≡ event_moment self.now }

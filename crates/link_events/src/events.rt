@@ -11,7 +11,7 @@ ghost use Rattle.link_simulation.specs.Rule.Events.{landed, completed_at_once, w
 ghost use Rattle.link_simulation.specs.Simulation.RefusalCauses.{IsRefusedFor};
 ghost use Rattle.link_pairs.specs.Pairs.Messages.{message_of, ended_of};
 ghost use Rattle.link_pairs.specs.Pairs.Entries.{first_of, arrival_of};
-ghost use Rattle.link_events.specs.Events.Due.{IsDue, Happens};
+ghost use Rattle.link_events.specs.Steps.Due.{IsDue, Happens};
 
 use crate::event::Event;
 use crate::ledger::Ledger;
@@ -26,10 +26,10 @@ use std::collections::VecDeque;
 use std::rc::Rc;
 
 impl<P: Peer> Ledger<P> {
-    ghost use Rattle.link_events.specs.Events.AsPlanned.{planned};
+    ghost use Rattle.link_events.specs.Steps.AsPlanned.{planned};
     ghost use Rattle.link_pairs.specs.Pairs.Messages.{messages};
     ghost use Rattle.link_waiting.specs.Idle.Starting.{may_launch_first};
-    ghost use Rattle.link_events.specs.Events.AsPlanned.{HasNothingDue};
+    ghost use Rattle.link_events.specs.Steps.AsPlanned.{HasNothingDue};
     ghost use Rattle.link_waiting.specs.Idle.AtRest.{is_sending};
 
     /// Whether the first waiting message of the pair may start: the pair is idle, and the message

@@ -47,7 +47,7 @@ pub struct Ledger<P: Peer> {
 impl<P: Peer> Ledger<P> {
     ghost use Rattle.link_simulation.specs.Simulation.Calls.{limited_by, linked_by};
     ghost use Rattle.link_simulation.specs.Rule.Planned.{new_planned, next_event as next_of_planned};
-    ghost use Rattle.link_events.specs.Events.AsPlanned.{planned};
+    ghost use Rattle.link_events.specs.Steps.AsPlanned.{planned};
 
     pub fn new(alloc: Global, first: u64) -> Self
         ensures { planned P.cmp result ≡ new_planned first }
@@ -160,7 +160,7 @@ impl<P: Peer> Ledger<P> {
 }
 
 impl<P: Peer> Clone for Ledger<P> {
-    ghost use Rattle.link_events.specs.Events.AsPlanned.{planned};
+    ghost use Rattle.link_events.specs.Steps.AsPlanned.{planned};
 
     ghost is_clone = { λ ledger copy. planned P.cmp copy ≡ planned P.cmp ledger };
 

@@ -18,7 +18,7 @@ use link_waiting::waiting::Waiting;
 use std::rc::Rc;
 
 impl<P: Peer> Ledger<P> {
-    ghost use Rattle.link_events.specs.Events.AsPlanned.{planned};
+    ghost use Rattle.link_events.specs.Steps.AsPlanned.{planned};
     ghost use Rattle.link_waiting.specs.Idle.Starting.{may_launch_first};
     ghost use Rattle.link_waiting.specs.Idle.AtRest.{is_sending};
 

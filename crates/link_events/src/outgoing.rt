@@ -1,7 +1,7 @@
 //! A message that is to be sent.
 ghost use Rattle.std.specs.Prelude.{◌≡◌};
 ghost use Rattle.link_pairs.specs.Pairs.Messages.{message_of};
-ghost use Rattle.link_events.specs.Events.Outgoing.{outgoing};
+ghost use Rattle.link_events.specs.Steps.Outgoing.{outgoing};
 
 use bytes::Bytes;
 use link_pairs::message::Message;

@@ -20,7 +20,7 @@ use std::mem;
 use std::rc::Rc;
 
 impl<P: Peer> Ledger<P> {
-    ghost use Rattle.link_events.specs.Events.AsPlanned.{planned};
+    ghost use Rattle.link_events.specs.Steps.AsPlanned.{planned};
     ghost use Rattle.link_waiting.specs.Idle.PairsOfMessages.{NamesPairOf};
     ghost use Rattle.link_waiting.specs.Idle.Starting.{ready_messages};
 

@@ -13,7 +13,7 @@ ghost use Rattle.fair_rates.specs.declared.error.Error.TheVariants.{OutOfMemory,
 ghost use Rattle.link_pairs.specs.Pairs.Messages.{completed_of};
 ghost use Rattle.link_flights.specs.Flights.Readings.{HasShortTerms, IsGreatestWhole, IsReadingOf, IsReadAs};
 ghost use Rattle.link_scheduler.specs.Calls.State.{planned_of, Makes, Refuses, IsNew, IsAdvanced, IsCounted};
-ghost use Rattle.link_events.specs.Events.Outgoing.{sent};
+ghost use Rattle.link_events.specs.Steps.Outgoing.{sent};
 ghost use Rattle.link_scheduler.specs.Calls.State.{IsNextOf};
 ghost use Rattle.link_flights.specs.declared.reading.InFlight.{InFlight as AnyInFlight};
 ghost use Rattle.link_flights.specs.declared.reading.Reading.{Reading as AnyReading};

@@ -11,7 +11,7 @@ ghost use Rattle.link_simulation.specs.Rule.Refusals.{Obeyed};
 ghost use Rattle.link_simulation.specs.Simulation.Replies.{Agrees};
 ghost use Rattle.link_simulation.specs.Rule.SamePlanned.{IsSameCall};
 ghost use Rattle.link_scheduler.specs.Calls.State.{planned_of};
-ghost use Rattle.link_events.specs.Events.Outgoing.{outgoing};
+ghost use Rattle.link_events.specs.Steps.Outgoing.{outgoing};
 ghost use Rattle.link_simulation.specs.Laws.Conserved.{AreConserved};
 ghost use Rattle.link_simulation.specs.Laws.Replies.{AlwaysSoFar, RefusesForMemoryAlone, CompletePairsInOrder};
 ghost use Rattle.link_simulation.specs.Laws.Replies.{IsolateSets};

@@ -1,7 +1,7 @@
 //! When each message arrives: a scheduler of messages over capped peers.
 ghost use Rattle.std.specs.Prelude.{◌≡◌, ◌≤◌, length, IfOk, IfErr, IsOk, OnErr};
 ghost use Rattle.link_simulation.specs.Laws.Orderly.{IsOrderly};
-ghost use Rattle.link_events.specs.Events.AsPlanned.{planned};
+ghost use Rattle.link_events.specs.Steps.AsPlanned.{planned};
 ghost use Rattle.link_simulation.specs.Simulation.Calls.{call_limit, call_limit_link, call_enqueue, call_advance};
 ghost use Rattle.link_simulation.specs.Simulation.Messages.{CapsAlike, PairsAlike};
 ghost use Rattle.link_simulation.specs.Rule.Planned.{IsPlanned};
@@ -74,7 +74,7 @@ impl<P: Peer> State<P> {
     ghost use Rattle.link_pairs.specs.Pairs.Messages.{message_of};
     ghost use Rattle.link_flights.specs.Flights.Readings.{IsReadAs};
     ghost use Rattle.link_scheduler.specs.Calls.State.{planned_of, IsNew, IsMade, IsRefused, IsAdvanced};
-    ghost use Rattle.link_events.specs.Events.Outgoing.{sent};
+    ghost use Rattle.link_events.specs.Steps.Outgoing.{sent};
     ghost use Rattle.link_scheduler.specs.Calls.State.{IsCounted, sends, AreMade, IsOneRefused};
     ghost use Rattle.link_scheduler.specs.Calls.State.{IsNextOf, IsQuietUntil, rated_at_last};
 

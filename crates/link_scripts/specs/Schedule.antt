@@ -6,7 +6,7 @@ use Rattle.link_scheduler.specs.declared.replay.Call as script
 use Rattle.link_scheduler.specs.declared.replay.Call.TheVariants as calls
 use Rattle.link_scheduler.specs.declared.transmitter.State.{State}
 use Rattle.link_events.specs.declared.outgoing.Outgoing.{Outgoing}
-use Rattle.link_events.specs.Events.Outgoing.{sent}
+use Rattle.link_events.specs.Steps.Outgoing.{sent}
 use Rattle.link_scheduler.specs.Calls.Replay.{IsAnswered}
 use Rattle.link_simulation.specs.Simulation.Calls.{Call, call_limit, call_limit_link, call_enqueue, call_advance}
 use Rattle.link_simulation.specs.Simulation.Calls.{call_enqueue_all, call_next}

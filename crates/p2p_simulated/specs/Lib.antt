@@ -9,7 +9,7 @@ pub use Rattle.link_simulation.specs.Simulation
 pub use Rattle.link_simulation.specs.Rule
 pub use Rattle.link_simulation.specs.Examples
 pub use Rattle.link_scheduler.specs.Calls
-pub use Rattle.link_events.specs.Events
+pub use Rattle.link_events.specs.Steps
 pub use Rattle.link_flights.specs.Flights
 pub use Rattle.link_waiting.specs.Idle
 pub use Rattle.link_pairs.specs.Pairs

@@ -2,7 +2,7 @@
 ghost use Rattle.std.specs.Prelude.{◌≡◌, [], length, min, drop, replicate, IfOk, IfErr, MatchResult};
 ghost use Rattle.fair_rates.specs.Refusals.ErrorTexts.{refusal_number};
 ghost use Rattle.link_scheduler.specs.Calls.State.{IsNew, IsNextOf};
-ghost use Rattle.link_events.specs.Events.Outgoing.{sent};
+ghost use Rattle.link_events.specs.Steps.Outgoing.{sent};
 ghost use Rattle.link_simulation.specs.Simulation.Calls.{call_limit, call_limit_link, call_enqueue, call_advance};
 ghost use Rattle.p2p_simulated_c.specs.Asked.{Ended, Advanced, Counted};
 ghost use Rattle.p2p_simulated_c.specs.Completions.{records_from, completed_bytes_from};

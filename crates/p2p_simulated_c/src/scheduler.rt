@@ -1,7 +1,7 @@
 //! What C has of a scheduler.
 ghost use Rattle.std.specs.Prelude.{◌≡◌, None, length, min, replicate};
 ghost use Rattle.link_scheduler.specs.Calls.State.{IsNew, IsNextOf};
-ghost use Rattle.link_events.specs.Events.Outgoing.{sent};
+ghost use Rattle.link_events.specs.Steps.Outgoing.{sent};
 ghost use Rattle.link_simulation.specs.Simulation.Calls.{call_limit, call_limit_link, call_enqueue, call_advance};
 ghost use Rattle.p2p_simulated_c.specs.Asked.{OnHandle, Ended, Advanced, Counted};
 ghost use Rattle.p2p_simulated_c.specs.Completions.{records_from, completed_bytes_from};

@@ -15,7 +15,7 @@ use Rattle.link_simulation.specs.Rule.Refusals.{MayBeRefused}
 use Rattle.link_simulation.specs.Rule.SamePlanned.{IsSamePlanned, AdvancesByRule}
 use Rattle.link_simulation.specs.Laws.Orderly.{IsOrderly}
 use Rattle.link_simulation.proofs.Rule.SamePlanned.{same_itself}
-use Rattle.link_events.specs.Events.Answered.{IsAnswered, IsAnsweredIn}
+use Rattle.link_events.specs.Steps.Answered.{IsAnswered, IsAnsweredIn}
 use Rattle.link_scheduler.specs.Calls.State.{Makes, Refuses}
 use Rattle.link_scheduler.proofs.Calls.Calling.{goes_on, goes_answered, advances_on, counted_answered}
 use Rattle.link_scheduler.proofs.Calls.Promises.{orderly_on, promised_if, cause_of}

@@ -9,7 +9,7 @@ use Rattle.link_scheduler.specs.declared.replay.Reply.TheVariants as replies
 use Rattle.link_scheduler.specs.declared.transmitter.State.{State}
 use Rattle.fair_rates.specs.declared.error.Error.{Error}
 use Rattle.link_scheduler.specs.Calls.State.{IsMade, IsRefused, IsNextOf}
-use Rattle.link_events.specs.Events.Outgoing.{outgoing}
+use Rattle.link_events.specs.Steps.Outgoing.{outgoing}
 use Rattle.link_pairs.specs.Pairs.Messages.{completed_of}
 use Rattle.link_simulation.specs.Simulation.Calls.{Call, call_limit, call_limit_link, call_enqueue, call_advance}
 use Rattle.link_simulation.specs.Simulation.Calls.{call_enqueue_all, call_next}

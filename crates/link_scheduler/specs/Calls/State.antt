@@ -7,13 +7,13 @@ use Rattle.fair_rates.specs.declared.error.Error.{Error}
 use Rattle.link_scheduler.specs.declared.transmitter.State.{State}
 use Rattle.link_pairs.specs.declared.completion.Completion.{Completion}
 use Rattle.link_events.specs.declared.outgoing.Outgoing.{Outgoing}
-pub use Rattle.link_events.specs.Events.Outgoing.{sent, outgoing}
+pub use Rattle.link_events.specs.Steps.Outgoing.{sent, outgoing}
 use Rattle.link_simulation.specs.Laws.Conserved.{IsConserved}
 use Rattle.link_pairs.specs.Pairs.Messages.{completed_of}
 use Rattle.link_simulation.specs.Rule.SamePlanned.{GoesByRule, AdvancesByRule}
 use Rattle.link_simulation.specs.Rule.Simulated.{IsSimulated, KeepsRange, IsRefusedInSimulation, IsNextInSimulation}
 use Rattle.link_simulation.specs.Rule.Simulated.{IsSplitAnywhere, KeepsToCaps}
-use Rattle.link_events.specs.Events.AsPlanned.{planned, HasNothingDue}
+use Rattle.link_events.specs.Steps.AsPlanned.{planned, HasNothingDue}
 use Rattle.link_simulation.specs.Simulation.World.{Completed, new_world}
 use Rattle.link_simulation.specs.Simulation.Calls.{Call, call_enqueue}
 use Rattle.link_simulation.specs.Laws.PairCompletions.{enqueued}

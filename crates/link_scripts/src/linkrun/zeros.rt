@@ -1,7 +1,7 @@
 //! Zero bytes that the messages of a script share.
 ghost use Rattle.std.specs.Prelude.{◌≡◌, ◌≢◌, length, map, replicate, IfOk, IfErr};
 ghost use Rattle.link_scheduler.specs.Calls.Replay.{call_of};
-ghost use Rattle.link_events.specs.Events.Outgoing.{outgoing};
+ghost use Rattle.link_events.specs.Steps.Outgoing.{outgoing};
 ghost use Rattle.link_simulation.specs.Simulation.Calls.{call_next};
 ghost use Rattle.link_scripts.specs.Schedule.{world_call, zeroed};
 

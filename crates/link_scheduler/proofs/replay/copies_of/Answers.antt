@@ -5,7 +5,7 @@ use Rattle.std.proofs.Math.Seq.{take-length}
 use Rattle.fair_rates.proofs.Lists.Zips.{zip-push}
 use Rattle.link_simulation.specs.Simulation.Messages.{Message, SameMessage}
 use Rattle.link_events.specs.declared.outgoing.Outgoing.{Outgoing}
-use Rattle.link_events.specs.Events.Outgoing.{outgoing}
+use Rattle.link_events.specs.Steps.Outgoing.{outgoing}
 use Rattle.link_scheduler.proofs.replay.copies_of.Goals as goal
 
 pub loop-one-preserved : goal.loop-one-preserved

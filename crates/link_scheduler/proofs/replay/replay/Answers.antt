@@ -3,7 +3,7 @@ use Rattle.std.specs.Result.{is_ok}
 use Rattle.std.specs.Vec.{vec_capacity, vec_len}
 use Rattle.std.proofs.lemmas.List.{length-map, get_or-map, map-append}
 use Rattle.link_simulation.specs.Rule.Planned.{new_planned}
-use Rattle.link_events.specs.Events.AsPlanned.{planned}
+use Rattle.link_events.specs.Steps.AsPlanned.{planned}
 use Rattle.link_scheduler.specs.Calls.Replay.{call_of, reply_of}
 use Rattle.link_scheduler.proofs.Calls.Replay.{begins, has_room, goes_on, ends, one_for_each}
 use Rattle.link_simulation.specs.Simulation.World.{new_world}

@@ -4,7 +4,7 @@ use Rattle.std.proofs.lemmas.Bool.{false≢true, eq-eqb, leb-true}
 use Rattle.fair_rates.proofs.Lists.Zips.{zip_weaker}
 use Rattle.link_simulation.specs.Rule.Planned.{Planned, rated_messages}
 use Rattle.link_simulation.specs.Rule.Planned.{drained_to, is_spent}
-use Rattle.link_events.specs.Events.AsPlanned.{planned}
+use Rattle.link_events.specs.Steps.AsPlanned.{planned}
 use Rattle.link_pairs.specs.Pairs.Messages.{messages}
 use Rattle.link_flights.specs.Flights.Flight.{DrainsTo, flights_at}
 use Rattle.link_flights.specs.Flights.InFlight.{in_flight, in_units}

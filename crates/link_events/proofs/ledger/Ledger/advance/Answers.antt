@@ -1,11 +1,11 @@
 use Rattle.std.proofs.Common.{◌≡◌, ◌+◌, ◌<◌, ◌≤◌, map, length, arith}
 use Rattle.std.proofs.lemmas.List.{length-map}
 use Rattle.std.proofs.lemmas.Result.{err_from_is_err_and}
-use Rattle.link_events.specs.Events.AsPlanned.{planned}
+use Rattle.link_events.specs.Steps.AsPlanned.{planned}
 use Rattle.link_pairs.specs.Pairs.Messages.{message_of, ended_of}
 use Rattle.link_flights.proofs.Flights.Standing.{length_in_flight}
-use Rattle.link_events.proofs.Events.Advancing.{advances_step, advances_end, event_refused, wake_refused}
-use Rattle.link_events.proofs.Events.FewerEvents.{events_left, happens_fewer, events_few}
+use Rattle.link_events.proofs.Steps.Advancing.{advances_step, advances_end, event_refused, wake_refused}
+use Rattle.link_events.proofs.Steps.FewerEvents.{events_left, happens_fewer, events_few}
 use Rattle.link_events.proofs.ledger.Ledger.advance.Goals as goal
 
 pub returns-in_err-happen-clause-refused : goal.returns-in_err-happen-clause-refused

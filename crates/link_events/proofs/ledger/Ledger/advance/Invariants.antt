@@ -1,8 +1,8 @@
 use Rattle.std.proofs.Common.{◌+◌, ◌≤◌, map}
-use Rattle.link_events.specs.Events.AsPlanned.{planned}
+use Rattle.link_events.specs.Steps.AsPlanned.{planned}
 use Rattle.link_pairs.specs.Pairs.Messages.{ended_of}
-use Rattle.link_events.proofs.Events.Advancing.{AdvancesSo}
-use Rattle.link_events.proofs.Events.FewerEvents.{events_left}
+use Rattle.link_events.proofs.Steps.Advancing.{AdvancesSo}
+use Rattle.link_events.proofs.Steps.FewerEvents.{events_left}
 use Rattle.link_events.proofs.ledger.Ledger.advance.Given as goal
 
 abbrev pub invariant-loop-event : goal.invariant-loop-event

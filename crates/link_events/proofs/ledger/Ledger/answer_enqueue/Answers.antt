@@ -1,8 +1,8 @@
 use Rattle.std.proofs.Common.{map}
 use Rattle.link_simulation.specs.Simulation.Calls.{call_enqueue}
-use Rattle.link_events.specs.Events.AsPlanned.{planned}
+use Rattle.link_events.specs.Steps.AsPlanned.{planned}
 use Rattle.link_pairs.specs.Pairs.Messages.{message_of, completed_of, ended_of}
-use Rattle.link_events.proofs.Events.Answered.{answered_if}
+use Rattle.link_events.proofs.Steps.Answered.{answered_if}
 use Rattle.link_events.proofs.ledger.Ledger.answer_enqueue.Goals as goal
 
 pub returns-clause-answered : goal.returns-clause-answered

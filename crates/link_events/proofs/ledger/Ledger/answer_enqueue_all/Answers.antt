@@ -1,9 +1,9 @@
 use Rattle.std.proofs.Common.{map}
 use Rattle.link_simulation.specs.Simulation.Calls.{call_enqueue_all}
-use Rattle.link_events.specs.Events.AsPlanned.{planned}
-use Rattle.link_events.specs.Events.Outgoing.{outgoing}
+use Rattle.link_events.specs.Steps.AsPlanned.{planned}
+use Rattle.link_events.specs.Steps.Outgoing.{outgoing}
 use Rattle.link_pairs.specs.Pairs.Messages.{completed_of, ended_of}
-use Rattle.link_events.proofs.Events.Answered.{answered_if}
+use Rattle.link_events.proofs.Steps.Answered.{answered_if}
 use Rattle.link_events.proofs.ledger.Ledger.answer_enqueue_all.Goals as goal
 
 pub returns-clause-answered : goal.returns-clause-answered

@@ -2,10 +2,10 @@ use Rattle.std.proofs.Common.{map}
 use Rattle.std.proofs.lemmas.Result.{err_from_is_err_and}
 use Rattle.link_simulation.specs.Simulation.World.{goes}
 use Rattle.link_simulation.specs.Simulation.Calls.{call_limit, limited_by}
-use Rattle.link_events.specs.Events.AsPlanned.{planned}
+use Rattle.link_events.specs.Steps.AsPlanned.{planned}
 use Rattle.link_pairs.specs.Pairs.Messages.{completed_of, ended_of}
-use Rattle.link_events.proofs.Events.Answered.{answered_if}
-use Rattle.link_events.proofs.Events.Limits.{limit_refused, rebalances_on}
+use Rattle.link_events.proofs.Steps.Answered.{answered_if}
+use Rattle.link_events.proofs.Steps.Limits.{limit_refused, rebalances_on}
 use Rattle.link_events.proofs.ledger.Ledger.answer_limit.Goals as goal
 
 pub returns-in_err-ended-clause-refused : goal.returns-in_err-ended-clause-refused

@@ -1,8 +1,8 @@
 use Rattle.std.proofs.Common.{subst}
-use Rattle.link_events.specs.Events.AsPlanned.{planned}
+use Rattle.link_events.specs.Steps.AsPlanned.{planned}
 use Rattle.link_pairs.specs.Pairs.Messages.{messages}
-use Rattle.link_events.specs.Events.Standing.{IsStanding}
-use Rattle.link_events.proofs.Events.Standing.{account_due}
+use Rattle.link_events.specs.Steps.Standing.{IsStanding}
+use Rattle.link_events.proofs.Steps.Standing.{account_due}
 use Rattle.link_events.proofs.ledger.Ledger.catch_up.Goals as goal
 
 pub returns-in_ok-account-clause-caught_up : goal.returns-in_ok-account-clause-caught_up

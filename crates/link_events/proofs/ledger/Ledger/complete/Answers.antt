@@ -6,9 +6,9 @@ use Rattle.link_simulation.specs.Simulation.World.{goes, meets, completion_of, c
 use Rattle.link_simulation.specs.Rule.Planned.{next_of}
 use Rattle.link_simulation.specs.Rule.Events.{Launches, Finishes, landed}
 use Rattle.link_pairs.specs.Pairs.Messages.{message_of, ended_of, messages}
-use Rattle.link_events.specs.Events.AsPlanned.{planned}
-use Rattle.link_events.proofs.Events.Finishing.{refused_late, refused_launch, landed_so, launches_landed}
-use Rattle.link_events.proofs.Events.Finishing.{then_some_is}
+use Rattle.link_events.specs.Steps.AsPlanned.{planned}
+use Rattle.link_events.proofs.Steps.Finishing.{refused_late, refused_launch, landed_so, launches_landed}
+use Rattle.link_events.proofs.Steps.Finishing.{then_some_is}
 use Rattle.link_events.proofs.ledger.Ledger.complete.Goals as goal
 
 pub returns-in_err-arrival-clause-refused : goal.returns-in_err-arrival-clause-refused

@@ -4,9 +4,9 @@ use Rattle.link_pairs.specs.Pairs.Messages.{message_of, ended_of, messages}
 use Rattle.fair_rates.proofs.Sides.EqualSubjects.{same_peer_itself}
 use Rattle.link_simulation.specs.Rule.Events.{with_queued}
 use Rattle.link_pairs.specs.declared.pair.PeerPair.{PeerPair}
-use Rattle.link_events.specs.Events.AsPlanned.{planned}
-use Rattle.link_events.proofs.Events.Settling.{at_once_refused, enqueues_at_once, enqueue_launch_refused}
-use Rattle.link_events.proofs.Events.Settling.{enqueue_finish_refused, enqueues_launched}
+use Rattle.link_events.specs.Steps.AsPlanned.{planned}
+use Rattle.link_events.proofs.Steps.Settling.{at_once_refused, enqueues_at_once, enqueue_launch_refused}
+use Rattle.link_events.proofs.Steps.Settling.{enqueue_finish_refused, enqueues_launched}
 use Rattle.link_events.proofs.ledger.Ledger.enqueue.Goals as goal
 
 pub returns-in_err-complete_at_once-clause-refused : goal.returns-in_err-complete_at_once-clause-refused

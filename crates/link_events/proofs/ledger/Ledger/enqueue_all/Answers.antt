@@ -6,10 +6,10 @@ use Rattle.std.specs.Vec.{vec_len}
 use Rattle.std.specs.Vec.Iter.{into_iter_items}
 use Rattle.link_simulation.specs.Simulation.Messages.{Message}
 use Rattle.link_pairs.specs.Pairs.Messages.{message_of, ended_of}
-use Rattle.link_events.specs.Events.Outgoing.{outgoing}
-use Rattle.link_events.specs.Events.AsPlanned.{planned}
-use Rattle.link_events.proofs.Events.Batch.{given_so_far, none_behind}
-use Rattle.link_events.proofs.Events.Standing.{StandsSo, stands_start, stands_step, stands_refused, stands_end}
+use Rattle.link_events.specs.Steps.Outgoing.{outgoing}
+use Rattle.link_events.specs.Steps.AsPlanned.{planned}
+use Rattle.link_events.proofs.Steps.Batch.{given_so_far, none_behind}
+use Rattle.link_events.proofs.Steps.Standing.{StandsSo, stands_start, stands_step, stands_refused, stands_end}
 use Rattle.link_events.proofs.ledger.Ledger.enqueue_all.Goals as goal
 
 pub loop-message-init : goal.loop-message-init

@@ -1,9 +1,9 @@
 use Rattle.std.proofs.Common.{map}
 use Rattle.std.specs.Vec.Iter.{into_iter_items}
 use Rattle.link_pairs.specs.Pairs.Messages.{ended_of}
-use Rattle.link_events.specs.Events.Outgoing.{outgoing}
-use Rattle.link_events.specs.Events.AsPlanned.{planned}
-use Rattle.link_events.proofs.Events.Standing.{StandsSo}
+use Rattle.link_events.specs.Steps.Outgoing.{outgoing}
+use Rattle.link_events.specs.Steps.AsPlanned.{planned}
+use Rattle.link_events.proofs.Steps.Standing.{StandsSo}
 use Rattle.link_events.proofs.ledger.Ledger.enqueue_all.Given as goal
 
 abbrev pub invariant-loop-message : goal.invariant-loop-message

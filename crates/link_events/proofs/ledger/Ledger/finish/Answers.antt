@@ -3,10 +3,10 @@ use Rattle.std.proofs.Common.{length-append, rules}
 use Rattle.std.proofs.lemmas.Result.{err_from_is_err_and}
 use Rattle.link_simulation.specs.Simulation.Messages.{Message, same_pair}
 use Rattle.link_pairs.specs.Pairs.Messages.{message_of, ended_of, messages}
-use Rattle.link_events.specs.Events.AsPlanned.{planned}
-use Rattle.link_events.proofs.Events.Finishing.{FinishesSo, finishes_start, finishes_step, finishes_end}
-use Rattle.link_events.proofs.Events.Finishing.{finishes_refused}
-use Rattle.link_events.proofs.Events.MessageCounts.{in_system, launch_keeps}
+use Rattle.link_events.specs.Steps.AsPlanned.{planned}
+use Rattle.link_events.proofs.Steps.Finishing.{FinishesSo, finishes_start, finishes_step, finishes_end}
+use Rattle.link_events.proofs.Steps.Finishing.{finishes_refused}
+use Rattle.link_events.proofs.Steps.MessageCounts.{in_system, launch_keeps}
 use Rattle.link_events.proofs.ledger.Ledger.finish.Goals as goal
 use Rattle.std.proofs.lemmas.List.{map-append, length-map}
 

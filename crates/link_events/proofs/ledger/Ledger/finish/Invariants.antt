@@ -1,8 +1,8 @@
 use Rattle.std.proofs.Common.{◌+◌, map, length}
-use Rattle.link_events.specs.Events.AsPlanned.{planned}
+use Rattle.link_events.specs.Steps.AsPlanned.{planned}
 use Rattle.link_pairs.specs.Pairs.Messages.{messages, ended_of}
-use Rattle.link_events.proofs.Events.Finishing.{FinishesSo}
-use Rattle.link_events.proofs.Events.MessageCounts.{in_system}
+use Rattle.link_events.proofs.Steps.Finishing.{FinishesSo}
+use Rattle.link_events.proofs.Steps.MessageCounts.{in_system}
 use Rattle.link_events.proofs.ledger.Ledger.finish.Given as goal
 
 abbrev pub invariant-loop-message : goal.invariant-loop-message

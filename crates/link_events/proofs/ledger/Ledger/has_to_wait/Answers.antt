@@ -1,7 +1,7 @@
 use Rattle.std.proofs.Common.{Bool, ◌&&◌, sym, ap, ◌∙◌}
 use Rattle.link_simulation.specs.Rule.Planned.{rated_messages}
 use Rattle.link_flights.specs.Flights.InFlight.{in_flight}
-use Rattle.link_events.specs.Events.AsPlanned.{planned}
+use Rattle.link_events.specs.Steps.AsPlanned.{planned}
 use Rattle.link_waiting.specs.Idle.AtRest.{is_sending}
 use Rattle.link_events.proofs.ledger.Ledger.has_to_wait.Goals as goal
 

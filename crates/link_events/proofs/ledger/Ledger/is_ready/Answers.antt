@@ -1,5 +1,5 @@
 use Rattle.std.proofs.Common.{refl, sym, ◌∙◌}
-use Rattle.link_events.specs.Events.AsPlanned.{planned}
+use Rattle.link_events.specs.Steps.AsPlanned.{planned}
 use Rattle.link_pairs.proofs.Pairs.LookedUp.{arrivals_looked_up}
 use Rattle.link_waiting.proofs.Idle.FirstStart.{none_listed, ready_first}
 use Rattle.link_events.proofs.ledger.Ledger.is_ready.Goals as goal

@@ -6,7 +6,7 @@ use Rattle.link_simulation.specs.Simulation.World.{goes, meets}
 use Rattle.link_simulation.specs.Rule.Planned.{Planned}
 use Rattle.link_simulation.specs.Rule.Events.{Launches}
 use Rattle.link_pairs.specs.Pairs.Entries.{first_of}
-use Rattle.link_events.specs.Events.AsPlanned.{planned}
+use Rattle.link_events.specs.Steps.AsPlanned.{planned}
 use Rattle.link_pairs.specs.Pairs.Messages.{messages}
 use Rattle.link_simulation.proofs.Simulation.RefusalCauses.{memory_refuses}
 use Rattle.link_waiting.proofs.Idle.Starting.{not_started, no_more_ids, launched_so}

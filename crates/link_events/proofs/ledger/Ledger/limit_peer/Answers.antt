@@ -2,7 +2,7 @@ use Rattle.std.proofs.Common.{true, map}
 use Rattle.link_pairs.specs.Pairs.Entries.{link_of, arrival_of}
 use Rattle.link_pairs.specs.Pairs.Messages.{message_of}
 use Rattle.link_flights.specs.Flights.InFlight.{in_flight}
-use Rattle.link_events.proofs.Events.Settling.{on_ok_both}
+use Rattle.link_events.proofs.Steps.Settling.{on_ok_both}
 use Rattle.link_events.proofs.ledger.Ledger.limit_peer.Goals as goal
 
 pub returns-clause-limited : goal.returns-clause-limited

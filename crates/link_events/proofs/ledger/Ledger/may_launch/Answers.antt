@@ -1,5 +1,5 @@
 use Rattle.std.proofs.Common.{sym, ap, ◌∙◌}
-use Rattle.link_events.specs.Events.AsPlanned.{planned}
+use Rattle.link_events.specs.Steps.AsPlanned.{planned}
 use Rattle.link_flights.specs.Flights.InFlight.{in_flight}
 use Rattle.link_pairs.proofs.Pairs.LookedUp.{arrivals_looked_up}
 use Rattle.link_waiting.proofs.Idle.DueMessages.{has_come, may_first}

@@ -3,7 +3,7 @@ use Rattle.std.specs.Prelude.{is_some, nat_le}
 use Rattle.link_waiting.specs.Idle.FirstMoment.{first_moment}
 use Rattle.link_pairs.specs.Pairs.Messages.{message_of}
 use Rattle.link_pairs.specs.Pairs.Entries.{arrival_of}
-use Rattle.link_events.specs.Events.AsPlanned.{planned}
+use Rattle.link_events.specs.Steps.AsPlanned.{planned}
 use Rattle.link_simulation.specs.Rule.Planned.{rated_messages}
 use Rattle.link_waiting.proofs.Idle.Starting.{may_start_is}
 use Rattle.link_events.proofs.ledger.Ledger.may_start.Goals as goal

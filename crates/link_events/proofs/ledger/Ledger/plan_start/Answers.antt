@@ -1,7 +1,7 @@
 use Rattle.std.proofs.Common.{◌≡◌, ◌≤◌, ap, ◌∙◌, rules}
 use Rattle.std.specs.Prelude.{max, option_map, IfSome}
 use Rattle.link_simulation.specs.Simulation.World.{last_moment}
-use Rattle.link_events.specs.Events.AsPlanned.{planned}
+use Rattle.link_events.specs.Steps.AsPlanned.{planned}
 use Rattle.link_pairs.proofs.Pairs.LookedUp.{arrivals_looked_up}
 use Rattle.link_waiting.proofs.Idle.FirstStart.{looks_so}
 use Rattle.link_events.proofs.ledger.Ledger.plan_start.Goals as goal

@@ -1,7 +1,7 @@
-use Rattle.link_events.specs.Events.AsPlanned.{planned}
+use Rattle.link_events.specs.Steps.AsPlanned.{planned}
 use Rattle.link_pairs.proofs.Pairs.LookedUp.{arrivals_looked_up}
 use Rattle.link_waiting.proofs.Idle.DueMessages.{ready_so}
-use Rattle.link_events.proofs.Events.Settling.{if_ok}
+use Rattle.link_events.proofs.Steps.Settling.{if_ok}
 use Rattle.link_waiting.proofs.Idle.Waiting.{in_pair_order}
 use Rattle.link_events.proofs.ledger.Ledger.ready.Goals as goal
 

@@ -3,10 +3,10 @@ use Rattle.std.proofs.lemmas.Result.{err_from_is_err_and}
 use Rattle.link_simulation.specs.Simulation.World.{goes}
 use Rattle.link_simulation.specs.Rule.Planned.{Planned}
 use Rattle.link_simulation.specs.Rule.Events.{Rebalances}
-use Rattle.link_events.specs.Events.AsPlanned.{planned}
+use Rattle.link_events.specs.Steps.AsPlanned.{planned}
 use Rattle.link_pairs.specs.Pairs.Messages.{ended_of}
-use Rattle.link_events.proofs.Events.Settling.{rebalance_refused, rebalances_settled, rebalances_looked}
-use Rattle.link_events.proofs.Events.MessageCounts.{none_flies, some_fly}
+use Rattle.link_events.proofs.Steps.Settling.{rebalance_refused, rebalances_settled, rebalances_looked}
+use Rattle.link_events.proofs.Steps.MessageCounts.{none_flies, some_fly}
 use Rattle.link_events.proofs.ledger.Ledger.rebalance.Goals as goal
 use Rattle.link_events.proofs.ledger.Ledger.rebalance.Goals.{then-is_empty, else-is_empty+in_ok-settle}
 

@@ -1,5 +1,5 @@
-use Rattle.link_events.specs.Events.AsPlanned.{planned}
-use Rattle.link_events.proofs.Events.Advancing.{rests}
+use Rattle.link_events.specs.Steps.AsPlanned.{planned}
+use Rattle.link_events.proofs.Steps.Advancing.{rests}
 use Rattle.link_events.proofs.ledger.Ledger.rest.Goals as goal
 
 pub returns : goal.returns

@@ -1,11 +1,11 @@
 use Rattle.std.proofs.Common.{map}
 use Rattle.std.proofs.lemmas.Result.{err_from_is_err_and}
-use Rattle.link_events.specs.Events.AsPlanned.{planned}
+use Rattle.link_events.specs.Steps.AsPlanned.{planned}
 use Rattle.link_pairs.specs.Pairs.Messages.{messages, ended_of}
 use Rattle.link_simulation.specs.Simulation.World.{meets}
 use Rattle.link_simulation.specs.Rule.Events.{Settles}
 use Rattle.link_simulation.proofs.Simulation.RefusalCauses.{refused_memory}
-use Rattle.link_events.proofs.Events.Settling.{settle_finish_refused, settles_so}
+use Rattle.link_events.proofs.Steps.Settling.{settle_finish_refused, settles_so}
 use Rattle.link_events.proofs.ledger.Ledger.settle.Goals as goal
 
 pub returns-in_err-queue-clause-refused : goal.returns-in_err-queue-clause-refused

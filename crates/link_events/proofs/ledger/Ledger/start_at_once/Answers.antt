@@ -1,6 +1,6 @@
 use Rattle.std.proofs.Common.{arith}
 use Rattle.link_pairs.specs.Pairs.Messages.{message_of, messages}
-use Rattle.link_events.specs.Events.AsPlanned.{planned}
+use Rattle.link_events.specs.Steps.AsPlanned.{planned}
 use Rattle.link_waiting.proofs.Idle.Starting.{started_so, no_id_left}
 use Rattle.link_events.proofs.ledger.Ledger.start_at_once.Goals as goal
 

@@ -8,12 +8,12 @@ use Rattle.link_simulation.specs.Simulation.World.{goes, meets}
 use Rattle.link_simulation.specs.Rule.Planned.{Planned}
 use Rattle.link_simulation.specs.Rule.Events.{Launches}
 use Rattle.link_simulation.specs.Simulation.RefusalCauses.{IsRefusedFor}
-use Rattle.link_events.specs.Events.AsPlanned.{planned}
+use Rattle.link_events.specs.Steps.AsPlanned.{planned}
 use Rattle.link_pairs.specs.Pairs.Messages.{messages, ended_of}
 use Rattle.link_waiting.specs.Idle.Starting.{ready_messages}
-use Rattle.link_events.proofs.Events.Finishing.{wakes_start, wakes_step, wakes_end, wakes_launch_refused}
-use Rattle.link_events.proofs.Events.Finishing.{wakes_finish_refused, next_at, none_at}
-use Rattle.link_events.proofs.Events.Settling.{of_message}
+use Rattle.link_events.proofs.Steps.Finishing.{wakes_start, wakes_step, wakes_end, wakes_launch_refused}
+use Rattle.link_events.proofs.Steps.Finishing.{wakes_finish_refused, next_at, none_at}
+use Rattle.link_events.proofs.Steps.Settling.{of_message}
 use Rattle.link_events.proofs.ledger.Ledger.wake.Goals as goal
 
 pub loop-pair-init : goal.loop-pair-init

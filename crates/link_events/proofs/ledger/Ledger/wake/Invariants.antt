@@ -1,8 +1,8 @@
 use Rattle.std.proofs.Common.{map}
-use Rattle.link_events.specs.Events.AsPlanned.{planned}
+use Rattle.link_events.specs.Steps.AsPlanned.{planned}
 use Rattle.link_waiting.specs.Idle.Starting.{ready_messages}
 use Rattle.link_pairs.specs.Pairs.Messages.{ended_of}
-use Rattle.link_events.proofs.Events.Finishing.{WakesAt}
+use Rattle.link_events.proofs.Steps.Finishing.{WakesAt}
 use Rattle.link_events.proofs.ledger.Ledger.wake.Given as goal
 
 abbrev pub invariant-loop-pair : goal.invariant-loop-pair

@@ -1,4 +1,4 @@
-use Rattle.link_events.specs.Events.AsPlanned.{planned}
+use Rattle.link_events.specs.Steps.AsPlanned.{planned}
 use Rattle.link_simulation.specs.Simulation.Replies.{reply_refused}
 use Rattle.link_scheduler.specs.Calls.Replay.{reply_of}
 use Rattle.link_scheduler.proofs.Calls.Replay.{reply_same, answered_by_rule, refused_by_rule}

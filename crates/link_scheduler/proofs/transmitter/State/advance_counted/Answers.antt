@@ -1,7 +1,7 @@
 use Rattle.std.proofs.Common.{[], map, ap, refl, arith}
 use Rattle.link_simulation.specs.Simulation.Calls.{call_advance}
 use Rattle.link_simulation.specs.Rule.SamePlanned.{GoesByRule, AdvancesByRule}
-use Rattle.link_events.specs.Events.AsPlanned.{planned}
+use Rattle.link_events.specs.Steps.AsPlanned.{planned}
 use Rattle.link_pairs.specs.Pairs.Messages.{completed_of}
 use Rattle.link_simulation.proofs.Rule.SamePlanned.{same_itself}
 use Rattle.link_scheduler.proofs.Calls.Calling.{advances_on, counted_goes}

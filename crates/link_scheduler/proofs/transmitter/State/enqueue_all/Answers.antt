@@ -2,8 +2,8 @@ use Rattle.std.proofs.Common.{◌≢◌, map, length, refl, ◌∙◌, rules, sy
 use Rattle.std.proofs.lemmas.List.{length-map}
 use Rattle.std.proofs.lemmas.Result.{err_from_is_err_and}
 use Rattle.fair_rates.specs.declared.error.Error.TheVariants.{OutOfMemory}
-use Rattle.link_events.specs.Events.AsPlanned.{planned}
-use Rattle.link_events.specs.Events.Outgoing.{outgoing}
+use Rattle.link_events.specs.Steps.AsPlanned.{planned}
+use Rattle.link_events.specs.Steps.Outgoing.{outgoing}
 use Rattle.link_pairs.specs.Pairs.Messages.{completed_of}
 use Rattle.link_scheduler.proofs.Calls.OneByOne.{copies_promised, copies_refused}
 use Rattle.link_pairs.proofs.Pairs.LookedUp.{looked_up, arrivals_looked_up}

@@ -1,7 +1,7 @@
 use Rattle.std.proofs.Common.{[], map, ap, refl}
 use Rattle.std.proofs.lemmas.Result.{err_from_is_err_and}
 use Rattle.link_simulation.specs.Simulation.Calls.{call_enqueue}
-use Rattle.link_events.specs.Events.AsPlanned.{planned}
+use Rattle.link_events.specs.Steps.AsPlanned.{planned}
 use Rattle.link_pairs.specs.Pairs.Messages.{message_of, completed_of}
 use Rattle.link_scheduler.proofs.Calls.Calling.{goes_on}
 use Rattle.link_scheduler.proofs.Calls.Answered.{made_on_copy, refused_on_copy}

@@ -1,5 +1,5 @@
 use Rattle.std.proofs.Common.{◌≡◌, map, take}
-use Rattle.link_events.specs.Events.Outgoing.{outgoing}
+use Rattle.link_events.specs.Steps.Outgoing.{outgoing}
 use Rattle.link_scripts.specs.Schedule.{zeroed}
 use Rattle.link_scripts.proofs.linkrun.zeros.Zeros.fill_all.Given as goal
 

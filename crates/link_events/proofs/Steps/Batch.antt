@@ -14,7 +14,7 @@ use Rattle.link_simulation.specs.Rule.Planned.{Planned}
 use Rattle.link_simulation.specs.Rule.Events.{Enqueues, EnqueuesEach, all_enqueued, one_stops, enqueues_one}
 use Rattle.link_simulation.proofs.Simulation.Queue.{preceded_none}
 use Rattle.link_simulation.proofs.Simulation.RefusalCauses.{refused_more}
-use Rattle.link_events.proofs.Events.Finishing.{preceded_both}
+use Rattle.link_events.proofs.Steps.Finishing.{preceded_both}
 
 -- what an iterator has given, and what is still to come, are what it began with
 pub given_so_far : {X A : Type 0} (s : IntoIter X A) (xs : List X) (t : IntoIter X A) → Yields into_iter_steps s xs t

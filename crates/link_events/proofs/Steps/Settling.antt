@@ -19,7 +19,7 @@ use Rattle.link_simulation.specs.Rule.Events.{none_sending, some_sending, Enqueu
 use Rattle.link_simulation.specs.Rule.Events.{with_queued, completed_at_once}
 use Rattle.link_simulation.specs.Simulation.RefusalCauses.{IsRefusedFor}
 use Rattle.link_simulation.proofs.Simulation.RefusalCauses.{refused_more}
-use Rattle.link_events.proofs.Events.Finishing.{first_of_key, then_some_is}
+use Rattle.link_events.proofs.Steps.Finishing.{first_of_key, then_some_is}
 
 -- two facts of an answer make a third
 pub on_ok_both : {X E A B C : Type 0} (r : Result X E) → (A → B → C) → OnOk r A → OnOk r B → OnOk r C

@@ -7,7 +7,7 @@ use Rattle.link_simulation.specs.Simulation.Calls.{Call}
 use Rattle.link_simulation.specs.Simulation.Replies.{SameCompletion}
 use Rattle.link_simulation.specs.Rule.Planned.{Planned}
 use Rattle.link_simulation.specs.Rule.Events.{Obeys}
-use Rattle.link_events.specs.Events.Answered.{IsAnswered}
+use Rattle.link_events.specs.Steps.Answered.{IsAnswered}
 
 -- what goes so is answered with clones of what came out, if memory is not refused
 pub answered_if : {X E P : Type 0} (cmp : P → P → Ordering) (r : Result X E) (answers : X → List (Completed P))

@@ -20,17 +20,17 @@ use Rattle.link_simulation.proofs.Rule.OneAccount.{enqueue_starts, account_again
 use Rattle.link_simulation.proofs.Rule.OneAccount.{one_starts}
 use Rattle.link_simulation.proofs.Rule.OneCourse.{account_is_one}
 use Rattle.link_simulation.proofs.Simulation.LowestTerms.{reduced_lowest}
-use Rattle.link_events.specs.Events.Standing.{IsStanding, OnlyStarts, is_settled, does_start}
-use Rattle.link_events.specs.Events.Standing.{standing_after}
+use Rattle.link_events.specs.Steps.Standing.{IsStanding, OnlyStarts, is_settled, does_start}
+use Rattle.link_events.specs.Steps.Standing.{standing_after}
 use Rattle.link_flights.specs.Flights.Flight.{UnitFlight}
 use Rattle.link_flights.specs.Flights.RatedFlights.{sending_of}
 use Rattle.link_waiting.specs.Idle.AtRest.{is_sending}
 use Rattle.link_simulation.specs.Rule.Events.{EnqueuesEach}
 use Rattle.link_simulation.specs.Simulation.RefusalCauses.{IsRefusedFor}
 use Rattle.fair_rates.specs.declared.error.Error.{Error}
-use Rattle.link_events.proofs.Events.Batch.{EnqueuesSo, enqueues_start, enqueues_step, enqueues_end}
-use Rattle.link_events.proofs.Events.Batch.{enqueues_refused}
-use Rattle.link_events.proofs.Events.OnlyWaiting.{enqueue_waits}
+use Rattle.link_events.proofs.Steps.Batch.{EnqueuesSo, enqueues_start, enqueues_step, enqueues_end}
+use Rattle.link_events.proofs.Steps.Batch.{enqueues_refused}
+use Rattle.link_events.proofs.Steps.OnlyWaiting.{enqueue_waits}
 use Rattle.link_flights.proofs.Flights.Units.{units_positive}
 use Rattle.link_waiting.proofs.Idle.Starting.{first_joined}
 

@@ -13,10 +13,10 @@ use Rattle.link_simulation.specs.Simulation.Messages.{Message, same_pair}
 use Rattle.link_simulation.specs.Rule.Planned.{Planned, SomeReadyAt, may_launch, next_event}
 use Rattle.link_simulation.specs.Rule.Events.{PlansStart, Wakes, WakesEach, all_started, Advances, no_more, at_finish}
 use Rattle.link_simulation.specs.Rule.Events.{at_start, finish_stops, start_stops}
-use Rattle.link_events.specs.Events.Due.{IsDue, Happens}
-use Rattle.link_events.specs.Events.AsPlanned.{HasNothingDue}
+use Rattle.link_events.specs.Steps.Due.{IsDue, Happens}
+use Rattle.link_events.specs.Steps.AsPlanned.{HasNothingDue}
 use Rattle.link_simulation.specs.Simulation.RefusalCauses.{IsRefusedFor}
-use Rattle.link_events.proofs.Events.Finishing.{preceded_both}
+use Rattle.link_events.proofs.Steps.Finishing.{preceded_both}
 use Rattle.link_simulation.proofs.Simulation.RefusalCauses.{refused_more}
 use Rattle.link_simulation.proofs.Simulation.OtherPairs.{fronts_are_first}
 

@@ -21,8 +21,8 @@ use Rattle.link_simulation.specs.Rule.Events.{launched, landed, Finishes, all_co
 use Rattle.link_simulation.specs.Rule.Events.{Settles, settling, WakesEach, all_started, no_start, no_finish}
 use Rattle.link_simulation.specs.Rule.Events.{starts_one, Wakes}
 use Rattle.fair_rates.specs.Numbers.Amount.{whole}
-use Rattle.link_events.specs.Events.Due.{IsDue, Happens}
-use Rattle.link_events.proofs.Events.MessageCounts.{accounts_keep, accounts_waiting, length-without}
+use Rattle.link_events.specs.Steps.Due.{IsDue, Happens}
+use Rattle.link_events.proofs.Steps.MessageCounts.{accounts_keep, accounts_waiting, length-without}
 use Rattle.fair_rates.proofs.Lists.Each.{Each}
 use Rattle.link_simulation.proofs.Simulation.AlikeMessages.{pair_itself}
 use Rattle.link_simulation.proofs.Simulation.OtherPairs.{fronts_are_first}
