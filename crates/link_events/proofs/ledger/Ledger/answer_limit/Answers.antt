@@ -12,7 +12,7 @@ pub returns-in_err-ended-clause-refused : goal.returns-in_err-ended-clause-refus
 returns-in_err-ended-clause-refused g c =
     let p = err_from_is_err_and c.from_residual-in_err-ended.result c.from_residual-in_err-ended.ensures.1 in
     rw (p.1, p.2)
-    (limit_refused g.P.Ord.cmp g.met.P.Ord.total c.args.now c.args.peer.now c.args.egress c.args.ingress
+    (limit_refused g.P.Ord.cmp c.args.now c.args.peer.now c.args.egress c.args.ingress
     (planned g.P.Ord.cmp c.args.self.now) (planned g.P.Ord.cmp c.limit_peer.new.self)
     c.in_ok-limit_peer.ensures.limited _ c.in_err-ended.ensures.refused)
 
@@ -23,7 +23,7 @@ returns-clause-answered g c =
     (planned g.P.Ord.cmp c.rebalance.new.self) (call_limit c.args.now c.args.peer.now c.args.egress c.args.ingress)
     (map ended_of c.in_ok-ended.ended.items)
     (rw (← c.deref.ensures.value) c.answers_of.ensures.same)
-    (rebalances_on g.P.Ord.cmp g.met.P.Ord.total c.args.now
+    (rebalances_on g.P.Ord.cmp c.args.now
     (limited_by g.P.Ord.cmp (planned g.P.Ord.cmp c.args.self.now).caps c.args.peer.now c.args.egress c.args.ingress)
     (planned g.P.Ord.cmp c.args.self.now) (planned g.P.Ord.cmp c.limit_peer.new.self)
     (goes (map ended_of c.in_ok-ended.ended.items) (planned g.P.Ord.cmp c.rebalance.new.self))
