@@ -233,21 +233,19 @@ impl<P: Peer> Call<P> {
     }
 }
 
-impl<P: Peer> Outgoing<P> {
-    /// The same message, its peers cloned. It shares the bytes.
-    fn copy(&self) -> Result<Outgoing<P>, Error>
-        ensures same { IfOk result (λ copy. SameMessage P.cmp (outgoing self.now) (outgoing copy)) }
-        ensures refused { IfErr result (λ e. e ≡ Error.OutOfMemory) }
-    {
-        Ok(Outgoing {
-            origin: copy_of(&self.origin)?,
-            recipient: copy_of(&self.recipient)?,
-            channel: self.channel,
-            message: share(&self.message)?,
-            latency: self.latency,
-            should_deliver: self.should_deliver,
-        })
-    }
+/// The same message, its peers cloned. It shares the bytes.
+fn copy_message<P: Peer>(one: &Outgoing<P>) -> Result<Outgoing<P>, Error>
+    ensures same { IfOk result (λ copy. SameMessage P.cmp (outgoing one.now) (outgoing copy)) }
+    ensures refused { IfErr result (λ e. e ≡ Error.OutOfMemory) }
+{
+    Ok(Outgoing {
+        origin: copy_of(&one.origin)?,
+        recipient: copy_of(&one.recipient)?,
+        channel: one.channel,
+        message: share(&one.message)?,
+        latency: one.latency,
+        should_deliver: one.should_deliver,
+    })
 }
 
 /// The same messages, in their order.
@@ -258,7 +256,7 @@ fn copies_of<P: Peer>(alloc: Global, messages: &[Outgoing<P>]) -> Result<Vec<Out
 {
     let mut copies = Vec::with_capacity(alloc, messages.len())?;
     for one in messages {
-        copies.push(one.copy()?)?;
+        copies.push(copy_message(one)?)?;
     }
     Ok(copies)
 }

@@ -6,7 +6,7 @@ use Rattle.fair_rates.specs.declared.error.Error.{Error}
 use Rattle.fair_rates.proofs.Lists.Zips.{zip-append}
 use Rattle.link_simulation.specs.Simulation.Messages.{Message, CapsAlike, PairsAlike}
 use Rattle.link_simulation.specs.Simulation.Replies.{SameCompletion}
-use Rattle.link_simulation.specs.Simulation.World.{Completed, goes, meets}
+use Rattle.link_simulation.specs.Simulation.World.{Completed, meets}
 use Rattle.link_simulation.specs.Simulation.Calls.{call_enqueue, call_enqueue_all}
 use Rattle.link_simulation.specs.Rule.Planned.{Planned}
 use Rattle.link_simulation.specs.Rule.Events.{Enqueues, EnqueuesEach, all_enqueued, one_stops, enqueues_one}

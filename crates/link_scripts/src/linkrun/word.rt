@@ -56,7 +56,7 @@ impl<'a> Words<'a> {
     }
 
     /// Takes the next word, a cap in bytes a second of 64 bits or `-` for none.
-    pub(crate) fn small_cap(&mut self) -> Option<Option<usize>>
+    pub fn small_cap(&mut self) -> Option<Option<usize>>
         ensures { Takes (λ cap. cap_word cap ∷ []) IsSmallCapInRange (words_left self.old) result
             (words_left self.new) }
     {

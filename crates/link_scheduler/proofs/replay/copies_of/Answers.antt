@@ -18,9 +18,9 @@ loop-one-preserved g c =
     ≡ map outgoing before ++ outgoing c.one-item.result ∷ [] =
     ap (map outgoing) more ∙ map-append outgoing before (c.one-item.result ∷ []) in
     let copied : map outgoing c.push.new.self.items
-    ≡ map outgoing c.loop-one.copies.items ++ outgoing c.in_ok-copy.field-0 ∷ [] =
+    ≡ map outgoing c.loop-one.copies.items ++ outgoing c.in_ok-copy_message.field-0 ∷ [] =
     ap (map outgoing) c.in_ok-push.ensures.items
-    ∙ map-append outgoing c.loop-one.copies.items (c.in_ok-copy.field-0 ∷ []) in
+    ∙ map-append outgoing c.loop-one.copies.items (c.in_ok-copy_message.field-0 ∷ []) in
     subst
     (λ (ms : List (Message g.row.P.Denot)). AllZip (SameMessage g.P.Ord.cmp) ms (map outgoing c.push.new.self.items))
     (sym sent)
@@ -29,7 +29,7 @@ loop-one-preserved g c =
     (map outgoing before ++ outgoing c.one-item.result ∷ []) ns)
     (sym copied)
     (zip-push (SameMessage g.P.Ord.cmp) (map outgoing before) (map outgoing c.loop-one.copies.items)
-    (outgoing c.one-item.result) (outgoing c.in_ok-copy.field-0) c.loop-one.invariant c.in_ok-copy.ensures.same))
+    (outgoing c.one-item.result) (outgoing c.in_ok-copy_message.field-0) c.loop-one.invariant c.in_ok-copy_message.ensures.same))
 
 pub returns-clause-same : goal.returns-clause-same
 returns-clause-same g c =
