@@ -13,9 +13,10 @@ use std::alloc::Global;
 /// The bytes of a block.
 const BLOCK: usize = 1_000_000;
 
-/// The fewest and the most bytes of a vote.
+/// The fewest bytes of a vote.
 const SHORTEST_VOTE: u64 = 100;
 
+/// The most bytes of a vote.
 const LONGEST_VOTE: u64 = 299;
 
 /// The links between peers, and the bytes that go over them.

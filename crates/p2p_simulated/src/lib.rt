@@ -2,9 +2,9 @@
 //!
 //! The modules are those of the crates that this one passes on: rates of `fair_rates`, the
 //! scheduler of `link_scheduler` and what follows from its promises, its definitions and their laws
-//! of `link_simulation`, scripts of `link_scripts`, traces of `link_traces`, and pictures of `link_pictures`. So
-//! are the definitions that contracts cite: `Rattle.p2p_simulated.specs.Calls.State` is that of
-//! `link_scheduler`.
+//! of `link_simulation`, scripts of `link_scripts`, traces of `link_traces`, and pictures of
+//! `link_pictures`. So are the definitions that contracts cite:
+//! `Rattle.p2p_simulated.specs.Calls.State` is that of `link_scheduler`.
 #![tactic(auto)]
 
 pub use fair_rates::{bandwidth, error, peer, ratio};
