@@ -2,19 +2,21 @@
 use crate::scheduler::calls::{Calls, Parcel, bytes_from};
 use fair_rates::ratio::Ratio;
 use link_scheduler::transmitter::{InFlight, State};
+use std::alloc::Global;
 use std::process::Abort;
 use std::test::Fail;
 
-/// The scheduler after the calls of a text.
-fn after(rt: &(impl Abort + AllocGlobal), text: &str) -> Result<State<u64>, Fail> {
-    let mut calls = Calls::<u64>::new(rt.alloc(), 0, true);
-    calls.read(text)?;
-    Ok(calls.made_each(rt))
+/// What is read of the messages in flight after these calls.
+fn read_after(rt: &impl Abort, calls: Calls<u64>) -> Vec<InFlight<u64>> {
+    let state = calls.made_each(rt);
+    state.in_flight().expect(rt, "no room for the readings")
 }
 
-/// What is read of the messages in flight.
-fn flying(rt: &impl Abort, state: &State<u64>) -> Vec<InFlight<u64>> {
-    state.in_flight().expect(rt, "no room for the readings")
+/// What is read of them after the calls of a text.
+fn flying(rt: &(impl Abort + AllocGlobal), text: &str) -> Result<Vec<InFlight<u64>>, Fail> {
+    let mut calls = Calls::<u64>::new(rt.alloc(), 0, true);
+    calls.read(text)?;
+    Ok(read_after(rt, calls))
 }
 
 /// Compares what is read of one message with a recipient, what is left, the rate and a moment.
@@ -40,7 +42,7 @@ fn expect(
 
 #[test]
 fn two_messages_share_a_cap(rt: HostRuntime) -> Result<(), Fail> {
-    let state = after(
+    let readings = flying(
         &rt,
         "\
 limit 0 1 1000 -
@@ -50,7 +52,6 @@ send 0 1 3 700 0
 flying 2
 ",
     )?;
-    let readings = flying(&rt, &state);
     expect(&rt, readings.get(0), 2, (1000, 1), (500, 1), 0);
     expect(&rt, readings.get(1), 3, (500, 1), (500, 1), 0);
     Ok(())
@@ -58,7 +59,7 @@ flying 2
 
 #[test]
 fn two_messages_share_a_cap_that_changes(rt: HostRuntime) -> Result<(), Fail> {
-    let state = after(
+    let readings = flying(
         &rt,
         "\
 limit 0 1 1000 -
@@ -69,7 +70,6 @@ limit 400000001 1 1001 -
 flying 2
 ",
     )?;
-    let readings = flying(&rt, &state);
     let since = 400_000_001;
     expect(
         &rt,
@@ -92,16 +92,23 @@ flying 2
 
 #[test]
 fn nothing_is_in_flight_before_any_limit(rt: HostRuntime) -> Result<(), Fail> {
-    let state = State::<u64>::new(rt.alloc());
-    assert_eq!(rt; flying(&rt, &state).len(), 0);
-    let _state = after(&rt, "send 0 1 2 1000 0\ndone 0 0\nflying 0\n")?;
+    let readings = flying(&rt, "send 0 1 2 1000 0\ndone 0 0\nflying 0\n")?;
+    assert_eq!(rt; readings.len(), 0);
     Ok(())
+}
+
+#[test]
+fn nothing_is_in_flight_on_a_new_scheduler(rt: HostRuntime) {
+    let state = State::<u64>::new(rt.alloc());
+    let readings = state.in_flight().expect(&rt, "no room for the readings");
+    assert_eq!(rt; readings.len(), 0);
+    assert_eq!(rt; state.rated_anew(), 0);
 }
 
 /// For a nanosecond each the first of many messages has a rate of a first, a half, a third and so
 /// on of 10^9 bytes a second.
-fn hundred_shares(rt: &(impl Abort + AllocGlobal)) -> Result<State<u64>, Fail> {
-    let mut calls = Calls::<u64>::new(rt.alloc(), 0, true);
+fn hundred_shares(alloc: Global) -> Result<Calls<u64>, Fail> {
+    let mut calls = Calls::<u64>::new(alloc, 0, true);
     calls.read("limit 0 1 1000000000 -\n")?;
     for place in 0..100u8 {
         calls.send(Parcel {
@@ -110,7 +117,7 @@ fn hundred_shares(rt: &(impl Abort + AllocGlobal)) -> Result<State<u64>, Fail> {
         })?;
     }
     calls.flying(100)?;
-    Ok(calls.made_each(rt))
+    Ok(calls)
 }
 
 /// Compares what is read of the first of them.
@@ -129,19 +136,17 @@ fn expect_rounded(rt: &impl Abort, reading: Option<&InFlight<u64>>) {
 /// bits. It is 1000000 less 5.177.
 #[test]
 fn what_does_not_fit_is_rounded_down(rt: HostRuntime) -> Result<(), Fail> {
-    let state = hundred_shares(&rt)?;
-    let readings = flying(&rt, &state);
+    let readings = read_after(&rt, hundred_shares(rt.alloc())?);
     expect_rounded(&rt, readings.get(0));
     Ok(())
 }
 
-/// Before any call none is rated. Then eight messages are in flight, each of a pair of its own. One
+/// Eight messages are in flight, each of a pair of its own. One
 /// that starts alone is rated alone, and one of a sender that has another one with that. Where one
 /// ends alone none is, and where a cap changes all are.
 #[test]
 fn an_event_rates_what_it_touches(rt: HostRuntime) -> Result<(), Fail> {
-    assert_eq!(rt; State::<u64>::new(rt.alloc()).rated_anew(), 0);
-    let _state = after(
+    let _readings = flying(
         &rt,
         "\
 limit 0 1 1000 -

@@ -38,7 +38,10 @@ struct Words<'a> {
 impl<'a> Words<'a> {
     /// The next word.
     fn word(&mut self) -> Result<&'a str, Fail> {
-        self.rest.next().ok_or_else(|| Fail::new("too few words"))
+        match self.rest.next() {
+            Some(word) => Ok(word),
+            None => Err(Fail::new("too few words")),
+        }
     }
 
     /// The next word, a number.
@@ -84,12 +87,10 @@ impl<'a> Words<'a> {
 /// One number, or two with `+` or `-` between them.
 fn number(word: &str) -> Result<u64, Fail> {
     if let Some((one, other)) = word.split_once('+') {
-        let sum = term(one)?.checked_add(term(other)?);
-        return sum.ok_or_else(|| Fail::new("a sum past the last moment"));
+        return fitting(term(one)?.checked_add(term(other)?));
     }
     if let Some((one, other)) = word.split_once('-') {
-        let difference = term(one)?.checked_sub(term(other)?);
-        return difference.ok_or_else(|| Fail::new("a difference below zero"));
+        return fitting(term(one)?.checked_sub(term(other)?));
     }
     term(word)
 }
@@ -110,8 +111,15 @@ fn term(word: &str) -> Result<u64, Fail> {
 
 /// So many times a unit.
 fn times(digits: &str, unit: u64) -> Result<u64, Fail> {
-    let product = digits.parse::<u64>()?.checked_mul(unit);
-    product.ok_or_else(|| Fail::new("a product past the last moment"))
+    fitting(digits.parse::<u64>()?.checked_mul(unit))
+}
+
+/// A number, where it is one of 64 bits.
+fn fitting(number: Option<u64>) -> Result<u64, Fail> {
+    match number {
+        Some(number) => Ok(number),
+        None => Err(Fail::new("a number below zero or past the last moment")),
+    }
 }
 
 impl<P: Numbered> Calls<P> {
