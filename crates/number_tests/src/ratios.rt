@@ -89,6 +89,8 @@ const SUMS: &str = "\
     1/170141183460469231731687303715884105728 1/170141183460469231731687303715884105728 \
         1/85070591730234615865843651857942052864
     1/170141183460469231731687303715884105728 1/3 none
+    1/170141183460469231731687303715884105728 1/85070591730234615865843651857942052864 \
+        3/170141183460469231731687303715884105728
     1/2 1/3 5/6
     1/6 1/10 4/15";
 
@@ -104,7 +106,7 @@ impl Case for Sum {
 
 #[test]
 fn adds(rt: HostRuntime) -> Result<(), Fail> {
-    all_hold::<Sum>(&rt, SUMS, 6)
+    all_hold::<Sum>(&rt, SUMS, 7)
 }
 
 /// Two fractions and what the first is more than the second, or `none` where it is less.
@@ -132,7 +134,8 @@ fn subtracts(rt: HostRuntime) -> Result<(), Fail> {
 const PRODUCTS: &str = "\
     340282366920938463463374607431768211455 1/340282366920938463463374607431768211455 1
     170141183460469231731687303715884105728 2 none
-    18446744073709551616/3 3/18446744073709551616 1";
+    18446744073709551616/3 3/18446744073709551616 1
+    170141183460469231731687303715884105728/3 3/170141183460469231731687303715884105728 1";
 
 /// The product is this.
 struct Product;
@@ -146,7 +149,7 @@ impl Case for Product {
 
 #[test]
 fn multiplies(rt: HostRuntime) -> Result<(), Fail> {
-    all_hold::<Product>(&rt, PRODUCTS, 3)
+    all_hold::<Product>(&rt, PRODUCTS, 4)
 }
 
 /// Two fractions and the first over the second, or `none` where that is none or does not fit.
