@@ -34,7 +34,7 @@ use std::collections::VecDeque;
 use std::rc::Rc;
 
 /// Up to so many messages in flight, all are rated at each account.
-const FEW: usize = 6;
+const FEW: usize = 2;
 
 /// The caps that hold for a flow. Flows of one sender often follow one another, so what it may send
 /// is known where the flow before is its own.
@@ -120,14 +120,20 @@ impl<P: Peer> Flights<P> {
                 let part = self.rates_of(&component, peers, pairs)?;
                 if part.growth.is_empty() {
                     self.set_rates(&component, part, true)?;
-                    return Ok(self.first_finish());
+                    let first = self.first_finish();
+                    self.settled = self.list.len();
+                    self.first = first;
+                    return Ok(first);
                 }
             }
         }
         let all = Component::whole(self.alloc);
         let rates = self.rates_of(&all, peers, pairs)?;
         self.set_rates(&all, rates, were_rated)?;
-        Ok(self.first_finish())
+        let first = self.first_finish();
+        self.settled = self.list.len();
+        self.first = first;
+        Ok(first)
     }
 
     /// The fair rates of a component alone.
