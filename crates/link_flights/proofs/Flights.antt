@@ -6,6 +6,7 @@ pub mod ComponentFlows
 pub mod Components
 pub mod Copies
 pub mod Done
+pub mod Ends
 pub mod FairMessages
 pub mod Flight
 pub mod Grouped
@@ -14,6 +15,7 @@ pub mod Leaving
 pub mod Rated
 pub mod RatesGiven
 pub mod Rerating
+pub mod Settled
 pub mod ShortTerms
 pub mod Standing
 pub mod Units

@@ -7,7 +7,7 @@ ghost use Rattle.std.specs.declared.alloc.Global.{Global as Allocator};
 ghost use Rattle.link_flights.specs.declared.flight.Flight.{Flight as AnyFlight};
 ghost use Rattle.link_simulation.specs.Rule.Planned.{RatedFlight, rated_messages, drained_to};
 ghost use Rattle.link_simulation.specs.Rule.Planned.{is_spent};
-ghost use Rattle.link_flights.specs.Flights.Flight.{flight_at, AreTimed, DrainsTo};
+ghost use Rattle.link_flights.specs.Flights.Flight.{flight_at, has_come, AreTimed, DrainsTo};
 ghost use Rattle.link_flights.specs.Flights.InFlight.{in_flight, in_units};
 ghost use Rattle.link_flights.specs.Flights.Rated.{ArePartedBy, is_out, are_limited, rated_ones};
 ghost use Rattle.link_pairs.specs.Pairs.Messages.{message_of, messages};
@@ -35,6 +35,16 @@ pub fn is_unlimited<P: Peer>(message: &Message<P>, peers: &Peers<P>, pairs: &Pai
 }
 
 impl<P: Peer> Flights<P> {
+    /// Whether a finish may have come at the moment of the last account.
+    fn may_have_finished(&self) -> bool
+        ensures { result ≡ has_come self.now.at self.now.first }
+    {
+        match self.first {
+            Some(first) => first <= self.at,
+            None => false,
+        }
+    }
+
     /// All drain to that moment. Those that have a rate are only counted from then on, unless the
     /// moment goes back.
     pub fn drain(&mut self, now: u64) -> Result<(), Error>
@@ -45,7 +55,8 @@ impl<P: Peer> Flights<P> {
         ensures refused { IfErr result (λ e. e ≡ Error.OutOfMemory) }
     {
         let goes_back = now < self.at;
-        for at in 0..self.list.len() {
+        let from = if goes_back { 0 } else { self.settled };
+        for at in from..self.list.len() {
             if goes_back || !self.list[at].rated {
                 let one = self.list[at].brought_to(self.at, now)?;
                 self.put(at, one)?;
@@ -84,7 +95,13 @@ impl<P: Peer> Flights<P> {
         ensures scale { self.new.scale ≡ self.old.scale }
         ensures at { self.new.at ≡ self.old.at }
     {
+        let settled = if at < self.settled {
+            self.settled - 1
+        } else {
+            self.settled
+        };
         self.list.remove(at);
+        self.settled = settled;
         self.rated_anew = self.rated_anew.min(self.list.len());
     }
 
@@ -107,7 +124,11 @@ impl<P: Peer> Flights<P> {
         ensures refused { IfErr result (λ e. e ≡ Error.OutOfMemory) }
     {
         let mut done = VecDeque::new(self.alloc);
-        let mut at = 0;
+        let mut at = if were_rated && !self.may_have_finished() {
+            self.settled
+        } else {
+            0
+        };
         while at < self.list.len() {
             if self.is_done(at, peers, pairs, were_rated) {
                 done.push_back(self.list[at].message.clone()?)?;

@@ -3,11 +3,12 @@
 //! Messages that share a sender or a receiver are of one group. So where some are done or new, only
 //! those of the groups that they touch are looked at; and of these, those that the senders and
 //! receivers join.
-ghost use Rattle.std.specs.Prelude.{◌≡◌, ◌&&◌, ◌||◌, ◌==◌, ℕ, not, true, false, IfOk, IfErr, IfSome, OnOk};
+ghost use Rattle.std.specs.Prelude.{◌≡◌, ◌&&◌, ◌||◌, ◌==◌, ℕ, not, true, false, [], IfOk, IfErr, IfSome, OnOk};
 ghost use Rattle.std.specs.List.{list_all, list_any};
 ghost use Rattle.fair_rates.specs.Sides.Subjects.{same_peer};
 ghost use Rattle.link_flights.specs.Flights.Components.{is_sender, is_receiver, suits, is_closed, is_near};
 ghost use Rattle.link_flights.specs.Flights.Components.{is_found, AreGrouped, AreFarApart, AreFound, AreNear};
+ghost use Rattle.link_flights.specs.Flights.Components.{shares_any, HasEndsOf};
 ghost use Rattle.link_flights.specs.Flights.Flight.{flight_at};
 ghost use Rattle.link_flights.specs.Flights.InFlight.{in_units};
 ghost use Rattle.link_flights.specs.Flights.Rated.{rated_ones};
@@ -21,9 +22,9 @@ use std::alloc::Global;
 use std::collections::VecDeque;
 use std::rc::Rc;
 
-/// How many senders and receivers a component may have. Where there are more, it pays to rate all
-/// that is in flight.
-const MOST_ENDS: usize = 12;
+/// How many senders, and how many receivers, a component may have. Where there are more, it pays to
+/// rate all that is in flight.
+const MOST_ENDS: usize = 14;
 
 /// Some groups of messages in flight, and some senders and receivers of these: those of these
 /// messages. What is near, of one of the groups or without a rate, is gathered once it is known. Or
@@ -38,7 +39,11 @@ pub(crate) struct Component<P> {
 }
 
 impl<P: Peer> Component<P> {
-    fn new(alloc: Global) -> Component<P> {
+    fn new(alloc: Global) -> Component<P>
+        ensures part { result.whole ≡ false }
+        ensures senders { result.senders.items ≡ [] }
+        ensures receivers { result.receivers.items ≡ [] }
+    {
         Component {
             whole: false,
             groups: Vec::new(alloc),
@@ -136,14 +141,6 @@ impl<P: Peer> Component<P> {
         Ok(())
     }
 
-    /// Whether one of the ends of the message in flight is in it.
-    fn touches(&self, one: &Flight<P>) -> bool
-        ensures { result ≡ (is_sender P.cmp self.now one.now.message.value.origin
-            || is_receiver P.cmp self.now one.now.message.value.recipient) }
-    {
-        self.has_sender(&one.message.origin) || self.has_receiver(&one.message.recipient)
-    }
-
     /// Whether it suits all these in flight.
     fn suits_all(&self, near: &[Rc<Flight<P>>]) -> bool
         ensures { result ≡ list_all (λ one. suits P.cmp self.now (flight_at 0 one.value)) near.now }
@@ -197,6 +194,36 @@ fn receives_any<P: Peer>(peer: &P, messages: &[Rc<Message<P>>]) -> bool
         .any(|message| peer.cmp(&message.recipient).is_eq())
 }
 
+/// Whether the message goes from the sender or to the receiver of one of the others.
+fn has_end_of_any<P: Peer>(message: &Message<P>, others: &[Rc<Message<P>>]) -> bool
+    ensures { result ≡ shares_any P.cmp others.now message.now }
+{
+    others.iter().any(|other| {
+        message.origin.cmp(&other.origin).is_eq() || message.recipient.cmp(&other.recipient).is_eq()
+    })
+}
+
+/// Whether two messages go from one sender; or, where `sent` is false, to one receiver.
+fn share_that_end<P: Peer>(sent: bool, one: &Message<P>, other: &Message<P>) -> bool {
+    if sent {
+        one.origin.cmp(&other.origin).is_eq()
+    } else {
+        one.recipient.cmp(&other.recipient).is_eq()
+    }
+}
+
+/// The ends of the messages.
+fn ends_of<P: Peer>(alloc: Global, touched: &[Rc<Message<P>>]) -> Result<Component<P>, Error>
+    ensures ends { IfOk result (λ component. HasEndsOf P.cmp component touched.now) }
+    ensures refused { IfErr result (λ e. e ≡ Error.OutOfMemory) }
+{
+    let mut component = Component::new(alloc);
+    for message in touched {
+        component.join(message)?;
+    }
+    Ok(component)
+}
+
 impl<P: Peer> Flights<P> {
     /// The component of the messages that are done and of those that have got no rate yet. None
     /// where it is large.
@@ -213,14 +240,14 @@ impl<P: Peer> Flights<P> {
             AreNear component component.near.items self.now.list.items)) }
         ensures refused { IfErr result (λ e. e ≡ Error.OutOfMemory) }
     {
-        let mut component = self.ends(done)?;
-        self.find_groups(&mut component)?;
-        let near = self.near(&component)?;
-        for _walk in 0..MOST_ENDS {
-            if !self.grow(&near, &mut component)? {
-                break;
-            }
+        let touched = self.touched(done)?;
+        let mut component = ends_of(self.alloc, &touched)?;
+        if component.is_large() {
+            return Ok(None);
         }
+        self.find_groups(&touched, &mut component)?;
+        let near = self.near(&component)?;
+        self.grow(&near, &mut component)?;
         if component.is_large() {
             return Ok(None);
         }
@@ -231,29 +258,33 @@ impl<P: Peer> Flights<P> {
         Ok(None)
     }
 
-    /// The ends of the messages that are done and of those that have got no rate yet.
-    fn ends(&self, done: &VecDeque<Rc<Message<P>>>) -> Result<Component<P>, Error>
+    /// The messages that are done and those that have got no rate yet.
+    fn touched(&self, done: &VecDeque<Rc<Message<P>>>) -> Result<Vec<Rc<Message<P>>>, Error>
         ensures refused { IfErr result (λ e. e ≡ Error.OutOfMemory) }
     {
-        let mut component = Component::new(self.alloc);
+        let mut touched = Vec::new(self.alloc);
         for at in 0..done.len() {
-            component.join(&done[at])?;
+            touched.push(done[at].clone()?)?;
         }
-        for one in &self.list {
-            if !one.rated {
-                component.join(&one.message)?;
-            }
+        for at in self.settled..self.list.len() {
+            touched.push(self.list[at].message.clone()?)?;
         }
-        Ok(component)
+        Ok(touched)
     }
 
-    /// Takes the groups of those into the component that have an end in it.
-    fn find_groups(&self, component: &mut Component<P>) -> Result<(), Error>
+    /// Takes the groups of those into the component that share an end with one of the messages whose
+    /// ends it has.
+    fn find_groups(
+        &self,
+        touched: &[Rc<Message<P>>],
+        component: &mut Component<P>,
+    ) -> Result<(), Error>
+        requires ends { HasEndsOf P.cmp component.old touched.now }
         ensures far { OnOk result (AreFarApart P.cmp component.new (in_units self.now)) }
         ensures refused { IfErr result (λ e. e ≡ Error.OutOfMemory) }
     {
         for one in &self.list {
-            if one.rated && component.touches(one) {
+            if one.rated && has_end_of_any(&one.message, touched) {
                 component.add_group(one.group)?;
             }
         }
@@ -275,9 +306,9 @@ impl<P: Peer> Flights<P> {
         Ok(near)
     }
 
-    /// Takes in the ends of those near that have one end in the component, in one walk. Answers
-    /// whether to walk again.
-    fn grow(&self, near: &[Rc<Flight<P>>], component: &mut Component<P>) -> Result<bool, Error>
+    /// Takes in the ends of those near that the component's ends join, end by end, until there are
+    /// no more or the component is large.
+    fn grow(&self, near: &[Rc<Flight<P>>], component: &mut Component<P>) -> Result<(), Error>
         requires grouped { AreGrouped P.cmp (rated_ones (in_units self.now)) }
         requires near { AreNear component.old near.now self.now.list.items }
         requires far { AreFarApart P.cmp component.old (in_units self.now) }
@@ -285,16 +316,54 @@ impl<P: Peer> Flights<P> {
         ensures far { OnOk result (AreFarApart P.cmp component.new (in_units self.now)) }
         ensures refused { IfErr result (λ e. e ≡ Error.OutOfMemory) }
     {
-        let mut grown = false;
+        let mut senders = 0;
+        let mut receivers = 0;
+        for _end in 0..2 * MOST_ENDS {
+            if component.is_large() {
+                break;
+            }
+            if senders < component.senders.len() {
+                let message = component.senders[senders].clone()?;
+                self.join_sharing(near, true, &message, component)?;
+                senders += 1;
+            } else if receivers < component.receivers.len() {
+                let message = component.receivers[receivers].clone()?;
+                self.join_sharing(near, false, &message, component)?;
+                receivers += 1;
+            } else {
+                break;
+            }
+        }
+        Ok(())
+    }
+
+    /// Takes in the ends of those near that share the sender of the message; or, where `sent` is
+    /// false, its receiver.
+    fn join_sharing(
+        &self,
+        near: &[Rc<Flight<P>>],
+        sent: bool,
+        message: &Message<P>,
+        component: &mut Component<P>,
+    ) -> Result<(), Error>
+        requires grouped { AreGrouped P.cmp (rated_ones (in_units self.now)) }
+        requires near { AreNear component.old near.now self.now.list.items }
+        requires far { AreFarApart P.cmp component.old (in_units self.now) }
+        ensures groups { component.new.groups ≡ component.old.groups }
+        ensures far { OnOk result (AreFarApart P.cmp component.new (in_units self.now)) }
+        ensures refused { IfErr result (λ e. e ≡ Error.OutOfMemory) }
+    {
         for one in near {
-            if one.rated && component.has_one_end(one) {
+            if one.rated
+                && share_that_end(sent, message, &one.message)
+                && component.has_one_end(one)
+            {
                 component.join(&one.message)?;
-                grown = true;
                 if component.is_large() {
-                    return Ok(false);
+                    return Ok(());
                 }
             }
         }
-        Ok(grown)
+        Ok(())
     }
 }

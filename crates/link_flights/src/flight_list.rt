@@ -1,7 +1,11 @@
 //! The messages in flight.
 ghost use Rattle.std.specs.Prelude.{◌≡◌, ℕ, ◌<◌, ◌≤◌, [], ◌∷◌, ◌++◌, ◌||◌, ◌==◌, true, not};
-ghost use Rattle.std.specs.Prelude.{length, nat_le, Some, IfOk, IfErr, OnOk, OnErr};
+ghost use Rattle.std.specs.Prelude.{length, nat_le, slice_index_or, Some, IfOk, IfErr, OnOk, OnErr};
 ghost use Rattle.std.specs.List.{list_all, list_any};
+ghost use Rattle.std.specs.declared.rc.Rc.{Rc as AnyRc};
+ghost use Rattle.std.specs.declared.alloc.Global.{Global as Allocator};
+ghost use Rattle.link_flights.specs.declared.flight.Flight.{Flight as AnyFlight};
+ghost use Rattle.link_flights.specs.Flights.Flight.{HaveRates, FinishFrom};
 ghost use Rattle.link_simulation.specs.Rule.Planned.{earlier as earliest};
 
 use crate::flight::Flight;
@@ -35,10 +39,17 @@ pub struct Flights<P: Peer> {
     /// How many were rated anew at the last account: each drained, with a rate and a finish of its
     /// own. The others went on as they were.
     pub rated_anew: usize,
+    /// How many at the beginning of the list got a rate at an account. Those after them have started
+    /// since the last one.
+    pub(crate) settled: usize,
+    /// No finish comes before this moment; none comes at all, where it is missing.
+    pub(crate) first: Option<u64>,
 
     pub ghost past: { list_all (λ one. not one.value.rated || nat_le one.value.since at) list.items ≡ true },
     pub ghost scaled: { 0 < scale },
     pub ghost counted: { rated_anew ≤ length list.items },
+    pub ghost have_rates: { HaveRates settled list.items },
+    pub ghost finish_from: { FinishFrom first list.items },
 }
 
 /// The earlier of two moments, where there are any.
@@ -71,6 +82,8 @@ impl<P: Peer> Flights<P> {
             at: 0,
             last_group: 0,
             rated_anew: 0,
+            settled: 0,
+            first: None,
         }
     }
 
@@ -115,13 +128,17 @@ impl<P: Peer> Flights<P> {
     pub(crate) fn put(&mut self, at: usize, flight: Flight<P>) -> Result<(), Error>
         requires place { at < length self.old.list.items }
         requires past { (not flight.rated || nat_le flight.since self.old.at) ≡ true }
+        requires still_rated { (d : AnyRc (AnyFlight P) Allocator)
+            → (slice_index_or self.old.list.items at d).value.rated ≡ true → flight.rated ≡ true }
         ensures list { OnOk result (IsPutAt at flight self.old.list.items self.new.list.items) }
         ensures scale { self.new.scale ≡ self.old.scale }
         ensures at { self.new.at ≡ self.old.at }
         ensures counted { self.new.rated_anew ≡ self.old.rated_anew }
         ensures refused { IfErr result (λ e. e ≡ Error.OutOfMemory) }
     {
+        let finish = flight.finish;
         self.list[at] = Rc::new(self.alloc, flight)?;
+        self.first = earlier(self.first, finish);
         Ok(())
     }
 
@@ -151,6 +168,8 @@ impl<P: Peer> Clone for Flights<P> {
             at: self.at,
             last_group: self.last_group,
             rated_anew: self.rated_anew,
+            settled: self.settled,
+            first: self.first,
         })
     }
 }

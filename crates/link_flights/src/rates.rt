@@ -7,6 +7,7 @@ ghost use Rattle.link_simulation.specs.Simulation.World.{last_moment};
 ghost use Rattle.link_pairs.specs.Pairs.Messages.{messages};
 ghost use Rattle.link_flights.specs.Flights.CappedFlows.{AreFairPartsUnder, HasItsCaps};
 ghost use Rattle.link_pairs.specs.Pairs.CapsOf.{caps_of};
+ghost use Rattle.link_pairs.specs.Pairs.PeerCaps.{ingress_of};
 ghost use Rattle.link_flights.specs.Flights.Components.{those_of, AreFound, AreNear};
 ghost use Rattle.link_flights.specs.Flights.Flight.{AreTimed, rate_of, flight_at, flights_at};
 ghost use Rattle.link_flights.specs.Flights.RatedFlights.{are_standing};
@@ -34,17 +35,20 @@ use std::collections::VecDeque;
 use std::rc::Rc;
 
 /// Up to so many messages in flight, all are rated at each account.
-const FEW: usize = 6;
+const FEW: usize = 2;
 
 /// The caps that hold for a flow. Flows of one sender often follow one another, so what it may send
-/// is known where the flow before is its own.
+/// is known where the flow before is its own. What its recipient may receive is known where another
+/// flow that is at hand is to it.
 fn caps_for<P: Peer>(
     flow: &Flow<P>,
     before: Option<&CappedFlow<P>>,
+    alike: Option<&CappedFlow<P>>,
     peers: &Peers<P>,
     pairs: &Pairs<P>,
 ) -> FlowCaps
     requires before { IfSome before (λ last. HasItsCaps (caps_of P.cmp peers.now.entries pairs.now.entries) last.now) }
+    requires alike { IfSome alike (λ one. HasItsCaps (caps_of P.cmp peers.now.entries pairs.now.entries) one.now) }
     ensures { HasItsCaps (caps_of P.cmp peers.now.entries pairs.now.entries)
         (record { flow = flow.now; caps = result }) }
 {
@@ -53,7 +57,7 @@ fn caps_for<P: Peer>(
         _ => peers.egress(&flow.origin),
     };
     let ingress = if flow.delivered {
-        peers.ingress(&flow.recipient)
+        ingress_for(&flow.recipient, alike, peers)
     } else {
         None
     };
@@ -62,6 +66,46 @@ fn caps_for<P: Peer>(
         egress,
         ingress,
         link,
+    }
+}
+
+/// The cap on what a peer receives, which is known where a flow is delivered to it.
+fn ingress_for<P: Peer>(
+    recipient: &P,
+    alike: Option<&CappedFlow<P>>,
+    peers: &Peers<P>,
+) -> Option<u128>
+    requires { IfSome alike (λ one. one.now.flow.delivered ≡ true
+        → one.now.caps.ingress ≡ ingress_of P.cmp peers.now.entries one.now.flow.recipient) }
+    ensures { result ≡ ingress_of P.cmp peers.now.entries recipient.now }
+{
+    match alike {
+        Some(one) if one.flow.delivered && one.flow.recipient.cmp(recipient).is_eq() => {
+            one.caps.ingress
+        }
+        _ => peers.ingress(recipient),
+    }
+}
+
+/// Whether the flow is to that recipient.
+fn is_to<P: Peer>(recipient: &P, flow: Option<&CappedFlow<P>>) -> bool {
+    match flow {
+        Some(one) => one.flow.recipient.cmp(recipient).is_eq(),
+        None => false,
+    }
+}
+
+/// Where a flow to the recipient may stand, by where one to the recipient before does. Senders mostly
+/// have the same recipients in one order, each without itself.
+fn place_to<P: Peer>(recipient: &P, flows: &[CappedFlow<P>], before: usize) -> usize {
+    let next = before.wrapping_add(1);
+    let after = next.wrapping_add(1);
+    if is_to(recipient, flows.get(next)) {
+        next
+    } else if is_to(recipient, flows.get(after)) {
+        after
+    } else {
+        before
     }
 }
 
@@ -120,14 +164,20 @@ impl<P: Peer> Flights<P> {
                 let part = self.rates_of(&component, peers, pairs)?;
                 if part.growth.is_empty() {
                     self.set_rates(&component, part, true)?;
-                    return Ok(self.first_finish());
+                    let first = self.first_finish();
+                    self.settled = self.list.len();
+                    self.first = first;
+                    return Ok(first);
                 }
             }
         }
         let all = Component::whole(self.alloc);
         let rates = self.rates_of(&all, peers, pairs)?;
         self.set_rates(&all, rates, were_rated)?;
-        Ok(self.first_finish())
+        let first = self.first_finish();
+        self.settled = self.list.len();
+        self.first = first;
+        Ok(first)
     }
 
     /// The fair rates of a component alone.
@@ -185,11 +235,13 @@ impl<P: Peer> Flights<P> {
             (HasItsCaps (caps_of P.cmp peers.now.entries pairs.now.entries)) flows.items) }
         ensures refused { IfErr result (λ e. e ≡ Error.OutOfMemory) }
     {
-        let mut flows = Vec::new(self.alloc);
+        let mut flows = Vec::with_capacity(self.alloc, list.len())?;
+        let mut place = usize::MAX;
         for one in list {
             if component.has(one) {
                 let flow = one.message.flow(0)?;
-                let caps = caps_for(&flow, flows.last(), peers, pairs);
+                place = place_to(&flow.recipient, &flows, place);
+                let caps = caps_for(&flow, flows.last(), flows.get(place), peers, pairs);
                 flows.push(CappedFlow { flow, caps })?;
             }
         }

@@ -1,9 +1,11 @@
 //! What limits flows: the sides that the caps make.
 ghost use Rattle.std.specs.Prelude.{◌≡◌, OnOk, ◌<◌, [], ◌∷◌, List, Some, IfOk, IfErr, map, All, AllPairs, length, true};
+ghost use Rattle.std.specs.Prelude.{false, Option, ℕ};
 ghost use Rattle.std.specs.Fn.{CalledAt, TakesAt, CalledAtTwo, TakesAtTwo};
 ghost use Rattle.fair_rates.specs.Sides.Answers.{Answered, AnswerInOrder, CallableOnEach, CallableOnEachPair, origins};
 ghost use Rattle.fair_rates.specs.Sides.Answers.{recipients, pairs, answered_by, answered_of};
-ghost use Rattle.fair_rates.specs.Sides.Subjects.{sides_of, asks_of_one, sent_between, same_subject};
+ghost use Rattle.fair_rates.specs.Sides.Subjects.{sides_of, asks_of_one, same_subject};
+ghost use Rattle.fair_rates.specs.Sides.Subjects.{sent_by, received_by, sent_between};
 ghost use Rattle.fair_rates.specs.Sides.SideOf.{side_of};
 ghost use Rattle.fair_rates.specs.Sides.Registry.{FindsSides, Registers, subject_of};
 
@@ -127,6 +129,28 @@ impl<'a, P: Peer> Registry<'a, P> {
         }
     }
 
+    /// Whether the side of that number is of what the peer sends.
+    fn is_of_sender(&self, number: usize, peer: &P) -> bool
+        requires { FindsSides P.cmp self.now }
+        ensures { result ≡ true → number_of P.cmp self.now (sent_by peer.now) ≡ Some number }
+    {
+        match self.subjects.get(number) {
+            Some(Subject::SentBy(kept)) => kept.cmp(&peer).is_eq(),
+            _ => false,
+        }
+    }
+
+    /// Whether the side of that number is of what the peer receives.
+    fn is_of_recipient(&self, number: usize, peer: &P) -> bool
+        requires { FindsSides P.cmp self.now }
+        ensures { result ≡ true → number_of P.cmp self.now (received_by peer.now) ≡ Some number }
+    {
+        match self.subjects.get(number) {
+            Some(Subject::ReceivedBy(kept)) => kept.cmp(&peer).is_eq(),
+            _ => false,
+        }
+    }
+
     /// The number of the side of the subject, if there is one. Where it is the guess or the next
     /// number, no map is searched.
     fn number(&self, subject: &Subject<'a, P>, guess: usize) -> Option<usize>
@@ -231,24 +255,81 @@ fn register_link<'a, P: Peer>(
     register(alloc, registry, place, between, answer)
 }
 
+/// Registers that the flow at `place` asks for the side of its origin. Flows of one sender mostly
+/// follow one another.
+fn register_sender<'a, P: Peer>(
+    alloc: Global,
+    registry: &mut Registry<'a, P>,
+    place: usize,
+    flow: &'a Flow<P>,
+    answer: Option<u128>,
+) -> Result<(), Error>
+    requires { FindsSides P.cmp registry.old }
+    ensures registers { OnOk result (Registers P.cmp
+        (record { place = place; subject = sent_by flow.now.origin; answer = answer } ∷ [])
+        registry.old registry.new) }
+    ensures refused { IfErr result (λ e. e ≡ Error.OutOfMemory) }
+{
+    let latest = registry.latest.sender;
+    if registry.is_of_sender(latest, &flow.origin) {
+        registry.sides[latest].users.push(place)?;
+        return Ok(());
+    }
+    register(
+        alloc,
+        registry,
+        place,
+        Subject::SentBy(&flow.origin),
+        answer,
+    )
+}
+
+/// Registers that the flow at `place` asks for the side of its recipient. Senders mostly have the
+/// same recipients in one order.
+fn register_recipient<'a, P: Peer>(
+    alloc: Global,
+    registry: &mut Registry<'a, P>,
+    place: usize,
+    flow: &'a Flow<P>,
+    answer: Option<u128>,
+) -> Result<(), Error>
+    requires { FindsSides P.cmp registry.old }
+    ensures registers { OnOk result (Registers P.cmp
+        (record { place = place; subject = received_by flow.now.recipient; answer = answer } ∷ [])
+        registry.old registry.new) }
+    ensures refused { IfErr result (λ e. e ≡ Error.OutOfMemory) }
+{
+    let next = registry.latest.recipient.wrapping_add(1);
+    if registry.is_of_recipient(next, &flow.recipient) {
+        registry.latest.recipient = next;
+        registry.sides[next].users.push(place)?;
+        return Ok(());
+    }
+    register(
+        alloc,
+        registry,
+        place,
+        Subject::ReceivedBy(&flow.recipient),
+        answer,
+    )
+}
+
 /// Registers that the flow at `place` asks for its sides, and that these were the answers.
 fn register_flow<'a, P: Peer>(
     alloc: Global,
     registry: &mut Registry<'a, P>,
     place: usize,
     flow: &'a Flow<P>,
-    answers: FlowCaps,
+    answers: &FlowCaps,
 ) -> Result<(), Error>
     requires { FindsSides P.cmp registry.old }
-    ensures registers { OnOk result (Registers P.cmp (asks_of_one place (answered_by flow.now answers))
+    ensures registers { OnOk result (Registers P.cmp (asks_of_one place (answered_by flow.now answers.now))
         registry.old registry.new) }
     ensures refused { IfErr result (λ e. e ≡ Error.OutOfMemory) }
 {
-    let sent = Subject::SentBy(&flow.origin);
-    register(alloc, registry, place, sent, answers.egress)?;
+    register_sender(alloc, registry, place, flow, answers.egress)?;
     if flow.delivered {
-        let received = Subject::ReceivedBy(&flow.recipient);
-        register(alloc, registry, place, received, answers.ingress)?;
+        register_recipient(alloc, registry, place, flow, answers.ingress)?;
     }
     register_link(alloc, registry, place, flow, answers.link)
 }
@@ -292,7 +373,7 @@ where
             ingress,
             link,
         };
-        register_flow(alloc, &mut registry, place, flow, answers)?;
+        register_flow(alloc, &mut registry, place, flow, &answers)?;
     }
     Ok(registry.sides)
 }
@@ -309,7 +390,7 @@ pub(crate) fn sides_of_capped<P: Peer>(
 {
     let mut registry = Registry::new(alloc)?;
     for (place, one) in flows.iter().enumerate() {
-        register_flow(alloc, &mut registry, place, &one.flow, one.caps)?;
+        register_flow(alloc, &mut registry, place, &one.flow, &one.caps)?;
     }
     Ok(registry.sides)
 }

@@ -5,6 +5,8 @@ use Rattle.std.proofs.Common.{map, length, get_or, subst, refl, sym, ◌∙◌, 
 use Rattle.std.proofs.lemmas.List.{length-map}
 use Rattle.std.proofs.lemmas.List.Elements.{All-append, All-contains}
 use Rattle.std.specs.Option.{option_copied}
+use Rattle.std.proofs.lemmas.Bool.{ltb-true}
+use Rattle.std.specs.Prelude.{is_some, nat_lt}
 use Rattle.std.proofs.Common.{Some, IfSome, Bor, slice_get}
 use Rattle.fair_rates.proofs.Lists.Members.{in_get, contains_from_in}
 use Rattle.std.specs.declared.cmp.Ordering.{Ordering}
@@ -57,6 +59,14 @@ module _ {P : Type 0} (caps : Caps P) where
       at : (k : ℕ) (d : CappedFlow P) → k < 1 → HasItsCaps caps (get_or (one ∷ []) k d)
       at zero d lt = here
       at (suc k) d lt = absurd (omega arith)
+
+  -- one that is found at a place has its caps
+  pub found_capped : (flows : List (CappedFlow P)) (at : ℕ) (found : Option (Bor (CappedFlow P)))
+      → is_some found ≡ nat_lt at (length flows) → IfSome found (λ one. one.now ≡ get_or flows at one.now)
+      → All (HasItsCaps caps) flows → IfSome found (λ one. HasItsCaps caps one.now)
+  found_capped flows at None within is all = tt
+  found_capped flows at (Some one) within is all =
+      subst (HasItsCaps caps) (sym is) (all at one.now (ltb-true at (length flows) (sym within)))
 
   -- the one before has its caps
   pub last_capped : (flows : List (CappedFlow P)) (at : ℕ) (last : Option (Bor (CappedFlow P)))

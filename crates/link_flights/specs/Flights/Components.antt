@@ -37,6 +37,16 @@ module _ {P : Type 0} (cmp : P → P → Ordering) where
   is_receiver component p =
       component.whole || list_any (λ m. same_peer cmp p m.value.recipient) component.receivers.items
 
+  -- whether a message goes from the sender or to the receiver of one of the others
+  abbrev pub shares_any : List (Rc (Message P) Global) → Message P → Bool
+  shares_any others m = list_any
+      (λ other. same_peer cmp m.origin other.value.origin || same_peer cmp m.recipient other.value.recipient) others
+
+  -- the component has no ends but those of these messages
+  abbrev pub HasEndsOf : Component P → List (Rc (Message P) Global) → Type 0
+  HasEndsOf component ms = (m : Message P) → shares_any ms m ≡ false
+      → (is_sender component m.origin ≡ false) × (is_receiver component m.recipient ≡ false)
+
   -- whether the message goes from one of the senders
   abbrev pub is_of : Component P → UnitFlight P → Bool
   is_of component u = is_sender component u.message.origin

@@ -1,6 +1,7 @@
 -- A message in flight, as it is kept, and as it stands at the last account.
 use Rattle.std.specs.Prelude.{◌≡◌, ℕ, ◌-◌, ◌*◌, ◌≤◌, nat_le, Bool, true, false, if◌then◌else◌, List, map}
-use Rattle.std.specs.Prelude.{Option, Some, None, slice_get, slice_set}
+use Rattle.std.specs.Prelude.{Option, Some, None, slice_get, slice_set, length, take}
+use Rattle.std.specs.List.{list_all, list_any}
 use Rattle.std.specs.declared.rc.Rc.{Rc}
 use Rattle.std.specs.declared.alloc.Global.{Global}
 use Rattle.link_simulation.specs.Simulation.World.{last_moment}
@@ -58,6 +59,15 @@ IsTimed f = IsFinishOf f.left (rate_of f.rate) f.since f.finish
 -- those that have got a rate are timed
 abbrev pub AreTimed : {P : Type 0} → List (Rc (Flight P) Global) → Type 0
 AreTimed {P} fs = (i : ℕ) (f : Rc (Flight P) Global) → slice_get fs i ≡ Some f → f.value.rated ≡ true → IsTimed f.value
+
+-- so many at the beginning have got a rate
+abbrev pub HaveRates : {P : Type 0} → ℕ → List (Rc (Flight P) Global) → Type 0
+HaveRates n fs = (n ≤ length fs) × (list_all (λ f. f.value.rated) (take n fs) ≡ true)
+
+-- none of them finishes before a moment; or none at all, where it is missing
+abbrev pub FinishFrom : {P : Type 0} → Option ℕ → List (Rc (Flight P) Global) → Type 0
+FinishFrom first fs =
+    (t : ℕ) → has_come t first ≡ false → list_any (λ f. has_come t f.value.finish) fs ≡ false
 
 -- a flight has been put at a place, and the others are as they were
 pub record IsPutAt {P : Type 0} (at : ℕ) (f : Flight P) (old new : List (Rc (Flight P) Global)) : Type 0 where

@@ -24,7 +24,7 @@ returns g c =
       | in_default w ↦ w.egress-is ∙ w.egress-egress.ensures.cap
     ] in
     let ingress : c.if-flow.ingress ≡ cond f.delivered (caps.ingress f.recipient) None = elim c.if-flow.branch [
-      | then-flow w ↦ w.ingress-is ∙ w.ingress-ingress.ensures.cap
+      | then-flow w ↦ w.ingress-is ∙ w.ingress_for-ingress.ensures
           ∙ ap (λ b. cond b (caps.ingress f.recipient) None) (sym w.if-flow.true)
       | else-flow w ↦ w.ingress-is ∙ ap (λ b. cond b (caps.ingress f.recipient) None) (sym w.if-flow.false)
     ] in

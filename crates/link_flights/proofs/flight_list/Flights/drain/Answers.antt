@@ -7,14 +7,31 @@ use Rattle.link_flights.specs.declared.flight.Flight.{Flight}
 use Rattle.link_flights.specs.Flights.Flight.{flight_at, rate_of}
 use Rattle.link_flights.proofs.Flights.Flight.{IsBrought, is_past, changed_length, next_brought, next_counted_on}
 use Rattle.link_flights.proofs.Flights.Flight.{all_drained, all_past, all_timed}
+use Rattle.link_flights.proofs.Flights.Settled.{counted_from}
 use Rattle.link_flights.proofs.flight_list.Flights.drain.Goals as goal
-use Rattle.link_flights.proofs.flight_list.Flights.drain.Goals.{then-goes_back+in_ok-one+in_ok-put}
-use Rattle.link_flights.proofs.flight_list.Flights.drain.Goals.{else-goes_back+else-not-deref}
-use Rattle.link_flights.proofs.flight_list.Flights.drain.Goals.{then-goes_back-via-then-goes_back}
-use Rattle.link_flights.proofs.flight_list.Flights.drain.Goals.{then-goes_back-via-else-goes_back+then-not-deref}
+use Rattle.link_flights.proofs.flight_list.Flights.drain.Goals.{
+  then-goes_back,
+  else-goes_back,
+  then-goes_back-2+in_ok-one+in_ok-put,
+  else-goes_back-2+else-not-deref,
+  then-goes_back-2-via-then-goes_back-2,
+  then-goes_back-2-via-else-goes_back-2+then-not-deref,
+}
 
 pub loop-at-init : goal.loop-at-init
-loop-at-init g c = (unchanged (IsBrought c.args.self.now.at c.args.now) c.args.self.now.list.items, refl, refl)
+loop-at-init g c =
+    let old = c.args.self.now in
+    let R = IsBrought old.at c.args.now in (
+      elim c.if-goes_back.branch [
+        | then-goes_back w ↦
+            subst (IsChangedUpTo R old.list.items old.list.items) (sym w.from-is) (unchanged R old.list.items)
+        | else-goes_back w ↦
+            subst (IsChangedUpTo R old.list.items old.list.items) (sym w.from-is)
+            (counted_from old.at c.args.now old.settled old.list.items old.have_rates old.past w.if-goes_back.false)
+      ],
+      refl,
+      refl,
+    )
 
 pub loop-at-preserved : goal.loop-at-preserved
 loop-at-preserved g c =
@@ -27,14 +44,14 @@ loop-at-preserved g c =
       changed_length (IsBrought old.at c.args.now) old.list.items so_far.list.items c.loop-at.at
           c.loop-at.invariant.0,
     ) in
-    elim c.if-goes_back.branch [
-      | then-goes_back+in_ok-one+in_ok-put w ↦
-          let x = w.index-then-goes_back.result.now in
-          let is : x ≡ get_or so_far.list.items c.loop-at.at x = w.index-then-goes_back.ensures in
-          let value = w.deref-then-goes_back.ensures in
-          let back : c.args.now < old.at ⊎ x.value.rated ≡ false = elim w.then-goes_back.branch [
-            | then-goes_back-via-then-goes_back v ↦ inl v.if-goes_back.true
-            | then-goes_back-via-else-goes_back+then-not-deref v ↦ inr
+    elim c.if-goes_back-2.branch [
+      | then-goes_back-2+in_ok-one+in_ok-put w ↦
+          let x = w.index-then-goes_back-2.result.now in
+          let is : x ≡ get_or so_far.list.items c.loop-at.at x = w.index-then-goes_back-2.ensures in
+          let value = w.deref-then-goes_back-2.ensures in
+          let back : c.args.now < old.at ⊎ x.value.rated ≡ false = elim w.then-goes_back-2.branch [
+            | then-goes_back-2-via-then-goes_back-2 v ↦ inl v.if-goes_back-2.true
+            | then-goes_back-2-via-else-goes_back-2+then-not-deref v ↦ inr
                 (ap (λ r. r.value.rated)
                 (is ∙ get_or_default so_far.list.items c.loop-at.at x v.index.result.now lt ∙ sym v.index.ensures)
                 ∙ sym (ap (λ (f : Flight g.row.P.Denot). f.rated) v.deref.ensures) ∙ v.if-not-deref.true)
@@ -55,7 +72,7 @@ loop-at-preserved g c =
             ap (λ s. s.at) w.self-is ∙ w.put.ensures.at ∙ at_is,
             ap (λ s. s.scale) w.self-is ∙ w.put.ensures.scale ∙ c.loop-at.invariant.2,
           )
-      | else-goes_back+else-not-deref w ↦
+      | else-goes_back-2+else-not-deref w ↦
           let x = w.index.result.now in
           let is : x ≡ get_or so_far.list.items c.loop-at.at x = w.index.ensures in
           let value = w.deref.ensures in (
@@ -65,7 +82,7 @@ loop-at-preserved g c =
                 (next_counted_on old.at c.args.now old.list.items so_far.list.items c.loop-at.at c.loop-at.invariant.0 x lt
                 is
                 (sym (ap (λ (f : Flight g.row.P.Denot). f.rated) value) ∙ w.if-not-deref.false)
-                (ap (λ n. list_all (is_past n) so_far.list.items) (sym at_is) ∙ so_far.past) w.if-goes_back.false),
+                (ap (λ n. list_all (is_past n) so_far.list.items) (sym at_is) ∙ so_far.past) w.if-goes_back-2.false),
             ap (λ s. s.at) w.self-is ∙ at_is,
             ap (λ s. s.scale) w.self-is ∙ c.loop-at.invariant.2,
           )
@@ -83,6 +100,8 @@ invariant_of-self g c =
           (all_changed R old.list.items now.list.items c.loop-at.at c.loop-at.invariant.0 end);
       scaled = now.scaled;
       counted = now.counted;
+      have_rates = now.have_rates;
+      finish_from = now.finish_from;
     }
 
 pub returns-clause-drained : goal.returns-clause-drained

@@ -4,12 +4,12 @@ use Rattle.std.proofs.lemmas.List.{map-append, take_all}
 use Rattle.fair_rates.specs.declared.bandwidth.CappedFlow.{CappedFlow}
 use Rattle.link_flights.specs.Flights.CappedFlows.{HasItsCaps}
 use Rattle.link_pairs.specs.Pairs.CapsOf.{caps_of}
-use Rattle.link_flights.proofs.Flights.CappedFlows.{one_more_capped, last_capped}
+use Rattle.link_flights.proofs.Flights.CappedFlows.{one_more_capped, last_capped, found_capped}
 use Rattle.std.specs.Option.{option_copied}
 use Rattle.std.proofs.Common.{ℕ, ◌-◌, slice_get, IfSome}
 use Rattle.fair_rates.specs.Sides.Subjects.{same_peer}
 use Rattle.link_simulation.specs.Simulation.Messages.{is_delivered}
-use Rattle.std.specs.Prelude.{Contains}
+use Rattle.std.specs.Prelude.{Contains, is_some, nat_lt, get_or}
 use Rattle.link_flights.specs.declared.flight.Flight.{Flight}
 use Rattle.link_flights.specs.Flights.Components.{is_found, is_of, those_of}
 use Rattle.link_flights.proofs.Flights.Grouped.{listed_at}
@@ -74,18 +74,25 @@ loop-one-preserved g c =
     ]
 
 pub caps_for-caps-requires : goal.caps_for-caps-requires
-caps_for-caps-requires g c = record {
-  before = subst (λ fs. (at : ℕ) → option_copied c.last.result ≡ slice_get fs at
-      → IfSome c.last.result (λ last. HasItsCaps (caps_of g.P.Ord.cmp c.args.peers.now.entries
-      c.args.pairs.now.entries) last.now)) (sym c.deref-then-has-3.ensures.value)
-      (λ at is. last_capped (caps_of g.P.Ord.cmp c.args.peers.now.entries c.args.pairs.now.entries)
-      c.loop-one.flows.items at c.last.result is c.loop-one.invariant.1)
-      (length c.deref-then-has-3.result.now - 1) c.last.ensures.value;
-}
+caps_for-caps-requires g c =
+    let caps = caps_of g.P.Ord.cmp c.args.peers.now.entries c.args.pairs.now.entries in
+    let flows = c.loop-one.flows.items in
+    let all : All (HasItsCaps caps) flows = c.loop-one.invariant.1 in
+    record {
+      before = subst (λ fs. (at : ℕ) → option_copied c.last.result ≡ slice_get fs at
+          → IfSome c.last.result (λ last. HasItsCaps caps last.now)) (sym c.deref-then-has-4.ensures.value)
+          (λ at is. last_capped caps flows at c.last.result is all)
+          (length c.deref-then-has-4.result.now - 1) c.last.ensures.value;
+      alike = subst (λ fs. is_some c.get.result ≡ nat_lt c.place_to-place.result (length fs)
+          → IfSome c.get.result (λ one. one.now ≡ get_or fs c.place_to-place.result one.now)
+          → IfSome c.get.result (λ one. HasItsCaps caps one.now)) (sym c.deref-then-has-5.ensures.value)
+          (λ some is. found_capped caps flows c.place_to-place.result c.get.result some is all)
+          c.get.ensures.lookup.0 c.get.ensures.lookup.1;
+    }
 
 pub loop-one-init : goal.loop-one-init
 loop-one-init g c =
-    let none = c.new-flows.ensures.items in (
+    let none = c.in_ok-flows.ensures.items in (
       ap (λ (fs : List (CappedFlow g.row.P.Denot)). are_standing g.P.Ord.cmp (map (λ x. x.flow) fs) []) none,
       subst (All (HasItsCaps (caps_of g.P.Ord.cmp c.args.peers.now.entries c.args.pairs.now.entries))) (sym none)
           (λ k d lt. absurd (omega arith)),

@@ -1,70 +1,43 @@
-use Rattle.std.proofs.Common.{◌≡◌, refl, sym, ap, ◌∙◌, subst, arith}
-use Rattle.link_flights.specs.declared.flight.Flight.{Flight}
+use Rattle.std.proofs.Common.{◌≡◌, refl, sym, ◌∙◌, subst}
 use Rattle.link_flights.specs.Flights.Components.{AreFarApart}
 use Rattle.link_flights.specs.Flights.InFlight.{in_units}
-use Rattle.link_flights.proofs.Flights.Grouped.{HasTakenIn, near_alike, near_taken_in}
+use Rattle.link_flights.proofs.Flights.Grouped.{near_alike}
 use Rattle.link_flights.proofs.flight_list.Flights.grow.Goals as goal
 use Rattle.link_flights.proofs.flight_list.Flights.grow.Goals.{
-  then-deref+then-has_one_end+in_ok-join+else-is_large,
-  else-deref,
+  then-senders-len+in_ok-message+in_ok-join_sharing,
+  else-senders-len+then-receivers-len+in_ok-message-2+in_ok-join_sharing-2,
 }
 
-pub loop-one-init : goal.loop-one-init
-loop-one-init g c = (c.requires.far, refl)
+pub loop-end-init : goal.loop-end-init
+loop-end-init g c = (c.requires.far, refl)
 
-pub returns-then-is_large-clause-groups : goal.returns-then-is_large-clause-groups
-returns-then-is_large-clause-groups g c = c.join.ensures.groups ∙ c.loop-one.invariant.1
+pub join_sharing-requires : goal.join_sharing-requires
+join_sharing-requires g c = record {
+  grouped = c.requires.grouped;
+  near = near_alike c.args.component.now c.loop-end.component c.loop-end.invariant.1 c.args.near.now
+      c.args.self.now.list.items c.requires.near;
+  far = c.loop-end.invariant.0;
+}
 
-pub returns-then-is_large-clause-far : goal.returns-then-is_large-clause-far
-returns-then-is_large-clause-far g c =
-    let cmp = g.P.Ord.cmp in
-    let self = c.args.self.now in
-    let one = c.one-item.result in
-    let old = c.loop-one.component in
-    let new = c.join.new.self in
-    let e = c.in_ok-join.ensures in
-    let taken : HasTakenIn cmp one.value.message.value old new =
-    subst (λ (f : Flight g.row.P.Denot). HasTakenIn cmp f.message.value old new) c.deref-then-has_one_end.ensures
-    record { groups = c.join.ensures.groups; senders = e.senders; receivers = e.receivers } in
-    near_taken_in cmp old new self.at c.args.near.now self.list.items
-    (near_alike c.args.component.now old c.loop-one.invariant.1 c.args.near.now self.list.items c.requires.near)
-    c.loop-one.one-index one (omega (arith, c.loop-one-test.true)) c.one-item.is c.requires.grouped
-    (ap (λ (f : Flight g.row.P.Denot). f.rated) (sym c.deref.ensures) ∙ c.if-deref.true)
-    taken c.loop-one.invariant.0
+pub join_sharing-requires-then-receivers-len : goal.join_sharing-requires-then-receivers-len
+join_sharing-requires-then-receivers-len g c = record {
+  grouped = c.requires.grouped;
+  near = near_alike c.args.component.now c.loop-end.component c.loop-end.invariant.1 c.args.near.now
+      c.args.self.now.list.items c.requires.near;
+  far = c.loop-end.invariant.0;
+}
 
-pub loop-one-preserved : goal.loop-one-preserved
-loop-one-preserved g c =
-    let cmp = g.P.Ord.cmp in
-    let self = c.args.self.now in
-    let one = c.one-item.result in
-    let old = c.loop-one.component in
-    elim c.if-deref.branch [
-      | then-deref+then-has_one_end+in_ok-join+else-is_large w ↦
-          let new = w.join.new.self in
-          let e = w.in_ok-join.ensures in
-          let taken : HasTakenIn cmp one.value.message.value old new =
-          subst (λ (f : Flight g.row.P.Denot). HasTakenIn cmp f.message.value old new)
-          w.deref-then-has_one_end.ensures
-          record { groups = w.join.ensures.groups; senders = e.senders; receivers = e.receivers } in
-          subst (λ (component : _). AreFarApart cmp component (in_units self)
+pub loop-end-preserved : goal.loop-end-preserved
+loop-end-preserved g c =
+    elim c.if-senders-len.branch [
+      | then-senders-len+in_ok-message+in_ok-join_sharing w ↦
+          subst (λ (component : _). AreFarApart g.P.Ord.cmp component (in_units c.args.self.now)
+          × (component.groups ≡ c.args.component.now.groups)) (sym w.component-is)
+          (w.in_ok-join_sharing.ensures.far, w.join_sharing.ensures.groups ∙ c.loop-end.invariant.1)
+      | else-senders-len+then-receivers-len+in_ok-message-2+in_ok-join_sharing-2 w ↦
+          subst (λ (component : _). AreFarApart g.P.Ord.cmp component (in_units c.args.self.now)
           × (component.groups ≡ c.args.component.now.groups)) (sym w.component-is) (
-            near_taken_in cmp old new self.at c.args.near.now self.list.items
-                (near_alike c.args.component.now old c.loop-one.invariant.1 c.args.near.now self.list.items
-                c.requires.near)
-                c.loop-one.one-index one (omega (arith, c.loop-one-test.true)) c.one-item.is c.requires.grouped
-                (ap (λ (f : Flight g.row.P.Denot). f.rated) (sym c.deref.ensures) ∙ w.if-deref.true)
-                taken c.loop-one.invariant.0,
-            w.join.ensures.groups ∙ c.loop-one.invariant.1,
+            w.in_ok-join_sharing-2.ensures.far,
+            w.join_sharing-then-receivers-len.ensures.groups ∙ c.loop-end.invariant.1,
           )
-      | else-deref w ↦ subst (λ (component : _). AreFarApart cmp component (in_units self)
-          × (component.groups ≡ c.args.component.now.groups)) (sym w.component-is) c.loop-one.invariant
     ]
-
-pub returns-in_err-join-clause-groups : goal.returns-in_err-join-clause-groups
-returns-in_err-join-clause-groups g c = c.join.ensures.groups ∙ c.loop-one.invariant.1
-
-pub returns-clause-groups : goal.returns-clause-groups
-returns-clause-groups g c = c.loop-one.invariant.1
-
-pub returns-clause-far : goal.returns-clause-far
-returns-clause-far g c = c.loop-one.invariant.0

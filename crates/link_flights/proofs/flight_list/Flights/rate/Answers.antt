@@ -8,6 +8,8 @@ use Rattle.link_pairs.specs.Pairs.Messages.{messages}
 use Rattle.link_flights.proofs.Flights.Components.{none_there, grouped_rest}
 use Rattle.link_flights.proofs.Flights.RatesGiven.{whole_given, component_given, left_given}
 use Rattle.link_flights.proofs.Flights.Rerating.{first_finish_is}
+use Rattle.link_flights.specs.Flights.Flight.{HaveRates}
+use Rattle.link_flights.proofs.Flights.Settled.{all_have_got, finish_known, rates_all}
 use Rattle.link_flights.proofs.flight_list.Flights.rate.Goals as goal
 
 pub component-requires : goal.component-requires
@@ -22,47 +24,131 @@ set_rates-requires-2-clause-left g c =
     left_given g.P.Ord.cmp (caps_of g.P.Ord.cmp c.args.peers.now.entries c.args.pairs.now.entries) c.whole-all.result
     c.in_ok-rates.rates old.scale (in_units old) c.in_ok-rates.ensures.fair c.requires.left
 
-pub returns-then-is_empty-clause-rated : goal.returns-then-is_empty-clause-rated
-returns-then-is_empty-clause-rated g c =
+pub invariant_of-self : goal.invariant_of-self
+invariant_of-self g c =
     let cmp = g.P.Ord.cmp in
     let old = c.args.self.now in
     let caps = caps_of cmp c.args.peers.now.entries c.args.pairs.now.entries in
     let part = c.in_ok-part.part in
+    let new = c.set_rates.new.self in
     let e = c.in_ok-set_rates.ensures in
-    component_given cmp caps c.in-Some.component part old c.set_rates.new.self e.rerated.0 c.in_ok-part.ensures.fair
-    e.rerated.1
+    let h =
+    component_given cmp caps c.in-Some.component part old new e.rerated.0 c.in_ok-part.ensures.fair e.rerated.1
     e.scale e.at e.timed g.met.P.Ord.total
     (looked_up cmp g.met.P.Ord.total c.args.peers.now.entries c.args.pairs.now.entries)
     c.args.done.now.items
     (subst (λ o. IfSome o (λ component. is_closed cmp component c.args.done.now.items (in_units old) ≡ true))
     c.in-Some.is c.in_ok-component.ensures.closed)
     (c.requires.before c.if-were_rated.true) c.requires.updated
-    (none_there part.growth.items part.growth.len part.growth.ok.0 (sym c.is_empty.ensures ∙ c.if-is_empty.true))
+    (none_there part.growth.items part.growth.len part.growth.ok.0 (sym c.is_empty.ensures ∙ c.if-is_empty.true)) in
+    record {
+      past = new.past;
+      scaled = new.scaled;
+      counted = new.counted;
+      have_rates = subst (λ n. HaveRates n new.list.items) (omega (arith, new.list.ok.0))
+          (rates_all new.list.items (all_have_got old.at h.times new.at (in_units old) new.list.items h.each));
+      finish_from = finish_known c.first_finish-first.result new.list.items c.first_finish-first.ensures;
+    }
+
+pub returns-then-is_empty-clause-rated : goal.returns-then-is_empty-clause-rated
+returns-then-is_empty-clause-rated g c =
+    let cmp = g.P.Ord.cmp in
+    let old = c.args.self.now in
+    let caps = caps_of cmp c.args.peers.now.entries c.args.pairs.now.entries in
+    let part = c.in_ok-part.part in
+    let new = c.set_rates.new.self in
+    let e = c.in_ok-set_rates.ensures in
+    let h =
+    component_given cmp caps c.in-Some.component part old new e.rerated.0 c.in_ok-part.ensures.fair e.rerated.1
+    e.scale e.at e.timed g.met.P.Ord.total
+    (looked_up cmp g.met.P.Ord.total c.args.peers.now.entries c.args.pairs.now.entries)
+    c.args.done.now.items
+    (subst (λ o. IfSome o (λ component. is_closed cmp component c.args.done.now.items (in_units old) ≡ true))
+    c.in-Some.is c.in_ok-component.ensures.closed)
+    (c.requires.before c.if-were_rated.true) c.requires.updated
+    (none_there part.growth.items part.growth.len part.growth.ok.0 (sym c.is_empty.ensures ∙ c.if-is_empty.true)) in
+    record {
+      times = h.times;
+      scale = h.scale;
+      at = h.at;
+      each = h.each;
+      fair = h.fair;
+      timed = h.timed;
+      grouped = h.grouped;
+    }
 
 pub returns-then-is_empty-clause-finish : goal.returns-then-is_empty-clause-finish
 returns-then-is_empty-clause-finish g c =
+    let cmp = g.P.Ord.cmp in
     let old = c.args.self.now in
-    let caps = caps_of g.P.Ord.cmp c.args.peers.now.entries c.args.pairs.now.entries in
-    let fits : IfSome c.first_finish.result (λ t. t ≤ last_moment) = search rules in
-    let here : c.set_rates.new.self.at ≤ last_moment = omega (arith, c.in_ok-set_rates.ensures.at, c.requires.moment) in
-    first_finish_is g.P.Ord.cmp caps old c.set_rates.new.self (returns-then-is_empty-clause-rated g c) c.requires.left
-    here c.first_finish.result c.first_finish.ensures fits
+    let caps = caps_of cmp c.args.peers.now.entries c.args.pairs.now.entries in
+    let part = c.in_ok-part.part in
+    let new = c.set_rates.new.self in
+    let e = c.in_ok-set_rates.ensures in
+    let h =
+    component_given cmp caps c.in-Some.component part old new e.rerated.0 c.in_ok-part.ensures.fair e.rerated.1
+    e.scale e.at e.timed g.met.P.Ord.total
+    (looked_up cmp g.met.P.Ord.total c.args.peers.now.entries c.args.pairs.now.entries)
+    c.args.done.now.items
+    (subst (λ o. IfSome o (λ component. is_closed cmp component c.args.done.now.items (in_units old) ≡ true))
+    c.in-Some.is c.in_ok-component.ensures.closed)
+    (c.requires.before c.if-were_rated.true) c.requires.updated
+    (none_there part.growth.items part.growth.len part.growth.ok.0 (sym c.is_empty.ensures ∙ c.if-is_empty.true)) in
+    let fits : IfSome c.first_finish-first.result (λ t. t ≤ last_moment) = search rules in
+    let here : new.at ≤ last_moment = omega (arith, e.at, c.requires.moment) in
+    first_finish_is cmp caps old new h c.requires.left here c.first_finish-first.result
+    c.first_finish-first.ensures fits
+
+pub invariant_of-self-2 : goal.invariant_of-self-2
+invariant_of-self-2 g c =
+    let cmp = g.P.Ord.cmp in
+    let old = c.args.self.now in
+    let caps = caps_of cmp c.args.peers.now.entries c.args.pairs.now.entries in
+    let new = c.set_rates-2.new.self in
+    let e = c.in_ok-set_rates-2.ensures in
+    let h =
+    whole_given cmp caps c.whole-all.result c.in_ok-rates.rates old new e.rerated.0 c.in_ok-rates.ensures.fair
+    e.rerated.1 e.scale e.at e.timed c.whole-all.ensures in
+    record {
+      past = new.past;
+      scaled = new.scaled;
+      counted = new.counted;
+      have_rates = subst (λ n. HaveRates n new.list.items) (omega (arith, new.list.ok.0))
+          (rates_all new.list.items (all_have_got old.at h.times new.at (in_units old) new.list.items h.each));
+      finish_from = finish_known c.first_finish-first-2.result new.list.items c.first_finish-first-2.ensures;
+    }
 
 pub returns-clause-rated : goal.returns-clause-rated
 returns-clause-rated g c =
     let cmp = g.P.Ord.cmp in
     let old = c.args.self.now in
     let caps = caps_of cmp c.args.peers.now.entries c.args.pairs.now.entries in
+    let new = c.set_rates-2.new.self in
     let e = c.in_ok-set_rates-2.ensures in
-    whole_given cmp caps c.whole-all.result c.in_ok-rates.rates old c.set_rates-2.new.self e.rerated.0
-    c.in_ok-rates.ensures.fair e.rerated.1 e.scale e.at e.timed c.whole-all.ensures
+    let h =
+    whole_given cmp caps c.whole-all.result c.in_ok-rates.rates old new e.rerated.0 c.in_ok-rates.ensures.fair
+    e.rerated.1 e.scale e.at e.timed c.whole-all.ensures in
+    record {
+      times = h.times;
+      scale = h.scale;
+      at = h.at;
+      each = h.each;
+      fair = h.fair;
+      timed = h.timed;
+      grouped = h.grouped;
+    }
 
 pub returns-clause-finish : goal.returns-clause-finish
 returns-clause-finish g c =
+    let cmp = g.P.Ord.cmp in
     let old = c.args.self.now in
-    let caps = caps_of g.P.Ord.cmp c.args.peers.now.entries c.args.pairs.now.entries in
+    let caps = caps_of cmp c.args.peers.now.entries c.args.pairs.now.entries in
     let new = c.set_rates-2.new.self in
-    let fits : IfSome c.first_finish-2.result (λ t. t ≤ last_moment) = search rules in
-    let here : new.at ≤ last_moment = omega (arith, c.in_ok-set_rates-2.ensures.at, c.requires.moment) in
-    first_finish_is g.P.Ord.cmp caps old new (returns-clause-rated g c) c.requires.left here c.first_finish-2.result
-    c.first_finish-2.ensures fits
+    let e = c.in_ok-set_rates-2.ensures in
+    let h =
+    whole_given cmp caps c.whole-all.result c.in_ok-rates.rates old new e.rerated.0 c.in_ok-rates.ensures.fair
+    e.rerated.1 e.scale e.at e.timed c.whole-all.ensures in
+    let fits : IfSome c.first_finish-first-2.result (λ t. t ≤ last_moment) = search rules in
+    let here : new.at ≤ last_moment = omega (arith, e.at, c.requires.moment) in
+    first_finish_is cmp caps old new h c.requires.left here c.first_finish-first-2.result
+    c.first_finish-first-2.ensures fits

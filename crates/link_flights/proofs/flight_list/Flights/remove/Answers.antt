@@ -1,15 +1,40 @@
-use Rattle.std.proofs.Common.{ap, ◌∙◌, arith}
+use Rattle.std.proofs.Common.{◌-◌, sym, ap, ◌∙◌, subst, arith}
 use Rattle.std.specs.List.{list_all}
+use Rattle.link_flights.specs.Flights.Flight.{HaveRates, FinishFrom}
 use Rattle.link_flights.proofs.Flights.Flight.{all_but, is_past}
+use Rattle.link_flights.proofs.Flights.Settled.{rates_less, rates_still, finish_without}
 use Rattle.link_flights.proofs.flight_list.Flights.remove.Goals as goal
+use Rattle.link_flights.proofs.flight_list.Flights.remove.Goals.{then-at-self, else-at-self}
 
-pub invariant_of-self : goal.invariant_of-self
-invariant_of-self g c =
+pub invariant_of-self-clause-past : goal.invariant_of-self-clause-past
+invariant_of-self-clause-past g c =
     let old = c.args.self.now in
-    record {
-      past =
-          ap (list_all (is_past old.at)) c.remove.ensures.items
-          ∙ all_but (is_past old.at) old.list.items c.args.at old.past;
-      scaled = old.scaled;
-      counted = omega (arith, c.min-self.ensures, c.len.ensures, c.remove.new.self.ok.0);
-    }
+    ap (list_all (is_past old.at)) c.remove.ensures.items
+    ∙ all_but (is_past old.at) old.list.items c.args.at old.past
+
+pub invariant_of-self-clause-counted : goal.invariant_of-self-clause-counted
+invariant_of-self-clause-counted g c =
+    omega (arith, c.min-self.ensures, c.len.ensures, c.remove.new.self.ok.0)
+
+pub invariant_of-self-clause-have_rates : goal.invariant_of-self-clause-have_rates
+invariant_of-self-clause-have_rates g c =
+    let old = c.args.self.now in
+    elim c.if-at-self.branch [
+      | then-at-self w ↦
+          subst (λ n. HaveRates n c.remove.new.self.items) (sym w.settled-is)
+          (subst (HaveRates (old.settled - 1)) (sym c.remove.ensures.items)
+          (rates_less (old.settled - 1) old.list.items c.args.at
+          (subst (λ n. HaveRates n old.list.items) (omega (arith, w.if-at-self.true)) old.have_rates)
+          (omega (arith, w.if-at-self.true))))
+      | else-at-self w ↦
+          subst (λ n. HaveRates n c.remove.new.self.items) (sym w.settled-is)
+          (subst (HaveRates old.settled) (sym c.remove.ensures.items)
+          (rates_still old.settled old.list.items c.args.at old.have_rates (omega (arith, w.if-at-self.false))
+          c.requires))
+    ]
+
+pub invariant_of-self-clause-finish_from : goal.invariant_of-self-clause-finish_from
+invariant_of-self-clause-finish_from g c =
+    let old = c.args.self.now in
+    subst (FinishFrom old.first) (sym c.remove.ensures.items)
+    (finish_without old.first old.list.items c.args.at old.finish_from)

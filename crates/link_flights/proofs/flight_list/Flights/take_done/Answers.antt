@@ -11,7 +11,12 @@ use Rattle.link_flights.specs.Flights.Flight.{flight_at}
 use Rattle.link_flights.specs.Flights.Rated.{is_out}
 use Rattle.link_flights.proofs.Flights.InFlight.{HaveLeft, none_left, step_leaves, step_stays, all_looked_at}
 use Rattle.link_flights.proofs.Flights.Leaving.{timed_without, flights_limited_without, parted_so}
+use Rattle.link_flights.proofs.Flights.Settled.{left_from}
 use Rattle.link_flights.proofs.flight_list.Flights.take_done.Goals as goal
+use Rattle.link_flights.proofs.flight_list.Flights.take_done.Goals.{
+  then-were_rated+then-not-may_have_finished,
+  else-were_rated,
+}
 
 pub loop-at-init : goal.loop-at-init
 loop-at-init g c =
@@ -19,8 +24,22 @@ loop-at-init g c =
     let caps = caps_of g.P.Ord.cmp c.args.peers.now.entries c.args.pairs.now.entries in
     let message = λ (f : Rc (Flight g.row.P.Denot) Global). message_of f.value.message.value in
     let out = λ (f : Rc (Flight g.row.P.Denot) Global). is_out g.P.Ord.cmp caps old.scale (flight_at old.at f.value) in (
-      subst (λ l. HaveLeft message out old.list.items old.list.items (messages l) 0) (sym c.new-done.ensures.items)
-          (none_left message out old.list.items),
+      elim c.if-were_rated.branch [
+        | then-were_rated+then-not-may_have_finished w ↦
+            subst (λ n. HaveLeft message out old.list.items old.list.items (messages c.new-done.result.items) n)
+            (sym w.at-is)
+            (subst (λ l. HaveLeft message out old.list.items old.list.items (messages l) old.settled)
+            (sym c.new-done.ensures.items)
+            (left_from g.P.Ord.cmp caps old.scale old.scaled old.at (omega arith) message old.settled old.list.items
+            old.have_rates old.past
+            (old.finish_from old.at (sym w.may_have_finished.ensures ∙ w.if-not-may_have_finished.true))
+            (c.requires.timed w.if-were_rated.true) (c.requires.limited w.if-were_rated.true)))
+        | else-were_rated w ↦
+            subst (λ n. HaveLeft message out old.list.items old.list.items (messages c.new-done.result.items) n)
+            (sym w.at-is)
+            (subst (λ l. HaveLeft message out old.list.items old.list.items (messages l) 0)
+            (sym c.new-done.ensures.items) (none_left message out old.list.items))
+      ],
       refl,
       refl,
       λ h. h,

@@ -1,6 +1,7 @@
 use Rattle.std.proofs.Common.{◌<◌, sym, ◌∙◌, subst, arith}
 use Rattle.std.proofs.lemmas.List.Elements.{length_all_zip}
 use Rattle.link_flights.proofs.Flights.Copies.{past_alike}
+use Rattle.link_flights.proofs.Flights.Settled.{rates_alike, finish_alike}
 use Rattle.link_flights.proofs.flight_list.FlightsClone.clone.Goals as goal
 
 pub invariant_of-result : goal.invariant_of-result
@@ -14,4 +15,8 @@ invariant_of-result g c =
         old.counted,
         length_all_zip _ old.list.items c.in_ok-clone.field-0.items c.in_ok-clone.ensures.cases.0,
       );
+      have_rates = rates_alike old.settled old.list.items c.in_ok-clone.field-0.items c.in_ok-clone.ensures.cases.0
+          old.have_rates;
+      finish_from = finish_alike old.first old.list.items c.in_ok-clone.field-0.items c.in_ok-clone.ensures.cases.0
+          old.finish_from;
     }

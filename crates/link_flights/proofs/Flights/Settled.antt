@@ -1,0 +1,254 @@
+-- How many messages in flight, at the beginning of the list, have got a rate; and before which moment none finishes.
+use Rattle.std.proofs.Common.{◌≡◌, ℕ, zero, suc, ◌<◌, ◌≤◌, Bool, true, false, not, ◌||◌, List, [], ◌∷◌}
+use Rattle.std.proofs.Common.{◌++◌, length, take, drop, get_or, set, map, Option, Some, None, refl, sym, ap}
+use Rattle.std.proofs.Common.{◌∙◌, arith}
+use Rattle.std.specs.List.{AllZip, filter, list_all, list_any, remove}
+use Rattle.std.specs.declared.cmp.Ordering.{Ordering}
+use Rattle.std.specs.declared.rc.Rc.{Rc}
+use Rattle.std.specs.declared.alloc.Global.{Global}
+use Rattle.std.proofs.lemmas.Bool.{and_from, leb-false, lt-leb}
+use Rattle.std.proofs.lemmas.List.{length-append, length-set, length-take-le, take-append-drop, take-append-le}
+use Rattle.std.proofs.lemmas.List.{take_all}
+use Rattle.std.proofs.lemmas.List.Edits.{length-remove}
+use Rattle.std.proofs.lemmas.List.Elements.{filter-append, length_all_zip}
+use Rattle.std.proofs.lemmas.List.Folds.{list_any-append}
+use Rattle.fair_rates.specs.Sides.Caps.{Caps}
+use Rattle.fair_rates.proofs.Lists.Booleans.{first_of_both, second_of_both}
+use Rattle.fair_rates.proofs.Lists.InPlace.{IsChangedUpTo}
+use Rattle.link_simulation.specs.Rule.Planned.{earlier}
+use Rattle.link_simulation.specs.Simulation.Messages.{Message}
+use Rattle.link_simulation.specs.Simulation.World.{last_moment}
+use Rattle.link_flights.specs.declared.flight.Flight.{Flight}
+use Rattle.link_flights.specs.Flights.Flight.{UnitFlight, flight_at, flights_at, has_come, AreTimed, HaveRates}
+use Rattle.link_flights.specs.Flights.Flight.{FinishFrom}
+use Rattle.link_flights.specs.Flights.Rated.{is_out, are_limited, rated_ones, IsRatedFrom}
+use Rattle.link_flights.proofs.Flights.Copies.{AreShared}
+use Rattle.link_flights.proofs.Flights.Done.{out_by_finish, limited_there}
+use Rattle.link_flights.proofs.Flights.Ends.{first_is, second_is}
+use Rattle.link_flights.proofs.Flights.Flight.{IsBrought, is_past, is_counted_on, past_so}
+use Rattle.link_flights.proofs.Flights.InFlight.{HaveLeft, filter_yes, filter_no}
+
+-- ---- the first elements of a list pass a test
+
+module _ {X : Type 0} (test : X → Bool) where
+  pass_with : (n : ℕ) (xs : List X) (at : ℕ) (y : X) → list_all test (take n xs) ≡ true
+      → ((d : X) → test (get_or xs at d) ≡ true → test y ≡ true) → list_all test (take n (set xs at y)) ≡ true
+  pass_with zero xs at y all kept = refl
+  pass_with (suc n) [] at y all kept = refl
+  pass_with (suc n) (x ∷ xs) zero y all kept =
+      and_from (test y) _ (kept x (first_of_both (test x) _ all)) (second_of_both (test x) _ all)
+  pass_with (suc n) (x ∷ xs) (suc at) y all kept =
+      and_from (test x) _ (first_of_both (test x) _ all)
+      (pass_with n xs at y (second_of_both (test x) _ all) (λ d. kept d))
+
+  pass_less : (n : ℕ) (xs : List X) (at : ℕ) → at ≤ n → list_all test (take (suc n) xs) ≡ true
+      → list_all test (take n (remove xs at)) ≡ true
+  pass_less zero xs at within all = refl
+  pass_less (suc n) [] zero within all = refl
+  pass_less (suc n) [] (suc at) within all = refl
+  pass_less (suc n) (x ∷ xs) zero within all = second_of_both (test x) _ all
+  pass_less (suc n) (x ∷ xs) (suc at) within all =
+      and_from (test x) _ (first_of_both (test x) _ all)
+      (pass_less n xs at (omega arith) (second_of_both (test x) _ all))
+
+  pass_still : (n : ℕ) (xs : List X) (at : ℕ) → n ≤ at → list_all test (take n xs) ≡ true
+      → list_all test (take n (remove xs at)) ≡ true
+  pass_still zero xs at beyond all = refl
+  pass_still (suc n) [] zero beyond all = absurd (omega arith)
+  pass_still (suc n) [] (suc at) beyond all = refl
+  pass_still (suc n) (x ∷ xs) zero beyond all = absurd (omega arith)
+  pass_still (suc n) (x ∷ xs) (suc at) beyond all =
+      and_from (test x) _ (first_of_both (test x) _ all)
+      (pass_still n xs at (omega arith) (second_of_both (test x) _ all))
+
+-- ---- none of a list passes a test
+
+module _ {X : Type 0} (test : X → Bool) where
+  neither : (a b : Bool) → a ≡ false → b ≡ false → (a || b) ≡ false
+  neither a b first second = rw (first, second) refl
+
+  none_with : (xs : List X) (at : ℕ) (y : X) → list_any test xs ≡ false → test y ≡ false
+      → list_any test (set xs at y) ≡ false
+  none_with [] at y none fails = refl
+  none_with (x ∷ xs) zero y none fails = neither (test y) _ fails (second_is (test x) _ none)
+  none_with (x ∷ xs) (suc at) y none fails =
+      neither (test x) _ (first_is (test x) _ none) (none_with xs at y (second_is (test x) _ none) fails)
+
+  none_without : (xs : List X) (at : ℕ) → list_any test xs ≡ false → list_any test (remove xs at) ≡ false
+  none_without [] zero none = refl
+  none_without [] (suc at) none = refl
+  none_without (x ∷ xs) zero none = second_is (test x) _ none
+  none_without (x ∷ xs) (suc at) none =
+      neither (test x) _ (first_is (test x) _ none) (none_without xs at (second_is (test x) _ none))
+
+-- none of two moments has come where the earlier one has not
+earlier_none : (a b : Option ℕ) (t : ℕ) → has_come t (earlier a b) ≡ false
+    → (has_come t a ≡ false) × (has_come t b ≡ false)
+earlier_none None b t e = (refl, e)
+earlier_none (Some a) None t e = (e, refl)
+earlier_none (Some a) (Some b) t e =
+    let later = leb-false _ t e in (lt-leb a t (omega (arith, later)), lt-leb b t (omega (arith, later)))
+
+module _ {P : Type 0} where
+  -- ---- those at the beginning have rates
+
+  pub rates_with_one : (n : ℕ) (fs : List (Rc (Flight P) Global)) (one : Rc (Flight P) Global) → HaveRates n fs
+      → HaveRates n (fs ++ one ∷ [])
+  rates_with_one n fs one h = (
+    omega (arith, h.0, length-append fs (one ∷ [])),
+    ap (list_all (λ f. f.value.rated)) (take-append-le n fs (one ∷ []) h.0) ∙ h.1,
+  )
+
+  pub rates_put : (n : ℕ) (fs : List (Rc (Flight P) Global)) (at : ℕ) (one : Rc (Flight P) Global) → HaveRates n fs
+      → ((d : Rc (Flight P) Global) → (get_or fs at d).value.rated ≡ true → one.value.rated ≡ true)
+      → HaveRates n (set fs at one)
+  rates_put n fs at one h kept =
+      (omega (arith, h.0, length-set fs at one), pass_with (λ f. f.value.rated) n fs at one h.1 kept)
+
+  pub rates_less : (n : ℕ) (fs : List (Rc (Flight P) Global)) (at : ℕ) → HaveRates (suc n) fs → at < suc n
+      → HaveRates n (remove fs at)
+  rates_less n fs at h within = (
+    omega (arith, h.0, length-remove fs at (omega (arith, h.0, within))),
+    pass_less (λ f. f.value.rated) n fs at (omega arith) h.1,
+  )
+
+  pub rates_still : (n : ℕ) (fs : List (Rc (Flight P) Global)) (at : ℕ) → HaveRates n fs → n ≤ at → at < length fs
+      → HaveRates n (remove fs at)
+  rates_still n fs at h beyond inside = (
+    omega (arith, h.0, length-remove fs at inside, inside, beyond),
+    pass_still (λ f. f.value.rated) n fs at beyond h.1,
+  )
+
+  rated_alike : (n : ℕ) (fs gs : List (Rc (Flight P) Global)) → AreShared fs gs
+      → list_all (λ f. f.value.rated) (take n gs) ≡ list_all (λ f. f.value.rated) (take n fs)
+  rated_alike zero fs gs z = refl
+  rated_alike (suc n) [] [] z = refl
+  rated_alike (suc n) [] (g ∷ gs) z = absurd z
+  rated_alike (suc n) (f ∷ fs) [] z = absurd z
+  rated_alike (suc n) (f ∷ fs) (g ∷ gs) z = rw (z.0, rated_alike n fs gs z.1) refl
+
+  pub rates_alike : (n : ℕ) (fs gs : List (Rc (Flight P) Global)) → AreShared fs gs → HaveRates n fs → HaveRates n gs
+  rates_alike n fs gs z h = (omega (arith, h.0, length_all_zip _ fs gs z), rated_alike n fs gs z ∙ h.1)
+
+  pub rates_all : (fs : List (Rc (Flight P) Global)) → list_all (λ f. f.value.rated) fs ≡ true
+      → HaveRates (length fs) fs
+  rates_all fs all =
+      (omega arith, ap (list_all (λ f. f.value.rated)) (take_all (length fs) fs (omega arith)) ∙ all)
+
+  -- ---- none finishes before a moment
+
+  pub finish_with_one : (first : Option ℕ) (fs : List (Rc (Flight P) Global)) (one : Rc (Flight P) Global)
+      → one.value.finish ≡ None → FinishFrom first fs → FinishFrom first (fs ++ one ∷ [])
+  finish_with_one first fs one none h t e =
+      list_any-append (λ f. has_come t f.value.finish) fs (one ∷ [])
+      ∙ neither (λ (f : Rc (Flight P) Global). has_come t f.value.finish)
+      (list_any (λ f. has_come t f.value.finish) fs) (has_come t one.value.finish || false) (h t e)
+      (ap (λ o. has_come t o || false) none)
+
+  pub finish_put : (first : Option ℕ) (fs : List (Rc (Flight P) Global)) (at : ℕ) (one : Rc (Flight P) Global)
+      → FinishFrom first fs → FinishFrom (earlier first one.value.finish) (set fs at one)
+  finish_put first fs at one h t e =
+      let both = earlier_none first one.value.finish t e in
+      none_with (λ f. has_come t f.value.finish) fs at one (h t both.0) both.1
+
+  pub finish_without : (first : Option ℕ) (fs : List (Rc (Flight P) Global)) (at : ℕ) → FinishFrom first fs
+      → FinishFrom first (remove fs at)
+  finish_without first fs at h t e = none_without (λ f. has_come t f.value.finish) fs at (h t e)
+
+  finishes_alike : (t : ℕ) (fs gs : List (Rc (Flight P) Global)) → AreShared fs gs
+      → list_any (λ f. has_come t f.value.finish) gs ≡ list_any (λ f. has_come t f.value.finish) fs
+  finishes_alike t [] [] z = refl
+  finishes_alike t [] (g ∷ gs) z = absurd z
+  finishes_alike t (f ∷ fs) [] z = absurd z
+  finishes_alike t (f ∷ fs) (g ∷ gs) z = rw (z.0, finishes_alike t fs gs z.1) refl
+
+  pub finish_alike : (first : Option ℕ) (fs gs : List (Rc (Flight P) Global)) → AreShared fs gs
+      → FinishFrom first fs → FinishFrom first gs
+  finish_alike first fs gs z h t e = finishes_alike t fs gs z ∙ h t e
+
+  -- ---- those that have rates are counted on
+
+  pub counted_from : (at now n : ℕ) (fs : List (Rc (Flight P) Global)) → HaveRates n fs
+      → list_all (is_past at) fs ≡ true → at ≤ now → IsChangedUpTo (IsBrought at now) fs fs n
+  counted_from at now n fs h past later = record {
+    from = take n fs;
+    to = take n fs;
+    rest = drop n fs;
+    old_is = sym (take-append-drop n fs);
+    now_is = sym (take-append-drop n fs);
+    at_is = sym (length-take-le n fs h.0);
+    changed = each n fs h.1 past;
+  }
+    where
+      each : (n : ℕ) (fs : List (Rc (Flight P) Global)) → list_all (λ f. f.value.rated) (take n fs) ≡ true
+          → list_all (is_past at) fs ≡ true → AllZip (IsBrought at now) (take n fs) (take n fs)
+      each zero fs all past = tt
+      each (suc n) [] all past = tt
+      each (suc n) (f ∷ fs) all past = (
+        is_counted_on at now f (first_of_both f.value.rated _ all) (first_of_both (is_past at f) _ past) later,
+        each n fs (second_of_both f.value.rated _ all) (second_of_both (is_past at f) _ past),
+      )
+
+  -- ---- and none of them is done, where no finish has come
+
+  module _ (cmp : P → P → Ordering) (caps : Caps P) (scale : ℕ) (some : 0 < scale) (at : ℕ) (here : at ≤ last_moment)
+    where
+      abbrev out : Rc (Flight P) Global → Bool
+      out f = is_out cmp caps scale (flight_at at f.value)
+
+      none_out : (n : ℕ) (fs : List (Rc (Flight P) Global)) → list_all (λ f. f.value.rated) (take n fs) ≡ true
+          → list_all (is_past at) fs ≡ true → list_any (λ f. has_come at f.value.finish) fs ≡ false → AreTimed fs
+          → are_limited cmp caps (rated_ones (flights_at at fs)) ≡ true
+          → (filter out (take n fs) ≡ []) × (filter (λ f. not (out f)) (take n fs) ≡ take n fs)
+      none_out zero fs all past none timed limited = (refl, refl)
+      none_out (suc n) [] all past none timed limited = (refl, refl)
+      none_out (suc n) (f ∷ fs) all past none timed limited =
+          let is = first_of_both f.value.rated _ all in
+          let stays : out f ≡ false =
+          sym (out_by_finish cmp caps scale some at f.value is (past_so at f (first_of_both (is_past at f) _ past) is)
+          here (timed zero f refl is) (limited_there cmp caps scale some at (f ∷ fs) zero f limited (omega arith) refl is))
+          ∙ first_is (has_come at f.value.finish) _ none in
+          let rest = none_out n fs (second_of_both f.value.rated _ all) (second_of_both (is_past at f) _ past)
+          (second_is (has_come at f.value.finish) _ none) (λ i g there. timed (suc i) g there)
+          (limited_rest (flight_at at f.value) (flights_at at fs) is limited) in (
+            filter_no out f (take n fs) stays ∙ rest.0,
+            filter_yes (λ g. not (out g)) f (take n fs) (ap not stays) ∙ ap (λ l. f ∷ l) rest.1,
+          )
+        where
+          limited_rest : (u : UnitFlight P) (us : List (UnitFlight P)) → u.rated ≡ true → are_limited cmp caps (rated_ones (u ∷ us)) ≡ true
+              → are_limited cmp caps (rated_ones us) ≡ true
+          limited_rest u us is limited =
+              second_of_both _ (are_limited cmp caps (rated_ones us))
+              (sym (ap (are_limited cmp caps) (filter_yes (λ v. v.rated) u us is)) ∙ limited)
+
+      -- so far, up to them, none has left
+      pub left_from : (message : Rc (Flight P) Global → Message P) (n : ℕ) (fs : List (Rc (Flight P) Global))
+          → HaveRates n fs → list_all (is_past at) fs ≡ true → list_any (λ f. has_come at f.value.finish) fs ≡ false
+          → AreTimed fs → are_limited cmp caps (rated_ones (flights_at at fs)) ≡ true → HaveLeft message out fs fs [] n
+      left_from message n fs h past none timed limited =
+          let stay = none_out n fs h.1 past none timed limited in
+          let whole = take-append-drop n fs in
+          record {
+            before = take n fs;
+            rest = drop n fs;
+            split = sym whole;
+            is_at = sym (length-take-le n fs h.0);
+            leavers = ap (map message)
+                (ap (λ l. l ++ filter out (drop n fs)) (sym stay.0) ∙ sym (filter-append out (take n fs) (drop n fs))
+                ∙ ap (filter out) whole);
+            stay = ap (λ l. l ++ filter (λ f. not (out f)) (drop n fs)) (sym stay.1)
+                ∙ sym (filter-append (λ f. not (out f)) (take n fs) (drop n fs)) ∙ ap (filter (λ f. not (out f))) whole;
+          }
+
+-- all have rates, once each has got one
+pub all_have_got : {P : Type 0} (now times at : ℕ) (us : List (UnitFlight P)) (fs : List (Rc (Flight P) Global))
+    → AllZip (IsRatedFrom now times) us (flights_at at fs) → list_all (λ f. f.value.rated) fs ≡ true
+all_have_got now times at [] [] z = refl
+all_have_got now times at [] (f ∷ fs) z = absurd z
+all_have_got now times at (u ∷ us) [] z = absurd z
+all_have_got now times at (u ∷ us) (f ∷ fs) z = and_from f.value.rated _ z.0.rated (all_have_got now times at us fs z.1)
+
+-- with the first finish, none finishes before it
+pub finish_known : {P : Type 0} (first : Option ℕ) (fs : List (Rc (Flight P) Global))
+    → ((t : ℕ) → has_come t first ≡ list_any (λ f. has_come t f.value.finish) fs) → FinishFrom first fs
+finish_known first fs is t e = sym (is t) ∙ e
