@@ -118,6 +118,7 @@ impl<P: Peer> Ledger<P> {
     {
         *self = next;
         self.pairs.settle();
+        self.busy.settle();
     }
 
     /// The same caps and last arrivals, and the same messages that wait.

@@ -6,6 +6,8 @@ pub mod DueMessages
 pub mod FirstStart
 pub mod Index
 pub mod IndexChanges
+pub mod LateBusy
+pub mod Moved
 pub mod Places
 pub mod Starting
 pub mod Waiting

@@ -1,5 +1,5 @@
 //! How many messages of each pair are in flight.
-ghost use Rattle.std.specs.Prelude.{◌≡◌, true, List, map, slice_get, Some, OnOk, IfOk, IfErr, if◌then◌else◌, ◌+◌, ◌-◌};
+ghost use Rattle.std.specs.Prelude.{◌≡◌, true, List, map, slice_get, Some, OnOk, OnErr, IfOk, IfErr, if◌then◌else◌, ◌+◌, ◌-◌};
 ghost use Rattle.std.specs.List.{list_any};
 ghost use Rattle.std.specs.Ordering.{is_lt};
 ghost use Rattle.fair_rates.specs.Lists.Sorted.{are_ascending, IsPlace, IsGap};
@@ -8,11 +8,12 @@ ghost use Rattle.link_pairs.specs.Pairs.Entries.{pair_cmp};
 ghost use Rattle.link_waiting.specs.Idle.Index.{is_of_pair};
 ghost use Rattle.link_waiting.specs.Idle.Busy.{busy_key, count_of, number_of, AreCounted};
 
+use crate::busy_list::BusyList;
 use fair_rates::error::Error;
 use fair_rates::peer::Peer;
 use link_pairs::message::Message;
 use link_pairs::pair::PeerPair;
-use shared_list::{Seek, SharedList};
+use shared_list::Seek;
 use std::alloc::{AllocError, Global};
 use std::collections::VecDeque;
 use std::rc::Rc;
@@ -24,19 +25,19 @@ pub(crate) struct BusyPair<P> {
     count: u64,
 }
 
-/// The ordered pairs of which messages are in flight, in the order of pairs: by origin, then by
-/// recipient.
+/// The ordered pairs of which messages are or were in flight, in the order of pairs: by origin, then
+/// by recipient.
 #[derive(Drop)]
 pub struct BusyPairs<P: Peer> {
-    entries: SharedList<BusyPair<P>>,
+    entries: BusyList<P>,
     pub ghost ascending: { are_ascending (pair_cmp P.cmp) (map busy_key entries) ≡ true },
 }
 
 /// Where a pair stands among those of which messages are in flight.
 #[derive(Drop)]
-struct BusyPlace<'a, P> {
-    origin: &'a P,
-    recipient: &'a P,
+pub(crate) struct BusyPlace<'a, P> {
+    pub(crate) origin: &'a P,
+    pub(crate) recipient: &'a P,
 }
 
 impl<P: Peer> Seek<BusyPair<P>> for BusyPlace<'_, P> {
@@ -58,7 +59,7 @@ impl<P: Peer> BusyPairs<P> {
         ensures { result.entries ≡ [] }
     {
         BusyPairs {
-            entries: SharedList::new(),
+            entries: BusyList::new(),
         }
     }
 
@@ -69,7 +70,7 @@ impl<P: Peer> BusyPairs<P> {
         ensures entry { IfOk result (λ found. slice_get self.now.entries found.0 ≡ Some found.1.now) }
         ensures absent { IfErr result (IsGap (pair_cmp P.cmp) busy_key self.now.entries (origin.now, recipient.now)) }
     {
-        let (at, entry) = self.entries.locate(&BusyPlace { origin, recipient });
+        let (at, entry) = self.entries.locate(origin, recipient);
         match entry {
             Some(entry) if entry.pair.compare(origin, recipient).is_eq() => Ok((at, entry)),
             _ => Err(at),
@@ -94,43 +95,27 @@ impl<P: Peer> BusyPairs<P> {
         self.count(origin, recipient) != 0
     }
 
-    /// So many messages of the pair are in flight.
-    fn set(&mut self, alloc: Global, origin: &P, recipient: &P, count: u64) -> Result<(), Error>
-        ensures counted { OnOk result ((o r : P) → count_of P.cmp self.new.entries o r
-            ≡ (if same_peer P.cmp origin.now o && same_peer P.cmp recipient.now r then count
-            else count_of P.cmp self.old.entries o r)) }
-        ensures refused { IfErr result (λ e. e ≡ Error.OutOfMemory) }
-    {
-        match self.search(origin, recipient) {
-            Ok((at, entry)) => {
-                if count == 0 {
-                    self.entries.remove(at)?;
-                    return Ok(());
-                }
-                let pair = entry.pair.clone()?;
-                let entry = BusyPair { pair, count };
-                self.entries.replace(alloc, at, entry)?;
-            }
-            Err(at) => {
-                let pair = Rc::new(alloc, PeerPair::new(origin, recipient)?)?;
-                let entry = BusyPair { pair, count };
-                self.entries.insert(alloc, at, entry)?;
-            }
-        }
-        Ok(())
-    }
-
     /// One more message of the pair is in flight.
     pub fn add(&mut self, alloc: Global, origin: &P, recipient: &P) -> Result<(), Error>
         ensures counted { OnOk result ((o r : P) → count_of P.cmp self.new.entries o r
             ≡ (if same_peer P.cmp origin.now o && same_peer P.cmp recipient.now r
             then count_of P.cmp self.old.entries origin.now recipient.now + 1
             else count_of P.cmp self.old.entries o r)) }
+        ensures kept { OnErr result (self.new.entries ≡ self.old.entries) }
         ensures refused { IfErr result (λ e. e ≡ Error.OutOfMemory) }
     {
-        let count = self.count(origin, recipient);
-        let more = count.checked_add(1).ok_or(Error::OutOfMemory)?;
-        self.set(alloc, origin, recipient, more)
+        match self.search(origin, recipient) {
+            Ok((at, entry)) => {
+                let count = entry.count.checked_add(1).ok_or(Error::OutOfMemory)?;
+                let pair = entry.pair.clone()?;
+                self.entries.replace(alloc, at, BusyPair { pair, count })?;
+            }
+            Err(at) => {
+                let pair = Rc::new(alloc, PeerPair::new(origin, recipient)?)?;
+                self.entries.insert(alloc, at, BusyPair { pair, count: 1 })?;
+            }
+        }
+        Ok(())
     }
 
     /// One message less of the pair is in flight.
@@ -141,8 +126,12 @@ impl<P: Peer> BusyPairs<P> {
             else count_of P.cmp self.old.entries o r)) }
         ensures refused { IfErr result (λ e. e ≡ Error.OutOfMemory) }
     {
-        let count = self.count(origin, recipient);
-        self.set(alloc, origin, recipient, count.saturating_sub(1))
+        if let Ok((at, entry)) = self.search(origin, recipient) {
+            let count = entry.count.saturating_sub(1);
+            let pair = entry.pair.clone()?;
+            self.entries.replace(alloc, at, BusyPair { pair, count })?;
+        }
+        Ok(())
     }
 
     /// The messages are in flight no more.
@@ -160,6 +149,14 @@ impl<P: Peer> BusyPairs<P> {
             self.remove(alloc, &message.origin, &message.recipient)?;
         }
         Ok(())
+    }
+
+    /// All is put in its place, where memory allows. To be called once no other list shares these pairs:
+    /// then nothing is copied.
+    pub fn settle(&mut self)
+        ensures { self.new.entries ≡ self.old.entries }
+    {
+        self.entries.settle();
     }
 }
 

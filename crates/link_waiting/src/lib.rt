@@ -5,6 +5,7 @@
 #![tactic(auto)]
 
 pub mod busy;
+mod busy_list;
 pub mod idle_pairs;
 pub mod readiness;
 pub mod waiting;

@@ -14,7 +14,7 @@ use Rattle.fair_rates.proofs.Lists.Booleans.{by_bool}
 use Rattle.fair_rates.proofs.Sides.EqualSubjects.{same_peer_itself}
 use Rattle.fair_rates.specs.Lists.Sorted.{are_ascending, IsPlace, IsGap}
 use Rattle.fair_rates.proofs.Lists.Sorted.{is_eq_equal, read_place, ascending_set_at, ascending_insert_at, value_set_at}
-use Rattle.fair_rates.proofs.Lists.Sorted.{value_insert_at, value_respects}
+use Rattle.fair_rates.proofs.Lists.Sorted.{value_insert_at, value_respects, value_there, at_gap}
 use Rattle.link_simulation.specs.Simulation.Messages.{Message}
 use Rattle.link_simulation.specs.Rule.Planned.{RatedFlight, rated_messages}
 use Rattle.link_simulation.proofs.Simulation.Queue.{pair_like, pair_sym}
@@ -67,6 +67,16 @@ module _ {P : Type 0} (cmp : P → P → Ordering) (total : IsTotalOrder cmp) (e
         value_insert_at (pair_cmp cmp) (pair_total cmp total) busy_key (λ e. e.count) 0 es (o, r) at g e same (a, b)
         ∙ ap (λ t. if t then e.count else count_of cmp es a b) (is_eq-then (cmp o a) (cmp r b));
   }
+
+  -- the number is that of the entry, if there is one
+  pub count_there : IsPlace (pair_cmp cmp) busy_key es (o, r) at → (f : BusyPair P) → slice_get es at ≡ Some f
+      → f.count ≡ count_of cmp es o r
+  count_there p f there =
+      ap (λ (e : BusyPair P). e.count) (sym (get_or_from_slice_get es at f f there))
+      ∙ value_there (pair_cmp cmp) (pair_total cmp total) busy_key (λ e. e.count) 0 es (o, r) at p f
+
+  pub count_absent : IsGap (pair_cmp cmp) busy_key es (o, r) at → count_of cmp es o r ≡ 0
+  count_absent g = at_gap (pair_cmp cmp) (pair_total cmp total) busy_key (λ e. e.count) 0 es (o, r) at g
 
 -- ---- how many pass a test
 
@@ -121,6 +131,13 @@ module _ {P : Type 0} (cmp : P → P → Ordering) (total : IsTotalOrder cmp) wh
   count_respects es o r a b same =
       value_respects (pair_cmp cmp) (pair_total cmp total) busy_key (λ (e : BusyPair P). e.count) 0 es (o, r) (a, b)
       (is_eq_equal _ (is_eq-then (cmp o a) (cmp r b) ∙ same))
+
+  -- a pair of which none is in flight has one less as it is
+  pub none_less_of : (es : List (BusyPair P)) (o r : P) → count_of cmp es o r ≡ 0 → (a b : P)
+      → count_of cmp es a b ≡ (if same_two cmp o r a b then count_of cmp es o r - 1 else count_of cmp es a b)
+  none_less_of es o r none a b = by_bool (same_two cmp o r a b)
+      (λ h. rw h (sym (count_respects es o r a b h) ∙ none ∙ sym (ap (λ n. n - 1) none)))
+      (λ h. rw h refl)
 
   -- one message more
   pub counted_more : (es new : List (BusyPair P)) (ms : List (Message P)) (o r : P) (m : Message P)

@@ -1,34 +1,16 @@
-use Rattle.std.proofs.Common.{◌≡◌, if◌then◌else◌, None, Some, sym, ap, ◌∙◌}
+use Rattle.std.proofs.Common.{Some, sym, ap, ◌∙◌}
 use Rattle.std.specs.Prelude.{option_map}
-use Rattle.link_simulation.specs.Simulation.Messages.{Message}
-use Rattle.link_simulation.specs.Rule.Planned.{Planned, rated_messages}
-use Rattle.link_waiting.specs.Idle.AtRest.{of_pairs}
-use Rattle.link_pairs.specs.Pairs.Messages.{message_of}
 use Rattle.link_waiting.specs.Idle.FirstMoment.{first_moment}
-use Rattle.link_pairs.specs.Pairs.Entries.{first_of}
-use Rattle.link_waiting.proofs.Idle.FirstStart.{idle_is}
+use Rattle.link_pairs.specs.Pairs.Entries.{arrival_of}
 use Rattle.link_waiting.proofs.readiness.idle_from.Goals as goal
-
-pub returns-then-has : goal.returns-then-has
-returns-then-has g c sending counted =
-    let p : Planned g.row.P.Denot = of_pairs g.P.Ord.cmp c.args.pairs.now.entries c.args.waiting.now.messages sending in
-    let busy = sym (c.has.ensures (rated_messages sending) counted) ∙ c.if-has.true in
-    sym
-    (ap
-    (λ b. if b then None else option_map
-    (λ (n : Message g.row.P.Denot). first_moment (p.last_arrival c.args.origin.now c.args.recipient.now)
-    n.latency)
-    (first_of g.P.Ord.cmp p.waiting c.args.origin.now c.args.recipient.now))
-    busy)
 
 pub returns : goal.returns
 returns g c sending counted =
-    let p : Planned g.row.P.Denot = of_pairs g.P.Ord.cmp c.args.pairs.now.entries c.args.waiting.now.messages sending in
-    let free = sym (c.has.ensures (rated_messages sending) counted) ∙ c.if-has.false in
-    let first : first_of g.P.Ord.cmp p.waiting c.args.origin.now c.args.recipient.now
-    ≡ Some (message_of c.in_ok-front.front.now) =
-    sym c.in_ok-front.ensures in
     ap Some
     (c.ready_moment.ensures
-    ∙ ap (λ last. first_moment last c.in_ok-front.front.now.latency) c.last_arrival-last.ensures)
-    ∙ sym (idle_is g.P.Ord.cmp p c.args.origin.now c.args.recipient.now (message_of c.in_ok-front.front.now) free first)
+    ∙ ap (λ last. first_moment last c.in_ok-latency.latency) c.last_arrival-last.ensures)
+    ∙ ap
+    (option_map
+    (first_moment (arrival_of g.P.Ord.cmp c.args.pairs.now.entries c.args.origin.now c.args.recipient.now)))
+    (sym c.in_ok-latency.was)
+    ∙ c.idle_latency.ensures c.args.pairs.now.entries sending counted

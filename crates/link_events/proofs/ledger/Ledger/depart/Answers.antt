@@ -1,4 +1,4 @@
-use Rattle.std.proofs.Common.{◌≡◌, ◌+◌, length, map, Some, sym, ap, subst, ◌∙◌}
+use Rattle.std.proofs.Common.{◌≡◌, ◌+◌, length, map, Some, refl, sym, ap, subst, ◌∙◌}
 use Rattle.std.specs.Prelude.{option_map, ◌&&◌}
 use Rattle.std.proofs.Math.Logic.{∥∥₁_map}
 use Rattle.fair_rates.specs.Numbers.Amount.{whole}
@@ -44,9 +44,9 @@ invariant_of-self-2 g c =
           old.indexed
           c.in_default-changed.ensures.listed;
       counted =
-          counted_sent cmp g.met.P.Ord.total old.busy.entries c.in_ok-busy.busy.entries c.add.new.self.entries
-          (in_flight old.flights) (in_flight c.push.new.self) o r f c.in_ok-busy.ensures.cases own
-          c.in_default-push.ensures.sending old.counted c.in_ok-add.ensures.counted;
+          counted_sent cmp g.met.P.Ord.total old.busy.entries old.busy.entries c.add.new.self.entries
+          (in_flight old.flights) (in_flight c.push.new.self) o r f refl own
+          c.in_default-push.ensures.sending old.counted c.in_default-add.ensures.counted;
     }
 
 -- where the message cannot be in flight, its pair is not busy either

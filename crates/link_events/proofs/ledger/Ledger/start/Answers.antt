@@ -1,8 +1,7 @@
-use Rattle.std.proofs.Common.{◌≡◌, ◌+◌, subst, [], ◌∷◌, ◌++◌, length, map, Some, sym, ap, ◌∙◌, rules}
-use Rattle.link_waiting.specs.Idle.AtRest.{of_pairs}
-use Rattle.link_waiting.specs.Idle.Index.{IsIndexOf}
+use Rattle.std.proofs.Common.{◌≡◌, ◌+◌, subst, [], ◌∷◌, ◌++◌, length, map, true, Some, refl, sym, ap, ◌∙◌, rules}
 use Rattle.std.proofs.Math.Logic.{∥∥₁_map}
 use Rattle.link_waiting.specs.Idle.Busy.{AreCounted}
+use Rattle.link_waiting.specs.Idle.Index.{is_of_pair}
 use Rattle.fair_rates.specs.Numbers.Amount.{whole}
 use Rattle.link_simulation.specs.Simulation.Messages.{Message}
 use Rattle.link_simulation.specs.Rule.Planned.{RatedFlight, rated_messages}
@@ -26,6 +25,10 @@ invariant_of-self-2 g c =
     let f : RatedFlight g.row.P.Denot =
     record { message = m; left = whole (length m.bytes); rate = Some (whole 0); updated = c.args.now } in
     let same : c.in_ok-message.message.value ≡ c.args.message = search rules in
+    let origin : c.deref.result.now ≡ c.in_ok-message.message.value = search rules in
+    let recipient : c.deref-2.result.now ≡ c.in_ok-message.message.value = search rules in
+    let own : is_of_pair cmp c.deref.result.now.origin c.deref-2.result.now.recipient m ≡ true =
+    rw (origin, recipient) (of_own_pair cmp g.met.P.Ord.total m) in
     record {
       rated = λ e.
           ∥∥₁_map (old.rated e)
@@ -34,12 +37,11 @@ invariant_of-self-2 g c =
       indexed =
           started_index cmp g.met.P.Ord.total old.pairs.entries old.waiting.messages (in_flight old.flights)
           (in_flight c.push.new.self) f old.idle.entries (arrivals_looked_up cmp g.met.P.Ord.total old.pairs.entries)
-          (rw same c.requires.alone) c.in_ok-push.ensures.sending old.indexed;
+          (rw same c.requires.alone) c.in_default.ensures.sending old.indexed;
       counted =
-          counted_sent cmp g.met.P.Ord.total old.busy.entries c.in_ok-busy.busy.entries c.add.new.self.entries
-          (in_flight old.flights) (in_flight c.push.new.self) c.args.message.origin c.args.message.recipient f
-          c.in_ok-busy.ensures.cases (rw same (of_own_pair cmp g.met.P.Ord.total (message_of c.args.message)))
-          c.in_ok-push.ensures.sending old.counted c.in_ok-add.ensures.counted;
+          counted_sent cmp g.met.P.Ord.total old.busy.entries old.busy.entries c.add.new.self.entries
+          (in_flight old.flights) (in_flight c.push.new.self) c.deref.result.now.origin c.deref-2.result.now.recipient f
+          refl own c.in_default.ensures.sending old.counted c.in_ok-add.ensures.counted;
     }
 
 pub returns-clause-started : goal.returns-clause-started
@@ -51,7 +53,7 @@ returns-clause-started g c =
     let sending : in_flight c.push.new.self
     ≡ in_flight old.flights
     ++ record { message = m; left = whole (length m.bytes); rate = Some (whole 0); updated = c.args.now } ∷ [] =
-    c.in_ok-push.ensures.sending
+    c.in_default.ensures.sending
     ∙ ap
     (λ (v : code.Message g.row.P.Denot). in_flight old.flights
     ++ record {
@@ -73,19 +75,14 @@ returns-clause-started g c =
       start = old.start;
     }
 
+-- where its pair cannot be counted, nothing has changed
 pub invariant_of-self : goal.invariant_of-self
 invariant_of-self g c =
-    let cmp = g.P.Ord.cmp in
     let old = c.args.self.now in
     record {
-      rated = λ e.
-          ∥∥₁_map (old.rated e)
-          (still_rated cmp (caps_of cmp old.peers.entries old.pairs.entries) old.flights c.push.new.self
-          c.push.ensures.scale c.push.ensures.rated c.push.ensures.timed);
-      indexed =
-          subst (λ fs. IsIndexOf cmp (of_pairs cmp old.pairs.entries old.waiting.messages fs) old.idle.entries)
-          (sym c.in_err-push.ensures.kept) old.indexed;
+      rated = old.rated;
+      indexed = old.indexed;
       counted =
-          subst (λ fs. AreCounted cmp old.busy.entries (rated_messages fs)) (sym c.in_err-push.ensures.kept)
-          old.counted;
+          subst (λ es. AreCounted g.P.Ord.cmp es (rated_messages (in_flight old.flights)))
+          (sym c.in_err-add.ensures.kept) old.counted;
     }
