@@ -3,6 +3,7 @@ pub mod Answers
 pub mod Asking
 pub mod Callable
 pub mod CapSides
+pub mod Early
 pub mod EqualSubjects
 pub mod FlowByFlow
 pub mod NoLinks
