@@ -1,11 +1,12 @@
 -- Edits of the items on one side of a node.
-use Rattle.std.proofs.Common.{◌≡◌, ℕ, zero, suc, ◌-◌, ◌<◌, ◌≤◌, List, [], ◌∷◌, ◌++◌, length, slice_get, slice_set, Some}
-use Rattle.std.proofs.Common.{refl, ap, ◌∙◌, arith}
+use Rattle.std.proofs.Common.{◌≡◌, ℕ, zero, suc, ◌+◌, ◌-◌, ◌<◌, ◌≤◌, List, [], ◌∷◌, ◌++◌, length, slice_get}
+use Rattle.std.proofs.Common.{slice_set, Some}
+use Rattle.std.proofs.Common.{refl, ap, ◌∙◌, arith, length-append}
 use Rattle.std.specs.List.{insert, remove}
 use Rattle.std.proofs.lemmas.List.{set-append_left, set-append_right}
 use Rattle.std.proofs.Math.Seq.{set-append_seam}
 use Rattle.std.proofs.lemmas.List.Edits.{insert-append_left, insert-append_right, remove-append_left}
-use Rattle.std.proofs.lemmas.List.Edits.{remove-append_right}
+use Rattle.std.proofs.lemmas.List.Edits.{remove-append_right, length-remove}
 
 past : (n at : ℕ) → n < at → at - n ≡ suc (at - n - 1)
 past n at above = omega arith
@@ -84,3 +85,33 @@ get_after [] x ys (suc k) above = ap (slice_get ys) (one_less k)
 get_after (z ∷ zs) x ys zero above = absurd (omega (arith, above))
 get_after (z ∷ zs) x ys (suc k) above =
     get_after zs x ys k (omega (arith, above)) ∙ ap (slice_get ys) (each_less k (length zs))
+
+-- the first item of what comes after takes the place of the one before it
+pub first_up : {T : Type 0} (ys : List T) (y : T) → slice_get ys 0 ≡ Some y → y ∷ remove ys 0 ≡ ys
+first_up [] y there = cc
+first_up (z ∷ zs) y there = grind arith
+
+-- the last item of what comes before takes the place of the one after it
+pub last_up : {T : Type 0} (xs : List T) (at : ℕ) (x : T) (ys : List T) → at + 1 ≡ length xs → length ys ≡ 0
+    → slice_get xs at ≡ Some x → remove xs at ++ x ∷ ys ≡ xs ++ ys
+last_up [] at x ys long none there = absurd (omega (arith, long))
+last_up (z ∷ zs) zero x ys long none there =
+    let alone : zs ≡ [] = empty zs (omega (arith, long)) in
+    let same : z ≡ x = cc in
+    rw (alone, same) refl
+last_up (z ∷ zs) (suc k) x ys long none there =
+    ap (λ l. z ∷ l) (last_up zs k x ys (omega (arith, long)) none there)
+
+-- where there is one item, it is the first and last
+pub only_item : {T : Type 0} (xs : List T) (x : T) (ys : List T) → length (xs ++ x ∷ ys) ≡ 1
+    → slice_get (xs ++ x ∷ ys) 0 ≡ Some x
+only_item [] x ys one = refl
+only_item (z ∷ zs) x ys one = absurd (omega (arith, one, length-append zs (x ∷ ys)))
+
+pub remove_only : {T : Type 0} (xs : List T) (at : ℕ) → length xs ≡ 1 → at < length xs → remove xs at ≡ []
+remove_only [] at one low = absurd (omega (arith, one))
+remove_only (z ∷ zs) zero one low = empty zs (omega (arith, one))
+remove_only (z ∷ zs) (suc k) one low = absurd (omega (arith, one, low))
+
+pub less_by_one : {T : Type 0} (xs : List T) (at : ℕ) → at < length xs → length (remove xs at) + 1 ≡ length xs
+less_by_one xs at low = length-remove xs at low

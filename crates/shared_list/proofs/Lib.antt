@@ -1,2 +1,4 @@
 pub mod Edits
 pub mod Parting
+pub mod Rows
+pub mod Trees

@@ -1,7 +1,9 @@
 -- Where a list is parted, at a node.
 use Rattle.std.proofs.Common.{◌≡◌, ℕ, suc, ◌+◌, Bool, true, false, not, ◌&&◌, if◌then◌else◌, List, [], ◌∷◌, ◌++◌}
 use Rattle.std.proofs.Common.{length, slice_get, Option, Some, None, zero, ◌≤◌, refl, sym, ap, ◌∙◌, subst, arith}
-use Rattle.std.proofs.Common.{length-append}
+use Rattle.std.proofs.Common.{length-append, take, drop, ◌<◌, add-one, option_map}
+use Rattle.std.proofs.lemmas.List.{take-append-drop, length-take-le}
+use Rattle.std.proofs.Math.Seq.{drop-length}
 use Rattle.std.specs.List.{list_all, find, position_or_len}
 use Rattle.std.specs.Option.{option_or}
 use Rattle.std.proofs.lemmas.List.Folds.{list_all-append}
@@ -23,6 +25,10 @@ and_right false b h = cc
 append_assoc : {T : Type 0} (xs ys zs : List T) → (xs ++ ys) ++ zs ≡ xs ++ (ys ++ zs)
 append_assoc [] ys zs = refl
 append_assoc (x ∷ xs) ys zs = ap (λ l. x ∷ l) (append_assoc xs ys zs)
+
+pub map_or : {A B : Type 0} (f : A → B) (a b : Option A) → option_map f (option_or a b) ≡ option_or (option_map f a) (option_map f b)
+map_or f None b = refl
+map_or f (Some x) b = refl
 
 module _ {T : Type 0} (p : T → Bool) where
   abbrev pub others : List T → Bool
@@ -223,3 +229,87 @@ module _ {T : Type 0} (p : T → Bool) where
         below = refl;
         above = rw f (sym (ap (λ b. if b then are_parted p xs else others xs) f) ∙ h);
       })
+
+  -- ---- a search by bisection
+
+  -- what is before stands below, and what is not stands above
+  pub record IsBetween (xs : List T) (low high : ℕ) : Type 0 where
+    pub order : low ≤ high
+    pub bound : high ≤ length xs
+    pub below : are_parted p xs ≡ true → list_all p (take low xs) ≡ true
+    pub above : are_parted p xs ≡ true → others (drop high xs) ≡ true
+
+  none_there : (xs : List T) (k : ℕ) (x : T) → slice_get xs k ≡ Some x → p x ≡ true → others xs ≡ true → false ≡ true
+  none_there [] k x there is h = cc
+  none_there (y ∷ ys) zero x there is h =
+      let same : y ≡ x = cc in
+      let here : p y ≡ true = ap p same ∙ is in
+      sym (ap not here) ∙ and_left (not (p y)) _ h
+  none_there (y ∷ ys) (suc k) x there is h = none_there ys k x there is (and_right (not (p y)) _ h)
+
+  -- up to an item that is before, all are
+  up_to : (xs : List T) (k : ℕ) (x : T) → slice_get xs k ≡ Some x → p x ≡ true → are_parted p xs ≡ true
+      → list_all p (take (suc k) xs) ≡ true
+  up_to [] k x there is h = cc
+  up_to (y ∷ ys) zero x there is h =
+      let same : y ≡ x = cc in
+      let here : p y ≡ true = ap p same ∙ is in
+      rw here refl
+  up_to (y ∷ ys) (suc k) x there is h = by_bool (p y)
+      (λ t. rw (t, up_to ys k x there is (sym (ap (λ b. if b then are_parted p ys else others ys) t) ∙ h)) refl)
+      (λ f. let no : false
+      ≡ true = none_there ys k x there is (sym (ap (λ b. if b then are_parted p ys else others ys) f) ∙ h) in
+      cc)
+
+  others_from : (xs : List T) (k : ℕ) → others xs ≡ true → others (drop k xs) ≡ true
+  others_from xs zero h = h
+  others_from [] (suc k) h = refl
+  others_from (y ∷ ys) (suc k) h = others_from ys k (and_right (not (p y)) _ h)
+
+  -- from an item that is not before, none is
+  from_there : (xs : List T) (k : ℕ) (x : T) → slice_get xs k ≡ Some x → p x ≡ false → are_parted p xs ≡ true
+      → others (drop k xs) ≡ true
+  from_there [] k x there is h = cc
+  from_there (y ∷ ys) zero x there is h =
+      let same : y ≡ x = cc in
+      let here : p y ≡ false = ap p same ∙ is in
+      let rest : others ys ≡ true = sym (ap (λ b. if b then are_parted p ys else others ys) here) ∙ h in
+      rw (here, rest) refl
+  from_there (y ∷ ys) (suc k) x there is h = by_bool (p y)
+      (λ t. from_there ys k x there is (sym (ap (λ b. if b then are_parted p ys else others ys) t) ∙ h))
+      (λ f. others_from ys k (sym (ap (λ b. if b then are_parted p ys else others ys) f) ∙ h))
+
+  pub all_between : (xs : List T) → IsBetween xs 0 (length xs)
+  all_between xs = record { order = omega arith; bound = omega arith; below = λ h. refl; above = λ h. rw (drop-length xs) refl }
+
+  pub higher : (xs : List T) (low high k : ℕ) (x : T) → IsBetween xs low high → low ≤ k → k < high
+      → slice_get xs k ≡ Some x → p x ≡ true → IsBetween xs (k + 1) high
+  higher xs low high k x between from to there is = record {
+    order = omega arith;
+    bound = between.bound;
+    below = λ h. rw add-one (up_to xs k x there is h);
+    above = between.above;
+  }
+
+  pub lower : (xs : List T) (low high k : ℕ) (x : T) → IsBetween xs low high → low ≤ k → k < high
+      → slice_get xs k ≡ Some x → p x ≡ false → IsBetween xs low k
+  lower xs low high k x between from to there is = record {
+    order = from;
+    bound = let high_enough = between.bound in omega arith;
+    below = between.below;
+    above = λ h. from_there xs k x there is h;
+  }
+
+  pub parting_between : (xs : List T) (low high : ℕ) → high ≤ low → IsBetween xs low high → are_parted p xs ≡ true
+      → IsParting p xs low
+  parting_between xs low high met between h =
+      let same : high ≡ low = let order = between.order in omega arith in
+      let bound = between.bound in
+      record {
+        before = take low xs;
+        after = drop low xs;
+        split = sym (take-append-drop low xs);
+        is_at = sym (length-take-le low xs (omega arith));
+        below = between.below h;
+        above = subst (λ k. others (drop k xs) ≡ true) same (between.above h);
+      }

@@ -1,6 +1,7 @@
 //! Lists whose clones share what they have in common.
 #![tactic(auto)]
 
+mod leaf;
 mod list;
 mod node;
 mod seek;

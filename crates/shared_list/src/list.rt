@@ -3,7 +3,9 @@ ghost use Rattle.std.specs.Prelude.{◌≡◌, ◌<◌, ◌≤◌, ◌+◌, [], 
 ghost use Rattle.std.specs.Prelude.{slice_get, slice_set, option_map, true, not, Some, IfOk, OnOk, ◌^◌};
 ghost use Rattle.std.specs.List.{find, insert, remove};
 ghost use Rattle.shared_list.specs.Places.{are_parted, IsParting};
+ghost use Rattle.shared_list.specs.Tree.{values};
 
+use super::leaf::{FEW, Leaf, ROOM};
 use super::node::Node;
 use super::seek::Seek;
 use std::alloc::{AllocError, Global};
@@ -15,19 +17,30 @@ use std::rc::Rc;
 #[cycle(shared_list)]
 #[derive(Drop)]
 pub struct SharedList<T> {
-    pub(crate) root: Option<Rc<Node<T>>>,
+    /// The number of items.
+    pub(crate) len: usize,
+    pub(crate) root: Tree<T>,
+}
+
+/// What a list is kept in.
+#[cycle(shared_list)]
+#[derive(Drop)]
+pub(crate) enum Tree<T> {
+    Empty,
+    Leaf(Rc<Leaf<T>>),
+    Fork(Rc<Node<T>>),
 }
 
 impl<T> Model for SharedList<T> {
-    ghost use Rattle.std.specs.Prelude.{List, length};
+    ghost use Rattle.std.specs.Prelude.{◌≡◌, List, length};
 
     ghost Value = { List T };
 
-    ghost use Rattle.shared_list.specs.Tree.{items_of, IsCounted};
+    ghost use Rattle.shared_list.specs.Tree.{items_of};
 
     ghost view = { λ list. items_of list.root };
 
-    ghost invariant = { λ list. IsCounted list.root };
+    ghost invariant = { λ list. list.len ≡ length (items_of list.root) };
 
     ghost size = { length };
 
@@ -41,17 +54,28 @@ impl<T: Drop> SharedList<T> {
     pub fn new() -> SharedList<T>
         ensures { result ≡ [] }
     {
-        SharedList { root: None }
+        SharedList {
+            len: 0,
+            root: Tree::Empty,
+        }
+    }
+
+    /// The items of a part of a leaf.
+    pub(crate) fn row(alloc: Global, part: &[Rc<T>]) -> Result<SharedList<T>, AllocError>
+        ensures { IfOk result (λ list. list ≡ values part.now) }
+    {
+        let leaf = Rc::new(alloc, Leaf::copy(alloc, part)?).map_err(|_refused| AllocError)?;
+        Ok(SharedList {
+            len: part.len(),
+            root: Tree::Leaf(leaf),
+        })
     }
 
     /// The number of items.
     pub fn len(&self) -> usize
         ensures { result ≡ length self.now }
     {
-        match &self.root {
-            None => 0,
-            Some(node) => node.len,
-        }
+        self.len
     }
 
     /// The item at that place, if there is one.
@@ -60,7 +84,7 @@ impl<T: Drop> SharedList<T> {
     {
         let mut rest = self;
         let mut at = at;
-        while let Some(node) = &rest.root {
+        while let Tree::Fork(node) = &rest.root {
             let middle = node.before.len();
             if at < middle {
                 rest = &node.before;
@@ -71,7 +95,10 @@ impl<T: Drop> SharedList<T> {
                 rest = &node.after;
             }
         }
-        None
+        match &rest.root {
+            Tree::Leaf(leaf) => leaf.get(at),
+            _ => None,
+        }
     }
 
     /// The item at that place.
@@ -107,14 +134,20 @@ impl<T: Drop> SharedList<T> {
         ensures items { self.new ≡ (if is_ok result then insert self.old at item.value else self.old) }
         ensures fits { OnOk result (length self.new < 2 ^ 64) }
     {
-        match &mut self.root {
-            None => {
-                let node = Rc::new(alloc, Node::single(item)).map_err(|_refused| AllocError)?;
-                self.root = Some(node);
-                Ok(())
-            }
-            Some(root) => Rc::make_mut(root)?.put(alloc, at, item),
+        let len = self.len.checked_add(1).ok_or(AllocError)?;
+        if len > ROOM {
+            self.part(alloc, at);
         }
+        match &mut self.root {
+            Tree::Empty => {
+                let leaf = Leaf::single(alloc, item)?;
+                self.root = Tree::Leaf(Rc::new(alloc, leaf).map_err(|_refused| AllocError)?);
+            }
+            Tree::Leaf(leaf) => Rc::make_mut(leaf)?.put(at, item)?,
+            Tree::Fork(node) => Rc::make_mut(node)?.put(alloc, at, item)?,
+        }
+        self.len = len;
+        Ok(())
     }
 
     /// Another item comes to stand at that place.
@@ -141,8 +174,12 @@ impl<T: Drop> SharedList<T> {
         ensures items { self.new ≡ (if is_ok result then slice_set self.old at item.value else self.old) }
     {
         match &mut self.root {
-            None => Ok(()),
-            Some(root) => Rc::make_mut(root)?.set(at, item),
+            Tree::Empty => Ok(()),
+            Tree::Leaf(leaf) => {
+                Rc::make_mut(leaf)?.set(at, item);
+                Ok(())
+            }
+            Tree::Fork(node) => Rc::make_mut(node)?.set(at, item),
         }
     }
 
@@ -152,25 +189,41 @@ impl<T: Drop> SharedList<T> {
     ///
     /// `AllocError` where memory is refused. The list stays.
     #[cycle(take)]
-    #[tactic(auto, using(crate::proofs::Edits::remove_here, crate::proofs::Edits::remove_last, crate::proofs::Edits::get_here))]
+    #[tactic(auto, using(crate::proofs::Edits::remove_only, crate::proofs::Edits::less_by_one))]
     pub fn remove(&mut self, at: usize) -> Result<Rc<T>, AllocError>
         requires { at < length self.old }
         ensures items { self.new ≡ (if is_ok result then remove self.old at else self.old) }
         ensures item { IfOk result (λ item. slice_get self.old at ≡ Some item.value) }
     {
-        let Some(root) = &mut self.root else {
-            return Err(AllocError);
+        if self.len == 1 {
+            return self.take_only();
+        }
+        let len = self.len - 1;
+        let item = match &mut self.root {
+            Tree::Empty => return Err(AllocError),
+            Tree::Leaf(leaf) => Rc::make_mut(leaf)?.take(at),
+            Tree::Fork(node) => Rc::make_mut(node)?.take(at)?,
         };
-        let node = Rc::make_mut(root)?;
-        if at != node.before.len() {
-            return node.take(at);
+        self.len = len;
+        if len <= FEW {
+            self.join();
         }
-        if node.after.len() != 0 {
-            return node.take_own();
-        }
-        let item = node.item.clone()?;
-        let rest = mem::replace(&mut node.before, SharedList::new());
-        *self = rest;
+        Ok(item)
+    }
+
+    /// The only item goes.
+    #[tactic(auto, using(crate::proofs::Edits::only_item))]
+    pub(crate) fn take_only(&mut self) -> Result<Rc<T>, AllocError>
+        requires { length self.old ≡ 1 }
+        ensures items { self.new ≡ (if is_ok result then [] else self.old) }
+        ensures item { IfOk result (λ item. slice_get self.old 0 ≡ Some item.value) }
+    {
+        let item = match &self.root {
+            Tree::Empty => return Err(AllocError),
+            Tree::Leaf(leaf) => leaf.share(0)?,
+            Tree::Fork(node) => node.item.clone()?,
+        };
+        *self = SharedList::new();
         Ok(item)
     }
 
@@ -185,16 +238,22 @@ impl<T: Drop> SharedList<T> {
         let mut rest = self;
         let mut end = self.len();
         let mut first: Option<&T> = None;
-        while let Some(node) = &rest.root {
+        while let Tree::Fork(node) = &rest.root {
             if sought.is_before(&node.item) {
                 rest = &node.after;
             } else {
                 first = Some(&node.item);
-                end -= node.len - node.before.len();
+                end -= node.after.len() + 1;
                 rest = &node.before;
             }
         }
-        (end, first)
+        match &rest.root {
+            Tree::Leaf(leaf) => {
+                let at = leaf.place(sought);
+                (end - leaf.len() + at, leaf.get(at).or(first))
+            }
+            _ => (end, first),
+        }
     }
 
     /// The number of items before what is sought, where those that are before it stand before all
@@ -216,13 +275,50 @@ impl<T: Drop> SharedList<T> {
         self.locate(sought).1
     }
 
+    /// A full leaf comes to be two, where memory allows. The list stays. An item is to come to stand
+    /// at that place.
+    pub(crate) fn part(&mut self, alloc: Global, at: usize)
+        ensures { self.new ≡ self.old }
+    {
+        let Tree::Leaf(leaf) = &self.root else {
+            return;
+        };
+        let len = leaf.len();
+        if len < ROOM {
+            return;
+        }
+        let middle = if at < len { len / 2 } else { len - 1 };
+        let Ok(node) = Node::parted(alloc, leaf, middle) else {
+            return;
+        };
+        if let Ok(node) = Rc::new(alloc, node) {
+            self.root = Tree::Fork(node);
+        }
+    }
+
+    /// A few items in two leaves come to be one leaf, where memory allows. The list stays.
+    pub(crate) fn join(&mut self)
+        ensures { self.new ≡ self.old }
+    {
+        let Tree::Fork(node) = &self.root else {
+            return;
+        };
+        let Ok(leaf) = node.joined() else {
+            return;
+        };
+        let alloc = leaf.alloc();
+        if let Ok(leaf) = Rc::new(alloc, leaf) {
+            self.root = Tree::Leaf(leaf);
+        }
+    }
+
     /// No more items come after the middle than before it, where memory allows. The list stays.
     pub(crate) fn lean_left(&mut self)
         ensures { self.new ≡ self.old }
     {
-        if let Some(root) = &mut self.root {
-            if let Ok(node) = Rc::make_mut(root) {
-                if node.after.len() > node.before.len() {
+        if let Tree::Fork(root) = &mut self.root {
+            if root.after.len > root.before.len {
+                if let Ok(node) = Rc::make_mut(root) {
                     node.turn_left();
                 }
             }
@@ -233,9 +329,9 @@ impl<T: Drop> SharedList<T> {
     pub(crate) fn lean_right(&mut self)
         ensures { self.new ≡ self.old }
     {
-        if let Some(root) = &mut self.root {
-            if let Ok(node) = Rc::make_mut(root) {
-                if node.before.len() > node.after.len() {
+        if let Tree::Fork(root) = &mut self.root {
+            if root.before.len > root.after.len {
+                if let Ok(node) = Rc::make_mut(root) {
                     node.turn_right();
                 }
             }
@@ -248,11 +344,13 @@ impl<T: Drop> Clone for SharedList<T> {
 
     /// The same list. No item is cloned.
     fn clone(&self) -> Result<SharedList<T>, AllocError> {
-        match &self.root {
-            None => Ok(SharedList::new()),
-            Some(node) => Ok(SharedList {
-                root: Some(node.clone()?),
-            }),
-        }
+        Ok(SharedList {
+            len: self.len,
+            root: match &self.root {
+                Tree::Empty => Tree::Empty,
+                Tree::Leaf(leaf) => Tree::Leaf(leaf.clone()?),
+                Tree::Fork(node) => Tree::Fork(node.clone()?),
+            },
+        })
     }
 }

@@ -1,16 +1,17 @@
 //! The nodes of the tree.
 ghost use Rattle.std.specs.Prelude.{◌≡◌, ◌≢◌, ◌<◌, ◌≤◌, ◌+◌, [], ◌++◌, ◌∷◌, length};
-ghost use Rattle.std.specs.Prelude.{if◌then◌else◌, is_ok, slice_get, slice_set, Some, IfOk, OnOk, ◌^◌};
+ghost use Rattle.std.specs.Prelude.{if◌then◌else◌, is_ok, slice_get, slice_set, Some, IfOk, ◌^◌};
 ghost use Rattle.std.specs.List.{insert, remove};
-ghost use Rattle.shared_list.specs.Tree.{items_in, IsSameNode};
+ghost use Rattle.shared_list.specs.Tree.{items_at, items_in, IsSameNode};
 
-use super::list::SharedList;
+use super::leaf::Leaf;
+use super::list::{SharedList, Tree};
 use std::alloc::{AllocError, Global};
 use std::mem;
 use std::rc::Rc;
 
 /// How many times as long as the other one side of a node may be.
-const LEAN: usize = 3;
+const LEAN: usize = 2;
 
 /// An item between those before it and those after it.
 #[cycle(shared_list)]
@@ -19,8 +20,6 @@ pub(crate) struct Node<T> {
     pub(crate) before: SharedList<T>,
     pub(crate) item: Rc<T>,
     pub(crate) after: SharedList<T>,
-    /// The number of items of this node and below it.
-    pub(crate) len: usize,
 }
 
 impl<T: Drop> Clone for Node<T> {
@@ -32,44 +31,61 @@ impl<T: Drop> Clone for Node<T> {
             before: self.before.clone()?,
             item: self.item.clone()?,
             after: self.after.clone()?,
-            len: self.len,
         })
     }
 }
 
 impl<T: Drop> Node<T> {
-    /// An item alone.
-    pub(crate) fn single(item: Rc<T>) -> Node<T>
-        ensures items { items_in result ≡ item.value ∷ [] }
-        ensures len { result.len ≡ 1 }
+    /// The items of a leaf, as two leaves and the item of that place between them.
+    pub(crate) fn parted(
+        alloc: Global,
+        leaf: &Leaf<T>,
+        middle: usize,
+    ) -> Result<Node<T>, AllocError>
+        requires { middle < length (items_at leaf.now) }
+        ensures { IfOk result (λ node. items_in node ≡ items_at leaf.now) }
     {
-        Node {
-            before: SharedList::new(),
+        let items = leaf.items.as_slice();
+        let item = items[middle].clone()?;
+        let before = SharedList::row(alloc, &items[..middle])?;
+        let after = SharedList::row(alloc, &items[middle + 1..])?;
+        Ok(Node {
+            before,
             item,
-            after: SharedList::new(),
-            len: 1,
-        }
+            after,
+        })
+    }
+
+    /// The items of the two leaves of a node and of itself, as one leaf.
+    pub(crate) fn joined(&self) -> Result<Leaf<T>, AllocError>
+        ensures { IfOk result (λ leaf. items_at leaf ≡ items_in self.now) }
+    {
+        let Tree::Leaf(before) = &self.before.root else {
+            return Err(AllocError);
+        };
+        let Tree::Leaf(after) = &self.after.root else {
+            return Err(AllocError);
+        };
+        let mut leaf = Leaf::clone(before)?;
+        leaf.extend(self.item.clone()?, after)?;
+        Ok(leaf)
     }
 
     /// A shared item comes to stand at that place.
     #[cycle(put)]
     #[tactic(auto, using(crate::proofs::Edits::insert_before, crate::proofs::Edits::insert_after))]
     pub(crate) fn put(&mut self, alloc: Global, at: usize, item: Rc<T>) -> Result<(), AllocError>
-        requires counted { self.old.len ≡ length (items_in self.old) }
+        requires room { length (items_in self.old) + 1 < 2 ^ 64 }
         requires place { at ≤ length (items_in self.old) }
         ensures items { items_in self.new ≡ (if is_ok result then insert (items_in self.old) at item.value
             else items_in self.old) }
-        ensures len { self.new.len ≡ length (items_in self.new) }
-        ensures fits { OnOk result (length (items_in self.new) < 2 ^ 64) }
     {
-        let len = self.len.checked_add(1).ok_or(AllocError)?;
-        let middle = self.before.len();
+        let middle = self.before.len;
         if at <= middle {
             self.before.put(alloc, at, item)?;
         } else {
             self.after.put(alloc, at - middle - 1, item)?;
         }
-        self.len = len;
         self.balance();
         Ok(())
     }
@@ -78,13 +94,11 @@ impl<T: Drop> Node<T> {
     #[cycle(set)]
     #[tactic(auto, using(crate::proofs::Edits::set_before, crate::proofs::Edits::set_here, crate::proofs::Edits::set_after))]
     pub(crate) fn set(&mut self, at: usize, item: Rc<T>) -> Result<(), AllocError>
-        requires counted { self.old.len ≡ length (items_in self.old) }
         requires place { at < length (items_in self.old) }
         ensures items { items_in self.new ≡ (if is_ok result then slice_set (items_in self.old) at item.value
             else items_in self.old) }
-        ensures len { self.new.len ≡ length (items_in self.new) }
     {
-        let middle = self.before.len();
+        let middle = self.before.len;
         if at < middle {
             self.before.set(at, item)
         } else if at == middle {
@@ -95,102 +109,130 @@ impl<T: Drop> Node<T> {
         }
     }
 
-    /// The item at that place goes, which is not this node's own.
+    /// The item at that place goes, which is not the only one.
     #[cycle(take)]
-    #[tactic(auto, using(crate::proofs::Edits::remove_before, crate::proofs::Edits::remove_after, crate::proofs::Edits::get_before, crate::proofs::Edits::get_after))]
+    #[tactic(auto, using(crate::proofs::Edits::remove_before, crate::proofs::Edits::remove_here, crate::proofs::Edits::remove_after, crate::proofs::Edits::get_before, crate::proofs::Edits::get_here, crate::proofs::Edits::get_after))]
     pub(crate) fn take(&mut self, at: usize) -> Result<Rc<T>, AllocError>
-        requires counted { self.old.len ≡ length (items_in self.old) }
+        requires room { length (items_in self.old) < 2 ^ 64 }
+        requires others { 1 < length (items_in self.old) }
         requires place { at < length (items_in self.old) }
-        requires other { at ≢ length self.old.before }
         ensures items { items_in self.new ≡ (if is_ok result then remove (items_in self.old) at
             else items_in self.old) }
         ensures item { IfOk result (λ item. slice_get (items_in self.old) at ≡ Some item.value) }
-        ensures len { self.new.len ≡ length (items_in self.new) }
     {
-        let middle = self.before.len();
+        let middle = self.before.len;
         let item = if at < middle {
             self.before.remove(at)?
+        } else if at == middle {
+            self.take_own()?
         } else {
             self.after.remove(at - middle - 1)?
         };
-        self.len -= 1;
         self.balance();
         Ok(item)
     }
 
-    /// This node's own item goes, and the next one takes its place.
+    /// This node's own item goes, and one beside it takes its place.
     #[cycle(take)]
+    #[tactic(auto, using(crate::proofs::Edits::first_up, crate::proofs::Edits::last_up))]
     pub(crate) fn take_own(&mut self) -> Result<Rc<T>, AllocError>
-        requires counted { self.old.len ≡ length (items_in self.old) }
-        requires next { self.old.after ≢ [] }
+        requires others { 1 < length (items_in self.old) }
         ensures items { items_in self.new ≡ (if is_ok result then self.old.before ++ self.old.after
             else items_in self.old) }
         ensures item { IfOk result (λ item. item.value ≡ self.old.item.value) }
-        ensures len { self.new.len ≡ length (items_in self.new) }
     {
-        let next = self.after.remove(0)?;
-        let item = mem::replace(&mut self.item, next);
-        self.len -= 1;
-        self.balance();
-        Ok(item)
+        if self.after.len != 0 {
+            let next = self.after.remove(0)?;
+            return Ok(mem::replace(&mut self.item, next));
+        }
+        let len = self.before.len;
+        let last = self.before.remove(len - 1)?;
+        Ok(mem::replace(&mut self.item, last))
     }
 
     /// The items stay, and no side is much longer than the other, where memory allows.
     pub(crate) fn balance(&mut self)
-        requires { self.old.len ≡ length (items_in self.old) }
-        ensures items { items_in self.new ≡ items_in self.old }
-        ensures len { self.new.len ≡ self.old.len }
+        requires { length (items_in self.old) < 2 ^ 64 }
+        ensures { items_in self.new ≡ items_in self.old }
     {
-        let before = self.before.len();
-        let after = self.after.len();
-        if before / LEAN > after {
-            self.before.lean_left();
-            self.turn_right();
-        } else if after / LEAN > before {
-            self.after.lean_right();
-            self.turn_left();
+        if self.before.len / LEAN > self.after.len {
+            self.raise_left();
+        } else if self.after.len / LEAN > self.before.len {
+            self.raise_right();
         }
     }
 
-    /// The first item of what comes after goes up.
+    /// The items stay, and fewer come before this node's own, where memory allows.
+    pub(crate) fn raise_left(&mut self)
+        requires { length (items_in self.old) < 2 ^ 64 }
+        ensures { items_in self.new ≡ items_in self.old }
+    {
+        self.before.lean_left();
+        self.turn_right();
+    }
+
+    /// The items stay, and fewer come after this node's own, where memory allows.
+    pub(crate) fn raise_right(&mut self)
+        requires { length (items_in self.old) < 2 ^ 64 }
+        ensures { items_in self.new ≡ items_in self.old }
+    {
+        self.after.lean_right();
+        self.turn_left();
+    }
+
+    /// The first item of what comes after goes up, where that is no leaf.
     pub(crate) fn turn_left(&mut self)
-        requires { self.old.len ≡ length (items_in self.old) }
-        ensures items { items_in self.new ≡ items_in self.old }
-        ensures len { self.new.len ≡ self.old.len }
+        requires { length (items_in self.old) < 2 ^ 64 }
+        ensures { items_in self.new ≡ items_in self.old }
     {
-        let Some(mut upper) = mem::replace(&mut self.after, SharedList::new()).root else {
+        let SharedList { len, root } = mem::replace(&mut self.after, SharedList::new());
+        let Tree::Fork(mut upper) = root else {
+            self.after = SharedList { len, root };
             return;
         };
-        if let Ok(node) = Rc::make_mut(&mut upper) {
-            mem::swap(&mut self.item, &mut node.item);
-            mem::swap(&mut node.before, &mut node.after);
-            mem::swap(&mut self.before, &mut node.before);
-            node.len = node.before.len() + 1 + node.after.len();
-            mem::swap(&mut self.before, &mut self.after);
-            self.before = SharedList { root: Some(upper) };
-        } else {
-            self.after = SharedList { root: Some(upper) };
-        }
+        let Ok(node) = Rc::make_mut(&mut upper) else {
+            self.after = SharedList {
+                len,
+                root: Tree::Fork(upper),
+            };
+            return;
+        };
+        mem::swap(&mut self.item, &mut node.item);
+        mem::swap(&mut node.before, &mut node.after);
+        mem::swap(&mut self.before, &mut node.before);
+        let len = node.before.len + 1 + node.after.len;
+        mem::swap(&mut self.before, &mut self.after);
+        self.before = SharedList {
+            len,
+            root: Tree::Fork(upper),
+        };
     }
 
-    /// The last item of what comes before goes up.
+    /// The last item of what comes before goes up, where that is no leaf.
     pub(crate) fn turn_right(&mut self)
-        requires { self.old.len ≡ length (items_in self.old) }
-        ensures items { items_in self.new ≡ items_in self.old }
-        ensures len { self.new.len ≡ self.old.len }
+        requires { length (items_in self.old) < 2 ^ 64 }
+        ensures { items_in self.new ≡ items_in self.old }
     {
-        let Some(mut upper) = mem::replace(&mut self.before, SharedList::new()).root else {
+        let SharedList { len, root } = mem::replace(&mut self.before, SharedList::new());
+        let Tree::Fork(mut upper) = root else {
+            self.before = SharedList { len, root };
             return;
         };
-        if let Ok(node) = Rc::make_mut(&mut upper) {
-            mem::swap(&mut self.item, &mut node.item);
-            mem::swap(&mut node.before, &mut node.after);
-            mem::swap(&mut self.after, &mut node.after);
-            node.len = node.before.len() + 1 + node.after.len();
-            mem::swap(&mut self.before, &mut self.after);
-            self.after = SharedList { root: Some(upper) };
-        } else {
-            self.before = SharedList { root: Some(upper) };
-        }
+        let Ok(node) = Rc::make_mut(&mut upper) else {
+            self.before = SharedList {
+                len,
+                root: Tree::Fork(upper),
+            };
+            return;
+        };
+        mem::swap(&mut self.item, &mut node.item);
+        mem::swap(&mut node.before, &mut node.after);
+        mem::swap(&mut self.after, &mut node.after);
+        let len = node.before.len + 1 + node.after.len;
+        mem::swap(&mut self.before, &mut self.after);
+        self.after = SharedList {
+            len,
+            root: Tree::Fork(upper),
+        };
     }
 }
