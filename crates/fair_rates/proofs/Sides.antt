@@ -1,8 +1,10 @@
 -- From the calls of closures, flow by flow, to the sides that they make.
+pub mod Alone
 pub mod Answers
 pub mod Asking
 pub mod Callable
 pub mod CapSides
+pub mod Early
 pub mod EqualSubjects
 pub mod FlowByFlow
 pub mod NoLinks

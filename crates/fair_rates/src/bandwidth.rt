@@ -12,6 +12,7 @@ ghost use Rattle.fair_rates.specs.Filling.FairParts.{AreFairPartsOn};
 ghost use Rattle.fair_rates.specs.Fairness.Rates.{last_rate};
 ghost use Rattle.fair_rates.specs.Refusals.TooLarge.{IsTooLarge, AreTooLargeUnderCaps};
 
+mod alone;
 mod equality;
 mod filling;
 pub mod laws;
@@ -301,8 +302,14 @@ pub fn fair_parts<P: Peer>(
         scale.now) }
     ensures refused { IfErr result (λ e. e ≡ Error.OutOfMemory) }
 {
-    let sides = sides::sides_of_capped(alloc, flows)?;
-    Ok(filling::fair_parts(alloc, flows.len(), sides, scale)?)
+    match flows {
+        [] => Ok(FairParts::new(alloc, 0, scale)?),
+        [one] => Ok(alone::fair_parts_alone(alloc, one, scale)?),
+        _ => {
+            let sides = sides::sides_of_capped(alloc, flows)?;
+            Ok(filling::fair_parts(alloc, flows.len(), sides, scale)?)
+        }
+    }
 }
 
 /// The rates by the ids of their flows. Of flows with one id the last counts.

@@ -43,7 +43,7 @@ pub record IsCourse (sides : List Side) (scale : ℕ) (levels : List ℕ) (level
 
 -- ---- before the first round
 
-none_at : (count flow : ℕ) → level_at (replicate count None) flow ≡ None
+pub none_at : (count flow : ℕ) → level_at (replicate count None) flow ≡ None
 none_at count flow = elim (cases_lt flow count) [
   | inl inside ↦ get_or-replicate count flow None None inside
   | inr past ↦ get_or_past (replicate count None) flow None (omega (arith, length-replicate {A = Option ℕ} count None))

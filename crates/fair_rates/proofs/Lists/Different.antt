@@ -8,7 +8,7 @@ module _ {X : Type 0} where
   abbrev AreApart : List X → Type 0
   AreApart xs = AllPairs (λ x y. x ≢ y) xs
 
-  in_one : (x y : X) → Contains (x ∷ []) y → x ≡ y
+  pub in_one : (x y : X) → Contains (x ∷ []) y → x ≡ y
   in_one x y (zero, within, is) = is
   in_one x y (suc i, within, is) = absurd (omega arith)
 

@@ -2,14 +2,16 @@
 use Rattle.std.proofs.Common.{◌≡◌, ◌↔◌, ◌≢◌, ◌==◌, ℕ, suc, zero, ◌+◌, ◌<◌, Bool, true, false, cond, ◌||◌, ◌&&◌, List}
 use Rattle.std.proofs.Common.{[]}
 use Rattle.std.proofs.Common.{◌∷◌, Bor, ◌++◌, Option, Some, None, map, length, get_or, refl, sym, ap, ◌∙◌, arith, subst}
-use Rattle.std.proofs.Common.{⊎_elim, vec_len}
+use Rattle.std.proofs.Common.{⊎_elim, vec_len, not}
 use Rattle.std.proofs.Math.ListN.{set}
 use Rattle.std.proofs.lemmas.List.{append-nil, map-append, map-set, length-set, length-map, same_lists, get_or-set_same}
 use Rattle.std.proofs.lemmas.List.{get_or-set_other, get_or-map, get_or_append_left, get_or_push, get_or_default}
 use Rattle.std.proofs.lemmas.List.{length_push, nil_from_length}
 use Rattle.std.proofs.lemmas.Option.{same_Some}
 use Rattle.std.proofs.lemmas.Bool.{eqb-true, eqb-false, cases_lt, false_from_ne_true as is_false, or_right}
-use Rattle.std.specs.Prelude.{is_some}
+use Rattle.std.proofs.lemmas.Bool.{ltb-true}
+use Rattle.std.specs.Prelude.{is_some, nat_lt}
+use Rattle.std.specs.Option.{option_or}
 use Rattle.std.specs.List.{list_any}
 use Rattle.std.specs.Map.{lookup}
 use Rattle.std.specs.Cmp.{IsTotalOrder}
@@ -19,10 +21,12 @@ use Rattle.std.specs.Ordering.{is_eq, ordering_then}
 use Rattle.fair_rates.specs.Sides.SideOf.{side_of}
 use Rattle.fair_rates.specs.Sides.Subjects.{Subject, Ask, same_peer, same_subject, sent_by, received_by, sent_between}
 use Rattle.fair_rates.specs.Sides.Registry.{subjects_after, number_of, IsNumberOf, AreRegistered}
-use Rattle.fair_rates.specs.Sides.Registry.{IsRegistryOf, FindsSides, HasNumber, Registers, subject_of}
+use Rattle.fair_rates.specs.Sides.Registry.{IsRegistryOf, FindsSides, HasNumber, IsNoted, Registers, subject_of}
+use Rattle.fair_rates.specs.Sides.Registry.{noted_of, early_in, is_noted, IsNotedIfLate}
 use Rattle.fair_rates.specs.declared.bandwidth.sides.Registry.{Registry}
 use Rattle.fair_rates.specs.declared.bandwidth.sides.Side as declared_side
 use Rattle.fair_rates.specs.declared.bandwidth.sides.Subject as declared
+use Rattle.fair_rates.proofs.Sides.Early.{early_congr, early_next, early_or_noted}
 use Rattle.fair_rates.proofs.Sides.Subjects.{same_symm, same_congr, same_itself, peer_congr}
 use Rattle.fair_rates.proofs.Sides.OneMoreAsk.{Share, limit_of, shares_after, opened_share, is_side_of, with_user}
 use Rattle.fair_rates.proofs.Sides.OneMoreAsk.{limits_are, subjects_are, shares_push}
@@ -351,17 +355,53 @@ module _ {P : Type 0} (cmp : P → P → Ordering) (o : IsTotalOrder cmp) where
                 (last ∙ as_many ∙ sym as_many_subjects)));
           }
 
--- equal subjects have one number
-number_congr : {P : Type 0} (cmp : P → P → Ordering) (o : IsTotalOrder cmp) (registry : Registry P) (s t : Subject P)
-    → same_subject cmp s t ≡ true → number_of cmp registry s ≡ number_of cmp registry t
-number_congr cmp o registry (sent_by p) (sent_by q) e =
+noted_congr : {P : Type 0} (cmp : P → P → Ordering) (o : IsTotalOrder cmp) (registry : Registry P) (s t : Subject P)
+    → same_subject cmp s t ≡ true → noted_of cmp registry s ≡ noted_of cmp registry t
+noted_congr cmp o registry (sent_by p) (sent_by q) e =
     lookup_agrees _ _ registry.senders.entries (λ other. peer_congr cmp o p q other.now e)
-number_congr cmp o registry (received_by p) (received_by q) e =
+noted_congr cmp o registry (received_by p) (received_by q) e =
     lookup_agrees _ _ registry.receivers.entries (λ other. peer_congr cmp o p q other.now e)
-number_congr cmp o registry (sent_between p q) (sent_between r s) e =
+noted_congr cmp o registry (sent_between p q) (sent_between r s) e =
     lookup_agrees _ _ registry.pairs.entries
     (λ other. same_congr cmp o (sent_between p q) (sent_between r s) (sent_between other.0.now other.1.now) e)
-number_congr cmp o registry s t e = cc e
+noted_congr cmp o registry s t e = cc e
+
+-- equal subjects have one number
+pub number_congr : {P : Type 0} (cmp : P → P → Ordering) (o : IsTotalOrder cmp) (registry : Registry P) (s t : Subject P)
+    → same_subject cmp s t ≡ true → number_of cmp registry s ≡ number_of cmp registry t
+number_congr cmp o registry s t e =
+    let names = map subject_of registry.subjects.items in
+    ap (λ m. option_or m (noted_of cmp registry s)) (early_congr cmp o names s t e)
+    ∙ ap (option_or (early_in cmp names t)) (noted_congr cmp o registry s t e)
+
+-- a number is noted, or it is not
+pub noted_late : {P : Type 0} (cmp : P → P → Ordering) (s : Subject P) (n : ℕ) (old new : Registry P)
+    → is_noted s n ≡ true → IsNoted cmp s n old new → IsNotedIfLate cmp s n old new
+noted_late cmp s n old new late noted q =
+    noted q ∙ ap (λ b. cond (b && same_subject cmp s q) (Some n) (noted_of cmp old q)) (sym late)
+
+pub not_noted : {P : Type 0} (cmp : P → P → Ordering) (s : Subject P) (n : ℕ) (registry : Registry P)
+    → is_noted s n ≡ false → IsNotedIfLate cmp s n registry registry
+not_noted cmp s n registry early q =
+    ap (λ b. cond (b && same_subject cmp s q) (Some n) (noted_of cmp registry q)) (sym early)
+
+-- a subject gets the next number, which is noted if it is not among the first
+pub numbered : {P : Type 0} (cmp : P → P → Ordering) (o : IsTotalOrder cmp) (old new : Registry P)
+    (s : declared.Subject P) (n : ℕ) → n ≡ length old.subjects.items
+    → new.subjects.items ≡ old.subjects.items ++ s ∷ [] → number_of cmp old (subject_of s) ≡ None
+    → IsNotedIfLate cmp (subject_of s) n old new → HasNumber cmp (subject_of s) n old new
+numbered cmp o old new s n last kept none noted q =
+    let t = subject_of s in
+    let names = map subject_of old.subjects.items in
+    let more : map subject_of new.subjects.items ≡ names ++ t ∷ [] =
+    ap (map subject_of) kept ∙ map-append subject_of old.subjects.items (s ∷ []) in
+    let end : n ≡ length names = last ∙ sym (length-map old.subjects.items subject_of) in
+    ap (λ m. option_or m (noted_of cmp new q))
+    (ap (λ us. early_in cmp us q) more ∙ early_next cmp names t q n end)
+    ∙ ap (option_or (option_or (early_in cmp names q) (cond (same_subject cmp t q && not (is_noted t n)) (Some n) None)))
+    (noted q)
+    ∙ early_or_noted (early_in cmp names q) (noted_of cmp old q) n (same_subject cmp t q) (is_noted t n)
+    (λ same. sym (number_congr cmp o old t q same) ∙ none)
 
 -- so each number that the registry finds is that of a side, and the subject kept for a side has its number
 module _ {P : Type 0} (cmp : P → P → Ordering) (o : IsTotalOrder cmp) (asks : List (Ask P)) (registry : Registry P)
@@ -407,6 +447,17 @@ module _ {P : Type 0} (cmp : P → P → Ordering) (o : IsTotalOrder cmp) (asks 
     as_many = omega (arith, registry.sides.ok.0, registry.subjects.ok.0, names_all, names_open, sides_open);
     named = λ n below d. named_at n (omega (arith, registry.subjects.ok.0)) d;
   }
+
+-- the subject that is kept at a place, or an equal one, has its number
+pub named_same : {P : Type 0} (cmp : P → P → Ordering) (o : IsTotalOrder cmp) (registry : Registry P)
+    → FindsSides cmp registry → (n : ℕ) (kept : declared.Subject P) (s : Subject P) (among : List (declared.Subject P))
+    → among ≡ registry.subjects.items → true ≡ nat_lt n (length among) → kept ≡ get_or among n kept
+    → same_subject cmp (subject_of kept) s ≡ true → number_of cmp registry s ≡ Some n
+named_same cmp o registry finds n kept s among are within is same =
+    let below : n < length among = ltb-true n (length among) (sym within) in
+    sym (number_congr cmp o registry (subject_of kept) s same)
+    ∙ ap (λ k. number_of cmp registry (subject_of k)) (is ∙ ap (λ ks. get_or ks n kept) are)
+    ∙ finds.named n (omega (arith, below, ap length are, registry.subjects.ok.0)) kept
 
 -- the numbers, when a subject gets one: it is that of the side that is new
 pub finds_more : {P : Type 0} (cmp : P → P → Ordering) (o : IsTotalOrder cmp) (old new : Registry P)
@@ -475,9 +526,9 @@ no_pair cmp o registry place p q answer unanswered empty finds = record {
 -- the number that one kind of subject gets changes no other kind
 module _ {P : Type 0} (cmp : P → P → Ordering) (n : ℕ) (old new : Registry P) where
   pub sender_numbered : (p : P) → new.receivers ≡ old.receivers → new.pairs ≡ old.pairs
-      → ((q : P) → number_of cmp new (sent_by q)
-      ≡ cond (same_peer cmp p q) (Some n) (number_of cmp old (sent_by q)))
-      → HasNumber cmp (sent_by p) n old new
+      → ((q : P) → noted_of cmp new (sent_by q)
+      ≡ cond (same_peer cmp p q) (Some n) (noted_of cmp old (sent_by q)))
+      → IsNoted cmp (sent_by p) n old new
   sender_numbered p receivers pairs has (sent_by q) = has q
   sender_numbered p receivers pairs has (received_by q) =
       ap (λ numbers. lookup (λ other. same_peer cmp q other.now) numbers.entries) receivers
@@ -485,9 +536,9 @@ module _ {P : Type 0} (cmp : P → P → Ordering) (n : ℕ) (old new : Registry
       ap (λ numbers. lookup (λ other. same_peer cmp q other.0.now && same_peer cmp r other.1.now) numbers.entries) pairs
 
   pub receiver_numbered : (p : P) → new.senders ≡ old.senders → new.pairs ≡ old.pairs
-      → ((q : P) → number_of cmp new (received_by q)
-      ≡ cond (same_peer cmp p q) (Some n) (number_of cmp old (received_by q)))
-      → HasNumber cmp (received_by p) n old new
+      → ((q : P) → noted_of cmp new (received_by q)
+      ≡ cond (same_peer cmp p q) (Some n) (noted_of cmp old (received_by q)))
+      → IsNoted cmp (received_by p) n old new
   receiver_numbered p senders pairs has (sent_by q) =
       ap (λ numbers. lookup (λ other. same_peer cmp q other.now) numbers.entries) senders
   receiver_numbered p senders pairs has (received_by q) = has q
@@ -495,9 +546,9 @@ module _ {P : Type 0} (cmp : P → P → Ordering) (n : ℕ) (old new : Registry
       ap (λ numbers. lookup (λ other. same_peer cmp q other.0.now && same_peer cmp r other.1.now) numbers.entries) pairs
 
   pub pair_numbered : (o p : P) → new.senders ≡ old.senders → new.receivers ≡ old.receivers
-      → ((q r : P) → number_of cmp new (sent_between q r)
-      ≡ cond (same_peer cmp o q && same_peer cmp p r) (Some n) (number_of cmp old (sent_between q r)))
-      → HasNumber cmp (sent_between o p) n old new
+      → ((q r : P) → noted_of cmp new (sent_between q r)
+      ≡ cond (same_peer cmp o q && same_peer cmp p r) (Some n) (noted_of cmp old (sent_between q r)))
+      → IsNoted cmp (sent_between o p) n old new
   pair_numbered o p senders receivers has (sent_by q) =
       ap (λ numbers. lookup (λ other. same_peer cmp q other.now) numbers.entries) senders
   pair_numbered o p senders receivers has (received_by q) =

@@ -7,7 +7,7 @@ ghost use Rattle.fair_rates.specs.Sides.Answers.{recipients, pairs, answered_by,
 ghost use Rattle.fair_rates.specs.Sides.Subjects.{sides_of, asks_of_one, same_subject};
 ghost use Rattle.fair_rates.specs.Sides.Subjects.{sent_by, received_by, sent_between};
 ghost use Rattle.fair_rates.specs.Sides.SideOf.{side_of};
-ghost use Rattle.fair_rates.specs.Sides.Registry.{FindsSides, Registers, subject_of};
+ghost use Rattle.fair_rates.specs.Sides.Registry.{FindsSides, Registers, subject_of, is_noted};
 
 use crate::bandwidth::{CappedFlow, Flow, FlowCaps};
 use crate::error::Error;
@@ -17,6 +17,9 @@ use std::collections::BTreeMap;
 
 /// A new side has room for so many users, before its list has to move.
 const FEW_USERS: usize = 16;
+
+/// Among so many of the first sides, that of a peer is found without a map.
+const FIRST_SIDES: usize = 12;
 
 /// There is room for so many sides, before their list has to move.
 const FEW_SIDES: usize = 16;
@@ -85,8 +88,8 @@ impl Latest {
 }
 
 /// The sides that have come into being, with the subject of each, and the number of each, its place
-/// among them, by its subject: there is a map for each kind, which is by peers alone and has no kind
-/// to compare.
+/// among them, by its subject, but for the first ones of peers, which are found in their list. There
+/// is a map for each kind, which is by peers alone and has no kind to compare.
 #[derive(Drop)]
 struct Registry<'a, P: Ord> {
     sides: Vec<Side>,
@@ -98,7 +101,8 @@ struct Registry<'a, P: Ord> {
 }
 
 impl<'a, P: Peer> Registry<'a, P> {
-    ghost use Rattle.fair_rates.specs.Sides.Registry.{IsRegistryOf, HasNumber, number_of};
+    ghost use Rattle.fair_rates.specs.Sides.Registry.{IsRegistryOf, IsNoted, IsNotedIfLate, number_of, place_from};
+    ghost use Rattle.std.specs.Prelude.{take};
 
     /// No flow has asked yet.
     fn new(alloc: Global) -> Result<Registry<'a, P>, AllocError>
@@ -152,7 +156,7 @@ impl<'a, P: Peer> Registry<'a, P> {
     }
 
     /// The number of the side of the subject, if there is one. Where it is the guess or the next
-    /// number, no map is searched.
+    /// number, nothing is searched.
     fn number(&self, subject: &Subject<'a, P>, guess: usize) -> Option<usize>
         requires { FindsSides P.cmp self.now }
         ensures { result ≡ number_of P.cmp self.now (subject_of subject.now) }
@@ -167,22 +171,55 @@ impl<'a, P: Peer> Registry<'a, P> {
         }
     }
 
-    /// The number of the side of the subject, if there is one, as the map for its kind has it.
+    /// The number of the side of the subject, if there is one: it is found among the first ones, or
+    /// in the map for its kind.
     fn find(&self, subject: &Subject<'a, P>) -> Option<usize>
         ensures { result ≡ number_of P.cmp self.now (subject_of subject.now) }
     {
         match subject {
-            Subject::SentBy(peer) => self.senders.get(peer).copied(),
-            Subject::ReceivedBy(peer) => self.receivers.get(peer).copied(),
+            Subject::SentBy(peer) => match self.find_early(subject) {
+                Some(number) => Some(number),
+                None => self.senders.get(peer).copied(),
+            },
+            Subject::ReceivedBy(peer) => match self.find_early(subject) {
+                Some(number) => Some(number),
+                None => self.receivers.get(peer).copied(),
+            },
             Subject::SentBetween(origin, recipient) => {
                 self.pairs.get(&(*origin, *recipient)).copied()
             }
         }
     }
 
-    /// Notes the number of the side of the subject.
+    /// The number of the side of the subject, if it is among the first ones.
+    fn find_early(&self, subject: &Subject<'a, P>) -> Option<usize>
+        ensures { result ≡ place_from P.cmp 0 (take 12 (map subject_of self.now.subjects.items))
+            (subject_of subject.now) }
+    {
+        for number in 0..self.subjects.len().min(FIRST_SIDES) {
+            if self.subjects[number].is_same(subject) {
+                return Some(number);
+            }
+        }
+        None
+    }
+
+    /// Notes the number of the side of the subject, unless it is found without a map.
+    fn note_number(&mut self, subject: &Subject<'a, P>, number: usize) -> Result<(), Error>
+        ensures numbers { OnOk result (IsNotedIfLate P.cmp (subject_of subject.now) number self.old self.new) }
+        ensures sides { self.new.sides ≡ self.old.sides }
+        ensures subjects { self.new.subjects ≡ self.old.subjects }
+        ensures refused { IfErr result (λ e. e ≡ Error.OutOfMemory) }
+    {
+        if is_noted(subject, number) {
+            self.set_number(subject, number)?;
+        }
+        Ok(())
+    }
+
+    /// Notes the number of the side of the subject in the map for its kind.
     fn set_number(&mut self, subject: &Subject<'a, P>, number: usize) -> Result<(), Error>
-        ensures numbers { OnOk result (HasNumber P.cmp (subject_of subject.now) number self.old self.new) }
+        ensures numbers { OnOk result (IsNoted P.cmp (subject_of subject.now) number self.old self.new) }
         ensures sides { self.new.sides ≡ self.old.sides }
         ensures subjects { self.new.subjects ≡ self.old.subjects }
         ensures refused { IfErr result (λ e. e ≡ Error.OutOfMemory) }
@@ -195,6 +232,17 @@ impl<'a, P: Peer> Registry<'a, P> {
             }
         };
         Ok(())
+    }
+}
+
+/// Whether the number of the side of the subject is noted in a map: it is that of a link, or not among
+/// the first.
+fn is_noted<P: Peer>(subject: &Subject<P>, number: usize) -> bool
+    ensures { result ≡ is_noted (subject_of subject.now) number }
+{
+    match subject {
+        Subject::SentBetween(_, _) => true,
+        _ => number >= FIRST_SIDES,
     }
 }
 
@@ -226,7 +274,7 @@ fn register<'a, P: Peer>(
     let number = registry.sides.len();
     registry.sides.push(Side { cap, users })?;
     registry.latest.note(&subject, number);
-    registry.set_number(&subject, number)?;
+    registry.note_number(&subject, number)?;
     registry.subjects.push(subject)?;
     Ok(())
 }

@@ -88,6 +88,37 @@ next -
     )
 }
 
+/// A message that is alone in flight goes at the least of its caps: of egress, of ingress, of its
+/// link, and of the link again where it is dropped and less may be received.
+#[test]
+fn a_message_alone_has_its_least_cap(rt: HostRuntime) -> Result<(), Fail> {
+    play::<u64>(
+        &rt,
+        0,
+        "\
+limit 0 1 100 -
+limit 0 2 - 200
+link 0 1 2 300
+send 0 1 2 100 0
+event 1s
+done 0 1s
+limit 1s 2 - 50
+send 1s 1 2 100 0
+event 3s
+done 1 3s
+link 3s 1 2 25
+send 3s 1 2 100 0
+event 7s
+done 2 7s
+limit 7s 2 - 10
+drop 7s 1 2 100 0
+event 11s
+done 3 -
+next -
+",
+    )
+}
+
 /// Thirteen messages of one sender beside three of another one.
 const TWO_GROUPS: &str = "\
 limit 0 1 1000 -

@@ -1,10 +1,34 @@
-use Rattle.std.proofs.Common.{List, subst, length}
+use Rattle.std.proofs.Common.{List, length, map, subst, sym}
 use Rattle.fair_rates.specs.Fairness.Fair.{Side}
 use Rattle.fair_rates.specs.Filling.FairParts.{AreFairPartsOn}
+use Rattle.fair_rates.specs.Sides.Answers.{answered_of}
+use Rattle.fair_rates.specs.Sides.Subjects.{sides_of}
+use Rattle.fair_rates.specs.declared.bandwidth.CappedFlow.{CappedFlow}
+use Rattle.fair_rates.proofs.Filling.Alone.{unlimited}
+use Rattle.fair_rates.proofs.Lists.Few.{none_listed, one_listed}
 use Rattle.fair_rates.proofs.bandwidth.fair_parts.Goals as goal
 
-pub returns-clause-fair : goal.returns-clause-fair
-returns-clause-fair g c =
-    let found = c.in_ok-fair_parts.field-0 in
+pub returns-in_ok-new-in-empty-clause-fair : goal.returns-in_ok-new-in-empty-clause-fair
+returns-in_ok-new-in-empty-clause-fair g c =
+    let scale = c.args.scale.now in
+    let found = c.in_ok-new-in-empty.field-0 in
+    let new = c.in_ok-new-in-empty.ensures in
+    subst (λ (flows : List (CappedFlow _)).
+    AreFairPartsOn (sides_of g.P.Ord.cmp (map answered_of flows)) (length flows) scale found)
+    (sym (none_listed c.args.flows.now c.in-empty.len_below))
+    (unlimited 0 scale found c.requires.some_part new.scale new.growth new.level_of)
+
+pub returns-in_ok-fair_parts_alone-in-len1-clause-fair : goal.returns-in_ok-fair_parts_alone-in-len1-clause-fair
+returns-in_ok-fair_parts_alone-in-len1-clause-fair g c =
+    let found = c.in_ok-fair_parts_alone-in-len1.field-0 in
+    let one = c.one-item.result in
+    subst (λ (flows : List (CappedFlow _)).
+    AreFairPartsOn (sides_of g.P.Ord.cmp (map answered_of flows)) (length flows) c.args.scale.now found)
+    (sym (one_listed c.args.flows.now one c.in-len1.len_at_least c.in-len1.len_below c.one-item.is))
+    c.in_ok-fair_parts_alone-in-len1.ensures
+
+pub returns-in_ok-fair_parts-in_default-clause-fair : goal.returns-in_ok-fair_parts-in_default-clause-fair
+returns-in_ok-fair_parts-in_default-clause-fair g c =
+    let found = c.in_ok-fair_parts-in_default.field-0 in
     subst (λ (s : List Side). AreFairPartsOn s (length c.args.flows.now) c.args.scale.now found)
-    c.in_ok-sides.ensures.sides c.in_ok-fair_parts.ensures.parts
+    c.in_ok-sides-in_default.ensures.sides c.in_ok-fair_parts-in_default.ensures.parts

@@ -2,7 +2,7 @@ use Rattle.std.proofs.Common.{sym, ◌∙◌, ◌≡◌, refl, ap, length, vec_l
 use Rattle.std.proofs.lemmas.List.{map-append}
 use Rattle.fair_rates.specs.declared.bandwidth.sides.Registry.{Registry}
 use Rattle.fair_rates.specs.Sides.Registry.{subject_of, number_of, HasNumber}
-use Rattle.fair_rates.proofs.Sides.Registry.{found, absent, opens, finds_more}
+use Rattle.fair_rates.proofs.Sides.Registry.{found, absent, opens, finds_more, numbered}
 use Rattle.fair_rates.proofs.bandwidth.sides.register.Goals as goal
 
 pub index_mut-requires : goal.index_mut-requires
@@ -44,8 +44,8 @@ pub returns-clause-registers : goal.returns-clause-registers
 returns-clause-registers g c =
     let cmp = g.P.Ord.cmp in
     let old = c.args.registry.now in
-    let numbered = c.set_number.new.self in
-    let new : Registry g.row.P.Denot = record numbered { subjects = c.push-4.new.self } in
+    let noted = c.note_number.new.self in
+    let new : Registry g.row.P.Denot = record noted { subjects = c.push-4.new.self } in
     let s = subject_of c.args.subject in
     let n = c.len-number.result in
     let last : n ≡ length old.sides.items = c.len-number.ensures ∙ old.sides.ok.0 in
@@ -54,10 +54,13 @@ returns-clause-registers g c =
     c.in_ok-push-2.ensures.items ∙ ap (λ us. us ++ c.args.place ∷ []) c.in_ok-users.ensures.items in
     let sides : new.sides.items
     ≡ old.sides.items ++ record { cap = c.in-Some-answer.cap; users = c.push-2.new.self } ∷ [] =
-    ap (λ v. v.items) c.set_number.ensures.sides ∙ c.in_ok-push-3.ensures.items in
+    ap (λ v. v.items) c.note_number.ensures.sides ∙ c.in_ok-push-3.ensures.items in
     let kept : new.subjects.items ≡ old.subjects.items ++ c.args.subject ∷ [] =
-    c.in_ok-push-4.ensures.items ∙ ap (λ v. v.items ++ c.args.subject ∷ []) c.set_number.ensures.subjects in
-    let numbers : HasNumber cmp s n old new = c.in_ok-set_number.ensures.numbers in
+    c.in_ok-push-4.ensures.items ∙ ap (λ v. v.items ++ c.args.subject ∷ []) c.note_number.ensures.subjects in
+    let as_many : n ≡ length old.subjects.items =
+    c.len-number.ensures ∙ sym c.requires.as_many ∙ old.subjects.ok.0 in
+    let numbers : HasNumber cmp s n old new =
+    numbered cmp g.met.P.Ord.total old new c.args.subject n as_many kept none c.in_ok-note_number.ensures.numbers in
     record {
       asked = λ asks h.
           opens cmp g.met.P.Ord.total asks old.sides.items (map subject_of old.subjects.items) (number_of cmp old) h s
@@ -67,5 +70,5 @@ returns-clause-registers g c =
           n last numbers;
       finds =
           finds_more cmp g.met.P.Ord.total old new c.args.subject n numbers c.len-number.ensures
-          (ap (λ v. vec_len v) c.set_number.ensures.sides ∙ c.in_ok-push-3.ensures.len) kept none c.requires;
+          (ap (λ v. vec_len v) c.note_number.ensures.sides ∙ c.in_ok-push-3.ensures.len) kept none c.requires;
     }

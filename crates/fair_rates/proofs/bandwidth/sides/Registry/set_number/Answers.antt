@@ -1,5 +1,5 @@
 use Rattle.std.proofs.Common.{refl, sym, subst}
-use Rattle.fair_rates.specs.Sides.Registry.{HasNumber, subject_of}
+use Rattle.fair_rates.specs.Sides.Registry.{IsNoted, subject_of}
 use Rattle.fair_rates.specs.declared.bandwidth.sides.Registry.{Registry}
 use Rattle.fair_rates.proofs.Sides.Registry.{sender_numbered, receiver_numbered, pair_numbered, by_both}
 use Rattle.fair_rates.proofs.bandwidth.sides.Registry.set_number.Goals as goal
@@ -9,7 +9,7 @@ returns-in_ok-insert-in-SentBy-clause-numbers g c =
     let old = c.args.self.now in
     let new : Registry g.row.P.Denot = record old { senders = c.insert.new.self } in
     let peer = c.in-SentBy.peer in
-    subst (λ s. HasNumber g.P.Ord.cmp (subject_of s) c.args.number old new) (sym c.in-SentBy.is)
+    subst (λ s. IsNoted g.P.Ord.cmp (subject_of s) c.args.number old new) (sym c.in-SentBy.is)
     (sender_numbered g.P.Ord.cmp c.args.number old new peer.now refl refl
     (λ q. c.in_ok-insert-in-SentBy.ensures.updates.0 (record peer { now = q })))
 
@@ -18,7 +18,7 @@ returns-in_ok-insert-in-ReceivedBy-clause-numbers g c =
     let old = c.args.self.now in
     let new : Registry g.row.P.Denot = record old { receivers = c.insert-in-ReceivedBy.new.self } in
     let peer = c.in-ReceivedBy.peer in
-    subst (λ s. HasNumber g.P.Ord.cmp (subject_of s) c.args.number old new) (sym c.in-ReceivedBy.is)
+    subst (λ s. IsNoted g.P.Ord.cmp (subject_of s) c.args.number old new) (sym c.in-ReceivedBy.is)
     (receiver_numbered g.P.Ord.cmp c.args.number old new peer.now refl refl
     (λ q. c.in_ok-insert-in-ReceivedBy.ensures.updates.0 (record peer { now = q })))
 
@@ -28,7 +28,7 @@ returns-in_ok-insert-in-SentBetween-clause-numbers g c =
     let new : Registry g.row.P.Denot = record old { pairs = c.insert-in-SentBetween.new.self } in
     let o = c.in-SentBetween.origin in
     let p = c.in-SentBetween.recipient in
-    subst (λ s. HasNumber g.P.Ord.cmp (subject_of s) c.args.number old new) (sym c.in-SentBetween.is)
+    subst (λ s. IsNoted g.P.Ord.cmp (subject_of s) c.args.number old new) (sym c.in-SentBetween.is)
     (pair_numbered g.P.Ord.cmp c.args.number old new o.now p.now refl refl
     (λ q r.
     by_both g.P.Ord.cmp c.args.number o.now p.now q r old.pairs.entries new.pairs.entries

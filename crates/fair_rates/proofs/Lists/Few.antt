@@ -1,0 +1,11 @@
+-- Lists of no elements, and of one.
+use Rattle.std.proofs.Common.{◌≡◌, ◌<◌, ◌≤◌, List, [], ◌∷◌, length, get_or, refl, sym, ap, arith}
+
+pub none_listed : {X : Type 0} (xs : List X) → length xs < 1 → xs ≡ []
+none_listed [] few = refl
+none_listed (x ∷ xs) few = absurd (omega arith)
+
+pub one_listed : {X : Type 0} (xs : List X) (x : X) → 1 ≤ length xs → length xs < 2 → x ≡ get_or xs 0 x → xs ≡ x ∷ []
+one_listed [] x some few is = absurd (omega arith)
+one_listed {X} (y ∷ []) x some few is = ap (λ (z : X). z ∷ []) (sym is)
+one_listed (y ∷ z ∷ xs) x some few is = absurd (omega arith)

@@ -1,0 +1,52 @@
+//! The fair rate of a flow alone. No other shares its sides, so there is nothing to fill.
+ghost use Rattle.std.specs.Prelude.{◌≡◌, ◌<◌, ◌∷◌, [], IfOk};
+ghost use Rattle.fair_rates.specs.Sides.Answers.{answered_of};
+ghost use Rattle.fair_rates.specs.Sides.Subjects.{sides_of};
+ghost use Rattle.fair_rates.specs.Filling.FairParts.{AreFairPartsOn};
+ghost use Rattle.fair_rates.specs.Sides.Alone.{least_of, least_cap_of};
+
+use crate::bandwidth::CappedFlow;
+use crate::bandwidth::parts::FairParts;
+use crate::peer::Peer;
+use natural::Natural;
+use std::alloc::{AllocError, Global};
+
+/// The less of two caps. `None` stands for no cap.
+fn least(one: Option<u128>, other: Option<u128>) -> Option<u128>
+    ensures { result ≡ least_of one other }
+{
+    match (one, other) {
+        (Some(one), Some(other)) => Some(one.min(other)),
+        (Some(cap), None) | (None, Some(cap)) => Some(cap),
+        (None, None) => None,
+    }
+}
+
+/// The least cap that holds for the flow. That on what its recipient receives holds if it is
+/// delivered.
+fn least_cap<P>(one: &CappedFlow<P>) -> Option<u128>
+    ensures { result ≡ least_cap_of (answered_of one.now) }
+{
+    let ingress = if one.flow.delivered {
+        one.caps.ingress
+    } else {
+        None
+    };
+    least(least(one.caps.egress, ingress), one.caps.link)
+}
+
+/// The fair rate of a flow alone, in parts of one byte a second: the least of its caps.
+pub(crate) fn fair_parts_alone<P: Peer>(
+    alloc: Global,
+    one: &CappedFlow<P>,
+    scale: &Natural,
+) -> Result<FairParts, AllocError>
+    requires some_part { 0 < scale.now }
+    ensures { IfOk result (AreFairPartsOn (sides_of P.cmp (answered_of one.now ∷ [])) 1 scale.now) }
+{
+    let mut found = FairParts::new(alloc, 1, scale)?;
+    if let Some(cap) = least_cap(one) {
+        found.freeze(&[0], scale.product(cap)?)?;
+    }
+    Ok(found)
+}
