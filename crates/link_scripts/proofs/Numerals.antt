@@ -115,3 +115,19 @@ parsed {E} word (Err e) h sign plain n = (
   (λ e. absurd (cc)),
   λ is. ap (result_ok {T = ℕ} {E = E}) (parse-decimal_wide 128 n word (Err e) is.1 (omega (arith, is.1)) is.0 h),
 )
+
+-- what it is where that is a number of 64 bits
+pub parsed_narrow : {E : Type 0} (word : List ℕ) (x : ℕ) (r : Result ℕ E) → ParsesUnsigned 64 10 word r → r ≡ Ok x
+    → (get_or word 0 0 ≡ 43 → ⊥) → (get_or word 0 0 ≡ 48 → length word ≤ 1)
+    → (n : ℕ) → (Some x ≡ Some n) ↔ ((word ≡ decimal n) × (n < 2 ^ 128))
+parsed_narrow {E} word x (Err e) h is sign plain n = absurd (cc)
+parsed_narrow {E} word x (Ok y) h is sign plain n =
+    let same : y ≡ x = cc in
+    let own = parse_plain (numerals_by_value (AllDigits 10) tells_digits) {E = E} 64 word (Ok y) h sign in
+    let value : x ≡ digits_value 10 word = sym same ∙ own.1 in
+    let spelled : decimal y ≡ word =
+    ap decimal own.1 ∙ decimal-digits_value word own.0.0 own.0.1 plain (omega (arith, own.0.2)) in (
+      (λ e. let one : x ≡ n = cc in (sym spelled ∙ ap decimal (same ∙ one), omega (arith, own.0.2, own.1, value, one))),
+      λ spells. ap Some (value ∙ ap (digits_value 10) spells.0
+          ∙ (decimal_is_IsNumeral_wide n (omega (arith, spells.1))).1),
+    )

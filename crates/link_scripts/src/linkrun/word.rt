@@ -91,12 +91,15 @@ impl<'a> Words<'a> {
 }
 
 /// The number of at most 128 bits that a word is: decimal digits, with no sign, and with no zero
-/// in front of another digit.
+/// in front of another digit. Most fit in 64 bits, which are read faster.
 fn number(word: &str) -> Option<u128>
     ensures { (n : ℕ) → (result ≡ Some n) ↔ ((word.now ≡ number_word n) × (n < 2 ^ 128)) }
 {
     if word.starts_with('+') || (word.starts_with('0') && word.len() > 1) {
         return None;
+    }
+    if let Ok(narrow) = word.parse::<u64>() {
+        return Some(u128::from(narrow));
     }
     word.parse().ok()
 }
