@@ -76,10 +76,10 @@ fn count_refused(rt: &(impl Abort + AllocGlobal), way: Way, rows: &str) -> u64 {
     MOST
 }
 
-/// Each clone is refused in turn, and there are more than ten.
+/// Each clone is refused in turn, and there are more than three.
 fn refuse_each_clone(rt: &(impl Abort + AllocGlobal), way: Way, rows: &str) {
     let refused = count_refused(rt, way, rows);
-    assert!(rt; refused > 10 && refused < MOST, "{refused}");
+    assert!(rt; refused > 3 && refused < MOST, "{refused}");
 }
 
 #[test]
