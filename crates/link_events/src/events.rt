@@ -11,17 +11,18 @@ ghost use Rattle.link_simulation.specs.Rule.Events.{landed, completed_at_once, w
 ghost use Rattle.link_simulation.specs.Simulation.RefusalCauses.{IsRefusedFor};
 ghost use Rattle.link_pairs.specs.Pairs.Messages.{message_of, ended_of};
 ghost use Rattle.link_pairs.specs.Pairs.Entries.{first_of, arrival_of};
+ghost use Rattle.link_waiting.specs.Idle.Index.{idle_from as idle_since};
 ghost use Rattle.link_events.specs.Steps.Due.{IsDue, Happens};
 
 use crate::event::Event;
 use crate::ledger::Ledger;
+use crate::readiness::{idle_from, ready_moment};
 use fair_rates::error::Error;
 use fair_rates::peer::Peer;
 use link_pairs::completion::Ended;
 use link_pairs::known_pairs::later_of;
 use link_pairs::message::Message;
 use link_pairs::pair::PeerPair;
-use link_waiting::readiness::{idle_from, ready_moment};
 use std::collections::VecDeque;
 use std::rc::Rc;
 
@@ -33,12 +34,13 @@ impl<P: Peer> Ledger<P> {
     ghost use Rattle.link_waiting.specs.Idle.AtRest.{is_sending};
 
     /// Whether the first waiting message of the pair may start: the pair is idle, and the message
-    /// arrives no earlier than the pair's last one.
-    fn may_launch(&self, origin: &P, recipient: &P, now: u64) -> bool
+    /// arrives no earlier than the pair's last one. So it is from the moment `since` on.
+    fn may_launch(&self, since: Option<u64>, origin: &P, recipient: &P, now: u64) -> bool
+        requires { since ≡ idle_since P.cmp (planned P.cmp self.now) origin.now recipient.now }
         ensures { result ≡ may_launch_first P.cmp now (planned P.cmp self.now)
             (first_of P.cmp (planned P.cmp self.now).waiting origin.now recipient.now) }
     {
-        match idle_from(&self.busy, &self.waiting, &self.pairs, origin, recipient) {
+        match since {
             Some(moment) => moment <= now,
             None => false,
         }
@@ -58,13 +60,32 @@ impl<P: Peer> Ledger<P> {
         ensures refused { IfErr result (IsRefusedFor (λ fault. Launches P.cmp now (planned P.cmp self.old)
             (first_of P.cmp (planned P.cmp self.old).waiting origin.now recipient.now) (meets fault))) }
     {
-        if !self.may_launch(origin, recipient, now) {
+        let since = idle_from(&self.flights, &self.waiting, &self.pairs, origin, recipient);
+        self.launch_from(since, origin, recipient, now)
+    }
+
+    /// As `launch`, for a pair that is idle from the moment `since` on.
+    fn launch_from(
+        &mut self,
+        since: Option<u64>,
+        origin: &P,
+        recipient: &P,
+        now: u64,
+    ) -> Result<VecDeque<Rc<Message<P>>>, Error>
+        requires { since ≡ idle_since P.cmp (planned P.cmp self.old) origin.now recipient.now }
+        ensures launches { IfOk result (λ leavers. Launches P.cmp now (planned P.cmp self.old)
+            (first_of P.cmp (planned P.cmp self.old).waiting origin.now recipient.now)
+            (goes (messages leavers.items) (planned P.cmp self.new))) }
+        ensures refused { IfErr result (IsRefusedFor (λ fault. Launches P.cmp now (planned P.cmp self.old)
+            (first_of P.cmp (planned P.cmp self.old).waiting origin.now recipient.now) (meets fault))) }
+    {
+        if !self.may_launch(since, origin, recipient, now) {
             return Ok(VecDeque::new(self.alloc));
         }
         if self.next_id == u64::MAX {
             return Err(Error::FlowIdsUsedUp);
         }
-        self.depart(origin, recipient, now)?;
+        self.depart(since, origin, recipient, now)?;
         self.account(now)
     }
 
@@ -78,7 +99,7 @@ impl<P: Peer> Ledger<P> {
         if self.waiting.first(origin, recipient).is_some() {
             return false;
         }
-        if self.busy.has(origin, recipient) {
+        if self.flights.has(origin, recipient) {
             return false;
         }
         ready_moment(self.pairs.last_arrival(origin, recipient), message.latency) <= now
@@ -132,8 +153,8 @@ impl<P: Peer> Ledger<P> {
         let sent = Rc::as_ref(&message);
         let arrival = sent.arrival(now)?;
         let deliver_at = sent.is_delivered().then_some(arrival);
-        self.raise(&sent.origin, &sent.recipient, arrival)?;
-        let more = self.launch(&sent.origin, &sent.recipient, now)?;
+        let since = self.raise(&sent.origin, &sent.recipient, arrival)?;
+        let more = self.launch_from(since, &sent.origin, &sent.recipient, now)?;
         ended.push(Ended {
             message,
             deliver_at,
@@ -228,8 +249,8 @@ impl<P: Peer> Ledger<P> {
             return Ok(ended);
         }
         let pair = PeerPair::new(&message.origin, &message.recipient)?;
-        self.join(&pair, message)?;
-        let queue = self.launch(&pair.origin, &pair.recipient, now)?;
+        let since = self.join(&pair, message)?;
+        let queue = self.launch_from(since, &pair.origin, &pair.recipient, now)?;
         self.finish(queue, now, &mut ended)?;
         Ok(ended)
     }
@@ -239,7 +260,7 @@ impl<P: Peer> Ledger<P> {
         ensures { result ≡ ((planned P.cmp self.now).limited
             && is_sending P.cmp (planned P.cmp self.now) origin.now recipient.now) }
     {
-        self.limited && self.busy.has(origin, recipient)
+        self.limited && self.flights.has(origin, recipient)
     }
 
     /// The moment at which a message arrives that completes at once: no earlier than its pair's

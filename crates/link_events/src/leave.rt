@@ -4,22 +4,20 @@ ghost use Rattle.std.specs.List.{filter};
 ghost use Rattle.link_simulation.specs.Rule.Planned.{rated_messages, is_spent};
 ghost use Rattle.link_waiting.specs.Idle.AtRest.{of_pairs};
 ghost use Rattle.link_waiting.specs.Idle.Index.{IsIndexOf};
-ghost use Rattle.link_waiting.specs.Idle.Busy.{AreCounted};
 ghost use Rattle.link_flights.specs.Flights.Flight.{AreTimed};
 ghost use Rattle.link_flights.specs.Flights.InFlight.{in_flight, in_units};
 ghost use Rattle.link_flights.specs.Flights.Rated.{ArePartedBy, is_out, are_limited, rated_ones};
 ghost use Rattle.link_pairs.specs.Pairs.Messages.{messages};
 ghost use Rattle.link_pairs.specs.Pairs.CapsOf.{caps_of};
 
+use crate::readiness::rest_all;
 use fair_rates::error::Error;
 use fair_rates::peer::Peer;
 use link_flights::flight_list::Flights;
 use link_pairs::known_pairs::Pairs;
 use link_pairs::message::Message;
 use link_pairs::peers::Peers;
-use link_waiting::busy::BusyPairs;
 use link_waiting::idle_pairs::IdlePairs;
-use link_waiting::readiness::rest_all;
 use link_waiting::waiting::Waiting;
 use std::alloc::Global;
 use std::collections::VecDeque;
@@ -29,7 +27,6 @@ use std::rc::Rc;
 pub(crate) fn leave<P: Peer>(
     alloc: Global,
     flights: &mut Flights<P>,
-    busy: &mut BusyPairs<P>,
     idle: &mut IdlePairs<P>,
     peers: &Peers<P>,
     pairs: &Pairs<P>,
@@ -41,7 +38,6 @@ pub(crate) fn leave<P: Peer>(
     requires limited { were_rated ≡ true → are_limited P.cmp (caps_of P.cmp peers.now.entries pairs.now.entries)
         (rated_ones (in_units flights.old)) ≡ true }
     requires timed { were_rated ≡ true → AreTimed flights.old.list.items }
-    requires counted { AreCounted P.cmp busy.old.entries (rated_messages (in_flight flights.old)) }
     ensures done { IfOk result (λ done. messages done.items
         ≡ rated_messages (filter (is_spent P.cmp (caps_of P.cmp peers.now.entries pairs.now.entries))
         (in_flight flights.old))) }
@@ -55,11 +51,9 @@ pub(crate) fn leave<P: Peer>(
     ensures timed { AreTimed flights.old.list.items → AreTimed flights.new.list.items }
     ensures indexed { OnOk result (IsIndexOf P.cmp (of_pairs P.cmp pairs.now.entries waiting.now.messages
         (in_flight flights.new)) idle.new.entries) }
-    ensures counted { OnOk result (AreCounted P.cmp busy.new.entries (rated_messages (in_flight flights.new))) }
     ensures refused { IfErr result (λ e. e ≡ Error.OutOfMemory) }
 {
     let done = flights.take_done(peers, pairs, were_rated)?;
-    busy.remove_all(alloc, &done)?;
-    rest_all(alloc, idle, busy, waiting, pairs, &done)?;
+    rest_all(alloc, idle, flights, waiting, pairs, &done)?;
     Ok(done)
 }

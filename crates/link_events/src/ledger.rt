@@ -1,8 +1,6 @@
 //! The state that a call works on.
 ghost use Rattle.std.specs.Prelude.{◌≡◌, true, false, OnOk, IfOk, IfErr};
-ghost use Rattle.link_simulation.specs.Rule.Planned.{rated_messages};
 ghost use Rattle.link_waiting.specs.Idle.Index.{IsIndexOf};
-ghost use Rattle.link_waiting.specs.Idle.Busy.{AreCounted};
 ghost use Rattle.link_flights.specs.Flights.InFlight.{in_flight, IsSameFlights};
 ghost use Rattle.link_waiting.specs.Idle.AtRest.{of_pairs};
 ghost use Rattle.link_pairs.specs.Pairs.CapsOf.{caps_of};
@@ -13,7 +11,6 @@ use fair_rates::peer::Peer;
 use link_flights::flight_list::Flights;
 use link_pairs::known_pairs::Pairs;
 use link_pairs::peers::Peers;
-use link_waiting::busy::BusyPairs;
 use link_waiting::idle_pairs::IdlePairs;
 use link_waiting::waiting::Waiting;
 use std::alloc::{AllocError, Global};
@@ -26,7 +23,6 @@ pub struct Ledger<P: Peer> {
     pub(crate) pairs: Pairs<P>,
     pub(crate) waiting: Waiting<P>,
     pub(crate) idle: IdlePairs<P>,
-    pub(crate) busy: BusyPairs<P>,
     pub flights: Flights<P>,
     /// Whether a limit has come.
     pub(crate) limited: bool,
@@ -40,7 +36,6 @@ pub struct Ledger<P: Peer> {
     pub(crate) stale: bool,
     pub ghost indexed: { IsIndexOf P.cmp (of_pairs P.cmp pairs.entries waiting.messages
         (in_flight flights)) idle.entries },
-    pub ghost counted: { AreCounted P.cmp busy.entries (rated_messages (in_flight flights)) },
     pub ghost rated: { stale ≡ false → ∥ AreRated P.cmp (caps_of P.cmp peers.entries pairs.entries) flights ∥₁ },
 }
 
@@ -58,7 +53,6 @@ impl<P: Peer> Ledger<P> {
             pairs: Pairs::new(),
             waiting: Waiting::new(),
             idle: IdlePairs::new(),
-            busy: BusyPairs::new(),
             flights: Flights::new(alloc),
             limited: false,
             next_id: first,
@@ -133,18 +127,12 @@ impl<P: Peer> Ledger<P> {
         ))
     }
 
-    /// The same messages in flight, and what is known of the pairs that are idle and of those that
-    /// are busy.
-    fn clone_sending(&self) -> Result<(IdlePairs<P>, BusyPairs<P>, Flights<P>), AllocError>
+    /// The same messages in flight, and the same idle pairs.
+    fn clone_sending(&self) -> Result<(IdlePairs<P>, Flights<P>), AllocError>
         ensures idle { IfOk result (λ sending. sending.0.entries ≡ self.now.idle.entries) }
-        ensures busy { IfOk result (λ sending. sending.1.entries ≡ self.now.busy.entries) }
-        ensures flights { IfOk result (λ sending. IsSameFlights self.now.flights sending.2) }
+        ensures flights { IfOk result (λ sending. IsSameFlights self.now.flights sending.1) }
     {
-        Ok((
-            self.idle.clone()?,
-            self.busy.clone()?,
-            self.flights.clone()?,
-        ))
+        Ok((self.idle.clone()?, self.flights.clone()?))
     }
 
     /// The earlier of the planned finish and the planned start.
@@ -167,14 +155,13 @@ impl<P: Peer> Clone for Ledger<P> {
     /// The same state, the peers cloned.
     fn clone(&self) -> Result<Ledger<P>, AllocError> {
         let (peers, pairs, waiting) = self.clone_known()?;
-        let (idle, busy, flights) = self.clone_sending()?;
+        let (idle, flights) = self.clone_sending()?;
         Ok(Ledger {
             alloc: self.alloc,
             peers,
             pairs,
             waiting,
             idle,
-            busy,
             flights,
             limited: self.limited,
             next_id: self.next_id,

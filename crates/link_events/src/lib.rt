@@ -14,3 +14,4 @@ pub mod ledger;
 mod moves;
 pub mod outgoing;
 mod plans;
+mod readiness;

@@ -1,19 +1,21 @@
 //! Changes of what is known of one pair, and of its place among the idle pairs.
-ghost use Rattle.std.specs.Prelude.{◌≡◌, ◌<◌, true, [], None, OnOk, OnErr, IfErr};
+ghost use Rattle.std.specs.Prelude.{◌≡◌, ◌<◌, true, [], None, OnOk, OnErr, IfOk, IfErr};
 ghost use Rattle.link_simulation.specs.Simulation.World.{goes};
 ghost use Rattle.link_simulation.specs.Rule.Events.{Enqueues, PlansStart, with_queued, launched};
 ghost use Rattle.link_pairs.specs.Pairs.Messages.{message_of};
 ghost use Rattle.link_waiting.specs.Idle.PairsOfMessages.{NamesPairOf};
 ghost use Rattle.link_pairs.specs.Pairs.Entries.{first_of, raised_at};
 ghost use Rattle.link_waiting.specs.Idle.Departed.{HasDeparted};
+ghost use Rattle.link_waiting.specs.Idle.Index.{idle_from as idle_since};
 
 use crate::ledger::Ledger;
+use crate::readiness::{idle_from, idle_latency, ready_from};
 use fair_rates::error::Error;
 use fair_rates::peer::Peer;
+use link_pairs::known_pairs::later_of;
 use link_pairs::message::Message;
 use link_pairs::pair::PeerPair;
 use link_waiting::idle_pairs::IdlePairs;
-use link_waiting::readiness::idle_from;
 use link_waiting::waiting::Waiting;
 use std::rc::Rc;
 
@@ -22,18 +24,27 @@ impl<P: Peer> Ledger<P> {
     ghost use Rattle.link_waiting.specs.Idle.Starting.{may_launch_first};
     ghost use Rattle.link_waiting.specs.Idle.AtRest.{is_sending};
 
-    /// From now on no message of the pair arrives before that moment.
-    pub(crate) fn raise(&mut self, origin: &P, recipient: &P, moment: u64) -> Result<(), Error>
+    /// From now on no message of the pair arrives before that moment. Answered is the moment from
+    /// which on the pair's first waiting message may start, if one waits and the pair is idle.
+    pub(crate) fn raise(
+        &mut self,
+        origin: &P,
+        recipient: &P,
+        moment: u64,
+    ) -> Result<Option<u64>, Error>
         ensures raised { OnOk result (planned P.cmp self.new
             ≡ record (planned P.cmp self.old) {
               last_arrival = raised_at P.cmp
                   (planned P.cmp self.old).last_arrival origin.now recipient.now moment;
             }) }
+        ensures idle { IfOk result (λ since. since
+            ≡ idle_since P.cmp (planned P.cmp self.new) origin.now recipient.now) }
         ensures refused { IfErr result (λ e. e ≡ Error.OutOfMemory) }
     {
-        let before = idle_from(&self.busy, &self.waiting, &self.pairs, origin, recipient);
-        self.pairs.raise(self.alloc, origin, recipient, moment)?;
-        let moved = idle_from(&self.busy, &self.waiting, &self.pairs, origin, recipient);
+        let latency = idle_latency(&self.flights, &self.waiting, origin, recipient);
+        let last = self.pairs.raise(self.alloc, origin, recipient, moment)?;
+        let before = ready_from(last, latency);
+        let moved = ready_from(Some(later_of(last, moment)), latency);
         let changed = self
             .idle
             .change(self.alloc, origin, recipient, before, moved);
@@ -44,20 +55,27 @@ impl<P: Peer> Ledger<P> {
             self.stale = true;
             return Err(error);
         }
-        Ok(())
+        Ok(moved)
     }
 
-    /// The message joins those that wait for its pair, as the last one.
-    pub(crate) fn join(&mut self, pair: &PeerPair<P>, message: Message<P>) -> Result<(), Error>
+    /// The message joins those that wait for its pair, as the last one. Answered is the moment from
+    /// which on the pair's first waiting message may start, if the pair is idle.
+    pub(crate) fn join(
+        &mut self,
+        pair: &PeerPair<P>,
+        message: Message<P>,
+    ) -> Result<Option<u64>, Error>
         requires { NamesPairOf P.cmp pair.now (message_of message) }
         ensures queued { OnOk result (planned P.cmp self.new
             ≡ with_queued P.cmp (planned P.cmp self.old) (message_of message)) }
+        ensures idle { IfOk result (λ since. since
+            ≡ idle_since P.cmp (planned P.cmp self.new) pair.now.origin pair.now.recipient) }
         ensures refused { IfErr result (λ e. e ≡ Error.OutOfMemory) }
     {
         let (origin, recipient) = (&pair.origin, &pair.recipient);
-        let before = idle_from(&self.busy, &self.waiting, &self.pairs, origin, recipient);
+        let before = idle_from(&self.flights, &self.waiting, &self.pairs, origin, recipient);
         self.waiting.push(self.alloc, message)?;
-        let after = idle_from(&self.busy, &self.waiting, &self.pairs, origin, recipient);
+        let after = idle_from(&self.flights, &self.waiting, &self.pairs, origin, recipient);
         let changed = self
             .idle
             .change(self.alloc, origin, recipient, before, after);
@@ -67,11 +85,19 @@ impl<P: Peer> Ledger<P> {
             self.idle = IdlePairs::new();
             return Err(error);
         }
-        Ok(())
+        Ok(after)
     }
 
     /// The first message that waits for the pair is in flight from now on, under the next flow id.
-    pub(crate) fn depart(&mut self, origin: &P, recipient: &P, now: u64) -> Result<(), Error>
+    /// It may start from the moment `since` on.
+    pub(crate) fn depart(
+        &mut self,
+        since: Option<u64>,
+        origin: &P,
+        recipient: &P,
+        now: u64,
+    ) -> Result<(), Error>
+        requires idle { since ≡ idle_since P.cmp (planned P.cmp self.old) origin.now recipient.now }
         requires ready { may_launch_first P.cmp now (planned P.cmp self.old)
             (first_of P.cmp (planned P.cmp self.old).waiting origin.now recipient.now) ≡ true }
         requires id { self.old.next_id < 18446744073709551615 }
@@ -79,15 +105,10 @@ impl<P: Peer> Ledger<P> {
             (planned P.cmp self.new)) }
         ensures refused { IfErr result (λ e. e ≡ Error.OutOfMemory) }
     {
-        let before = idle_from(&self.busy, &self.waiting, &self.pairs, origin, recipient);
-        let mut busy = self.busy.clone()?;
-        busy.add(self.alloc, origin, recipient)?;
         let Some(message) = self.waiting.take_first(origin, recipient)? else {
             return Ok(());
         };
-        let changed = self
-            .idle
-            .change(self.alloc, origin, recipient, before, None);
+        let changed = self.idle.change(self.alloc, origin, recipient, since, None);
         if let Err(error) = changed {
             // What stopped half-way is given up.
             self.waiting = Waiting::new();
@@ -101,7 +122,6 @@ impl<P: Peer> Ledger<P> {
             self.stale = true;
             return Err(error);
         }
-        self.busy = busy;
         self.next_id += 1;
         Ok(())
     }
@@ -114,11 +134,8 @@ impl<P: Peer> Ledger<P> {
             (with_queued P.cmp (planned P.cmp self.old) (message_of message)) (message_of message)) }
         ensures refused { IfErr result (λ e. e ≡ Error.OutOfMemory) }
     {
-        let mut busy = self.busy.clone()?;
-        busy.add(self.alloc, &message.origin, &message.recipient)?;
         let message = Rc::new(self.alloc, message)?;
         self.flights.push(message, now)?;
-        self.busy = busy;
         self.next_id += 1;
         Ok(())
     }

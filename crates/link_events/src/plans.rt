@@ -12,7 +12,6 @@ use fair_rates::peer::Peer;
 use link_flights::flight_list::Flights;
 use link_pairs::message::Message;
 use link_pairs::pair::PeerPair;
-use link_waiting::busy::BusyPairs;
 use link_waiting::idle_pairs::IdlePairs;
 use link_waiting::waiting::Waiting;
 use std::collections::VecDeque;
@@ -35,14 +34,12 @@ impl<P: Peer> Ledger<P> {
         self.stale = true;
         // Where this stops half-way, what is in flight and what waits is given up.
         let mut flights = mem::replace(&mut self.flights, Flights::new(self.alloc));
-        let mut busy = mem::replace(&mut self.busy, BusyPairs::new());
         let mut idle = mem::replace(&mut self.idle, IdlePairs::new());
         let waiting = mem::replace(&mut self.waiting, Waiting::new());
         flights.drain(now)?;
         let done = leave(
             self.alloc,
             &mut flights,
-            &mut busy,
             &mut idle,
             &self.peers,
             &self.pairs,
@@ -53,7 +50,6 @@ impl<P: Peer> Ledger<P> {
         flights.renew_units();
         self.finish = flights.rate(&self.peers, &self.pairs, &done, stay_rated)?;
         self.flights = flights;
-        self.busy = busy;
         self.idle = idle;
         self.waiting = waiting;
         self.stale = false;

@@ -8,6 +8,7 @@ pub mod Copies
 pub mod Done
 pub mod Ends
 pub mod FairMessages
+pub mod Far
 pub mod Flight
 pub mod Grouped
 pub mod InFlight

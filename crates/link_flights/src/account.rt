@@ -45,8 +45,8 @@ impl<P: Peer> Flights<P> {
         }
     }
 
-    /// All drain to that moment. Those that have a rate are only counted from then on, unless the
-    /// moment goes back.
+    /// All drain to that moment. Those that have a rate, or have started at it, are only counted from
+    /// then on, unless the moment goes back.
     pub fn drain(&mut self, now: u64) -> Result<(), Error>
         ensures drained { OnOk result (AllZip (DrainsTo now) (in_units self.old) (in_units self.new)) }
         ensures scale { self.new.scale ≡ self.old.scale }
@@ -57,7 +57,7 @@ impl<P: Peer> Flights<P> {
         let goes_back = now < self.at;
         let from = if goes_back { 0 } else { self.settled };
         for at in from..self.list.len() {
-            if goes_back || !self.list[at].rated {
+            if goes_back || !self.list[at].stands_at(now) {
                 let one = self.list[at].brought_to(self.at, now)?;
                 self.put(at, one)?;
             }

@@ -3,12 +3,15 @@
 //! Messages that share a sender or a receiver are of one group. So where some are done or new, only
 //! those of the groups that they touch are looked at; and of these, those that the senders and
 //! receivers join.
-ghost use Rattle.std.specs.Prelude.{◌≡◌, ◌&&◌, ◌||◌, ◌==◌, ℕ, not, true, false, [], IfOk, IfErr, IfSome, OnOk};
+ghost use Rattle.std.specs.Prelude.{◌≡◌, ◌&&◌, ◌||◌, ◌==◌, ℕ, List, not, true, false, [], IfOk, IfErr, IfSome, OnOk};
 ghost use Rattle.std.specs.List.{list_all, list_any};
 ghost use Rattle.fair_rates.specs.Sides.Subjects.{same_peer};
 ghost use Rattle.link_flights.specs.Flights.Components.{is_sender, is_receiver, suits, is_closed, is_near};
 ghost use Rattle.link_flights.specs.Flights.Components.{is_found, AreGrouped, AreFarApart, AreFound, AreNear};
-ghost use Rattle.link_flights.specs.Flights.Components.{shares_any, HasEndsOf};
+ghost use Rattle.link_flights.specs.Flights.Components.{shares_any, HasEndsOf, NoneIsNear, NoneIsFound};
+ghost use Rattle.std.specs.declared.rc.Rc.{Rc as AnyRc};
+ghost use Rattle.std.specs.declared.alloc.Global.{Global as Allocator};
+ghost use Rattle.link_flights.specs.declared.flight.Flight.{Flight as AnyFlight};
 ghost use Rattle.link_flights.specs.Flights.Flight.{flight_at};
 ghost use Rattle.link_flights.specs.Flights.InFlight.{in_units};
 ghost use Rattle.link_flights.specs.Flights.Rated.{rated_ones};
@@ -33,6 +36,8 @@ const MOST_ENDS: usize = 14;
 pub(crate) struct Component<P> {
     pub(crate) whole: bool,
     pub(crate) groups: Vec<u64>,
+    /// So many at the beginning of the list of what is in flight are not near.
+    pub(crate) far: usize,
     pub(crate) near: Vec<Rc<Flight<P>>>,
     pub(crate) senders: Vec<Rc<Message<P>>>,
     pub(crate) receivers: Vec<Rc<Message<P>>>,
@@ -47,6 +52,7 @@ impl<P: Peer> Component<P> {
         Component {
             whole: false,
             groups: Vec::new(alloc),
+            far: 0,
             near: Vec::new(alloc),
             senders: Vec::new(alloc),
             receivers: Vec::new(alloc),
@@ -55,11 +61,13 @@ impl<P: Peer> Component<P> {
 
     /// All senders and all receivers.
     pub(crate) fn whole(alloc: Global) -> Component<P>
-        ensures { result.whole ≡ true }
+        ensures whole { result.whole ≡ true }
+        ensures far { result.far ≡ 0 }
     {
         Component {
             whole: true,
             groups: Vec::new(alloc),
+            far: 0,
             near: Vec::new(alloc),
             senders: Vec::new(alloc),
             receivers: Vec::new(alloc),
@@ -99,6 +107,14 @@ impl<P: Peer> Component<P> {
         ensures { result ≡ is_found P.cmp self.now (flight_at 0 one.now) }
     {
         self.whole || self.is_near(one) && self.has_sender(&one.message.origin)
+    }
+
+    /// Where the first that is of it may stand in the list of what is in flight.
+    pub(crate) fn first(&self) -> usize
+        ensures { (list : List (AnyRc (AnyFlight P) Allocator)) → NoneIsNear self.now self.now.far list
+            → NoneIsFound P.cmp self.now result list }
+    {
+        if self.whole { 0 } else { self.far }
     }
 
     /// Takes in the ends of the message.
@@ -238,6 +254,8 @@ impl<P: Peer> Flights<P> {
             AreFound P.cmp component (in_units self.now))) }
         ensures near { IfOk result (λ found. IfSome found (λ component.
             AreNear component component.near.items self.now.list.items)) }
+        ensures far { IfOk result (λ found. IfSome found (λ component.
+            NoneIsNear component component.far self.now.list.items)) }
         ensures refused { IfErr result (λ e. e ≡ Error.OutOfMemory) }
     {
         let touched = self.touched(done)?;
@@ -246,12 +264,14 @@ impl<P: Peer> Flights<P> {
             return Ok(None);
         }
         self.find_groups(&touched, &mut component)?;
-        let near = self.near(&component)?;
+        let far = self.far(&component);
+        let near = self.near(&component, far)?;
         self.grow(&near, &mut component)?;
         if component.is_large() {
             return Ok(None);
         }
         if component.has_all(done) && component.suits_all(&near) {
+            component.far = far;
             component.near = near;
             return Ok(Some(component));
         }
@@ -291,13 +311,35 @@ impl<P: Peer> Flights<P> {
         Ok(())
     }
 
-    /// Those in flight that are near the component, in order of start.
-    fn near(&self, component: &Component<P>) -> Result<Vec<Rc<Flight<P>>>, Error>
+    /// How many at the beginning are not near the component.
+    fn far(&self, component: &Component<P>) -> usize
+        ensures { NoneIsNear component.now result self.now.list.items }
+    {
+        let mut at = if component.groups.is_empty() {
+            self.settled
+        } else {
+            0
+        };
+        while at < self.list.len() {
+            if component.is_near(&self.list[at]) {
+                return at;
+            }
+            at += 1;
+        }
+        at
+    }
+
+    /// Those in flight that are near the component, in order of start. So many at the beginning are
+    /// not.
+    fn near(&self, component: &Component<P>, far: usize) -> Result<Vec<Rc<Flight<P>>>, Error>
+        requires { NoneIsNear component.now far self.now.list.items }
         ensures near { IfOk result (λ near. AreNear component.now near.items self.now.list.items) }
         ensures refused { IfErr result (λ e. e ≡ Error.OutOfMemory) }
     {
-        let mut near = Vec::new(self.alloc);
-        for one in &self.list {
+        let rest = self.list.len().saturating_sub(far);
+        let mut near = Vec::with_capacity(self.alloc, rest)?;
+        for at in far..self.list.len() {
+            let one = &self.list[at];
             if component.is_near(one) {
                 let copy = one.clone()?;
                 near.push(copy)?;

@@ -1,5 +1,5 @@
 //! A message in flight.
-ghost use Rattle.std.specs.Prelude.{◌≡◌, ◌≢◌, ◌*◌, ◌==◌, IfOk, IfErr, OnOk, true};
+ghost use Rattle.std.specs.Prelude.{◌≡◌, ◌≢◌, ◌*◌, ◌==◌, IfOk, IfErr, OnOk, true, false};
 ghost use Rattle.fair_rates.specs.Fairness.Exists.{product};
 ghost use Rattle.link_flights.specs.Flights.Flight.{rate_of, left_by, flight_at, has_come, IsTimed, IsFinishOf};
 
@@ -40,6 +40,15 @@ impl<P: Peer> Flight<P> {
                 self.left.compare_times(1, rate, elapsed).is_le()
             }
         }
+    }
+
+    /// Whether it is kept as it stands at an account at `now`, where time does not go back: it has a
+    /// rate, or has started at that very moment.
+    pub(crate) fn stands_at(&self, now: u64) -> bool
+        ensures unrated { result ≡ false → self.now.rated ≡ false }
+        ensures started { result ≡ true → self.now.rated ≡ false → self.now.since ≡ now }
+    {
+        self.rated || self.since == now
     }
 
     /// Whether its finish has come at that moment.

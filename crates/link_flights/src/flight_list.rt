@@ -1,12 +1,13 @@
 //! The messages in flight.
-ghost use Rattle.std.specs.Prelude.{◌≡◌, ℕ, ◌<◌, ◌≤◌, [], ◌∷◌, ◌++◌, ◌||◌, ◌==◌, true, not};
+ghost use Rattle.std.specs.Prelude.{◌≡◌, ℕ, ◌<◌, ◌≤◌, [], ◌∷◌, ◌++◌, ◌||◌, ◌&&◌, ◌==◌, true, not};
 ghost use Rattle.std.specs.Prelude.{length, nat_le, slice_index_or, Some, IfOk, IfErr, OnOk, OnErr};
-ghost use Rattle.std.specs.List.{list_all, list_any};
+ghost use Rattle.std.specs.List.{list_all, list_any, AllZip};
 ghost use Rattle.std.specs.declared.rc.Rc.{Rc as AnyRc};
 ghost use Rattle.std.specs.declared.alloc.Global.{Global as Allocator};
 ghost use Rattle.link_flights.specs.declared.flight.Flight.{Flight as AnyFlight};
 ghost use Rattle.link_flights.specs.Flights.Flight.{HaveRates, FinishFrom};
 ghost use Rattle.link_simulation.specs.Rule.Planned.{earlier as earliest};
+ghost use Rattle.fair_rates.specs.Sides.Subjects.{same_peer};
 
 use crate::flight::Flight;
 use fair_rates::error::Error;
@@ -63,9 +64,31 @@ fn earlier(first: Option<u64>, second: Option<u64>) -> Option<u64>
     }
 }
 
+/// The same messages in flight, which are shared, with room for one more.
+fn share_all<P: Peer>(
+    alloc: Global,
+    list: &[Rc<Flight<P>>],
+) -> Result<Vec<Rc<Flight<P>>>, AllocError>
+    ensures same { IfOk result (λ copy. AllZip (λ one other. other.value ≡ one.value) list.now copy.items) }
+{
+    let mut copy = Vec::with_capacity(alloc, list.len().saturating_add(1))?;
+    copy.extend_with_clones(list)?;
+    Ok(copy)
+}
+
+/// Whether one of these goes from the origin to the recipient.
+fn is_sent_by_any<P: Peer>(origin: &P, recipient: &P, list: &[Rc<Flight<P>>]) -> bool
+    ensures { result ≡ list_any (λ one. same_peer P.cmp origin.now one.value.message.value.origin
+        && same_peer P.cmp recipient.now one.value.message.value.recipient) list.now }
+{
+    list.iter().any(|one| {
+        origin.cmp(&one.message.origin).is_eq() && recipient.cmp(&one.message.recipient).is_eq()
+    })
+}
+
 impl<P: Peer> Flights<P> {
     ghost use Rattle.fair_rates.specs.Numbers.Amount.{whole};
-    ghost use Rattle.link_simulation.specs.Rule.Planned.{RatedFlight};
+    ghost use Rattle.link_simulation.specs.Rule.Planned.{RatedFlight, rated_messages};
     ghost use Rattle.link_pairs.specs.Pairs.Messages.{message_of};
     ghost use Rattle.link_flights.specs.Flights.Flight.{AreTimed, has_come, IsPutAt};
     ghost use Rattle.link_flights.specs.Flights.InFlight.{in_flight, in_units};
@@ -92,6 +115,14 @@ impl<P: Peer> Flights<P> {
         ensures { result ≡ (length self.now.list.items == 0) }
     {
         self.list.is_empty()
+    }
+
+    /// Whether a message of the pair is in flight.
+    pub fn has(&self, origin: &P, recipient: &P) -> bool
+        ensures { result ≡ list_any (λ m. same_peer P.cmp origin.now m.origin
+            && same_peer P.cmp recipient.now m.recipient) (rated_messages (in_flight self.now)) }
+    {
+        is_sent_by_any(origin, recipient, &self.list)
     }
 
     /// The message is in flight from now on. It gets its rate at the account that follows.
@@ -161,9 +192,10 @@ impl<P: Peer> Clone for Flights<P> {
 
     /// The same messages in flight. What is known of each is shared.
     fn clone(&self) -> Result<Flights<P>, AllocError> {
+        let list = share_all(self.alloc, &self.list)?;
         Ok(Flights {
             alloc: self.alloc,
-            list: self.list.clone()?,
+            list,
             scale: self.scale.clone()?,
             at: self.at,
             last_group: self.last_group,

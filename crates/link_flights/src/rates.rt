@@ -8,7 +8,7 @@ ghost use Rattle.link_pairs.specs.Pairs.Messages.{messages};
 ghost use Rattle.link_flights.specs.Flights.CappedFlows.{AreFairPartsUnder, HasItsCaps};
 ghost use Rattle.link_pairs.specs.Pairs.CapsOf.{caps_of};
 ghost use Rattle.link_pairs.specs.Pairs.PeerCaps.{ingress_of};
-ghost use Rattle.link_flights.specs.Flights.Components.{those_of, AreFound, AreNear};
+ghost use Rattle.link_flights.specs.Flights.Components.{those_of, AreFound, AreNear, NoneIsNear};
 ghost use Rattle.link_flights.specs.Flights.Flight.{AreTimed, rate_of, flight_at, flights_at};
 ghost use Rattle.link_flights.specs.Flights.RatedFlights.{are_standing};
 ghost use Rattle.fair_rates.specs.Filling.FairParts.{parts_of_level};
@@ -262,6 +262,7 @@ impl<P: Peer> Flights<P> {
         requires scaled { 0 < rates.scale }
         requires others { AreOthersTimed P.cmp component.now self.old.list.items }
         requires found { AreFound P.cmp component.now (in_units self.old) }
+        requires far { NoneIsNear component.now component.now.far self.old.list.items }
         ensures rerated { OnOk result ((group : ℕ) × (in_units self.new ≡ rerated P.cmp component.now self.old.at
             (product rates.growth.items) group (rates_found rates) (in_units self.old))) }
         ensures timed { OnOk result (AreTimed self.new.list.items) }
@@ -275,13 +276,15 @@ impl<P: Peer> Flights<P> {
         let levels = shared_levels(self.alloc, rates.levels)?;
         self.rated_anew = 0;
         let group = self.number_for(component, rates.level_of.len());
+        let mut at = component.first();
         let mut next = 0;
-        for at in 0..self.list.len() {
+        while next < rates.level_of.len() {
             if component.has(&self.list[at]) {
                 let rate = level_at(&levels, rates.level_of[next])?;
                 self.rerate(at, rate, &rates.growth, group, were_timed)?;
                 next += 1;
             }
+            at += 1;
         }
         self.scale = rates.scale;
         self.last_group = self.last_group.max(group);

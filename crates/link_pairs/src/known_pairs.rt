@@ -176,14 +176,17 @@ impl<P: Peer> Pairs<P> {
         self.set(alloc, origin, recipient, cap, last)
     }
 
-    /// From now on no message of the pair arrives before that moment.
+    /// From now on no message of the pair arrives before that moment. The last arrival up to now is
+    /// answered.
     pub fn raise(
         &mut self,
         alloc: Global,
         origin: &P,
         recipient: &P,
         moment: u64,
-    ) -> Result<(), Error>
+    ) -> Result<Option<u64>, Error>
+        ensures last { IfOk result (λ last. last
+            ≡ arrival_of P.cmp self.old.entries origin.now recipient.now) }
         ensures arrival { OnOk result (arrival_of P.cmp self.new.entries
             ≡ raised_at P.cmp (arrival_of P.cmp self.old.entries) origin.now recipient.now moment) }
         ensures link { OnOk result (link_of P.cmp self.new.entries ≡ link_of P.cmp self.old.entries) }
@@ -191,16 +194,18 @@ impl<P: Peer> Pairs<P> {
         ensures refused { IfErr result (λ e. e ≡ Error.OutOfMemory) }
     {
         let Ok((at, pair)) = self.search(origin, recipient) else {
-            return self.set(alloc, origin, recipient, None, Some(moment));
+            self.set(alloc, origin, recipient, None, Some(moment))?;
+            return Ok(None);
         };
-        let arrival = later_of(pair.last_arrival, moment);
+        let last = pair.last_arrival;
+        let arrival = later_of(last, moment);
         let raised = Pair {
             key: pair.key.clone()?,
             cap: pair.cap,
             last_arrival: Some(arrival),
         };
         self.entries.replace(alloc, at, raised)?;
-        Ok(())
+        Ok(last)
     }
 
     /// All is put in its place, where memory allows. To be called once no other list shares these pairs:

@@ -1,11 +1,11 @@
 -- The messages that wait, the idle pairs in the order of moments, and which of them are ready.
-pub mod Busy
 pub mod Due
 pub mod DueCounts
 pub mod DueMessages
 pub mod FirstStart
 pub mod Index
 pub mod IndexChanges
+pub mod Moved
 pub mod Places
 pub mod Starting
 pub mod Waiting

@@ -1,6 +1,5 @@
--- The messages that wait; the idle pairs, and when each may start; and the busy ones.
+-- The messages that wait; and the idle pairs, and when each may start.
 pub mod AtRest
-pub mod Busy
 pub mod Departed
 pub mod Due
 pub mod FirstMoment

@@ -179,7 +179,7 @@ impl<P: Peer> IdlePairs<P> {
     }
 
     /// The pair is listed under that moment from now on, if it was not before.
-    pub(crate) fn add(
+    pub fn add(
         &mut self,
         alloc: Global,
         origin: &P,

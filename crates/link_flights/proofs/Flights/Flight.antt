@@ -246,6 +246,14 @@ module _ {P : Type 0} where
         one_same (IsBrought at now) old so_far i x h lt is
         (is_counted_on at now x rated (all_there (is_past at) so_far i x past lt is) later)
 
+    pub next_stands : (b : Bool) → x.value.rated ≡ b → (x.value.rated ≡ false → x.value.since ≡ now)
+        → list_all (is_past at) so_far ≡ true → at ≤ now → IsChangedUpTo (IsBrought at now) old so_far (i + 1)
+    next_stands true rated since past later = next_counted_on rated past later
+    next_stands false none since past later =
+        one_same (IsBrought at now) old so_far i x h lt is
+        (is_brought at now x x (inr none) refl
+        (sym (ap (λ b. if b then left_by at x.value else x.value.left) none)) refl (since none) refl refl)
+
   -- ---- all of them
 
   pub all_drained : (at now : ℕ) (fs gs : List (Rc (Flight P) Global)) → AllZip (IsBrought at now) fs gs

@@ -24,7 +24,7 @@ use Rattle.link_flights.specs.declared.component.Component.{Component}
 use Rattle.link_flights.specs.declared.flight.Flight.{Flight}
 use Rattle.link_flights.specs.declared.flight_list.Flights.{Flights}
 use Rattle.link_pairs.specs.declared.message.Message.{Message}
-use Rattle.link_flights.specs.Flights.Components.{is_of, those_of, is_found, AreFound}
+use Rattle.link_flights.specs.Flights.Components.{is_of, those_of, is_found, AreFound, NoneIsFound}
 use Rattle.link_flights.specs.Flights.Flight.{UnitFlight, rate_of, left_by, flight_at, flights_at, has_come, IsTimed}
 use Rattle.link_flights.specs.Flights.Flight.{AreTimed, IsPutAt}
 use Rattle.link_flights.specs.Flights.InFlight.{in_units, in_flight}
@@ -356,6 +356,27 @@ module _ {P : Type 0} {cmp : P → P → Ordering} {component : Component P} {no
           found = λ v among. found_all v (inr among);
         }
 
+  -- where a rate is left to be given, one of them still stands
+  pub more_stand : next < length rates → at < length so_far
+  more_stand some = by_rest h.rest refl
+    where
+      by_rest : (rest : List (Rc (Flight P) Global)) → h.rest ≡ rest → at < length so_far
+      by_rest [] e =
+          let none : length rates ≡ next + 0 =
+          h.one_each ∙ ap (λ l. next + length (those_of cmp component (flights_at now l))) e in
+          absurd (omega (arith, some, none))
+      by_rest (z ∷ rest) e =
+          let whole = ap length (h.is ∙ ap (λ l. h.to ++ l) e) in
+          omega (arith, h.at_is, whole, length-append h.to (z ∷ rest))
+
+  -- what stands at the place is what is left to be looked at
+  there_next : (z : Rc (Flight P) Global) (s : StandsNext z) → slice_get so_far at ≡ Some z
+  there_next z s =
+      let all : so_far ≡ h.to ++ z ∷ s.rest = h.is ∙ ap (λ l. h.to ++ l) s.was in
+      let inside : length h.to < length (h.to ++ z ∷ s.rest) = omega (arith, length-append h.to (z ∷ s.rest)) in
+      ap (λ l. slice_get l at) all ∙ ap (slice_get (h.to ++ z ∷ s.rest)) h.at_is
+      ∙ slice_get-get_or (h.to ++ z ∷ s.rest) (length h.to) z inside ∙ ap Some (get_or-seam h.to s.rest z z)
+
   -- all of them
   pub record AreAllRerated : Type 0 where
     pub units : flights_at now so_far ≡ rerated cmp component now times group rates (flights_at now old)
@@ -376,6 +397,61 @@ module _ {P : Type 0} {cmp : P → P → Ordering} {component : Component P} {no
       by_rest (z ∷ rest) e =
           let whole = ap length (h.is ∙ ap (λ l. h.to ++ l) e) in
           absurd (omega (arith, end, h.at_is, whole, length-append h.to (z ∷ rest)))
+
+module _ {P : Type 0} {cmp : P → P → Ordering} {component : Component P} {now times group : ℕ} {rates : List ℕ}
+    {old so_far : List (Rc (Flight P) Global)} where
+  -- where no rate is left, none of the others is of the component
+  pub to_end : (n at next : ℕ) (h : AreReratedUpTo cmp component now times group rates old so_far at next)
+      → length h.rest ≡ n → length rates ≤ next
+      → AreReratedUpTo cmp component now times group rates old so_far (length so_far) next
+  to_end zero at next h e end =
+      let all : length so_far ≡ at =
+      let whole = ap length h.is in omega (arith, e, whole, h.at_is, length-append h.to h.rest) in
+      subst (λ k. AreReratedUpTo cmp component now times group rates old so_far k next) (sym all) h
+  to_end (suc n) at next h e end = by_rest h.rest refl (λ g f. to_end n (at + 1) next g f end)
+    where
+      out : (z : Rc (Flight P) Global) (s : StandsNext h z) → (b : Bool)
+          → is_of cmp component (flight_at now z.value) ≡ b → is_of cmp component (flight_at now z.value) ≡ false
+      out z s true of = absurd (omega (arith, has_rate h z s of, end))
+      out z s false of = of
+
+      by_rest : (rest : List (Rc (Flight P) Global)) → h.rest ≡ rest
+          → ((g : AreReratedUpTo cmp component now times group rates old so_far (at + 1) next) → length g.rest ≡ n
+          → AreReratedUpTo cmp component now times group rates old so_far (length so_far) next)
+          → AreReratedUpTo cmp component now times group rates old so_far (length so_far) next
+      by_rest [] r later = absurd (omega (arith, e, ap length r))
+      by_rest (z ∷ rest) r later =
+          let s : StandsNext h z = record { rest = rest; was = r } in
+          let g : AreReratedUpTo cmp component now times group rates old so_far (at + 1) next =
+          passed h z s (out z s (is_of cmp component (flight_at now z.value)) refl) in
+          let before = ap length h.is in
+          let after = ap length g.is in
+          let fewer : length g.rest ≡ n =
+          omega (arith, e, before, h.at_is, length-append h.to h.rest, after, g.at_is, length-append g.to g.rest) in
+          later g fewer
+
+  -- one more at the beginning that is not of the component is passed over
+  one_passed : (n : ℕ) → NoneIsFound cmp component (suc n) so_far
+      → (h : AreReratedUpTo cmp component now times group rates old so_far n 0) (rest : List (Rc (Flight P) Global))
+      → h.rest ≡ rest → AreReratedUpTo cmp component now times group rates old so_far (suc n) 0
+  one_passed n far h [] r =
+      let whole = ap length (h.is ∙ ap (λ l. h.to ++ l) r) in
+      absurd (omega (arith, far.0, h.at_is, whole, length-append h.to []))
+  one_passed n far h (z ∷ rest) r =
+      let s : StandsNext h z = record { rest = rest; was = r } in
+      let more : AreReratedUpTo cmp component now times group rates old so_far (n + 1) 0 =
+      passed h z s (sym (found_here h z s) ∙ far.1 n z (omega arith) (there_next h z s)) in
+      subst (λ k. AreReratedUpTo cmp component now times group rates old so_far k 0)
+      (let it : n + 1 ≡ suc n = omega arith in it) more
+
+  -- those at the beginning that are not of the component are passed over
+  pub first_passed : (n : ℕ) → NoneIsFound cmp component n so_far
+      → AreReratedUpTo cmp component now times group rates old so_far 0 0
+      → AreReratedUpTo cmp component now times group rates old so_far n 0
+  first_passed zero far h = h
+  first_passed (suc n) far h =
+      let before = first_passed n (omega (arith, far.0), λ at one lt there. far.1 at one (omega (arith, lt)) there) h in
+      one_passed n far before before.rest refl
 
 -- ---- what is spent at a moment
 

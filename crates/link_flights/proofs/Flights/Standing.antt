@@ -1,12 +1,13 @@
 -- Messages in flight as they stand at an account, in units.
-use Rattle.std.proofs.Common.{◌≡◌, ℕ, zero, suc, false, List, [], ◌∷◌, ◌++◌, length, get_or, ◌<◌, refl, sym, ap, ◌∙◌}
+use Rattle.std.proofs.Common.{◌≡◌, ℕ, zero, suc, Bool, false, ◌||◌, List, [], ◌∷◌, ◌++◌, length, get_or, ◌<◌, refl}
+use Rattle.std.proofs.Common.{sym, ap, ◌∙◌}
 use Rattle.std.proofs.Common.{subst}
 use Rattle.link_flights.specs.Flights.Components.{AreGrouped}
 use Rattle.std.proofs.Common.{arith}
 use Rattle.std.proofs.lemmas.Option.{none-some, same_Some}
 use Rattle.std.proofs.lemmas.Bool.{false≢true}
 use Rattle.std.proofs.lemmas.List.{length-map}
-use Rattle.std.specs.List.{AllZip}
+use Rattle.std.specs.List.{AllZip, list_any}
 use Rattle.std.specs.declared.rc.Rc.{Rc}
 use Rattle.std.specs.declared.alloc.Global.{Global}
 use Rattle.std.specs.declared.cmp.Ordering.{Ordering}
@@ -33,6 +34,14 @@ module _ {P : Type 0} where
   pub messages_read : (scale : ℕ) (us : List (UnitFlight P)) → rated_messages (sending_of scale us) ≡ sent_messages us
   messages_read scale [] = refl
   messages_read scale (u ∷ us) = ap (λ (ms : List (Message P)). message_of u.message ∷ ms) (messages_read scale us)
+
+  -- whether one of the messages passes a test
+  pub any_sent : (scale at : ℕ) (fs : List (Rc (Flight P) Global)) (test : Message P → Bool)
+      → list_any test (rated_messages (sending_of scale (flights_at at fs)))
+      ≡ list_any (λ f. test (message_of f.value.message.value)) fs
+  any_sent scale at [] test = refl
+  any_sent scale at (f ∷ fs) test =
+      ap (λ b. test (message_of f.value.message.value) || b) (any_sent scale at fs test)
 
   -- and stay the same as they get their rates
   pub messages_kept : (now times : ℕ) (us vs : List (UnitFlight P)) → AllZip (IsRatedFrom now times) us vs

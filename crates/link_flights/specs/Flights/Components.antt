@@ -1,12 +1,13 @@
 -- Groups of messages in flight, and the senders and receivers that they join.
-use Rattle.std.specs.Prelude.{◌≡◌, ℕ, ◌==◌, Bool, true, false, not, ◌&&◌, ◌||◌, if◌then◌else◌, List, Contains}
+use Rattle.std.specs.Prelude.{◌≡◌, ℕ, ◌==◌, ◌<◌, ◌≤◌, Bool, true, false, not, ◌&&◌, ◌||◌, if◌then◌else◌, List, Contains}
+use Rattle.std.specs.Prelude.{length, slice_get, Some}
 use Rattle.std.specs.List.{filter, list_all, list_any}
 use Rattle.std.specs.declared.cmp.Ordering.{Ordering}
 use Rattle.std.specs.declared.rc.Rc.{Rc}
 use Rattle.std.specs.declared.alloc.Global.{Global}
 use Rattle.fair_rates.specs.Sides.Subjects.{same_peer}
 use Rattle.link_pairs.specs.declared.message.Message.{Message}
-use Rattle.link_flights.specs.Flights.Flight.{UnitFlight, flights_at}
+use Rattle.link_flights.specs.Flights.Flight.{UnitFlight, flight_at, flights_at}
 use Rattle.link_flights.specs.declared.flight.Flight.{Flight}
 use Rattle.link_flights.specs.declared.component.Component.{Component}
 
@@ -17,6 +18,11 @@ is_near component u = not u.rated || list_any (λ group. group == u.group) compo
 -- these are the ones of a list that are near, in their order
 abbrev pub AreNear : {P : Type 0} → Component P → List (Rc (Flight P) Global) → List (Rc (Flight P) Global) → Type 0
 AreNear component near list = (now : ℕ) → flights_at now near ≡ filter (is_near component) (flights_at now list)
+
+-- none of so many at the beginning of a list is near
+abbrev pub NoneIsNear : {P : Type 0} → Component P → ℕ → List (Rc (Flight P) Global) → Type 0
+NoneIsNear {P} component n list = (n ≤ length list) × ((at : ℕ) (one : Rc (Flight P) Global) → at < n
+    → slice_get list at ≡ Some one → is_near component (flight_at 0 one.value) ≡ false)
 
 module _ {P : Type 0} (cmp : P → P → Ordering) where
   -- whether two messages in flight go from one sender or to one receiver
@@ -54,6 +60,11 @@ module _ {P : Type 0} (cmp : P → P → Ordering) where
   -- whether it is of the component, as its group and its sender tell
   abbrev pub is_found : Component P → UnitFlight P → Bool
   is_found component u = component.whole || is_near component u && is_of component u
+
+  -- none of so many at the beginning of a list is of the component
+  abbrev pub NoneIsFound : Component P → ℕ → List (Rc (Flight P) Global) → Type 0
+  NoneIsFound component n list = (n ≤ length list) × ((at : ℕ) (one : Rc (Flight P) Global) → at < n
+      → slice_get list at ≡ Some one → is_found component (flight_at 0 one.value) ≡ false)
 
   -- a message in flight that is not near has no end in the component
   abbrev pub AreFarApart : Component P → List (UnitFlight P) → Type 0

@@ -6,7 +6,6 @@ use Rattle.link_pairs.specs.Pairs.Messages.{messages}
 use Rattle.link_pairs.specs.Pairs.CapsOf.{caps_of}
 use Rattle.link_pairs.proofs.Pairs.LookedUp.{arrivals_looked_up}
 use Rattle.link_flights.proofs.Flights.Rated.{out_as_read, stay_as_read}
-use Rattle.link_waiting.proofs.Idle.Busy.{counted_left}
 use Rattle.link_waiting.proofs.Idle.IndexChanges.{left_unlisted, left_index}
 use Rattle.link_events.proofs.leave.leave.Goals as goal
 
@@ -37,19 +36,6 @@ returns-clause-rest g c =
     ∙ ap (sending_of old.scale) c.in_ok-done.ensures.parted.stay
     ∙ sym (stay_as_read g.P.Ord.cmp caps old.scale (in_units old))
 
-pub returns-clause-counted : goal.returns-clause-counted
-returns-clause-counted g c =
-    let cmp = g.P.Ord.cmp in
-    let caps = caps_of cmp c.args.peers.now.entries c.args.pairs.now.entries in
-    let old = c.args.flights.now in
-    let parted = c.in_ok-done.ensures.parted in
-    let rest = ap (λ n. sending_of n (in_units c.take_done.new.self)) c.take_done.ensures.scale
-    ∙ ap (sending_of old.scale) parted.stay ∙ sym (stay_as_read cmp caps old.scale (in_units old)) in
-    counted_left cmp c.args.busy.now.entries c.remove_all.new.self.entries (is_spent cmp caps) (in_flight old)
-    (in_flight c.take_done.new.self) (messages c.in_ok-done.done.items)
-    (parted.left ∙ sym (out_as_read cmp caps old.scale (in_units old))) rest c.requires.counted
-    c.in_ok-remove_all.ensures.counted
-
 pub returns-clause-indexed : goal.returns-clause-indexed
 returns-clause-indexed g c =
     let cmp = g.P.Ord.cmp in
@@ -63,8 +49,4 @@ returns-clause-indexed g c =
     (in_flight c.take_done.new.self) (messages c.in_ok-done.done.items) c.args.idle.now.entries
     (parted.left ∙ sym (out_as_read cmp caps old.scale (in_units old))) c.requires.indexed c.rest_all.new.idle.entries
     (arrivals_looked_up cmp g.met.P.Ord.total c.args.pairs.now.entries) rest
-    (c.in_ok-rest_all.ensures.listed (in_flight c.take_done.new.self)
-    (counted_left cmp c.args.busy.now.entries c.remove_all.new.self.entries (is_spent cmp caps) (in_flight old)
-    (in_flight c.take_done.new.self) (messages c.in_ok-done.done.items)
-    (parted.left ∙ sym (out_as_read cmp caps old.scale (in_units old))) rest c.requires.counted
-    c.in_ok-remove_all.ensures.counted))
+    c.in_ok-rest_all.ensures.listed

@@ -12,7 +12,6 @@ use Rattle.link_flights.specs.Flights.Rated.{AreRated, IsAsRated, IsRatedFrom, i
 use Rattle.link_flights.specs.Flights.RatedFlights.{sending_of}
 use Rattle.link_pairs.specs.Pairs.CapsOf.{caps_of}
 use Rattle.link_waiting.specs.Idle.AtRest.{of_pairs}
-use Rattle.link_waiting.specs.Idle.Busy.{AreCounted}
 use Rattle.link_waiting.specs.Idle.Index.{IsIndexOf}
 use Rattle.link_flights.proofs.Flights.Accounted.{stays_updated, all_have_rates, stays_limited, rated_limited}
 use Rattle.link_flights.proofs.Flights.Accounts.{accounts_so, some_units_left}
@@ -41,21 +40,6 @@ leave-requires-clause-indexed g c =
     (λ fl. IsIndexOf g.P.Ord.cmp (of_pairs g.P.Ord.cmp old.pairs.entries old.waiting.messages (in_flight fl))
     old.idle.entries)
     (sym taken) old.indexed))
-
-pub leave-requires-clause-counted : goal.leave-requires-clause-counted
-leave-requires-clause-counted g c =
-    let old = c.args.self.now in
-    let before = c.replace-flights.result in
-    let taken = c.replace-flights.ensures.value in
-    let drained = ap (λ n. sending_of n (in_units c.drain.new.self)) c.drain.ensures.scale
-    ∙ drained_sending before.scale c.args.now (in_units before) (in_units c.drain.new.self) before.scaled
-    c.in_ok-drain.ensures.drained in
-    rw c.replace-busy.ensures.value
-    (subst (AreCounted g.P.Ord.cmp old.busy.entries)
-    (sym
-    (ap rated_messages drained ∙ flows_drained c.args.now (in_flight before)
-    ∙ ap (λ fl. rated_messages (in_flight fl)) taken))
-    old.counted)
 
 pub leave-requires-clause-limited : goal.leave-requires-clause-limited
 leave-requires-clause-limited g c e =
@@ -206,7 +190,6 @@ invariant_of-self-2 g c =
     ∙ messages_kept flying.at h.times (in_units flying) (in_units new) h.each
     ∙ sym (messages_read flying.scale (in_units flying)) ∙ ap rated_messages c.renew_units.ensures.sending in
     record {
-      counted = subst (AreCounted cmp c.leave.new.busy.entries) (sym messages_same) c.in_ok-done.ensures.counted;
       indexed =
           same_flights_index cmp g.met.P.Ord.total old.pairs.entries c.replace-waiting.result.messages
           (in_flight c.leave.new.flights)

@@ -27,7 +27,7 @@ returns-in_err-more-clause-refused g c =
     let m = message_of c.as_ref-sent.result.now in
     let mid_is =
     landed_so g.P.Ord.cmp c.args.now here (planned g.P.Ord.cmp c.raise.new.self) m c.in_ok-arrival.arrival
-    c.in_ok-arrival.ensures.moment c.in_ok-raise.ensures.raised in
+    c.in_ok-arrival.ensures.moment c.in_ok-since.ensures.raised in
     rw (p.1, p.2)
     (λ ms. subst
     (λ x. IsRefusedFor (λ fault. Finishes g.P.Ord.cmp c.args.now (message_of x ∷ ms) here (meets fault))
@@ -63,11 +63,14 @@ returns-clause-launches g c =
     let m = message_of c.as_ref-sent.result.now in
     let mid_is =
     landed_so g.P.Ord.cmp c.args.now here (planned g.P.Ord.cmp c.raise.new.self) m c.in_ok-arrival.arrival
-    c.in_ok-arrival.ensures.moment c.in_ok-raise.ensures.raised in
+    c.in_ok-arrival.ensures.moment c.in_ok-since.ensures.raised in
     subst
     (λ x. Launches g.P.Ord.cmp c.args.now (landed g.P.Ord.cmp c.args.now here (message_of x))
     (next_of g.P.Ord.cmp here (message_of x))
-    (goes (messages c.in_ok-more.more.items) (planned g.P.Ord.cmp c.launch.new.self)))
+    (goes (messages c.in_ok-more.more.items) (planned g.P.Ord.cmp c.launch_from.new.self)))
     c.as_ref-sent.ensures
     (launches_landed g.P.Ord.cmp c.args.now m here (planned g.P.Ord.cmp c.raise.new.self) _ mid_is
     c.in_ok-more.ensures.launches)
+
+pub launch_from-requires : goal.launch_from-requires
+launch_from-requires g c = c.in_ok-since.ensures.idle

@@ -4,15 +4,13 @@ use Rattle.std.proofs.Math.Logic.{∥∥₁_map}
 use Rattle.fair_rates.specs.Numbers.Amount.{whole}
 use Rattle.fair_rates.specs.Sides.Subjects.{same_peer}
 use Rattle.link_simulation.specs.Simulation.Messages.{Message}
-use Rattle.link_simulation.specs.Rule.Planned.{RatedFlight, rated_messages}
+use Rattle.link_simulation.specs.Rule.Planned.{RatedFlight}
 use Rattle.link_simulation.proofs.Simulation.Queue.{find_passes}
 use Rattle.link_flights.specs.Flights.InFlight.{in_flight}
-use Rattle.link_waiting.specs.Idle.Busy.{AreCounted}
 use Rattle.link_pairs.specs.Pairs.Messages.{message_of}
 use Rattle.link_pairs.specs.Pairs.Entries.{first_of, arrival_of}
 use Rattle.link_pairs.specs.Pairs.CapsOf.{caps_of}
 use Rattle.link_pairs.proofs.Pairs.LookedUp.{arrivals_looked_up}
-use Rattle.link_waiting.proofs.Idle.Busy.{counted_sent}
 use Rattle.link_waiting.proofs.Idle.IndexChanges.{departed_index}
 use Rattle.link_flights.proofs.Flights.Standing.{still_rated}
 use Rattle.link_events.proofs.ledger.Ledger.depart.Goals as goal
@@ -43,18 +41,7 @@ invariant_of-self-2 g c =
           (arrivals_looked_up cmp g.met.P.Ord.total old.pairs.entries) taken c.in_default-push.ensures.sending own
           old.indexed
           c.in_default-changed.ensures.listed;
-      counted =
-          counted_sent cmp g.met.P.Ord.total old.busy.entries c.in_ok-busy.busy.entries c.add.new.self.entries
-          (in_flight old.flights) (in_flight c.push.new.self) o r f c.in_ok-busy.ensures.cases own
-          c.in_default-push.ensures.sending old.counted c.in_ok-add.ensures.counted;
     }
-
--- where the message cannot be in flight, its pair is not busy either
-pub invariant_of-self-in-Err-push-clause-counted : goal.invariant_of-self-in-Err-push-clause-counted
-invariant_of-self-in-Err-push-clause-counted g c =
-    let old = c.args.self.now in
-    subst (λ fs. AreCounted g.P.Ord.cmp old.busy.entries (rated_messages fs)) (sym c.in-Err-push.ensures.kept)
-    old.counted
 
 pub returns-clause-departed : goal.returns-clause-departed
 returns-clause-departed g c =

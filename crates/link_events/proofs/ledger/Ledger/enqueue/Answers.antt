@@ -70,6 +70,9 @@ returns-then-may_start-clause-enqueues g c =
 
 -- where it joins those that wait
 
+pub launch_from-requires : goal.launch_from-requires
+launch_from-requires g c = c.in_ok-since.ensures.idle
+
 pub returns-in_err-queue-2-clause-refused : goal.returns-in_err-queue-2-clause-refused
 returns-in_err-queue-2-clause-refused g c =
     let p = err_from_is_err_and c.from_residual-in_err-queue-2.result c.from_residual-in_err-queue-2.ensures.1 in
@@ -77,7 +80,7 @@ returns-in_err-queue-2-clause-refused g c =
     (enqueue_launch_refused g.P.Ord.cmp g.met.P.Ord.total c.args.now (message_of c.args.message)
     (planned g.P.Ord.cmp c.args.self.now) (planned g.P.Ord.cmp c.join.new.self) c.in_ok-pair.pair
     c.if-not-self.false
-    c.in_ok-join.ensures.queued
+    c.in_ok-since.ensures.queued
     (record { origin = c.in_ok-pair.ensures.origin; recipient = c.in_ok-pair.ensures.recipient }) _
     c.in_err-queue-2.ensures.refused)
 
@@ -86,9 +89,9 @@ returns-in_err-finish-2-clause-refused g c =
     let p = err_from_is_err_and c.from_residual-in_err-finish-2.result c.from_residual-in_err-finish-2.ensures.1 in
     rw (p.1, p.2)
     (enqueue_finish_refused g.P.Ord.cmp g.met.P.Ord.total c.args.now (message_of c.args.message)
-    (planned g.P.Ord.cmp c.args.self.now) _ (planned g.P.Ord.cmp c.launch.new.self) c.in_ok-pair.pair
+    (planned g.P.Ord.cmp c.args.self.now) _ (planned g.P.Ord.cmp c.launch_from.new.self) c.in_ok-pair.pair
     (messages c.in_ok-queue-2.queue.items) c.if-not-self.false
-    c.in_ok-join.ensures.queued
+    c.in_ok-since.ensures.queued
     (record { origin = c.in_ok-pair.ensures.origin; recipient = c.in_ok-pair.ensures.recipient })
     c.in_ok-queue-2.ensures.launches _ c.in_err-finish-2.ensures.refused)
 
@@ -96,10 +99,10 @@ pub returns-clause-enqueues : goal.returns-clause-enqueues
 returns-clause-enqueues g c =
     let h = c.in_ok-finish-2.ensures.finishes in
     enqueues_launched g.P.Ord.cmp g.met.P.Ord.total c.args.now (message_of c.args.message)
-    (planned g.P.Ord.cmp c.args.self.now) _ (planned g.P.Ord.cmp c.launch.new.self)
+    (planned g.P.Ord.cmp c.args.self.now) _ (planned g.P.Ord.cmp c.launch_from.new.self)
     (planned g.P.Ord.cmp c.finish-2.new.self) c.in_ok-pair.pair (messages c.in_ok-queue-2.queue.items) h.0 _
     c.if-not-self.false
-    c.in_ok-join.ensures.queued
+    c.in_ok-since.ensures.queued
     (record { origin = c.in_ok-pair.ensures.origin; recipient = c.in_ok-pair.ensures.recipient })
     c.in_ok-queue-2.ensures.launches h.2
     (h.1 ∙ ap (λ l. map ended_of l ++ h.0) c.new-ended.ensures.items)

@@ -1,13 +1,11 @@
 use Rattle.std.proofs.Common.{Bool, ◌&&◌, sym, ap, ◌∙◌}
-use Rattle.link_simulation.specs.Rule.Planned.{rated_messages}
-use Rattle.link_flights.specs.Flights.InFlight.{in_flight}
 use Rattle.link_events.specs.Steps.AsPlanned.{planned}
 use Rattle.link_waiting.specs.Idle.AtRest.{is_sending}
 use Rattle.link_events.proofs.ledger.Ledger.has_to_wait.Goals as goal
 
 pub returns-then-self : goal.returns-then-self
 returns-then-self g c =
-    c.has.ensures (rated_messages (in_flight c.args.self.now.flights)) c.args.self.now.counted
+    c.has.ensures
     ∙ sym
     (ap
     (λ (b : Bool). b

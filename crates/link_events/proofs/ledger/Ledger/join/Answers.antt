@@ -21,14 +21,13 @@ invariant_of-self-in_default g c =
     and_from _ _ (peer_turned cmp g.met.P.Ord.total _ _ c.requires.origin)
     (peer_turned cmp g.met.P.Ord.total _ _ c.requires.recipient) in
     record {
-      counted = old.counted;
       rated = old.rated;
       indexed =
           queued_index cmp g.met.P.Ord.total old.pairs.entries old.waiting.messages c.push.new.self.messages
           (in_flight old.flights) c.args.pair.now.origin c.args.pair.now.recipient m old.idle.entries
           c.change-changed.new.self.entries
           (arrivals_looked_up cmp g.met.P.Ord.total old.pairs.entries) joined own old.indexed
-          c.in_default.ensures.listed (c.idle_from-after.ensures (in_flight old.flights) old.counted);
+          c.in_default.ensures.listed c.idle_from-after.ensures;
     }
 
 pub returns-clause-queued : goal.returns-clause-queued

@@ -1,42 +1,4 @@
-use Rattle.std.proofs.Common.{List, sym, ◌∙◌, subst, arith}
-use Rattle.std.specs.declared.rc.Rc.{Rc}
-use Rattle.std.specs.declared.alloc.Global.{Global}
-use Rattle.link_pairs.specs.declared.message.Message as code
-use Rattle.link_simulation.specs.Simulation.World.{goes, meets}
-use Rattle.link_simulation.specs.Rule.Planned.{Planned}
-use Rattle.link_simulation.specs.Rule.Events.{Launches}
-use Rattle.link_pairs.specs.Pairs.Entries.{first_of}
-use Rattle.link_events.specs.Steps.AsPlanned.{planned}
-use Rattle.link_pairs.specs.Pairs.Messages.{messages}
-use Rattle.link_simulation.proofs.Simulation.RefusalCauses.{memory_refuses}
-use Rattle.link_waiting.proofs.Idle.Starting.{not_started, no_more_ids, launched_so}
 use Rattle.link_events.proofs.ledger.Ledger.launch.Goals as goal
 
-pub returns-then-not-may_launch-clause-launches : goal.returns-then-not-may_launch-clause-launches
-returns-then-not-may_launch-clause-launches g c =
-    let p : Planned g.row.P.Denot = planned g.P.Ord.cmp c.args.self.now in
-    subst
-    (λ (items : List (Rc (code.Message g.row.P.Denot) Global)). Launches g.P.Ord.cmp c.args.now p
-    (first_of g.P.Ord.cmp p.waiting c.args.origin.now c.args.recipient.now) (goes (messages items) p))
-    (sym c.new.ensures.items)
-    (not_started g.P.Ord.cmp g.met.P.Ord.total c.args.now p _ (sym c.may_launch.ensures ∙ c.if-not-may_launch.true))
-
-pub returns-then-self-clause-refused : goal.returns-then-self-clause-refused
-returns-then-self-clause-refused g c =
-    no_more_ids g.P.Ord.cmp g.met.P.Ord.total c.args.now (planned g.P.Ord.cmp c.args.self.now) _
-    (sym c.may_launch.ensures ∙ c.if-not-may_launch.false) (omega arith)
-
-pub returns-clause-launches : goal.returns-clause-launches
-returns-clause-launches g c =
-    let d = c.in_ok-depart.ensures.departed in
-    launched_so g.P.Ord.cmp g.met.P.Ord.total c.args.now (planned g.P.Ord.cmp c.args.self.now)
-    (planned g.P.Ord.cmp c.depart.new.self) c.args.origin.now c.args.recipient.now d.message
-    (sym c.may_launch.ensures ∙ c.if-not-may_launch.false) (omega arith) d.first d.is
-    (λ leavers. messages leavers.items) c.account.result (planned g.P.Ord.cmp c.account.new.self)
-    c.account.ensures.accounts
-
-pub returns-clause-refused : goal.returns-clause-refused
-returns-clause-refused g c =
-    let p : Planned g.row.P.Denot = planned g.P.Ord.cmp c.args.self.now in
-    memory_refuses (λ e. Launches g.P.Ord.cmp c.args.now p (first_of g.P.Ord.cmp p.waiting c.args.origin.now
-    c.args.recipient.now) (meets e)) c.account.result c.account.ensures.refused
+pub launch_from-requires : goal.launch_from-requires
+launch_from-requires g c = c.idle_from-since.ensures

@@ -1,6 +1,5 @@
 use Rattle.std.proofs.Common.{sym, ap, ◌∙◌}
 use Rattle.link_events.specs.Steps.AsPlanned.{planned}
-use Rattle.link_flights.specs.Flights.InFlight.{in_flight}
 use Rattle.link_pairs.proofs.Pairs.LookedUp.{arrivals_looked_up}
 use Rattle.link_waiting.proofs.Idle.DueMessages.{has_come, may_first}
 use Rattle.link_waiting.proofs.Idle.Waiting.{in_pair_order}
@@ -9,7 +8,7 @@ use Rattle.link_events.proofs.ledger.Ledger.may_launch.Goals as goal
 pub returns-in-Some : goal.returns-in-Some
 returns-in-Some g c =
     let old = c.args.self.now in
-    ap (has_come c.args.now) (sym c.in-Some.is ∙ c.idle_from.ensures (in_flight old.flights) old.counted)
+    ap (has_come c.args.now) (sym c.in-Some.is ∙ c.requires)
     ∙ may_first g.P.Ord.cmp g.met.P.Ord.total (planned g.P.Ord.cmp old)
     (arrivals_looked_up g.P.Ord.cmp g.met.P.Ord.total old.pairs.entries)
     (in_pair_order g.P.Ord.cmp old.waiting.messages old.waiting.ordered) c.args.now c.args.origin.now
@@ -18,7 +17,7 @@ returns-in-Some g c =
 pub returns-in-None : goal.returns-in-None
 returns-in-None g c =
     let old = c.args.self.now in
-    ap (has_come c.args.now) (sym c.in-None.is ∙ c.idle_from.ensures (in_flight old.flights) old.counted)
+    ap (has_come c.args.now) (sym c.in-None.is ∙ c.requires)
     ∙ may_first g.P.Ord.cmp g.met.P.Ord.total (planned g.P.Ord.cmp old)
     (arrivals_looked_up g.P.Ord.cmp g.met.P.Ord.total old.pairs.entries)
     (in_pair_order g.P.Ord.cmp old.waiting.messages old.waiting.ordered) c.args.now c.args.origin.now

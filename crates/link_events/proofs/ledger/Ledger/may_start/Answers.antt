@@ -4,7 +4,6 @@ use Rattle.link_waiting.specs.Idle.FirstMoment.{first_moment}
 use Rattle.link_pairs.specs.Pairs.Messages.{message_of}
 use Rattle.link_pairs.specs.Pairs.Entries.{arrival_of}
 use Rattle.link_events.specs.Steps.AsPlanned.{planned}
-use Rattle.link_simulation.specs.Rule.Planned.{rated_messages}
 use Rattle.link_waiting.proofs.Idle.Starting.{may_start_is}
 use Rattle.link_events.proofs.ledger.Ledger.may_start.Goals as goal
 
@@ -21,7 +20,7 @@ returns-then-has g c =
     may_start_is g.P.Ord.cmp g.met.P.Ord.total c.args.now p m true
     (nat_le (first_moment (p.last_arrival m.origin m.recipient) m.latency) c.args.now)
     (none_read (λ b. message_of b.now) c.first.result _ none c.first.ensures)
-    (sym c.if-has.true ∙ c.has.ensures (rated_messages p.sending) c.args.self.now.counted) refl
+    (sym c.if-has.true ∙ c.has.ensures) refl
 
 pub returns : goal.returns
 returns g c =
@@ -33,5 +32,5 @@ returns g c =
     c.ready_moment.ensures ∙ ap (λ last. first_moment last m.latency) c.last_arrival.ensures in
     may_start_is g.P.Ord.cmp g.met.P.Ord.total c.args.now p m false (nat_le c.ready_moment.result c.args.now)
     (none_read (λ b. message_of b.now) c.first.result _ none c.first.ensures)
-    (sym c.if-has.false ∙ c.has.ensures (rated_messages p.sending) c.args.self.now.counted)
+    (sym c.if-has.false ∙ c.has.ensures)
     (ap (λ k. nat_le k c.args.now) moment)

@@ -2,17 +2,15 @@ use Rattle.std.proofs.Common.{◌≡◌, ◌+◌, subst, [], ◌∷◌, ◌++◌
 use Rattle.link_waiting.specs.Idle.AtRest.{of_pairs}
 use Rattle.link_waiting.specs.Idle.Index.{IsIndexOf}
 use Rattle.std.proofs.Math.Logic.{∥∥₁_map}
-use Rattle.link_waiting.specs.Idle.Busy.{AreCounted}
 use Rattle.fair_rates.specs.Numbers.Amount.{whole}
 use Rattle.link_simulation.specs.Simulation.Messages.{Message}
-use Rattle.link_simulation.specs.Rule.Planned.{RatedFlight, rated_messages}
+use Rattle.link_simulation.specs.Rule.Planned.{RatedFlight}
 use Rattle.link_pairs.specs.declared.message.Message as code
 use Rattle.link_flights.specs.Flights.InFlight.{in_flight}
 use Rattle.link_pairs.specs.Pairs.Messages.{message_of}
 use Rattle.link_pairs.specs.Pairs.Entries.{arrival_of}
 use Rattle.link_pairs.specs.Pairs.CapsOf.{caps_of}
 use Rattle.link_pairs.proofs.Pairs.LookedUp.{arrivals_looked_up}
-use Rattle.link_waiting.proofs.Idle.Busy.{of_own_pair, counted_sent}
 use Rattle.link_waiting.proofs.Idle.IndexChanges.{started_index}
 use Rattle.link_waiting.proofs.Idle.Starting.{without_joined}
 use Rattle.link_flights.proofs.Flights.Standing.{still_rated}
@@ -35,11 +33,6 @@ invariant_of-self-2 g c =
           started_index cmp g.met.P.Ord.total old.pairs.entries old.waiting.messages (in_flight old.flights)
           (in_flight c.push.new.self) f old.idle.entries (arrivals_looked_up cmp g.met.P.Ord.total old.pairs.entries)
           (rw same c.requires.alone) c.in_ok-push.ensures.sending old.indexed;
-      counted =
-          counted_sent cmp g.met.P.Ord.total old.busy.entries c.in_ok-busy.busy.entries c.add.new.self.entries
-          (in_flight old.flights) (in_flight c.push.new.self) c.args.message.origin c.args.message.recipient f
-          c.in_ok-busy.ensures.cases (rw same (of_own_pair cmp g.met.P.Ord.total (message_of c.args.message)))
-          c.in_ok-push.ensures.sending old.counted c.in_ok-add.ensures.counted;
     }
 
 pub returns-clause-started : goal.returns-clause-started
@@ -85,7 +78,4 @@ invariant_of-self g c =
       indexed =
           subst (λ fs. IsIndexOf cmp (of_pairs cmp old.pairs.entries old.waiting.messages fs) old.idle.entries)
           (sym c.in_err-push.ensures.kept) old.indexed;
-      counted =
-          subst (λ fs. AreCounted cmp old.busy.entries (rated_messages fs)) (sym c.in_err-push.ensures.kept)
-          old.counted;
     }

@@ -5,7 +5,7 @@ use Rattle.std.proofs.lemmas.List.{get_or_default}
 use Rattle.fair_rates.proofs.Lists.InPlace.{IsChangedUpTo, unchanged, all_changed}
 use Rattle.link_flights.specs.declared.flight.Flight.{Flight}
 use Rattle.link_flights.specs.Flights.Flight.{flight_at, rate_of}
-use Rattle.link_flights.proofs.Flights.Flight.{IsBrought, is_past, changed_length, next_brought, next_counted_on}
+use Rattle.link_flights.proofs.Flights.Flight.{IsBrought, is_past, changed_length, next_brought, next_stands}
 use Rattle.link_flights.proofs.Flights.Flight.{all_drained, all_past, all_timed}
 use Rattle.link_flights.proofs.Flights.Settled.{counted_from}
 use Rattle.link_flights.proofs.flight_list.Flights.drain.Goals as goal
@@ -13,9 +13,9 @@ use Rattle.link_flights.proofs.flight_list.Flights.drain.Goals.{
   then-goes_back,
   else-goes_back,
   then-goes_back-2+in_ok-one+in_ok-put,
-  else-goes_back-2+else-not-deref,
+  else-goes_back-2+else-not-stands_at,
   then-goes_back-2-via-then-goes_back-2,
-  then-goes_back-2-via-else-goes_back-2+then-not-deref,
+  then-goes_back-2-via-else-goes_back-2+then-not-stands_at,
 }
 
 pub loop-at-init : goal.loop-at-init
@@ -51,10 +51,11 @@ loop-at-preserved g c =
           let value = w.deref-then-goes_back-2.ensures in
           let back : c.args.now < old.at ⊎ x.value.rated ≡ false = elim w.then-goes_back-2.branch [
             | then-goes_back-2-via-then-goes_back-2 v ↦ inl v.if-goes_back-2.true
-            | then-goes_back-2-via-else-goes_back-2+then-not-deref v ↦ inr
+            | then-goes_back-2-via-else-goes_back-2+then-not-stands_at v ↦ inr
                 (ap (λ r. r.value.rated)
                 (is ∙ get_or_default so_far.list.items c.loop-at.at x v.index.result.now lt ∙ sym v.index.ensures)
-                ∙ sym (ap (λ (f : Flight g.row.P.Denot). f.rated) v.deref.ensures) ∙ v.if-not-deref.true)
+                ∙ sym (ap (λ (f : Flight g.row.P.Denot). f.rated) v.deref.ensures)
+                ∙ v.stands_at.ensures.unrated v.if-not-stands_at.true)
           ] in (
             subst
                 (λ (s : _). IsChangedUpTo (IsBrought old.at c.args.now) old.list.items s.list.items (c.loop-at.at + 1))
@@ -72,16 +73,18 @@ loop-at-preserved g c =
             ap (λ s. s.at) w.self-is ∙ w.put.ensures.at ∙ at_is,
             ap (λ s. s.scale) w.self-is ∙ w.put.ensures.scale ∙ c.loop-at.invariant.2,
           )
-      | else-goes_back-2+else-not-deref w ↦
+      | else-goes_back-2+else-not-stands_at w ↦
           let x = w.index.result.now in
           let is : x ≡ get_or so_far.list.items c.loop-at.at x = w.index.ensures in
           let value = w.deref.ensures in (
             subst
                 (λ (s : _). IsChangedUpTo (IsBrought old.at c.args.now) old.list.items s.list.items (c.loop-at.at + 1))
                 (sym w.self-is)
-                (next_counted_on old.at c.args.now old.list.items so_far.list.items c.loop-at.at c.loop-at.invariant.0 x lt
-                is
-                (sym (ap (λ (f : Flight g.row.P.Denot). f.rated) value) ∙ w.if-not-deref.false)
+                (next_stands old.at c.args.now old.list.items so_far.list.items c.loop-at.at c.loop-at.invariant.0 x lt
+                is x.value.rated refl
+                (λ none. sym (ap (λ (f : Flight g.row.P.Denot). f.since) value)
+                ∙ w.stands_at.ensures.started w.if-not-stands_at.false
+                (ap (λ (f : Flight g.row.P.Denot). f.rated) value ∙ none))
                 (ap (λ n. list_all (is_past n) so_far.list.items) (sym at_is) ∙ so_far.past) w.if-goes_back-2.false),
             ap (λ s. s.at) w.self-is ∙ at_is,
             ap (λ s. s.scale) w.self-is ∙ c.loop-at.invariant.2,

@@ -2,5 +2,5 @@ use Rattle.std.proofs.Common.{take}
 use Rattle.link_flights.specs.Flights.Components.{AreNear}
 use Rattle.link_flights.proofs.flight_list.Flights.near.Given as goal
 
-abbrev pub invariant-loop-one : goal.invariant-loop-one
-invariant-loop-one g l = AreNear l.component l.near.items (take l.one-index l.one-items)
+abbrev pub invariant-loop-at : goal.invariant-loop-at
+invariant-loop-at g l = AreNear l.component l.near.items (take l.at l.self.list.items)

@@ -108,7 +108,7 @@ invariant_of-self-2 g c =
     let e = c.in_ok-set_rates-2.ensures in
     let h =
     whole_given cmp caps c.whole-all.result c.in_ok-rates.rates old new e.rerated.0 c.in_ok-rates.ensures.fair
-    e.rerated.1 e.scale e.at e.timed c.whole-all.ensures in
+    e.rerated.1 e.scale e.at e.timed c.whole-all.ensures.whole in
     record {
       past = new.past;
       scaled = new.scaled;
@@ -127,7 +127,7 @@ returns-clause-rated g c =
     let e = c.in_ok-set_rates-2.ensures in
     let h =
     whole_given cmp caps c.whole-all.result c.in_ok-rates.rates old new e.rerated.0 c.in_ok-rates.ensures.fair
-    e.rerated.1 e.scale e.at e.timed c.whole-all.ensures in
+    e.rerated.1 e.scale e.at e.timed c.whole-all.ensures.whole in
     record {
       times = h.times;
       scale = h.scale;
@@ -147,7 +147,7 @@ returns-clause-finish g c =
     let e = c.in_ok-set_rates-2.ensures in
     let h =
     whole_given cmp caps c.whole-all.result c.in_ok-rates.rates old new e.rerated.0 c.in_ok-rates.ensures.fair
-    e.rerated.1 e.scale e.at e.timed c.whole-all.ensures in
+    e.rerated.1 e.scale e.at e.timed c.whole-all.ensures.whole in
     let fits : IfSome c.first_finish-first-2.result (λ t. t ≤ last_moment) = search rules in
     let here : new.at ≤ last_moment = omega (arith, e.at, c.requires.moment) in
     first_finish_is cmp caps old new h c.requires.left here c.first_finish-first-2.result

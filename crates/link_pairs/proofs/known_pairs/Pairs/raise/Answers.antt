@@ -1,7 +1,6 @@
 use Rattle.std.proofs.Common.{◌≡◌, true, None, Some, map, sym, ap, ◌∙◌}
 use Rattle.std.specs.List.{find}
 use Rattle.std.specs.Ordering.{is_eq}
-use Rattle.std.proofs.lemmas.Result.{on_ok_weaker}
 use Rattle.fair_rates.specs.Lists.Sorted.{are_ascending}
 use Rattle.fair_rates.proofs.Lists.Sorted.{either}
 use Rattle.link_simulation.specs.Simulation.World.{later_of}
@@ -16,6 +15,15 @@ use Rattle.link_pairs.proofs.known_pairs.Pairs.raise.Goals as goal
 
 -- the first message of the pair
 
+pub returns-in_default-clause-last : goal.returns-in_default-clause-last
+returns-in_default-clause-last g c =
+    absent_says (pair_cmp g.P.Ord.cmp) (pair_total g.P.Ord.cmp g.met.P.Ord.total) key_of
+    (c.args.origin.now, c.args.recipient.now) (λ pair. pair.last_arrival) None c.args.self.now.entries
+    (sym
+    (find_gap (pair_cmp g.P.Ord.cmp) (pair_total g.P.Ord.cmp g.met.P.Ord.total) key_of
+    (c.args.origin.now, c.args.recipient.now) c.args.self.now.entries c.in_default.field-0
+    c.in_default.ensures.absent))
+
 pub returns-in_default-clause-arrival : goal.returns-in_default-clause-arrival
 returns-in_default-clause-arrival g c =
     let known : None ≡ arrival_of g.P.Ord.cmp c.args.self.now.entries c.args.origin.now c.args.recipient.now =
@@ -25,16 +33,14 @@ returns-in_default-clause-arrival g c =
     (find_gap (pair_cmp g.P.Ord.cmp) (pair_total g.P.Ord.cmp g.met.P.Ord.total) key_of
     (c.args.origin.now, c.args.recipient.now) c.args.self.now.entries c.in_default.field-0
     c.in_default.ensures.absent)) in
-    on_ok_weaker c.set.result
-    (λ h. h
-    ∙ ap
+    c.in_ok-set.ensures.arrival
+    ∙ (ap
     (λ last. with_link g.P.Ord.cmp (arrival_of g.P.Ord.cmp c.args.self.now.entries) c.args.origin.now
     c.args.recipient.now (Some (later_of last c.args.moment)))
     known
     ∙ link_raised g.P.Ord.cmp g.met.P.Ord.total (arrival_of g.P.Ord.cmp c.args.self.now.entries)
     (arrivals_alike g.P.Ord.cmp g.met.P.Ord.total c.args.self.now.entries) c.args.origin.now c.args.recipient.now
     c.args.moment)
-    c.set.ensures.arrival
 
 pub returns-in_default-clause-link : goal.returns-in_default-clause-link
 returns-in_default-clause-link g c =
@@ -45,17 +51,25 @@ returns-in_default-clause-link g c =
     (find_gap (pair_cmp g.P.Ord.cmp) (pair_total g.P.Ord.cmp g.met.P.Ord.total) key_of
     (c.args.origin.now, c.args.recipient.now) c.args.self.now.entries c.in_default.field-0
     c.in_default.ensures.absent)) in
-    on_ok_weaker c.set.result
-    (λ h. h
-    ∙ ap
+    c.in_ok-set.ensures.link
+    ∙ (ap
     (λ cap. with_link g.P.Ord.cmp (link_of g.P.Ord.cmp c.args.self.now.entries) c.args.origin.now
     c.args.recipient.now cap)
     known
     ∙ link_again g.P.Ord.cmp g.met.P.Ord.total (link_of g.P.Ord.cmp c.args.self.now.entries)
     (links_alike g.P.Ord.cmp g.met.P.Ord.total c.args.self.now.entries) c.args.origin.now c.args.recipient.now)
-    c.set.ensures.link
 
 -- a later one
+
+pub returns-clause-last : goal.returns-clause-last
+returns-clause-last g c =
+    found_says (pair_cmp g.P.Ord.cmp) (pair_total g.P.Ord.cmp g.met.P.Ord.total) key_of
+    (c.args.origin.now, c.args.recipient.now) (λ pair. pair.last_arrival) None c.args.self.now.entries
+    c.in-Ok.pair.now
+    (sym
+    (find_place (pair_cmp g.P.Ord.cmp) (pair_total g.P.Ord.cmp g.met.P.Ord.total) key_of
+    (c.args.origin.now, c.args.recipient.now) c.args.self.now.entries c.in-Ok.at c.in-Ok.ensures.found
+    ∙ c.in-Ok.ensures.pair))
 
 pub replace-requires-clause-same : goal.replace-requires-clause-same
 replace-requires-clause-same g c =

@@ -6,18 +6,20 @@ use Rattle.std.proofs.lemmas.List.{map-append, take_more}
 use Rattle.link_simulation.specs.Simulation.Messages.{Message}
 use Rattle.link_simulation.specs.Rule.Planned.{Planned}
 use Rattle.link_pairs.specs.declared.message.Message as code
+use Rattle.link_flights.specs.Flights.InFlight.{in_flight}
 use Rattle.link_waiting.specs.Idle.AtRest.{of_pairs}
 use Rattle.link_waiting.specs.Idle.Index.{is_listed, is_of_pair, AreAtRest}
 use Rattle.link_pairs.specs.Pairs.Messages.{message_of, messages}
 use Rattle.link_pairs.proofs.Pairs.LookedUp.{arrivals_looked_up}
 use Rattle.link_waiting.proofs.Idle.IndexChanges.{any_at, rests_more, rests_none}
-use Rattle.link_waiting.proofs.readiness.rest_all.Goals as goal
-use Rattle.link_waiting.proofs.readiness.rest_all.Goals.{in-Some+in_ok-add, in_default}
+use Rattle.link_events.proofs.readiness.rest_all.Goals as goal
+use Rattle.link_events.proofs.readiness.rest_all.Goals.{in-Some+in_ok-add, in_default}
 
 pub loop-at-preserved : goal.loop-at-preserved
-loop-at-preserved g c sending counted =
+loop-at-preserved g c =
     let cmp = g.P.Ord.cmp in
-    let q : Planned g.row.P.Denot = of_pairs cmp c.args.pairs.now.entries c.args.waiting.now.messages sending in
+    let q : Planned g.row.P.Denot = of_pairs cmp c.args.pairs.now.entries c.args.waiting.now.messages
+    (in_flight c.args.flights.now) in
     let alike = arrivals_looked_up cmp g.met.P.Ord.total c.args.pairs.now.entries in
     let old = c.args.idle.now.entries in
     let done = c.args.done.now.items in
@@ -41,12 +43,12 @@ loop-at-preserved g c sending counted =
           subst (λ es. AreAtRest cmp q (messages (take (at + 1) done)) old es) (sym (ap (λ x. x.entries) w.idle-is))
           (subst (λ (ms : List (Message g.row.P.Denot)). AreAtRest cmp q ms old w.add.new.self.entries) (sym more)
           (rests_more cmp g.met.P.Ord.total q alike old (messages (take at done)) m c.loop-at.idle.entries
-          (c.loop-at.invariant sending counted) busy _ w.add.new.self.entries
-          (sym (c.idle_from.ensures sending counted) ∙ w.in-Some.is) w.in_ok-add.ensures.listed))
+          c.loop-at.invariant busy _ w.add.new.self.entries
+          (sym c.idle_from.ensures ∙ w.in-Some.is) w.in_ok-add.ensures.listed))
       | in_default w ↦
           let none : c.idle_from.result ≡ None = search rules in
           subst (λ es. AreAtRest cmp q (messages (take (at + 1) done)) old es) (sym (ap (λ x. x.entries) w.idle-is))
           (subst (λ (ms : List (Message g.row.P.Denot)). AreAtRest cmp q ms old c.loop-at.idle.entries) (sym more)
           (rests_none cmp g.met.P.Ord.total q alike old (messages (take at done)) m c.loop-at.idle.entries
-          (c.loop-at.invariant sending counted) busy (sym (c.idle_from.ensures sending counted) ∙ none)))
+          c.loop-at.invariant busy (sym c.idle_from.ensures ∙ none)))
     ]

@@ -1,18 +1,20 @@
 use Rattle.std.proofs.Common.{◌≡◌, if◌then◌else◌, None, Some, sym, ap, ◌∙◌}
 use Rattle.std.specs.Prelude.{option_map}
 use Rattle.link_simulation.specs.Simulation.Messages.{Message}
-use Rattle.link_simulation.specs.Rule.Planned.{Planned, rated_messages}
+use Rattle.link_simulation.specs.Rule.Planned.{Planned}
+use Rattle.link_flights.specs.Flights.InFlight.{in_flight}
 use Rattle.link_waiting.specs.Idle.AtRest.{of_pairs}
 use Rattle.link_pairs.specs.Pairs.Messages.{message_of}
 use Rattle.link_waiting.specs.Idle.FirstMoment.{first_moment}
 use Rattle.link_pairs.specs.Pairs.Entries.{first_of}
 use Rattle.link_waiting.proofs.Idle.FirstStart.{idle_is}
-use Rattle.link_waiting.proofs.readiness.idle_from.Goals as goal
+use Rattle.link_events.proofs.readiness.idle_latency.Goals as goal
 
 pub returns-then-has : goal.returns-then-has
-returns-then-has g c sending counted =
-    let p : Planned g.row.P.Denot = of_pairs g.P.Ord.cmp c.args.pairs.now.entries c.args.waiting.now.messages sending in
-    let busy = sym (c.has.ensures (rated_messages sending) counted) ∙ c.if-has.true in
+returns-then-has g c pairs =
+    let p : Planned g.row.P.Denot = of_pairs g.P.Ord.cmp pairs c.args.waiting.now.messages
+    (in_flight c.args.flights.now) in
+    let busy = sym (c.has.ensures) ∙ c.if-has.true in
     sym
     (ap
     (λ b. if b then None else option_map
@@ -22,13 +24,11 @@ returns-then-has g c sending counted =
     busy)
 
 pub returns : goal.returns
-returns g c sending counted =
-    let p : Planned g.row.P.Denot = of_pairs g.P.Ord.cmp c.args.pairs.now.entries c.args.waiting.now.messages sending in
-    let free = sym (c.has.ensures (rated_messages sending) counted) ∙ c.if-has.false in
+returns g c pairs =
+    let p : Planned g.row.P.Denot = of_pairs g.P.Ord.cmp pairs c.args.waiting.now.messages
+    (in_flight c.args.flights.now) in
+    let free = sym (c.has.ensures) ∙ c.if-has.false in
     let first : first_of g.P.Ord.cmp p.waiting c.args.origin.now c.args.recipient.now
     ≡ Some (message_of c.in_ok-front.front.now) =
     sym c.in_ok-front.ensures in
-    ap Some
-    (c.ready_moment.ensures
-    ∙ ap (λ last. first_moment last c.in_ok-front.front.now.latency) c.last_arrival-last.ensures)
-    ∙ sym (idle_is g.P.Ord.cmp p c.args.origin.now c.args.recipient.now (message_of c.in_ok-front.front.now) free first)
+    sym (idle_is g.P.Ord.cmp p c.args.origin.now c.args.recipient.now (message_of c.in_ok-front.front.now) free first)
