@@ -68,6 +68,22 @@ static void two_messages_share_a_cap(void) {
     p2p_close(&s);
 }
 
+static void completions_are_read_in_their_order(void) {
+    p2p_scheduler s = P2P_SCHEDULER_INIT;
+    size_t count;
+    p2p_done done[3];
+    CHECK(p2p_open(&s, 0) == P2P_OK);
+    CHECK(p2p_limit(&s, 0, 1, p2p_bytes(1000), p2p_no_cap(), &count) == P2P_OK);
+    CHECK(p2p_enqueue_zeros(&s, 0, 1, 2, 7, 1000, 0, 1, &count) == P2P_OK && count == 0);
+    CHECK(p2p_enqueue_zeros(&s, 0, 1, 3, 8, 500, 0, 1, &count) == P2P_OK && count == 0);
+    CHECK(p2p_advance(&s, 2000000000, &count) == P2P_OK && count == 2);
+    CHECK(p2p_completions(&s, 0, done, 3) == 2);
+    CHECK(done[0].recipient == 3 && done[0].length == 500 && done[0].deliver_at.at == 1000000000);
+    CHECK(done[1].recipient == 2 && done[1].length == 1000 && done[1].deliver_at.at == 1500000000);
+    CHECK(p2p_completions(&s, 1, done, 3) == 1 && done[0].recipient == 2); /* from the second one on */
+    p2p_close(&s);
+}
+
 static void a_dropped_message_does_not_arrive(void) {
     p2p_scheduler s = P2P_SCHEDULER_INIT;
     size_t count;
@@ -144,6 +160,7 @@ static void a_script_prints_what_linkrun_prints(void) {
 int main(void) {
     a_handle_is_safe_whatever_its_state();
     two_messages_share_a_cap();
+    completions_are_read_in_their_order();
     a_dropped_message_does_not_arrive();
     a_refused_call_changes_nothing();
     rates_are_max_min_fair();

@@ -45,6 +45,8 @@ pub struct Flights<P: Peer> {
     pub(crate) settled: usize,
     /// No finish comes before this moment; none comes at all, where it is missing.
     pub(crate) first: Option<u64>,
+    /// At so many accounts more all are rated, without a search for what is touched.
+    pub(crate) unsearched: usize,
 
     pub ghost past: { list_all (λ one. not one.value.rated || nat_le one.value.since at) list.items ≡ true },
     pub ghost scaled: { 0 < scale },
@@ -107,6 +109,7 @@ impl<P: Peer> Flights<P> {
             rated_anew: 0,
             settled: 0,
             first: None,
+            unsearched: 0,
         }
     }
 
@@ -202,6 +205,7 @@ impl<P: Peer> Clone for Flights<P> {
             rated_anew: self.rated_anew,
             settled: self.settled,
             first: self.first,
+            unsearched: self.unsearched,
         })
     }
 }

@@ -37,6 +37,13 @@ use std::rc::Rc;
 /// Up to so many messages in flight, all are rated at each account.
 const FEW: usize = 2;
 
+/// So many searches for what an event touches are spared after one that found all.
+const SPARED: usize = 3;
+
+/// Where so many are in flight, or more, a search that ended at too many senders or receivers would
+/// mostly have found all.
+const MANY: usize = 56;
+
 /// The caps that hold for a flow. Flows of one sender often follow one another, so what it may send
 /// is known where the flow before is its own. What its recipient may receive is known where another
 /// flow that is at hand is to it.
@@ -159,25 +166,45 @@ impl<P: Peer> Flights<P> {
         ensures finish { IfOk result (IsLeastMoment (λ s. SomeSpentAt (in_flight self.new) s)) }
         ensures refused { IfErr result (λ e. e ≡ Error.OutOfMemory) }
     {
-        if were_rated && self.list.len() > FEW {
+        if were_rated && self.list.len() > FEW && self.unsearched == 0 {
             if let Some(component) = self.component(done)? {
                 let part = self.rates_of(&component, peers, pairs)?;
                 if part.growth.is_empty() {
+                    let unsearched = self.spared_after(part.level_of.len());
                     self.set_rates(&component, part, true)?;
                     let first = self.first_finish();
                     self.settled = self.list.len();
                     self.first = first;
+                    self.unsearched = unsearched;
                     return Ok(first);
                 }
             }
         }
         let all = Component::whole(self.alloc);
         let rates = self.rates_of(&all, peers, pairs)?;
+        let unsearched = self.spared_after_all();
         self.set_rates(&all, rates, were_rated)?;
         let first = self.first_finish();
         self.settled = self.list.len();
         self.first = first;
+        self.unsearched = unsearched;
         Ok(first)
+    }
+
+    /// How many accounts more rate all without a search, after one that found so many to rate.
+    fn spared_after(&self, found: usize) -> usize {
+        if found == self.list.len() { SPARED } else { 0 }
+    }
+
+    /// How many accounts more rate all without a search, after one that rated all.
+    fn spared_after_all(&self) -> usize {
+        if self.unsearched > 0 {
+            self.unsearched - 1
+        } else if self.list.len() >= MANY {
+            SPARED
+        } else {
+            0
+        }
     }
 
     /// The fair rates of a component alone.
