@@ -265,3 +265,30 @@ next -
 ",
     )
 }
+
+/// Two pairs complete in one event, and what follows on each arrives no sooner.
+#[test]
+fn one_event_raises_the_last_arrivals_of_two_pairs(rt: HostRuntime) -> Result<(), Fail> {
+    play::<u64>(
+        &rt,
+        0,
+        "\
+send 0 1 2 1 1
+done 0 1
+send 0 1 3 1 1
+done 1 1
+limit 0 1 1000 -
+send 0 1 2 500 5s
+send 0 1 3 500 5s
+event 1s
+done 2 6s
+done 3 6s
+send 1s 1 2 0 0
+send 1s 1 3 0 0
+event 6s
+done 4 6s
+done 5 6s
+next -
+",
+    )
+}
