@@ -45,7 +45,8 @@ pub struct Flights<P: Peer> {
     pub(crate) settled: usize,
     /// No finish comes before this moment; none comes at all, where it is missing.
     pub(crate) first: Option<u64>,
-    /// At so many accounts more all are rated, without a search for what is touched.
+    /// At so many accounts more all are rated, without a search for what is touched. Only time hangs
+    /// on it.
     pub(crate) unsearched: usize,
 
     pub ghost past: { list_all (λ one. not one.value.rated || nat_le one.value.since at) list.items ≡ true },

@@ -40,8 +40,7 @@ const FEW: usize = 2;
 /// So many searches for what an event touches are spared after one that found all.
 const SPARED: usize = 3;
 
-/// Where so many are in flight, or more, a search that ended at too many senders or receivers would
-/// mostly have found all.
+/// Where so many are in flight, or more, and all were rated, a search would mostly have found all.
 const MANY: usize = 56;
 
 /// The caps that hold for a flow. Flows of one sender often follow one another, so what it may send
@@ -191,12 +190,14 @@ impl<P: Peer> Flights<P> {
         Ok(first)
     }
 
-    /// How many accounts more rate all without a search, after one that found so many to rate.
+    /// How many accounts more rate all without a search, after one that found so many to rate. Only
+    /// time hangs on it.
     fn spared_after(&self, found: usize) -> usize {
         if found == self.list.len() { SPARED } else { 0 }
     }
 
-    /// How many accounts more rate all without a search, after one that rated all.
+    /// How many accounts more rate all without a search, after one that rated all. Only time hangs
+    /// on it.
     fn spared_after_all(&self) -> usize {
         if self.unsearched > 0 {
             self.unsearched - 1

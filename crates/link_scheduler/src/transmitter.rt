@@ -397,8 +397,9 @@ impl<P: Peer> State<P> {
     ///
     /// It counts work, and has no part in what is answered. Where messages start or end, those that
     /// share a sender or a receiver with them, directly or through others, are looked for. Where
-    /// these are found, no other is rated anew; where they are many, or few are in flight, or a cap
-    /// has changed, all are rated. It takes no memory, changes nothing and is never refused.
+    /// these are found, no other is rated anew. All are rated where they are many, or few are in
+    /// flight, or a cap has changed, and mostly at the next three events after all were. It takes no
+    /// memory, changes nothing and is never refused.
     pub fn rated_anew(&self) -> usize
         ensures counted { result ≡ rated_at_last self.now }
         ensures at_most_all { result ≤ length (planned_of self.now).sending }
