@@ -4,6 +4,7 @@ pub mod Allocation
 pub mod Among
 pub mod AnswersUnderCaps
 pub mod Apart
+pub mod Beside
 pub mod ById
 pub mod ClosedSides
 pub mod Decided
@@ -11,12 +12,14 @@ pub mod Denominators
 pub mod Example
 pub mod ExistUnderCaps
 pub mod LastRate
+pub mod MappedSides
 pub mod MaxMin
 pub mod OneAllocation
 pub mod Order
 pub mod Part
 pub mod Rates
 pub mod SameSides
+pub mod SharedBeside
 pub mod Sharing
 pub mod Uncapped
 pub mod WholeRates

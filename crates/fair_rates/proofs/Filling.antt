@@ -7,6 +7,7 @@ pub mod Fractions
 pub mod Frozen
 pub mod Growing
 pub mod LeastShare
+pub mod LeftSides
 pub mod Levels
 pub mod NextLevel
 pub mod Queue

@@ -1,3 +1,4 @@
 -- Filling: the states between its rounds, and the parts that it finds.
 pub mod FairParts
+pub mod LeftSides
 pub mod States

@@ -1,5 +1,7 @@
 //! Who sends how fast.
 ghost use Rattle.std.specs.Prelude.{◌≡◌, ◌⊎◌, ◌<◌, ℕ, IfOk, IfErr, map, length};
+ghost use Rattle.std.specs.List.{list_all};
+ghost use Rattle.std.specs.Option.{is_none};
 ghost use Rattle.std.specs.Fn.{CalledAt, TakesAt, CalledAtTwo, TakesAtTwo};
 ghost use Rattle.std.specs.Ordering.{nat_cmp};
 ghost use Rattle.std.specs.declared.cmp.Ordering.TheVariants.{Equal};
@@ -8,7 +10,7 @@ ghost use Rattle.fair_rates.specs.Sides.Answers.{NoLink, CallableOnEach, Callabl
 ghost use Rattle.fair_rates.specs.Sides.Answers.{pairs, answered_of};
 ghost use Rattle.fair_rates.specs.Sides.Subjects.{sides_of};
 ghost use Rattle.fair_rates.specs.Fairness.Allocation.{IsAllocation, IsCountedAllocation, IsFairUnderCaps};
-ghost use Rattle.fair_rates.specs.Filling.FairParts.{AreFairPartsOn};
+ghost use Rattle.fair_rates.specs.Filling.FairParts.{AreFairPartsOn, AreFairPartsBeside, kept_at};
 ghost use Rattle.fair_rates.specs.Fairness.Rates.{last_rate};
 ghost use Rattle.fair_rates.specs.Refusals.TooLarge.{IsTooLarge, AreTooLargeUnderCaps};
 
@@ -28,6 +30,7 @@ use natural::Natural;
 pub use parts::FairParts;
 use std::alloc::Global;
 use std::collections::BTreeMap;
+use std::rc::Rc;
 pub use time::{
     draining_splits, duration, nothing_is_left_from_the_least_time_on, there_is_one_duration,
     there_is_one_least_time, transfer,
@@ -310,6 +313,44 @@ pub fn fair_parts<P: Peer>(
             Ok(filling::fair_parts(alloc, flows.len(), sides, scale)?)
         }
     }
+}
+
+/// The max-min fair rates of flows beside flows that keep theirs, in parts of one byte a second, so
+/// many at `scale`. `kept` says how many parts a flow keeps, and `None` of a flow that is rated. Where
+/// a rate is no whole number of parts, the scale grows, and what is kept is then as many times as many
+/// parts.
+///
+/// Filling goes on from what the kept rates leave of each cap. Within the caps, each flow that is
+/// rated is under a cap that is used up, and that leaves no flow that is rated more than this one has.
+/// A flow that keeps its rate gets no level. The caps are those of [`fair_parts`].
+///
+/// # Errors
+///
+/// `OutOfMemory` where memory was refused.
+pub fn fair_parts_beside<P: Peer>(
+    alloc: Global,
+    flows: &[CappedFlow<P>],
+    kept: &[Option<Rc<Natural>>],
+    scale: &Natural,
+) -> Result<FairParts, Error>
+    requires some_part { 0 < scale.now }
+    requires one_each { length kept.now ≡ length flows.now }
+    ensures fair { IfOk result (AreFairPartsBeside (sides_of P.cmp (map answered_of flows.now)) (kept_at kept.now)
+        (length flows.now) scale.now) }
+    ensures refused { IfErr result (λ e. e ≡ Error.OutOfMemory) }
+{
+    if none_is_kept(kept) {
+        return fair_parts(alloc, flows, scale);
+    }
+    let sides = sides::sides_of_capped(alloc, flows)?;
+    Ok(filling::fair_parts_beside(alloc, sides, kept, scale)?)
+}
+
+/// Whether no flow keeps its rate.
+fn none_is_kept(kept: &[Option<Rc<Natural>>]) -> bool
+    ensures { result ≡ list_all is_none kept.now }
+{
+    kept.iter().all(|rate| rate.is_none())
 }
 
 /// The rates by the ids of their flows. Of flows with one id the last counts.

@@ -1,4 +1,5 @@
 //! Rates of flows, against values worked out by hand.
+mod beside;
 mod judge;
 mod lists;
 mod many;

@@ -83,14 +83,14 @@ module _ {P X : Type 0} (cmp : P → P → Ordering) (caps : Caps P) (flow : X �
       → total s (x ∷ xs) ≡ cond (limits cmp s (flow x)) (parts x) 0 + total s xs
   total-cons s x xs = sum_by-cons (λ (y : X). cond (limits cmp s (flow y)) (parts y) 0) x xs
 
-  total_none : (s : Subject P) (xs : List X) → ((x : X) → In xs x → limits cmp s (flow x) ≡ false) → total s xs ≡ 0
+  pub total_none : (s : Subject P) (xs : List X) → ((x : X) → In xs x → limits cmp s (flow x) ≡ false) → total s xs ≡ 0
   total_none s [] none = refl
   total_none s (x ∷ xs) none =
       total-cons s x xs ∙ (rw (none x (inl refl)) (omega (arith, total_none s xs (λ y h. none y (inr h)))))
 
   -- ---- places
 
-  load_is : (s : Subject P) (g : ℕ → ℕ) (place : ℕ) (xs : List X) → StandsAt flow parts g place xs
+  pub load_is : (s : Subject P) (g : ℕ → ℕ) (place : ℕ) (xs : List X) → StandsAt flow parts g place xs
       → sum_by g (places_from place (limits cmp s) (map flow xs)) ≡ total s xs
   load_is s g place [] stands = refl
   load_is s g place (x ∷ xs) stands =
@@ -104,7 +104,7 @@ module _ {P X : Type 0} (cmp : P → P → Ordering) (caps : Caps P) (flow : X �
       both true ih = omega (arith, ih, stands.0, sum_by-cons g place users)
       both false ih = omega (arith, ih)
 
-  place_in : (s : Subject P) (xs : List X) (k : ℕ) (x : X) → slice_get xs k ≡ Some x → limits cmp s (flow x) ≡ true
+  pub place_in : (s : Subject P) (xs : List X) (k : ℕ) (x : X) → slice_get xs k ≡ Some x → limits cmp s (flow x) ≡ true
       → Contains (places_from 0 (limits cmp s) (map flow xs)) k
   place_in s xs k x at l = place_here (limits cmp s) (map flow xs) k (flow x) (flow_at flow parts xs k x at) l
 
@@ -122,7 +122,7 @@ module _ {P X : Type 0} (cmp : P → P → Ordering) (caps : Caps P) (flow : X �
     abbrev pub S : List Side
     S = sides_under cmp caps (map flow xs)
 
-    abbrev side_for : Subject P → ℕ → Side
+    abbrev pub side_for : Subject P → ℕ → Side
     side_for s cap = side_of_subject cmp order caps of (map flow xs) s cap
 
     uses_side : (k : ℕ) (x : X) → slice_get xs k ≡ Some x → (c : IsCapped cmp caps (flow x))
@@ -138,7 +138,7 @@ module _ {P X : Type 0} (cmp : P → P → Ordering) (caps : Caps P) (flow : X �
     limited_from_capped k x at c = (side_for c.subject c.cap, uses_side k x at c)
 
     -- the user of a side
-    user_is : (side : Side) (c : IsCappedSide cmp caps (map flow xs) side) (j : ℕ) → Contains side.users j
+    pub user_is : (side : Side) (c : IsCappedSide cmp caps (map flow xs) side) (j : ℕ) → Contains side.users j
         → (x : X) × (slice_get xs j ≡ Some x) × (limits cmp c.subject (flow x) ≡ true)
     user_is side c j used = from_place c.subject xs j (subst (λ (ps : List ℕ). Contains ps j) c.users used)
 
@@ -158,7 +158,7 @@ module _ {P X : Type 0} (cmp : P → P → Ordering) (caps : Caps P) (flow : X �
       at : (k : ℕ) (x : X) → slice_get xs k ≡ Some x → g k ≡ parts x
       at k x h = let e : k ≡ 0 + k = omega arith in ap g e ∙ parts_at flow parts g 0 xs k x stands h
 
-      load_of : (side : Side) (c : IsCappedSide cmp caps (map flow xs) side) → load g side ≡ total c.subject xs
+      pub load_of : (side : Side) (c : IsCappedSide cmp caps (map flow xs) side) → load g side ≡ total c.subject xs
       load_of side c = ap (sum_by g) c.users ∙ load_is c.subject g 0 xs stands
 
       -- ---- from fairness by places
@@ -234,7 +234,7 @@ module _ {P X : Type 0} (cmp : P → P → Ordering) (caps : Caps P) (flow : X �
   -- ---- parts
 
   -- where all that a side limits pass, their total is the same
-  total_same : (mine : X → Bool) (s : Subject P) (xs : List X)
+  pub total_same : (mine : X → Bool) (s : Subject P) (xs : List X)
       → ((x : X) → In xs x → limits cmp s (flow x) ≡ true → mine x ≡ true) → total s (filter mine xs) ≡ total s xs
   total_same mine s [] all = refl
   total_same mine s (x ∷ xs) all =
@@ -248,7 +248,7 @@ module _ {P X : Type 0} (cmp : P → P → Ordering) (caps : Caps P) (flow : X �
           let nothing : cond (limits cmp s (flow x)) (parts x) 0 ≡ 0 = rw is refl in
           omega (arith, ih, total-cons s x xs, nothing)
 
-  total_at_most : (mine : X → Bool) (s : Subject P) (xs : List X) → total s (filter mine xs) ≤ total s xs
+  pub total_at_most : (mine : X → Bool) (s : Subject P) (xs : List X) → total s (filter mine xs) ≤ total s xs
   total_at_most mine s [] = omega arith
   total_at_most mine s (x ∷ xs) = by_test (mine x) (total_at_most mine s xs)
     where

@@ -6,44 +6,51 @@
 //! only the one on top is reckoned anew, if a user of its side froze since.
 //!
 //! All numbers are whole parts of one byte a second. Where the least share is not whole, the scale
-//! grows, and all that is kept with it.
+//! grows, and all that is kept with it. Beside flows that keep their rates, filling has what these
+//! leave of the caps.
 ghost use Rattle.std.specs.Prelude.{◌≡◌, ◌<◌, ◌≤◌, ℕ, IfOk, IfSome, OnSome, MatchOption, Option, All, List};
 ghost use Rattle.std.specs.Prelude.{◌∷◌, map, length};
 ghost use Rattle.std.specs.BinaryHeap.{heap_items, heap_len, IsHeap};
 ghost use Rattle.fair_rates.specs.Sides.SideOf.{side_of};
 ghost use Rattle.fair_rates.specs.Fairness.Fair.{Side as WholeSide};
+ghost use Rattle.fair_rates.specs.Fairness.Laws.{HaveUsersBelow};
+ghost use Rattle.fair_rates.specs.Filling.FairParts.{kept_at, AreFairPartsBeside};
+ghost use Rattle.fair_rates.specs.Filling.LeftSides.{left_side_of};
 ghost use Rattle.fair_rates.specs.Filling.States.{frozen_at, AreInside, AreAbove, IsQueue, IsShareQueue, IsLeast};
 ghost use Rattle.fair_rates.specs.Filling.States.{AllFilled};
-ghost use Rattle.fair_rates.specs.Filling.States.{AreOpened, AreGrown, AreFilled, queue_cmp};
+ghost use Rattle.fair_rates.specs.Filling.States.{AreOpened, AreGrown, AreFilled, AreFilledInParts, queue_cmp};
 
+mod left;
 mod open;
 mod share;
 
 use crate::bandwidth::parts::FairParts;
 use crate::bandwidth::sides::Side;
+use left::{LeftSide, sides_beside, whole_sides};
 use natural::Natural;
 use open::OpenSide;
 use share::whole_share;
 use std::alloc::{AllocError, Global};
 use std::cmp::Reverse;
 use std::collections::BinaryHeap;
+use std::rc::Rc;
 
 /// The sides that have users, before any is frozen.
 fn open_sides(
     alloc: Global,
-    sides: Vec<Side>,
-    scale: &Natural,
+    sides: Vec<LeftSide>,
 ) -> Result<BinaryHeap<Reverse<OpenSide>>, AllocError>
-    ensures opened { IfOk result (λ queue. AreOpened scale.now sides.items (heap_items queue)) }
+    ensures opened { IfOk result (λ queue. AreOpened sides.items (heap_items queue)) }
     ensures order { IfOk result (λ queue. IsHeap queue_cmp (heap_items queue)) }
     ensures count { IfOk result (λ queue. heap_len queue ≤ length sides.items) }
 {
     let mut queue = BinaryHeap::with_capacity(alloc, sides.len())?;
     for side in sides {
-        let Side { cap, users } = side;
-        if !users.is_empty() {
-            let slack = scale.product(cap)?;
-            let rising = users;
+        let LeftSide {
+            left: slack,
+            users: rising,
+        } = side;
+        if !rising.is_empty() {
             queue.push(Reverse(OpenSide { slack, rising }))?;
         }
     }
@@ -106,6 +113,29 @@ fn grown_sides(
     Ok(grown)
 }
 
+/// The max-min fair rates of `count` flows on sides of which so much is left, in parts of one byte
+/// a second, so many at `scale`. Where a rate is no whole number of parts, the scale grows.
+fn fill(
+    alloc: Global,
+    count: usize,
+    sides: Vec<LeftSide>,
+    scale: &Natural,
+) -> Result<FairParts, AllocError>
+    requires { HaveUsersBelow count (map left_side_of sides.items) }
+    ensures { IfOk result (λ found. AreFilledInParts (map left_side_of sides.items) count scale.now found) }
+{
+    let mut queue = open_sides(alloc, sides)?;
+    let mut found = FairParts::new(alloc, count, scale)?;
+    while let Some(side) = next_side(&mut queue, &found.levels, &found.level_of)? {
+        let OpenSide { slack, rising } = side;
+        let share = whole_share(alloc, slack, rising.len() as u64)?;
+        found.grow(share.factor)?;
+        queue = grown_sides(alloc, queue, share.factor)?;
+        found.freeze(&rising, share.parts)?;
+    }
+    Ok(found)
+}
+
 /// The max-min fair rates of `count` flows on the sides, in parts of one byte a second, so many at
 /// `scale`. Where a rate is no whole number of parts, the scale grows.
 pub(crate) fn fair_parts(
@@ -118,14 +148,22 @@ pub(crate) fn fair_parts(
     requires some_part { 0 < scale.now }
     ensures { IfOk result (λ found. AreFilled (map side_of sides.items) count scale.now found) }
 {
-    let mut queue = open_sides(alloc, sides, scale)?;
-    let mut found = FairParts::new(alloc, count, scale)?;
-    while let Some(side) = next_side(&mut queue, &found.levels, &found.level_of)? {
-        let OpenSide { slack, rising } = side;
-        let share = whole_share(alloc, slack, rising.len() as u64)?;
-        found.grow(share.factor)?;
-        queue = grown_sides(alloc, queue, share.factor)?;
-        found.freeze(&rising, share.parts)?;
-    }
-    Ok(found)
+    let whole = whole_sides(alloc, sides, scale)?;
+    fill(alloc, count, whole, scale)
+}
+
+/// The max-min fair rates of those of the flows that do not keep theirs, beside the others, as
+/// [`fair_parts`].
+pub(crate) fn fair_parts_beside(
+    alloc: Global,
+    sides: Vec<Side>,
+    kept: &[Option<Rc<Natural>>],
+    scale: &Natural,
+) -> Result<FairParts, AllocError>
+    requires users { All (λ side. All (λ flow. flow < length kept.now) side.users.items) sides.items }
+    ensures { IfOk result (AreFairPartsBeside (map side_of sides.items) (kept_at kept.now) (length kept.now)
+        scale.now) }
+{
+    let left = sides_beside(alloc, sides, kept, scale)?;
+    fill(alloc, kept.len(), left, scale)
 }

@@ -5,7 +5,7 @@ use Rattle.fair_rates.proofs.bandwidth.filling.open_sides.Given as goal
 
 abbrev pub invariant-loop-side : goal.invariant-loop-side
 invariant-loop-side l = record {
-  opened : AreOpened l.scale l.yielded (heap_items l.queue);
+  opened : AreOpened l.yielded (heap_items l.queue);
   order : IsHeap queue_cmp (heap_items l.queue);
   count : heap_len l.queue ≤ length l.yielded;
 }

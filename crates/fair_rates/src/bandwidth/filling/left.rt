@@ -1,0 +1,84 @@
+//! What is left of sides, in parts, for the flows that are rated.
+ghost use Rattle.std.specs.Prelude.{◌≡◌, ◌<◌, IfOk, All, map, length};
+ghost use Rattle.std.specs.Option.{is_none};
+ghost use Rattle.fair_rates.specs.Sides.SideOf.{side_of};
+ghost use Rattle.fair_rates.specs.Filling.FairParts.{kept_at};
+ghost use Rattle.fair_rates.specs.Filling.LeftSides.{left_side_of, in_parts, left_beside};
+
+use crate::bandwidth::sides::Side;
+use natural::Natural;
+use std::alloc::{AllocError, Global};
+use std::rc::Rc;
+
+/// What some flows may have together.
+#[derive(Drop)]
+pub(crate) struct LeftSide {
+    /// In parts.
+    pub(crate) left: Natural,
+    /// The places of those flows in the list.
+    pub(crate) users: Vec<usize>,
+}
+
+/// All of each side is left.
+pub(crate) fn whole_sides(
+    alloc: Global,
+    sides: Vec<Side>,
+    scale: &Natural,
+) -> Result<Vec<LeftSide>, AllocError>
+    ensures { IfOk result (λ whole. map left_side_of whole.items
+        ≡ map (in_parts scale.now) (map side_of sides.items)) }
+{
+    let mut whole = Vec::with_capacity(alloc, sides.len())?;
+    for side in sides {
+        let Side { cap, users } = side;
+        let left = scale.product(cap)?;
+        whole.push(LeftSide { left, users })?;
+    }
+    Ok(whole)
+}
+
+/// What the flows that keep their rates leave of each side, for the others. Where they take more
+/// than the cap, nothing is left.
+pub(crate) fn sides_beside(
+    alloc: Global,
+    sides: Vec<Side>,
+    kept: &[Option<Rc<Natural>>],
+    scale: &Natural,
+) -> Result<Vec<LeftSide>, AllocError>
+    requires users { All (λ side. All (λ flow. flow < length kept.now) side.users.items) sides.items }
+    ensures { IfOk result (λ left. map left_side_of left.items
+        ≡ map (left_beside (kept_at kept.now) scale.now) (map side_of sides.items)) }
+{
+    let mut left = Vec::with_capacity(alloc, sides.len())?;
+    for side in sides {
+        left.push(side_beside(side, kept, scale)?)?;
+    }
+    Ok(left)
+}
+
+/// What the flows that keep their rates leave of the side, for the others.
+fn side_beside(
+    side: Side,
+    kept: &[Option<Rc<Natural>>],
+    scale: &Natural,
+) -> Result<LeftSide, AllocError>
+    requires { All (λ flow. flow < length kept.now) side.users.items }
+    ensures { IfOk result (λ left. left_side_of left ≡ left_beside (kept_at kept.now) scale.now (side_of side)) }
+{
+    let Side { cap, mut users } = side;
+    let mut left = scale.product(cap)?;
+    for user in &users {
+        if let Some(parts) = &kept[*user] {
+            left.sub_times(parts, 1);
+        }
+    }
+    users.retain(|user| is_rated(kept, *user));
+    Ok(LeftSide { left, users })
+}
+
+/// Whether the flow keeps no rate.
+fn is_rated(kept: &[Option<Rc<Natural>>], flow: usize) -> bool
+    ensures { result ≡ is_none (kept_at kept.now flow) }
+{
+    !matches!(kept.get(flow), Some(Some(_)))
+}
