@@ -6,7 +6,7 @@ ghost use Rattle.link_waiting.specs.Idle.AtRest.{of_pairs};
 ghost use Rattle.link_waiting.specs.Idle.Index.{IsIndexOf};
 ghost use Rattle.link_flights.specs.Flights.Flight.{AreTimed};
 ghost use Rattle.link_flights.specs.Flights.InFlight.{in_flight, in_units};
-ghost use Rattle.link_flights.specs.Flights.Rated.{ArePartedBy, is_out, are_limited, rated_ones};
+ghost use Rattle.link_flights.specs.Flights.Rated.{ArePartedBy, IsFloorOf, is_out, are_limited, rated_ones};
 ghost use Rattle.link_pairs.specs.Pairs.Messages.{messages};
 ghost use Rattle.link_pairs.specs.Pairs.CapsOf.{caps_of};
 
@@ -46,6 +46,9 @@ pub(crate) fn leave<P: Peer>(
     ensures parted { IfOk result (λ done. ArePartedBy (is_out P.cmp
         (caps_of P.cmp peers.now.entries pairs.now.entries) flights.old.scale)
         (in_units flights.old) (messages done.items) (in_units flights.new)) }
+    ensures floor { IfOk result (λ done. IsFloorOf (is_out P.cmp
+        (caps_of P.cmp peers.now.entries pairs.now.entries) flights.old.scale)
+        (in_units flights.old) flights.new.floor) }
     ensures scale { flights.new.scale ≡ flights.old.scale }
     ensures at { flights.new.at ≡ flights.old.at }
     ensures timed { AreTimed flights.old.list.items → AreTimed flights.new.list.items }

@@ -1,21 +1,23 @@
 -- What is in flight, accounted for at a moment.
 pub mod Accounted
 pub mod Accounts
+pub mod Beside
 pub mod CappedFlows
 pub mod ComponentFlows
 pub mod Components
 pub mod Copies
 pub mod Done
-pub mod Ends
 pub mod FairMessages
 pub mod Far
 pub mod Flight
-pub mod Grouped
+pub mod Floors
 pub mod InFlight
 pub mod Leaving
 pub mod Rated
 pub mod RatesGiven
 pub mod Rerating
+pub mod Restarting
+pub mod Search
 pub mod Settled
 pub mod ShortTerms
 pub mod Standing

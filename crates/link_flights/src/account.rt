@@ -1,5 +1,5 @@
 //! What is in flight, accounted for at a moment.
-ghost use Rattle.std.specs.Prelude.{◌≡◌, ◌≢◌, ◌+◌, ◌<◌, ◌≤◌, true, not};
+ghost use Rattle.std.specs.Prelude.{◌≡◌, ◌≢◌, ℕ, ◌+◌, ◌<◌, ◌≤◌, true, not};
 ghost use Rattle.std.specs.Prelude.{length, slice_index_or, IfOk, IfErr, OnOk};
 ghost use Rattle.std.specs.List.{filter, list_all, remove, AllZip};
 ghost use Rattle.std.specs.declared.rc.Rc.{Rc as AnyRc};
@@ -10,6 +10,7 @@ ghost use Rattle.link_simulation.specs.Rule.Planned.{is_spent};
 ghost use Rattle.link_flights.specs.Flights.Flight.{flight_at, has_come, AreTimed, DrainsTo};
 ghost use Rattle.link_flights.specs.Flights.InFlight.{in_flight, in_units};
 ghost use Rattle.link_flights.specs.Flights.Rated.{ArePartedBy, is_out, are_limited, rated_ones};
+ghost use Rattle.link_flights.specs.Flights.Rated.{IsFloorOf, IsNoMore};
 ghost use Rattle.link_pairs.specs.Pairs.Messages.{message_of, messages};
 ghost use Rattle.link_pairs.specs.Pairs.CapsOf.{caps_of};
 ghost use Rattle.link_simulation.specs.Simulation.Rates.{is_unlimited as is_free};
@@ -92,6 +93,7 @@ impl<P: Peer> Flights<P> {
         requires { at < length self.old.list.items }
         ensures list { self.new.list.items ≡ remove self.old.list.items at }
         ensures length { length self.new.list.items + 1 ≡ length self.old.list.items }
+        ensures floor { self.new.floor ≡ self.old.floor }
         ensures scale { self.new.scale ≡ self.old.scale }
         ensures at { self.new.at ≡ self.old.at }
     {
@@ -103,6 +105,31 @@ impl<P: Peer> Flights<P> {
         self.list.remove(at);
         self.settled = settled;
         self.rated_anew = self.rated_anew.min(self.list.len());
+    }
+
+    /// The floor is no more than the rate of the message at that place, if that has got one.
+    fn lower_floor(&mut self, at: usize) -> Result<(), Error>
+        requires place { at < length self.old.list.items }
+        ensures lowered { OnOk result ((d : AnyRc (AnyFlight P) Allocator) →
+            (slice_index_or self.old.list.items at d).value.rated ≡ true → IsNoMore self.new.floor
+            (flight_at self.old.at (slice_index_or self.old.list.items at d).value).rate) }
+        ensures lower { OnOk result ((rate : ℕ) → IsNoMore self.old.floor rate → IsNoMore self.new.floor rate) }
+        ensures list { self.new.list.items ≡ self.old.list.items }
+        ensures scale { self.new.scale ≡ self.old.scale }
+        ensures at { self.new.at ≡ self.old.at }
+        ensures refused { IfErr result (λ e. e ≡ Error.OutOfMemory) }
+    {
+        if self.list[at].rated {
+            let rate = self.list[at].rate_kept(self.alloc)?;
+            let lower = match &self.floor {
+                Some(floor) => Rc::as_ref(&rate) < floor,
+                None => true,
+            };
+            if lower {
+                self.floor = Some(rate.as_ref().clone()?);
+            }
+        }
+        Ok(())
     }
 
     /// Takes those that are done, in order of start.
@@ -118,11 +145,14 @@ impl<P: Peer> Flights<P> {
         ensures parted { IfOk result (λ done. ArePartedBy (is_out P.cmp
             (caps_of P.cmp peers.now.entries pairs.now.entries) self.old.scale)
             (in_units self.old) (messages done.items) (in_units self.new)) }
+        ensures floor { IfOk result (λ done. IsFloorOf (is_out P.cmp
+            (caps_of P.cmp peers.now.entries pairs.now.entries) self.old.scale) (in_units self.old) self.new.floor) }
         ensures scale { self.new.scale ≡ self.old.scale }
         ensures at { self.new.at ≡ self.old.at }
         ensures timed { AreTimed self.old.list.items → AreTimed self.new.list.items }
         ensures refused { IfErr result (λ e. e ≡ Error.OutOfMemory) }
     {
+        self.floor = None;
         let mut done = VecDeque::new(self.alloc);
         let mut at = if were_rated && !self.may_have_finished() {
             self.settled
@@ -132,6 +162,7 @@ impl<P: Peer> Flights<P> {
         while at < self.list.len() {
             if self.is_done(at, peers, pairs, were_rated) {
                 done.push_back(self.list[at].message.clone()?)?;
+                self.lower_floor(at)?;
                 self.remove(at);
             } else {
                 at += 1;
@@ -145,6 +176,7 @@ impl<P: Peer> Flights<P> {
         ensures sending { in_flight self.new ≡ in_flight self.old }
         ensures list { self.new.list.items ≡ self.old.list.items }
         ensures at { self.new.at ≡ self.old.at }
+        ensures floor { self.new.floor ≡ self.old.floor }
         ensures one { length self.new.list.items ≡ 0 → self.new.scale ≡ 1 }
         ensures scale { length self.new.list.items ≢ 0 → self.new.scale ≡ self.old.scale }
     {

@@ -1,76 +1,77 @@
-//! Which messages in flight are joined, directly or through others.
+//! What an event touches: those in flight whose rates may change.
 //!
-//! Messages that share a sender or a receiver are of one group. So where some are done or new, only
-//! those of the groups that they touch are looked at; and of these, those that the senders and
-//! receivers join.
-ghost use Rattle.std.specs.Prelude.{◌≡◌, ◌&&◌, ◌||◌, ◌==◌, ℕ, List, not, true, false, [], IfOk, IfErr, IfSome, OnOk};
+//! Where some messages are done or new, those in flight that share a sender or a receiver with them
+//! may get other rates, and so on from these. But a message whose rate is below a level goes on as it
+//! is, and passes nothing on: below the least rate of what is done, and below the least share that a
+//! cap leaves to each of its users with what is new, filling goes as it went before.
+ghost use Rattle.std.specs.Prelude.{◌≡◌, ◌≤◌, ◌||◌, true, false, not, [], length, IfOk, IfErr, IfSome, OnOk, nat_le};
 ghost use Rattle.std.specs.List.{list_all, list_any};
 ghost use Rattle.fair_rates.specs.Sides.Subjects.{same_peer};
-ghost use Rattle.link_flights.specs.Flights.Components.{is_sender, is_receiver, suits, is_closed, is_near};
-ghost use Rattle.link_flights.specs.Flights.Components.{is_found, AreGrouped, AreFarApart, AreFound, AreNear};
-ghost use Rattle.link_flights.specs.Flights.Components.{shares_any, HasEndsOf, NoneIsNear, NoneIsFound};
-ghost use Rattle.std.specs.declared.rc.Rc.{Rc as AnyRc};
-ghost use Rattle.std.specs.declared.alloc.Global.{Global as Allocator};
-ghost use Rattle.link_flights.specs.declared.flight.Flight.{Flight as AnyFlight};
+ghost use Rattle.link_flights.specs.Flights.Components.{is_sender, is_receiver, keeps, is_of, has_both, touches};
+ghost use Rattle.link_flights.specs.Flights.Components.{is_closed, AreNear, NoneIsNear};
+ghost use Rattle.link_flights.specs.Flights.Components.{StartsWith, ArePassedOn, AreFlagged, AreAllFlagged};
+ghost use Rattle.link_flights.specs.Flights.Components.{AllNewTouch};
+ghost use Rattle.link_flights.specs.Flights.Components.{share_an_end as share_end};
 ghost use Rattle.link_flights.specs.Flights.Flight.{flight_at};
 ghost use Rattle.link_flights.specs.Flights.InFlight.{in_units};
-ghost use Rattle.link_flights.specs.Flights.Rated.{rated_ones};
 
 use crate::flight::Flight;
 use crate::flight_list::Flights;
 use fair_rates::error::Error;
 use fair_rates::peer::Peer;
+use link_pairs::known_pairs::Pairs;
 use link_pairs::message::Message;
+use link_pairs::peers::Peers;
+use natural::Natural;
 use std::alloc::Global;
 use std::collections::VecDeque;
 use std::rc::Rc;
 
-/// How many senders, and how many receivers, a component may have. Where there are more, it pays to
-/// rate all that is in flight.
-const MOST_ENDS: usize = 14;
+/// So many messages a component may join. Where there are more, it pays to rate all that is in flight.
+const MOST_JOINED: usize = 20;
 
-/// Some groups of messages in flight, and some senders and receivers of these: those of these
-/// messages. What is near, of one of the groups or without a rate, is gathered once it is known. Or
-/// all.
+/// The senders and the receivers of some messages, or all of them. A message in flight whose rate is
+/// below the level goes on as it is.
 #[derive(Drop)]
 pub(crate) struct Component<P> {
     pub(crate) whole: bool,
-    pub(crate) groups: Vec<u64>,
+    /// In units.
+    pub(crate) level: Natural,
+    /// Its senders and receivers are those of these.
+    pub(crate) joined: Vec<Rc<Message<P>>>,
+    /// Those in flight of which it has an end, in order of start, once it is known.
+    pub(crate) near: Vec<Rc<Flight<P>>>,
     /// So many at the beginning of the list of what is in flight are not near.
     pub(crate) far: usize,
-    pub(crate) near: Vec<Rc<Flight<P>>>,
-    pub(crate) senders: Vec<Rc<Message<P>>>,
-    pub(crate) receivers: Vec<Rc<Message<P>>>,
 }
 
 impl<P: Peer> Component<P> {
-    fn new(alloc: Global) -> Component<P>
+    fn new(alloc: Global, level: Natural) -> Component<P>
         ensures part { result.whole ≡ false }
-        ensures senders { result.senders.items ≡ [] }
-        ensures receivers { result.receivers.items ≡ [] }
+        ensures level { result.level ≡ level }
+        ensures joined { result.joined.items ≡ [] }
     {
         Component {
             whole: false,
-            groups: Vec::new(alloc),
-            far: 0,
+            level,
+            joined: Vec::new(alloc),
             near: Vec::new(alloc),
-            senders: Vec::new(alloc),
-            receivers: Vec::new(alloc),
+            far: 0,
         }
     }
 
-    /// All senders and all receivers.
+    /// All senders and all receivers, and no level.
     pub(crate) fn whole(alloc: Global) -> Component<P>
         ensures whole { result.whole ≡ true }
+        ensures level { result.level ≡ 0 }
         ensures far { result.far ≡ 0 }
     {
         Component {
             whole: true,
-            groups: Vec::new(alloc),
-            far: 0,
+            level: Natural::from_u64(alloc, 0),
+            joined: Vec::new(alloc),
             near: Vec::new(alloc),
-            senders: Vec::new(alloc),
-            receivers: Vec::new(alloc),
+            far: 0,
         }
     }
 
@@ -78,117 +79,78 @@ impl<P: Peer> Component<P> {
     fn has_sender(&self, peer: &P) -> bool
         ensures { result ≡ is_sender P.cmp self.now peer.now }
     {
-        self.whole || sends_any(peer, &self.senders)
+        self.whole || sends_any(peer, &self.joined)
     }
 
     /// Whether the peer is one of the receivers.
     fn has_receiver(&self, peer: &P) -> bool
         ensures { result ≡ is_receiver P.cmp self.now peer.now }
     {
-        self.whole || receives_any(peer, &self.receivers)
+        self.whole || receives_any(peer, &self.joined)
     }
 
-    /// Whether the group is one of its groups.
-    fn has_group(&self, group: u64) -> bool
-        ensures { result ≡ list_any (λ own. own == group) self.now.groups.items }
+    /// Whether the message in flight goes on at its rate.
+    fn keeps(&self, one: &Flight<P>) -> bool
+        ensures { result ≡ keeps self.now (flight_at 0 one.now) }
     {
-        self.groups.iter().any(|own| *own == group)
+        one.rated && one.is_below(&self.level)
     }
 
-    /// Whether the message in flight is of one of its groups, or has got no rate yet.
-    fn is_near(&self, one: &Flight<P>) -> bool
-        ensures { result ≡ is_near self.now (flight_at 0 one.now) }
-    {
-        !one.rated || self.has_group(one.group)
-    }
-
-    /// Whether the message in flight is of it.
+    /// Whether the message in flight is rated anew.
     pub(crate) fn has(&self, one: &Flight<P>) -> bool
-        ensures { result ≡ is_found P.cmp self.now (flight_at 0 one.now) }
+        ensures { result ≡ is_of P.cmp self.now (flight_at 0 one.now) }
     {
-        self.whole || self.is_near(one) && self.has_sender(&one.message.origin)
+        self.has_sender(&one.message.origin) && !self.keeps(one)
     }
 
-    /// Where the first that is of it may stand in the list of what is in flight.
-    pub(crate) fn first(&self) -> usize
-        ensures { (list : List (AnyRc (AnyFlight P) Allocator)) → NoneIsNear self.now self.now.far list
-            → NoneIsFound P.cmp self.now result list }
+    /// Whether it has both ends of the message.
+    fn has_both(&self, message: &Message<P>) -> bool
+        ensures { result ≡ has_both P.cmp self.now message.now }
     {
-        if self.whole { 0 } else { self.far }
+        self.has_sender(&message.origin) && self.has_receiver(&message.recipient)
+    }
+
+    /// Whether it has an end of the message.
+    fn touches(&self, message: &Message<P>) -> bool
+        ensures { result ≡ touches P.cmp self.now message.now }
+    {
+        self.has_sender(&message.origin) || self.has_receiver(&message.recipient)
     }
 
     /// Takes in the ends of the message.
     fn join(&mut self, message: &Rc<Message<P>>) -> Result<(), Error>
-        ensures groups { self.new.groups ≡ self.old.groups }
+        ensures joined { OnOk result (StartsWith self.old.joined.items self.new.joined.items) }
+        ensures level { self.new.level ≡ self.old.level }
         ensures whole { self.new.whole ≡ self.old.whole }
-        ensures senders { OnOk result ((p : P) → is_sender P.cmp self.old p ≡ false
-            → same_peer P.cmp p message.now.value.origin ≡ false → is_sender P.cmp self.new p ≡ false) }
-        ensures receivers { OnOk result ((p : P) → is_receiver P.cmp self.old p ≡ false
-            → same_peer P.cmp p message.now.value.recipient ≡ false → is_receiver P.cmp self.new p ≡ false) }
         ensures refused { IfErr result (λ e. e ≡ Error.OutOfMemory) }
     {
-        if !self.has_sender(&message.origin) {
-            self.senders.push(message.clone()?)?;
-        }
-        if !self.has_receiver(&message.recipient) {
-            self.receivers.push(message.clone()?)?;
+        if !self.has_both(message) {
+            self.joined.push(message.clone()?)?;
         }
         Ok(())
     }
 
     /// Whether it has too many ends.
-    fn is_large(&self) -> bool {
-        self.senders.len() > MOST_ENDS || self.receivers.len() > MOST_ENDS
-    }
-
-    /// Takes in the group.
-    fn add_group(&mut self, group: u64) -> Result<(), Error>
-        ensures senders { self.new.senders ≡ self.old.senders }
-        ensures receivers { self.new.receivers ≡ self.old.receivers }
-        ensures whole { self.new.whole ≡ self.old.whole }
-        ensures added { OnOk result (list_any (λ own. own == group) self.new.groups.items ≡ true) }
-        ensures kept { OnOk result ((other : ℕ) → list_any (λ own. own == other) self.old.groups.items ≡ true
-            → list_any (λ own. own == other) self.new.groups.items ≡ true) }
-        ensures refused { IfErr result (λ e. e ≡ Error.OutOfMemory) }
+    fn is_large(&self) -> bool
+        ensures { result ≡ false → length self.now.joined.items ≤ MOST_JOINED }
     {
-        if !self.has_group(group) {
-            self.groups.push(group)?;
-        }
-        Ok(())
-    }
-
-    /// Whether it suits all these in flight.
-    fn suits_all(&self, near: &[Rc<Flight<P>>]) -> bool
-        ensures { result ≡ list_all (λ one. suits P.cmp self.now (flight_at 0 one.value)) near.now }
-    {
-        near.iter().all(|one| self.suits(one))
-    }
-
-    /// Whether it has one end of the message in flight, and not the other.
-    fn has_one_end(&self, one: &Flight<P>) -> bool {
-        self.has_sender(&one.message.origin) != self.has_receiver(&one.message.recipient)
-    }
-
-    /// Whether it has both ends of a message in flight; or neither, where that has got a rate.
-    fn suits(&self, one: &Flight<P>) -> bool
-        ensures { result ≡ suits P.cmp self.now (flight_at 0 one.now) }
-    {
-        let receives = self.has_receiver(&one.message.recipient);
-        if self.has_sender(&one.message.origin) {
-            receives
-        } else {
-            !receives && one.rated
-        }
+        self.joined.len() > MOST_JOINED
     }
 
     /// Whether it has both ends of each of the messages.
     fn has_all(&self, done: &VecDeque<Rc<Message<P>>>) -> bool
-        ensures { result ≡ list_all (λ m. is_sender P.cmp self.now m.value.origin
-            && is_receiver P.cmp self.now m.value.recipient) done.now.items }
+        ensures { result ≡ list_all (λ m. has_both P.cmp self.now m.value) done.now.items }
     {
-        done.iter().all(|message| {
-            self.has_sender(&message.origin) && self.has_receiver(&message.recipient)
-        })
+        done.iter().all(|message| self.has_both(message))
+    }
+
+    /// Whether it has both ends of each of these that keeps no rate.
+    fn suits_all(&self, near: &[Rc<Flight<P>>]) -> bool
+        ensures { result ≡ list_all (λ one. keeps self.now (flight_at 0 one.value)
+            || has_both P.cmp self.now one.value.message.value) near.now }
+    {
+        near.iter()
+            .all(|one| self.keeps(one) || self.has_both(&one.message))
     }
 }
 
@@ -210,34 +172,22 @@ fn receives_any<P: Peer>(peer: &P, messages: &[Rc<Message<P>>]) -> bool
         .any(|message| peer.cmp(&message.recipient).is_eq())
 }
 
-/// Whether the message goes from the sender or to the receiver of one of the others.
-fn has_end_of_any<P: Peer>(message: &Message<P>, others: &[Rc<Message<P>>]) -> bool
-    ensures { result ≡ shares_any P.cmp others.now message.now }
+/// Whether two messages go from one sender or to one receiver.
+fn share_an_end<P: Peer>(one: &Message<P>, other: &Message<P>) -> bool
+    ensures { result ≡ share_end P.cmp one.now other.now }
 {
-    others.iter().any(|other| {
-        message.origin.cmp(&other.origin).is_eq() || message.recipient.cmp(&other.recipient).is_eq()
-    })
+    one.origin.cmp(&other.origin).is_eq() || one.recipient.cmp(&other.recipient).is_eq()
 }
 
-/// Whether two messages go from one sender; or, where `sent` is false, to one receiver.
-fn share_that_end<P: Peer>(sent: bool, one: &Message<P>, other: &Message<P>) -> bool {
-    if sent {
-        one.origin.cmp(&other.origin).is_eq()
-    } else {
-        one.recipient.cmp(&other.recipient).is_eq()
-    }
-}
-
-/// The ends of the messages.
-fn ends_of<P: Peer>(alloc: Global, touched: &[Rc<Message<P>>]) -> Result<Component<P>, Error>
-    ensures ends { IfOk result (λ component. HasEndsOf P.cmp component touched.now) }
-    ensures refused { IfErr result (λ e. e ≡ Error.OutOfMemory) }
+/// The less of two levels. The first may be missing.
+fn lesser(one: Option<Natural>, other: Natural) -> Natural
+    ensures no_more { IfSome one (λ level. result ≤ level) }
+    ensures nor { result ≤ other }
 {
-    let mut component = Component::new(alloc);
-    for message in touched {
-        component.join(message)?;
+    match one {
+        Some(one) if one < other => one,
+        _ => other,
     }
-    Ok(component)
 }
 
 impl<P: Peer> Flights<P> {
@@ -246,31 +196,28 @@ impl<P: Peer> Flights<P> {
     pub(crate) fn component(
         &self,
         done: &VecDeque<Rc<Message<P>>>,
+        peers: &Peers<P>,
+        pairs: &Pairs<P>,
     ) -> Result<Option<Component<P>>, Error>
-        requires { AreGrouped P.cmp (rated_ones (in_units self.now)) }
         ensures closed { IfOk result (λ found. IfSome found (λ component.
             is_closed P.cmp component done.now.items (in_units self.now) ≡ true)) }
-        ensures found { IfOk result (λ found. IfSome found (λ component.
-            AreFound P.cmp component (in_units self.now))) }
+        ensures level { IfOk result (λ found. IfSome found (λ component.
+            IfSome self.now.floor (λ floor. component.level ≤ floor))) }
         ensures near { IfOk result (λ found. IfSome found (λ component.
-            AreNear component component.near.items self.now.list.items)) }
+            AreNear P.cmp component component.near.items self.now.list.items)) }
         ensures far { IfOk result (λ found. IfSome found (λ component.
-            NoneIsNear component component.far self.now.list.items)) }
+            NoneIsNear P.cmp component component.far self.now.list.items)) }
         ensures refused { IfErr result (λ e. e ≡ Error.OutOfMemory) }
     {
-        let touched = self.touched(done)?;
-        let mut component = ends_of(self.alloc, &touched)?;
-        if component.is_large() {
+        let level = self.level(peers, pairs)?;
+        let mut component = Component::new(self.alloc, level);
+        self.join_touched(done, &mut component)?;
+        let Some(flags) = self.grow(&mut component)? else {
             return Ok(None);
-        }
-        self.find_groups(&touched, &mut component)?;
-        let far = self.far(&component);
-        let near = self.near(&component, far)?;
-        self.grow(&near, &mut component)?;
-        if component.is_large() {
-            return Ok(None);
-        }
-        if component.has_all(done) && component.suits_all(&near) {
+        };
+        let far = self.far(&component, &flags);
+        let near = self.near(&component, &flags, far)?;
+        if component.has_all(done) && self.new_touch(&component) && component.suits_all(&near) {
             component.far = far;
             component.near = near;
             return Ok(Some(component));
@@ -278,50 +225,154 @@ impl<P: Peer> Flights<P> {
         Ok(None)
     }
 
-    /// The messages that are done and those that have got no rate yet.
-    fn touched(&self, done: &VecDeque<Rc<Message<P>>>) -> Result<Vec<Rc<Message<P>>>, Error>
+    /// A level below which what goes on keeps its rate: the least rate of what is done, or the least
+    /// share of a cap for what is new, if that is less. It is no more than any of what is done had; the
+    /// rest is a guess, which the rates that are found have to reach.
+    fn level(&self, peers: &Peers<P>, pairs: &Pairs<P>) -> Result<Natural, Error>
+        ensures level { IfOk result (λ level. IfSome self.now.floor (λ floor. level ≤ floor)) }
         ensures refused { IfErr result (λ e. e ≡ Error.OutOfMemory) }
     {
-        let mut touched = Vec::new(self.alloc);
-        for at in 0..done.len() {
-            touched.push(done[at].clone()?)?;
-        }
+        let mut level = match &self.floor {
+            Some(floor) => Some(floor.clone()?),
+            None => None,
+        };
         for at in self.settled..self.list.len() {
-            touched.push(self.list[at].message.clone()?)?;
+            let share = self.share_of(&self.list[at].message, peers, pairs)?;
+            level = Some(lesser(level, share));
         }
-        Ok(touched)
+        Ok(level.unwrap_or(Natural::from_u64(self.alloc, 0)))
     }
 
-    /// Takes the groups of those into the component that share an end with one of the messages whose
-    /// ends it has.
-    fn find_groups(
+    /// The least share of a cap that the message would have, if the cap were shared evenly. None to
+    /// speak of where it shares no end with another.
+    fn share_of(
         &self,
-        touched: &[Rc<Message<P>>],
-        component: &mut Component<P>,
-    ) -> Result<(), Error>
-        requires ends { HasEndsOf P.cmp component.old touched.now }
-        ensures far { OnOk result (AreFarApart P.cmp component.new (in_units self.now)) }
+        message: &Message<P>,
+        peers: &Peers<P>,
+        pairs: &Pairs<P>,
+    ) -> Result<Natural, Error>
         ensures refused { IfErr result (λ e. e ≡ Error.OutOfMemory) }
     {
+        let (sent, received) = self.count_sharing(message);
+        if sent <= 1 && received <= 1 {
+            return Ok(Natural::from_u64(self.alloc, 0));
+        }
+        let mut share = self.part_of(peers.egress(&message.origin), sent)?;
+        if message.is_delivered() {
+            let other = self.part_of(peers.ingress(&message.recipient), received)?;
+            share = least_part(share, other);
+        }
+        let link = self.part_of(pairs.cap(&message.origin, &message.recipient), 1)?;
+        Ok(least_part(share, link).unwrap_or(Natural::from_u64(self.alloc, 0)))
+    }
+
+    /// How many in flight go from the sender of the message, and how many to its receiver.
+    fn count_sharing(&self, message: &Message<P>) -> (u64, u64) {
+        let mut sent = 0u64;
+        let mut received = 0u64;
         for one in &self.list {
-            if one.rated && has_end_of_any(&one.message, touched) {
-                component.add_group(one.group)?;
+            if message.origin.cmp(&one.message.origin).is_eq() {
+                sent = sent.saturating_add(1);
+            }
+            if message.recipient.cmp(&one.message.recipient).is_eq() {
+                received = received.saturating_add(1);
+            }
+        }
+        (sent, received)
+    }
+
+    /// One of so many even parts of a cap, rounded down, in units. None where there is no cap.
+    fn part_of(&self, cap: Option<u128>, count: u64) -> Result<Option<Natural>, Error>
+        ensures refused { IfErr result (λ e. e ≡ Error.OutOfMemory) }
+    {
+        let Some(cap) = cap else {
+            return Ok(None);
+        };
+        let mut part = self.scale.product(cap)?;
+        part.divide(count.max(1));
+        Ok(Some(part))
+    }
+
+    /// The component has the ends of the messages that are done and of those that have got no rate yet.
+    fn join_touched(
+        &self,
+        done: &VecDeque<Rc<Message<P>>>,
+        component: &mut Component<P>,
+    ) -> Result<(), Error>
+        ensures level { component.new.level ≡ component.old.level }
+        ensures whole { component.new.whole ≡ component.old.whole }
+        ensures refused { IfErr result (λ e. e ≡ Error.OutOfMemory) }
+    {
+        for at in 0..done.len() {
+            component.join(&done[at])?;
+        }
+        for at in self.settled..self.list.len() {
+            component.join(&self.list[at].message)?;
+        }
+        Ok(())
+    }
+
+    /// Takes in the ends of those in flight that the component's ends join, message by message, until
+    /// there are no more. Answers which of those in flight it may have an end of; or none where it is
+    /// large.
+    fn grow(&self, component: &mut Component<P>) -> Result<Option<Vec<bool>>, Error>
+        ensures flagged { IfOk result (λ flags. IfSome flags (λ flags.
+            AreAllFlagged P.cmp component.new.joined.items flags.items self.now.list.items)) }
+        ensures level { component.new.level ≡ component.old.level }
+        ensures whole { component.new.whole ≡ component.old.whole }
+        ensures refused { IfErr result (λ e. e ≡ Error.OutOfMemory) }
+    {
+        let mut flags = vec![in self.alloc; false; self.list.len()]?;
+        let mut grown = 0;
+        while grown < component.joined.len() {
+            if component.is_large() {
+                return Ok(None);
+            }
+            let message = component.joined[grown].clone()?;
+            self.join_sharing(&message, component, &mut flags)?;
+            grown += 1;
+        }
+        Ok(Some(flags))
+    }
+
+    /// Flags those in flight that share an end with the message, and takes in the ends of those of
+    /// them that keep no rate.
+    fn join_sharing(
+        &self,
+        message: &Message<P>,
+        component: &mut Component<P>,
+        flags: &mut [bool],
+    ) -> Result<(), Error>
+        requires one_each { length flags.old ≡ length self.now.list.items }
+        ensures one_each { length flags.new ≡ length flags.old }
+        ensures flagged { OnOk result (AreFlagged P.cmp message.now flags.new self.now.list.items) }
+        ensures more { OnOk result (ArePassedOn flags.old flags.new) }
+        ensures joined { OnOk result (StartsWith component.old.joined.items component.new.joined.items) }
+        ensures level { component.new.level ≡ component.old.level }
+        ensures whole { component.new.whole ≡ component.old.whole }
+        ensures refused { IfErr result (λ e. e ≡ Error.OutOfMemory) }
+    {
+        for at in 0..self.list.len() {
+            let one = &self.list[at];
+            if share_an_end(message, &one.message) {
+                flags[at] = true;
+                if !component.keeps(one) {
+                    component.join(&one.message)?;
+                }
             }
         }
         Ok(())
     }
 
-    /// How many at the beginning are not near the component.
-    fn far(&self, component: &Component<P>) -> usize
-        ensures { NoneIsNear component.now result self.now.list.items }
+    /// How many at the beginning have no flag.
+    fn far(&self, component: &Component<P>, flags: &[bool]) -> usize
+        requires part { component.now.whole ≡ false }
+        requires flagged { AreAllFlagged P.cmp component.now.joined.items flags.now self.now.list.items }
+        ensures { NoneIsNear P.cmp component.now result self.now.list.items }
     {
-        let mut at = if component.groups.is_empty() {
-            self.settled
-        } else {
-            0
-        };
+        let mut at = 0;
         while at < self.list.len() {
-            if component.is_near(&self.list[at]) {
+            if flags[at] {
                 return at;
             }
             at += 1;
@@ -329,18 +380,24 @@ impl<P: Peer> Flights<P> {
         at
     }
 
-    /// Those in flight that are near the component, in order of start. So many at the beginning are
-    /// not.
-    fn near(&self, component: &Component<P>, far: usize) -> Result<Vec<Rc<Flight<P>>>, Error>
-        requires { NoneIsNear component.now far self.now.list.items }
-        ensures near { IfOk result (λ near. AreNear component.now near.items self.now.list.items) }
+    /// Those in flight of which the component has an end, in order of start. Of so many at the
+    /// beginning it has none.
+    fn near(
+        &self,
+        component: &Component<P>,
+        flags: &[bool],
+        far: usize,
+    ) -> Result<Vec<Rc<Flight<P>>>, Error>
+        requires part { component.now.whole ≡ false }
+        requires flagged { AreAllFlagged P.cmp component.now.joined.items flags.now self.now.list.items }
+        requires far { NoneIsNear P.cmp component.now far self.now.list.items }
+        ensures near { IfOk result (λ near. AreNear P.cmp component.now near.items self.now.list.items) }
         ensures refused { IfErr result (λ e. e ≡ Error.OutOfMemory) }
     {
-        let rest = self.list.len().saturating_sub(far);
-        let mut near = Vec::with_capacity(self.alloc, rest)?;
+        let mut near = Vec::new(self.alloc);
         for at in far..self.list.len() {
             let one = &self.list[at];
-            if component.is_near(one) {
+            if flags[at] && component.touches(&one.message) {
                 let copy = one.clone()?;
                 near.push(copy)?;
             }
@@ -348,64 +405,23 @@ impl<P: Peer> Flights<P> {
         Ok(near)
     }
 
-    /// Takes in the ends of those near that the component's ends join, end by end, until there are
-    /// no more or the component is large.
-    fn grow(&self, near: &[Rc<Flight<P>>], component: &mut Component<P>) -> Result<(), Error>
-        requires grouped { AreGrouped P.cmp (rated_ones (in_units self.now)) }
-        requires near { AreNear component.old near.now self.now.list.items }
-        requires far { AreFarApart P.cmp component.old (in_units self.now) }
-        ensures groups { component.new.groups ≡ component.old.groups }
-        ensures far { OnOk result (AreFarApart P.cmp component.new (in_units self.now)) }
-        ensures refused { IfErr result (λ e. e ≡ Error.OutOfMemory) }
+    /// Whether the component has an end of each of those that have got no rate yet.
+    fn new_touch(&self, component: &Component<P>) -> bool
+        ensures { result ≡ true → AllNewTouch P.cmp component.now self.now.settled self.now.list.items }
     {
-        let mut senders = 0;
-        let mut receivers = 0;
-        for _end in 0..2 * MOST_ENDS {
-            if component.is_large() {
-                break;
-            }
-            if senders < component.senders.len() {
-                let message = component.senders[senders].clone()?;
-                self.join_sharing(near, true, &message, component)?;
-                senders += 1;
-            } else if receivers < component.receivers.len() {
-                let message = component.receivers[receivers].clone()?;
-                self.join_sharing(near, false, &message, component)?;
-                receivers += 1;
-            } else {
-                break;
+        for at in self.settled..self.list.len() {
+            if !component.touches(&self.list[at].message) {
+                return false;
             }
         }
-        Ok(())
+        true
     }
+}
 
-    /// Takes in the ends of those near that share the sender of the message; or, where `sent` is
-    /// false, its receiver.
-    fn join_sharing(
-        &self,
-        near: &[Rc<Flight<P>>],
-        sent: bool,
-        message: &Message<P>,
-        component: &mut Component<P>,
-    ) -> Result<(), Error>
-        requires grouped { AreGrouped P.cmp (rated_ones (in_units self.now)) }
-        requires near { AreNear component.old near.now self.now.list.items }
-        requires far { AreFarApart P.cmp component.old (in_units self.now) }
-        ensures groups { component.new.groups ≡ component.old.groups }
-        ensures far { OnOk result (AreFarApart P.cmp component.new (in_units self.now)) }
-        ensures refused { IfErr result (λ e. e ≡ Error.OutOfMemory) }
-    {
-        for one in near {
-            if one.rated
-                && share_that_end(sent, message, &one.message)
-                && component.has_one_end(one)
-            {
-                component.join(&one.message)?;
-                if component.is_large() {
-                    return Ok(());
-                }
-            }
-        }
-        Ok(())
+/// The less of two parts, where there are any.
+fn least_part(one: Option<Natural>, other: Option<Natural>) -> Option<Natural> {
+    match other {
+        Some(other) => Some(lesser(one, other)),
+        None => one,
     }
 }

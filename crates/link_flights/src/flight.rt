@@ -1,5 +1,5 @@
 //! A message in flight.
-ghost use Rattle.std.specs.Prelude.{◌≡◌, ◌≢◌, ◌*◌, ◌==◌, IfOk, IfErr, OnOk, true, false};
+ghost use Rattle.std.specs.Prelude.{◌≡◌, ◌≢◌, ◌*◌, ◌==◌, IfOk, IfErr, OnOk, true, false, not, nat_le};
 ghost use Rattle.fair_rates.specs.Fairness.Exists.{product};
 ghost use Rattle.link_flights.specs.Flights.Flight.{rate_of, left_by, flight_at, has_come, IsTimed, IsFinishOf};
 
@@ -7,6 +7,7 @@ use fair_rates::error::Error;
 use fair_rates::peer::Peer;
 use link_pairs::message::Message;
 use natural::Natural;
+use std::alloc::Global;
 use std::rc::Rc;
 
 /// A message in flight. What is left, and the rate, are whole numbers of the units that all
@@ -23,9 +24,6 @@ pub(crate) struct Flight<P> {
     pub(crate) finish: Option<u64>,
     /// Whether an account has given it a rate since its start.
     pub(crate) rated: bool,
-    /// The number of its group, once it has a rate: those that share a sender or a receiver are of
-    /// one group.
-    pub(crate) group: u64,
 }
 
 impl<P: Peer> Flight<P> {
@@ -49,6 +47,27 @@ impl<P: Peer> Flight<P> {
         ensures started { result ≡ true → self.now.rated ≡ false → self.now.since ≡ now }
     {
         self.rated || self.since == now
+    }
+
+    /// Whether less than the level drains in a nanosecond at its rate.
+    pub(crate) fn is_below(&self, level: &Natural) -> bool
+        ensures { result ≡ not (nat_le level.now (rate_of self.now.rate)) }
+    {
+        match &self.rate {
+            Some(rate) => Rc::as_ref(rate) < level,
+            None => !level.is_zero(),
+        }
+    }
+
+    /// The rate that it has got, or none at all where it has got none.
+    pub(crate) fn rate_kept(&self, alloc: Global) -> Result<Rc<Natural>, Error>
+        ensures rate { IfOk result (λ rate. rate.value ≡ (flight_at 0 self.now).rate) }
+        ensures refused { IfErr result (λ e. e ≡ Error.OutOfMemory) }
+    {
+        match &self.rate {
+            Some(rate) if self.rated => Ok(rate.clone()?),
+            _ => Ok(Rc::new(alloc, Natural::from_u64(alloc, 0))?),
+        }
     }
 
     /// Whether its finish has come at that moment.
@@ -83,7 +102,6 @@ impl<P: Peer> Flight<P> {
         ensures rate { IfOk result (λ one. rate_of one.rate ≡ rate_of self.now.rate) }
         ensures since { IfOk result (λ one. one.since ≡ now) }
         ensures rated { IfOk result (λ one. one.rated ≡ self.now.rated) }
-        ensures group { IfOk result (λ one. one.group ≡ self.now.group) }
         ensures refused { IfErr result (λ e. e ≡ Error.OutOfMemory) }
     {
         Ok(Flight {
@@ -93,17 +111,15 @@ impl<P: Peer> Flight<P> {
             since: now,
             finish: self.finish,
             rated: self.rated,
-            group: self.group,
         })
     }
 
-    /// Whether it has that rate and is of that group.
-    pub(crate) fn goes_on(&self, rate: &Option<Rc<Natural>>, group: u64) -> bool
+    /// Whether it has that rate.
+    pub(crate) fn goes_on(&self, rate: &Option<Rc<Natural>>) -> bool
         ensures rated { result ≡ true → self.now.rated ≡ true }
-        ensures group { result ≡ true → self.now.group ≡ group }
         ensures rate { result ≡ true → rate_of self.now.rate ≡ rate_of rate.now }
     {
-        if !self.rated || self.group != group {
+        if !self.rated {
             return false;
         }
         match (&self.rate, rate) {
@@ -113,14 +129,13 @@ impl<P: Peer> Flight<P> {
         }
     }
 
-    /// The same message at that rate from `now` on, the moment of an account, and in that group.
+    /// The same message at that rate from `now` on, the moment of an account.
     /// What is left counts in smaller units, of which so many times as many are needed.
     pub(crate) fn rerated(
         &self,
         rate: Option<Rc<Natural>>,
         growth: &[u64],
         now: u64,
-        group: u64,
     ) -> Result<Flight<P>, Error>
         requires { (flight_at now self.now).left * product growth.now ≢ 0 }
         ensures message { IfOk result (λ one. one.message.value ≡ self.now.message.value) }
@@ -128,7 +143,6 @@ impl<P: Peer> Flight<P> {
         ensures rate { IfOk result (λ one. rate_of one.rate ≡ rate_of rate) }
         ensures since { IfOk result (λ one. one.since ≡ now) }
         ensures rated { IfOk result (λ one. one.rated ≡ true) }
-        ensures group { IfOk result (λ one. one.group ≡ group) }
         ensures timed { IfOk result (λ one. IsTimed one) }
         ensures refused { IfErr result (λ e. e ≡ Error.OutOfMemory) }
     {
@@ -142,7 +156,6 @@ impl<P: Peer> Flight<P> {
             since: now,
             finish,
             rated: true,
-            group,
         })
     }
 }

@@ -35,8 +35,8 @@ pub struct Flights<P: Peer> {
     pub(crate) scale: Natural,
     /// The moment of the last account.
     pub at: u64,
-    /// The number of the group that was made last.
-    pub(crate) last_group: u64,
+    /// The least rate of those that were done at the last account, if any of them had got one.
+    pub floor: Option<Natural>,
     /// How many were rated anew at the last account: each drained, with a rate and a finish of its
     /// own. The others went on as they were.
     pub rated_anew: usize,
@@ -106,7 +106,7 @@ impl<P: Peer> Flights<P> {
             list: Vec::new(alloc),
             scale: Natural::from_u64(alloc, 1),
             at: 0,
-            last_group: 0,
+            floor: None,
             rated_anew: 0,
             settled: 0,
             first: None,
@@ -139,6 +139,7 @@ impl<P: Peer> Flights<P> {
               updated = now;
             } ∷ []) }
         ensures scale { self.new.scale ≡ self.old.scale }
+        ensures floor { self.new.floor ≡ self.old.floor }
         ensures rated { rated_ones (in_units self.new) ≡ rated_ones (in_units self.old) }
         ensures timed { AreTimed self.old.list.items → AreTimed self.new.list.items }
         ensures kept { OnErr result (in_flight self.new ≡ in_flight self.old) }
@@ -153,7 +154,6 @@ impl<P: Peer> Flights<P> {
             since: now,
             finish: None,
             rated: false,
-            group: 0,
         };
         self.list.push(Rc::new(self.alloc, flight)?)?;
         Ok(())
@@ -168,6 +168,7 @@ impl<P: Peer> Flights<P> {
         ensures list { OnOk result (IsPutAt at flight self.old.list.items self.new.list.items) }
         ensures scale { self.new.scale ≡ self.old.scale }
         ensures at { self.new.at ≡ self.old.at }
+        ensures floor { self.new.floor ≡ self.old.floor }
         ensures counted { self.new.rated_anew ≡ self.old.rated_anew }
         ensures refused { IfErr result (λ e. e ≡ Error.OutOfMemory) }
     {
@@ -202,7 +203,7 @@ impl<P: Peer> Clone for Flights<P> {
             list,
             scale: self.scale.clone()?,
             at: self.at,
-            last_group: self.last_group,
+            floor: None,
             rated_anew: self.rated_anew,
             settled: self.settled,
             first: self.first,

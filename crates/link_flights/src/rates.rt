@@ -1,6 +1,7 @@
 //! The fair rates of what is in flight.
 ghost use Rattle.std.specs.Prelude.{◌≡◌, ◌≢◌, ℕ, ◌<◌, ◌≤◌, ◌*◌, true, false, map, length, slice_index_or};
-ghost use Rattle.std.specs.Prelude.{All, IfOk, IfErr, IfSome, OnOk};
+ghost use Rattle.std.specs.Prelude.{All, IfOk, IfErr, IfSome, OnOk, option_map, nat_le};
+ghost use Rattle.std.specs.List.{list_all};
 ghost use Rattle.fair_rates.specs.Fairness.Exists.{product};
 ghost use Rattle.link_simulation.specs.Rule.Planned.{IsLeastMoment, SomeSpentAt};
 ghost use Rattle.link_simulation.specs.Simulation.World.{last_moment};
@@ -8,14 +9,14 @@ ghost use Rattle.link_pairs.specs.Pairs.Messages.{messages};
 ghost use Rattle.link_flights.specs.Flights.CappedFlows.{AreFairPartsUnder, HasItsCaps};
 ghost use Rattle.link_pairs.specs.Pairs.CapsOf.{caps_of};
 ghost use Rattle.link_pairs.specs.Pairs.PeerCaps.{ingress_of};
-ghost use Rattle.link_flights.specs.Flights.Components.{those_of, AreFound, AreNear, NoneIsNear};
+ghost use Rattle.link_flights.specs.Flights.Components.{those_of, AreNear, NoneIsNear};
 ghost use Rattle.link_flights.specs.Flights.Flight.{AreTimed, rate_of, flight_at, flights_at};
 ghost use Rattle.link_flights.specs.Flights.RatedFlights.{are_standing};
 ghost use Rattle.fair_rates.specs.Filling.FairParts.{parts_of_level};
 ghost use Rattle.link_flights.specs.Flights.InFlight.{in_units, in_flight};
-ghost use Rattle.link_flights.specs.Flights.Rated.{WereRated, AreFairOf, HaveFairRates};
+ghost use Rattle.link_flights.specs.Flights.Rated.{WereRated, AreFairOf, AreFairBeside, HaveFairRates, kept_by};
 ghost use Rattle.link_flights.specs.Flights.Rated.{rerated, rates_found, AreOthersTimed, IsReratedAt};
-ghost use Rattle.link_flights.specs.Flights.Rated.{AreKeptBut, IsCountedAt};
+ghost use Rattle.link_flights.specs.Flights.Rated.{AreKeptBut, IsCountedAt, levels_rated};
 ghost use Rattle.link_flights.specs.declared.flight.Flight.{Flight as AnyFlight};
 ghost use Rattle.std.specs.declared.rc.Rc.{Rc as AnyRc};
 ghost use Rattle.std.specs.declared.alloc.Global.{Global as Allocator};
@@ -23,7 +24,7 @@ ghost use Rattle.std.specs.declared.alloc.Global.{Global as Allocator};
 use crate::component::Component;
 use crate::flight::Flight;
 use crate::flight_list::Flights;
-use fair_rates::bandwidth::{CappedFlow, FairParts, Flow, FlowCaps, fair_parts};
+use fair_rates::bandwidth::{CappedFlow, FairParts, Flow, FlowCaps, fair_parts, fair_parts_beside};
 use fair_rates::error::Error;
 use fair_rates::peer::Peer;
 use link_pairs::known_pairs::Pairs;
@@ -141,6 +142,68 @@ fn level_at(levels: &[Rc<Natural>], place: Option<usize>) -> Result<Option<Rc<Na
     }
 }
 
+/// The rates that those keep which are near a component and are not rated anew with it.
+fn kept_rates<P: Peer>(
+    alloc: Global,
+    component: &Component<P>,
+) -> Result<Vec<Option<Rc<Natural>>>, Error>
+    ensures kept { IfOk result (λ kept. map (option_map (λ rate. rate.value)) kept.items
+        ≡ map (kept_by P.cmp component.now) (flights_at 0 component.now.near.items)) }
+    ensures refused { IfErr result (λ e. e ≡ Error.OutOfMemory) }
+{
+    let mut kept = Vec::with_capacity(alloc, component.near.len())?;
+    for one in &component.near {
+        if component.has(one) {
+            kept.push(None)?;
+        } else {
+            kept.push(Some(one.rate_kept(alloc)?))?;
+        }
+    }
+    Ok(kept)
+}
+
+/// The levels of the flows that keep no rate.
+fn levels_without(
+    alloc: Global,
+    kept: &[Option<Rc<Natural>>],
+    level_of: &[Option<usize>],
+) -> Result<Vec<Option<usize>>, Error>
+    ensures rated { IfOk result (λ levels. levels.items
+        ≡ levels_rated (map (option_map (λ rate. rate.value)) kept.now) level_of.now) }
+    ensures refused { IfErr result (λ e. e ≡ Error.OutOfMemory) }
+{
+    let mut levels = Vec::with_capacity(alloc, level_of.len())?;
+    for (rate, level) in kept.iter().zip(level_of) {
+        if rate.is_none() {
+            levels.push(*level)?;
+        }
+    }
+    Ok(levels)
+}
+
+/// Whether the rate at that place is at least at the level.
+fn reaches(levels: &[Natural], place: Option<usize>, level: &Natural) -> bool
+    ensures { result ≡ nat_le level.now (parts_of_level levels.now place) }
+{
+    let Some(place) = place else {
+        return level.is_zero();
+    };
+    match levels.get(place) {
+        Some(rate) => level <= rate,
+        None => level.is_zero(),
+    }
+}
+
+/// Whether all these rates are at least at the level.
+fn all_reach(rates: &FairParts, level: &Natural) -> bool
+    ensures { result ≡ list_all (λ rate. nat_le level.now rate) (rates_found rates.now) }
+{
+    rates
+        .level_of
+        .iter()
+        .all(|place| reaches(&rates.levels, *place, level))
+}
+
 impl<P: Peer> Flights<P> {
     /// Gives each its fair rate from the last account on, once some are done. Where they had fair
     /// rates before, those that share no side with what is done or new keep them. Answers the first
@@ -157,7 +220,7 @@ impl<P: Peer> Flights<P> {
         requires updated { All (λ u. u.updated ≡ self.old.at) (in_units self.old) }
         requires before { were_rated ≡ true
             → WereRated P.cmp (caps_of P.cmp peers.now.entries pairs.now.entries) self.old.scale
-            (in_units self.old) (messages done.now.items) }
+            (in_units self.old) (messages done.now.items) self.old.floor }
         requires timed { were_rated ≡ true → AreTimed self.old.list.items }
         ensures rated { OnOk result (HaveFairRates P.cmp (caps_of P.cmp peers.now.entries pairs.now.entries)
             self.old self.new) }
@@ -166,9 +229,9 @@ impl<P: Peer> Flights<P> {
         ensures refused { IfErr result (λ e. e ≡ Error.OutOfMemory) }
     {
         if were_rated && self.list.len() > FEW && self.unsearched == 0 {
-            if let Some(component) = self.component(done)? {
-                let part = self.rates_of(&component, peers, pairs)?;
-                if part.growth.is_empty() {
+            if let Some(component) = self.component(done, peers, pairs)? {
+                let part = self.rates_beside(&component, peers, pairs)?;
+                if part.growth.is_empty() && all_reach(&part, &component.level) {
                     let unsearched = self.spared_after(part.level_of.len());
                     self.set_rates(&component, part, true)?;
                     let first = self.first_finish();
@@ -180,7 +243,7 @@ impl<P: Peer> Flights<P> {
             }
         }
         let all = Component::whole(self.alloc);
-        let rates = self.rates_of(&all, peers, pairs)?;
+        let rates = self.rates_of_all(&all, peers, pairs)?;
         let unsearched = self.spared_after_all();
         self.set_rates(&all, rates, were_rated)?;
         let first = self.first_finish();
@@ -208,57 +271,51 @@ impl<P: Peer> Flights<P> {
         }
     }
 
-    /// The fair rates of a component alone.
-    fn rates_of(
+    /// The fair rates of all.
+    fn rates_of_all(
+        &self,
+        all: &Component<P>,
+        peers: &Peers<P>,
+        pairs: &Pairs<P>,
+    ) -> Result<FairParts, Error>
+        requires whole { all.now.whole ≡ true }
+        requires level { all.now.level ≡ 0 }
+        ensures fair { IfOk result (AreFairOf P.cmp (caps_of P.cmp peers.now.entries pairs.now.entries)
+            self.now.scale all.now (in_units self.now)) }
+        ensures refused { IfErr result (λ e. e ≡ Error.OutOfMemory) }
+    {
+        let flows = self.flows_among(&self.list, peers, pairs)?;
+        fair_parts(self.alloc, &flows, &self.scale)
+    }
+
+    /// The fair rates of a component, beside those that others keep of which it has an end.
+    fn rates_beside(
         &self,
         component: &Component<P>,
         peers: &Peers<P>,
         pairs: &Pairs<P>,
     ) -> Result<FairParts, Error>
-        requires found { AreFound P.cmp component.now (in_units self.now) }
-        requires near { component.now.whole ≡ false
-            → AreNear component.now component.now.near.items self.now.list.items }
-        ensures fair { IfOk result (AreFairOf P.cmp (caps_of P.cmp peers.now.entries pairs.now.entries)
+        requires near { AreNear P.cmp component.now component.now.near.items self.now.list.items }
+        ensures fair { IfOk result (AreFairBeside P.cmp (caps_of P.cmp peers.now.entries pairs.now.entries)
             self.now.scale component.now (in_units self.now)) }
         ensures refused { IfErr result (λ e. e ≡ Error.OutOfMemory) }
     {
-        let flows = self.flows_of(component, peers, pairs)?;
-        fair_parts(self.alloc, &flows, &self.scale)
+        let flows = self.flows_among(&component.near, peers, pairs)?;
+        let kept = kept_rates(self.alloc, component)?;
+        let mut found = fair_parts_beside(self.alloc, &flows, &kept, &self.scale)?;
+        found.level_of = levels_without(self.alloc, &kept, &found.level_of)?;
+        Ok(found)
     }
 
-    /// The flows of the component with their caps, in order of start.
-    fn flows_of(
-        &self,
-        component: &Component<P>,
-        peers: &Peers<P>,
-        pairs: &Pairs<P>,
-    ) -> Result<Vec<CappedFlow<P>>, Error>
-        requires found { AreFound P.cmp component.now (in_units self.now) }
-        requires near { component.now.whole ≡ false
-            → AreNear component.now component.now.near.items self.now.list.items }
-        ensures standing { IfOk result (λ flows. are_standing P.cmp (map (λ capped. capped.flow) flows.items)
-            (those_of P.cmp component.now (in_units self.now)) ≡ true) }
-        ensures capped { IfOk result (λ flows. All
-            (HasItsCaps (caps_of P.cmp peers.now.entries pairs.now.entries)) flows.items) }
-        ensures refused { IfErr result (λ e. e ≡ Error.OutOfMemory) }
-    {
-        if component.whole {
-            return self.flows_among(&self.list, component, peers, pairs);
-        }
-        self.flows_among(&component.near, component, peers, pairs)
-    }
-
-    /// The flows of those of a list that are of the component, with their caps, in their order.
+    /// The flows of those of a list, with their caps, in their order.
     fn flows_among(
         &self,
         list: &[Rc<Flight<P>>],
-        component: &Component<P>,
         peers: &Peers<P>,
         pairs: &Pairs<P>,
     ) -> Result<Vec<CappedFlow<P>>, Error>
-        requires found { AreFound P.cmp component.now (flights_at self.now.at list.now) }
         ensures standing { IfOk result (λ flows. are_standing P.cmp (map (λ capped. capped.flow) flows.items)
-            (those_of P.cmp component.now (flights_at self.now.at list.now)) ≡ true) }
+            (flights_at self.now.at list.now) ≡ true) }
         ensures capped { IfOk result (λ flows. All
             (HasItsCaps (caps_of P.cmp peers.now.entries pairs.now.entries)) flows.items) }
         ensures refused { IfErr result (λ e. e ≡ Error.OutOfMemory) }
@@ -266,18 +323,16 @@ impl<P: Peer> Flights<P> {
         let mut flows = Vec::with_capacity(self.alloc, list.len())?;
         let mut place = usize::MAX;
         for one in list {
-            if component.has(one) {
-                let flow = one.message.flow(0)?;
-                place = place_to(&flow.recipient, &flows, place);
-                let caps = caps_for(&flow, flows.last(), flows.get(place), peers, pairs);
-                flows.push(CappedFlow { flow, caps })?;
-            }
+            let flow = one.message.flow(0)?;
+            place = place_to(&flow.recipient, &flows, place);
+            let caps = caps_for(&flow, flows.last(), flows.get(place), peers, pairs);
+            flows.push(CappedFlow { flow, caps })?;
         }
         Ok(flows)
     }
 
     /// Gives those of the component these rates from the last account on, in the units of these
-    /// rates. They are a group from now on.
+    /// rates.
     fn set_rates(
         &mut self,
         component: &Component<P>,
@@ -289,10 +344,9 @@ impl<P: Peer> Flights<P> {
         requires left { All (λ u. u.left * product rates.growth.items ≢ 0) (in_units self.old) }
         requires scaled { 0 < rates.scale }
         requires others { AreOthersTimed P.cmp component.now self.old.list.items }
-        requires found { AreFound P.cmp component.now (in_units self.old) }
-        requires far { NoneIsNear component.now component.now.far self.old.list.items }
-        ensures rerated { OnOk result ((group : ℕ) × (in_units self.new ≡ rerated P.cmp component.now self.old.at
-            (product rates.growth.items) group (rates_found rates) (in_units self.old))) }
+        requires far { NoneIsNear P.cmp component.now component.now.far self.old.list.items }
+        ensures rerated { OnOk result (in_units self.new ≡ rerated P.cmp component.now self.old.at
+            (product rates.growth.items) (rates_found rates) (in_units self.old)) }
         ensures timed { OnOk result (AreTimed self.new.list.items) }
         ensures scale { OnOk result (self.new.scale ≡ rates.scale) }
         ensures at { self.new.at ≡ self.old.at }
@@ -303,45 +357,27 @@ impl<P: Peer> Flights<P> {
     {
         let levels = shared_levels(self.alloc, rates.levels)?;
         self.rated_anew = 0;
-        let group = self.number_for(component, rates.level_of.len());
-        let mut at = component.first();
+        let mut at = component.far;
         let mut next = 0;
         while next < rates.level_of.len() {
             if component.has(&self.list[at]) {
                 let rate = level_at(&levels, rates.level_of[next])?;
-                self.rerate(at, rate, &rates.growth, group, were_timed)?;
+                self.rerate(at, rate, &rates.growth, were_timed)?;
                 next += 1;
             }
             at += 1;
         }
         self.scale = rates.scale;
-        self.last_group = self.last_group.max(group);
         Ok(())
     }
 
-    /// The number of the group that so many of the component are from now on. Where they are all of
-    /// one group they keep the number that they have, so that those whose rate stays need not change.
-    /// Else they part from the others, with which they share no end.
-    fn number_for(&self, component: &Component<P>, count: usize) -> u64 {
-        if component.whole {
-            if let Some(first) = self.list.first() {
-                return first.group;
-            }
-        }
-        if component.groups.len() == 1 && count == component.near.len() {
-            return component.groups[0];
-        }
-        self.last_group.wrapping_add(1)
-    }
-
-    /// The message at that place has that rate from the last account on, and is of that group. Where
-    /// it had both, in the same units, it goes on as it is.
+    /// The message at that place has that rate from the last account on. Where it had that rate, in the
+    /// same units, it goes on as it is.
     fn rerate(
         &mut self,
         at: usize,
         rate: Option<Rc<Natural>>,
         growth: &[u64],
-        group: u64,
         were_timed: bool,
     ) -> Result<(), Error>
         requires place { at < length self.old.list.items }
@@ -349,7 +385,7 @@ impl<P: Peer> Flights<P> {
             (slice_index_or self.old.list.items at d).value).left * product growth.now ≢ 0 }
         requires timed { were_timed ≡ true → AreTimed self.old.list.items }
         requires counted { self.old.rated_anew ≤ at }
-        ensures rerated { OnOk result (IsReratedAt self.old.at at (product growth.now) group (rate_of rate)
+        ensures rerated { OnOk result (IsReratedAt self.old.at at (product growth.now) (rate_of rate)
             self.old.list.items self.new.list.items) }
         ensures scale { self.new.scale ≡ self.old.scale }
         ensures at { self.new.at ≡ self.old.at }
@@ -357,10 +393,10 @@ impl<P: Peer> Flights<P> {
         ensures refused { IfErr result (λ e. e ≡ Error.OutOfMemory) }
     {
         let one = &self.list[at];
-        if were_timed && growth.is_empty() && one.goes_on(&rate, group) {
+        if were_timed && growth.is_empty() && one.goes_on(&rate) {
             return Ok(());
         }
-        let one = one.rerated(rate, growth, self.at, group)?;
+        let one = one.rerated(rate, growth, self.at)?;
         self.put(at, one)?;
         self.rated_anew += 1;
         Ok(())

@@ -1,15 +1,15 @@
--- Fair rates of a component, and of what shares no side with it.
+-- Fair rates of a component, beside those that others keep.
 use Rattle.std.proofs.Common.{◌≡◌, ℕ, zero, suc, ◌+◌, ◌*◌, ◌≤◌, Bool, true, false, cond, if◌then◌else◌, not}
-use Rattle.std.proofs.Common.{◌&&◌, ◌||◌, List, [], ◌∷◌, Option, Result, Ok, Err, IfOk, All, map, length, sum_by, refl}
+use Rattle.std.proofs.Common.{◌&&◌, ◌||◌, List, [], ◌∷◌, Option, Some, None, Result, Ok, Err, IfOk, IfSome, All, map}
+use Rattle.std.proofs.Common.{length, sum_by, refl}
 use Rattle.std.proofs.Common.{sym, ap, ap₂, ◌∙◌, subst, inl, inr, arith, zero-add}
-use Rattle.std.specs.Prelude.{slice_index, Contains}
+use Rattle.std.specs.Prelude.{slice_index, nat_le}
 use Rattle.std.specs.List.{AllZip, filter, list_all, list_any}
 use Rattle.std.specs.Cmp.{IsTotalOrder}
 use Rattle.std.specs.declared.cmp.Ordering.{Ordering}
 use Rattle.std.specs.declared.rc.Rc.{Rc}
 use Rattle.std.specs.declared.alloc.Global.{Global}
-use Rattle.std.specs.Bool.{◌==◌}
-use Rattle.std.proofs.lemmas.Bool.{false≢true, eqb-true}
+use Rattle.std.proofs.lemmas.Bool.{false≢true, le-leb}
 use Rattle.std.proofs.lemmas.Cmp.{eq_by_cmp_equiv}
 use Rattle.std.proofs.lemmas.List.{length-map}
 use Rattle.std.proofs.lemmas.List.Elements.{All-contains}
@@ -23,11 +23,9 @@ use Rattle.fair_rates.specs.Sides.Subjects.{Subject, sent_by, received_by, sent_
 use Rattle.fair_rates.specs.Fairness.Fair.{Side, load, IsFair, HasBottleneck}
 use Rattle.fair_rates.specs.Fairness.UnderCaps.{AreOfPeers, limits, sides_under}
 use Rattle.fair_rates.specs.Filling.FairParts.{flow_parts, parts_of_level}
-use Rattle.fair_rates.proofs.Lists.Members.{In, in_map, from_map, from_filter, in_filter, contains_from_in, all_pass}
-use Rattle.fair_rates.proofs.Lists.Members.{in_from_contains}
+use Rattle.fair_rates.proofs.Lists.Members.{In, in_map, from_map, in_filter, contains_from_in, all_pass}
 use Rattle.fair_rates.proofs.Fairness.SameSides.{still_fair}
-use Rattle.fair_rates.proofs.Fairness.Sharing.{StandsAt, AreShared, AreApart, shared_from, fair_from, part_shared}
-use Rattle.fair_rates.proofs.Fairness.Sharing.{both_shared}
+use Rattle.fair_rates.proofs.Fairness.Sharing.{StandsAt, AreShared, shared_from, fair_from}
 use Rattle.link_simulation.specs.Simulation.Messages.{Message, is_delivered}
 use Rattle.link_simulation.specs.Simulation.Rates.{capped_sides}
 use Rattle.link_flights.specs.declared.component.Component.{Component}
@@ -36,10 +34,10 @@ use Rattle.link_pairs.specs.Pairs.Messages.{messages, message_of}
 use Rattle.link_flights.specs.Flights.CappedFlows.{AreFairPartsUnder}
 use Rattle.link_flights.specs.declared.flight.Flight.{Flight}
 use Rattle.link_flights.specs.Flights.Flight.{UnitFlight, flight_at}
-use Rattle.link_flights.specs.Flights.Components.{is_sender, is_receiver, is_of, those_of, suits, is_closed}
-use Rattle.link_flights.specs.Flights.Components.{share_an_end, AreGrouped}
-use Rattle.link_flights.specs.Flights.Rated.{sent_messages, rates_of, rated_ones, rates_found, rerated}
-use Rattle.link_flights.specs.Flights.Rated.{AreFairlyRated, WereRated, AreFairOf, IsRatedFrom}
+use Rattle.link_flights.specs.Flights.Components.{is_sender, is_receiver, keeps, is_of, those_of, has_both, suits}
+use Rattle.link_flights.specs.Flights.Components.{is_closed}
+use Rattle.link_flights.specs.Flights.Rated.{sent_messages, rates_of, rated_ones, rates_found, rerated, rated_anew}
+use Rattle.link_flights.specs.Flights.Rated.{AreFairFor, AreFairlyRated, WereRated, AreFairOf, IsRatedFrom, IsNoMore}
 use Rattle.link_flights.specs.Flights.Rated.{AreOthersTimed}
 use Rattle.link_flights.specs.Flights.RatedFlights.{are_standing}
 use Rattle.link_flights.proofs.Flights.FairMessages.{StandsForMessage, same_sides}
@@ -84,15 +82,15 @@ pub record Share (P : Type 0) : Type 0 where
   pub flow : Flow P
   pub parts : ℕ
 
-abbrev flow_of : {P : Type 0} → Share P → Flow P
+abbrev pub flow_of : {P : Type 0} → Share P → Flow P
 flow_of x = x.flow
 
-abbrev parts_of : {P : Type 0} → Share P → ℕ
+abbrev pub parts_of : {P : Type 0} → Share P → ℕ
 parts_of x = x.parts
 
 module _ {P : Type 0} (cmp : P → P → Ordering) where
   -- the flow of a message in flight
-  abbrev flow_for : UnitFlight P → Flow P
+  abbrev pub flow_for : UnitFlight P → Flow P
   flow_for u = record {
     id = 0;
     origin = u.message.origin;
@@ -100,18 +98,18 @@ module _ {P : Type 0} (cmp : P → P → Ordering) where
     delivered = is_delivered cmp (message_of u.message);
   }
 
-  abbrev share_of : UnitFlight P → Share P
+  abbrev pub share_of : UnitFlight P → Share P
   share_of u = record { flow = flow_for u; parts = u.rate }
 
   -- each with its rate
-  abbrev shares : List (UnitFlight P) → List (Share P)
+  abbrev pub shares : List (UnitFlight P) → List (Share P)
   shares us = map share_of us
 
-  flows_are : (us : List (UnitFlight P)) → map flow_of (shares us) ≡ map flow_for us
+  pub flows_are : (us : List (UnitFlight P)) → map flow_of (shares us) ≡ map flow_for us
   flows_are [] = refl
   flows_are (u ∷ us) = ap (λ (fs : List (Flow P)). flow_for u ∷ fs) (flows_are us)
 
-  stand_from : (g : ℕ → ℕ) (place : ℕ) (us : List (UnitFlight P))
+  pub stand_from : (g : ℕ → ℕ) (place : ℕ) (us : List (UnitFlight P))
       → ((i : ℕ) → g (place + i) ≡ slice_index (rates_of us) i) → StandsAt flow_of parts_of g place (shares us)
   stand_from g place [] h = tt
   stand_from g place (u ∷ us) h = (ap g here ∙ h 0, stand_from g (place + 1) us (λ i. ap g (next i) ∙ h (suc i)))
@@ -123,7 +121,7 @@ module _ {P : Type 0} (cmp : P → P → Ordering) where
       next i = omega arith
 
   -- each flow stands for its message
-  own : IsTotalOrder cmp → (us : List (UnitFlight P))
+  pub own : IsTotalOrder cmp → (us : List (UnitFlight P))
       → AllZip (StandsForMessage cmp) (map flow_for us) (sent_messages us)
   own order [] = tt
   own order (u ∷ us) = (
@@ -146,11 +144,11 @@ module _ {P : Type 0} (cmp : P → P → Ordering) where
   )
 
   module _ (order : IsTotalOrder cmp) (caps : Caps P) (of : AreOfPeers cmp caps) (scale : ℕ) where
-    abbrev AreFairShares : List (Share P) → Type 0
+    abbrev pub AreFairShares : List (Share P) → Type 0
     AreFairShares xs = AreShared cmp caps flow_of parts_of scale xs
 
     -- from fairness on the sides of the messages, and back
-    shared : (us : List (UnitFlight P)) → AreFairlyRated cmp caps scale us → AreFairShares (shares us)
+    pub shared : (us : List (UnitFlight P)) → AreFairlyRated cmp caps scale us → AreFairShares (shares us)
     shared us f =
         let g : ℕ → ℕ = slice_index (rates_of us) in
         let sides = same_sides cmp order caps of (map flow_for us) (sent_messages us) (own order us) in
@@ -160,7 +158,7 @@ module _ {P : Type 0} (cmp : P → P → Ordering) where
         shared_from cmp caps flow_of parts_of order of (shares us) g scale (stand_from g 0 us (λ i. ap g (zero-add i)))
         (subst (λ (fs : List (Flow P)). IsFair (sides_under cmp caps fs) scale g) (sym (flows_are us)) there)
 
-    fair : (us : List (UnitFlight P)) → AreFairShares (shares us) → AreFairlyRated cmp caps scale us
+    pub fair : (us : List (UnitFlight P)) → AreFairShares (shares us) → AreFairlyRated cmp caps scale us
     fair us f =
         let g : ℕ → ℕ = slice_index (rates_of us) in
         let there =
@@ -195,17 +193,6 @@ module _ {X : Type 0} (p q r : X → Bool) where
           ∙ ap (λ b. filter p (cond b (x ∷ filter r xs) (filter r xs))) (h x (inl refl) is)
       by_test false is ih = dropped (q x) x (filter q xs) is ∙ ih ∙ sym (dropped (r x) x (filter r xs) is)
 
-pub read_filter : {X Y : Type 0} (f : X → Y) (test : Y → Bool) (xs : List X)
-    → filter test (map f xs) ≡ map f (filter (λ x. test (f x)) xs)
-read_filter f test [] = refl
-read_filter {X} {Y} f test (x ∷ xs) = by_test (test (f x)) (read_filter f test xs)
-  where
-    by_test : (b : Bool) → filter test (map f xs) ≡ map f (filter (λ x. test (f x)) xs)
-        → cond b (f x ∷ filter test (map f xs)) (filter test (map f xs))
-        ≡ map f (cond b (x ∷ filter (λ x. test (f x)) xs) (filter (λ x. test (f x)) xs))
-    by_test true ih = ap (λ l. f x ∷ l) ih
-    by_test false ih = ih
-
 -- a scale that has not grown
 pub same_scale : (found : FairParts) (scale : ℕ) → found.scale ≡ scale * product found.growth.items
     → found.growth.items ≡ [] → found.scale ≡ scale
@@ -217,167 +204,147 @@ grows_once found none = ap product none
 
 -- ---- the component and the rest
 
+pub not_twice : (b : Bool) → not (not b) ≡ b
+not_twice true = refl
+not_twice false = refl
+
 module _ {P : Type 0} (cmp : P → P → Ordering) (component : Component P) where
   abbrev pub others_of : List (UnitFlight P) → List (UnitFlight P)
   others_of us = filter (λ u. not (is_of cmp component u)) us
 
-  abbrev mine : Share P → Bool
-  mine x = is_sender cmp component x.flow.origin
+  -- whether the flow with these parts is rated anew
+  abbrev pub is_open : Share P → Bool
+  is_open x = is_sender cmp component x.flow.origin && nat_le component.level x.parts
 
-  abbrev theirs : Share P → Bool
-  theirs x = not (mine x)
+  -- that of a message in flight that has a rate tells whether it is of the component
+  pub open_if_of : (u : UnitFlight P) → u.rated ≡ true → is_open (share_of cmp u) ≡ is_of cmp component u
+  open_if_of u rated =
+      ap (λ b. is_sender cmp component u.message.origin && b)
+      (sym (not_twice (nat_le component.level u.rate))
+      ∙ ap (λ r. not (r && not (nat_le component.level u.rate))) (sym rated))
 
-  own_are : (us : List (UnitFlight P)) → filter mine (shares cmp us) ≡ shares cmp (those_of cmp component us)
-  own_are us = read_filter (share_of cmp) mine us
+  -- one that has got no rate and goes from one of the senders is of it
+  of_if_new : (u : UnitFlight P) → u.rated ≡ false → is_of cmp component u ≡ is_sender cmp component u.message.origin
+  of_if_new u new = ap (λ r. is_sender cmp component u.message.origin && not (r && not (nat_le component.level u.rate)))
+      new
+      ∙ and_true (is_sender cmp component u.message.origin)
+    where
+      and_true : (b : Bool) → (b && true) ≡ b
+      and_true true = refl
+      and_true false = refl
 
-  others_are : (us : List (UnitFlight P)) → filter theirs (shares cmp us) ≡ shares cmp (others_of us)
-  others_are us = read_filter (share_of cmp) theirs us
+  -- one that is of it goes from one of the senders
+  pub sender_of : (u : UnitFlight P) → is_of cmp component u ≡ true → is_sender cmp component u.message.origin ≡ true
+  sender_of u is = first_of_both (is_sender cmp component u.message.origin) (not (keeps component u)) is
 
-  -- whose share it is
-  whose : (us : List (UnitFlight P)) (x : Share P) → In (shares cmp us) x
-      → (u : UnitFlight P) × In us u × (x.flow ≡ flow_for cmp u)
-  whose us x among = let r = from_map (share_of cmp) us x among in (r.0, r.1, ap (λ (y : Share P). y.flow) (sym r.2))
+  -- and keeps no rate
+  keeps_none : (u : UnitFlight P) → is_of cmp component u ≡ true → keeps component u ≡ false
+  keeps_none u is =
+      sym (not_twice (keeps component u))
+      ∙ ap not (second_of_both (is_sender cmp component u.message.origin) (not (keeps component u)) is)
 
   -- ---- at the rates that are given
 
-  module _ (now times group : ℕ) where
-    abbrev again : List ℕ → List (UnitFlight P) → List (UnitFlight P)
-    again rates us = rerated cmp component now times group rates us
+  module _ (now times : ℕ) where
+    abbrev pub again : List ℕ → List (UnitFlight P) → List (UnitFlight P)
+    again rates us = rerated cmp component now times rates us
 
     abbrev anew : ℕ → UnitFlight P → UnitFlight P
-    anew rate u = record u { left = u.left * times; rate = rate; updated = now; rated = true; group = group }
+    anew rate u = rated_anew now times rate u
 
     none_given : (us : List (UnitFlight P)) → again [] us ≡ us
     none_given [] = refl
     none_given (u ∷ us) = refl
 
-    -- the others are as they were
-    others_kept : (rates : List ℕ) (us : List (UnitFlight P)) → others_of (again rates us) ≡ others_of us
-    others_kept rates [] = refl
-    others_kept [] (u ∷ us) = refl
-    others_kept (rate ∷ rates) (u ∷ us) = by_test (is_of cmp component u) refl (λ rates. others_kept rates us)
-      where
-        by_test : (b : Bool) → is_of cmp component u ≡ b
-            → ((rates : List ℕ) → others_of (again rates us) ≡ others_of us)
-            → others_of (cond b (anew rate u ∷ again rates us) (u ∷ again (rate ∷ rates) us)) ≡ others_of (u ∷ us)
-        by_test true is ih =
-            filter_no (λ v. not (is_of cmp component v)) (anew rate u) (again rates us) (ap not is) ∙ ih rates
-            ∙ sym (filter_no (λ v. not (is_of cmp component v)) u us (ap not is))
-        by_test false is ih =
-            filter_yes (λ v. not (is_of cmp component v)) u (again (rate ∷ rates) us) (ap not is)
-            ∙ ap (λ l. u ∷ l) (ih (rate ∷ rates))
-            ∙ sym (filter_yes (λ v. not (is_of cmp component v)) u us (ap not is))
-
-    -- those of it are of the same messages
-    same_messages : (rates : List ℕ) (us : List (UnitFlight P))
-        → sent_messages (those_of cmp component (again rates us)) ≡ sent_messages (those_of cmp component us)
+    -- of the same messages
+    pub same_messages : (rates : List ℕ) (us : List (UnitFlight P)) → sent_messages (again rates us) ≡ sent_messages us
     same_messages rates [] = refl
     same_messages [] (u ∷ us) = refl
-    same_messages (rate ∷ rates) (u ∷ us) = by_test (is_of cmp component u) refl (λ rates. same_messages rates us)
+    same_messages (rate ∷ rates) (u ∷ us) = by_test (is_of cmp component u) (λ rates. same_messages rates us)
       where
-        by_test : (b : Bool) → is_of cmp component u ≡ b
-            → ((rates : List ℕ)
-            → sent_messages (those_of cmp component (again rates us)) ≡ sent_messages (those_of cmp component us))
-            → sent_messages
-            (those_of cmp component (cond b (anew rate u ∷ again rates us) (u ∷ again (rate ∷ rates) us)))
-            ≡ sent_messages (those_of cmp component (u ∷ us))
-        by_test true is ih =
-            ap sent_messages (filter_yes (is_of cmp component) (anew rate u) (again rates us) is)
-            ∙ ap (λ l. message_of u.message ∷ l) (ih rates)
-            ∙ ap sent_messages (sym (filter_yes (is_of cmp component) u us is))
-        by_test false is ih =
-            ap sent_messages (filter_no (is_of cmp component) u (again (rate ∷ rates) us) is) ∙ ih (rate ∷ rates)
-            ∙ ap sent_messages (sym (filter_no (is_of cmp component) u us is))
+        by_test : (b : Bool) → ((rates : List ℕ) → sent_messages (again rates us) ≡ sent_messages us)
+            → sent_messages (cond b (anew rate u ∷ again rates us) (u ∷ again (rate ∷ rates) us))
+            ≡ sent_messages (u ∷ us)
+        by_test true ih = ap (λ l. message_of u.message ∷ l) (ih rates)
+        by_test false ih = ap (λ l. message_of u.message ∷ l) (ih (rate ∷ rates))
 
-    -- at these rates
-    these_rates : (rates : List ℕ) (us : List (UnitFlight P)) → length rates ≡ length (those_of cmp component us)
-        → rates_of (those_of cmp component (again rates us)) ≡ rates
-    these_rates [] [] one_each = refl
-    these_rates (rate ∷ rates) [] one_each = absurd (omega arith)
-    these_rates [] (u ∷ us) one_each = no_rates (those_of cmp component (u ∷ us)) one_each
-      where
-        no_rates : (vs : List (UnitFlight P)) → 0 ≡ length vs → rates_of vs ≡ []
-        no_rates [] e = refl
-        no_rates (v ∷ vs) e = absurd (omega arith)
-    these_rates (rate ∷ rates) (u ∷ us) one_each = by_test (is_of cmp component u) refl (λ rates. these_rates rates us)
-      where
-        by_test : (b : Bool) → is_of cmp component u ≡ b
-            → ((rates : List ℕ) → length rates ≡ length (those_of cmp component us)
-            → rates_of (those_of cmp component (again rates us)) ≡ rates)
-            → rates_of (those_of cmp component (cond b (anew rate u ∷ again rates us) (u ∷ again (rate ∷ rates) us)))
-            ≡ rate ∷ rates
-        by_test true is ih =
-            ap rates_of (filter_yes (is_of cmp component) (anew rate u) (again rates us) is)
-            ∙ ap (λ l. rate ∷ l)
-            (ih rates (omega (arith, one_each, ap length (filter_yes (is_of cmp component) u us is))))
-        by_test false is ih =
-            ap rates_of (filter_no (is_of cmp component) u (again (rate ∷ rates) us) is)
-            ∙ ih (rate ∷ rates) (one_each ∙ ap length (filter_no (is_of cmp component) u us is))
-
-    -- what one comes from: the same message in flight, with the new group if it is of the component
-    record ComesFrom (us : List (UnitFlight P)) (v : UnitFlight P) : Type 0 where
+    -- what one comes from: the same message in flight, anew at one of the rates or as it was
+    pub record ComesFrom (rates : List ℕ) (us : List (UnitFlight P)) (v : UnitFlight P) : Type 0 where
       pub u : UnitFlight P
       pub among : In us u
       pub message : v.message ≡ u.message
-      pub new_group : is_of cmp component u ≡ true → v.group ≡ group
-      pub old_group : is_of cmp component u ≡ false → v.group ≡ u.group
+      pub given : is_of cmp component u ≡ true → (rate : ℕ) × In rates rate × (v ≡ anew rate u)
+      pub as_it_was : is_of cmp component u ≡ false → v ≡ u
 
-    later : (u : UnitFlight P) (us : List (UnitFlight P)) (v : UnitFlight P) → ComesFrom us v → ComesFrom (u ∷ us) v
-    later u us v h = record {
+    later : (rates : List ℕ) (u : UnitFlight P) (us : List (UnitFlight P)) (v : UnitFlight P) → ComesFrom rates us v
+        → ComesFrom rates (u ∷ us) v
+    later rates u us v h = record {
       u = h.u;
       among = inr h.among;
       message = h.message;
-      new_group = h.new_group;
-      old_group = h.old_group;
+      given = h.given;
+      as_it_was = h.as_it_was;
     }
 
-    comes_anew : (rate : ℕ) (u : UnitFlight P) (us : List (UnitFlight P)) (v : UnitFlight P)
-        → is_of cmp component u ≡ true → anew rate u ≡ v → ComesFrom (u ∷ us) v
-    comes_anew rate u us v is e = record {
+    more_rates : (rate : ℕ) (rates : List ℕ) (us : List (UnitFlight P)) (v : UnitFlight P) → ComesFrom rates us v
+        → ComesFrom (rate ∷ rates) us v
+    more_rates rate rates us v h = record {
+      u = h.u;
+      among = h.among;
+      message = h.message;
+      given = λ is. let r = h.given is in (r.0, inr r.1, r.2);
+      as_it_was = h.as_it_was;
+    }
+
+    comes_anew : (rate : ℕ) (rates : List ℕ) (u : UnitFlight P) (us : List (UnitFlight P)) (v : UnitFlight P)
+        → is_of cmp component u ≡ true → anew rate u ≡ v → ComesFrom (rate ∷ rates) (u ∷ us) v
+    comes_anew rate rates u us v is e = record {
       u = u;
       among = inl refl;
       message = ap (λ (x : UnitFlight P). x.message) (sym e);
-      new_group = λ of. ap (λ (x : UnitFlight P). x.group) (sym e);
-      old_group = λ out. absurd (false≢true (sym out ∙ is));
+      given = λ of. (rate, inl refl, sym e);
+      as_it_was = λ out. absurd (false≢true (sym out ∙ is));
     }
 
-    comes_as_it_is : (u : UnitFlight P) (us : List (UnitFlight P)) (v : UnitFlight P) → is_of cmp component u ≡ false
-        → u ≡ v → ComesFrom (u ∷ us) v
-    comes_as_it_is u us v is e = record {
+    comes_as_it_is : (rates : List ℕ) (u : UnitFlight P) (us : List (UnitFlight P)) (v : UnitFlight P)
+        → is_of cmp component u ≡ false → u ≡ v → ComesFrom rates (u ∷ us) v
+    comes_as_it_is rates u us v is e = record {
       u = u;
       among = inl refl;
       message = ap (λ (x : UnitFlight P). x.message) (sym e);
-      new_group = λ of. absurd (false≢true (sym is ∙ of));
-      old_group = λ out. ap (λ (x : UnitFlight P). x.group) (sym e);
+      given = λ of. absurd (false≢true (sym is ∙ of));
+      as_it_was = λ out. sym e;
     }
 
-    comes : (rates : List ℕ) (us : List (UnitFlight P)) → length rates ≡ length (those_of cmp component us)
-        → (v : UnitFlight P) → In (again rates us) v → ComesFrom us v
+    pub comes : (rates : List ℕ) (us : List (UnitFlight P)) → length rates ≡ length (those_of cmp component us)
+        → (v : UnitFlight P) → In (again rates us) v → ComesFrom rates us v
     comes rates [] one_each v among = absurd among
     comes [] (u ∷ us) one_each v among = by_test (is_of cmp component u) refl among
         (λ one_each h. comes [] us one_each v (subst (λ l. In l v) (sym (none_given us)) h))
       where
         by_test : (b : Bool) → is_of cmp component u ≡ b → In (u ∷ us) v
-            → (0 ≡ length (those_of cmp component us) → In us v → ComesFrom us v) → ComesFrom (u ∷ us) v
+            → (0 ≡ length (those_of cmp component us) → In us v → ComesFrom [] us v) → ComesFrom [] (u ∷ us) v
         by_test true is h ih = absurd (omega (arith, one_each, ap length (filter_yes (is_of cmp component) u us is)))
-        by_test false is (inl e) ih = comes_as_it_is u us v is e
+        by_test false is (inl e) ih = comes_as_it_is [] u us v is e
         by_test false is (inr h) ih =
-            later u us v (ih (one_each ∙ ap length (filter_no (is_of cmp component) u us is)) h)
+            later [] u us v (ih (one_each ∙ ap length (filter_no (is_of cmp component) u us is)) h)
     comes (rate ∷ rates) (u ∷ us) one_each v among =
         by_test (is_of cmp component u) refl among (λ rates one_each h. comes rates us one_each v h)
       where
         by_test : (b : Bool) → is_of cmp component u ≡ b
             → In (cond b (anew rate u ∷ again rates us) (u ∷ again (rate ∷ rates) us)) v
             → ((rates : List ℕ) → length rates ≡ length (those_of cmp component us) → In (again rates us) v
-            → ComesFrom us v)
-            → ComesFrom (u ∷ us) v
-        by_test true is (inl e) ih = comes_anew rate u us v is e
+            → ComesFrom rates us v)
+            → ComesFrom (rate ∷ rates) (u ∷ us) v
+        by_test true is (inl e) ih = comes_anew rate rates u us v is e
         by_test true is (inr h) ih =
-            later u us v
-            (ih rates (omega (arith, one_each, ap length (filter_yes (is_of cmp component) u us is))) h)
-        by_test false is (inl e) ih = comes_as_it_is u us v is e
+            later (rate ∷ rates) u us v
+            (more_rates rate rates us v
+            (ih rates (omega (arith, one_each, ap length (filter_yes (is_of cmp component) u us is))) h))
+        by_test false is (inl e) ih = comes_as_it_is (rate ∷ rates) u us v is e
         by_test false is (inr h) ih =
-            later u us v (ih (rate ∷ rates) (one_each ∙ ap length (filter_no (is_of cmp component) u us is)) h)
+            later (rate ∷ rates) u us v
+            (ih (rate ∷ rates) (one_each ∙ ap length (filter_no (is_of cmp component) u us is)) h)
 
     -- those of it are rated from now on, and so are the others
     rated_each : (rates : List ℕ) (us : List (UnitFlight P)) → length rates ≡ length (those_of cmp component us)
@@ -410,58 +377,89 @@ module _ {P : Type 0} (cmp : P → P → Ordering) (component : Component P) whe
         by_test false is ih =
             (others u (inl refl) is, ih (rate ∷ rates) (one_each ∙ ap length (filter_no (is_of cmp component) u us is)))
 
+    -- where the rates reach the level, those of it are so afterwards, and the others are as they were
+    module _ (still : (rate : ℕ) (u : UnitFlight P) → nat_le component.level rate ≡ true
+        → is_of cmp component u ≡ true → is_of cmp component (anew rate u) ≡ true) where
+      pub others_kept : (rates : List ℕ) (us : List (UnitFlight P))
+          → ((rate : ℕ) → In rates rate → nat_le component.level rate ≡ true)
+          → others_of (again rates us) ≡ others_of us
+      others_kept rates [] reach = refl
+      others_kept [] (u ∷ us) reach = refl
+      others_kept (rate ∷ rates) (u ∷ us) reach =
+          by_test (is_of cmp component u) refl (λ rates reach. others_kept rates us reach)
+        where
+          by_test : (b : Bool) → is_of cmp component u ≡ b
+              → ((rates : List ℕ) → ((rate : ℕ) → In rates rate → nat_le component.level rate ≡ true)
+              → others_of (again rates us) ≡ others_of us)
+              → others_of (cond b (anew rate u ∷ again rates us) (u ∷ again (rate ∷ rates) us)) ≡ others_of (u ∷ us)
+          by_test true is ih =
+              filter_no (λ v. not (is_of cmp component v)) (anew rate u) (again rates us)
+              (ap not (still rate u (reach rate (inl refl)) is))
+              ∙ ih rates (λ r h. reach r (inr h))
+              ∙ sym (filter_no (λ v. not (is_of cmp component v)) u us (ap not is))
+          by_test false is ih =
+              filter_yes (λ v. not (is_of cmp component v)) u (again (rate ∷ rates) us) (ap not is)
+              ∙ ap (λ l. u ∷ l) (ih (rate ∷ rates) reach)
+              ∙ sym (filter_yes (λ v. not (is_of cmp component v)) u us (ap not is))
+
+    pub still_of : (rate : ℕ) (u : UnitFlight P) → nat_le component.level rate ≡ true
+        → is_of cmp component u ≡ true → is_of cmp component (anew rate u) ≡ true
+    still_of rate u at_least is =
+        sym (open_if_of (anew rate u) refl)
+        ∙ ap₂ (λ a b. a && b) (sender_of u is) at_least
+
   -- one rate is found for each of them
   pub found_each : (caps : Caps P) (scale : ℕ) (us : List (UnitFlight P)) (found : FairParts)
-      → AreFairOf cmp caps scale component us found → length (rates_found found) ≡ length (those_of cmp component us)
-  found_each caps scale us found of = length-map found.level_of.items (parts_of_level found.levels.items) ∙ of.one_each
-
-  -- those of it alone have fair rates
-  component_alone : (caps : Caps P) (scale now times group : ℕ) (us : List (UnitFlight P)) (found : FairParts)
-      → AreFairOf cmp caps scale component us found
-      → AreFairlyRated cmp caps found.scale
-      (those_of cmp component (rerated cmp component now times group (rates_found found) us))
-  component_alone caps scale now times group us found of =
-      rw (
-        same_messages now times group (rates_found found) us,
-        these_rates now times group (rates_found found) us (found_each caps scale us found of),
-      )
-      of.fair
+      → length found.level_of.items ≡ length (those_of cmp component us)
+      → length (rates_found found) ≡ length (those_of cmp component us)
+  found_each caps scale us found one_each =
+      length-map found.level_of.items (parts_of_level found.levels.items) ∙ one_each
 
   -- ---- all of them
 
-  module _ (whole : component.whole ≡ true) where
+  module _ (whole : component.whole ≡ true) (level : component.level ≡ 0) where
     pub all_of : (u : UnitFlight P) → is_of cmp component u ≡ true
     all_of u =
-        ap (λ b. b || list_any (λ m. same_peer cmp u.message.origin m.value.origin) component.senders.items) whole
+        ap₂ (λ w l. (w || list_any (λ m. same_peer cmp u.message.origin m.value.origin) component.joined.items)
+        && not (u.rated && not (nat_le l u.rate))) whole level
+        ∙ none u.rated
+      where
+        none : (r : Bool) → (true && not (r && not (nat_le 0 u.rate))) ≡ true
+        none true = ap (λ b. true && not (true && not b)) (le-leb 0 u.rate (omega arith))
+        none false = refl
 
     pub those_all : (us : List (UnitFlight P)) → those_of cmp component us ≡ us
     those_all [] = refl
     those_all (u ∷ us) = filter_yes (is_of cmp component) u us (all_of u) ∙ ap (λ l. u ∷ l) (those_all us)
 
-    pub whole_fair : (caps : Caps P) (scale now times group : ℕ) (us : List (UnitFlight P)) (found : FairParts)
+    -- at these rates
+    whole_rates : (now times : ℕ) (rates : List ℕ) (us : List (UnitFlight P)) → length rates ≡ length us
+        → rates_of (rerated cmp component now times rates us) ≡ rates
+    whole_rates now times [] [] e = refl
+    whole_rates now times (rate ∷ rates) [] e = absurd (omega arith)
+    whole_rates now times [] (u ∷ us) e = absurd (omega arith)
+    whole_rates now times (rate ∷ rates) (u ∷ us) e =
+        rw (all_of u) (ap (λ l. rate ∷ l) (whole_rates now times rates us (omega arith)))
+
+    pub whole_fair : (caps : Caps P) (scale now times : ℕ) (us : List (UnitFlight P)) (found : FairParts)
         → AreFairOf cmp caps scale component us found
-        → AreFairlyRated cmp caps found.scale (rerated cmp component now times group (rates_found found) us)
-    whole_fair caps scale now times group us found of =
-        subst (AreFairlyRated cmp caps found.scale)
-        (those_all (rerated cmp component now times group (rates_found found) us))
-        (component_alone caps scale now times group us found of)
+        → AreFairlyRated cmp caps found.scale (rerated cmp component now times (rates_found found) us)
+    whole_fair caps scale now times us found of =
+        rw (
+          same_messages now times (rates_found found) us,
+          whole_rates now times (rates_found found) us
+              (found_each caps scale us found of.one_each ∙ ap length (those_all us)),
+        )
+        (subst (λ vs. AreFairFor cmp caps found.scale (sent_messages vs) (rates_found found)) (those_all us) of.fair)
 
     pub no_others : (fs : List (Rc (Flight P) Global)) → AreOthersTimed cmp component fs
     no_others fs i f at out rated = absurd (false≢true (sym out ∙ all_of (flight_at 0 f.value)))
 
-    pub whole_rerated : (now times group : ℕ) (rates : List ℕ) (us : List (UnitFlight P))
+    pub whole_rerated : (now times : ℕ) (rates : List ℕ) (us : List (UnitFlight P))
         → length rates ≡ length (those_of cmp component us)
-        → AllZip (IsRatedFrom now times) us (rerated cmp component now times group rates us)
-    whole_rerated now times group rates us one_each =
-        rated_each now times group rates us one_each (λ u among out. absurd (false≢true (sym out ∙ all_of u)))
-
-    pub whole_grouped : (now times group : ℕ) (rates : List ℕ) (us : List (UnitFlight P))
-        → length rates ≡ length (those_of cmp component us)
-        → AreGrouped cmp (rerated cmp component now times group rates us)
-    whole_grouped now times group rates us one_each v w hv hw shared =
-        let a = comes now times group rates us one_each v (in_from_contains _ v hv) in
-        let b = comes now times group rates us one_each w (in_from_contains _ w hw) in
-        a.new_group (all_of a.u) ∙ sym (b.new_group (all_of b.u))
+        → AllZip (IsRatedFrom now times) us (rerated cmp component now times rates us)
+    whole_rerated now times rates us one_each =
+        rated_each now times rates us one_each (λ u among out. absurd (false≢true (sym out ∙ all_of u)))
 
   -- ---- what closedness says
 
@@ -469,20 +467,9 @@ module _ {P : Type 0} (cmp : P → P → Ordering) (component : Component P) whe
   abbrev HasBothOrNone : Flow P → Type 0
   HasBothOrNone f = is_sender cmp component f.origin ≡ is_receiver cmp component f.recipient
 
-  suited : (a r t : Bool) → (if a then r else not r && t) ≡ true → a ≡ r
-  suited true true t h = refl
-  suited true false t h = sym h
-  suited false true t h = cc
-  suited false false t h = refl
-
-  suited_out : (a r t : Bool) → (if a then r else not r && t) ≡ true → a ≡ false → t ≡ true
-  suited_out true r t h out = cc
-  suited_out false true t h out = cc
-  suited_out false false t h out = h
-
   module _ (order : IsTotalOrder cmp) where
     same_sender : (p q : P) → same_peer cmp p q ≡ true → is_sender cmp component p ≡ is_sender cmp component q
-    same_sender p q e = ap (λ b. component.whole || b) (each component.senders.items)
+    same_sender p q e = ap (λ b. component.whole || b) (each component.joined.items)
       where
         each : (ms : List (Rc (code.Message P) Global))
             → list_any (λ m. same_peer cmp p m.value.origin) ms ≡ list_any (λ m. same_peer cmp q m.value.origin) ms
@@ -491,7 +478,7 @@ module _ {P : Type 0} (cmp : P → P → Ordering) (component : Component P) whe
             let laws = eq_by_cmp_equiv order in ap₂ (λ a b. a || b) (laws.congr p q m.value.origin e) (each ms)
 
     same_receiver : (p q : P) → same_peer cmp p q ≡ true → is_receiver cmp component p ≡ is_receiver cmp component q
-    same_receiver p q e = ap (λ b. component.whole || b) (each component.receivers.items)
+    same_receiver p q e = ap (λ b. component.whole || b) (each component.joined.items)
       where
         each : (ms : List (Rc (code.Message P) Global))
             → list_any (λ m. same_peer cmp p m.value.recipient) ms
@@ -501,7 +488,7 @@ module _ {P : Type 0} (cmp : P → P → Ordering) (component : Component P) whe
             let laws = eq_by_cmp_equiv order in ap₂ (λ a b. a || b) (laws.congr p q m.value.recipient e) (each ms)
 
     -- two flows that a side limits are both of it or both not
-    apart : (s : Subject P) (f g : Flow P) → HasBothOrNone f → HasBothOrNone g → limits cmp s f ≡ true
+    pub apart : (s : Subject P) (f g : Flow P) → HasBothOrNone f → HasBothOrNone g → limits cmp s f ≡ true
         → limits cmp s g ≡ true → is_sender cmp component f.origin ≡ is_sender cmp component g.origin
     apart (sent_by p) f g at_f at_g lf lg = sym (same_sender p f.origin lf) ∙ same_sender p g.origin lg
     apart (received_by p) f g at_f at_g lf lg =
@@ -513,81 +500,85 @@ module _ {P : Type 0} (cmp : P → P → Ordering) (component : Component P) whe
         sym (same_sender p f.origin (first_of_both (same_peer cmp p f.origin) (same_peer cmp q f.recipient) lf))
         ∙ same_sender p g.origin (first_of_both (same_peer cmp p g.origin) (same_peer cmp q g.recipient) lg)
 
-    shares_apart : (caps : Caps P) (us : List (UnitFlight P))
-        → ((u : UnitFlight P) → In us u → HasBothOrNone (flow_for cmp u))
-        → AreApart cmp caps flow_of parts_of mine (shares cmp us)
-    shares_apart caps us ends s cap x y has h g lx ly =
-        let r = whose us x h in
-        let t = whose us y g in
-        apart s x.flow y.flow (subst HasBothOrNone (sym r.2) (ends r.0 r.1))
-        (subst HasBothOrNone (sym t.2) (ends t.0 t.1)) lx ly
+    -- where a side limits one that has both ends in it, it has an end of another that the side limits
+    pub meets : (s : Subject P) (f g : Flow P) → is_sender cmp component f.origin ≡ true
+        → is_receiver cmp component f.recipient ≡ true → limits cmp s f ≡ true → limits cmp s g ≡ true
+        → (is_sender cmp component g.origin || is_receiver cmp component g.recipient) ≡ true
+    meets (sent_by p) f g sends receives lf lg =
+        ap (λ b. b || is_receiver cmp component g.recipient)
+        (sym (same_sender p g.origin lg) ∙ same_sender p f.origin lf ∙ sends)
+    meets (received_by p) f g sends receives lf lg =
+        ap (λ b. is_sender cmp component g.origin || b)
+        (sym (same_receiver p g.recipient (second_of_both g.delivered (same_peer cmp p g.recipient) lg))
+        ∙ same_receiver p f.recipient (second_of_both f.delivered (same_peer cmp p f.recipient) lf) ∙ receives)
+        ∙ or_true (is_sender cmp component g.origin)
+      where
+        or_true : (b : Bool) → (b || true) ≡ true
+        or_true true = refl
+        or_true false = refl
+    meets (sent_between p q) f g sends receives lf lg =
+        ap (λ b. b || is_receiver cmp component g.recipient)
+        (sym (same_sender p g.origin (first_of_both (same_peer cmp p g.origin) (same_peer cmp q g.recipient) lg))
+        ∙ same_sender p f.origin (first_of_both (same_peer cmp p f.origin) (same_peer cmp q f.recipient) lf) ∙ sends)
 
   module _ (done : List (Rc (code.Message P) Global)) (us : List (UnitFlight P))
       (closed : is_closed cmp component done us ≡ true) where
     suits_one : (u : UnitFlight P) → In us u → suits cmp component u ≡ true
     suits_one u h = all_pass (suits cmp component) us (second_of_both _ (list_all (suits cmp component) us) closed) u h
 
-    ends : (u : UnitFlight P) → In us u → HasBothOrNone (flow_for cmp u)
-    ends u h = suited (is_of cmp component u) (is_receiver cmp component u.message.recipient) u.rated (suits_one u h)
+    -- one that is of it has both ends in it
+    pub both_of : (u : UnitFlight P) → In us u → is_of cmp component u ≡ true
+        → (is_sender cmp component u.message.origin ≡ true) × (is_receiver cmp component u.message.recipient ≡ true)
+    both_of u h is = (
+      sender_of u is,
+      given (keeps component u) (is_sender cmp component u.message.origin)
+          (is_receiver cmp component u.message.recipient) u.rated (keeps_none u is) (sender_of u is) (suits_one u h),
+    )
+      where
+        given : (k a r t : Bool) → k ≡ false → a ≡ true
+            → (k || (if a || r then a && r else t)) ≡ true → r ≡ true
+        given k a r t no_keep sends h =
+            subst (λ b. (if b || r then b && r else t) ≡ true → r ≡ true) (sym sends) (λ e. e)
+            (subst (λ b. (b || (if a || r then a && r else t)) ≡ true) no_keep h)
 
     -- one that is not of it has got a rate
     pub rated_outside : (u : UnitFlight P) → In us u → is_of cmp component u ≡ false → u.rated ≡ true
     rated_outside u h out =
-        suited_out (is_of cmp component u) (is_receiver cmp component u.message.recipient) u.rated (suits_one u h) out
-
-    -- those that share an end are both of it or both not
-    joined : IsTotalOrder cmp → (u w : UnitFlight P) → In us u → In us w → share_an_end cmp u w ≡ true
-        → is_of cmp component u ≡ is_of cmp component w
-    joined order u w hu hw shared = by_test (same_peer cmp u.message.origin w.message.origin) refl
+        by_bool u.rated (λ e. e) (λ new.
+        given u.rated (nat_le component.level u.rate) (is_sender cmp component u.message.origin)
+        (is_receiver cmp component u.message.recipient) new (sym (of_if_new u new) ∙ out) (suits_one u h))
       where
-        by_test : (b : Bool) → same_peer cmp u.message.origin w.message.origin ≡ b
-            → is_of cmp component u ≡ is_of cmp component w
-        by_test true is = same_sender order u.message.origin w.message.origin is
-        by_test false is =
-            let other : same_peer cmp u.message.recipient w.message.recipient ≡ true =
-            sym (ap (λ b. b || same_peer cmp u.message.recipient w.message.recipient) is) ∙ shared in
-            ends u hu ∙ same_receiver order u.message.recipient w.message.recipient other ∙ sym (ends w hw)
+        given : (t n a r : Bool) → t ≡ false → a ≡ false
+            → ((t && not n) || (if a || r then a && r else t)) ≡ true → t ≡ true
+        given true n a r new no_sender h = refl
+        given false n true r new no_sender h = cc
+        given false n false true new no_sender h = cc
+        given false n false false new no_sender h = h
 
-    -- one outside is among those that had a rate
-    outside : (u : UnitFlight P) → In us u → is_of cmp component u ≡ false → Contains (rated_ones us) u
-    outside u h out = contains_from_in (rated_ones us) u
-        (in_filter (λ (u : UnitFlight P). u.rated) us u h (rated_outside u h out))
-
-    -- with a group for it they are grouped, if they were
-    pub component_grouped : IsTotalOrder cmp → AreGrouped cmp (rated_ones us) → (now times group : ℕ) (rates : List ℕ)
-        → length rates ≡ length (those_of cmp component us)
-        → AreGrouped cmp (rerated cmp component now times group rates us)
-    component_grouped order grouped now times group rates one_each v w hv hw meet =
-        by_test (is_of cmp component a.u) refl
+    -- one that has a rate at the level or above, and is not of it, has no end in it
+    pub none_outside : (u : UnitFlight P) → In us u → is_of cmp component u ≡ false
+        → nat_le component.level u.rate ≡ true
+        → (is_sender cmp component u.message.origin ≡ false) × (is_receiver cmp component u.message.recipient ≡ false)
+    none_outside u h out high =
+        given u.rated (nat_le component.level u.rate) (is_sender cmp component u.message.origin)
+        (is_receiver cmp component u.message.recipient) high out (suits_one u h)
       where
-        a : ComesFrom now times group us v
-        a = comes now times group rates us one_each v (in_from_contains _ v hv)
-
-        b : ComesFrom now times group us w
-        b = comes now times group rates us one_each w (in_from_contains _ w hw)
-
-        shared_before : share_an_end cmp a.u b.u ≡ true
-        shared_before =
-            ap₂ (λ (m n : code.Message P). same_peer cmp m.origin n.origin || same_peer cmp m.recipient n.recipient)
-            (sym a.message) (sym b.message)
-            ∙ meet
-
-        same : is_of cmp component a.u ≡ is_of cmp component b.u
-        same = joined order a.u b.u a.among b.among shared_before
-
-        by_test : (t : Bool) → is_of cmp component a.u ≡ t → v.group ≡ w.group
-        by_test true is = a.new_group is ∙ sym (b.new_group (sym same ∙ is))
-        by_test false is =
-            a.old_group is
-            ∙ grouped a.u b.u (outside a.u a.among is) (outside b.u b.among (sym same ∙ is)) shared_before
-            ∙ sym (b.old_group (sym same ∙ is))
+        given : (t n a r : Bool) → n ≡ true → (a && not (t && not n)) ≡ false
+            → ((t && not n) || (if a || r then a && r else t)) ≡ true → (a ≡ false) × (r ≡ false)
+        given t false a r high out h = absurd (false≢true high)
+        given true true true r high out h = cc
+        given true true false true high out h = cc
+        given true true false false high out h = (refl, refl)
+        given false true true r high out h = cc
+        given false true false true high out h = cc
+        given false true false false high out h = (refl, refl)
 
     -- at the same scale each has its rate from now on
-    pub component_rerated : (now times group : ℕ) (rates : List ℕ) → times ≡ 1 → All (λ u. u.updated ≡ now) us
+    pub component_rerated : (now times : ℕ) (rates : List ℕ) → times ≡ 1 → All (λ u. u.updated ≡ now) us
         → length rates ≡ length (those_of cmp component us)
-        → AllZip (IsRatedFrom now times) us (rerated cmp component now times group rates us)
-    component_rerated now times group rates one updated one_each =
-        rated_each now times group rates us one_each (λ u among out. record {
+        → AllZip (IsRatedFrom now times) us (rerated cmp component now times rates us)
+    component_rerated now times rates one updated one_each =
+        rated_each now times rates us one_each (λ u among out. record {
           message = refl;
           left = as_much u.left;
           updated = All-contains (λ u. u.updated ≡ now) us u updated (contains_from_in us u among);
@@ -597,11 +588,12 @@ module _ {P : Type 0} (cmp : P → P → Ordering) (component : Component P) whe
         as_much : (n : ℕ) → n ≡ n * times
         as_much n = let same : n ≡ n * 1 = omega arith in same ∙ ap (λ m. n * m) (sym one)
 
-    module _ (order : IsTotalOrder cmp) (caps : Caps P) (of : AreOfPeers cmp caps) (scale : ℕ)
-        (were : WereRated cmp caps scale us (messages done)) where
+    module _ (caps : Caps P) (scale : ℕ) (floor : Option ℕ)
+        (were : WereRated cmp caps scale us (messages done) floor)
+        (low : IfSome floor (λ f. component.level ≤ f)) where
       -- what is done has both ends in it
       both_ends : (u : UnitFlight P) → In were.before u → were.is_done u ≡ true
-          → (is_of cmp component u ≡ true) × (is_receiver cmp component u.message.recipient ≡ true)
+          → (is_sender cmp component u.message.origin ≡ true) × (is_receiver cmp component u.message.recipient ≡ true)
       both_ends u h is =
           let there : In (messages done) (message_of u.message) =
           subst (λ (ms : List (Message P)). In ms (message_of u.message)) (sym were.parted.left)
@@ -609,27 +601,40 @@ module _ {P : Type 0} (cmp : P → P → Ordering) (component : Component P) whe
           (in_filter were.is_done were.before u h is)) in
           let m = from_map (λ (m : Rc (code.Message P) Global). message_of m.value) done (message_of u.message) there in
           let has =
-          all_pass
-          (λ (m : Rc (code.Message P) Global). is_sender cmp component m.value.origin
-          && is_receiver cmp component m.value.recipient)
-          done (first_of_both _ (list_all (suits cmp component) us) closed) m.0 m.1 in
+          all_pass (λ (m : Rc (code.Message P) Global). has_both cmp component m.value) done
+          (first_of_both _ (list_all (suits cmp component) us) closed) m.0 m.1 in
           let two =
           subst
           (λ (n : Message P). (is_sender cmp component n.origin && is_receiver cmp component n.recipient) ≡ true)
-          m.2 has in
-          (first_of_both (is_of cmp component u) _ two, second_of_both (is_of cmp component u) _ two)
+          m.2 has in (
+            first_of_both (is_sender cmp component u.message.origin) _ two,
+            second_of_both (is_sender cmp component u.message.origin) _ two,
+          )
+
+      -- and is of it
+      done_of : (u : UnitFlight P) → In were.before u → were.is_done u ≡ true → is_of cmp component u ≡ true
+      done_of u h is = by_bool u.rated
+          (λ rated.
+          sym (open_if_of u rated) ∙ ap₂ (λ a b. a && b) (both_ends u h is).0
+          (le-leb component.level u.rate (below floor low
+          (were.no_less u (contains_from_in were.before u h) is rated))))
+          (λ new. of_if_new u new ∙ (both_ends u h is).0)
+        where
+          below : (floor : Option ℕ) → IfSome floor (λ f. component.level ≤ f) → IsNoMore floor u.rate
+              → component.level ≤ u.rate
+          below None low no_more = absurd no_more
+          below (Some f) low no_more = omega (arith, low, no_more)
 
       stayed : (u : UnitFlight P) → In were.before u → were.is_done u ≡ false → In us u
       stayed u h is =
           subst (λ (l : List (UnitFlight P)). In l u) (sym were.parted.stay)
           (in_filter (λ v. not (were.is_done v)) were.before u h (ap not is))
 
-      ends_before : (u : UnitFlight P) → In were.before u → HasBothOrNone (flow_for cmp u)
-      ends_before u h = by_test (were.is_done u) refl
-        where
-          by_test : (b : Bool) → were.is_done u ≡ b → HasBothOrNone (flow_for cmp u)
-          by_test true is = let both = both_ends u h is in both.0 ∙ sym both.1
-          by_test false is = ends u (stayed u h is)
+      -- one that is of it had both ends in it
+      pub both_before : (u : UnitFlight P) → In were.before u → is_of cmp component u ≡ true
+          → (is_sender cmp component u.message.origin ≡ true) × (is_receiver cmp component u.message.recipient ≡ true)
+      both_before u h is =
+          by_bool (were.is_done u) (λ out. both_ends u h out) (λ stays. both_of u (stayed u h stays) is)
 
       -- one that is not of it had a rate, and is not done
       kept_before : (u : UnitFlight P) → In were.before u → not (is_of cmp component u) ≡ true
@@ -637,68 +642,18 @@ module _ {P : Type 0} (cmp : P → P → Ordering) (component : Component P) whe
       kept_before u h out = by_test (were.is_done u) refl
         where
           not_of : is_of cmp component u ≡ false
-          not_of = by_bool (is_of cmp component u) (λ e. absurd (false≢true (sym (ap not e) ∙ out))) (λ e. e)
+          not_of = sym (not_twice (is_of cmp component u)) ∙ ap not out
 
           by_test : (b : Bool) → were.is_done u ≡ b → u.rated ≡ not (were.is_done u)
-          by_test true is = absurd (false≢true (sym not_of ∙ (both_ends u h is).0))
+          by_test true is = absurd (false≢true (sym not_of ∙ done_of u h is))
           by_test false is = rated_outside u (stayed u h is) not_of ∙ sym (ap not is)
 
       -- the others are those that had a rate before
-      others_stay : others_of (rated_ones were.before) ≡ others_of us
+      pub others_stay : others_of (rated_ones were.before) ≡ others_of us
       others_stay =
           filters_agree (λ u. not (is_of cmp component u)) (λ (u : UnitFlight P). u.rated) (λ u. not (were.is_done u))
           were.before kept_before
           ∙ ap others_of (sym were.parted.stay)
-
-      -- they keep their fair shares
-      others_fair : AreFairShares cmp order caps of scale (shares cmp (others_of us))
-      others_fair =
-          let vs = rated_ones were.before in
-          let part =
-          part_shared cmp caps flow_of parts_of theirs scale (shares cmp vs)
-          (shared cmp order caps of scale vs were.fair)
-          (λ s cap x y has h g lx ly. ap not
-          (shares_apart order caps vs
-          (λ u h. ends_before u (from_filter (λ (u : UnitFlight P). u.rated) were.before u h).0) s cap x y has h g
-          lx ly)) in
-          subst (λ (l : List (UnitFlight P)). AreFairShares cmp order caps of scale (shares cmp l)) others_stay
-          (subst (AreFairShares cmp order caps of scale) (others_are vs) part)
-
-      -- where its own are fair, those of all are
-      pub component_fair : (now times group : ℕ) (found : FairParts) → AreFairOf cmp caps scale component us found
-          → found.growth.items ≡ []
-          → AreFairlyRated cmp caps scale (rerated cmp component now times group (rates_found found) us)
-      component_fair now times group found of_it none =
-          let vs = rerated cmp component now times group (rates_found found) us in
-          let alone =
-          subst (λ n. AreFairlyRated cmp caps n (those_of cmp component vs))
-          (same_scale found scale of_it.grown none) (component_alone caps scale now times group us found of_it) in
-          let own =
-          subst (AreFairShares cmp order caps of scale) (sym (own_are vs))
-          (shared cmp order caps of scale (those_of cmp component vs) alone) in
-          let rest =
-          subst (AreFairShares cmp order caps of scale)
-          (sym (others_are vs ∙ ap (shares cmp) (others_kept now times group (rates_found found) us))) others_fair in
-          let ends_now : (v : UnitFlight P) → In vs v → HasBothOrNone (flow_for cmp v) =
-          λ v h. let r = comes now times group (rates_found found) us (found_each caps scale us found of_it) v h in
-          subst (λ (m : code.Message P). is_sender cmp component m.origin ≡ is_receiver cmp component m.recipient)
-          (sym r.message) (ends r.u r.among) in
-          fair cmp order caps of scale vs
-          (both_shared cmp caps flow_of parts_of mine scale (shares cmp vs) own rest
-          (shares_apart order caps vs ends_now))
-
--- those that stay are grouped, if all were
-pub grouped_rest : {P : Type 0} (cmp : P → P → Ordering) (caps : Caps P) (scale : ℕ) (us : List (UnitFlight P))
-    (done : List (Message P)) → WereRated cmp caps scale us done → AreGrouped cmp (rated_ones us)
-grouped_rest {P} cmp caps scale us done were u v hu hv shared = were.grouped u v (before u hu) (before v hv) shared
-  where
-    before : (u : UnitFlight P) → Contains (rated_ones us) u → Contains (rated_ones were.before) u
-    before u h =
-        let r = from_filter (λ (u : UnitFlight P). u.rated) us u (in_from_contains (rated_ones us) u h) in
-        let there = subst (λ (l : List (UnitFlight P)). In l u) were.parted.stay r.0 in
-        contains_from_in (rated_ones were.before) u
-        (in_filter (λ (u : UnitFlight P). u.rated) were.before u
-        (from_filter (λ v. not (were.is_done v)) were.before u there).0 r.1)
 
 -- ---- what is found for the flows of a component
 
@@ -735,7 +690,3 @@ module _ {P : Type 0} (cmp : P → P → Ordering) (order : IsTotalOrder cmp) (c
       → IfOk answer (AreFairOf cmp caps scale component us)
   found_if_ok (Ok found) scale fs us stand h = fair_of_component scale fs us found stand h
   found_if_ok (Err why) scale fs us stand h = tt
-
-pub none_there : {X : Type 0} (xs : List X) (n : ℕ) → n ≡ length xs → (n == 0) ≡ true → xs ≡ []
-none_there [] n is none = refl
-none_there (x ∷ xs) n is none = absurd (omega (arith, is, eqb-true n 0 none))

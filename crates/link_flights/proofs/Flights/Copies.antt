@@ -9,7 +9,6 @@ use Rattle.fair_rates.specs.Sides.Caps.{Caps}
 use Rattle.link_flights.specs.declared.flight.Flight.{Flight}
 use Rattle.link_flights.specs.declared.flight_list.Flights.{Flights}
 use Rattle.link_flights.specs.Flights.Flight.{flights_at, flight_at, IsTimed, AreTimed}
-use Rattle.link_flights.specs.Flights.Components.{AreGrouped}
 use Rattle.link_flights.specs.Flights.InFlight.{in_flight, in_units, IsSameFlights}
 use Rattle.link_flights.specs.Flights.Rated.{AreRated, AreFairlyRated, are_limited, rated_ones}
 use Rattle.link_flights.specs.Flights.RatedFlights.{sending_of}
@@ -62,5 +61,4 @@ module _ {P : Type 0} where
           (subst (λ us. AreFairlyRated cmp caps flights.scale (rated_ones us)) (sym units_alike) rated.fair);
       limited = ap (λ us. are_limited cmp caps (rated_ones us)) units_alike ∙ rated.limited;
       timed = timed_alike flights.list.items copy.list.items same.list rated.timed;
-      grouped = subst (λ us. AreGrouped cmp (rated_ones us)) (sym units_alike) rated.grouped;
     }

@@ -105,20 +105,19 @@ module _ {P : Type 0} where
         rate = rate_of f.rate;
         updated = now;
         rated = true;
-        group = f.group;
       }
 
   -- one that is brought to an earlier moment, or that has no rate yet, drains to that moment
   pub brought : (at now : ℕ) (f g : Flight P) → now ≤ at ⊎ f.rated ≡ false → g.message.value ≡ f.message.value
       → g.left ≡ (flight_at at f).left → rate_of g.rate ≡ rate_of f.rate → g.since ≡ now → g.rated ≡ f.rated
-      → g.group ≡ f.group → DrainsTo now (flight_at at f) (flight_at now g)
-  brought at now f g back message left rate since rated group = by_flag f.rated refl
+      → DrainsTo now (flight_at at f) (flight_at now g)
+  brought at now f g back message left rate since rated = by_flag f.rated refl
     where
       r : ℕ
       r = rate_of f.rate
 
       by_flag : (b : Bool) → f.rated ≡ b → DrainsTo now (flight_at at f) (flight_at now g)
-      by_flag true is = rw (rated, message, rate, since, group, is) (ap as_record rest)
+      by_flag true is = rw (rated, message, rate, since, is) (ap as_record rest)
         where
           as_record : ℕ → UnitFlight P
           as_record n = record {
@@ -127,7 +126,6 @@ module _ {P : Type 0} where
             rate = r;
             updated = now;
             rated = true;
-            group = f.group;
           }
 
           all : g.left ≡ left_by at f
@@ -144,7 +142,7 @@ module _ {P : Type 0} where
 
           rest : g.left - r * (now - now) ≡ left_by at f - r * (now - at)
           rest = ap (λ k. g.left - r * k) none ∙ ap (λ n. n - r * 0) all ∙ ap (λ k. left_by at f - r * k) (sym none_too)
-      by_flag false is = rw (rated, message, since, group, is) (ap as_record rest)
+      by_flag false is = rw (rated, message, since, is) (ap as_record rest)
         where
           as_record : ℕ → UnitFlight P
           as_record n = record {
@@ -153,7 +151,6 @@ module _ {P : Type 0} where
             rate = 0;
             updated = now;
             rated = false;
-            group = f.group;
           }
 
           all : g.left ≡ f.left
@@ -205,12 +202,12 @@ module _ {P : Type 0} where
   pub is_brought : (at now : ℕ) (f g : Rc (Flight P) Global) → now < at ⊎ f.value.rated ≡ false
       → g.value.message.value ≡ f.value.message.value → g.value.left ≡ (flight_at at f.value).left
       → rate_of g.value.rate ≡ rate_of f.value.rate → g.value.since ≡ now → g.value.rated ≡ f.value.rated
-      → g.value.group ≡ f.value.group → IsBrought at now f g
-  is_brought at now f g back message left rate since rated group = record {
+      → IsBrought at now f g
+  is_brought at now f g back message left rate since rated = record {
     drains =
         brought at now f.value g.value (elim back [ inl lt ↦ inl (omega arith) | inr none ↦ inr none ]) message left
         rate
-        since rated group;
+        since rated;
     past_now = so_past now g (omega (arith, since));
     past_at = elim back [
       | inl lt ↦ so_past at g (omega (arith, since))
@@ -231,14 +228,14 @@ module _ {P : Type 0} where
         → now < at ⊎ x.value.rated ≡ false
         → f.message.value ≡ x.value.message.value → f.left ≡ (flight_at at x.value).left
         → rate_of f.rate ≡ rate_of x.value.rate → f.since ≡ now → f.rated ≡ x.value.rated
-        → f.group ≡ x.value.group → IsChangedUpTo (IsBrought at now) old new (i + 1)
-    next_brought f new put back message left rate since rated group =
+        → IsChangedUpTo (IsBrought at now) old new (i + 1)
+    next_brought f new put back message left rate since rated =
         subst (λ l. IsChangedUpTo (IsBrought at now) old l (i + 1)) (sym put.others)
         (one_more (IsBrought at now) old so_far i h x put.one lt is
         (is_brought at now x put.one back (ap (λ (y : Flight P). y.message.value) put.is ∙ message)
         (ap (λ (y : Flight P). y.left) put.is ∙ left)
         (ap (λ (y : Flight P). rate_of y.rate) put.is ∙ rate) (ap (λ (y : Flight P). y.since) put.is ∙ since)
-        (ap (λ (y : Flight P). y.rated) put.is ∙ rated) (ap (λ (y : Flight P). y.group) put.is ∙ group)))
+        (ap (λ (y : Flight P). y.rated) put.is ∙ rated)))
 
     pub next_counted_on : x.value.rated ≡ true → list_all (is_past at) so_far ≡ true → at ≤ now
         → IsChangedUpTo (IsBrought at now) old so_far (i + 1)
@@ -252,7 +249,7 @@ module _ {P : Type 0} where
     next_stands false none since past later =
         one_same (IsBrought at now) old so_far i x h lt is
         (is_brought at now x x (inr none) refl
-        (sym (ap (λ b. if b then left_by at x.value else x.value.left) none)) refl (since none) refl refl)
+        (sym (ap (λ b. if b then left_by at x.value else x.value.left) none)) refl (since none) refl)
 
   -- ---- all of them
 

@@ -1,6 +1,6 @@
 -- The messages in flight: flows that stand for them, and those that leave.
-use Rattle.std.proofs.Common.{◌≡◌, ℕ, zero, suc, ◌+◌, ◌<◌, ◌≤◌, Bool, true, false, not, if◌then◌else◌, ◌&&◌, ◌||◌, List}
-use Rattle.std.proofs.Common.{[], ◌∷◌, ◌++◌, length, map, get_or, refl, sym, ◌∙◌, ap, arith, append_assoc}
+use Rattle.std.proofs.Common.{◌≡◌, ℕ, zero, suc, ◌+◌, ◌<◌, ◌≤◌, Bool, true, false, not, cond, if◌then◌else◌, ◌&&◌, ◌||◌}
+use Rattle.std.proofs.Common.{List, [], ◌∷◌, ◌++◌, length, map, get_or, refl, sym, ◌∙◌, ap, arith, append_assoc}
 use Rattle.std.specs.List.{AllZip, remove, filter}
 use Rattle.std.specs.declared.cmp.Ordering.{Ordering}
 use Rattle.fair_rates.specs.declared.bandwidth.Flow.{Flow}
@@ -24,6 +24,18 @@ pub read_at : {X Y : Type 0} (f : X → Y) (xs : List X) (at : ℕ) (x : X) (d :
 read_at f [] at x d lt is = absurd (omega (arith, lt))
 read_at f (y ∷ xs) zero x d lt is = ap f (sym is)
 read_at f (y ∷ xs) (suc at) x d lt is = read_at f xs at x d (omega (arith, lt)) is
+
+-- what is read of those that pass a test
+pub read_filter : {X Y : Type 0} (f : X → Y) (test : Y → Bool) (xs : List X)
+    → filter test (map f xs) ≡ map f (filter (λ x. test (f x)) xs)
+read_filter f test [] = refl
+read_filter {X} {Y} f test (x ∷ xs) = by_test (test (f x)) (read_filter f test xs)
+  where
+    by_test : (b : Bool) → filter test (map f xs) ≡ map f (filter (λ x. test (f x)) xs)
+        → cond b (f x ∷ filter test (map f xs)) (filter test (map f xs))
+        ≡ map f (cond b (x ∷ filter (λ x. test (f x)) xs) (filter (λ x. test (f x)) xs))
+    by_test true ih = ap (λ l. f x ∷ l) ih
+    by_test false ih = ih
 
 remove-seam : {X : Type 0} (xs ys : List X) (y : X) → remove (xs ++ y ∷ ys) (length xs) ≡ xs ++ ys
 remove-seam [] ys y = refl

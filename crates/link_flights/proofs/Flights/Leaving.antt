@@ -14,7 +14,7 @@ use Rattle.link_flights.specs.Flights.Flight.{UnitFlight, flight_at, flights_at,
 use Rattle.link_flights.specs.Flights.Rated.{are_limited, rated_ones, is_out, sent_messages, ArePartedBy}
 use Rattle.link_simulation.specs.Simulation.Messages.{Message}
 use Rattle.link_pairs.specs.Pairs.Messages.{message_of}
-use Rattle.link_flights.proofs.Flights.Components.{read_filter}
+use Rattle.link_flights.proofs.Flights.InFlight.{read_filter}
 
 read_without : {X Y : Type 0} (f : X → Y) (xs : List X) (at : ℕ) → map f (remove xs at) ≡ remove (map f xs) at
 read_without f [] zero = refl

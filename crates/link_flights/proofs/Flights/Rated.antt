@@ -1,10 +1,6 @@
 -- Messages in flight that have got fair rates: what keeps them so, and how they are read.
 use Rattle.std.proofs.Common.{◌≡◌, ℕ, ◌-◌, ◌<◌, Bool, true, false, cond, not, List, [], ◌∷◌}
-use Rattle.std.proofs.Common.{slice_index, refl, sym, ap, ap₂, ◌∙◌, ◌||◌, subst, inl, inr}
-use Rattle.fair_rates.specs.Sides.Subjects.{same_peer}
-use Rattle.fair_rates.proofs.Lists.Members.{In, in_from_contains, contains_from_in}
-use Rattle.link_pairs.specs.declared.message.Message as code
-use Rattle.link_flights.specs.Flights.Components.{AreGrouped, share_an_end}
+use Rattle.std.proofs.Common.{slice_index, refl, sym, ap, ◌∙◌, subst}
 use Rattle.std.specs.List.{AllZip, filter}
 use Rattle.std.specs.declared.cmp.Ordering.{Ordering}
 use Rattle.std.proofs.Math.Logic.{∥∥₁_elim, ∥∥₁_map}
@@ -20,18 +16,8 @@ use Rattle.link_flights.specs.Flights.Rated.{sent_messages, rates_of, rated_ones
 use Rattle.link_flights.specs.Flights.Rated.{AreRated, IsAsRated}
 use Rattle.link_flights.specs.Flights.RatedFlights.{rated_flight_of, sending_of}
 use Rattle.link_pairs.specs.Pairs.Messages.{message_of}
-use Rattle.link_flights.proofs.Flights.Components.{read_filter}
+use Rattle.link_flights.proofs.Flights.InFlight.{read_filter}
 use Rattle.link_flights.proofs.Flights.Units.{drained_units}
-
--- what a thing of the one list stands for in the other
-zip_back : {X Y : Type 0} (R : X → Y → Type 0) (xs : List X) (ys : List Y) → AllZip R xs ys → (y : Y) → In ys y
-    → (x : X) × In xs x × R x y
-zip_back R [] [] z y among = absurd among
-zip_back R [] (w ∷ ys) z y among = absurd z
-zip_back R (x ∷ xs) [] z y among = absurd z
-zip_back R (x ∷ xs) (w ∷ ys) z y (inl is) = (x, inl refl, subst (R x) is z.0)
-zip_back R (x ∷ xs) (w ∷ ys) z y (inr among) =
-    let r = zip_back R xs ys z.1 y among in (r.0, inr r.1, r.2)
 
 module _ {P : Type 0} where
   -- ---- the same messages at the same rates
@@ -41,7 +27,6 @@ module _ {P : Type 0} where
     message = ap (λ x. x.message) d;
     rate = ap (λ x. x.rate) d;
     rated = ap (λ x. x.rated) d;
-    group = ap (λ x. x.group) d;
   }
 
   rated_alike : (us vs : List (UnitFlight P)) → AllZip IsAsRated us vs
@@ -114,20 +99,6 @@ module _ {P : Type 0} (cmp : P → P → Ordering) (caps : Caps P) where
       let same = rated_alike us vs z in
       rw (messages_alike (rated_ones us) (rated_ones vs) same, rates_alike (rated_ones us) (rated_ones vs) same) f
 
-  -- and they are grouped as before
-  pub still_grouped : (us vs : List (UnitFlight P)) → AllZip IsAsRated us vs → AreGrouped cmp (rated_ones us)
-      → AreGrouped cmp (rated_ones vs)
-  still_grouped us vs z grouped v w hv hw shared =
-      let same = rated_alike us vs z in
-      let a = zip_back IsAsRated (rated_ones us) (rated_ones vs) same v (in_from_contains (rated_ones vs) v hv) in
-      let b = zip_back IsAsRated (rated_ones us) (rated_ones vs) same w (in_from_contains (rated_ones vs) w hw) in
-      let before : share_an_end cmp a.0 b.0 ≡ true =
-      ap₂ (λ (m n : code.Message P). same_peer cmp m.origin n.origin || same_peer cmp m.recipient n.recipient)
-      (sym a.2.message) (sym b.2.message) ∙ shared in
-      a.2.group
-      ∙ grouped a.0 b.0 (contains_from_in (rated_ones us) a.0 a.1) (contains_from_in (rated_ones us) b.0 b.1) before
-      ∙ sym b.2.group
-
   pub still_limited : (us vs : List (UnitFlight P)) → AllZip IsAsRated us vs
       → are_limited cmp caps (rated_ones us) ≡ true
       → are_limited cmp caps (rated_ones vs) ≡ true
@@ -148,5 +119,4 @@ module _ {P : Type 0} (cmp : P → P → Ordering) (caps : Caps P) where
         (slice_index (rates_of (rated_ones (in_units flights)))) (∥∥₁_map so (λ f. f.fair));
     limited = ∥∥₁_elim so (hlevel props) (λ f. f.limited);
     timed = ∥∥₁_elim so (hlevel props) (λ f. f.timed);
-    grouped = ∥∥₁_elim so (hlevel props) (λ f. f.grouped);
   }

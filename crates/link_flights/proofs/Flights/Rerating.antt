@@ -1,20 +1,22 @@
 -- Rates that are given to messages in flight one after another, and the first finish.
 use Rattle.std.proofs.Common.{◌≡◌, ◌≢◌, ℕ, zero, suc, ◌+◌, ◌-◌, ◌*◌, ◌<◌, ◌≤◌, nat_le, Bool, true, false, cond}
-use Rattle.std.proofs.Common.{if◌then◌else◌, not, ◌||◌, List, [], ◌∷◌, ◌++◌, All, Option, Some, None, length, drop}
-use Rattle.std.proofs.Common.{get_or, set, slice_get, refl, sym, ap, ◌∙◌, subst, inl, inr, ◌⊎◌, arith, append_assoc}
+use Rattle.std.proofs.Common.{if◌then◌else◌, not, ◌||◌, ◌&&◌, List, [], ◌∷◌, ◌++◌, All, Option, Some, None, length}
+use Rattle.std.proofs.Common.{drop, get_or, set, slice_get, refl, sym, ap, ◌∙◌, subst, inl, inr, ◌⊎◌, arith}
+use Rattle.std.proofs.Common.{append_assoc}
+use Rattle.std.specs.Bool.{◌==◌}
 use Rattle.std.specs.List.{list_any}
 use Rattle.std.specs.Prelude.{IfSome, option_map}
 use Rattle.std.specs.declared.cmp.Ordering.{Ordering}
 use Rattle.std.specs.declared.rc.Rc.{Rc}
 use Rattle.std.specs.declared.alloc.Global.{Global}
-use Rattle.std.proofs.lemmas.Bool.{le-leb, leb-true, cases_lt, false≢true}
+use Rattle.std.proofs.lemmas.Bool.{le-leb, leb-true, cases_lt, false≢true, or_parts, eqb-true}
 use Rattle.std.proofs.lemmas.List.{length-append, append-nil, map-append, length-set, drop_more, get_or_default}
 use Rattle.std.proofs.lemmas.List.{set-get_or}
 use Rattle.std.proofs.Math.Nat.{mul-pos}
 use Rattle.std.proofs.lemmas.Map.Keys.{any_passes_from_place}
 use Rattle.std.proofs.lemmas.Option.{none-some, same_Some, slice_get-map, slice_get_within, get_or_from_slice_get}
 use Rattle.std.proofs.lemmas.Option.{slice_get-get_or}
-use Rattle.fair_rates.proofs.Lists.Members.{In, get_from_map, contains_from_in}
+use Rattle.fair_rates.proofs.Lists.Members.{get_from_map}
 use Rattle.fair_rates.proofs.Lists.Sorted.{get_or-seam, set-seam}
 use Rattle.fair_rates.specs.Numbers.Amount.{billion}
 use Rattle.fair_rates.specs.Sides.Caps.{Caps}
@@ -24,7 +26,7 @@ use Rattle.link_flights.specs.declared.component.Component.{Component}
 use Rattle.link_flights.specs.declared.flight.Flight.{Flight}
 use Rattle.link_flights.specs.declared.flight_list.Flights.{Flights}
 use Rattle.link_pairs.specs.declared.message.Message.{Message}
-use Rattle.link_flights.specs.Flights.Components.{is_of, those_of, is_found, AreFound, NoneIsFound}
+use Rattle.link_flights.specs.Flights.Components.{is_of, those_of, keeps, touches, NoneIsNear}
 use Rattle.link_flights.specs.Flights.Flight.{UnitFlight, rate_of, left_by, flight_at, flights_at, has_come, IsTimed}
 use Rattle.link_flights.specs.Flights.Flight.{AreTimed, IsPutAt}
 use Rattle.link_flights.specs.Flights.InFlight.{in_units, in_flight}
@@ -59,6 +61,10 @@ passes_there {X} test (x ∷ xs) any = by_test (test x) refl (λ later. passes_t
         let r = ih (sym (ap (λ b. b || list_any test xs) is) ∙ any) in
         (suc r.0, r.1, r.2, r.3)
 
+pub none_there : {X : Type 0} (xs : List X) (n : ℕ) → n ≡ length xs → (n == 0) ≡ true → xs ≡ []
+none_there [] n is none = refl
+none_there (x ∷ xs) n is none = absurd (omega (arith, is, eqb-true n 0 none))
+
 -- ---- rates, one after another
 
 module _ {P : Type 0} where
@@ -85,15 +91,15 @@ module _ {P : Type 0} where
 
 -- ---- one that is rated anew, or goes on
 
-module _ {P : Type 0} (now times group rate : ℕ) where
+module _ {P : Type 0} (now times rate : ℕ) where
   abbrev as_record : Message P → ℕ → UnitFlight P
-  as_record m n = record { message = m; left = n; rate = rate; updated = now; rated = true; group = group }
+  as_record m n = record { message = m; left = n; rate = rate; updated = now; rated = true }
 
   anew_is : (f x : Flight P) → f.message.value ≡ x.message.value → f.left ≡ (flight_at now x).left * times
-      → rate_of f.rate ≡ rate → f.since ≡ now → f.rated ≡ true → f.group ≡ group
-      → flight_at now f ≡ rated_anew now times group rate (flight_at now x)
-  anew_is f x message left at_rate since rated of_group =
-      rw (rated, message, at_rate, since, of_group) (ap (as_record x.message.value) rest)
+      → rate_of f.rate ≡ rate → f.since ≡ now → f.rated ≡ true
+      → flight_at now f ≡ rated_anew now times rate (flight_at now x)
+  anew_is f x message left at_rate since rated =
+      rw (rated, message, at_rate, since) (ap (as_record x.message.value) rest)
     where
       none : now - now ≡ 0
       none = omega arith
@@ -104,10 +110,10 @@ module _ {P : Type 0} (now times group rate : ℕ) where
       rest : f.left - rate * (now - now) ≡ (flight_at now x).left * times
       rest = ap (λ n. f.left - rate * n) none ∙ nothing ∙ left
 
-  same_is : (x : Flight P) → x.rated ≡ true → x.group ≡ group → rate_of x.rate ≡ rate → times ≡ 1
-      → flight_at now x ≡ rated_anew now times group rate (flight_at now x)
-  same_is x rated of_group at_rate once =
-      rw (rated, of_group, at_rate, once) (ap (as_record x.message.value) (omega arith))
+  same_is : (x : Flight P) → x.rated ≡ true → rate_of x.rate ≡ rate → times ≡ 1
+      → flight_at now x ≡ rated_anew now times rate (flight_at now x)
+  same_is x rated at_rate once =
+      rw (rated, at_rate, once) (ap (as_record x.message.value) (omega arith))
 
   module _ (fs : List (Rc (Flight P) Global)) (at : ℕ) (x : Rc (Flight P) Global) (there : at < length fs)
       (is : x ≡ get_or fs at x) where
@@ -117,24 +123,24 @@ module _ {P : Type 0} (now times group rate : ℕ) where
     -- another one is put in its place
     pub put_anew : (f : Flight P) (new : List (Rc (Flight P) Global)) → IsPutAt at f fs new
         → f.message.value ≡ x.value.message.value → f.left ≡ (flight_at now x.value).left * times
-        → rate_of f.rate ≡ rate → f.since ≡ now → f.rated ≡ true → f.group ≡ group → IsTimed f
-        → IsReratedAt now at times group rate fs new
-    put_anew f new put message left at_rate since rated of_group timed = record {
+        → rate_of f.rate ≡ rate → f.since ≡ now → f.rated ≡ true → IsTimed f
+        → IsReratedAt now at times rate fs new
+    put_anew f new put message left at_rate since rated timed = record {
       one = put.one;
       others = put.others;
-      unit = λ d. ap (flight_at now) put.is ∙ anew_is f x.value message left at_rate since rated of_group
-          ∙ ap (λ (y : Rc (Flight P) Global). rated_anew now times group rate (flight_at now y.value)) (read d);
+      unit = λ d. ap (flight_at now) put.is ∙ anew_is f x.value message left at_rate since rated
+          ∙ ap (λ (y : Rc (Flight P) Global). rated_anew now times rate (flight_at now y.value)) (read d);
       timed = subst IsTimed (sym put.is) timed;
     }
 
     -- nothing changes
-    pub goes_on : x.value.rated ≡ true → x.value.group ≡ group → rate_of x.value.rate ≡ rate → times ≡ 1
-        → AreTimed fs → IsReratedAt now at times group rate fs fs
-    goes_on rated of_group at_rate once timed = record {
+    pub goes_on : x.value.rated ≡ true → rate_of x.value.rate ≡ rate → times ≡ 1
+        → AreTimed fs → IsReratedAt now at times rate fs fs
+    goes_on rated at_rate once timed = record {
       one = x;
       others = sym (set-get_or fs at x) ∙ ap (set fs at) (sym is);
-      unit = λ d. same_is x.value rated of_group at_rate once
-          ∙ ap (λ (y : Rc (Flight P) Global). rated_anew now times group rate (flight_at now y.value)) (read d);
+      unit = λ d. same_is x.value rated at_rate once
+          ∙ ap (λ (y : Rc (Flight P) Global). rated_anew now times rate (flight_at now y.value)) (read d);
       timed = timed at x (slice_get-get_or fs at x there ∙ ap Some (sym is)) rated;
     }
 
@@ -147,8 +153,8 @@ set_there (z ∷ xs) (suc at) y zero x there = inr there
 set_there (z ∷ xs) (suc at) y (suc i) x there = set_there xs at y i x there
 
 -- where one is rated anew, all are timed that were
-pub timed_set : {P : Type 0} {fs new : List (Rc (Flight P) Global)} {now at times group rate : ℕ}
-    → IsReratedAt now at times group rate fs new → AreTimed fs → AreTimed new
+pub timed_set : {P : Type 0} {fs new : List (Rc (Flight P) Global)} {now at times rate : ℕ}
+    → IsReratedAt now at times rate fs new → AreTimed fs → AreTimed new
 timed_set {P} {fs = fs} {at = at} put timed i f there rated =
     elim (set_there fs at put.one i f (sym (ap (λ l. slice_get l i) put.others) ∙ there)) [
       | inl is ↦ subst (λ (g : Rc (Flight P) Global). IsTimed g.value) (sym is) put.timed
@@ -195,12 +201,12 @@ module _ {P : Type 0} {a : _} {b : _} {c : _} (at : ℕ) (old new : Flights P a 
   by_one (inl same) = omega (arith, same.0)
   by_one (inr one) = omega (arith, one.0)
 
-module _ {P : Type 0} (cmp : P → P → Ordering) (component : Component P) (now times group : ℕ) where
+module _ {P : Type 0} (cmp : P → P → Ordering) (component : Component P) (now times : ℕ) where
   abbrev again : List ℕ → List (UnitFlight P) → List (UnitFlight P)
-  again rates us = rerated cmp component now times group rates us
+  again rates us = rerated cmp component now times rates us
 
   abbrev anew : ℕ → UnitFlight P → UnitFlight P
-  anew rate u = rated_anew now times group rate u
+  anew rate u = rated_anew now times rate u
 
   as_they_are : (us : List (UnitFlight P)) → us ≡ again [] us
   as_they_are [] = refl
@@ -230,12 +236,11 @@ module _ {P : Type 0} (cmp : P → P → Ordering) (component : Component P) (no
       pub left : All (λ (u : UnitFlight P). u.left * times ≢ 0) (flights_at now rest)
       pub timed : AreTimed to
       pub others : AreOthersTimed cmp component rest
-      pub found : (v : UnitFlight P) → In (flights_at now rest) v → is_found cmp component v ≡ is_of cmp component v
 
     pub none_rerated : length rates ≡ length (those_of cmp component (flights_at now old))
         → All (λ (u : UnitFlight P). u.left * times ≢ 0) (flights_at now old) → AreOthersTimed cmp component old
-        → AreFound cmp component (flights_at now old) → AreReratedUpTo old 0 0
-    none_rerated one_each left others found = record {
+        → AreReratedUpTo old 0 0
+    none_rerated one_each left others = record {
       to = [];
       rest = old;
       is = refl;
@@ -246,12 +251,11 @@ module _ {P : Type 0} (cmp : P → P → Ordering) (component : Component P) (no
       left = left;
       timed = λ i f there rated. absurd (none-some f there);
       others = others;
-      found = λ v among. found v (contains_from_in (flights_at now old) v among);
     }
 
-module _ {P : Type 0} {cmp : P → P → Ordering} {component : Component P} {now times group : ℕ} {rates : List ℕ}
+module _ {P : Type 0} {cmp : P → P → Ordering} {component : Component P} {now times : ℕ} {rates : List ℕ}
     {old so_far : List (Rc (Flight P) Global)} {at next : ℕ}
-    (h : AreReratedUpTo cmp component now times group rates old so_far at next) where
+    (h : AreReratedUpTo cmp component now times rates old so_far at next) where
   -- what stands at the place
   pub record StandsNext (x : Rc (Flight P) Global) : Type 0 where
     pub rest : List (Rc (Flight P) Global)
@@ -283,22 +287,14 @@ module _ {P : Type 0} {cmp : P → P → Ordering} {component : Component P} {no
     others_all : AreOthersTimed cmp component (x ∷ s.rest)
     others_all = subst (AreOthersTimed cmp component) s.was h.others
 
-    found_all : (v : UnitFlight P) → In (u ∷ us) v → is_found cmp component v ≡ is_of cmp component v
-    found_all = subst
-        (λ l. (v : UnitFlight P) → In (flights_at now l) v → is_found cmp component v ≡ is_of cmp component v) s.was
-        h.found
-
-    pub found_here : is_found cmp component u ≡ is_of cmp component u
-    found_here = found_all u (inl refl)
-
     count_all : length rates ≡ next + length (those_of cmp component (u ∷ us))
     count_all = h.one_each ∙ ap (λ l. next + length (those_of cmp component (flights_at now l))) s.was
 
-    comes_all : rerated cmp component now times group rates (flights_at now old)
-        ≡ flights_at now h.to ++ rerated cmp component now times group (drop next rates) (u ∷ us)
+    comes_all : rerated cmp component now times rates (flights_at now old)
+        ≡ flights_at now h.to ++ rerated cmp component now times (drop next rates) (u ∷ us)
     comes_all =
         h.comes
-        ∙ ap (λ l. flights_at now h.to ++ rerated cmp component now times group (drop next rates) (flights_at now l))
+        ∙ ap (λ l. flights_at now h.to ++ rerated cmp component now times (drop next rates) (flights_at now l))
         s.was
 
     pub something_left : u.left * times ≢ 0
@@ -308,7 +304,7 @@ module _ {P : Type 0} {cmp : P → P → Ordering} {component : Component P} {no
     has_rate of = omega (arith, count_all, ap length (filter_yes (is_of cmp component) u us of))
 
     pub passed : is_of cmp component u ≡ false
-        → AreReratedUpTo cmp component now times group rates old so_far (at + 1) next
+        → AreReratedUpTo cmp component now times rates old so_far (at + 1) next
     passed out = record {
       to = h.to ++ x ∷ [];
       rest = s.rest;
@@ -316,24 +312,23 @@ module _ {P : Type 0} {cmp : P → P → Ordering} {component : Component P} {no
       at_is = ap (λ n. n + 1) h.at_is ∙ sym (length-append h.to (x ∷ []));
       as_many = h.as_many;
       comes = comes_all
-          ∙ ap (λ l. flights_at now h.to ++ l) (passed_over cmp component now times group (drop next rates) u us out)
-          ∙ moved_on now h.to x (rerated cmp component now times group (drop next rates) us);
+          ∙ ap (λ l. flights_at now h.to ++ l) (passed_over cmp component now times (drop next rates) u us out)
+          ∙ moved_on now h.to x (rerated cmp component now times (drop next rates) us);
       one_each = count_all ∙ ap (λ l. next + length l) (filter_no (is_of cmp component) u us out);
       left = λ i v within. left_all (suc i) v (omega arith);
       timed = more_timed h.to x h.timed (others_all 0 x refl out);
       others = λ i f there. others_all (suc i) f there;
-      found = λ v among. found_all v (inr among);
     }
 
     pub one_rerated : (rate : ℕ) (new : List (Rc (Flight P) Global))
-        → IsReratedAt now at times group rate so_far new → x ≡ get_or so_far at x → rate ≡ get_or rates next 0
-        → is_of cmp component u ≡ true → AreReratedUpTo cmp component now times group rates old new (at + 1) (next + 1)
+        → IsReratedAt now at times rate so_far new → x ≡ get_or so_far at x → rate ≡ get_or rates next 0
+        → is_of cmp component u ≡ true → AreReratedUpTo cmp component now times rates old new (at + 1) (next + 1)
     one_rerated rate new put here rate_is of =
         let y = put.one in
-        let fresh : flight_at now y.value ≡ anew cmp component now times group (get_or rates next 0) u =
+        let fresh : flight_at now y.value ≡ anew cmp component now times (get_or rates next 0) u =
         put.unit x
-        ∙ ap (λ (z : Rc (Flight P) Global). rated_anew now times group rate (flight_at now z.value)) (sym here)
-        ∙ ap (λ n. rated_anew now times group n u) rate_is in
+        ∙ ap (λ (z : Rc (Flight P) Global). rated_anew now times rate (flight_at now z.value)) (sym here)
+        ∙ ap (λ n. rated_anew now times n u) rate_is in
         record {
           to = h.to ++ y ∷ [];
           rest = s.rest;
@@ -342,18 +337,17 @@ module _ {P : Type 0} {cmp : P → P → Ordering} {component : Component P} {no
               ∙ sym (append_assoc h.to (y ∷ []) s.rest);
           at_is = ap (λ n. n + 1) h.at_is ∙ sym (length-append h.to (y ∷ []));
           as_many = ap length put.others ∙ length-set so_far at y ∙ h.as_many;
-          comes = comes_all ∙ ap (λ l. flights_at now h.to ++ rerated cmp component now times group l (u ∷ us))
+          comes = comes_all ∙ ap (λ l. flights_at now h.to ++ rerated cmp component now times l (u ∷ us))
               (drop_more rates next 0 (has_rate of))
               ∙ ap (λ l. flights_at now h.to ++ l)
-              (given_one cmp component now times group (get_or rates next 0) (drop (next + 1) rates) u us of)
-              ∙ ap (λ v. flights_at now h.to ++ v ∷ rerated cmp component now times group (drop (next + 1) rates) us)
+              (given_one cmp component now times (get_or rates next 0) (drop (next + 1) rates) u us of)
+              ∙ ap (λ v. flights_at now h.to ++ v ∷ rerated cmp component now times (drop (next + 1) rates) us)
               (sym fresh)
-              ∙ moved_on now h.to y (rerated cmp component now times group (drop (next + 1) rates) us);
+              ∙ moved_on now h.to y (rerated cmp component now times (drop (next + 1) rates) us);
           one_each = omega (arith, count_all, ap length (filter_yes (is_of cmp component) u us of));
           left = λ i v within. left_all (suc i) v (omega arith);
           timed = more_timed h.to y h.timed (λ is. put.timed);
           others = λ i g there. others_all (suc i) g there;
-          found = λ v among. found_all v (inr among);
         }
 
   -- where a rate is left to be given, one of them still stands
@@ -379,7 +373,7 @@ module _ {P : Type 0} {cmp : P → P → Ordering} {component : Component P} {no
 
   -- all of them
   pub record AreAllRerated : Type 0 where
-    pub units : flights_at now so_far ≡ rerated cmp component now times group rates (flights_at now old)
+    pub units : flights_at now so_far ≡ rerated cmp component now times rates (flights_at now old)
     pub timed : AreTimed so_far
 
   pub all_rerated : length so_far ≤ at → AreAllRerated
@@ -388,9 +382,9 @@ module _ {P : Type 0} {cmp : P → P → Ordering} {component : Component P} {no
       by_rest : (rest : List (Rc (Flight P) Global)) → h.rest ≡ rest → AreAllRerated
       by_rest [] e =
           let all : so_far ≡ h.to = h.is ∙ ap (λ l. h.to ++ l) e ∙ append-nil h.to in
-          let none_come : rerated cmp component now times group rates (flights_at now old) ≡ flights_at now h.to =
+          let none_come : rerated cmp component now times rates (flights_at now old) ≡ flights_at now h.to =
           h.comes
-          ∙ ap (λ l. flights_at now h.to ++ rerated cmp component now times group (drop next rates) (flights_at now l))
+          ∙ ap (λ l. flights_at now h.to ++ rerated cmp component now times (drop next rates) (flights_at now l))
           e
           ∙ append-nil (flights_at now h.to) in
           record { units = ap (flights_at now) all ∙ sym none_come; timed = subst AreTimed (sym all) h.timed }
@@ -398,16 +392,21 @@ module _ {P : Type 0} {cmp : P → P → Ordering} {component : Component P} {no
           let whole = ap length (h.is ∙ ap (λ l. h.to ++ l) e) in
           absurd (omega (arith, end, h.at_is, whole, length-append h.to (z ∷ rest)))
 
-module _ {P : Type 0} {cmp : P → P → Ordering} {component : Component P} {now times group : ℕ} {rates : List ℕ}
+-- one of which the component has no end is not of it
+pub apart_is_out : {P : Type 0} (cmp : P → P → Ordering) (component : Component P) (u : UnitFlight P)
+    → touches cmp component u.message ≡ false → is_of cmp component u ≡ false
+apart_is_out cmp component u apart = ap (λ b. b && not (keeps component u)) (or_parts _ _ apart).0
+
+module _ {P : Type 0} {cmp : P → P → Ordering} {component : Component P} {now times : ℕ} {rates : List ℕ}
     {old so_far : List (Rc (Flight P) Global)} where
   -- where no rate is left, none of the others is of the component
-  pub to_end : (n at next : ℕ) (h : AreReratedUpTo cmp component now times group rates old so_far at next)
+  pub to_end : (n at next : ℕ) (h : AreReratedUpTo cmp component now times rates old so_far at next)
       → length h.rest ≡ n → length rates ≤ next
-      → AreReratedUpTo cmp component now times group rates old so_far (length so_far) next
+      → AreReratedUpTo cmp component now times rates old so_far (length so_far) next
   to_end zero at next h e end =
       let all : length so_far ≡ at =
       let whole = ap length h.is in omega (arith, e, whole, h.at_is, length-append h.to h.rest) in
-      subst (λ k. AreReratedUpTo cmp component now times group rates old so_far k next) (sym all) h
+      subst (λ k. AreReratedUpTo cmp component now times rates old so_far k next) (sym all) h
   to_end (suc n) at next h e end = by_rest h.rest refl (λ g f. to_end n (at + 1) next g f end)
     where
       out : (z : Rc (Flight P) Global) (s : StandsNext h z) → (b : Bool)
@@ -416,13 +415,13 @@ module _ {P : Type 0} {cmp : P → P → Ordering} {component : Component P} {no
       out z s false of = of
 
       by_rest : (rest : List (Rc (Flight P) Global)) → h.rest ≡ rest
-          → ((g : AreReratedUpTo cmp component now times group rates old so_far (at + 1) next) → length g.rest ≡ n
-          → AreReratedUpTo cmp component now times group rates old so_far (length so_far) next)
-          → AreReratedUpTo cmp component now times group rates old so_far (length so_far) next
+          → ((g : AreReratedUpTo cmp component now times rates old so_far (at + 1) next) → length g.rest ≡ n
+          → AreReratedUpTo cmp component now times rates old so_far (length so_far) next)
+          → AreReratedUpTo cmp component now times rates old so_far (length so_far) next
       by_rest [] r later = absurd (omega (arith, e, ap length r))
       by_rest (z ∷ rest) r later =
           let s : StandsNext h z = record { rest = rest; was = r } in
-          let g : AreReratedUpTo cmp component now times group rates old so_far (at + 1) next =
+          let g : AreReratedUpTo cmp component now times rates old so_far (at + 1) next =
           passed h z s (out z s (is_of cmp component (flight_at now z.value)) refl) in
           let before = ap length h.is in
           let after = ap length g.is in
@@ -431,23 +430,23 @@ module _ {P : Type 0} {cmp : P → P → Ordering} {component : Component P} {no
           later g fewer
 
   -- one more at the beginning that is not of the component is passed over
-  one_passed : (n : ℕ) → NoneIsFound cmp component (suc n) so_far
-      → (h : AreReratedUpTo cmp component now times group rates old so_far n 0) (rest : List (Rc (Flight P) Global))
-      → h.rest ≡ rest → AreReratedUpTo cmp component now times group rates old so_far (suc n) 0
+  one_passed : (n : ℕ) → NoneIsNear cmp component (suc n) so_far
+      → (h : AreReratedUpTo cmp component now times rates old so_far n 0) (rest : List (Rc (Flight P) Global))
+      → h.rest ≡ rest → AreReratedUpTo cmp component now times rates old so_far (suc n) 0
   one_passed n far h [] r =
       let whole = ap length (h.is ∙ ap (λ l. h.to ++ l) r) in
       absurd (omega (arith, far.0, h.at_is, whole, length-append h.to []))
   one_passed n far h (z ∷ rest) r =
       let s : StandsNext h z = record { rest = rest; was = r } in
-      let more : AreReratedUpTo cmp component now times group rates old so_far (n + 1) 0 =
-      passed h z s (sym (found_here h z s) ∙ far.1 n z (omega arith) (there_next h z s)) in
-      subst (λ k. AreReratedUpTo cmp component now times group rates old so_far k 0)
+      let more : AreReratedUpTo cmp component now times rates old so_far (n + 1) 0 =
+      passed h z s (apart_is_out cmp component (flight_at now z.value) (far.1 n z (omega arith) (there_next h z s))) in
+      subst (λ k. AreReratedUpTo cmp component now times rates old so_far k 0)
       (let it : n + 1 ≡ suc n = omega arith in it) more
 
   -- those at the beginning that are not of the component are passed over
-  pub first_passed : (n : ℕ) → NoneIsFound cmp component n so_far
-      → AreReratedUpTo cmp component now times group rates old so_far 0 0
-      → AreReratedUpTo cmp component now times group rates old so_far n 0
+  pub first_passed : (n : ℕ) → NoneIsNear cmp component n so_far
+      → AreReratedUpTo cmp component now times rates old so_far 0 0
+      → AreReratedUpTo cmp component now times rates old so_far n 0
   first_passed zero far h = h
   first_passed (suc n) far h =
       let before = first_passed n (omega (arith, far.0), λ at one lt there. far.1 at one (omega (arith, lt)) there) h in
@@ -491,7 +490,6 @@ module _ {P : Type 0} (scale : ℕ) (some : 0 < scale) where
       rate = rate_of f.rate;
       updated = at;
       rated = true;
-      group = f.group;
     }
 
     unit_is : flight_at at f ≡ unit
@@ -504,7 +502,6 @@ module _ {P : Type 0} (scale : ℕ) (some : 0 < scale) where
           rate = if b then rate_of f.rate else 0;
           updated = if b then at else f.since;
           rated = b;
-          group = f.group;
         }
 
     come_if_spent : (s : ℕ) → s ≤ last_moment → (rated_flight_of scale (flight_at at f)).updated ≤ s

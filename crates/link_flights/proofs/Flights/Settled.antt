@@ -6,7 +6,7 @@ use Rattle.std.specs.List.{AllZip, filter, list_all, list_any, remove}
 use Rattle.std.specs.declared.cmp.Ordering.{Ordering}
 use Rattle.std.specs.declared.rc.Rc.{Rc}
 use Rattle.std.specs.declared.alloc.Global.{Global}
-use Rattle.std.proofs.lemmas.Bool.{and_from, leb-false, lt-leb}
+use Rattle.std.proofs.lemmas.Bool.{and_from, or_parts, leb-false, lt-leb}
 use Rattle.std.proofs.lemmas.List.{length-append, length-set, length-take-le, take-append-drop, take-append-le}
 use Rattle.std.proofs.lemmas.List.{take_all}
 use Rattle.std.proofs.lemmas.List.Edits.{length-remove}
@@ -24,7 +24,6 @@ use Rattle.link_flights.specs.Flights.Flight.{FinishFrom}
 use Rattle.link_flights.specs.Flights.Rated.{is_out, are_limited, rated_ones, IsRatedFrom}
 use Rattle.link_flights.proofs.Flights.Copies.{AreShared}
 use Rattle.link_flights.proofs.Flights.Done.{out_by_finish, limited_there}
-use Rattle.link_flights.proofs.Flights.Ends.{first_is, second_is}
 use Rattle.link_flights.proofs.Flights.Flight.{IsBrought, is_past, is_counted_on, past_so}
 use Rattle.link_flights.proofs.Flights.InFlight.{HaveLeft, filter_yes, filter_no}
 
@@ -70,16 +69,16 @@ module _ {X : Type 0} (test : X → Bool) where
   none_with : (xs : List X) (at : ℕ) (y : X) → list_any test xs ≡ false → test y ≡ false
       → list_any test (set xs at y) ≡ false
   none_with [] at y none fails = refl
-  none_with (x ∷ xs) zero y none fails = neither (test y) _ fails (second_is (test x) _ none)
+  none_with (x ∷ xs) zero y none fails = neither (test y) _ fails ((or_parts (test x) _ none).1)
   none_with (x ∷ xs) (suc at) y none fails =
-      neither (test x) _ (first_is (test x) _ none) (none_with xs at y (second_is (test x) _ none) fails)
+      neither (test x) _ ((or_parts (test x) _ none).0) (none_with xs at y ((or_parts (test x) _ none).1) fails)
 
   none_without : (xs : List X) (at : ℕ) → list_any test xs ≡ false → list_any test (remove xs at) ≡ false
   none_without [] zero none = refl
   none_without [] (suc at) none = refl
-  none_without (x ∷ xs) zero none = second_is (test x) _ none
+  none_without (x ∷ xs) zero none = (or_parts (test x) _ none).1
   none_without (x ∷ xs) (suc at) none =
-      neither (test x) _ (first_is (test x) _ none) (none_without xs at (second_is (test x) _ none))
+      neither (test x) _ ((or_parts (test x) _ none).0) (none_without xs at ((or_parts (test x) _ none).1))
 
 -- none of two moments has come where the earlier one has not
 earlier_none : (a b : Option ℕ) (t : ℕ) → has_come t (earlier a b) ≡ false
@@ -196,7 +195,8 @@ module _ {P : Type 0} where
       abbrev out : Rc (Flight P) Global → Bool
       out f = is_out cmp caps scale (flight_at at f.value)
 
-      none_out : (n : ℕ) (fs : List (Rc (Flight P) Global)) → list_all (λ f. f.value.rated) (take n fs) ≡ true
+      -- so none of them leaves
+      pub none_out : (n : ℕ) (fs : List (Rc (Flight P) Global)) → list_all (λ f. f.value.rated) (take n fs) ≡ true
           → list_all (is_past at) fs ≡ true → list_any (λ f. has_come at f.value.finish) fs ≡ false → AreTimed fs
           → are_limited cmp caps (rated_ones (flights_at at fs)) ≡ true
           → (filter out (take n fs) ≡ []) × (filter (λ f. not (out f)) (take n fs) ≡ take n fs)
@@ -206,16 +206,18 @@ module _ {P : Type 0} where
           let is = first_of_both f.value.rated _ all in
           let stays : out f ≡ false =
           sym (out_by_finish cmp caps scale some at f.value is (past_so at f (first_of_both (is_past at f) _ past) is)
-          here (timed zero f refl is) (limited_there cmp caps scale some at (f ∷ fs) zero f limited (omega arith) refl is))
-          ∙ first_is (has_come at f.value.finish) _ none in
+          here (timed zero f refl is)
+          (limited_there cmp caps scale some at (f ∷ fs) zero f limited (omega arith) refl is))
+          ∙ (or_parts (has_come at f.value.finish) _ none).0 in
           let rest = none_out n fs (second_of_both f.value.rated _ all) (second_of_both (is_past at f) _ past)
-          (second_is (has_come at f.value.finish) _ none) (λ i g there. timed (suc i) g there)
+          ((or_parts (has_come at f.value.finish) _ none).1) (λ i g there. timed (suc i) g there)
           (limited_rest (flight_at at f.value) (flights_at at fs) is limited) in (
             filter_no out f (take n fs) stays ∙ rest.0,
             filter_yes (λ g. not (out g)) f (take n fs) (ap not stays) ∙ ap (λ l. f ∷ l) rest.1,
           )
         where
-          limited_rest : (u : UnitFlight P) (us : List (UnitFlight P)) → u.rated ≡ true → are_limited cmp caps (rated_ones (u ∷ us)) ≡ true
+          limited_rest : (u : UnitFlight P) (us : List (UnitFlight P)) → u.rated ≡ true
+              → are_limited cmp caps (rated_ones (u ∷ us)) ≡ true
               → are_limited cmp caps (rated_ones us) ≡ true
           limited_rest u us is limited =
               second_of_both _ (are_limited cmp caps (rated_ones us))

@@ -1,8 +1,6 @@
 -- Messages in flight as they stand at an account, in units.
 use Rattle.std.proofs.Common.{◌≡◌, ℕ, zero, suc, Bool, false, ◌||◌, List, [], ◌∷◌, ◌++◌, length, get_or, ◌<◌, refl}
 use Rattle.std.proofs.Common.{sym, ap, ◌∙◌}
-use Rattle.std.proofs.Common.{subst}
-use Rattle.link_flights.specs.Flights.Components.{AreGrouped}
 use Rattle.std.proofs.Common.{arith}
 use Rattle.std.proofs.lemmas.Option.{none-some, same_Some}
 use Rattle.std.proofs.lemmas.Bool.{false≢true}
@@ -80,5 +78,4 @@ module _ {P : Type 0} (cmp : P → P → Ordering) (caps : Caps P) {a : _} {b : 
     fair = rw (scale, ones) rated.fair;
     limited = ap (are_limited cmp caps) ones ∙ rated.limited;
     timed = timed rated.timed;
-    grouped = subst (AreGrouped cmp) (sym ones) rated.grouped;
   }

@@ -17,15 +17,14 @@ rate_of (Some rate) = rate.value
 abbrev pub left_by : {P : Type 0} → ℕ → Flight P → ℕ
 left_by now f = f.left - rate_of f.rate * (now - f.since)
 
--- a message in flight with the units that were left at a moment, and those that drain in a nanosecond from then on;
--- whether an account has given it this rate; and its group: those that share a sender or a receiver are of one
+-- a message in flight with the units that were left at a moment, and those that drain in a nanosecond from then on; and
+-- whether an account has given it this rate
 pub record UnitFlight (P : Type 0) : Type 0 where
   pub message : Message P
   pub left : ℕ
   pub rate : ℕ
   pub updated : ℕ
   pub rated : Bool
-  pub group : ℕ
 
 -- a message in flight as it stands at the moment of the last account; one that has started since has no rate yet
 abbrev pub flight_at : {P : Type 0} → ℕ → Flight P → UnitFlight P
@@ -35,7 +34,6 @@ flight_at at f = record {
   rate = if f.rated then rate_of f.rate else 0;
   updated = if f.rated then at else f.since;
   rated = f.rated;
-  group = f.group;
 }
 
 -- the messages in flight as they stand at the moment of the last account

@@ -1,13 +1,15 @@
 -- Messages in flight that have got rates, which are fair for them.
 use Rattle.std.specs.Prelude.{◌≡◌, ℕ, zero, suc, ◌+◌, ◌*◌, ◌⊎◌, Bool, true, false, not, List, [], ◌∷◌, cond, map}
-use Rattle.std.specs.Prelude.{slice_index, length, Some, slice_get, slice_set, slice_index_or}
+use Rattle.std.specs.Prelude.{slice_index, length, Option, Some, None, slice_get, slice_set, slice_index_or, Contains}
+use Rattle.std.specs.Prelude.{◌≤◌, if◌then◌else◌}
 use Rattle.std.specs.List.{filter, list_all, AllZip}
 use Rattle.std.specs.declared.cmp.Ordering.{Ordering}
 use Rattle.std.specs.declared.rc.Rc.{Rc}
 use Rattle.std.specs.declared.alloc.Global.{Global}
 use Rattle.fair_rates.specs.Sides.Caps.{Caps}
 use Rattle.fair_rates.specs.Fairness.Exists.{product}
-use Rattle.fair_rates.specs.Fairness.Fair.{IsFair}
+use Rattle.fair_rates.specs.Fairness.Fair.{Side, IsFair}
+use Rattle.fair_rates.specs.Fairness.Beside.{kept_load, IsFairBeside}
 use Rattle.fair_rates.specs.declared.bandwidth.parts.FairParts.{FairParts}
 use Rattle.fair_rates.specs.Filling.FairParts.{parts_of_level}
 use Rattle.link_simulation.specs.Simulation.Messages.{Message}
@@ -17,7 +19,7 @@ use Rattle.link_flights.specs.declared.flight.Flight.{Flight}
 use Rattle.link_flights.specs.declared.flight_list.Flights.{Flights}
 use Rattle.link_pairs.specs.Pairs.Messages.{message_of}
 use Rattle.link_flights.specs.Flights.Flight.{UnitFlight, flight_at, IsTimed, AreTimed}
-use Rattle.link_flights.specs.Flights.Components.{is_sender, is_of, those_of, AreGrouped}
+use Rattle.link_flights.specs.Flights.Components.{is_of, those_of, near_of}
 use Rattle.link_flights.specs.Flights.InFlight.{in_units}
 use Rattle.link_flights.specs.Flights.RatedFlights.{rated_flight_of}
 use Rattle.link_simulation.specs.Rule.Planned.{is_spent}
@@ -47,23 +49,21 @@ module _ {P : Type 0} (cmp : P → P → Ordering) (caps : Caps P) where
   abbrev pub are_limited : List (UnitFlight P) → Bool
   are_limited us = list_all (λ u. not (is_unlimited cmp caps (message_of u.message))) us
 
-  -- those that have got rates have fair ones and are limited, their finishes are right, and they are grouped
+  -- those that have got rates have fair ones and are limited, and their finishes are right
   pub record AreRated {a : _} {b : _} {c : _} (flights : Flights P a b c) : Type 0 where
     pub fair : AreFairlyRated flights.scale (rated_ones (in_units flights))
     pub limited : are_limited (rated_ones (in_units flights)) ≡ true
     pub timed : AreTimed flights.list.items
-    pub grouped : AreGrouped cmp (rated_ones (in_units flights))
 
   -- whether one is done: nothing is left of it, or it uses no capped side
   abbrev pub is_out : ℕ → UnitFlight P → Bool
   is_out scale u = is_spent cmp caps (rated_flight_of scale u)
 
--- it is of the same message, at the same rate and of the same group
+-- it is of the same message, at the same rate
 pub record IsAsRated {P : Type 0} (old new : UnitFlight P) : Type 0 where
   pub message : new.message ≡ old.message
   pub rate : new.rate ≡ old.rate
   pub rated : new.rated ≡ old.rated
-  pub group : new.group ≡ old.group
 
 -- those that pass the test have left, as these messages, and the others have stayed
 pub record ArePartedBy {P : Type 0} (test : UnitFlight P → Bool) (before : List (UnitFlight P))
@@ -71,14 +71,24 @@ pub record ArePartedBy {P : Type 0} (test : UnitFlight P → Bool) (before : Lis
   pub left : done ≡ sent_messages (filter test before)
   pub stay : us ≡ filter (λ u. not (test u)) before
 
--- those that had got a rate before some of them were done had fair rates, and were grouped
+-- so much is no more than a rate, and there is so much
+abbrev pub IsNoMore : Option ℕ → ℕ → Type 0
+IsNoMore None rate = ⊥
+IsNoMore (Some floor) rate = floor ≤ rate
+
+-- none of those that pass the test had a rate of less than the floor
+abbrev pub IsFloorOf : {P : Type 0} → (UnitFlight P → Bool) → List (UnitFlight P) → Option ℕ → Type 0
+IsFloorOf {P} test us floor =
+    (u : UnitFlight P) → Contains us u → test u ≡ true → u.rated ≡ true → IsNoMore floor u.rate
+
+-- those that had got a rate before some of them were done had fair rates, and none of these had less than the floor
 pub record WereRated {P : Type 0} (cmp : P → P → Ordering) (caps : Caps P) (scale : ℕ)
-    (us : List (UnitFlight P)) (done : List (Message P)) : Type 0 where
+    (us : List (UnitFlight P)) (done : List (Message P)) (least : Option ℕ) : Type 0 where
   pub before : List (UnitFlight P)
   pub is_done : UnitFlight P → Bool
   pub parted : ArePartedBy is_done before done us
   pub fair : AreFairlyRated cmp caps scale (rated_ones before)
-  pub grouped : AreGrouped cmp (rated_ones before)
+  pub no_less : IsFloorOf is_done before least
 
 -- the rates that are found, flow by flow
 abbrev pub rates_found : FairParts → List ℕ
@@ -91,19 +101,17 @@ pub record AreFairOf {P : Type 0} (cmp : P → P → Ordering) (caps : Caps P) (
   pub one_each : length found.level_of.items ≡ length (those_of cmp component us)
   pub fair : AreFairFor cmp caps found.scale (sent_messages (those_of cmp component us)) (rates_found found)
 
--- it has a rate from a moment on, and is of a group; what is left of it counts in units of which so many times as many
--- are needed
-abbrev pub rated_anew : {P : Type 0} → ℕ → ℕ → ℕ → ℕ → UnitFlight P → UnitFlight P
-rated_anew now times group rate u =
-    record u { left = u.left * times; rate = rate; updated = now; rated = true; group = group }
+-- it has a rate from a moment on; what is left of it counts in units of which so many times as many are needed
+abbrev pub rated_anew : {P : Type 0} → ℕ → ℕ → ℕ → UnitFlight P → UnitFlight P
+rated_anew now times rate u = record u { left = u.left * times; rate = rate; updated = now; rated = true }
 
 -- the one at a place is rated anew at the moment of the last account, and its finish is right
-pub record IsReratedAt {P : Type 0} (now place times group rate : ℕ)
+pub record IsReratedAt {P : Type 0} (now place times rate : ℕ)
     (old new : List (Rc (Flight P) Global)) : Type 0 where
   pub one : Rc (Flight P) Global
   pub others : new ≡ slice_set old place one
   pub unit : (d : Rc (Flight P) Global) → flight_at now one.value
-      ≡ rated_anew now times group rate (flight_at now (slice_index_or old place d).value)
+      ≡ rated_anew now times rate (flight_at now (slice_index_or old place d).value)
   pub timed : IsTimed one.value
 
 -- all but so many at most stand in another list as they stood in a first
@@ -120,15 +128,43 @@ IsCountedAt {P} at old new =
     ⊎ ((new.rated_anew ≡ old.rated_anew + 1)
     × ((one : Rc (Flight P) Global) × (new.list.items ≡ slice_set old.list.items at one)))
 
--- those of a component have these rates from a moment on, and are a group; what is left of them counts in units of
--- which so many times as many are needed. The others go on as they are
-abbrev pub rerated : {P : Type 0} → (P → P → Ordering) → Component P → ℕ → ℕ → ℕ → List ℕ → List (UnitFlight P)
+-- those of a component have these rates from a moment on; what is left of them counts in units of which so many times
+-- as many are needed. The others go on as they are
+abbrev pub rerated : {P : Type 0} → (P → P → Ordering) → Component P → ℕ → ℕ → List ℕ → List (UnitFlight P)
     → List (UnitFlight P)
-rerated cmp component now times group rates [] = []
-rerated cmp component now times group [] (u ∷ us) = u ∷ us
-rerated cmp component now times group (rate ∷ rates) (u ∷ us) = cond (is_of cmp component u)
-    (rated_anew now times group rate u ∷ rerated cmp component now times group rates us)
-    (u ∷ rerated cmp component now times group (rate ∷ rates) us)
+rerated cmp component now times rates [] = []
+rerated cmp component now times [] (u ∷ us) = u ∷ us
+rerated cmp component now times (rate ∷ rates) (u ∷ us) = cond (is_of cmp component u)
+    (rated_anew now times rate u ∷ rerated cmp component now times rates us)
+    (u ∷ rerated cmp component now times (rate ∷ rates) us)
+
+-- the rate that one keeps where it is not of the component
+abbrev pub kept_by : {P : Type 0} → (P → P → Ordering) → Component P → UnitFlight P → Option ℕ
+kept_by cmp component u = if is_of cmp component u then None else Some u.rate
+
+-- the rates that those keep which are not of the component, by their places
+abbrev pub kept_rates : {P : Type 0} → (P → P → Ordering) → Component P → List (UnitFlight P) → ℕ → Option ℕ
+kept_rates cmp component us place = slice_index_or (map (kept_by cmp component) us) place None
+
+-- the levels of those that keep no rate, in their order
+abbrev pub levels_rated : List (Option ℕ) → List (Option ℕ) → List (Option ℕ)
+levels_rated [] levels = []
+levels_rated (kept ∷ rates) [] = []
+levels_rated (None ∷ rates) (level ∷ levels) = level ∷ levels_rated rates levels
+levels_rated (Some rate ∷ rates) (level ∷ levels) = levels_rated rates levels
+
+-- these are rates of a component that are fair beside those that others keep of which it has an end, where these are
+-- within the caps; so far as the scale has not grown
+pub record AreFairBeside {P : Type 0} (cmp : P → P → Ordering) (caps : Caps P) (scale : ℕ) (component : Component P)
+    (us : List (UnitFlight P)) (found : FairParts) : Type 0 where
+  pub grown : found.scale ≡ scale * product found.growth.items
+  pub one_each : length found.level_of.items ≡ length (those_of cmp component us)
+  pub fair : found.growth.items ≡ []
+      → ((side : Side) → Contains (capped_sides cmp caps (sent_messages (near_of cmp component us))) side
+      → kept_load (kept_rates cmp component (near_of cmp component us)) side ≤ side.cap * scale)
+      → IsFairBeside (kept_rates cmp component (near_of cmp component us))
+      (capped_sides cmp caps (sent_messages (near_of cmp component us))) scale
+      (slice_index (rates_of (rerated cmp component 0 1 (rates_found found) (near_of cmp component us))))
 
 -- it is of the same message, of which as much is left, in units of which so many times as many are needed, from a
 -- moment on at a rate
@@ -138,7 +174,7 @@ pub record IsRatedFrom {P : Type 0} (now times : ℕ) (old new : UnitFlight P) :
   pub updated : new.updated ≡ now
   pub rated : new.rated ≡ true
 
--- each has its fair rate from the moment of the account on, and they are grouped
+-- each has its fair rate from the moment of the account on
 pub record HaveFairRates {P : Type 0} {a : _} {b : _} {c : _} (cmp : P → P → Ordering) (caps : Caps P)
     (old new : Flights P a b c) : Type 0 where
   pub times : ℕ
@@ -147,9 +183,8 @@ pub record HaveFairRates {P : Type 0} {a : _} {b : _} {c : _} (cmp : P → P →
   pub each : AllZip (IsRatedFrom old.at times) (in_units old) (in_units new)
   pub fair : AreFairlyRated cmp caps new.scale (in_units new)
   pub timed : AreTimed new.list.items
-  pub grouped : AreGrouped cmp (in_units new)
 
 -- those that have got a rate and are not of the component are timed
 abbrev pub AreOthersTimed : {P : Type 0} → (P → P → Ordering) → Component P → List (Rc (Flight P) Global) → Type 0
 AreOthersTimed {P} cmp component fs = (i : ℕ) (f : Rc (Flight P) Global) → slice_get fs i ≡ Some f
-    → is_sender cmp component f.value.message.value.origin ≡ false → f.value.rated ≡ true → IsTimed f.value
+    → is_of cmp component (flight_at 0 f.value) ≡ false → f.value.rated ≡ true → IsTimed f.value

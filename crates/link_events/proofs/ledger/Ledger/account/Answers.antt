@@ -8,7 +8,7 @@ use Rattle.link_events.specs.Steps.AsPlanned.{planned}
 use Rattle.link_pairs.specs.Pairs.Messages.{messages}
 use Rattle.link_flights.specs.Flights.Flight.{DrainsTo, flights_at}
 use Rattle.link_flights.specs.Flights.InFlight.{in_flight, in_units}
-use Rattle.link_flights.specs.Flights.Rated.{AreRated, IsAsRated, IsRatedFrom, is_out, are_limited}
+use Rattle.link_flights.specs.Flights.Rated.{AreRated, IsAsRated, IsFloorOf, IsRatedFrom, is_out, are_limited}
 use Rattle.link_flights.specs.Flights.RatedFlights.{sending_of}
 use Rattle.link_pairs.specs.Pairs.CapsOf.{caps_of}
 use Rattle.link_waiting.specs.Idle.AtRest.{of_pairs}
@@ -16,8 +16,7 @@ use Rattle.link_waiting.specs.Idle.Index.{IsIndexOf}
 use Rattle.link_flights.proofs.Flights.Accounted.{stays_updated, all_have_rates, stays_limited, rated_limited}
 use Rattle.link_flights.proofs.Flights.Accounts.{accounts_so, some_units_left}
 use Rattle.link_flights.proofs.Flights.Rated.{drained_as_rated, drained_sending, still_fair_after, still_limited}
-use Rattle.link_flights.proofs.Flights.Rated.{rated_if_so, still_grouped}
-use Rattle.link_flights.specs.Flights.Components.{AreGrouped}
+use Rattle.link_flights.proofs.Flights.Rated.{rated_if_so}
 use Rattle.link_flights.proofs.Flights.Standing.{messages_read, messages_kept}
 use Rattle.link_waiting.proofs.Idle.IndexChanges.{flows_drained, same_flights_index}
 use Rattle.link_events.proofs.ledger.Ledger.account.Goals as goal
@@ -139,7 +138,9 @@ rate-requires-clause-before g c e =
                   fair =
                       rw scale
                       (still_fair_after cmp caps before.scale (in_units before) (in_units drained) alike rated.fair);
-                  grouped = still_grouped cmp caps (in_units before) (in_units drained) alike rated.grouped;
+                  no_less =
+                      subst (IsFloorOf (is_out cmp caps drained.scale) (in_units drained))
+                      (sym c.renew_units.ensures.floor) c.in_ok-done.ensures.floor;
                 }
             | else-not-self w ↦ absurd
                 (false≢true (sym (ap not w.if-not-self.false) ∙ sym w.were_rated-is ∙ v.if-were_rated.true))
@@ -169,8 +170,8 @@ rate-requires-clause-timed g c e =
       | else-were_rated v ↦ absurd (false≢true (sym v.if-were_rated.false ∙ sym v.stay_rated-is ∙ e))
     ]
 
-pub invariant_of-self-2 : goal.invariant_of-self-2
-invariant_of-self-2 g c =
+pub invariant_of-self-3 : goal.invariant_of-self-3
+invariant_of-self-3 g c =
     let old = c.args.self.now in
     let before = c.replace-flights.result in
     let taken = c.replace-flights.ensures.value in
@@ -199,7 +200,6 @@ invariant_of-self-2 g c =
         fair = rw all h.fair;
         limited = rw all (rated_limited cmp caps flying.at h.times (in_units flying) (in_units new) h.each limited);
         timed = h.timed;
-        grouped = subst (AreGrouped cmp) (sym all) h.grouped;
       } ∣₁;
     }
 

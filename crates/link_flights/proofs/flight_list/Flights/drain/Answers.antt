@@ -60,16 +60,14 @@ loop-at-preserved g c =
             subst
                 (λ (s : _). IsChangedUpTo (IsBrought old.at c.args.now) old.list.items s.list.items (c.loop-at.at + 1))
                 (sym w.self-is)
-                (next_brought old.at c.args.now old.list.items so_far.list.items c.loop-at.at c.loop-at.invariant.0 x lt is
-                w.in_ok-one.one w.put.new.self.list.items
-                w.in_ok-put.ensures.list back
+                (next_brought old.at c.args.now old.list.items so_far.list.items c.loop-at.at c.loop-at.invariant.0 x lt
+                is w.in_ok-one.one w.put.new.self.list.items w.in_ok-put.ensures.list back
                 (w.in_ok-one.ensures.message ∙ ap (λ (f : Flight g.row.P.Denot). f.message.value) value)
                 (w.in_ok-one.ensures.left ∙ ap (λ (f : Flight g.row.P.Denot). (flight_at so_far.at f).left) value
                 ∙ ap (λ n. (flight_at n x.value).left) at_is)
                 (w.in_ok-one.ensures.rate ∙ ap (λ (f : Flight g.row.P.Denot). rate_of f.rate) value)
                 w.in_ok-one.ensures.since
-                (w.in_ok-one.ensures.rated ∙ ap (λ (f : Flight g.row.P.Denot). f.rated) value)
-                (w.in_ok-one.ensures.group ∙ ap (λ (f : Flight g.row.P.Denot). f.group) value)),
+                (w.in_ok-one.ensures.rated ∙ ap (λ (f : Flight g.row.P.Denot). f.rated) value)),
             ap (λ s. s.at) w.self-is ∙ w.put.ensures.at ∙ at_is,
             ap (λ s. s.scale) w.self-is ∙ w.put.ensures.scale ∙ c.loop-at.invariant.2,
           )

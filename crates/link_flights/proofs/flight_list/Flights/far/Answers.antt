@@ -1,30 +1,18 @@
-use Rattle.std.proofs.Common.{◌≡◌, ◌<◌, false, length, ap, sym, ◌∙◌, subst, arith}
-use Rattle.link_flights.specs.declared.flight.Flight.{Flight}
-use Rattle.link_flights.specs.Flights.Components.{is_near, NoneIsNear}
-use Rattle.link_flights.specs.Flights.Flight.{flight_at}
-use Rattle.link_flights.proofs.Flights.Components.{none_there}
-use Rattle.link_flights.proofs.Flights.Far.{none_at_first, rated_far, far_more}
+use Rattle.std.proofs.Common.{◌≡◌, ◌<◌, true, false, length, get_or, ◌∙◌, arith}
+use Rattle.std.proofs.lemmas.List.{get_or_default}
+use Rattle.link_flights.proofs.Flights.Search.{far_more, untouched}
 use Rattle.link_flights.proofs.flight_list.Flights.far.Goals as goal
-use Rattle.link_flights.proofs.flight_list.Flights.far.Goals.{then-is_empty, else-is_empty}
-
-pub loop-at-init : goal.loop-at-init
-loop-at-init g c =
-    let component = c.args.component.now in
-    let self = c.args.self.now in
-    elim c.if-is_empty.branch [
-      | then-is_empty w ↦ subst (λ n. NoneIsNear component n self.list.items) (sym w.at-is)
-          (rated_far component self.settled self.list.items self.have_rates
-          (none_there component.groups.items component.groups.len component.groups.ok.0
-          (sym c.is_empty.ensures ∙ w.if-is_empty.true)))
-      | else-is_empty w ↦ none_at_first component c.if-is_empty.at self.list.items w.at-is
-    ]
 
 pub loop-at-preserved : goal.loop-at-preserved
 loop-at-preserved g c =
     let component = c.args.component.now in
+    let flags = c.args.flags.now in
+    let at = c.loop-at.at in
     let list = c.args.self.now.list.items in
-    let inside : c.loop-at.at < length list =
+    let inside : at < length list =
     omega (arith, c.loop-at-test.true, c.len.ensures, c.args.self.now.list.ok.0) in
-    far_more component c.loop-at.at list c.index.result.now c.loop-at.invariant inside c.index.ensures
-    (sym (c.is_near.ensures ∙ ap (λ (f : Flight g.row.P.Denot). is_near component (flight_at 0 f)) c.deref.ensures)
-    ∙ c.if-is_near.false)
+    let flag : at < length flags = omega (arith, inside, c.requires.flagged.0) in
+    let unflagged : get_or flags at true ≡ false = get_or_default flags at true false flag ∙ c.if-flags-at.false in
+    far_more g.P.Ord.cmp component at list c.loop-at.invariant inside (λ one there.
+    untouched g.P.Ord.cmp g.met.P.Ord.total list flags at one there unflagged component c.requires.part
+    c.requires.flagged)

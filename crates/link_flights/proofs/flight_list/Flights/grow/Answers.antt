@@ -1,43 +1,36 @@
-use Rattle.std.proofs.Common.{◌≡◌, refl, sym, ◌∙◌, subst}
-use Rattle.link_flights.specs.Flights.Components.{AreFarApart}
-use Rattle.link_flights.specs.Flights.InFlight.{in_units}
-use Rattle.link_flights.proofs.Flights.Grouped.{near_alike}
+use Rattle.std.proofs.Common.{◌≡◌, ◌+◌, ◌<◌, List, Bool, length, sym, ap, ◌∙◌, subst, arith}
+use Rattle.link_pairs.specs.declared.message.Message.{Message}
+use Rattle.link_flights.specs.Flights.Components.{AreFlagged}
+use Rattle.link_flights.proofs.Flights.Search.{HasGrown, grown_more, all_grown, written_over}
 use Rattle.link_flights.proofs.flight_list.Flights.grow.Goals as goal
-use Rattle.link_flights.proofs.flight_list.Flights.grow.Goals.{
-  then-senders-len+in_ok-message+in_ok-join_sharing,
-  else-senders-len+then-receivers-len+in_ok-message-2+in_ok-join_sharing-2,
-}
 
-pub loop-end-init : goal.loop-end-init
-loop-end-init g c = (c.requires.far, refl)
+pub loop-grown-preserved : goal.loop-grown-preserved
+loop-grown-preserved g c =
+    let cmp = g.P.Ord.cmp in
+    let list = c.args.self.now.list.items in
+    let old = c.args.component.now in
+    let mid = c.loop-grown.component in
+    let new = c.join_sharing.new.component in
+    let grown = c.loop-grown.grown in
+    let before = c.deref_mut.result.now in
+    let same : before ≡ c.loop-grown.flags.items = c.deref_mut.ensures.value in
+    let after = c.join_sharing.new.flags in
+    let inside : grown < length mid.joined.items =
+    omega (arith, c.loop-grown-test.true, c.len-in-loop-grown.ensures, mid.joined.ok.0) in
+    let e = c.in_ok-join_sharing.ensures in
+    subst (λ (fs : List Bool). HasGrown cmp list (grown + 1) fs old new)
+    (sym (written_over c.loop-grown.flags.len after c.loop-grown.flags.items
+    (omega (arith, c.loop-grown.flags.ok.0)) (e.one_each ∙ ap length same)))
+    (grown_more cmp list grown before after old mid new
+    (subst (λ (fs : List Bool). HasGrown cmp list grown fs old mid) (sym same) c.loop-grown.invariant) inside
+    c.index.result.now c.index.ensures e.one_each
+    (subst (λ (m : Message g.row.P.Denot). AreFlagged cmp m after list)
+    (c.deref.ensures ∙ c.in_ok-message.ensures.cases) e.flagged)
+    e.more e.joined e.level e.whole)
 
-pub join_sharing-requires : goal.join_sharing-requires
-join_sharing-requires g c = record {
-  grouped = c.requires.grouped;
-  near = near_alike c.args.component.now c.loop-end.component c.loop-end.invariant.1 c.args.near.now
-      c.args.self.now.list.items c.requires.near;
-  far = c.loop-end.invariant.0;
-}
-
-pub join_sharing-requires-then-receivers-len : goal.join_sharing-requires-then-receivers-len
-join_sharing-requires-then-receivers-len g c = record {
-  grouped = c.requires.grouped;
-  near = near_alike c.args.component.now c.loop-end.component c.loop-end.invariant.1 c.args.near.now
-      c.args.self.now.list.items c.requires.near;
-  far = c.loop-end.invariant.0;
-}
-
-pub loop-end-preserved : goal.loop-end-preserved
-loop-end-preserved g c =
-    elim c.if-senders-len.branch [
-      | then-senders-len+in_ok-message+in_ok-join_sharing w ↦
-          subst (λ (component : _). AreFarApart g.P.Ord.cmp component (in_units c.args.self.now)
-          × (component.groups ≡ c.args.component.now.groups)) (sym w.component-is)
-          (w.in_ok-join_sharing.ensures.far, w.join_sharing.ensures.groups ∙ c.loop-end.invariant.1)
-      | else-senders-len+then-receivers-len+in_ok-message-2+in_ok-join_sharing-2 w ↦
-          subst (λ (component : _). AreFarApart g.P.Ord.cmp component (in_units c.args.self.now)
-          × (component.groups ≡ c.args.component.now.groups)) (sym w.component-is) (
-            w.in_ok-join_sharing-2.ensures.far,
-            w.join_sharing-then-receivers-len.ensures.groups ∙ c.loop-end.invariant.1,
-          )
-    ]
+pub returns-clause-flagged : goal.returns-clause-flagged
+returns-clause-flagged g c =
+    let new = c.loop-grown.component in
+    all_grown g.P.Ord.cmp c.args.self.now.list.items c.loop-grown.grown c.loop-grown.flags.items
+    c.args.component.now new c.loop-grown.invariant
+    (omega (arith, c.loop-grown-test.false, c.len-in-loop-grown.ensures, new.joined.ok.0))

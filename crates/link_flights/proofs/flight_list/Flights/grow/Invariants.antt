@@ -1,8 +1,10 @@
-use Rattle.std.proofs.Common.{◌≡◌}
-use Rattle.link_flights.specs.Flights.Components.{AreFarApart}
-use Rattle.link_flights.specs.Flights.InFlight.{in_units}
+use Rattle.std.proofs.Common.{◌-◌}
+use Rattle.link_flights.proofs.Flights.Search.{HasGrown}
 use Rattle.link_flights.proofs.flight_list.Flights.grow.Given as goal
 
-abbrev pub invariant-loop-end : goal.invariant-loop-end
-invariant-loop-end g l =
-    AreFarApart g.P.Ord.cmp l.component (in_units l.self) × (l.component.groups ≡ l.initial.component.groups)
+abbrev pub invariant-loop-grown : goal.invariant-loop-grown
+invariant-loop-grown g l =
+    HasGrown g.P.Ord.cmp l.self.list.items l.grown l.flags.items l.initial.component l.component
+
+abbrev pub decreases-loop-grown : goal.decreases-loop-grown
+decreases-loop-grown g l = 20 - l.grown

@@ -1,47 +1,59 @@
-use Rattle.std.proofs.Common.{◌≡◌, ◌+◌, ◌<◌, [], length, take, sym, ap, ◌∙◌, subst, arith}
-use Rattle.std.proofs.lemmas.List.{take_all}
+use Rattle.std.proofs.Common.{◌≡◌, ◌+◌, ◌<◌, true, false, length, take, get_or, sym, ap, ◌∙◌, subst, Some, arith}
+use Rattle.std.specs.Prelude.{slice_get}
+use Rattle.std.proofs.lemmas.List.{get_or_default}
+use Rattle.std.proofs.lemmas.Option.{slice_get_read}
 use Rattle.link_flights.specs.declared.flight.Flight.{Flight}
-use Rattle.link_flights.specs.Flights.Components.{AreNear, is_near}
-use Rattle.link_flights.specs.Flights.Flight.{flight_at}
-use Rattle.link_flights.proofs.Flights.Far.{none_gathered}
-use Rattle.link_flights.proofs.Flights.Grouped.{near_more, near_still}
+use Rattle.link_flights.specs.Flights.Components.{AreNear, touches}
+use Rattle.link_flights.proofs.Flights.Search.{near_more, near_still, none_gathered, untouched}
 use Rattle.link_flights.proofs.flight_list.Flights.near.Goals as goal
-use Rattle.link_flights.proofs.flight_list.Flights.near.Goals.{then-is_near+in_ok-copy+in_ok-push, else-is_near}
+use Rattle.link_flights.proofs.flight_list.Flights.near.Goals.{
+  then-flags-at+then-touches+in_ok-copy+in_ok-push,
+  else-flags-at,
+  else-flags-at-via-then-flags-at+else-touches,
+  else-flags-at-via-else-flags-at,
+}
 
 pub loop-at-init : goal.loop-at-init
 loop-at-init g c =
+    let cmp = g.P.Ord.cmp in
     let component = c.args.component.now in
     let list = c.args.self.now.list.items in
-    subst (λ ns. AreNear component ns (take c.args.far list)) (sym c.in_ok-near.ensures.items)
-    (none_gathered component c.args.far list c.requires)
+    subst (λ ns. AreNear cmp component ns (take c.args.far list)) (sym c.new-near.ensures.items)
+    (none_gathered cmp component c.args.far list c.requires.far)
 
 pub loop-at-preserved : goal.loop-at-preserved
 loop-at-preserved g c =
+    let cmp = g.P.Ord.cmp in
     let component = c.args.component.now in
+    let flags = c.args.flags.now in
     let at = c.loop-at.at in
     let list = c.args.self.now.list.items in
     let one = c.index-one.result.now in
     let near = c.loop-at.near.items in
     let inside : at < length list =
     omega (arith, c.loop-at-test.true, c.len-at-end.ensures, c.args.self.now.list.ok.0) in
-    let test : c.is_near.result ≡ is_near component (flight_at 0 one.value) =
-    c.is_near.ensures ∙ ap (λ (f : Flight g.row.P.Denot). is_near component (flight_at 0 f)) c.deref.ensures in
-    elim c.if-is_near.branch [
-      | then-is_near+in_ok-copy+in_ok-push w ↦
-          let copy = w.in_ok-copy.copy in
-          subst (λ ns. AreNear component ns (take (at + 1) list))
+    let flag : at < length flags = omega (arith, inside, c.requires.flagged.0) in
+    elim c.if-flags-at.branch [
+      | then-flags-at+then-touches+in_ok-copy+in_ok-push w ↦
+          subst (λ ns. AreNear cmp component ns (take (at + 1) list))
           (sym w.in_ok-push.ensures.items ∙ ap (λ v. v.items) (sym w.near-is))
-          (near_more component list at one inside c.index-one.ensures near c.loop-at.invariant
-          (sym test ∙ w.if-is_near.true) copy w.in_ok-copy.ensures.cases)
-      | else-is_near w ↦
-          subst (λ ns. AreNear component ns (take (at + 1) list)) (ap (λ v. v.items) (sym w.near-is))
-          (near_still component list at one inside c.index-one.ensures near c.loop-at.invariant
-          (sym test ∙ w.if-is_near.false))
+          (near_more cmp component list at one inside c.index-one.ensures near c.loop-at.invariant
+          (sym (w.touches.ensures ∙ ap (touches cmp component) (w.deref-then-flags-at.ensures
+          ∙ ap (λ (f : Flight g.row.P.Denot). f.message.value) w.deref.ensures)) ∙ w.if-touches.true)
+          w.in_ok-copy.copy w.in_ok-copy.ensures.cases)
+      | else-flags-at w ↦
+          let far : touches cmp component one.value.message.value ≡ false = elim w.else-flags-at.branch [
+            | else-flags-at-via-then-flags-at+else-touches v ↦
+                sym (v.touches.ensures ∙ ap (touches cmp component) (v.deref-then-flags-at.ensures
+                ∙ ap (λ (f : Flight g.row.P.Denot). f.message.value) v.deref.ensures)) ∙ v.if-touches.false
+            | else-flags-at-via-else-flags-at v ↦
+                let there : slice_get list at ≡ Some one =
+                slice_get_read list (length list) at one (omega arith) inside c.index-one.ensures in
+                let unflagged : get_or flags at true ≡ false =
+                get_or_default flags at true false flag ∙ v.if-flags-at.false in
+                untouched cmp g.met.P.Ord.total list flags at one there unflagged component c.requires.part
+                c.requires.flagged
+          ] in
+          subst (λ ns. AreNear cmp component ns (take (at + 1) list)) (ap (λ v. v.items) (sym w.near-is))
+          (near_still cmp component list at one inside c.index-one.ensures near c.loop-at.invariant far)
     ]
-
-pub returns-clause-near : goal.returns-clause-near
-returns-clause-near g c =
-    let list = c.args.self.now.list.items in
-    subst (λ l. AreNear c.args.component.now c.loop-at.near.items l)
-    (take_all c.loop-at.at list (omega (arith, c.loop-at-test.false, c.len-at-end.ensures, c.args.self.now.list.ok.0)))
-    c.loop-at.invariant

@@ -3,4 +3,4 @@ use Rattle.link_flights.specs.Flights.Components.{AreNear}
 use Rattle.link_flights.proofs.flight_list.Flights.near.Given as goal
 
 abbrev pub invariant-loop-at : goal.invariant-loop-at
-invariant-loop-at g l = AreNear l.component l.near.items (take l.at l.self.list.items)
+invariant-loop-at g l = AreNear g.P.Ord.cmp l.component l.near.items (take l.at l.self.list.items)

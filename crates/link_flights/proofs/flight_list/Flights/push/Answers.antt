@@ -23,7 +23,6 @@ started g c =
       since = c.args.now;
       finish = None;
       rated = false;
-      group = 0;
     }
 
 pub returns-clause-sending : goal.returns-clause-sending
@@ -31,7 +30,7 @@ returns-clause-sending g c =
     let old = c.args.self.now in
     let m = c.args.message in
     let u : UnitFlight g.row.P.Denot =
-    record { message = m.value; left = c.in_ok-left.left; rate = 0; updated = c.args.now; rated = false; group = 0 } in
+    record { message = m.value; left = c.in_ok-left.left; rate = 0; updated = c.args.now; rated = false } in
     let one : c.in_ok-new.field-0.value ≡ started g c = search rules in
     let units : flights_at old.at c.push.new.self.items ≡ in_units old ++ u ∷ [] =
     ap (flights_at old.at) c.in_ok-push.ensures.items

@@ -4,25 +4,29 @@ use Rattle.link_pairs.specs.Pairs.CapsOf.{caps_of}
 use Rattle.link_flights.specs.Flights.Components.{is_closed}
 use Rattle.link_flights.specs.Flights.InFlight.{in_units}
 use Rattle.link_pairs.proofs.Pairs.LookedUp.{looked_up}
-use Rattle.link_pairs.specs.Pairs.Messages.{messages}
-use Rattle.link_flights.proofs.Flights.Components.{none_there, grouped_rest}
-use Rattle.link_flights.proofs.Flights.RatesGiven.{whole_given, component_given, left_given}
-use Rattle.link_flights.proofs.Flights.Rerating.{first_finish_is}
+use Rattle.link_flights.proofs.Flights.Components.{same_scale}
+use Rattle.link_flights.proofs.Flights.RatesGiven.{whole_given, component_given, left_given, left_beside}
+use Rattle.link_flights.proofs.Flights.Rerating.{first_finish_is, none_there}
 use Rattle.link_flights.specs.Flights.Flight.{HaveRates}
 use Rattle.link_flights.proofs.Flights.Settled.{all_have_got, finish_known, rates_all}
 use Rattle.link_flights.proofs.flight_list.Flights.rate.Goals as goal
 
-pub component-requires : goal.component-requires
-component-requires g c =
-    let old = c.args.self.now in
-    grouped_rest g.P.Ord.cmp (caps_of g.P.Ord.cmp c.args.peers.now.entries c.args.pairs.now.entries) old.scale
-    (in_units old) (messages c.args.done.now.items) (c.requires.before c.if-were_rated.true)
+pub set_rates-requires-clause-left : goal.set_rates-requires-clause-left
+set_rates-requires-clause-left g c =
+    let part = c.in_ok-part.part in
+    left_beside g.P.Ord.cmp (caps_of g.P.Ord.cmp c.args.peers.now.entries c.args.pairs.now.entries)
+    c.in-Some.component part (in_units c.args.self.now)
+    (none_there part.growth.items part.growth.len part.growth.ok.0 (sym c.is_empty.ensures ∙ c.if-is_empty.true))
+    c.requires.left
 
-pub set_rates-requires-2-clause-left : goal.set_rates-requires-2-clause-left
-set_rates-requires-2-clause-left g c =
+pub set_rates-requires-clause-scaled : goal.set_rates-requires-clause-scaled
+set_rates-requires-clause-scaled g c =
+    let part = c.in_ok-part.part in
     let old = c.args.self.now in
-    left_given g.P.Ord.cmp (caps_of g.P.Ord.cmp c.args.peers.now.entries c.args.pairs.now.entries) c.whole-all.result
-    c.in_ok-rates.rates old.scale (in_units old) c.in_ok-rates.ensures.fair c.requires.left
+    let same : part.scale ≡ old.scale =
+    same_scale part old.scale c.in_ok-part.ensures.fair.grown
+    (none_there part.growth.items part.growth.len part.growth.ok.0 (sym c.is_empty.ensures ∙ c.if-is_empty.true)) in
+    omega (arith, same, old.scaled)
 
 pub invariant_of-self : goal.invariant_of-self
 invariant_of-self g c =
@@ -30,16 +34,20 @@ invariant_of-self g c =
     let old = c.args.self.now in
     let caps = caps_of cmp c.args.peers.now.entries c.args.pairs.now.entries in
     let part = c.in_ok-part.part in
+    let component = c.in-Some.component in
     let new = c.set_rates.new.self in
     let e = c.in_ok-set_rates.ensures in
     let h =
-    component_given cmp caps c.in-Some.component part old new e.rerated.0 c.in_ok-part.ensures.fair e.rerated.1
+    component_given cmp caps component part old new c.in_ok-part.ensures.fair e.rerated
     e.scale e.at e.timed g.met.P.Ord.total
     (looked_up cmp g.met.P.Ord.total c.args.peers.now.entries c.args.pairs.now.entries)
     c.args.done.now.items
     (subst (λ o. IfSome o (λ component. is_closed cmp component c.args.done.now.items (in_units old) ≡ true))
     c.in-Some.is c.in_ok-component.ensures.closed)
-    (c.requires.before c.if-were_rated.true) c.requires.updated
+    (c.requires.before c.if-were_rated.true)
+    (subst (λ o. IfSome o (λ component. IfSome old.floor (λ floor. component.level ≤ floor)))
+    c.in-Some.is c.in_ok-component.ensures.level)
+    (sym c.all_reach.ensures ∙ c.if-all_reach.true) c.requires.updated
     (none_there part.growth.items part.growth.len part.growth.ok.0 (sym c.is_empty.ensures ∙ c.if-is_empty.true)) in
     record {
       past = new.past;
@@ -50,22 +58,26 @@ invariant_of-self g c =
       finish_from = finish_known c.first_finish-first.result new.list.items c.first_finish-first.ensures;
     }
 
-pub returns-then-is_empty-clause-rated : goal.returns-then-is_empty-clause-rated
-returns-then-is_empty-clause-rated g c =
+pub returns-then-all_reach-clause-rated : goal.returns-then-all_reach-clause-rated
+returns-then-all_reach-clause-rated g c =
     let cmp = g.P.Ord.cmp in
     let old = c.args.self.now in
     let caps = caps_of cmp c.args.peers.now.entries c.args.pairs.now.entries in
     let part = c.in_ok-part.part in
+    let component = c.in-Some.component in
     let new = c.set_rates.new.self in
     let e = c.in_ok-set_rates.ensures in
     let h =
-    component_given cmp caps c.in-Some.component part old new e.rerated.0 c.in_ok-part.ensures.fair e.rerated.1
+    component_given cmp caps component part old new c.in_ok-part.ensures.fair e.rerated
     e.scale e.at e.timed g.met.P.Ord.total
     (looked_up cmp g.met.P.Ord.total c.args.peers.now.entries c.args.pairs.now.entries)
     c.args.done.now.items
     (subst (λ o. IfSome o (λ component. is_closed cmp component c.args.done.now.items (in_units old) ≡ true))
     c.in-Some.is c.in_ok-component.ensures.closed)
-    (c.requires.before c.if-were_rated.true) c.requires.updated
+    (c.requires.before c.if-were_rated.true)
+    (subst (λ o. IfSome o (λ component. IfSome old.floor (λ floor. component.level ≤ floor)))
+    c.in-Some.is c.in_ok-component.ensures.level)
+    (sym c.all_reach.ensures ∙ c.if-all_reach.true) c.requires.updated
     (none_there part.growth.items part.growth.len part.growth.ok.0 (sym c.is_empty.ensures ∙ c.if-is_empty.true)) in
     record {
       times = h.times;
@@ -74,30 +86,39 @@ returns-then-is_empty-clause-rated g c =
       each = h.each;
       fair = h.fair;
       timed = h.timed;
-      grouped = h.grouped;
     }
 
-pub returns-then-is_empty-clause-finish : goal.returns-then-is_empty-clause-finish
-returns-then-is_empty-clause-finish g c =
+pub returns-then-all_reach-clause-finish : goal.returns-then-all_reach-clause-finish
+returns-then-all_reach-clause-finish g c =
     let cmp = g.P.Ord.cmp in
     let old = c.args.self.now in
     let caps = caps_of cmp c.args.peers.now.entries c.args.pairs.now.entries in
     let part = c.in_ok-part.part in
+    let component = c.in-Some.component in
     let new = c.set_rates.new.self in
     let e = c.in_ok-set_rates.ensures in
     let h =
-    component_given cmp caps c.in-Some.component part old new e.rerated.0 c.in_ok-part.ensures.fair e.rerated.1
+    component_given cmp caps component part old new c.in_ok-part.ensures.fair e.rerated
     e.scale e.at e.timed g.met.P.Ord.total
     (looked_up cmp g.met.P.Ord.total c.args.peers.now.entries c.args.pairs.now.entries)
     c.args.done.now.items
     (subst (λ o. IfSome o (λ component. is_closed cmp component c.args.done.now.items (in_units old) ≡ true))
     c.in-Some.is c.in_ok-component.ensures.closed)
-    (c.requires.before c.if-were_rated.true) c.requires.updated
+    (c.requires.before c.if-were_rated.true)
+    (subst (λ o. IfSome o (λ component. IfSome old.floor (λ floor. component.level ≤ floor)))
+    c.in-Some.is c.in_ok-component.ensures.level)
+    (sym c.all_reach.ensures ∙ c.if-all_reach.true) c.requires.updated
     (none_there part.growth.items part.growth.len part.growth.ok.0 (sym c.is_empty.ensures ∙ c.if-is_empty.true)) in
     let fits : IfSome c.first_finish-first.result (λ t. t ≤ last_moment) = search rules in
     let here : new.at ≤ last_moment = omega (arith, e.at, c.requires.moment) in
     first_finish_is cmp caps old new h c.requires.left here c.first_finish-first.result
     c.first_finish-first.ensures fits
+
+pub set_rates-requires-2-clause-left : goal.set_rates-requires-2-clause-left
+set_rates-requires-2-clause-left g c =
+    let old = c.args.self.now in
+    left_given g.P.Ord.cmp (caps_of g.P.Ord.cmp c.args.peers.now.entries c.args.pairs.now.entries) c.whole-all.result
+    c.in_ok-rates.rates old.scale (in_units old) c.in_ok-rates.ensures.fair c.requires.left
 
 pub invariant_of-self-2 : goal.invariant_of-self-2
 invariant_of-self-2 g c =
@@ -107,8 +128,8 @@ invariant_of-self-2 g c =
     let new = c.set_rates-2.new.self in
     let e = c.in_ok-set_rates-2.ensures in
     let h =
-    whole_given cmp caps c.whole-all.result c.in_ok-rates.rates old new e.rerated.0 c.in_ok-rates.ensures.fair
-    e.rerated.1 e.scale e.at e.timed c.whole-all.ensures.whole in
+    whole_given cmp caps c.whole-all.result c.in_ok-rates.rates old new c.in_ok-rates.ensures.fair
+    e.rerated e.scale e.at e.timed c.whole-all.ensures.whole c.whole-all.ensures.level in
     record {
       past = new.past;
       scaled = new.scaled;
@@ -126,8 +147,8 @@ returns-clause-rated g c =
     let new = c.set_rates-2.new.self in
     let e = c.in_ok-set_rates-2.ensures in
     let h =
-    whole_given cmp caps c.whole-all.result c.in_ok-rates.rates old new e.rerated.0 c.in_ok-rates.ensures.fair
-    e.rerated.1 e.scale e.at e.timed c.whole-all.ensures.whole in
+    whole_given cmp caps c.whole-all.result c.in_ok-rates.rates old new c.in_ok-rates.ensures.fair
+    e.rerated e.scale e.at e.timed c.whole-all.ensures.whole c.whole-all.ensures.level in
     record {
       times = h.times;
       scale = h.scale;
@@ -135,7 +156,6 @@ returns-clause-rated g c =
       each = h.each;
       fair = h.fair;
       timed = h.timed;
-      grouped = h.grouped;
     }
 
 pub returns-clause-finish : goal.returns-clause-finish
@@ -146,8 +166,8 @@ returns-clause-finish g c =
     let new = c.set_rates-2.new.self in
     let e = c.in_ok-set_rates-2.ensures in
     let h =
-    whole_given cmp caps c.whole-all.result c.in_ok-rates.rates old new e.rerated.0 c.in_ok-rates.ensures.fair
-    e.rerated.1 e.scale e.at e.timed c.whole-all.ensures.whole in
+    whole_given cmp caps c.whole-all.result c.in_ok-rates.rates old new c.in_ok-rates.ensures.fair
+    e.rerated e.scale e.at e.timed c.whole-all.ensures.whole c.whole-all.ensures.level in
     let fits : IfSome c.first_finish-first-2.result (λ t. t ≤ last_moment) = search rules in
     let here : new.at ≤ last_moment = omega (arith, e.at, c.requires.moment) in
     first_finish_is cmp caps old new h c.requires.left here c.first_finish-first-2.result

@@ -2,8 +2,7 @@ use Rattle.std.proofs.Common.{◌≡◌, ◌+◌, ◌*◌, inr, refl, sym, ap, �
 use Rattle.fair_rates.specs.Fairness.Exists.{product}
 use Rattle.link_flights.specs.declared.flight.Flight.{Flight}
 use Rattle.link_flights.specs.Flights.Flight.{rate_of, flight_at}
-use Rattle.link_flights.proofs.Flights.Components.{none_there}
-use Rattle.link_flights.proofs.Flights.Rerating.{goes_on, put_anew}
+use Rattle.link_flights.proofs.Flights.Rerating.{none_there, goes_on, put_anew}
 use Rattle.link_flights.proofs.flight_list.Flights.rerate.Goals as goal
 
 -- nothing changes
@@ -15,10 +14,9 @@ returns-then-goes_on-clause-rerated g c =
     let one : c.deref.result.now ≡ x.value = c.deref.ensures in
     let stays = c.goes_on.ensures in
     let yes = c.if-goes_on.true in
-    goes_on old.at (product c.args.growth.now) c.args.group (rate_of c.args.rate) old.list.items c.args.at x
+    goes_on old.at (product c.args.growth.now) (rate_of c.args.rate) old.list.items c.args.at x
     c.requires.place c.index-one.ensures
     (sym (ap (λ (f : Flight g.row.P.Denot). f.rated) one) ∙ stays.rated yes)
-    (sym (ap (λ (f : Flight g.row.P.Denot). f.group) one) ∙ stays.group yes)
     (sym (ap (λ (f : Flight g.row.P.Denot). rate_of f.rate) one) ∙ stays.rate yes)
     (ap product (none_there c.args.growth.now _ refl (sym c.is_empty.ensures ∙ c.if-is_empty.true)))
     (c.requires.timed c.if-were_timed.true)
@@ -31,12 +29,12 @@ returns-clause-rerated g c =
     let x = c.index-one.result.now in
     let one = c.in_ok-one in
     let value : c.deref-2.result.now ≡ x.value = c.deref-2.ensures in
-    put_anew old.at (product c.args.growth.now) c.args.group (rate_of c.args.rate) old.list.items c.args.at x
+    put_anew old.at (product c.args.growth.now) (rate_of c.args.rate) old.list.items c.args.at x
     c.requires.place c.index-one.ensures one.one c.put.new.self.list.items c.in_ok-put.ensures.list
     (one.ensures.message ∙ ap (λ (f : Flight g.row.P.Denot). f.message.value) value)
     (one.ensures.left
     ∙ ap (λ (f : Flight g.row.P.Denot). (flight_at old.at f).left * product c.args.growth.now) value)
-    one.ensures.rate one.ensures.since one.ensures.rated one.ensures.group one.ensures.timed
+    one.ensures.rate one.ensures.since one.ensures.rated one.ensures.timed
 
 pub returns-clause-counted : goal.returns-clause-counted
 returns-clause-counted g c =

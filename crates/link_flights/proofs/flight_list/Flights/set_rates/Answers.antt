@@ -4,12 +4,12 @@ use Rattle.std.proofs.lemmas.List.{get_or_default, length-map}
 use Rattle.fair_rates.specs.Fairness.Exists.{product}
 use Rattle.fair_rates.specs.Filling.FairParts.{parts_of_level}
 use Rattle.link_flights.specs.declared.flight.Flight.{Flight}
-use Rattle.link_flights.specs.Flights.Components.{is_of, is_found}
+use Rattle.link_flights.specs.Flights.Components.{is_of}
 use Rattle.link_flights.specs.Flights.Flight.{flight_at, flights_at, rate_of, AreTimed}
 use Rattle.link_flights.specs.Flights.Rated.{rates_found, IsReratedAt, AreKeptBut}
 use Rattle.link_flights.proofs.Flights.InFlight.{read_at}
 use Rattle.link_flights.proofs.Flights.Rerating.{AreReratedUpTo, none_rerated, stands_next, something_left, has_rate}
-use Rattle.link_flights.proofs.Flights.Rerating.{found_here, passed, one_rerated, all_rerated, timed_set}
+use Rattle.link_flights.proofs.Flights.Rerating.{passed, one_rerated, all_rerated, timed_set}
 use Rattle.link_flights.proofs.Flights.Rerating.{all_kept, one_counted, by_one, more_stand, to_end, first_passed}
 use Rattle.link_flights.proofs.flight_list.Flights.set_rates.Goals as goal
 use Rattle.link_flights.proofs.flight_list.Flights.set_rates.Goals.{else-has, then-has+in_ok-rate+in_ok-rerate}
@@ -19,12 +19,10 @@ loop-next-init g c =
     let old = c.args.self.now in
     let rates = c.args.rates in
     let component = c.args.component.now in (
-      first_passed c.first-at.result
-          (c.first-at.ensures old.list.items c.requires.far)
-          (none_rerated g.P.Ord.cmp component old.at (product rates.growth.items) c.number_for-group.result
-          (rates_found rates)
-          old.list.items (length-map rates.level_of.items (parts_of_level rates.levels.items) ∙ c.requires.one_each)
-          c.requires.left c.requires.others c.requires.found),
+      first_passed component.far c.requires.far
+          (none_rerated g.P.Ord.cmp component old.at (product rates.growth.items) (rates_found rates) old.list.items
+          (length-map rates.level_of.items (parts_of_level rates.levels.items) ∙ c.requires.one_each)
+          c.requires.left c.requires.others),
       refl,
       c.requires.timed,
       all_kept old.list.items,
@@ -62,8 +60,7 @@ index-requires-then-has g c =
     more_stand h (omega (arith, c.loop-next-test.true, as_many, rates.level_of.ok.0)) in
     let x = c.index.result.now in
     let test : c.has.result ≡ is_of cmp component (flight_at old.at x.value) =
-    c.has.ensures ∙ ap (λ (f : Flight g.row.P.Denot). is_found cmp component (flight_at 0 f)) c.deref.ensures
-    ∙ found_here h x (stands_next h x lt c.index.ensures) in
+    c.has.ensures ∙ ap (λ (f : Flight g.row.P.Denot). is_of cmp component (flight_at 0 f)) c.deref.ensures in
     let there : c.loop-next.next < length (rates_found rates) =
     has_rate h x (stands_next h x lt c.index.ensures) (sym test ∙ c.if-has.true) in
     omega (arith, there, length-map rates.level_of.items (parts_of_level rates.levels.items), rates.level_of.ok.0)
@@ -101,8 +98,7 @@ overflow_add-next g c =
     more_stand h (omega (arith, c.loop-next-test.true, as_many, rates.level_of.ok.0)) in
     let x = c.index.result.now in
     let test : c.has.result ≡ is_of cmp component (flight_at old.at x.value) =
-    c.has.ensures ∙ ap (λ (f : Flight g.row.P.Denot). is_found cmp component (flight_at 0 f)) c.deref.ensures
-    ∙ found_here h x (stands_next h x lt c.index.ensures) in
+    c.has.ensures ∙ ap (λ (f : Flight g.row.P.Denot). is_of cmp component (flight_at 0 f)) c.deref.ensures in
     let there : c.loop-next.next < length (rates_found rates) =
     has_rate h x (stands_next h x lt c.index.ensures) (sym test ∙ c.if-has.true) in
     omega (arith, there, length-map rates.level_of.items (parts_of_level rates.levels.items), rates.level_of.ok.0)
@@ -125,7 +121,7 @@ loop-next-preserved g c =
     let next = c.loop-next.next in
     let h = c.loop-next.invariant.0 in
     let at_is = c.loop-next.invariant.1 in
-    let AreUpTo = AreReratedUpTo cmp component old.at growth c.number_for-group.result (rates_found rates)
+    let AreUpTo = AreReratedUpTo cmp component old.at growth (rates_found rates)
     old.list.items in
     let as_many = length-map rates.level_of.items (parts_of_level rates.levels.items) in
     let lt : at < length so_far.list.items =
@@ -133,8 +129,7 @@ loop-next-preserved g c =
     let x = c.index.result.now in
     let stands = stands_next h x lt c.index.ensures in
     let test : c.has.result ≡ is_of cmp component (flight_at old.at x.value) =
-    c.has.ensures ∙ ap (λ (f : Flight g.row.P.Denot). is_found cmp component (flight_at 0 f)) c.deref.ensures
-    ∙ found_here h x (stands_next h x lt c.index.ensures) in
+    c.has.ensures ∙ ap (λ (f : Flight g.row.P.Denot). is_of cmp component (flight_at 0 f)) c.deref.ensures in
     elim c.if-has.branch [
       | then-has+in_ok-rate+in_ok-rerate w ↦
           let of = sym test ∙ w.if-has.true in
@@ -149,10 +144,9 @@ loop-next-preserved g c =
           w.index-then-has.ensures) in
           let new = w.rerate.new.self.list.items in
           let is_rate = rate_of w.in_ok-rate.rate in
-          let group = c.number_for-group.result in
-          let put : IsReratedAt old.at at growth group is_rate so_far.list.items new =
-          subst (λ n. IsReratedAt n at growth group is_rate so_far.list.items new) at_is
-          (subst (λ ns. IsReratedAt so_far.at at (product ns) group is_rate so_far.list.items new)
+          let put : IsReratedAt old.at at growth is_rate so_far.list.items new =
+          subst (λ n. IsReratedAt n at growth is_rate so_far.list.items new) at_is
+          (subst (λ ns. IsReratedAt so_far.at at (product ns) is_rate so_far.list.items new)
           w.deref-then-has-2.ensures.value w.in_ok-rerate.ensures.rerated) in (
             subst (λ (s : _). AreUpTo s.list.items (at + 1) c.if-has.next) (sym w.self-is)
                 (subst (λ n. AreUpTo new (at + 1) n) (sym w.next-is)
@@ -197,10 +191,8 @@ returns-clause-rerated g c =
       length-map rates.level_of.items (parts_of_level rates.levels.items),
       rates.level_of.ok.0,
     ) in
-    let all = to_end (length h.rest) c.loop-next.at c.loop-next.next h refl none in (
-      c.number_for-group.result,
-      ap (λ n. flights_at n now.list.items) c.loop-next.invariant.1 ∙ (all_rerated all (omega arith)).units,
-    )
+    let all = to_end (length h.rest) c.loop-next.at c.loop-next.next h refl none in
+    ap (λ n. flights_at n now.list.items) c.loop-next.invariant.1 ∙ (all_rerated all (omega arith)).units
 
 pub returns-clause-timed : goal.returns-clause-timed
 returns-clause-timed g c =

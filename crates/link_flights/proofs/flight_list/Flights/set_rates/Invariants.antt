@@ -7,7 +7,7 @@ use Rattle.link_flights.proofs.flight_list.Flights.set_rates.Given as goal
 
 abbrev pub invariant-loop-next : goal.invariant-loop-next
 invariant-loop-next g l =
-    AreReratedUpTo g.P.Ord.cmp l.component l.initial.self.at (product l.fn.rates.growth.items) l.group
+    AreReratedUpTo g.P.Ord.cmp l.component l.initial.self.at (product l.fn.rates.growth.items)
     (rates_found l.fn.rates)
     l.initial.self.list.items l.self.list.items l.at l.next
     × (l.self.at ≡ l.initial.self.at)

@@ -1,17 +1,20 @@
 use Rattle.std.proofs.Common.{◌≡◌, ◌<◌, ◌≤◌, [], ◌++◌, ◌∷◌, length, get_or, refl, ap, ap₂, sym, ◌∙◌}
-use Rattle.std.proofs.Common.{subst, arith}
+use Rattle.std.proofs.Common.{subst, arith, None}
 use Rattle.std.specs.declared.rc.Rc.{Rc}
 use Rattle.std.specs.declared.alloc.Global.{Global}
 use Rattle.std.proofs.lemmas.List.{map-append, get_or_default}
+use Rattle.std.specs.List.{remove}
 use Rattle.link_flights.specs.declared.flight.Flight.{Flight}
 use Rattle.link_pairs.specs.declared.message.Message.{Message}
 use Rattle.link_pairs.specs.Pairs.Messages.{message_of, messages}
 use Rattle.link_pairs.specs.Pairs.CapsOf.{caps_of}
 use Rattle.link_flights.specs.Flights.Flight.{flight_at}
 use Rattle.link_flights.specs.Flights.Rated.{is_out}
+use Rattle.link_flights.proofs.Flights.Floors.{AreOver, none_over, over_from, over_stays, over_leaves}
+use Rattle.link_flights.proofs.Flights.Floors.{all_over, floor_so}
 use Rattle.link_flights.proofs.Flights.InFlight.{HaveLeft, none_left, step_leaves, step_stays, all_looked_at}
 use Rattle.link_flights.proofs.Flights.Leaving.{timed_without, flights_limited_without, parted_so}
-use Rattle.link_flights.proofs.Flights.Settled.{left_from}
+use Rattle.link_flights.proofs.Flights.Settled.{left_from, none_out}
 use Rattle.link_flights.proofs.flight_list.Flights.take_done.Goals as goal
 use Rattle.link_flights.proofs.flight_list.Flights.take_done.Goals.{
   then-were_rated+then-not-may_have_finished,
@@ -44,6 +47,18 @@ loop-at-init g c =
       refl,
       λ h. h,
       λ h. h,
+      elim c.if-were_rated.branch [
+        | then-were_rated+then-not-may_have_finished w ↦
+            subst (AreOver out None old.list.items old.list.items) (sym w.at-is)
+            (over_from out None old.list.items old.settled
+            (none_out g.P.Ord.cmp caps old.scale old.scaled old.at (omega arith) old.settled old.list.items
+            old.have_rates.1 old.past
+            (old.finish_from old.at (sym w.may_have_finished.ensures ∙ w.if-not-may_have_finished.true))
+            (c.requires.timed w.if-were_rated.true) (c.requires.limited w.if-were_rated.true)).0)
+        | else-were_rated w ↦
+            subst (AreOver out None old.list.items old.list.items) (sym w.at-is)
+            (none_over out None old.list.items)
+      ],
     )
 
 pub loop-at-preserved-then-is_done : goal.loop-at-preserved-then-is_done
@@ -67,14 +82,20 @@ loop-at-preserved-then-is_done g c =
     ap messages c.in_ok-push_back.ensures.items
     ∙ map-append (λ m. message_of m.value) c.loop-at.done.items (c.in_ok-clone.field-0 ∷ []) in
     let left = step_leaves message out old.list.items now.list.items (messages c.loop-at.done.items) c.loop-at.at h.0
-    (message_of c.in_ok-clone.field-0.value) c.is_done.result lt c.if-is_done.true test here in (
-      rw (c.remove.ensures.list, pushed) left,
-      c.remove.ensures.scale ∙ h.1,
-      c.remove.ensures.at ∙ h.2,
-      λ timed. rw c.remove.ensures.list (timed_without now.list.items c.loop-at.at (h.3 timed)),
+    (message_of c.in_ok-clone.field-0.value) c.is_done.result lt c.if-is_done.true test here in
+    let lowered = c.lower_floor.new.self in
+    let list : c.remove.new.self.list.items ≡ remove now.list.items c.loop-at.at =
+    c.remove.ensures.list ∙ ap (λ l. remove l c.loop-at.at) c.lower_floor.ensures.list in
+    let over = over_leaves out now.floor old.list.items now.list.items c.loop-at.at h.5 lt lowered.floor
+    c.in_ok-lower_floor.ensures.lowered c.in_ok-lower_floor.ensures.lower in (
+      rw (list, pushed) left,
+      c.remove.ensures.scale ∙ c.lower_floor.ensures.scale ∙ h.1,
+      c.remove.ensures.at ∙ c.lower_floor.ensures.at ∙ h.2,
+      λ timed. rw list (timed_without now.list.items c.loop-at.at (h.3 timed)),
       λ all.
-          rw (c.remove.ensures.list, c.remove.ensures.at)
+          rw (list, c.remove.ensures.at, c.lower_floor.ensures.at)
           (flights_limited_without g.P.Ord.cmp caps now.at now.list.items c.loop-at.at (h.4 all)),
+      rw (list, c.remove.ensures.floor) over,
     )
 
 pub loop-at-preserved : goal.loop-at-preserved
@@ -92,7 +113,9 @@ loop-at-preserved g c =
     step_stays message out old.list.items now.list.items (messages c.loop-at.done.items) c.loop-at.at h.0
     c.is_done.result
     lt c.if-is_done.false test in
-    (stays, h.1, h.2, h.3, h.4)
+    let over = over_stays out now.floor old.list.items now.list.items c.loop-at.at h.5 lt
+    (λ d. sym (test d) ∙ c.if-is_done.false) in
+    (stays, h.1, h.2, h.3, h.4, over)
 
 pub returns-clause-parted : goal.returns-clause-parted
 returns-clause-parted g c =
@@ -108,3 +131,13 @@ returns-clause-parted g c =
     rw h.2
     (parted_so g.P.Ord.cmp caps old.scale old.at old.list.items now.list.items (messages c.loop-at.done.items)
     all.leavers all.stay)
+
+pub returns-clause-floor : goal.returns-clause-floor
+returns-clause-floor g c =
+    let old = c.args.self.now in
+    let now = c.loop-at.self in
+    let caps = caps_of g.P.Ord.cmp c.args.peers.now.entries c.args.pairs.now.entries in
+    let out = λ (f : Rc (Flight g.row.P.Denot) Global). is_out g.P.Ord.cmp caps old.scale (flight_at old.at f.value) in
+    let end : length now.list.items ≤ c.loop-at.at = omega arith in
+    floor_so out now.floor (is_out g.P.Ord.cmp caps old.scale) old.at old.list.items (λ f. refl)
+    (all_over out now.floor old.list.items now.list.items c.loop-at.at c.loop-at.invariant.5 end)

@@ -5,6 +5,7 @@ use Rattle.link_flights.specs.Flights.Rated.{is_out}
 use Rattle.link_pairs.specs.Pairs.Messages.{message_of, messages}
 use Rattle.link_pairs.specs.Pairs.CapsOf.{caps_of}
 use Rattle.link_flights.proofs.Flights.InFlight.{HaveLeft}
+use Rattle.link_flights.proofs.Flights.Floors.{AreOver}
 use Rattle.link_flights.proofs.Flights.Leaving.{StayRated}
 use Rattle.link_flights.proofs.flight_list.Flights.take_done.Given as goal
 
@@ -18,6 +19,8 @@ invariant-loop-at g l =
     × (AreTimed l.initial.self.list.items → AreTimed l.self.list.items)
     × StayRated g.P.Ord.cmp (caps_of g.P.Ord.cmp l.peers.entries l.pairs.entries) (in_units l.initial.self)
     (in_units l.self)
+    × AreOver (λ f. is_out g.P.Ord.cmp (caps_of g.P.Ord.cmp l.peers.entries l.pairs.entries) l.initial.self.scale
+    (flight_at l.initial.self.at f.value)) l.self.floor l.initial.self.list.items l.self.list.items l.at
 
 abbrev pub decreases-loop-at : goal.decreases-loop-at
 decreases-loop-at g l = length l.self.list.items - l.at

@@ -1,0 +1,90 @@
+-- The least rate of those that leave, one after another.
+use Rattle.std.proofs.Common.{◌≡◌, ℕ, zero, suc, ◌+◌, ◌<◌, ◌≤◌, Bool, true, false, List, [], ◌∷◌, length, get_or}
+use Rattle.std.proofs.Common.{take, drop, Option, sym, ap, ◌∙◌, subst, arith, add-one, ◌⊎◌, inl, inr}
+use Rattle.std.specs.List.{filter, remove}
+use Rattle.std.specs.declared.rc.Rc.{Rc}
+use Rattle.std.specs.declared.alloc.Global.{Global}
+use Rattle.std.proofs.lemmas.Bool.{false≢true}
+use Rattle.std.proofs.lemmas.List.{take-append-drop}
+use Rattle.fair_rates.proofs.Lists.Members.{In, in_from_contains, in_either, in_filter, from_map}
+use Rattle.link_flights.specs.declared.flight.Flight.{Flight}
+use Rattle.link_flights.specs.Flights.Flight.{UnitFlight, flight_at, flights_at}
+use Rattle.link_flights.specs.Flights.Rated.{IsFloorOf, IsNoMore}
+
+module _ {X : Type 0} where
+  first_or_later : (xs : List X) (at : ℕ) (y : X) → at < length xs → In (drop at xs) y
+      → (get_or xs at y ≡ y) ⊎ In (drop (suc at) xs) y
+  first_or_later [] at y lt among = absurd (omega arith)
+  first_or_later (z ∷ xs) zero y lt among = among
+  first_or_later (z ∷ xs) (suc at) y lt among = first_or_later xs at y (omega arith) among
+
+  still_later : (xs : List X) (at : ℕ) (y : X) → at < length xs → In (drop (suc at) xs) y
+      → In (drop at (remove xs at)) y
+  still_later [] at y lt among = absurd (omega arith)
+  still_later (z ∷ xs) zero y lt among = among
+  still_later (z ∷ xs) (suc at) y lt among = still_later xs at y (omega arith) among
+
+  none_later : (xs : List X) (at : ℕ) (y : X) → length xs ≤ at → In (drop at xs) y → ⊥
+  none_later [] zero y le among = among
+  none_later [] (suc at) y le among = among
+  none_later (z ∷ xs) zero y le among = absurd (omega arith)
+  none_later (z ∷ xs) (suc at) y le among = none_later xs at y (omega arith) among
+
+module _ {P : Type 0} (out : Rc (Flight P) Global → Bool) where
+  -- the floor is no more than its rate, if it has one
+  abbrev pub IsOver : Option ℕ → Rc (Flight P) Global → Type 0
+  IsOver floor f = f.value.rated ≡ true → IsNoMore floor (flight_at 0 f.value).rate
+
+  -- those that leave are over the floor, but for those from a place on, which are to be looked at
+  abbrev pub AreOver : Option ℕ → (old now : List (Rc (Flight P) Global)) → ℕ → Type 0
+  AreOver floor old now at =
+      (f : Rc (Flight P) Global) → In old f → out f ≡ true → In (drop at now) f ⊎ IsOver floor f
+
+  pub none_over : (floor : Option ℕ) (old : List (Rc (Flight P) Global)) → AreOver floor old old 0
+  none_over floor old f among leaves = inl among
+
+  -- none of the first leaves
+  pub over_from : (floor : Option ℕ) (old : List (Rc (Flight P) Global)) (n : ℕ) → filter out (take n old) ≡ []
+      → AreOver floor old old n
+  over_from floor old n stay f among leaves =
+      elim (in_either (take n old) (drop n old) f (subst (λ l. In l f) (sym (take-append-drop n old)) among)) [
+        | inl before ↦ absurd (subst (λ l. In l f) stay (in_filter out (take n old) f before leaves))
+        | inr later ↦ inl later
+      ]
+
+  module _ (floor : Option ℕ) (old now : List (Rc (Flight P) Global)) (at : ℕ) (h : AreOver floor old now at) where
+    module _ (lt : at < length now) where
+      pub over_stays : ((d : Rc (Flight P) Global) → out (get_or now at d) ≡ false) → AreOver floor old now (at + 1)
+      over_stays stays = rw add-one (λ f among leaves. elim (h f among leaves) [
+        | inl later ↦ elim (first_or_later now at f lt later) [
+          | inl same ↦ absurd (false≢true (sym (stays f) ∙ ap out same ∙ leaves))
+          | inr later ↦ inl later
+        ]
+        | inr over ↦ inr over
+      ])
+
+      pub over_leaves : (lower : Option ℕ) → ((d : Rc (Flight P) Global) → IsOver lower (get_or now at d))
+          → ((rate : ℕ) → IsNoMore floor rate → IsNoMore lower rate) → AreOver lower old (remove now at) at
+      over_leaves lower here still f among leaves = elim (h f among leaves) [
+        | inl later ↦ elim (first_or_later now at f lt later) [
+          | inl same ↦ inr (subst (IsOver lower) same (here f))
+          | inr later ↦ inl (still_later now at f lt later)
+        ]
+        | inr over ↦ inr (λ rated. still _ (over rated))
+      ]
+
+    pub all_over : length now ≤ at → (f : Rc (Flight P) Global) → In old f → out f ≡ true → IsOver floor f
+    all_over le f among leaves =
+        elim (h f among leaves) [ inl later ↦ absurd (none_later now at f le later) | inr over ↦ over ]
+
+  -- so it is a floor
+  pub floor_so : (floor : Option ℕ) (test : UnitFlight P → Bool) (now : ℕ) (old : List (Rc (Flight P) Global))
+      → ((f : Rc (Flight P) Global) → test (flight_at now f.value) ≡ out f)
+      → ((f : Rc (Flight P) Global) → In old f → out f ≡ true → IsOver floor f)
+      → IsFloorOf test (flights_at now old) floor
+  floor_so floor test now old same all u listed leaves rated =
+      let r = from_map (λ (f : Rc (Flight P) Global). flight_at now f.value) old u
+      (in_from_contains (flights_at now old) u listed) in
+      let is : flight_at now r.0.value ≡ u = r.2 in
+      subst (λ (v : UnitFlight P). IsNoMore floor v.rate) is
+      (all r.0 r.1 (sym (same r.0) ∙ ap test is ∙ leaves) (ap (λ (v : UnitFlight P). v.rated) is ∙ rated))

@@ -1,0 +1,5 @@
+use Rattle.std.specs.Prelude.{◌≤◌, IfSome, MatchOption}
+use Rattle.link_flights.proofs.flight_list.Flights.level.Given as goal
+
+abbrev pub invariant-loop-at : goal.invariant-loop-at
+invariant-loop-at g l = IfSome l.self.floor (λ floor. MatchOption l.level ⊥ (λ level. level ≤ floor))

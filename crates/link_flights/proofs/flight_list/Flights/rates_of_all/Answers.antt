@@ -1,0 +1,32 @@
+use Rattle.std.proofs.Common.{◌≡◌, true, IfOk, subst, sym, ap, ◌∙◌, map, length}
+use Rattle.fair_rates.specs.Filling.FairParts.{AreFairPartsOn}
+use Rattle.fair_rates.specs.Sides.Answers.{answered_of}
+use Rattle.fair_rates.specs.Sides.Subjects.{sides_of}
+use Rattle.link_pairs.specs.Pairs.CapsOf.{caps_of}
+use Rattle.link_pairs.proofs.Pairs.LookedUp.{looked_up}
+use Rattle.link_flights.specs.Flights.Components.{those_of}
+use Rattle.link_flights.specs.Flights.Flight.{flights_at}
+use Rattle.link_flights.specs.Flights.InFlight.{in_units}
+use Rattle.link_flights.specs.Flights.RatedFlights.{are_standing}
+use Rattle.link_flights.proofs.Flights.CappedFlows.{fair_under_caps_if_ok}
+use Rattle.link_flights.proofs.Flights.ComponentFlows.{all_of_whole}
+use Rattle.link_flights.proofs.Flights.Components.{found_if_ok}
+use Rattle.link_flights.proofs.flight_list.Flights.rates_of_all.Goals as goal
+
+pub returns-clause-fair : goal.returns-clause-fair
+returns-clause-fair g c =
+    let cmp = g.P.Ord.cmp in
+    let self = c.args.self.now in
+    let all = c.args.all.now in
+    let caps = caps_of cmp c.args.peers.now.entries c.args.pairs.now.entries in
+    let flows = c.in_ok-flows.flows.items in
+    let of = looked_up cmp g.met.P.Ord.total c.args.peers.now.entries c.args.pairs.now.entries in
+    let us = in_units self in
+    let standing : are_standing cmp (map (λ x. x.flow) flows) (those_of cmp all us) ≡ true =
+    ap (are_standing cmp (map (λ x. x.flow) flows))
+    (all_of_whole cmp all c.requires.whole c.requires.level us ∙ ap (flights_at self.at) (sym c.deref.ensures.value))
+    ∙ c.in_ok-flows.ensures.standing in
+    found_if_ok cmp g.met.P.Ord.total caps of all c.fair_parts.result self.scale (map (λ x. x.flow) flows) us standing
+    (fair_under_caps_if_ok cmp caps flows self.scale c.in_ok-flows.ensures.capped c.fair_parts.result
+    (subst (λ fs. IfOk c.fair_parts.result (AreFairPartsOn (sides_of cmp (map answered_of fs)) (length fs)
+    self.scale)) c.deref-2.ensures.value c.fair_parts.ensures.fair))
