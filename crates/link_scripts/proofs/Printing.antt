@@ -21,7 +21,7 @@ done_front c n =
     ++ (decimal c.recipient ++ (codes " " ++ (decimal c.channel ++ (codes " " ++ (decimal n ++ codes " ")))))))
 
 -- one text after another
-Appends-append : (before between after : Option (List ℕ)) (first second : List ℕ) → Appends before between first
+pub Appends-append : (before between after : Option (List ℕ)) (first second : List ℕ) → Appends before between first
     → Appends between after second → Appends before after (first ++ second)
 Appends-append None between after first second h k = tt
 Appends-append (Some xs) None after first second h k = absurd h

@@ -1,4 +1,5 @@
 pub mod Answer
+pub mod Gathered
 pub mod Lines
 pub mod Outcome
 pub mod Schedule

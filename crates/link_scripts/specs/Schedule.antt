@@ -1,13 +1,16 @@
 -- What a script asks of its scheduler, and what it is answered.
-use Rattle.std.specs.Prelude.{ℕ, map, replicate}
+use Rattle.std.specs.Prelude.{ℕ, List, map, replicate}
 use Rattle.link_scripts.specs.declared.linkrun.answer.Answer.{Answer}
 use Rattle.link_scripts.specs.declared.linkrun.answer.Answer.TheVariants as answers
 use Rattle.link_scheduler.specs.declared.replay.Call as script
 use Rattle.link_scheduler.specs.declared.replay.Call.TheVariants as calls
+use Rattle.link_scheduler.specs.declared.replay.Reply.{Reply}
+use Rattle.link_scheduler.specs.declared.replay.Reply.TheVariants as replies
 use Rattle.link_scheduler.specs.declared.transmitter.State.{State}
 use Rattle.link_events.specs.declared.outgoing.Outgoing.{Outgoing}
 use Rattle.link_events.specs.Steps.Outgoing.{sent}
 use Rattle.link_scheduler.specs.Calls.Replay.{IsAnswered}
+use Rattle.link_scheduler.specs.Calls.State.{AreMade}
 use Rattle.link_simulation.specs.Simulation.Calls.{Call, call_limit, call_limit_link, call_enqueue, call_advance}
 use Rattle.link_simulation.specs.Simulation.Calls.{call_enqueue_all, call_next}
 use Rattle.link_simulation.specs.Simulation.Messages.{Message}
@@ -35,9 +38,19 @@ world_call (calls.EnqueueAll now messages) = call_enqueue_all now (map zeroed me
 world_call (calls.Advance now) = call_advance now
 world_call calls.Next = call_next
 
+-- the calls that send such messages at one moment, one after another
+abbrev pub zeroed_sends : ℕ → List (Outgoing ℕ ℕ) → List (Call ℕ)
+zeroed_sends now messages = map (λ m. call_enqueue now m) (map zeroed messages)
+
 module _ {a : _} {b : _} {c : _} where
   -- what a scheduler of numbered peers is asked it does and answers
   abbrev pub AnswersCall : script.Call ℕ ℕ → State ℕ a b c → Answer → State ℕ a b c → Type 0
   AnswersCall call old (answers.Reply reply) new = IsAnswered old (world_call call) reply new
   AnswersCall call old answers.Nothing new = ⊥
   AnswersCall call old (answers.Rates rates) new = ⊥
+
+  -- it does and answers all at once what those calls do and answer one after another
+  abbrev pub AnswersEach : List (Call ℕ) → State ℕ a b c → Reply ℕ → State ℕ a b c → Type 0
+  AnswersEach calls old (replies.Done completions) new = AreMade old calls completions.items new
+  AnswersEach calls old (replies.Next moment) new = ⊥
+  AnswersEach calls old (replies.Refused why) new = ⊥

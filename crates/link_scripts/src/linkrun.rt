@@ -4,6 +4,7 @@ ghost use Rattle.link_scripts.specs.Outcome.{status_of, outcome_text, CountsFrom
 
 pub mod answer;
 pub mod command;
+mod gathered;
 pub mod line;
 pub(crate) mod schedule;
 mod session;
@@ -11,6 +12,7 @@ pub mod word;
 pub mod zeros;
 
 use crate::linkrun::command::Command;
+use crate::linkrun::gathered::Gathered;
 use crate::linkrun::line::LineEnd;
 use crate::linkrun::session::Session;
 use std::alloc::Global;
@@ -100,12 +102,16 @@ fn run_session<R: Read, W: Write + Drop>(
     ensures { IfOk result CountsFromOne }
 {
     let mut session = Session::new(alloc);
-    run_lines(&mut session, input, output, line)
+    let mut gathered = Gathered::new(alloc);
+    let outcome = run_lines(&mut session, &mut gathered, input, output, line)?;
+    gathered.send(&mut session, output)?;
+    Ok(outcome)
 }
 
 /// Runs the lines of `input` in order, up to its end or to a bad line. `line` is room for one.
 fn run_lines<R: Read, W: Write + Drop>(
     session: &mut Session,
+    gathered: &mut Gathered,
     input: &mut BufReader<R>,
     output: &mut BufWriter<W>,
     line: &mut Vec<u8>,
@@ -115,6 +121,9 @@ fn run_lines<R: Read, W: Write + Drop>(
     let mut number = 0u64;
     for _ in 0..u128::MAX {
         number = number.saturating_add(1);
+        if !line::is_ahead(input) {
+            gathered.send(session, output)?;
+        }
         let end = line::next_line(input, output, line)?;
         if end == LineEnd::TooLong {
             return Ok(Outcome::BadLine(number));
@@ -123,7 +132,7 @@ fn run_lines<R: Read, W: Write + Drop>(
             let Some(command) = Command::parse(line) else {
                 return Ok(Outcome::BadLine(number));
             };
-            answer::print(output, session.perform(command))?;
+            gathered.perform(session, output, command)?;
         }
         if end == LineEnd::Input {
             return Ok(Outcome::Whole);

@@ -1,6 +1,6 @@
 //! The lines of a script, read as a stream.
-ghost use Rattle.std.specs.Prelude.{◌≡◌, ◌⊎◌, [], IfOk, IfSome, OnOk, length};
-ghost use Rattle.std.specs.Io.Buffered.{reader_remaining, writer_buffer, writer_contents};
+ghost use Rattle.std.specs.Prelude.{◌≡◌, ◌⊎◌, ◌↔◌, [], Contains, IsTrue, IfOk, IfSome, OnOk, length};
+ghost use Rattle.std.specs.Io.Buffered.{reader_buffer, reader_remaining, writer_buffer, writer_contents};
 ghost use Rattle.std.specs.Io.KnownBytes.{Keeps};
 ghost use Rattle.link_scripts.specs.Lines.{IsLengthOf, LacksEndByte, IsFrontOf, IsCut, IsTaken, AsksAfterWriting};
 
@@ -25,6 +25,13 @@ pub enum LineEnd {
     Input,
     /// The line is longer than a line may be, and its rest is not read.
     TooLong,
+}
+
+/// Whether the end byte of a line was read ahead.
+pub(crate) fn is_ahead<R: Read>(input: &BufReader<R>) -> bool
+    ensures { IsTrue result ↔ Contains (reader_buffer input.now) 10 }
+{
+    input.buffer().contains(&NEWLINE)
 }
 
 /// Reads the next line as `read_line` does. Before the reader behind `input` is asked for more,

@@ -1,16 +1,19 @@
 //! What a script has said so far.
-ghost use Rattle.std.specs.Prelude.{◌≡◌, ◌⊎◌, ℕ, [], IfOk, IfErr, OnOk, OnErr};
+ghost use Rattle.std.specs.Prelude.{◌≡◌, ◌⊎◌, ℕ, [], map, IfOk, IfErr, OnOk, OnErr};
 ghost use Rattle.std.specs.Ordering.{nat_cmp};
 ghost use Rattle.std.specs.BTreeMap.{get, IsUnchanged};
 ghost use Rattle.fair_rates.specs.Sides.Caps.{no_caps};
 ghost use Rattle.link_pairs.specs.Pairs.Entries.{pair_cmp};
 ghost use Rattle.fair_rates.specs.Fairness.UnderCaps.{IsFairById};
 ghost use Rattle.fair_rates.specs.Refusals.TooLarge.{AreTooLarge};
+ghost use Rattle.link_scheduler.specs.Calls.Replay.{IsAnswered, MayRefuseCall};
 ghost use Rattle.link_scheduler.specs.Calls.State.{planned_of};
+ghost use Rattle.link_scripts.specs.Schedule.{zeroed, zeroed_sends, AnswersEach};
 ghost use Rattle.link_scripts.specs.Session.{Says, SaysSame, KeepsPlanned, SaysAfter, AnswersTo, MayRefuseCommand};
 ghost use Rattle.link_scripts.specs.Session.{said_caps};
 ghost use Rattle.link_scripts.specs.Session.{with_said_cap, with_said_link};
 ghost use Rattle.link_simulation.specs.Rule.Planned.{new_planned};
+ghost use Rattle.link_simulation.specs.Simulation.Calls.{call_enqueue_all};
 
 use crate::linkrun::answer::Answer;
 use crate::linkrun::command::Command;
@@ -19,7 +22,8 @@ use crate::linkrun::zeros::Zeros;
 use fair_rates::bandwidth;
 use fair_rates::bandwidth::{Flow, Rate};
 use fair_rates::error::Error;
-use link_scheduler::transmitter::State;
+use link_scheduler::replay::Reply;
+use link_scheduler::transmitter::{Outgoing, State};
 use std::alloc::Global;
 use std::collections::BTreeMap;
 
@@ -83,6 +87,30 @@ impl Session {
             }
         }
         Ok(Answer::Nothing)
+    }
+
+    /// Sends messages at one moment, in order, as a whole or not at all. A refusal changes nothing.
+    pub(crate) fn send_all(
+        &mut self,
+        now: u64,
+        messages: &[Outgoing<u64, usize>],
+    ) -> Result<Reply<u64>, Error>
+        ensures one_by_one { IfOk result (λ reply. AnswersEach (zeroed_sends now messages.now) self.old.scheduler reply
+            self.new.scheduler) }
+        ensures at_once { IfOk result (λ reply. IsAnswered self.old.scheduler
+            (call_enqueue_all now (map zeroed messages.now)) reply self.new.scheduler) }
+        ensures said { SaysSame self.old self.new }
+        ensures kept { OnErr result (KeepsPlanned self.old self.new) }
+        ensures refused { IfErr result (MayRefuseCall self.old.scheduler
+            (call_enqueue_all now (map zeroed messages.now))) }
+    {
+        schedule::send_all(
+            self.alloc,
+            &mut self.zeros,
+            &mut self.scheduler,
+            now,
+            messages,
+        )
     }
 
     /// The rates of the flows, by id.

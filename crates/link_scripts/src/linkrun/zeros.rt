@@ -85,7 +85,7 @@ impl Zeros {
     }
 
     /// The messages as the scheduler takes them, in their order.
-    fn fill_all(
+    pub(crate) fn fill_all(
         &mut self,
         alloc: Global,
         messages: &[Outgoing<u64, usize>],

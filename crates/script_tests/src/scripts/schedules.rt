@@ -116,3 +116,56 @@ next -\ndone 1 2 2 1 1500000001\n",
         Outcome::Whole,
     );
 }
+
+#[test]
+fn a_refused_message_is_answered_among_those_of_its_moment(rt: HostRuntime) {
+    expect(
+        &rt,
+        b"enqueue 5 1 2 0 10 1 1\nenqueue 5 1 3 0 20 18446744073709551615 1\nenqueue 5 2 3 1 30 0 1\n\
+enqueue 5 2 1 1 0 7 0\nenqueue 5 3 1 0 1 18446744073709551610 1\nnext\n",
+        "done 1 2 0 10 6\nrefused 3 moment too late\ndone 2 3 1 30 5\ndone 2 1 1 0 -\n\
+done 3 1 0 1 18446744073709551615\nnext -\n",
+        Outcome::Whole,
+    );
+    expect(
+        &rt,
+        b"limit 1 1 100 -\nenqueue 1 1 2 0 100 0 1\nenqueue 1 3 2 0 5 18446744073709551615 1\n\
+enqueue 1 3 4 0 5 4 1\nnext\nadvance 1000000001\nnext\n",
+        "refused 3 moment too late\ndone 3 4 0 5 5\nnext 1000000001\ndone 1 2 0 100 1000000001\nnext -\n",
+        Outcome::Whole,
+    );
+}
+
+#[test]
+fn messages_of_two_moments_are_sent_at_their_own(rt: HostRuntime) {
+    expect(
+        &rt,
+        b"enqueue 5 1 2 0 1 0 1\nenqueue 6 1 3 0 1 0 1\nenqueue 6 2 3 0 1 0 1\nenqueue 7 2 1 0 1 0 1",
+        "done 1 2 0 1 5\ndone 1 3 0 1 6\ndone 2 3 0 1 6\ndone 2 1 0 1 7\n",
+        Outcome::Whole,
+    );
+    expect(
+        &rt,
+        b"limit 0 1 100 -\nenqueue 0 1 2 0 100 0 1\nenqueue 0 1 3 0 100 0 1\n\
+enqueue 1000000000 1 4 0 100 0 1\nnext\nadvance 2500000000\nnext\nadvance 3000000000\nnext\n",
+        "next 2500000000\ndone 1 2 0 100 2500000000\ndone 1 3 0 100 2500000000\nnext 3000000000\n\
+done 1 4 0 100 3000000000\nnext -\n",
+        Outcome::Whole,
+    );
+}
+
+#[test]
+fn messages_are_sent_before_the_line_after_them(rt: HostRuntime) {
+    expect(
+        &rt,
+        b"enqueue 0 1 2 0 100 0 1\nenqueue 0 1 3 0 100 0 1\nlimit 0 1 100 -\nenqueue 0 1 4 0 100 0 1\nnext\n",
+        "done 1 2 0 100 0\ndone 1 3 0 100 0\nnext 1000000000\n",
+        Outcome::Whole,
+    );
+    expect(
+        &rt,
+        b"enqueue 0 1 2 0 1 0 1\nenqueue 0 1 3 0 1 0 1\nstop\nenqueue 0 1 4 0 1 0 1\n",
+        "done 1 2 0 1 0\ndone 1 3 0 1 0\n",
+        Outcome::BadLine(3),
+    );
+}

@@ -1,0 +1,22 @@
+-- What is said stays said.
+use Rattle.std.proofs.Common.{◌∙◌, Result, Ok, Err, OnOk, OnErr}
+use Rattle.fair_rates.specs.declared.error.Error.{Error}
+use Rattle.link_scripts.specs.declared.linkrun.answer.Answer.{Answer}
+use Rattle.link_scripts.specs.declared.linkrun.session.Session.{Session}
+use Rattle.link_scripts.specs.Session.{SaysSame, KeepsPlanned}
+
+-- what stays said twice stays said
+pub says_same_on : (a b c : Session) → SaysSame a b → SaysSame b c → SaysSame a c
+says_same_on a b c first then =
+    record {
+      flows_are = then.flows_are ∙ first.flows_are;
+      egress_is = λ peer. then.egress_is peer ∙ first.egress_is peer;
+      ingress_is = λ peer. then.ingress_is peer ∙ first.ingress_is peer;
+      link_is = λ origin recipient. then.link_is origin recipient ∙ first.link_is origin recipient;
+    }
+
+-- a call changes nothing that is said, whether it is made or refused
+pub says_same_after_call : (old new : Session) (result : Result Answer Error) → OnOk result (SaysSame old new)
+    → OnErr result (SaysSame old new × KeepsPlanned old new) → SaysSame old new
+says_same_after_call old new (Ok answer) said kept = said
+says_same_after_call old new (Err why) said kept = kept.0

@@ -1,0 +1,27 @@
+use Rattle.std.proofs.Common.{ℕ, List, subst}
+use Rattle.link_events.specs.declared.outgoing.Outgoing.{Outgoing}
+use Rattle.link_scripts.specs.Gathered.{gathered_calls}
+use Rattle.link_scripts.specs.Schedule.{zeroed_sends, AnswersEach}
+use Rattle.link_scripts.proofs.InTurn.{sent_and_printed, prints_from}
+use Rattle.link_scripts.proofs.linkrun.gathered.Gathered.send.Goals as goal
+use Rattle.link_scripts.proofs.linkrun.gathered.Gathered.send.Goals.{then-len-gt1+in_default, else-len-gt1}
+
+pub returns-in-Ok-clause-printed : goal.returns-in-Ok-clause-printed
+returns-in-Ok-clause-printed g c =
+    sent_and_printed c.args.session.now c.send_all.new.self (g.W.Write.contents c.args.output.now)
+    (g.W.Write.contents c.print_reply.new.output) c.args.self.now.moment c.args.self.now.messages.items c.in-Ok.reply
+    c.print_reply.result
+    (subst
+    (λ (ms : List (Outgoing ℕ ℕ)). AnswersEach (zeroed_sends c.args.self.now.moment ms) c.args.session.now.scheduler
+    c.in-Ok.reply c.send_all.new.self.scheduler)
+    c.deref.ensures.value c.in-Ok.ensures.one_by_one)
+    c.print_reply.ensures
+
+pub returns-clause-printed : goal.returns-clause-printed
+returns-clause-printed g c = elim c.if-len-gt1.branch [
+  | then-len-gt1+in_default w ↦
+      prints_from w.send_all.new.self c.send_each.new.session (g.W.Write.contents c.args.output.now)
+      (g.W.Write.contents c.send_each.new.output) c.args.session.now (gathered_calls c.args.self.now)
+      w.in_default.ensures.kept (rw w.session-is at c.in_ok-send_each.ensures.printed)
+  | else-len-gt1 w ↦ rw w.session-is at c.in_ok-send_each.ensures.printed
+]
