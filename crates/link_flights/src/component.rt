@@ -243,8 +243,8 @@ impl<P: Peer> Flights<P> {
         Ok(level.unwrap_or(Natural::from_u64(self.alloc, 0)))
     }
 
-    /// The least share of a cap that the message would have, if the cap were shared evenly. None to
-    /// speak of where it shares no end with another.
+    /// The least share of a cap that the message would have, if the cap were shared evenly. Zero
+    /// where it shares no end with another.
     fn share_of(
         &self,
         message: &Message<P>,

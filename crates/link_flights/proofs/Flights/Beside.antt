@@ -3,7 +3,6 @@ use Rattle.std.proofs.Common.{◌≡◌, ℕ, zero, suc, ◌*◌, ◌≤◌, Boo
 use Rattle.std.proofs.Common.{◌||◌, ◌⊎◌, List, [], ◌∷◌, ◌++◌, Option, Some, None, All, map, length, refl, sym, ap, ◌∙◌}
 use Rattle.std.proofs.Common.{subst, arith, inl, inr}
 use Rattle.std.specs.Prelude.{slice_index, slice_index_or, Contains, option_map, unwrap_or, is_some}
-use Rattle.std.specs.List.{AllZip}
 use Rattle.std.specs.Cmp.{IsTotalOrder}
 use Rattle.std.specs.declared.cmp.Ordering.{Ordering}
 use Rattle.std.specs.declared.rc.Rc.{Rc}
@@ -34,8 +33,9 @@ use Rattle.link_flights.specs.Flights.Flight.{UnitFlight, flight_at, flights_at}
 use Rattle.link_flights.specs.Flights.Rated.{sent_messages, rates_of, rates_found, rerated, rated_anew, kept_by}
 use Rattle.link_flights.specs.Flights.Rated.{kept_rates, levels_rated, AreFairBeside}
 use Rattle.link_flights.specs.Flights.RatedFlights.{are_standing}
-use Rattle.link_flights.proofs.Flights.FairMessages.{StandsForMessage, same_sides}
-use Rattle.link_flights.proofs.Flights.InFlight.{StandsForSent, standing_zip, standing_length, filter_yes, filter_no}
+use Rattle.link_flights.proofs.Flights.Components.{standing_messages}
+use Rattle.link_flights.proofs.Flights.FairMessages.{same_sides}
+use Rattle.link_flights.proofs.Flights.InFlight.{standing_zip, standing_length, filter_yes, filter_no}
 
 -- ---- parts that are the same
 
@@ -219,16 +219,6 @@ module _ {P : Type 0} (cmp : P → P → Ordering) (component : Component P) whe
 
   -- ---- all together
 
-  standing_sent : (fs : List (Flow P)) (us : List (UnitFlight P)) → AllZip (StandsForSent cmp) fs us
-      → AllZip (StandsForMessage cmp) fs (sent_messages us)
-  standing_sent [] [] z = tt
-  standing_sent [] (u ∷ us) z = absurd z
-  standing_sent (f ∷ fs) [] z = absurd z
-  standing_sent (f ∷ fs) (u ∷ us) z = (
-    record { origin = z.0.origin; recipient = z.0.recipient; delivered = z.0.delivered },
-    standing_sent fs us z.1,
-  )
-
   abbrev bare : List (CappedFlow P) → List (Flow P)
   bare flows = map (λ c. c.flow) flows
 
@@ -256,7 +246,7 @@ module _ {P : Type 0} (cmp : P → P → Ordering) (component : Component P) whe
         (λ (bs : List (Answered P)). AreTheSameSides (sides_of cmp bs) (capped_sides cmp caps (sent_messages near)))
         (sym (capped_answers caps flows all))
         (same_sides cmp order caps of (bare flows) (sent_messages near)
-        (standing_sent (bare flows) near (standing_zip cmp (bare flows) near stand)))
+        (standing_messages cmp (bare flows) near (standing_zip cmp (bare flows) near stand)))
 
     module _ (scale : ℕ) (all_found rated : FairParts)
         (h : AreFairPartsBeside (sides_of cmp (map answered_of flows)) (kept_at ks) (length flows) scale all_found)

@@ -21,6 +21,7 @@ use Rattle.fair_rates.specs.declared.bandwidth.Flow.{Flow}
 use Rattle.fair_rates.proofs.Fairness.Sharing.{total, total_at_most, S}
 use Rattle.fair_rates.proofs.Fairness.SharedBeside.{AreSharedBeside, beside_shared, beside_from, beside_more}
 use Rattle.fair_rates.proofs.Fairness.SharedBeside.{kept_fit}
+use Rattle.fair_rates.proofs.Lists.Filters.{filter_swap}
 use Rattle.fair_rates.proofs.Lists.Booleans.{by_bool, second_of_both}
 use Rattle.fair_rates.proofs.Lists.Members.{In, from_map, from_filter, in_get, get_from_map}
 use Rattle.link_simulation.specs.Simulation.Rates.{capped_sides}
@@ -32,7 +33,7 @@ use Rattle.link_flights.specs.Flights.Components.{is_sender, is_receiver, is_of,
 use Rattle.link_flights.specs.Flights.Rated.{sent_messages, rates_of, rated_ones, rerated, rated_anew, kept_by}
 use Rattle.link_flights.specs.Flights.Rated.{kept_rates, AreFairlyRated, WereRated}
 use Rattle.link_flights.proofs.Flights.FairMessages.{same_sides}
-use Rattle.link_flights.proofs.Flights.Beside.{of_is_near, those_near}
+use Rattle.link_flights.proofs.Flights.Beside.{beside_alike, of_is_near, those_near}
 use Rattle.link_flights.proofs.Flights.InFlight.{filter_yes, filter_no, read_filter}
 use Rattle.link_flights.proofs.Flights.Components.{Share, flow_of, parts_of, flow_for, share_of, shares, flows_are}
 use Rattle.link_flights.proofs.Flights.Components.{stand_from, own, AreFairShares, shared, fair}
@@ -48,37 +49,6 @@ filter_alike p q [] h = refl
 filter_alike p q (x ∷ xs) h =
     ap (λ b. cond b (x ∷ filter p xs) (filter p xs)) (h x (inl refl))
     ∙ ap (λ l. cond (q x) (x ∷ l) l) (filter_alike p q xs (λ y among. h y (inr among)))
-
--- two tests in either order
-filter_swap : {X : Type 0} (p q : X → Bool) (xs : List X) → filter p (filter q xs) ≡ filter q (filter p xs)
-filter_swap p q [] = refl
-filter_swap {X} p q (x ∷ xs) = by_tests (p x) (q x) refl refl (filter_swap p q xs)
-  where
-    by_tests : (a b : Bool) → p x ≡ a → q x ≡ b → filter p (filter q xs) ≡ filter q (filter p xs)
-        → filter p (cond b (x ∷ filter q xs) (filter q xs)) ≡ filter q (cond a (x ∷ filter p xs) (filter p xs))
-    by_tests true true is on ih =
-        filter_yes p x (filter q xs) is ∙ ap (λ l. x ∷ l) ih ∙ sym (filter_yes q x (filter p xs) on)
-    by_tests true false is off ih = ih ∙ sym (filter_no q x (filter p xs) off)
-    by_tests false true out on ih = filter_no p x (filter q xs) out ∙ ih
-    by_tests false false out off ih = ih
-
--- ---- sides with the same members
-
-still_beside : (kept : ℕ → Option ℕ) (xs ys : List Side) (per : ℕ) (parts : ℕ → ℕ) → AreTheSameSides xs ys
-    → IsFairBeside kept xs per parts → IsFairBeside kept ys per parts
-still_beside kept xs ys per parts same f = record {
-  within = λ side listed. f.within side ((same side).1 listed);
-  held = λ flow rated limited.
-      let b =
-      f.held flow rated
-      (limited.0, record { listed = (same limited.0).1 limited.1.listed; used = limited.1.used }) in
-      record {
-        side = b.side;
-        uses = record { listed = (same b.side).0 b.uses.listed; used = b.uses.used };
-        full = b.full;
-        greatest = b.greatest;
-      };
-}
 
 -- ---- what stands at a place
 
@@ -483,8 +453,8 @@ module _ {P : Type 0} (cmp : P → P → Ordering) (component : Component P) whe
       beside_near =
           beside_from cmp caps flow_of parts_of order of (shares cmp near_news) g scale
           (stand_from cmp g 0 near_news (λ i. ap g (zero-add i))) kept rated opens
-          (still_beside kept message_sides near_sides scale g
-          (λ side. ((sides_alike side).1, (sides_alike side).0))
+          (beside_alike kept kept (λ k. refl) g g (λ k. refl) message_sides near_sides
+          (λ side. ((sides_alike side).1, (sides_alike side).0)) scale
           (subst (λ rs. IsFairBeside kept message_sides scale (slice_index rs))
           (same_rates 0 1 now times rates nears) found))
 

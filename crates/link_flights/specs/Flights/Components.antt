@@ -1,5 +1,6 @@
 -- What an event touches: senders and receivers of messages in flight, and the level below which rates stay.
-use Rattle.std.specs.Prelude.{◌≡◌, ℕ, ◌<◌, ◌≤◌, nat_le, Bool, true, false, not, ◌&&◌, ◌||◌, if◌then◌else◌, List}
+use Rattle.std.specs.Prelude.{◌≡◌, ℕ, ◌<◌, ◌≤◌, nat_le, Bool, true, false, not, ◌&&◌, ◌||◌}
+use Rattle.std.specs.Prelude.{if◌then◌else◌, List}
 use Rattle.std.specs.Prelude.{length, slice_get, slice_index_or, Some, ◌++◌, All}
 use Rattle.std.specs.List.{filter, list_all, list_any}
 use Rattle.std.specs.declared.cmp.Ordering.{Ordering}

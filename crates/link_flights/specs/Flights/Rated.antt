@@ -1,5 +1,6 @@
 -- Messages in flight that have got rates, which are fair for them.
-use Rattle.std.specs.Prelude.{◌≡◌, ℕ, zero, suc, ◌+◌, ◌*◌, ◌⊎◌, Bool, true, false, not, List, [], ◌∷◌, cond, map}
+use Rattle.std.specs.Prelude.{◌≡◌, ℕ, zero, suc, ◌+◌, ◌*◌, ◌⊎◌, Bool, true, false, not}
+use Rattle.std.specs.Prelude.{List, [], ◌∷◌, cond, map}
 use Rattle.std.specs.Prelude.{slice_index, length, Option, Some, None, slice_get, slice_set, slice_index_or, Contains}
 use Rattle.std.specs.Prelude.{◌≤◌, if◌then◌else◌}
 use Rattle.std.specs.List.{filter, list_all, AllZip}
