@@ -151,6 +151,21 @@ fn whole_lines_that_were_read_ahead_are_answered_at_once(rt: HostRuntime) {
 }
 
 #[test]
+fn messages_are_sent_before_more_lines_are_asked_for(rt: HostRuntime) {
+    expect(
+        &rt,
+        &[
+            "enqueue 0 1 2 0 1 5 1\nenqueue 0 1 3 0 1 6 1\n",
+            "enqueue 1 2 3 0 1 0 1\n",
+        ],
+        &[0, 30, 45],
+        "done 1 2 0 1 5\ndone 1 3 0 1 6\ndone 2 3 0 1 1\n",
+        0,
+        Outcome::Whole,
+    );
+}
+
+#[test]
 fn what_cannot_be_flushed_is_not_followed_by_a_read(rt: HostRuntime) {
     expect(
         &rt,
