@@ -2,6 +2,7 @@
 pub mod Alone
 pub mod Answers
 pub mod Caps
+pub mod Ends
 pub mod Registry
 pub mod SideOf
 pub mod Subjects

@@ -7,8 +7,9 @@ ghost use Rattle.std.specs.Ordering.{nat_cmp};
 ghost use Rattle.std.specs.declared.cmp.Ordering.TheVariants.{Equal};
 ghost use Rattle.std.specs.BTreeMap.{get};
 ghost use Rattle.fair_rates.specs.Sides.Answers.{NoLink, CallableOnEach, CallableOnEachPair, origins, recipients};
-ghost use Rattle.fair_rates.specs.Sides.Answers.{pairs, answered_of};
-ghost use Rattle.fair_rates.specs.Sides.Subjects.{sides_of};
+ghost use Rattle.fair_rates.specs.Sides.Answers.{pairs};
+ghost use Rattle.fair_rates.specs.Sides.Ends.{flow_of};
+ghost use Rattle.fair_rates.specs.Fairness.UnderCaps.{sides_under};
 ghost use Rattle.fair_rates.specs.Fairness.Allocation.{IsAllocation, IsCountedAllocation, IsFairUnderCaps};
 ghost use Rattle.fair_rates.specs.Filling.FairParts.{AreFairPartsOn, AreFairPartsBeside, kept_at};
 ghost use Rattle.fair_rates.specs.Fairness.Rates.{last_rate};
@@ -17,6 +18,7 @@ ghost use Rattle.fair_rates.specs.Refusals.TooLarge.{IsTooLarge, AreTooLargeUnde
 mod alone;
 mod equality;
 mod filling;
+mod known;
 pub mod laws;
 mod parts;
 mod sides;
@@ -26,6 +28,7 @@ use crate::error::Error;
 use crate::peer::Peer;
 use crate::ratio::Ratio;
 pub use equality::rates_are_equal_by_value;
+pub use known::{Ends, KnownCaps};
 use natural::Natural;
 pub use parts::FairParts;
 use std::alloc::Global;
@@ -81,15 +84,6 @@ pub struct FlowCaps {
     pub ingress: Option<u128>,
     /// On all that goes from its origin to its recipient.
     pub link: Option<u128>,
-}
-
-/// A flow with its caps.
-#[derive(Debug, Drop)]
-pub struct CappedFlow<P> {
-    /// The flow.
-    pub flow: Flow<P>,
-    /// What holds for it.
-    pub caps: FlowCaps,
 }
 
 /// How fast a flow may send.
@@ -295,21 +289,22 @@ where
 /// # Errors
 ///
 /// `OutOfMemory` where memory was refused.
-pub fn fair_parts<P: Peer>(
+pub fn fair_parts<P: Peer, C: KnownCaps<P>>(
     alloc: Global,
-    flows: &[CappedFlow<P>],
+    flows: &[Ends<P>],
+    caps: &C,
     scale: &Natural,
 ) -> Result<FairParts, Error>
     requires some_part { 0 < scale.now }
-    ensures fair { IfOk result (AreFairPartsOn (sides_of P.cmp (map answered_of flows.now)) (length flows.now)
-        scale.now) }
+    ensures fair { IfOk result (AreFairPartsOn
+        (sides_under P.cmp (C.caps caps.now) (map flow_of flows.now)) (length flows.now) scale.now) }
     ensures refused { IfErr result (λ e. e ≡ Error.OutOfMemory) }
 {
     match flows {
         [] => Ok(FairParts::new(alloc, 0, scale)?),
-        [one] => Ok(alone::fair_parts_alone(alloc, one, scale)?),
+        [one] => Ok(alone::fair_parts_alone(alloc, one, caps, scale)?),
         _ => {
-            let sides = sides::sides_of_capped(alloc, flows)?;
+            let sides = sides::sides_under(alloc, flows, caps)?;
             Ok(filling::fair_parts(alloc, flows.len(), sides, scale)?)
         }
     }
@@ -327,22 +322,23 @@ pub fn fair_parts<P: Peer>(
 /// # Errors
 ///
 /// `OutOfMemory` where memory was refused.
-pub fn fair_parts_beside<P: Peer>(
+pub fn fair_parts_beside<P: Peer, C: KnownCaps<P>>(
     alloc: Global,
-    flows: &[CappedFlow<P>],
+    flows: &[Ends<P>],
+    caps: &C,
     kept: &[Option<Rc<Natural>>],
     scale: &Natural,
 ) -> Result<FairParts, Error>
     requires some_part { 0 < scale.now }
     requires one_each { length kept.now ≡ length flows.now }
-    ensures fair { IfOk result (AreFairPartsBeside (sides_of P.cmp (map answered_of flows.now)) (kept_at kept.now)
-        (length flows.now) scale.now) }
+    ensures fair { IfOk result (AreFairPartsBeside
+        (sides_under P.cmp (C.caps caps.now) (map flow_of flows.now)) (kept_at kept.now) (length flows.now) scale.now) }
     ensures refused { IfErr result (λ e. e ≡ Error.OutOfMemory) }
 {
     if none_is_kept(kept) {
-        return fair_parts(alloc, flows, scale);
+        return fair_parts(alloc, flows, caps, scale);
     }
-    let sides = sides::sides_of_capped(alloc, flows)?;
+    let sides = sides::sides_under(alloc, flows, caps)?;
     Ok(filling::fair_parts_beside(alloc, sides, kept, scale)?)
 }
 

@@ -228,7 +228,7 @@ impl<P: Peer> Flights<P> {
     /// A level below which what goes on keeps its rate: the least rate of what is done, or the least
     /// share of a cap for what is new, if that is less. It is no more than any of what is done had; the
     /// rest is a guess, which the rates that are found have to reach.
-    fn level(&self, peers: &Peers<P>, pairs: &Pairs<P>) -> Result<Natural, Error>
+    pub(crate) fn level(&self, peers: &Peers<P>, pairs: &Pairs<P>) -> Result<Natural, Error>
         ensures level { IfOk result (λ level. IfSome self.now.floor (λ floor. level ≤ floor)) }
         ensures refused { IfErr result (λ e. e ≡ Error.OutOfMemory) }
     {

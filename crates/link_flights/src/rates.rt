@@ -6,10 +6,10 @@ ghost use Rattle.fair_rates.specs.Fairness.Exists.{product};
 ghost use Rattle.link_simulation.specs.Rule.Planned.{IsLeastMoment, SomeSpentAt};
 ghost use Rattle.link_simulation.specs.Simulation.World.{last_moment};
 ghost use Rattle.link_pairs.specs.Pairs.Messages.{messages};
-ghost use Rattle.link_flights.specs.Flights.CappedFlows.{AreFairPartsUnder, HasItsCaps};
+ghost use Rattle.fair_rates.specs.Sides.Ends.{flow_of};
 ghost use Rattle.link_pairs.specs.Pairs.CapsOf.{caps_of};
 ghost use Rattle.link_pairs.specs.Pairs.PeerCaps.{ingress_of};
-ghost use Rattle.link_flights.specs.Flights.Components.{those_of, AreNear, NoneIsNear};
+ghost use Rattle.link_flights.specs.Flights.Components.{those_of, is_closed, AreNear, NoneIsNear};
 ghost use Rattle.link_flights.specs.Flights.Flight.{AreTimed, rate_of, flight_at, flights_at};
 ghost use Rattle.link_flights.specs.Flights.RatedFlights.{are_standing};
 ghost use Rattle.fair_rates.specs.Filling.FairParts.{parts_of_level};
@@ -24,7 +24,7 @@ ghost use Rattle.std.specs.declared.alloc.Global.{Global as Allocator};
 use crate::component::Component;
 use crate::flight::Flight;
 use crate::flight_list::Flights;
-use fair_rates::bandwidth::{CappedFlow, FairParts, Flow, FlowCaps, fair_parts, fair_parts_beside};
+use fair_rates::bandwidth::{Ends, FairParts, KnownCaps, fair_parts, fair_parts_beside};
 use fair_rates::error::Error;
 use fair_rates::peer::Peer;
 use link_pairs::known_pairs::Pairs;
@@ -41,78 +41,32 @@ const FEW: usize = 2;
 /// So many searches for what an event touches are spared after one that found all.
 const SPARED: usize = 3;
 
+/// Where more than so many have started since the last account, no level is looked for.
+const FEW_NEW: usize = 4;
+
 /// Where so many are in flight, or more, and all were rated, a search would mostly have found all.
 const MANY: usize = 56;
 
-/// The caps that hold for a flow. Flows of one sender often follow one another, so what it may send
-/// is known where the flow before is its own. What its recipient may receive is known where another
-/// flow that is at hand is to it.
-fn caps_for<P: Peer>(
-    flow: &Flow<P>,
-    before: Option<&CappedFlow<P>>,
-    alike: Option<&CappedFlow<P>>,
-    peers: &Peers<P>,
-    pairs: &Pairs<P>,
-) -> FlowCaps
-    requires before { IfSome before (λ last. HasItsCaps (caps_of P.cmp peers.now.entries pairs.now.entries) last.now) }
-    requires alike { IfSome alike (λ one. HasItsCaps (caps_of P.cmp peers.now.entries pairs.now.entries) one.now) }
-    ensures { HasItsCaps (caps_of P.cmp peers.now.entries pairs.now.entries)
-        (record { flow = flow.now; caps = result }) }
-{
-    let egress = match before {
-        Some(last) if last.flow.origin.cmp(&flow.origin).is_eq() => last.caps.egress,
-        _ => peers.egress(&flow.origin),
-    };
-    let ingress = if flow.delivered {
-        ingress_for(&flow.recipient, alike, peers)
-    } else {
-        None
-    };
-    let link = pairs.cap(&flow.origin, &flow.recipient);
-    FlowCaps {
-        egress,
-        ingress,
-        link,
-    }
+/// The caps of peers and of pairs.
+#[derive(Drop)]
+struct CapsInForce<'a, P: Peer> {
+    peers: &'a Peers<P>,
+    pairs: &'a Pairs<P>,
 }
 
-/// The cap on what a peer receives, which is known where a flow is delivered to it.
-fn ingress_for<P: Peer>(
-    recipient: &P,
-    alike: Option<&CappedFlow<P>>,
-    peers: &Peers<P>,
-) -> Option<u128>
-    requires { IfSome alike (λ one. one.now.flow.delivered ≡ true
-        → one.now.caps.ingress ≡ ingress_of P.cmp peers.now.entries one.now.flow.recipient) }
-    ensures { result ≡ ingress_of P.cmp peers.now.entries recipient.now }
-{
-    match alike {
-        Some(one) if one.flow.delivered && one.flow.recipient.cmp(recipient).is_eq() => {
-            one.caps.ingress
-        }
-        _ => peers.ingress(recipient),
-    }
-}
+impl<P: Peer> KnownCaps<P> for CapsInForce<'_, P> {
+    ghost caps = { λ c. caps_of P.cmp c.peers.now.entries c.pairs.now.entries };
 
-/// Whether the flow is to that recipient.
-fn is_to<P: Peer>(recipient: &P, flow: Option<&CappedFlow<P>>) -> bool {
-    match flow {
-        Some(one) => one.flow.recipient.cmp(recipient).is_eq(),
-        None => false,
+    fn egress(&self, peer: &P) -> Option<u128> {
+        self.peers.egress(peer)
     }
-}
 
-/// Where a flow to the recipient may stand, by where one to the recipient before does. Senders mostly
-/// have the same recipients in one order, each without itself.
-fn place_to<P: Peer>(recipient: &P, flows: &[CappedFlow<P>], before: usize) -> usize {
-    let next = before.wrapping_add(1);
-    let after = next.wrapping_add(1);
-    if is_to(recipient, flows.get(next)) {
-        next
-    } else if is_to(recipient, flows.get(after)) {
-        after
-    } else {
-        before
+    fn ingress(&self, peer: &P) -> Option<u128> {
+        self.peers.ingress(peer)
+    }
+
+    fn link(&self, origin: &P, recipient: &P) -> Option<u128> {
+        self.pairs.cap(origin, recipient)
     }
 }
 
@@ -146,13 +100,14 @@ fn level_at(levels: &[Rc<Natural>], place: Option<usize>) -> Result<Option<Rc<Na
 fn kept_rates<P: Peer>(
     alloc: Global,
     component: &Component<P>,
+    near: &[Rc<Flight<P>>],
 ) -> Result<Vec<Option<Rc<Natural>>>, Error>
     ensures kept { IfOk result (λ kept. map (option_map (λ rate. rate.value)) kept.items
-        ≡ map (kept_by P.cmp component.now) (flights_at 0 component.now.near.items)) }
+        ≡ map (kept_by P.cmp component.now) (flights_at 0 near.now)) }
     ensures refused { IfErr result (λ e. e ≡ Error.OutOfMemory) }
 {
-    let mut kept = Vec::with_capacity(alloc, component.near.len())?;
-    for one in &component.near {
+    let mut kept = Vec::with_capacity(alloc, near.len())?;
+    for one in near {
         if component.has(one) {
             kept.push(None)?;
         } else {
@@ -204,6 +159,23 @@ fn all_reach(rates: &FairParts, level: &Natural) -> bool
         .all(|place| reaches(&rates.levels, *place, level))
 }
 
+/// Who sends to whom among those of a list, in their order.
+fn ends_of<P: Peer>(alloc: Global, list: &[Rc<Flight<P>>]) -> Result<Vec<Ends<'_, P>>, Error>
+    ensures standing { IfOk result (λ ends. (now : ℕ)
+        → are_standing P.cmp (map flow_of ends.items) (flights_at now list.now) ≡ true) }
+    ensures refused { IfErr result (λ e. e ≡ Error.OutOfMemory) }
+{
+    let mut ends = Vec::with_capacity(alloc, list.len())?;
+    for one in list {
+        ends.push(Ends {
+            origin: &one.message.origin,
+            recipient: &one.message.recipient,
+            delivered: one.message.is_delivered(),
+        })?;
+    }
+    Ok(ends)
+}
+
 impl<P: Peer> Flights<P> {
     /// Gives each its fair rate from the last account on, once some are done. Where they had fair
     /// rates before, those that share no side with what is done or new keep them. Answers the first
@@ -228,23 +200,22 @@ impl<P: Peer> Flights<P> {
         ensures finish { IfOk result (IsLeastMoment (λ s. SomeSpentAt (in_flight self.new) s)) }
         ensures refused { IfErr result (λ e. e ≡ Error.OutOfMemory) }
     {
-        if were_rated && self.list.len() > FEW && self.unsearched == 0 {
-            if let Some(component) = self.component(done, peers, pairs)? {
-                let part = self.rates_beside(&component, peers, pairs)?;
-                if part.growth.is_empty() && all_reach(&part, &component.level) {
-                    let unsearched = self.spared_after(part.level_of.len());
-                    self.set_rates(&component, part, true)?;
-                    let first = self.first_finish();
-                    self.settled = self.list.len();
-                    self.first = first;
-                    self.unsearched = unsearched;
-                    return Ok(first);
-                }
+        if were_rated && self.list.len() > FEW {
+            let touched = self.touched(done, peers, pairs)?;
+            let part = self.rates_beside(&touched, peers, pairs)?;
+            if part.growth.is_empty() && all_reach(&part, &touched.level) {
+                let unsearched = self.spared_after(touched.whole, part.level_of.len());
+                self.set_rates(&touched, part, true)?;
+                let first = self.first_finish();
+                self.settled = self.list.len();
+                self.first = first;
+                self.unsearched = unsearched;
+                return Ok(first);
             }
         }
         let all = Component::whole(self.alloc);
         let rates = self.rates_of_all(&all, peers, pairs)?;
-        let unsearched = self.spared_after_all();
+        let unsearched = self.spared_after(true, 0);
         self.set_rates(&all, rates, were_rated)?;
         let first = self.first_finish();
         self.settled = self.list.len();
@@ -253,16 +224,38 @@ impl<P: Peer> Flights<P> {
         Ok(first)
     }
 
-    /// How many accounts more rate all without a search, after one that found so many to rate. Only
-    /// time hangs on it.
-    fn spared_after(&self, found: usize) -> usize {
-        if found == self.list.len() { SPARED } else { 0 }
+    /// What is touched: the component of what is done or new, or all from a level on.
+    fn touched(
+        &self,
+        done: &VecDeque<Rc<Message<P>>>,
+        peers: &Peers<P>,
+        pairs: &Pairs<P>,
+    ) -> Result<Component<P>, Error>
+        ensures closed { IfOk result (λ touched. is_closed P.cmp touched done.now.items (in_units self.now) ≡ true) }
+        ensures level { IfOk result (λ touched. IfSome self.now.floor (λ floor. touched.level ≤ floor)) }
+        ensures near { IfOk result (λ touched. touched.whole ≡ false
+            → AreNear P.cmp touched touched.near.items self.now.list.items) }
+        ensures far { IfOk result (λ touched. NoneIsNear P.cmp touched touched.far self.now.list.items) }
+        ensures refused { IfErr result (λ e. e ≡ Error.OutOfMemory) }
+    {
+        if self.unsearched == 0 {
+            if let Some(component) = self.component(done, peers, pairs)? {
+                return Ok(component);
+            }
+        }
+        let mut all = Component::whole(self.alloc);
+        if self.list.len() - self.settled <= FEW_NEW {
+            all.level = self.level(peers, pairs)?;
+        }
+        Ok(all)
     }
 
-    /// How many accounts more rate all without a search, after one that rated all. Only time hangs
-    /// on it.
-    fn spared_after_all(&self) -> usize {
-        if self.unsearched > 0 {
+    /// How many accounts more rate all without a search, after one that found so many to rate. Only
+    /// time hangs on it.
+    fn spared_after(&self, whole: bool, found: usize) -> usize {
+        if !whole {
+            if found == self.list.len() { SPARED } else { 0 }
+        } else if self.unsearched > 0 {
             self.unsearched - 1
         } else if self.list.len() >= MANY {
             SPARED
@@ -284,8 +277,13 @@ impl<P: Peer> Flights<P> {
             self.now.scale all.now (in_units self.now)) }
         ensures refused { IfErr result (λ e. e ≡ Error.OutOfMemory) }
     {
-        let flows = self.flows_among(&self.list, peers, pairs)?;
-        fair_parts(self.alloc, &flows, &self.scale)
+        let flows = ends_of(self.alloc, &self.list)?;
+        fair_parts(
+            self.alloc,
+            &flows,
+            &CapsInForce { peers, pairs },
+            &self.scale,
+        )
     }
 
     /// The fair rates of a component, beside those that others keep of which it has an end.
@@ -295,40 +293,23 @@ impl<P: Peer> Flights<P> {
         peers: &Peers<P>,
         pairs: &Pairs<P>,
     ) -> Result<FairParts, Error>
-        requires near { AreNear P.cmp component.now component.now.near.items self.now.list.items }
+        requires near { component.now.whole ≡ false
+            → AreNear P.cmp component.now component.now.near.items self.now.list.items }
         ensures fair { IfOk result (AreFairBeside P.cmp (caps_of P.cmp peers.now.entries pairs.now.entries)
             self.now.scale component.now (in_units self.now)) }
         ensures refused { IfErr result (λ e. e ≡ Error.OutOfMemory) }
     {
-        let flows = self.flows_among(&component.near, peers, pairs)?;
-        let kept = kept_rates(self.alloc, component)?;
-        let mut found = fair_parts_beside(self.alloc, &flows, &kept, &self.scale)?;
+        let near = if component.whole {
+            &self.list
+        } else {
+            &component.near
+        };
+        let flows = ends_of(self.alloc, near)?;
+        let kept = kept_rates(self.alloc, component, near)?;
+        let caps = CapsInForce { peers, pairs };
+        let mut found = fair_parts_beside(self.alloc, &flows, &caps, &kept, &self.scale)?;
         found.level_of = levels_without(self.alloc, &kept, &found.level_of)?;
         Ok(found)
-    }
-
-    /// The flows of those of a list, with their caps, in their order.
-    fn flows_among(
-        &self,
-        list: &[Rc<Flight<P>>],
-        peers: &Peers<P>,
-        pairs: &Pairs<P>,
-    ) -> Result<Vec<CappedFlow<P>>, Error>
-        ensures standing { IfOk result (λ flows. are_standing P.cmp (map (λ capped. capped.flow) flows.items)
-            (flights_at self.now.at list.now) ≡ true) }
-        ensures capped { IfOk result (λ flows. All
-            (HasItsCaps (caps_of P.cmp peers.now.entries pairs.now.entries)) flows.items) }
-        ensures refused { IfErr result (λ e. e ≡ Error.OutOfMemory) }
-    {
-        let mut flows = Vec::with_capacity(self.alloc, list.len())?;
-        let mut place = usize::MAX;
-        for one in list {
-            let flow = one.message.flow(0)?;
-            place = place_to(&flow.recipient, &flows, place);
-            let caps = caps_for(&flow, flows.last(), flows.get(place), peers, pairs);
-            flows.push(CappedFlow { flow, caps })?;
-        }
-        Ok(flows)
     }
 
     /// Gives those of the component these rates from the last account on, in the units of these

@@ -3,7 +3,6 @@ use Rattle.std.specs.Prelude.{◌≡◌, ℕ, Bool, true, false, cond, List, [],
 use Rattle.std.specs.List.{FoldsTo}
 use Rattle.fair_rates.specs.declared.bandwidth.Flow.{Flow}
 use Rattle.fair_rates.specs.declared.bandwidth.FlowCaps.{FlowCaps}
-use Rattle.fair_rates.specs.declared.bandwidth.CappedFlow.{CappedFlow}
 
 -- a flow, and what the closures answered for it
 pub record Answered (P : Type 0) : Type 0 where
@@ -15,10 +14,6 @@ pub record Answered (P : Type 0) : Type 0 where
 -- a flow for which the caps were answered
 abbrev pub answered_by : {P : Type 0} → Flow P → FlowCaps → Answered P
 answered_by f caps = record { flow = f; egress = caps.egress; ingress = caps.ingress; link = caps.link }
-
--- a flow with its caps, as answered
-abbrev pub answered_of : {P : Type 0} → CappedFlow P → Answered P
-answered_of c = answered_by c.flow c.caps
 
 -- how a closure in one state may be called on a peer, answer, and be left in another
 abbrev pub Calls : Type 0 → Type 0 → Type 1

@@ -1,11 +1,11 @@
 //! The fair rate of a flow alone. No other shares its sides, so there is nothing to fill.
 ghost use Rattle.std.specs.Prelude.{◌≡◌, ◌<◌, ◌∷◌, [], IfOk};
-ghost use Rattle.fair_rates.specs.Sides.Answers.{answered_of};
+ghost use Rattle.fair_rates.specs.Sides.Ends.{answered_for};
 ghost use Rattle.fair_rates.specs.Sides.Subjects.{sides_of};
 ghost use Rattle.fair_rates.specs.Filling.FairParts.{AreFairPartsOn};
 ghost use Rattle.fair_rates.specs.Sides.Alone.{least_of, least_cap_of};
 
-use crate::bandwidth::CappedFlow;
+use crate::bandwidth::known::{Ends, KnownCaps};
 use crate::bandwidth::parts::FairParts;
 use crate::peer::Peer;
 use natural::Natural;
@@ -24,28 +24,31 @@ fn least(one: Option<u128>, other: Option<u128>) -> Option<u128>
 
 /// The least cap that holds for the flow. That on what its recipient receives holds if it is
 /// delivered.
-fn least_cap<P>(one: &CappedFlow<P>) -> Option<u128>
-    ensures { result ≡ least_cap_of (answered_of one.now) }
+fn least_cap<P, C: KnownCaps<P>>(one: &Ends<P>, caps: &C) -> Option<u128>
+    ensures { result ≡ least_cap_of (answered_for (C.caps caps.now) one.now) }
 {
-    let ingress = if one.flow.delivered {
-        one.caps.ingress
+    let ingress = if one.delivered {
+        caps.ingress(one.recipient)
     } else {
         None
     };
-    least(least(one.caps.egress, ingress), one.caps.link)
+    let link = caps.link(one.origin, one.recipient);
+    least(least(caps.egress(one.origin), ingress), link)
 }
 
 /// The fair rate of a flow alone, in parts of one byte a second: the least of its caps.
-pub(crate) fn fair_parts_alone<P: Peer>(
+pub(crate) fn fair_parts_alone<P: Peer, C: KnownCaps<P>>(
     alloc: Global,
-    one: &CappedFlow<P>,
+    one: &Ends<P>,
+    caps: &C,
     scale: &Natural,
 ) -> Result<FairParts, AllocError>
     requires some_part { 0 < scale.now }
-    ensures { IfOk result (AreFairPartsOn (sides_of P.cmp (answered_of one.now ∷ [])) 1 scale.now) }
+    ensures { IfOk result (AreFairPartsOn
+        (sides_of P.cmp (answered_for (C.caps caps.now) one.now ∷ [])) 1 scale.now) }
 {
     let mut found = FairParts::new(alloc, 1, scale)?;
-    if let Some(cap) = least_cap(one) {
+    if let Some(cap) = least_cap(one, caps) {
         found.freeze(&[0], scale.product(cap)?)?;
     }
     Ok(found)

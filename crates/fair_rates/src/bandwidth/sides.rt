@@ -3,13 +3,16 @@ ghost use Rattle.std.specs.Prelude.{◌≡◌, OnOk, ◌<◌, [], ◌∷◌, Lis
 ghost use Rattle.std.specs.Prelude.{false, Option, ℕ};
 ghost use Rattle.std.specs.Fn.{CalledAt, TakesAt, CalledAtTwo, TakesAtTwo};
 ghost use Rattle.fair_rates.specs.Sides.Answers.{Answered, AnswerInOrder, CallableOnEach, CallableOnEachPair, origins};
-ghost use Rattle.fair_rates.specs.Sides.Answers.{recipients, pairs, answered_by, answered_of};
+ghost use Rattle.fair_rates.specs.Sides.Answers.{recipients, pairs};
+ghost use Rattle.fair_rates.specs.Sides.Ends.{answered_for};
+ghost use Rattle.fair_rates.specs.Fairness.UnderCaps.{cap_of};
 ghost use Rattle.fair_rates.specs.Sides.Subjects.{sides_of, asks_of_one, same_subject};
 ghost use Rattle.fair_rates.specs.Sides.Subjects.{sent_by, received_by, sent_between};
 ghost use Rattle.fair_rates.specs.Sides.SideOf.{side_of};
 ghost use Rattle.fair_rates.specs.Sides.Registry.{FindsSides, Registers, subject_of, is_noted};
 
-use crate::bandwidth::{CappedFlow, Flow, FlowCaps};
+use crate::bandwidth::known::{Ends, KnownCaps};
+use crate::bandwidth::{Flow, FlowCaps};
 use crate::error::Error;
 use crate::peer::Peer;
 use std::alloc::{AllocError, Global};
@@ -246,18 +249,32 @@ fn is_noted<P: Peer>(subject: &Subject<P>, number: usize) -> bool
     }
 }
 
-/// Registers that the flow at `place` asks for the side of `subject`, and that this was the answer.
-fn register<'a, P: Peer>(
+/// The cap of what a side limits.
+fn cap_of<P, C: KnownCaps<P>>(subject: &Subject<P>, caps: &C) -> Option<u128>
+    ensures { result ≡ cap_of (C.caps caps.now) (subject_of subject.now) }
+{
+    match subject {
+        Subject::SentBy(peer) => caps.egress(peer),
+        Subject::ReceivedBy(peer) => caps.ingress(peer),
+        Subject::SentBetween(origin, recipient) => caps.link(origin, recipient),
+    }
+}
+
+/// Registers that the flow at `place` asks for the side of `subject`. Its cap is asked for where the
+/// side is not there yet.
+fn register<'a, P: Peer, C: KnownCaps<P>>(
     alloc: Global,
     registry: &mut Registry<'a, P>,
     place: usize,
     subject: Subject<'a, P>,
-    answer: Option<u128>,
+    caps: &C,
 ) -> Result<(), Error>
     requires { FindsSides P.cmp registry.old }
-    ensures registers { OnOk result (Registers P.cmp
-        (record { place = place; subject = subject_of subject.entry; answer = answer } ∷ [])
-        registry.old registry.new) }
+    ensures registers { OnOk result (Registers P.cmp (record {
+      place = place;
+      subject = subject_of subject.entry;
+      answer = cap_of (C.caps caps.now) (subject_of subject.entry);
+    } ∷ []) registry.old registry.new) }
     ensures refused { IfErr result (λ e. e ≡ Error.OutOfMemory) }
 {
     let guess = registry.latest.guess(&subject);
@@ -266,7 +283,7 @@ fn register<'a, P: Peer>(
         registry.sides[number].users.push(place)?;
         return Ok(());
     }
-    let Some(cap) = answer else {
+    let Some(cap) = cap_of(&subject, caps) else {
         return Ok(());
     };
     let mut users = Vec::with_capacity(alloc, FEW_USERS)?;
@@ -281,105 +298,97 @@ fn register<'a, P: Peer>(
 
 /// Registers that the flow at `place` asks for the side of its link. Where no link has a cap, there
 /// is nothing to search for.
-fn register_link<'a, P: Peer>(
+fn register_link<'a, P: Peer, C: KnownCaps<P>>(
     alloc: Global,
     registry: &mut Registry<'a, P>,
     place: usize,
-    flow: &'a Flow<P>,
-    answer: Option<u128>,
+    ends: &Ends<'a, P>,
+    caps: &C,
 ) -> Result<(), Error>
     requires { FindsSides P.cmp registry.old }
     ensures registers { OnOk result (Registers P.cmp (record {
       place = place;
-      subject = sent_between flow.now.origin flow.now.recipient;
-      answer = answer;
+      subject = sent_between ends.now.origin.now ends.now.recipient.now;
+      answer = (C.caps caps.now).link ends.now.origin.now ends.now.recipient.now;
     } ∷ []) registry.old registry.new) }
     ensures refused { IfErr result (λ e. e ≡ Error.OutOfMemory) }
 {
-    if answer.is_none() && registry.pairs.is_empty() {
+    if registry.pairs.is_empty() && caps.link(ends.origin, ends.recipient).is_none() {
         return Ok(());
     }
-    let between = Subject::SentBetween(&flow.origin, &flow.recipient);
-    register(alloc, registry, place, between, answer)
+    let between = Subject::SentBetween(ends.origin, ends.recipient);
+    register(alloc, registry, place, between, caps)
 }
 
 /// Registers that the flow at `place` asks for the side of its origin. Flows of one sender mostly
 /// follow one another.
-fn register_sender<'a, P: Peer>(
+fn register_sender<'a, P: Peer, C: KnownCaps<P>>(
     alloc: Global,
     registry: &mut Registry<'a, P>,
     place: usize,
-    flow: &'a Flow<P>,
-    answer: Option<u128>,
+    origin: &'a P,
+    caps: &C,
 ) -> Result<(), Error>
     requires { FindsSides P.cmp registry.old }
-    ensures registers { OnOk result (Registers P.cmp
-        (record { place = place; subject = sent_by flow.now.origin; answer = answer } ∷ [])
-        registry.old registry.new) }
+    ensures registers { OnOk result (Registers P.cmp (record {
+      place = place;
+      subject = sent_by origin.now;
+      answer = (C.caps caps.now).egress origin.now;
+    } ∷ []) registry.old registry.new) }
     ensures refused { IfErr result (λ e. e ≡ Error.OutOfMemory) }
 {
     let latest = registry.latest.sender;
-    if registry.is_of_sender(latest, &flow.origin) {
+    if registry.is_of_sender(latest, origin) {
         registry.sides[latest].users.push(place)?;
         return Ok(());
     }
-    register(
-        alloc,
-        registry,
-        place,
-        Subject::SentBy(&flow.origin),
-        answer,
-    )
+    register(alloc, registry, place, Subject::SentBy(origin), caps)
 }
 
 /// Registers that the flow at `place` asks for the side of its recipient. Senders mostly have the
 /// same recipients in one order.
-fn register_recipient<'a, P: Peer>(
+fn register_recipient<'a, P: Peer, C: KnownCaps<P>>(
     alloc: Global,
     registry: &mut Registry<'a, P>,
     place: usize,
-    flow: &'a Flow<P>,
-    answer: Option<u128>,
+    recipient: &'a P,
+    caps: &C,
 ) -> Result<(), Error>
     requires { FindsSides P.cmp registry.old }
-    ensures registers { OnOk result (Registers P.cmp
-        (record { place = place; subject = received_by flow.now.recipient; answer = answer } ∷ [])
-        registry.old registry.new) }
+    ensures registers { OnOk result (Registers P.cmp (record {
+      place = place;
+      subject = received_by recipient.now;
+      answer = (C.caps caps.now).ingress recipient.now;
+    } ∷ []) registry.old registry.new) }
     ensures refused { IfErr result (λ e. e ≡ Error.OutOfMemory) }
 {
     let next = registry.latest.recipient.wrapping_add(1);
-    if registry.is_of_recipient(next, &flow.recipient) {
+    if registry.is_of_recipient(next, recipient) {
         registry.latest.recipient = next;
         registry.sides[next].users.push(place)?;
         return Ok(());
     }
-    register(
-        alloc,
-        registry,
-        place,
-        Subject::ReceivedBy(&flow.recipient),
-        answer,
-    )
+    register(alloc, registry, place, Subject::ReceivedBy(recipient), caps)
 }
 
-/// Registers that the flow at `place` asks for its sides, and that these were the answers.
-fn register_flow<'a, P: Peer>(
+/// Registers that the flow at `place` asks for its sides, under these caps.
+fn register_flow<'a, P: Peer, C: KnownCaps<P>>(
     alloc: Global,
     registry: &mut Registry<'a, P>,
     place: usize,
-    flow: &'a Flow<P>,
-    answers: &FlowCaps,
+    ends: &Ends<'a, P>,
+    caps: &C,
 ) -> Result<(), Error>
     requires { FindsSides P.cmp registry.old }
-    ensures registers { OnOk result (Registers P.cmp (asks_of_one place (answered_by flow.now answers.now))
+    ensures registers { OnOk result (Registers P.cmp (asks_of_one place (answered_for (C.caps caps.now) ends.now))
         registry.old registry.new) }
     ensures refused { IfErr result (λ e. e ≡ Error.OutOfMemory) }
 {
-    register_sender(alloc, registry, place, flow, answers.egress)?;
-    if flow.delivered {
-        register_recipient(alloc, registry, place, flow, answers.ingress)?;
+    register_sender(alloc, registry, place, ends.origin, caps)?;
+    if ends.delivered {
+        register_recipient(alloc, registry, place, ends.recipient, caps)?;
     }
-    register_link(alloc, registry, place, flow, answers.link)
+    register_link(alloc, registry, place, ends, caps)
 }
 
 /// The sides of the flows, in the order in which they come into being.
@@ -421,24 +430,31 @@ where
             ingress,
             link,
         };
-        register_flow(alloc, &mut registry, place, flow, &answers)?;
+        let ends = Ends {
+            origin: &flow.origin,
+            recipient: &flow.recipient,
+            delivered: flow.delivered,
+        };
+        register_flow(alloc, &mut registry, place, &ends, &answers)?;
     }
     Ok(registry.sides)
 }
 
 /// The sides of flows with known caps, in the order in which they come into being.
-pub(crate) fn sides_of_capped<P: Peer>(
+pub(crate) fn sides_under<P: Peer, C: KnownCaps<P>>(
     alloc: Global,
-    flows: &[CappedFlow<P>],
+    flows: &[Ends<P>],
+    caps: &C,
 ) -> Result<Vec<Side>, Error>
-    ensures sides { IfOk result (λ sides. map side_of sides.items ≡ sides_of P.cmp (map answered_of flows.now)) }
+    ensures sides { IfOk result (λ sides. map side_of sides.items
+        ≡ sides_of P.cmp (map (answered_for (C.caps caps.now)) flows.now)) }
     ensures users_are_flows { IfOk result (λ sides. All
         (λ side. All (λ flow. flow < length flows.now) side.users.items) sides.items) }
     ensures refused { IfErr result (λ e. e ≡ Error.OutOfMemory) }
 {
     let mut registry = Registry::new(alloc)?;
-    for (place, one) in flows.iter().enumerate() {
-        register_flow(alloc, &mut registry, place, &one.flow, &one.caps)?;
+    for (place, ends) in flows.iter().enumerate() {
+        register_flow(alloc, &mut registry, place, ends, caps)?;
     }
     Ok(registry.sides)
 }

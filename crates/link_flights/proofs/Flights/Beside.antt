@@ -1,6 +1,6 @@
 -- Rates that are fair beside those that others keep, from the levels that are found for those near a component.
 use Rattle.std.proofs.Common.{◌≡◌, ℕ, zero, suc, ◌*◌, ◌≤◌, Bool, true, false, cond, if◌then◌else◌, not, ◌&&◌}
-use Rattle.std.proofs.Common.{◌||◌, ◌⊎◌, List, [], ◌∷◌, ◌++◌, Option, Some, None, All, map, length, refl, sym, ap, ◌∙◌}
+use Rattle.std.proofs.Common.{◌||◌, ◌⊎◌, List, [], ◌∷◌, ◌++◌, Option, Some, None, map, length, refl, sym, ap, ◌∙◌}
 use Rattle.std.proofs.Common.{subst, arith, inl, inr}
 use Rattle.std.specs.Prelude.{slice_index, slice_index_or, Contains, option_map, unwrap_or, is_some}
 use Rattle.std.specs.Cmp.{IsTotalOrder}
@@ -15,19 +15,16 @@ use Rattle.fair_rates.specs.Fairness.Exists.{product}
 use Rattle.fair_rates.specs.Fairness.Fair.{Side, load}
 use Rattle.fair_rates.specs.Fairness.Beside.{kept_load, beside, IsFairBeside}
 use Rattle.fair_rates.specs.Fairness.Laws.{AreTheSameSides}
-use Rattle.fair_rates.specs.Fairness.UnderCaps.{AreOfPeers}
+use Rattle.fair_rates.specs.Fairness.UnderCaps.{AreOfPeers, sides_under}
 use Rattle.fair_rates.specs.Filling.FairParts.{flow_parts, parts_of_level, kept_at, times_as_many, AreFairPartsBeside}
-use Rattle.fair_rates.specs.Sides.Answers.{Answered, answered_of}
 use Rattle.fair_rates.specs.Sides.Caps.{Caps}
-use Rattle.fair_rates.specs.Sides.Subjects.{sides_of}
-use Rattle.fair_rates.specs.declared.bandwidth.CappedFlow.{CappedFlow}
+use Rattle.fair_rates.specs.Sides.Ends.{flow_of}
+use Rattle.fair_rates.specs.declared.bandwidth.known.Ends.{Ends}
 use Rattle.fair_rates.specs.declared.bandwidth.Flow.{Flow}
 use Rattle.fair_rates.specs.declared.bandwidth.parts.FairParts.{FairParts}
-use Rattle.fair_rates.proofs.Sides.Answers.{capped_answers}
 use Rattle.link_simulation.specs.Simulation.Rates.{capped_sides}
 use Rattle.link_flights.specs.declared.component.Component.{Component}
 use Rattle.link_flights.specs.declared.flight.Flight.{Flight}
-use Rattle.link_flights.specs.Flights.CappedFlows.{HasItsCaps}
 use Rattle.link_flights.specs.Flights.Components.{is_sender, is_receiver, keeps, is_of, touches, those_of, near_of}
 use Rattle.link_flights.specs.Flights.Flight.{UnitFlight, flight_at, flights_at}
 use Rattle.link_flights.specs.Flights.Rated.{sent_messages, rates_of, rates_found, rerated, rated_anew, kept_by}
@@ -219,37 +216,33 @@ module _ {P : Type 0} (cmp : P → P → Ordering) (component : Component P) whe
 
   -- ---- all together
 
-  abbrev bare : List (CappedFlow P) → List (Flow P)
-  bare flows = map (λ c. c.flow) flows
-
-  as_many_flows : (flows : List (CappedFlow P)) (near : List (UnitFlight P)) → are_standing cmp (bare flows) near ≡ true
+  as_many_flows : (flows : List (Ends P)) (near : List (UnitFlight P)) → are_standing cmp (map flow_of flows) near ≡ true
       → length flows ≡ length near
   as_many_flows flows near stand =
-      sym (length-map flows (λ c. c.flow)) ∙ standing_length cmp (bare flows) near stand
+      sym (length-map flows flow_of) ∙ standing_length cmp (map flow_of flows) near stand
 
-  pub as_many_kept : (flows : List (CappedFlow P)) (ks : List (Option (Rc ℕ Global))) (near : List (UnitFlight P))
-      → are_standing cmp (map (λ c. c.flow) flows) near ≡ true
+  pub as_many_kept : (flows : List (Ends P)) (ks : List (Option (Rc ℕ Global))) (near : List (UnitFlight P))
+      → are_standing cmp (map flow_of flows) near ≡ true
       → map (option_map (λ r. r.value)) ks ≡ map kept near → length ks ≡ length flows
   as_many_kept flows ks near stand stay =
       sym (length-map ks (option_map (λ (r : Rc ℕ Global). r.value))) ∙ ap length stay ∙ length-map near kept
       ∙ sym (as_many_flows flows near stand)
 
-  module _ (order : IsTotalOrder cmp) (caps : Caps P) (of : AreOfPeers cmp caps) (flows : List (CappedFlow P))
+  module _ (order : IsTotalOrder cmp) (caps : Caps P) (of : AreOfPeers cmp caps) (flows : List (Ends P))
       (ks : List (Option (Rc ℕ Global))) (near us : List (UnitFlight P))
-      (all : All (HasItsCaps caps) flows)
-      (stand : are_standing cmp (map (λ c. c.flow) flows) near ≡ true)
+      (stand : are_standing cmp (map flow_of flows) near ≡ true)
       (stay : map (option_map (λ r. r.value)) ks ≡ map kept near)
       (is_near : near ≡ near_of cmp component us) where
-    same_there : AreTheSameSides (sides_of cmp (map answered_of flows)) (capped_sides cmp caps (sent_messages near))
+    abbrev flow_sides : List Side
+    flow_sides = sides_under cmp caps (map flow_of flows)
+
+    same_there : AreTheSameSides flow_sides (capped_sides cmp caps (sent_messages near))
     same_there =
-        subst
-        (λ (bs : List (Answered P)). AreTheSameSides (sides_of cmp bs) (capped_sides cmp caps (sent_messages near)))
-        (sym (capped_answers caps flows all))
-        (same_sides cmp order caps of (bare flows) (sent_messages near)
-        (standing_messages cmp (bare flows) near (standing_zip cmp (bare flows) near stand)))
+        same_sides cmp order caps of (map flow_of flows) (sent_messages near)
+        (standing_messages cmp (map flow_of flows) near (standing_zip cmp (map flow_of flows) near stand))
 
     module _ (scale : ℕ) (all_found rated : FairParts)
-        (h : AreFairPartsBeside (sides_of cmp (map answered_of flows)) (kept_at ks) (length flows) scale all_found)
+        (h : AreFairPartsBeside flow_sides (kept_at ks) (length flows) scale all_found)
         (scale_is : rated.scale ≡ all_found.scale) (growth_is : rated.growth.items ≡ all_found.growth.items)
         (levels_are : rated.levels.items ≡ all_found.levels.items)
         (rated_are : rated.level_of.items
@@ -283,9 +276,9 @@ module _ {P : Type 0} (cmp : P → P → Ordering) (component : Component P) whe
           let before = h.fair (λ side listed.
           let below = within side ((same_there side).0 listed) in
           omega (arith, below, kept_alike (kept_at ks) (kept_rates cmp component near) same_kept side)) in
-          let now : IsFairBeside (kept_at ks) (sides_of cmp (map answered_of flows)) scale
+          let now : IsFairBeside (kept_at ks) flow_sides scale
           (beside (times_as_many (product all_found.growth.items) (kept_at ks)) parts) =
-          subst (λ n. IsFairBeside (kept_at ks) (sides_of cmp (map answered_of flows)) n
+          subst (λ n. IsFairBeside (kept_at ks) flow_sides n
           (beside (times_as_many (product all_found.growth.items) (kept_at ks)) parts)) per before in
           beside_alike (kept_at ks) (kept_rates cmp component near) same_kept
           (beside (times_as_many (product all_found.growth.items) (kept_at ks)) parts) (slice_index those)
@@ -294,7 +287,7 @@ module _ {P : Type 0} (cmp : P → P → Ordering) (component : Component P) whe
           ∙ ap (λ o. unwrap_or o (parts i)) (once (kept_at ks i) ∙ same_kept i)
           ∙ parts_there all_found.levels.items near all_found.level_of.items level_each i
           ∙ ap (λ rs. slice_index (rates_of (rerated cmp component 0 1 rs near)) i) (sym rates_are))
-          (sides_of cmp (map answered_of flows)) sides same_there scale now
+          flow_sides sides same_there scale now
 
       -- what is found is fair beside the others
       pub fair_beside_kept : AreFairBeside cmp caps scale component us rated

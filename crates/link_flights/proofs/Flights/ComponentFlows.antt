@@ -1,17 +1,25 @@
 -- Flows of messages in flight, one after another, and those of a component of all.
 use Rattle.std.proofs.Common.{◌≡◌, ℕ, ◌+◌, ◌<◌, nat_le, Bool, true, false, not, ◌&&◌, ◌||◌, List, [], ◌∷◌, ◌++◌, length}
-use Rattle.std.proofs.Common.{take, get_or, refl, sym, ap, ◌∙◌, arith}
-use Rattle.std.specs.List.{list_any}
+use Rattle.std.proofs.Common.{take, get_or, refl, sym, ap, ap₂, ◌∙◌, arith, if◌then◌else◌, map, subst}
+use Rattle.std.specs.List.{list_all, list_any}
+use Rattle.std.specs.Cmp.{IsTotalOrder}
 use Rattle.std.specs.declared.cmp.Ordering.{Ordering}
 use Rattle.std.specs.declared.rc.Rc.{Rc}
 use Rattle.std.specs.declared.alloc.Global.{Global}
 use Rattle.std.proofs.lemmas.Bool.{le-leb}
 use Rattle.std.proofs.lemmas.List.{take_more, map-append}
 use Rattle.fair_rates.specs.Sides.Subjects.{same_peer}
+use Rattle.fair_rates.specs.Sides.Ends.{flow_of}
 use Rattle.fair_rates.specs.declared.bandwidth.Flow.{Flow}
+use Rattle.fair_rates.specs.declared.bandwidth.known.Ends.{Ends}
+use Rattle.fair_rates.proofs.Sides.EqualSubjects.{same_peer_itself}
+use Rattle.link_simulation.specs.Simulation.Messages.{is_delivered}
+use Rattle.link_pairs.specs.Pairs.Messages.{message_of}
 use Rattle.link_flights.specs.declared.component.Component.{Component}
 use Rattle.link_flights.specs.declared.flight.Flight.{Flight}
-use Rattle.link_flights.specs.Flights.Components.{keeps, is_of, those_of}
+use Rattle.link_pairs.specs.declared.message.Message.{Message}
+use Rattle.link_flights.specs.Flights.Components.{keeps, is_of, those_of, is_sender, is_receiver, has_both, touches}
+use Rattle.link_flights.specs.Flights.Components.{near_of, suits, is_closed}
 use Rattle.link_flights.specs.Flights.Flight.{UnitFlight, flight_at, flights_at}
 use Rattle.link_flights.specs.Flights.RatedFlights.{are_standing}
 use Rattle.link_flights.proofs.Flights.InFlight.{StandsForSent, standing_with, filter_yes}
@@ -32,6 +40,24 @@ module _ {P : Type 0} (cmp : P → P → Ordering) (now : ℕ) (list : List (Rc 
       ap (are_standing cmp (fs ++ f ∷ [])) one_more
       ∙ standing_with cmp fs (flights_at now (take at list)) f (flight_at now one.value) h stands
 
+  -- the ends of the message there stand for it
+  pub ends_more : IsTotalOrder cmp → (es : List (Ends P)) (e : Ends P) → e.origin.now ≡ one.value.message.value.origin
+      → e.recipient.now ≡ one.value.message.value.recipient
+      → e.delivered ≡ is_delivered cmp (message_of one.value.message.value)
+      → are_standing cmp (map flow_of es) (flights_at now (take at list)) ≡ true
+      → are_standing cmp (map flow_of (es ++ e ∷ [])) (flights_at now (take (at + 1) list)) ≡ true
+  ends_more order es e origin recipient delivered h =
+      let m = one.value.message.value in
+      subst (λ fs. are_standing cmp fs (flights_at now (take (at + 1) list)) ≡ true)
+      (sym (map-append flow_of es (e ∷ [])))
+      (standing_more (map flow_of es) (flow_of e)
+      (record {
+        origin = ap (λ p. same_peer cmp p m.origin) origin ∙ same_peer_itself cmp order m.origin;
+        recipient = ap (λ p. same_peer cmp p m.recipient) recipient ∙ same_peer_itself cmp order m.recipient;
+        delivered = delivered;
+      })
+      h)
+
 none_and : (b : Bool) → (b && false) ≡ false
 none_and true = refl
 none_and false = refl
@@ -51,3 +77,41 @@ module _ {P : Type 0} (cmp : P → P → Ordering) (component : Component P) (wh
   all_of_whole [] = refl
   all_of_whole (u ∷ us) =
       filter_yes (is_of cmp component) u us (is_of_whole u) ∙ ap (λ l. u ∷ l) (all_of_whole us)
+
+or_true : (b : Bool) → (b || true) ≡ true
+or_true true = refl
+or_true false = refl
+
+all_pass : {X : Type 0} (test : X → Bool) → ((x : X) → test x ≡ true) → (xs : List X) → list_all test xs ≡ true
+all_pass test passes [] = refl
+all_pass test passes (x ∷ xs) = ap₂ (λ a b. a && b) (passes x) (all_pass test passes xs)
+
+-- a component of all senders and receivers, whatever its level
+module _ {P : Type 0} (cmp : P → P → Ordering) (component : Component P) (whole : component.whole ≡ true) where
+  sends : (p : P) → is_sender cmp component p ≡ true
+  sends p = ap (λ b. b || list_any (λ m. same_peer cmp p m.value.origin) component.joined.items) whole
+
+  receives : (p : P) → is_receiver cmp component p ≡ true
+  receives p = ap (λ b. b || list_any (λ m. same_peer cmp p m.value.recipient) component.joined.items) whole
+
+  both : (m : Message P) → has_both cmp component m ≡ true
+  both m = ap₂ (λ a b. a && b) (sends m.origin) (receives m.recipient)
+
+  touched : (m : Message P) → touches cmp component m ≡ true
+  touched m = ap (λ b. b || is_receiver cmp component m.recipient) (sends m.origin)
+
+  pub near_whole : (us : List (UnitFlight P)) → near_of cmp component us ≡ us
+  near_whole [] = refl
+  near_whole (u ∷ us) =
+      filter_yes (λ v. touches cmp component v.message) u us (touched u.message) ∙ ap (λ l. u ∷ l) (near_whole us)
+
+  suited : (u : UnitFlight P) → suits cmp component u ≡ true
+  suited u =
+      ap (λ b. keeps component u || (if b then has_both cmp component u.message else u.rated)) (touched u.message)
+      ∙ ap (λ b. keeps component u || b) (both u.message) ∙ or_true (keeps component u)
+
+  pub closed_whole : (done : List (Rc (Message P) Global)) (us : List (UnitFlight P))
+      → is_closed cmp component done us ≡ true
+  closed_whole done us =
+      ap₂ (λ a b. a && b) (all_pass (λ m. has_both cmp component m.value) (λ m. both m.value) done)
+      (all_pass (suits cmp component) suited us)

@@ -1,4 +1,4 @@
--- Flows with the caps that hold for them, and their fair rates.
+-- Flows under caps, and their fair rates.
 use Rattle.std.specs.Prelude.{All, ◌≡◌, ℕ, ◌*◌, ◌<◌, IfSome, List, length}
 use Rattle.std.specs.declared.cmp.Ordering.{Ordering}
 use Rattle.fair_rates.specs.Fairness.Exists.{product}
@@ -6,14 +6,8 @@ use Rattle.fair_rates.specs.declared.bandwidth.Flow.{Flow}
 use Rattle.fair_rates.specs.declared.bandwidth.parts.FairParts.{FairParts}
 use Rattle.fair_rates.specs.Fairness.Fair.{IsFair}
 use Rattle.fair_rates.specs.Filling.FairParts.{flow_parts}
-use Rattle.fair_rates.specs.Fairness.UnderCaps.{sides_under, answered_under}
-use Rattle.fair_rates.specs.declared.bandwidth.CappedFlow.{CappedFlow}
-use Rattle.fair_rates.specs.Sides.Answers.{answered_of}
+use Rattle.fair_rates.specs.Fairness.UnderCaps.{sides_under}
 use Rattle.fair_rates.specs.Sides.Caps.{Caps}
-
--- a flow has the caps that hold for it
-abbrev pub HasItsCaps : {P : Type 0} → Caps P → CappedFlow P → Type 0
-HasItsCaps caps capped = answered_of capped ≡ answered_under caps capped.flow
 
 -- parts of a scale, which has grown from another, are the fair rates of the flows on the sides that the caps make for
 -- them

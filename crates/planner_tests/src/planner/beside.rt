@@ -1,7 +1,12 @@
 //! Rates beside flows that keep theirs, against values worked out by hand.
-use fair_rates::bandwidth::{CappedFlow, Flow, FlowCaps, fair_parts_beside};
+ghost use Rattle.std.specs.Prelude.{None};
+ghost use Rattle.std.specs.BTreeMap.{get};
+ghost use Rattle.std.specs.Ordering.{nat_cmp};
+
+use fair_rates::bandwidth::{Ends, KnownCaps, fair_parts_beside};
 use natural::Natural;
-use std::alloc::{AllocError, AllocFailed, Global};
+use std::alloc::{AllocError, Global};
+use std::collections::BTreeMap;
 use std::process::Abort;
 use std::rc::Rc;
 use std::test::Fail;
@@ -17,26 +22,57 @@ struct Sent {
     wanted: Option<u128>,
 }
 
-/// The flows of a sender with that cap, each to the recipient that its place names.
-fn flows_of(
-    alloc: Global,
+/// The caps of a sender, and those of its recipients.
+#[derive(Drop)]
+struct Caps {
     egress: Option<u128>,
-    sent: &[Sent],
-) -> Result<Vec<CappedFlow<u64>>, AllocFailed<CappedFlow<u64>>> {
-    let mut flows = Vec::new(alloc);
+    ingress: BTreeMap<u64, u128>,
+}
+
+impl KnownCaps<u64> for Caps {
+    ghost caps = { λ c. record { egress = λ p. c.egress; ingress = get nat_cmp c.ingress; link = λ p q. None } };
+
+    fn egress(&self, _peer: &u64) -> Option<u128> {
+        self.egress
+    }
+
+    fn ingress(&self, peer: &u64) -> Option<u128> {
+        self.ingress.get(peer).copied()
+    }
+
+    fn link(&self, _origin: &u64, _recipient: &u64) -> Option<u128> {
+        None
+    }
+}
+
+/// The caps of a sender, and of the recipients, which are named by their places.
+fn caps_of(alloc: Global, egress: Option<u128>, sent: &[Sent]) -> Result<Caps, AllocError> {
+    let mut ingress = BTreeMap::new(alloc);
     for (place, one) in sent.iter().enumerate() {
-        flows.push(CappedFlow {
-            flow: Flow {
-                id: place as u64,
-                origin: u64::MAX,
-                recipient: place as u64,
-                delivered: true,
-            },
-            caps: FlowCaps {
-                egress,
-                ingress: one.ingress,
-                link: None,
-            },
+        if let Some(cap) = one.ingress {
+            ingress.insert(place as u64, cap)?;
+        }
+    }
+    Ok(Caps { egress, ingress })
+}
+
+/// The numbers from 0 on, so many.
+fn peers(alloc: Global, count: usize) -> Result<Vec<u64>, AllocError> {
+    let mut peers = Vec::new(alloc);
+    for peer in 0..count {
+        peers.push(peer as u64)?;
+    }
+    Ok(peers)
+}
+
+/// Flows of one sender, each to one of the peers.
+fn flows_to(alloc: Global, peers: &[u64]) -> Result<Vec<Ends<'_, u64>>, AllocError> {
+    let mut flows = Vec::new(alloc);
+    for peer in peers {
+        flows.push(Ends {
+            origin: &u64::MAX,
+            recipient: peer,
+            delivered: true,
         })?;
     }
     Ok(flows)
@@ -61,13 +97,15 @@ fn expect(
     sent: &[Sent],
     scale: u128,
 ) -> Result<(), Fail> {
-    let flows = flows_of(rt.alloc(), egress, sent)?;
+    let peers = peers(rt.alloc(), sent.len())?;
+    let flows = flows_to(rt.alloc(), &peers)?;
+    let caps = caps_of(rt.alloc(), egress, sent)?;
     let kept = kept_of(rt.alloc(), sent)?;
     if kept.len() != flows.len() {
         return Err("as many flows as are kept".into());
     }
     let one = Natural::from_u64(rt.alloc(), 1);
-    let found = fair_parts_beside(rt.alloc(), &flows, &kept, &one)?;
+    let found = fair_parts_beside(rt.alloc(), &flows, &caps, &kept, &one)?;
     assert_eq!(rt; found.scale.to_u128(), Some(scale));
     assert_eq!(rt; found.level_of.len(), sent.len());
     for (one, level) in sent.iter().zip(&found.level_of) {

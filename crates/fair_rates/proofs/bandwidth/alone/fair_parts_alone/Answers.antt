@@ -3,7 +3,7 @@ use Rattle.std.specs.Prelude.{replicate}
 use Rattle.fair_rates.specs.Fairness.Fair.{Side}
 use Rattle.fair_rates.specs.Filling.FairParts.{AreFairPartsOn}
 use Rattle.fair_rates.specs.Filling.States.{IsRaised, AreAtTop}
-use Rattle.fair_rates.specs.Sides.Answers.{answered_of}
+use Rattle.fair_rates.specs.Sides.Ends.{answered_for}
 use Rattle.fair_rates.specs.Sides.Subjects.{sides_of}
 use Rattle.fair_rates.specs.declared.bandwidth.parts.FairParts.{FairParts}
 use Rattle.fair_rates.proofs.Filling.Alone.{unlimited, limited_by_least}
@@ -13,7 +13,7 @@ use Rattle.fair_rates.proofs.bandwidth.alone.fair_parts_alone.Goals.{in-Some+in_
 
 pub returns : goal.returns
 returns g c =
-    let a = answered_of c.args.one.now in
+    let a = answered_for (g.C.KnownCaps.caps c.args.caps.now) c.args.one.now in
     let scale = c.args.scale.now in
     let caps = caps_of a in
     let sides : sides_of g.P.Ord.cmp (a ∷ []) ≡ map side_alone caps = sides_alone g.P.Ord.cmp a in

@@ -1,6 +1,7 @@
 use Rattle.std.proofs.Common.{sym, ◌∙◌, ◌≡◌, refl, ap, length, vec_len, map, Some, None, ◌++◌, ◌∷◌, []}
 use Rattle.std.proofs.lemmas.List.{map-append}
 use Rattle.fair_rates.specs.declared.bandwidth.sides.Registry.{Registry}
+use Rattle.fair_rates.specs.Fairness.UnderCaps.{cap_of}
 use Rattle.fair_rates.specs.Sides.Registry.{subject_of, number_of, HasNumber}
 use Rattle.fair_rates.proofs.Sides.Registry.{found, absent, opens, finds_more, numbered}
 use Rattle.fair_rates.proofs.bandwidth.sides.register.Goals as goal
@@ -18,15 +19,15 @@ returns-in-Some g c =
       registers = record {
         asked = λ asks h.
             found g.P.Ord.cmp g.met.P.Ord.total asks old.sides.items (map subject_of old.subjects.items)
-            (number_of g.P.Ord.cmp old) h s c.args.place c.args.answer c.in-Some.number c.index_mut.result.now _ _ is
+            (number_of g.P.Ord.cmp old) h s c.args.place (cap_of (g.C.KnownCaps.caps c.args.caps.now) s) c.in-Some.number c.index_mut.result.now _ _ is
             c.index_mut.ensures.value refl refl c.in_ok-push.ensures.items;
         finds = record { within = c.requires.within; as_many = c.requires.as_many; named = c.requires.named };
       };
       refused = tt;
     }
 
-pub returns-in_default-answer : goal.returns-in_default-answer
-returns-in_default-answer g c =
+pub returns-in_default-cap_of : goal.returns-in_default-cap_of
+returns-in_default-cap_of g c =
     let old = c.args.registry.now in
     let s = subject_of c.args.subject in
     let none : number_of g.P.Ord.cmp old s ≡ None = sym c.number.ensures ∙ c.in_default.is in
@@ -34,7 +35,8 @@ returns-in_default-answer g c =
       registers = record {
         asked = λ asks h.
             absent g.P.Ord.cmp g.met.P.Ord.total asks old.sides.items (map subject_of old.subjects.items)
-            (number_of g.P.Ord.cmp old) h s c.args.place c.args.answer c.in_default-answer.is none;
+            (number_of g.P.Ord.cmp old) h s c.args.place (cap_of (g.C.KnownCaps.caps c.args.caps.now) s)
+            (sym c.cap_of.ensures ∙ c.in_default-cap_of.is) none;
         finds = record { within = c.requires.within; as_many = c.requires.as_many; named = c.requires.named };
       };
       refused = tt;
@@ -53,7 +55,7 @@ returns-clause-registers g c =
     let users : c.push-2.new.self.items ≡ c.args.place ∷ [] =
     c.in_ok-push-2.ensures.items ∙ ap (λ us. us ++ c.args.place ∷ []) c.in_ok-users.ensures.items in
     let sides : new.sides.items
-    ≡ old.sides.items ++ record { cap = c.in-Some-answer.cap; users = c.push-2.new.self } ∷ [] =
+    ≡ old.sides.items ++ record { cap = c.in-Some-cap_of.cap; users = c.push-2.new.self } ∷ [] =
     ap (λ v. v.items) c.note_number.ensures.sides ∙ c.in_ok-push-3.ensures.items in
     let kept : new.subjects.items ≡ old.subjects.items ++ c.args.subject ∷ [] =
     c.in_ok-push-4.ensures.items ∙ ap (λ v. v.items ++ c.args.subject ∷ []) c.note_number.ensures.subjects in
@@ -64,8 +66,8 @@ returns-clause-registers g c =
     record {
       asked = λ asks h.
           opens cmp g.met.P.Ord.total asks old.sides.items (map subject_of old.subjects.items) (number_of cmp old) h s
-          c.args.place c.args.answer c.in-Some-answer.cap _ _ (map subject_of new.subjects.items) (number_of cmp new)
-          c.in-Some-answer.is none sides refl users
+          c.args.place (cap_of (g.C.KnownCaps.caps c.args.caps.now) s) c.in-Some-cap_of.cap _ _ (map subject_of new.subjects.items) (number_of cmp new)
+          (sym c.cap_of.ensures ∙ c.in-Some-cap_of.is) none sides refl users
           (ap (map subject_of) kept ∙ map-append subject_of old.subjects.items (c.args.subject ∷ []))
           n last numbers;
       finds =

@@ -1,7 +1,6 @@
 use Rattle.std.proofs.Common.{rules, ◌≡◌, ◌≤◌, true, IfSome, sym, ◌∙◌, subst, arith}
 use Rattle.link_simulation.specs.Simulation.World.{last_moment}
 use Rattle.link_pairs.specs.Pairs.CapsOf.{caps_of}
-use Rattle.link_flights.specs.Flights.Components.{is_closed}
 use Rattle.link_flights.specs.Flights.InFlight.{in_units}
 use Rattle.link_pairs.proofs.Pairs.LookedUp.{looked_up}
 use Rattle.link_flights.proofs.Flights.Components.{same_scale}
@@ -15,7 +14,7 @@ pub set_rates-requires-clause-left : goal.set_rates-requires-clause-left
 set_rates-requires-clause-left g c =
     let part = c.in_ok-part.part in
     left_beside g.P.Ord.cmp (caps_of g.P.Ord.cmp c.args.peers.now.entries c.args.pairs.now.entries)
-    c.in-Some.component part (in_units c.args.self.now)
+    c.in_ok-touched.touched part (in_units c.args.self.now)
     (none_there part.growth.items part.growth.len part.growth.ok.0 (sym c.is_empty.ensures ∙ c.if-is_empty.true))
     c.requires.left
 
@@ -34,7 +33,7 @@ invariant_of-self g c =
     let old = c.args.self.now in
     let caps = caps_of cmp c.args.peers.now.entries c.args.pairs.now.entries in
     let part = c.in_ok-part.part in
-    let component = c.in-Some.component in
+    let component = c.in_ok-touched.touched in
     let new = c.set_rates.new.self in
     let e = c.in_ok-set_rates.ensures in
     let h =
@@ -42,11 +41,9 @@ invariant_of-self g c =
     e.scale e.at e.timed g.met.P.Ord.total
     (looked_up cmp g.met.P.Ord.total c.args.peers.now.entries c.args.pairs.now.entries)
     c.args.done.now.items
-    (subst (λ o. IfSome o (λ component. is_closed cmp component c.args.done.now.items (in_units old) ≡ true))
-    c.in-Some.is c.in_ok-component.ensures.closed)
+    c.in_ok-touched.ensures.closed
     (c.requires.before c.if-were_rated.true)
-    (subst (λ o. IfSome o (λ component. IfSome old.floor (λ floor. component.level ≤ floor)))
-    c.in-Some.is c.in_ok-component.ensures.level)
+    c.in_ok-touched.ensures.level
     (sym c.all_reach.ensures ∙ c.if-all_reach.true) c.requires.updated
     (none_there part.growth.items part.growth.len part.growth.ok.0 (sym c.is_empty.ensures ∙ c.if-is_empty.true)) in
     record {
@@ -64,7 +61,7 @@ returns-then-all_reach-clause-rated g c =
     let old = c.args.self.now in
     let caps = caps_of cmp c.args.peers.now.entries c.args.pairs.now.entries in
     let part = c.in_ok-part.part in
-    let component = c.in-Some.component in
+    let component = c.in_ok-touched.touched in
     let new = c.set_rates.new.self in
     let e = c.in_ok-set_rates.ensures in
     let h =
@@ -72,11 +69,9 @@ returns-then-all_reach-clause-rated g c =
     e.scale e.at e.timed g.met.P.Ord.total
     (looked_up cmp g.met.P.Ord.total c.args.peers.now.entries c.args.pairs.now.entries)
     c.args.done.now.items
-    (subst (λ o. IfSome o (λ component. is_closed cmp component c.args.done.now.items (in_units old) ≡ true))
-    c.in-Some.is c.in_ok-component.ensures.closed)
+    c.in_ok-touched.ensures.closed
     (c.requires.before c.if-were_rated.true)
-    (subst (λ o. IfSome o (λ component. IfSome old.floor (λ floor. component.level ≤ floor)))
-    c.in-Some.is c.in_ok-component.ensures.level)
+    c.in_ok-touched.ensures.level
     (sym c.all_reach.ensures ∙ c.if-all_reach.true) c.requires.updated
     (none_there part.growth.items part.growth.len part.growth.ok.0 (sym c.is_empty.ensures ∙ c.if-is_empty.true)) in
     record {
@@ -94,7 +89,7 @@ returns-then-all_reach-clause-finish g c =
     let old = c.args.self.now in
     let caps = caps_of cmp c.args.peers.now.entries c.args.pairs.now.entries in
     let part = c.in_ok-part.part in
-    let component = c.in-Some.component in
+    let component = c.in_ok-touched.touched in
     let new = c.set_rates.new.self in
     let e = c.in_ok-set_rates.ensures in
     let h =
@@ -102,11 +97,9 @@ returns-then-all_reach-clause-finish g c =
     e.scale e.at e.timed g.met.P.Ord.total
     (looked_up cmp g.met.P.Ord.total c.args.peers.now.entries c.args.pairs.now.entries)
     c.args.done.now.items
-    (subst (λ o. IfSome o (λ component. is_closed cmp component c.args.done.now.items (in_units old) ≡ true))
-    c.in-Some.is c.in_ok-component.ensures.closed)
+    c.in_ok-touched.ensures.closed
     (c.requires.before c.if-were_rated.true)
-    (subst (λ o. IfSome o (λ component. IfSome old.floor (λ floor. component.level ≤ floor)))
-    c.in-Some.is c.in_ok-component.ensures.level)
+    c.in_ok-touched.ensures.level
     (sym c.all_reach.ensures ∙ c.if-all_reach.true) c.requires.updated
     (none_there part.growth.items part.growth.len part.growth.ok.0 (sym c.is_empty.ensures ∙ c.if-is_empty.true)) in
     let fits : IfSome c.first_finish-first.result (λ t. t ≤ last_moment) = search rules in

@@ -1,7 +1,7 @@
 use Rattle.std.proofs.Common.{◌≡◌, true, IfOk, subst, sym, ap, ◌∙◌, map, length}
 use Rattle.fair_rates.specs.Filling.FairParts.{AreFairPartsOn}
-use Rattle.fair_rates.specs.Sides.Answers.{answered_of}
-use Rattle.fair_rates.specs.Sides.Subjects.{sides_of}
+use Rattle.fair_rates.specs.Fairness.UnderCaps.{sides_under}
+use Rattle.fair_rates.specs.Sides.Ends.{flow_of}
 use Rattle.link_pairs.specs.Pairs.CapsOf.{caps_of}
 use Rattle.link_pairs.proofs.Pairs.LookedUp.{looked_up}
 use Rattle.link_flights.specs.Flights.Components.{those_of}
@@ -22,11 +22,11 @@ returns-clause-fair g c =
     let flows = c.in_ok-flows.flows.items in
     let of = looked_up cmp g.met.P.Ord.total c.args.peers.now.entries c.args.pairs.now.entries in
     let us = in_units self in
-    let standing : are_standing cmp (map (λ x. x.flow) flows) (those_of cmp all us) ≡ true =
-    ap (are_standing cmp (map (λ x. x.flow) flows))
+    let standing : are_standing cmp (map flow_of flows) (those_of cmp all us) ≡ true =
+    ap (are_standing cmp (map flow_of flows))
     (all_of_whole cmp all c.requires.whole c.requires.level us ∙ ap (flights_at self.at) (sym c.deref.ensures.value))
-    ∙ c.in_ok-flows.ensures.standing in
-    found_if_ok cmp g.met.P.Ord.total caps of all c.fair_parts.result self.scale (map (λ x. x.flow) flows) us standing
-    (fair_under_caps_if_ok cmp caps flows self.scale c.in_ok-flows.ensures.capped c.fair_parts.result
-    (subst (λ fs. IfOk c.fair_parts.result (AreFairPartsOn (sides_of cmp (map answered_of fs)) (length fs)
+    ∙ c.in_ok-flows.ensures.standing self.at in
+    found_if_ok cmp g.met.P.Ord.total caps of all c.fair_parts.result self.scale (map flow_of flows) us standing
+    (fair_under_caps_if_ok cmp caps flows self.scale c.fair_parts.result
+    (subst (λ fs. IfOk c.fair_parts.result (AreFairPartsOn (sides_under cmp caps (map flow_of fs)) (length fs)
     self.scale)) c.deref-2.ensures.value c.fair_parts.ensures.fair))

@@ -1,8 +1,0 @@
-use Rattle.std.proofs.Common.{take, map}
-use Rattle.fair_rates.specs.Sides.Answers.{answered_of}
-use Rattle.fair_rates.specs.Sides.Subjects.{asks_from}
-use Rattle.fair_rates.specs.Sides.Registry.{IsRegistryOf}
-use Rattle.fair_rates.proofs.bandwidth.sides.sides_of_capped.Given as goal
-
-abbrev pub invariant-loop-place : goal.invariant-loop-place
-invariant-loop-place g l = IsRegistryOf g.P.Ord.cmp (asks_from 0 (map answered_of (take l.place l.flows))) l.registry
