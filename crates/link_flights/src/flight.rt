@@ -129,6 +129,27 @@ impl<P: Peer> Flight<P> {
         }
     }
 
+    /// Has that rate from `now` on, the moment of an account.
+    pub(crate) fn rerate(&mut self, rate: Option<Rc<Natural>>, now: u64)
+        requires left { (flight_at now self.old).left ≢ 0 }
+        ensures message { self.new.message.value ≡ self.old.message.value }
+        ensures left { self.new.left ≡ (flight_at now self.old).left }
+        ensures rate { rate_of self.new.rate ≡ rate_of rate }
+        ensures since { self.new.since ≡ now }
+        ensures rated { self.new.rated ≡ true }
+        ensures timed { IsTimed self.new }
+    {
+        if self.rated {
+            if let Some(own) = &self.rate {
+                self.left.sub_times(own, now.saturating_sub(self.since));
+            }
+        }
+        self.finish = finish_of(&self.left, &rate, now);
+        self.rate = rate;
+        self.since = now;
+        self.rated = true;
+    }
+
     /// The same message at that rate from `now` on, the moment of an account.
     /// What is left counts in smaller units, of which so many times as many are needed.
     pub(crate) fn rerated(

@@ -45,8 +45,7 @@ pub struct Flights<P: Peer> {
     pub(crate) settled: usize,
     /// No finish comes before this moment; none comes at all, where it is missing.
     pub(crate) first: Option<u64>,
-    /// At so many accounts more all are rated, without a search for what is touched. Only time hangs
-    /// on it.
+    /// So many accounts more are made without a search for what is touched. Only time hangs on it.
     pub(crate) unsearched: usize,
 
     pub ghost past: { list_all (λ one. not one.value.rated || nat_le one.value.since at) list.items ≡ true },
@@ -57,7 +56,7 @@ pub struct Flights<P: Peer> {
 }
 
 /// The earlier of two moments, where there are any.
-fn earlier(first: Option<u64>, second: Option<u64>) -> Option<u64>
+pub(crate) fn earlier(first: Option<u64>, second: Option<u64>) -> Option<u64>
     ensures { result ≡ earliest first second }
 {
     match (first, second) {

@@ -23,7 +23,7 @@ ghost use Rattle.std.specs.declared.alloc.Global.{Global as Allocator};
 
 use crate::component::Component;
 use crate::flight::Flight;
-use crate::flight_list::Flights;
+use crate::flight_list::{Flights, earlier};
 use fair_rates::bandwidth::{Ends, FairParts, KnownCaps, fair_parts, fair_parts_beside};
 use fair_rates::error::Error;
 use fair_rates::peer::Peer;
@@ -38,13 +38,13 @@ use std::rc::Rc;
 /// Up to so many messages in flight, all are rated at each account.
 const FEW: usize = 2;
 
-/// So many searches for what an event touches are spared after one that found all.
+/// So many searches for what an event touches are spared after one that joined all, or too much.
 const SPARED: usize = 3;
 
 /// Where more than so many have started since the last account, no level is looked for.
 const FEW_NEW: usize = 4;
 
-/// Where so many are in flight, or more, and all were rated, a search would mostly have found all.
+/// Where so many are in flight, or more, and all were touched, a search would mostly join too much.
 const MANY: usize = 56;
 
 /// The caps of peers and of pairs.
@@ -178,7 +178,7 @@ fn ends_of<P: Peer>(alloc: Global, list: &[Rc<Flight<P>>]) -> Result<Vec<Ends<'_
 
 impl<P: Peer> Flights<P> {
     /// Gives each its fair rate from the last account on, once some are done. Where they had fair
-    /// rates before, those that share no side with what is done or new keep them. Answers the first
+    /// rates before, those that are not touched by what is done or new keep them. Answers the first
     /// moment at which nothing is left of one.
     pub fn rate(
         &mut self,
@@ -250,8 +250,8 @@ impl<P: Peer> Flights<P> {
         Ok(all)
     }
 
-    /// How many accounts more rate all without a search, after one that found so many to rate. Only
-    /// time hangs on it.
+    /// How many accounts more are made without a search, after one at which all were touched or a
+    /// component was found, with so many to rate. Only time hangs on it.
     fn spared_after(&self, whole: bool, found: usize) -> usize {
         if !whole {
             if found == self.list.len() { SPARED } else { 0 }
@@ -377,9 +377,62 @@ impl<P: Peer> Flights<P> {
         if were_timed && growth.is_empty() && one.goes_on(&rate) {
             return Ok(());
         }
-        let one = one.rerated(rate, growth, self.at)?;
+        if !growth.is_empty() {
+            return self.put_rerated(at, rate, growth);
+        }
+        if self.rerate_alone(at, &rate)? {
+            return Ok(());
+        }
+        self.put_rerated(at, rate, growth)
+    }
+
+    /// A message at that rate stands at that place, in the place of the one that is there.
+    fn put_rerated(
+        &mut self,
+        at: usize,
+        rate: Option<Rc<Natural>>,
+        growth: &[u64],
+    ) -> Result<(), Error>
+        requires place { at < length self.old.list.items }
+        requires left { (d : AnyRc (AnyFlight P) Allocator) → (flight_at self.old.at
+            (slice_index_or self.old.list.items at d).value).left * product growth.now ≢ 0 }
+        requires counted { self.old.rated_anew ≤ at }
+        ensures rerated { OnOk result (IsReratedAt self.old.at at (product growth.now) (rate_of rate)
+            self.old.list.items self.new.list.items) }
+        ensures scale { self.new.scale ≡ self.old.scale }
+        ensures at { self.new.at ≡ self.old.at }
+        ensures counted { OnOk result (IsCountedAt at self.old self.new) }
+        ensures refused { IfErr result (λ e. e ≡ Error.OutOfMemory) }
+    {
+        let one = self.list[at].rerated(rate, growth, self.at)?;
         self.put(at, one)?;
         self.rated_anew += 1;
         Ok(())
+    }
+
+    /// The message at that place has that rate from the last account on, in the same units, and takes
+    /// no memory for it, if no other list has it. Answers whether that was so.
+    fn rerate_alone(&mut self, at: usize, rate: &Option<Rc<Natural>>) -> Result<bool, Error>
+        requires place { at < length self.old.list.items }
+        requires left { (d : AnyRc (AnyFlight P) Allocator) → (flight_at self.old.at
+            (slice_index_or self.old.list.items at d).value).left ≢ 0 }
+        requires counted { self.old.rated_anew ≤ at }
+        ensures rerated { IfOk result (λ alone. alone ≡ true → IsReratedAt self.old.at at 1 (rate_of rate.now)
+            self.old.list.items self.new.list.items) }
+        ensures counted { IfOk result (λ alone. alone ≡ true → IsCountedAt at self.old self.new) }
+        ensures shared { IfOk result (λ alone. alone ≡ false → (self.new.list.items ≡ self.old.list.items)
+            × (self.new.rated_anew ≡ self.old.rated_anew)) }
+        ensures scale { self.new.scale ≡ self.old.scale }
+        ensures at { self.new.at ≡ self.old.at }
+        ensures refused { IfErr result (λ e. e ≡ Error.OutOfMemory) }
+    {
+        let rate = rate.clone()?;
+        let Some(one) = Rc::get_mut(&mut self.list[at]) else {
+            return Ok(false);
+        };
+        one.rerate(rate, self.at);
+        self.first = earlier(self.first, one.finish);
+        self.rated_anew += 1;
+        Ok(true)
     }
 }

@@ -179,7 +179,7 @@ module _ {P : Type 0} where
   pub past_so : (at : ℕ) (f : Rc (Flight P) Global) → is_past at f ≡ true → f.value.rated ≡ true → f.value.since ≤ at
   past_so at f h is = leb-true f.value.since at (sym (ap (λ b. not b || nat_le f.value.since at) is) ∙ h)
 
-  so_past : (at : ℕ) (f : Rc (Flight P) Global) → f.value.since ≤ at → is_past at f ≡ true
+  pub so_past : (at : ℕ) (f : Rc (Flight P) Global) → f.value.since ≤ at → is_past at f ≡ true
   so_past at f le = by_flag f.value.rated
     where
       by_flag : (b : Bool) → (not b || nat_le f.value.since at) ≡ true

@@ -1,8 +1,10 @@
-use Rattle.std.proofs.Common.{◌≡◌, ◌+◌, ◌*◌, inr, refl, sym, ap, ◌∙◌}
+use Rattle.std.proofs.Common.{◌≡◌, ◌+◌, ◌*◌, refl, sym, ap, subst, ◌∙◌}
+use Rattle.std.proofs.lemmas.Result.{on_ok_weaker}
 use Rattle.fair_rates.specs.Fairness.Exists.{product}
 use Rattle.link_flights.specs.declared.flight.Flight.{Flight}
 use Rattle.link_flights.specs.Flights.Flight.{rate_of, flight_at}
-use Rattle.link_flights.proofs.Flights.Rerating.{none_there, goes_on, put_anew}
+use Rattle.link_flights.specs.Flights.Rated.{IsReratedAt}
+use Rattle.link_flights.proofs.Flights.Rerating.{none_there, goes_on, counted_alike}
 use Rattle.link_flights.proofs.flight_list.Flights.rerate.Goals as goal
 
 -- nothing changes
@@ -21,22 +23,23 @@ returns-then-goes_on-clause-rerated g c =
     (ap product (none_there c.args.growth.now _ refl (sym c.is_empty.ensures ∙ c.if-is_empty.true)))
     (c.requires.timed c.if-were_timed.true)
 
--- another one is put in its place
+-- it is alone, and units stay
 
-pub returns-clause-rerated : goal.returns-clause-rerated
-returns-clause-rerated g c =
+pub returns-then-branch-clause-rerated : goal.returns-then-branch-clause-rerated
+returns-then-branch-clause-rerated g c =
     let old = c.args.self.now in
-    let x = c.index-one.result.now in
-    let one = c.in_ok-one in
-    let value : c.deref-2.result.now ≡ x.value = c.deref-2.ensures in
-    put_anew old.at (product c.args.growth.now) (rate_of c.args.rate) old.list.items c.args.at x
-    c.requires.place c.index-one.ensures one.one c.put.new.self.list.items c.in_ok-put.ensures.list
-    (one.ensures.message ∙ ap (λ (f : Flight g.row.P.Denot). f.message.value) value)
-    (one.ensures.left
-    ∙ ap (λ (f : Flight g.row.P.Denot). (flight_at old.at f).left * product c.args.growth.now) value)
-    one.ensures.rate one.ensures.since one.ensures.rated one.ensures.timed
+    let none = none_there c.args.growth.now _ refl
+    (sym c.is_empty-2.ensures ∙ c.if-not-is_empty.false) in
+    subst
+    (λ times. IsReratedAt old.at c.args.at times (rate_of c.args.rate) old.list.items c.rerate_alone.new.self.list.items)
+    (sym (ap product none)) (c.in_ok-rerate_alone.ensures.rerated c.if-branch.true)
+
+-- it is not, and another one is put in its place
 
 pub returns-clause-counted : goal.returns-clause-counted
 returns-clause-counted g c =
-    let put = c.in_ok-put.ensures.list in
-    inr (ap (λ n. n + 1) c.put.ensures.counted, (put.one, put.others))
+    let old = c.args.self.now in
+    let same = c.in_ok-rerate_alone.ensures.shared c.if-branch.false in
+    on_ok_weaker c.put_rerated-2.result
+    (counted_alike c.args.at old c.rerate_alone.new.self c.put_rerated-2.new.self same.0 same.1)
+    c.put_rerated-2.ensures.counted
