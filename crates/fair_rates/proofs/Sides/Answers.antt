@@ -1,5 +1,6 @@
 -- What closures answer that answer by a function of the peer.
-use Rattle.std.proofs.Common.{◌≡◌, ℕ, ◌+◌, Bool, true, false, cond, List, [], ◌∷◌, ◌++◌, Option, None, map, refl, sym, ap}
+use Rattle.std.proofs.Common.{◌≡◌, ℕ, ◌+◌, Bool, true, false, cond, List}
+use Rattle.std.proofs.Common.{[], ◌∷◌, ◌++◌, Option, None, map, refl, sym, ap}
 use Rattle.std.proofs.Common.{ap₂, ◌∙◌, subst}
 use Rattle.std.specs.List.{FoldsTo}
 use Rattle.fair_rates.specs.declared.bandwidth.Flow.{Flow}

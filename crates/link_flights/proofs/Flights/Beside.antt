@@ -216,8 +216,8 @@ module _ {P : Type 0} (cmp : P → P → Ordering) (component : Component P) whe
 
   -- ---- all together
 
-  as_many_flows : (flows : List (Ends P)) (near : List (UnitFlight P)) → are_standing cmp (map flow_of flows) near ≡ true
-      → length flows ≡ length near
+  as_many_flows : (flows : List (Ends P)) (near : List (UnitFlight P))
+      → are_standing cmp (map flow_of flows) near ≡ true → length flows ≡ length near
   as_many_flows flows near stand =
       sym (length-map flows flow_of) ∙ standing_length cmp (map flow_of flows) near stand
 

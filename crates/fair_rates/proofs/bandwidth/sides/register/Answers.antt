@@ -19,7 +19,8 @@ returns-in-Some g c =
       registers = record {
         asked = λ asks h.
             found g.P.Ord.cmp g.met.P.Ord.total asks old.sides.items (map subject_of old.subjects.items)
-            (number_of g.P.Ord.cmp old) h s c.args.place (cap_of (g.C.KnownCaps.caps c.args.caps.now) s) c.in-Some.number c.index_mut.result.now _ _ is
+            (number_of g.P.Ord.cmp old) h s c.args.place
+            (cap_of (g.C.KnownCaps.caps c.args.caps.now) s) c.in-Some.number c.index_mut.result.now _ _ is
             c.index_mut.ensures.value refl refl c.in_ok-push.ensures.items;
         finds = record { within = c.requires.within; as_many = c.requires.as_many; named = c.requires.named };
       };
@@ -66,7 +67,8 @@ returns-clause-registers g c =
     record {
       asked = λ asks h.
           opens cmp g.met.P.Ord.total asks old.sides.items (map subject_of old.subjects.items) (number_of cmp old) h s
-          c.args.place (cap_of (g.C.KnownCaps.caps c.args.caps.now) s) c.in-Some-cap_of.cap _ _ (map subject_of new.subjects.items) (number_of cmp new)
+          c.args.place (cap_of (g.C.KnownCaps.caps c.args.caps.now) s) c.in-Some-cap_of.cap _ _
+          (map subject_of new.subjects.items) (number_of cmp new)
           (sym c.cap_of.ensures ∙ c.in-Some-cap_of.is) none sides refl users
           (ap (map subject_of) kept ∙ map-append subject_of old.subjects.items (c.args.subject ∷ []))
           n last numbers;

@@ -15,7 +15,8 @@ returns-then-is_of_sender-clause-registers g c =
     record {
       asked = λ asks h.
           found g.P.Ord.cmp g.met.P.Ord.total asks old.sides.items (map subject_of old.subjects.items)
-          (number_of g.P.Ord.cmp old) h (sent_by c.args.origin.now) c.args.place ((g.C.KnownCaps.caps c.args.caps.now).egress c.args.origin.now)
+          (number_of g.P.Ord.cmp old) h (sent_by c.args.origin.now) c.args.place
+          ((g.C.KnownCaps.caps c.args.caps.now).egress c.args.origin.now)
           old.latest.sender c.index_mut.result.now _ _ (c.is_of_sender.ensures c.if-is_of_sender.true)
           c.index_mut.ensures.value refl refl c.in_ok-push.ensures.items;
       finds = record { within = c.requires.within; as_many = c.requires.as_many; named = c.requires.named };

@@ -13,21 +13,24 @@ register_flow-requires g c =
 
 pub loop-place-preserved : goal.loop-place-preserved
 loop-place-preserved g c =
-    known_passed g.P.Ord.cmp (g.C.KnownCaps.caps c.args.caps.now) c.loop-place.place c.args.flows.now c.index-flows-place.result c.loop-place.registry
+    known_passed g.P.Ord.cmp (g.C.KnownCaps.caps c.args.caps.now) c.loop-place.place
+    c.args.flows.now c.index-flows-place.result c.loop-place.registry
     c.register_flow.new.registry (omega arith) c.index-flows-place.is c.in_ok-register_flow.ensures.registers
     c.loop-place.invariant
 
 pub returns-clause-sides : goal.returns-clause-sides
 returns-clause-sides g c =
     let whole : take c.loop-place.place c.args.flows.now ≡ c.args.flows.now = take_all _ _ (omega arith) in
-    c.loop-place.invariant.sides_are ∙ ap (λ flows. sides_of g.P.Ord.cmp (map (answered_for (g.C.KnownCaps.caps c.args.caps.now)) flows)) whole
+    c.loop-place.invariant.sides_are
+    ∙ ap (λ flows. sides_of g.P.Ord.cmp (map (answered_for (g.C.KnownCaps.caps c.args.caps.now)) flows)) whole
 
 pub returns-clause-users_are_flows : goal.returns-clause-users_are_flows
 returns-clause-users_are_flows g c k d within i e below =
     let flows = take c.loop-place.place c.args.flows.now in
     let whole : flows ≡ c.args.flows.now = take_all _ _ (omega arith) in
     let last =
-    (users_of g.P.Ord.cmp g.met.P.Ord.total (map (answered_for (g.C.KnownCaps.caps c.args.caps.now)) flows) c.loop-place.registry.sides.items
+    (users_of g.P.Ord.cmp g.met.P.Ord.total (map (answered_for (g.C.KnownCaps.caps c.args.caps.now)) flows)
+    c.loop-place.registry.sides.items
     c.loop-place.invariant.sides_are k d within).1
     i e below in
     omega (arith, length-map flows (answered_for (g.C.KnownCaps.caps c.args.caps.now)), ap length whole, last)

@@ -31,7 +31,8 @@ returns-then-branch-clause-rerated g c =
     let none = none_there c.args.growth.now _ refl
     (sym c.is_empty-2.ensures ∙ c.if-not-is_empty.false) in
     subst
-    (λ times. IsReratedAt old.at c.args.at times (rate_of c.args.rate) old.list.items c.rerate_alone.new.self.list.items)
+    (λ times. IsReratedAt old.at c.args.at times (rate_of c.args.rate) old.list.items
+    c.rerate_alone.new.self.list.items)
     (sym (ap product none)) (c.in_ok-rerate_alone.ensures.rerated c.if-branch.true)
 
 -- it is not, and another one is put in its place
