@@ -1,12 +1,10 @@
 //! What is in flight, accounted for at a moment.
-ghost use Rattle.std.specs.Prelude.{◌≡◌, ◌≢◌, ℕ, ◌+◌, ◌<◌, ◌≤◌, true, not};
+ghost use Rattle.std.specs.Prelude.{◌≡◌, ◌≢◌, ℕ, ◌+◌, ◌<◌, ◌≤◌, true};
 ghost use Rattle.std.specs.Prelude.{length, slice_index_or, IfOk, IfErr, OnOk};
-ghost use Rattle.std.specs.List.{filter, list_all, remove, AllZip};
+ghost use Rattle.std.specs.List.{remove, AllZip};
 ghost use Rattle.std.specs.declared.rc.Rc.{Rc as AnyRc};
 ghost use Rattle.std.specs.declared.alloc.Global.{Global as Allocator};
 ghost use Rattle.link_flights.specs.declared.flight.Flight.{Flight as AnyFlight};
-ghost use Rattle.link_simulation.specs.Rule.Planned.{RatedFlight, rated_messages, drained_to};
-ghost use Rattle.link_simulation.specs.Rule.Planned.{is_spent};
 ghost use Rattle.link_flights.specs.Flights.Flight.{flight_at, has_come, AreTimed, DrainsTo};
 ghost use Rattle.link_flights.specs.Flights.InFlight.{in_flight, in_units};
 ghost use Rattle.link_flights.specs.Flights.Rated.{ArePartedBy, is_out, are_limited, rated_ones};

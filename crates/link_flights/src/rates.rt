@@ -8,7 +8,6 @@ ghost use Rattle.link_simulation.specs.Simulation.World.{last_moment};
 ghost use Rattle.link_pairs.specs.Pairs.Messages.{messages};
 ghost use Rattle.fair_rates.specs.Sides.Ends.{flow_of};
 ghost use Rattle.link_pairs.specs.Pairs.CapsOf.{caps_of};
-ghost use Rattle.link_pairs.specs.Pairs.PeerCaps.{ingress_of};
 ghost use Rattle.link_flights.specs.Flights.Components.{those_of, is_closed, AreNear, NoneIsNear};
 ghost use Rattle.link_flights.specs.Flights.Flight.{AreTimed, rate_of, flight_at, flights_at};
 ghost use Rattle.link_flights.specs.Flights.RatedFlights.{are_standing};

@@ -2,7 +2,6 @@
 ghost use Rattle.std.specs.Prelude.{◌≡◌, true, false, IfOk, IfErr};
 
 use bytes::Bytes;
-use fair_rates::bandwidth::Flow;
 use fair_rates::error::Error;
 use fair_rates::peer::Peer;
 use std::alloc::AllocError;
@@ -31,7 +30,6 @@ impl<P: Peer> Message<P> {
     ghost use Rattle.link_pairs.specs.Pairs.Messages.{message_of};
     ghost use Rattle.link_pairs.specs.Pairs.Entries.{pair_cmp};
     ghost use Rattle.link_pairs.specs.Pairs.Messages.{pair_of};
-    ghost use Rattle.fair_rates.specs.Sides.Subjects.{same_peer};
 
     /// How its pair stands to that of two peers: by origin, then by recipient.
     pub fn compare(&self, origin: &P, recipient: &P) -> Ordering
@@ -47,22 +45,6 @@ impl<P: Peer> Message<P> {
         ensures { result ≡ is_delivered P.cmp (message_of self.now) }
     {
         self.should_deliver && self.origin.cmp(&self.recipient).is_ne()
-    }
-
-    /// Its flow, under that id.
-    pub fn flow(&self, id: u64) -> Result<Flow<P>, Error>
-        ensures id { IfOk result (λ flow. flow.id ≡ id) }
-        ensures origin { IfOk result (λ flow. same_peer P.cmp flow.origin self.now.origin ≡ true) }
-        ensures recipient { IfOk result (λ flow. same_peer P.cmp flow.recipient self.now.recipient ≡ true) }
-        ensures delivered { IfOk result (λ flow. flow.delivered ≡ is_delivered P.cmp (message_of self.now)) }
-        ensures refused { IfErr result (λ e. e ≡ Error.OutOfMemory) }
-    {
-        Ok(Flow {
-            id,
-            origin: self.origin.clone_peer().ok_or(Error::OutOfMemory)?,
-            recipient: self.recipient.clone_peer().ok_or(Error::OutOfMemory)?,
-            delivered: self.is_delivered(),
-        })
     }
 
     /// The moment at which it arrives if it is done at `now`, or `now` if it does not arrive.

@@ -297,36 +297,3 @@ module _ {P X : Type 0} (cmp : P → P → Ordering) (caps : Caps P) (flow : X �
 
   not_true : (b c : Bool) → b ≡ c → c ≡ false → not b ≡ true
   not_true b c same is = ap not (same ∙ is)
-
-  -- two parts together
-  pub both_shared : (mine : X → Bool) (per : ℕ) (xs : List X) → AreShared per (filter mine xs)
-      → AreShared per (filter (λ x. not (mine x)) xs) → AreApart mine xs → AreShared per xs
-  both_shared mine per xs f g apart = record {
-    some_part = f.some_part;
-    within = λ s cap has. elim (some_or_none (λ (x : X). limits cmp s (flow x)) xs) [
-      | inl (x, h, l) ↦ within_at s cap has x h l (mine x) refl
-      | inr none ↦ omega (arith, total_none s xs none)
-    ];
-    held = λ x h c. held_at x h c (mine x) refl;
-  }
-    where
-      within_at : (s : Subject P) (cap : ℕ) → cap_of caps s ≡ Some cap → (x : X) → In xs x
-          → limits cmp s (flow x) ≡ true → (b : Bool) → mine x ≡ b → total s xs ≤ cap * per
-      within_at s cap has x h l true own =
-          omega (arith, f.within s cap has, total_same mine s xs (λ y among m. apart s cap y x has among h m l ∙ own))
-      within_at s cap has x h l false own =
-          omega (
-            arith,
-            g.within s cap has,
-            total_same (λ y. not (mine y)) s xs
-                (λ y among m. not_true (mine y) (mine x) (apart s cap y x has among h m l) own),
-          )
-
-      held_at : (x : X) → In xs x → IsCapped cmp caps (flow x) → (b : Bool) → mine x ≡ b → IsHeldAmong per xs x
-      held_at x h c true own =
-          held_more mine per xs x (λ s cap y has among l m. apart s cap y x has among h m l ∙ own)
-          (f.held x (in_filter mine xs x h own) c)
-      held_at x h c false own =
-          held_more (λ y. not (mine y)) per xs x
-          (λ s cap y has among l m. not_true (mine y) (mine x) (apart s cap y x has among h m l) own)
-          (g.held x (in_filter (λ y. not (mine y)) xs x h (ap not own)) c)

@@ -2,7 +2,6 @@
 use Rattle.std.specs.Prelude.{◌≡◌, ℕ, Bool, true, false, cond, List, [], ◌∷◌, ◌++◌, Option, None, map}
 use Rattle.std.specs.List.{FoldsTo}
 use Rattle.fair_rates.specs.declared.bandwidth.Flow.{Flow}
-use Rattle.fair_rates.specs.declared.bandwidth.FlowCaps.{FlowCaps}
 
 -- a flow, and what the closures answered for it
 pub record Answered (P : Type 0) : Type 0 where
@@ -10,10 +9,6 @@ pub record Answered (P : Type 0) : Type 0 where
   pub egress : Option ℕ
   pub ingress : Option ℕ
   pub link : Option ℕ
-
--- a flow for which the caps were answered
-abbrev pub answered_by : {P : Type 0} → Flow P → FlowCaps → Answered P
-answered_by f caps = record { flow = f; egress = caps.egress; ingress = caps.ingress; link = caps.link }
 
 -- how a closure in one state may be called on a peer, answer, and be left in another
 abbrev pub Calls : Type 0 → Type 0 → Type 1

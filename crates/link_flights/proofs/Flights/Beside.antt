@@ -20,7 +20,6 @@ use Rattle.fair_rates.specs.Filling.FairParts.{flow_parts, parts_of_level, kept_
 use Rattle.fair_rates.specs.Sides.Caps.{Caps}
 use Rattle.fair_rates.specs.Sides.Ends.{flow_of}
 use Rattle.fair_rates.specs.declared.bandwidth.known.Ends.{Ends}
-use Rattle.fair_rates.specs.declared.bandwidth.Flow.{Flow}
 use Rattle.fair_rates.specs.declared.bandwidth.parts.FairParts.{FairParts}
 use Rattle.link_simulation.specs.Simulation.Rates.{capped_sides}
 use Rattle.link_flights.specs.declared.component.Component.{Component}

@@ -32,13 +32,11 @@ use Rattle.link_flights.specs.declared.component.Component.{Component}
 use Rattle.link_pairs.specs.declared.message.Message as code
 use Rattle.link_pairs.specs.Pairs.Messages.{messages, message_of}
 use Rattle.link_flights.specs.Flights.CappedFlows.{AreFairPartsUnder}
-use Rattle.link_flights.specs.declared.flight.Flight.{Flight}
-use Rattle.link_flights.specs.Flights.Flight.{UnitFlight, flight_at}
+use Rattle.link_flights.specs.Flights.Flight.{UnitFlight}
 use Rattle.link_flights.specs.Flights.Components.{is_sender, is_receiver, keeps, is_of, those_of, has_both, suits}
 use Rattle.link_flights.specs.Flights.Components.{is_closed}
 use Rattle.link_flights.specs.Flights.Rated.{sent_messages, rates_of, rated_ones, rates_found, rerated, rated_anew}
 use Rattle.link_flights.specs.Flights.Rated.{AreFairFor, AreFairlyRated, WereRated, AreFairOf, IsRatedFrom, IsNoMore}
-use Rattle.link_flights.specs.Flights.Rated.{AreOthersTimed}
 use Rattle.link_flights.specs.Flights.RatedFlights.{are_standing}
 use Rattle.link_flights.proofs.Flights.FairMessages.{StandsForMessage, same_sides}
 use Rattle.link_flights.proofs.Flights.InFlight.{StandsForSent, standing_zip, standing_length, filter_yes, filter_no}
@@ -451,9 +449,6 @@ module _ {P : Type 0} (cmp : P → P → Ordering) (component : Component P) whe
               (found_each caps scale us found of.one_each ∙ ap length (those_all us)),
         )
         (subst (λ vs. AreFairFor cmp caps found.scale (sent_messages vs) (rates_found found)) (those_all us) of.fair)
-
-    pub no_others : (fs : List (Rc (Flight P) Global)) → AreOthersTimed cmp component fs
-    no_others fs i f at out rated = absurd (false≢true (sym out ∙ all_of (flight_at 0 f.value)))
 
     pub whole_rerated : (now times : ℕ) (rates : List ℕ) (us : List (UnitFlight P))
         → length rates ≡ length (those_of cmp component us)

@@ -7,11 +7,10 @@ use Rattle.std.specs.declared.cmp.Ordering.{Ordering}
 use Rattle.std.specs.declared.rc.Rc.{Rc}
 use Rattle.std.specs.declared.alloc.Global.{Global}
 use Rattle.std.proofs.lemmas.Bool.{and_from, or_parts, leb-false, lt-leb}
-use Rattle.std.proofs.lemmas.List.{length-append, length-set, length-take-le, take-append-drop, take-append-le}
+use Rattle.std.proofs.lemmas.List.{length-set, length-take-le, take-append-drop}
 use Rattle.std.proofs.lemmas.List.{take_all}
 use Rattle.std.proofs.lemmas.List.Edits.{length-remove}
 use Rattle.std.proofs.lemmas.List.Elements.{filter-append, length_all_zip}
-use Rattle.std.proofs.lemmas.List.Folds.{list_any-append}
 use Rattle.fair_rates.specs.Sides.Caps.{Caps}
 use Rattle.fair_rates.proofs.Lists.Booleans.{first_of_both, second_of_both}
 use Rattle.fair_rates.proofs.Lists.InPlace.{IsChangedUpTo}
@@ -91,13 +90,6 @@ earlier_none (Some a) (Some b) t e =
 module _ {P : Type 0} where
   -- ---- those at the beginning have rates
 
-  pub rates_with_one : (n : ℕ) (fs : List (Rc (Flight P) Global)) (one : Rc (Flight P) Global) → HaveRates n fs
-      → HaveRates n (fs ++ one ∷ [])
-  rates_with_one n fs one h = (
-    omega (arith, h.0, length-append fs (one ∷ [])),
-    ap (list_all (λ f. f.value.rated)) (take-append-le n fs (one ∷ []) h.0) ∙ h.1,
-  )
-
   pub rates_put : (n : ℕ) (fs : List (Rc (Flight P) Global)) (at : ℕ) (one : Rc (Flight P) Global) → HaveRates n fs
       → ((d : Rc (Flight P) Global) → (get_or fs at d).value.rated ≡ true → one.value.rated ≡ true)
       → HaveRates n (set fs at one)
@@ -135,14 +127,6 @@ module _ {P : Type 0} where
       (omega arith, ap (list_all (λ f. f.value.rated)) (take_all (length fs) fs (omega arith)) ∙ all)
 
   -- ---- none finishes before a moment
-
-  pub finish_with_one : (first : Option ℕ) (fs : List (Rc (Flight P) Global)) (one : Rc (Flight P) Global)
-      → one.value.finish ≡ None → FinishFrom first fs → FinishFrom first (fs ++ one ∷ [])
-  finish_with_one first fs one none h t e =
-      list_any-append (λ f. has_come t f.value.finish) fs (one ∷ [])
-      ∙ neither (λ (f : Rc (Flight P) Global). has_come t f.value.finish)
-      (list_any (λ f. has_come t f.value.finish) fs) (has_come t one.value.finish || false) (h t e)
-      (ap (λ o. has_come t o || false) none)
 
   pub finish_put : (first : Option ℕ) (fs : List (Rc (Flight P) Global)) (at : ℕ) (one : Rc (Flight P) Global)
       → FinishFrom first fs → FinishFrom (earlier first one.value.finish) (set fs at one)

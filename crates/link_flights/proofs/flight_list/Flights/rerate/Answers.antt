@@ -1,8 +1,8 @@
-use Rattle.std.proofs.Common.{◌≡◌, ◌+◌, ◌*◌, refl, sym, ap, subst, ◌∙◌}
+use Rattle.std.proofs.Common.{◌≡◌, refl, sym, ap, subst, ◌∙◌}
 use Rattle.std.proofs.lemmas.Result.{on_ok_weaker}
 use Rattle.fair_rates.specs.Fairness.Exists.{product}
 use Rattle.link_flights.specs.declared.flight.Flight.{Flight}
-use Rattle.link_flights.specs.Flights.Flight.{rate_of, flight_at}
+use Rattle.link_flights.specs.Flights.Flight.{rate_of}
 use Rattle.link_flights.specs.Flights.Rated.{IsReratedAt}
 use Rattle.link_flights.proofs.Flights.Rerating.{none_there, goes_on, counted_alike}
 use Rattle.link_flights.proofs.flight_list.Flights.rerate.Goals as goal

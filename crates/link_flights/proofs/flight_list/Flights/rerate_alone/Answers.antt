@@ -1,9 +1,8 @@
-use Rattle.std.proofs.Common.{◌≡◌, ◌+◌, ◌*◌, ◌<◌, ◌≤◌, rules, inr, refl, sym, ap, ◌∙◌, subst, arith, set, length}
+use Rattle.std.proofs.Common.{◌≡◌, ◌*◌, rules, inr, refl, sym, ap, ◌∙◌, subst, arith, set}
 use Rattle.std.proofs.lemmas.List.{length-set, set-get_or}
 use Rattle.std.specs.declared.rc.Rc.{Rc}
 use Rattle.std.specs.declared.alloc.Global.{Global}
 use Rattle.std.specs.Rc.{rc_with_value}
-use Rattle.link_simulation.specs.Rule.Planned.{earlier}
 use Rattle.link_flights.specs.declared.flight.Flight.{Flight}
 use Rattle.link_flights.specs.Flights.Flight.{rate_of, flight_at, FinishFrom}
 use Rattle.link_flights.proofs.Flights.Flight.{all_with, is_past, so_past}
