@@ -1,5 +1,5 @@
 //! A message in flight.
-ghost use Rattle.std.specs.Prelude.{◌≡◌, ◌≢◌, ◌*◌, ◌==◌, IfOk, IfErr, OnOk, true, false, not, nat_le};
+ghost use Rattle.std.specs.Prelude.{◌≡◌, ◌≢◌, ◌*◌, ◌==◌, IfOk, IfErr, OnOk, OnErr, true, false, not, nat_le};
 ghost use Rattle.fair_rates.specs.Fairness.Exists.{product};
 ghost use Rattle.link_flights.specs.Flights.Flight.{rate_of, left_by, flight_at, has_come, IsTimed, IsFinishOf};
 
@@ -129,25 +129,37 @@ impl<P: Peer> Flight<P> {
         }
     }
 
-    /// Has that rate from `now` on, the moment of an account.
-    pub(crate) fn rerate(&mut self, rate: Option<Rc<Natural>>, now: u64)
-        requires left { (flight_at now self.old).left ≢ 0 }
-        ensures message { self.new.message.value ≡ self.old.message.value }
-        ensures left { self.new.left ≡ (flight_at now self.old).left }
-        ensures rate { rate_of self.new.rate ≡ rate_of rate }
-        ensures since { self.new.since ≡ now }
-        ensures rated { self.new.rated ≡ true }
-        ensures timed { IsTimed self.new }
+    /// Has that rate from `now` on, the moment of an account. What is left counts in smaller units, of
+    /// which so many times as many are needed. Where memory is refused, what is left is of no use.
+    pub(crate) fn rerate(
+        &mut self,
+        rate: Option<Rc<Natural>>,
+        growth: &[u64],
+        now: u64,
+    ) -> Result<(), Error>
+        requires left { (flight_at now self.old).left * product growth.now ≢ 0 }
+        ensures message { OnOk result (self.new.message.value ≡ self.old.message.value) }
+        ensures left { OnOk result (self.new.left ≡ (flight_at now self.old).left * product growth.now) }
+        ensures rate { OnOk result (rate_of self.new.rate ≡ rate_of rate) }
+        ensures since { OnOk result (self.new.since ≡ now) }
+        ensures rated { OnOk result (self.new.rated ≡ true) }
+        ensures timed { OnOk result (IsTimed self.new) }
+        ensures since_stays { OnErr result (self.new.since ≡ self.old.since) }
+        ensures finish_stays { OnErr result (self.new.finish ≡ self.old.finish) }
+        ensures rated_stays { OnErr result (self.new.rated ≡ self.old.rated) }
+        ensures refused { IfErr result (λ e. e ≡ Error.OutOfMemory) }
     {
         if self.rated {
             if let Some(own) = &self.rate {
                 self.left.sub_times(own, now.saturating_sub(self.since));
             }
         }
+        grow(&mut self.left, growth)?;
         self.finish = finish_of(&self.left, &rate, now);
         self.rate = rate;
         self.since = now;
         self.rated = true;
+        Ok(())
     }
 
     /// The same message at that rate from `now` on, the moment of an account.

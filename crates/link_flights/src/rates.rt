@@ -376,10 +376,7 @@ impl<P: Peer> Flights<P> {
         if were_timed && growth.is_empty() && one.goes_on(&rate) {
             return Ok(());
         }
-        if !growth.is_empty() {
-            return self.put_rerated(at, rate, growth);
-        }
-        if self.rerate_alone(at, &rate)? {
+        if self.rerate_alone(at, &rate, growth)? {
             return Ok(());
         }
         self.put_rerated(at, rate, growth)
@@ -409,15 +406,20 @@ impl<P: Peer> Flights<P> {
         Ok(())
     }
 
-    /// The message at that place has that rate from the last account on, in the same units, and takes
-    /// no memory for it, if no other list has it. Answers whether that was so.
-    fn rerate_alone(&mut self, at: usize, rate: &Option<Rc<Natural>>) -> Result<bool, Error>
+    /// The message at that place has that rate from the last account on, and takes no other place in
+    /// memory for it, if no other list has it. Answers whether that was so.
+    fn rerate_alone(
+        &mut self,
+        at: usize,
+        rate: &Option<Rc<Natural>>,
+        growth: &[u64],
+    ) -> Result<bool, Error>
         requires place { at < length self.old.list.items }
         requires left { (d : AnyRc (AnyFlight P) Allocator) → (flight_at self.old.at
-            (slice_index_or self.old.list.items at d).value).left ≢ 0 }
+            (slice_index_or self.old.list.items at d).value).left * product growth.now ≢ 0 }
         requires counted { self.old.rated_anew ≤ at }
-        ensures rerated { IfOk result (λ alone. alone ≡ true → IsReratedAt self.old.at at 1 (rate_of rate.now)
-            self.old.list.items self.new.list.items) }
+        ensures rerated { IfOk result (λ alone. alone ≡ true → IsReratedAt self.old.at at (product growth.now)
+            (rate_of rate.now) self.old.list.items self.new.list.items) }
         ensures counted { IfOk result (λ alone. alone ≡ true → IsCountedAt at self.old self.new) }
         ensures shared { IfOk result (λ alone. alone ≡ false → (self.new.list.items ≡ self.old.list.items)
             × (self.new.rated_anew ≡ self.old.rated_anew)) }
@@ -429,7 +431,7 @@ impl<P: Peer> Flights<P> {
         let Some(one) = Rc::get_mut(&mut self.list[at]) else {
             return Ok(false);
         };
-        one.rerate(rate, self.at);
+        one.rerate(rate, growth, self.at)?;
         self.first = earlier(self.first, one.finish);
         self.rated_anew += 1;
         Ok(true)

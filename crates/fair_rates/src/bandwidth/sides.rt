@@ -19,7 +19,7 @@ use std::alloc::{AllocError, Global};
 use std::collections::BTreeMap;
 
 /// A new side has room for so many users, before its list has to move.
-const FEW_USERS: usize = 16;
+const FEW_USERS: usize = 64;
 
 /// Among so many of the first sides, that of a peer is found without a map.
 const FIRST_SIDES: usize = 12;

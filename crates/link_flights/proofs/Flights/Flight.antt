@@ -186,6 +186,12 @@ module _ {P : Type 0} where
       by_flag true = le-leb f.value.since at le
       by_flag false = refl
 
+  -- another one that has its rate since the same moment
+  pub past_alike : (at : ℕ) (f g : Rc (Flight P) Global) → g.value.since ≡ f.value.since → g.value.rated ≡ f.value.rated
+      → is_past at f ≡ true → is_past at g ≡ true
+  past_alike at f g since rated past =
+      ap (λ b. not b || nat_le g.value.since at) rated ∙ ap (λ n. not f.value.rated || nat_le n at) since ∙ past
+
   -- one that is passed over
   pub is_counted_on : (at now : ℕ) (f : Rc (Flight P) Global) → f.value.rated ≡ true → is_past at f ≡ true → at ≤ now
       → IsBrought at now f f

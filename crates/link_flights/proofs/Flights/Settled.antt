@@ -72,6 +72,12 @@ module _ {X : Type 0} (test : X → Bool) where
   none_with (x ∷ xs) (suc at) y none fails =
       neither (test x) _ ((or_parts (test x) _ none).0) (none_with xs at y ((or_parts (test x) _ none).1) fails)
 
+  none_at : (xs : List X) (at : ℕ) (x : X) → list_any test xs ≡ false → at < length xs → x ≡ get_or xs at x
+      → test x ≡ false
+  none_at [] at x none lt is = absurd (omega arith)
+  none_at (y ∷ xs) zero x none lt is = ap test is ∙ (or_parts (test y) _ none).0
+  none_at (y ∷ xs) (suc at) x none lt is = none_at xs at x ((or_parts (test y) _ none).1) (omega arith) is
+
   none_without : (xs : List X) (at : ℕ) → list_any test xs ≡ false → list_any test (remove xs at) ≡ false
   none_without [] zero none = refl
   none_without [] (suc at) none = refl
@@ -133,6 +139,14 @@ module _ {P : Type 0} where
   finish_put first fs at one h t e =
       let both = earlier_none first one.value.finish t e in
       none_with (λ f. has_come t f.value.finish) fs at one (h t both.0) both.1
+
+  pub finish_still : (first : Option ℕ) (fs : List (Rc (Flight P) Global)) (at : ℕ) (x one : Rc (Flight P) Global)
+      → FinishFrom first fs → at < length fs → x ≡ get_or fs at x → one.value.finish ≡ x.value.finish
+      → FinishFrom first (set fs at one)
+  finish_still first fs at x one h lt is same t e =
+      let none = h t e in
+      none_with (λ f. has_come t f.value.finish) fs at one none
+      (ap (has_come t) same ∙ none_at (λ f. has_come t f.value.finish) fs at x none lt is)
 
   pub finish_without : (first : Option ℕ) (fs : List (Rc (Flight P) Global)) (at : ℕ) → FinishFrom first fs
       → FinishFrom first (remove fs at)

@@ -49,11 +49,15 @@ impl Command {
         }
     }
 
-    /// Takes the words of a command.
+    /// Takes the words of a command. The most frequent ones are looked for first.
     fn take(words: &mut Words<'_>) -> Option<Command>
         ensures { Takes command_words IsCommandInRange (words_left words.old) result (words_left words.new) }
     {
         match words.next()? {
+            "enqueue" => take_enqueue(words),
+            "advance" => Some(Command::Schedule(Call::Advance {
+                now: words.number()?,
+            })),
             "flow" => Some(Command::Flow(flow(words)?)),
             "egress" => Some(Command::Egress {
                 peer: words.number()?,
@@ -80,10 +84,6 @@ impl Command {
                 origin: words.number()?,
                 recipient: words.number()?,
                 cap: words.small_cap()?,
-            })),
-            "enqueue" => take_enqueue(words),
-            "advance" => Some(Command::Schedule(Call::Advance {
-                now: words.number()?,
             })),
             "next" => Some(Command::Schedule(Call::Next)),
             _ => None,

@@ -1,9 +1,8 @@
-use Rattle.std.proofs.Common.{◌≡◌, refl, sym, ap, subst, ◌∙◌}
+use Rattle.std.proofs.Common.{◌≡◌, refl, sym, ap, ◌∙◌}
 use Rattle.std.proofs.lemmas.Result.{on_ok_weaker}
 use Rattle.fair_rates.specs.Fairness.Exists.{product}
 use Rattle.link_flights.specs.declared.flight.Flight.{Flight}
 use Rattle.link_flights.specs.Flights.Flight.{rate_of}
-use Rattle.link_flights.specs.Flights.Rated.{IsReratedAt}
 use Rattle.link_flights.proofs.Flights.Rerating.{none_there, goes_on, counted_alike}
 use Rattle.link_flights.proofs.flight_list.Flights.rerate.Goals as goal
 
@@ -23,17 +22,10 @@ returns-then-goes_on-clause-rerated g c =
     (ap product (none_there c.args.growth.now _ refl (sym c.is_empty.ensures ∙ c.if-is_empty.true)))
     (c.requires.timed c.if-were_timed.true)
 
--- it is alone, and units stay
+-- it is alone
 
 pub returns-then-branch-clause-rerated : goal.returns-then-branch-clause-rerated
-returns-then-branch-clause-rerated g c =
-    let old = c.args.self.now in
-    let none = none_there c.args.growth.now _ refl
-    (sym c.is_empty-2.ensures ∙ c.if-not-is_empty.false) in
-    subst
-    (λ times. IsReratedAt old.at c.args.at times (rate_of c.args.rate) old.list.items
-    c.rerate_alone.new.self.list.items)
-    (sym (ap product none)) (c.in_ok-rerate_alone.ensures.rerated c.if-branch.true)
+returns-then-branch-clause-rerated g c = c.in_ok-rerate_alone.ensures.rerated c.if-branch.true
 
 -- it is not, and another one is put in its place
 
@@ -41,6 +33,6 @@ pub returns-clause-counted : goal.returns-clause-counted
 returns-clause-counted g c =
     let old = c.args.self.now in
     let same = c.in_ok-rerate_alone.ensures.shared c.if-branch.false in
-    on_ok_weaker c.put_rerated-2.result
-    (counted_alike c.args.at old c.rerate_alone.new.self c.put_rerated-2.new.self same.0 same.1)
-    c.put_rerated-2.ensures.counted
+    on_ok_weaker c.put_rerated.result
+    (counted_alike c.args.at old c.rerate_alone.new.self c.put_rerated.new.self same.0 same.1)
+    c.put_rerated.ensures.counted
