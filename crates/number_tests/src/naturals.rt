@@ -354,6 +354,110 @@ fn least_multiples(rt: HostRuntime) -> Result<(), Fail> {
     all_hold::<LeastMultiple>(&rt, LEAST_MULTIPLES, 28)
 }
 
+/// How many limbs a number has, the highest of them, and each of the others.
+const SHAPES: &str = "\
+    1 0x1 0x0
+    1 0xffffffffffffffff 0x0
+    2 0x1 0x0
+    2 0x1 0xffffffffffffffff
+    2 0x91d93080f9b439fc 0xe27655daa05f1119
+    2 0xffffffffffffffff 0xffffffffffffffff
+    3 0x1 0x0
+    3 0x1 0xffffffffffffffff
+    3 0x8000000000000000 0x0
+    3 0xe27655daa05f1119 0x3ceaaf308142c8ea
+    3 0xffffffffffffffff 0xffffffffffffffff
+    4 0x1 0x0
+    4 0x5 0x91d93080f9b439fc
+    4 0x7fffffffffffffff 0xffffffffffffffff
+    4 0xffffffffffffffff 0xffffffffffffffff
+    5 0x1 0xffffffffffffffff
+    5 0x2 0x0
+    5 0x3ceaaf308142c8ea 0x91d93080f9b439fc
+    9 0x123456789a 0xe27655daa05f1119
+    20 0x1 0x0
+    20 0x1 0xffffffffffffffff
+    20 0x8000000000000000 0x1
+    20 0xe36bf9b3ddcb369d 0x2330fcf1562ae4b8
+    20 0xffffffffffffffff 0xffffffffffffffff";
+
+/// How often the numbers of these shapes are taken.
+const TIMES: [u64; 14] = [
+    0,
+    1,
+    2,
+    3,
+    1_000_000_007,
+    0x100_0000_0000,
+    0x1fff_ffff_ffff,
+    0x7fff_ffff_ffff_ffff,
+    0x8000_0000_0000_0000,
+    0x8000_0000_0000_0001,
+    0xffff_ffff_ffff_fffc,
+    0xffff_ffff_ffff_fffd,
+    0xffff_ffff_ffff_fffe,
+    0xffff_ffff_ffff_ffff,
+];
+
+/// The next words as the number of that shape.
+fn next_of_shape(alloc: Global, words: &mut Words<'_>) -> Result<Natural, Fail> {
+    let limbs = number(words)?;
+    let mut n = Natural::from_u64(alloc, number(words)?);
+    let other = Natural::from_u64(alloc, number(words)?);
+    for _ in 1..limbs {
+        n.multiply(1 << 32)?;
+        n.multiply(1 << 32)?;
+        n.add_assign(&other)?;
+    }
+    Ok(n)
+}
+
+/// The least multiple of the number is found for what it is that many times, for one more and for one less.
+fn finds_next_to(alloc: Global, of: &Natural, times: u64) -> Result<bool, Fail> {
+    let one = Natural::from_u64(alloc, 1);
+    let mut n = of.product(u128::from(times))?;
+    let exactly = n.least_multiple(of) == Some(times);
+    n.add_assign(&one)?;
+    let above = n.least_multiple(of) == times.checked_add(1);
+    let has_two = n.sub_times(&one, 2);
+    let below = n.least_multiple(of);
+    let expected = if of.to_u128() == Some(1) {
+        times.saturating_sub(1)
+    } else {
+        times
+    };
+    Ok(exactly && above && has_two == (times > 0) && below == Some(expected))
+}
+
+/// It is found for what the number is so many times and a half.
+fn finds_halfway(of: &Natural, times: u64) -> Result<bool, Fail> {
+    let mut twice = of.clone()?;
+    twice.multiply(2)?;
+    let mut n = twice.product(u128::from(times))?;
+    n.add_assign(of)?;
+    Ok(n.least_multiple(&twice) == times.checked_add(1))
+}
+
+/// The least multiple is found next to each multiple of the number, and between two.
+struct FindsAround;
+
+impl Case for FindsAround {
+    fn holds(alloc: Global, words: &mut Words<'_>) -> Result<bool, Fail> {
+        let of = next_of_shape(alloc, words)?;
+        for times in TIMES {
+            if !finds_next_to(alloc, &of, times)? || !finds_halfway(&of, times)? {
+                return Ok(false);
+            }
+        }
+        Ok(true)
+    }
+}
+
+#[test]
+fn least_multiples_next_to_a_multiple(rt: HostRuntime) -> Result<(), Fail> {
+    all_hold::<FindsAround>(&rt, SHAPES, 24)
+}
+
 /// A number, a factor of it, another number, a factor of that, and the order of the products.
 const COMPARED_MULTIPLES: &str = "\
     0x0 0 0x0 0 equal
