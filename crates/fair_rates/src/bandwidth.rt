@@ -21,6 +21,7 @@ mod filling;
 mod known;
 pub mod laws;
 mod parts;
+mod recipients;
 mod sides;
 mod time;
 

@@ -12,6 +12,7 @@ ghost use Rattle.fair_rates.specs.Sides.SideOf.{side_of};
 ghost use Rattle.fair_rates.specs.Sides.Registry.{FindsSides, Registers, subject_of, is_noted};
 
 use crate::bandwidth::known::{Ends, KnownCaps};
+use crate::bandwidth::recipients::Recipients;
 use crate::bandwidth::{Flow, FlowCaps};
 use crate::error::Error;
 use crate::peer::Peer;
@@ -20,6 +21,9 @@ use std::collections::BTreeMap;
 
 /// A new side has room for so many users, before its list has to move.
 const FEW_USERS: usize = 64;
+
+/// It has room for so many where it is one of many sides.
+const MORE_USERS: usize = 32;
 
 /// Among so many of the first sides, that of a peer is found without a map.
 const FIRST_SIDES: usize = 12;
@@ -70,16 +74,6 @@ struct Latest {
 }
 
 impl Latest {
-    /// A guess at the number of the side of the subject. Flows of one sender mostly follow one
-    /// another, and senders mostly have the same recipients in one order.
-    fn guess<P>(&self, subject: &Subject<P>) -> usize {
-        match subject {
-            Subject::SentBy(_) => self.sender,
-            Subject::ReceivedBy(_) => self.recipient.wrapping_add(1),
-            Subject::SentBetween(_, _) => self.link.wrapping_add(1),
-        }
-    }
-
     /// Notes the number of the side that was asked for.
     fn note<P>(&mut self, subject: &Subject<P>, number: usize) {
         match subject {
@@ -93,11 +87,13 @@ impl Latest {
 /// The sides that have come into being, with the subject of each, and the number of each, its place
 /// among them, by its subject, but for the first ones of peers, which are found in their list. There
 /// is a map for each kind, which is by peers alone and has no kind to compare.
+/// Where there are many, recipients in their order spare most searches.
 #[derive(Drop)]
 struct Registry<'a, P: Ord> {
     sides: Vec<Side>,
     subjects: Vec<Subject<'a, P>>,
     latest: Latest,
+    recipients: Recipients<'a, P>,
     senders: BTreeMap<&'a P, usize>,
     receivers: BTreeMap<&'a P, usize>,
     pairs: BTreeMap<(&'a P, &'a P), usize>,
@@ -119,6 +115,7 @@ impl<'a, P: Peer> Registry<'a, P> {
                 recipient: 0,
                 link: 0,
             },
+            recipients: Recipients::new(alloc),
             senders: BTreeMap::new(alloc),
             receivers: BTreeMap::new(alloc),
             pairs: BTreeMap::new(alloc),
@@ -158,20 +155,23 @@ impl<'a, P: Peer> Registry<'a, P> {
         }
     }
 
-    /// The number of the side of the subject, if there is one. Where it is the guess or the next
-    /// number, nothing is searched.
-    fn number(&self, subject: &Subject<'a, P>, guess: usize) -> Option<usize>
+    /// The number of the side of the subject, if there is one. Links mostly come in one order: where
+    /// that of a link is one of the two after the latest, nothing is searched.
+    fn number(&self, subject: &Subject<'a, P>) -> Option<usize>
         requires { FindsSides P.cmp self.now }
         ensures { result ≡ number_of P.cmp self.now (subject_of subject.now) }
     {
-        let next = guess.wrapping_add(1);
-        if self.has(guess, subject) {
-            Some(guess)
-        } else if self.has(next, subject) {
-            Some(next)
-        } else {
-            self.find(subject)
+        if let Subject::SentBetween(_, _) = subject {
+            let next = self.latest.link.wrapping_add(1);
+            if self.has(next, subject) {
+                return Some(next);
+            }
+            let after = next.wrapping_add(1);
+            if self.has(after, subject) {
+                return Some(after);
+            }
         }
+        self.find(subject)
     }
 
     /// The number of the side of the subject, if there is one: it is found among the first ones, or
@@ -277,8 +277,7 @@ fn register<'a, P: Peer, C: KnownCaps<P>>(
     } ∷ []) registry.old registry.new) }
     ensures refused { IfErr result (λ e. e ≡ Error.OutOfMemory) }
 {
-    let guess = registry.latest.guess(&subject);
-    if let Some(number) = registry.number(&subject, guess) {
+    if let Some(number) = registry.number(&subject) {
         registry.latest.note(&subject, number);
         registry.sides[number].users.push(place)?;
         return Ok(());
@@ -286,9 +285,14 @@ fn register<'a, P: Peer, C: KnownCaps<P>>(
     let Some(cap) = cap_of(&subject, caps) else {
         return Ok(());
     };
-    let mut users = Vec::with_capacity(alloc, FEW_USERS)?;
-    users.push(place)?;
     let number = registry.sides.len();
+    let room = if number < FIRST_SIDES {
+        FEW_USERS
+    } else {
+        MORE_USERS
+    };
+    let mut users = Vec::with_capacity(alloc, room)?;
+    users.push(place)?;
     registry.sides.push(Side { cap, users })?;
     registry.latest.note(&subject, number);
     registry.note_number(&subject, number)?;
@@ -345,8 +349,8 @@ fn register_sender<'a, P: Peer, C: KnownCaps<P>>(
     register(alloc, registry, place, Subject::SentBy(origin), caps)
 }
 
-/// Registers that the flow at `place` asks for the side of its recipient. Senders mostly have the
-/// same recipients in one order.
+/// Registers that the flow at `place` asks for the side of its recipient, at whose number there is a
+/// guess: where none is kept, it is the one after the latest.
 fn register_recipient<'a, P: Peer, C: KnownCaps<P>>(
     alloc: Global,
     registry: &mut Registry<'a, P>,
@@ -363,12 +367,45 @@ fn register_recipient<'a, P: Peer, C: KnownCaps<P>>(
     ensures refused { IfErr result (λ e. e ≡ Error.OutOfMemory) }
 {
     let next = registry.latest.recipient.wrapping_add(1);
-    if registry.is_of_recipient(next, recipient) {
-        registry.latest.recipient = next;
-        registry.sides[next].users.push(place)?;
+    let guess = registry.recipients.guess(recipient).unwrap_or(next);
+    if registry.is_of_recipient(guess, recipient) {
+        registry.latest.recipient = guess;
+        registry.sides[guess].users.push(place)?;
         return Ok(());
     }
-    register(alloc, registry, place, Subject::ReceivedBy(recipient), caps)
+    register_searched(alloc, registry, place, recipient, caps)
+}
+
+/// The same where the guess failed. Where there are many sides, the number of the recipient's is kept
+/// for the guesses to come.
+fn register_searched<'a, P: Peer, C: KnownCaps<P>>(
+    alloc: Global,
+    registry: &mut Registry<'a, P>,
+    place: usize,
+    recipient: &'a P,
+    caps: &C,
+) -> Result<(), Error>
+    requires { FindsSides P.cmp registry.old }
+    ensures registers { OnOk result (Registers P.cmp (record {
+      place = place;
+      subject = received_by recipient.now;
+      answer = (C.caps caps.now).ingress recipient.now;
+    } ∷ []) registry.old registry.new) }
+    ensures refused { IfErr result (λ e. e ≡ Error.OutOfMemory) }
+{
+    if let Some(number) = registry.recipients.search(recipient) {
+        if registry.is_of_recipient(number, recipient) {
+            registry.latest.recipient = number;
+            registry.sides[number].users.push(place)?;
+            return Ok(());
+        }
+    }
+    register(alloc, registry, place, Subject::ReceivedBy(recipient), caps)?;
+    let number = registry.latest.recipient;
+    if registry.subjects.len() > FIRST_SIDES && registry.is_of_recipient(number, recipient) {
+        registry.recipients.keep(recipient, number)?;
+    }
+    Ok(())
 }
 
 /// Registers that the flow at `place` asks for its sides, under these caps.
