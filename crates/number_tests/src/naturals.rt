@@ -668,6 +668,42 @@ fn numbers_that_fit_in_128_bits(rt: HostRuntime) -> Result<(), Fail> {
     Ok(())
 }
 
+/// A number, its highest limbs, and how many limbs are below these.
+const LEADING: &str = "\
+    0x0 0x0 0
+    0x1 0x1 0
+    0x10000000000000000 0x10000000000000000 0
+    0xffffffffffffffffffffffffffffffff 0xffffffffffffffffffffffffffffffff 0
+    0x100000000000000000000000000000000 0x10000000000000000 1
+    0x10000000000000000ffffffffffffffff 0x10000000000000000 1
+    0xffffffffffffffffffffffffffffffffffffffffffffffff 0xffffffffffffffffffffffffffffffff 1
+    0x1000000000000000000000000000000000000000000000000 0x10000000000000000 2
+    0x1e27655daa05f11193ceaaf308142c8ea91d93080f9b439fc 0x1e27655daa05f1119 2
+    0xd23f0824128b2f330c5c7fd0a6a3a4506513270e269e0d37f2a74de452e6b438 0xd23f0824128b2f330c5c7fd0a6a3a450 2
+    0x100000000000000003a3897650ed904759531985d5d9dc9f81818e811892f902b 0x10000000000000000 3
+    0x7c5be856423b9e7067266d08da1e2c4dd89051b3785df4e7a1796e02c39fcde83304078ba64b6c71\
+        2e5e85d1d0d35e6f1d0926323f017f82dbe0ee713fbb4afab7e7688e95ec50f3 \
+        0x7c5be856423b9e7067266d08da1e2c4d 7
+    0xf8b7d0ac84773ce0ce4cda11b43c589bb120a366f0bbe9cf42f2dc05873f9bd066080f174c96d8e2\
+        5cbd0ba3a1a6bcde3a124c647e02ff05b7c1dce27f7695f56fced11d2bd8a1e6047a8387cdde8d51 \
+        0xf8b7d0ac84773ce0ce4cda11b43c589b 8";
+
+/// These are the highest limbs.
+struct Leading;
+
+impl Case for Leading {
+    fn holds(alloc: Global, words: &mut Words<'_>) -> Result<bool, Fail> {
+        let n = next_natural(alloc, words)?;
+        let (highest, below) = n.highest_limbs();
+        Ok(highest == wide_number(words)? && below as u64 == number(words)?)
+    }
+}
+
+#[test]
+fn highest_limbs(rt: HostRuntime) -> Result<(), Fail> {
+    all_hold::<Leading>(&rt, LEADING, 13)
+}
+
 #[test]
 fn a_clone_stays_as_it_was(rt: HostRuntime) -> Result<(), Fail> {
     let alloc = rt.alloc();

@@ -1,6 +1,6 @@
 -- What holds between two rounds, how a round keeps it, and what it gives at the end.
-use Rattle.std.proofs.Common.{◌≡◌, ℕ, ◌*◌, ◌<◌, ◌≤◌, inl, inr, List, [], ◌∷◌, length, get_or, map, All, AllPairs}
-use Rattle.std.proofs.Common.{Contains, Option, Some, None, IsSome, IfSome, refl, sym, ap, subst, arith}
+use Rattle.std.proofs.Common.{◌≡◌, ℕ, ◌*◌, ◌/◌, ◌^◌, ◌<◌, ◌≤◌, inl, inr, List, [], ◌∷◌, length, get_or, map, All}
+use Rattle.std.proofs.Common.{AllPairs, Contains, Option, Some, None, IsSome, IfSome, refl, sym, ap, subst, arith}
 use Rattle.std.proofs.Common.{mul-le-mul_right, le_of_mul-le-mul_right}
 use Rattle.std.specs.Prelude.{◌↔◌, option_map, unwrap_or, slice_index, replicate}
 use Rattle.std.specs.BinaryHeap.{IsHeap}
@@ -109,7 +109,16 @@ module _ (sides : List Side) (scale factor : ℕ) (levels after : List ℕ) (lev
   now = frozen_at after later
 
   abbrev wide : Reverse OpenSide
-  wide = record { 0 = record { slack = x.slack * factor; rising = x.rising; some = x.some } }
+  wide = record {
+    0 = record {
+      slack = x.slack * factor;
+      rising = x.rising;
+      quotient = x.slack * factor / (2 ^ (64 * 0) * length x.rising.items);
+      shift = 0;
+      some = x.some;
+      rounded = refl;
+    };
+  }
 
   scaled : AreScaled factor frozen scaled_frozen
   scaled = frozen_scaled factor levels level_of

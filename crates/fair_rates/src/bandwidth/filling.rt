@@ -51,7 +51,7 @@ fn open_sides(
             users: rising,
         } = side;
         if !rising.is_empty() {
-            queue.push(Reverse(OpenSide { slack, rising }))?;
+            queue.push(Reverse(OpenSide::new(slack, rising)))?;
         }
     }
     Ok(queue)
@@ -127,7 +127,7 @@ fn fill(
     let mut queue = open_sides(alloc, sides)?;
     let mut found = FairParts::new(alloc, count, scale)?;
     while let Some(side) = next_side(&mut queue, &found.levels, &found.level_of)? {
-        let OpenSide { slack, rising } = side;
+        let OpenSide { slack, rising, .. } = side;
         let share = whole_share(alloc, slack, rising.len() as u64)?;
         found.grow(share.factor)?;
         queue = grown_sides(alloc, queue, share.factor)?;

@@ -1,5 +1,5 @@
 //! A side while the flows rise.
-ghost use Rattle.std.specs.Prelude.{◌<◌, Some, length};
+ghost use Rattle.std.specs.Prelude.{◌≡◌, ◌*◌, ◌/◌, ◌^◌, ◌<◌, Some, length};
 ghost use Rattle.std.specs.Cmp.{partial_equiv_from_equiv, eq_by_cmp_equiv, partial_order_from_total};
 ghost use Rattle.std.specs.Ordering.{eq_by_cmp};
 ghost use Rattle.std.proofs.Common.{refl};
@@ -11,14 +11,19 @@ use std::alloc::AllocError;
 use std::cmp::Ordering;
 
 /// A side of which some users rise. Sides are compared by their shares: the slack for each rising
-/// user.
+/// user. The quotients only save time: where they differ at one shift, they compare as the shares do.
 #[derive(Drop)]
 pub(crate) struct OpenSide {
     /// What the users that are counted as frozen leave of the cap, in parts.
     pub(crate) slack: Natural,
     /// The other users.
     pub(crate) rising: Vec<usize>,
+    /// The share without its lowest limbs of 64 bits, rounded down.
+    quotient: u128,
+    /// How many limbs these are.
+    shift: usize,
     pub(crate) ghost some: { 0 < length rising.items },
+    ghost rounded: { quotient ≡ slack / (2 ^ (64 * shift) * length rising.items) },
 }
 
 impl PartialEq for OpenSide {
@@ -57,6 +62,9 @@ impl Ord for OpenSide {
     ghost matches_eq = { λ x y. refl };
 
     fn cmp(&self, other: &OpenSide) -> Ordering {
+        if self.shift == other.shift && self.quotient != other.quotient {
+            return self.quotient.cmp(&other.quotient);
+        }
         let count = self.rising.len() as u64;
         let other_count = other.rising.len() as u64;
         self.slack.compare_times(other_count, &other.slack, count)
@@ -69,6 +77,22 @@ impl OpenSide {
     ghost use Rattle.fair_rates.specs.Filling.States.{frozen_at, AllRise, AllFrozen, AreInside, HaveNoMore};
     ghost use Rattle.fair_rates.specs.Filling.States.{IsWithinSlack};
     ghost use Rattle.fair_rates.specs.Filling.States.{KeepsAccount, IsGrown};
+
+    /// A side that leaves so much for these users.
+    pub(crate) fn new(slack: Natural, rising: Vec<usize>) -> OpenSide
+        requires { 0 < length rising.items }
+        ensures slack { result.slack ≡ slack }
+        ensures rising { result.rising.items ≡ rising.items }
+    {
+        let (highest, shift) = slack.highest_limbs();
+        let quotient = highest / rising.len() as u128;
+        OpenSide {
+            slack,
+            rising,
+            quotient,
+            shift,
+        }
+    }
 
     /// Counts the users that froze since. `None` where all are frozen now.
     pub(crate) fn count_frozen(
@@ -93,6 +117,7 @@ impl OpenSide {
         let OpenSide {
             mut slack,
             mut rising,
+            ..
         } = self;
         let mut place = 0;
         while place < rising.len() {
@@ -107,15 +132,19 @@ impl OpenSide {
         if rising.is_empty() {
             return None;
         }
-        Some(OpenSide { slack, rising })
+        Some(OpenSide::new(slack, rising))
     }
 
     /// The same side at a scale so many times as great.
     pub(crate) fn grown(self, factor: u64) -> Result<OpenSide, AllocError>
         ensures { IfOk result (λ new. IsGrown factor self new) }
     {
-        let OpenSide { mut slack, rising } = self;
+        let OpenSide {
+            mut slack,
+            rising,
+            ..
+        } = self;
         slack.multiply(factor)?;
-        Ok(OpenSide { slack, rising })
+        Ok(OpenSide::new(slack, rising))
     }
 }

@@ -1,4 +1,4 @@
-use Rattle.std.proofs.Common.{◌∷◌, [], refl, subst, sym, length-append, arith}
+use Rattle.std.proofs.Common.{◌∷◌, [], subst, sym, length-append, arith}
 use Rattle.std.specs.BinaryHeap.{heap_items}
 use Rattle.std.proofs.lemmas.Grind.{common_steps}
 use Rattle.fair_rates.specs.declared.bandwidth.filling.left.LeftSide.{LeftSide}
@@ -18,7 +18,7 @@ loop-side-preserved-in-Continue-branch-2 c = record {
   opened =
       opened_more c.loop-side.yielded c.in-Some.side (heap_items c.loop-side.queue)
       c.loop-side.invariant.opened (heap_items c.push.new.self) c.in_ok-push.ensures.permutation
-      refl refl;
+      c.new.ensures.slack (sym c.new.ensures.rising);
   order = c.in_ok-push.ensures.heap_order c.loop-side.invariant.order;
   count =
       omega (
