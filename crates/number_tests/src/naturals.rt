@@ -146,6 +146,75 @@ fn multiples_are_drained(rt: HostRuntime) -> Result<(), Fail> {
     all_hold::<Drained>(&rt, DRAINED, 19)
 }
 
+/// A number, what is taken from it, what is left, and whether it was all there.
+const SUBTRACTED: &str = "\
+    0x0 0x0 0x0 true
+    0x0 0x1 0x0 false
+    0x91d93080f9b439fc 0x0 0x91d93080f9b439fc true
+    0x91d93080f9b439fc 0x91d93080f9b439fc 0x0 true
+    0x91d93080f9b439fc 0x91d93080f9b439fd 0x0 false
+    0x10000000000000000 0x1 0xffffffffffffffff true
+    0xffffffffffffffffffffffffffffffff 0xffffffffffffffffffffffffffffffff 0x0 true
+    0xfffffffffffffffffffffffffffffffe 0xffffffffffffffffffffffffffffffff 0x0 false
+    0xffffffffffffffffffffffffffffffff 0x100000000000000000000000000000000 0x0 false
+    0x100000000000000000000000000000000 0x100000000000000000000000000000000 0x0 true
+    0x100000000000000000000000000000000 0x1 0xffffffffffffffffffffffffffffffff true
+    0x100000000000000000000000000000000 0xffffffffffffffffffffffffffffffff 0x1 true
+    0x100000000000000000000000000000000 0x0 0x100000000000000000000000000000000 true
+    0x200000000000000000000000000000000 0x1ffffffffffffffffffffffffffffffff 0x1 true
+    0x200000000000000000000000000000000 0x200000000000000000000000000000001 0x0 false
+    0x10000000000000000000000000000000000000000000000000000000000000000 0x1 \
+        0xffffffffffffffffffffffffffffffffffffffffffffffffffffffffffffffff true
+    0x10000000000000000000000000000000000000000000000000000000000000000 0x100000000000000000000000000000001 \
+        0xfffffffffffffffffffffffffffffffeffffffffffffffffffffffffffffffff true
+    0x20000000000000000000000000000000000000000000000000000000000000000 \
+        0xffffffffffffffff00000000000000000000000000000000 \
+        0x1ffffffffffffffff000000000000000100000000000000000000000000000000 true
+    0x10000000000000000000000000000000000000000000000000000000000000000000000000000000\
+        0000000000000000000000000000000000000000000000000000000000000000000000000000000000000000000000000 0x1 \
+        0xffffffffffffffffffffffffffffffffffffffffffffffffffffffffffffffffffffffffffffffff\
+        ffffffffffffffffffffffffffffffffffffffffffffffffffffffffffffffffffffffffffffffffffffffffffffffff true
+    0x20000000000000007000000000000000000000000000000000000000000000000000000000000000\
+        0000000000000000000000000000000000000000000000000000000000000000000000000000000000000000000000000 \
+        0x800000000000000000000000000000000 \
+        0x20000000000000006fffffffffffffffffffffffffffffffffffffffffffffffffffffffffffffff\
+        ffffffffffffffffffffffffffffffffffffffffffffffffffffffffffffffff800000000000000000000000000000000 true
+    0xf8b7d0ac84773ce0ce4cda11b43c589bb120a366f0bbe9cf42f2dc05873f9bd066080f174c96d8e2\
+        5cbd0ba3a1a6bcde3a124c647e02ff05b7c1dce27f7695f56fced11d2bd8a1e6047a8387cdde8d51 \
+        0xab57f9854332c3da675a2e199b58ba8dc498b6e73648245edafa3a387f006745f3194a3b381e53e7\
+        952c466e473a17978df08078a22ea180c5c2c2af3977a654993565976fbaf662f6a730b7b12e9eed \
+        0x4d5fd7274144790666f2abf818e39e0dec87ec7fba73c57067f8a1cd083f348a72eec4dc147884fa\
+        c790c5355a6ca546ac21cbebdbd45d84f1ff1a3345feefa0d6996b85bc1dab830dd352d01cafee64 true
+    0xf8b7d0ac84773ce0ce4cda11b43c589bb120a366f0bbe9cf42f2dc05873f9bd066080f174c96d8e2\
+        5cbd0ba3a1a6bcde3a124c647e02ff05b7c1dce27f7695f56fced11d2bd8a1e6047a8387cdde8d51 \
+        0xf8b7d0ac84773ce0ce4cda11b43c589bb120a366f0bbe9cf42f2dc05873f9bd066080f174c96d8e2\
+        5cbd0ba3a1a6bcde3a124c647e02ff05b7c1dce27f7695f56fced11d2bd8a1e6047a8387cdde8d51 0x0 true
+    0xf8b7d0ac84773ce0ce4cda11b43c589bb120a366f0bbe9cf42f2dc05873f9bd066080f174c96d8e2\
+        5cbd0ba3a1a6bcde3a124c647e02ff05b7c1dce27f7695f56fced11d2bd8a1e6047a8387cdde8d51 \
+        0xf8b7d0ac84773ce0ce4cda11b43c589bb120a366f0bbe9cf42f2dc05873f9bd066080f174c96d8e2\
+        5cbd0ba3a1a6bcde3a124c647e02ff05b7c1dce27f7695f56fced11d2bd8a1e6047a8387cdde8d52 0x0 false
+    0xe27655daa05f11193ceaaf308142c8ea \
+        0xf8b7d0ac84773ce0ce4cda11b43c589bb120a366f0bbe9cf42f2dc05873f9bd066080f174c96d8e2\
+        5cbd0ba3a1a6bcde3a124c647e02ff05b7c1dce27f7695f56fced11d2bd8a1e6047a8387cdde8d51 0x0 false";
+
+/// This is left, and the answer is whether the number covered what was taken.
+struct Subtracted;
+
+impl Case for Subtracted {
+    fn holds(alloc: Global, words: &mut Words<'_>) -> Result<bool, Fail> {
+        let mut n = next_natural(alloc, words)?;
+        let other = next_natural(alloc, words)?;
+        let answer = n.subtract(&other);
+        let is_left = text(alloc, &n)?.as_str() == word(words)?;
+        Ok(is_left && answer == truth(words)?)
+    }
+}
+
+#[test]
+fn numbers_are_subtracted(rt: HostRuntime) -> Result<(), Fail> {
+    all_hold::<Subtracted>(&rt, SUBTRACTED, 24)
+}
+
 /// A number, a factor of 64 bits, and their product.
 const PRODUCTS: &str = "\
     0x0 7 0x0

@@ -69,7 +69,7 @@ fn side_beside(
     let mut left = scale.product(cap)?;
     for user in &users {
         if let Some(parts) = &kept[*user] {
-            left.sub_times(parts, 1);
+            left.subtract(parts);
         }
     }
     users.retain(|user| is_rated(kept, *user));
