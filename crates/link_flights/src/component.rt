@@ -14,6 +14,7 @@ ghost use Rattle.link_flights.specs.Flights.Components.{AllNewTouch};
 ghost use Rattle.link_flights.specs.Flights.Components.{share_an_end as share_end};
 ghost use Rattle.link_flights.specs.Flights.Flight.{flight_at};
 ghost use Rattle.link_flights.specs.Flights.InFlight.{in_units};
+ghost use Rattle.link_flights.specs.Flights.Rated.{IsToldOf};
 
 use crate::flight::Flight;
 use crate::flight_list::Flights;
@@ -101,6 +102,25 @@ impl<P: Peer> Component<P> {
         ensures { result ≡ is_of P.cmp self.now (flight_at 0 one.now) }
     {
         self.has_sender(&one.message.origin) && !self.keeps(one)
+    }
+
+    /// Whether the message in flight at that place is rated anew. Of all, what they keep tells, where
+    /// that is known.
+    pub(crate) fn has_at(
+        &self,
+        kept: &[Option<Rc<Natural>>],
+        at: usize,
+        one: &Flight<P>,
+    ) -> bool
+        requires { self.now.whole ≡ true → IsToldOf P.cmp self.now kept.now at one.now }
+        ensures { result ≡ is_of P.cmp self.now (flight_at 0 one.now) }
+    {
+        if self.whole {
+            if let Some(rate) = kept.get(at) {
+                return rate.is_none();
+            }
+        }
+        self.has(one)
     }
 
     /// Whether it has both ends of the message.
@@ -199,6 +219,7 @@ impl<P: Peer> Flights<P> {
         peers: &Peers<P>,
         pairs: &Pairs<P>,
     ) -> Result<Option<Component<P>>, Error>
+        ensures part { IfOk result (λ found. IfSome found (λ component. component.whole ≡ false)) }
         ensures closed { IfOk result (λ found. IfSome found (λ component.
             is_closed P.cmp component done.now.items (in_units self.now) ≡ true)) }
         ensures level { IfOk result (λ found. IfSome found (λ component.

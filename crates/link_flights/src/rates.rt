@@ -1,5 +1,5 @@
 //! The fair rates of what is in flight.
-ghost use Rattle.std.specs.Prelude.{◌≡◌, ◌≢◌, ℕ, ◌<◌, ◌≤◌, ◌*◌, true, false, map, length, slice_index_or};
+ghost use Rattle.std.specs.Prelude.{◌≡◌, ◌≢◌, ℕ, ◌<◌, ◌≤◌, ◌*◌, true, false, if◌then◌else◌, map, length, slice_index_or};
 ghost use Rattle.std.specs.Prelude.{All, IfOk, IfErr, IfSome, OnOk, option_map, nat_le};
 ghost use Rattle.std.specs.List.{list_all};
 ghost use Rattle.fair_rates.specs.Fairness.Exists.{product};
@@ -15,7 +15,7 @@ ghost use Rattle.fair_rates.specs.Filling.FairParts.{parts_of_level};
 ghost use Rattle.link_flights.specs.Flights.InFlight.{in_units, in_flight};
 ghost use Rattle.link_flights.specs.Flights.Rated.{WereRated, AreFairOf, AreFairBeside, HaveFairRates, kept_by};
 ghost use Rattle.link_flights.specs.Flights.Rated.{rerated, rates_found, AreOthersTimed, IsReratedAt};
-ghost use Rattle.link_flights.specs.Flights.Rated.{AreKeptBut, IsCountedAt, levels_rated};
+ghost use Rattle.link_flights.specs.Flights.Rated.{AreKeptBut, AreKept, AreToldOf, IsCountedAt, levels_rated};
 ghost use Rattle.link_flights.specs.declared.flight.Flight.{Flight as AnyFlight};
 ghost use Rattle.std.specs.declared.rc.Rc.{Rc as AnyRc};
 ghost use Rattle.std.specs.declared.alloc.Global.{Global as Allocator};
@@ -201,10 +201,10 @@ impl<P: Peer> Flights<P> {
     {
         if were_rated && self.list.len() > FEW {
             let touched = self.touched(done, peers, pairs)?;
-            let part = self.rates_beside(&touched, peers, pairs)?;
+            let (part, kept) = self.rates_beside(&touched, peers, pairs)?;
             if part.growth.is_empty() && all_reach(&part, &touched.level) {
                 let unsearched = self.spared_after(touched.whole, part.level_of.len());
-                self.set_rates(&touched, part, true)?;
+                self.set_rates(&touched, &kept, part, true)?;
                 let first = self.first_finish();
                 self.settled = self.list.len();
                 self.first = first;
@@ -215,7 +215,7 @@ impl<P: Peer> Flights<P> {
         let all = Component::whole(self.alloc);
         let rates = self.rates_of_all(&all, peers, pairs)?;
         let unsearched = self.spared_after(true, 0);
-        self.set_rates(&all, rates, were_rated)?;
+        self.set_rates(&all, &[], rates, were_rated)?;
         let first = self.first_finish();
         self.settled = self.list.len();
         self.first = first;
@@ -285,17 +285,20 @@ impl<P: Peer> Flights<P> {
         )
     }
 
-    /// The fair rates of a component, beside those that others keep of which it has an end.
+    /// The fair rates of a component, beside those that others keep of which it has an end, which are
+    /// answered, too.
     fn rates_beside(
         &self,
         component: &Component<P>,
         peers: &Peers<P>,
         pairs: &Pairs<P>,
-    ) -> Result<FairParts, Error>
+    ) -> Result<(FairParts, Vec<Option<Rc<Natural>>>), Error>
         requires near { component.now.whole ≡ false
             → AreNear P.cmp component.now component.now.near.items self.now.list.items }
-        ensures fair { IfOk result (AreFairBeside P.cmp (caps_of P.cmp peers.now.entries pairs.now.entries)
-            self.now.scale component.now (in_units self.now)) }
+        ensures fair { IfOk result (λ found. AreFairBeside P.cmp (caps_of P.cmp peers.now.entries pairs.now.entries)
+            self.now.scale component.now (in_units self.now) found.0) }
+        ensures kept { IfOk result (λ found. component.now.whole ≡ true
+            → AreKept P.cmp component.now found.1.items self.now.list.items) }
         ensures refused { IfErr result (λ e. e ≡ Error.OutOfMemory) }
     {
         let near = if component.whole {
@@ -308,7 +311,7 @@ impl<P: Peer> Flights<P> {
         let caps = CapsInForce { peers, pairs };
         let mut found = fair_parts_beside(self.alloc, &flows, &caps, &kept, &self.scale)?;
         found.level_of = levels_without(self.alloc, &kept, &found.level_of)?;
-        Ok(found)
+        Ok((found, kept))
     }
 
     /// Gives those of the component these rates from the last account on, in the units of these
@@ -316,6 +319,7 @@ impl<P: Peer> Flights<P> {
     fn set_rates(
         &mut self,
         component: &Component<P>,
+        kept: &[Option<Rc<Natural>>],
         rates: FairParts,
         were_timed: bool,
     ) -> Result<(), Error>
@@ -325,6 +329,8 @@ impl<P: Peer> Flights<P> {
         requires scaled { 0 < rates.scale }
         requires others { AreOthersTimed P.cmp component.now self.old.list.items }
         requires far { NoneIsNear P.cmp component.now component.now.far self.old.list.items }
+        requires kept { component.now.whole ≡ true
+            → AreToldOf P.cmp component.now kept.now self.old.list.items }
         ensures rerated { OnOk result (in_units self.new ≡ rerated P.cmp component.now self.old.at
             (product rates.growth.items) (rates_found rates) (in_units self.old)) }
         ensures timed { OnOk result (AreTimed self.new.list.items) }
@@ -340,7 +346,7 @@ impl<P: Peer> Flights<P> {
         let mut at = component.far;
         let mut next = 0;
         while next < rates.level_of.len() {
-            if component.has(&self.list[at]) {
+            if component.has_at(kept, at, &self.list[at]) {
                 let rate = level_at(&levels, rates.level_of[next])?;
                 self.rerate(at, rate, &rates.growth, were_timed)?;
                 next += 1;

@@ -2,13 +2,15 @@
 use Rattle.std.proofs.Common.{◌≡◌, ℕ, zero, suc, ◌*◌, ◌≤◌, Bool, true, false, cond, if◌then◌else◌, not, ◌&&◌}
 use Rattle.std.proofs.Common.{◌||◌, ◌⊎◌, List, [], ◌∷◌, ◌++◌, Option, Some, None, map, length, refl, sym, ap, ◌∙◌}
 use Rattle.std.proofs.Common.{subst, arith, inl, inr}
-use Rattle.std.specs.Prelude.{slice_index, slice_index_or, Contains, option_map, unwrap_or, is_some}
+use Rattle.std.specs.Prelude.{slice_index, slice_index_or, slice_get, Contains, option_map, unwrap_or, is_some}
+use Rattle.std.specs.Option.{is_none}
 use Rattle.std.specs.Cmp.{IsTotalOrder}
 use Rattle.std.specs.declared.cmp.Ordering.{Ordering}
 use Rattle.std.specs.declared.rc.Rc.{Rc}
 use Rattle.std.specs.declared.alloc.Global.{Global}
 use Rattle.std.proofs.lemmas.Bool.{false≢true}
 use Rattle.std.proofs.lemmas.List.{length-map, append-nil}
+use Rattle.std.proofs.lemmas.Option.{same_Some, slice_get-map}
 use Rattle.std.proofs.Math.ListN.{get_or-map}
 use Rattle.fair_rates.proofs.Lists.Sums.{sum_by_same}
 use Rattle.fair_rates.specs.Fairness.Exists.{product}
@@ -27,7 +29,7 @@ use Rattle.link_flights.specs.declared.flight.Flight.{Flight}
 use Rattle.link_flights.specs.Flights.Components.{is_sender, is_receiver, keeps, is_of, touches, those_of, near_of}
 use Rattle.link_flights.specs.Flights.Flight.{UnitFlight, flight_at, flights_at}
 use Rattle.link_flights.specs.Flights.Rated.{sent_messages, rates_of, rates_found, rerated, rated_anew, kept_by}
-use Rattle.link_flights.specs.Flights.Rated.{kept_rates, levels_rated, AreFairBeside}
+use Rattle.link_flights.specs.Flights.Rated.{kept_rates, levels_rated, AreFairBeside, AreKept, AreToldOf}
 use Rattle.link_flights.specs.Flights.RatedFlights.{are_standing}
 use Rattle.link_flights.proofs.Flights.Components.{standing_messages}
 use Rattle.link_flights.proofs.Flights.FairMessages.{same_sides}
@@ -306,6 +308,33 @@ module _ {P : Type 0} (cmp : P → P → Ordering) (component : Component P) whe
       → map kept (flights_at 0 list) ≡ map kept (flights_at now list)
   kept_always now [] = refl
   kept_always now (f ∷ list) = ap (λ ks. kept (flight_at 0 f.value) ∷ ks) (kept_always now list)
+
+-- ---- what is kept tells of each whether it is rated anew
+
+none_read : (rate : Option (Rc ℕ Global)) → is_none (option_map (λ r. r.value) rate) ≡ is_none rate
+none_read None = refl
+none_read (Some rate) = refl
+
+none_if : (b : Bool) (rate : ℕ) → is_none (if b then None else Some rate) ≡ b
+none_if true rate = refl
+none_if false rate = refl
+
+pub told_by_kept : {P : Type 0} (cmp : P → P → Ordering) (component : Component P) (ks : List (Option (Rc ℕ Global)))
+    (fs : List (Rc (Flight P) Global)) → AreKept cmp component ks fs → AreToldOf cmp component ks fs
+told_by_kept {P} cmp component ks fs kept i f there rate known =
+    let value : Option (Rc ℕ Global) → Option ℕ = option_map (λ (r : Rc ℕ Global). r.value) in
+    let u = flight_at 0 f.value in
+    let unit : slice_get (flights_at 0 fs) i ≡ Some u =
+    slice_get-map (λ (g : Rc (Flight P) Global). flight_at 0 g.value) fs i
+    ∙ ap (option_map (λ (g : Rc (Flight P) Global). flight_at 0 g.value)) there in
+    let one : slice_get (map value ks) i ≡ Some (value rate) =
+    slice_get-map value ks i ∙ ap (option_map value) known in
+    let other : slice_get (map (kept_by cmp component) (flights_at 0 fs)) i ≡ Some (kept_by cmp component u) =
+    slice_get-map (kept_by cmp component) (flights_at 0 fs) i ∙ ap (option_map (kept_by cmp component)) unit in
+    sym (none_read rate)
+    ∙ ap is_none (same_Some (value rate) (kept_by cmp component u)
+    (sym one ∙ ap (λ l. slice_get l i) kept ∙ other))
+    ∙ none_if (is_of cmp component u) u.rate
 
 -- ---- the levels of those that are rated, one after another
 

@@ -242,6 +242,7 @@ module _ {P : Type 0} (cmp : P → P → Ordering) (component : Component P) (no
       pub left : All (λ (u : UnitFlight P). u.left * times ≢ 0) (flights_at now rest)
       pub timed : AreTimed to
       pub others : AreOthersTimed cmp component rest
+      pub known : (i : ℕ) (f : Rc (Flight P) Global) → slice_get rest i ≡ Some f → slice_get old (at + i) ≡ Some f
 
     pub none_rerated : length rates ≡ length (those_of cmp component (flights_at now old))
         → All (λ (u : UnitFlight P). u.left * times ≢ 0) (flights_at now old) → AreOthersTimed cmp component old
@@ -257,6 +258,7 @@ module _ {P : Type 0} (cmp : P → P → Ordering) (component : Component P) (no
       left = left;
       timed = λ i f there rated. absurd (none-some f there);
       others = others;
+      known = λ i f there. ap (slice_get old) (let it : 0 + i ≡ i = omega arith in it) ∙ there;
     }
 
 module _ {P : Type 0} {cmp : P → P → Ordering} {component : Component P} {now times : ℕ} {rates : List ℕ}
@@ -293,6 +295,18 @@ module _ {P : Type 0} {cmp : P → P → Ordering} {component : Component P} {no
     others_all : AreOthersTimed cmp component (x ∷ s.rest)
     others_all = subst (AreOthersTimed cmp component) s.was h.others
 
+    known_all : (i : ℕ) (f : Rc (Flight P) Global) → slice_get (x ∷ s.rest) i ≡ Some f
+        → slice_get old (at + i) ≡ Some f
+    known_all i f there = h.known i f (ap (λ l. slice_get l i) s.was ∙ there)
+
+    known_on : (i : ℕ) (f : Rc (Flight P) Global) → slice_get s.rest i ≡ Some f → slice_get old (at + 1 + i) ≡ Some f
+    known_on i f there =
+        ap (slice_get old) (let it : at + 1 + i ≡ at + suc i = omega arith in it) ∙ known_all (suc i) f there
+
+    -- it has stood there from the first
+    pub stood_there : slice_get old at ≡ Some x
+    stood_there = ap (slice_get old) (let it : at ≡ at + 0 = omega arith in it) ∙ known_all 0 x refl
+
     count_all : length rates ≡ next + length (those_of cmp component (u ∷ us))
     count_all = h.one_each ∙ ap (λ l. next + length (those_of cmp component (flights_at now l))) s.was
 
@@ -324,6 +338,7 @@ module _ {P : Type 0} {cmp : P → P → Ordering} {component : Component P} {no
       left = λ i v within. left_all (suc i) v (omega arith);
       timed = more_timed h.to x h.timed (others_all 0 x refl out);
       others = λ i f there. others_all (suc i) f there;
+      known = known_on;
     }
 
     pub one_rerated : (rate : ℕ) (new : List (Rc (Flight P) Global))
@@ -354,6 +369,7 @@ module _ {P : Type 0} {cmp : P → P → Ordering} {component : Component P} {no
           left = λ i v within. left_all (suc i) v (omega arith);
           timed = more_timed h.to y h.timed (λ is. put.timed);
           others = λ i g there. others_all (suc i) g there;
+          known = known_on;
         }
 
   -- where a rate is left to be given, one of them still stands

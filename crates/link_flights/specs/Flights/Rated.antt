@@ -2,7 +2,8 @@
 use Rattle.std.specs.Prelude.{◌≡◌, ℕ, zero, suc, ◌+◌, ◌*◌, ◌⊎◌, Bool, true, false, not}
 use Rattle.std.specs.Prelude.{List, [], ◌∷◌, cond, map}
 use Rattle.std.specs.Prelude.{slice_index, length, Option, Some, None, slice_get, slice_set, slice_index_or, Contains}
-use Rattle.std.specs.Prelude.{◌≤◌, if◌then◌else◌}
+use Rattle.std.specs.Prelude.{◌≤◌, if◌then◌else◌, option_map}
+use Rattle.std.specs.Option.{is_none}
 use Rattle.std.specs.List.{filter, list_all, AllZip}
 use Rattle.std.specs.declared.cmp.Ordering.{Ordering}
 use Rattle.std.specs.declared.rc.Rc.{Rc}
@@ -19,7 +20,7 @@ use Rattle.link_flights.specs.declared.component.Component.{Component}
 use Rattle.link_flights.specs.declared.flight.Flight.{Flight}
 use Rattle.link_flights.specs.declared.flight_list.Flights.{Flights}
 use Rattle.link_pairs.specs.Pairs.Messages.{message_of}
-use Rattle.link_flights.specs.Flights.Flight.{UnitFlight, flight_at, IsTimed, AreTimed}
+use Rattle.link_flights.specs.Flights.Flight.{UnitFlight, flight_at, flights_at, IsTimed, AreTimed}
 use Rattle.link_flights.specs.Flights.Components.{is_of, those_of, near_of}
 use Rattle.link_flights.specs.Flights.InFlight.{in_units}
 use Rattle.link_flights.specs.Flights.RatedFlights.{rated_flight_of}
@@ -142,6 +143,24 @@ rerated cmp component now times (rate ∷ rates) (u ∷ us) = cond (is_of cmp co
 -- the rate that one keeps where it is not of the component
 abbrev pub kept_by : {P : Type 0} → (P → P → Ordering) → Component P → UnitFlight P → Option ℕ
 kept_by cmp component u = if is_of cmp component u then None else Some u.rate
+
+-- these rates are the ones that those of a list keep, in their order
+abbrev pub AreKept : {P : Type 0} → (P → P → Ordering) → Component P → List (Option (Rc ℕ Global))
+    → List (Rc (Flight P) Global) → Type 0
+AreKept cmp component kept list =
+    map (option_map (λ rate. rate.value)) kept ≡ map (kept_by cmp component) (flights_at 0 list)
+
+-- the rate that is kept at a place tells whether the one that stands there is rated anew
+abbrev pub IsToldOf : {P : Type 0} → (P → P → Ordering) → Component P → List (Option (Rc ℕ Global)) → ℕ → Flight P
+    → Type 0
+IsToldOf cmp component kept at f = (rate : Option (Rc ℕ Global)) → slice_get kept at ≡ Some rate
+    → is_none rate ≡ is_of cmp component (flight_at 0 f)
+
+-- so they tell of each of a list
+abbrev pub AreToldOf : {P : Type 0} → (P → P → Ordering) → Component P → List (Option (Rc ℕ Global))
+    → List (Rc (Flight P) Global) → Type 0
+AreToldOf {P} cmp component kept fs =
+    (i : ℕ) (f : Rc (Flight P) Global) → slice_get fs i ≡ Some f → IsToldOf cmp component kept i f.value
 
 -- the rates that those keep which are not of the component, by their places
 abbrev pub kept_rates : {P : Type 0} → (P → P → Ordering) → Component P → List (UnitFlight P) → ℕ → Option ℕ

@@ -1,4 +1,5 @@
 use Rattle.std.proofs.Common.{rules, ◌≡◌, ◌≤◌, IfSome, sym, ◌∙◌, subst, arith}
+use Rattle.std.proofs.lemmas.Option.{none-some}
 use Rattle.link_simulation.specs.Simulation.World.{last_moment}
 use Rattle.link_pairs.specs.Pairs.CapsOf.{caps_of}
 use Rattle.link_flights.specs.Flights.InFlight.{in_units}
@@ -7,6 +8,8 @@ use Rattle.link_flights.proofs.Flights.Components.{same_scale}
 use Rattle.link_flights.proofs.Flights.RatesGiven.{whole_given, component_given, left_given, left_beside}
 use Rattle.link_flights.proofs.Flights.Rerating.{first_finish_is, none_there}
 use Rattle.link_flights.specs.Flights.Flight.{HaveRates}
+use Rattle.link_flights.specs.Flights.Rated.{AreToldOf}
+use Rattle.link_flights.proofs.Flights.Beside.{told_by_kept}
 use Rattle.link_flights.proofs.Flights.Settled.{all_have_got, finish_known, rates_all}
 use Rattle.link_flights.proofs.flight_list.Flights.rate.Goals as goal
 
@@ -26,6 +29,16 @@ set_rates-requires-clause-scaled g c =
     same_scale part old.scale c.in_ok-part.ensures.fair.grown
     (none_there part.growth.items part.growth.len part.growth.ok.0 (sym c.is_empty.ensures ∙ c.if-is_empty.true)) in
     omega (arith, same, old.scaled)
+
+pub set_rates-requires-clause-kept : goal.set_rates-requires-clause-kept
+set_rates-requires-clause-kept g c whole =
+    let list = c.args.self.now.list.items in
+    let touched = c.in_ok-touched.touched in
+    subst (λ l. AreToldOf g.P.Ord.cmp touched l list) (sym c.deref.ensures.value)
+    (told_by_kept g.P.Ord.cmp touched c.in_ok-part.kept.items list (c.in_ok-part.ensures.kept whole))
+
+pub set_rates-requires-2-clause-kept : goal.set_rates-requires-2-clause-kept
+set_rates-requires-2-clause-kept g c whole i f there rate known = absurd (none-some rate known)
 
 pub invariant_of-self : goal.invariant_of-self
 invariant_of-self g c =

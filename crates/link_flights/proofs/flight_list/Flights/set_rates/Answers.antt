@@ -9,10 +9,10 @@ use Rattle.link_flights.specs.Flights.Flight.{flight_at, flights_at, rate_of, Ar
 use Rattle.link_flights.specs.Flights.Rated.{rates_found, IsReratedAt, AreKeptBut}
 use Rattle.link_flights.proofs.Flights.InFlight.{read_at}
 use Rattle.link_flights.proofs.Flights.Rerating.{AreReratedUpTo, none_rerated, stands_next, something_left, has_rate}
-use Rattle.link_flights.proofs.Flights.Rerating.{passed, one_rerated, all_rerated, timed_set}
+use Rattle.link_flights.proofs.Flights.Rerating.{passed, one_rerated, all_rerated, timed_set, stood_there}
 use Rattle.link_flights.proofs.Flights.Rerating.{all_kept, one_counted, by_one, more_stand, to_end, first_passed}
 use Rattle.link_flights.proofs.flight_list.Flights.set_rates.Goals as goal
-use Rattle.link_flights.proofs.flight_list.Flights.set_rates.Goals.{else-has, then-has+in_ok-rate+in_ok-rerate}
+use Rattle.link_flights.proofs.flight_list.Flights.set_rates.Goals.{else-has_at, then-has_at+in_ok-rate+in_ok-rerate}
 
 pub loop-next-init : goal.loop-next-init
 loop-next-init g c =
@@ -47,8 +47,8 @@ rerate-requires-clause-place g c =
     more_stand c.loop-next.invariant.0
     (omega (arith, c.loop-next-test.true, as_many, rates.level_of.ok.0))
 
-pub index-requires-then-has : goal.index-requires-then-has
-index-requires-then-has g c =
+pub has_at-requires : goal.has_at-requires
+has_at-requires g c whole rate there =
     let cmp = g.P.Ord.cmp in
     let component = c.args.component.now in
     let old = c.args.self.now in
@@ -59,10 +59,25 @@ index-requires-then-has g c =
     let lt : c.loop-next.at < length so_far.list.items =
     more_stand h (omega (arith, c.loop-next-test.true, as_many, rates.level_of.ok.0)) in
     let x = c.index.result.now in
-    let test : c.has.result ≡ is_of cmp component (flight_at old.at x.value) =
-    c.has.ensures ∙ ap (λ (f : Flight g.row.P.Denot). is_of cmp component (flight_at 0 f)) c.deref.ensures in
+    c.requires.kept whole c.loop-next.at x (stood_there h x (stands_next h x lt c.index.ensures)) rate there
+    ∙ ap (λ (f : Flight g.row.P.Denot). is_of cmp component (flight_at 0 f)) (sym c.deref.ensures)
+
+pub index-requires-then-has_at : goal.index-requires-then-has_at
+index-requires-then-has_at g c =
+    let cmp = g.P.Ord.cmp in
+    let component = c.args.component.now in
+    let old = c.args.self.now in
+    let rates = c.args.rates in
+    let so_far = c.loop-next.self in
+    let h = c.loop-next.invariant.0 in
+    let as_many = length-map c.args.rates.level_of.items (parts_of_level c.args.rates.levels.items) in
+    let lt : c.loop-next.at < length so_far.list.items =
+    more_stand h (omega (arith, c.loop-next-test.true, as_many, rates.level_of.ok.0)) in
+    let x = c.index.result.now in
+    let test : c.has_at.result ≡ is_of cmp component (flight_at old.at x.value) =
+    c.has_at.ensures ∙ ap (λ (f : Flight g.row.P.Denot). is_of cmp component (flight_at 0 f)) c.deref.ensures in
     let there : c.loop-next.next < length (rates_found rates) =
-    has_rate h x (stands_next h x lt c.index.ensures) (sym test ∙ c.if-has.true) in
+    has_rate h x (stands_next h x lt c.index.ensures) (sym test ∙ c.if-has_at.true) in
     omega (arith, there, length-map rates.level_of.items (parts_of_level rates.levels.items), rates.level_of.ok.0)
 
 pub rerate-requires-clause-left : goal.rerate-requires-clause-left
@@ -77,12 +92,12 @@ rerate-requires-clause-left g c d none =
     let x = c.index.result.now in
     let same : (flight_at old.at x.value).left * growth
     ≡ (flight_at so_far.at (get_or so_far.list.items c.loop-next.at d).value).left
-    * product c.deref-then-has-2.result.now =
+    * product c.deref-then-has_at-2.result.now =
     ap (λ n. (flight_at n x.value).left * growth) (sym c.loop-next.invariant.1)
     ∙ ap (λ (r : _). (flight_at so_far.at r.value).left * growth)
     (c.index.ensures ∙ get_or_default so_far.list.items c.loop-next.at x d lt)
     ∙ ap (λ ns. (flight_at so_far.at (get_or so_far.list.items c.loop-next.at d).value).left * product ns)
-    (sym c.deref-then-has-2.ensures.value) in
+    (sym c.deref-then-has_at-2.ensures.value) in
     something_left h x (stands_next h x lt c.index.ensures) (same ∙ none)
 
 pub overflow_add-next : goal.overflow_add-next
@@ -97,10 +112,10 @@ overflow_add-next g c =
     let lt : c.loop-next.at < length so_far.list.items =
     more_stand h (omega (arith, c.loop-next-test.true, as_many, rates.level_of.ok.0)) in
     let x = c.index.result.now in
-    let test : c.has.result ≡ is_of cmp component (flight_at old.at x.value) =
-    c.has.ensures ∙ ap (λ (f : Flight g.row.P.Denot). is_of cmp component (flight_at 0 f)) c.deref.ensures in
+    let test : c.has_at.result ≡ is_of cmp component (flight_at old.at x.value) =
+    c.has_at.ensures ∙ ap (λ (f : Flight g.row.P.Denot). is_of cmp component (flight_at 0 f)) c.deref.ensures in
     let there : c.loop-next.next < length (rates_found rates) =
-    has_rate h x (stands_next h x lt c.index.ensures) (sym test ∙ c.if-has.true) in
+    has_rate h x (stands_next h x lt c.index.ensures) (sym test ∙ c.if-has_at.true) in
     omega (arith, there, length-map rates.level_of.items (parts_of_level rates.levels.items), rates.level_of.ok.0)
 
 pub returns-in_err-rate-clause-at : goal.returns-in_err-rate-clause-at
@@ -128,27 +143,27 @@ loop-next-preserved g c =
     more_stand h (omega (arith, c.loop-next-test.true, as_many, rates.level_of.ok.0)) in
     let x = c.index.result.now in
     let stands = stands_next h x lt c.index.ensures in
-    let test : c.has.result ≡ is_of cmp component (flight_at old.at x.value) =
-    c.has.ensures ∙ ap (λ (f : Flight g.row.P.Denot). is_of cmp component (flight_at 0 f)) c.deref.ensures in
-    elim c.if-has.branch [
-      | then-has+in_ok-rate+in_ok-rerate w ↦
-          let of = sym test ∙ w.if-has.true in
+    let test : c.has_at.result ≡ is_of cmp component (flight_at old.at x.value) =
+    c.has_at.ensures ∙ ap (λ (f : Flight g.row.P.Denot). is_of cmp component (flight_at 0 f)) c.deref.ensures in
+    elim c.if-has_at.branch [
+      | then-has_at+in_ok-rate+in_ok-rerate w ↦
+          let of = sym test ∙ w.if-has_at.true in
           let room : next < length rates.level_of.items =
           omega (arith, length-map rates.level_of.items (parts_of_level rates.levels.items), has_rate h x stands of) in
-          let place = w.index-then-has.result.now in
+          let place = w.index-then-has_at.result.now in
           let rate : rate_of w.in_ok-rate.rate ≡ get_or (rates_found rates) next 0 =
           w.in_ok-rate.ensures.rate
-          ∙ ap (λ ls. parts_of_level (map (λ level. level.value) ls) place) w.deref-then-has.ensures.value
+          ∙ ap (λ ls. parts_of_level (map (λ level. level.value) ls) place) w.deref-then-has_at.ensures.value
           ∙ ap (λ ls. parts_of_level ls place) c.in_ok-levels.ensures.same
           ∙ sym (read_at (parts_of_level rates.levels.items) rates.level_of.items next place 0 room
-          w.index-then-has.ensures) in
+          w.index-then-has_at.ensures) in
           let new = w.rerate.new.self.list.items in
           let is_rate = rate_of w.in_ok-rate.rate in
           let put : IsReratedAt old.at at growth is_rate so_far.list.items new =
           subst (λ n. IsReratedAt n at growth is_rate so_far.list.items new) at_is
           (subst (λ ns. IsReratedAt so_far.at at (product ns) is_rate so_far.list.items new)
-          w.deref-then-has-2.ensures.value w.in_ok-rerate.ensures.rerated) in (
-            subst (λ (s : _). AreUpTo s.list.items (at + 1) c.if-has.next) (sym w.self-is)
+          w.deref-then-has_at-2.ensures.value w.in_ok-rerate.ensures.rerated) in (
+            subst (λ (s : _). AreUpTo s.list.items (at + 1) c.if-has_at.next) (sym w.self-is)
                 (subst (λ n. AreUpTo new (at + 1) n) (sym w.next-is)
                 (one_rerated h x stands is_rate new put c.index.ensures rate of)),
             ap (λ s. s.at) w.self-is ∙ w.rerate.ensures.at ∙ at_is,
@@ -166,10 +181,10 @@ loop-next-preserved g c =
             ),
             omega (arith, w.next-is, c.loop-next.invariant.5),
           )
-      | else-has w ↦ (
-        subst (λ (s : _). AreUpTo s.list.items (at + 1) c.if-has.next) (sym w.self-is)
+      | else-has_at w ↦ (
+        subst (λ (s : _). AreUpTo s.list.items (at + 1) c.if-has_at.next) (sym w.self-is)
             (subst (λ n. AreUpTo so_far.list.items (at + 1) n) (sym w.next-is)
-            (passed h x stands (sym test ∙ w.if-has.false))),
+            (passed h x stands (sym test ∙ w.if-has_at.false))),
         ap (λ s. s.at) w.self-is ∙ at_is,
         λ timed. subst (λ (s : _). AreTimed s.list.items) (sym w.self-is) (c.loop-next.invariant.2 timed),
         subst (λ (s : _). AreKeptBut s.rated_anew old.list.items s.list.items) (sym w.self-is) c.loop-next.invariant.3,
