@@ -19,11 +19,9 @@ use crate::peer::Peer;
 use std::alloc::{AllocError, Global};
 use std::collections::BTreeMap;
 
-/// A new side has room for so many users, before its list has to move.
-const FEW_USERS: usize = 64;
-
-/// It has room for so many where it is one of many sides.
-const MORE_USERS: usize = 32;
+/// A new side has room for so many users, before its list has to move; and for as many as there are
+/// sides before it.
+const FEW_USERS: usize = 32;
 
 /// Among so many of the first sides, that of a peer is found without a map.
 const FIRST_SIDES: usize = 12;
@@ -286,12 +284,7 @@ fn register<'a, P: Peer, C: KnownCaps<P>>(
         return Ok(());
     };
     let number = registry.sides.len();
-    let room = if number < FIRST_SIDES {
-        FEW_USERS
-    } else {
-        MORE_USERS
-    };
-    let mut users = Vec::with_capacity(alloc, room)?;
+    let mut users = Vec::with_capacity(alloc, number.max(FEW_USERS))?;
     users.push(place)?;
     registry.sides.push(Side { cap, users })?;
     registry.latest.note(&subject, number);
