@@ -19,8 +19,8 @@ use crate::peer::Peer;
 use std::alloc::{AllocError, Global};
 use std::collections::BTreeMap;
 
-/// A new side has room for so many users, before its list has to move; and for as many as there are
-/// sides before it.
+/// A new side has room for so many users more than there are sides before it, before its list has to
+/// move. So each asks for another size, and finds a piece of memory that a side gave back.
 const FEW_USERS: usize = 32;
 
 /// Among so many of the first sides, that of a peer is found without a map.
@@ -284,7 +284,7 @@ fn register<'a, P: Peer, C: KnownCaps<P>>(
         return Ok(());
     };
     let number = registry.sides.len();
-    let mut users = Vec::with_capacity(alloc, number.max(FEW_USERS))?;
+    let mut users = Vec::with_capacity(alloc, number.saturating_add(FEW_USERS))?;
     users.push(place)?;
     registry.sides.push(Side { cap, users })?;
     registry.latest.note(&subject, number);
