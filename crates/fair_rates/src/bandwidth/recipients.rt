@@ -9,6 +9,9 @@ const FEW_PLACES: usize = 8;
 /// There is room for so many recipients, before their list has to move.
 const FEW_RECIPIENTS: usize = 32;
 
+/// So many recipients are kept. Where there are more, to keep one more would move too many.
+const MOST_RECIPIENTS: usize = 512;
+
 /// A recipient, and the number of its side.
 #[derive(Drop)]
 struct Kept<'a, P> {
@@ -65,8 +68,12 @@ impl<'a, P: Peer> Recipients<'a, P> {
         Some(kept.number)
     }
 
-    /// Keeps the number of the side of a recipient that was just searched for in vain.
+    /// Keeps the number of the side of a recipient that was just searched for in vain, unless many are
+    /// kept.
     pub(crate) fn keep(&mut self, peer: &'a P, number: usize) -> Result<(), AllocError> {
+        if self.kept.len() >= MOST_RECIPIENTS {
+            return Ok(());
+        }
         if self.kept.is_empty() {
             self.kept.reserve(FEW_RECIPIENTS)?;
         }

@@ -19,9 +19,12 @@ use crate::peer::Peer;
 use std::alloc::{AllocError, Global};
 use std::collections::BTreeMap;
 
-/// A new side has room for so many users more than there are sides before it, before its list has to
-/// move. So each asks for another size, and finds a piece of memory that a side gave back.
+/// A new side has room for so many users, before its list has to move.
 const FEW_USERS: usize = 32;
+
+/// So many of the first sides have room for as many users more as there are sides before them. So each
+/// asks for another size, and finds a piece of memory that a side gave back.
+const VARIED_SIDES: usize = 256;
 
 /// Among so many of the first sides, that of a peer is found without a map.
 const FIRST_SIDES: usize = 12;
@@ -247,6 +250,15 @@ fn is_noted<P: Peer>(subject: &Subject<P>, number: usize) -> bool
     }
 }
 
+/// How many users the side of that number has room for at first.
+fn room_of(number: usize) -> usize {
+    if number < VARIED_SIDES {
+        number + FEW_USERS
+    } else {
+        FEW_USERS
+    }
+}
+
 /// The cap of what a side limits.
 fn cap_of<P, C: KnownCaps<P>>(subject: &Subject<P>, caps: &C) -> Option<u128>
     ensures { result ≡ cap_of (C.caps caps.now) (subject_of subject.now) }
@@ -284,7 +296,7 @@ fn register<'a, P: Peer, C: KnownCaps<P>>(
         return Ok(());
     };
     let number = registry.sides.len();
-    let mut users = Vec::with_capacity(alloc, number.saturating_add(FEW_USERS))?;
+    let mut users = Vec::with_capacity(alloc, room_of(number))?;
     users.push(place)?;
     registry.sides.push(Side { cap, users })?;
     registry.latest.note(&subject, number);
