@@ -106,12 +106,7 @@ impl<P: Peer> Component<P> {
 
     /// Whether the message in flight at that place is rated anew. Of all, what they keep tells, where
     /// that is known.
-    pub(crate) fn has_at(
-        &self,
-        kept: &[Option<Rc<Natural>>],
-        at: usize,
-        one: &Flight<P>,
-    ) -> bool
+    pub(crate) fn has_at(&self, kept: &[Option<Rc<Natural>>], at: usize, one: &Flight<P>) -> bool
         requires { self.now.whole ≡ true → IsToldOf P.cmp self.now kept.now at one.now }
         ensures { result ≡ is_of P.cmp self.now (flight_at 0 one.now) }
     {
