@@ -8,11 +8,12 @@ pub mod Components
 pub mod Copies
 pub mod Done
 pub mod FairMessages
-pub mod Far
 pub mod Flight
 pub mod Floors
 pub mod InFlight
 pub mod Leaving
+pub mod Near
+pub mod Places
 pub mod Rated
 pub mod RatesGiven
 pub mod Rerating

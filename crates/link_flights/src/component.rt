@@ -4,17 +4,17 @@
 //! may get other rates, and so on from these. But a message whose rate is below a level goes on as it
 //! is, and passes nothing on: below the least rate of what is done, and below the least share that a
 //! cap leaves to each of its users with what is new, filling goes as it went before.
-ghost use Rattle.std.specs.Prelude.{◌≡◌, ◌≤◌, ◌||◌, true, false, not, [], length, IfOk, IfErr, IfSome, OnOk, nat_le};
+ghost use Rattle.std.specs.Prelude.{◌≡◌, ◌<◌, ◌≤◌, ◌||◌, true, false, not, [], length};
+ghost use Rattle.std.specs.Prelude.{IfOk, IfErr, IfSome, OnOk, nat_le};
 ghost use Rattle.std.specs.List.{list_all, list_any};
 ghost use Rattle.fair_rates.specs.Sides.Subjects.{same_peer};
 ghost use Rattle.link_flights.specs.Flights.Components.{is_sender, is_receiver, keeps, is_of, has_both, touches};
-ghost use Rattle.link_flights.specs.Flights.Components.{is_closed, AreNear, NoneIsNear};
+ghost use Rattle.link_flights.specs.Flights.Components.{is_closed, AreNear};
 ghost use Rattle.link_flights.specs.Flights.Components.{StartsWith, ArePassedOn, AreFlagged, AreAllFlagged};
-ghost use Rattle.link_flights.specs.Flights.Components.{AllNewTouch};
+ghost use Rattle.link_flights.specs.Flights.Components.{AllNewTouch, AreSuited, place_of};
 ghost use Rattle.link_flights.specs.Flights.Components.{share_an_end as share_end};
 ghost use Rattle.link_flights.specs.Flights.Flight.{flight_at};
 ghost use Rattle.link_flights.specs.Flights.InFlight.{in_units};
-ghost use Rattle.link_flights.specs.Flights.Rated.{IsToldOf};
 
 use crate::flight::Flight;
 use crate::flight_list::Flights;
@@ -40,10 +40,9 @@ pub(crate) struct Component<P> {
     pub(crate) level: Natural,
     /// Its senders and receivers are those of these.
     pub(crate) joined: Vec<Rc<Message<P>>>,
-    /// Those in flight of which it has an end, in order of start, once it is known.
-    pub(crate) near: Vec<Rc<Flight<P>>>,
-    /// So many at the beginning of the list of what is in flight are not near.
-    pub(crate) far: usize,
+    /// The places of those in flight of which it has an end, in order of start, once they are known.
+    /// Of all, they are all places, and stand nowhere.
+    pub(crate) near: Vec<usize>,
 }
 
 impl<P: Peer> Component<P> {
@@ -57,7 +56,6 @@ impl<P: Peer> Component<P> {
             level,
             joined: Vec::new(alloc),
             near: Vec::new(alloc),
-            far: 0,
         }
     }
 
@@ -65,14 +63,12 @@ impl<P: Peer> Component<P> {
     pub(crate) fn whole(alloc: Global) -> Component<P>
         ensures whole { result.whole ≡ true }
         ensures level { result.level ≡ 0 }
-        ensures far { result.far ≡ 0 }
     {
         Component {
             whole: true,
             level: Natural::from_u64(alloc, 0),
             joined: Vec::new(alloc),
             near: Vec::new(alloc),
-            far: 0,
         }
     }
 
@@ -104,18 +100,16 @@ impl<P: Peer> Component<P> {
         self.has_sender(&one.message.origin) && !self.keeps(one)
     }
 
-    /// Whether the message in flight at that place is rated anew. Of all, what they keep tells, where
-    /// that is known.
-    pub(crate) fn has_at(&self, kept: &[Option<Rc<Natural>>], at: usize, one: &Flight<P>) -> bool
-        requires { self.now.whole ≡ true → IsToldOf P.cmp self.now kept.now at one.now }
-        ensures { result ≡ is_of P.cmp self.now (flight_at 0 one.now) }
+    /// Where the one of that number stands, of those of which it has an end.
+    pub(crate) fn place(&self, number: usize) -> usize
+        requires { self.now.whole ≡ false → number < length self.now.near.items }
+        ensures { result ≡ place_of self.now number }
     {
         if self.whole {
-            if let Some(rate) = kept.get(at) {
-                return rate.is_none();
-            }
+            number
+        } else {
+            self.near[number]
         }
-        self.has(one)
     }
 
     /// Whether it has both ends of the message.
@@ -157,15 +151,6 @@ impl<P: Peer> Component<P> {
         ensures { result ≡ list_all (λ m. has_both P.cmp self.now m.value) done.now.items }
     {
         done.iter().all(|message| self.has_both(message))
-    }
-
-    /// Whether it has both ends of each of these that keeps no rate.
-    fn suits_all(&self, near: &[Rc<Flight<P>>]) -> bool
-        ensures { result ≡ list_all (λ one. keeps self.now (flight_at 0 one.value)
-            || has_both P.cmp self.now one.value.message.value) near.now }
-    {
-        near.iter()
-            .all(|one| self.keeps(one) || self.has_both(&one.message))
     }
 }
 
@@ -221,8 +206,6 @@ impl<P: Peer> Flights<P> {
             IfSome self.now.floor (λ floor. component.level ≤ floor))) }
         ensures near { IfOk result (λ found. IfSome found (λ component.
             AreNear P.cmp component component.near.items self.now.list.items)) }
-        ensures far { IfOk result (λ found. IfSome found (λ component.
-            NoneIsNear P.cmp component component.far self.now.list.items)) }
         ensures refused { IfErr result (λ e. e ≡ Error.OutOfMemory) }
     {
         let level = self.level(peers, pairs)?;
@@ -231,11 +214,9 @@ impl<P: Peer> Flights<P> {
         let Some(flags) = self.grow(&mut component)? else {
             return Ok(None);
         };
-        let far = self.far(&component, &flags);
-        let near = self.near(&component, &flags, far)?;
-        if component.has_all(done) && self.new_touch(&component) && component.suits_all(&near) {
-            component.far = far;
-            component.near = near;
+        let near = self.near(&component, &flags)?;
+        component.near = near;
+        if component.has_all(done) && self.new_touch(&component) && self.suits_near(&component) {
             return Ok(Some(component));
         }
         Ok(None)
@@ -380,45 +361,35 @@ impl<P: Peer> Flights<P> {
         Ok(())
     }
 
-    /// How many at the beginning have no flag.
-    fn far(&self, component: &Component<P>, flags: &[bool]) -> usize
+    /// The places of those in flight of which the component has an end, in order of start.
+    fn near(&self, component: &Component<P>, flags: &[bool]) -> Result<Vec<usize>, Error>
         requires part { component.now.whole ≡ false }
         requires flagged { AreAllFlagged P.cmp component.now.joined.items flags.now self.now.list.items }
-        ensures { NoneIsNear P.cmp component.now result self.now.list.items }
-    {
-        let mut at = 0;
-        while at < self.list.len() {
-            if flags[at] {
-                return at;
-            }
-            at += 1;
-        }
-        at
-    }
-
-    /// Those in flight of which the component has an end, in order of start. Of so many at the
-    /// beginning it has none.
-    fn near(
-        &self,
-        component: &Component<P>,
-        flags: &[bool],
-        far: usize,
-    ) -> Result<Vec<Rc<Flight<P>>>, Error>
-        requires part { component.now.whole ≡ false }
-        requires flagged { AreAllFlagged P.cmp component.now.joined.items flags.now self.now.list.items }
-        requires far { NoneIsNear P.cmp component.now far self.now.list.items }
         ensures near { IfOk result (λ near. AreNear P.cmp component.now near.items self.now.list.items) }
         ensures refused { IfErr result (λ e. e ≡ Error.OutOfMemory) }
     {
         let mut near = Vec::new(self.alloc);
-        for at in far..self.list.len() {
+        for at in 0..self.list.len() {
             let one = &self.list[at];
             if flags[at] && component.touches(&one.message) {
-                let copy = one.clone()?;
-                near.push(copy)?;
+                near.push(at)?;
             }
         }
         Ok(near)
+    }
+
+    /// Whether the component has both ends of each of those near it that keeps no rate.
+    fn suits_near(&self, component: &Component<P>) -> bool
+        requires near { AreNear P.cmp component.now component.now.near.items self.now.list.items }
+        ensures { result ≡ true → AreSuited P.cmp component.now self.now.list.items }
+    {
+        for at in &component.near {
+            let one = &self.list[*at];
+            if !component.keeps(one) && !component.has_both(&one.message) {
+                return false;
+            }
+        }
+        true
     }
 
     /// Whether the component has an end of each of those that have got no rate yet.

@@ -1,5 +1,5 @@
 //! The fair rates of what is in flight.
-ghost use Rattle.std.specs.Prelude.{◌≡◌, ◌≢◌, ℕ, ◌<◌, ◌≤◌, ◌*◌, true, false, if◌then◌else◌, map, length, slice_index_or};
+ghost use Rattle.std.specs.Prelude.{◌≡◌, ◌≢◌, ℕ, ◌<◌, ◌≤◌, ◌*◌, true, false, map, length, slice_index_or};
 ghost use Rattle.std.specs.Prelude.{All, IfOk, IfErr, IfSome, OnOk, option_map, nat_le};
 ghost use Rattle.std.specs.List.{list_all};
 ghost use Rattle.fair_rates.specs.Fairness.Exists.{product};
@@ -8,14 +8,15 @@ ghost use Rattle.link_simulation.specs.Simulation.World.{last_moment};
 ghost use Rattle.link_pairs.specs.Pairs.Messages.{messages};
 ghost use Rattle.fair_rates.specs.Sides.Ends.{flow_of};
 ghost use Rattle.link_pairs.specs.Pairs.CapsOf.{caps_of};
-ghost use Rattle.link_flights.specs.Flights.Components.{those_of, is_closed, AreNear, NoneIsNear};
+ghost use Rattle.link_flights.specs.Flights.Components.{those_of, is_closed, AreNear, those_near};
 ghost use Rattle.link_flights.specs.Flights.Flight.{AreTimed, rate_of, flight_at, flights_at};
 ghost use Rattle.link_flights.specs.Flights.RatedFlights.{are_standing};
 ghost use Rattle.fair_rates.specs.Filling.FairParts.{parts_of_level};
 ghost use Rattle.link_flights.specs.Flights.InFlight.{in_units, in_flight};
-ghost use Rattle.link_flights.specs.Flights.Rated.{WereRated, AreFairOf, AreFairBeside, HaveFairRates, kept_by};
+ghost use Rattle.link_flights.specs.Flights.Rated.{WereRated, AreFairOf, AreFairBeside, HaveFairRates};
 ghost use Rattle.link_flights.specs.Flights.Rated.{rerated, rates_found, AreOthersTimed, IsReratedAt};
-ghost use Rattle.link_flights.specs.Flights.Rated.{AreKeptBut, AreKept, AreToldOf, IsCountedAt, levels_rated};
+ghost use Rattle.link_flights.specs.Flights.Rated.{AreKeptBut, AreKept, AreToldOf, has_no_rate, IsCountedAt};
+ghost use Rattle.link_flights.specs.Flights.Rated.{levels_rated};
 ghost use Rattle.link_flights.specs.declared.flight.Flight.{Flight as AnyFlight};
 ghost use Rattle.std.specs.declared.rc.Rc.{Rc as AnyRc};
 ghost use Rattle.std.specs.declared.alloc.Global.{Global as Allocator};
@@ -95,27 +96,6 @@ fn level_at(levels: &[Rc<Natural>], place: Option<usize>) -> Result<Option<Rc<Na
     }
 }
 
-/// The rates that those keep which are near a component and are not rated anew with it.
-fn kept_rates<P: Peer>(
-    alloc: Global,
-    component: &Component<P>,
-    near: &[Rc<Flight<P>>],
-) -> Result<Vec<Option<Rc<Natural>>>, Error>
-    ensures kept { IfOk result (λ kept. map (option_map (λ rate. rate.value)) kept.items
-        ≡ map (kept_by P.cmp component.now) (flights_at 0 near.now)) }
-    ensures refused { IfErr result (λ e. e ≡ Error.OutOfMemory) }
-{
-    let mut kept = Vec::with_capacity(alloc, near.len())?;
-    for one in near {
-        if component.has(one) {
-            kept.push(None)?;
-        } else {
-            kept.push(Some(one.rate_kept(alloc)?))?;
-        }
-    }
-    Ok(kept)
-}
-
 /// The levels of the flows that keep no rate.
 fn levels_without(
     alloc: Global,
@@ -158,21 +138,11 @@ fn all_reach(rates: &FairParts, level: &Natural) -> bool
         .all(|place| reaches(&rates.levels, *place, level))
 }
 
-/// Who sends to whom among those of a list, in their order.
-fn ends_of<P: Peer>(alloc: Global, list: &[Rc<Flight<P>>]) -> Result<Vec<Ends<'_, P>>, Error>
-    ensures standing { IfOk result (λ ends. (now : ℕ)
-        → are_standing P.cmp (map flow_of ends.items) (flights_at now list.now) ≡ true) }
-    ensures refused { IfErr result (λ e. e ≡ Error.OutOfMemory) }
+/// Whether the one of that number keeps no rate.
+fn is_rated(kept: &[Option<Rc<Natural>>], number: usize) -> bool
+    ensures { result ≡ has_no_rate kept.now number }
 {
-    let mut ends = Vec::with_capacity(alloc, list.len())?;
-    for one in list {
-        ends.push(Ends {
-            origin: &one.message.origin,
-            recipient: &one.message.recipient,
-            delivered: one.message.is_delivered(),
-        })?;
-    }
-    Ok(ends)
+    !matches!(kept.get(number), Some(Some(_)))
 }
 
 impl<P: Peer> Flights<P> {
@@ -234,7 +204,6 @@ impl<P: Peer> Flights<P> {
         ensures level { IfOk result (λ touched. IfSome self.now.floor (λ floor. touched.level ≤ floor)) }
         ensures near { IfOk result (λ touched. touched.whole ≡ false
             → AreNear P.cmp touched touched.near.items self.now.list.items) }
-        ensures far { IfOk result (λ touched. NoneIsNear P.cmp touched touched.far self.now.list.items) }
         ensures refused { IfErr result (λ e. e ≡ Error.OutOfMemory) }
     {
         if self.unsearched == 0 {
@@ -263,6 +232,61 @@ impl<P: Peer> Flights<P> {
         }
     }
 
+    /// How many there are of which the component has an end.
+    fn count(&self, component: &Component<P>) -> usize
+        requires near { component.now.whole ≡ false
+            → AreNear P.cmp component.now component.now.near.items self.now.list.items }
+        ensures { result ≡ length (those_near P.cmp component.now self.now.list.items) }
+    {
+        if component.whole {
+            self.list.len()
+        } else {
+            component.near.len()
+        }
+    }
+
+    /// Who sends to whom among those of which the component has an end, in their order.
+    fn ends_of(&self, component: &Component<P>) -> Result<Vec<Ends<'_, P>>, Error>
+        requires near { component.now.whole ≡ false
+            → AreNear P.cmp component.now component.now.near.items self.now.list.items }
+        ensures standing { IfOk result (λ ends. (now : ℕ) → are_standing P.cmp (map flow_of ends.items)
+            (flights_at now (those_near P.cmp component.now self.now.list.items)) ≡ true) }
+        ensures refused { IfErr result (λ e. e ≡ Error.OutOfMemory) }
+    {
+        let count = self.count(component);
+        let mut ends = Vec::with_capacity(self.alloc, count)?;
+        for number in 0..count {
+            let one = &self.list[component.place(number)];
+            ends.push(Ends {
+                origin: &one.message.origin,
+                recipient: &one.message.recipient,
+                delivered: one.message.is_delivered(),
+            })?;
+        }
+        Ok(ends)
+    }
+
+    /// The rates that those keep of which the component has an end and which are not rated anew with it.
+    fn kept_rates(&self, component: &Component<P>) -> Result<Vec<Option<Rc<Natural>>>, Error>
+        requires near { component.now.whole ≡ false
+            → AreNear P.cmp component.now component.now.near.items self.now.list.items }
+        ensures kept { IfOk result (λ kept. AreKept P.cmp component.now kept.items
+            (those_near P.cmp component.now self.now.list.items)) }
+        ensures refused { IfErr result (λ e. e ≡ Error.OutOfMemory) }
+    {
+        let count = self.count(component);
+        let mut kept = Vec::with_capacity(self.alloc, count)?;
+        for number in 0..count {
+            let one = &self.list[component.place(number)];
+            if component.has(one) {
+                kept.push(None)?;
+            } else {
+                kept.push(Some(one.rate_kept(self.alloc)?))?;
+            }
+        }
+        Ok(kept)
+    }
+
     /// The fair rates of all.
     fn rates_of_all(
         &self,
@@ -276,7 +300,7 @@ impl<P: Peer> Flights<P> {
             self.now.scale all.now (in_units self.now)) }
         ensures refused { IfErr result (λ e. e ≡ Error.OutOfMemory) }
     {
-        let flows = ends_of(self.alloc, &self.list)?;
+        let flows = self.ends_of(all)?;
         fair_parts(
             self.alloc,
             &flows,
@@ -297,17 +321,12 @@ impl<P: Peer> Flights<P> {
             → AreNear P.cmp component.now component.now.near.items self.now.list.items }
         ensures fair { IfOk result (λ found. AreFairBeside P.cmp (caps_of P.cmp peers.now.entries pairs.now.entries)
             self.now.scale component.now (in_units self.now) found.0) }
-        ensures kept { IfOk result (λ found. component.now.whole ≡ true
-            → AreKept P.cmp component.now found.1.items self.now.list.items) }
+        ensures kept { IfOk result (λ found. AreKept P.cmp component.now found.1.items
+            (those_near P.cmp component.now self.now.list.items)) }
         ensures refused { IfErr result (λ e. e ≡ Error.OutOfMemory) }
     {
-        let near = if component.whole {
-            &self.list
-        } else {
-            &component.near
-        };
-        let flows = ends_of(self.alloc, near)?;
-        let kept = kept_rates(self.alloc, component, near)?;
+        let flows = self.ends_of(component)?;
+        let kept = self.kept_rates(component)?;
         let caps = CapsInForce { peers, pairs };
         let mut found = fair_parts_beside(self.alloc, &flows, &caps, &kept, &self.scale)?;
         found.level_of = levels_without(self.alloc, &kept, &found.level_of)?;
@@ -328,9 +347,10 @@ impl<P: Peer> Flights<P> {
         requires left { All (λ u. u.left * product rates.growth.items ≢ 0) (in_units self.old) }
         requires scaled { 0 < rates.scale }
         requires others { AreOthersTimed P.cmp component.now self.old.list.items }
-        requires far { NoneIsNear P.cmp component.now component.now.far self.old.list.items }
-        requires kept { component.now.whole ≡ true
-            → AreToldOf P.cmp component.now kept.now self.old.list.items }
+        requires near { component.now.whole ≡ false
+            → AreNear P.cmp component.now component.now.near.items self.old.list.items }
+        requires kept { AreToldOf P.cmp component.now kept.now
+            (those_near P.cmp component.now self.old.list.items) }
         ensures rerated { OnOk result (in_units self.new ≡ rerated P.cmp component.now self.old.at
             (product rates.growth.items) (rates_found rates) (in_units self.old)) }
         ensures timed { OnOk result (AreTimed self.new.list.items) }
@@ -343,15 +363,13 @@ impl<P: Peer> Flights<P> {
     {
         let levels = shared_levels(self.alloc, rates.levels)?;
         self.rated_anew = 0;
-        let mut at = component.far;
         let mut next = 0;
-        while next < rates.level_of.len() {
-            if component.has_at(kept, at, &self.list[at]) {
+        for number in 0..self.count(component) {
+            if is_rated(kept, number) {
                 let rate = level_at(&levels, rates.level_of[next])?;
-                self.rerate(at, rate, &rates.growth, were_timed)?;
+                self.rerate(component.place(number), rate, &rates.growth, were_timed)?;
                 next += 1;
             }
-            at += 1;
         }
         self.scale = rates.scale;
         Ok(())

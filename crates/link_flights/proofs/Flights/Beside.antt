@@ -1,7 +1,7 @@
 -- Rates that are fair beside those that others keep, from the levels that are found for those near a component.
 use Rattle.std.proofs.Common.{◌≡◌, ℕ, zero, suc, ◌*◌, ◌≤◌, Bool, true, false, cond, if◌then◌else◌, not, ◌&&◌}
 use Rattle.std.proofs.Common.{◌||◌, ◌⊎◌, List, [], ◌∷◌, ◌++◌, Option, Some, None, map, length, refl, sym, ap, ◌∙◌}
-use Rattle.std.proofs.Common.{subst, arith, inl, inr}
+use Rattle.std.proofs.Common.{subst, arith, inl, inr, take, get_or, ◌<◌, ◌+◌}
 use Rattle.std.specs.Prelude.{slice_index, slice_index_or, slice_get, Contains, option_map, unwrap_or, is_some}
 use Rattle.std.specs.Option.{is_none}
 use Rattle.std.specs.Cmp.{IsTotalOrder}
@@ -9,8 +9,8 @@ use Rattle.std.specs.declared.cmp.Ordering.{Ordering}
 use Rattle.std.specs.declared.rc.Rc.{Rc}
 use Rattle.std.specs.declared.alloc.Global.{Global}
 use Rattle.std.proofs.lemmas.Bool.{false≢true}
-use Rattle.std.proofs.lemmas.List.{length-map, append-nil}
-use Rattle.std.proofs.lemmas.Option.{same_Some, slice_get-map}
+use Rattle.std.proofs.lemmas.List.{length-map, append-nil, map-append}
+use Rattle.std.proofs.lemmas.Option.{get_or_from_slice_get, slice_get-map}
 use Rattle.std.proofs.Math.ListN.{get_or-map}
 use Rattle.fair_rates.proofs.Lists.Sums.{sum_by_same}
 use Rattle.fair_rates.specs.Fairness.Exists.{product}
@@ -31,6 +31,7 @@ use Rattle.link_flights.specs.Flights.Flight.{UnitFlight, flight_at, flights_at}
 use Rattle.link_flights.specs.Flights.Rated.{sent_messages, rates_of, rates_found, rerated, rated_anew, kept_by}
 use Rattle.link_flights.specs.Flights.Rated.{kept_rates, levels_rated, AreFairBeside, AreKept, AreToldOf}
 use Rattle.link_flights.specs.Flights.RatedFlights.{are_standing}
+use Rattle.link_flights.proofs.Flights.ComponentFlows.{one_more}
 use Rattle.link_flights.proofs.Flights.Components.{standing_messages}
 use Rattle.link_flights.proofs.Flights.FairMessages.{same_sides}
 use Rattle.link_flights.proofs.Flights.InFlight.{standing_zip, standing_length, filter_yes, filter_no}
@@ -319,22 +320,38 @@ none_if : (b : Bool) (rate : ℕ) → is_none (if b then None else Some rate) �
 none_if true rate = refl
 none_if false rate = refl
 
-pub told_by_kept : {P : Type 0} (cmp : P → P → Ordering) (component : Component P) (ks : List (Option (Rc ℕ Global)))
-    (fs : List (Rc (Flight P) Global)) → AreKept cmp component ks fs → AreToldOf cmp component ks fs
-told_by_kept {P} cmp component ks fs kept i f there rate known =
-    let value : Option (Rc ℕ Global) → Option ℕ = option_map (λ (r : Rc ℕ Global). r.value) in
-    let u = flight_at 0 f.value in
-    let unit : slice_get (flights_at 0 fs) i ≡ Some u =
-    slice_get-map (λ (g : Rc (Flight P) Global). flight_at 0 g.value) fs i
-    ∙ ap (option_map (λ (g : Rc (Flight P) Global). flight_at 0 g.value)) there in
-    let one : slice_get (map value ks) i ≡ Some (value rate) =
-    slice_get-map value ks i ∙ ap (option_map value) known in
-    let other : slice_get (map (kept_by cmp component) (flights_at 0 fs)) i ≡ Some (kept_by cmp component u) =
-    slice_get-map (kept_by cmp component) (flights_at 0 fs) i ∙ ap (option_map (kept_by cmp component)) unit in
-    sym (none_read rate)
-    ∙ ap is_none (same_Some (value rate) (kept_by cmp component u)
-    (sym one ∙ ap (λ l. slice_get l i) kept ∙ other))
-    ∙ none_if (is_of cmp component u) u.rate
+module _ {P : Type 0} (cmp : P → P → Ordering) (component : Component P) where
+  abbrev value : Option (Rc ℕ Global) → Option ℕ
+  value rate = option_map (λ (r : Rc ℕ Global). r.value) rate
+
+  abbrev keeping : List (Rc (Flight P) Global) → List (Option ℕ)
+  keeping fs = map (kept_by cmp component) (flights_at 0 fs)
+
+  -- one more
+  pub kept_more : (ks : List (Option (Rc ℕ Global))) (rate : Option (Rc ℕ Global)) (fs : List (Rc (Flight P) Global))
+      (at : ℕ) (one : Rc (Flight P) Global) → at < length fs → one ≡ get_or fs at one
+      → option_map (λ r. r.value) rate ≡ kept_by cmp component (flight_at 0 one.value)
+      → AreKept cmp component ks (take at fs) → AreKept cmp component (ks ++ rate ∷ []) (take (at + 1) fs)
+  kept_more ks rate fs at one lt is same kept =
+      map-append value ks (rate ∷ []) ∙ ap (λ l. l ++ value rate ∷ []) kept
+      ∙ ap (λ v. keeping (take at fs) ++ v ∷ []) same
+      ∙ sym (ap (map (kept_by cmp component)) (one_more cmp 0 fs at one lt is)
+      ∙ map-append (kept_by cmp component) (flights_at 0 (take at fs)) (flight_at 0 one.value ∷ []))
+
+  pub told_by_kept : (ks : List (Option (Rc ℕ Global))) (fs : List (Rc (Flight P) Global)) → AreKept cmp component ks fs
+      → AreToldOf cmp component ks fs
+  told_by_kept ks fs kept i f there =
+      let u = flight_at 0 f.value in
+      let unit : slice_get (flights_at 0 fs) i ≡ Some u =
+      slice_get-map (λ (g : Rc (Flight P) Global). flight_at 0 g.value) fs i
+      ∙ ap (option_map (λ (g : Rc (Flight P) Global). flight_at 0 g.value)) there in
+      let other : slice_get (keeping fs) i ≡ Some (kept_by cmp component u) =
+      slice_get-map (kept_by cmp component) (flights_at 0 fs) i ∙ ap (option_map (kept_by cmp component)) unit in
+      sym (none_read (get_or ks i None))
+      ∙ ap is_none (sym (get_or-map value ks i None))
+      ∙ ap (λ l. is_none (get_or l i None)) kept
+      ∙ ap is_none (get_or_from_slice_get (keeping fs) i (kept_by cmp component u) None other)
+      ∙ none_if (is_of cmp component u) u.rate
 
 -- ---- the levels of those that are rated, one after another
 

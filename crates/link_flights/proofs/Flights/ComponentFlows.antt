@@ -27,7 +27,7 @@ use Rattle.link_flights.proofs.Flights.InFlight.{StandsForSent, standing_with, f
 module _ {P : Type 0} (cmp : P → P → Ordering) (now : ℕ) (list : List (Rc (Flight P) Global)) (at : ℕ)
     (one : Rc (Flight P) Global) (inside : at < length list) (is : one ≡ get_or list at one) where
   -- those up to the next place
-  one_more : flights_at now (take (at + 1) list)
+  pub one_more : flights_at now (take (at + 1) list)
       ≡ flights_at now (take at list) ++ flight_at now one.value ∷ []
   one_more =
       ap (flights_at now) (take_more list at one inside ∙ ap (λ x. take at list ++ x ∷ []) (sym is))
@@ -65,7 +65,7 @@ none_and false = refl
 -- all are of a component of all senders and receivers, with no level
 module _ {P : Type 0} (cmp : P → P → Ordering) (component : Component P) (whole : component.whole ≡ true)
     (level : component.level ≡ 0) where
-  is_of_whole : (u : UnitFlight P) → is_of cmp component u ≡ true
+  pub is_of_whole : (u : UnitFlight P) → is_of cmp component u ≡ true
   is_of_whole u =
       ap
       (λ b. (b || list_any (λ m. same_peer cmp u.message.origin m.value.origin) component.joined.items)
@@ -97,7 +97,7 @@ module _ {P : Type 0} (cmp : P → P → Ordering) (component : Component P) (wh
   both : (m : Message P) → has_both cmp component m ≡ true
   both m = ap₂ (λ a b. a && b) (sends m.origin) (receives m.recipient)
 
-  touched : (m : Message P) → touches cmp component m ≡ true
+  pub touched : (m : Message P) → touches cmp component m ≡ true
   touched m = ap (λ b. b || is_receiver cmp component m.recipient) (sends m.origin)
 
   pub near_whole : (us : List (UnitFlight P)) → near_of cmp component us ≡ us

@@ -26,7 +26,7 @@ use Rattle.link_flights.specs.declared.component.Component.{Component}
 use Rattle.link_flights.specs.declared.flight.Flight.{Flight}
 use Rattle.link_flights.specs.declared.flight_list.Flights.{Flights}
 use Rattle.link_pairs.specs.declared.message.Message.{Message}
-use Rattle.link_flights.specs.Flights.Components.{is_of, those_of, keeps, touches, NoneIsNear}
+use Rattle.link_flights.specs.Flights.Components.{is_of, those_of, those_near, keeps, touches, places_of}
 use Rattle.link_flights.specs.Flights.Flight.{UnitFlight, rate_of, left_by, flight_at, flights_at, has_come, IsTimed}
 use Rattle.link_flights.specs.Flights.Flight.{AreTimed, IsPutAt}
 use Rattle.link_flights.specs.Flights.InFlight.{in_units, in_flight}
@@ -35,6 +35,7 @@ use Rattle.link_flights.specs.Flights.Rated.{AreOthersTimed, AreKeptBut, IsCount
 use Rattle.link_flights.specs.Flights.RatedFlights.{rated_flight_of, sending_of}
 use Rattle.link_flights.proofs.Flights.Flight.{drained_on, zip_there, all_there, is_past}
 use Rattle.link_flights.proofs.Flights.InFlight.{filter_yes, filter_no}
+use Rattle.link_flights.proofs.Flights.Places.{places_yes, places_no, first_left, none_left, past_end}
 use Rattle.link_flights.proofs.Flights.Units.{drained_units, units_positive, no_units_left, nothing_left}
 use Rattle.link_flights.proofs.Flights.Units.{other_factor}
 
@@ -242,7 +243,6 @@ module _ {P : Type 0} (cmp : P → P → Ordering) (component : Component P) (no
       pub left : All (λ (u : UnitFlight P). u.left * times ≢ 0) (flights_at now rest)
       pub timed : AreTimed to
       pub others : AreOthersTimed cmp component rest
-      pub known : (i : ℕ) (f : Rc (Flight P) Global) → slice_get rest i ≡ Some f → slice_get old (at + i) ≡ Some f
 
     pub none_rerated : length rates ≡ length (those_of cmp component (flights_at now old))
         → All (λ (u : UnitFlight P). u.left * times ≢ 0) (flights_at now old) → AreOthersTimed cmp component old
@@ -258,7 +258,6 @@ module _ {P : Type 0} (cmp : P → P → Ordering) (component : Component P) (no
       left = left;
       timed = λ i f there rated. absurd (none-some f there);
       others = others;
-      known = λ i f there. ap (slice_get old) (let it : 0 + i ≡ i = omega arith in it) ∙ there;
     }
 
 module _ {P : Type 0} {cmp : P → P → Ordering} {component : Component P} {now times : ℕ} {rates : List ℕ}
@@ -295,18 +294,6 @@ module _ {P : Type 0} {cmp : P → P → Ordering} {component : Component P} {no
     others_all : AreOthersTimed cmp component (x ∷ s.rest)
     others_all = subst (AreOthersTimed cmp component) s.was h.others
 
-    known_all : (i : ℕ) (f : Rc (Flight P) Global) → slice_get (x ∷ s.rest) i ≡ Some f
-        → slice_get old (at + i) ≡ Some f
-    known_all i f there = h.known i f (ap (λ l. slice_get l i) s.was ∙ there)
-
-    known_on : (i : ℕ) (f : Rc (Flight P) Global) → slice_get s.rest i ≡ Some f → slice_get old (at + 1 + i) ≡ Some f
-    known_on i f there =
-        ap (slice_get old) (let it : at + 1 + i ≡ at + suc i = omega arith in it) ∙ known_all (suc i) f there
-
-    -- it has stood there from the first
-    pub stood_there : slice_get old at ≡ Some x
-    stood_there = ap (slice_get old) (let it : at ≡ at + 0 = omega arith in it) ∙ known_all 0 x refl
-
     count_all : length rates ≡ next + length (those_of cmp component (u ∷ us))
     count_all = h.one_each ∙ ap (λ l. next + length (those_of cmp component (flights_at now l))) s.was
 
@@ -316,6 +303,17 @@ module _ {P : Type 0} {cmp : P → P → Ordering} {component : Component P} {no
         h.comes
         ∙ ap (λ l. flights_at now h.to ++ rerated cmp component now times (drop next rates) (flights_at now l))
         s.was
+
+    stands_in : so_far ≡ h.to ++ x ∷ s.rest
+    stands_in = h.is ∙ ap (λ l. h.to ++ l) s.was
+
+    pub stands_within : at < length so_far
+    stands_within = omega (arith, h.at_is, ap length stands_in, length-append h.to (x ∷ s.rest))
+
+    pub stands_here : (d : Rc (Flight P) Global) → x ≡ get_or so_far at d
+    stands_here d =
+        sym (ap (λ l. get_or l at d) stands_in ∙ ap (λ n. get_or (h.to ++ x ∷ s.rest) n d) h.at_is
+        ∙ get_or-seam h.to s.rest x d)
 
     pub something_left : u.left * times ≢ 0
     something_left = left_all 0 u (omega arith)
@@ -338,7 +336,6 @@ module _ {P : Type 0} {cmp : P → P → Ordering} {component : Component P} {no
       left = λ i v within. left_all (suc i) v (omega arith);
       timed = more_timed h.to x h.timed (others_all 0 x refl out);
       others = λ i f there. others_all (suc i) f there;
-      known = known_on;
     }
 
     pub one_rerated : (rate : ℕ) (new : List (Rc (Flight P) Global))
@@ -369,7 +366,6 @@ module _ {P : Type 0} {cmp : P → P → Ordering} {component : Component P} {no
           left = λ i v within. left_all (suc i) v (omega arith);
           timed = more_timed h.to y h.timed (λ is. put.timed);
           others = λ i g there. others_all (suc i) g there;
-          known = known_on;
         }
 
   -- where a rate is left to be given, one of them still stands
@@ -384,14 +380,6 @@ module _ {P : Type 0} {cmp : P → P → Ordering} {component : Component P} {no
       by_rest (z ∷ rest) e =
           let whole = ap length (h.is ∙ ap (λ l. h.to ++ l) e) in
           omega (arith, h.at_is, whole, length-append h.to (z ∷ rest))
-
-  -- what stands at the place is what is left to be looked at
-  there_next : (z : Rc (Flight P) Global) (s : StandsNext z) → slice_get so_far at ≡ Some z
-  there_next z s =
-      let all : so_far ≡ h.to ++ z ∷ s.rest = h.is ∙ ap (λ l. h.to ++ l) s.was in
-      let inside : length h.to < length (h.to ++ z ∷ s.rest) = omega (arith, length-append h.to (z ∷ s.rest)) in
-      ap (λ l. slice_get l at) all ∙ ap (slice_get (h.to ++ z ∷ s.rest)) h.at_is
-      ∙ slice_get-get_or (h.to ++ z ∷ s.rest) (length h.to) z inside ∙ ap Some (get_or-seam h.to s.rest z z)
 
   -- all of them
   pub record AreAllRerated : Type 0 where
@@ -451,28 +439,171 @@ module _ {P : Type 0} {cmp : P → P → Ordering} {component : Component P} {no
           omega (arith, e, before, h.at_is, length-append h.to h.rest, after, g.at_is, length-append g.to g.rest) in
           later g fewer
 
-  -- one more at the beginning that is not of the component is passed over
-  one_passed : (n : ℕ) → NoneIsNear cmp component (suc n) so_far
-      → (h : AreReratedUpTo cmp component now times rates old so_far n 0) (rest : List (Rc (Flight P) Global))
-      → h.rest ≡ rest → AreReratedUpTo cmp component now times rates old so_far (suc n) 0
-  one_passed n far h [] r =
-      let whole = ap length (h.is ∙ ap (λ l. h.to ++ l) r) in
-      absurd (omega (arith, far.0, h.at_is, whole, length-append h.to []))
-  one_passed n far h (z ∷ rest) r =
-      let s : StandsNext h z = record { rest = rest; was = r } in
-      let more : AreReratedUpTo cmp component now times rates old so_far (n + 1) 0 =
-      passed h z s (apart_is_out cmp component (flight_at now z.value) (far.1 n z (omega arith) (there_next h z s))) in
-      subst (λ k. AreReratedUpTo cmp component now times rates old so_far k 0)
-      (let it : n + 1 ≡ suc n = omega arith in it) more
+-- ---- from one of which the component has an end to the next
 
-  -- those at the beginning that are not of the component are passed over
-  pub first_passed : (n : ℕ) → NoneIsNear cmp component n so_far
-      → AreReratedUpTo cmp component now times rates old so_far 0 0
-      → AreReratedUpTo cmp component now times rates old so_far n 0
-  first_passed zero far h = h
-  first_passed (suc n) far h =
-      let before = first_passed n (omega (arith, far.0), λ at one lt there. far.1 at one (omega (arith, lt)) there) h in
-      one_passed n far before before.rest refl
+module _ {P : Type 0} (cmp : P → P → Ordering) (component : Component P) where
+  abbrev is_near : Rc (Flight P) Global → Bool
+  is_near f = touches cmp component f.value.message.value
+
+  -- where no more come, none of the others is of the component
+  none_of_far : (now : ℕ) (rest : List (Rc (Flight P) Global)) → those_near cmp component rest ≡ []
+      → those_of cmp component (flights_at now rest) ≡ []
+  none_of_far now [] none = refl
+  none_of_far now (z ∷ rest) none = by_test (is_near z) refl (none_of_far now rest)
+    where
+      by_test : (b : Bool) → is_near z ≡ b
+          → (those_near cmp component rest ≡ [] → those_of cmp component (flights_at now rest) ≡ [])
+          → those_of cmp component (flights_at now (z ∷ rest)) ≡ []
+      by_test true here later = absurd (omega (arith, ap length (sym (filter_yes is_near z rest here) ∙ none)))
+      by_test false far later =
+          filter_no (is_of cmp component) (flight_at now z.value) (flights_at now rest)
+          (apart_is_out cmp component (flight_at now z.value) far)
+          ∙ later (sym (filter_no is_near z rest far) ∙ none)
+
+module _ {P : Type 0} (cmp : P → P → Ordering) (component : Component P) (now times : ℕ) (rates : List ℕ)
+    (old so_far : List (Rc (Flight P) Global)) where
+  abbrev touching : Rc (Flight P) Global → Bool
+  touching f = touches cmp component f.value.message.value
+
+  -- of those of which it has an end, the ones from a number on are still to come
+  pub record AreToCome (number at next : ℕ)
+      (h : AreReratedUpTo cmp component now times rates old so_far at next) : Type 0
+    where
+      pub places : drop number (places_of touching 0 old) ≡ places_of touching at h.rest
+      pub near : drop number (those_near cmp component old) ≡ those_near cmp component h.rest
+
+  -- the next one, which stands at its place
+  pub record IsNext (number next from : ℕ) : Type 0 where
+    pub at : ℕ
+    pub after : from ≤ at
+    pub up_to : AreReratedUpTo cmp component now times rates old so_far at next
+    pub x : Rc (Flight P) Global
+    pub stands : StandsNext up_to x
+    pub place : get_or (places_of touching 0 old) number 0 ≡ at
+    pub there : slice_get (those_near cmp component old) number ≡ Some x
+    pub places : drop (number + 1) (places_of touching 0 old) ≡ places_of touching (at + 1) stands.rest
+    pub near : drop (number + 1) (those_near cmp component old) ≡ those_near cmp component stands.rest
+
+  module _ (number next from : ℕ) (lt : number < length (those_near cmp component old)) where
+    none_comes : (at : ℕ) (h : AreReratedUpTo cmp component now times rates old so_far at next)
+        → AreToCome number at next h → h.rest ≡ [] → IsNext number next from
+    none_comes at h ahead r =
+        absurd (omega (
+          arith,
+          lt,
+          none_left (those_near cmp component old) number
+              (ahead.near ∙ ap (those_near cmp component) r),
+        ))
+
+    here_next : (at : ℕ) (h : AreReratedUpTo cmp component now times rates old so_far at next)
+        → AreToCome number at next h
+        → from ≤ at → (z : Rc (Flight P) Global) (rest : List (Rc (Flight P) Global)) → h.rest ≡ z ∷ rest
+        → touching z ≡ true → IsNext number next from
+    here_next at h ahead le z rest r here =
+        let one = first_left (places_of touching 0 old) number at (places_of touching (suc at) rest)
+        (ahead.places ∙ ap (places_of touching at) r ∙ places_yes touching at z rest here) in
+        let other = first_left (those_near cmp component old) number z (those_near cmp component rest)
+        (ahead.near ∙ ap (those_near cmp component) r ∙ filter_yes touching z rest here) in
+        record {
+          at = at;
+          after = le;
+          up_to = h;
+          x = z;
+          stands = record { rest = rest; was = r };
+          place = get_or_from_slice_get (places_of touching 0 old) number at 0 one.0;
+          there = other.0;
+          places = one.1 ∙ ap (λ k. places_of touching k rest) (let it : suc at ≡ at + 1 = omega arith in it);
+          near = other.1;
+        }
+
+    pub next_comes : (n at : ℕ) (h : AreReratedUpTo cmp component now times rates old so_far at next)
+        → length h.rest ≡ n → AreToCome number at next h → from ≤ at → IsNext number next from
+    unfolding passed
+    next_comes zero at h e ahead le = by_rest h.rest refl
+      where
+        by_rest : (rest : List (Rc (Flight P) Global)) → h.rest ≡ rest → IsNext number next from
+        by_rest [] r = none_comes at h ahead r
+        by_rest (z ∷ rest) r = absurd (omega (arith, e, ap length r))
+    next_comes (suc n) at h e ahead le =
+        by_rest h.rest refl (λ g f later. next_comes n (at + 1) g f later (omega (arith, le)))
+      where
+        by_rest : (rest : List (Rc (Flight P) Global)) → h.rest ≡ rest
+            → ((g : AreReratedUpTo cmp component now times rates old so_far (at + 1) next) → length g.rest ≡ n
+            → AreToCome number (at + 1) next g → IsNext number next from)
+            → IsNext number next from
+        by_rest [] r later = none_comes at h ahead r
+        by_rest (z ∷ rest) r later = by_test (touching z) refl
+          where
+            s : StandsNext h z
+            s = record { rest = rest; was = r }
+
+            by_test : (b : Bool) → touching z ≡ b → IsNext number next from
+            by_test true here = here_next at h ahead le z rest r here
+            by_test false far =
+                let g = passed h z s (apart_is_out cmp component (flight_at now z.value) far) in
+                let same : length g.rest ≡ length rest = refl in
+                later g (omega (arith, e, ap length r, same))
+                (record {
+                  places = ahead.places ∙ ap (places_of touching at) r ∙ places_no touching at z rest far
+                      ∙ ap (λ k. places_of touching k rest) (let it : suc at ≡ at + 1 = omega arith in it);
+                  near = ahead.near ∙ ap (those_near cmp component) r ∙ filter_no touching z rest far;
+                })
+
+  -- one has been looked at
+  pub more_to_come : (number next from : ℕ) (n : IsNext number next from)
+      (out : is_of cmp component (flight_at now n.x.value) ≡ false)
+      → AreToCome (number + 1) (n.at + 1) next (passed n.up_to n.x n.stands out)
+  unfolding passed
+  more_to_come number next from n out = record { places = n.places; near = n.near }
+
+  pub none_more : (number at next : ℕ) (h : AreReratedUpTo cmp component now times rates old so_far at next)
+      → AreToCome number at next h → length (those_near cmp component old) ≤ number → length rates ≤ next
+  none_more number at next h ahead le =
+      let none : those_near cmp component h.rest ≡ [] =
+      sym ahead.near ∙ past_end (those_near cmp component old) number le in
+      omega (arith, h.one_each, ap length (none_of_far cmp component now h.rest none))
+
+module _ {P : Type 0} (cmp : P → P → Ordering) (component : Component P) (now times : ℕ) (rates : List ℕ)
+    (old so_far new : List (Rc (Flight P) Global)) where
+  -- one has got its rate
+  pub rerated_to_come : (number next from : ℕ) (n : IsNext cmp component now times rates old so_far number next from)
+      (rate : ℕ) (put : IsReratedAt now n.at times rate so_far new) (here : n.x ≡ get_or so_far n.at n.x)
+      (rate_is : rate ≡ get_or rates next 0) (of : is_of cmp component (flight_at now n.x.value) ≡ true)
+      → AreToCome cmp component now times rates old new (number + 1) (n.at + 1) (next + 1)
+      (one_rerated n.up_to n.x n.stands rate new put here rate_is of)
+  unfolding one_rerated
+  rerated_to_come number next from n rate put here rate_is of = record { places = n.places; near = n.near }
+
+  -- none has yet been looked at
+  pub all_to_come : (one_each : length rates ≡ length (those_of cmp component (flights_at now old)))
+      (left : All (λ (u : UnitFlight P). u.left * times ≢ 0) (flights_at now old))
+      (others : AreOthersTimed cmp component old)
+      → AreToCome cmp component now times rates old old 0 0 0
+      (none_rerated cmp component now times rates old one_each left others)
+  unfolding none_rerated
+  all_to_come one_each left others = record { places = refl; near = refl }
+
+-- so many of which the component has an end are looked at, and so many have got their rates
+pub record IsSoFar {P : Type 0} {a : _} {b : _} {c : _} (cmp : P → P → Ordering) (component : Component P) (times : ℕ)
+    (rates : List ℕ) (were_timed : Bool) (account : ℕ) (old : List (Rc (Flight P) Global)) (now : Flights P a b c)
+    (number next : ℕ) : Type 0 where
+  pub place : ℕ
+  pub up_to : AreReratedUpTo cmp component account times rates old now.list.items place next
+  pub to_come : AreToCome cmp component account times rates old now.list.items number place next up_to
+  pub at : now.at ≡ account
+  pub timed : were_timed ≡ true → AreTimed now.list.items
+  pub kept : AreKeptBut now.rated_anew old now.list.items
+  pub counted : now.rated_anew ≤ next
+  pub behind : next ≤ place
+
+pub next_in : {P : Type 0} {a : _} {b : _} {c : _} {cmp : P → P → Ordering} {component : Component P} {times : ℕ}
+    {rates : List ℕ} {were_timed : Bool} {account : ℕ} {old : List (Rc (Flight P) Global)} {now : Flights P a b c}
+    {number next : ℕ} (h : IsSoFar cmp component times rates were_timed account old now number next)
+    → number < length (those_near cmp component old)
+    → IsNext cmp component account times rates old now.list.items number next h.place
+next_in {cmp = cmp} {component} {times} {rates} {were_timed} {account} {old} {now} {number} {next} h lt =
+    next_comes cmp component account times rates old now.list.items number next h.place lt
+    (length h.up_to.rest) h.place h.up_to refl h.to_come (omega arith)
 
 -- ---- what is spent at a moment
 

@@ -10,12 +10,14 @@ use Rattle.std.specs.declared.rc.Rc.{Rc}
 use Rattle.std.specs.declared.alloc.Global.{Global}
 use Rattle.std.proofs.lemmas.Bool.{cases_lt, false≢true, and_from}
 use Rattle.std.proofs.lemmas.Cmp.{eq_by_cmp_equiv}
-use Rattle.std.proofs.lemmas.List.{append-nil, append_assoc, take_more, take_all, take-append-le, map-append}
+use Rattle.link_flights.proofs.Flights.InFlight.{filter_yes, filter_no}
+use Rattle.link_flights.proofs.Flights.Places.{places_more}
+use Rattle.std.proofs.lemmas.List.{length-take-le, append-nil, append_assoc, take_more, take_all, take-append-le}
 use Rattle.std.proofs.Math.Seq.{take-append_seam}
 use Rattle.std.proofs.lemmas.List.{length-set, get_or-set_same, get_or-set_other}
-use Rattle.std.proofs.lemmas.List.Elements.{All-more, filter-append}
+use Rattle.std.proofs.lemmas.List.Elements.{All-more}
 use Rattle.std.proofs.lemmas.List.Folds.{list_all-map, list_any_none}
-use Rattle.std.proofs.lemmas.Option.{none-some, same_Some, slice_get-get_or, get_or_from_slice_get}
+use Rattle.std.proofs.lemmas.Option.{none-some, same_Some, get_or_from_slice_get}
 use Rattle.fair_rates.specs.Sides.Subjects.{same_peer}
 use Rattle.fair_rates.proofs.Lists.Booleans.{by_bool, first_of_both, second_of_both}
 use Rattle.fair_rates.proofs.Lists.Members.{In, in_map, in_filter, get_in, all_pass, all_passed}
@@ -23,7 +25,8 @@ use Rattle.link_pairs.specs.declared.message.Message.{Message}
 use Rattle.link_flights.specs.declared.component.Component.{Component}
 use Rattle.link_flights.specs.declared.flight.Flight.{Flight}
 use Rattle.link_flights.specs.Flights.Flight.{UnitFlight, flight_at, flights_at, HaveRates}
-use Rattle.link_flights.specs.Flights.Components.{keeps, has_both, touches, suits, is_closed, AreNear, NoneIsNear}
+use Rattle.link_flights.specs.Flights.Components.{keeps, has_both, touches, suits, is_closed}
+use Rattle.link_flights.specs.Flights.Components.{AreNear, AreSuited, near_of, those_near, places_of}
 use Rattle.link_flights.specs.Flights.Components.{share_an_end, StartsWith, ArePassedOn, AreFlagged, AreAllFlagged}
 use Rattle.link_flights.specs.Flights.Components.{AllNewTouch}
 
@@ -229,74 +232,48 @@ module _ {P : Type 0} (cmp : P → P → Ordering) where
         (ap₂ (λ a b. a || b) part (no_sender component.joined.items all.1))
         (ap₂ (λ a b. a || b) part (no_receiver component.joined.items all.1))
 
-  -- ---- those that are far, and those that are near
+  -- ---- those that are near
 
   module _ (component : Component P) where
-    -- one more is far
-    pub far_more : (n : ℕ) (list : List (Rc (Flight P) Global)) → NoneIsNear cmp component n list → n < length list
-        → ((one : Rc (Flight P) Global) → slice_get list n ≡ Some one
-        → touches cmp component one.value.message.value ≡ false) → NoneIsNear cmp component (n + 1) list
-    far_more n list far inside apart = (
-      omega (arith, inside),
-      each_more (λ i (one : Rc (Flight P) Global). touches cmp component one.value.message.value ≡ false) list n far.1
-          apart,
-    )
-
     abbrev is_touched : UnitFlight P → Bool
     is_touched u = touches cmp component u.message
 
-    -- one more, after those that are near so far
+    abbrev is_near : Rc (Flight P) Global → Bool
+    is_near f = touches cmp component f.value.message.value
+
+    pub near_read : (now : ℕ) (list : List (Rc (Flight P) Global))
+        → flights_at now (those_near cmp component list) ≡ near_of cmp component (flights_at now list)
+    near_read now [] = refl
+    near_read now (f ∷ list) = by_test (is_near f) refl (near_read now list)
+      where
+        by_test : (b : Bool) → is_near f ≡ b
+            → flights_at now (filter is_near list) ≡ filter is_touched (flights_at now list)
+            → flights_at now (filter is_near (f ∷ list)) ≡ filter is_touched (flights_at now (f ∷ list))
+        by_test true here ih =
+            ap (flights_at now) (filter_yes is_near f list here) ∙ ap (λ us. flight_at now f.value ∷ us) ih
+            ∙ sym (filter_yes is_touched (flight_at now f.value) (flights_at now list) here)
+        by_test false far ih =
+            ap (flights_at now) (filter_no is_near f list far) ∙ ih
+            ∙ sym (filter_no is_touched (flight_at now f.value) (flights_at now list) far)
+
+    -- one more place, after those that are near so far
     module _ (list : List (Rc (Flight P) Global)) (at : ℕ) (one : Rc (Flight P) Global) (inside : at < length list)
-        (is : one ≡ get_or list at one) (near : List (Rc (Flight P) Global))
-        (so_far : AreNear cmp component near (take at list)) where
-      near_with : (now : ℕ) → filter is_touched (flights_at now (take (at + 1) list))
-          ≡ flights_at now near ++ filter is_touched (flight_at now one.value ∷ [])
-      near_with now =
-          ap (λ (fs : List (Rc (Flight P) Global)). filter is_touched (flights_at now fs))
+        (is : one ≡ get_or list at one) (near : List ℕ) (so_far : AreNear cmp component near (take at list)) where
+      near_with : places_of is_near 0 (take (at + 1) list) ≡ near ++ cond (is_near one) (at ∷ []) []
+      near_with =
+          ap (places_of is_near 0)
           (take_more list at one inside ∙ ap (λ (x : Rc (Flight P) Global). take at list ++ x ∷ []) (sym is))
-          ∙ ap (filter is_touched)
-          (map-append (λ (f : Rc (Flight P) Global). flight_at now f.value) (take at list) (one ∷ []))
-          ∙ filter-append is_touched (flights_at now (take at list)) (flight_at now one.value ∷ [])
-          ∙ ap (λ us. us ++ filter is_touched (flight_at now one.value ∷ [])) (sym (so_far now))
+          ∙ places_more is_near 0 (take at list) one
+          ∙ ap (λ l. l ++ cond (is_near one) ((0 + length (take at list)) ∷ []) []) (sym so_far)
+          ∙ ap (λ n. near ++ cond (is_near one) (n ∷ []) []) (omega (arith, length-take-le at list))
 
-      -- it is near, too
-      pub near_more : touches cmp component one.value.message.value ≡ true → (copy : Rc (Flight P) Global)
-          → copy.value ≡ one.value → AreNear cmp component (near ++ copy ∷ []) (take (at + 1) list)
-      near_more here copy same now =
-          map-append (λ (f : Rc (Flight P) Global). flight_at now f.value) near (copy ∷ [])
-          ∙ ap (λ (f : Flight P). flights_at now near ++ flight_at now f ∷ []) same
-          ∙ sym (near_with now ∙ ap (λ b. flights_at now near ++ cond b (flight_at now one.value ∷ []) []) here)
+      pub near_more : touches cmp component one.value.message.value ≡ true
+          → AreNear cmp component (near ++ at ∷ []) (take (at + 1) list)
+      near_more here = sym (near_with ∙ ap (λ b. near ++ cond b (at ∷ []) []) here)
 
-      -- it is not
       pub near_still : touches cmp component one.value.message.value ≡ false
           → AreNear cmp component near (take (at + 1) list)
-      near_still here now = sym (near_with now
-          ∙ ap (λ b. flights_at now near ++ cond b (flight_at now one.value ∷ []) []) here
-          ∙ append-nil (flights_at now near))
-
-    own_there : (l : List (Rc (Flight P) Global)) (k : ℕ) (d : Rc (Flight P) Global) → k < length l
-        → get_or l k d ≡ get_or l k (get_or l k d)
-    own_there l k d below = sym (get_or_from_slice_get l k (get_or l k d) (get_or l k d) (slice_get-get_or l k d below))
-
-    gathered_one : (n : ℕ) (d : Rc (Flight P) Global) (l : List (Rc (Flight P) Global))
-        → NoneIsNear cmp component (suc n) l → AreNear cmp component [] (take n l)
-        → AreNear cmp component [] (take (suc n) l)
-    gathered_one n d l far before =
-        let inside : n < length l = omega (arith, far.0) in
-        let x : Rc (Flight P) Global = get_or l n d in
-        let there : slice_get l n ≡ Some x = slice_get-get_or l n d inside in
-        let all : AreNear cmp component [] (take (n + 1) l) =
-        near_still l n x inside (own_there l n d inside) [] before (far.1 n x (omega arith) there) in
-        subst (λ k. AreNear cmp component [] (take k l)) (let it : n + 1 ≡ suc n = omega arith in it) all
-
-    -- of those that are far, none is near
-    pub none_gathered : (n : ℕ) (list : List (Rc (Flight P) Global)) → NoneIsNear cmp component n list
-        → AreNear cmp component [] (take n list)
-    none_gathered zero list far = λ now. refl
-    none_gathered (suc n) [] far = absurd (omega (arith, far.0))
-    none_gathered (suc n) (y ∷ ys) far =
-        gathered_one n y (y ∷ ys) far
-        (none_gathered n (y ∷ ys) (omega (arith, far.0), λ at one below is. far.1 at one (omega (arith, below)) is))
+      near_still here = sym (near_with ∙ ap (λ b. near ++ cond b (at ∷ []) []) here ∙ append-nil near)
 
     -- ---- the test
 
@@ -317,18 +294,15 @@ module _ {P : Type 0} (cmp : P → P → Ordering) where
     pub closed_if_near : (done : List (Rc (Message P) Global)) (now settled : ℕ) (list : List (Rc (Flight P) Global))
         → list_all (λ m. has_both cmp component m.value) done ≡ true → HaveRates settled list
         → AllNewTouch cmp component settled list
-        → (near : List (Rc (Flight P) Global)) → AreNear cmp component near list
-        → list_all (λ one. keeps component (flight_at 0 one.value)
-        || has_both cmp component one.value.message.value) near ≡ true
-        → is_closed cmp component done (flights_at now list) ≡ true
-    closed_if_near done now settled list has have new near are suited =
+        → AreSuited cmp component list → is_closed cmp component done (flights_at now list) ≡ true
+    closed_if_near done now settled list has have new suited =
         and_from _ _ has
         (list_all-map (suits cmp component) (λ f. flight_at now f.value) list
         ∙ all_passed (λ f. suits cmp component (flight_at now f.value)) list each)
       where
         all_near : list_all is_suited (filter is_touched (flights_at 0 list)) ≡ true
-        all_near = ap (list_all is_suited) (sym (are 0))
-            ∙ list_all-map is_suited (λ f. flight_at 0 f.value) near ∙ suited
+        all_near = ap (list_all is_suited) (sym (near_read 0 list))
+            ∙ list_all-map is_suited (λ f. flight_at 0 f.value) (those_near cmp component list) ∙ suited
 
         rated_there : (at : ℕ) (f : Rc (Flight P) Global) → slice_get list at ≡ Some f
             → touches cmp component f.value.message.value ≡ false → f.value.rated ≡ true

@@ -1,20 +1,30 @@
 -- What an event touches: senders and receivers of messages in flight, and the level below which rates stay.
-use Rattle.std.specs.Prelude.{◌≡◌, ℕ, ◌<◌, ◌≤◌, nat_le, Bool, true, false, not, ◌&&◌, ◌||◌}
+use Rattle.std.specs.Prelude.{◌≡◌, ℕ, suc, ◌≤◌, nat_le, Bool, true, false, not, ◌&&◌, ◌||◌, [], ◌∷◌, cond}
 use Rattle.std.specs.Prelude.{if◌then◌else◌, List}
-use Rattle.std.specs.Prelude.{length, slice_get, slice_index_or, Some, ◌++◌, All}
+use Rattle.std.specs.Prelude.{length, slice_get, slice_index, slice_index_or, Some, ◌++◌, All}
 use Rattle.std.specs.List.{filter, list_all, list_any}
 use Rattle.std.specs.declared.cmp.Ordering.{Ordering}
 use Rattle.std.specs.declared.rc.Rc.{Rc}
 use Rattle.std.specs.declared.alloc.Global.{Global}
 use Rattle.fair_rates.specs.Sides.Subjects.{same_peer}
 use Rattle.link_pairs.specs.declared.message.Message.{Message}
-use Rattle.link_flights.specs.Flights.Flight.{UnitFlight, flights_at}
+use Rattle.link_flights.specs.Flights.Flight.{UnitFlight, flight_at}
 use Rattle.link_flights.specs.declared.flight.Flight.{Flight}
 use Rattle.link_flights.specs.declared.component.Component.{Component}
 
 -- whether a message in flight goes on at its rate, which is below the level
 abbrev pub keeps : {P : Type 0} → Component P → UnitFlight P → Bool
 keeps component u = u.rated && not (nat_le component.level u.rate)
+
+-- where the one of a number stands, of those of which it has an end; of all, each stands at its number
+abbrev pub place_of : {P : Type 0} → Component P → ℕ → ℕ
+place_of component number = if component.whole then number else slice_index component.near.items number
+
+-- the places of those of a list that pass a test, where the first of the list has a place
+abbrev pub places_of : {X : Type 0} → (X → Bool) → ℕ → List X → List ℕ
+places_of test first [] = []
+places_of test first (x ∷ xs) =
+    cond (test x) (first ∷ places_of test (suc first) xs) (places_of test (suc first) xs)
 
 module _ {P : Type 0} (cmp : P → P → Ordering) where
   -- whether the peer is one of the senders
@@ -50,14 +60,18 @@ module _ {P : Type 0} (cmp : P → P → Ordering) where
   abbrev pub near_of : Component P → List (UnitFlight P) → List (UnitFlight P)
   near_of component us = filter (λ u. touches component u.message) us
 
-  -- these are the ones of a list of which it has an end, in their order
-  abbrev pub AreNear : Component P → List (Rc (Flight P) Global) → List (Rc (Flight P) Global) → Type 0
-  AreNear component near list = (now : ℕ) → flights_at now near ≡ near_of component (flights_at now list)
+  -- the ones of a list of which it has an end
+  abbrev pub those_near : Component P → List (Rc (Flight P) Global) → List (Rc (Flight P) Global)
+  those_near component list = filter (λ f. touches component f.value.message.value) list
 
-  -- it has an end of none of so many at the beginning of a list
-  abbrev pub NoneIsNear : Component P → ℕ → List (Rc (Flight P) Global) → Type 0
-  NoneIsNear component n list = (n ≤ length list) × ((at : ℕ) (one : Rc (Flight P) Global) → at < n
-      → slice_get list at ≡ Some one → touches component one.value.message.value ≡ false)
+  -- these are their places
+  abbrev pub AreNear : Component P → List ℕ → List (Rc (Flight P) Global) → Type 0
+  AreNear component near list = near ≡ places_of (λ f. touches component f.value.message.value) 0 list
+
+  -- it has both ends of each of them that keeps no rate
+  abbrev pub AreSuited : Component P → List (Rc (Flight P) Global) → Type 0
+  AreSuited component list = list_all (λ f. keeps component (flight_at 0 f.value)
+      || has_both component f.value.message.value) (those_near component list) ≡ true
 
   -- whether it has both ends of a message in flight that keeps no rate, or neither where that has a rate
   abbrev pub suits : Component P → UnitFlight P → Bool

@@ -150,17 +150,15 @@ abbrev pub AreKept : {P : Type 0} → (P → P → Ordering) → Component P →
 AreKept cmp component kept list =
     map (option_map (λ rate. rate.value)) kept ≡ map (kept_by cmp component) (flights_at 0 list)
 
--- the rate that is kept at a place tells whether the one that stands there is rated anew
-abbrev pub IsToldOf : {P : Type 0} → (P → P → Ordering) → Component P → List (Option (Rc ℕ Global)) → ℕ → Flight P
-    → Type 0
-IsToldOf cmp component kept at f = (rate : Option (Rc ℕ Global)) → slice_get kept at ≡ Some rate
-    → is_none rate ≡ is_of cmp component (flight_at 0 f)
+-- whether there is no rate of a number
+abbrev pub has_no_rate : List (Option (Rc ℕ Global)) → ℕ → Bool
+has_no_rate kept number = is_none (slice_index_or kept number None)
 
--- so they tell of each of a list
+-- the rates that are kept tell which of a list are rated anew
 abbrev pub AreToldOf : {P : Type 0} → (P → P → Ordering) → Component P → List (Option (Rc ℕ Global))
     → List (Rc (Flight P) Global) → Type 0
-AreToldOf {P} cmp component kept fs =
-    (i : ℕ) (f : Rc (Flight P) Global) → slice_get fs i ≡ Some f → IsToldOf cmp component kept i f.value
+AreToldOf {P} cmp component kept fs = (i : ℕ) (f : Rc (Flight P) Global) → slice_get fs i ≡ Some f
+    → has_no_rate kept i ≡ is_of cmp component (flight_at 0 f.value)
 
 -- the rates that those keep which are not of the component, by their places
 abbrev pub kept_rates : {P : Type 0} → (P → P → Ordering) → Component P → List (UnitFlight P) → ℕ → Option ℕ

@@ -4,22 +4,14 @@ use Rattle.std.proofs.lemmas.List.{get_or_default}
 use Rattle.std.proofs.lemmas.Option.{slice_get_read}
 use Rattle.link_flights.specs.declared.flight.Flight.{Flight}
 use Rattle.link_flights.specs.Flights.Components.{AreNear, touches}
-use Rattle.link_flights.proofs.Flights.Search.{near_more, near_still, none_gathered, untouched}
+use Rattle.link_flights.proofs.Flights.Search.{near_more, near_still, untouched}
 use Rattle.link_flights.proofs.flight_list.Flights.near.Goals as goal
 use Rattle.link_flights.proofs.flight_list.Flights.near.Goals.{
-  then-flags-at+then-touches+in_ok-copy+in_ok-push,
+  then-flags-at+then-touches+in_ok-push,
   else-flags-at,
   else-flags-at-via-then-flags-at+else-touches,
   else-flags-at-via-else-flags-at,
 }
-
-pub loop-at-init : goal.loop-at-init
-loop-at-init g c =
-    let cmp = g.P.Ord.cmp in
-    let component = c.args.component.now in
-    let list = c.args.self.now.list.items in
-    subst (λ ns. AreNear cmp component ns (take c.args.far list)) (sym c.new-near.ensures.items)
-    (none_gathered cmp component c.args.far list c.requires.far)
 
 pub loop-at-preserved : goal.loop-at-preserved
 loop-at-preserved g c =
@@ -34,13 +26,12 @@ loop-at-preserved g c =
     omega (arith, c.loop-at-test.true, c.len-at-end.ensures, c.args.self.now.list.ok.0) in
     let flag : at < length flags = omega (arith, inside, c.requires.flagged.0) in
     elim c.if-flags-at.branch [
-      | then-flags-at+then-touches+in_ok-copy+in_ok-push w ↦
+      | then-flags-at+then-touches+in_ok-push w ↦
           subst (λ ns. AreNear cmp component ns (take (at + 1) list))
           (sym w.in_ok-push.ensures.items ∙ ap (λ v. v.items) (sym w.near-is))
           (near_more cmp component list at one inside c.index-one.ensures near c.loop-at.invariant
           (sym (w.touches.ensures ∙ ap (touches cmp component) (w.deref-then-flags-at.ensures
-          ∙ ap (λ (f : Flight g.row.P.Denot). f.message.value) w.deref.ensures)) ∙ w.if-touches.true)
-          w.in_ok-copy.copy w.in_ok-copy.ensures.cases)
+          ∙ ap (λ (f : Flight g.row.P.Denot). f.message.value) w.deref.ensures)) ∙ w.if-touches.true))
       | else-flags-at w ↦
           let far : touches cmp component one.value.message.value ≡ false = elim w.else-flags-at.branch [
             | else-flags-at-via-then-flags-at+else-touches v ↦

@@ -1,5 +1,5 @@
 use Rattle.std.proofs.Common.{rules, ◌≡◌, ◌≤◌, IfSome, sym, ◌∙◌, subst, arith}
-use Rattle.std.proofs.lemmas.Option.{none-some}
+use Rattle.std.proofs.lemmas.Bool.{true≢false}
 use Rattle.link_simulation.specs.Simulation.World.{last_moment}
 use Rattle.link_pairs.specs.Pairs.CapsOf.{caps_of}
 use Rattle.link_flights.specs.Flights.InFlight.{in_units}
@@ -7,9 +7,11 @@ use Rattle.link_pairs.proofs.Pairs.LookedUp.{looked_up}
 use Rattle.link_flights.proofs.Flights.Components.{same_scale}
 use Rattle.link_flights.proofs.Flights.RatesGiven.{whole_given, component_given, left_given, left_beside}
 use Rattle.link_flights.proofs.Flights.Rerating.{first_finish_is, none_there}
-use Rattle.link_flights.specs.Flights.Flight.{HaveRates}
+use Rattle.link_flights.specs.Flights.Components.{those_near}
+use Rattle.link_flights.specs.Flights.Flight.{flight_at, HaveRates}
 use Rattle.link_flights.specs.Flights.Rated.{AreToldOf}
 use Rattle.link_flights.proofs.Flights.Beside.{told_by_kept}
+use Rattle.link_flights.proofs.Flights.ComponentFlows.{is_of_whole}
 use Rattle.link_flights.proofs.Flights.Settled.{all_have_got, finish_known, rates_all}
 use Rattle.link_flights.proofs.flight_list.Flights.rate.Goals as goal
 
@@ -31,14 +33,20 @@ set_rates-requires-clause-scaled g c =
     omega (arith, same, old.scaled)
 
 pub set_rates-requires-clause-kept : goal.set_rates-requires-clause-kept
-set_rates-requires-clause-kept g c whole =
-    let list = c.args.self.now.list.items in
+set_rates-requires-clause-kept g c =
+    let cmp = g.P.Ord.cmp in
     let touched = c.in_ok-touched.touched in
-    subst (λ l. AreToldOf g.P.Ord.cmp touched l list) (sym c.deref.ensures.value)
-    (told_by_kept g.P.Ord.cmp touched c.in_ok-part.kept.items list (c.in_ok-part.ensures.kept whole))
+    let near = those_near cmp touched c.args.self.now.list.items in
+    subst (λ l. AreToldOf cmp touched l near) (sym c.deref.ensures.value)
+    (told_by_kept cmp touched c.in_ok-part.kept.items near c.in_ok-part.ensures.kept)
+
+pub set_rates-requires-2-clause-near : goal.set_rates-requires-2-clause-near
+set_rates-requires-2-clause-near g c part = absurd (true≢false (sym c.whole-all.ensures.whole ∙ part))
 
 pub set_rates-requires-2-clause-kept : goal.set_rates-requires-2-clause-kept
-set_rates-requires-2-clause-kept g c whole i f there rate known = absurd (none-some rate known)
+set_rates-requires-2-clause-kept g c i f there =
+    sym (is_of_whole g.P.Ord.cmp c.whole-all.result c.whole-all.ensures.whole c.whole-all.ensures.level
+    (flight_at 0 f.value))
 
 pub invariant_of-self : goal.invariant_of-self
 invariant_of-self g c =

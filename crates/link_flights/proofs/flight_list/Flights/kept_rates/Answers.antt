@@ -1,0 +1,69 @@
+use Rattle.std.proofs.Common.{◌≡◌, ◌+◌, ◌<◌, ◌≤◌, Bool, if◌then◌else◌, None, Some, take, length, get_or, sym, ap, ◌∙◌}
+use Rattle.std.proofs.Common.{subst, arith}
+use Rattle.std.proofs.lemmas.List.{take_all}
+use Rattle.link_flights.specs.declared.flight.Flight.{Flight}
+use Rattle.link_flights.specs.Flights.Components.{those_near, is_of}
+use Rattle.link_flights.specs.Flights.Flight.{flight_at}
+use Rattle.link_flights.specs.Flights.Rated.{AreKept}
+use Rattle.link_flights.proofs.Flights.Beside.{kept_more}
+use Rattle.link_flights.proofs.Flights.Near.{count_part, place_within, element}
+use Rattle.link_flights.proofs.flight_list.Flights.kept_rates.Goals.{then-has+in_ok-push}
+use Rattle.link_flights.proofs.flight_list.Flights.kept_rates.Goals.{else-has+in_ok-rate_kept+in_ok-push-2}
+use Rattle.link_flights.proofs.flight_list.Flights.kept_rates.Goals as goal
+
+pub place-requires : goal.place-requires
+place-requires g c part =
+    let as_many = count_part g.P.Ord.cmp c.args.component.now c.args.self.now.list.items (c.requires.near part) in
+    omega (arith, c.loop-number-test.true, c.count-count.ensures, as_many)
+
+pub index-one-requires : goal.index-one-requires
+index-one-requires g c =
+    let component = c.args.component.now in
+    let list = c.args.self.now.list.items in
+    let lt : c.loop-number.number < length (those_near g.P.Ord.cmp component list) =
+    omega (arith, c.loop-number-test.true, c.count-count.ensures) in
+    omega (
+      arith,
+      c.place.ensures,
+      place_within g.P.Ord.cmp component list c.requires.near c.loop-number.number lt,
+      c.args.self.now.list.ok.0,
+    )
+
+pub loop-number-preserved : goal.loop-number-preserved
+loop-number-preserved g c =
+    let cmp = g.P.Ord.cmp in
+    let component = c.args.component.now in
+    let list = c.args.self.now.list.items in
+    let near = those_near cmp component list in
+    let number = c.loop-number.number in
+    let one = c.index-one.result.now in
+    let lt : number < length near = omega (arith, c.loop-number-test.true, c.count-count.ensures) in
+    let is : one ≡ get_or near number one = element cmp component list c.requires.near number one lt
+    (c.index-one.ensures ∙ ap (λ p. get_or list p one) c.place.ensures) in
+    let u = flight_at 0 one.value in
+    let test : c.has.result ≡ is_of cmp component u =
+    c.has.ensures ∙ ap (λ (f : Flight g.row.P.Denot). is_of cmp component (flight_at 0 f)) c.deref.ensures in
+    let ks = c.loop-number.kept.items in
+    elim c.if-has.branch [
+      | then-has+in_ok-push w ↦
+          subst (λ l. AreKept cmp component l (take (number + 1) near))
+          (sym (ap (λ v. v.items) w.kept-is ∙ w.in_ok-push.ensures.items))
+          (kept_more cmp component ks None near number one lt is
+          (sym (ap (λ (b : Bool). if b then None else Some u.rate) (sym test ∙ w.if-has.true)))
+          c.loop-number.invariant)
+      | else-has+in_ok-rate_kept+in_ok-push-2 w ↦
+          subst (λ l. AreKept cmp component l (take (number + 1) near))
+          (sym (ap (λ v. v.items) w.kept-is ∙ w.in_ok-push-2.ensures.items))
+          (kept_more cmp component ks (Some w.in_ok-rate_kept.field-0) near number one lt is
+          (ap Some (w.in_ok-rate_kept.ensures.rate
+          ∙ ap (λ (f : Flight g.row.P.Denot). (flight_at 0 f).rate) w.deref-else-has.ensures)
+          ∙ sym (ap (λ (b : Bool). if b then None else Some u.rate) (sym test ∙ w.if-has.false)))
+          c.loop-number.invariant)
+    ]
+
+pub returns-clause-kept : goal.returns-clause-kept
+returns-clause-kept g c =
+    let near = those_near g.P.Ord.cmp c.args.component.now c.args.self.now.list.items in
+    let all : length near ≤ c.loop-number.number = omega (arith, c.loop-number-test.false, c.count-count.ensures) in
+    subst (AreKept g.P.Ord.cmp c.args.component.now c.loop-number.kept.items)
+    (take_all c.loop-number.number near all) c.loop-number.invariant
