@@ -7,5 +7,8 @@ pub mod Finishing
 pub mod Limits
 pub mod MessageCounts
 pub mod OnlyWaiting
+pub mod RatedWithNext
+pub mod SettledFirst
 pub mod Settling
 pub mod Standing
+pub mod Starting

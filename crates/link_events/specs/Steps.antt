@@ -4,3 +4,4 @@ pub mod AsPlanned
 pub mod Due
 pub mod Outgoing
 pub mod Standing
+pub mod Starting

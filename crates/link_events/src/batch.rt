@@ -13,7 +13,6 @@ use crate::ledger::Ledger;
 use crate::outgoing::Outgoing;
 use fair_rates::error::Error;
 use fair_rates::peer::Peer;
-use link_flights::account::is_unlimited;
 use link_pairs::completion::Ended;
 use link_pairs::message::Message;
 
@@ -120,16 +119,7 @@ impl<P: Peer> Ledger<P> {
     fn only_starts(&self, message: &Message<P>, now: u64) -> bool
         ensures { result ≡ true → OnlyStarts P.cmp now (planned P.cmp self.now) (message_of message.now) }
     {
-        if self.next_id == u64::MAX {
-            return false;
-        }
-        if message.bytes.is_empty() {
-            return false;
-        }
-        if is_unlimited(message, &self.peers, &self.pairs) {
-            return false;
-        }
-        self.starts_at_once(message, now)
+        self.would_stay(message) && self.starts_at_once(message, now)
     }
 
     /// Makes the account that is due, if one is. Nothing leaves at it.

@@ -35,7 +35,7 @@ impl<P: Peer> Ledger<P> {
 
     /// Whether the first waiting message of the pair may start: the pair is idle, and the message
     /// arrives no earlier than the pair's last one. So it is from the moment `since` on.
-    fn may_launch(&self, since: Option<u64>, origin: &P, recipient: &P, now: u64) -> bool
+    pub(crate) fn may_launch(&self, since: Option<u64>, origin: &P, recipient: &P, now: u64) -> bool
         requires { since ≡ idle_since P.cmp (planned P.cmp self.now) origin.now recipient.now }
         ensures { result ≡ may_launch_first P.cmp now (planned P.cmp self.now)
             (first_of P.cmp (planned P.cmp self.now).waiting origin.now recipient.now) }
@@ -65,7 +65,7 @@ impl<P: Peer> Ledger<P> {
     }
 
     /// As `launch`, for a pair that is idle from the moment `since` on.
-    fn launch_from(
+    pub(crate) fn launch_from(
         &mut self,
         since: Option<u64>,
         origin: &P,
@@ -150,11 +150,8 @@ impl<P: Peer> Ledger<P> {
             IsRefusedFor (λ fault. Finishes P.cmp now (message_of message.value ∷ ms) (planned P.cmp self.old)
             (meets fault)) e) }
     {
-        let sent = Rc::as_ref(&message);
-        let arrival = sent.arrival(now)?;
-        let deliver_at = sent.is_delivered().then_some(arrival);
-        let since = self.raise(&sent.origin, &sent.recipient, arrival)?;
-        let more = self.launch_from(since, &sent.origin, &sent.recipient, now)?;
+        let (deliver_at, since) = self.land(&message, now)?;
+        let more = self.launch_from(since, &message.origin, &message.recipient, now)?;
         ended.push(Ended {
             message,
             deliver_at,
@@ -164,7 +161,7 @@ impl<P: Peer> Ledger<P> {
 
     /// A queue of messages that are done completes; what is done on the way joins its end. Then the
     /// start is planned anew.
-    fn finish(
+    pub(crate) fn finish(
         &mut self,
         mut queue: VecDeque<Rc<Message<P>>>,
         now: u64,
@@ -182,18 +179,6 @@ impl<P: Peer> Ledger<P> {
         }
         self.plan_start(now);
         Ok(())
-    }
-
-    /// An account, and the finishes of what left.
-    fn settle(&mut self, now: u64, ended: &mut Vec<Ended<P>>) -> Result<(), Error>
-        ensures settles { IfOk result (λ done. (cs : List (Completed P))
-            × (map ended_of ended.new.items ≡ map ended_of ended.old.items ++ cs)
-            × Settles P.cmp now (planned P.cmp self.old) (goes cs (planned P.cmp self.new))) }
-        ensures refused { IfErr result (IsRefusedFor (λ fault. Settles P.cmp now (planned P.cmp self.old)
-            (meets fault))) }
-    {
-        let queue = self.account(now)?;
-        self.finish(queue, now, ended)
     }
 
     /// The pairs that are ready start, in the order of pairs, each with its finishes.

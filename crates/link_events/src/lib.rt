@@ -15,3 +15,4 @@ mod moves;
 pub mod outgoing;
 mod plans;
 mod readiness;
+mod settling;

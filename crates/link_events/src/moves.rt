@@ -1,5 +1,7 @@
 //! Changes of what is known of one pair, and of its place among the idle pairs.
-ghost use Rattle.std.specs.Prelude.{◌≡◌, ◌<◌, true, [], None, OnOk, OnErr, IfOk, IfErr};
+ghost use Rattle.std.specs.Prelude.{◌≡◌, ◌<◌, true, [], Some, None, OnOk, OnErr, IfOk, IfErr};
+ghost use Rattle.link_pairs.specs.declared.message.Message.{Message as AnyMessage};
+ghost use Rattle.link_flights.specs.Flights.InFlight.{Joins};
 ghost use Rattle.link_simulation.specs.Simulation.World.{goes};
 ghost use Rattle.link_simulation.specs.Rule.Events.{Enqueues, PlansStart, with_queued, launched};
 ghost use Rattle.link_pairs.specs.Pairs.Messages.{message_of};
@@ -39,6 +41,8 @@ impl<P: Peer> Ledger<P> {
             }) }
         ensures idle { IfOk result (λ since. since
             ≡ idle_since P.cmp (planned P.cmp self.new) origin.now recipient.now) }
+        ensures flights { OnOk result (self.new.flights ≡ self.old.flights) }
+        ensures stale { OnOk result (self.new.stale ≡ self.old.stale) }
         ensures refused { IfErr result (λ e. e ≡ Error.OutOfMemory) }
     {
         let latency = idle_latency(&self.flights, &self.waiting, origin, recipient);
@@ -103,6 +107,10 @@ impl<P: Peer> Ledger<P> {
         requires id { self.old.next_id < 18446744073709551615 }
         ensures departed { OnOk result (HasDeparted P.cmp now (planned P.cmp self.old) origin.now recipient.now
             (planned P.cmp self.new)) }
+        ensures joins { OnOk result ((message : AnyMessage P)
+            × (first_of P.cmp (planned P.cmp self.old).waiting origin.now recipient.now ≡ Some (message_of message))
+            × Joins now message self.old.flights self.new.flights) }
+        ensures stale { OnOk result (self.new.stale ≡ self.old.stale) }
         ensures refused { IfErr result (λ e. e ≡ Error.OutOfMemory) }
     {
         let Some(message) = self.waiting.take_first(origin, recipient)? else {

@@ -1,8 +1,12 @@
 //! The next finish, which is planned at an account, and the next start.
-ghost use Rattle.std.specs.Prelude.{◌≡◌, ◌↔◌, true, IfOk, IfErr};
+ghost use Rattle.std.specs.Prelude.{◌≡◌, ◌↔◌, true, List, IfOk, IfErr, OnOk};
 ghost use Rattle.std.specs.List.{AllZip};
 ghost use Rattle.link_simulation.specs.Rule.Events.{Accounts, PlansStart};
-ghost use Rattle.link_simulation.specs.Rule.Planned.{SomeReadyAt};
+ghost use Rattle.link_simulation.specs.Rule.Leaving.{Leaves};
+ghost use Rattle.link_simulation.specs.Rule.Planned.{SomeReadyAt, Planned as AnyPlanned};
+ghost use Rattle.link_simulation.specs.Simulation.Messages.{Message as AnyMessage};
+ghost use Rattle.link_flights.specs.Flights.Rated.{HadFairRates};
+ghost use Rattle.link_pairs.specs.Pairs.CapsOf.{caps_of};
 ghost use Rattle.link_pairs.specs.Pairs.Messages.{messages};
 
 use crate::leave::leave;
@@ -15,7 +19,6 @@ use link_pairs::pair::PeerPair;
 use link_waiting::idle_pairs::IdlePairs;
 use link_waiting::waiting::Waiting;
 use std::collections::VecDeque;
-use std::mem;
 use std::rc::Rc;
 
 impl<P: Peer> Ledger<P> {
@@ -30,30 +33,82 @@ impl<P: Peer> Ledger<P> {
             (messages leavers.items) (planned P.cmp self.new)) }
         ensures refused { IfErr result (λ e. e ≡ Error.OutOfMemory) }
     {
-        let were_rated = !self.stale && self.flights.at <= now;
+        let (done, were_fair) = self.leave_at(now)?;
+        self.rate(now, &done, were_fair)?;
+        Ok(done)
+    }
+
+    /// The first half of an account: all that is in flight drains to that moment, and what is done
+    /// leaves, in order of start. Answers, too, whether those in flight had fair rates with it.
+    pub(crate) fn leave_at(&mut self, now: u64) -> Result<(VecDeque<Rc<Message<P>>>, bool), Error>
+        ensures leaves { IfOk result (λ left. Leaves P.cmp now (planned P.cmp self.old)
+            (messages left.0.items) (planned P.cmp self.new)) }
+        ensures fair { IfOk result (λ left. left.1 ≡ true → HadFairRates P.cmp
+            (caps_of P.cmp self.new.peers.entries self.new.pairs.entries) self.new.flights (messages left.0.items)) }
+        ensures moment { OnOk result (self.new.flights.at ≡ now) }
+        ensures stale { self.new.stale ≡ true }
+        ensures refused { IfErr result (λ e. e ≡ Error.OutOfMemory) }
+    {
+        let were_fair = !self.stale && self.flights.at <= now;
         self.stale = true;
-        // Where this stops half-way, what is in flight and what waits is given up.
-        let mut flights = mem::replace(&mut self.flights, Flights::new(self.alloc));
-        let mut idle = mem::replace(&mut self.idle, IdlePairs::new());
-        let waiting = mem::replace(&mut self.waiting, Waiting::new());
-        flights.drain(now)?;
-        let done = leave(
+        let left = leave(
             self.alloc,
-            &mut flights,
-            &mut idle,
+            now,
+            &mut self.flights,
+            &mut self.idle,
             &self.peers,
             &self.pairs,
-            &waiting,
-            were_rated,
-        )?;
-        let stay_rated = were_rated && !flights.is_empty();
-        flights.renew_units();
-        self.finish = flights.rate(&self.peers, &self.pairs, &done, stay_rated)?;
-        self.flights = flights;
-        self.idle = idle;
-        self.waiting = waiting;
-        self.stale = false;
-        Ok(done)
+            &self.waiting,
+            were_fair,
+        );
+        match left {
+            Ok(done) => Ok((done, were_fair)),
+            Err(error) => {
+                // What stopped half-way is given up.
+                self.flights = Flights::new(self.alloc);
+                self.waiting = Waiting::new();
+                self.idle = IdlePairs::new();
+                Err(error)
+            }
+        }
+    }
+
+    /// The second half of an account at `now`: those in flight get their fair rates, and the finish is
+    /// planned anew. They had fair rates with what is done, where that is said.
+    pub(crate) fn rate(
+        &mut self,
+        now: u64,
+        done: &VecDeque<Rc<Message<P>>>,
+        were_fair: bool,
+    ) -> Result<(), Error>
+        requires stale { self.old.stale ≡ true }
+        requires moment { self.old.flights.at ≡ now }
+        requires leaves { (old : AnyPlanned P) × (leavers : List (AnyMessage P))
+            × Leaves P.cmp now old leavers (planned P.cmp self.old) }
+        requires fair { were_fair ≡ true → HadFairRates P.cmp
+            (caps_of P.cmp self.old.peers.entries self.old.pairs.entries) self.old.flights (messages done.now.items) }
+        ensures accounts { OnOk result ((old : AnyPlanned P) (leavers : List (AnyMessage P))
+            → Leaves P.cmp now old leavers (planned P.cmp self.old)
+            → Accounts P.cmp now old leavers (planned P.cmp self.new)) }
+        ensures refused { IfErr result (λ e. e ≡ Error.OutOfMemory) }
+    {
+        let stay_fair = were_fair && !self.flights.is_empty();
+        self.flights.renew_units();
+        let rated = self.flights.rate(&self.peers, &self.pairs, done, stay_fair);
+        match rated {
+            Ok(finish) => {
+                self.finish = finish;
+                self.stale = false;
+                Ok(())
+            }
+            Err(error) => {
+                // What stopped half-way is given up.
+                self.flights = Flights::new(self.alloc);
+                self.waiting = Waiting::new();
+                self.idle = IdlePairs::new();
+                Err(error)
+            }
+        }
     }
 
     /// Plans the start anew: the least moment from `now` on at which an idle pair is ready.

@@ -11,6 +11,7 @@ pub mod FairMessages
 pub mod Flight
 pub mod Floors
 pub mod InFlight
+pub mod Joining
 pub mod Leaving
 pub mod Near
 pub mod Places

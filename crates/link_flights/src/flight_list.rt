@@ -93,7 +93,7 @@ impl<P: Peer> Flights<P> {
     ghost use Rattle.link_simulation.specs.Rule.Planned.{RatedFlight, rated_messages};
     ghost use Rattle.link_pairs.specs.Pairs.Messages.{message_of};
     ghost use Rattle.link_flights.specs.Flights.Flight.{AreTimed, has_come, IsPutAt};
-    ghost use Rattle.link_flights.specs.Flights.InFlight.{in_flight, in_units};
+    ghost use Rattle.link_flights.specs.Flights.InFlight.{in_flight, in_units, Joins};
     ghost use Rattle.link_flights.specs.Flights.Rated.{rated_ones};
 
     /// No message is in flight.
@@ -141,6 +141,7 @@ impl<P: Peer> Flights<P> {
         ensures floor { self.new.floor ≡ self.old.floor }
         ensures rated { rated_ones (in_units self.new) ≡ rated_ones (in_units self.old) }
         ensures timed { AreTimed self.old.list.items → AreTimed self.new.list.items }
+        ensures joined { OnOk result (Joins now message.value self.old self.new) }
         ensures kept { OnErr result (in_flight self.new ≡ in_flight self.old) }
         ensures refused { IfErr result (λ e. e ≡ Error.OutOfMemory) }
     {

@@ -6,6 +6,7 @@ pub mod AtOnce
 pub mod BeforeNext
 pub mod Enqueue
 pub mod FinishEvent
+pub mod Following
 pub mod Launch
 pub mod Limit
 pub mod NewInRange

@@ -1,7 +1,7 @@
 -- The finishes of a queue and the starts of pairs, one after another.
 use Rattle.std.proofs.Common.{◌≡◌, ℕ, suc, ◌+◌, ◌-◌, ◌<◌, ◌≤◌, List, [], ◌∷◌, ◌++◌, length, Bool, true, false}
 use Rattle.std.proofs.Common.{if◌then◌else◌, Some, None, refl, sym, ap, ◌∙◌, subst, arith, append_assoc, get_or, drop}
-use Rattle.std.proofs.Common.{drop-cons, length-drop}
+use Rattle.std.proofs.Common.{◌⊎◌, inl, inr, drop-cons, length-drop}
 use Rattle.std.specs.Bool.{then_some}
 use Rattle.std.specs.List.{find, AllZip}
 use Rattle.std.specs.declared.cmp.Ordering.{Ordering}
@@ -9,7 +9,7 @@ use Rattle.std.specs.Cmp.{IsTotalOrder}
 use Rattle.std.proofs.lemmas.List.{append-nil}
 use Rattle.std.proofs.lemmas.Bool.{and_from}
 use Rattle.fair_rates.specs.declared.error.Error.{Error}
-use Rattle.fair_rates.specs.declared.error.Error.TheVariants.{MomentTooLate}
+use Rattle.fair_rates.specs.declared.error.Error.TheVariants.{MomentTooLate, OutOfMemory}
 use Rattle.link_pairs.specs.declared.pair.PeerPair.{PeerPair}
 use Rattle.link_waiting.specs.Idle.PairsOfMessages.{NamesPairOf}
 use Rattle.fair_rates.specs.Sides.Subjects.{same_peer}
@@ -21,7 +21,7 @@ use Rattle.link_simulation.specs.Rule.Planned.{Planned, next_of}
 use Rattle.link_simulation.specs.Rule.Events.{PlansStart, Launches, Finishes, all_completed, late, stopped, completes}
 use Rattle.link_simulation.specs.Rule.Events.{landed, WakesEach, all_started, no_start, no_finish, starts_one}
 use Rattle.link_simulation.specs.Simulation.RefusalCauses.{IsRefusedFor}
-use Rattle.link_simulation.proofs.Simulation.RefusalCauses.{refused_more}
+use Rattle.link_simulation.proofs.Simulation.RefusalCauses.{refused_more, refused_memory}
 use Rattle.link_simulation.proofs.Simulation.Queue.{pair_like, preceded_none}
 
 -- what came out in two parts
@@ -43,6 +43,13 @@ module _ {P : Type 0} (cmp : P → P → Ordering) where
       → IsRefusedFor (λ fault. Finishes cmp t (m ∷ ms) p (meets fault)) e
   refused_late t m ms p e is_so is =
       subst (IsRefusedFor (λ fault. Finishes cmp t (m ∷ ms) p (meets fault))) (sym is) (late is_so)
+
+  -- what the landing of a message is refused for
+  pub refused_landing : (t : ℕ) (m : Message P) (ms : List (Message P)) (p : Planned P) (e : Error)
+      → ((e ≡ MomentTooLate) × (is_late cmp t m ≡ true)) ⊎ (e ≡ OutOfMemory)
+      → IsRefusedFor (λ fault. Finishes cmp t (m ∷ ms) p (meets fault)) e
+  refused_landing t m ms p e (inl too_late) = refused_late t m ms p e too_late.1 too_late.0
+  refused_landing t m ms p e (inr memory) = refused_memory (λ fault. Finishes cmp t (m ∷ ms) p (meets fault)) e memory
 
   pub refused_launch : (t : ℕ) (m : Message P) (ms : List (Message P)) (p mid : Planned P) → is_late cmp t m ≡ false
       → mid ≡ landed cmp t p m → (e : Error)

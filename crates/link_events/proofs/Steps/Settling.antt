@@ -14,7 +14,7 @@ use Rattle.link_simulation.specs.Simulation.Messages.{Message}
 use Rattle.link_simulation.specs.Simulation.World.{Completed, Course, goes, meets, completion_of, last_moment, later_of}
 use Rattle.link_simulation.specs.Simulation.World.{raised}
 use Rattle.link_simulation.specs.Rule.Planned.{Planned, next_of}
-use Rattle.link_simulation.specs.Rule.Events.{Accounts, PlansStart, Launches, Finishes, Settles, settling, Rebalances}
+use Rattle.link_simulation.specs.Rule.Events.{PlansStart, Launches, Finishes, Settles, Rebalances}
 use Rattle.link_simulation.specs.Rule.Events.{none_sending, some_sending, Enqueues, at_once, no_launch, launches}
 use Rattle.link_simulation.specs.Rule.Events.{with_queued, completed_at_once}
 use Rattle.link_simulation.specs.Simulation.RefusalCauses.{IsRefusedFor}
@@ -36,27 +36,12 @@ pub if_ok : {X E : Type 0} {A B : X → Type 0} (r : Result X E) → ((x : X) �
 if_ok (Ok x) f a = f x a
 if_ok (Err e) f a = tt
 
+-- and what a refusal makes of one
+pub if_err : {X E : Type 0} {A B : E → Type 0} (r : Result X E) → ((e : E) → A e → B e) → IfErr r A → IfErr r B
+if_err (Ok x) f a = tt
+if_err (Err e) f a = f e a
+
 module _ {P : Type 0} (cmp : P → P → Ordering) where
-  -- ---- settling
-
-  pub settle_finish_refused : {X : Type 0} (t : ℕ) (p mid : Planned P) (leavers : List (Message P))
-      → Accounts cmp t p leavers mid → (result : Result X Error)
-      → IfErr result (IsRefusedFor (λ fault. Finishes cmp t leavers mid (meets fault)))
-      → IfErr result (IsRefusedFor (λ fault. Settles cmp t p (meets fault)))
-  settle_finish_refused t p mid leavers a (Ok x) refused = tt
-  settle_finish_refused t p mid leavers a (Err e) refused =
-      refused_more (λ fault. Finishes cmp t leavers mid (meets fault)) (λ fault. Settles cmp t p (meets fault))
-      (λ fault h. settling a h) e refused
-
-  pub settles_so : {X : Type 0} (t : ℕ) (p mid new : Planned P) (leavers : List (Message P))
-      (before after : List (Completed P))
-      → Accounts cmp t p leavers mid → (result : Result X Error)
-      → IfOk result
-      (λ done. (cs : List (Completed P)) × (after ≡ before ++ cs) × Finishes cmp t leavers mid (goes cs new))
-      → IfOk result (λ done. (cs : List (Completed P)) × (after ≡ before ++ cs) × Settles cmp t p (goes cs new))
-  settles_so t p mid new leavers before after a (Ok x) h = (h.0, h.1, settling a h.2)
-  settles_so t p mid new leavers before after a (Err e) h = tt
-
   -- ---- new caps
 
   pub as_recapped : (p : Planned P) → p.limited ≡ true → p ≡ record p { caps = p.caps; limited = true }

@@ -1,19 +1,17 @@
 -- The way through a list of messages, with one account for those that only start.
-use Rattle.std.proofs.Common.{◌≡◌, ℕ, ◌*◌, ◌<◌, List, [], ◌∷◌, ◌++◌, length, Bool, true, false}
+use Rattle.std.proofs.Common.{◌≡◌, ℕ, ◌*◌, ◌<◌, List, [], ◌∷◌, ◌++◌, Bool, true, false}
 use Rattle.std.proofs.Common.{Option, Some, None, refl, sym, ap, ◌∙◌, subst}
-use Rattle.std.specs.Prelude.{◌&&◌, ◌==◌, is_none}
+use Rattle.std.specs.Prelude.{◌&&◌, is_none}
 use Rattle.std.specs.List.{list_any}
 use Rattle.std.specs.declared.cmp.Ordering.{Ordering}
 use Rattle.std.specs.Cmp.{IsTotalOrder}
-use Rattle.std.proofs.lemmas.Bool.{or_from, eqb-true}
-use Rattle.fair_rates.specs.Numbers.Amount.{billion, whole}
+use Rattle.fair_rates.specs.Numbers.Amount.{billion}
 use Rattle.fair_rates.specs.Numbers.LowestTerms.{reduced_positive}
 use Rattle.link_events.specs.declared.batch.Standing.{Standing}
 use Rattle.link_events.specs.declared.batch.Standing.TheVariants.{Open, Settled, Due}
 use Rattle.link_simulation.specs.Simulation.Messages.{Message, same_pair}
-use Rattle.link_simulation.specs.Simulation.Rates.{is_unlimited}
 use Rattle.link_simulation.specs.Simulation.World.{Completed, goes, meets}
-use Rattle.link_simulation.specs.Rule.Planned.{Planned, next_of, may_launch, is_spent}
+use Rattle.link_simulation.specs.Rule.Planned.{Planned, next_of, may_launch}
 use Rattle.link_simulation.specs.Rule.Events.{Accounts, PlansStart, Enqueues, launched, with_queued}
 use Rattle.link_simulation.proofs.Rule.OneAccount.{AreLowest, ArePositive, IsAccountedAt, accounted, enqueue_accounted}
 use Rattle.link_simulation.proofs.Rule.OneAccount.{enqueue_starts, account_again, messages_stay, planned_alike}
@@ -31,6 +29,7 @@ use Rattle.fair_rates.specs.declared.error.Error.{Error}
 use Rattle.link_events.proofs.Steps.Batch.{EnqueuesSo, enqueues_start, enqueues_step, enqueues_end}
 use Rattle.link_events.proofs.Steps.Batch.{enqueues_refused}
 use Rattle.link_events.proofs.Steps.OnlyWaiting.{enqueue_waits}
+use Rattle.link_events.proofs.Steps.Starting.{starts_unspent}
 use Rattle.link_flights.proofs.Flights.Units.{units_positive}
 use Rattle.link_waiting.proofs.Idle.Starting.{first_joined}
 
@@ -147,23 +146,14 @@ module _ {P : Type 0} (cmp : P → P → Ordering) (order : IsTotalOrder cmp) wh
       none None e = refl
       none (Some n) e = cc
 
-  starting_stays : (p : Planned P) (m : Message P) (now : ℕ) → OnlyStarts cmp now p m
-      → is_spent cmp p.caps
-      (record { message = m; left = whole (length m.bytes); rate = Some (whole 0); updated = now }) ≡ false
-  starting_stays p m now h =
-      or_from (length m.bytes == 0) (is_unlimited cmp p.caps m) (not_none (length m.bytes == 0) refl) h.capped
-    where
-      not_none : (b : Bool) → (length m.bytes == 0) ≡ b → b ≡ false
-      not_none true e = absurd (h.some_bytes (eqb-true (length m.bytes) 0 e))
-      not_none false e = refl
-
   starts_from : (now : ℕ) (m : Message P) (here mid next w : Planned P) → OnlyStarts cmp now here m
       → mid ≡ launched cmp now (with_queued cmp here m) m → PlansStart cmp now mid next → ArePositive here.sending
       → Accounts cmp now here [] w → Goes now m Due next w
   starts_from now m here mid next w h is looks positive a =
       let so = starts_so now here m h.starts in
       one_starts cmp order now m here next w a positive so.limited (found_alone here m so.alone) so.may h.id
-      (starting_stays here m now h) (subst (λ (q : Planned P). PlansStart cmp now q next) is looks)
+      (starts_unspent cmp here.caps m now h.some_bytes h.capped)
+      (subst (λ (q : Planned P). PlansStart cmp now q next) is looks)
 
   pub goes_starting : (now : ℕ) (m : Message P) (standing : Standing) (here mid next w : Planned P)
       → is_settled standing ≡ true → OnlyStarts cmp now here m → mid ≡ launched cmp now (with_queued cmp here m) m

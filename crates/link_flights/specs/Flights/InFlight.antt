@@ -1,10 +1,13 @@
 -- What is in flight, as it is kept.
-use Rattle.std.specs.Prelude.{◌≡◌, List}
+use Rattle.std.specs.Prelude.{◌≡◌, ℕ, false, List, [], ◌∷◌, ◌++◌, length, Some}
 use Rattle.std.specs.List.{AllZip}
+use Rattle.fair_rates.specs.Numbers.Amount.{whole}
+use Rattle.link_pairs.specs.declared.message.Message as code
+use Rattle.link_pairs.specs.Pairs.Messages.{message_of}
 use Rattle.link_flights.specs.declared.flight_list.Flights.{Flights}
 use Rattle.link_simulation.specs.Rule.Planned.{RatedFlight}
-use Rattle.link_flights.specs.Flights.Flight.{UnitFlight, flights_at}
-use Rattle.link_flights.specs.Flights.RatedFlights.{sending_of}
+use Rattle.link_flights.specs.Flights.Flight.{UnitFlight, flights_at, AreTimed}
+use Rattle.link_flights.specs.Flights.RatedFlights.{rated_flight_of, sending_of}
 
 -- the messages in flight in units, as they stand at the last account
 abbrev pub in_units : {P : Type 0} {a : _} {b : _} {c : _} → Flights P a b c → List (UnitFlight P)
@@ -20,3 +23,16 @@ pub record IsSameFlights {P : Type 0} {a : _} {b : _} {c : _} (flights copy : Fl
   pub scale : copy.scale ≡ flights.scale
   pub at : copy.at ≡ flights.at
   pub counted : copy.rated_anew ≡ flights.rated_anew
+
+-- a message is in flight from a moment on, with no rate yet, and the others are as they were
+pub record Joins {P : Type 0} {a : _} {b : _} {c : _} (now : ℕ) (m : code.Message P) (old new : Flights P a b c)
+    : Type 0 where
+  pub unit : UnitFlight P
+  pub joins : in_units new ≡ in_units old ++ unit ∷ []
+  pub is : rated_flight_of new.scale unit
+      ≡ record { message = message_of m; left = whole (length m.bytes); rate = Some (whole 0); updated = now }
+  pub unrated : unit.rated ≡ false
+  pub scale : new.scale ≡ old.scale
+  pub floor : new.floor ≡ old.floor
+  pub at : new.at ≡ old.at
+  pub timed : AreTimed old.list.items → AreTimed new.list.items

@@ -92,6 +92,16 @@ pub record WereRated {P : Type 0} (cmp : P → P → Ordering) (caps : Caps P) (
   pub fair : AreFairlyRated cmp caps scale (rated_ones before)
   pub no_less : IsFloorOf is_done before least
 
+-- some messages have left those in flight, which had fair rates with them, and none of those that left had less than
+-- the floor
+pub record HadFairRates {P : Type 0} {a : _} {b : _} {c : _} (cmp : P → P → Ordering) (caps : Caps P)
+    (flights : Flights P a b c) (done : List (Message P)) : Type 0 where
+  pub before : List (UnitFlight P)
+  pub parted : ArePartedBy (is_out cmp caps flights.scale) before done (in_units flights)
+  pub fair : AreFairlyRated cmp caps flights.scale (rated_ones before)
+  pub no_less : IsFloorOf (is_out cmp caps flights.scale) before flights.floor
+  pub timed : AreTimed flights.list.items
+
 -- the rates that are found, flow by flow
 abbrev pub rates_found : FairParts → List ℕ
 rates_found found = map (parts_of_level found.levels.items) found.level_of.items

@@ -35,7 +35,7 @@ use Rattle.link_simulation.proofs.Simulation.SettlingEnds.{ends_preceded}
 -- ---- lists
 
 -- what follows for the second of two lists from what goes beside it
-zip_each : {X Y : Type 0} (R : X → Y → Type 0) (Q : X → Type 0) (T : Y → Type 0)
+pub zip_each : {X Y : Type 0} (R : X → Y → Type 0) (Q : X → Type 0) (T : Y → Type 0)
     → ((x : X) (y : Y) → R x y → Q x → T y) → (xs : List X) (ys : List Y) → AllZip R xs ys → Each Q xs → Each T ys
 zip_each R Q T f [] [] all each = tt
 zip_each R Q T f [] (y ∷ ys) all each = absurd all
@@ -343,11 +343,12 @@ module _ {P : Type 0} (cmp : P → P → Ordering) (order : IsTotalOrder cmp) wh
     all_kept t caps fs none.1 rates.1 low.1,
   )
 
-  drained_still : (t : ℕ) (p : Planned P) → IsAccountedAt t p → AreLowest p.sending → drained_to t p.sending ≡ p.sending
+  pub drained_still : (t : ℕ) (p : Planned P) → IsAccountedAt t p → AreLowest p.sending
+      → drained_to t p.sending ≡ p.sending
   drained_still t p h low =
       drained_kept t p.sending (all_kept t p.caps p.sending h.none_spent (have_rates t p h) low)
 
-  none_leave : (t : ℕ) (p : Planned P) → IsAccountedAt t p → filter (is_spent cmp p.caps) p.sending ≡ []
+  pub none_leave : (t : ℕ) (p : Planned P) → IsAccountedAt t p → filter (is_spent cmp p.caps) p.sending ≡ []
   none_leave t p h =
       filter_none (is_spent cmp p.caps) p.sending
       (each_map (λ f. (f.updated ≡ t) × (is_spent cmp p.caps f ≡ false)) (λ f. is_spent cmp p.caps f ≡ false) p.sending
@@ -453,7 +454,7 @@ module _ {P : Type 0} (cmp : P → P → Ordering) (order : IsTotalOrder cmp) wh
   -- ---- a message that starts, and the account that follows the last one
 
   -- the message as it starts
-  abbrev starting : ℕ → Message P → RatedFlight P
+  abbrev pub starting : ℕ → Message P → RatedFlight P
   starting t m = record { message = m; left = whole (length m.bytes); rate = Some (whole 0); updated = t }
 
   starting_kept : (t : ℕ) (m : Message P) → drained_to t (starting t m ∷ []) ≡ starting t m ∷ []
@@ -485,17 +486,6 @@ module _ {P : Type 0} (cmp : P → P → Ordering) (order : IsTotalOrder cmp) wh
       ∙ ap (λ l. l ++ filter (is_spent cmp caps) (starting t m ∷ [])) none
       ∙ filter_none (is_spent cmp caps) (starting t m ∷ []) (limited, tt)
 
-  -- what is left after an account is in lowest terms
-  pub account_lowest : (t : ℕ) (p q : Planned P) (ls : List (Message P)) → Accounts cmp t p ls q
-      → ArePositive p.sending → AreLowest q.sending
-  account_lowest t p q ls a positive =
-      zip_each (Stays t) (λ f. IsLowest f.left) (λ g. IsLowest g.left)
-      (λ f g stays low. subst IsLowest (sym stays.1) low) (Staying t p) q.sending a.stayed
-      (each_filtered_too (λ f. IsLowest f.left) (λ f. not (is_spent cmp p.caps f)) (drained_to t p.sending)
-      (all_lowest t p.sending positive))
-
-  -- ---- the same messages in flight
-
   all_but_none : (test : RatedFlight P → Bool) (fs : List (RatedFlight P)) → filter test fs ≡ []
       → filter (λ f. not (test f)) fs ≡ fs
   all_but_none test [] e = refl
@@ -506,6 +496,33 @@ module _ {P : Type 0} (cmp : P → P → Ordering) (order : IsTotalOrder cmp) wh
           → cond (not b) (f ∷ filter (λ g. not (test g)) fs) (filter (λ g. not (test g)) fs) ≡ f ∷ fs
       by_test true e ih = cc
       by_test false e ih = ap (λ l. f ∷ l) (ih e)
+
+  -- where the first have drained and none of them is done, all stay, and so does the message that starts
+  pub all_and_one_stay : (t : ℕ) (caps : Caps P) (fs : List (RatedFlight P)) (m : Message P)
+      → is_spent cmp caps (starting t m) ≡ false → drained_to t fs ≡ fs → filter (is_spent cmp caps) fs ≡ []
+      → filter (λ f. not (is_spent cmp caps f)) (drained_to t (fs ++ starting t m ∷ [])) ≡ fs ++ starting t m ∷ []
+  all_and_one_stay t caps fs m limited still none =
+      one_more_stays t caps fs m limited
+      ∙ ap (λ l. filter (λ f. not (is_spent cmp caps f)) l ++ starting t m ∷ []) still
+      ∙ ap (λ l. l ++ starting t m ∷ []) (all_but_none (is_spent cmp caps) fs none)
+
+  -- and nothing leaves
+  pub none_and_one_leave : (t : ℕ) (caps : Caps P) (fs : List (RatedFlight P)) (m : Message P)
+      → is_spent cmp caps (starting t m) ≡ false → drained_to t fs ≡ fs → filter (is_spent cmp caps) fs ≡ []
+      → filter (is_spent cmp caps) (drained_to t (fs ++ starting t m ∷ [])) ≡ []
+  none_and_one_leave t caps fs m limited still none =
+      none_more_leaves t caps fs m limited (ap (filter (is_spent cmp caps)) still ∙ none)
+
+  -- what is left after an account is in lowest terms
+  pub account_lowest : (t : ℕ) (p q : Planned P) (ls : List (Message P)) → Accounts cmp t p ls q
+      → ArePositive p.sending → AreLowest q.sending
+  account_lowest t p q ls a positive =
+      zip_each (Stays t) (λ f. IsLowest f.left) (λ g. IsLowest g.left)
+      (λ f g stays low. subst IsLowest (sym stays.1) low) (Staying t p) q.sending a.stayed
+      (each_filtered_too (λ f. IsLowest f.left) (λ f. not (is_spent cmp p.caps f)) (drained_to t p.sending)
+      (all_lowest t p.sending positive))
+
+  -- ---- the same messages in flight
 
   pub messages_stay : (t : ℕ) (here w : Planned P) → Accounts cmp t here [] w
       → rated_messages w.sending ≡ rated_messages here.sending
@@ -566,14 +583,11 @@ module _ {P : Type 0} (cmp : P → P → Ordering) (order : IsTotalOrder cmp) wh
     staying_there : filter (λ f. not (is_spent cmp here.caps f)) (drained_to t (fs ++ starting t m ∷ []))
         ≡ fs ++ starting t m ∷ []
     staying_there =
-        one_more_stays t here.caps fs m stays
-        ∙ ap (λ l. filter (λ f. not (is_spent cmp here.caps f)) l ++ starting t m ∷ []) still
-        ∙ ap (λ l. l ++ starting t m ∷ []) (all_stay t (record here { sending = fs; finish = o }) h)
+        all_and_one_stay t here.caps fs m stays still (none_leave t (record here { sending = fs; finish = o }) h)
 
     none_there : filter (is_spent cmp here.caps) (drained_to t (fs ++ starting t m ∷ [])) ≡ []
     none_there =
-        none_more_leaves t here.caps fs m stays
-        (ap (filter (is_spent cmp here.caps)) still ∙ none_leave t (record here { sending = fs; finish = o }) h)
+        none_and_one_leave t here.caps fs m stays still (none_leave t (record here { sending = fs; finish = o }) h)
 
     none_here : filter (is_spent cmp here.caps) (drained_to t here.sending) ≡ []
     none_here = no_messages (filter (is_spent cmp here.caps) (drained_to t here.sending)) a.left

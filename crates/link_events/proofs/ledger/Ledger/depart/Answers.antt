@@ -67,3 +67,10 @@ returns-clause-departed g c =
         start = old.start;
       };
     }
+
+pub returns-clause-joins : goal.returns-clause-joins
+returns-clause-joins g c = (
+  c.in-Some.message.value,
+  sym c.in_ok-message.ensures.taken ∙ ap (option_map (λ x. message_of x.value)) c.in-Some.is,
+  c.in_default-push.ensures.joined,
+)

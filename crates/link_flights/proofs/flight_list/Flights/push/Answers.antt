@@ -1,8 +1,8 @@
-use Rattle.std.proofs.Common.{◌≡◌, ◌++◌, ◌∷◌, [], ◌*◌, length, Some, None, false, sym, ap, ◌∙◌, subst, rules}
+use Rattle.std.proofs.Common.{◌≡◌, ◌++◌, ◌∷◌, [], ◌*◌, length, Some, None, false, refl, sym, ap, ◌∙◌, subst, rules}
 use Rattle.std.proofs.lemmas.List.{map-append}
 use Rattle.std.specs.declared.rc.Rc.{Rc}
 use Rattle.std.specs.declared.alloc.Global.{Global}
-use Rattle.fair_rates.specs.Numbers.Amount.{billion}
+use Rattle.fair_rates.specs.Numbers.Amount.{billion, whole}
 use Rattle.link_flights.specs.declared.flight.Flight.{Flight}
 use Rattle.link_pairs.specs.Pairs.Messages.{message_of}
 use Rattle.link_flights.specs.Flights.Flight.{UnitFlight, flight_at, flights_at, AreTimed}
@@ -25,30 +25,54 @@ started g c =
       rated = false;
     }
 
-pub returns-clause-sending : goal.returns-clause-sending
-returns-clause-sending g c =
+-- as it is kept
+abbrev unit_of : (g : _) (c : In_ok-push g) → UnitFlight g.row.P.Denot
+unit_of g c =
+    record {
+      message = c.args.message.value;
+      left = c.in_ok-left.left;
+      rate = 0;
+      updated = c.args.now;
+      rated = false;
+    }
+
+joins_so : (g : _) (c : In_ok-push g)
+    → flights_at c.args.self.now.at c.push.new.self.items ≡ in_units c.args.self.now ++ unit_of g c ∷ []
+joins_so g c =
     let old = c.args.self.now in
-    let m = c.args.message in
-    let u : UnitFlight g.row.P.Denot =
-    record { message = m.value; left = c.in_ok-left.left; rate = 0; updated = c.args.now; rated = false } in
     let one : c.in_ok-new.field-0.value ≡ started g c = search rules in
-    let units : flights_at old.at c.push.new.self.items ≡ in_units old ++ u ∷ [] =
     ap (flights_at old.at) c.in_ok-push.ensures.items
     ∙ map-append (λ (f : Rc (Flight g.row.P.Denot) Global). flight_at old.at f.value) old.list.items
     (c.in_ok-new.field-0 ∷ [])
-    ∙ ap (λ (f : Flight g.row.P.Denot). in_units old ++ flight_at old.at f ∷ []) one in
+    ∙ ap (λ (f : Flight g.row.P.Denot). in_units old ++ flight_at old.at f ∷ []) one
+
+-- as it is read
+read_so : (g : _) (c : In_ok-push g) → rated_flight_of c.args.self.now.scale (unit_of g c)
+    ≡ record {
+      message = message_of c.args.message.value;
+      left = whole (length c.args.message.value.bytes);
+      rate = Some (whole 0);
+      updated = c.args.now;
+    }
+read_so g c =
+    let old = c.args.self.now in
+    let m = c.args.message in
     let bytes : c.len.result ≡ length m.value.bytes = c.len.ensures.value ∙ ap (λ x. length x.bytes) c.deref.ensures in
     let left : c.in_ok-left.left ≡ old.scale * (length m.value.bytes * billion) =
     c.in_ok-left.ensures.value ∙ ap (λ n. old.scale * (n * billion)) bytes in
-    ap (sending_of old.scale) units ∙ map-append (rated_flight_of old.scale) (in_units old) (u ∷ [])
-    ∙ ap (λ x. in_flight old ++ x ∷ [])
-    (λ i.
-    record {
+    λ i. record {
       message = message_of m.value;
       left = units_of_bytes old.scale (length m.value.bytes) c.in_ok-left.left old.scaled left i;
       rate = Some (no_units old.scale old.scaled i);
       updated = c.args.now;
-    })
+    }
+
+pub returns-clause-sending : goal.returns-clause-sending
+returns-clause-sending g c =
+    let old = c.args.self.now in
+    ap (sending_of old.scale) (joins_so g c)
+    ∙ map-append (rated_flight_of old.scale) (in_units old) (unit_of g c ∷ [])
+    ∙ ap (λ x. in_flight old ++ x ∷ []) (read_so g c)
 
 pub returns-clause-timed : goal.returns-clause-timed
 returns-clause-timed g c =
@@ -57,3 +81,16 @@ returns-clause-timed g c =
     subst AreTimed (sym c.in_ok-push.ensures.items)
     (timed_with c.args.self.now.list.items c.in_ok-new.field-0 (ap (λ (f : Flight g.row.P.Denot). f.rated) one)
     timed)
+
+pub returns-clause-joined : goal.returns-clause-joined
+returns-clause-joined g c =
+    record {
+      unit = unit_of g c;
+      joins = joins_so g c;
+      is = read_so g c;
+      unrated = refl;
+      scale = refl;
+      floor = refl;
+      at = refl;
+      timed = returns-clause-timed g c;
+    }
