@@ -1,7 +1,7 @@
 //! The messages in flight.
 ghost use Rattle.std.specs.Prelude.{◌≡◌, ℕ, ◌<◌, ◌≤◌, [], ◌∷◌, ◌++◌, ◌||◌, ◌&&◌, ◌==◌, true, not};
 ghost use Rattle.std.specs.Prelude.{if◌then◌else◌};
-ghost use Rattle.std.specs.Prelude.{length, nat_le, slice_index_or, Some, IfOk, IfErr, OnOk, OnErr};
+ghost use Rattle.std.specs.Prelude.{length, nat_le, slice_index_or, Some, IfSome, IfOk, IfErr, OnOk, OnErr};
 ghost use Rattle.std.specs.List.{list_all, list_any, AllZip};
 ghost use Rattle.std.specs.declared.rc.Rc.{Rc as AnyRc};
 ghost use Rattle.std.specs.declared.alloc.Global.{Global as Allocator};
@@ -183,19 +183,25 @@ impl<P: Peer> Flights<P> {
 
     /// Whether the one that stood in front has the first finish of all, or none finishes.
     fn is_front_first(&self) -> bool
-        ensures { result ≡ true → (t : ℕ)
+        ensures finish { result ≡ true → (t : ℕ)
             → has_come t self.now.first ≡ list_any (λ one. has_come t one.value.finish) self.now.list.items }
+        ensures place { result ≡ true → IfSome self.now.first (λ moment. (d : AnyRc (AnyFlight P) Allocator)
+            → (slice_index_or self.now.list.items self.now.front d).value.finish ≡ Some moment) }
     {
-        match self.list.get(self.front) {
-            Some(one) if self.first.is_some() => one.finish == self.first,
-            _ => self.first.is_none(),
-        }
+        let first = self.first;
+        first.is_none()
+            || self
+                .list
+                .get(self.front)
+                .is_some_and(|one| one.finish == first)
     }
 
     /// The first finish of all, and where one stands that has it.
     pub(crate) fn first_finish(&self) -> (Option<u64>, usize)
         ensures finish { (t : ℕ)
             → has_come t result.0 ≡ list_any (λ one. has_come t one.value.finish) self.now.list.items }
+        ensures place { IfSome result.0 (λ moment. (d : AnyRc (AnyFlight P) Allocator)
+            → (slice_index_or self.now.list.items result.1 d).value.finish ≡ Some moment) }
     {
         if self.is_front_first() {
             return (self.first, self.front);

@@ -1,12 +1,11 @@
 -- The least rate of those that leave, one after another.
 use Rattle.std.proofs.Common.{◌≡◌, ℕ, zero, suc, ◌+◌, ◌-◌, ◌<◌, ◌≤◌, Bool, true, false, List, [], ◌∷◌, length, get_or}
-use Rattle.std.proofs.Common.{take, drop, Option, sym, ap, ◌∙◌, subst, arith, add-one, ◌⊎◌, inl, inr}
-use Rattle.std.specs.List.{filter, remove}
+use Rattle.std.proofs.Common.{drop, Option, sym, ap, ◌∙◌, subst, arith, add-one, ◌⊎◌, inl, inr}
+use Rattle.std.specs.List.{remove}
 use Rattle.std.specs.declared.rc.Rc.{Rc}
 use Rattle.std.specs.declared.alloc.Global.{Global}
 use Rattle.std.proofs.lemmas.Bool.{false≢true}
-use Rattle.std.proofs.lemmas.List.{take-append-drop}
-use Rattle.fair_rates.proofs.Lists.Members.{In, in_from_contains, in_either, in_filter, from_map}
+use Rattle.fair_rates.proofs.Lists.Members.{In, in_from_contains, from_map}
 use Rattle.link_flights.specs.declared.flight.Flight.{Flight}
 use Rattle.link_flights.specs.Flights.Flight.{UnitFlight, flight_at, flights_at}
 use Rattle.link_flights.specs.Flights.InFlight.{PassesNowhere}
@@ -44,15 +43,6 @@ module _ {P : Type 0} (out : Rc (Flight P) Global → Bool) where
 
   pub none_over : (floor : Option ℕ) (old : List (Rc (Flight P) Global)) → AreOver floor old old 0
   none_over floor old f among leaves = inl among
-
-  -- none of the first leaves
-  pub over_from : (floor : Option ℕ) (old : List (Rc (Flight P) Global)) (n : ℕ) → filter out (take n old) ≡ []
-      → AreOver floor old old n
-  over_from floor old n stay f among leaves =
-      elim (in_either (take n old) (drop n old) f (subst (λ l. In l f) (sym (take-append-drop n old)) among)) [
-        | inl before ↦ absurd (subst (λ l. In l f) stay (in_filter out (take n old) f before leaves))
-        | inr later ↦ inl later
-      ]
 
   module _ (floor : Option ℕ) (old now : List (Rc (Flight P) Global)) (at : ℕ) (h : AreOver floor old now at) where
     module _ (lt : at < length now) where

@@ -1,4 +1,4 @@
-use Rattle.std.proofs.Common.{◌≡◌, ◌<◌, ◌≤◌, [], ◌++◌, ◌∷◌, true, length, get_or, refl, ap, ap₂, sym, ◌∙◌}
+use Rattle.std.proofs.Common.{◌≡◌, ◌≤◌, [], ◌++◌, ◌∷◌, true, length, get_or, refl, ap, ap₂, sym, ◌∙◌}
 use Rattle.std.proofs.Common.{subst, arith, None}
 use Rattle.std.specs.declared.rc.Rc.{Rc}
 use Rattle.std.specs.declared.alloc.Global.{Global}
@@ -11,12 +11,12 @@ use Rattle.link_pairs.specs.Pairs.CapsOf.{caps_of}
 use Rattle.link_flights.specs.Flights.Flight.{flight_at}
 use Rattle.link_flights.specs.Flights.InFlight.{PassesNowhere}
 use Rattle.link_flights.specs.Flights.Rated.{is_out}
-use Rattle.link_flights.proofs.Flights.Floors.{AreOver, none_over, over_from, over_stay, over_leaves}
+use Rattle.link_flights.proofs.Flights.Floors.{none_over, over_stay, over_leaves}
 use Rattle.link_flights.proofs.Flights.Floors.{all_over, floor_so}
 use Rattle.link_flights.proofs.Flights.InFlight.{HaveLeft, none_left, within, step_leaves, steps_stay}
 use Rattle.link_flights.proofs.Flights.InFlight.{all_looked_at}
 use Rattle.link_flights.proofs.Flights.Leaving.{timed_without, flights_limited_without, parted_so}
-use Rattle.link_flights.proofs.Flights.Settled.{left_from, none_out}
+use Rattle.link_flights.proofs.Flights.Settled.{none_out}
 use Rattle.link_flights.proofs.flight_list.Flights.take_done.Goals as goal
 use Rattle.link_flights.proofs.flight_list.Flights.take_done.Goals.{
   then-were_rated+then-not-may_have_finished_by,
@@ -28,39 +28,31 @@ loop-next-init g c =
     let old = c.args.self.now in
     let caps = caps_of g.P.Ord.cmp c.args.peers.now.entries c.args.pairs.now.entries in
     let message = λ (f : Rc (Flight g.row.P.Denot) Global). message_of f.value.message.value in
-    let out = λ (f : Rc (Flight g.row.P.Denot) Global). is_out g.P.Ord.cmp caps old.scale (flight_at old.at f.value) in (
-      elim c.if-were_rated.branch [
-        | then-were_rated+then-not-may_have_finished_by w ↦
-            subst (λ n. HaveLeft message out old.list.items old.list.items (messages c.new-done.result.items) n)
-            (sym w.at-is)
-            (subst (λ l. HaveLeft message out old.list.items old.list.items (messages l) old.settled)
-            (sym c.new-done.ensures.items)
-            (left_from g.P.Ord.cmp caps old.scale old.scaled old.at (omega arith) message old.settled old.list.items
-            old.have_rates old.past
-            (old.finish_from old.at (sym w.may_have_finished_by.ensures ∙ w.if-not-may_have_finished_by.true))
-            (c.requires.timed w.if-were_rated.true) (c.requires.limited w.if-were_rated.true)))
-        | else-were_rated w ↦
-            subst (λ n. HaveLeft message out old.list.items old.list.items (messages c.new-done.result.items) n)
-            (sym w.at-is)
-            (subst (λ l. HaveLeft message out old.list.items old.list.items (messages l) 0)
-            (sym c.new-done.ensures.items) (none_left message out old.list.items))
-      ],
+    let out = λ (f : Rc (Flight g.row.P.Denot) Global). is_out g.P.Ord.cmp caps old.scale (flight_at old.at f.value) in
+    let at = c.if-were_rated.at in
+    let stay : (at ≤ length old.list.items) × PassesNowhere out old.list.items 0 at =
+    elim c.if-were_rated.branch [
+      | then-were_rated+then-not-may_have_finished_by w ↦
+          subst (λ n. (n ≤ length old.list.items) × PassesNowhere out old.list.items 0 n) (sym w.at-is) (
+            old.have_rates.0,
+            none_out g.P.Ord.cmp caps old.scale old.scaled old.at (omega arith) old.settled old.list.items
+                old.have_rates old.past
+                (old.finish_from old.at (sym w.may_have_finished_by.ensures ∙ w.if-not-may_have_finished_by.true))
+                (c.requires.timed w.if-were_rated.true) (c.requires.limited w.if-were_rated.true),
+          )
+      | else-were_rated w ↦
+          subst (λ n. (n ≤ length old.list.items) × PassesNowhere out old.list.items 0 n) (sym w.at-is)
+          (omega arith, λ i after before d. absurd (omega (arith, before)))
+    ] in (
+      subst (λ l. HaveLeft message out old.list.items old.list.items (messages l) at) (sym c.new-done.ensures.items)
+          (steps_stay message out old.list.items old.list.items [] 0 at (none_left message out old.list.items) (omega arith)
+          stay.0 stay.1),
       refl,
       refl,
       λ h. h,
       λ h. h,
-      elim c.if-were_rated.branch [
-        | then-were_rated+then-not-may_have_finished_by w ↦
-            subst (AreOver out None old.list.items old.list.items) (sym w.at-is)
-            (over_from out None old.list.items old.settled
-            (none_out g.P.Ord.cmp caps old.scale old.scaled old.at (omega arith) old.settled old.list.items
-            old.have_rates.1 old.past
-            (old.finish_from old.at (sym w.may_have_finished_by.ensures ∙ w.if-not-may_have_finished_by.true))
-            (c.requires.timed w.if-were_rated.true) (c.requires.limited w.if-were_rated.true)).0)
-        | else-were_rated w ↦
-            subst (AreOver out None old.list.items old.list.items) (sym w.at-is)
-            (none_over out None old.list.items)
-      ],
+      over_stay out None old.list.items old.list.items 0 at (none_over out None old.list.items) (omega arith) stay.0
+          stay.1,
     )
 
 pub loop-next-preserved : goal.loop-next-preserved
