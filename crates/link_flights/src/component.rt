@@ -363,7 +363,8 @@ impl<P: Peer> Flights<P> {
 
     /// The first place from that one on at which one shares an end with the message, if there is one.
     fn next_sharing(&self, message: &Message<P>, from: usize) -> Option<usize>
-        ensures { IsNextPlace (λ one. share_end P.cmp message.now one.value.message.value) self.now.list.items from result }
+        ensures { IsNextPlace (λ one. share_end P.cmp message.now one.value.message.value) self.now.list.items
+            from result }
     {
         for at in from..self.list.len() {
             if share_an_end(message, &self.list[at].message) {

@@ -45,8 +45,8 @@ loop-next-init g c =
           (omega arith, λ i after before d. absurd (omega (arith, before)))
     ] in (
       subst (λ l. HaveLeft message out old.list.items old.list.items (messages l) at) (sym c.new-done.ensures.items)
-          (steps_stay message out old.list.items old.list.items [] 0 at (none_left message out old.list.items) (omega arith)
-          stay.0 stay.1),
+          (steps_stay message out old.list.items old.list.items [] 0 at (none_left message out old.list.items)
+          (omega arith) stay.0 stay.1),
       refl,
       refl,
       λ h. h,
