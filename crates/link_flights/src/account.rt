@@ -6,7 +6,7 @@ ghost use Rattle.std.specs.declared.rc.Rc.{Rc as AnyRc};
 ghost use Rattle.std.specs.declared.alloc.Global.{Global as Allocator};
 ghost use Rattle.link_flights.specs.declared.flight.Flight.{Flight as AnyFlight};
 ghost use Rattle.link_flights.specs.Flights.Flight.{flight_at, has_come, AreTimed, DrainsTo};
-ghost use Rattle.link_flights.specs.Flights.InFlight.{in_flight, in_units};
+ghost use Rattle.link_flights.specs.Flights.InFlight.{in_flight, in_units, IsNextPlace};
 ghost use Rattle.link_flights.specs.Flights.Rated.{ArePartedBy, is_out, are_limited, rated_ones};
 ghost use Rattle.link_flights.specs.Flights.Rated.{IsFloorOf, IsNoMore};
 ghost use Rattle.link_pairs.specs.Pairs.Messages.{message_of, messages};
@@ -34,12 +34,12 @@ pub fn is_unlimited<P: Peer>(message: &Message<P>, peers: &Peers<P>, pairs: &Pai
 }
 
 impl<P: Peer> Flights<P> {
-    /// Whether a finish may have come at the moment of the last account.
-    fn may_have_finished(&self) -> bool
-        ensures { result ≡ has_come self.now.at self.now.first }
+    /// Whether a finish may have come by that moment.
+    fn may_have_finished_by(&self, now: u64) -> bool
+        ensures { result ≡ has_come now self.now.first }
     {
         match self.first {
-            Some(first) => first <= self.at,
+            Some(first) => first <= now,
             None => false,
         }
     }
@@ -152,21 +152,40 @@ impl<P: Peer> Flights<P> {
     {
         self.floor = None;
         let mut done = VecDeque::new(self.alloc);
-        let mut at = if were_rated && !self.may_have_finished() {
+        let mut at = if were_rated && !self.may_have_finished_by(self.at) {
             self.settled
         } else {
             0
         };
-        while at < self.list.len() {
-            if self.is_done(at, peers, pairs, were_rated) {
-                done.push_back(self.list[at].message.clone()?)?;
-                self.lower_floor(at)?;
-                self.remove(at);
-            } else {
-                at += 1;
-            }
+        while let Some(next) = self.next_done(at, peers, pairs, were_rated) {
+            done.push_back(self.list[next].message.clone()?)?;
+            self.lower_floor(next)?;
+            self.remove(next);
+            at = next;
         }
         Ok(done)
+    }
+
+    /// The first place from that one on at which a message is done, if there is one.
+    fn next_done(
+        &self,
+        from: usize,
+        peers: &Peers<P>,
+        pairs: &Pairs<P>,
+        were_rated: bool,
+    ) -> Option<usize>
+        requires limited { were_rated ≡ true → are_limited P.cmp (caps_of P.cmp peers.now.entries pairs.now.entries)
+            (rated_ones (in_units self.now)) ≡ true }
+        requires timed { were_rated ≡ true → AreTimed self.now.list.items }
+        ensures next { IsNextPlace (λ one. is_out P.cmp (caps_of P.cmp peers.now.entries pairs.now.entries)
+            self.now.scale (flight_at self.now.at one.value)) self.now.list.items from result }
+    {
+        for at in from..self.list.len() {
+            if self.is_done(at, peers, pairs, were_rated) {
+                return Some(at);
+            }
+        }
+        None
     }
 
     /// Where nothing is in flight, units begin anew: one is a byte a second.

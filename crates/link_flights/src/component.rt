@@ -14,7 +14,7 @@ ghost use Rattle.link_flights.specs.Flights.Components.{StartsWith, ArePassedOn,
 ghost use Rattle.link_flights.specs.Flights.Components.{AllNewTouch, AreSuited, place_of};
 ghost use Rattle.link_flights.specs.Flights.Components.{share_an_end as share_end};
 ghost use Rattle.link_flights.specs.Flights.Flight.{flight_at};
-ghost use Rattle.link_flights.specs.Flights.InFlight.{in_units};
+ghost use Rattle.link_flights.specs.Flights.InFlight.{in_units, IsNextPlace};
 
 use crate::flight::Flight;
 use crate::flight_list::Flights;
@@ -349,16 +349,29 @@ impl<P: Peer> Flights<P> {
         ensures whole { component.new.whole ≡ component.old.whole }
         ensures refused { IfErr result (λ e. e ≡ Error.OutOfMemory) }
     {
-        for at in 0..self.list.len() {
+        let mut from = 0;
+        while let Some(at) = self.next_sharing(message, from) {
             let one = &self.list[at];
-            if share_an_end(message, &one.message) {
-                flags[at] = true;
-                if !component.keeps(one) {
-                    component.join(&one.message)?;
-                }
+            flags[at] = true;
+            if !component.keeps(one) {
+                component.join(&one.message)?;
             }
+            from = at + 1;
         }
         Ok(())
+    }
+
+    /// The first place from that one on at which one shares an end with the message, if there is one.
+    fn next_sharing(&self, message: &Message<P>, from: usize) -> Option<usize>
+        ensures { IsNextPlace (λ one. share_end P.cmp message.now one.value.message.value) self.now.list.items
+            from result }
+    {
+        for at in from..self.list.len() {
+            if share_an_end(message, &self.list[at].message) {
+                return Some(at);
+            }
+        }
+        None
     }
 
     /// The places of those in flight of which the component has an end, in order of start.

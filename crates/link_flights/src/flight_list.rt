@@ -1,6 +1,7 @@
 //! The messages in flight.
 ghost use Rattle.std.specs.Prelude.{◌≡◌, ℕ, ◌<◌, ◌≤◌, [], ◌∷◌, ◌++◌, ◌||◌, ◌&&◌, ◌==◌, true, not};
-ghost use Rattle.std.specs.Prelude.{length, nat_le, slice_index_or, Some, IfOk, IfErr, OnOk, OnErr};
+ghost use Rattle.std.specs.Prelude.{if◌then◌else◌};
+ghost use Rattle.std.specs.Prelude.{length, nat_le, slice_index_or, Some, IfSome, IfOk, IfErr, OnOk, OnErr};
 ghost use Rattle.std.specs.List.{list_all, list_any, AllZip};
 ghost use Rattle.std.specs.declared.rc.Rc.{Rc as AnyRc};
 ghost use Rattle.std.specs.declared.alloc.Global.{Global as Allocator};
@@ -45,6 +46,8 @@ pub struct Flights<P: Peer> {
     pub(crate) settled: usize,
     /// No finish comes before this moment; none comes at all, where it is missing.
     pub(crate) first: Option<u64>,
+    /// Where the one that finishes first stood when it was last looked for. Only time hangs on it.
+    pub(crate) front: usize,
     /// So many accounts more are made without a search for what is touched. Only time hangs on it.
     pub(crate) unsearched: usize,
 
@@ -109,6 +112,7 @@ impl<P: Peer> Flights<P> {
             rated_anew: 0,
             settled: 0,
             first: None,
+            front: 0,
             unsearched: 0,
         }
     }
@@ -178,15 +182,51 @@ impl<P: Peer> Flights<P> {
         Ok(())
     }
 
-    /// The first finish of all.
-    pub(crate) fn first_finish(&self) -> Option<u64>
-        ensures { (t : ℕ) → has_come t result ≡ list_any (λ one. has_come t one.value.finish) self.now.list.items }
+    /// Whether the one that stood in front has the first finish of all, or none finishes.
+    fn is_front_first(&self) -> bool
+        ensures finish { result ≡ true → (t : ℕ)
+            → has_come t self.now.first ≡ list_any (λ one. has_come t one.value.finish) self.now.list.items }
+        ensures place { result ≡ true → IfSome self.now.first (λ moment. (d : AnyRc (AnyFlight P) Allocator)
+            → (slice_index_or self.now.list.items self.now.front d).value.finish ≡ Some moment) }
     {
-        let mut first = None;
-        for one in &self.list {
-            first = earlier(first, one.finish);
+        let first = self.first;
+        first.is_none()
+            || self
+                .list
+                .get(self.front)
+                .is_some_and(|one| one.finish == first)
+    }
+
+    /// The first finish of all, and where one stands that has it.
+    pub(crate) fn first_finish(&self) -> (Option<u64>, usize)
+        ensures finish { (t : ℕ)
+            → has_come t result.0 ≡ list_any (λ one. has_come t one.value.finish) self.now.list.items }
+        ensures place { IfSome result.0 (λ moment. (d : AnyRc (AnyFlight P) Allocator)
+            → (slice_index_or self.now.list.items result.1 d).value.finish ≡ Some moment) }
+    {
+        if self.is_front_first() {
+            return (self.first, self.front);
         }
-        first
+        let mut first = None;
+        let mut front = 0;
+        for at in 0..self.list.len() {
+            let finish = self.list[at].finish;
+            if comes_before(finish, first) {
+                first = finish;
+                front = at;
+            }
+        }
+        (first, front)
+    }
+}
+
+/// Whether the first of two moments is there, and the second is missing or later.
+fn comes_before(one: Option<u64>, other: Option<u64>) -> bool
+    ensures { earliest other one ≡ (if result then one else other) }
+{
+    match (one, other) {
+        (Some(one), Some(other)) => one < other,
+        (one, _) => one.is_some(),
     }
 }
 
@@ -207,6 +247,7 @@ impl<P: Peer> Clone for Flights<P> {
             rated_anew: self.rated_anew,
             settled: self.settled,
             first: self.first,
+            front: self.front,
             unsearched: self.unsearched,
         })
     }

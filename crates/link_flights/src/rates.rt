@@ -175,9 +175,10 @@ impl<P: Peer> Flights<P> {
             if part.growth.is_empty() && all_reach(&part, &touched.level) {
                 let unsearched = self.spared_after(touched.whole, part.level_of.len());
                 self.set_rates(&touched, &kept, part, true)?;
-                let first = self.first_finish();
+                let (first, front) = self.first_finish();
                 self.settled = self.list.len();
                 self.first = first;
+                self.front = front;
                 self.unsearched = unsearched;
                 return Ok(first);
             }
@@ -186,9 +187,10 @@ impl<P: Peer> Flights<P> {
         let rates = self.rates_of_all(&all, peers, pairs)?;
         let unsearched = self.spared_after(true, 0);
         self.set_rates(&all, &[], rates, were_rated)?;
-        let first = self.first_finish();
+        let (first, front) = self.first_finish();
         self.settled = self.list.len();
         self.first = first;
+        self.front = front;
         self.unsearched = unsearched;
         Ok(first)
     }

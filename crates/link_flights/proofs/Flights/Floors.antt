@@ -1,15 +1,16 @@
 -- The least rate of those that leave, one after another.
-use Rattle.std.proofs.Common.{◌≡◌, ℕ, zero, suc, ◌+◌, ◌<◌, ◌≤◌, Bool, true, false, List, [], ◌∷◌, length, get_or}
-use Rattle.std.proofs.Common.{take, drop, Option, sym, ap, ◌∙◌, subst, arith, add-one, ◌⊎◌, inl, inr}
-use Rattle.std.specs.List.{filter, remove}
+use Rattle.std.proofs.Common.{◌≡◌, ℕ, zero, suc, ◌+◌, ◌-◌, ◌<◌, ◌≤◌, Bool, true, false, List, [], ◌∷◌, length, get_or}
+use Rattle.std.proofs.Common.{drop, Option, sym, ap, ◌∙◌, subst, arith, add-one, ◌⊎◌, inl, inr}
+use Rattle.std.specs.List.{remove}
 use Rattle.std.specs.declared.rc.Rc.{Rc}
 use Rattle.std.specs.declared.alloc.Global.{Global}
 use Rattle.std.proofs.lemmas.Bool.{false≢true}
-use Rattle.std.proofs.lemmas.List.{take-append-drop}
-use Rattle.fair_rates.proofs.Lists.Members.{In, in_from_contains, in_either, in_filter, from_map}
+use Rattle.fair_rates.proofs.Lists.Members.{In, in_from_contains, from_map}
 use Rattle.link_flights.specs.declared.flight.Flight.{Flight}
 use Rattle.link_flights.specs.Flights.Flight.{UnitFlight, flight_at, flights_at}
+use Rattle.link_flights.specs.Flights.InFlight.{PassesNowhere}
 use Rattle.link_flights.specs.Flights.Rated.{IsFloorOf, IsNoMore}
+use Rattle.link_flights.proofs.Flights.InFlight.{goes_on}
 
 module _ {X : Type 0} where
   first_or_later : (xs : List X) (at : ℕ) (y : X) → at < length xs → In (drop at xs) y
@@ -43,18 +44,9 @@ module _ {P : Type 0} (out : Rc (Flight P) Global → Bool) where
   pub none_over : (floor : Option ℕ) (old : List (Rc (Flight P) Global)) → AreOver floor old old 0
   none_over floor old f among leaves = inl among
 
-  -- none of the first leaves
-  pub over_from : (floor : Option ℕ) (old : List (Rc (Flight P) Global)) (n : ℕ) → filter out (take n old) ≡ []
-      → AreOver floor old old n
-  over_from floor old n stay f among leaves =
-      elim (in_either (take n old) (drop n old) f (subst (λ l. In l f) (sym (take-append-drop n old)) among)) [
-        | inl before ↦ absurd (subst (λ l. In l f) stay (in_filter out (take n old) f before leaves))
-        | inr later ↦ inl later
-      ]
-
   module _ (floor : Option ℕ) (old now : List (Rc (Flight P) Global)) (at : ℕ) (h : AreOver floor old now at) where
     module _ (lt : at < length now) where
-      pub over_stays : ((d : Rc (Flight P) Global) → out (get_or now at d) ≡ false) → AreOver floor old now (at + 1)
+      over_stays : ((d : Rc (Flight P) Global) → out (get_or now at d) ≡ false) → AreOver floor old now (at + 1)
       over_stays stays = rw add-one (λ f among leaves. elim (h f among leaves) [
         | inl later ↦ elim (first_or_later now at f lt later) [
           | inl same ↦ absurd (false≢true (sym (stays f) ∙ ap out same ∙ leaves))
@@ -76,6 +68,16 @@ module _ {P : Type 0} (out : Rc (Flight P) Global → Bool) where
     pub all_over : length now ≤ at → (f : Rc (Flight P) Global) → In old f → out f ≡ true → IsOver floor f
     all_over le f among leaves =
         elim (h f among leaves) [ inl later ↦ absurd (none_later now at f le later) | inr over ↦ over ]
+
+  -- those from a place on stay, up to another
+  pub over_stay : (floor : Option ℕ) (old now : List (Rc (Flight P) Global)) (at to : ℕ) → AreOver floor old now at
+      → at ≤ to → to ≤ length now → PassesNowhere out now at to → AreOver floor old now to
+  over_stay floor old now at to h later inside stay =
+      let there : at + (to - at) ≡ to = omega (arith, later) in
+      subst (AreOver floor old now) there
+      (goes_on (AreOver floor old now) at (to - at) h
+      (λ i after before over. over_stays floor old now i over (omega (arith, before, there, inside))
+      (stay i after (omega (arith, before, there)))))
 
   -- so it is a floor
   pub floor_so : (floor : Option ℕ) (test : UnitFlight P → Bool) (now : ℕ) (old : List (Rc (Flight P) Global))

@@ -1,6 +1,7 @@
 -- The messages in flight: flows that stand for them, and those that leave.
-use Rattle.std.proofs.Common.{◌≡◌, ℕ, zero, suc, ◌+◌, ◌<◌, ◌≤◌, Bool, true, false, not, cond, if◌then◌else◌, ◌&&◌, ◌||◌}
-use Rattle.std.proofs.Common.{List, [], ◌∷◌, ◌++◌, length, map, get_or, refl, sym, ◌∙◌, ap, arith, append_assoc}
+use Rattle.std.proofs.Common.{◌≡◌, ℕ, zero, suc, ◌+◌, ◌-◌, ◌<◌, ◌≤◌, Bool, true, false, not, cond, if◌then◌else◌}
+use Rattle.std.proofs.Common.{◌&&◌, ◌||◌, List, [], ◌∷◌, ◌++◌, length, map, get_or, refl, sym, ◌∙◌, ap, subst, arith}
+use Rattle.std.proofs.Common.{append_assoc}
 use Rattle.std.specs.List.{AllZip, remove, filter}
 use Rattle.std.specs.declared.cmp.Ordering.{Ordering}
 use Rattle.fair_rates.specs.declared.bandwidth.Flow.{Flow}
@@ -12,6 +13,7 @@ use Rattle.std.proofs.lemmas.List.{length-append, append-nil}
 use Rattle.std.proofs.lemmas.Bool.{and_from}
 use Rattle.fair_rates.proofs.Lists.Booleans.{first_of_both, second_of_both}
 use Rattle.link_flights.specs.Flights.Flight.{UnitFlight}
+use Rattle.link_flights.specs.Flights.InFlight.{PassesNowhere}
 use Rattle.link_flights.specs.Flights.RatedFlights.{stands_for, are_standing}
 use Rattle.link_pairs.specs.Pairs.Messages.{message_of}
 use Rattle.fair_rates.proofs.Lists.Zips.{zip-length, zip-push}
@@ -115,6 +117,18 @@ filter_yes t x xs h = rw h refl
 pub filter_no : {X : Type 0} (t : X → Bool) (x : X) (xs : List X) → t x ≡ false → filter t (x ∷ xs) ≡ filter t xs
 filter_no t x xs h = rw h refl
 
+-- what holds at a place holds so much later, if at each place before that it goes on to the next
+pub goes_on : (Q : ℕ → Type 0) (from n : ℕ) → Q from → ((i : ℕ) → from ≤ i → i < from + n → Q i → Q (i + 1))
+    → Q (from + n)
+goes_on Q from zero here step =
+    let same : from ≡ from + 0 = omega arith in
+    subst Q same here
+goes_on Q from (suc n) here step =
+    let next : from + n + 1 ≡ from + suc n = omega arith in
+    subst Q next
+    (step (from + n) (omega arith) (omega arith)
+    (goes_on Q from n here (λ i after before. step i after (omega (arith, before)))))
+
 module _ {P X : Type 0} (message : X → Message P) (spent : X → Bool) where
   -- so far, up to a place: some have left, and the rest is to be looked at
   pub record HaveLeft (old now : List X) (left : List (Message P)) (at : ℕ) : Type 0 where
@@ -157,9 +171,8 @@ module _ {P X : Type 0} (message : X → Message P) (spent : X → Bool) where
               stay = ap (λ l. h.before ++ l) (sym (filter_no (λ g. not (spent g)) f tail (ap not passes))) ∙ stay;
             }
 
-    pub step_stays : (t : Bool) → at < length now → t ≡ false → ((d : X) → t ≡ spent (get_or now at d))
-        → HaveLeft old now left (at + 1)
-    step_stays t lt fails_here test = by_rest h.rest h.split h.leavers h.stay
+    step_stays : at < length now → ((d : X) → spent (get_or now at d) ≡ false) → HaveLeft old now left (at + 1)
+    step_stays lt test = by_rest h.rest h.split h.leavers h.stay
       where
         by_rest : (rest : List X) → now ≡ h.before ++ rest
             → left ++ map message (filter spent rest) ≡ map message (filter spent old)
@@ -170,7 +183,7 @@ module _ {P X : Type 0} (message : X → Message P) (spent : X → Bool) where
             let here : get_or now at f ≡ f =
             ap (λ l. get_or l at f) split ∙ ap (λ n. get_or (h.before ++ f ∷ tail) n f) h.is_at
             ∙ get_or-seam h.before tail f f in
-            let fails : spent f ≡ false = ap spent (sym here) ∙ sym (test f) ∙ fails_here in
+            let fails : spent f ≡ false = ap spent (sym here) ∙ test f in
             record {
               before = h.before ++ f ∷ [];
               rest = tail;
@@ -181,6 +194,10 @@ module _ {P X : Type 0} (message : X → Message P) (spent : X → Bool) where
                   append_assoc h.before (f ∷ []) (filter (λ g. not (spent g)) tail)
                   ∙ ap (λ l. h.before ++ l) (sym (filter_yes (λ g. not (spent g)) f tail (ap not fails))) ∙ stay;
             }
+
+    -- it is no further than the end
+    pub within : at ≤ length now
+    within = omega (arith, h.is_at, ap length h.split, length-append h.before h.rest)
 
     pub all_looked_at : length now ≤ at
         → record { leavers : left ≡ map message (filter spent old); stay : now ≡ filter (λ f. not (spent f)) old }
@@ -193,6 +210,16 @@ module _ {P X : Type 0} (message : X → Message P) (spent : X → Bool) where
         by_rest [] split leavers stay = record { leavers = sym (append-nil left) ∙ leavers; stay = split ∙ stay }
         by_rest (f ∷ tail) split leavers stay =
             absurd (omega (arith, h.is_at, ap length split, length-append h.before (f ∷ tail)))
+
+  -- those from a place on stay, up to another
+  pub steps_stay : (old now : List X) (left : List (Message P)) (at to : ℕ) → HaveLeft old now left at → at ≤ to
+      → to ≤ length now → PassesNowhere spent now at to → HaveLeft old now left to
+  steps_stay old now left at to h later inside stay =
+      let there : at + (to - at) ≡ to = omega (arith, later) in
+      subst (HaveLeft old now left) there
+      (goes_on (HaveLeft old now left) at (to - at) h
+      (λ i after before left_so. step_stays old now left i left_so (omega (arith, before, there, inside))
+      (stay i after (omega (arith, before, there)))))
 
 pub nothing_is_done : (n : ℕ) (b : Bool) → n ≡ 0 → ((n == 0) || b) ≡ true
 nothing_is_done n b h = rw h refl

@@ -29,6 +29,7 @@ use Rattle.link_flights.specs.Flights.Components.{keeps, has_both, touches, suit
 use Rattle.link_flights.specs.Flights.Components.{AreNear, AreSuited, near_of, those_near, places_of}
 use Rattle.link_flights.specs.Flights.Components.{share_an_end, StartsWith, ArePassedOn, AreFlagged, AreAllFlagged}
 use Rattle.link_flights.specs.Flights.Components.{AllNewTouch}
+use Rattle.link_flights.specs.Flights.InFlight.{PassesNowhere}
 
 -- ---- places
 
@@ -105,15 +106,16 @@ module _ {P : Type 0} (cmp : P → P → Ordering) where
 
   module _ (m : Message P) (list : List (Rc (Flight P) Global)) (at : ℕ) (before flags : List Bool)
       (old new : Component P) (so_far : HasFlagged m list at before flags old new) where
-    -- the one at the place shares no end
-    pub passed_over : (x : Rc (Flight P) Global) → x ≡ get_or list at x
-        → share_an_end cmp m x.value.message.value ≡ false → HasFlagged m list (at + 1) before flags old new
-    passed_over x is apart = record {
+    -- those from there on share no end, up to another place
+    pub passed_over : (to : ℕ) → PassesNowhere (λ one. share_an_end cmp m one.value.message.value) list at to
+        → HasFlagged m list to before flags old new
+    passed_over to apart = record {
       one_each = so_far.one_each;
-      flagged = each_more (λ i (one : Rc (Flight P) Global). slice_index_or flags i true ≡ false
-          → share_an_end cmp m one.value.message.value ≡ false) list at so_far.flagged (λ one there no.
-          subst (λ (y : Rc (Flight P) Global). share_an_end cmp m y.value.message.value ≡ false)
-          (same_there list at x one is there) apart);
+      flagged = λ i one below there no. elim (cases_lt i at) [
+        | inl less ↦ so_far.flagged i one less there no
+        | inr past ↦ subst (λ (y : Rc (Flight P) Global). share_an_end cmp m y.value.message.value ≡ false)
+            (get_or_from_slice_get list i one one there) (apart i past below one)
+      ];
       more = so_far.more;
       joined = so_far.joined;
       level = so_far.level;

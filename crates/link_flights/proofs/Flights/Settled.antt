@@ -1,8 +1,8 @@
 -- How many messages in flight, at the beginning of the list, have got a rate; and before which moment none finishes.
-use Rattle.std.proofs.Common.{◌≡◌, ℕ, zero, suc, ◌<◌, ◌≤◌, Bool, true, false, not, ◌||◌, List, [], ◌∷◌}
-use Rattle.std.proofs.Common.{◌++◌, length, take, drop, get_or, set, map, Option, Some, None, refl, sym, ap}
+use Rattle.std.proofs.Common.{◌≡◌, ℕ, zero, suc, ◌<◌, ◌≤◌, Bool, true, false, ◌||◌, List, [], ◌∷◌}
+use Rattle.std.proofs.Common.{length, take, drop, get_or, set, Option, Some, None, refl, sym, ap}
 use Rattle.std.proofs.Common.{◌∙◌, arith}
-use Rattle.std.specs.List.{AllZip, filter, list_all, list_any, remove}
+use Rattle.std.specs.List.{AllZip, list_all, list_any, remove}
 use Rattle.std.specs.declared.cmp.Ordering.{Ordering}
 use Rattle.std.specs.declared.rc.Rc.{Rc}
 use Rattle.std.specs.declared.alloc.Global.{Global}
@@ -10,21 +10,21 @@ use Rattle.std.proofs.lemmas.Bool.{and_from, or_parts, leb-false, lt-leb}
 use Rattle.std.proofs.lemmas.List.{length-set, length-take-le, take-append-drop}
 use Rattle.std.proofs.lemmas.List.{take_all}
 use Rattle.std.proofs.lemmas.List.Edits.{length-remove}
-use Rattle.std.proofs.lemmas.List.Elements.{filter-append, length_all_zip}
+use Rattle.std.proofs.lemmas.List.Elements.{length_all_zip}
 use Rattle.fair_rates.specs.Sides.Caps.{Caps}
 use Rattle.fair_rates.proofs.Lists.Booleans.{first_of_both, second_of_both}
 use Rattle.fair_rates.proofs.Lists.InPlace.{IsChangedUpTo}
 use Rattle.link_simulation.specs.Rule.Planned.{earlier}
-use Rattle.link_simulation.specs.Simulation.Messages.{Message}
 use Rattle.link_simulation.specs.Simulation.World.{last_moment}
 use Rattle.link_flights.specs.declared.flight.Flight.{Flight}
 use Rattle.link_flights.specs.Flights.Flight.{UnitFlight, flight_at, flights_at, has_come, AreTimed, HaveRates}
 use Rattle.link_flights.specs.Flights.Flight.{FinishFrom}
+use Rattle.link_flights.specs.Flights.InFlight.{PassesNowhere}
 use Rattle.link_flights.specs.Flights.Rated.{is_out, are_limited, rated_ones, IsRatedFrom}
 use Rattle.link_flights.proofs.Flights.Copies.{AreShared}
 use Rattle.link_flights.proofs.Flights.Done.{out_by_finish, limited_there}
 use Rattle.link_flights.proofs.Flights.Flight.{IsBrought, is_past, is_counted_on, past_so}
-use Rattle.link_flights.proofs.Flights.InFlight.{HaveLeft, filter_yes, filter_no}
+use Rattle.link_flights.proofs.Flights.InFlight.{filter_yes}
 
 -- ---- the first elements of a list pass a test
 
@@ -194,25 +194,23 @@ module _ {P : Type 0} where
       out f = is_out cmp caps scale (flight_at at f.value)
 
       -- so none of them leaves
-      pub none_out : (n : ℕ) (fs : List (Rc (Flight P) Global)) → list_all (λ f. f.value.rated) (take n fs) ≡ true
-          → list_all (is_past at) fs ≡ true → list_any (λ f. has_come at f.value.finish) fs ≡ false → AreTimed fs
-          → are_limited cmp caps (rated_ones (flights_at at fs)) ≡ true
-          → (filter out (take n fs) ≡ []) × (filter (λ f. not (out f)) (take n fs) ≡ take n fs)
-      none_out zero fs all past none timed limited = (refl, refl)
-      none_out (suc n) [] all past none timed limited = (refl, refl)
-      none_out (suc n) (f ∷ fs) all past none timed limited =
-          let is = first_of_both f.value.rated _ all in
-          let stays : out f ≡ false =
+      pub none_out : (n : ℕ) (fs : List (Rc (Flight P) Global)) → HaveRates n fs → list_all (is_past at) fs ≡ true
+          → list_any (λ f. has_come at f.value.finish) fs ≡ false → AreTimed fs
+          → are_limited cmp caps (rated_ones (flights_at at fs)) ≡ true → PassesNowhere out fs 0 n
+      none_out zero fs h past none timed limited i after before d = absurd (omega (arith, before))
+      none_out (suc n) [] h past none timed limited i after before d = absurd (omega (arith, h.0))
+      none_out (suc n) (f ∷ fs) h past none timed limited zero after before d =
+          let is = first_of_both f.value.rated _ h.1 in
           sym (out_by_finish cmp caps scale some at f.value is (past_so at f (first_of_both (is_past at f) _ past) is)
           here (timed zero f refl is)
           (limited_there cmp caps scale some at (f ∷ fs) zero f limited (omega arith) refl is))
-          ∙ (or_parts (has_come at f.value.finish) _ none).0 in
-          let rest = none_out n fs (second_of_both f.value.rated _ all) (second_of_both (is_past at f) _ past)
-          ((or_parts (has_come at f.value.finish) _ none).1) (λ i g there. timed (suc i) g there)
-          (limited_rest (flight_at at f.value) (flights_at at fs) is limited) in (
-            filter_no out f (take n fs) stays ∙ rest.0,
-            filter_yes (λ g. not (out g)) f (take n fs) (ap not stays) ∙ ap (λ l. f ∷ l) rest.1,
-          )
+          ∙ (or_parts (has_come at f.value.finish) _ none).0
+      none_out (suc n) (f ∷ fs) h past none timed limited (suc i) after before d =
+          none_out n fs (omega (arith, h.0), second_of_both f.value.rated _ h.1)
+          (second_of_both (is_past at f) _ past) ((or_parts (has_come at f.value.finish) _ none).1)
+          (λ j g there. timed (suc j) g there)
+          (limited_rest (flight_at at f.value) (flights_at at fs) (first_of_both f.value.rated _ h.1) limited) i
+          (omega arith) (omega (arith, before)) d
         where
           limited_rest : (u : UnitFlight P) (us : List (UnitFlight P)) → u.rated ≡ true
               → are_limited cmp caps (rated_ones (u ∷ us)) ≡ true
@@ -220,25 +218,6 @@ module _ {P : Type 0} where
           limited_rest u us is limited =
               second_of_both _ (are_limited cmp caps (rated_ones us))
               (sym (ap (are_limited cmp caps) (filter_yes (λ v. v.rated) u us is)) ∙ limited)
-
-      -- so far, up to them, none has left
-      pub left_from : (message : Rc (Flight P) Global → Message P) (n : ℕ) (fs : List (Rc (Flight P) Global))
-          → HaveRates n fs → list_all (is_past at) fs ≡ true → list_any (λ f. has_come at f.value.finish) fs ≡ false
-          → AreTimed fs → are_limited cmp caps (rated_ones (flights_at at fs)) ≡ true → HaveLeft message out fs fs [] n
-      left_from message n fs h past none timed limited =
-          let stay = none_out n fs h.1 past none timed limited in
-          let whole = take-append-drop n fs in
-          record {
-            before = take n fs;
-            rest = drop n fs;
-            split = sym whole;
-            is_at = sym (length-take-le n fs h.0);
-            leavers = ap (map message)
-                (ap (λ l. l ++ filter out (drop n fs)) (sym stay.0) ∙ sym (filter-append out (take n fs) (drop n fs))
-                ∙ ap (filter out) whole);
-            stay = ap (λ l. l ++ filter (λ f. not (out f)) (drop n fs)) (sym stay.1)
-                ∙ sym (filter-append (λ f. not (out f)) (take n fs) (drop n fs)) ∙ ap (filter (λ f. not (out f))) whole;
-          }
 
 -- all have rates, once each has got one
 pub all_have_got : {P : Type 0} (now times at : ℕ) (us : List (UnitFlight P)) (fs : List (Rc (Flight P) Global))

@@ -1,5 +1,6 @@
 -- What is in flight, as it is kept.
-use Rattle.std.specs.Prelude.{◌≡◌, ℕ, false, List, [], ◌∷◌, ◌++◌, length, Some}
+use Rattle.std.specs.Prelude.{◌≡◌, ℕ, ◌<◌, ◌≤◌, Bool, true, false, List, [], ◌∷◌, ◌++◌, length, slice_index_or}
+use Rattle.std.specs.Prelude.{Option, Some, None}
 use Rattle.std.specs.List.{AllZip}
 use Rattle.fair_rates.specs.Numbers.Amount.{whole}
 use Rattle.link_pairs.specs.declared.message.Message as code
@@ -36,3 +37,19 @@ pub record Joins {P : Type 0} {a : _} {b : _} {c : _} (now : ℕ) (m : code.Mess
   pub floor : new.floor ≡ old.floor
   pub at : new.at ≡ old.at
   pub timed : AreTimed old.list.items → AreTimed new.list.items
+
+-- a test passes at no place from one on up to another
+abbrev pub PassesNowhere : {X : Type 0} → (X → Bool) → List X → ℕ → ℕ → Type 0
+PassesNowhere {X} test xs from to = (i : ℕ) → from ≤ i → i < to → (d : X) → test (slice_index_or xs i d) ≡ false
+
+-- a place is the first from one on at which a test passes
+pub record PassesFirstAt {X : Type 0} (test : X → Bool) (xs : List X) (from at : ℕ) : Type 0 where
+  pub low : from ≤ at
+  pub high : at < length xs
+  pub before : PassesNowhere test xs from at
+  pub here : (d : X) → test (slice_index_or xs at d) ≡ true
+
+-- the first place from one on at which a test passes, if there is any
+abbrev pub IsNextPlace : {X : Type 0} → (X → Bool) → List X → ℕ → Option ℕ → Type 0
+IsNextPlace test xs from None = PassesNowhere test xs from (length xs)
+IsNextPlace test xs from (Some at) = PassesFirstAt test xs from at

@@ -73,7 +73,7 @@ invariant_of-self g c =
       counted = new.counted;
       have_rates = subst (λ n. HaveRates n new.list.items) (omega (arith, new.list.ok.0))
           (rates_all new.list.items (all_have_got old.at h.times new.at (in_units old) new.list.items h.each));
-      finish_from = finish_known c.first_finish-first.result new.list.items c.first_finish-first.ensures;
+      finish_from = finish_known c.first_finish-first.result.0 new.list.items c.first_finish-first.ensures.finish;
     }
 
 pub returns-then-all_reach-clause-rated : goal.returns-then-all_reach-clause-rated
@@ -123,10 +123,10 @@ returns-then-all_reach-clause-finish g c =
     c.in_ok-touched.ensures.level
     (sym c.all_reach.ensures ∙ c.if-all_reach.true) c.requires.updated
     (none_there part.growth.items part.growth.len part.growth.ok.0 (sym c.is_empty.ensures ∙ c.if-is_empty.true)) in
-    let fits : IfSome c.first_finish-first.result (λ t. t ≤ last_moment) = search rules in
+    let fits : IfSome c.first_finish-first.result.0 (λ t. t ≤ last_moment) = search rules in
     let here : new.at ≤ last_moment = omega (arith, e.at, c.requires.moment) in
-    first_finish_is cmp caps old new h c.requires.left here c.first_finish-first.result
-    c.first_finish-first.ensures fits
+    first_finish_is cmp caps old new h c.requires.left here c.first_finish-first.result.0
+    c.first_finish-first.ensures.finish fits
 
 pub set_rates-requires-2-clause-left : goal.set_rates-requires-2-clause-left
 set_rates-requires-2-clause-left g c =
@@ -150,7 +150,7 @@ invariant_of-self-2 g c =
       counted = new.counted;
       have_rates = subst (λ n. HaveRates n new.list.items) (omega (arith, new.list.ok.0))
           (rates_all new.list.items (all_have_got old.at h.times new.at (in_units old) new.list.items h.each));
-      finish_from = finish_known c.first_finish-first-2.result new.list.items c.first_finish-first-2.ensures;
+      finish_from = finish_known c.first_finish-first-2.result.0 new.list.items c.first_finish-first-2.ensures.finish;
     }
 
 pub returns-clause-rated : goal.returns-clause-rated
@@ -182,7 +182,7 @@ returns-clause-finish g c =
     let h =
     whole_given cmp caps c.whole-all.result c.in_ok-rates.rates old new c.in_ok-rates.ensures.fair
     e.rerated e.scale e.at e.timed c.whole-all.ensures.whole c.whole-all.ensures.level in
-    let fits : IfSome c.first_finish-first-2.result (λ t. t ≤ last_moment) = search rules in
+    let fits : IfSome c.first_finish-first-2.result.0 (λ t. t ≤ last_moment) = search rules in
     let here : new.at ≤ last_moment = omega (arith, e.at, c.requires.moment) in
-    first_finish_is cmp caps old new h c.requires.left here c.first_finish-first-2.result
-    c.first_finish-first-2.ensures fits
+    first_finish_is cmp caps old new h c.requires.left here c.first_finish-first-2.result.0
+    c.first_finish-first-2.ensures.finish fits

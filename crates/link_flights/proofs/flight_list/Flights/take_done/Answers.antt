@@ -1,4 +1,4 @@
-use Rattle.std.proofs.Common.{◌≡◌, ◌<◌, ◌≤◌, [], ◌++◌, ◌∷◌, length, get_or, refl, ap, ap₂, sym, ◌∙◌}
+use Rattle.std.proofs.Common.{◌≡◌, ◌≤◌, [], ◌++◌, ◌∷◌, true, length, get_or, refl, ap, ap₂, sym, ◌∙◌}
 use Rattle.std.proofs.Common.{subst, arith, None}
 use Rattle.std.specs.declared.rc.Rc.{Rc}
 use Rattle.std.specs.declared.alloc.Global.{Global}
@@ -9,135 +9,132 @@ use Rattle.link_pairs.specs.declared.message.Message.{Message}
 use Rattle.link_pairs.specs.Pairs.Messages.{message_of, messages}
 use Rattle.link_pairs.specs.Pairs.CapsOf.{caps_of}
 use Rattle.link_flights.specs.Flights.Flight.{flight_at}
+use Rattle.link_flights.specs.Flights.InFlight.{PassesNowhere}
 use Rattle.link_flights.specs.Flights.Rated.{is_out}
-use Rattle.link_flights.proofs.Flights.Floors.{AreOver, none_over, over_from, over_stays, over_leaves}
+use Rattle.link_flights.proofs.Flights.Floors.{none_over, over_stay, over_leaves}
 use Rattle.link_flights.proofs.Flights.Floors.{all_over, floor_so}
-use Rattle.link_flights.proofs.Flights.InFlight.{HaveLeft, none_left, step_leaves, step_stays, all_looked_at}
+use Rattle.link_flights.proofs.Flights.InFlight.{HaveLeft, none_left, within, step_leaves, steps_stay}
+use Rattle.link_flights.proofs.Flights.InFlight.{all_looked_at}
 use Rattle.link_flights.proofs.Flights.Leaving.{timed_without, flights_limited_without, parted_so}
-use Rattle.link_flights.proofs.Flights.Settled.{left_from, none_out}
+use Rattle.link_flights.proofs.Flights.Settled.{none_out}
 use Rattle.link_flights.proofs.flight_list.Flights.take_done.Goals as goal
 use Rattle.link_flights.proofs.flight_list.Flights.take_done.Goals.{
-  then-were_rated+then-not-may_have_finished,
+  then-were_rated+then-not-may_have_finished_by,
   else-were_rated,
 }
 
-pub loop-at-init : goal.loop-at-init
-loop-at-init g c =
+pub loop-next-init : goal.loop-next-init
+loop-next-init g c =
     let old = c.args.self.now in
-    let caps = caps_of g.P.Ord.cmp c.args.peers.now.entries c.args.pairs.now.entries in
-    let message = λ (f : Rc (Flight g.row.P.Denot) Global). message_of f.value.message.value in
-    let out = λ (f : Rc (Flight g.row.P.Denot) Global). is_out g.P.Ord.cmp caps old.scale (flight_at old.at f.value) in (
-      elim c.if-were_rated.branch [
-        | then-were_rated+then-not-may_have_finished w ↦
-            subst (λ n. HaveLeft message out old.list.items old.list.items (messages c.new-done.result.items) n)
-            (sym w.at-is)
-            (subst (λ l. HaveLeft message out old.list.items old.list.items (messages l) old.settled)
-            (sym c.new-done.ensures.items)
-            (left_from g.P.Ord.cmp caps old.scale old.scaled old.at (omega arith) message old.settled old.list.items
-            old.have_rates old.past
-            (old.finish_from old.at (sym w.may_have_finished.ensures ∙ w.if-not-may_have_finished.true))
-            (c.requires.timed w.if-were_rated.true) (c.requires.limited w.if-were_rated.true)))
-        | else-were_rated w ↦
-            subst (λ n. HaveLeft message out old.list.items old.list.items (messages c.new-done.result.items) n)
-            (sym w.at-is)
-            (subst (λ l. HaveLeft message out old.list.items old.list.items (messages l) 0)
-            (sym c.new-done.ensures.items) (none_left message out old.list.items))
-      ],
-      refl,
-      refl,
-      λ h. h,
-      λ h. h,
-      elim c.if-were_rated.branch [
-        | then-were_rated+then-not-may_have_finished w ↦
-            subst (AreOver out None old.list.items old.list.items) (sym w.at-is)
-            (over_from out None old.list.items old.settled
-            (none_out g.P.Ord.cmp caps old.scale old.scaled old.at (omega arith) old.settled old.list.items
-            old.have_rates.1 old.past
-            (old.finish_from old.at (sym w.may_have_finished.ensures ∙ w.if-not-may_have_finished.true))
-            (c.requires.timed w.if-were_rated.true) (c.requires.limited w.if-were_rated.true)).0)
-        | else-were_rated w ↦
-            subst (AreOver out None old.list.items old.list.items) (sym w.at-is)
-            (none_over out None old.list.items)
-      ],
-    )
-
-pub loop-at-preserved-then-is_done : goal.loop-at-preserved-then-is_done
-loop-at-preserved-then-is_done g c =
-    let old = c.args.self.now in
-    let now = c.loop-at.self in
-    let h = c.loop-at.invariant in
     let caps = caps_of g.P.Ord.cmp c.args.peers.now.entries c.args.pairs.now.entries in
     let message = λ (f : Rc (Flight g.row.P.Denot) Global). message_of f.value.message.value in
     let out = λ (f : Rc (Flight g.row.P.Denot) Global). is_out g.P.Ord.cmp caps old.scale (flight_at old.at f.value) in
-    let lt : c.loop-at.at < length now.list.items = omega arith in
-    let test = λ (d : Rc (Flight g.row.P.Denot) Global). c.is_done.ensures d
-    ∙ ap₂ (λ n m. is_out g.P.Ord.cmp caps n (flight_at m (get_or now.list.items c.loop-at.at d).value)) h.1 h.2 in
+    let at = c.if-were_rated.at in
+    let stay : (at ≤ length old.list.items) × PassesNowhere out old.list.items 0 at =
+    elim c.if-were_rated.branch [
+      | then-were_rated+then-not-may_have_finished_by w ↦
+          subst (λ n. (n ≤ length old.list.items) × PassesNowhere out old.list.items 0 n) (sym w.at-is) (
+            old.have_rates.0,
+            none_out g.P.Ord.cmp caps old.scale old.scaled old.at (omega arith) old.settled old.list.items
+                old.have_rates old.past
+                (old.finish_from old.at (sym w.may_have_finished_by.ensures ∙ w.if-not-may_have_finished_by.true))
+                (c.requires.timed w.if-were_rated.true) (c.requires.limited w.if-were_rated.true),
+          )
+      | else-were_rated w ↦
+          subst (λ n. (n ≤ length old.list.items) × PassesNowhere out old.list.items 0 n) (sym w.at-is)
+          (omega arith, λ i after before d. absurd (omega (arith, before)))
+    ] in (
+      subst (λ l. HaveLeft message out old.list.items old.list.items (messages l) at) (sym c.new-done.ensures.items)
+          (steps_stay message out old.list.items old.list.items [] 0 at (none_left message out old.list.items)
+          (omega arith) stay.0 stay.1),
+      refl,
+      refl,
+      λ h. h,
+      λ h. h,
+      over_stay out None old.list.items old.list.items 0 at (none_over out None old.list.items) (omega arith) stay.0
+          stay.1,
+    )
+
+pub loop-next-preserved : goal.loop-next-preserved
+loop-next-preserved g c =
+    let old = c.args.self.now in
+    let now = c.loop-next.self in
+    let at = c.in-Some.next in
+    let h = c.loop-next.invariant in
+    let caps = caps_of g.P.Ord.cmp c.args.peers.now.entries c.args.pairs.now.entries in
+    let message = λ (f : Rc (Flight g.row.P.Denot) Global). message_of f.value.message.value in
+    let out = λ (f : Rc (Flight g.row.P.Denot) Global). is_out g.P.Ord.cmp caps old.scale (flight_at old.at f.value) in
+    let next = c.in-Some.ensures.next in
+    let test = λ (f : Rc (Flight g.row.P.Denot) Global).
+    sym (ap₂ (λ n m. is_out g.P.Ord.cmp caps n (flight_at m f.value)) h.1 h.2) in
+    let stay : PassesNowhere out now.list.items c.loop-next.at at =
+    λ i after before d. test (get_or now.list.items i d) ∙ next.before i after before d in
+    let done = λ (d : Rc (Flight g.row.P.Denot) Global). sym (test (get_or now.list.items at d) ∙ next.here d) in
+    let inside : at ≤ length now.list.items = omega (arith, next.high) in
     let gone : message_of c.in_ok-clone.field-0.value ≡ message c.index.result.now =
     ap (λ (m : Message g.row.P.Denot). message_of m)
     (c.in_ok-clone.ensures.cases ∙ ap (λ (f : Flight g.row.P.Denot). f.message.value) c.deref.ensures) in
     let here = λ (d : Rc (Flight g.row.P.Denot) Global).
-    gone ∙ ap message (c.index.ensures ∙ get_or_default now.list.items c.loop-at.at c.index.result.now d lt) in
+    gone ∙ ap message (c.index.ensures ∙ get_or_default now.list.items at c.index.result.now d next.high) in
     let pushed : messages c.push_back.new.self.items
-    ≡ messages c.loop-at.done.items ++ message_of c.in_ok-clone.field-0.value ∷ [] =
+    ≡ messages c.loop-next.done.items ++ message_of c.in_ok-clone.field-0.value ∷ [] =
     ap messages c.in_ok-push_back.ensures.items
-    ∙ map-append (λ m. message_of m.value) c.loop-at.done.items (c.in_ok-clone.field-0 ∷ []) in
-    let left = step_leaves message out old.list.items now.list.items (messages c.loop-at.done.items) c.loop-at.at h.0
-    (message_of c.in_ok-clone.field-0.value) c.is_done.result lt c.if-is_done.true test here in
+    ∙ map-append (λ m. message_of m.value) c.loop-next.done.items (c.in_ok-clone.field-0 ∷ []) in
+    let left = step_leaves message out old.list.items now.list.items (messages c.loop-next.done.items) at
+    (steps_stay message out old.list.items now.list.items (messages c.loop-next.done.items) c.loop-next.at at h.0
+    next.low inside stay)
+    (message_of c.in_ok-clone.field-0.value) true next.high refl done here in
     let lowered = c.lower_floor.new.self in
-    let list : c.remove.new.self.list.items ≡ remove now.list.items c.loop-at.at =
-    c.remove.ensures.list ∙ ap (λ l. remove l c.loop-at.at) c.lower_floor.ensures.list in
-    let over = over_leaves out now.floor old.list.items now.list.items c.loop-at.at h.5 lt lowered.floor
+    let list : c.remove.new.self.list.items ≡ remove now.list.items at =
+    c.remove.ensures.list ∙ ap (λ l. remove l at) c.lower_floor.ensures.list in
+    let over = over_leaves out now.floor old.list.items now.list.items at
+    (over_stay out now.floor old.list.items now.list.items c.loop-next.at at h.5 next.low inside stay)
+    next.high lowered.floor
     c.in_ok-lower_floor.ensures.lowered c.in_ok-lower_floor.ensures.lower in (
       rw (list, pushed) left,
       c.remove.ensures.scale ∙ c.lower_floor.ensures.scale ∙ h.1,
       c.remove.ensures.at ∙ c.lower_floor.ensures.at ∙ h.2,
-      λ timed. rw list (timed_without now.list.items c.loop-at.at (h.3 timed)),
+      λ timed. rw list (timed_without now.list.items at (h.3 timed)),
       λ all.
           rw (list, c.remove.ensures.at, c.lower_floor.ensures.at)
-          (flights_limited_without g.P.Ord.cmp caps now.at now.list.items c.loop-at.at (h.4 all)),
+          (flights_limited_without g.P.Ord.cmp caps now.at now.list.items at (h.4 all)),
       rw (list, c.remove.ensures.floor) over,
     )
-
-pub loop-at-preserved : goal.loop-at-preserved
-loop-at-preserved g c =
-    let old = c.args.self.now in
-    let now = c.loop-at.self in
-    let h = c.loop-at.invariant in
-    let caps = caps_of g.P.Ord.cmp c.args.peers.now.entries c.args.pairs.now.entries in
-    let message = λ (f : Rc (Flight g.row.P.Denot) Global). message_of f.value.message.value in
-    let out = λ (f : Rc (Flight g.row.P.Denot) Global). is_out g.P.Ord.cmp caps old.scale (flight_at old.at f.value) in
-    let lt : c.loop-at.at < length now.list.items = omega arith in
-    let test = λ (d : Rc (Flight g.row.P.Denot) Global). c.is_done.ensures d
-    ∙ ap₂ (λ n m. is_out g.P.Ord.cmp caps n (flight_at m (get_or now.list.items c.loop-at.at d).value)) h.1 h.2 in
-    let stays =
-    step_stays message out old.list.items now.list.items (messages c.loop-at.done.items) c.loop-at.at h.0
-    c.is_done.result
-    lt c.if-is_done.false test in
-    let over = over_stays out now.floor old.list.items now.list.items c.loop-at.at h.5 lt
-    (λ d. sym (test d) ∙ c.if-is_done.false) in
-    (stays, h.1, h.2, h.3, h.4, over)
 
 pub returns-clause-parted : goal.returns-clause-parted
 returns-clause-parted g c =
     let old = c.args.self.now in
-    let now = c.loop-at.self in
-    let h = c.loop-at.invariant in
+    let now = c.loop-next.self in
+    let h = c.loop-next.invariant in
     let caps = caps_of g.P.Ord.cmp c.args.peers.now.entries c.args.pairs.now.entries in
     let message = λ (f : Rc (Flight g.row.P.Denot) Global). message_of f.value.message.value in
     let out = λ (f : Rc (Flight g.row.P.Denot) Global). is_out g.P.Ord.cmp caps old.scale (flight_at old.at f.value) in
-    let end : length now.list.items ≤ c.loop-at.at = omega arith in
+    let test = λ (f : Rc (Flight g.row.P.Denot) Global).
+    sym (ap₂ (λ n m. is_out g.P.Ord.cmp caps n (flight_at m f.value)) h.1 h.2) in
+    let stay : PassesNowhere out now.list.items c.loop-next.at (length now.list.items) =
+    λ i after before d. test (get_or now.list.items i d) ∙ c.in_default.ensures.next i after before d in
+    let done = messages c.loop-next.done.items in
     let all =
-    all_looked_at message out old.list.items now.list.items (messages c.loop-at.done.items) c.loop-at.at h.0 end in
+    all_looked_at message out old.list.items now.list.items done (length now.list.items)
+    (steps_stay message out old.list.items now.list.items done c.loop-next.at (length now.list.items) h.0
+    (within message out old.list.items now.list.items done c.loop-next.at h.0) (omega arith) stay) (omega arith) in
     rw h.2
-    (parted_so g.P.Ord.cmp caps old.scale old.at old.list.items now.list.items (messages c.loop-at.done.items)
-    all.leavers all.stay)
+    (parted_so g.P.Ord.cmp caps old.scale old.at old.list.items now.list.items done all.leavers all.stay)
 
 pub returns-clause-floor : goal.returns-clause-floor
 returns-clause-floor g c =
     let old = c.args.self.now in
-    let now = c.loop-at.self in
+    let now = c.loop-next.self in
+    let h = c.loop-next.invariant in
     let caps = caps_of g.P.Ord.cmp c.args.peers.now.entries c.args.pairs.now.entries in
+    let message = λ (f : Rc (Flight g.row.P.Denot) Global). message_of f.value.message.value in
     let out = λ (f : Rc (Flight g.row.P.Denot) Global). is_out g.P.Ord.cmp caps old.scale (flight_at old.at f.value) in
-    let end : length now.list.items ≤ c.loop-at.at = omega arith in
+    let test = λ (f : Rc (Flight g.row.P.Denot) Global).
+    sym (ap₂ (λ n m. is_out g.P.Ord.cmp caps n (flight_at m f.value)) h.1 h.2) in
+    let stay : PassesNowhere out now.list.items c.loop-next.at (length now.list.items) =
+    λ i after before d. test (get_or now.list.items i d) ∙ c.in_default.ensures.next i after before d in
+    let over = over_stay out now.floor old.list.items now.list.items c.loop-next.at (length now.list.items) h.5
+    (within message out old.list.items now.list.items (messages c.loop-next.done.items) c.loop-next.at h.0)
+    (omega arith) stay in
     floor_so out now.floor (is_out g.P.Ord.cmp caps old.scale) old.at old.list.items (λ f. refl)
-    (all_over out now.floor old.list.items now.list.items c.loop-at.at c.loop-at.invariant.5 end)
+    (all_over out now.floor old.list.items now.list.items (length now.list.items) over (omega arith))

@@ -1,4 +1,4 @@
-use Rattle.std.proofs.Common.{◌≡◌, ◌-◌, length}
+use Rattle.std.proofs.Common.{◌≡◌, length}
 use Rattle.link_flights.specs.Flights.Flight.{AreTimed, flight_at}
 use Rattle.link_flights.specs.Flights.InFlight.{in_units}
 use Rattle.link_flights.specs.Flights.Rated.{is_out}
@@ -9,8 +9,8 @@ use Rattle.link_flights.proofs.Flights.Floors.{AreOver}
 use Rattle.link_flights.proofs.Flights.Leaving.{StayRated}
 use Rattle.link_flights.proofs.flight_list.Flights.take_done.Given as goal
 
-abbrev pub invariant-loop-at : goal.invariant-loop-at
-invariant-loop-at g l =
+abbrev pub invariant-loop-next : goal.invariant-loop-next
+invariant-loop-next g l =
     HaveLeft (λ f. message_of f.value.message.value)
     (λ f. is_out g.P.Ord.cmp (caps_of g.P.Ord.cmp l.peers.entries l.pairs.entries) l.initial.self.scale
     (flight_at l.initial.self.at f.value)) l.initial.self.list.items l.self.list.items (messages l.done.items) l.at
@@ -22,5 +22,5 @@ invariant-loop-at g l =
     × AreOver (λ f. is_out g.P.Ord.cmp (caps_of g.P.Ord.cmp l.peers.entries l.pairs.entries) l.initial.self.scale
     (flight_at l.initial.self.at f.value)) l.self.floor l.initial.self.list.items l.self.list.items l.at
 
-abbrev pub decreases-loop-at : goal.decreases-loop-at
-decreases-loop-at g l = length l.self.list.items - l.at
+abbrev pub decreases-loop-next : goal.decreases-loop-next
+decreases-loop-next g l = length l.self.list.items
