@@ -1,5 +1,6 @@
 -- Why filling finds the fair rates.
 pub mod Account
+pub mod AllKept
 pub mod Alone
 pub mod Course
 pub mod FairPartsExist

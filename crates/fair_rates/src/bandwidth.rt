@@ -1,5 +1,5 @@
 //! Who sends how fast.
-ghost use Rattle.std.specs.Prelude.{◌≡◌, ◌⊎◌, ◌<◌, ℕ, IfOk, IfErr, map, length};
+ghost use Rattle.std.specs.Prelude.{◌≡◌, ◌⊎◌, ◌<◌, ℕ, IfOk, IfErr, map, length, is_some};
 ghost use Rattle.std.specs.List.{list_all};
 ghost use Rattle.std.specs.Option.{is_none};
 ghost use Rattle.std.specs.Fn.{CalledAt, TakesAt, CalledAtTwo, TakesAtTwo};
@@ -339,6 +339,9 @@ pub fn fair_parts_beside<P: Peer, C: KnownCaps<P>>(
     if none_is_kept(kept) {
         return fair_parts(alloc, flows, caps, scale);
     }
+    if all_are_kept(kept) {
+        return Ok(FairParts::new(alloc, kept.len(), scale)?);
+    }
     let sides = sides::sides_under(alloc, flows, caps)?;
     Ok(filling::fair_parts_beside(alloc, sides, kept, scale)?)
 }
@@ -348,6 +351,13 @@ fn none_is_kept(kept: &[Option<Rc<Natural>>]) -> bool
     ensures { result ≡ list_all is_none kept.now }
 {
     kept.iter().all(|rate| rate.is_none())
+}
+
+/// Whether each flow keeps its rate.
+fn all_are_kept(kept: &[Option<Rc<Natural>>]) -> bool
+    ensures { result ≡ list_all is_some kept.now }
+{
+    kept.iter().all(|rate| rate.is_some())
 }
 
 /// The rates by the ids of their flows. Of flows with one id the last counts.
