@@ -20,6 +20,7 @@ mod equality;
 mod filling;
 mod known;
 pub mod laws;
+mod pair;
 mod parts;
 mod recipients;
 mod sides;
