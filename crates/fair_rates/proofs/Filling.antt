@@ -11,6 +11,7 @@ pub mod LeastShare
 pub mod LeftSides
 pub mod Levels
 pub mod NextLevel
+pub mod Pair
 pub mod Queue
 pub mod Rates
 pub mod Rounds

@@ -305,6 +305,7 @@ pub fn fair_parts<P: Peer, C: KnownCaps<P>>(
     match flows {
         [] => Ok(FairParts::new(alloc, 0, scale)?),
         [one] => Ok(alone::fair_parts_alone(alloc, one, caps, scale)?),
+        [one, other] => Ok(pair::fair_parts_of_two(alloc, one, other, caps, scale)?),
         _ => {
             let sides = sides::sides_under(alloc, flows, caps)?;
             Ok(filling::fair_parts(alloc, flows.len(), sides, scale)?)

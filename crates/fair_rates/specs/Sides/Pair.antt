@@ -6,6 +6,8 @@ use Rattle.fair_rates.specs.Sides.Alone.{least_of, ingress_of}
 use Rattle.fair_rates.specs.Sides.Answers.{Answered}
 use Rattle.fair_rates.specs.Sides.Subjects.{same_peer}
 use Rattle.fair_rates.specs.declared.bandwidth.pair.PairCaps.{PairCaps}
+use Rattle.fair_rates.specs.declared.bandwidth.pair.Sharing.{Sharing}
+use Rattle.fair_rates.specs.declared.bandwidth.pair.Sharing.TheVariants.{Apart, Evenly}
 
 -- the caps of one kind: where both flows ask for one side, what is answered for the first holds for both
 abbrev pub caps_of_kind : Bool → Option ℕ → Option ℕ → PairCaps
@@ -52,7 +54,7 @@ abbrev pub IsHeldTo : Option ℕ → Option ℕ → ℕ → Option ℕ → Optio
 IsHeldTo own both per mine other =
     ((mine ≡ None) × (own ≡ None) × (both ≡ None))
     ⊎ (((cap : ℕ) × (own ≡ Some cap) × (mine ≡ Some (cap * per)))
-    ⊎ ((cap rate : ℕ) × (both ≡ Some cap) × (mine ≡ Some rate) × (rate + unwrap_or other 0 ≡ cap * per)
+    ⊎ ((cap : ℕ) × (rate : ℕ) × (both ≡ Some cap) × (mine ≡ Some rate) × (rate + unwrap_or other 0 ≡ cap * per)
     × (unwrap_or other 0 ≤ rate)))
 
 -- the rates of two flows are within the caps, and each is held
@@ -62,6 +64,17 @@ pub record AreHeldTo (caps : PairCaps) (per : ℕ) (first second : Option ℕ) :
   pub within_both : IfSome caps.both (λ cap. unwrap_or first 0 + unwrap_or second 0 ≤ cap * per)
   pub first_is : IsHeldTo caps.first caps.both per first second
   pub second_is : IsHeldTo caps.second caps.both per second first
+
+-- both flows have half of the cap of both, of which none has less by its own cap
+pub record ShareEvenly (caps : PairCaps) (both : ℕ) : Type 0 where
+  pub is : caps.both ≡ Some both
+  pub first : IfSome caps.first (λ cap. both ≤ 2 * cap)
+  pub second : IfSome caps.second (λ cap. both ≤ 2 * cap)
+
+-- how two flows with these caps share
+abbrev pub IsSharing : PairCaps → Sharing → Type 0
+IsSharing caps (Apart first second) = AreHeldTo caps 1 first second
+IsSharing caps (Evenly both) = ShareEvenly caps both
 
 -- so many times a rate
 abbrev pub times_rate : ℕ → Option ℕ → Option ℕ

@@ -22,7 +22,7 @@ ghost use Rattle.fair_rates.specs.Filling.States.{AreOpened, AreGrown, AreFilled
 
 mod left;
 mod open;
-mod share;
+pub(crate) mod share;
 
 use crate::bandwidth::parts::FairParts;
 use crate::bandwidth::sides::Side;
