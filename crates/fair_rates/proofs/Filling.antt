@@ -1,5 +1,6 @@
 -- Why filling finds the fair rates.
 pub mod Account
+pub mod AllKept
 pub mod Alone
 pub mod Course
 pub mod FairPartsExist
@@ -10,6 +11,7 @@ pub mod LeastShare
 pub mod LeftSides
 pub mod Levels
 pub mod NextLevel
+pub mod Pair
 pub mod Queue
 pub mod Rates
 pub mod Rounds

@@ -9,6 +9,7 @@ pub mod EqualSubjects
 pub mod FlowByFlow
 pub mod NoLinks
 pub mod OneMoreAsk
+pub mod Pair
 pub mod Registry
 pub mod Subjects
 pub mod UserCounts

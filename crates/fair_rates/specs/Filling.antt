@@ -1,4 +1,5 @@
 -- Filling: the states between its rounds, and the parts that it finds.
 pub mod FairParts
 pub mod LeftSides
+pub mod Pair
 pub mod States

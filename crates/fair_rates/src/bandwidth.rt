@@ -1,5 +1,5 @@
 //! Who sends how fast.
-ghost use Rattle.std.specs.Prelude.{◌≡◌, ◌⊎◌, ◌<◌, ℕ, IfOk, IfErr, map, length};
+ghost use Rattle.std.specs.Prelude.{◌≡◌, ◌⊎◌, ◌<◌, ℕ, IfOk, IfErr, map, length, is_some};
 ghost use Rattle.std.specs.List.{list_all};
 ghost use Rattle.std.specs.Option.{is_none};
 ghost use Rattle.std.specs.Fn.{CalledAt, TakesAt, CalledAtTwo, TakesAtTwo};
@@ -20,6 +20,7 @@ mod equality;
 mod filling;
 mod known;
 pub mod laws;
+mod pair;
 mod parts;
 mod recipients;
 mod sides;
@@ -304,6 +305,7 @@ pub fn fair_parts<P: Peer, C: KnownCaps<P>>(
     match flows {
         [] => Ok(FairParts::new(alloc, 0, scale)?),
         [one] => Ok(alone::fair_parts_alone(alloc, one, caps, scale)?),
+        [one, other] => Ok(pair::fair_parts_of_two(alloc, one, other, caps, scale)?),
         _ => {
             let sides = sides::sides_under(alloc, flows, caps)?;
             Ok(filling::fair_parts(alloc, flows.len(), sides, scale)?)
@@ -339,6 +341,9 @@ pub fn fair_parts_beside<P: Peer, C: KnownCaps<P>>(
     if none_is_kept(kept) {
         return fair_parts(alloc, flows, caps, scale);
     }
+    if all_are_kept(kept) {
+        return Ok(FairParts::new(alloc, kept.len(), scale)?);
+    }
     let sides = sides::sides_under(alloc, flows, caps)?;
     Ok(filling::fair_parts_beside(alloc, sides, kept, scale)?)
 }
@@ -348,6 +353,13 @@ fn none_is_kept(kept: &[Option<Rc<Natural>>]) -> bool
     ensures { result ≡ list_all is_none kept.now }
 {
     kept.iter().all(|rate| rate.is_none())
+}
+
+/// Whether each flow keeps its rate.
+fn all_are_kept(kept: &[Option<Rc<Natural>>]) -> bool
+    ensures { result ≡ list_all is_some kept.now }
+{
+    kept.iter().all(|rate| rate.is_some())
 }
 
 /// The rates by the ids of their flows. Of flows with one id the last counts.

@@ -14,6 +14,7 @@ use Rattle.std.proofs.lemmas.List.Elements.{All-nil, All-head, All-tail, All-con
 use Rattle.std.proofs.lemmas.List.Elements.{All-weaker, All-contains, Contains-append_left, Contains-append_right}
 use Rattle.std.proofs.lemmas.List.Elements.{Contains-append_cases, Contains-push, Contains-push_cases}
 use Rattle.std.proofs.lemmas.List.Sorted.{All-permutation, Contains-permutation}
+use Rattle.std.proofs.lemmas.List.Sorted.{IsPermutation-refl, IsPermutation-sym, IsPermutation-push_more}
 use Rattle.fair_rates.specs.Fairness.Fair.{Side}
 use Rattle.fair_rates.specs.Filling.LeftSides.{left_side_of}
 use Rattle.fair_rates.specs.Filling.States.{AllFrozen, KeepsAccount, IsOpen, IsCovered, IsQueue, IsShareQueue}
@@ -210,6 +211,21 @@ opened_none = record {
   queue = λ frozen. record { each = All-nil (IsOpen [] 1 frozen); covered = All-nil (IsCovered 1 frozen []) };
   users = λ flows all. All-nil (λ o. All (λ flow. flow < flows) o.0.rising.items);
 }
+
+-- in another order
+pub opened_permuted : (sides : List LeftSide) (opens later : List (Reverse OpenSide)) → IsPermutation opens later
+    → AreOpened sides opens → AreOpened sides later
+opened_permuted sides opens later perm was = record {
+  queue = λ frozen. queue_permuted 1 frozen (map left_side_of sides) opens later perm (was.queue frozen);
+  users = λ flows all.
+      All-permutation (λ o. All (λ flow. flow < flows) o.0.rising.items) opens later perm (was.users flows all);
+}
+
+-- one more at the end
+pub put_last : {X : Type 0} (x : X) (xs : List X) → IsPermutation (x ∷ xs) (xs ++ x ∷ [])
+put_last x xs =
+    IsPermutation-sym (xs ++ x ∷ []) (x ∷ xs)
+    (IsPermutation-push_more xs xs (x ∷ xs) x (IsPermutation-refl xs) (IsPermutation-refl (x ∷ xs)))
 
 module _ (sides : List LeftSide) (side : LeftSide) (opens : List (Reverse OpenSide)) (was : AreOpened sides opens) where
   -- one that counts nobody

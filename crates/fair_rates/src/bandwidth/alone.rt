@@ -3,7 +3,7 @@ ghost use Rattle.std.specs.Prelude.{◌≡◌, ◌<◌, ◌∷◌, [], IfOk};
 ghost use Rattle.fair_rates.specs.Sides.Ends.{answered_for};
 ghost use Rattle.fair_rates.specs.Sides.Subjects.{sides_of};
 ghost use Rattle.fair_rates.specs.Filling.FairParts.{AreFairPartsOn};
-ghost use Rattle.fair_rates.specs.Sides.Alone.{least_of, least_cap_of};
+ghost use Rattle.fair_rates.specs.Sides.Alone.{least_of, ingress_of, least_cap_of};
 
 use crate::bandwidth::known::{Ends, KnownCaps};
 use crate::bandwidth::parts::FairParts;
@@ -12,7 +12,7 @@ use natural::Natural;
 use std::alloc::{AllocError, Global};
 
 /// The less of two caps. `None` stands for no cap.
-fn least(one: Option<u128>, other: Option<u128>) -> Option<u128>
+pub(crate) fn least(one: Option<u128>, other: Option<u128>) -> Option<u128>
     ensures { result ≡ least_of one other }
 {
     match (one, other) {
@@ -22,16 +22,22 @@ fn least(one: Option<u128>, other: Option<u128>) -> Option<u128>
     }
 }
 
-/// The least cap that holds for the flow. That on what its recipient receives holds if it is
-/// delivered.
-fn least_cap<P, C: KnownCaps<P>>(one: &Ends<P>, caps: &C) -> Option<u128>
-    ensures { result ≡ least_cap_of (answered_for (C.caps caps.now) one.now) }
+/// The cap on what the recipient receives, which holds for the flow if it is delivered.
+pub(crate) fn ingress_cap<P, C: KnownCaps<P>>(one: &Ends<P>, caps: &C) -> Option<u128>
+    ensures { result ≡ ingress_of (answered_for (C.caps caps.now) one.now) }
 {
-    let ingress = if one.delivered {
+    if one.delivered {
         caps.ingress(one.recipient)
     } else {
         None
-    };
+    }
+}
+
+/// The least cap that holds for the flow.
+fn least_cap<P, C: KnownCaps<P>>(one: &Ends<P>, caps: &C) -> Option<u128>
+    ensures { result ≡ least_cap_of (answered_for (C.caps caps.now) one.now) }
+{
+    let ingress = ingress_cap(one, caps);
     let link = caps.link(one.origin, one.recipient);
     least(least(caps.egress(one.origin), ingress), link)
 }

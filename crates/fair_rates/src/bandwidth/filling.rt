@@ -22,7 +22,7 @@ ghost use Rattle.fair_rates.specs.Filling.States.{AreOpened, AreGrown, AreFilled
 
 mod left;
 mod open;
-mod share;
+pub(crate) mod share;
 
 use crate::bandwidth::parts::FairParts;
 use crate::bandwidth::sides::Side;
@@ -35,7 +35,25 @@ use std::cmp::Reverse;
 use std::collections::BinaryHeap;
 use std::rc::Rc;
 
-/// The sides that have users, before any is frozen.
+/// The sides that have users, before any is frozen, in their order.
+fn open_list(alloc: Global, sides: Vec<LeftSide>) -> Result<Vec<Reverse<OpenSide>>, AllocError>
+    ensures opened { IfOk result (λ opens. AreOpened sides.items opens.items) }
+    ensures count { IfOk result (λ opens. length opens.items ≤ length sides.items) }
+{
+    let mut opens = Vec::with_capacity(alloc, sides.len())?;
+    for side in sides {
+        let LeftSide {
+            left: slack,
+            users: rising,
+        } = side;
+        if !rising.is_empty() {
+            opens.push(Reverse(OpenSide::new(slack, rising)))?;
+        }
+    }
+    Ok(opens)
+}
+
+/// The same by their shares.
 fn open_sides(
     alloc: Global,
     sides: Vec<LeftSide>,
@@ -44,17 +62,7 @@ fn open_sides(
     ensures order { IfOk result (λ queue. IsHeap queue_cmp (heap_items queue)) }
     ensures count { IfOk result (λ queue. heap_len queue ≤ length sides.items) }
 {
-    let mut queue = BinaryHeap::with_capacity(alloc, sides.len())?;
-    for side in sides {
-        let LeftSide {
-            left: slack,
-            users: rising,
-        } = side;
-        if !rising.is_empty() {
-            queue.push(Reverse(OpenSide::new(slack, rising)))?;
-        }
-    }
-    Ok(queue)
+    Ok(BinaryHeap::from(open_list(alloc, sides)?))
 }
 
 /// Takes out the side with the least share, once all its frozen users are counted.

@@ -4,6 +4,8 @@ ghost use Rattle.std.specs.Prelude.{length, replicate};
 ghost use Rattle.fair_rates.specs.Numbers.Amount.{parts_over};
 ghost use Rattle.fair_rates.specs.Fairness.Exists.{product};
 ghost use Rattle.fair_rates.specs.Filling.FairParts.{level_at, AreRatesAt, HasLargeLevel, AreLevelRates};
+ghost use Rattle.fair_rates.specs.Filling.Pair.{IsLimitedTo};
+ghost use Rattle.fair_rates.specs.Sides.Pair.{times_rate};
 ghost use Rattle.fair_rates.specs.Filling.States.{AreInside, IsRaised, AreAtTop};
 ghost use Rattle.fair_rates.specs.Numbers.Fits.{ReducedFits};
 ghost use Rattle.fair_rates.specs.Numbers.Ratio.{IsWorth};
@@ -76,6 +78,22 @@ impl FairParts {
         }
         let place = self.levels.len() - 1;
         set_levels(&mut self.level_of, users, place);
+        Ok(())
+    }
+
+    /// Gives the flow the cap as its rate, in parts that are so many at `scale`, if there is one.
+    pub(crate) fn limit(
+        &mut self,
+        flow: usize,
+        cap: Option<u128>,
+        scale: &Natural,
+    ) -> Result<(), AllocError>
+        requires { flow < length self.old.level_of.items }
+        ensures { OnOk result (IsLimitedTo flow (times_rate scale.now cap) self.old self.new) }
+    {
+        if let Some(cap) = cap {
+            self.freeze(&[flow], scale.product(cap)?)?;
+        }
         Ok(())
     }
 

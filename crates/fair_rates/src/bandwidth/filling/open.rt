@@ -18,10 +18,10 @@ pub(crate) struct OpenSide {
     pub(crate) slack: Natural,
     /// The other users.
     pub(crate) rising: Vec<usize>,
-    /// The share without its lowest limbs of 64 bits, rounded down.
-    quotient: u128,
-    /// How many limbs these are.
+    /// How many limbs of 64 bits the quotient leaves out.
     shift: usize,
+    /// The share without these, the lowest ones, rounded down.
+    quotient: u128,
     pub(crate) ghost some: { 0 < length rising.items },
     ghost rounded: { quotient ≡ slack / (2 ^ (64 * shift) * length rising.items) },
 }
