@@ -106,12 +106,13 @@ impl<P: Peer> Ledger<P> {
     }
 
     /// The state after a call takes the place of this one. Once the old lists are gone, nothing is
-    /// shared, and what is known of pairs is put in its place without a copy.
+    /// shared, and what is known of pairs and which messages wait is put in its place without a copy.
     pub fn replace_by(&mut self, next: Ledger<P>)
         ensures { planned P.cmp self.new ≡ planned P.cmp next }
     {
         *self = next;
         self.pairs.settle();
+        self.waiting.settle();
     }
 
     /// The same caps and last arrivals, and the same messages that wait.

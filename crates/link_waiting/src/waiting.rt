@@ -8,14 +8,14 @@ ghost use Rattle.link_pairs.specs.Pairs.Messages.{pair_of};
 use fair_rates::error::Error;
 use fair_rates::peer::Peer;
 use link_pairs::message::Message;
-use shared_list::{Seek, SharedList};
+use shared_list::{LateList, Seek};
 use std::alloc::{AllocError, Global};
 use std::rc::Rc;
 
 /// The messages that wait, in the order of their pairs, those of a pair in order of `enqueue`.
 #[derive(Drop)]
 pub struct Waiting<P: Peer> {
-    messages: SharedList<Message<P>>,
+    messages: LateList<Message<P>>,
     pub ghost few: { length messages < 18446744073709551616 },
     pub ghost ordered: { are_in_order P.cmp messages ≡ true },
 }
@@ -66,7 +66,7 @@ impl<P: Peer> Waiting<P> {
         ensures { result.messages ≡ [] }
     {
         Waiting {
-            messages: SharedList::new(),
+            messages: LateList::new(),
         }
     }
 
@@ -126,6 +126,13 @@ impl<P: Peer> Waiting<P> {
         let at = self.messages.place(&place);
         self.messages.insert(alloc, at, message)?;
         Ok(())
+    }
+
+    /// Where memory allows, no edit is late any more.
+    pub fn settle(&mut self)
+        ensures { self.new.messages ≡ self.old.messages }
+    {
+        self.messages.settle();
     }
 }
 

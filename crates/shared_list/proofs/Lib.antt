@@ -1,4 +1,5 @@
 pub mod Edits
+pub mod LateEdits
 pub mod Parting
 pub mod Rows
 pub mod Trees

@@ -62,11 +62,18 @@ impl<T: Drop> Leaf<T> {
         self.items.len()
     }
 
+    /// The item at that place, if there is one, as others share it.
+    pub(crate) fn slot(&self, at: usize) -> Option<&Rc<T>>
+        ensures { option_map (λ item. item.now.value) result ≡ slice_get (items_at self.now) at }
+    {
+        self.items.as_slice().get(at)
+    }
+
     /// The item at that place, if there is one.
     pub(crate) fn get(&self, at: usize) -> Option<&T>
         ensures { option_map (λ item. item.now) result ≡ slice_get (items_at self.now) at }
     {
-        match self.items.as_slice().get(at) {
+        match self.slot(at) {
             Some(item) => Some(Rc::as_ref(item)),
             None => None,
         }

@@ -1,10 +1,12 @@
 //! Lists whose clones share what they have in common.
 #![tactic(auto)]
 
+mod late;
 mod leaf;
 mod list;
 mod node;
 mod seek;
 
+pub use late::LateList;
 pub use list::SharedList;
 pub use seek::Seek;

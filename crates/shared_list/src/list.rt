@@ -78,9 +78,9 @@ impl<T: Drop> SharedList<T> {
         self.len
     }
 
-    /// The item at that place, if there is one.
-    pub fn get(&self, at: usize) -> Option<&T>
-        ensures { option_map (λ item. item.now) result ≡ slice_get self.now at }
+    /// The item at that place, if there is one, as others share it.
+    fn slot(&self, at: usize) -> Option<&Rc<T>>
+        ensures { option_map (λ item. item.now.value) result ≡ slice_get self.now at }
     {
         let mut rest = self;
         let mut at = at;
@@ -96,8 +96,38 @@ impl<T: Drop> SharedList<T> {
             }
         }
         match &rest.root {
-            Tree::Leaf(leaf) => leaf.get(at),
+            Tree::Leaf(leaf) => leaf.slot(at),
             _ => None,
+        }
+    }
+
+    /// The item at that place, if there is one.
+    pub fn get(&self, at: usize) -> Option<&T>
+        ensures { option_map (λ item. item.now) result ≡ slice_get self.now at }
+    {
+        match self.slot(at) {
+            Some(item) => Some(Rc::as_ref(item)),
+            None => None,
+        }
+    }
+
+    /// Whether another list shares the items. That is a matter of cost alone.
+    pub(crate) fn is_shared(&self) -> bool {
+        match &self.root {
+            Tree::Empty => false,
+            Tree::Leaf(leaf) => Rc::strong_count(leaf) > 1,
+            Tree::Fork(node) => Rc::strong_count(node) > 1,
+        }
+    }
+
+    /// The item at that place, as others share it.
+    pub(crate) fn share(&self, at: usize) -> Result<Rc<T>, AllocError>
+        requires { at < length self.now }
+        ensures { IfOk result (λ item. slice_get self.now at ≡ Some item.value) }
+    {
+        match self.slot(at) {
+            Some(item) => item.clone(),
+            None => Err(AllocError),
         }
     }
 

@@ -2,7 +2,7 @@ use Rattle.std.proofs.Common.{◌≡◌, ◌<◌, ◌+◌, ◌-◌, [], length, 
 use Rattle.shared_list.specs.Tree.{items_in, items_at}
 use Rattle.shared_list.proofs.Trees.{nothing_in}
 use Rattle.shared_list.proofs.Edits.{get_before, get_here, get_after}
-use Rattle.shared_list.proofs.list.SharedList.get.Goals as goal
+use Rattle.shared_list.proofs.list.SharedList.slot.Goals as goal
 
 pub loop-rest-init : goal.loop-rest-init
 loop-rest-init g c = refl
@@ -23,7 +23,7 @@ returns-then-at-middle-2 g c =
     let node = c.in-Fork.node.value in
     let whole : c.loop-rest.rest.now ≡ items_in node = search rules in
     let here : c.loop-rest.at ≡ length node.before = search rules in
-    let item : c.deref-then-at-middle-2-2.result.now ≡ node.item.value = search rules in
+    let item : c.deref-then-at-middle-2.result.now.item.value ≡ node.item.value = search rules in
     ap Some item
     ∙ sym (get_here node.before node.item.value node.after c.loop-rest.at here)
     ∙ sym (ap (λ l. slice_get l c.loop-rest.at) whole)
@@ -45,7 +45,7 @@ loop-rest-preserved g c =
 pub returns-in-Leaf : goal.returns-in-Leaf
 returns-in-Leaf g c =
     let whole : c.loop-rest.rest.now ≡ items_at c.in-Leaf.leaf.value = search rules in
-    c.get.ensures
+    c.slot.ensures
     ∙ ap (λ l. slice_get (items_at l) c.loop-rest.at) c.deref-in-Leaf.ensures
     ∙ sym (ap (λ l. slice_get l c.loop-rest.at) whole)
     ∙ c.loop-rest.invariant

@@ -1,0 +1,256 @@
+//! A list of which one edit is made late.
+ghost use Rattle.std.specs.Prelude.{◌≡◌, ◌<◌, ◌≤◌, [], length, if◌then◌else◌, is_ok};
+ghost use Rattle.std.specs.Prelude.{slice_get, option_map, true, not, Some, IfOk, OnOk, ◌^◌};
+ghost use Rattle.std.specs.List.{find, insert, remove};
+ghost use Rattle.shared_list.specs.Places.{are_parted, IsParting};
+ghost use Rattle.shared_list.specs.Late.{with_late, IsLate};
+
+use super::list::SharedList;
+use super::seek::Seek;
+use std::alloc::{AllocError, Global};
+use std::marker::Model;
+use std::rc::Rc;
+
+/// An edit that is yet to be made.
+#[derive(Drop)]
+pub(crate) enum Late<T> {
+    /// None.
+    Nothing,
+    /// An item is yet to come to stand at a place.
+    Insertion {
+        alloc: Global,
+        at: usize,
+        item: Rc<T>,
+    },
+    /// The item at a place is yet to go.
+    Removal {
+        at: usize,
+    },
+}
+
+impl<T: Drop> Late<T> {
+    /// The edit is made.
+    fn make(&self, list: &mut SharedList<T>) -> Result<(), AllocError>
+        requires { IsLate self.now list.old }
+        ensures { list.new ≡ (if is_ok result then with_late self.now list.old else list.old) }
+    {
+        match self {
+            Late::Nothing => Ok(()),
+            Late::Insertion { alloc, at, item } => list.put(*alloc, *at, item.clone()?),
+            Late::Removal { at } => {
+                list.remove(*at)?;
+                Ok(())
+            }
+        }
+    }
+}
+
+/// A list of items, of which a clone costs nothing. To edit a list copies the way to that place, as
+/// long as another list shares it. So an edit of what is shared is kept beside the list until the
+/// next one, or until `settle`, which comes once nothing is shared any more.
+#[derive(Drop)]
+pub struct LateList<T> {
+    settled: SharedList<T>,
+    late: Late<T>,
+}
+
+impl<T> Model for LateList<T> {
+    ghost use Rattle.std.specs.Prelude.{List};
+    ghost use Rattle.shared_list.specs.Late.{with_late, IsLate};
+
+    ghost Value = { List T };
+
+    ghost view = { λ list. with_late list.late list.settled };
+
+    ghost invariant = { λ list. IsLate list.late list.settled };
+}
+
+impl<T: Drop> LateList<T> {
+    /// The empty list.
+    pub fn new() -> LateList<T>
+        ensures { result ≡ [] }
+    {
+        LateList {
+            settled: SharedList::new(),
+            late: Late::Nothing,
+        }
+    }
+
+    /// The number of items.
+    pub fn len(&self) -> usize
+        ensures { result ≡ length self.now }
+    {
+        let len = self.settled.len();
+        match &self.late {
+            Late::Nothing => len,
+            Late::Insertion { .. } => len + 1,
+            Late::Removal { .. } => len - 1,
+        }
+    }
+
+    /// The item at that place, if there is one.
+    #[tactic(auto, using(crate::proofs::LateEdits::get_below, crate::proofs::LateEdits::get_inserted, crate::proofs::LateEdits::get_above, crate::proofs::LateEdits::get_left, crate::proofs::LateEdits::get_next, crate::proofs::LateEdits::get_past))]
+    pub fn get(&self, at: usize) -> Option<&T>
+        ensures { option_map (λ item. item.now) result ≡ slice_get self.now at }
+    {
+        match &self.late {
+            Late::Nothing => self.settled.get(at),
+            Late::Insertion { at: to, item, .. } => {
+                if at < *to {
+                    self.settled.get(at)
+                } else if at == *to {
+                    Some(Rc::as_ref(item))
+                } else {
+                    self.settled.get(at - 1)
+                }
+            }
+            Late::Removal { at: from } => {
+                if at < *from {
+                    self.settled.get(at)
+                } else if at < self.settled.len() {
+                    self.settled.get(at + 1)
+                } else {
+                    None
+                }
+            }
+        }
+    }
+
+    /// The item at that place.
+    pub fn at(&self, at: usize) -> &T
+        requires { at < length self.now }
+        ensures { slice_get self.now at ≡ Some result.now }
+    {
+        match self.get(at) {
+            Some(item) => item,
+            None => unreachable!(),
+        }
+    }
+
+    /// An item comes to stand at that place, before those from there on.
+    ///
+    /// # Errors
+    ///
+    /// `AllocError` where memory is refused, or where the number of items would not fit. The list
+    /// stays.
+    pub fn insert(&mut self, alloc: Global, at: usize, item: T) -> Result<(), AllocError>
+        requires { at ≤ length self.old }
+        ensures items { self.new ≡ (if is_ok result then insert self.old at item else self.old) }
+        ensures fits { OnOk result (length self.new < 2 ^ 64) }
+    {
+        self.late.make(&mut self.settled)?;
+        self.late = Late::Nothing;
+        if !self.settled.is_shared() {
+            return self.settled.insert(alloc, at, item);
+        }
+        self.settled.len().checked_add(1).ok_or(AllocError)?;
+        let item = Rc::new(alloc, item).map_err(|_refused| AllocError)?;
+        self.late = Late::Insertion { alloc, at, item };
+        Ok(())
+    }
+
+    /// The item at that place goes, and is answered.
+    ///
+    /// # Errors
+    ///
+    /// `AllocError` where memory is refused. The list stays.
+    pub fn remove(&mut self, at: usize) -> Result<Rc<T>, AllocError>
+        requires { at < length self.old }
+        ensures items { self.new ≡ (if is_ok result then remove self.old at else self.old) }
+        ensures item { IfOk result (λ item. slice_get self.old at ≡ Some item.value) }
+    {
+        self.late.make(&mut self.settled)?;
+        self.late = Late::Nothing;
+        if !self.settled.is_shared() {
+            return self.settled.remove(at);
+        }
+        let item = self.settled.share(at)?;
+        self.late = Late::Removal { at };
+        Ok(item)
+    }
+
+    /// Where memory allows, no edit is late any more.
+    pub fn settle(&mut self)
+        ensures { self.new ≡ self.old }
+    {
+        if self.late.make(&mut self.settled).is_ok() {
+            self.late = Late::Nothing;
+        }
+    }
+
+    /// The number of items before what is sought, where those that are before it stand before all
+    /// others; and the item at that place, if there is one.
+    pub fn locate<S: Seek<T>>(&self, sought: &S) -> (usize, Option<&T>)
+        ensures bound { result.0 ≤ length self.now }
+        ensures parting { are_parted (S.is_before sought.now) self.now ≡ true
+            → IsParting (S.is_before sought.now) self.now result.0 }
+        ensures item { option_map (λ item. item.now) result.1 ≡ slice_get self.now result.0 }
+    {
+        let (at, item) = self.settled.locate(sought);
+        match &self.late {
+            Late::Nothing => (at, item),
+            _ => self.locate_near(sought, at),
+        }
+    }
+
+    /// As `locate`. The items near that place are looked at first.
+    fn locate_near<S: Seek<T>>(&self, sought: &S, near: usize) -> (usize, Option<&T>)
+        ensures bound { result.0 ≤ length self.now }
+        ensures parting { are_parted (S.is_before sought.now) self.now ≡ true
+            → IsParting (S.is_before sought.now) self.now result.0 }
+        ensures item { option_map (λ item. item.now) result.1 ≡ slice_get self.now result.0 }
+    {
+        let mut low = 0;
+        let mut high = self.len();
+        let mut first: Option<&T> = None;
+        while low < high {
+            let at = near.max(low).min(high - 1);
+            let item = self.at(at);
+            if sought.is_before(item) {
+                low = at + 1;
+            } else {
+                high = at;
+                first = Some(item);
+            }
+        }
+        (low, first)
+    }
+
+    /// The number of items before what is sought, where those that are before it stand before all
+    /// others.
+    pub fn place<S: Seek<T>>(&self, sought: &S) -> usize
+        ensures bound { result ≤ length self.now }
+        ensures parting { are_parted (S.is_before sought.now) self.now ≡ true
+            → IsParting (S.is_before sought.now) self.now result }
+    {
+        self.locate(sought).0
+    }
+
+    /// The first item that is not before what is sought, where those that are before it stand before
+    /// all others.
+    pub fn first_from<S: Seek<T>>(&self, sought: &S) -> Option<&T>
+        ensures { are_parted (S.is_before sought.now) self.now ≡ true → option_map (λ item. item.now) result
+            ≡ find (λ item. not (S.is_before sought.now item)) self.now }
+    {
+        self.locate(sought).1
+    }
+}
+
+impl<T: Drop> Clone for LateList<T> {
+    ghost is_clone = { λ list copy. copy ≡ list };
+
+    /// The same list. No item is cloned.
+    fn clone(&self) -> Result<LateList<T>, AllocError> {
+        let late = match &self.late {
+            Late::Nothing => Late::Nothing,
+            Late::Insertion { alloc, at, item } => Late::Insertion {
+                alloc: *alloc,
+                at: *at,
+                item: item.clone()?,
+            },
+            Late::Removal { at } => Late::Removal { at: *at },
+        };
+        let settled = self.settled.clone()?;
+        Ok(LateList { settled, late })
+    }
+}
