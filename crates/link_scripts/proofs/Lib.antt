@@ -1,5 +1,6 @@
 pub mod CapAnswers
 pub mod Columns
+pub mod Digits
 pub mod InTurn
 pub mod LinkCaps
 pub mod LookingUp

@@ -1,15 +1,17 @@
 -- Decimal numerals: a number is written in one way with no sign and no zero in front.
 use Rattle.std.proofs.Common.{◌≡◌, ◌↔◌, ℕ, ◌+◌, ◌*◌, ◌/◌, ◌%◌, ◌^◌, ◌<◌, ◌≤◌, List, [], ◌∷◌, ◌++◌, length, get_or}
 use Rattle.std.proofs.Common.{Some, Result, Ok, Err, codes, zero-add, sym, ap, ◌∙◌, arith, append_assoc, append-nil}
-use Rattle.std.proofs.Common.{length-append}
+use Rattle.std.proofs.Common.{length-append, subst, Option, None}
 use Rattle.std.specs.Fmt.{decimal}
 use Rattle.std.specs.Char.{digit_value}
+use Rattle.std.specs.Option.{SomeIff}
 use Rattle.std.specs.Result.{result_ok}
+use Rattle.std.specs.Str.{IsUtf8}
 use Rattle.std.specs.Str.Parse.{AllDigits, digits_value, digits_value_after, ParsesUnsigned}
 use Rattle.std.proofs.lemmas.Fmt.{decimal_digit, decimal_step_wide, decimal_by_steps_wide, decimal_is_IsNumeral_wide}
-use Rattle.std.proofs.lemmas.Fmt.{parse-decimal_wide}
+use Rattle.std.proofs.lemmas.Fmt.{parse-decimal_wide, IsAscii-from_digits}
 use Rattle.std.proofs.lemmas.List.{get_or_append_left}
-use Rattle.std.proofs.lemmas.Str.{digit_value_digit}
+use Rattle.std.proofs.lemmas.Str.{digit_value_digit, IsUtf8-from_ascii}
 use Rattle.std.proofs.lemmas.Str.Parse.{digit_from_value, digit_at, numerals_by_value, tells_digits, parse_plain}
 
 -- what is written of a digit
@@ -26,7 +28,7 @@ decimal_more n c above low small =
     decimal_step_wide (n * 10 + digit_value c) (omega arith) small ∙ (λ i. decimal (front i) ++ last i ∷ [])
 
 -- the value grows with each digit
-value_after-ge : (n : ℕ) (ds : List ℕ) → n ≤ digits_value_after 10 n ds
+pub value_after-ge : (n : ℕ) (ds : List ℕ) → n ≤ digits_value_after 10 n ds
 value_after-ge n [] = omega arith
 value_after-ge n (c ∷ cs) = omega (arith, value_after-ge (n * 10 + digit_value c) cs)
 
@@ -116,18 +118,35 @@ parsed {E} word (Err e) h sign plain n = (
   λ is. ap (result_ok {T = ℕ} {E = E}) (parse-decimal_wide 128 n word (Err e) is.1 (omega (arith, is.1)) is.0 h),
 )
 
--- what it is where that is a number of 64 bits
-pub parsed_narrow : {E : Type 0} (word : List ℕ) (x : ℕ) (r : Result ℕ E) → ParsesUnsigned 64 10 word r → r ≡ Ok x
-    → (get_or word 0 0 ≡ 43 → ⊥) → (get_or word 0 0 ≡ 48 → length word ≤ 1)
-    → (n : ℕ) → (Some x ≡ Some n) ↔ ((word ≡ decimal n) × (n < 2 ^ 128))
-parsed_narrow {E} word x (Err e) h is sign plain n = absurd (cc)
-parsed_narrow {E} word x (Ok y) h is sign plain n =
-    let same : y ≡ x = cc in
-    let own = parse_plain (numerals_by_value (AllDigits 10) tells_digits) {E = E} 64 word (Ok y) h sign in
-    let value : x ≡ digits_value 10 word = sym same ∙ own.1 in
-    let spelled : decimal y ≡ word =
-    ap decimal own.1 ∙ decimal-digits_value word own.0.0 own.0.1 plain (omega (arith, own.0.2)) in (
-      (λ e. let one : x ≡ n = cc in (sym spelled ∙ ap decimal (same ∙ one), omega (arith, own.0.2, own.1, value, one))),
-      λ spells. ap Some (value ∙ ap (digits_value 10) spells.0
-          ∙ (decimal_is_IsNumeral_wide n (omega (arith, spells.1))).1),
+-- no number is written with no digit
+pub no_number_empty : (word : List ℕ) (n : ℕ) → n < 2 ^ 128 → length word ≡ 0 → word ≡ decimal n → ⊥
+no_number_empty word n small empty is = omega (arith, ap length is, (first_digit n (omega arith)).0)
+
+-- the number that digits without a zero in front write is what they are written of
+pub spelled : (word : List ℕ) (r : Option ℕ)
+    → SomeIff r (AllDigits 10 word × (digits_value 10 word < 2 ^ 64)) (digits_value 10 word) → 0 < length word
+    → (get_or word 0 0 ≡ 48 → length word ≤ 1) → (n : ℕ) → (r ≡ Some n) ↔ ((word ≡ decimal n) × (n < 2 ^ 64))
+spelled word (Some x) h some plain n =
+    let own : decimal x ≡ word =
+    ap decimal h.1 ∙ decimal-digits_value word h.0.0 some plain (omega (arith, h.0.1)) in (
+      (λ e. let same : x ≡ n = cc in (sym own ∙ ap decimal same, omega (arith, h.0.1, h.1, same))),
+      λ is. ap Some (h.1 ∙ ap (digits_value 10) is.0 ∙ (decimal_is_IsNumeral_wide n (omega (arith, is.1))).1),
     )
+spelled word None h some plain n = (
+  (λ e. absurd (cc)),
+  λ is.
+      let numeral = decimal_is_IsNumeral_wide n (omega (arith, is.1)) in
+      let value : digits_value 10 word ≡ n = ap (digits_value 10) is.0 ∙ numeral.1 in
+      absurd (h (subst (AllDigits 10) (sym is.0) numeral.0.1, omega (arith, is.1, value))),
+)
+
+-- bytes that are no text are no number
+pub unless_text : (word : List ℕ) → ¬ (IsUtf8 word) → (n : ℕ)
+    → (None ≡ Some n) ↔ ((word ≡ decimal n) × (n < 2 ^ 128))
+unless_text word is_none n = (
+  (λ e. absurd (cc)),
+  λ is. absurd
+      (is_none
+      (subst IsUtf8 (sym is.0)
+      (IsUtf8-from_ascii (decimal n) (IsAscii-from_digits (decimal n) (digits_of_number n is.1))))),
+)

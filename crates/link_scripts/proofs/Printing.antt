@@ -12,14 +12,6 @@ use Rattle.link_pairs.specs.Pairs.Messages.{completed_of}
 use Rattle.link_simulation.specs.Simulation.World.{Completed}
 use Rattle.link_scripts.specs.Answer.{rate_line, rates_text, moment_word, done_line, done_text}
 
--- what is printed of a completion before its moment, where its message has that length
-abbrev pub done_front : Completion ℕ → ℕ → List ℕ
-done_front c n =
-    codes "done "
-    ++ (decimal c.origin
-    ++ (codes " "
-    ++ (decimal c.recipient ++ (codes " " ++ (decimal c.channel ++ (codes " " ++ (decimal n ++ codes " ")))))))
-
 -- one text after another
 pub Appends-append : (before between after : Option (List ℕ)) (first second : List ℕ) → Appends before between first
     → Appends between after second → Appends before after (first ++ second)
@@ -46,26 +38,21 @@ next_rate before between after done id rate h k =
     ∙ rates_text-push (map deref_pair done) id.now rate.now in
     subst (Appends before after) (sym text) (Appends-append before between after _ _ h k)
 
--- words with spaces between them, cut before the last but one
-cut_words : (d o r h l m end sp : List ℕ)
-    → d ++ o ++ sp ++ r ++ sp ++ h ++ sp ++ l ++ sp ++ m ++ end
-    ≡ (d ++ (o ++ (sp ++ (r ++ (sp ++ (h ++ (sp ++ (l ++ sp)))))))) ++ (m ++ end)
-cut_words d o r h l m end sp = simp append_assoc refl
+-- words with spaces between them, joined from the last one
+joined_from_end : (d o r h l m end sp : List ℕ)
+    → d ++ (sp ++ o ++ (sp ++ r ++ (sp ++ h ++ (sp ++ l ++ (sp ++ m ++ end)))))
+    ≡ (d ++ sp) ++ o ++ sp ++ r ++ sp ++ h ++ sp ++ l ++ sp ++ m ++ end
+joined_from_end d o r h l m end sp = simp append_assoc refl
 
--- the line of a completion is that, and then its moment
-done_line_parts : (c : Completion ℕ) (n : ℕ) → n ≡ length c.message
-    → done_line (completed_of c) ≡ done_front c n ++ (moment_word c.deliver_at ++ 10 ∷ [])
-done_line_parts c n is =
-    rw is
-    (cut_words (codes "done ") (decimal c.origin) (decimal c.recipient) (decimal c.channel)
+-- the line of a completion, put together from its end
+pub done_from_end : (c : Completion ℕ) (n : ℕ) (end at sized on to from line : List ℕ) → n ≡ length c.message
+    → end ≡ 10 ∷ [] → at ≡ codes " " ++ moment_word c.deliver_at ++ end → sized ≡ codes " " ++ decimal n ++ at
+    → on ≡ codes " " ++ decimal c.channel ++ sized → to ≡ codes " " ++ decimal c.recipient ++ on
+    → from ≡ codes " " ++ decimal c.origin ++ to → line ≡ codes "done" ++ from → line ≡ done_line (completed_of c)
+done_from_end c n end at sized on to from line long is_end is_at is_sized is_on is_to is_from is =
+    rw (is, is_from, is_to, is_on, is_sized, is_at, is_end, long)
+    (joined_from_end (codes "done") (decimal c.origin) (decimal c.recipient) (decimal c.channel)
     (decimal (length c.message)) (moment_word c.deliver_at) (10 ∷ []) (codes " "))
-
-pub done_parts : (before between after : Option (List ℕ)) (c : Completion ℕ) (n : ℕ) → n ≡ length c.message
-    → Appends before between (done_front c n) → Appends between after (moment_word c.deliver_at ++ 10 ∷ [])
-    → Appends before after (done_line (completed_of c))
-done_parts before between after c n is h k =
-    subst (Appends before after) (sym (done_line_parts c n is))
-    (Appends-append before between after (done_front c n) (moment_word c.deliver_at ++ 10 ∷ []) h k)
 
 -- the text of one completion more
 done_text-push : (completions : List (Completed ℕ)) (c : Completed ℕ)

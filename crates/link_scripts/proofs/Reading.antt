@@ -1,13 +1,13 @@
 -- What a bounded read up to the end byte gives.
-use Rattle.std.proofs.Common.{◌≡◌, ◌≢◌, ℕ, ◌+◌, ◌-◌, ◌<◌, ◌≤◌, suc, Bool, true, false, cond, eqb, List, [], ◌∷◌, ◌++◌}
+use Rattle.std.proofs.Common.{◌≡◌, ◌≢◌, ℕ, ◌-◌, ◌<◌, ◌≤◌, suc, Bool, true, false, cond, eqb, List, [], ◌∷◌, ◌++◌}
 use Rattle.std.proofs.Common.{length, get_or, take, drop, refl, sym, ap, ◌∙◌, subst, arith, append_assoc, length-append}
 use Rattle.std.proofs.Common.{length-take, take-append-drop, Option, None, Some, ⊎_elim}
 use Rattle.std.proofs.lemmas.Bool.{cases_lt}
 use borrow.Author.Tests.{eqb-true}
-use Rattle.std.proofs.Math.Seq.{drop-append-add}
 use Rattle.std.specs.List.{All}
 use Rattle.std.specs.Io.{StopsAt}
 use Rattle.std.specs.Io.BufRead.{take_through, drop_through}
+use Rattle.std.specs.Io.KnownBytes.{prepend_known}
 use Rattle.std.specs.Option.{IfSome, option_map}
 use Rattle.std.proofs.lemmas.List.{take_all, take_at, get_or_default, get_or-take}
 use Rattle.link_scripts.specs.declared.linkrun.line.LineEnd.{LineEnd}
@@ -105,15 +105,16 @@ module _ (bytes read line : List ℕ) (is_read : read ≡ take_through 10 (take 
       (_, read_in_front ∙ ap (λ front. front ++ (drop_through 10 (take 257 bytes) ++ drop 257 bytes)) (sym cut.0))
   front_of_long TooLong cut = absurd cut
 
--- what is left where a line and its end byte were taken from the front of the bytes
-pub taken_line : (bytes line left : List ℕ) → IsFrontOf Newline line bytes → left ≡ drop (length line + 1) bytes
-    → bytes ≡ line ++ 10 ∷ left
-taken_line bytes line left front is =
-    front.1
-    ∙ ap (λ rest. line ++ 10 ∷ rest)
-    (sym (is ∙ ap (drop (length line + 1)) front.1 ∙ drop-append-add line (10 ∷ front.0) 1))
-
 -- ---- where the bytes may not be known
+
+-- a line that was read ahead stands in front of all that is left
+pub front_of_ahead : (unbuffered : Bool) (behind : Option (List ℕ)) (ahead line rest : List ℕ)
+    → ahead ≡ line ++ 10 ∷ rest
+    → IfSome (cond unbuffered None (prepend_known ahead behind)) (IsFrontOf Newline line)
+front_of_ahead true behind ahead line rest is = tt
+front_of_ahead false None ahead line rest is = tt
+front_of_ahead false (Some more) ahead line rest is =
+    (rest ++ more, ap (λ front. front ++ more) is ∙ append_assoc line (10 ∷ rest) more)
 
 -- what a read of at most 257 bytes gave, after nothing
 module _ (known reader : Option (List ℕ)) (limit : ℕ) (start read line : List ℕ) (same : reader ≡ known)

@@ -1,6 +1,6 @@
 -- Which words say which values, and which words a line has.
 use Rattle.std.proofs.Common.{◌≡◌, ◌↔◌, ℕ, ◌^◌, ◌<◌, Bool, true, false, ◌&&◌, eqb, ltb, List, [], ◌∷◌, ◌++◌, Option}
-use Rattle.std.proofs.Common.{None, Some, codes, refl, sym, ap, ◌∙◌, subst, arith, eq-eqb, append-nil}
+use Rattle.std.proofs.Common.{None, Some, length, get_or, codes, refl, sym, ap, ◌∙◌, subst, arith, eq-eqb, append-nil}
 use borrow.Author.Tests.{ne_eqb, ltb-true}
 use Rattle.std.specs.Option.{IfSome}
 use Rattle.std.specs.List.{All, list_all, join_with_byte}
@@ -27,6 +27,12 @@ use Rattle.link_scripts.proofs.Columns.{wider}
 use Rattle.link_scripts.proofs.Numerals.{no_dash, digits_of_number}
 
 -- ---- words of values
+
+-- a word of one byte
+pub one_byte : (word : List ℕ) (b : ℕ) → length word ≡ 1 → get_or word 0 0 ≡ b → word ≡ b ∷ []
+one_byte [] b one is = absurd (omega arith)
+one_byte (c ∷ []) b one is = ap (λ x. x ∷ []) is
+one_byte (c ∷ d ∷ ds) b one is = absurd (omega arith)
 
 -- a word `-` says no cap, and no other cap is written so
 pub takes_no_cap : (before after : List (List ℕ)) (word : List ℕ) → before ≡ word ∷ after → word ≡ codes "-"
@@ -213,10 +219,41 @@ AreWords-command (commands.Link origin recipient cap) range =
 AreWords-command commands.Rates range = (refl, tt)
 AreWords-command (commands.Schedule call) range = AreWords-call call range
 
--- the line of a command is text
-pub IsUtf8-line_of : (command : Command) → IsCommandInRange command → IsUtf8 (line_of command)
-IsUtf8-line_of command range =
-    IsUtf8-from_ascii (line_of command) (ascii_line (command_words command) (AreWords-command command range))
+-- the first of some words is text
+first_is_text : (word : List ℕ) (after ws rest : List (List ℕ)) → AreWords ws → 0 < length ws → word ∷ after ≡ ws ++ rest
+    → IsUtf8 word
+first_is_text word after [] rest are some is = absurd (omega arith)
+first_is_text word after (w ∷ ws) rest are some is =
+    let same : word ≡ w = cc in
+    IsUtf8-from_ascii word (IsAscii-from_all word (subst (All (λ b. b < 128)) (sym same) (below_128 w are.0)))
+
+-- a command has words
+has_words : (command : Command) → IsCommandInRange command → 0 < length (command_words command)
+has_words (commands.Flow f) range = omega arith
+has_words (commands.Egress peer cap) range = omega arith
+has_words (commands.Ingress peer cap) range = omega arith
+has_words (commands.Link origin recipient cap) range = omega arith
+has_words commands.Rates range = omega arith
+has_words (commands.Schedule (calls.Limit now peer egress ingress)) range = omega arith
+has_words (commands.Schedule (calls.LimitLink now origin recipient cap)) range = omega arith
+has_words (commands.Schedule (calls.Enqueue now origin recipient channel length latency should_deliver)) range =
+    omega arith
+has_words (commands.Schedule (calls.EnqueueAll now messages)) range = absurd range
+has_words (commands.Schedule (calls.Advance now)) range = omega arith
+has_words (commands.Schedule calls.Next) range = omega arith
+
+-- no command begins with a word that is no text
+pub takes_no_text : (before after left : List (List ℕ)) (word : List ℕ) → before ≡ word ∷ after → ¬ (IsUtf8 word)
+    → Takes command_words IsCommandInRange before None left
+takes_no_text before after left word is no_text =
+    record {
+      taken = tt;
+      missed = λ command rest range said.
+          absurd
+          (no_text
+          (first_is_text word after (command_words command) rest (AreWords-command command range)
+          (has_words command range) (sym is ∙ said)));
+    }
 
 -- the parts of the line of a call are its words
 parts_of-call : (call : Call ℕ ℕ) → IsCallOfScriptInRange call
@@ -303,9 +340,3 @@ module _ (line : List ℕ) (before after : List (List ℕ)) (parts : before ≡ 
         (sym taken.0 ∙ parts ∙ parts_said line command is.0 is.1) in
         absurd (cc (more, over)),
   )
-
--- nor does a line that is no text
-pub says_nothing : (line : List ℕ) → ¬ (IsUtf8 line) → (command : Command)
-    → (None ≡ Some command) ↔ ((line ≡ line_of command) × IsCommandInRange command)
-says_nothing line is_none command =
-    ((λ e. absurd (cc)), λ is. absurd (is_none (subst IsUtf8 (sym is.0) (IsUtf8-line_of command is.1))))

@@ -1,4 +1,5 @@
 pub mod Answer
+pub mod Ending
 pub mod Gathered
 pub mod Lines
 pub mod Outcome

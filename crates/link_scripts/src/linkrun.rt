@@ -4,6 +4,7 @@ ghost use Rattle.link_scripts.specs.Outcome.{status_of, outcome_text, CountsFrom
 
 pub mod answer;
 pub mod command;
+mod ending;
 mod gathered;
 pub mod line;
 pub(crate) mod schedule;

@@ -1,12 +1,13 @@
 //! What a script prints.
-ghost use Rattle.std.specs.Prelude.{◌≡◌, [], ◌∷◌, ◌++◌, map, IfOk, IfErr, OnOk};
+ghost use Rattle.std.specs.Prelude.{◌≡◌, map, IfOk, IfErr, OnOk};
 ghost use Rattle.std.specs.Io.KnownBytes.{Appends};
-ghost use Rattle.link_scripts.specs.Answer.{rate_line, rates_text, moment_word, done_line, done_text, next_line};
+ghost use Rattle.link_scripts.specs.Answer.{rate_line, rates_text, done_line, done_text, next_line};
 ghost use Rattle.link_scripts.specs.Answer.{answer_text, reply_text, refusal_line};
 ghost use Rattle.link_scheduler.specs.Calls.Replay.{reply_of};
 ghost use Rattle.link_pairs.specs.Pairs.Messages.{completed_of};
 ghost use Rattle.fair_rates.specs.Refusals.ErrorTexts.{refusal_number};
 
+use crate::linkrun::ending::Ending;
 use fair_rates::bandwidth::Rate;
 use fair_rates::error::Error;
 use link_scheduler::replay::Reply;
@@ -99,30 +100,24 @@ fn print_completion<W: Write>(output: &mut W, completion: &Completion<u64>) -> i
     ensures { OnOk result (Appends (W.contents output.old) (W.contents output.new) (done_line
         (completed_of completion.now))) }
 {
-    let origin = completion.origin;
-    let recipient = completion.recipient;
-    let channel = completion.channel;
-    let length = completion.message.len();
-    write!(output, "done {origin} {recipient} {channel} {length} ")?;
-    print_moment(output, completion.deliver_at)
+    let mut line = Ending::new();
+    line.put_moment(completion.deliver_at);
+    line.put_number(completion.message.len() as u64);
+    line.put_number(completion.channel);
+    line.put_number(completion.recipient);
+    line.put_number(completion.origin);
+    line.put_word(b"done");
+    output.write_all(line.as_slice())
 }
 
 /// Prints the moment of the next event.
 fn print_next<W: Write>(output: &mut W, moment: Option<u64>) -> io::Result<()>
     ensures { OnOk result (Appends (W.contents output.old) (W.contents output.new) (next_line moment)) }
 {
-    write!(output, "next ")?;
-    print_moment(output, moment)
-}
-
-/// Prints a moment at the end of a line, or that there is none.
-fn print_moment<W: Write>(output: &mut W, moment: Option<u64>) -> io::Result<()>
-    ensures { OnOk result (Appends (W.contents output.old) (W.contents output.new) (moment_word moment ++ 10 ∷ [])) }
-{
-    match moment {
-        Some(moment) => writeln!(output, "{moment}"),
-        None => writeln!(output, "-"),
-    }
+    let mut line = Ending::new();
+    line.put_moment(moment);
+    line.put_word(b"next");
+    output.write_all(line.as_slice())
 }
 
 /// The number of a refusal.

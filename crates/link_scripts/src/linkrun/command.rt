@@ -41,7 +41,7 @@ impl Command {
         ensures { (command : Command) → (result ≡ Some command)
             ↔ ((line.now ≡ line_of command) × IsCommandInRange command) }
     {
-        let mut words = Words::of(str::from_utf8(line).ok()?);
+        let mut words = Words::of(line);
         let command = Command::take(&mut words)?;
         match words.next() {
             None => Some(command),
@@ -49,11 +49,20 @@ impl Command {
         }
     }
 
-    /// Takes the words of a command. The most frequent ones are looked for first.
+    /// Takes the words of a command.
     fn take(words: &mut Words<'_>) -> Option<Command>
         ensures { Takes command_words IsCommandInRange (words_left words.old) result (words_left words.new) }
     {
-        match words.next()? {
+        let name = str::from_utf8(words.next()?).ok()?;
+        Command::take_named(name, words)
+    }
+
+    /// Takes the words of a command after its name. The most frequent ones are looked for first.
+    fn take_named(name: &str, words: &mut Words<'_>) -> Option<Command>
+        ensures { Takes command_words IsCommandInRange (name.now ∷ words_left words.old) result
+            (words_left words.new) }
+    {
+        match name {
             "enqueue" => take_enqueue(words),
             "advance" => Some(Command::Schedule(Call::Advance {
                 now: words.number()?,

@@ -1,9 +1,11 @@
 //! The lines of a script, read as a stream.
-ghost use Rattle.std.specs.Prelude.{◌≡◌, ◌⊎◌, ◌↔◌, [], Contains, IsTrue, IfOk, IfSome, OnOk, length};
+ghost use Rattle.std.specs.Prelude.{◌≡◌, ◌+◌, ◌<◌, ◌⊎◌, ◌↔◌, [], ◌∷◌, ◌++◌, Contains, IsTrue, IfOk, IfSome, OnOk};
+ghost use Rattle.std.specs.Prelude.{length, take, drop};
 ghost use Rattle.std.specs.Io.Buffered.{reader_buffer, reader_remaining, writer_buffer, writer_contents};
 ghost use Rattle.std.specs.Io.KnownBytes.{Keeps};
 ghost use Rattle.link_scripts.specs.Lines.{IsLengthOf, LacksEndByte, IsFrontOf, IsCut, IsTaken, AsksAfterWriting};
 
+use memchr::memchr;
 use std::io;
 use std::io::{BufRead, BufReader, BufWriter, Read, Write};
 
@@ -36,7 +38,6 @@ pub(crate) fn is_ahead<R: Read>(input: &BufReader<R>) -> bool
 
 /// Reads the next line as `read_line` does. Before the reader behind `input` is asked for more,
 /// which is where no whole line was read ahead, `output` is flushed.
-#[tactic(auto, using(crate::proofs::Reading::taken_line))]
 pub(crate) fn next_line<R: Read, W: Write + Drop>(
     input: &mut BufReader<R>,
     output: &mut BufWriter<W>,
@@ -51,16 +52,26 @@ pub(crate) fn next_line<R: Read, W: Write + Drop>(
     ensures written { AsksAfterWriting input.old input.new output.new }
     ensures contents { Keeps (writer_contents W.contents output.old) (writer_contents W.contents output.new) }
 {
-    match read_line(&mut input.buffer(), line)? {
-        LineEnd::Newline => {
-            input.consume(line.len() + 1);
-            Ok(LineEnd::Newline)
-        }
-        LineEnd::Input | LineEnd::TooLong => {
-            output.flush()?;
-            read_line(input, line)
+    if let Some(length) = length_ahead(input) {
+        if length <= MOST_BYTES {
+            line.clear();
+            line.extend_from_slice(&input.buffer()[..length])?;
+            input.consume(length + 1);
+            return Ok(LineEnd::Newline);
         }
     }
+    output.flush()?;
+    read_line(input, line)
+}
+
+/// How many bytes the next line has, where its end byte was read ahead.
+fn length_ahead<R: Read>(input: &BufReader<R>) -> Option<usize>
+    ensures within { IfSome result (λ n. n < length (reader_buffer input.now)) }
+    ensures one_line { IfSome result (λ n. LacksEndByte (take n (reader_buffer input.now))) }
+    ensures cut { IfSome result (λ n. reader_buffer input.now
+        ≡ take n (reader_buffer input.now) ++ 10 ∷ drop (n + 1) (reader_buffer input.now)) }
+{
+    memchr(NEWLINE, input.buffer())
 }
 
 /// Reads the next line, without its end byte, in the place of what `line` held. It takes memory

@@ -1,58 +1,64 @@
 //! The words of a line.
 ghost use Rattle.std.specs.Prelude.{◌≡◌, ◌↔◌, ℕ, ◌^◌, ◌<◌, ◌++◌, [], ◌∷◌, Some, IfNone, option_to_list};
-ghost use Rattle.std.specs.Option.{option_copied};
-ghost use Rattle.std.specs.Str.Iter.{split_pattern};
+ghost use Rattle.std.specs.Option.{option_copied, SomeIff};
+ghost use Rattle.std.specs.Str.Parse.{AllDigits, digits_value};
 ghost use Rattle.link_scripts.specs.Script.{Takes, number_word, cap_word, flag_word, IsNumberInRange, IsCapInRange};
 ghost use Rattle.link_scripts.specs.Script.{IsSmallCapInRange, IsLengthInRange};
-
-use std::str::Split;
 
 /// The most bytes that a message has.
 const MOST_LENGTH: usize = 67_108_864;
 
+/// The byte between two words.
+const SPACE: u8 = b' ';
+
 /// The words of a line that are not taken yet. They stand with one space between each two.
 #[derive(Drop)]
 pub struct Words<'a> {
-    parts: Split<'a, char>,
-    ghost at_spaces: { split_pattern parts ≡ 32 },
+    /// Where they begin, if a word is left.
+    rest: Option<&'a [u8]>,
 }
 
 impl<'a> Words<'a> {
     ghost use Rattle.link_scripts.specs.Words.{parts_of, words_left};
 
     /// All the words of a line.
-    pub fn of(line: &'a str) -> Words<'a>
+    pub fn of(line: &'a [u8]) -> Words<'a>
         ensures { words_left result ≡ parts_of line.now }
     {
-        Words {
-            parts: line.split(' '),
-        }
+        Words { rest: Some(line) }
     }
 
     /// Takes the next word.
-    pub fn next(&mut self) -> Option<&'a str>
+    pub fn next(&mut self) -> Option<&'a [u8]>
         ensures taken { words_left self.old ≡ option_to_list (option_copied result) ++ words_left self.new }
         ensures none { IfNone result (words_left self.old ≡ []) }
     {
-        self.parts.next()
+        let rest = self.rest?;
+        for at in 0..rest.len() {
+            if rest[at] == SPACE {
+                self.rest = Some(&rest[at + 1..]);
+                return Some(&rest[..at]);
+            }
+        }
+        self.rest = None;
+        Some(rest)
     }
 
     /// Takes the next word, a number of 64 bits.
     pub fn number(&mut self) -> Option<u64>
         ensures { Takes (λ n. number_word n ∷ []) IsNumberInRange (words_left self.old) result (words_left self.new) }
     {
-        u64::try_from(number(self.next()?)?).ok()
+        number(self.next()?)
     }
 
     /// Takes the next word, a cap in bytes a second or `-` for none.
     pub(crate) fn cap(&mut self) -> Option<Option<u128>>
         ensures { Takes (λ cap. cap_word cap ∷ []) IsCapInRange (words_left self.old) result (words_left self.new) }
     {
-        let word = self.next()?;
-        if word == "-" {
-            return Some(None);
+        match self.next()? {
+            b"-" => Some(None),
+            word => Some(Some(wide_number(word)?)),
         }
-        Some(Some(number(word)?))
     }
 
     /// Takes the next word, a cap in bytes a second of 64 bits or `-` for none.
@@ -70,7 +76,7 @@ impl<'a> Words<'a> {
     pub(crate) fn length(&mut self) -> Option<usize>
         ensures { Takes (λ n. number_word n ∷ []) IsLengthInRange (words_left self.old) result (words_left self.new) }
     {
-        let length = usize::try_from(number(self.next()?)?).ok()?;
+        let length = number(self.next()?)? as usize;
         if length > MOST_LENGTH {
             return None;
         }
@@ -83,23 +89,43 @@ impl<'a> Words<'a> {
             (words_left self.old) result (words_left self.new) }
     {
         match self.next()? {
-            "0" => Some(false),
-            "1" => Some(true),
+            b"0" => Some(false),
+            b"1" => Some(true),
             _ => None,
         }
     }
 }
 
-/// The number of at most 128 bits that a word is: decimal digits, with no sign, and with no zero
-/// in front of another digit. Most fit in 64 bits, which are read faster.
-fn number(word: &str) -> Option<u128>
-    ensures { (n : ℕ) → (result ≡ Some n) ↔ ((word.now ≡ number_word n) × (n < 2 ^ 128)) }
+/// The number of at most 64 bits that a word is: decimal digits, with no sign, and with no zero in
+/// front of another digit.
+fn number(word: &[u8]) -> Option<u64>
+    ensures { (n : ℕ) → (result ≡ Some n) ↔ ((word.now ≡ number_word n) × (n < 2 ^ 64)) }
 {
-    if word.starts_with('+') || (word.starts_with('0') && word.len() > 1) {
+    if word.is_empty() || (word[0] == b'0' && word.len() > 1) {
         return None;
     }
-    if let Ok(narrow) = word.parse::<u64>() {
-        return Some(u128::from(narrow));
+    value_of_digits(word)
+}
+
+/// The number that a word of digits alone writes, where it has at most 64 bits.
+fn value_of_digits(word: &[u8]) -> Option<u64>
+    ensures { SomeIff result (AllDigits 10 word.now × (digits_value 10 word.now < 2 ^ 64)) (digits_value 10 word.now) }
+{
+    let mut number = 0u64;
+    for byte in word {
+        let digit = (*byte as char).to_digit(10)?;
+        number = number.checked_mul(10)?.checked_add(u64::from(digit))?;
+    }
+    Some(number)
+}
+
+/// The number of at most 128 bits that a word is, written as one of 64 bits is.
+fn wide_number(word: &[u8]) -> Option<u128>
+    ensures { (n : ℕ) → (result ≡ Some n) ↔ ((word.now ≡ number_word n) × (n < 2 ^ 128)) }
+{
+    let word = str::from_utf8(word).ok()?;
+    if word.starts_with('+') || (word.starts_with('0') && word.len() > 1) {
+        return None;
     }
     word.parse().ok()
 }

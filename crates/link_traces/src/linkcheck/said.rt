@@ -21,25 +21,29 @@ pub(crate) enum Said {
 impl Said {
     /// What a line answers, where it is one that a script prints of a call.
     pub(crate) fn of(line: &[u8]) -> Option<Said> {
-        let text = str::from_utf8(line).ok()?;
-        if is_refusal(text) {
+        if is_refusal(str::from_utf8(line).ok()?) {
             return Some(Said::Refused);
         }
-        let mut words = Words::of(text);
-        let said = match words.next()? {
-            "done" => Said::Done {
+        let mut words = Words::of(line);
+        let said = Said::take(&mut words)?;
+        match words.next() {
+            None => Some(said),
+            Some(_) => None,
+        }
+    }
+
+    /// Takes the words of a message that is done, or of the next event.
+    fn take(words: &mut Words<'_>) -> Option<Said> {
+        match str::from_utf8(words.next()?).ok()? {
+            "done" => Some(Said::Done {
                 origin: words.number()?,
                 recipient: words.number()?,
                 channel: words.number()?,
                 length: words.number()?,
-                moment: moment(&mut words)?,
-            },
-            "next" => Said::Next(moment(&mut words)?),
-            _ => return None,
-        };
-        match words.next() {
-            None => Some(said),
-            Some(_) => None,
+                moment: moment(words)?,
+            }),
+            "next" => Some(Said::Next(moment(words)?)),
+            _ => None,
         }
     }
 

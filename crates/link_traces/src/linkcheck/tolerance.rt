@@ -44,8 +44,8 @@ fn first_tolerance(text: &[u8]) -> Option<u64> {
 
 /// The tolerance that a line sets.
 fn tolerance(line: &[u8]) -> Option<u64> {
-    let mut words = Words::of(str::from_utf8(line).ok()?);
-    if words.next()? != "tolerance" {
+    let mut words = Words::of(line);
+    if words.next()? != b"tolerance".as_slice() {
         return None;
     }
     let tolerance = words.number()?;
