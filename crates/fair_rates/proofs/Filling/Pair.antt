@@ -45,8 +45,8 @@ module _ (flow level : ℕ) (old new : FairParts) (scale : new.scale ≡ old.sca
     growth = growth;
     one_each = at_top.one_each;
     sound = λ sound.
-        inside_on (flow ∷ []) old.levels.items new.levels.items old.level_of.items new.level_of.items level raised at_top
-        sound;
+        inside_on (flow ∷ []) old.levels.items new.levels.items old.level_of.items new.level_of.items level raised
+        at_top sound;
     has = λ none sound. (freezing sound).all 0 0 (omega arith);
     others = λ sound other apart. elim ((freezing sound).others other) [
       | inl used ↦ absurd (apart (sym (in_one flow other used)))
@@ -370,7 +370,9 @@ module _ (sides : List Side) (caps : PairCaps) (of : AreOfPair sides caps) (scal
       held = λ flow limits. is_held flow (which flow limits);
     };
     limited = λ flow. (
-      λ h. let b = is_held flow (which_has flow (some_level (level_at found.level_of.items flow) h)) in (b.side, b.uses),
+      λ h.
+          let b = is_held flow (which_has flow (some_level (level_at found.level_of.items flow) h)) in
+          (b.side, b.uses),
       λ limits. has_level flow (which flow limits),
     );
   }

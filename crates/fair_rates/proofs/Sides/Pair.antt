@@ -14,8 +14,8 @@ use Rattle.fair_rates.specs.Fairness.Fair.{Side}
 use Rattle.fair_rates.specs.Sides.Alone.{least_of}
 use Rattle.fair_rates.specs.Sides.Answers.{Answered}
 use Rattle.fair_rates.specs.Sides.Pair.{least_caps, pair_caps_of}
-use Rattle.fair_rates.specs.Sides.Subjects.{Ask, sent_by, received_by, sent_between, same_peer, is_same, is_open, opened}
-use Rattle.fair_rates.specs.Sides.Subjects.{sides_of}
+use Rattle.fair_rates.specs.Sides.Subjects.{Ask, sent_by, received_by, sent_between, same_peer, is_same, is_open}
+use Rattle.fair_rates.specs.Sides.Subjects.{opened, sides_of}
 use Rattle.fair_rates.specs.declared.bandwidth.pair.PairCaps.{PairCaps}
 
 -- ---- sides of two flows

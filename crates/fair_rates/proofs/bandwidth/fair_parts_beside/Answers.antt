@@ -59,7 +59,8 @@ returns-in-None-Some-clause-fair g c =
     (omega (arith, c.requires.one_each, c.in-len2.len_at_least))
     (omega (arith, c.requires.one_each, c.in-len2.len_below))
     c.first-item.is c.second-item.is
-    ∙ ap (λ (first : Option (Rc ℕ Global)). first ∷ c.second-item.result ∷ []) c.in-None-Some.is-0 ∙ ap (λ (second : Option (Rc ℕ Global)). None ∷ second ∷ []) c.in-None-Some.is-1 in
+    ∙ ap (λ (first : Option (Rc ℕ Global)). first ∷ c.second-item.result ∷ []) c.in-None-Some.is-0
+    ∙ ap (λ (second : Option (Rc ℕ Global)). None ∷ second ∷ []) c.in-None-Some.is-1 in
     let keeps : (flow : ℕ) → kept_at kept flow ≡ only_kept 1 c.deref.result.now flow = λ flow.
     ap (λ rates. kept_at rates flow) listed ∙ only_second rate flow
     ∙ ap (λ parts. only_kept 1 parts flow) (sym c.deref.ensures) in
@@ -90,7 +91,8 @@ returns-in-Some-None-clause-fair g c =
     (omega (arith, c.requires.one_each, c.in-len2.len_at_least))
     (omega (arith, c.requires.one_each, c.in-len2.len_below))
     c.first-item.is c.second-item.is
-    ∙ ap (λ (first : Option (Rc ℕ Global)). first ∷ c.second-item.result ∷ []) c.in-Some-None.is-0 ∙ ap (λ (second : Option (Rc ℕ Global)). Some rate ∷ second ∷ []) c.in-Some-None.is-1 in
+    ∙ ap (λ (first : Option (Rc ℕ Global)). first ∷ c.second-item.result ∷ []) c.in-Some-None.is-0
+    ∙ ap (λ (second : Option (Rc ℕ Global)). Some rate ∷ second ∷ []) c.in-Some-None.is-1 in
     let keeps : (flow : ℕ) → kept_at kept flow ≡ only_kept 0 c.deref-in-Some-None.result.now flow = λ flow.
     ap (λ rates. kept_at rates flow) listed ∙ only_first rate flow
     ∙ ap (λ parts. only_kept 0 parts flow) (sym c.deref-in-Some-None.ensures) in
