@@ -12,6 +12,7 @@ pub mod LeftSides
 pub mod Levels
 pub mod NextLevel
 pub mod Pair
+pub mod PairBeside
 pub mod Queue
 pub mod Rates
 pub mod Rounds

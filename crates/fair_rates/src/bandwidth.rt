@@ -344,6 +344,19 @@ pub fn fair_parts_beside<P: Peer, C: KnownCaps<P>>(
     if all_are_kept(kept) {
         return Ok(FairParts::new(alloc, kept.len(), scale)?);
     }
+    if let [one, other] = flows {
+        if let [first, second] = kept {
+            match (first, second) {
+                (None, Some(rate)) => {
+                    return Ok(pair::first_beside(alloc, one, other, caps, rate, scale)?);
+                }
+                (Some(rate), None) => {
+                    return Ok(pair::second_beside(alloc, one, other, caps, rate, scale)?);
+                }
+                _ => {}
+            }
+        }
+    }
     let sides = sides::sides_under(alloc, flows, caps)?;
     Ok(filling::fair_parts_beside(alloc, sides, kept, scale)?)
 }

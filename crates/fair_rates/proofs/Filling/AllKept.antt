@@ -1,16 +1,18 @@
--- Where each flow keeps its rate, none is rated.
-use Rattle.std.proofs.Common.{◌≡◌, ℕ, zero, suc, ◌<◌, ◌≤◌, List, [], ◌∷◌, length, All, Contains, true, is_some}
-use Rattle.std.proofs.Common.{Option, Some, None, IsSome, IfSome, refl, sym, ap, subst, ◌∙◌, arith}
+-- Which flows keep their rates. Where each does, none is rated.
+use Rattle.std.proofs.Common.{◌≡◌, ◌≢◌, ℕ, zero, suc, ◌<◌, List, [], ◌∷◌, length, All, true, is_some}
+use Rattle.std.proofs.Common.{Option, Some, None, IsSome, IfSome, cond, inl, inr, refl, sym, ap, subst, ◌∙◌, arith}
 use Rattle.std.specs.List.{list_all}
-use Rattle.std.specs.Prelude.{◌*◌, replicate}
+use Rattle.std.specs.Prelude.{◌*◌, replicate, ◌==◌}
 use Rattle.std.specs.declared.alloc.Global.{Global}
 use Rattle.std.specs.declared.rc.Rc.{Rc}
+use Rattle.std.proofs.lemmas.Bool.{cases_Bool, eqb-true}
 use Rattle.std.proofs.lemmas.List.{length-replicate}
 use Rattle.std.proofs.lemmas.List.Elements.{All-nil, All-contains, All-replicate}
 use Rattle.fair_rates.specs.Fairness.Exists.{product}
 use Rattle.fair_rates.specs.Fairness.Fair.{Side, IsLimited}
 use Rattle.fair_rates.specs.Fairness.Laws.{HaveUsersBelow}
 use Rattle.fair_rates.specs.Filling.FairParts.{level_at, kept_at, AreFairPartsBeside}
+use Rattle.fair_rates.specs.Filling.Pair.{only_kept}
 use Rattle.fair_rates.specs.declared.bandwidth.parts.FairParts.{FairParts}
 use Rattle.fair_rates.proofs.Filling.Frozen.{not_some}
 use Rattle.fair_rates.proofs.Filling.Steps.{none_at}
@@ -58,3 +60,21 @@ module _ (sides : List Side) (kept : ℕ → Option ℕ) (flows : ℕ) (below : 
           λ (free, limits). absurd (none_rated flow free limits),
         );
       }
+
+-- ---- of two flows one keeps its rate
+
+no_other : (flow place : ℕ) (rate : ℕ) → flow ≢ place → only_kept place rate flow ≡ None
+no_other flow place rate apart = elim (cases_Bool (flow == place)) [
+  | inl same ↦ absurd (apart (eqb-true flow place same))
+  | inr other ↦ ap (λ is. cond is (Some rate) None) other
+]
+
+pub only_second : (rate : Rc ℕ Global) (flow : ℕ) → kept_at (None ∷ Some rate ∷ []) flow ≡ only_kept 1 rate.value flow
+only_second rate zero = refl
+only_second rate (suc zero) = refl
+only_second rate (suc (suc flow)) = sym (no_other (suc (suc flow)) 1 rate.value (λ same. omega (arith, same)))
+
+pub only_first : (rate : Rc ℕ Global) (flow : ℕ) → kept_at (Some rate ∷ None ∷ []) flow ≡ only_kept 0 rate.value flow
+only_first rate zero = refl
+only_first rate (suc zero) = refl
+only_first rate (suc (suc flow)) = sym (no_other (suc (suc flow)) 0 rate.value (λ same. omega (arith, same)))

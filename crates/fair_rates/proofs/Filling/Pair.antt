@@ -1,16 +1,16 @@
 -- The fair rates of two flows: those to which they are held.
-use Rattle.std.proofs.Common.{◌≡◌, ◌≢◌, ℕ, ◌+◌, ◌*◌, ◌<◌, ◌≤◌, ◌⊎◌, inl, inr, List, [], ◌∷◌, length, map, All, Contains}
+use Rattle.std.proofs.Common.{◌≡◌, ℕ, ◌+◌, ◌*◌, ◌<◌, ◌≤◌, ◌⊎◌, inl, inr, List, [], ◌∷◌, length, All, Contains}
 use Rattle.std.proofs.Common.{Option, Some, None, IsSome, IfSome, refl, sym, ap, subst, ◌∙◌, arith, sum_by}
 use Rattle.std.proofs.Common.{mul-le-mul_right}
-use Rattle.std.specs.Prelude.{◌↔◌, option_map, slice_index, unwrap_or, replicate}
+use Rattle.std.specs.Prelude.{option_map, slice_index, unwrap_or, replicate}
 use Rattle.std.proofs.Math.Nat.{mul-pos}
 use Rattle.std.proofs.lemmas.Bool.{cases_lt}
 use Rattle.std.proofs.lemmas.List.Elements.{All-nil, All-cons, All-contains, All-weaker, All-replicate}
 use Rattle.fair_rates.specs.Fairness.Exists.{product}
-use Rattle.fair_rates.specs.Fairness.Fair.{Side, load, Uses, IsLimited, IsWithinCaps, HasBottleneck, IsFair}
+use Rattle.fair_rates.specs.Fairness.Fair.{Side, load, IsLimited, HasBottleneck}
 use Rattle.fair_rates.specs.Filling.FairParts.{level_at, parts_of_level, flow_parts, AreFairPartsOn}
 use Rattle.fair_rates.specs.Filling.Pair.{parts_at, AreSound, IsLimitedTo, ArePairParts, ArePairHalves}
-use Rattle.fair_rates.specs.Filling.States.{frozen_at, IsRaised, AreAtTop}
+use Rattle.fair_rates.specs.Filling.States.{IsRaised, AreAtTop}
 use Rattle.fair_rates.specs.Sides.Pair.{IsHeldTo, AreHeldTo, ShareEvenly, times_rate}
 use Rattle.fair_rates.specs.declared.bandwidth.pair.PairCaps.{PairCaps}
 use Rattle.fair_rates.specs.declared.bandwidth.parts.FairParts.{FairParts}
@@ -25,7 +25,7 @@ use Rattle.fair_rates.proofs.Sides.Pair.{firsts, seconds, boths, side_with, IsOv
 
 -- ---- levels
 
-one_of_two : (flow : ℕ) → Contains boths flow → (flow ≡ 0) ⊎ (flow ≡ 1)
+pub one_of_two : (flow : ℕ) → Contains boths flow → (flow ≡ 0) ⊎ (flow ≡ 1)
 one_of_two flow used = elim (in_from_contains boths flow used) [
   | inl e ↦ inl (sym e)
   | inr h ↦ elim h [ inl e ↦ inr (sym e) | inr none ↦ absurd none ]
@@ -45,8 +45,8 @@ module _ (flow level : ℕ) (old new : FairParts) (scale : new.scale ≡ old.sca
     growth = growth;
     one_each = at_top.one_each;
     sound = λ sound.
-        inside_on (flow ∷ []) old.levels.items new.levels.items old.level_of.items new.level_of.items level raised at_top
-        sound;
+        inside_on (flow ∷ []) old.levels.items new.levels.items old.level_of.items new.level_of.items level raised
+        at_top sound;
     has = λ none sound. (freezing sound).all 0 0 (omega arith);
     others = λ sound other apart. elim ((freezing sound).others other) [
       | inl used ↦ absurd (apart (sym (in_one flow other used)))
@@ -198,12 +198,12 @@ any_of_some own both per mine other (inl (none, o, b)) some = absurd (not_some m
 any_of_some own both per mine other (inr (inl (cap, o, m))) some = inl (some_is own cap o)
 any_of_some own both per mine other (inr (inr (cap, rate, b, m, sum, le))) some = inr (some_is both cap b)
 
-over_users : (cap : Option ℕ) (users : List ℕ) (side : Side) → IsOver cap users side
+pub over_users : (cap : Option ℕ) (users : List ℕ) (side : Side) → IsOver cap users side
     → IsSome cap × (side.users ≡ users)
 over_users None users side h = absurd h
 over_users (Some cap) users side h = (refl, h.0)
 
-among_is : (sides : List Side) (o : Option ℕ) (users : List ℕ) (cap : ℕ) → o ≡ Some cap → IsAmong sides o users
+pub among_is : (sides : List Side) (o : Option ℕ) (users : List ℕ) (cap : ℕ) → o ≡ Some cap → IsAmong sides o users
     → Contains sides (side_with cap users)
 among_is sides o users cap e h =
     let is : IsAmong sides (Some cap) users = subst (λ p. IsAmong sides p users) e h in is
@@ -370,7 +370,9 @@ module _ (sides : List Side) (caps : PairCaps) (of : AreOfPair sides caps) (scal
       held = λ flow limits. is_held flow (which flow limits);
     };
     limited = λ flow. (
-      λ h. let b = is_held flow (which_has flow (some_level (level_at found.level_of.items flow) h)) in (b.side, b.uses),
+      λ h.
+          let b = is_held flow (which_has flow (some_level (level_at found.level_of.items flow) h)) in
+          (b.side, b.uses),
       λ limits. has_level flow (which flow limits),
     );
   }

@@ -1,6 +1,6 @@
 -- The sides of two flows, and their least caps.
 use Rattle.std.proofs.Common.{◌≡◌, ℕ, ◌≤◌, ◌⊎◌, inl, inr, List, [], ◌∷◌, ◌++◌, map, All, Contains, Bool, true, false}
-use Rattle.std.proofs.Common.{cond, ◌&&◌, Option, Some, None, IfSome, min, refl, sym, ap, subst, ◌∙◌, arith, is_some}
+use Rattle.std.proofs.Common.{cond, ◌&&◌, Option, Some, None, IfSome, refl, sym, ap, subst, ◌∙◌, arith, is_some}
 use Rattle.std.specs.Prelude.{◌||◌}
 use Rattle.std.specs.List.{filter}
 use Rattle.std.specs.declared.cmp.Ordering.{Ordering}
@@ -11,11 +11,11 @@ use Rattle.std.proofs.lemmas.List.{append-nil}
 use Rattle.std.proofs.lemmas.List.Elements.{All-nil, All-cons, All-append, All-weaker}
 use Rattle.std.proofs.lemmas.List.Elements.{Contains-append_left, Contains-append_right}
 use Rattle.fair_rates.specs.Fairness.Fair.{Side}
-use Rattle.fair_rates.specs.Sides.Alone.{least_of, ingress_of}
+use Rattle.fair_rates.specs.Sides.Alone.{least_of}
 use Rattle.fair_rates.specs.Sides.Answers.{Answered}
 use Rattle.fair_rates.specs.Sides.Pair.{least_caps, pair_caps_of}
-use Rattle.fair_rates.specs.Sides.Subjects.{Ask, sent_by, received_by, sent_between, same_peer, is_same, is_open, opened}
-use Rattle.fair_rates.specs.Sides.Subjects.{sides_of}
+use Rattle.fair_rates.specs.Sides.Subjects.{Ask, sent_by, received_by, sent_between, same_peer, is_same, is_open}
+use Rattle.fair_rates.specs.Sides.Subjects.{opened, sides_of}
 use Rattle.fair_rates.specs.declared.bandwidth.pair.PairCaps.{PairCaps}
 
 -- ---- sides of two flows

@@ -1,7 +1,6 @@
 -- The parts of flows that are limited one by one.
-use Rattle.std.specs.Prelude.{◌≡◌, ◌≢◌, ℕ, ◌*◌, ◌<◌, All, Option, Some, None, length}
+use Rattle.std.specs.Prelude.{◌≡◌, ◌≢◌, ℕ, ◌*◌, ◌<◌, All, Option, Some, None, length, [], cond, ◌==◌}
 use Rattle.fair_rates.specs.Fairness.Exists.{product}
-use Rattle.fair_rates.specs.Filling.FairParts.{level_at}
 use Rattle.fair_rates.specs.Filling.States.{frozen_at, AreInside}
 use Rattle.fair_rates.specs.declared.bandwidth.parts.FairParts.{FairParts}
 
@@ -37,3 +36,16 @@ pub record ArePairHalves (scale both : ℕ) (found : FairParts) : Type 0 where
   pub half : ℕ
   pub parts : ArePairParts scale (Some half) (Some half) found
   pub is : half * 2 ≡ both * found.scale
+
+-- of two flows, the one at that place has these parts, if any, and the other has none
+pub record ArePartsOfOne (scale place : ℕ) (parts : Option ℕ) (found : FairParts) : Type 0 where
+  pub scale_is : found.scale ≡ scale
+  pub growth : found.growth.items ≡ []
+  pub one_each : length found.level_of.items ≡ 2
+  pub sound : AreSound found
+  pub has : parts_at found place ≡ parts
+  pub others : (flow : ℕ) → flow ≢ place → parts_at found flow ≡ None
+
+-- only the flow at that place keeps parts
+abbrev pub only_kept : ℕ → ℕ → ℕ → Option ℕ
+only_kept place parts flow = cond (flow == place) (Some parts) None

@@ -1,5 +1,5 @@
 -- The caps of two flows.
-use Rattle.std.specs.Prelude.{◌≡◌, ℕ, ◌+◌, ◌*◌, ◌≤◌, ◌⊎◌, Bool, cond, ◌&&◌, Option, Some, None, is_some, IfSome}
+use Rattle.std.specs.Prelude.{◌≡◌, ℕ, ◌+◌, ◌-◌, ◌*◌, ◌≤◌, ◌⊎◌, Bool, cond, ◌&&◌, Option, Some, None, is_some, IfSome}
 use Rattle.std.specs.Prelude.{option_map, unwrap_or}
 use Rattle.std.specs.declared.cmp.Ordering.{Ordering}
 use Rattle.fair_rates.specs.Sides.Alone.{least_of, ingress_of}
@@ -79,3 +79,8 @@ IsSharing caps (Evenly both) = ShareEvenly caps both
 -- so many times a rate
 abbrev pub times_rate : ℕ → Option ℕ → Option ℕ
 times_rate scale rate = option_map (λ n. scale * n) rate
+
+-- what one of the flows may have beside the other, which keeps so many parts
+abbrev pub rate_beside_of : Option ℕ → Option ℕ → ℕ → ℕ → Option ℕ
+rate_beside_of own both kept scale =
+    least_of (times_rate scale own) (option_map (λ cap. scale * cap - kept) both)

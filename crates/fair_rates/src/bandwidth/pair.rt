@@ -2,10 +2,10 @@
 ghost use Rattle.std.specs.Prelude.{◌≡◌, ◌*◌, ◌<◌, ◌≤◌, ◌∷◌, [], IfOk, IfSome, MatchOption, Some};
 ghost use Rattle.fair_rates.specs.Sides.Ends.{answered_for};
 ghost use Rattle.fair_rates.specs.Sides.Pair.{egress_caps_of, ingress_caps_of, link_caps_of, pair_caps_of, least_caps};
-ghost use Rattle.fair_rates.specs.Sides.Pair.{AreHeldTo, IsSharing, times_rate};
+ghost use Rattle.fair_rates.specs.Sides.Pair.{AreHeldTo, IsSharing, times_rate, rate_beside_of};
 ghost use Rattle.fair_rates.specs.Sides.Subjects.{sides_of};
-ghost use Rattle.fair_rates.specs.Filling.FairParts.{AreFairPartsOn};
-ghost use Rattle.fair_rates.specs.Filling.Pair.{ArePairParts, ArePairHalves};
+ghost use Rattle.fair_rates.specs.Filling.FairParts.{AreFairPartsOn, AreFairPartsBeside};
+ghost use Rattle.fair_rates.specs.Filling.Pair.{ArePairParts, ArePairHalves, ArePartsOfOne, only_kept};
 
 use crate::bandwidth::alone::{ingress_cap, least};
 use crate::bandwidth::filling::share::whole_share;
@@ -206,4 +206,80 @@ pub(crate) fn fair_parts_of_two<P: Peer, C: KnownCaps<P>>(
         Sharing::Apart(first, second) => parts_apart(alloc, first, second, scale),
         Sharing::Evenly(both) => parts_evenly(alloc, both, scale),
     }
+}
+
+/// What one of two flows may have beside the other, which keeps so many parts.
+fn rate_beside(
+    own: Option<u128>,
+    both: Option<u128>,
+    kept: &Natural,
+    scale: &Natural,
+) -> Result<Option<Natural>, AllocError>
+    ensures { IfOk result (λ rate. rate ≡ rate_beside_of own both kept.now scale.now) }
+{
+    let own = match own {
+        Some(cap) => Some(scale.product(cap)?),
+        None => None,
+    };
+    let Some(both) = both else {
+        return Ok(own);
+    };
+    let mut rest = scale.product(both)?;
+    rest.subtract(kept);
+    match own {
+        Some(own) => Ok(Some(own.min(rest))),
+        None => Ok(Some(rest)),
+    }
+}
+
+/// The parts of two flows of which only the one at that place is rated.
+fn parts_of_one(
+    alloc: Global,
+    place: usize,
+    rate: Option<Natural>,
+    scale: &Natural,
+) -> Result<FairParts, AllocError>
+    requires { place < 2 }
+    ensures { IfOk result (ArePartsOfOne scale.now place rate) }
+{
+    let mut found = FairParts::new(alloc, 2, scale)?;
+    let Some(rate) = rate else {
+        return Ok(found);
+    };
+    found.freeze(&[place], rate)?;
+    Ok(found)
+}
+
+/// The fair rate of the first of two flows beside the second, which keeps so many parts.
+pub(crate) fn first_beside<P: Peer, C: KnownCaps<P>>(
+    alloc: Global,
+    one: &Ends<P>,
+    other: &Ends<P>,
+    caps: &C,
+    kept: &Natural,
+    scale: &Natural,
+) -> Result<FairParts, AllocError>
+    ensures { IfOk result (AreFairPartsBeside (sides_of P.cmp (answered_for (C.caps caps.now) one.now
+        ∷ answered_for (C.caps caps.now) other.now ∷ [])) (only_kept 1 kept.now) 2 scale.now) }
+{
+    let least = pair_caps(one, other, caps);
+    let rate = rate_beside(least.first, least.both, kept, scale)?;
+    parts_of_one(alloc, 0, rate, scale)
+}
+
+/// The fair rate of the second of two flows beside the first, which keeps so many parts.
+pub(crate) fn second_beside<P: Peer, C: KnownCaps<P>>(
+    alloc: Global,
+    one: &Ends<P>,
+    other: &Ends<P>,
+    caps: &C,
+    kept: &Natural,
+    scale: &Natural,
+) -> Result<FairParts, AllocError>
+    ensures { IfOk result (AreFairPartsBeside (sides_of P.cmp (answered_for (C.caps caps.now) one.now
+        ∷ answered_for (C.caps caps.now) other.now ∷ [])) (only_kept 0 kept.now) 2 scale.now) }
+{
+    let least = pair_caps(one, other, caps);
+    let rate = rate_beside(least.second, least.both, kept, scale)?;
+    parts_of_one(alloc, 1, rate, scale)
 }

@@ -1,4 +1,4 @@
-use Rattle.std.proofs.Common.{◌≡◌, ◌*◌, ◌<◌, ◌∙◌, All, ap, sym, subst, arith}
+use Rattle.std.proofs.Common.{◌*◌, ◌<◌, ◌∙◌, All, ap, sym, subst, arith}
 use Rattle.std.proofs.lemmas.List.Elements.{All-nil}
 use Rattle.fair_rates.specs.Fairness.Exists.{product}
 use Rattle.fair_rates.proofs.Filling.Pair.{halved}
