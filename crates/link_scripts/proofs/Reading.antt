@@ -1,18 +1,19 @@
 -- What a bounded read up to the end byte gives.
-use Rattle.std.proofs.Common.{◌≡◌, ◌≢◌, ℕ, ◌-◌, ◌<◌, ◌≤◌, suc, Bool, true, false, cond, eqb, List, [], ◌∷◌, ◌++◌}
+use Rattle.std.proofs.Common.{◌≡◌, ◌≢◌, ℕ, ◌+◌, ◌-◌, ◌<◌, ◌≤◌, suc, Bool, true, false, cond, eqb, List, [], ◌∷◌, ◌++◌}
 use Rattle.std.proofs.Common.{length, get_or, take, drop, refl, sym, ap, ◌∙◌, subst, arith, append_assoc, length-append}
-use Rattle.std.proofs.Common.{length-take, take-append-drop, Option, None, Some, ⊎_elim}
+use Rattle.std.proofs.Common.{length-take, take-append-drop, eq-eqb, Option, None, Some, ⊎_elim}
 use Rattle.std.proofs.lemmas.Bool.{cases_lt}
 use borrow.Author.Tests.{eqb-true}
-use Rattle.std.specs.List.{All}
+use Rattle.std.specs.List.{All, Contains}
 use Rattle.std.specs.Io.{StopsAt}
 use Rattle.std.specs.Io.BufRead.{take_through, drop_through}
 use Rattle.std.specs.Io.KnownBytes.{prepend_known}
-use Rattle.std.specs.Option.{IfSome, option_map}
-use Rattle.std.proofs.lemmas.List.{take_all, take_at, get_or_default, get_or-take}
+use Rattle.std.specs.Option.{IfSome, IfNone, option_map}
+use Rattle.std.proofs.lemmas.List.{take_all, take_at, drop_more, get_or_default, get_or-take}
+use Rattle.memchr.specs.Find.{IsFirstByte, is_byte}
 use Rattle.link_scripts.specs.declared.linkrun.line.LineEnd.{LineEnd}
 use Rattle.link_scripts.specs.declared.linkrun.line.LineEnd.TheVariants.{Newline, Input, TooLong}
-use Rattle.link_scripts.specs.Lines.{LacksEndByte, IsFrontOf, IsCut}
+use Rattle.link_scripts.specs.Lines.{LacksEndByte, IsFrontOf, IsCut, IsLineAhead}
 
 -- the last of some bytes, or 0
 last : List ℕ → ℕ
@@ -104,6 +105,33 @@ module _ (bytes read line : List ℕ) (is_read : read ≡ take_through 10 (take 
   front_of_long Input cut =
       (_, read_in_front ∙ ap (λ front. front ++ (drop_through 10 (take 257 bytes) ++ drop 257 bytes)) (sym cut.0))
   front_of_long TooLong cut = absurd cut
+
+-- the line in front of the first end byte
+pub first_line : (bytes : List ℕ) (found : Option ℕ) → IsFirstByte (is_byte 10) bytes found
+    → IfSome found (IsLineAhead bytes)
+first_line bytes None none = tt
+first_line bytes (Some n) (first, end) =
+    record {
+      within = first.high;
+      one_line = λ k d low.
+          let below : k < n = omega (arith, low, length-take n bytes) in
+          λ is. first.before k (omega arith) below
+          (eq-eqb (get_or bytes k 0) 10
+          (sym (get_or-take n bytes k 0 below) ∙ sym (get_or_default (take n bytes) k d 0 low) ∙ is));
+      cut =
+          sym (take-append-drop n bytes)
+          ∙ ap (λ rest. take n bytes ++ rest)
+          (drop_more bytes n 0 first.high
+          ∙ ap (λ b. b ∷ drop (n + 1) bytes) (eqb-true (get_or bytes n 0) 10 end));
+    }
+
+-- where no end byte is found there is none
+pub no_line : (bytes : List ℕ) (found : Option ℕ) → IsFirstByte (is_byte 10) bytes found
+    → IfNone found (¬ (Contains bytes 10))
+no_line bytes None none =
+    λ at. none at.0 (omega arith) at.1
+    (eq-eqb (get_or bytes at.0 0) 10 (sym (get_or_default bytes at.0 10 0 at.1) ∙ at.2))
+no_line bytes (Some n) first = tt
 
 -- ---- where the bytes may not be known
 

@@ -1,6 +1,6 @@
 -- How a line is read from the bytes of a script.
 use Rattle.std.specs.Prelude.{◌≡◌, ◌≢◌, ℕ, ◌<◌, ◌≤◌, List, ◌∷◌, ◌++◌, [], All, length, slice_index}
-use Rattle.std.specs.Prelude.{◌-◌, ◌⊎◌}
+use Rattle.std.specs.Prelude.{◌-◌, ◌+◌, ◌⊎◌, take, drop}
 use Rattle.std.specs.Io.Buffered.{reader_inner, reader_buffer, writer_buffer}
 use Rattle.std.specs.declared.io.buffered.BufReader.{BufReader}
 use Rattle.std.specs.declared.io.buffered.BufWriter.{BufWriter}
@@ -36,3 +36,9 @@ IsTaken old line new = (reader_inner new ≡ reader_inner old) × (reader_buffer
 -- the reader behind was not asked, or all that was written before went on to the writer behind
 abbrev pub AsksAfterWriting : {R W A B : Type 0} → BufReader R A → BufReader R A → BufWriter W B → Type 0
 AsksAfterWriting old new output = (reader_inner new ≡ reader_inner old) ⊎ (writer_buffer output ≡ [])
+
+-- a line of n bytes and its end byte stand in front of the bytes
+pub record IsLineAhead (bytes : List ℕ) (n : ℕ) : Type 0 where
+  pub within : n < length bytes
+  pub one_line : LacksEndByte (take n bytes)
+  pub cut : bytes ≡ take n bytes ++ 10 ∷ drop (n + 1) bytes

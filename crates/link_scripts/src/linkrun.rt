@@ -122,10 +122,11 @@ fn run_lines<R: Read, W: Write + Drop>(
     let mut number = 0u64;
     for _ in 0..u128::MAX {
         number = number.saturating_add(1);
-        if !line::is_ahead(input) {
+        let ahead = line::length_ahead(input);
+        if ahead.is_none() {
             gathered.send(session, output)?;
         }
-        let end = line::next_line(input, output, line)?;
+        let end = line::next_line(input, ahead, output, line)?;
         if end == LineEnd::TooLong {
             return Ok(Outcome::BadLine(number));
         }

@@ -1,5 +1,5 @@
 //! The commands of a script.
-ghost use Rattle.std.specs.Prelude.{◌≡◌, ◌↔◌, ◌∷◌, Some, codes};
+ghost use Rattle.std.specs.Prelude.{◌≡◌, ◌≢◌, ◌↔◌, ◌∷◌, Some, codes};
 ghost use Rattle.link_scripts.specs.Script.{Takes, line_of, command_words, flow_words, IsCommandInRange};
 ghost use Rattle.link_scripts.specs.Script.{IsFlowInRange};
 ghost use Rattle.link_scripts.specs.Words.{words_left};
@@ -49,21 +49,24 @@ impl Command {
         }
     }
 
-    /// Takes the words of a command.
+    /// Takes the words of a command. The most frequent one is looked for first.
     fn take(words: &mut Words<'_>) -> Option<Command>
         ensures { Takes command_words IsCommandInRange (words_left words.old) result (words_left words.new) }
     {
-        let name = str::from_utf8(words.next()?).ok()?;
-        Command::take_named(name, words)
+        let name = words.next()?;
+        if name == b"enqueue".as_slice() {
+            return take_enqueue(words);
+        }
+        Command::take_named(str::from_utf8(name).ok()?, words)
     }
 
-    /// Takes the words of a command after its name. The most frequent ones are looked for first.
+    /// Takes the words of another command than `enqueue` after its name.
     fn take_named(name: &str, words: &mut Words<'_>) -> Option<Command>
+        requires { name.now ≢ codes "enqueue" }
         ensures { Takes command_words IsCommandInRange (name.now ∷ words_left words.old) result
             (words_left words.new) }
     {
         match name {
-            "enqueue" => take_enqueue(words),
             "advance" => Some(Command::Schedule(Call::Advance {
                 now: words.number()?,
             })),

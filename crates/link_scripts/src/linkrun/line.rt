@@ -1,9 +1,9 @@
 //! The lines of a script, read as a stream.
-ghost use Rattle.std.specs.Prelude.{◌≡◌, ◌+◌, ◌<◌, ◌⊎◌, ◌↔◌, [], ◌∷◌, ◌++◌, Contains, IsTrue, IfOk, IfSome, OnOk};
-ghost use Rattle.std.specs.Prelude.{length, take, drop};
+ghost use Rattle.std.specs.Prelude.{◌≡◌, ◌⊎◌, [], Contains, IfOk, IfSome, IfNone, OnOk, length};
 ghost use Rattle.std.specs.Io.Buffered.{reader_buffer, reader_remaining, writer_buffer, writer_contents};
 ghost use Rattle.std.specs.Io.KnownBytes.{Keeps};
 ghost use Rattle.link_scripts.specs.Lines.{IsLengthOf, LacksEndByte, IsFrontOf, IsCut, IsTaken, AsksAfterWriting};
+ghost use Rattle.link_scripts.specs.Lines.{IsLineAhead};
 
 use memchr::memchr;
 use std::io;
@@ -29,20 +29,25 @@ pub enum LineEnd {
     TooLong,
 }
 
-/// Whether the end byte of a line was read ahead.
-pub(crate) fn is_ahead<R: Read>(input: &BufReader<R>) -> bool
-    ensures { IsTrue result ↔ Contains (reader_buffer input.now) 10 }
+/// How many bytes the next line has, where its end byte was read ahead.
+#[tactic(auto, using(crate::proofs::Reading::first_line, crate::proofs::Reading::no_line))]
+pub(crate) fn length_ahead<R: Read>(input: &BufReader<R>) -> Option<usize>
+    ensures ahead { IfSome result (IsLineAhead (reader_buffer input.now)) }
+    ensures none { IfNone result (¬ (Contains (reader_buffer input.now) 10)) }
 {
-    input.buffer().contains(&NEWLINE)
+    memchr(NEWLINE, input.buffer())
 }
 
-/// Reads the next line as `read_line` does. Before the reader behind `input` is asked for more,
-/// which is where no whole line was read ahead, `output` is flushed.
+/// Reads the next line as `read_line` does. `ahead` is its length, where its end byte was read
+/// ahead. Before the reader behind `input` is asked for more, which is where no whole line was read
+/// ahead, `output` is flushed.
 pub(crate) fn next_line<R: Read, W: Write + Drop>(
     input: &mut BufReader<R>,
+    ahead: Option<usize>,
     output: &mut BufWriter<W>,
     line: &mut Vec<u8>,
 ) -> io::Result<LineEnd>
+    requires { IfSome ahead (IsLineAhead (reader_buffer input.old)) }
     ensures length { IfOk result (λ end. IsLengthOf end (length line.new.items)) }
     ensures one_line { IfOk result (λ _. LacksEndByte line.new.items) }
     ensures front { IfOk result (λ end. IfSome (reader_remaining R.remaining input.old)
@@ -52,7 +57,7 @@ pub(crate) fn next_line<R: Read, W: Write + Drop>(
     ensures written { AsksAfterWriting input.old input.new output.new }
     ensures contents { Keeps (writer_contents W.contents output.old) (writer_contents W.contents output.new) }
 {
-    if let Some(length) = length_ahead(input) {
+    if let Some(length) = ahead {
         if length <= MOST_BYTES {
             line.clear();
             line.extend_from_slice(&input.buffer()[..length])?;
@@ -62,16 +67,6 @@ pub(crate) fn next_line<R: Read, W: Write + Drop>(
     }
     output.flush()?;
     read_line(input, line)
-}
-
-/// How many bytes the next line has, where its end byte was read ahead.
-fn length_ahead<R: Read>(input: &BufReader<R>) -> Option<usize>
-    ensures within { IfSome result (λ n. n < length (reader_buffer input.now)) }
-    ensures one_line { IfSome result (λ n. LacksEndByte (take n (reader_buffer input.now))) }
-    ensures cut { IfSome result (λ n. reader_buffer input.now
-        ≡ take n (reader_buffer input.now) ++ 10 ∷ drop (n + 1) (reader_buffer input.now)) }
-{
-    memchr(NEWLINE, input.buffer())
 }
 
 /// Reads the next line, without its end byte, in the place of what `line` held. It takes memory
