@@ -54,7 +54,7 @@ loop-call-preserved g c =
     c.answer.ensures.reply)
 
 -- all calls are replied to by the event rule, and come at moments
-replied : (g : _) (c : goal.Joined-state-6 g)
+replied : (g : _) (c : goal.Joined-state-7 g)
     → Obeyed g.P.Ord.cmp (new_planned 0) (map call_of c.args.calls.now) (map reply_of c.loop-call.replies.items)
     × InTime (map call_of c.args.calls.now)
 replied g c =
@@ -64,7 +64,7 @@ replied g c =
     (subst (λ n. n ≤ c.loop-call.call-index) (sym (length-map c.args.calls.now call_of)) c.loop-call-test.false)
 
 -- and so they are those of the simulation
-agreed : (g : _) (c : goal.Joined-state-6 g)
+agreed : (g : _) (c : goal.Joined-state-7 g)
     → Agrees g.P.Ord.cmp (new_world 0) (map call_of c.args.calls.now) (map reply_of c.loop-call.replies.items)
 agreed g c =
     obeyed_agree g.P.Ord.cmp g.met.P.Ord.total (map call_of c.args.calls.now) (map reply_of c.loop-call.replies.items)
