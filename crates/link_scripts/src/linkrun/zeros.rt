@@ -11,8 +11,14 @@ use link_scheduler::replay::Call;
 use link_scheduler::transmitter::Outgoing;
 use std::alloc::Global;
 
-/// As many zero bytes as the longest message so far. Each message sees a part of them, so a
-/// script of many long messages takes the memory of one.
+/// How many zero bytes the program holds.
+const HELD: usize = 1 << 20;
+
+/// Zero bytes of the program itself. They take no time to make, and no memory while no one reads them.
+static ZEROS: [u8; HELD] = [0; HELD];
+
+/// Those of the program, or as many zero bytes as the longest message so far, where that is longer.
+/// Each message sees a part of them, so a script of many long messages takes the memory of one.
 #[derive(Drop)]
 pub struct Zeros {
     bytes: Bytes,
@@ -20,10 +26,10 @@ pub struct Zeros {
 }
 
 impl Zeros {
-    /// No bytes yet.
+    /// The bytes of the program.
     pub fn new() -> Zeros {
         Zeros {
-            bytes: Bytes::new(),
+            bytes: Bytes::from_static(&ZEROS),
         }
     }
 

@@ -76,6 +76,26 @@ fn messages_without_limits_are_done_at_once(rt: HostRuntime) {
     );
 }
 
+/// A mebibyte, one byte less and one more, and lengths that fall and rise, sent one by one and at once.
+#[test]
+fn messages_have_their_lengths(rt: HostRuntime) {
+    expect(
+        &rt,
+        b"enqueue 0 1 2 0 1048576 0 1\nenqueue 1 1 2 0 1048577 0 1\nenqueue 2 1 2 0 1048575 0 1\n\
+enqueue 3 1 2 0 3000000 0 1\nenqueue 4 1 2 0 2000000 0 1\n",
+        "done 1 2 0 1048576 0\ndone 1 2 0 1048577 1\ndone 1 2 0 1048575 2\n\
+done 1 2 0 3000000 3\ndone 1 2 0 2000000 4\n",
+        Outcome::Whole,
+    );
+    expect(
+        &rt,
+        b"enqueue 0 1 2 0 1048577 0 1\nenqueue 0 1 3 0 4000000 0 1\nenqueue 0 1 4 0 1048576 0 1\n\
+enqueue 0 1 5 0 0 0 1\n",
+        "done 1 2 0 1048577 0\ndone 1 3 0 4000000 0\ndone 1 4 0 1048576 0\ndone 1 5 0 0 0\n",
+        Outcome::Whole,
+    );
+}
+
 #[test]
 fn a_message_that_is_too_long_is_a_bad_line(rt: HostRuntime) {
     expect_silence(&rt, "enqueue 0 1 2 0 67108865 0 1", Outcome::BadLine(1));
