@@ -13,6 +13,7 @@ pub mod Floors
 pub mod InFlight
 pub mod Joining
 pub mod Leaving
+pub mod Listed
 pub mod Near
 pub mod Places
 pub mod Rated
