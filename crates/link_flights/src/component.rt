@@ -399,8 +399,9 @@ impl<P: Peer> Flights<P> {
         ensures refused { IfErr result (λ e. e ≡ Error.OutOfMemory) }
     {
         let mut from = 0;
+        let mut place = 0;
         while let Some(at) = self.next_sharing(message, from) {
-            list(near, at)?;
+            place = list(near, place, at)?;
             from = at + 1;
         }
         Ok(())
@@ -487,21 +488,23 @@ impl<P: Peer> Flights<P> {
     }
 }
 
-/// The place is listed from now on, among those that are.
-fn list(places: &mut Vec<usize>, at: usize) -> Result<(), Error>
+/// The place is listed from now on, among those that are. If these are in order, and those before
+/// `from` are less, it stands in order, too: at the place that is answered.
+fn list(places: &mut Vec<usize>, from: usize, at: usize) -> Result<usize, Error>
     ensures here { OnOk result (Contains places.new.items at) }
     ensures others { OnOk result (AreStillListed places.old.items places.new.items) }
     ensures refused { IfErr result (λ e. e ≡ Error.OutOfMemory) }
 {
-    match places.last() {
-        Some(last) if at <= *last => {
-            if let Err(to) = places.binary_search(&at) {
-                places.insert(to, at)?;
-            }
-        }
-        _ => places.push(at)?,
+    let mut place = from.min(places.len());
+    while place < places.len() && places[place] < at {
+        place += 1;
     }
-    Ok(())
+    if place == places.len() {
+        places.push(at)?;
+    } else if places[place] != at {
+        places.insert(place, at)?;
+    }
+    Ok(place)
 }
 
 /// The less of two parts, where there are any.

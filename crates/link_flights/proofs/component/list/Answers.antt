@@ -3,7 +3,7 @@ use Rattle.link_flights.specs.Flights.Components.{AreStillListed}
 use Rattle.link_flights.proofs.Flights.Search.{still_with_one}
 use Rattle.link_flights.proofs.component.list.Goals as goal
 
-pub returns-in_ok-insert-in-Some-clause-others : goal.returns-in_ok-insert-in-Some-clause-others
-returns-in_ok-insert-in-Some-clause-others c =
-    subst (AreStillListed c.args.places.now.items) (sym c.in_ok-insert-in-Some.ensures.items)
-    (still_with_one c.args.places.now.items c.in-Err.to c.args.at)
+pub returns-in_ok-insert-clause-others : goal.returns-in_ok-insert-clause-others
+returns-in_ok-insert-clause-others c =
+    subst (AreStillListed c.args.places.now.items) (sym c.in_ok-insert.ensures.items)
+    (still_with_one c.args.places.now.items c.loop-place.place c.args.at)
