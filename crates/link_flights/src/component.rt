@@ -386,8 +386,7 @@ impl<P: Peer> Flights<P> {
         ensures refused { IfErr result (λ e. e ≡ Error.OutOfMemory) }
     {
         for number in first..component.joined.len() {
-            let message = component.joined[number].clone()?;
-            self.list_sharing(&message, &mut component.near)?;
+            self.list_sharing(&component.joined[number], &mut component.near)?;
         }
         Ok(())
     }

@@ -24,7 +24,7 @@ loop-number-preserved g c =
       listed = all_listed_more cmp list mid.joined.items c.loop-number.number mid.near.items after so_far.listed
           inside c.index.result.now c.index.ensures
           (subst (λ (m : Message g.row.P.Denot). AreListed cmp m after list)
-          (c.deref.ensures ∙ c.in_ok-message.ensures.cases) c.in_ok-list_sharing.ensures.listed)
+          c.deref.ensures c.in_ok-list_sharing.ensures.listed)
           c.in_ok-list_sharing.ensures.more;
       joined = so_far.joined;
       level = so_far.level;
