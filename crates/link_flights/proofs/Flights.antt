@@ -15,6 +15,7 @@ pub mod Joining
 pub mod Leaving
 pub mod Listed
 pub mod Near
+pub mod Passed
 pub mod Places
 pub mod Rated
 pub mod RatesGiven
