@@ -13,7 +13,9 @@ pub mod Floors
 pub mod InFlight
 pub mod Joining
 pub mod Leaving
+pub mod Listed
 pub mod Near
+pub mod Passed
 pub mod Places
 pub mod Rated
 pub mod RatesGiven

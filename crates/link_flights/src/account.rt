@@ -1,19 +1,19 @@
 //! What is in flight, accounted for at a moment.
-ghost use Rattle.std.specs.Prelude.{◌≡◌, ◌≢◌, ℕ, ◌+◌, ◌<◌, ◌≤◌, true};
+ghost use Rattle.std.specs.Prelude.{◌≡◌, ◌≢◌, ℕ, ◌+◌, ◌<◌, ◌≤◌, true, false};
 ghost use Rattle.std.specs.Prelude.{length, slice_index_or, IfOk, IfErr, OnOk};
 ghost use Rattle.std.specs.List.{remove, AllZip};
 ghost use Rattle.std.specs.declared.rc.Rc.{Rc as AnyRc};
 ghost use Rattle.std.specs.declared.alloc.Global.{Global as Allocator};
 ghost use Rattle.link_flights.specs.declared.flight.Flight.{Flight as AnyFlight};
 ghost use Rattle.link_flights.specs.Flights.Flight.{flight_at, has_come, AreTimed, DrainsTo};
-ghost use Rattle.link_flights.specs.Flights.InFlight.{in_flight, in_units, IsNextPlace};
+ghost use Rattle.link_flights.specs.Flights.InFlight.{in_flight, in_units, IsNextPlace, PassesNowhere, or_end};
 ghost use Rattle.link_flights.specs.Flights.Rated.{ArePartedBy, is_out, are_limited, rated_ones};
 ghost use Rattle.link_flights.specs.Flights.Rated.{IsFloorOf, IsNoMore};
 ghost use Rattle.link_pairs.specs.Pairs.Messages.{message_of, messages};
 ghost use Rattle.link_pairs.specs.Pairs.CapsOf.{caps_of};
 ghost use Rattle.link_simulation.specs.Simulation.Rates.{is_unlimited as is_free};
 
-use crate::flight_list::Flights;
+use crate::flight_list::{Flights, Soonest};
 use fair_rates::error::Error;
 use fair_rates::peer::Peer;
 use link_pairs::known_pairs::Pairs;
@@ -157,33 +157,42 @@ impl<P: Peer> Flights<P> {
         } else {
             0
         };
-        while let Some(next) = self.next_done(at, peers, pairs, were_rated) {
+        let start = at;
+        let mut passed = Soonest::of_none();
+        while let Some(next) = self.next_done(at, peers, pairs, were_rated, &mut passed) {
             done.push_back(self.list[next].message.clone()?)?;
             self.lower_floor(next)?;
             self.remove(next);
             at = next;
         }
+        self.note_first(start == 0, passed);
         Ok(done)
     }
 
-    /// The first place from that one on at which a message is done, if there is one.
+    /// The first place from that one on at which a message is done, if there is one. Those that are
+    /// passed on the way are noted.
     fn next_done(
         &self,
         from: usize,
         peers: &Peers<P>,
         pairs: &Pairs<P>,
         were_rated: bool,
+        passed: &mut Soonest,
     ) -> Option<usize>
         requires limited { were_rated ≡ true → are_limited P.cmp (caps_of P.cmp peers.now.entries pairs.now.entries)
             (rated_ones (in_units self.now)) ≡ true }
         requires timed { were_rated ≡ true → AreTimed self.now.list.items }
         ensures next { IsNextPlace (λ one. is_out P.cmp (caps_of P.cmp peers.now.entries pairs.now.entries)
             self.now.scale (flight_at self.now.at one.value)) self.now.list.items from result }
+        ensures passed { (t : ℕ) → has_come t passed.new.finish ≡ false → (has_come t passed.old.finish ≡ false)
+            × PassesNowhere (λ one. has_come t one.value.finish) self.now.list.items from
+            (or_end result self.now.list.items) }
     {
         for at in from..self.list.len() {
             if self.is_done(at, peers, pairs, were_rated) {
                 return Some(at);
             }
+            passed.join(self.list[at].finish, at);
         }
         None
     }

@@ -4,13 +4,13 @@
 //! may get other rates, and so on from these. But a message whose rate is below a level goes on as it
 //! is, and passes nothing on: below the least rate of what is done, and below the least share that a
 //! cap leaves to each of its users with what is new, filling goes as it went before.
-ghost use Rattle.std.specs.Prelude.{◌≡◌, ◌<◌, ◌≤◌, ◌||◌, true, false, not, [], length};
-ghost use Rattle.std.specs.Prelude.{IfOk, IfErr, IfSome, OnOk, nat_le};
+ghost use Rattle.std.specs.Prelude.{◌≡◌, ◌<◌, ◌≤◌, ◌||◌, true, false, not, [], length, take};
+ghost use Rattle.std.specs.Prelude.{IfOk, IfErr, IfSome, OnOk, nat_le, Contains};
 ghost use Rattle.std.specs.List.{list_all, list_any};
 ghost use Rattle.fair_rates.specs.Sides.Subjects.{same_peer};
 ghost use Rattle.link_flights.specs.Flights.Components.{is_sender, is_receiver, keeps, is_of, has_both, touches};
 ghost use Rattle.link_flights.specs.Flights.Components.{is_closed, AreNear};
-ghost use Rattle.link_flights.specs.Flights.Components.{StartsWith, ArePassedOn, AreFlagged, AreAllFlagged};
+ghost use Rattle.link_flights.specs.Flights.Components.{StartsWith, AreStillListed, AreListed, AreAllListed};
 ghost use Rattle.link_flights.specs.Flights.Components.{AllNewTouch, AreSuited, place_of};
 ghost use Rattle.link_flights.specs.Flights.Components.{share_an_end as share_end};
 ghost use Rattle.link_flights.specs.Flights.Flight.{flight_at};
@@ -31,6 +31,9 @@ use std::rc::Rc;
 /// So many messages a component may join. Where there are more, it pays to rate all that is in flight.
 const MOST_JOINED: usize = 20;
 
+/// So many in flight a component may have an end of.
+const MOST_NEAR: usize = 64;
+
 /// The senders and the receivers of some messages, or all of them. A message in flight whose rate is
 /// below the level goes on as it is.
 #[derive(Drop)]
@@ -46,14 +49,14 @@ pub(crate) struct Component<P> {
 }
 
 impl<P: Peer> Component<P> {
-    fn new(alloc: Global, level: Natural) -> Component<P>
+    /// No sender, no receiver, and no level.
+    fn new(alloc: Global) -> Component<P>
         ensures part { result.whole ≡ false }
-        ensures level { result.level ≡ level }
         ensures joined { result.joined.items ≡ [] }
     {
         Component {
             whole: false,
-            level,
+            level: Natural::from_u64(alloc, 0),
             joined: Vec::new(alloc),
             near: Vec::new(alloc),
         }
@@ -129,6 +132,7 @@ impl<P: Peer> Component<P> {
     /// Takes in the ends of the message.
     fn join(&mut self, message: &Rc<Message<P>>) -> Result<(), Error>
         ensures joined { OnOk result (StartsWith self.old.joined.items self.new.joined.items) }
+        ensures near { self.new.near.items ≡ self.old.near.items }
         ensures level { self.new.level ≡ self.old.level }
         ensures whole { self.new.whole ≡ self.old.whole }
         ensures refused { IfErr result (λ e. e ≡ Error.OutOfMemory) }
@@ -143,7 +147,7 @@ impl<P: Peer> Component<P> {
     fn is_large(&self) -> bool
         ensures { result ≡ false → length self.now.joined.items ≤ MOST_JOINED }
     {
-        self.joined.len() > MOST_JOINED
+        self.joined.len() > MOST_JOINED || self.near.len() > MOST_NEAR
     }
 
     /// Whether it has both ends of each of the messages.
@@ -179,6 +183,25 @@ fn share_an_end<P: Peer>(one: &Message<P>, other: &Message<P>) -> bool
     one.origin.cmp(&other.origin).is_eq() || one.recipient.cmp(&other.recipient).is_eq()
 }
 
+/// How many go from the sender of a message, and how many to its receiver.
+#[derive(Drop)]
+struct Sharing {
+    sent: u64,
+    received: u64,
+}
+
+impl Sharing {
+    /// Counts one more, if it shares an end with the message.
+    fn count<P: Peer>(&mut self, message: &Message<P>, one: &Message<P>) {
+        if message.origin.cmp(&one.origin).is_eq() {
+            self.sent = self.sent.saturating_add(1);
+        }
+        if message.recipient.cmp(&one.recipient).is_eq() {
+            self.received = self.received.saturating_add(1);
+        }
+    }
+}
+
 /// The less of two levels. The first may be missing.
 fn lesser(one: Option<Natural>, other: Natural) -> Natural
     ensures no_more { IfSome one (λ level. result ≤ level) }
@@ -208,14 +231,11 @@ impl<P: Peer> Flights<P> {
             AreNear P.cmp component component.near.items self.now.list.items)) }
         ensures refused { IfErr result (λ e. e ≡ Error.OutOfMemory) }
     {
-        let level = self.level(peers, pairs)?;
-        let mut component = Component::new(self.alloc, level);
+        let mut component = Component::new(self.alloc);
         self.join_touched(done, &mut component)?;
-        let Some(flags) = self.grow(&mut component)? else {
+        if !self.grow(&mut component, peers, pairs)? || !self.are_near(&component) {
             return Ok(None);
-        };
-        let near = self.near(&component, &flags)?;
-        component.near = near;
+        }
         if component.has_all(done) && self.new_touch(&component) && self.suits_near(&component) {
             return Ok(Some(component));
         }
@@ -225,7 +245,12 @@ impl<P: Peer> Flights<P> {
     /// A level below which what goes on keeps its rate: the least rate of what is done, or the least
     /// share of a cap for what is new, if that is less. It is no more than any of what is done had; the
     /// rest is a guess, which the rates that are found have to reach.
-    pub(crate) fn level(&self, peers: &Peers<P>, pairs: &Pairs<P>) -> Result<Natural, Error>
+    pub(crate) fn level(
+        &self,
+        component: &Component<P>,
+        peers: &Peers<P>,
+        pairs: &Pairs<P>,
+    ) -> Result<Natural, Error>
         ensures level { IfOk result (λ level. IfSome self.now.floor (λ floor. level ≤ floor)) }
         ensures refused { IfErr result (λ e. e ≡ Error.OutOfMemory) }
     {
@@ -234,7 +259,7 @@ impl<P: Peer> Flights<P> {
             None => None,
         };
         for at in self.settled..self.list.len() {
-            let share = self.share_of(&self.list[at].message, peers, pairs)?;
+            let share = self.share_of(&self.list[at].message, component, peers, pairs)?;
             level = Some(lesser(level, share));
         }
         Ok(level.unwrap_or(Natural::from_u64(self.alloc, 0)))
@@ -245,12 +270,13 @@ impl<P: Peer> Flights<P> {
     fn share_of(
         &self,
         message: &Message<P>,
+        component: &Component<P>,
         peers: &Peers<P>,
         pairs: &Pairs<P>,
     ) -> Result<Natural, Error>
         ensures refused { IfErr result (λ e. e ≡ Error.OutOfMemory) }
     {
-        let (sent, received) = self.count_sharing(message);
+        let Sharing { sent, received } = self.count_sharing(message, component);
         if sent <= 1 && received <= 1 {
             return Ok(Natural::from_u64(self.alloc, 0));
         }
@@ -263,19 +289,24 @@ impl<P: Peer> Flights<P> {
         Ok(least_part(share, link).unwrap_or(Natural::from_u64(self.alloc, 0)))
     }
 
-    /// How many in flight go from the sender of the message, and how many to its receiver.
-    fn count_sharing(&self, message: &Message<P>) -> (u64, u64) {
-        let mut sent = 0u64;
-        let mut received = 0u64;
-        for one in &self.list {
-            if message.origin.cmp(&one.message.origin).is_eq() {
-                sent = sent.saturating_add(1);
+    /// How many in flight share an end with the message. They are listed, or the component has all.
+    fn count_sharing(&self, message: &Message<P>, component: &Component<P>) -> Sharing {
+        let mut sharing = Sharing {
+            sent: 0,
+            received: 0,
+        };
+        if component.whole {
+            for one in &self.list {
+                sharing.count(message, &one.message);
             }
-            if message.recipient.cmp(&one.message.recipient).is_eq() {
-                received = received.saturating_add(1);
+        } else {
+            for at in &component.near {
+                if let Some(one) = self.list.get(*at) {
+                    sharing.count(message, &one.message);
+                }
             }
         }
-        (sent, received)
+        sharing
     }
 
     /// One of so many even parts of a cap, rounded down, in units. None where there is no cap.
@@ -309,54 +340,89 @@ impl<P: Peer> Flights<P> {
         Ok(())
     }
 
-    /// Takes in the ends of those in flight that the component's ends join, message by message, until
-    /// there are no more. Answers which of those in flight it may have an end of; or none where it is
+    /// Takes in the ends of those in flight that the component's ends join, until there are no more, and
+    /// lists the places of those of which it has an end. Answers whether all are listed: not where it is
     /// large.
-    fn grow(&self, component: &mut Component<P>) -> Result<Option<Vec<bool>>, Error>
-        ensures flagged { IfOk result (λ flags. IfSome flags (λ flags.
-            AreAllFlagged P.cmp component.new.joined.items flags.items self.now.list.items)) }
+    fn grow(
+        &self,
+        component: &mut Component<P>,
+        peers: &Peers<P>,
+        pairs: &Pairs<P>,
+    ) -> Result<bool, Error>
+        ensures listed { IfOk result (λ all. all ≡ true →
+            AreAllListed P.cmp component.new.joined.items component.new.near.items self.now.list.items) }
+        ensures level { IfOk result (λ all. all ≡ true → IfSome self.now.floor (λ floor. component.new.level ≤ floor)) }
+        ensures whole { component.new.whole ≡ component.old.whole }
+        ensures refused { IfErr result (λ e. e ≡ Error.OutOfMemory) }
+    {
+        if component.is_large() {
+            return Ok(false);
+        }
+        self.list_from(0, component)?;
+        component.level = self.level(component, peers, pairs)?;
+        let mut listed = 0;
+        while listed < component.joined.len() {
+            listed = component.joined.len();
+            self.join_near(component)?;
+            if component.is_large() {
+                return Ok(false);
+            }
+            self.list_from(listed, component)?;
+        }
+        Ok(true)
+    }
+
+    /// Lists the places of those in flight that share an end with one of the messages that are joined,
+    /// from that one on. Those of the others are listed.
+    fn list_from(&self, first: usize, component: &mut Component<P>) -> Result<(), Error>
+        requires first { first ≤ length component.old.joined.items }
+        requires others { AreAllListed P.cmp (take first component.old.joined.items) component.old.near.items
+            self.now.list.items }
+        ensures listed { OnOk result
+            (AreAllListed P.cmp component.new.joined.items component.new.near.items self.now.list.items) }
+        ensures joined { component.new.joined.items ≡ component.old.joined.items }
         ensures level { component.new.level ≡ component.old.level }
         ensures whole { component.new.whole ≡ component.old.whole }
         ensures refused { IfErr result (λ e. e ≡ Error.OutOfMemory) }
     {
-        let mut flags = vec![in self.alloc; false; self.list.len()]?;
-        let mut grown = 0;
-        while grown < component.joined.len() {
-            if component.is_large() {
-                return Ok(None);
-            }
-            let message = component.joined[grown].clone()?;
-            self.join_sharing(&message, component, &mut flags)?;
-            grown += 1;
+        for number in first..component.joined.len() {
+            self.list_sharing(&component.joined[number], &mut component.near)?;
         }
-        Ok(Some(flags))
+        Ok(())
     }
 
-    /// Flags those in flight that share an end with the message, and takes in the ends of those of
-    /// them that keep no rate.
-    fn join_sharing(
-        &self,
-        message: &Message<P>,
-        component: &mut Component<P>,
-        flags: &mut [bool],
-    ) -> Result<(), Error>
-        requires one_each { length flags.old ≡ length self.now.list.items }
-        ensures one_each { length flags.new ≡ length flags.old }
-        ensures flagged { OnOk result (AreFlagged P.cmp message.now flags.new self.now.list.items) }
-        ensures more { OnOk result (ArePassedOn flags.old flags.new) }
-        ensures joined { OnOk result (StartsWith component.old.joined.items component.new.joined.items) }
-        ensures level { component.new.level ≡ component.old.level }
-        ensures whole { component.new.whole ≡ component.old.whole }
+    /// Lists the places of those in flight that share an end with the message.
+    fn list_sharing(&self, message: &Message<P>, near: &mut Vec<usize>) -> Result<(), Error>
+        ensures listed { OnOk result (AreListed P.cmp message.now near.new.items self.now.list.items) }
+        ensures more { OnOk result (AreStillListed near.old.items near.new.items) }
         ensures refused { IfErr result (λ e. e ≡ Error.OutOfMemory) }
     {
         let mut from = 0;
+        let mut place = 0;
         while let Some(at) = self.next_sharing(message, from) {
-            let one = &self.list[at];
-            flags[at] = true;
-            if !component.keeps(one) {
-                component.join(&one.message)?;
-            }
+            place = list(near, place, at)?;
             from = at + 1;
+        }
+        Ok(())
+    }
+
+    /// Takes in the ends of those listed that keep no rate, as long as it is not large.
+    fn join_near(&self, component: &mut Component<P>) -> Result<(), Error>
+        ensures joined { OnOk result (StartsWith component.old.joined.items component.new.joined.items) }
+        ensures near { component.new.near.items ≡ component.old.near.items }
+        ensures level { component.new.level ≡ component.old.level }
+        ensures whole { component.new.whole ≡ component.old.whole }
+        ensures refused { IfErr result (λ e. e ≡ Error.OutOfMemory) }
+    {
+        for number in 0..component.near.len() {
+            if component.is_large() {
+                break;
+            }
+            if let Some(one) = self.list.get(component.near[number]) {
+                if !component.keeps(one) {
+                    component.join(&one.message)?;
+                }
+            }
         }
         Ok(())
     }
@@ -374,21 +440,24 @@ impl<P: Peer> Flights<P> {
         None
     }
 
-    /// The places of those in flight of which the component has an end, in order of start.
-    fn near(&self, component: &Component<P>, flags: &[bool]) -> Result<Vec<usize>, Error>
+    /// Whether the listed places are in order, and the component has an end of what stands at each.
+    fn are_near(&self, component: &Component<P>) -> bool
         requires part { component.now.whole ≡ false }
-        requires flagged { AreAllFlagged P.cmp component.now.joined.items flags.now self.now.list.items }
-        ensures near { IfOk result (λ near. AreNear P.cmp component.now near.items self.now.list.items) }
-        ensures refused { IfErr result (λ e. e ≡ Error.OutOfMemory) }
+        requires listed { AreAllListed P.cmp component.now.joined.items component.now.near.items self.now.list.items }
+        ensures { result ≡ true → AreNear P.cmp component.now component.now.near.items self.now.list.items }
     {
-        let mut near = Vec::new(self.alloc);
-        for at in 0..self.list.len() {
-            let one = &self.list[at];
-            if flags[at] && component.touches(&one.message) {
-                near.push(at)?;
+        let mut from = 0;
+        for at in &component.near {
+            let touched = match self.list.get(*at) {
+                Some(one) => component.touches(&one.message),
+                None => false,
+            };
+            if *at < from || !touched {
+                return false;
             }
+            from = *at + 1;
         }
-        Ok(near)
+        true
     }
 
     /// Whether the component has both ends of each of those near it that keeps no rate.
@@ -416,6 +485,25 @@ impl<P: Peer> Flights<P> {
         }
         true
     }
+}
+
+/// The place is listed from now on, among those that are. If these are in order, and those before
+/// `from` are less, it stands in order, too: at the place that is answered.
+fn list(places: &mut Vec<usize>, from: usize, at: usize) -> Result<usize, Error>
+    ensures here { OnOk result (Contains places.new.items at) }
+    ensures others { OnOk result (AreStillListed places.old.items places.new.items) }
+    ensures refused { IfErr result (λ e. e ≡ Error.OutOfMemory) }
+{
+    let mut place = from.min(places.len());
+    while place < places.len() && places[place] < at {
+        place += 1;
+    }
+    if place == places.len() {
+        places.push(at)?;
+    } else if places[place] != at {
+        places.insert(place, at)?;
+    }
+    Ok(place)
 }
 
 /// The less of two parts, where there are any.

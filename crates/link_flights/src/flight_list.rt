@@ -1,7 +1,7 @@
 //! The messages in flight.
 ghost use Rattle.std.specs.Prelude.{◌≡◌, ℕ, ◌<◌, ◌≤◌, [], ◌∷◌, ◌++◌, ◌||◌, ◌&&◌, ◌==◌, true, not};
 ghost use Rattle.std.specs.Prelude.{if◌then◌else◌};
-ghost use Rattle.std.specs.Prelude.{length, nat_le, slice_index_or, Some, IfSome, IfOk, IfErr, OnOk, OnErr};
+ghost use Rattle.std.specs.Prelude.{length, nat_le, slice_index_or, Some, None, IfSome, IfOk, IfErr, OnOk, OnErr};
 ghost use Rattle.std.specs.List.{list_all, list_any, AllZip};
 ghost use Rattle.std.specs.declared.rc.Rc.{Rc as AnyRc};
 ghost use Rattle.std.specs.declared.alloc.Global.{Global as Allocator};
@@ -182,6 +182,20 @@ impl<P: Peer> Flights<P> {
         Ok(())
     }
 
+    /// Notes the first finish of all, if all were looked at.
+    pub(crate) fn note_first(&mut self, all: bool, soonest: Soonest)
+        requires { all ≡ true → FinishFrom soonest.finish self.old.list.items }
+        ensures list { self.new.list.items ≡ self.old.list.items }
+        ensures scale { self.new.scale ≡ self.old.scale }
+        ensures at { self.new.at ≡ self.old.at }
+        ensures floor { self.new.floor ≡ self.old.floor }
+    {
+        if all {
+            self.first = soonest.finish;
+            self.front = soonest.place;
+        }
+    }
+
     /// Whether the one that stood in front has the first finish of all, or none finishes.
     fn is_front_first(&self) -> bool
         ensures finish { result ≡ true → (t : ℕ)
@@ -217,6 +231,35 @@ impl<P: Peer> Flights<P> {
             }
         }
         (first, front)
+    }
+}
+
+/// The first finish of some messages in flight, and where one stood that has it, as a guess.
+#[derive(Drop)]
+pub(crate) struct Soonest {
+    pub(crate) finish: Option<u64>,
+    pub(crate) place: usize,
+}
+
+impl Soonest {
+    /// That of none.
+    pub(crate) fn of_none() -> Soonest
+        ensures { result.finish ≡ None }
+    {
+        Soonest {
+            finish: None,
+            place: 0,
+        }
+    }
+
+    /// One more is among them, which stands at that place.
+    pub(crate) fn join(&mut self, finish: Option<u64>, at: usize)
+        ensures { self.new.finish ≡ earliest self.old.finish finish }
+    {
+        if comes_before(finish, self.finish) {
+            self.finish = finish;
+            self.place = at;
+        }
     }
 }
 

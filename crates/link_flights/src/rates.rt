@@ -215,7 +215,7 @@ impl<P: Peer> Flights<P> {
         }
         let mut all = Component::whole(self.alloc);
         if self.list.len() - self.settled <= FEW_NEW {
-            all.level = self.level(peers, pairs)?;
+            all.level = self.level(&all, peers, pairs)?;
         }
         Ok(all)
     }

@@ -1,23 +1,22 @@
 -- What an event touches, found one message in flight after another.
 use Rattle.std.proofs.Common.{◌≡◌, ℕ, zero, suc, ◌+◌, ◌<◌, ◌≤◌, Bool, true, false, ◌||◌, ◌⊎◌}
-use Rattle.std.proofs.Common.{inl, inr, List, [], ◌∷◌, ◌++◌, length, take, drop, get_or, cond, All, Some, refl}
+use Rattle.std.proofs.Common.{inl, inr, List, [], ◌∷◌, ◌++◌, length, take, drop, get_or, cond, All, Contains, Some, refl}
 use Rattle.std.proofs.Common.{sym, ap, ap₂, ◌∙◌, subst, arith, if◌then◌else◌}
-use Rattle.std.specs.Prelude.{slice_get, slice_index_or, slice_set}
+use Rattle.std.specs.Prelude.{slice_get, Option, IfSome}
 use Rattle.std.specs.Cmp.{IsTotalOrder}
-use Rattle.std.specs.List.{filter, list_all, list_any}
+use Rattle.std.specs.List.{filter, insert, list_all, list_any}
 use Rattle.std.specs.declared.cmp.Ordering.{Ordering}
 use Rattle.std.specs.declared.rc.Rc.{Rc}
 use Rattle.std.specs.declared.alloc.Global.{Global}
-use Rattle.std.proofs.lemmas.Bool.{cases_lt, false≢true, and_from}
+use Rattle.std.proofs.lemmas.Bool.{cases_lt, false≢true, and_from, or_cases}
 use Rattle.std.proofs.lemmas.Cmp.{eq_by_cmp_equiv}
 use Rattle.link_flights.proofs.Flights.InFlight.{filter_yes, filter_no}
-use Rattle.link_flights.proofs.Flights.Places.{places_more}
-use Rattle.std.proofs.lemmas.List.{length-take-le, append-nil, append_assoc, take_more, take_all, take-append-le}
-use Rattle.std.proofs.Math.Seq.{take-append_seam}
-use Rattle.std.proofs.lemmas.List.{length-set, get_or-set_same, get_or-set_other}
-use Rattle.std.proofs.lemmas.List.Elements.{All-more}
-use Rattle.std.proofs.lemmas.List.Folds.{list_all-map, list_any_none}
-use Rattle.std.proofs.lemmas.Option.{none-some, same_Some, get_or_from_slice_get}
+use Rattle.link_flights.proofs.Flights.Places.{or_first, or_second}
+use Rattle.std.proofs.lemmas.List.{append_assoc, take-append-drop}
+use Rattle.std.proofs.lemmas.List.Elements.{All-more, Contains-append_left, Contains-append_right}
+use Rattle.std.proofs.lemmas.List.Elements.{Contains-append_cases}
+use Rattle.std.proofs.lemmas.List.Folds.{list_all-map, Any-from_list_any}
+use Rattle.std.proofs.lemmas.Option.{none-some, same_Some, get_or_from_slice_get, slice_get_within}
 use Rattle.fair_rates.specs.Sides.Subjects.{same_peer}
 use Rattle.fair_rates.proofs.Lists.Booleans.{by_bool, first_of_both, second_of_both}
 use Rattle.fair_rates.proofs.Lists.Members.{In, in_map, in_filter, get_in, all_pass, all_passed}
@@ -27,9 +26,10 @@ use Rattle.link_flights.specs.declared.flight.Flight.{Flight}
 use Rattle.link_flights.specs.Flights.Flight.{UnitFlight, flight_at, flights_at, HaveRates}
 use Rattle.link_flights.specs.Flights.Components.{keeps, has_both, touches, suits, is_closed}
 use Rattle.link_flights.specs.Flights.Components.{AreNear, AreSuited, near_of, those_near, places_of}
-use Rattle.link_flights.specs.Flights.Components.{share_an_end, StartsWith, ArePassedOn, AreFlagged, AreAllFlagged}
+use Rattle.link_flights.specs.Flights.Components.{is_sender, is_receiver, share_an_end, StartsWith}
+use Rattle.link_flights.specs.Flights.Components.{AreStillListed, AreListed, AreAllListed}
 use Rattle.link_flights.specs.Flights.Components.{AllNewTouch}
-use Rattle.link_flights.specs.Flights.InFlight.{PassesNowhere}
+use Rattle.link_flights.specs.Flights.InFlight.{PassesNowhere, PassesFirstAt}
 
 -- ---- places
 
@@ -64,24 +64,26 @@ module _ {X : Type 0} where
   starts_on xs ys zs (more, e) (further, f) =
       (more ++ further, f ∙ ap (λ l. l ++ further) e ∙ append_assoc xs more further)
 
--- what is written over all of a list
-pub written_over : {X : Type 0} (n : ℕ) (new old : List X) → n ≡ length old → length new ≡ length old
-    → take n (new ++ drop (length new) old) ≡ new
-written_over n new old all as_many =
-    ap (λ k. take k (new ++ drop (length new) old)) (all ∙ sym as_many)
-    ∙ take-append_seam new (drop (length new) old)
-
-first_of_neither : (a b : Bool) → (a || b) ≡ false → a ≡ false
-first_of_neither true b h = h
-first_of_neither false b h = refl
-
-second_of_neither : (a b : Bool) → (a || b) ≡ false → b ≡ false
-second_of_neither true b h = cc
-second_of_neither false b h = h
-
 either : (a b : Bool) → b ≡ true → (a || b) ≡ true
 either true b h = refl
 either false b h = h
+
+-- what is listed stays where more comes to stand between
+pub still_with_one : (before : List ℕ) (to at : ℕ) → AreStillListed before (insert before to at)
+still_with_one before to at p is =
+    elim (Contains-append_cases (take to before) (drop to before) p
+    (subst (λ l. Contains l p) (sym (take-append-drop to before)) is)) [
+      | inl low ↦ Contains-append_left (take to before) (at ∷ drop to before) p low
+      | inr high ↦ Contains-append_right (take to before) (at ∷ drop to before) p
+          (Contains-append_right (at ∷ []) (drop to before) p high)
+    ]
+
+-- the component has joined more
+pub record HasJoined {P : Type 0} (old new : Component P) : Type 0 where
+  pub joined : StartsWith old.joined.items new.joined.items
+  pub near : new.near.items ≡ old.near.items
+  pub level : new.level ≡ old.level
+  pub whole : new.whole ≡ old.whole
 
 module _ {P : Type 0} (cmp : P → P → Ordering) where
   -- ---- an end of each of those that have come
@@ -91,148 +93,103 @@ module _ {P : Type 0} (cmp : P → P → Ordering) where
   AllTouchFrom component n end list = (at : ℕ) (one : Rc (Flight P) Global) → at < end
       → slice_get list at ≡ Some one → n ≤ at → touches cmp component one.value.message.value ≡ true
 
-  -- ---- flags
+  -- ---- places that are listed
 
-  -- those before a place that share an end with the message have flags now, and the component has grown
-  pub record HasFlagged (m : Message P) (list : List (Rc (Flight P) Global)) (at : ℕ) (before flags : List Bool)
-      (old new : Component P) : Type 0 where
-    pub one_each : length flags ≡ length before
-    pub flagged : (i : ℕ) (one : Rc (Flight P) Global) → i < at → slice_get list i ≡ Some one
-        → slice_index_or flags i true ≡ false → share_an_end cmp m one.value.message.value ≡ false
-    pub more : ArePassedOn before flags
-    pub joined : StartsWith old.joined.items new.joined.items
-    pub level : new.level ≡ old.level
-    pub whole : new.whole ≡ old.whole
+  -- those before a place that share an end with the message are listed, and so is what was listed before
+  pub record HasListed (m : Message P) (list : List (Rc (Flight P) Global)) (at : ℕ) (before near : List ℕ)
+      : Type 0 where
+    pub listed : (i : ℕ) (one : Rc (Flight P) Global) → i < at → slice_get list i ≡ Some one
+        → share_an_end cmp m one.value.message.value ≡ true → Contains near i
+    pub more : AreStillListed before near
 
-  module _ (m : Message P) (list : List (Rc (Flight P) Global)) (at : ℕ) (before flags : List Bool)
-      (old new : Component P) (so_far : HasFlagged m list at before flags old new) where
-    -- those from there on share no end, up to another place
-    pub passed_over : (to : ℕ) → PassesNowhere (λ one. share_an_end cmp m one.value.message.value) list at to
-        → HasFlagged m list to before flags old new
-    passed_over to apart = record {
-      one_each = so_far.one_each;
-      flagged = λ i one below there no. elim (cases_lt i at) [
-        | inl less ↦ so_far.flagged i one less there no
-        | inr past ↦ subst (λ (y : Rc (Flight P) Global). share_an_end cmp m y.value.message.value ≡ false)
-            (get_or_from_slice_get list i one one there) (apart i past below one)
-      ];
-      more = so_far.more;
-      joined = so_far.joined;
-      level = so_far.level;
-      whole = so_far.whole;
+  module _ (m : Message P) (list : List (Rc (Flight P) Global)) (from : ℕ) (before near : List ℕ)
+      (so_far : HasListed m list from before near) where
+    apart_there : (to : ℕ) → PassesNowhere (λ one. share_an_end cmp m one.value.message.value) list from to
+        → (i : ℕ) (one : Rc (Flight P) Global) → from ≤ i → i < to → slice_get list i ≡ Some one
+        → share_an_end cmp m one.value.message.value ≡ false
+    apart_there to apart i one low high there =
+        subst (λ (y : Rc (Flight P) Global). share_an_end cmp m y.value.message.value ≡ false)
+        (get_or_from_slice_get list i one one there) (apart i low high one)
+
+    -- one more is listed, the next that shares an end
+    pub listed_more : (at : ℕ) (next : List ℕ)
+        → PassesFirstAt (λ one. share_an_end cmp m one.value.message.value) list from at
+        → Contains next at → AreStillListed near next → HasListed m list (at + 1) before next
+    listed_more at next first here still = record {
+      listed = each_more (λ i (one : Rc (Flight P) Global).
+          share_an_end cmp m one.value.message.value ≡ true → Contains next i) list at
+          (λ i one below there shares. elim (cases_lt i from) [
+            | inl less ↦ still i (so_far.listed i one less there shares)
+            | inr past ↦ absurd (false≢true (sym (apart_there at first.before i one past below there) ∙ shares))
+          ])
+          (λ one there shares. here);
+      more = λ i is. still i (so_far.more i is);
     }
 
-    flag_at : (i : ℕ) → i ≡ at ⊎ (slice_index_or (slice_set flags at true) i true ≡ slice_index_or flags i true)
-    flag_at i = elim (cases_lt i at) [
-      | inl less ↦ inr (get_or-set_other flags at i true true (λ e. omega (arith, less, e)))
-      | inr past ↦ elim (cases_lt at i) [
-        | inl less ↦ inr (get_or-set_other flags at i true true (λ e. omega (arith, less, e)))
-        | inr from ↦ let same : i ≡ at = omega (arith, past, from) in inl same
-      ]
+    -- no other shares an end
+    pub listed_all : PassesNowhere (λ one. share_an_end cmp m one.value.message.value) list from (length list)
+        → AreListed cmp m near list
+    listed_all apart i one there shares = elim (cases_lt i from) [
+      | inl less ↦ so_far.listed i one less there shares
+      | inr past ↦ absurd (false≢true
+          (sym (apart_there (length list) apart i one past (slice_get_within list i one there) there) ∙ shares))
     ]
 
-    -- the one at the place has a flag now
-    pub flagged_here : at < length flags → HasFlagged m list (at + 1) before (slice_set flags at true) old new
-    flagged_here inside = record {
-      one_each = length-set flags at true ∙ so_far.one_each;
-      flagged = each_more (λ i (one : Rc (Flight P) Global). slice_index_or (slice_set flags at true) i true ≡ false
-          → share_an_end cmp m one.value.message.value ≡ false) list at
-          (λ i one below there no. so_far.flagged i one below there
-          (sym (get_or-set_other flags at i true true (λ e. omega (arith, below, e))) ∙ no))
-          (λ one there no. absurd (false≢true (sym no ∙ get_or-set_same flags at true true inside)));
-      more = λ i no. elim (flag_at i) [
-        | inl same ↦ absurd (false≢true (sym no
-            ∙ ap (λ k. slice_index_or (slice_set flags at true) k true) same
-            ∙ get_or-set_same flags at true true inside))
-        | inr kept ↦ so_far.more i (sym kept ∙ no)
-      ];
-      joined = so_far.joined;
-      level = so_far.level;
-      whole = so_far.whole;
-    }
-
-    -- the component has grown further
-    pub grown_on : (next : Component P) → StartsWith new.joined.items next.joined.items → next.level ≡ new.level
-        → next.whole ≡ new.whole → HasFlagged m list at before flags old next
-    grown_on next on level whole = record {
-      one_each = so_far.one_each;
-      flagged = so_far.flagged;
-      more = so_far.more;
-      joined = starts_on old.joined.items new.joined.items next.joined.items so_far.joined on;
-      level = level ∙ so_far.level;
-      whole = whole ∙ so_far.whole;
-    }
-
-  -- so many of the messages that are joined have flagged those that share an end with them
-  pub record HasGrown (list : List (Rc (Flight P) Global)) (grown : ℕ) (flags : List Bool)
-      (old new : Component P) : Type 0 where
-    pub one_each : length flags ≡ length list
-    pub flagged : All (λ m. AreFlagged cmp m.value flags list) (take grown new.joined.items)
+  -- so many of the messages that are joined have listed those that share an end with them
+  pub record HasListedUpTo (list : List (Rc (Flight P) Global)) (n : ℕ) (old new : Component P) : Type 0 where
+    pub listed : AreAllListed cmp (take n new.joined.items) new.near.items list
+    pub joined : new.joined.items ≡ old.joined.items
     pub level : new.level ≡ old.level
     pub whole : new.whole ≡ old.whole
 
-  still_flagged : (list : List (Rc (Flight P) Global)) (before after : List Bool) → ArePassedOn before after
-      → (ms : List (Rc (Message P) Global)) → All (λ m. AreFlagged cmp m.value before list) ms
-      → All (λ m. AreFlagged cmp m.value after list) ms
-  still_flagged list before after passed ms f k d below at one there unflagged =
-      f k d below at one there (passed at unflagged)
+  -- all that is joined has, and there is not much of it
+  pub record HasGrown (list : List (Rc (Flight P) Global)) (floor : Option ℕ) (old new : Component P) : Type 0 where
+    pub listed : AreAllListed cmp new.joined.items new.near.items list
+    pub few : length new.joined.items ≤ 20
+    pub level : IfSome floor (λ floor. new.level ≤ floor)
+    pub whole : new.whole ≡ old.whole
 
-  -- one message more
-  pub grown_more : (list : List (Rc (Flight P) Global)) (grown : ℕ) (before after : List Bool)
-      (old mid new : Component P) → HasGrown list grown before old mid → grown < length mid.joined.items
-      → (m : Rc (Message P) Global) → m ≡ get_or mid.joined.items grown m → length after ≡ length before
-      → AreFlagged cmp m.value after list → ArePassedOn before after
-      → StartsWith mid.joined.items new.joined.items → new.level ≡ mid.level → new.whole ≡ mid.whole
-      → HasGrown list (grown + 1) after old new
-  grown_more list grown before after old mid new so_far inside m is as_many flagged passed (more, on) level whole =
-      record {
-        one_each = as_many ∙ so_far.one_each;
-        flagged =
-            let ms = mid.joined.items in
-            subst (All (λ m. AreFlagged cmp m.value after list))
-            (sym (ap (take (grown + 1)) on ∙ take-append-le (grown + 1) ms more (omega (arith, inside))))
-            (All-more (λ m. AreFlagged cmp m.value after list) ms grown m inside
-            (still_flagged list before after passed (take grown ms) so_far.flagged)
-            (subst (λ (x : Rc (Message P) Global). AreFlagged cmp x.value after list) is flagged));
-        level = level ∙ so_far.level;
-        whole = whole ∙ so_far.whole;
-      }
+  pub still_listed : (list : List (Rc (Flight P) Global)) (before after : List ℕ) → AreStillListed before after
+      → (ms : List (Rc (Message P) Global)) → AreAllListed cmp ms before list → AreAllListed cmp ms after list
+  still_listed list before after still ms all k d below at one there shares =
+      still at (all k d below at one there shares)
 
-  pub all_grown : (list : List (Rc (Flight P) Global)) (grown : ℕ) (flags : List Bool) (old new : Component P)
-      → HasGrown list grown flags old new → length new.joined.items ≤ grown
-      → AreAllFlagged cmp new.joined.items flags list
-  all_grown list grown flags old new so_far whole = (
-    so_far.one_each,
-    subst (All (λ m. AreFlagged cmp m.value flags list)) (take_all grown new.joined.items whole) so_far.flagged,
-  )
+  -- those of so many of the messages are listed, and of one more
+  pub all_listed_more : (list : List (Rc (Flight P) Global)) (ms : List (Rc (Message P) Global)) (n : ℕ)
+      (before after : List ℕ) → AreAllListed cmp (take n ms) before list → n < length ms
+      → (m : Rc (Message P) Global) → m ≡ get_or ms n m → AreListed cmp m.value after list
+      → AreStillListed before after → AreAllListed cmp (take (n + 1) ms) after list
+  all_listed_more list ms n before after all inside m is listed still =
+      All-more (λ m. AreListed cmp m.value after list) ms n m inside
+      (still_listed list before after still (take n ms) all)
+      (subst (λ (x : Rc (Message P) Global). AreListed cmp x.value after list) is listed)
 
-  -- one that has no flag has no end in the component
-  module _ (order : IsTotalOrder cmp) (list : List (Rc (Flight P) Global)) (flags : List Bool) (at : ℕ)
-      (one : Rc (Flight P) Global) (there : slice_get list at ≡ Some one)
-      (unflagged : slice_index_or flags at true ≡ false) where
-    no_sender : (ms : List (Rc (Message P) Global)) → All (λ m. AreFlagged cmp m.value flags list) ms
-        → list_any (λ m. same_peer cmp one.value.message.value.origin m.value.origin) ms ≡ false
-    no_sender ms f = list_any_none (λ m. same_peer cmp one.value.message.value.origin m.value.origin) ms (λ k d below.
-        let m : Message P = (get_or ms k d).value in
-        (eq_by_cmp_equiv order).symm one.value.message.value.origin m.origin
-        ∙ first_of_neither (same_peer cmp m.origin one.value.message.value.origin)
-        (same_peer cmp m.recipient one.value.message.value.recipient) (f k d below at one there unflagged))
+  -- one of which the component has an end is listed
+  module _ (order : IsTotalOrder cmp) (list : List (Rc (Flight P) Global)) (near : List ℕ) (at : ℕ)
+      (one : Rc (Flight P) Global) (there : slice_get list at ≡ Some one) where
+    by_one : (test : Message P → Bool) (ms : List (Rc (Message P) Global)) → AreAllListed cmp ms near list
+        → ((m : Message P) → test m ≡ true → share_an_end cmp m one.value.message.value ≡ true)
+        → list_any (λ m. test m.value) ms ≡ true → Contains near at
+    by_one test ms all shares any =
+        let found = Any-from_list_any (λ m. test m.value) ms any in
+        subst (λ (m : Rc (Message P) Global). share_an_end cmp m.value one.value.message.value ≡ true → Contains near at)
+        found.3 (all found.0 found.1 found.2 at one there) (shares found.1.value found.4)
 
-    no_receiver : (ms : List (Rc (Message P) Global)) → All (λ m. AreFlagged cmp m.value flags list) ms
-        → list_any (λ m. same_peer cmp one.value.message.value.recipient m.value.recipient) ms ≡ false
-    no_receiver ms f = list_any_none (λ m. same_peer cmp one.value.message.value.recipient m.value.recipient) ms
-        (λ k d below.
-        let m : Message P = (get_or ms k d).value in
-        (eq_by_cmp_equiv order).symm one.value.message.value.recipient m.recipient
-        ∙ second_of_neither (same_peer cmp m.origin one.value.message.value.origin)
-        (same_peer cmp m.recipient one.value.message.value.recipient) (f k d below at one there unflagged))
-
-    pub untouched : (component : Component P) → component.whole ≡ false
-        → AreAllFlagged cmp component.joined.items flags list
-        → touches cmp component one.value.message.value ≡ false
-    untouched component part all = ap₂ (λ a b. a || b)
-        (ap₂ (λ a b. a || b) part (no_sender component.joined.items all.1))
-        (ap₂ (λ a b. a || b) part (no_receiver component.joined.items all.1))
+    pub touched_listed : (component : Component P) → component.whole ≡ false
+        → AreAllListed cmp component.joined.items near list
+        → touches cmp component one.value.message.value ≡ true → Contains near at
+    touched_listed component part all touched =
+        let m : Message P = one.value.message.value in
+        elim (or_cases (is_sender cmp component m.origin) (is_receiver cmp component m.recipient) touched) [
+          | inl sends ↦ by_one (λ n. same_peer cmp m.origin n.origin) component.joined.items all
+              (λ n same. or_first _ _ ((eq_by_cmp_equiv order).symm n.origin m.origin ∙ same))
+              (sym (ap (λ b. b || list_any (λ n. same_peer cmp m.origin n.value.origin) component.joined.items) part)
+              ∙ sends)
+          | inr receives ↦ by_one (λ n. same_peer cmp m.recipient n.recipient) component.joined.items all
+              (λ n same. or_second _ _ ((eq_by_cmp_equiv order).symm n.recipient m.recipient ∙ same))
+              (sym (ap (λ b. b || list_any (λ n. same_peer cmp m.recipient n.value.recipient) component.joined.items)
+              part) ∙ receives)
+        ]
 
   -- ---- those that are near
 
@@ -257,25 +214,6 @@ module _ {P : Type 0} (cmp : P → P → Ordering) where
         by_test false far ih =
             ap (flights_at now) (filter_no is_near f list far) ∙ ih
             ∙ sym (filter_no is_touched (flight_at now f.value) (flights_at now list) far)
-
-    -- one more place, after those that are near so far
-    module _ (list : List (Rc (Flight P) Global)) (at : ℕ) (one : Rc (Flight P) Global) (inside : at < length list)
-        (is : one ≡ get_or list at one) (near : List ℕ) (so_far : AreNear cmp component near (take at list)) where
-      near_with : places_of is_near 0 (take (at + 1) list) ≡ near ++ cond (is_near one) (at ∷ []) []
-      near_with =
-          ap (places_of is_near 0)
-          (take_more list at one inside ∙ ap (λ (x : Rc (Flight P) Global). take at list ++ x ∷ []) (sym is))
-          ∙ places_more is_near 0 (take at list) one
-          ∙ ap (λ l. l ++ cond (is_near one) ((0 + length (take at list)) ∷ []) []) (sym so_far)
-          ∙ ap (λ n. near ++ cond (is_near one) (n ∷ []) []) (omega (arith, length-take-le at list))
-
-      pub near_more : touches cmp component one.value.message.value ≡ true
-          → AreNear cmp component (near ++ at ∷ []) (take (at + 1) list)
-      near_more here = sym (near_with ∙ ap (λ b. near ++ cond b (at ∷ []) []) here)
-
-      pub near_still : touches cmp component one.value.message.value ≡ false
-          → AreNear cmp component near (take (at + 1) list)
-      near_still here = sym (near_with ∙ ap (λ b. near ++ cond b (at ∷ []) []) here ∙ append-nil near)
 
     -- ---- the test
 

@@ -86,7 +86,7 @@ module _ {X : Type 0} (test : X → Bool) where
       neither (test x) _ ((or_parts (test x) _ none).0) (none_without xs at ((or_parts (test x) _ none).1))
 
 -- none of two moments has come where the earlier one has not
-earlier_none : (a b : Option ℕ) (t : ℕ) → has_come t (earlier a b) ≡ false
+pub earlier_none : (a b : Option ℕ) (t : ℕ) → has_come t (earlier a b) ≡ false
     → (has_come t a ≡ false) × (has_come t b ≡ false)
 earlier_none None b t e = (refl, e)
 earlier_none (Some a) None t e = (e, refl)

@@ -1,7 +1,7 @@
 -- What an event touches: senders and receivers of messages in flight, and the level below which rates stay.
 use Rattle.std.specs.Prelude.{◌≡◌, ℕ, suc, ◌≤◌, nat_le, Bool, true, false, not, ◌&&◌, ◌||◌, [], ◌∷◌, cond}
 use Rattle.std.specs.Prelude.{if◌then◌else◌, List}
-use Rattle.std.specs.Prelude.{length, slice_get, slice_index, slice_index_or, Some, ◌++◌, All}
+use Rattle.std.specs.Prelude.{length, slice_get, slice_index, Some, ◌++◌, All, Contains}
 use Rattle.std.specs.List.{filter, list_all, list_any}
 use Rattle.std.specs.declared.cmp.Ordering.{Ordering}
 use Rattle.std.specs.declared.rc.Rc.{Rc}
@@ -90,20 +90,19 @@ module _ {P : Type 0} (cmp : P → P → Ordering) where
 abbrev pub StartsWith : {X : Type 0} → List X → List X → Type 0
 StartsWith {X} xs ys = (more : List X) × (ys ≡ xs ++ more)
 
--- what had a flag still has it
-abbrev pub ArePassedOn : List Bool → List Bool → Type 0
-ArePassedOn before after = (at : ℕ) → slice_index_or after at true ≡ false → slice_index_or before at true ≡ false
+-- the places that were listed still are
+abbrev pub AreStillListed : List ℕ → List ℕ → Type 0
+AreStillListed before after = (at : ℕ) → Contains before at → Contains after at
 
 module _ {P : Type 0} (cmp : P → P → Ordering) where
-  -- one in flight that has no flag shares no end with the message
-  abbrev pub AreFlagged : Message P → List Bool → List (Rc (Flight P) Global) → Type 0
-  AreFlagged m flags list = (at : ℕ) (one : Rc (Flight P) Global) → slice_get list at ≡ Some one
-      → slice_index_or flags at true ≡ false → share_an_end cmp m one.value.message.value ≡ false
+  -- each in flight that shares an end with the message is listed
+  abbrev pub AreListed : Message P → List ℕ → List (Rc (Flight P) Global) → Type 0
+  AreListed m near list = (at : ℕ) (one : Rc (Flight P) Global) → slice_get list at ≡ Some one
+      → share_an_end cmp m one.value.message.value ≡ true → Contains near at
 
-  -- nor with any of these messages; there is a place for the flag of each
-  abbrev pub AreAllFlagged : List (Rc (Message P) Global) → List Bool → List (Rc (Flight P) Global) → Type 0
-  AreAllFlagged joined flags list = (length flags ≡ length list)
-      × All (λ m. AreFlagged m.value flags list) joined
+  -- each that shares one with any of these messages
+  abbrev pub AreAllListed : List (Rc (Message P) Global) → List ℕ → List (Rc (Flight P) Global) → Type 0
+  AreAllListed joined near list = All (λ m. AreListed m.value near list) joined
 
   -- those that have come after so many have an end in the component
   abbrev pub AllNewTouch : Component P → ℕ → List (Rc (Flight P) Global) → Type 0

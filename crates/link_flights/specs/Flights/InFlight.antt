@@ -53,3 +53,8 @@ pub record PassesFirstAt {X : Type 0} (test : X → Bool) (xs : List X) (from at
 abbrev pub IsNextPlace : {X : Type 0} → (X → Bool) → List X → ℕ → Option ℕ → Type 0
 IsNextPlace test xs from None = PassesNowhere test xs from (length xs)
 IsNextPlace test xs from (Some at) = PassesFirstAt test xs from at
+
+-- a place, or the end of the list where there is none
+abbrev pub or_end : {X : Type 0} → Option ℕ → List X → ℕ
+or_end None xs = length xs
+or_end (Some at) xs = at

@@ -6,7 +6,7 @@ pub returns-then-suits_near-clause-closed : goal.returns-then-suits_near-clause-
 returns-then-suits_near-clause-closed g c =
     let cmp = g.P.Ord.cmp in
     let self = c.args.self.now in
-    closed_if_near cmp (record c.grow.new.component { near = c.in_ok-near.near }) c.args.done.now.items self.at
+    closed_if_near cmp c.grow.new.component c.args.done.now.items self.at
     self.settled self.list.items
     (sym c.has_all.ensures ∙ c.if-has_all.true) self.have_rates (c.new_touch.ensures c.if-new_touch.true)
     (c.suits_near.ensures c.if-suits_near.true)

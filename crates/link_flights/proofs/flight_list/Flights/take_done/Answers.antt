@@ -16,7 +16,9 @@ use Rattle.link_flights.proofs.Flights.Floors.{all_over, floor_so}
 use Rattle.link_flights.proofs.Flights.InFlight.{HaveLeft, none_left, within, step_leaves, steps_stay}
 use Rattle.link_flights.proofs.Flights.InFlight.{all_looked_at}
 use Rattle.link_flights.proofs.Flights.Leaving.{timed_without, flights_limited_without, parted_so}
+use Rattle.link_flights.proofs.Flights.Passed.{passed_on, passed_all}
 use Rattle.link_flights.proofs.Flights.Settled.{none_out}
+use Rattle.std.proofs.lemmas.Bool.{eqb-true}
 use Rattle.link_flights.proofs.flight_list.Flights.take_done.Goals as goal
 use Rattle.link_flights.proofs.flight_list.Flights.take_done.Goals.{
   then-were_rated+then-not-may_have_finished_by,
@@ -53,6 +55,7 @@ loop-next-init g c =
       λ h. h,
       over_stay out None old.list.items old.list.items 0 at (none_over out None old.list.items) (omega arith) stay.0
           stay.1,
+      λ t e i low high d. absurd (omega (arith, low, high)),
     )
 
 pub loop-next-preserved : goal.loop-next-preserved
@@ -99,7 +102,15 @@ loop-next-preserved g c =
           rw (list, c.remove.ensures.at, c.lower_floor.ensures.at)
           (flights_limited_without g.P.Ord.cmp caps now.at now.list.items at (h.4 all)),
       rw (list, c.remove.ensures.floor) over,
+      rw list
+          (passed_on c.loop-next.passed.finish c.next_done.new.passed.finish now.list.items c.if-were_rated.at
+          c.loop-next.at at h.6 c.in-Some.ensures.passed next.high),
     )
+
+pub note_first-requires : goal.note_first-requires
+note_first-requires g c all =
+    passed_all c.loop-next.passed.finish c.next_done.new.passed.finish c.loop-next.self.list.items c.if-were_rated.at
+    c.loop-next.at c.loop-next.invariant.6 c.in_default.ensures.passed (eqb-true c.if-were_rated.at 0 all)
 
 pub returns-clause-parted : goal.returns-clause-parted
 returns-clause-parted g c =
@@ -118,7 +129,7 @@ returns-clause-parted g c =
     all_looked_at message out old.list.items now.list.items done (length now.list.items)
     (steps_stay message out old.list.items now.list.items done c.loop-next.at (length now.list.items) h.0
     (within message out old.list.items now.list.items done c.loop-next.at h.0) (omega arith) stay) (omega arith) in
-    rw h.2
+    rw (c.note_first.ensures.list, c.note_first.ensures.at, h.2)
     (parted_so g.P.Ord.cmp caps old.scale old.at old.list.items now.list.items done all.leavers all.stay)
 
 pub returns-clause-floor : goal.returns-clause-floor
@@ -136,5 +147,5 @@ returns-clause-floor g c =
     let over = over_stay out now.floor old.list.items now.list.items c.loop-next.at (length now.list.items) h.5
     (within message out old.list.items now.list.items (messages c.loop-next.done.items) c.loop-next.at h.0)
     (omega arith) stay in
-    floor_so out now.floor (is_out g.P.Ord.cmp caps old.scale) old.at old.list.items (λ f. refl)
-    (all_over out now.floor old.list.items now.list.items (length now.list.items) over (omega arith))
+    rw c.note_first.ensures.floor (floor_so out now.floor (is_out g.P.Ord.cmp caps old.scale) old.at old.list.items (λ f. refl)
+    (all_over out now.floor old.list.items now.list.items (length now.list.items) over (omega arith)))

@@ -1,0 +1,48 @@
+use Rattle.std.proofs.Common.{◌≡◌, ◌<◌, ◌≤◌, length, ap, ◌∙◌, subst, arith}
+use Rattle.std.proofs.lemmas.List.{take_all}
+use Rattle.link_pairs.specs.declared.message.Message.{Message}
+use Rattle.link_flights.specs.Flights.Components.{AreListed, AreAllListed}
+use Rattle.link_flights.proofs.Flights.Search.{all_listed_more}
+use Rattle.link_flights.proofs.flight_list.Flights.list_from.Goals as goal
+
+pub loop-number-preserved : goal.loop-number-preserved
+loop-number-preserved g c =
+    let cmp = g.P.Ord.cmp in
+    let list = c.args.self.now.list.items in
+    let mid = c.loop-number.component in
+    let so_far = c.loop-number.invariant in
+    let after = c.list_sharing.new.near.items in
+    let inside : c.loop-number.number < length mid.joined.items =
+    omega (
+      arith,
+      c.loop-number-test.true,
+      c.len-number-end.ensures,
+      c.args.component.now.joined.ok.0,
+      ap length so_far.joined,
+    ) in
+    record {
+      listed = all_listed_more cmp list mid.joined.items c.loop-number.number mid.near.items after so_far.listed
+          inside c.index.result.now c.index.ensures
+          (subst (λ (m : Message g.row.P.Denot). AreListed cmp m after list)
+          c.deref.ensures c.in_ok-list_sharing.ensures.listed)
+          c.in_ok-list_sharing.ensures.more;
+      joined = so_far.joined;
+      level = so_far.level;
+      whole = so_far.whole;
+    }
+
+pub returns-clause-listed : goal.returns-clause-listed
+returns-clause-listed g c =
+    let cmp = g.P.Ord.cmp in
+    let new = c.loop-number.component in
+    let so_far = c.loop-number.invariant in
+    let all : length new.joined.items ≤ c.loop-number.number =
+    omega (
+      arith,
+      c.loop-number-test.false,
+      c.len-number-end.ensures,
+      c.args.component.now.joined.ok.0,
+      ap length so_far.joined,
+    ) in
+    subst (λ ms. AreAllListed cmp ms new.near.items c.args.self.now.list.items)
+    (take_all c.loop-number.number new.joined.items all) so_far.listed
