@@ -8,6 +8,7 @@ use Rattle.std.specs.declared.cmp.Ordering.{Ordering}
 use Rattle.fair_rates.specs.Sides.Subjects.{Subject, sent_by, received_by, sent_between, Ask, same_peer, same_subject}
 use Rattle.fair_rates.specs.Sides.Subjects.{is_open, opened, sides_after}
 use Rattle.fair_rates.specs.Sides.SideOf.{side_of}
+use Rattle.fair_rates.specs.Lists.Sorted.{IsGap}
 use Rattle.fair_rates.specs.Sides.Numbers.{number_in, AreInOrder}
 use Rattle.fair_rates.specs.declared.bandwidth.sides.Registry.{Registry}
 use Rattle.fair_rates.specs.declared.bandwidth.sides.Side as declared_side
@@ -62,6 +63,15 @@ module _ {P : Type 0} (cmp : P → P → Ordering) where
     receivers : AreInOrder (λ a b. cmp a.now b.now) registry.receivers;
     links : AreInOrder link_cmp registry.links;
   }
+
+  -- the subject would have its number at that place
+  abbrev pub IsGapFor : Registry P → declared.Subject P → ℕ → Type 0
+  IsGapFor registry (SentBy p) place =
+      IsGap (λ a b. cmp a.now b.now) (λ entry. entry.0) registry.senders.listed.items p place
+  IsGapFor registry (ReceivedBy p) place =
+      IsGap (λ a b. cmp a.now b.now) (λ entry. entry.0) registry.receivers.listed.items p place
+  IsGapFor registry (SentBetween p q) place =
+      IsGap link_cmp (λ entry. entry.0) registry.links.listed.items (p, q) place
 
   -- so it is in the registry
   pub record IsRegistryOf (asks : List (Ask P)) (registry : Registry P) : Type 0 where

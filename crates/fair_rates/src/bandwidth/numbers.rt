@@ -14,6 +14,15 @@ const FEW_KEYS: usize = 16;
 /// move too many.
 const MOST_LISTED: usize = 512;
 
+/// What is known of a key.
+#[derive(Drop)]
+pub(crate) struct Found {
+    /// Where it stands in the list, or where it would.
+    pub(crate) place: usize,
+    /// Its number, if it has one.
+    pub(crate) number: Option<usize>,
+}
+
 /// Keys with a number each. They stand in a list in their order, but for those that came late, and not
 /// after all others: these are in a map.
 #[derive(Drop)]
@@ -54,15 +63,6 @@ impl<K: Ord + Copy> Numbers<K> {
         self.listed.binary_search_by_key(key, |&(listed, _)| listed)
     }
 
-    /// Where the key stands in the list, or where it would.
-    pub(crate) fn place(&self, key: &K) -> usize
-        requires { AreInOrder K.cmp self.now }
-    {
-        match self.search(key) {
-            Ok(place) | Err(place) => place,
-        }
-    }
-
     /// The number of the key, if it stands at that place of the list.
     pub(crate) fn number_at(&self, place: usize, key: &K) -> Option<usize>
         requires { AreInOrder K.cmp self.now }
@@ -74,30 +74,34 @@ impl<K: Ord + Copy> Numbers<K> {
         }
     }
 
-    /// The number of the key, if it has one.
-    pub(crate) fn number(&self, key: &K) -> Option<usize>
+    /// The number of the key, and its place.
+    pub(crate) fn find(&self, key: &K) -> Found
         requires { AreInOrder K.cmp self.now }
-        ensures { result ≡ number_in (λ other. is_eq (K.cmp key.now other)) self.now }
+        ensures number { result.number ≡ number_in (λ other. is_eq (K.cmp key.now other)) self.now }
+        ensures gap { result.number ≡ None
+            → IsGap K.cmp (λ entry. entry.0) self.now.listed.items key.now result.place }
     {
         match self.search(key) {
-            Ok(place) => Some(self.listed[place].1),
-            Err(_) => self.later.get(key).copied(),
+            Ok(place) => Found {
+                place,
+                number: Some(self.listed[place].1),
+            },
+            Err(place) => Found {
+                place,
+                number: self.later.get(key).copied(),
+            },
         }
     }
 
-    /// Gives a number to a key that has none.
-    pub(crate) fn note(&mut self, key: K, number: usize) -> Result<(), AllocError>
+    /// Gives a number to a key that has none, and would stand at that place of the list.
+    pub(crate) fn note(&mut self, place: usize, key: K, number: usize) -> Result<(), AllocError>
         requires order { AreInOrder K.cmp self.old }
-        requires none { number_in (λ other. is_eq (K.cmp key other)) self.old ≡ None }
+        requires gap { IsGap K.cmp (λ entry. entry.0) self.old.listed.items key place }
         ensures order { OnOk result (AreInOrder K.cmp self.new) }
         ensures numbers { OnOk result ((other : K) → number_in (λ found. is_eq (K.cmp other found)) self.new
             ≡ cond (is_eq (K.cmp key other)) (Some number)
             (number_in (λ found. is_eq (K.cmp other found)) self.old)) }
     {
-        let place = match self.search(&key) {
-            Ok(_) => return Ok(()),
-            Err(place) => place,
-        };
         let count = self.listed.len();
         if count == 0 {
             self.listed.reserve(FEW_KEYS)?;

@@ -12,7 +12,7 @@ ghost use Rattle.fair_rates.specs.Sides.SideOf.{side_of};
 ghost use Rattle.fair_rates.specs.Sides.Registry.{FindsSides, Registers, subject_of};
 
 use crate::bandwidth::known::{Ends, KnownCaps};
-use crate::bandwidth::numbers::Numbers;
+use crate::bandwidth::numbers::{Found, Numbers};
 use crate::bandwidth::{Flow, FlowCaps};
 use crate::error::Error;
 use crate::peer::Peer;
@@ -54,6 +54,17 @@ struct Expected {
     link: usize,
 }
 
+impl Expected {
+    /// Notes where the number stands that was asked for.
+    fn set<P>(&mut self, subject: &Subject<P>, place: usize) {
+        match subject {
+            Subject::SentBy(_) => self.sender = place,
+            Subject::ReceivedBy(_) => self.recipient = place.wrapping_add(1),
+            Subject::SentBetween(_, _) => self.link = place.wrapping_add(1),
+        }
+    }
+}
+
 /// The sides that have come into being, and the number of each, its place among them, by its subject.
 /// The numbers of each kind are by peers alone, and have no kind to compare.
 #[derive(Drop)]
@@ -66,7 +77,7 @@ struct Registry<'a, P: Ord> {
 }
 
 impl<'a, P: Peer> Registry<'a, P> {
-    ghost use Rattle.fair_rates.specs.Sides.Registry.{IsRegistryOf, IsInOrder, HasNumber, number_of};
+    ghost use Rattle.fair_rates.specs.Sides.Registry.{IsRegistryOf, IsInOrder, IsGapFor, HasNumber, number_of};
     ghost use Rattle.std.specs.Prelude.{None};
 
     /// No flow has asked yet.
@@ -87,31 +98,32 @@ impl<'a, P: Peer> Registry<'a, P> {
     }
 
     /// The number of the side of the subject, if there is one.
-    fn number(&self, subject: &Subject<'a, P>) -> Option<usize>
+    fn find(&self, subject: &Subject<'a, P>) -> Found
         requires { IsInOrder P.cmp self.now }
-        ensures { result ≡ number_of P.cmp self.now (subject_of subject.now) }
+        ensures number { result.number ≡ number_of P.cmp self.now (subject_of subject.now) }
+        ensures gap { result.number ≡ None → IsGapFor P.cmp self.now subject.now result.place }
     {
         match subject {
-            Subject::SentBy(peer) => self.senders.number(peer),
-            Subject::ReceivedBy(peer) => self.receivers.number(peer),
-            Subject::SentBetween(origin, recipient) => self.links.number(&(*origin, *recipient)),
+            Subject::SentBy(peer) => self.senders.find(peer),
+            Subject::ReceivedBy(peer) => self.receivers.find(peer),
+            Subject::SentBetween(origin, recipient) => self.links.find(&(*origin, *recipient)),
         }
     }
 
-    /// Notes the number of the side of a subject that has none.
-    fn note(&mut self, subject: &Subject<'a, P>, number: usize) -> Result<(), Error>
+    /// Notes the number of the side of a subject that has none, which would stand at that place.
+    fn note(&mut self, place: usize, subject: &Subject<'a, P>, number: usize) -> Result<(), Error>
         requires order { IsInOrder P.cmp self.old }
-        requires none { number_of P.cmp self.old (subject_of subject.now) ≡ None }
+        requires gap { IsGapFor P.cmp self.old subject.now place }
         ensures order { OnOk result (IsInOrder P.cmp self.new) }
         ensures numbers { OnOk result (HasNumber P.cmp (subject_of subject.now) number self.old self.new) }
         ensures sides { self.new.sides ≡ self.old.sides }
         ensures refused { IfErr result (λ e. e ≡ Error.OutOfMemory) }
     {
         match subject {
-            Subject::SentBy(peer) => self.senders.note(*peer, number)?,
-            Subject::ReceivedBy(peer) => self.receivers.note(*peer, number)?,
+            Subject::SentBy(peer) => self.senders.note(place, *peer, number)?,
+            Subject::ReceivedBy(peer) => self.receivers.note(place, *peer, number)?,
             Subject::SentBetween(origin, recipient) => {
-                self.links.note((*origin, *recipient), number)?;
+                self.links.note(place, (*origin, *recipient), number)?;
             }
         }
         Ok(())
@@ -155,7 +167,9 @@ fn register<'a, P: Peer, C: KnownCaps<P>>(
     } ∷ []) registry.old registry.new) }
     ensures refused { IfErr result (λ e. e ≡ Error.OutOfMemory) }
 {
-    if let Some(number) = registry.number(&subject) {
+    let found = registry.find(&subject);
+    registry.expected.set(&subject, found.place);
+    if let Some(number) = found.number {
         registry.sides[number].users.push(place)?;
         return Ok(());
     }
@@ -166,7 +180,7 @@ fn register<'a, P: Peer, C: KnownCaps<P>>(
     let mut users = Vec::with_capacity(alloc, room_of(number))?;
     users.push(place)?;
     registry.sides.push(Side { cap, users })?;
-    registry.note(&subject, number)?;
+    registry.note(found.place, &subject, number)?;
     Ok(())
 }
 
@@ -216,7 +230,6 @@ fn register_any_link<'a, P: Peer, C: KnownCaps<P>>(
         registry.sides[number].users.push(place)?;
         return Ok(());
     }
-    registry.expected.link = registry.links.place(&link).wrapping_add(1);
     let between = Subject::SentBetween(ends.origin, ends.recipient);
     register(alloc, registry, place, between, caps)
 }
@@ -243,7 +256,6 @@ fn register_sender<'a, P: Peer, C: KnownCaps<P>>(
         registry.sides[number].users.push(place)?;
         return Ok(());
     }
-    registry.expected.sender = registry.senders.place(&origin);
     register(alloc, registry, place, Subject::SentBy(origin), caps)
 }
 
@@ -295,8 +307,6 @@ fn register_other<'a, P: Peer, C: KnownCaps<P>>(
         registry.sides[number].users.push(place)?;
         return Ok(());
     }
-    let there = registry.receivers.place(&recipient);
-    registry.expected.recipient = there.wrapping_add(1);
     register(alloc, registry, place, Subject::ReceivedBy(recipient), caps)
 }
 

@@ -5,21 +5,18 @@ use Rattle.fair_rates.specs.Sides.Registry.{subject_of, number_of, HasNumber}
 use Rattle.fair_rates.proofs.Sides.Registry.{found, absent, opens, finds_more}
 use Rattle.fair_rates.proofs.bandwidth.sides.register.Goals as goal
 
-pub number-requires : goal.number-requires
-number-requires g c = c.requires.order
-
 pub index_mut-requires : goal.index_mut-requires
 index_mut-requires g c =
-    c.requires.within (subject_of c.args.subject) c.in-Some.number (sym c.number.ensures ∙ c.in-Some.is)
+    c.requires.within (subject_of c.args.subject) c.in-Some.number (sym c.find-found.ensures.number ∙ c.in-Some.is)
 
 pub note-requires : goal.note-requires
-note-requires g c = record { order = c.requires.order; none = sym c.number.ensures ∙ c.in_default.is }
+note-requires g c = record { order = c.requires.order; gap = c.find-found.ensures.gap c.in_default.is }
 
 pub returns-in-Some : goal.returns-in-Some
 returns-in-Some g c =
     let old = c.args.registry.now in
     let s = subject_of c.args.subject in
-    let is : number_of g.P.Ord.cmp old s ≡ Some c.in-Some.number = sym c.number.ensures ∙ c.in-Some.is in
+    let is : number_of g.P.Ord.cmp old s ≡ Some c.in-Some.number = sym c.find-found.ensures.number ∙ c.in-Some.is in
     record {
       registers = record {
         asked = λ asks h. record {
@@ -38,7 +35,7 @@ pub returns-in_default-cap_of : goal.returns-in_default-cap_of
 returns-in_default-cap_of g c =
     let old = c.args.registry.now in
     let s = subject_of c.args.subject in
-    let none : number_of g.P.Ord.cmp old s ≡ None = sym c.number.ensures ∙ c.in_default.is in
+    let none : number_of g.P.Ord.cmp old s ≡ None = sym c.find-found.ensures.number ∙ c.in_default.is in
     record {
       registers = record {
         asked = λ asks h. record {
@@ -61,7 +58,7 @@ returns-clause-registers g c =
     let s = subject_of c.args.subject in
     let n = c.len-number.result in
     let last : n ≡ length old.sides.items = c.len-number.ensures ∙ old.sides.ok.0 in
-    let none : number_of cmp old s ≡ None = sym c.number.ensures ∙ c.in_default.is in
+    let none : number_of cmp old s ≡ None = sym c.find-found.ensures.number ∙ c.in_default.is in
     let users : c.push-2.new.self.items ≡ c.args.place ∷ [] =
     c.in_ok-push-2.ensures.items ∙ ap (λ us. us ++ c.args.place ∷ []) c.in_ok-users.ensures.items in
     let sides : new.sides.items

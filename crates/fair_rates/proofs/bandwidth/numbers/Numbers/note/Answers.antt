@@ -1,25 +1,12 @@
 use Rattle.std.proofs.Common.{◌≡◌, ℕ, cond, None, Some, ◌++◌, ◌∷◌, [], ap, sym, subst, refl, ◌∙◌, arith, length}
 use Rattle.std.specs.List.{insert}
 use Rattle.std.specs.Map.{lookup}
-use Rattle.std.specs.Option.{option_or}
 use Rattle.std.specs.Ordering.{is_eq}
 use Rattle.std.proofs.lemmas.Grind.{common_steps}
 use Rattle.std.proofs.lemmas.List.Edits.{insert_end}
-use Rattle.fair_rates.proofs.Sides.Numbers.{at_place, in_list, in_order, in_map}
+use Rattle.fair_rates.proofs.Sides.Numbers.{in_list, in_order, in_map}
 use Rattle.fair_rates.proofs.bandwidth.numbers.Numbers.note.Goals.{then-count-eq0+in_ok-reserve, else-count-eq0}
 use Rattle.fair_rates.proofs.bandwidth.numbers.Numbers.note.Goals as goal
-
-pub returns-in-Ok-clause-numbers : goal.returns-in-Ok-clause-numbers
-returns-in-Ok-clause-numbers g c =
-    let cmp = g.K.Ord.cmp in
-    let numbers = c.args.self.now in
-    let later = lookup (λ other. is_eq (cmp c.args.key other)) numbers.later.entries in
-    let entry : g.row.K.Denot × ℕ = (c.args.key, c.args.number) in
-    let found =
-    sym (ap (λ found. option_or found later)
-    (at_place cmp g.met.K.Ord.total numbers.listed.items c.args.key c.in-Ok.field-0 entry c.in-Ok.ensures.found))
-    ∙ c.requires.none in
-    absurd (cc)
 
 pub returns-in_ok-push-clause-order : goal.returns-in_ok-push-clause-order
 returns-in_ok-push-clause-order g c =
@@ -29,10 +16,10 @@ returns-in_ok-push-clause-order g c =
       | then-count-eq0+in_ok-reserve w ↦ ap (λ n. n.listed.items) w.self-is ∙ w.reserve.ensures.items
       | else-count-eq0 w ↦ ap (λ n. n.listed.items) w.self-is
     ] in
-    let end : c.in-Err.place ≡ length numbers.listed.items =
+    let end : c.args.place ≡ length numbers.listed.items =
     grind (arith, common_steps, c.if-place-count.true, c.len-count.ensures, numbers.listed.ok.0) in
     in_order g.K.Ord.cmp g.met.K.Ord.total numbers (record { listed = c.push.new.self; later = numbers.later }) c.args.key
-    c.args.number c.in-Err.place c.in-Err.ensures.absent
+    c.args.number c.args.place c.requires.gap
     (c.in_ok-push.ensures.items ∙ ap (λ es. es ++ entry ∷ []) items
     ∙ sym (insert_end numbers.listed.items entry)
     ∙ ap (λ n. insert numbers.listed.items n entry) (sym end))
@@ -50,10 +37,10 @@ returns-in_ok-push-clause-numbers g c =
       | then-count-eq0+in_ok-reserve w ↦ ap (λ n. n.later) w.self-is
       | else-count-eq0 w ↦ ap (λ n. n.later) w.self-is
     ] in
-    let end : c.in-Err.place ≡ length numbers.listed.items =
+    let end : c.args.place ≡ length numbers.listed.items =
     grind (arith, common_steps, c.if-place-count.true, c.len-count.ensures, numbers.listed.ok.0) in
     in_list g.K.Ord.cmp g.met.K.Ord.total numbers (record { listed = c.push.new.self; later = c.if-count-eq0.self.later })
-    c.args.key c.args.number c.in-Err.place c.in-Err.ensures.absent
+    c.args.key c.args.number c.args.place c.requires.gap
     (c.in_ok-push.ensures.items ∙ ap (λ es. es ++ entry ∷ []) items
     ∙ sym (insert_end numbers.listed.items entry)
     ∙ ap (λ n. insert numbers.listed.items n entry) (sym end))
@@ -68,8 +55,8 @@ returns-in_ok-insert-clause-order g c =
       | else-count-eq0 w ↦ ap (λ n. n.listed.items) w.self-is
     ] in
     in_order g.K.Ord.cmp g.met.K.Ord.total numbers (record { listed = c.insert.new.self; later = numbers.later }) c.args.key
-    c.args.number c.in-Err.place c.in-Err.ensures.absent
-    (c.in_ok-insert.ensures.items ∙ ap (λ es. insert es c.in-Err.place entry) items)
+    c.args.number c.args.place c.requires.gap
+    (c.in_ok-insert.ensures.items ∙ ap (λ es. insert es c.args.place entry) items)
     c.requires.order
 
 pub returns-in_ok-insert-clause-numbers : goal.returns-in_ok-insert-clause-numbers
@@ -86,8 +73,8 @@ returns-in_ok-insert-clause-numbers g c =
     ] in
     in_list g.K.Ord.cmp g.met.K.Ord.total numbers
     (record { listed = c.insert.new.self; later = c.if-count-eq0.self.later })
-    c.args.key c.args.number c.in-Err.place c.in-Err.ensures.absent
-    (c.in_ok-insert.ensures.items ∙ ap (λ es. insert es c.in-Err.place entry) items)
+    c.args.key c.args.number c.args.place c.requires.gap
+    (c.in_ok-insert.ensures.items ∙ ap (λ es. insert es c.args.place entry) items)
     later
 
 pub returns-in_ok-insert-2-clause-numbers : goal.returns-in_ok-insert-2-clause-numbers
@@ -106,7 +93,7 @@ returns-in_ok-insert-2-clause-numbers g c q =
       listed = c.if-count-eq0.self.listed;
       later = c.insert-else-count-lt-MOST_LISTED.new.self;
     })
-    c.args.key c.args.number c.in-Err.place c.in-Err.ensures.absent items q
+    c.args.key c.args.number c.args.place c.requires.gap items q
     (c.in_ok-insert-2.ensures.updates.0 q
     ∙ ap (λ ls. cond (is_eq (g.K.Ord.cmp c.args.key q)) (Some c.args.number)
     (lookup (λ other. is_eq (g.K.Ord.cmp q other)) ls.entries)) later)

@@ -1,8 +1,32 @@
 use Rattle.std.proofs.Common.{refl, sym, subst}
-use Rattle.fair_rates.specs.Sides.Registry.{HasNumber, subject_of}
+use Rattle.fair_rates.specs.Sides.Registry.{HasNumber, IsGapFor, subject_of}
 use Rattle.fair_rates.specs.declared.bandwidth.sides.Registry.{Registry}
 use Rattle.fair_rates.proofs.Sides.Registry.{sender_numbered, receiver_numbered, link_numbered, by_both}
 use Rattle.fair_rates.proofs.bandwidth.sides.Registry.note.Goals as goal
+
+pub note-requires : goal.note-requires
+note-requires g c =
+    let old = c.args.self.now in
+    record {
+      order = c.requires.order.senders;
+      gap = subst (λ s. IsGapFor g.P.Ord.cmp old s c.args.place) c.in-SentBy.is c.requires.gap;
+    }
+
+pub note-requires-in-ReceivedBy : goal.note-requires-in-ReceivedBy
+note-requires-in-ReceivedBy g c =
+    let old = c.args.self.now in
+    record {
+      order = c.requires.order.receivers;
+      gap = subst (λ s. IsGapFor g.P.Ord.cmp old s c.args.place) c.in-ReceivedBy.is c.requires.gap;
+    }
+
+pub note-requires-in-SentBetween : goal.note-requires-in-SentBetween
+note-requires-in-SentBetween g c =
+    let old = c.args.self.now in
+    record {
+      order = c.requires.order.links;
+      gap = subst (λ s. IsGapFor g.P.Ord.cmp old s c.args.place) c.in-SentBetween.is c.requires.gap;
+    }
 
 pub returns-in_ok-note-in-SentBy-clause-numbers : goal.returns-in_ok-note-in-SentBy-clause-numbers
 returns-in_ok-note-in-SentBy-clause-numbers g c =

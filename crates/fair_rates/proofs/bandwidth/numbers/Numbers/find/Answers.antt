@@ -3,10 +3,10 @@ use Rattle.std.specs.Map.{lookup}
 use Rattle.std.specs.Option.{option_or}
 use Rattle.std.specs.Ordering.{is_eq}
 use Rattle.fair_rates.proofs.Sides.Numbers.{at_place, in_gap}
-use Rattle.fair_rates.proofs.bandwidth.numbers.Numbers.number.Goals as goal
+use Rattle.fair_rates.proofs.bandwidth.numbers.Numbers.find.Goals as goal
 
-pub returns-in-Ok : goal.returns-in-Ok
-returns-in-Ok g c =
+pub returns-in-Ok-clause-number : goal.returns-in-Ok-clause-number
+returns-in-Ok-clause-number g c =
     let cmp = g.K.Ord.cmp in
     let key = c.args.key.now in
     let numbers = c.args.self.now in
@@ -16,8 +16,8 @@ returns-in-Ok g c =
     (ap (λ found. option_or found later)
     (at_place cmp g.met.K.Ord.total numbers.listed.items key c.in-Ok.place c.index.result.now c.in-Ok.ensures.found))
 
-pub returns-in-Err : goal.returns-in-Err
-returns-in-Err g c =
+pub returns-in-Err-clause-number : goal.returns-in-Err-clause-number
+returns-in-Err-clause-number g c =
     let cmp = g.K.Ord.cmp in
     let key = c.args.key.now in
     let numbers = c.args.self.now in
@@ -25,4 +25,4 @@ returns-in-Err g c =
     c.copied.ensures ∙ c.get.ensures.value
     ∙ sym
     (ap (λ found. option_or found later)
-    (in_gap cmp g.met.K.Ord.total numbers.listed.items key c.in-Err.field-0 c.in-Err.ensures.absent))
+    (in_gap cmp g.met.K.Ord.total numbers.listed.items key c.in-Err.place c.in-Err.ensures.absent))
