@@ -8,7 +8,7 @@ use std::alloc::{AllocError, Global};
 use std::collections::BTreeMap;
 
 /// There is room for so many keys, before their list has to move.
-const FEW_KEYS: usize = 16;
+const FEW_KEYS: usize = 24;
 
 /// So many keys stand in a list, in whatever order they come. To put one more among more of them would
 /// move too many.
