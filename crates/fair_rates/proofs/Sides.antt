@@ -4,10 +4,10 @@ pub mod Answers
 pub mod Asking
 pub mod Callable
 pub mod CapSides
-pub mod Early
 pub mod EqualSubjects
 pub mod FlowByFlow
 pub mod NoLinks
+pub mod Numbers
 pub mod OneMoreAsk
 pub mod Pair
 pub mod Registry

@@ -20,9 +20,9 @@ mod equality;
 mod filling;
 mod known;
 pub mod laws;
+mod numbers;
 mod pair;
 mod parts;
-mod recipients;
 mod sides;
 mod time;
 

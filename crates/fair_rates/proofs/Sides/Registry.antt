@@ -11,9 +11,7 @@ use Rattle.std.proofs.lemmas.Option.{same_Some}
 use Rattle.std.proofs.lemmas.Bool.{eqb-true, eqb-false, cases_lt, false_from_ne_true as is_false, or_right}
 use Rattle.std.proofs.lemmas.Bool.{ltb-true}
 use Rattle.std.specs.Prelude.{is_some, nat_lt}
-use Rattle.std.specs.Option.{option_or}
 use Rattle.std.specs.List.{list_any}
-use Rattle.std.specs.Map.{lookup}
 use Rattle.std.specs.Cmp.{IsTotalOrder}
 use Rattle.std.specs.declared.cmp.Ordering.{Ordering}
 use Rattle.std.specs.declared.cmp.Ordering.TheVariants.{Less, Equal, Greater}
@@ -21,12 +19,12 @@ use Rattle.std.specs.Ordering.{is_eq, ordering_then}
 use Rattle.fair_rates.specs.Sides.SideOf.{side_of}
 use Rattle.fair_rates.specs.Sides.Subjects.{Subject, Ask, same_peer, same_subject, sent_by, received_by, sent_between}
 use Rattle.fair_rates.specs.Sides.Registry.{subjects_after, number_of, IsNumberOf, AreRegistered}
-use Rattle.fair_rates.specs.Sides.Registry.{IsRegistryOf, FindsSides, HasNumber, IsNoted, Registers, subject_of}
-use Rattle.fair_rates.specs.Sides.Registry.{noted_of, early_in, is_noted, IsNotedIfLate}
+use Rattle.fair_rates.specs.Sides.Registry.{IsRegistryOf, IsInOrder, FindsSides, HasNumber, Registers}
+use Rattle.fair_rates.specs.Sides.Numbers.{number_in, HaveNone}
+use Rattle.fair_rates.specs.declared.bandwidth.numbers.Numbers.{Numbers}
 use Rattle.fair_rates.specs.declared.bandwidth.sides.Registry.{Registry}
 use Rattle.fair_rates.specs.declared.bandwidth.sides.Side as declared_side
-use Rattle.fair_rates.specs.declared.bandwidth.sides.Subject as declared
-use Rattle.fair_rates.proofs.Sides.Early.{early_congr, early_next, early_or_noted}
+use Rattle.fair_rates.proofs.Sides.Numbers.{numbers_agree}
 use Rattle.fair_rates.proofs.Sides.Subjects.{same_symm, same_congr, same_itself, peer_congr}
 use Rattle.fair_rates.proofs.Sides.OneMoreAsk.{Share, limit_of, shares_after, opened_share, is_side_of, with_user}
 use Rattle.fair_rates.proofs.Sides.OneMoreAsk.{limits_are, subjects_are, shares_push}
@@ -86,13 +84,6 @@ only_there {X} f xs n d within others =
         let apart : k ≢ n = eqb-false k n t in
         get_or-map f xs k d e h ∙ others k h apart ∙ get_or_default xs k d e h
         ∙ sym (get_or-set_other xs n k (f (get_or xs n d)) e apart)
-
-lookup_agrees : {K X : Type 0} (test other : K → Bool) (entries : List (K × X)) → ((k : K) → test k ≡ other k)
-    → lookup test entries ≡ lookup other entries
-lookup_agrees test other [] same = refl
-lookup_agrees test other (e ∷ entries) same =
-    ap (λ b. cond b (Some e.1) (lookup test entries)) (same e.0)
-    ∙ ap (cond (other e.0) (Some e.1)) (lookup_agrees test other entries same)
 
 module _ {P : Type 0} (cmp : P → P → Ordering) (o : IsTotalOrder cmp) where
   abbrev ask : ℕ → Subject P → Option ℕ → Ask P
@@ -187,8 +178,8 @@ module _ {P : Type 0} (cmp : P → P → Ordering) (o : IsTotalOrder cmp) where
           ⊎_elim (at_old q m i) (λ past. at_last q m i (omega (arith, longer))) (cases_lt m (length subjects)),
     )
 
-  module _ (asks : List (Ask P)) (sides : List declared_side.Side) (names : List (Subject P))
-      (number : Subject P → Option ℕ) (h : AreRegistered cmp asks sides names number) where
+  module _ (asks : List (Ask P)) (sides : List declared_side.Side) (number : Subject P → Option ℕ)
+      (h : AreRegistered cmp asks sides number) where
     abbrev shares : List (Share P)
     shares = shares_after cmp [] asks
 
@@ -261,7 +252,7 @@ module _ {P : Type 0} (cmp : P → P → Ordering) (o : IsTotalOrder cmp) where
       pub found : (answer : Option ℕ) (n : ℕ) (old new : declared_side.Side) (sides' : List declared_side.Side)
           → number s ≡ Some n → old ≡ get_or sides n old → sides' ≡ set sides n new
           → new.cap ≡ old.cap → new.users.items ≡ old.users.items ++ place ∷ []
-          → AreRegistered cmp (asks ++ ask place s answer ∷ []) sides' names number
+          → AreRegistered cmp (asks ++ ask place s answer ∷ []) sides' number
       found answer n old new sides' e at writes cap users =
           let t = ask place s answer in
           let i : n < length sides = in_range s n e in
@@ -294,14 +285,13 @@ module _ {P : Type 0} (cmp : P → P → Ordering) (o : IsTotalOrder cmp) where
                 ∙ sym (map-set limit_of shares n (with_user cmp t here))
                 ∙ ap (map limit_of) (sym (only_there (with_user cmp t) shares n nobody within others) ∙ sym are)
                 ∙ limits_are cmp [] (asks ++ t ∷ []);
-            names_are = h.names_are ∙ stay;
             numbers_are =
                 subst (λ us. (q : Subject P) (m : ℕ) → (number q ≡ Some m) ↔ IsNumberOf cmp us q m) stay h.numbers_are;
           }
 
       -- it has not, and does not now
       pub absent : (answer : Option ℕ) → answer ≡ None → number s ≡ None
-          → AreRegistered cmp (asks ++ ask place s answer ∷ []) sides names number
+          → AreRegistered cmp (asks ++ ask place s answer ∷ []) sides number
       absent answer unanswered e =
           let t = ask place s answer in
           let none = none_open answer e in
@@ -314,21 +304,19 @@ module _ {P : Type 0} (cmp : P → P → Ordering) (o : IsTotalOrder cmp) where
           ∙ subjects_are cmp [] (asks ++ t ∷ []) in
           record {
             sides_are = limits ∙ ap (map limit_of) (sym are) ∙ limits_are cmp [] (asks ++ t ∷ []);
-            names_are = h.names_are ∙ stay;
             numbers_are =
                 subst (λ us. (q : Subject P) (m : ℕ) → (number q ≡ Some m) ↔ IsNumberOf cmp us q m) stay h.numbers_are;
           }
 
       -- it comes into being now
       pub opens : (answer : Option ℕ) (cap : ℕ) (new : declared_side.Side) (sides' : List declared_side.Side)
-          (names' : List (Subject P)) (number' : Subject P → Option ℕ)
+          (number' : Subject P → Option ℕ)
           → answer ≡ Some cap → number s ≡ None → sides' ≡ sides ++ new ∷ [] → new.cap ≡ cap
-          → new.users.items ≡ place ∷ [] → names' ≡ names ++ s ∷ []
-          → (n : ℕ) → n ≡ length sides
+          → new.users.items ≡ place ∷ [] → (n : ℕ) → n ≡ length sides
           → ((q : Subject P)
           → number' q ≡ cond (same_subject cmp s q) (Some n) (number q))
-          → AreRegistered cmp (asks ++ ask place s answer ∷ []) sides' names' number'
-      opens answer cap new sides' names' number' answered e pushes is_cap users named n last numbers =
+          → AreRegistered cmp (asks ++ ask place s answer ∷ []) sides' number'
+      opens answer cap new sides' number' answered e pushes is_cap users n last numbers =
           let t = ask place s answer in
           let none = none_open answer e in
           let share : Share P = record { subject = s; cap = cap; users = place ∷ [] } in
@@ -346,7 +334,6 @@ module _ {P : Type 0} (cmp : P → P → Ordering) (o : IsTotalOrder cmp) where
                 ∙ (λ j. map limit_of shares ++ record { cap = is_cap j; users = users j } ∷ [])
                 ∙ sym (map-append limit_of shares (share ∷ [])) ∙ ap (map limit_of) (sym are)
                 ∙ limits_are cmp [] (asks ++ t ∷ []);
-            names_are = named ∙ ap (λ us. us ++ s ∷ []) h.names_are ∙ more;
             numbers_are =
                 subst (λ us. (q : Subject P) (m : ℕ) → (number' q ≡ Some m) ↔ IsNumberOf cmp us q m) more
                 (numbers_push subjects number number' s h.numbers_are e
@@ -355,142 +342,39 @@ module _ {P : Type 0} (cmp : P → P → Ordering) (o : IsTotalOrder cmp) where
                 (last ∙ as_many ∙ sym as_many_subjects)));
           }
 
-noted_congr : {P : Type 0} (cmp : P → P → Ordering) (o : IsTotalOrder cmp) (registry : Registry P) (s t : Subject P)
-    → same_subject cmp s t ≡ true → noted_of cmp registry s ≡ noted_of cmp registry t
-noted_congr cmp o registry (sent_by p) (sent_by q) e =
-    lookup_agrees _ _ registry.senders.entries (λ other. peer_congr cmp o p q other.now e)
-noted_congr cmp o registry (received_by p) (received_by q) e =
-    lookup_agrees _ _ registry.receivers.entries (λ other. peer_congr cmp o p q other.now e)
-noted_congr cmp o registry (sent_between p q) (sent_between r s) e =
-    lookup_agrees _ _ registry.pairs.entries
-    (λ other. same_congr cmp o (sent_between p q) (sent_between r s) (sent_between other.0.now other.1.now) e)
-noted_congr cmp o registry s t e = cc e
-
 -- equal subjects have one number
 pub number_congr : {P : Type 0} (cmp : P → P → Ordering) (o : IsTotalOrder cmp) (registry : Registry P) (s t : Subject P)
     → same_subject cmp s t ≡ true → number_of cmp registry s ≡ number_of cmp registry t
-number_congr cmp o registry s t e =
-    let names = map subject_of registry.subjects.items in
-    ap (λ m. option_or m (noted_of cmp registry s)) (early_congr cmp o names s t e)
-    ∙ ap (option_or (early_in cmp names t)) (noted_congr cmp o registry s t e)
+number_congr cmp o registry (sent_by p) (sent_by q) e =
+    numbers_agree _ _ registry.senders (λ other. peer_congr cmp o p q other.now e)
+number_congr cmp o registry (received_by p) (received_by q) e =
+    numbers_agree _ _ registry.receivers (λ other. peer_congr cmp o p q other.now e)
+number_congr cmp o registry (sent_between p q) (sent_between r s) e =
+    numbers_agree _ _ registry.links
+    (λ other. same_congr cmp o (sent_between p q) (sent_between r s) (sent_between other.0.now other.1.now) e)
+number_congr cmp o registry s t e = cc e
 
--- a number is noted, or it is not
-pub noted_late : {P : Type 0} (cmp : P → P → Ordering) (s : Subject P) (n : ℕ) (old new : Registry P)
-    → is_noted s n ≡ true → IsNoted cmp s n old new → IsNotedIfLate cmp s n old new
-noted_late cmp s n old new late noted q =
-    noted q ∙ ap (λ b. cond (b && same_subject cmp s q) (Some n) (noted_of cmp old q)) (sym late)
-
-pub not_noted : {P : Type 0} (cmp : P → P → Ordering) (s : Subject P) (n : ℕ) (registry : Registry P)
-    → is_noted s n ≡ false → IsNotedIfLate cmp s n registry registry
-not_noted cmp s n registry early q =
-    ap (λ b. cond (b && same_subject cmp s q) (Some n) (noted_of cmp registry q)) (sym early)
-
--- a subject gets the next number, which is noted if it is not among the first
-pub numbered : {P : Type 0} (cmp : P → P → Ordering) (o : IsTotalOrder cmp) (old new : Registry P)
-    (s : declared.Subject P) (n : ℕ) → n ≡ length old.subjects.items
-    → new.subjects.items ≡ old.subjects.items ++ s ∷ [] → number_of cmp old (subject_of s) ≡ None
-    → IsNotedIfLate cmp (subject_of s) n old new → HasNumber cmp (subject_of s) n old new
-numbered cmp o old new s n last kept none noted q =
-    let t = subject_of s in
-    let names = map subject_of old.subjects.items in
-    let more : map subject_of new.subjects.items ≡ names ++ t ∷ [] =
-    ap (map subject_of) kept ∙ map-append subject_of old.subjects.items (s ∷ []) in
-    let end : n ≡ length names = last ∙ sym (length-map old.subjects.items subject_of) in
-    ap (λ m. option_or m (noted_of cmp new q))
-    (ap (λ us. early_in cmp us q) more ∙ early_next cmp names t q n end)
-    ∙ ap (option_or (option_or (early_in cmp names q) (cond (same_subject cmp t q && not (is_noted t n)) (Some n) None)))
-    (noted q)
-    ∙ early_or_noted (early_in cmp names q) (noted_of cmp old q) n (same_subject cmp t q) (is_noted t n)
-    (λ same. sym (number_congr cmp o old t q same) ∙ none)
-
--- so each number that the registry finds is that of a side, and the subject kept for a side has its number
-module _ {P : Type 0} (cmp : P → P → Ordering) (o : IsTotalOrder cmp) (asks : List (Ask P)) (registry : Registry P)
-    (h : IsRegistryOf cmp asks registry) where
-  abbrev kept : List (declared.Subject P)
-  kept = registry.subjects.items
-
-  abbrev names : List (Subject P)
-  names = map subject_of kept
-
-  names_all : length names ≡ length kept
-  names_all = length-map kept subject_of
-
-  names_open : length names ≡ length (subjects_after cmp [] asks)
-  names_open = ap length h.names_are
-
-  sides_open : length registry.sides.items ≡ length (subjects_after cmp [] asks)
-  sides_open =
-      as_many cmp o asks registry.sides.items names (number_of cmp registry) h
-      ∙ sym (as_many_subjects cmp o asks registry.sides.items names (number_of cmp registry) h)
-
-  named_at : (n : ℕ) → n < length kept → (d : declared.Subject P)
-      → number_of cmp registry (subject_of (get_or kept n d)) ≡ Some n
-  named_at n below d =
-      let s = subject_of (get_or kept n d) in
-      let within : n < length (subjects_after cmp [] asks) = omega (arith, names_all, names_open) in
-      (h.numbers_are s n).1
-      (record {
-        within = within;
-        same = λ u.
-            ap (same_subject cmp s)
-            (get_or_default (subjects_after cmp [] asks) n u (subject_of d) within
-            ∙ ap (λ us. get_or us n (subject_of d)) (sym h.names_are)
-            ∙ get_or-map subject_of kept n d (subject_of d) below)
-            ∙ same_itself cmp o s;
-      })
-
-  pub finds_sides : FindsSides cmp registry
-  finds_sides = record {
-    within = λ s n e.
-        let i = in_range cmp o asks registry.sides.items names (number_of cmp registry) h s n e in
-        omega (arith, registry.sides.ok.0, i);
-    as_many = omega (arith, registry.sides.ok.0, registry.subjects.ok.0, names_all, names_open, sides_open);
-    named = λ n below d. named_at n (omega (arith, registry.subjects.ok.0)) d;
-  }
-
--- the subject that is kept at a place, or an equal one, has its number
-pub named_same : {P : Type 0} (cmp : P → P → Ordering) (o : IsTotalOrder cmp) (registry : Registry P)
-    → FindsSides cmp registry → (n : ℕ) (kept : declared.Subject P) (s : Subject P) (among : List (declared.Subject P))
-    → among ≡ registry.subjects.items → true ≡ nat_lt n (length among) → kept ≡ get_or among n kept
-    → same_subject cmp (subject_of kept) s ≡ true → number_of cmp registry s ≡ Some n
-named_same cmp o registry finds n kept s among are within is same =
-    let below : n < length among = ltb-true n (length among) (sym within) in
-    sym (number_congr cmp o registry (subject_of kept) s same)
-    ∙ ap (λ k. number_of cmp registry (subject_of k)) (is ∙ ap (λ ks. get_or ks n kept) are)
-    ∙ finds.named n (omega (arith, below, ap length are, registry.subjects.ok.0)) kept
+-- each number that the registry finds is that of a side
+pub finds_sides : {P : Type 0} (cmp : P → P → Ordering) (o : IsTotalOrder cmp) (asks : List (Ask P))
+    (registry : Registry P) → IsRegistryOf cmp asks registry → FindsSides cmp registry
+finds_sides cmp o asks registry h = record {
+  within = λ s n e.
+      let i = in_range cmp o asks registry.sides.items (number_of cmp registry) h.registered s n e in
+      omega (arith, registry.sides.ok.0, i);
+  order = h.order;
+}
 
 -- the numbers, when a subject gets one: it is that of the side that is new
-pub finds_more : {P : Type 0} (cmp : P → P → Ordering) (o : IsTotalOrder cmp) (old new : Registry P)
-    (s : declared.Subject P) (n : ℕ)
-    → HasNumber cmp (subject_of s) n old new → n ≡ vec_len old.sides → vec_len new.sides ≡ vec_len old.sides + 1
-    → new.subjects.items ≡ old.subjects.items ++ s ∷ [] → number_of cmp old (subject_of s) ≡ None
-    → FindsSides cmp old → FindsSides cmp new
-finds_more {P} cmp o old new s n has last more names none finds = record {
-  within = λ q m e. within q m e (same_subject cmp (subject_of s) q) refl;
-  as_many = omega (arith, old.subjects.ok.0, new.subjects.ok.0, longer, finds.as_many);
-  named = λ m below d. ⊎_elim
-      (λ early.
-      let kept : number_of cmp old (subject_of (get_or old.subjects.items m d)) ≡ Some m = finds.named m early d in
-      ap (λ k. number_of cmp new (subject_of k))
-      (ap (λ ks. get_or ks m d) names
-      ∙ get_or_append_left old.subjects.items (s ∷ []) d m (omega (arith, old.subjects.ok.0)))
-      ∙ stays (subject_of (get_or old.subjects.items m d)) m kept
-      (same_subject cmp (subject_of s) (subject_of (get_or old.subjects.items m d))) refl)
-      (λ late.
-      let end : length old.subjects.items ≡ m = omega (arith, old.subjects.ok.0, new.subjects.ok.0, longer) in
-      ap (λ k. number_of cmp new (subject_of k))
-      (ap (λ ks. get_or ks m d) names ∙ get_or_push old.subjects.items s d m end)
-      ∙ has (subject_of s)
-      ∙ ap (λ b. cond b (Some n) (number_of cmp old (subject_of s))) (same_itself cmp o (subject_of s))
-      ∙ ap Some (let it : n ≡ m = omega (arith, old.subjects.ok.0, finds.as_many) in it))
-      (cases_lt m (vec_len old.subjects));
+pub finds_more : {P : Type 0} (cmp : P → P → Ordering) (old new : Registry P) (s : Subject P) (n : ℕ)
+    → HasNumber cmp s n old new → n ≡ vec_len old.sides → vec_len new.sides ≡ vec_len old.sides + 1
+    → IsInOrder cmp new → FindsSides cmp old → FindsSides cmp new
+finds_more {P} cmp old new s n has last more order finds = record {
+  within = λ q m e. within q m e (same_subject cmp s q) refl;
+  order = order;
 }
   where
-    longer : length new.subjects.items ≡ length old.subjects.items + 1
-    longer = ap length names ∙ length_push old.subjects.items s
-
-    within : (q : Subject P) (m : ℕ) → number_of cmp new q ≡ Some m → (b : Bool)
-        → same_subject cmp (subject_of s) q ≡ b → m < vec_len new.sides
+    within : (q : Subject P) (m : ℕ) → number_of cmp new q ≡ Some m → (b : Bool) → same_subject cmp s q ≡ b
+        → m < vec_len new.sides
     within q m e true same =
         let it : n ≡ m = same_Some n m (sym (has q ∙ ap (λ b. cond b (Some n) (number_of cmp old q)) same) ∙ e) in
         omega arith
@@ -499,78 +383,75 @@ finds_more {P} cmp o old new s n has last more names none finds = record {
         finds.within q m (sym (has q ∙ ap (λ b. cond b (Some n) (number_of cmp old q)) apart) ∙ e) in
         omega arith
 
-    stays : (q : Subject P) (m : ℕ) → number_of cmp old q ≡ Some m → (b : Bool)
-        → same_subject cmp (subject_of s) q ≡ b → number_of cmp new q ≡ Some m
-    stays q m e true same =
-        let it : number_of cmp old q ≡ None = sym (number_congr cmp o old (subject_of s) q same) ∙ none in cc
-    stays q m e false apart = has q ∙ ap (λ b. cond b (Some n) (number_of cmp old q)) apart ∙ e
-
 none_from : (answer : Option ℕ) → is_some answer ≡ false → answer ≡ None
 none_from None e = refl
 none_from (Some cap) e = cc e
 
 -- a flow asks for its link where no link has a cap
-pub no_pair : {P : Type 0} (cmp : P → P → Ordering) (o : IsTotalOrder cmp) (registry : Registry P) (place : ℕ)
-    (p q : P) (answer : Option ℕ) → is_some answer ≡ false → length registry.pairs.entries ≡ 0 → FindsSides cmp registry
+pub no_link : {P : Type 0} (cmp : P → P → Ordering) (o : IsTotalOrder cmp) (registry : Registry P) (place : ℕ)
+    (p q : P) (answer : Option ℕ) → is_some answer ≡ false → HaveNone registry.links → FindsSides cmp registry
     → Registers cmp (record { place = place; subject = sent_between p q; answer = answer } ∷ []) registry registry
-no_pair cmp o registry place p q answer unanswered empty finds = record {
-  asked = λ asks h.
-      absent cmp o asks registry.sides.items (map subject_of registry.subjects.items) (number_of cmp registry) h
-      (sent_between p q) place answer
-      (none_from answer unanswered)
-      (ap (lookup (λ other. same_peer cmp p other.0.now && same_peer cmp q other.1.now))
-      (nil_from_length registry.pairs.entries empty));
+no_link cmp o registry place p q answer unanswered none finds = record {
+  asked = λ asks h. record {
+    registered =
+        absent cmp o asks registry.sides.items (number_of cmp registry) h.registered (sent_between p q) place answer
+        (none_from answer unanswered) (none (λ other. same_peer cmp p other.0.now && same_peer cmp q other.1.now));
+    order = h.order;
+  };
   finds = finds;
 }
 
 -- the number that one kind of subject gets changes no other kind
 module _ {P : Type 0} (cmp : P → P → Ordering) (n : ℕ) (old new : Registry P) where
-  pub sender_numbered : (p : P) → new.receivers ≡ old.receivers → new.pairs ≡ old.pairs
-      → ((q : P) → noted_of cmp new (sent_by q)
-      ≡ cond (same_peer cmp p q) (Some n) (noted_of cmp old (sent_by q)))
-      → IsNoted cmp (sent_by p) n old new
-  sender_numbered p receivers pairs has (sent_by q) = has q
-  sender_numbered p receivers pairs has (received_by q) =
-      ap (λ numbers. lookup (λ other. same_peer cmp q other.now) numbers.entries) receivers
-  sender_numbered p receivers pairs has (sent_between q r) =
-      ap (λ numbers. lookup (λ other. same_peer cmp q other.0.now && same_peer cmp r other.1.now) numbers.entries) pairs
+  pub sender_numbered : (p : P) → new.receivers ≡ old.receivers → new.links ≡ old.links
+      → ((q : P) → number_of cmp new (sent_by q)
+      ≡ cond (same_peer cmp p q) (Some n) (number_of cmp old (sent_by q)))
+      → HasNumber cmp (sent_by p) n old new
+  sender_numbered p receivers links has (sent_by q) = has q
+  sender_numbered p receivers links has (received_by q) =
+      ap (number_in (λ other. same_peer cmp q other.now)) receivers
+  sender_numbered p receivers links has (sent_between q r) =
+      ap (number_in (λ other. same_peer cmp q other.0.now && same_peer cmp r other.1.now)) links
 
-  pub receiver_numbered : (p : P) → new.senders ≡ old.senders → new.pairs ≡ old.pairs
-      → ((q : P) → noted_of cmp new (received_by q)
-      ≡ cond (same_peer cmp p q) (Some n) (noted_of cmp old (received_by q)))
-      → IsNoted cmp (received_by p) n old new
-  receiver_numbered p senders pairs has (sent_by q) =
-      ap (λ numbers. lookup (λ other. same_peer cmp q other.now) numbers.entries) senders
-  receiver_numbered p senders pairs has (received_by q) = has q
-  receiver_numbered p senders pairs has (sent_between q r) =
-      ap (λ numbers. lookup (λ other. same_peer cmp q other.0.now && same_peer cmp r other.1.now) numbers.entries) pairs
+  pub receiver_numbered : (p : P) → new.senders ≡ old.senders → new.links ≡ old.links
+      → ((q : P) → number_of cmp new (received_by q)
+      ≡ cond (same_peer cmp p q) (Some n) (number_of cmp old (received_by q)))
+      → HasNumber cmp (received_by p) n old new
+  receiver_numbered p senders links has (sent_by q) = ap (number_in (λ other. same_peer cmp q other.now)) senders
+  receiver_numbered p senders links has (received_by q) = has q
+  receiver_numbered p senders links has (sent_between q r) =
+      ap (number_in (λ other. same_peer cmp q other.0.now && same_peer cmp r other.1.now)) links
 
-  pub pair_numbered : (o p : P) → new.senders ≡ old.senders → new.receivers ≡ old.receivers
-      → ((q r : P) → noted_of cmp new (sent_between q r)
-      ≡ cond (same_peer cmp o q && same_peer cmp p r) (Some n) (noted_of cmp old (sent_between q r)))
-      → IsNoted cmp (sent_between o p) n old new
-  pair_numbered o p senders receivers has (sent_by q) =
-      ap (λ numbers. lookup (λ other. same_peer cmp q other.now) numbers.entries) senders
-  pair_numbered o p senders receivers has (received_by q) =
-      ap (λ numbers. lookup (λ other. same_peer cmp q other.now) numbers.entries) receivers
-  pair_numbered o p senders receivers has (sent_between q r) = has q r
+  pub link_numbered : (o p : P) → new.senders ≡ old.senders → new.receivers ≡ old.receivers
+      → ((q r : P) → number_of cmp new (sent_between q r)
+      ≡ cond (same_peer cmp o q && same_peer cmp p r) (Some n) (number_of cmp old (sent_between q r)))
+      → HasNumber cmp (sent_between o p) n old new
+  link_numbered o p senders receivers has (sent_by q) = ap (number_in (λ other. same_peer cmp q other.now)) senders
+  link_numbered o p senders receivers has (received_by q) =
+      ap (number_in (λ other. same_peer cmp q other.now)) receivers
+  link_numbered o p senders receivers has (sent_between q r) = has q r
 
 both_same : (a b : Ordering) → is_eq (ordering_then a b) ≡ (is_eq a && is_eq b)
 both_same Less b = refl
 both_same Equal b = refl
 both_same Greater b = refl
 
--- two pairs are one in the order of pairs where both peers are
-pub by_both : {P : Type 0} (cmp : P → P → Ordering) (n : ℕ) (o p q r : P) (old new : List ((Bor P × Bor P) × ℕ))
-    → lookup (λ other. is_eq (ordering_then (cmp q other.0.now) (cmp r other.1.now))) new
+-- a link is another one where both peers are
+pub link_is : {P : Type 0} (cmp : P → P → Ordering) (q r : P) (numbers : Numbers (Bor P × Bor P))
+    → number_in (λ other. is_eq (ordering_then (cmp q other.0.now) (cmp r other.1.now))) numbers
+    ≡ number_in (λ other. same_peer cmp q other.0.now && same_peer cmp r other.1.now) numbers
+link_is cmp q r numbers = numbers_agree _ _ numbers (λ k. both_same (cmp q k.0.now) (cmp r k.1.now))
+
+-- so links get their numbers by the order of pairs
+pub by_both : {P : Type 0} (cmp : P → P → Ordering) (n : ℕ) (o p q r : P) (old new : Numbers (Bor P × Bor P))
+    → number_in (λ other. is_eq (ordering_then (cmp q other.0.now) (cmp r other.1.now))) new
     ≡ cond (is_eq (ordering_then (cmp o q) (cmp p r))) (Some n)
-    (lookup (λ other. is_eq (ordering_then (cmp q other.0.now) (cmp r other.1.now))) old)
-    → lookup (λ other. same_peer cmp q other.0.now && same_peer cmp r other.1.now) new
+    (number_in (λ other. is_eq (ordering_then (cmp q other.0.now) (cmp r other.1.now))) old)
+    → number_in (λ other. same_peer cmp q other.0.now && same_peer cmp r other.1.now) new
     ≡ cond (same_peer cmp o q && same_peer cmp p r) (Some n)
-    (lookup (λ other. same_peer cmp q other.0.now && same_peer cmp r other.1.now) old)
+    (number_in (λ other. same_peer cmp q other.0.now && same_peer cmp r other.1.now) old)
 by_both cmp n o p q r old new has =
-    let had = lookup (λ other. is_eq (ordering_then (cmp q other.0.now) (cmp r other.1.now))) old in
-    lookup_agrees _ _ new (λ k. sym (both_same (cmp q k.0.now) (cmp r k.1.now))) ∙ has
-    ∙ ap (λ b. cond b (Some n) had) (both_same (cmp o q) (cmp p r))
-    ∙ ap (cond (same_peer cmp o q && same_peer cmp p r) (Some n))
-    (lookup_agrees _ _ old (λ k. both_same (cmp q k.0.now) (cmp r k.1.now)))
+    sym (link_is cmp q r new) ∙ has
+    ∙ ap (λ b. cond b (Some n) (number_in (λ other. is_eq (ordering_then (cmp q other.0.now) (cmp r other.1.now))) old))
+    (both_same (cmp o q) (cmp p r))
+    ∙ ap (cond (same_peer cmp o q && same_peer cmp p r) (Some n)) (link_is cmp q r old)

@@ -9,15 +9,14 @@ ghost use Rattle.fair_rates.specs.Fairness.UnderCaps.{cap_of};
 ghost use Rattle.fair_rates.specs.Sides.Subjects.{sides_of, asks_of_one, same_subject};
 ghost use Rattle.fair_rates.specs.Sides.Subjects.{sent_by, received_by, sent_between};
 ghost use Rattle.fair_rates.specs.Sides.SideOf.{side_of};
-ghost use Rattle.fair_rates.specs.Sides.Registry.{FindsSides, Registers, subject_of, is_noted};
+ghost use Rattle.fair_rates.specs.Sides.Registry.{FindsSides, Registers, subject_of};
 
 use crate::bandwidth::known::{Ends, KnownCaps};
-use crate::bandwidth::recipients::Recipients;
+use crate::bandwidth::numbers::{Found, Numbers};
 use crate::bandwidth::{Flow, FlowCaps};
 use crate::error::Error;
 use crate::peer::Peer;
 use std::alloc::{AllocError, Global};
-use std::collections::BTreeMap;
 
 /// A new side has room for so many users, before its list has to move.
 const FEW_USERS: usize = 32;
@@ -25,9 +24,6 @@ const FEW_USERS: usize = 32;
 /// So many of the first sides have room for as many users more as there are sides before them. So each
 /// asks for another size, and finds a piece of memory that a side gave back.
 const VARIED_SIDES: usize = 256;
-
-/// Among so many of the first sides, that of a peer is found without a map.
-const FIRST_SIDES: usize = 12;
 
 /// There is room for so many sides, before their list has to move.
 const FEW_SIDES: usize = 16;
@@ -49,60 +45,40 @@ enum Subject<'a, P> {
     SentBetween(&'a P, &'a P),
 }
 
-impl<'a, P: Peer> Subject<'a, P> {
-    /// Whether the sides of the two are one.
-    fn is_same(&self, other: &Subject<'a, P>) -> bool
-        ensures { result ≡ same_subject P.cmp (subject_of self.now) (subject_of other.now) }
-    {
-        match (self, other) {
-            (Subject::SentBy(one), Subject::SentBy(two)) => one.cmp(two).is_eq(),
-            (Subject::ReceivedBy(one), Subject::ReceivedBy(two)) => one.cmp(two).is_eq(),
-            (
-                Subject::SentBetween(origin, recipient),
-                Subject::SentBetween(other_origin, other_recipient),
-            ) => origin.cmp(other_origin).is_eq() && recipient.cmp(other_recipient).is_eq(),
-            _ => false,
-        }
-    }
-}
-
-/// The numbers of the sides that flows asked for last, of each kind.
+/// Where the numbers are expected to stand that flows ask for next, of each kind: that of the sender that
+/// came last, and those after the recipient and the link that came last.
 #[derive(Drop)]
-struct Latest {
+struct Expected {
     sender: usize,
     recipient: usize,
     link: usize,
 }
 
-impl Latest {
-    /// Notes the number of the side that was asked for.
-    fn note<P>(&mut self, subject: &Subject<P>, number: usize) {
+impl Expected {
+    /// Notes where the number stands that was asked for.
+    fn set<P>(&mut self, subject: &Subject<P>, place: usize) {
         match subject {
-            Subject::SentBy(_) => self.sender = number,
-            Subject::ReceivedBy(_) => self.recipient = number,
-            Subject::SentBetween(_, _) => self.link = number,
+            Subject::SentBy(_) => self.sender = place,
+            Subject::ReceivedBy(_) => self.recipient = place.wrapping_add(1),
+            Subject::SentBetween(_, _) => self.link = place.wrapping_add(1),
         }
     }
 }
 
-/// The sides that have come into being, with the subject of each, and the number of each, its place
-/// among them, by its subject, but for the first ones of peers, which are found in their list. There
-/// is a map for each kind, which is by peers alone and has no kind to compare.
-/// Where there are many, recipients in their order spare most searches.
+/// The sides that have come into being, and the number of each, its place among them, by its subject.
+/// The numbers of each kind are by peers alone, and have no kind to compare.
 #[derive(Drop)]
 struct Registry<'a, P: Ord> {
     sides: Vec<Side>,
-    subjects: Vec<Subject<'a, P>>,
-    latest: Latest,
-    recipients: Recipients<'a, P>,
-    senders: BTreeMap<&'a P, usize>,
-    receivers: BTreeMap<&'a P, usize>,
-    pairs: BTreeMap<(&'a P, &'a P), usize>,
+    expected: Expected,
+    senders: Numbers<&'a P>,
+    receivers: Numbers<&'a P>,
+    links: Numbers<(&'a P, &'a P)>,
 }
 
 impl<'a, P: Peer> Registry<'a, P> {
-    ghost use Rattle.fair_rates.specs.Sides.Registry.{IsRegistryOf, IsNoted, IsNotedIfLate, number_of, place_from};
-    ghost use Rattle.std.specs.Prelude.{take};
+    ghost use Rattle.fair_rates.specs.Sides.Registry.{IsRegistryOf, IsInOrder, IsGapFor, HasNumber, number_of};
+    ghost use Rattle.std.specs.Prelude.{None};
 
     /// No flow has asked yet.
     fn new(alloc: Global) -> Result<Registry<'a, P>, AllocError>
@@ -110,143 +86,47 @@ impl<'a, P: Peer> Registry<'a, P> {
     {
         Ok(Registry {
             sides: Vec::with_capacity(alloc, FEW_SIDES)?,
-            subjects: Vec::with_capacity(alloc, FEW_SIDES)?,
-            latest: Latest {
+            expected: Expected {
                 sender: 0,
                 recipient: 0,
                 link: 0,
             },
-            recipients: Recipients::new(alloc),
-            senders: BTreeMap::new(alloc),
-            receivers: BTreeMap::new(alloc),
-            pairs: BTreeMap::new(alloc),
+            senders: Numbers::new(alloc),
+            receivers: Numbers::new(alloc),
+            links: Numbers::new(alloc),
         })
     }
 
-    /// Whether the side of that number is the one of the subject.
-    fn has(&self, number: usize, subject: &Subject<'a, P>) -> bool
-        requires { FindsSides P.cmp self.now }
-        ensures { result ≡ true → number_of P.cmp self.now (subject_of subject.now) ≡ Some number }
-    {
-        match self.subjects.get(number) {
-            Some(kept) => kept.is_same(subject),
-            None => false,
-        }
-    }
-
-    /// Whether the side of that number is of what the peer sends.
-    fn is_of_sender(&self, number: usize, peer: &P) -> bool
-        requires { FindsSides P.cmp self.now }
-        ensures { result ≡ true → number_of P.cmp self.now (sent_by peer.now) ≡ Some number }
-    {
-        match self.subjects.get(number) {
-            Some(Subject::SentBy(kept)) => kept.cmp(&peer).is_eq(),
-            _ => false,
-        }
-    }
-
-    /// Whether the side of that number is of what the peer receives.
-    fn is_of_recipient(&self, number: usize, peer: &P) -> bool
-        requires { FindsSides P.cmp self.now }
-        ensures { result ≡ true → number_of P.cmp self.now (received_by peer.now) ≡ Some number }
-    {
-        match self.subjects.get(number) {
-            Some(Subject::ReceivedBy(kept)) => kept.cmp(&peer).is_eq(),
-            _ => false,
-        }
-    }
-
-    /// The number of the side of the subject, if there is one. Links mostly come in one order: where
-    /// that of a link is one of the two after the latest, nothing is searched.
-    fn number(&self, subject: &Subject<'a, P>) -> Option<usize>
-        requires { FindsSides P.cmp self.now }
-        ensures { result ≡ number_of P.cmp self.now (subject_of subject.now) }
-    {
-        if let Subject::SentBetween(_, _) = subject {
-            let next = self.latest.link.wrapping_add(1);
-            if self.has(next, subject) {
-                return Some(next);
-            }
-            let after = next.wrapping_add(1);
-            if self.has(after, subject) {
-                return Some(after);
-            }
-        }
-        self.find(subject)
-    }
-
-    /// The number of the side of the subject, if there is one: it is found among the first ones, or
-    /// in the map for its kind.
-    fn find(&self, subject: &Subject<'a, P>) -> Option<usize>
-        ensures { result ≡ number_of P.cmp self.now (subject_of subject.now) }
+    /// The number of the side of the subject, if there is one.
+    fn find(&self, subject: &Subject<'a, P>) -> Found
+        requires { IsInOrder P.cmp self.now }
+        ensures number { result.number ≡ number_of P.cmp self.now (subject_of subject.now) }
+        ensures gap { result.number ≡ None → IsGapFor P.cmp self.now subject.now result.place }
     {
         match subject {
-            Subject::SentBy(peer) => match self.find_early(subject) {
-                Some(number) => Some(number),
-                None => self.senders.get(peer).copied(),
-            },
-            Subject::ReceivedBy(peer) => match self.find_early(subject) {
-                Some(number) => Some(number),
-                None => self.receivers.get(peer).copied(),
-            },
-            Subject::SentBetween(origin, recipient) => {
-                self.pairs.get(&(*origin, *recipient)).copied()
-            }
+            Subject::SentBy(peer) => self.senders.find(peer),
+            Subject::ReceivedBy(peer) => self.receivers.find(peer),
+            Subject::SentBetween(origin, recipient) => self.links.find(&(*origin, *recipient)),
         }
     }
 
-    /// The number of the side of the subject, if it is among the first ones.
-    fn find_early(&self, subject: &Subject<'a, P>) -> Option<usize>
-        ensures { result ≡ place_from P.cmp 0 (take 12 (map subject_of self.now.subjects.items))
-            (subject_of subject.now) }
-    {
-        for number in 0..self.subjects.len().min(FIRST_SIDES) {
-            if self.subjects[number].is_same(subject) {
-                return Some(number);
-            }
-        }
-        None
-    }
-
-    /// Notes the number of the side of the subject, unless it is found without a map.
-    fn note_number(&mut self, subject: &Subject<'a, P>, number: usize) -> Result<(), Error>
-        ensures numbers { OnOk result (IsNotedIfLate P.cmp (subject_of subject.now) number self.old self.new) }
+    /// Notes the number of the side of a subject that has none, which would stand at that place.
+    fn note(&mut self, place: usize, subject: &Subject<'a, P>, number: usize) -> Result<(), Error>
+        requires order { IsInOrder P.cmp self.old }
+        requires gap { IsGapFor P.cmp self.old subject.now place }
+        ensures order { OnOk result (IsInOrder P.cmp self.new) }
+        ensures numbers { OnOk result (HasNumber P.cmp (subject_of subject.now) number self.old self.new) }
         ensures sides { self.new.sides ≡ self.old.sides }
-        ensures subjects { self.new.subjects ≡ self.old.subjects }
-        ensures refused { IfErr result (λ e. e ≡ Error.OutOfMemory) }
-    {
-        if is_noted(subject, number) {
-            self.set_number(subject, number)?;
-        }
-        Ok(())
-    }
-
-    /// Notes the number of the side of the subject in the map for its kind.
-    fn set_number(&mut self, subject: &Subject<'a, P>, number: usize) -> Result<(), Error>
-        ensures numbers { OnOk result (IsNoted P.cmp (subject_of subject.now) number self.old self.new) }
-        ensures sides { self.new.sides ≡ self.old.sides }
-        ensures subjects { self.new.subjects ≡ self.old.subjects }
         ensures refused { IfErr result (λ e. e ≡ Error.OutOfMemory) }
     {
         match subject {
-            Subject::SentBy(peer) => self.senders.insert(peer, number)?,
-            Subject::ReceivedBy(peer) => self.receivers.insert(peer, number)?,
+            Subject::SentBy(peer) => self.senders.note(place, *peer, number)?,
+            Subject::ReceivedBy(peer) => self.receivers.note(place, *peer, number)?,
             Subject::SentBetween(origin, recipient) => {
-                self.pairs.insert((*origin, *recipient), number)?
+                self.links.note(place, (*origin, *recipient), number)?;
             }
-        };
+        }
         Ok(())
-    }
-}
-
-/// Whether the number of the side of the subject is noted in a map: it is that of a link, or not among
-/// the first.
-fn is_noted<P: Peer>(subject: &Subject<P>, number: usize) -> bool
-    ensures { result ≡ is_noted (subject_of subject.now) number }
-{
-    match subject {
-        Subject::SentBetween(_, _) => true,
-        _ => number >= FIRST_SIDES,
     }
 }
 
@@ -287,8 +167,9 @@ fn register<'a, P: Peer, C: KnownCaps<P>>(
     } ∷ []) registry.old registry.new) }
     ensures refused { IfErr result (λ e. e ≡ Error.OutOfMemory) }
 {
-    if let Some(number) = registry.number(&subject) {
-        registry.latest.note(&subject, number);
+    let found = registry.find(&subject);
+    registry.expected.set(&subject, found.place);
+    if let Some(number) = found.number {
         registry.sides[number].users.push(place)?;
         return Ok(());
     }
@@ -299,9 +180,7 @@ fn register<'a, P: Peer, C: KnownCaps<P>>(
     let mut users = Vec::with_capacity(alloc, room_of(number))?;
     users.push(place)?;
     registry.sides.push(Side { cap, users })?;
-    registry.latest.note(&subject, number);
-    registry.note_number(&subject, number)?;
-    registry.subjects.push(subject)?;
+    registry.note(found.place, &subject, number)?;
     Ok(())
 }
 
@@ -322,7 +201,33 @@ fn register_link<'a, P: Peer, C: KnownCaps<P>>(
     } ∷ []) registry.old registry.new) }
     ensures refused { IfErr result (λ e. e ≡ Error.OutOfMemory) }
 {
-    if registry.pairs.is_empty() && caps.link(ends.origin, ends.recipient).is_none() {
+    if registry.links.is_empty() && caps.link(ends.origin, ends.recipient).is_none() {
+        return Ok(());
+    }
+    register_any_link(alloc, registry, place, ends, caps)
+}
+
+/// The same where some link may have a cap. Links mostly come in one order.
+fn register_any_link<'a, P: Peer, C: KnownCaps<P>>(
+    alloc: Global,
+    registry: &mut Registry<'a, P>,
+    place: usize,
+    ends: &Ends<'a, P>,
+    caps: &C,
+) -> Result<(), Error>
+    requires { FindsSides P.cmp registry.old }
+    ensures registers { OnOk result (Registers P.cmp (record {
+      place = place;
+      subject = sent_between ends.now.origin.now ends.now.recipient.now;
+      answer = (C.caps caps.now).link ends.now.origin.now ends.now.recipient.now;
+    } ∷ []) registry.old registry.new) }
+    ensures refused { IfErr result (λ e. e ≡ Error.OutOfMemory) }
+{
+    let link = (ends.origin, ends.recipient);
+    let expected = registry.expected.link;
+    if let Some(number) = registry.links.number_at(expected, &link) {
+        registry.expected.link = expected.wrapping_add(1);
+        registry.sides[number].users.push(place)?;
         return Ok(());
     }
     let between = Subject::SentBetween(ends.origin, ends.recipient);
@@ -346,16 +251,16 @@ fn register_sender<'a, P: Peer, C: KnownCaps<P>>(
     } ∷ []) registry.old registry.new) }
     ensures refused { IfErr result (λ e. e ≡ Error.OutOfMemory) }
 {
-    let latest = registry.latest.sender;
-    if registry.is_of_sender(latest, origin) {
-        registry.sides[latest].users.push(place)?;
+    let expected = registry.expected.sender;
+    if let Some(number) = registry.senders.number_at(expected, &origin) {
+        registry.sides[number].users.push(place)?;
         return Ok(());
     }
     register(alloc, registry, place, Subject::SentBy(origin), caps)
 }
 
-/// Registers that the flow at `place` asks for the side of its recipient, at whose number there is a
-/// guess: where none is kept, it is the one after the latest.
+/// Registers that the flow at `place` asks for the side of its recipient. Senders mostly have the same
+/// recipients in one order.
 fn register_recipient<'a, P: Peer, C: KnownCaps<P>>(
     alloc: Global,
     registry: &mut Registry<'a, P>,
@@ -371,19 +276,17 @@ fn register_recipient<'a, P: Peer, C: KnownCaps<P>>(
     } ∷ []) registry.old registry.new) }
     ensures refused { IfErr result (λ e. e ≡ Error.OutOfMemory) }
 {
-    let next = registry.latest.recipient.wrapping_add(1);
-    let guess = registry.recipients.guess(recipient).unwrap_or(next);
-    if registry.is_of_recipient(guess, recipient) {
-        registry.latest.recipient = guess;
-        registry.sides[guess].users.push(place)?;
+    let expected = registry.expected.recipient;
+    if let Some(number) = registry.receivers.number_at(expected, &recipient) {
+        registry.expected.recipient = expected.wrapping_add(1);
+        registry.sides[number].users.push(place)?;
         return Ok(());
     }
-    register_searched(alloc, registry, place, recipient, caps)
+    register_other(alloc, registry, place, recipient, caps)
 }
 
-/// The same where the guess failed. Where there are many sides, the number of the recipient's is kept
-/// for the guesses to come.
-fn register_searched<'a, P: Peer, C: KnownCaps<P>>(
+/// The same where another recipient was expected. Some senders leave one out.
+fn register_other<'a, P: Peer, C: KnownCaps<P>>(
     alloc: Global,
     registry: &mut Registry<'a, P>,
     place: usize,
@@ -398,19 +301,13 @@ fn register_searched<'a, P: Peer, C: KnownCaps<P>>(
     } ∷ []) registry.old registry.new) }
     ensures refused { IfErr result (λ e. e ≡ Error.OutOfMemory) }
 {
-    if let Some(number) = registry.recipients.search(recipient) {
-        if registry.is_of_recipient(number, recipient) {
-            registry.latest.recipient = number;
-            registry.sides[number].users.push(place)?;
-            return Ok(());
-        }
+    let next = registry.expected.recipient.wrapping_add(1);
+    if let Some(number) = registry.receivers.number_at(next, &recipient) {
+        registry.expected.recipient = next.wrapping_add(1);
+        registry.sides[number].users.push(place)?;
+        return Ok(());
     }
-    register(alloc, registry, place, Subject::ReceivedBy(recipient), caps)?;
-    let number = registry.latest.recipient;
-    if registry.subjects.len() > FIRST_SIDES && registry.is_of_recipient(number, recipient) {
-        registry.recipients.keep(recipient, number)?;
-    }
-    Ok(())
+    register(alloc, registry, place, Subject::ReceivedBy(recipient), caps)
 }
 
 /// Registers that the flow at `place` asks for its sides, under these caps.

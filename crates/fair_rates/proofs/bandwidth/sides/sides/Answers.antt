@@ -82,14 +82,14 @@ returns-clause-sides g c =
     let whole : take c.loop-place.place c.args.flows.now ≡ c.args.flows.now = take_all _ _ (omega arith) in (
       h.answered,
       record { flows_are = h.flows_are ∙ whole; last = _; calls = h.calls },
-      h.registered.sides_are,
+      h.registered.registered.sides_are,
     )
 
 pub returns-clause-users_are_flows : goal.returns-clause-users_are_flows
 returns-clause-users_are_flows g c k d within i e below =
     let h = c.loop-place.invariant.passed in
     let last =
-    (users_of g.P.Ord.cmp g.met.P.Ord.total h.answered c.loop-place.registry.sides.items h.registered.sides_are k d
+    (users_of g.P.Ord.cmp g.met.P.Ord.total h.answered c.loop-place.registry.sides.items h.registered.registered.sides_are k d
     within).1
     i e below in
     omega (arith, h.count, last)
@@ -98,5 +98,5 @@ pub returns-clause-users_rise : goal.returns-clause-users_rise
 returns-clause-users_rise g c k d within =
     let h = c.loop-place.invariant.passed in
     AllPairs-from_later (λ a b. a < b) _
-    (users_of g.P.Ord.cmp g.met.P.Ord.total h.answered c.loop-place.registry.sides.items h.registered.sides_are k d
+    (users_of g.P.Ord.cmp g.met.P.Ord.total h.answered c.loop-place.registry.sides.items h.registered.registered.sides_are k d
     within).0

@@ -21,7 +21,7 @@ loop-place-preserved g c =
 pub returns-clause-sides : goal.returns-clause-sides
 returns-clause-sides g c =
     let whole : take c.loop-place.place c.args.flows.now ≡ c.args.flows.now = take_all _ _ (omega arith) in
-    c.loop-place.invariant.sides_are
+    c.loop-place.invariant.registered.sides_are
     ∙ ap (λ flows. sides_of g.P.Ord.cmp (map (answered_for (g.C.KnownCaps.caps c.args.caps.now)) flows)) whole
 
 pub returns-clause-users_are_flows : goal.returns-clause-users_are_flows
@@ -31,6 +31,6 @@ returns-clause-users_are_flows g c k d within i e below =
     let last =
     (users_of g.P.Ord.cmp g.met.P.Ord.total (map (answered_for (g.C.KnownCaps.caps c.args.caps.now)) flows)
     c.loop-place.registry.sides.items
-    c.loop-place.invariant.sides_are k d within).1
+    c.loop-place.invariant.registered.sides_are k d within).1
     i e below in
     omega (arith, length-map flows (answered_for (g.C.KnownCaps.caps c.args.caps.now)), ap length whole, last)
