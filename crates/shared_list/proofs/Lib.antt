@@ -3,3 +3,4 @@ pub mod LateEdits
 pub mod Parting
 pub mod Rows
 pub mod Trees
+pub mod Windows

@@ -1,12 +1,13 @@
 -- Rows of pointers, as the items that they point to.
 use Rattle.std.proofs.Common.{◌≡◌, ℕ, zero, suc, ◌<◌, ◌+◌, List, [], ◌∷◌, ◌++◌, length, slice_get, slice_set, Some}
 use Rattle.std.proofs.Common.{take, drop}
-use Rattle.std.proofs.Common.{refl, ap, ◌∙◌, arith, slice_index_or, add-one, append_assoc, ◌≤◌}
+use Rattle.std.proofs.Common.{refl, sym, ap, ap₂, ◌∙◌, arith, slice_index_or, add-one, append_assoc, ◌≤◌}
 use Rattle.std.specs.List.{insert, remove, AllZip, AppendsClones}
 use Rattle.std.proofs.lemmas.List.{map-append, take-map, drop-map, length-drop}
 use Rattle.std.specs.declared.rc.Rc.{Rc}
 use Rattle.std.specs.declared.alloc.Global.{Global}
 use Rattle.shared_list.specs.Tree.{values}
+use Rattle.shared_list.specs.Windows.{without, with_row}
 
 module _ {T : Type 0} where
   pub insert_value : (xs : List (Rc T Global)) (at : ℕ) (x : Rc T Global)
@@ -73,3 +74,37 @@ module _ {T : Type 0} where
       ap (λ l. values (take at xs) ++ x.value ∷ values l)
       (all_of (drop (at + 1) xs) n (omega (arith, rest, length-drop (at + 1) xs)))
       ∙ rw add-one (parted_from xs at x low there)
+
+  -- clones of two rows
+  pub both : (none first new before after : List (Rc T Global)) → none ≡ []
+      → AppendsClones (λ r copy. copy.value ≡ r.value) none first before
+      → AppendsClones (λ r copy. copy.value ≡ r.value) first new after
+      → values new ≡ values before ++ values after
+  both none first new before after empty one two =
+      append_values first new after two
+      ∙ ap (λ l. l ++ values after) (append_values none first before one ∙ ap (λ l. values l ++ values before) empty)
+
+  -- those from a place on
+  pub from_place : (xs : List (Rc T Global)) (at n : ℕ) → n + at ≡ length xs
+      → values (take n (drop at xs)) ≡ drop at (values xs)
+  from_place xs at n long =
+      ap values (all_of (drop at xs) n (omega (arith, long, length-drop at xs)))
+      ∙ sym (drop-map (λ r. r.value) at xs)
+
+  -- where some go, the others are left
+  pub left_of : (xs : List (Rc T Global)) (at some n : ℕ) → n + (at + some) ≡ length xs
+      → values (take at xs) ++ values (take n (drop (at + some) xs)) ≡ without (values xs) at some
+  left_of xs at some n long =
+      ap₂ (λ l r. l ++ r) (sym (take-map (λ r. r.value) at xs)) (from_place xs (at + some) n long)
+
+  -- a row in the middle of others
+  pub amid : (xs row : List (Rc T Global)) (at n k : ℕ) (x : Rc T Global) → 0 < length row
+      → x ≡ slice_index_or row 0 x → k + 1 ≡ length row → n + at ≡ length xs
+      → values (take at xs) ++ x.value ∷ (values (take k (drop 1 row)) ++ values (take n (drop at xs)))
+      ≡ with_row (values xs) at (values row)
+  amid xs [] at n k x some first rest long = absurd (omega (arith, some))
+  amid xs (y ∷ ys) at n k x some first rest long =
+      let same : x ≡ y = first in
+      ap₂ (λ l r. l ++ x.value ∷ (values (take k ys) ++ r)) (sym (take-map (λ r. r.value) at xs)) (from_place xs at n long)
+      ∙ ap (λ z. take at (values xs) ++ z.value ∷ (values (take k ys) ++ drop at (values xs))) same
+      ∙ ap (λ l. take at (values xs) ++ y.value ∷ (values l ++ drop at (values xs))) (all_of ys k (omega (arith, rest)))

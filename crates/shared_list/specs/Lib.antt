@@ -1,3 +1,4 @@
 pub mod Late
 pub mod Places
 pub mod Tree
+pub mod Windows

@@ -1,17 +1,25 @@
-//! A list of which one edit is made late.
+//! A list of which edits are made late.
 ghost use Rattle.std.specs.Prelude.{◌≡◌, ◌<◌, ◌≤◌, [], length, if◌then◌else◌, is_ok};
-ghost use Rattle.std.specs.Prelude.{slice_get, option_map, true, not, Some, IfOk, OnOk, ◌^◌};
+ghost use Rattle.std.specs.Prelude.{slice_get, option_map, true, not, Some, IfOk, OnOk, OnErr, ◌^◌};
 ghost use Rattle.std.specs.List.{find, insert, remove};
 ghost use Rattle.shared_list.specs.Places.{are_parted, IsParting};
 ghost use Rattle.shared_list.specs.Late.{with_late, IsLate};
+ghost use Rattle.shared_list.specs.declared.late.Late.TheVariants.{Nothing};
 
 use super::list::SharedList;
 use super::seek::Seek;
+use super::window::Window;
 use std::alloc::{AllocError, Global};
 use std::marker::Model;
 use std::rc::Rc;
 
-/// An edit that is yet to be made.
+/// How many items a list has at least of which a part is edited in a window.
+const FAR: usize = 256;
+
+/// How many edits in a row come before a window is opened.
+const OFTEN: usize = 4;
+
+/// Edits that are yet to be made.
 #[derive(Drop)]
 pub(crate) enum Late<T> {
     /// None.
@@ -26,13 +34,38 @@ pub(crate) enum Late<T> {
     Removal {
         at: usize,
     },
+    /// The list is yet to come to be as it is seen through a window.
+    Edits(Window<T>),
 }
 
 impl<T: Drop> Late<T> {
-    /// The edit is made.
-    fn make(&self, list: &mut SharedList<T>) -> Result<(), AllocError>
-        requires { IsLate self.now list.old }
-        ensures { list.new ≡ (if is_ok result then with_late self.now list.old else list.old) }
+    /// Whether no edit is late.
+    fn is_nothing(&self) -> bool
+        ensures { result ≡ true → self.now ≡ Nothing }
+    {
+        matches!(self, Late::Nothing)
+    }
+
+    /// The edits are made, if there are some. Where memory is refused, some may be, and the others are
+    /// still late.
+    fn make(&mut self, list: &mut SharedList<T>) -> Result<(), AllocError>
+        requires { IsLate self.old list.old }
+        ensures made { OnOk result (list.new ≡ with_late self.old list.old) }
+        ensures late { OnErr result (IsLate self.new list.new) }
+        ensures kept { OnErr result (with_late self.new list.new ≡ with_late self.old list.old) }
+    {
+        if let Late::Nothing = self {
+            return Ok(());
+        }
+        self.make_some(list)
+    }
+
+    /// As `make`, where there are some.
+    fn make_some(&mut self, list: &mut SharedList<T>) -> Result<(), AllocError>
+        requires { IsLate self.old list.old }
+        ensures made { OnOk result (list.new ≡ with_late self.old list.old) }
+        ensures late { OnErr result (IsLate self.new list.new) }
+        ensures kept { OnErr result (with_late self.new list.new ≡ with_late self.old list.old) }
     {
         match self {
             Late::Nothing => Ok(()),
@@ -41,17 +74,69 @@ impl<T: Drop> Late<T> {
                 list.remove(*at)?;
                 Ok(())
             }
+            Late::Edits(window) => window.close(list),
         }
+    }
+}
+
+/// Where edits come, which is a matter of cost alone.
+#[derive(Drop)]
+struct Pace {
+    /// Where the next edit is expected.
+    near: usize,
+    /// How many edits in a row came where expected.
+    run: usize,
+}
+
+impl Pace {
+    /// No edit has come.
+    fn new() -> Pace {
+        Pace { near: 0, run: 0 }
+    }
+
+    /// An edit comes at a place, after which another is expected at the next.
+    fn come(&mut self, at: usize, next: usize) {
+        self.run = if at == self.near {
+            self.run.saturating_add(1)
+        } else {
+            0
+        };
+        self.near = next;
+    }
+
+    /// Whether many edits in a row came where expected.
+    fn is_even(&self) -> bool {
+        self.run >= OFTEN
+    }
+}
+
+/// How many places near the one expected are looked at first.
+const NEAR: usize = 3;
+
+/// A place below `high` and not below `low`: the one that is near, if so many are left to look at,
+/// or else the one in the middle.
+fn place_between(near: usize, low: usize, high: usize, left: usize) -> usize
+    requires { low < high }
+    ensures low { low ≤ result }
+    ensures high { result < high }
+{
+    if left > 0 {
+        near.max(low).min(high - 1)
+    } else {
+        low + (high - low) / 2
     }
 }
 
 /// A list of items, of which a clone costs nothing. To edit a list copies the way to that place, as
 /// long as another list shares it. So an edit of what is shared is kept beside the list until the
-/// next one, or until `settle`, which comes once nothing is shared any more.
+/// next one, or until `settle`, which comes once nothing is shared any more. And where many edits
+/// come in a row, each beside the last, they are made in a window, and the list gets all of them at
+/// once.
 #[derive(Drop)]
 pub struct LateList<T> {
     settled: SharedList<T>,
     late: Late<T>,
+    pace: Pace,
 }
 
 impl<T> Model for LateList<T> {
@@ -73,6 +158,7 @@ impl<T: Drop> LateList<T> {
         LateList {
             settled: SharedList::new(),
             late: Late::Nothing,
+            pace: Pace::new(),
         }
     }
 
@@ -85,6 +171,7 @@ impl<T: Drop> LateList<T> {
             Late::Nothing => len,
             Late::Insertion { .. } => len + 1,
             Late::Removal { .. } => len - 1,
+            Late::Edits(window) => window.len(&self.settled),
         }
     }
 
@@ -113,6 +200,7 @@ impl<T: Drop> LateList<T> {
                     None
                 }
             }
+            Late::Edits(window) => window.get(&self.settled, at),
         }
     }
 
@@ -138,10 +226,21 @@ impl<T: Drop> LateList<T> {
         ensures items { self.new ≡ (if is_ok result then insert self.old at item else self.old) }
         ensures fits { OnOk result (length self.new < 2 ^ 64) }
     {
+        if let Late::Edits(window) = &mut self.late {
+            if window.has_room(at) {
+                window.len(&self.settled).checked_add(1).ok_or(AllocError)?;
+                window.insert(at, item)?;
+                self.pace.near = at.saturating_add(1);
+                return Ok(());
+            }
+        }
         self.late.make(&mut self.settled)?;
         self.late = Late::Nothing;
+        self.pace.come(at, at.saturating_add(1));
         if !self.settled.is_shared() {
-            return self.settled.insert(alloc, at, item);
+            self.settled.insert(alloc, at, item)?;
+            self.open(at);
+            return Ok(());
         }
         self.settled.len().checked_add(1).ok_or(AllocError)?;
         let item = Rc::new(alloc, item).map_err(|_refused| AllocError)?;
@@ -159,14 +258,39 @@ impl<T: Drop> LateList<T> {
         ensures items { self.new ≡ (if is_ok result then remove self.old at else self.old) }
         ensures item { IfOk result (λ item. slice_get self.old at ≡ Some item.value) }
     {
+        if let Late::Edits(window) = &mut self.late {
+            if window.has(at) {
+                self.pace.near = at;
+                return Ok(window.remove(at));
+            }
+        }
         self.late.make(&mut self.settled)?;
         self.late = Late::Nothing;
+        self.pace.come(at, at);
         if !self.settled.is_shared() {
-            return self.settled.remove(at);
+            let item = self.settled.remove(at)?;
+            self.open(at);
+            return Ok(item);
         }
         let item = self.settled.share(at)?;
         self.late = Late::Removal { at };
         Ok(item)
+    }
+
+    /// The list stays. If many edits came in a row, and none is late, it is seen through a window at that
+    /// place from now on, where memory allows.
+    fn open(&mut self, at: usize)
+        ensures { self.new ≡ self.old }
+    {
+        if !self.pace.is_even() || self.settled.len() < FAR || !self.late.is_nothing() {
+            return;
+        }
+        let Some(alloc) = self.settled.alloc() else {
+            return;
+        };
+        if let Ok(window) = Window::open(alloc, &self.settled, at) {
+            self.late = Late::Edits(window);
+        }
     }
 
     /// Where memory allows, no edit is late any more.
@@ -186,6 +310,9 @@ impl<T: Drop> LateList<T> {
             → IsParting (S.is_before sought.now) self.now result.0 }
         ensures item { option_map (λ item. item.now) result.1 ≡ slice_get self.now result.0 }
     {
+        if let Late::Edits(_) = &self.late {
+            return self.locate_near(sought, self.pace.near);
+        }
         let (at, item) = self.settled.locate(sought);
         match &self.late {
             Late::Nothing => (at, item),
@@ -203,8 +330,10 @@ impl<T: Drop> LateList<T> {
         let mut low = 0;
         let mut high = self.len();
         let mut first: Option<&T> = None;
+        let mut left = NEAR;
         while low < high {
-            let at = near.max(low).min(high - 1);
+            let at = place_between(near, low, high, left);
+            left = left.saturating_sub(1);
             let item = self.at(at);
             if sought.is_before(item) {
                 low = at + 1;
@@ -249,8 +378,13 @@ impl<T: Drop> Clone for LateList<T> {
                 item: item.clone()?,
             },
             Late::Removal { at } => Late::Removal { at: *at },
+            Late::Edits(window) => Late::Edits(window.clone()?),
         };
         let settled = self.settled.clone()?;
-        Ok(LateList { settled, late })
+        Ok(LateList {
+            settled,
+            late,
+            pace: Pace::new(),
+        })
     }
 }

@@ -1,9 +1,10 @@
 //! The leaves of the tree.
 ghost use Rattle.std.specs.Prelude.{◌≡◌, ◌<◌, ◌≤◌, [], ◌∷◌, ◌++◌, length, option_map, true};
-ghost use Rattle.std.specs.Prelude.{if◌then◌else◌, is_ok, slice_get, slice_set, Some, IfOk};
+ghost use Rattle.std.specs.Prelude.{if◌then◌else◌, is_ok, slice_get, slice_set, Some, IfOk, OnOk, OnErr, drop};
 ghost use Rattle.std.specs.List.{insert, remove};
 ghost use Rattle.shared_list.specs.Places.{are_parted, IsParting};
 ghost use Rattle.shared_list.specs.Tree.{items_at, values};
+ghost use Rattle.shared_list.specs.Windows.{AreGone};
 
 use super::seek::Seek;
 use std::alloc::{AllocError, Global};
@@ -39,6 +40,50 @@ impl<T: Drop> Leaf<T> {
         let mut items = Vec::with_capacity(alloc, ROOM)?;
         items.extend_with_clones(part)?;
         Ok(Leaf { items })
+    }
+
+    /// The items of two rows.
+    pub(crate) fn of_two(
+        alloc: Global,
+        before: &[Rc<T>],
+        after: &[Rc<T>],
+    ) -> Result<Leaf<T>, AllocError>
+        ensures items { IfOk result (λ leaf. items_at leaf ≡ values before.now ++ values after.now) }
+    {
+        let mut items = Vec::with_capacity(alloc, ROOM)?;
+        items.extend_with_clones(before)?;
+        items.extend_with_clones(after)?;
+        Ok(Leaf { items })
+    }
+
+    /// Those items come to stand at the end.
+    #[tactic(auto, using(crate::proofs::Rows::append_values))]
+    pub(crate) fn append(&mut self, row: &[Rc<T>]) -> Result<(), AllocError>
+        ensures items { OnOk result (items_at self.new ≡ items_at self.old ++ values row.now) }
+    {
+        self.items.extend_with_clones(row)
+    }
+
+    /// The items from that place on.
+    pub(crate) fn from(&self, at: usize) -> &[Rc<T>]
+        ensures { values result.now ≡ drop at (items_at self.now) }
+    {
+        let items = self.items.as_slice();
+        if at < items.len() { &items[at..] } else { &[] }
+    }
+
+    /// Some items from that place on go, and no more than so many. Answers how many.
+    pub(crate) fn take_some(&mut self, at: usize, most: usize) -> Result<usize, AllocError>
+        requires place { at < length (items_at self.old) }
+        requires some { 0 < most }
+        ensures gone { IfOk result (AreGone (items_at self.old) at most (items_at self.new)) }
+        ensures kept { OnErr result (items_at self.new ≡ items_at self.old) }
+    {
+        let items = self.items.as_slice();
+        let some = most.min(items.len() - at);
+        let left = Leaf::of_two(self.alloc(), &items[..at], &items[at + some..])?;
+        *self = left;
+        Ok(some)
     }
 
     /// An item alone.

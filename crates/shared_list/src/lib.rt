@@ -6,6 +6,7 @@ mod leaf;
 mod list;
 mod node;
 mod seek;
+mod window;
 
 pub use late::LateList;
 pub use list::SharedList;

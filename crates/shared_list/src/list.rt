@@ -1,17 +1,19 @@
 //! A list as a tree of shared nodes.
 ghost use Rattle.std.specs.Prelude.{◌≡◌, ◌<◌, ◌≤◌, ◌+◌, [], ◌++◌, ◌∷◌, length, if◌then◌else◌, is_ok};
-ghost use Rattle.std.specs.Prelude.{slice_get, slice_set, option_map, true, not, Some, IfOk, OnOk, ◌^◌};
+ghost use Rattle.std.specs.Prelude.{slice_get, slice_set, option_map, true, not, Some, IfOk, OnOk, OnErr, ◌^◌};
+ghost use Rattle.std.specs.Prelude.{drop};
 ghost use Rattle.std.specs.List.{find, insert, remove};
 ghost use Rattle.shared_list.specs.Places.{are_parted, IsParting};
 ghost use Rattle.shared_list.specs.Tree.{values};
+ghost use Rattle.shared_list.specs.Windows.{with_row, AreGone, IsFront};
 
 use super::leaf::{FEW, Leaf, ROOM};
 use super::node::Node;
 use super::seek::Seek;
 use std::alloc::{AllocError, Global};
 use std::marker::Model;
-use std::mem;
 use std::rc::Rc;
+use std::{mem, slice};
 
 /// A list of items, of which a clone costs nothing.
 #[cycle(shared_list)]
@@ -76,6 +78,92 @@ impl<T: Drop> SharedList<T> {
         ensures { result ≡ length self.now }
     {
         self.len
+    }
+
+    /// Where the list has its memory from, if that is known.
+    pub(crate) fn alloc(&self) -> Option<Global> {
+        let mut rest = self;
+        while let Tree::Fork(node) = &rest.root {
+            rest = &node.after;
+        }
+        match &rest.root {
+            Tree::Leaf(leaf) => Some(leaf.alloc()),
+            _ => None,
+        }
+    }
+
+    /// Items from that place on that stand in a row.
+    pub(crate) fn run(&self, at: usize) -> &[Rc<T>]
+        ensures { IsFront (values result.now) (drop at self.now) }
+    {
+        let mut rest = self;
+        let mut at = at;
+        while let Tree::Fork(node) = &rest.root {
+            let middle = node.before.len();
+            if at < middle {
+                rest = &node.before;
+            } else if at == middle {
+                let own = &node.item;
+                return slice::from_ref(own);
+            } else {
+                at -= middle + 1;
+                rest = &node.after;
+            }
+        }
+        match &rest.root {
+            Tree::Leaf(leaf) => leaf.from(at),
+            _ => &[],
+        }
+    }
+
+    /// A row of some shared items comes to stand at that place.
+    #[cycle(put_row)]
+    pub(crate) fn put_row(
+        &mut self,
+        alloc: Global,
+        at: usize,
+        row: &[Rc<T>],
+    ) -> Result<(), AllocError>
+        requires place { at ≤ length self.old }
+        requires some { 0 < length row.now }
+        ensures items { self.new ≡ (if is_ok result then with_row self.old at (values row.now) else self.old) }
+    {
+        let len = self.len.checked_add(row.len()).ok_or(AllocError)?;
+        match &mut self.root {
+            Tree::Empty => {
+                *self = SharedList::row(alloc, row)?;
+                return Ok(());
+            }
+            Tree::Leaf(leaf) => self.root = Node::wedged(alloc, leaf, at, row)?,
+            Tree::Fork(node) => Rc::make_mut(node)?.put_row(alloc, at, row)?,
+        }
+        self.len = len;
+        Ok(())
+    }
+
+    /// Some items from that place on go, and no more than so many. Answers how many.
+    #[cycle(take_some)]
+    pub(crate) fn take_some(&mut self, at: usize, most: usize) -> Result<usize, AllocError>
+        requires place { at < length self.old }
+        requires some { 0 < most }
+        ensures gone { IfOk result (AreGone self.old at most self.new) }
+        ensures kept { OnErr result (self.new ≡ self.old) }
+    {
+        if at == 0 && self.len <= most {
+            let len = self.len;
+            *self = SharedList::new();
+            return Ok(len);
+        }
+        let some = match &mut self.root {
+            Tree::Empty => return Err(AllocError),
+            Tree::Leaf(leaf) => Rc::make_mut(leaf)?.take_some(at, most)?,
+            Tree::Fork(node) => Rc::make_mut(node)?.take_some(at, most)?,
+        };
+        self.len -= some;
+        if self.len <= FEW {
+            self.join();
+        }
+        Ok(some)
     }
 
     /// The item at that place, if there is one, as others share it.
@@ -173,8 +261,14 @@ impl<T: Drop> SharedList<T> {
                 let leaf = Leaf::single(alloc, item)?;
                 self.root = Tree::Leaf(Rc::new(alloc, leaf).map_err(|_refused| AllocError)?);
             }
-            Tree::Leaf(leaf) => Rc::make_mut(leaf)?.put(at, item)?,
-            Tree::Fork(node) => Rc::make_mut(node)?.put(alloc, at, item)?,
+            Tree::Leaf(leaf) => match Rc::get_mut(leaf) {
+                Some(leaf) => leaf.put(at, item)?,
+                None => Rc::make_mut(leaf)?.put(at, item)?,
+            },
+            Tree::Fork(node) => match Rc::get_mut(node) {
+                Some(node) => node.put(alloc, at, item)?,
+                None => Rc::make_mut(node)?.put(alloc, at, item)?,
+            },
         }
         self.len = len;
         Ok(())
@@ -231,8 +325,14 @@ impl<T: Drop> SharedList<T> {
         let len = self.len - 1;
         let item = match &mut self.root {
             Tree::Empty => return Err(AllocError),
-            Tree::Leaf(leaf) => Rc::make_mut(leaf)?.take(at),
-            Tree::Fork(node) => Rc::make_mut(node)?.take(at)?,
+            Tree::Leaf(leaf) => match Rc::get_mut(leaf) {
+                Some(leaf) => leaf.take(at),
+                None => Rc::make_mut(leaf)?.take(at),
+            },
+            Tree::Fork(node) => match Rc::get_mut(node) {
+                Some(node) => node.take(at)?,
+                None => Rc::make_mut(node)?.take(at)?,
+            },
         };
         self.len = len;
         if len <= FEW {

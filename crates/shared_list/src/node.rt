@@ -1,8 +1,9 @@
 //! The nodes of the tree.
 ghost use Rattle.std.specs.Prelude.{◌≡◌, ◌≢◌, ◌<◌, ◌≤◌, ◌+◌, [], ◌++◌, ◌∷◌, length};
-ghost use Rattle.std.specs.Prelude.{if◌then◌else◌, is_ok, slice_get, slice_set, Some, IfOk, ◌^◌};
+ghost use Rattle.std.specs.Prelude.{if◌then◌else◌, is_ok, slice_get, slice_set, Some, IfOk, OnErr, ◌^◌};
 ghost use Rattle.std.specs.List.{insert, remove};
-ghost use Rattle.shared_list.specs.Tree.{items_at, items_in, IsSameNode};
+ghost use Rattle.shared_list.specs.Tree.{items_at, items_in, items_of, values, IsSameNode};
+ghost use Rattle.shared_list.specs.Windows.{with_row, AreGone};
 
 use super::leaf::Leaf;
 use super::list::{SharedList, Tree};
@@ -90,6 +91,80 @@ impl<T: Drop> Node<T> {
         Ok(())
     }
 
+    /// The items of a leaf with a row of some that comes to stand at that place, as a tree.
+    pub(crate) fn wedged(
+        alloc: Global,
+        leaf: &Rc<Leaf<T>>,
+        at: usize,
+        row: &[Rc<T>],
+    ) -> Result<Tree<T>, AllocError>
+        requires place { at ≤ length (items_at leaf.now.value) }
+        requires some { 0 < length row.now }
+        ensures { IfOk result (λ tree. items_of tree ≡ with_row (items_at leaf.now.value) at (values row.now)) }
+    {
+        let items = leaf.items.as_slice();
+        let before = SharedList::row(alloc, &items[..at])?;
+        let item = row[0].clone()?;
+        let leaf = Leaf::of_two(alloc, &row[1..], &items[at..])?;
+        let len = leaf.len();
+        let root = Tree::Leaf(Rc::new(alloc, leaf).map_err(|_refused| AllocError)?);
+        let node = Node {
+            before,
+            item,
+            after: SharedList { len, root },
+        };
+        Ok(Tree::Fork(Rc::new(alloc, node).map_err(|_refused| AllocError)?))
+    }
+
+    /// Items in a row come to stand at that place.
+    #[cycle(put_row)]
+    #[tactic(auto, using(crate::proofs::Windows::row_before, crate::proofs::Windows::row_after))]
+    pub(crate) fn put_row(
+        &mut self,
+        alloc: Global,
+        at: usize,
+        row: &[Rc<T>],
+    ) -> Result<(), AllocError>
+        requires room { length (items_in self.old) + length row.now < 2 ^ 64 }
+        requires place { at ≤ length (items_in self.old) }
+        requires some { 0 < length row.now }
+        ensures items { items_in self.new ≡ (if is_ok result then with_row (items_in self.old) at (values row.now)
+            else items_in self.old) }
+    {
+        let middle = self.before.len;
+        if at <= middle {
+            self.before.put_row(alloc, at, row)?;
+        } else {
+            self.after.put_row(alloc, at - middle - 1, row)?;
+        }
+        self.balance();
+        Ok(())
+    }
+
+    /// Some items from that place on go, and no more than so many, where these are not all. Answers
+    /// how many.
+    #[cycle(take_some)]
+    pub(crate) fn take_some(&mut self, at: usize, most: usize) -> Result<usize, AllocError>
+        requires room { length (items_in self.old) < 2 ^ 64 }
+        requires others { 1 < length (items_in self.old) }
+        requires place { at < length (items_in self.old) }
+        requires some { 0 < most }
+        ensures gone { IfOk result (AreGone (items_in self.old) at most (items_in self.new)) }
+        ensures kept { OnErr result (items_in self.new ≡ items_in self.old) }
+    {
+        let middle = self.before.len();
+        let some = if at < middle {
+            self.before.take_some(at, most)?
+        } else if at == middle {
+            self.take_own()?;
+            1
+        } else {
+            self.after.take_some(at - middle - 1, most)?
+        };
+        self.balance();
+        Ok(some)
+    }
+
     /// Another shared item comes to stand at that place.
     #[cycle(set)]
     #[tactic(auto, using(crate::proofs::Edits::set_before, crate::proofs::Edits::set_here, crate::proofs::Edits::set_after))]
@@ -128,7 +203,9 @@ impl<T: Drop> Node<T> {
         } else {
             self.after.remove(at - middle - 1)?
         };
-        self.balance();
+        if self.is_lopsided() {
+            self.balance();
+        }
         Ok(item)
     }
 
@@ -148,6 +225,11 @@ impl<T: Drop> Node<T> {
         let len = self.before.len;
         let last = self.before.remove(len - 1)?;
         Ok(mem::replace(&mut self.item, last))
+    }
+
+    /// Whether one side is much longer than the other.
+    fn is_lopsided(&self) -> bool {
+        self.before.len / LEAN > self.after.len || self.after.len / LEAN > self.before.len
     }
 
     /// The items stay, and no side is much longer than the other, where memory allows.
