@@ -29,6 +29,7 @@ mod time;
 use crate::error::Error;
 use crate::peer::Peer;
 use crate::ratio::Ratio;
+pub use alone::parts_alone;
 pub use equality::rates_are_equal_by_value;
 pub use known::{Ends, KnownCaps};
 use natural::Natural;

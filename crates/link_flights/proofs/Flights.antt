@@ -8,6 +8,7 @@ pub mod Components
 pub mod Copies
 pub mod Done
 pub mod FairMessages
+pub mod FewNear
 pub mod Flight
 pub mod Floors
 pub mod InFlight

@@ -1,20 +1,21 @@
 //! The fair rates of what is in flight.
-ghost use Rattle.std.specs.Prelude.{◌≡◌, ◌≢◌, ℕ, ◌<◌, ◌≤◌, ◌*◌, true, false, map, length, slice_index_or};
+ghost use Rattle.std.specs.Prelude.{◌≡◌, ◌≢◌, ◌∷◌, [], ℕ, None, IsSome, ◌<◌, ◌≤◌, ◌*◌, true, false, map, length, slice_index_or};
 ghost use Rattle.std.specs.Prelude.{All, IfOk, IfErr, IfSome, OnOk, option_map, nat_le};
-ghost use Rattle.std.specs.List.{list_all};
+ghost use Rattle.std.specs.List.{list_all, list_any};
 ghost use Rattle.fair_rates.specs.Fairness.Exists.{product};
 ghost use Rattle.link_simulation.specs.Rule.Planned.{IsLeastMoment, SomeSpentAt};
 ghost use Rattle.link_simulation.specs.Simulation.World.{last_moment};
-ghost use Rattle.link_pairs.specs.Pairs.Messages.{messages};
+ghost use Rattle.link_pairs.specs.Pairs.Messages.{messages, message_of};
 ghost use Rattle.fair_rates.specs.Sides.Ends.{flow_of};
 ghost use Rattle.link_pairs.specs.Pairs.CapsOf.{caps_of};
-ghost use Rattle.link_flights.specs.Flights.Components.{those_of, is_closed, AreNear, those_near};
-ghost use Rattle.link_flights.specs.Flights.Flight.{AreTimed, rate_of, flight_at, flights_at};
+ghost use Rattle.link_flights.specs.Flights.Components.{those_of, is_of, is_closed, AreNear, those_near};
+ghost use Rattle.link_flights.specs.Flights.Flight.{AreTimed, rate_of, flight_at, flights_at, has_come};
 ghost use Rattle.link_flights.specs.Flights.RatedFlights.{are_standing};
 ghost use Rattle.fair_rates.specs.Filling.FairParts.{parts_of_level};
 ghost use Rattle.link_flights.specs.Flights.InFlight.{in_units, in_flight};
 ghost use Rattle.link_flights.specs.Flights.Rated.{WereRated, AreFairOf, AreFairBeside, HaveFairRates};
 ghost use Rattle.link_flights.specs.Flights.Rated.{rerated, rates_found, AreOthersTimed, IsReratedAt};
+ghost use Rattle.link_flights.specs.Flights.Rated.{AreFairFor, AreRatedBeside, none_is_rated, rates_of_levels};
 ghost use Rattle.link_flights.specs.Flights.Rated.{AreKeptBut, AreKept, AreToldOf, has_no_rate, IsCountedAt};
 ghost use Rattle.link_flights.specs.Flights.Rated.{levels_rated};
 ghost use Rattle.link_flights.specs.declared.flight.Flight.{Flight as AnyFlight};
@@ -24,7 +25,9 @@ ghost use Rattle.std.specs.declared.alloc.Global.{Global as Allocator};
 use crate::component::Component;
 use crate::flight::Flight;
 use crate::flight_list::{Flights, earlier};
-use fair_rates::bandwidth::{Ends, FairParts, KnownCaps, fair_parts, fair_parts_beside};
+use fair_rates::bandwidth::{
+    Ends, FairParts, KnownCaps, fair_parts, fair_parts_beside, parts_alone,
+};
 use fair_rates::error::Error;
 use fair_rates::peer::Peer;
 use link_pairs::known_pairs::Pairs;
@@ -171,28 +174,189 @@ impl<P: Peer> Flights<P> {
     {
         if were_rated && self.list.len() > FEW {
             let touched = self.touched(done, peers, pairs)?;
-            let (part, kept) = self.rates_beside(&touched, peers, pairs)?;
-            if part.growth.is_empty() && all_reach(&part, &touched.level) {
-                let unsearched = self.spared_after(touched.whole, part.level_of.len());
-                self.set_rates(&touched, &kept, part, true)?;
-                let (first, front) = self.first_finish();
-                self.settled = self.list.len();
-                self.first = first;
-                self.front = front;
-                self.unsearched = unsearched;
-                return Ok(first);
+            if let Some(found) = self.rate_touched(&touched, peers, pairs)? {
+                let unsearched = self.spared_after(touched.whole, found);
+                return Ok(self.settle(unsearched));
             }
         }
+        self.rate_all(peers, pairs, were_rated)
+    }
+
+    /// Gives all of them their fair rates from the last account on. Answers the first moment at which
+    /// nothing is left of one.
+    fn rate_all(
+        &mut self,
+        peers: &Peers<P>,
+        pairs: &Pairs<P>,
+        were_timed: bool,
+    ) -> Result<Option<u64>, Error>
+        requires moment { self.old.at ≤ last_moment }
+        requires left { All (λ u. u.left ≢ 0) (in_units self.old) }
+        requires timed { were_timed ≡ true → AreTimed self.old.list.items }
+        ensures rated { OnOk result (HaveFairRates P.cmp (caps_of P.cmp peers.now.entries pairs.now.entries)
+            self.old self.new) }
+        ensures kept { OnOk result (AreKeptBut self.new.rated_anew self.old.list.items self.new.list.items) }
+        ensures finish { IfOk result (IsLeastMoment (λ s. SomeSpentAt (in_flight self.new) s)) }
+        ensures refused { IfErr result (λ e. e ≡ Error.OutOfMemory) }
+    {
         let all = Component::whole(self.alloc);
         let rates = self.rates_of_all(&all, peers, pairs)?;
+        let levels = shared_levels(self.alloc, rates.levels)?;
+        self.set_rates(
+            &all,
+            &[],
+            &levels,
+            &rates.level_of,
+            &rates.growth,
+            were_timed,
+        )?;
+        self.scale = rates.scale;
         let unsearched = self.spared_after(true, 0);
-        self.set_rates(&all, &[], rates, were_rated)?;
+        Ok(self.settle(unsearched))
+    }
+
+    /// Notes that all have got rates, and that so many accounts more are made without a search. Answers
+    /// the first moment at which nothing is left of one.
+    fn settle(&mut self, unsearched: usize) -> Option<u64>
+        requires rated { list_all (λ one. one.value.rated) self.old.list.items ≡ true }
+        ensures finish { (t : ℕ)
+            → has_come t result ≡ list_any (λ one. has_come t one.value.finish) self.new.list.items }
+        ensures list { self.new.list.items ≡ self.old.list.items }
+        ensures scale { self.new.scale ≡ self.old.scale }
+        ensures at { self.new.at ≡ self.old.at }
+        ensures counted { self.new.rated_anew ≡ self.old.rated_anew }
+    {
         let (first, front) = self.first_finish();
         self.settled = self.list.len();
         self.first = first;
         self.front = front;
         self.unsearched = unsearched;
-        Ok(first)
+        first
+    }
+
+    /// Gives what is touched its fair rates beside those that others keep, and answers how many it gave.
+    /// None where a rate does not reach the level, or is not whole in the units that there are: then all
+    /// stays as it was.
+    fn rate_touched(
+        &mut self,
+        touched: &Component<P>,
+        peers: &Peers<P>,
+        pairs: &Pairs<P>,
+    ) -> Result<Option<usize>, Error>
+        requires near { touched.now.whole ≡ false
+            → AreNear P.cmp touched.now touched.now.near.items self.old.list.items }
+        requires left { All (λ u. u.left ≢ 0) (in_units self.old) }
+        requires timed { AreTimed self.old.list.items }
+        ensures rated { IfOk result (λ found. IsSome found → AreRatedBeside P.cmp
+            (caps_of P.cmp peers.now.entries pairs.now.entries) touched.now self.old self.new) }
+        ensures kept { IfOk result (λ found. IsSome found
+            → AreKeptBut self.new.rated_anew self.old.list.items self.new.list.items) }
+        ensures stays { IfOk result (λ found. found ≡ None → self.new ≡ self.old) }
+        ensures refused { IfErr result (λ e. e ≡ Error.OutOfMemory) }
+    {
+        if !touched.whole {
+            if self.has_none(touched) {
+                self.rated_anew = 0;
+                return Ok(Some(0));
+            }
+            if let [at] = touched.near.as_slice() {
+                return self.rate_only(touched, *at, peers, pairs);
+            }
+        }
+        self.rate_near(touched, peers, pairs)
+    }
+
+    /// Whether the component has no end of any that is rated anew.
+    fn has_none(&self, component: &Component<P>) -> bool
+        requires near { AreNear P.cmp component.now component.now.near.items self.now.list.items }
+        ensures { result ≡ none_is_rated P.cmp component.now self.now.list.items }
+    {
+        for at in &component.near {
+            if component.has(&self.list[*at]) {
+                return false;
+            }
+        }
+        true
+    }
+
+    /// As [`Flights::rate_touched`], where the component has an end of only the one at that place, which
+    /// is rated anew: its rate is the least of its caps.
+    fn rate_only(
+        &mut self,
+        component: &Component<P>,
+        at: usize,
+        peers: &Peers<P>,
+        pairs: &Pairs<P>,
+    ) -> Result<Option<usize>, Error>
+        requires near { component.now.whole ≡ false
+            → AreNear P.cmp component.now component.now.near.items self.old.list.items }
+        requires left { All (λ u. u.left ≢ 0) (in_units self.old) }
+        requires timed { AreTimed self.old.list.items }
+        requires place { at < length self.old.list.items }
+        requires only { (d : AnyRc (AnyFlight P) Allocator)
+            → those_near P.cmp component.now self.old.list.items ≡ slice_index_or self.old.list.items at d ∷ [] }
+        requires rated { (d : AnyRc (AnyFlight P) Allocator)
+            → is_of P.cmp component.now (flight_at 0 (slice_index_or self.old.list.items at d).value) ≡ true }
+        ensures rated { IfOk result (λ found. IsSome found → AreRatedBeside P.cmp
+            (caps_of P.cmp peers.now.entries pairs.now.entries) component.now self.old self.new) }
+        ensures kept { IfOk result (λ found. IsSome found
+            → AreKeptBut self.new.rated_anew self.old.list.items self.new.list.items) }
+        ensures stays { IfOk result (λ found. found ≡ None → self.new ≡ self.old) }
+        ensures refused { IfErr result (λ e. e ≡ Error.OutOfMemory) }
+    {
+        let level = self.rate_alone(at, peers, pairs)?;
+        if component.level <= level {
+            let levels = [Rc::new(self.alloc, level)?];
+            self.set_rates(component, &[], &levels, &[Some(0)], &[], true)?;
+            return Ok(Some(1));
+        }
+        Ok(None)
+    }
+
+    /// The fair rate of the one at that place alone, and none at all where no cap holds for it.
+    fn rate_alone(&self, at: usize, peers: &Peers<P>, pairs: &Pairs<P>) -> Result<Natural, Error>
+        requires place { at < length self.now.list.items }
+        ensures fair { IfOk result (λ parts. (d : AnyRc (AnyFlight P) Allocator)
+            → AreFairFor P.cmp (caps_of P.cmp peers.now.entries pairs.now.entries) self.now.scale
+            (message_of (slice_index_or self.now.list.items at d).value.message.value ∷ []) (parts ∷ [])) }
+        ensures refused { IfErr result (λ e. e ≡ Error.OutOfMemory) }
+    {
+        let one = &self.list[at];
+        let ends = Ends {
+            origin: &one.message.origin,
+            recipient: &one.message.recipient,
+            delivered: one.message.is_delivered(),
+        };
+        let rate = parts_alone(&ends, &CapsInForce { peers, pairs }, &self.scale)?;
+        Ok(rate.unwrap_or(Natural::from_u64(self.alloc, 0)))
+    }
+
+    /// As [`Flights::rate_touched`], for any component.
+    fn rate_near(
+        &mut self,
+        component: &Component<P>,
+        peers: &Peers<P>,
+        pairs: &Pairs<P>,
+    ) -> Result<Option<usize>, Error>
+        requires near { component.now.whole ≡ false
+            → AreNear P.cmp component.now component.now.near.items self.old.list.items }
+        requires left { All (λ u. u.left ≢ 0) (in_units self.old) }
+        requires timed { AreTimed self.old.list.items }
+        ensures rated { IfOk result (λ found. IsSome found → AreRatedBeside P.cmp
+            (caps_of P.cmp peers.now.entries pairs.now.entries) component.now self.old self.new) }
+        ensures kept { IfOk result (λ found. IsSome found
+            → AreKeptBut self.new.rated_anew self.old.list.items self.new.list.items) }
+        ensures stays { IfOk result (λ found. found ≡ None → self.new ≡ self.old) }
+        ensures refused { IfErr result (λ e. e ≡ Error.OutOfMemory) }
+    {
+        let (part, kept) = self.rates_beside(component, peers, pairs)?;
+        if !part.growth.is_empty() || !all_reach(&part, &component.level) {
+            return Ok(None);
+        }
+        let found = part.level_of.len();
+        let levels = shared_levels(self.alloc, part.levels)?;
+        self.set_rates(component, &kept, &levels, &part.level_of, &[], true)?;
+        Ok(Some(found))
     }
 
     /// What is touched: the component of what is done or new, or all from a level on.
@@ -335,45 +499,44 @@ impl<P: Peer> Flights<P> {
         Ok((found, kept))
     }
 
-    /// Gives those of the component these rates from the last account on, in the units of these
-    /// rates.
+    /// Gives those of the component that keep no rate the rates of their levels from the last account
+    /// on. What is left counts in smaller units, of which so many times as many are needed.
     fn set_rates(
         &mut self,
         component: &Component<P>,
         kept: &[Option<Rc<Natural>>],
-        rates: FairParts,
+        levels: &[Rc<Natural>],
+        level_of: &[Option<usize>],
+        growth: &[u64],
         were_timed: bool,
     ) -> Result<(), Error>
         requires timed { were_timed ≡ true → AreTimed self.old.list.items }
-        requires one_each { length rates.level_of.items ≡ length (those_of P.cmp component.now (in_units self.old)) }
-        requires left { All (λ u. u.left * product rates.growth.items ≢ 0) (in_units self.old) }
-        requires scaled { 0 < rates.scale }
+        requires one_each { length level_of.now ≡ length (those_of P.cmp component.now (in_units self.old)) }
+        requires left { All (λ u. u.left * product growth.now ≢ 0) (in_units self.old) }
         requires others { AreOthersTimed P.cmp component.now self.old.list.items }
         requires near { component.now.whole ≡ false
             → AreNear P.cmp component.now component.now.near.items self.old.list.items }
         requires kept { AreToldOf P.cmp component.now kept.now
             (those_near P.cmp component.now self.old.list.items) }
         ensures rerated { OnOk result (in_units self.new ≡ rerated P.cmp component.now self.old.at
-            (product rates.growth.items) (rates_found rates) (in_units self.old)) }
+            (product growth.now) (rates_of_levels levels.now level_of.now) (in_units self.old)) }
         ensures timed { OnOk result (AreTimed self.new.list.items) }
-        ensures scale { OnOk result (self.new.scale ≡ rates.scale) }
+        ensures scale { self.new.scale ≡ self.old.scale }
         ensures at { self.new.at ≡ self.old.at }
         ensures kept { OnOk result (AreKeptBut self.new.rated_anew self.old.list.items self.new.list.items) }
         ensures counted { OnOk result
             (self.new.rated_anew ≤ length (those_of P.cmp component.now (in_units self.old))) }
         ensures refused { IfErr result (λ e. e ≡ Error.OutOfMemory) }
     {
-        let levels = shared_levels(self.alloc, rates.levels)?;
         self.rated_anew = 0;
         let mut next = 0;
         for number in 0..self.count(component) {
             if is_rated(kept, number) {
-                let rate = level_at(&levels, rates.level_of[next])?;
-                self.rerate(component.place(number), rate, &rates.growth, were_timed)?;
+                let rate = level_at(levels, level_of[next])?;
+                self.rerate(component.place(number), rate, growth, were_timed)?;
                 next += 1;
             }
         }
-        self.scale = rates.scale;
         Ok(())
     }
 

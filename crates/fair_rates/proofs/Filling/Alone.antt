@@ -35,7 +35,7 @@ module _ (caps : List ℕ) (cap : ℕ) (is : IsLeastOf cap caps) (per : ℕ) (so
       uses.listed in
       sym (in_one 0 flow (subst (λ xs. Contains xs flow) users uses.used))
 
-  uses_least : Uses sides 0 (side_alone cap)
+  pub uses_least : Uses sides 0 (side_alone cap)
   uses_least = record {
     listed = contains_from_in sides (side_alone cap) (in_map side_alone caps cap (in_from_contains caps cap is.among));
     used = (0, omega arith, refl);
@@ -50,7 +50,7 @@ module _ (caps : List ℕ) (cap : ℕ) (is : IsLeastOf cap caps) (per : ℕ) (so
         All-cons (λ other. parts other ≤ parts 0) 0 [] (omega arith) (All-nil (λ other. parts other ≤ parts 0));
   }
 
-  fair_alone : IsFair sides per parts
+  pub fair_alone : IsFair sides per parts
   fair_alone = record {
     some_part = some;
     within = within;

@@ -1,12 +1,15 @@
 //! The fair rate of a flow alone. No other shares its sides, so there is nothing to fill.
-ghost use Rattle.std.specs.Prelude.{◌≡◌, ◌<◌, ◌∷◌, [], IfOk};
-ghost use Rattle.fair_rates.specs.Sides.Ends.{answered_for};
+ghost use Rattle.std.specs.Prelude.{◌≡◌, ◌<◌, ◌∷◌, ◌↔◌, [], IfOk, IfErr, IsSome, slice_index, unwrap_or};
+ghost use Rattle.fair_rates.specs.Fairness.Fair.{IsFair, IsLimited};
+ghost use Rattle.fair_rates.specs.Fairness.UnderCaps.{sides_under};
+ghost use Rattle.fair_rates.specs.Sides.Ends.{answered_for, flow_of};
 ghost use Rattle.fair_rates.specs.Sides.Subjects.{sides_of};
 ghost use Rattle.fair_rates.specs.Filling.FairParts.{AreFairPartsOn};
 ghost use Rattle.fair_rates.specs.Sides.Alone.{least_of, ingress_of, least_cap_of};
 
 use crate::bandwidth::known::{Ends, KnownCaps};
 use crate::bandwidth::parts::FairParts;
+use crate::error::Error;
 use crate::peer::Peer;
 use natural::Natural;
 use std::alloc::{AllocError, Global};
@@ -58,4 +61,28 @@ pub(crate) fn fair_parts_alone<P: Peer, C: KnownCaps<P>>(
         found.freeze(&[0], scale.product(cap)?)?;
     }
     Ok(found)
+}
+
+/// The fair rate of a flow alone, in parts of one byte a second, so many at `scale`: the least of its
+/// caps. None where no cap holds for it.
+///
+/// # Errors
+///
+/// `OutOfMemory` where memory was refused.
+pub fn parts_alone<P: Peer, C: KnownCaps<P>>(
+    one: &Ends<P>,
+    caps: &C,
+    scale: &Natural,
+) -> Result<Option<Natural>, Error>
+    requires some_part { 0 < scale.now }
+    ensures fair { IfOk result (λ parts. IsFair (sides_under P.cmp (C.caps caps.now) (flow_of one.now ∷ []))
+        scale.now (slice_index (unwrap_or parts 0 ∷ []))) }
+    ensures limited { IfOk result (λ parts.
+        IsSome parts ↔ IsLimited (sides_under P.cmp (C.caps caps.now) (flow_of one.now ∷ [])) 0) }
+    ensures refused { IfErr result (λ e. e ≡ Error.OutOfMemory) }
+{
+    match least_cap(one, caps) {
+        Some(cap) => Ok(Some(scale.product(cap)?)),
+        None => Ok(None),
+    }
 }

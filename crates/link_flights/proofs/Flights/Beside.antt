@@ -295,13 +295,16 @@ module _ {P : Type 0} (cmp : P → P → Ordering) (component : Component P) whe
       pub fair_beside_kept : AreFairBeside cmp caps scale component us rated
       fair_beside_kept = record {
         grown = scale_is ∙ h.grown ∙ ap (λ (ns : List ℕ). scale * product ns) (sym growth_is);
-        one_each = ap length rated_levels ∙ levels_count near all_found.level_of.items level_each
-            ∙ ap (λ l. length (those_of cmp component l)) is_near ∙ ap length (those_near us);
-        fair = subst (λ (vs : List (UnitFlight P)). rated.growth.items ≡ []
-            → ((side : Side) → Contains (capped_sides cmp caps (sent_messages vs)) side
-            → kept_load (kept_rates cmp component vs) side ≤ side.cap * scale)
-            → IsFairBeside (kept_rates cmp component vs) (capped_sides cmp caps (sent_messages vs)) scale
-            (slice_index (rates_of (rerated cmp component 0 1 (rates_found rated) vs)))) is_near fair_near;
+        fair = λ none. record {
+          one_each = length-map rated.level_of.items (parts_of_level rated.levels.items)
+              ∙ ap length rated_levels ∙ levels_count near all_found.level_of.items level_each
+              ∙ ap (λ l. length (those_of cmp component l)) is_near ∙ ap length (those_near us);
+          fair = subst (λ (vs : List (UnitFlight P)).
+              ((side : Side) → Contains (capped_sides cmp caps (sent_messages vs)) side
+              → kept_load (kept_rates cmp component vs) side ≤ side.cap * scale)
+              → IsFairBeside (kept_rates cmp component vs) (capped_sides cmp caps (sent_messages vs)) scale
+              (slice_index (rates_of (rerated cmp component 0 1 (rates_found rated) vs)))) is_near (fair_near none);
+        };
       }
 
   -- what is kept does not depend on the moment

@@ -27,7 +27,7 @@ module _ {P : Type 0} (cmp : P → P → Ordering) (component : Component P) (li
   count_part are = ap length are ∙ places_length is_near 0 list
 
   module _ (are : AreNear cmp component component.near.items list) where
-    part_there : (k : ℕ) (x : Rc (Flight P) Global) → slice_get near k ≡ Some x
+    pub part_there : (k : ℕ) (x : Rc (Flight P) Global) → slice_get near k ≡ Some x
         → slice_get list (get_or component.near.items k 0) ≡ Some x
     part_there k x is =
         let s = stands_there is_near 0 list k x is in

@@ -1,9 +1,9 @@
 -- Rates that are given to what is in flight.
-use Rattle.std.proofs.Common.{◌≡◌, ◌≢◌, ℕ, zero, suc, ◌*◌, ◌<◌, ◌≤◌, List, [], All, Option, IfSome, length, refl}
+use Rattle.std.proofs.Common.{◌≡◌, ◌≢◌, ℕ, zero, suc, ◌*◌, ◌<◌, ◌≤◌, List, [], All, IfSome, length, refl}
 use Rattle.std.proofs.Common.{sym, ap}
 use Rattle.std.proofs.Common.{◌∙◌, subst, arith, true}
 use Rattle.std.specs.Prelude.{nat_le}
-use Rattle.std.specs.List.{AllZip, list_all}
+use Rattle.std.specs.List.{AllZip}
 use Rattle.std.specs.Cmp.{IsTotalOrder}
 use Rattle.std.specs.declared.cmp.Ordering.{Ordering}
 use Rattle.std.specs.declared.rc.Rc.{Rc}
@@ -20,14 +20,24 @@ use Rattle.link_flights.specs.declared.component.Component.{Component}
 use Rattle.link_pairs.specs.declared.message.Message as code
 use Rattle.link_pairs.specs.Pairs.Messages.{messages}
 use Rattle.link_flights.specs.declared.flight_list.Flights.{Flights}
-use Rattle.link_flights.specs.Flights.Flight.{UnitFlight, AreTimed}
+use Rattle.link_flights.specs.Flights.Flight.{UnitFlight, AreTimed, flights_at}
 use Rattle.link_flights.specs.Flights.InFlight.{in_units}
 use Rattle.link_flights.specs.Flights.Components.{those_of, is_closed}
-use Rattle.link_flights.specs.Flights.Rated.{rates_found, rerated, AreFairlyRated, WereRated, AreFairOf, AreFairBeside}
+use Rattle.link_flights.specs.Flights.Rated.{rates_found, rerated, AreFairlyRated, WereRated, AreFairOf, AreRatedBeside}
 use Rattle.link_flights.specs.Flights.Rated.{IsRatedFrom, HaveFairRates}
-use Rattle.link_flights.proofs.Flights.Components.{found_each, same_scale, grows_once, whole_rerated, whole_fair}
+use Rattle.link_flights.proofs.Flights.Components.{found_each, whole_rerated, whole_fair}
 use Rattle.link_flights.proofs.Flights.Components.{component_rerated}
 use Rattle.link_flights.proofs.Flights.Restarting.{restart_fair, kept_within}
+
+-- where something is left, so there is in the same units
+pub left_still : {P : Type 0} (us : List (UnitFlight P)) (growth : List ℕ) → growth ≡ [] → All (λ u. u.left ≢ 0) us
+    → All (λ u. u.left * product growth ≢ 0) us
+left_still us growth none left =
+    All-from_contains (λ u. u.left * product growth ≢ 0) us (λ u listed is.
+    All-contains (λ u. u.left ≢ 0) us u left listed (once u.left (product growth) (ap product none) is))
+  where
+    once : (n times : ℕ) → times ≡ 1 → n * times ≡ 0 → n ≡ 0
+    once n times one is = let same : n * 1 ≡ n = omega arith in sym same ∙ ap (λ m. n * m) (sym one) ∙ is
 
 module _ {P : Type 0} (cmp : P → P → Ordering) (caps : Caps P) (component : Component P) (found : FairParts) where
   -- where something is left, so there is in smaller units
@@ -43,16 +53,6 @@ module _ {P : Type 0} (cmp : P → P → Ordering) (caps : Caps P) (component : 
           let gone : scale * times ≡ scale * 0 = ap (λ m. scale * m) (product_none (suc n) times (omega arith) none) in
           let zeros : scale * 0 ≡ 0 = omega arith in
           omega (arith, grows, gone, zeros)
-
-  -- so there is where the scale has not grown
-  pub left_beside : (us : List (UnitFlight P)) → found.growth.items ≡ [] → All (λ u. u.left ≢ 0) us
-      → All (λ u. u.left * product found.growth.items ≢ 0) us
-  left_beside us none left = All-from_contains (λ u. u.left * product found.growth.items ≢ 0) us (λ u listed is.
-      All-contains (λ u. u.left ≢ 0) us u left listed
-      (once u.left (product found.growth.items) (grows_once found none) is))
-    where
-      once : (n times : ℕ) → times ≡ 1 → n * times ≡ 0 → n ≡ 0
-      once n times one is = let same : n * 1 ≡ n = omega arith in sym same ∙ ap (λ m. n * m) (sym one) ∙ is
 
   module _ {a : _} {b : _} {c : _} (old new : Flights P a b c)
       (given : in_units new
@@ -85,29 +85,6 @@ module _ {P : Type 0} (cmp : P → P → Ordering) (caps : Caps P) (component : 
         (whole_fair cmp component whole level caps old.scale old.at (product found.growth.items) (in_units old) found
         of_it)
 
-    component_rates : IsTotalOrder cmp → AreOfPeers cmp caps → (done : List (Rc (code.Message P) Global))
-        → is_closed cmp component done (in_units old) ≡ true → (floor : Option ℕ)
-        → WereRated cmp caps old.scale (in_units old) (messages done) floor
-        → IfSome floor (λ f. component.level ≤ f)
-        → list_all (λ rate. nat_le component.level rate) (rates_found found) ≡ true
-        → All (λ u. u.updated ≡ old.at) (in_units old)
-        → found.growth.items ≡ [] → AreFairBeside cmp caps old.scale component (in_units old) found
-        → HaveFairRates cmp caps old new
-    component_rates order of done closed floor were low reach updated none of_it =
-        let reached = all_pass (λ rate. nat_le component.level rate) (rates_found found) reach in
-        have_rates
-        (component_rerated cmp component done (in_units old) closed old.at (product found.growth.items)
-        (rates_found found) (grows_once found none) updated found_one_each)
-        (subst
-        (λ n. AreFairlyRated cmp caps n
-        (rerated cmp component old.at (product found.growth.items) (rates_found found) (in_units old)))
-        (sym (same_scale found old.scale grown none))
-        (restart_fair cmp component done (in_units old) closed order caps of old.scale floor were low old.at
-        (product found.growth.items) (rates_found found) found_one_each reached
-        (of_it.fair none
-        (kept_within cmp component done (in_units old) closed order caps of old.scale floor were low old.at
-        (product found.growth.items) (rates_found found) found_one_each reached))))
-
   pub whole_given : {a : _} {b : _} {c : _} (old new : Flights P a b c)
       → AreFairOf cmp caps old.scale component (in_units old) found
       → in_units new ≡ rerated cmp component old.at (product found.growth.items) (rates_found found) (in_units old)
@@ -116,15 +93,45 @@ module _ {P : Type 0} (cmp : P → P → Ordering) (caps : Caps P) (component : 
   whole_given old new of_it given scaled still timed whole level =
       whole_rates old new given scaled still timed of_it.grown of_it.one_each whole level of_it
 
-  pub component_given : {a : _} {b : _} {c : _} (old new : Flights P a b c)
-      → AreFairBeside cmp caps old.scale component (in_units old) found
-      → in_units new ≡ rerated cmp component old.at (product found.growth.items) (rates_found found) (in_units old)
-      → new.scale ≡ found.scale → new.at ≡ old.at → AreTimed new.list.items → IsTotalOrder cmp → AreOfPeers cmp caps
+-- rates that are fair beside those that others keep are fair for all
+module _ {P : Type 0} (cmp : P → P → Ordering) (caps : Caps P) (component : Component P) where
+  pub beside_given : {a : _} {b : _} {c : _} (old new : Flights P a b c)
+      → AreRatedBeside cmp caps component old new → IsTotalOrder cmp → AreOfPeers cmp caps
       → (done : List (Rc (code.Message P) Global)) → is_closed cmp component done (in_units old) ≡ true
       → WereRated cmp caps old.scale (in_units old) (messages done) old.floor
       → IfSome old.floor (λ f. component.level ≤ f)
-      → list_all (λ rate. nat_le component.level rate) (rates_found found) ≡ true
-      → All (λ u. u.updated ≡ old.at) (in_units old) → found.growth.items ≡ [] → HaveFairRates cmp caps old new
-  component_given old new of_it given scaled still timed order of done closed were low reach updated none =
-      component_rates old new given scaled still timed of_it.grown of_it.one_each order of done closed old.floor were
-      low reach updated none of_it
+      → All (λ u. u.updated ≡ old.at) (in_units old) → HaveFairRates cmp caps old new
+  beside_given old new r order of done closed were low updated =
+      let us = in_units old in
+      let reached = all_pass (λ rate. nat_le component.level rate) r.rates r.reach in
+      let each : AllZip (IsRatedFrom old.at 1) us (rerated cmp component old.at 1 r.rates us) =
+      component_rerated cmp component done us closed old.at 1 r.rates refl updated r.fair.one_each in
+      let fairly : AreFairlyRated cmp caps old.scale (rerated cmp component old.at 1 r.rates us) =
+      restart_fair cmp component done us closed order caps of old.scale old.floor were low old.at 1 r.rates
+      r.fair.one_each reached
+      (r.fair.fair
+      (kept_within cmp component done us closed order caps of old.scale old.floor were low old.at 1 r.rates
+      r.fair.one_each reached)) in
+      record {
+        times = 1;
+        scale = omega (arith, r.scale);
+        at = r.at;
+        each = subst (AllZip (IsRatedFrom old.at 1) us) (sym r.given) each;
+        fair = rw (r.scale, r.given) fairly;
+        timed = r.timed;
+      }
+
+  -- what follows changes none of it
+  pub still_given : {a : _} {b : _} {c : _} (old new last : Flights P a b c) → last.list.items ≡ new.list.items
+      → last.scale ≡ new.scale → last.at ≡ new.at → HaveFairRates cmp caps old new → HaveFairRates cmp caps old last
+  still_given old new last list scale at h =
+      let same : in_units last ≡ in_units new =
+      ap (λ n. flights_at n last.list.items) at ∙ ap (flights_at new.at) list in
+      record {
+        times = h.times;
+        scale = scale ∙ h.scale;
+        at = at ∙ h.at;
+        each = subst (AllZip (IsRatedFrom old.at h.times) (in_units old)) (sym same) h.each;
+        fair = rw (scale, same) h.fair;
+        timed = subst AreTimed (sym list) h.timed;
+      }

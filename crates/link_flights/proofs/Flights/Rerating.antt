@@ -585,23 +585,25 @@ module _ {P : Type 0} (cmp : P → P → Ordering) (component : Component P) (no
 
 -- so many of which the component has an end are looked at, and so many have got their rates
 pub record IsSoFar {P : Type 0} {a : _} {b : _} {c : _} (cmp : P → P → Ordering) (component : Component P) (times : ℕ)
-    (rates : List ℕ) (were_timed : Bool) (account : ℕ) (old : List (Rc (Flight P) Global)) (now : Flights P a b c)
-    (number next : ℕ) : Type 0 where
+    (rates : List ℕ) (were_timed : Bool) (account units : ℕ) (old : List (Rc (Flight P) Global))
+    (now : Flights P a b c) (number next : ℕ) : Type 0 where
   pub place : ℕ
   pub up_to : AreReratedUpTo cmp component account times rates old now.list.items place next
   pub to_come : AreToCome cmp component account times rates old now.list.items number place next up_to
   pub at : now.at ≡ account
+  pub scale : now.scale ≡ units
   pub timed : were_timed ≡ true → AreTimed now.list.items
   pub kept : AreKeptBut now.rated_anew old now.list.items
   pub counted : now.rated_anew ≤ next
   pub behind : next ≤ place
 
 pub next_in : {P : Type 0} {a : _} {b : _} {c : _} {cmp : P → P → Ordering} {component : Component P} {times : ℕ}
-    {rates : List ℕ} {were_timed : Bool} {account : ℕ} {old : List (Rc (Flight P) Global)} {now : Flights P a b c}
-    {number next : ℕ} (h : IsSoFar cmp component times rates were_timed account old now number next)
+    {rates : List ℕ} {were_timed : Bool} {account units : ℕ} {old : List (Rc (Flight P) Global)}
+    {now : Flights P a b c} {number next : ℕ}
+    (h : IsSoFar cmp component times rates were_timed account units old now number next)
     → number < length (those_near cmp component old)
     → IsNext cmp component account times rates old now.list.items number next h.place
-next_in {cmp = cmp} {component} {times} {rates} {were_timed} {account} {old} {now} {number} {next} h lt =
+next_in {cmp = cmp} {component} {times} {rates} {were_timed} {account} {units} {old} {now} {number} {next} h lt =
     next_comes cmp component account times rates old now.list.items number next h.place lt
     (length h.up_to.rest) h.place h.up_to refl h.to_come (omega arith)
 

@@ -2,7 +2,7 @@
 use Rattle.std.specs.Prelude.{◌≡◌, ℕ, zero, suc, ◌+◌, ◌*◌, ◌⊎◌, Bool, true, false, not}
 use Rattle.std.specs.Prelude.{List, [], ◌∷◌, cond, map}
 use Rattle.std.specs.Prelude.{slice_index, length, Option, Some, None, slice_get, slice_set, slice_index_or, Contains}
-use Rattle.std.specs.Prelude.{◌≤◌, if◌then◌else◌, option_map}
+use Rattle.std.specs.Prelude.{◌≤◌, nat_le, if◌then◌else◌, option_map}
 use Rattle.std.specs.Option.{is_none}
 use Rattle.std.specs.List.{filter, list_all, AllZip}
 use Rattle.std.specs.declared.cmp.Ordering.{Ordering}
@@ -21,7 +21,7 @@ use Rattle.link_flights.specs.declared.flight.Flight.{Flight}
 use Rattle.link_flights.specs.declared.flight_list.Flights.{Flights}
 use Rattle.link_pairs.specs.Pairs.Messages.{message_of}
 use Rattle.link_flights.specs.Flights.Flight.{UnitFlight, flight_at, flights_at, IsTimed, AreTimed}
-use Rattle.link_flights.specs.Flights.Components.{is_of, those_of, near_of}
+use Rattle.link_flights.specs.Flights.Components.{is_of, those_of, near_of, those_near}
 use Rattle.link_flights.specs.Flights.InFlight.{in_units}
 use Rattle.link_flights.specs.Flights.RatedFlights.{rated_flight_of}
 use Rattle.link_simulation.specs.Rule.Planned.{is_spent}
@@ -181,18 +181,43 @@ levels_rated (kept ∷ rates) [] = []
 levels_rated (None ∷ rates) (level ∷ levels) = level ∷ levels_rated rates levels
 levels_rated (Some rate ∷ rates) (level ∷ levels) = levels_rated rates levels
 
--- these are rates of a component that are fair beside those that others keep of which it has an end, where these are
--- within the caps; so far as the scale has not grown
-pub record AreFairBeside {P : Type 0} (cmp : P → P → Ordering) (caps : Caps P) (scale : ℕ) (component : Component P)
-    (us : List (UnitFlight P)) (found : FairParts) : Type 0 where
-  pub grown : found.scale ≡ scale * product found.growth.items
-  pub one_each : length found.level_of.items ≡ length (those_of cmp component us)
-  pub fair : found.growth.items ≡ []
-      → ((side : Side) → Contains (capped_sides cmp caps (sent_messages (near_of cmp component us))) side
+-- these rates of a component are fair beside those that others keep of which it has an end, where these are within the
+-- caps
+pub record AreFairRatesBeside {P : Type 0} (cmp : P → P → Ordering) (caps : Caps P) (scale : ℕ)
+    (component : Component P) (us : List (UnitFlight P)) (rates : List ℕ) : Type 0 where
+  pub one_each : length rates ≡ length (those_of cmp component us)
+  pub fair : ((side : Side) → Contains (capped_sides cmp caps (sent_messages (near_of cmp component us))) side
       → kept_load (kept_rates cmp component (near_of cmp component us)) side ≤ side.cap * scale)
       → IsFairBeside (kept_rates cmp component (near_of cmp component us))
       (capped_sides cmp caps (sent_messages (near_of cmp component us))) scale
-      (slice_index (rates_of (rerated cmp component 0 1 (rates_found found) (near_of cmp component us))))
+      (slice_index (rates_of (rerated cmp component 0 1 rates (near_of cmp component us))))
+
+-- what is found are such rates, so far as the scale has not grown
+pub record AreFairBeside {P : Type 0} (cmp : P → P → Ordering) (caps : Caps P) (scale : ℕ) (component : Component P)
+    (us : List (UnitFlight P)) (found : FairParts) : Type 0 where
+  pub grown : found.scale ≡ scale * product found.growth.items
+  pub fair : found.growth.items ≡ [] → AreFairRatesBeside cmp caps scale component us (rates_found found)
+
+-- the rates of these levels, flow by flow
+abbrev pub rates_of_levels : List (Rc ℕ Global) → List (Option ℕ) → List ℕ
+rates_of_levels levels level_of = map (parts_of_level (map (λ level. level.value) levels)) level_of
+
+-- those of a component have got rates that reach its level and are fair beside those that others keep, in the same
+-- units; the others go on as they are
+pub record AreRatedBeside {P : Type 0} {a : _} {b : _} {c : _} (cmp : P → P → Ordering) (caps : Caps P)
+    (component : Component P) (old new : Flights P a b c) : Type 0 where
+  pub rates : List ℕ
+  pub fair : AreFairRatesBeside cmp caps old.scale component (in_units old) rates
+  pub reach : list_all (λ rate. nat_le component.level rate) rates ≡ true
+  pub given : in_units new ≡ rerated cmp component old.at 1 rates (in_units old)
+  pub scale : new.scale ≡ old.scale
+  pub at : new.at ≡ old.at
+  pub timed : AreTimed new.list.items
+
+-- whether none of those of a list of which a component has an end is rated anew
+abbrev pub none_is_rated : {P : Type 0} → (P → P → Ordering) → Component P → List (Rc (Flight P) Global) → Bool
+none_is_rated cmp component list =
+    list_all (λ f. not (is_of cmp component (flight_at 0 f.value))) (those_near cmp component list)
 
 -- it is of the same message, of which as much is left, in units of which so many times as many are needed, from a
 -- moment on at a rate

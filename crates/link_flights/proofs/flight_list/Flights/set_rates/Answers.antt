@@ -1,11 +1,13 @@
-use Rattle.std.proofs.Common.{◌≡◌, ◌+◌, ◌*◌, ◌<◌, true, get_or, length, map, refl, sym, ap, ◌∙◌, subst, arith}
+use Rattle.std.proofs.Common.{◌≡◌, ℕ, ◌+◌, ◌*◌, ◌<◌, true, None, get_or, length, map, refl, sym, ap, ◌∙◌, subst, arith}
 use Rattle.std.proofs.lemmas.List.{length-map}
+use Rattle.std.proofs.Math.ListN.{get_or-map}
+use Rattle.std.specs.declared.rc.Rc.{Rc}
+use Rattle.std.specs.declared.alloc.Global.{Global}
 use Rattle.fair_rates.specs.Fairness.Exists.{product}
 use Rattle.fair_rates.specs.Filling.FairParts.{parts_of_level}
 use Rattle.link_flights.specs.Flights.Components.{is_of, those_near}
 use Rattle.link_flights.specs.Flights.Flight.{flight_at, flights_at, rate_of}
-use Rattle.link_flights.specs.Flights.Rated.{rates_found, IsReratedAt, IsCountedAt}
-use Rattle.link_flights.proofs.Flights.InFlight.{read_at}
+use Rattle.link_flights.specs.Flights.Rated.{rates_of_levels, IsReratedAt, IsCountedAt}
 use Rattle.link_flights.proofs.Flights.Near.{count_part, place_is}
 use Rattle.link_flights.proofs.Flights.Rerating.{none_rerated, something_left, has_rate, passed, one_rerated}
 use Rattle.link_flights.proofs.Flights.Rerating.{all_rerated, timed_set, all_kept, one_counted, by_one, to_end}
@@ -20,29 +22,34 @@ use Rattle.link_flights.proofs.flight_list.Flights.set_rates.Goals.{
 pub loop-number-init : goal.loop-number-init
 loop-number-init g c =
     let old = c.args.self.now in
-    let rates = c.args.rates in
+    let levels = map (λ (level : Rc ℕ Global). level.value) c.args.levels.now in
+    let level_of = c.args.level_of.now in
+    let rates = rates_of_levels c.args.levels.now level_of in
     let component = c.args.component.now in
-    let times = product rates.growth.items in
-    let one_each = length-map rates.level_of.items (parts_of_level rates.levels.items) ∙ c.requires.one_each in
+    let times = product c.args.growth.now in
+    let one_each = length-map level_of (parts_of_level levels) ∙ c.requires.one_each in
     record {
       place = 0;
-      up_to = none_rerated g.P.Ord.cmp component old.at times (rates_found rates) old.list.items one_each
+      up_to = none_rerated g.P.Ord.cmp component old.at times rates old.list.items one_each
           c.requires.left c.requires.others;
-      to_come = all_to_come g.P.Ord.cmp component old.at times (rates_found rates) old.list.items old.list.items
+      to_come = all_to_come g.P.Ord.cmp component old.at times rates old.list.items old.list.items
           old.list.items one_each c.requires.left c.requires.others;
       at = refl;
+      scale = refl;
       timed = c.requires.timed;
       kept = all_kept old.list.items;
       counted = omega arith;
       behind = omega arith;
     }
 
-pub index-requires : goal.index-requires
-index-requires g c =
+pub bounds-level_of-next : goal.bounds-level_of-next
+bounds-level_of-next g c =
     let cmp = g.P.Ord.cmp in
     let component = c.args.component.now in
     let old = c.args.self.now in
-    let rates = c.args.rates in
+    let levels = map (λ (level : Rc ℕ Global). level.value) c.args.levels.now in
+    let level_of = c.args.level_of.now in
+    let rates = rates_of_levels c.args.levels.now level_of in
     let number = c.loop-number.number in
     let lt : number < length (those_near cmp component old.list.items) =
     omega (arith, c.loop-number-test.true, c.count-number-end.ensures) in
@@ -53,8 +60,7 @@ index-requires g c =
     omega (
       arith,
       has_rate n.up_to n.x n.stands of,
-      length-map rates.level_of.items (parts_of_level rates.levels.items),
-      rates.level_of.ok.0,
+      length-map level_of (parts_of_level levels),
     )
 
 pub place-requires : goal.place-requires
@@ -67,7 +73,9 @@ rerate-requires-clause-place g c =
     let cmp = g.P.Ord.cmp in
     let component = c.args.component.now in
     let old = c.args.self.now in
-    let rates = c.args.rates in
+    let levels = map (λ (level : Rc ℕ Global). level.value) c.args.levels.now in
+    let level_of = c.args.level_of.now in
+    let rates = rates_of_levels c.args.levels.now level_of in
     let number = c.loop-number.number in
     let lt : number < length (those_near cmp component old.list.items) =
     omega (arith, c.loop-number-test.true, c.count-number-end.ensures) in
@@ -82,24 +90,23 @@ rerate-requires-clause-left g c d none =
     let cmp = g.P.Ord.cmp in
     let component = c.args.component.now in
     let old = c.args.self.now in
-    let rates = c.args.rates in
+    let levels = map (λ (level : Rc ℕ Global). level.value) c.args.levels.now in
+    let level_of = c.args.level_of.now in
+    let rates = rates_of_levels c.args.levels.now level_of in
     let number = c.loop-number.number in
     let lt : number < length (those_near cmp component old.list.items) =
     omega (arith, c.loop-number-test.true, c.count-number-end.ensures) in
     let h = c.loop-number.invariant in
     let n = next_in h lt in
-    let growth = product rates.growth.items in
+    let growth = product c.args.growth.now in
     let so_far = c.loop-number.self in
     let place : c.place.result ≡ n.at =
     c.place.ensures ∙ place_is cmp component old.list.items c.requires.near number lt ∙ n.place in
     let same : (flight_at old.at n.x.value).left * growth
-    ≡ (flight_at so_far.at (get_or so_far.list.items c.place.result d).value).left
-    * product c.deref-then-is_rated.result.now =
+    ≡ (flight_at so_far.at (get_or so_far.list.items c.place.result d).value).left * growth =
     ap (λ m. (flight_at m n.x.value).left * growth) (sym h.at)
     ∙ ap (λ (r : _). (flight_at so_far.at r.value).left * growth)
-    (stands_here n.up_to n.x n.stands d ∙ ap (λ p. get_or so_far.list.items p d) (sym place))
-    ∙ ap (λ ns. (flight_at so_far.at (get_or so_far.list.items c.place.result d).value).left * product ns)
-    (sym c.deref-then-is_rated.ensures.value) in
+    (stands_here n.up_to n.x n.stands d ∙ ap (λ p. get_or so_far.list.items p d) (sym place)) in
     something_left n.up_to n.x n.stands (same ∙ none)
 
 pub rerate-requires-clause-counted : goal.rerate-requires-clause-counted
@@ -107,7 +114,9 @@ rerate-requires-clause-counted g c =
     let cmp = g.P.Ord.cmp in
     let component = c.args.component.now in
     let old = c.args.self.now in
-    let rates = c.args.rates in
+    let levels = map (λ (level : Rc ℕ Global). level.value) c.args.levels.now in
+    let level_of = c.args.level_of.now in
+    let rates = rates_of_levels c.args.levels.now level_of in
     let number = c.loop-number.number in
     let lt : number < length (those_near cmp component old.list.items) =
     omega (arith, c.loop-number-test.true, c.count-number-end.ensures) in
@@ -122,33 +131,25 @@ loop-number-preserved g c =
     let cmp = g.P.Ord.cmp in
     let component = c.args.component.now in
     let old = c.args.self.now in
-    let rates = c.args.rates in
+    let levels = map (λ (level : Rc ℕ Global). level.value) c.args.levels.now in
+    let level_of = c.args.level_of.now in
+    let rates = rates_of_levels c.args.levels.now level_of in
     let number = c.loop-number.number in
     let lt : number < length (those_near cmp component old.list.items) =
     omega (arith, c.loop-number-test.true, c.count-number-end.ensures) in
     let h = c.loop-number.invariant in
     let n = next_in h lt in
-    let growth = product rates.growth.items in
+    let growth = product c.args.growth.now in
     let so_far = c.loop-number.self in
     let next = c.loop-number.next in
     let test : c.is_rated.result ≡ is_of cmp component (flight_at old.at n.x.value) =
     c.is_rated.ensures ∙ c.requires.kept number n.x n.there in
-    let SoFar = IsSoFar cmp component growth (rates_found rates) c.args.were_timed old.at old.list.items in
+    let SoFar = IsSoFar cmp component growth rates c.args.were_timed old.at old.scale old.list.items in
     elim c.if-is_rated.branch [
       | then-is_rated+in_ok-rate+in_ok-rerate w ↦
           let of = sym test ∙ w.if-is_rated.true in
-          let room : next < length rates.level_of.items =
-          omega (
-            arith,
-            length-map rates.level_of.items (parts_of_level rates.levels.items),
-            has_rate n.up_to n.x n.stands of,
-          ) in
-          let level = w.index.result.now in
-          let rate : rate_of w.in_ok-rate.rate ≡ get_or (rates_found rates) next 0 =
-          w.in_ok-rate.ensures.rate
-          ∙ ap (λ ls. parts_of_level (map (λ level. level.value) ls) level) w.deref.ensures.value
-          ∙ ap (λ ls. parts_of_level ls level) c.in_ok-levels.ensures.same
-          ∙ sym (read_at (parts_of_level rates.levels.items) rates.level_of.items next level 0 room w.index.ensures) in
+          let rate : rate_of w.in_ok-rate.rate ≡ get_or rates next 0 =
+          w.in_ok-rate.ensures.rate ∙ sym (get_or-map (parts_of_level levels) level_of next None) in
           let place : w.place.result ≡ n.at =
           w.place.ensures ∙ place_is cmp component old.list.items c.requires.near number lt ∙ n.place in
           let now = w.rerate.new.self in
@@ -157,8 +158,7 @@ loop-number-preserved g c =
           let put : IsReratedAt old.at n.at growth is_rate so_far.list.items new =
           subst (λ m. IsReratedAt m n.at growth is_rate so_far.list.items new) h.at
           (subst (λ m. IsReratedAt so_far.at m growth is_rate so_far.list.items new) place
-          (subst (λ ns. IsReratedAt so_far.at w.place.result (product ns) is_rate so_far.list.items new)
-          w.deref-then-is_rated.ensures.value w.in_ok-rerate.ensures.rerated)) in
+          w.in_ok-rerate.ensures.rerated) in
           let counted : IsCountedAt n.at so_far now =
           subst (λ m. IsCountedAt m so_far now) place w.in_ok-rerate.ensures.counted in
           let here : n.x ≡ get_or so_far.list.items n.at n.x = stands_here n.up_to n.x n.stands n.x in
@@ -167,9 +167,10 @@ loop-number-preserved g c =
           (record {
             place = n.at + 1;
             up_to = one_rerated n.up_to n.x n.stands is_rate new put here rate of;
-            to_come = rerated_to_come cmp component old.at growth (rates_found rates) old.list.items so_far.list.items
+            to_come = rerated_to_come cmp component old.at growth rates old.list.items so_far.list.items
                 new number next h.place n is_rate put here rate of;
             at = w.rerate.ensures.at ∙ h.at;
+            scale = w.rerate.ensures.scale ∙ h.scale;
             timed = λ timed. timed_set put (h.timed timed);
             kept = one_counted n.at so_far now old.list.items counted h.kept;
             counted = omega (arith, h.counted, by_one n.at so_far now counted);
@@ -182,9 +183,10 @@ loop-number-preserved g c =
           (record {
             place = n.at + 1;
             up_to = passed n.up_to n.x n.stands out;
-            to_come = more_to_come cmp component old.at growth (rates_found rates) old.list.items so_far.list.items
+            to_come = more_to_come cmp component old.at growth rates old.list.items so_far.list.items
                 number next h.place n out;
             at = h.at;
+            scale = h.scale;
             timed = h.timed;
             kept = h.kept;
             counted = h.counted;
@@ -198,9 +200,11 @@ returns-clause-rerated g c =
     let now = c.loop-number.self in
     let component = c.args.component.now in
     let h = c.loop-number.invariant in
-    let rates = c.args.rates in
-    let times = product rates.growth.items in
-    let none = none_more g.P.Ord.cmp component old.at times (rates_found rates) old.list.items now.list.items
+    let levels = map (λ (level : Rc ℕ Global). level.value) c.args.levels.now in
+    let level_of = c.args.level_of.now in
+    let rates = rates_of_levels c.args.levels.now level_of in
+    let times = product c.args.growth.now in
+    let none = none_more g.P.Ord.cmp component old.at times rates old.list.items now.list.items
     c.loop-number.number h.place c.loop-number.next h.up_to h.to_come
     (omega (arith, c.loop-number-test.false, c.count-number-end.ensures)) in
     let all = to_end (length h.up_to.rest) h.place c.loop-number.next h.up_to refl none in
@@ -212,9 +216,11 @@ returns-clause-timed g c =
     let now = c.loop-number.self in
     let component = c.args.component.now in
     let h = c.loop-number.invariant in
-    let rates = c.args.rates in
-    let times = product rates.growth.items in
-    let none = none_more g.P.Ord.cmp component old.at times (rates_found rates) old.list.items now.list.items
+    let levels = map (λ (level : Rc ℕ Global). level.value) c.args.levels.now in
+    let level_of = c.args.level_of.now in
+    let rates = rates_of_levels c.args.levels.now level_of in
+    let times = product c.args.growth.now in
+    let none = none_more g.P.Ord.cmp component old.at times rates old.list.items now.list.items
     c.loop-number.number h.place c.loop-number.next h.up_to h.to_come
     (omega (arith, c.loop-number-test.false, c.count-number-end.ensures)) in
     let all = to_end (length h.up_to.rest) h.place c.loop-number.next h.up_to refl none in

@@ -1,0 +1,123 @@
+use Rattle.std.proofs.Common.{rules, ◌≡◌, ◌≤◌, ◌*◌, IfSome, All, sym, ap, ◌∙◌, subst, arith, map}
+use Rattle.std.specs.Prelude.{◌≢◌}
+use Rattle.std.proofs.lemmas.Bool.{true≢false}
+use Rattle.std.specs.List.{AllZip}
+use Rattle.fair_rates.specs.Fairness.Exists.{product}
+use Rattle.fair_rates.specs.Filling.FairParts.{parts_of_level}
+use Rattle.link_simulation.specs.Simulation.World.{last_moment}
+use Rattle.link_pairs.specs.Pairs.CapsOf.{caps_of}
+use Rattle.link_flights.specs.Flights.Flight.{UnitFlight, flight_at, flights_at, AreTimed}
+use Rattle.link_flights.specs.Flights.InFlight.{in_units}
+use Rattle.link_flights.specs.Flights.Rated.{rates_found, rates_of_levels, rerated, IsRatedFrom}
+use Rattle.link_flights.proofs.Flights.Components.{found_each, whole_rerated}
+use Rattle.link_flights.proofs.Flights.ComponentFlows.{is_of_whole}
+use Rattle.link_flights.proofs.Flights.RatesGiven.{whole_given, left_given}
+use Rattle.link_flights.proofs.Flights.Rerating.{first_finish_is}
+use Rattle.link_flights.proofs.Flights.Settled.{all_have_got}
+use Rattle.link_flights.proofs.flight_list.Flights.rate_all.Goals as goal
+
+pub set_rates-requires-clause-near : goal.set_rates-requires-clause-near
+set_rates-requires-clause-near g c part = absurd (true≢false (sym c.whole-all.ensures.whole ∙ part))
+
+pub set_rates-requires-clause-kept : goal.set_rates-requires-clause-kept
+set_rates-requires-clause-kept g c i f there =
+    sym (is_of_whole g.P.Ord.cmp c.whole-all.result c.whole-all.ensures.whole c.whole-all.ensures.level
+    (flight_at 0 f.value))
+
+pub set_rates-requires-clause-left : goal.set_rates-requires-clause-left
+set_rates-requires-clause-left g c =
+    let old = c.args.self.now in
+    subst (λ growth. All (λ (u : UnitFlight g.row.P.Denot). u.left * product growth ≢ 0) (in_units old))
+    (sym c.deref-3.ensures.value)
+    (left_given g.P.Ord.cmp (caps_of g.P.Ord.cmp c.args.peers.now.entries c.args.pairs.now.entries) c.whole-all.result
+    c.in_ok-rates.rates old.scale (in_units old) c.in_ok-rates.ensures.fair c.requires.left)
+
+pub settle-requires : goal.settle-requires
+settle-requires g c =
+    let cmp = g.P.Ord.cmp in
+    let old = c.args.self.now in
+    let caps = caps_of cmp c.args.peers.now.entries c.args.pairs.now.entries in
+    let all = c.whole-all.result in
+    let rates = c.in_ok-rates.rates in
+    let fair = c.in_ok-rates.ensures.fair in
+    let mid = c.set_rates.new.self in
+    let times = product rates.growth.items in
+    let same : rates_of_levels c.deref.result.now c.deref-2.result.now ≡ rates_found rates =
+    ap (λ ls. rates_of_levels ls c.deref-2.result.now) c.deref.ensures.value
+    ∙ ap (rates_of_levels c.in_ok-levels.levels.items) c.deref-2.ensures.value
+    ∙ ap (λ ns. map (parts_of_level ns) rates.level_of.items) c.in_ok-levels.ensures.same in
+    let given : in_units mid ≡ rerated cmp all old.at times (rates_found rates) (in_units old) =
+    c.in_ok-set_rates.ensures.rerated
+    ∙ ap (λ ns. rerated cmp all old.at (product ns) (rates_of_levels c.deref.result.now c.deref-2.result.now)
+    (in_units old)) c.deref-3.ensures.value
+    ∙ ap (λ rs. rerated cmp all old.at times rs (in_units old)) same in
+    let each : AllZip (IsRatedFrom old.at times) (in_units old) (in_units mid) =
+    subst (AllZip (IsRatedFrom old.at times) (in_units old)) (sym given)
+    (whole_rerated cmp all c.whole-all.ensures.whole c.whole-all.ensures.level old.at times (rates_found rates)
+    (in_units old) (found_each cmp all caps old.scale (in_units old) rates fair.one_each)) in
+    record { rated = all_have_got old.at times mid.at (in_units old) mid.list.items each }
+
+pub returns-clause-rated : goal.returns-clause-rated
+returns-clause-rated g c =
+    let cmp = g.P.Ord.cmp in
+    let old = c.args.self.now in
+    let caps = caps_of cmp c.args.peers.now.entries c.args.pairs.now.entries in
+    let all = c.whole-all.result in
+    let rates = c.in_ok-rates.rates in
+    let fair = c.in_ok-rates.ensures.fair in
+    let mid = c.set_rates.new.self in
+    let times = product rates.growth.items in
+    let same : rates_of_levels c.deref.result.now c.deref-2.result.now ≡ rates_found rates =
+    ap (λ ls. rates_of_levels ls c.deref-2.result.now) c.deref.ensures.value
+    ∙ ap (rates_of_levels c.in_ok-levels.levels.items) c.deref-2.ensures.value
+    ∙ ap (λ ns. map (parts_of_level ns) rates.level_of.items) c.in_ok-levels.ensures.same in
+    let given : in_units mid ≡ rerated cmp all old.at times (rates_found rates) (in_units old) =
+    c.in_ok-set_rates.ensures.rerated
+    ∙ ap (λ ns. rerated cmp all old.at (product ns) (rates_of_levels c.deref.result.now c.deref-2.result.now)
+    (in_units old)) c.deref-3.ensures.value
+    ∙ ap (λ rs. rerated cmp all old.at times rs (in_units old)) same in
+    let e = c.settle.ensures in
+    let last = c.settle.new.self in
+    let units : in_units last ≡ in_units mid =
+    ap (λ n. flights_at n last.list.items) e.at ∙ ap (flights_at mid.at) e.list in
+    let h =
+    whole_given cmp caps all rates old last fair (units ∙ given) e.scale (e.at ∙ c.in_ok-set_rates.ensures.at)
+    (subst AreTimed (sym e.list) c.in_ok-set_rates.ensures.timed) c.whole-all.ensures.whole c.whole-all.ensures.level in
+    record {
+      times = h.times;
+      scale = h.scale;
+      at = h.at;
+      each = h.each;
+      fair = h.fair;
+      timed = h.timed;
+    }
+
+pub returns-clause-finish : goal.returns-clause-finish
+returns-clause-finish g c =
+    let cmp = g.P.Ord.cmp in
+    let old = c.args.self.now in
+    let caps = caps_of cmp c.args.peers.now.entries c.args.pairs.now.entries in
+    let all = c.whole-all.result in
+    let rates = c.in_ok-rates.rates in
+    let fair = c.in_ok-rates.ensures.fair in
+    let mid = c.set_rates.new.self in
+    let times = product rates.growth.items in
+    let same : rates_of_levels c.deref.result.now c.deref-2.result.now ≡ rates_found rates =
+    ap (λ ls. rates_of_levels ls c.deref-2.result.now) c.deref.ensures.value
+    ∙ ap (rates_of_levels c.in_ok-levels.levels.items) c.deref-2.ensures.value
+    ∙ ap (λ ns. map (parts_of_level ns) rates.level_of.items) c.in_ok-levels.ensures.same in
+    let given : in_units mid ≡ rerated cmp all old.at times (rates_found rates) (in_units old) =
+    c.in_ok-set_rates.ensures.rerated
+    ∙ ap (λ ns. rerated cmp all old.at (product ns) (rates_of_levels c.deref.result.now c.deref-2.result.now)
+    (in_units old)) c.deref-3.ensures.value
+    ∙ ap (λ rs. rerated cmp all old.at times rs (in_units old)) same in
+    let e = c.settle.ensures in
+    let last = c.settle.new.self in
+    let units : in_units last ≡ in_units mid =
+    ap (λ n. flights_at n last.list.items) e.at ∙ ap (flights_at mid.at) e.list in
+    let h =
+    whole_given cmp caps all rates old last fair (units ∙ given) e.scale (e.at ∙ c.in_ok-set_rates.ensures.at)
+    (subst AreTimed (sym e.list) c.in_ok-set_rates.ensures.timed) c.whole-all.ensures.whole c.whole-all.ensures.level in
+    let fits : IfSome c.settle.result (λ t. t ≤ last_moment) = search rules in
+    let here : last.at ≤ last_moment = omega (arith, e.at, c.in_ok-set_rates.ensures.at, c.requires.moment) in
+    first_finish_is cmp caps old last h c.requires.left here c.settle.result e.finish fits
