@@ -6,6 +6,7 @@ pub mod FewerEvents
 pub mod Finishing
 pub mod Limits
 pub mod MessageCounts
+pub mod OneEach
 pub mod OnlyWaiting
 pub mod RatedWithNext
 pub mod SettledFirst

@@ -64,7 +64,8 @@ impl<P: Peer> Ledger<P> {
         ensures refused { IfErr result (MayBeRefused P.cmp (planned P.cmp self.old)
             (call_enqueue now (message_of message))) }
     {
-        let ended = self.enqueue(now, message)?;
+        let is_busy = self.has_to_wait(&message.origin, &message.recipient);
+        let ended = self.enqueue(now, message, is_busy)?;
         answers_of(self.alloc, &ended)
     }
 

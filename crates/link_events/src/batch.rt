@@ -8,6 +8,7 @@ ghost use Rattle.link_simulation.specs.Rule.Events.{EnqueuesEach};
 ghost use Rattle.link_pairs.specs.Pairs.Messages.{message_of, ended_of};
 ghost use Rattle.link_events.specs.Steps.Outgoing.{outgoing};
 ghost use Rattle.link_events.specs.Steps.Standing.{OnlyStarts, IsStanding, is_settled, does_start, standing_after};
+ghost use Rattle.link_events.specs.Steps.Standing.{IsFree};
 
 use crate::ledger::Ledger;
 use crate::outgoing::Outgoing;
@@ -102,30 +103,34 @@ impl<P: Peer> Ledger<P> {
         }
         self.catch_up(now, standing)?;
         let starts = self.starts_at_once(&message, now);
-        let mut more = self.enqueue(now, message)?;
+        let mut more = self.enqueue(now, message, false)?;
         ended.append(&mut more)?;
         Ok(standing.after(starts))
     }
 
-    /// Whether limits hold, and a message that is sent starts at once.
+    /// Whether limits hold, and a message that is sent starts at once. It does not have to wait.
     fn starts_at_once(&self, message: &Message<P>, now: u64) -> bool
+        requires { IsFree P.cmp (planned P.cmp self.now) message.now.origin message.now.recipient }
         ensures { result ≡ does_start P.cmp now (planned P.cmp self.now) (message_of message.now) }
     {
-        self.limited && self.may_start(message, now)
+        self.limited && self.may_start(message, false, now)
     }
 
     /// Whether a message that is sent starts at once, and stays in flight at the account that
     /// follows: an id is left for it, it has bytes, and it uses a capped side.
     fn only_starts(&self, message: &Message<P>, now: u64) -> bool
+        requires { IsFree P.cmp (planned P.cmp self.now) message.now.origin message.now.recipient }
         ensures { result ≡ true → OnlyStarts P.cmp now (planned P.cmp self.now) (message_of message.now) }
     {
         self.would_stay(message) && self.starts_at_once(message, now)
     }
 
-    /// Makes the account that is due, if one is. Nothing leaves at it.
+    /// Makes the account that is due, if one is. Nothing leaves at it, and pairs that are free stay so.
     fn catch_up(&mut self, now: u64, standing: Standing) -> Result<(), Error>
         ensures caught_up { OnOk result ((w : AnyPlanned P) →
             IsStanding P.cmp now standing (planned P.cmp self.old) w → w ≡ planned P.cmp self.new) }
+        ensures free { OnOk result ((origin recipient : P) → IsFree P.cmp (planned P.cmp self.old) origin recipient
+            → IsFree P.cmp (planned P.cmp self.new) origin recipient) }
         ensures refused { IfErr result (λ e. e ≡ Error.OutOfMemory) }
     {
         if let Standing::Due = standing {

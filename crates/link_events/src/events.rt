@@ -60,7 +60,8 @@ impl<P: Peer> Ledger<P> {
         ensures refused { IfErr result (IsRefusedFor (λ fault. Launches P.cmp now (planned P.cmp self.old)
             (first_of P.cmp (planned P.cmp self.old).waiting origin.now recipient.now) (meets fault))) }
     {
-        let since = idle_from(&self.flights, &self.waiting, &self.pairs, origin, recipient);
+        let is_busy = self.flights.has(origin, recipient);
+        let since = idle_from(is_busy, &self.waiting, &self.pairs, origin, recipient);
         self.launch_from(since, origin, recipient, now)
     }
 
@@ -91,7 +92,8 @@ impl<P: Peer> Ledger<P> {
 
     /// Whether a message that is sent may start at once: none of its pair waits or is in flight, and
     /// it arrives no earlier than the pair's last one.
-    pub(crate) fn may_start(&self, message: &Message<P>, now: u64) -> bool
+    pub(crate) fn may_start(&self, message: &Message<P>, is_busy: bool, now: u64) -> bool
+        requires { is_sending P.cmp (planned P.cmp self.now) message.now.origin message.now.recipient ≡ is_busy }
         ensures { result ≡ (is_none (first_of P.cmp (planned P.cmp self.now).waiting message.now.origin
             message.now.recipient) && may_launch P.cmp now (planned P.cmp self.now) (message_of message.now)) }
     {
@@ -99,7 +101,7 @@ impl<P: Peer> Ledger<P> {
         if self.waiting.first(origin, recipient).is_some() {
             return false;
         }
-        if self.flights.has(origin, recipient) {
+        if is_busy {
             return false;
         }
         ready_moment(self.pairs.last_arrival(origin, recipient), message.latency) <= now
@@ -150,7 +152,8 @@ impl<P: Peer> Ledger<P> {
             IsRefusedFor (λ fault. Finishes P.cmp now (message_of message.value ∷ ms) (planned P.cmp self.old)
             (meets fault)) e) }
     {
-        let (deliver_at, since) = self.land(&message, now)?;
+        let is_busy = self.flights.has(&message.origin, &message.recipient);
+        let (deliver_at, since) = self.land(&message, now, is_busy)?;
         let more = self.launch_from(since, &message.origin, &message.recipient, now)?;
         ended.push(Ended {
             message,
@@ -216,8 +219,15 @@ impl<P: Peer> Ledger<P> {
         Ok(ended)
     }
 
-    /// A message is sent.
-    pub(crate) fn enqueue(&mut self, now: u64, message: Message<P>) -> Result<Vec<Ended<P>>, Error>
+    /// A message is sent. Under limits it is known whether one of its pair is in flight.
+    pub(crate) fn enqueue(
+        &mut self,
+        now: u64,
+        message: Message<P>,
+        is_busy: bool,
+    ) -> Result<Vec<Ended<P>>, Error>
+        requires { (planned P.cmp self.old).limited ≡ true
+            → is_sending P.cmp (planned P.cmp self.old) message.origin message.recipient ≡ is_busy }
         ensures enqueues { IfOk result (λ ended. Enqueues P.cmp now (message_of message) (planned P.cmp self.old)
             (goes (map ended_of ended.items) (planned P.cmp self.new))) }
         ensures refused { IfErr result (IsRefusedFor
@@ -228,13 +238,13 @@ impl<P: Peer> Ledger<P> {
             self.complete_at_once(now, message, &mut ended)?;
             return Ok(ended);
         }
-        if self.may_start(&message, now) {
+        if self.may_start(&message, is_busy, now) {
             let queue = self.start_at_once(message, now)?;
             self.finish(queue, now, &mut ended)?;
             return Ok(ended);
         }
         let pair = PeerPair::new(&message.origin, &message.recipient)?;
-        let since = self.join(&pair, message)?;
+        let since = self.join(&pair, message, is_busy)?;
         let queue = self.launch_from(since, &pair.origin, &pair.recipient, now)?;
         self.finish(queue, now, &mut ended)?;
         Ok(ended)
@@ -285,7 +295,8 @@ impl<P: Peer> Ledger<P> {
             (λ fault. completed_at_once P.cmp now (planned P.cmp self.old) (message_of message) ≡ meets fault)) }
     {
         let arrival = self.arrival_at_once(&message, now)?;
-        self.raise(&message.origin, &message.recipient, arrival)?;
+        let is_busy = self.flights.has(&message.origin, &message.recipient);
+        self.raise(&message.origin, &message.recipient, arrival, is_busy)?;
         let deliver_at = message.should_deliver.then_some(arrival);
         let message = Rc::new(self.alloc, message)?;
         ended.push(Ended {

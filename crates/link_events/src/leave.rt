@@ -1,6 +1,7 @@
 //! What is done leaves.
 ghost use Rattle.std.specs.Prelude.{◌≡◌, ◌≤◌, true, not, IfOk, IfErr, OnOk};
 ghost use Rattle.std.specs.List.{filter};
+ghost use Rattle.link_simulation.specs.Simulation.Messages.{OneForEachPair};
 ghost use Rattle.link_simulation.specs.Rule.Planned.{rated_messages, drained_to, is_spent};
 ghost use Rattle.link_waiting.specs.Idle.AtRest.{of_pairs};
 ghost use Rattle.link_waiting.specs.Idle.Index.{IsIndexOf};
@@ -36,6 +37,7 @@ pub(crate) fn leave<P: Peer>(
 ) -> Result<VecDeque<Rc<Message<P>>>, Error>
     requires indexed { IsIndexOf P.cmp (of_pairs P.cmp pairs.now.entries waiting.now.messages
         (in_flight flights.old)) idle.old.entries }
+    requires one_each { ∥ OneForEachPair P.cmp (rated_messages (in_flight flights.old)) ∥₁ }
     requires later { were_fair ≡ true → flights.old.at ≤ now }
     requires rated { were_fair ≡ true
         → AreRated P.cmp (caps_of P.cmp peers.now.entries pairs.now.entries) flights.old }
@@ -45,6 +47,7 @@ pub(crate) fn leave<P: Peer>(
     ensures rest { OnOk result (in_flight flights.new ≡ filter
         (λ f. not (is_spent P.cmp (caps_of P.cmp peers.now.entries pairs.now.entries) f))
         (drained_to now (in_flight flights.old))) }
+    ensures one_each { OnOk result (∥ OneForEachPair P.cmp (rated_messages (in_flight flights.new)) ∥₁) }
     ensures fair { IfOk result (λ done. were_fair ≡ true → HadFairRates P.cmp
         (caps_of P.cmp peers.now.entries pairs.now.entries) flights.new (messages done.items)) }
     ensures at { OnOk result (flights.new.at ≡ now) }
@@ -54,6 +57,6 @@ pub(crate) fn leave<P: Peer>(
 {
     flights.drain(now)?;
     let done = flights.take_done(peers, pairs, were_fair)?;
-    rest_all(alloc, idle, flights, waiting, pairs, &done)?;
+    rest_all(alloc, idle, waiting, pairs, &done)?;
     Ok(done)
 }

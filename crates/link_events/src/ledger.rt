@@ -5,6 +5,8 @@ ghost use Rattle.link_flights.specs.Flights.InFlight.{in_flight, IsSameFlights};
 ghost use Rattle.link_waiting.specs.Idle.AtRest.{of_pairs};
 ghost use Rattle.link_pairs.specs.Pairs.CapsOf.{caps_of};
 ghost use Rattle.link_flights.specs.Flights.Rated.{AreRated};
+ghost use Rattle.link_simulation.specs.Rule.Planned.{rated_messages};
+ghost use Rattle.link_simulation.specs.Simulation.Messages.{OneForEachPair};
 
 use fair_rates::error::Error;
 use fair_rates::peer::Peer;
@@ -36,6 +38,7 @@ pub struct Ledger<P: Peer> {
     pub(crate) stale: bool,
     pub ghost indexed: { IsIndexOf P.cmp (of_pairs P.cmp pairs.entries waiting.messages
         (in_flight flights)) idle.entries },
+    pub ghost one_each: { ∥ OneForEachPair P.cmp (rated_messages (in_flight flights)) ∥₁ },
     pub ghost rated: { stale ≡ false → ∥ AreRated P.cmp (caps_of P.cmp peers.entries pairs.entries) flights ∥₁ },
 }
 

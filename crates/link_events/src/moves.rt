@@ -1,5 +1,5 @@
 //! Changes of what is known of one pair, and of its place among the idle pairs.
-ghost use Rattle.std.specs.Prelude.{◌≡◌, ◌<◌, true, [], Some, None, OnOk, OnErr, IfOk, IfErr};
+ghost use Rattle.std.specs.Prelude.{◌≡◌, ◌<◌, true, false, [], Some, None, OnOk, OnErr, IfOk, IfErr};
 ghost use Rattle.link_pairs.specs.declared.message.Message.{Message as AnyMessage};
 ghost use Rattle.link_flights.specs.Flights.InFlight.{Joins};
 ghost use Rattle.link_simulation.specs.Simulation.World.{goes};
@@ -27,13 +27,15 @@ impl<P: Peer> Ledger<P> {
     ghost use Rattle.link_waiting.specs.Idle.AtRest.{is_sending};
 
     /// From now on no message of the pair arrives before that moment. Answered is the moment from
-    /// which on the pair's first waiting message may start, if one waits and the pair is idle.
+    /// which on the pair's first waiting message may start, if one waits and the pair is not busy.
     pub(crate) fn raise(
         &mut self,
         origin: &P,
         recipient: &P,
         moment: u64,
+        is_busy: bool,
     ) -> Result<Option<u64>, Error>
+        requires { is_sending P.cmp (planned P.cmp self.old) origin.now recipient.now ≡ is_busy }
         ensures raised { OnOk result (planned P.cmp self.new
             ≡ record (planned P.cmp self.old) {
               last_arrival = raised_at P.cmp
@@ -45,7 +47,7 @@ impl<P: Peer> Ledger<P> {
         ensures stale { OnOk result (self.new.stale ≡ self.old.stale) }
         ensures refused { IfErr result (λ e. e ≡ Error.OutOfMemory) }
     {
-        let latency = idle_latency(&self.flights, &self.waiting, origin, recipient);
+        let latency = idle_latency(is_busy, &self.waiting, origin, recipient);
         let last = self.pairs.raise(self.alloc, origin, recipient, moment)?;
         let before = ready_from(last, latency);
         let moved = ready_from(Some(later_of(last, moment)), latency);
@@ -68,8 +70,10 @@ impl<P: Peer> Ledger<P> {
         &mut self,
         pair: &PeerPair<P>,
         message: Message<P>,
+        is_busy: bool,
     ) -> Result<Option<u64>, Error>
-        requires { NamesPairOf P.cmp pair.now (message_of message) }
+        requires named { NamesPairOf P.cmp pair.now (message_of message) }
+        requires busy { is_sending P.cmp (planned P.cmp self.old) pair.now.origin pair.now.recipient ≡ is_busy }
         ensures queued { OnOk result (planned P.cmp self.new
             ≡ with_queued P.cmp (planned P.cmp self.old) (message_of message)) }
         ensures idle { IfOk result (λ since. since
@@ -77,9 +81,9 @@ impl<P: Peer> Ledger<P> {
         ensures refused { IfErr result (λ e. e ≡ Error.OutOfMemory) }
     {
         let (origin, recipient) = (&pair.origin, &pair.recipient);
-        let before = idle_from(&self.flights, &self.waiting, &self.pairs, origin, recipient);
+        let before = idle_from(is_busy, &self.waiting, &self.pairs, origin, recipient);
         self.waiting.push(self.alloc, message)?;
-        let after = idle_from(&self.flights, &self.waiting, &self.pairs, origin, recipient);
+        let after = idle_from(is_busy, &self.waiting, &self.pairs, origin, recipient);
         let changed = self
             .idle
             .change(self.alloc, origin, recipient, before, after);
@@ -134,9 +138,10 @@ impl<P: Peer> Ledger<P> {
         Ok(())
     }
 
-    /// A message of a pair of which none waits is in flight from now on, under the next flow id.
+    /// A message of an idle pair of which none waits is in flight from now on, under the next flow id.
     pub(crate) fn start(&mut self, message: Message<P>, now: u64) -> Result<(), Error>
         requires alone { first_of P.cmp (planned P.cmp self.old).waiting message.origin message.recipient ≡ None }
+        requires idle { is_sending P.cmp (planned P.cmp self.old) message.origin message.recipient ≡ false }
         requires id { self.old.next_id < 18446744073709551615 }
         ensures started { OnOk result (planned P.cmp self.new ≡ launched P.cmp now
             (with_queued P.cmp (planned P.cmp self.old) (message_of message)) (message_of message)) }

@@ -1,17 +1,16 @@
 //! Ordered pairs of peers, and from when on their next messages may start.
-ghost use Rattle.std.specs.Prelude.{◌≡◌, ℕ, true, false, List, option_map, IfErr, OnOk};
+ghost use Rattle.std.specs.Prelude.{◌≡◌, ℕ, true, false, List, [], option_map, IfErr, OnOk};
 ghost use Rattle.std.specs.List.{list_any};
 ghost use Rattle.link_waiting.specs.Idle.Index.{is_listed, is_of_pair, AreAtRest, idle_from as idle_since};
 ghost use Rattle.link_waiting.specs.Idle.FirstMoment.{first_moment};
-ghost use Rattle.link_waiting.specs.Idle.AtRest.{of_pairs};
-ghost use Rattle.link_flights.specs.Flights.InFlight.{in_flight};
+ghost use Rattle.link_waiting.specs.Idle.AtRest.{of_pairs, is_sending};
+ghost use Rattle.link_simulation.specs.Rule.Planned.{RatedFlight};
 ghost use Rattle.link_pairs.specs.declared.known_pairs.Pair.{Pair};
 ghost use Rattle.link_pairs.specs.Pairs.Entries.{arrival_of};
 ghost use Rattle.link_pairs.specs.Pairs.Messages.{messages};
 
 use fair_rates::error::Error;
 use fair_rates::peer::Peer;
-use link_flights::flight_list::Flights;
 use link_pairs::known_pairs::Pairs;
 use link_pairs::message::Message;
 use link_waiting::idle_pairs::IdlePairs;
@@ -41,61 +40,63 @@ pub(crate) fn ready_from(last_arrival: Option<u64>, latency: Option<u64>) -> Opt
     }
 }
 
-/// The latency of the first waiting message of the pair, if one waits and the pair is idle.
+/// The latency of the first waiting message of the pair, if one waits and the pair is not busy.
 pub(crate) fn idle_latency<P: Peer>(
-    flights: &Flights<P>,
+    is_busy: bool,
     waiting: &Waiting<P>,
     origin: &P,
     recipient: &P,
 ) -> Option<u64>
-    ensures { (pairs : List (Pair P))
+    ensures { (pairs : List (Pair P)) (sending : List (RatedFlight P))
+        → is_sending P.cmp (of_pairs P.cmp pairs waiting.now.messages sending) origin.now recipient.now ≡ is_busy
         → option_map (first_moment (arrival_of P.cmp pairs origin.now recipient.now)) result
-        ≡ idle_since P.cmp (of_pairs P.cmp pairs waiting.now.messages (in_flight flights.now))
-        origin.now recipient.now }
+        ≡ idle_since P.cmp (of_pairs P.cmp pairs waiting.now.messages sending) origin.now recipient.now }
 {
-    let front = waiting.first(origin, recipient)?;
-    if flights.has(origin, recipient) {
+    if is_busy {
         return None;
     }
+    let front = waiting.first(origin, recipient)?;
     Some(front.latency)
 }
 
 /// The moment from which on the first waiting message of the pair may start, if one waits and the
-/// pair is idle.
+/// pair is not busy.
 pub(crate) fn idle_from<P: Peer>(
-    flights: &Flights<P>,
+    is_busy: bool,
     waiting: &Waiting<P>,
     pairs: &Pairs<P>,
     origin: &P,
     recipient: &P,
 ) -> Option<u64>
-    ensures { result ≡ idle_since P.cmp (of_pairs P.cmp pairs.now.entries waiting.now.messages
-        (in_flight flights.now)) origin.now recipient.now }
+    ensures { (sending : List (RatedFlight P))
+        → is_sending P.cmp (of_pairs P.cmp pairs.now.entries waiting.now.messages sending) origin.now recipient.now
+        ≡ is_busy
+        → result ≡ idle_since P.cmp (of_pairs P.cmp pairs.now.entries waiting.now.messages sending)
+        origin.now recipient.now }
 {
-    let latency = idle_latency(flights, waiting, origin, recipient)?;
+    let latency = idle_latency(is_busy, waiting, origin, recipient)?;
     let last = pairs.last_arrival(origin, recipient);
     Some(ready_moment(last, latency))
 }
 
-/// The pairs of messages that are done are idle from now on.
+/// The pairs of messages that are done are idle from now on: none of them is in flight.
 pub(crate) fn rest_all<P: Peer>(
     alloc: Global,
     idle: &mut IdlePairs<P>,
-    flights: &Flights<P>,
     waiting: &Waiting<P>,
     pairs: &Pairs<P>,
     done: &VecDeque<Rc<Message<P>>>,
 ) -> Result<(), Error>
     requires unlisted { (t : ℕ) (a b : P) → list_any (is_of_pair P.cmp a b) (messages done.now.items) ≡ true
         → is_listed P.cmp idle.old.entries t a b ≡ false }
-    ensures listed { OnOk result (AreAtRest P.cmp (of_pairs P.cmp pairs.now.entries waiting.now.messages
-        (in_flight flights.now)) (messages done.now.items) idle.old.entries idle.new.entries) }
+    ensures listed { OnOk result (AreAtRest P.cmp (of_pairs P.cmp pairs.now.entries waiting.now.messages [])
+        (messages done.now.items) idle.old.entries idle.new.entries) }
     ensures refused { IfErr result (λ e. e ≡ Error.OutOfMemory) }
 {
     for at in 0..done.len() {
         let message = Rc::as_ref(&done[at]);
         let (origin, recipient) = (&message.origin, &message.recipient);
-        if let Some(moment) = idle_from(flights, waiting, pairs, origin, recipient) {
+        if let Some(moment) = idle_from(false, waiting, pairs, origin, recipient) {
             idle.add(alloc, origin, recipient, moment)?;
         }
     }

@@ -10,6 +10,7 @@ ghost use Rattle.link_simulation.specs.Rule.Leaving.{Leaves};
 ghost use Rattle.link_pairs.specs.Pairs.Messages.{message_of, messages, ended_of};
 ghost use Rattle.link_pairs.specs.Pairs.CapsOf.{caps_of};
 ghost use Rattle.link_waiting.specs.Idle.Index.{idle_from as idle_since};
+ghost use Rattle.link_waiting.specs.Idle.AtRest.{is_sending};
 ghost use Rattle.link_flights.specs.Flights.Rated.{HadFairRates};
 ghost use Rattle.link_events.specs.Steps.Starting.{WouldStay, StartsNext};
 
@@ -27,12 +28,14 @@ impl<P: Peer> Ledger<P> {
 
     /// A message that is done lands: no later one of its pair arrives before it. Answers the moment at
     /// which it arrives, if it does, and the moment from which on the first waiting message of its pair
-    /// may start, if one waits and the pair is idle.
+    /// may start, if one waits and the pair is not busy.
     pub(crate) fn land(
         &mut self,
         message: &Message<P>,
         now: u64,
+        is_busy: bool,
     ) -> Result<(Option<u64>, Option<u64>), Error>
+        requires { is_sending P.cmp (planned P.cmp self.old) message.now.origin message.now.recipient ≡ is_busy }
         ensures in_time { IfOk result (λ landing. is_late P.cmp now (message_of message.now) ≡ false) }
         ensures landed { OnOk result (planned P.cmp self.new
             ≡ landed_with P.cmp now (planned P.cmp self.old) (message_of message.now)) }
@@ -46,7 +49,7 @@ impl<P: Peer> Ledger<P> {
             × (is_late P.cmp now (message_of message.now) ≡ true)) ⊎ (e ≡ Error.OutOfMemory)) }
     {
         let arrival = message.arrival(now)?;
-        let since = self.raise(&message.origin, &message.recipient, arrival)?;
+        let since = self.raise(&message.origin, &message.recipient, arrival, is_busy)?;
         let deliver_at = message.is_delivered().then_some(arrival);
         Ok((deliver_at, since))
     }
@@ -149,7 +152,7 @@ impl<P: Peer> Ledger<P> {
                 return Ok(queue);
             }
         };
-        let (deliver_at, since) = self.land(&message, now)?;
+        let (deliver_at, since) = self.land(&message, now, false)?;
         let mut more = self.rate_with_next(&message, since, &queue, were_fair, now)?;
         queue.pop_front();
         queue.append(&mut more)?;

@@ -8,6 +8,7 @@ use Rattle.link_simulation.specs.Simulation.Rates.{is_unlimited}
 use Rattle.link_simulation.specs.Simulation.World.{last_moment}
 use Rattle.link_simulation.specs.Rule.Planned.{Planned, next_of, may_launch}
 use Rattle.link_simulation.specs.Rule.Events.{Accounts}
+use Rattle.link_waiting.specs.Idle.AtRest.{is_sending}
 
 -- whether an account was made
 abbrev pub is_settled : Standing → Bool
@@ -33,6 +34,10 @@ module _ {P : Type 0} (cmp : P → P → Ordering) where
   IsStanding now Open here w = w ≡ here
   IsStanding now Settled here w = (w ≡ here) × Accounts cmp now here [] here
   IsStanding now Due here w = Accounts cmp now here [] w
+
+  -- where limits hold, no message from the one peer to the other is in flight
+  abbrev pub IsFree : Planned P → P → P → Type 0
+  IsFree p origin recipient = p.limited ≡ true → is_sending cmp p origin recipient ≡ false
 
   -- a message that is sent starts at once, and is not done at the account that follows
   pub record OnlyStarts (now : ℕ) (p : Planned P) (m : Message P) : Type 0 where

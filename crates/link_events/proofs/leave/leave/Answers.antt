@@ -1,5 +1,5 @@
 use Rattle.std.proofs.Common.{◌≡◌, ℕ, List, not, ap, sym, ◌∙◌, subst}
-use Rattle.std.specs.List.{filter, AllZip}
+use Rattle.std.specs.List.{filter, list_any, AllZip}
 use Rattle.std.specs.Cmp.{IsTotalOrder}
 use Rattle.std.specs.declared.cmp.Ordering.{Ordering}
 use Rattle.link_pairs.specs.declared.known_pairs.Pair.{Pair}
@@ -7,6 +7,7 @@ use Rattle.link_pairs.specs.declared.message.Message as code
 use Rattle.link_waiting.specs.declared.idle_pairs.IdlePair.{IdlePair}
 use Rattle.link_flights.specs.declared.flight_list.Flights.{Flights}
 use Rattle.fair_rates.proofs.Lists.Zips.{zip_weaker}
+use Rattle.link_simulation.specs.Simulation.Messages.{OneForEachPair}
 use Rattle.link_simulation.specs.Rule.Planned.{drained_to, is_spent, rated_messages}
 use Rattle.link_flights.specs.Flights.Flight.{DrainsTo}
 use Rattle.link_flights.specs.Flights.InFlight.{in_flight, in_units}
@@ -18,8 +19,9 @@ use Rattle.link_pairs.proofs.Pairs.LookedUp.{arrivals_looked_up}
 use Rattle.link_flights.proofs.Flights.Rated.{drained_as_rated, drained_sending, still_fair_after, still_limited}
 use Rattle.link_flights.proofs.Flights.Rated.{out_as_read, stay_as_read}
 use Rattle.link_waiting.specs.Idle.AtRest.{of_pairs}
-use Rattle.link_waiting.specs.Idle.Index.{IsIndexOf}
+use Rattle.link_waiting.specs.Idle.Index.{IsIndexOf, is_of_pair}
 use Rattle.link_waiting.proofs.Idle.IndexChanges.{flows_drained, same_flights_index, left_unlisted, left_index}
+use Rattle.link_events.proofs.Steps.OneEach.{one_if_so, one_apart, one_drained, one_stays, rests_beside}
 use Rattle.link_events.proofs.leave.leave.Goals as goal
 
 -- ---- what has drained
@@ -87,6 +89,15 @@ returns-clause-rest g c =
     ∙ ap (filter (λ f. not (is_spent g.P.Ord.cmp caps f))) (drained_so g.P.Ord.cmp c.args.now c.args.flights.now drained c.drain.ensures.scale
     c.in_ok-drain.ensures.drained)
 
+pub returns-clause-one_each : goal.returns-clause-one_each
+returns-clause-one_each g c =
+    let cmp = g.P.Ord.cmp in
+    let caps = caps_of cmp c.args.peers.now.entries c.args.pairs.now.entries in
+    let old = c.args.flights.now in
+    ∣ one_stays cmp g.met.P.Ord.total c.args.now (is_spent cmp caps) (in_flight old)
+    (in_flight c.take_done.new.self) (one_if_so cmp (rated_messages (in_flight old)) c.requires.one_each)
+    (returns-clause-rest g c) ∣₁
+
 pub returns-clause-fair : goal.returns-clause-fair
 returns-clause-fair g c e =
     let cmp = g.P.Ord.cmp in
@@ -121,12 +132,22 @@ returns-clause-indexed g c =
     let parted = c.in_ok-done.ensures.parted in
     let rest = ap (λ n. sending_of n (in_units c.take_done.new.self)) c.take_done.ensures.scale
     ∙ ap (sending_of drained.scale) parted.stay ∙ sym (stay_as_read cmp caps drained.scale (in_units drained)) in
+    let done = parted.left ∙ sym (out_as_read cmp caps drained.scale (in_units drained)) in
     left_index cmp g.met.P.Ord.total c.args.pairs.now.entries c.args.waiting.now.messages (is_spent cmp caps)
     (in_flight drained)
-    (in_flight c.take_done.new.self) (messages c.in_ok-done.done.items) c.args.idle.now.entries
-    (parted.left ∙ sym (out_as_read cmp caps drained.scale (in_units drained))) (indexed_so cmp c.args.now c.args.flights.now drained c.drain.ensures.scale c.in_ok-drain.ensures.drained
+    (in_flight c.take_done.new.self) (messages c.in_ok-done.done.items) c.args.idle.now.entries done
+    (indexed_so cmp c.args.now c.args.flights.now drained c.drain.ensures.scale c.in_ok-drain.ensures.drained
     g.met.P.Ord.total c.args.pairs.now.entries c.args.waiting.now.messages c.args.idle.now.entries
     c.requires.indexed)
     c.rest_all.new.idle.entries
     (arrivals_looked_up cmp g.met.P.Ord.total c.args.pairs.now.entries) rest
-    c.in_ok-rest_all.ensures.listed
+    (rests_beside cmp c.args.pairs.now.entries c.args.waiting.now.messages (in_flight c.take_done.new.self)
+    (messages c.in_ok-done.done.items) c.args.idle.now.entries c.rest_all.new.idle.entries
+    (λ a b some. ap (λ fs. list_any (is_of_pair cmp a b) (rated_messages fs)) rest
+    ∙ one_apart cmp g.met.P.Ord.total (is_spent cmp caps) (in_flight drained)
+    (subst (λ fs. OneForEachPair cmp (rated_messages fs))
+    (sym (drained_so cmp c.args.now c.args.flights.now drained c.drain.ensures.scale c.in_ok-drain.ensures.drained))
+    (one_drained cmp g.met.P.Ord.total c.args.now (in_flight c.args.flights.now)
+    (one_if_so cmp (rated_messages (in_flight c.args.flights.now)) c.requires.one_each))) a b
+    (ap (list_any (is_of_pair cmp a b)) (sym done) ∙ some))
+    c.in_ok-rest_all.ensures.listed)

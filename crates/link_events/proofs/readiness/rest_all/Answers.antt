@@ -1,12 +1,11 @@
 use Rattle.std.proofs.Common.{◌≡◌, ◌+◌, ◌<◌, ℕ, false, true, List, [], ◌∷◌, ◌++◌, length, None, take, sym, ap, ◌∙◌}
-use Rattle.std.proofs.Common.{subst, arith, rules}
+use Rattle.std.proofs.Common.{refl, subst, arith, rules}
 use Rattle.std.specs.declared.rc.Rc.{Rc}
 use Rattle.std.specs.declared.alloc.Global.{Global}
 use Rattle.std.proofs.lemmas.List.{map-append, take_more}
 use Rattle.link_simulation.specs.Simulation.Messages.{Message}
 use Rattle.link_simulation.specs.Rule.Planned.{Planned}
 use Rattle.link_pairs.specs.declared.message.Message as code
-use Rattle.link_flights.specs.Flights.InFlight.{in_flight}
 use Rattle.link_waiting.specs.Idle.AtRest.{of_pairs}
 use Rattle.link_waiting.specs.Idle.Index.{is_listed, is_of_pair, AreAtRest}
 use Rattle.link_pairs.specs.Pairs.Messages.{message_of, messages}
@@ -18,8 +17,7 @@ use Rattle.link_events.proofs.readiness.rest_all.Goals.{in-Some+in_ok-add, in_de
 pub loop-at-preserved : goal.loop-at-preserved
 loop-at-preserved g c =
     let cmp = g.P.Ord.cmp in
-    let q : Planned g.row.P.Denot = of_pairs cmp c.args.pairs.now.entries c.args.waiting.now.messages
-    (in_flight c.args.flights.now) in
+    let q : Planned g.row.P.Denot = of_pairs cmp c.args.pairs.now.entries c.args.waiting.now.messages [] in
     let alike = arrivals_looked_up cmp g.met.P.Ord.total c.args.pairs.now.entries in
     let old = c.args.idle.now.entries in
     let done = c.args.done.now.items in
@@ -44,11 +42,11 @@ loop-at-preserved g c =
           (subst (λ (ms : List (Message g.row.P.Denot)). AreAtRest cmp q ms old w.add.new.self.entries) (sym more)
           (rests_more cmp g.met.P.Ord.total q alike old (messages (take at done)) m c.loop-at.idle.entries
           c.loop-at.invariant busy _ w.add.new.self.entries
-          (sym c.idle_from.ensures ∙ w.in-Some.is) w.in_ok-add.ensures.listed))
+          (sym (c.idle_from.ensures [] refl) ∙ w.in-Some.is) w.in_ok-add.ensures.listed))
       | in_default w ↦
           let none : c.idle_from.result ≡ None = search rules in
           subst (λ es. AreAtRest cmp q (messages (take (at + 1) done)) old es) (sym (ap (λ x. x.entries) w.idle-is))
           (subst (λ (ms : List (Message g.row.P.Denot)). AreAtRest cmp q ms old c.loop-at.idle.entries) (sym more)
           (rests_none cmp g.met.P.Ord.total q alike old (messages (take at done)) m c.loop-at.idle.entries
-          c.loop-at.invariant busy (sym c.idle_from.ensures ∙ none)))
+          c.loop-at.invariant busy (sym (c.idle_from.ensures [] refl) ∙ none)))
     ]

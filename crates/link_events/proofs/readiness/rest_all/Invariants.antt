@@ -1,5 +1,4 @@
-use Rattle.std.proofs.Common.{take}
-use Rattle.link_flights.specs.Flights.InFlight.{in_flight}
+use Rattle.std.proofs.Common.{take, []}
 use Rattle.link_waiting.specs.Idle.AtRest.{of_pairs}
 use Rattle.link_waiting.specs.Idle.Index.{AreAtRest}
 use Rattle.link_pairs.specs.Pairs.Messages.{messages}
@@ -7,5 +6,5 @@ use Rattle.link_events.proofs.readiness.rest_all.Given as goal
 
 abbrev pub invariant-loop-at : goal.invariant-loop-at
 invariant-loop-at g l =
-    AreAtRest g.P.Ord.cmp (of_pairs g.P.Ord.cmp l.pairs.entries l.waiting.messages (in_flight l.flights))
+    AreAtRest g.P.Ord.cmp (of_pairs g.P.Ord.cmp l.pairs.entries l.waiting.messages [])
     (messages (take l.at l.done.items)) l.initial.idle.entries l.idle.entries

@@ -6,6 +6,7 @@ use Rattle.link_simulation.specs.Simulation.World.{goes, meets, completion_of, c
 use Rattle.link_simulation.specs.Rule.Events.{Launches, Finishes, landed}
 use Rattle.link_pairs.specs.Pairs.Messages.{message_of, ended_of, messages}
 use Rattle.link_pairs.specs.Pairs.Entries.{first_of}
+use Rattle.link_waiting.specs.Idle.AtRest.{is_sending}
 use Rattle.link_events.specs.Steps.AsPlanned.{planned}
 use Rattle.link_events.proofs.Steps.Finishing.{refused_landing, refused_launch, launches_landed}
 use Rattle.link_events.proofs.ledger.Ledger.complete.Goals as goal
@@ -18,8 +19,8 @@ returns-in_err-deliver_at-clause-refused g c =
     (λ ms. subst
     (λ x. IsRefusedFor (λ fault. Finishes g.P.Ord.cmp c.args.now (message_of x ∷ ms) here (meets fault))
     c.in_err-deliver_at.field-0.0)
-    c.deref.ensures
-    (refused_landing g.P.Ord.cmp c.args.now (message_of c.deref.result.now) ms here _
+    c.deref-3.ensures
+    (refused_landing g.P.Ord.cmp c.args.now (message_of c.deref-3.result.now) ms here _
     c.in_err-deliver_at.ensures.refused))
 
 pub returns-in_err-more-clause-refused : goal.returns-in_err-more-clause-refused
@@ -28,19 +29,20 @@ returns-in_err-more-clause-refused g c =
     let here = planned g.P.Ord.cmp c.args.self.now in
     let mid = planned g.P.Ord.cmp c.land.new.self in
     let first =
-    ap (λ x. first_of g.P.Ord.cmp mid.waiting x.origin c.deref-3.result.now.recipient) c.deref-2.ensures
-    ∙ ap (λ x. first_of g.P.Ord.cmp mid.waiting c.args.message.value.origin x.recipient) c.deref-3.ensures in
+    ap (λ x. first_of g.P.Ord.cmp mid.waiting x.origin c.deref-5.result.now.recipient) c.deref-4.ensures
+    ∙ ap (λ x. first_of g.P.Ord.cmp mid.waiting c.args.message.value.origin x.recipient) c.deref-5.ensures in
     rw (p.1, p.2)
     (λ ms. refused_launch g.P.Ord.cmp c.args.now (message_of c.args.message.value) ms here mid
-    (ap (λ x. is_late g.P.Ord.cmp c.args.now (message_of x)) (sym c.deref.ensures) ∙ c.in_ok-deliver_at.ensures.in_time)
+    (ap (λ x. is_late g.P.Ord.cmp c.args.now (message_of x)) (sym c.deref-3.ensures)
+    ∙ c.in_ok-deliver_at.ensures.in_time)
     (c.in_ok-deliver_at.ensures.landed
-    ∙ ap (λ x. landed g.P.Ord.cmp c.args.now here (message_of x)) c.deref.ensures) _
+    ∙ ap (λ x. landed g.P.Ord.cmp c.args.now here (message_of x)) c.deref-3.ensures) _
     (subst (λ n. IsRefusedFor (λ fault. Launches g.P.Ord.cmp c.args.now mid n (meets fault)) c.in_err-more.field-0.0)
     first c.in_err-more.ensures.refused))
 
 pub returns-clause-in_time : goal.returns-clause-in_time
 returns-clause-in_time g c =
-    ap (λ x. is_late g.P.Ord.cmp c.args.now (message_of x)) (sym c.deref.ensures)
+    ap (λ x. is_late g.P.Ord.cmp c.args.now (message_of x)) (sym c.deref-3.ensures)
     ∙ c.in_ok-deliver_at.ensures.in_time
 
 pub returns-clause-completion : goal.returns-clause-completion
@@ -49,7 +51,7 @@ returns-clause-completion g c =
     let there : completion_of (message_of c.args.message.value) deliver_at
     ≡ completed g.P.Ord.cmp c.args.now (message_of c.args.message.value) =
     subst (λ x. completion_of (message_of x) deliver_at ≡ completed g.P.Ord.cmp c.args.now (message_of x))
-    c.deref.ensures c.in_ok-deliver_at.ensures.completion in
+    c.deref-3.ensures c.in_ok-deliver_at.ensures.completion in
     ap (map ended_of) c.in_ok-push.ensures.items
     ∙ map-append ended_of c.args.ended.now.items (record { message = c.args.message; deliver_at = deliver_at } ∷ [])
     ∙ ap (λ x. map ended_of c.args.ended.now.items ++ x ∷ []) there
@@ -59,15 +61,25 @@ returns-clause-launches g c =
     let here = planned g.P.Ord.cmp c.args.self.now in
     let mid = planned g.P.Ord.cmp c.land.new.self in
     let first =
-    ap (λ x. first_of g.P.Ord.cmp mid.waiting x.origin c.deref-3.result.now.recipient) c.deref-2.ensures
-    ∙ ap (λ x. first_of g.P.Ord.cmp mid.waiting c.args.message.value.origin x.recipient) c.deref-3.ensures in
+    ap (λ x. first_of g.P.Ord.cmp mid.waiting x.origin c.deref-5.result.now.recipient) c.deref-4.ensures
+    ∙ ap (λ x. first_of g.P.Ord.cmp mid.waiting c.args.message.value.origin x.recipient) c.deref-5.ensures in
     launches_landed g.P.Ord.cmp c.args.now (message_of c.args.message.value) here mid _
     (c.in_ok-deliver_at.ensures.landed
-    ∙ ap (λ x. landed g.P.Ord.cmp c.args.now here (message_of x)) c.deref.ensures)
+    ∙ ap (λ x. landed g.P.Ord.cmp c.args.now here (message_of x)) c.deref-3.ensures)
     (subst (λ n. Launches g.P.Ord.cmp c.args.now mid n
     (goes (messages c.in_ok-more.more.items) (planned g.P.Ord.cmp c.launch_from.new.self)))
     first c.in_ok-more.ensures.launches)
 
 pub launch_from-requires : goal.launch_from-requires
 launch_from-requires g c =
-    rw (c.deref-2.ensures, c.deref-3.ensures, ← c.deref.ensures) c.in_ok-deliver_at.ensures.idle
+    rw (c.deref-4.ensures, c.deref-5.ensures, ← c.deref-3.ensures) c.in_ok-deliver_at.ensures.idle
+
+pub land-requires : goal.land-requires
+land-requires g c =
+    let here = planned g.P.Ord.cmp c.args.self.now in
+    sym
+    (c.has-is_busy.ensures
+    ∙ ap (λ x. is_sending g.P.Ord.cmp here x.origin c.deref-2.result.now.recipient)
+    (c.deref.ensures ∙ sym c.deref-3.ensures)
+    ∙ ap (λ x. is_sending g.P.Ord.cmp here c.deref-3.result.now.origin x.recipient)
+    (c.deref-2.ensures ∙ sym c.deref-3.ensures))

@@ -1,4 +1,4 @@
-use Rattle.std.proofs.Common.{◌≡◌, [], ◌∷◌, map, ap, ◌∙◌}
+use Rattle.std.proofs.Common.{◌≡◌, [], ◌∷◌, map, sym, ap, ◌∙◌}
 use Rattle.std.proofs.lemmas.Result.{err_from_is_err_and}
 use Rattle.link_simulation.specs.Simulation.World.{Completed, completion_of}
 use Rattle.link_pairs.specs.Pairs.Messages.{message_of, ended_of}
@@ -30,3 +30,6 @@ returns-clause-completes g c =
           (same ∙ ap (completion_of (message_of c.args.message)) c.then_some-deliver_at.ensures)
           c.in_ok-raise.ensures.raised,
     )
+
+pub raise-requires : goal.raise-requires
+raise-requires g c = sym c.has-is_busy.ensures

@@ -4,7 +4,7 @@ use Rattle.std.proofs.Math.Logic.{∥∥₁_map}
 use Rattle.fair_rates.specs.Numbers.Amount.{whole}
 use Rattle.fair_rates.specs.Sides.Subjects.{same_peer}
 use Rattle.link_simulation.specs.Simulation.Messages.{Message}
-use Rattle.link_simulation.specs.Rule.Planned.{RatedFlight}
+use Rattle.link_simulation.specs.Rule.Planned.{RatedFlight, rated_messages}
 use Rattle.link_simulation.proofs.Simulation.Queue.{find_passes}
 use Rattle.link_flights.specs.Flights.InFlight.{in_flight}
 use Rattle.link_pairs.specs.Pairs.Messages.{message_of}
@@ -13,6 +13,10 @@ use Rattle.link_pairs.specs.Pairs.CapsOf.{caps_of}
 use Rattle.link_pairs.proofs.Pairs.LookedUp.{arrivals_looked_up}
 use Rattle.link_waiting.proofs.Idle.IndexChanges.{departed_index}
 use Rattle.link_flights.proofs.Flights.Standing.{still_rated}
+use Rattle.link_simulation.proofs.Laws.Orderly.{idle_if_may}
+use Rattle.link_waiting.specs.Idle.Starting.{may_launch_first}
+use Rattle.link_events.specs.Steps.AsPlanned.{planned}
+use Rattle.link_events.proofs.Steps.OneEach.{one_if_so, one_joins}
 use Rattle.link_events.proofs.ledger.Ledger.depart.Goals as goal
 
 pub invariant_of-self-2 : goal.invariant_of-self-2
@@ -31,6 +35,12 @@ invariant_of-self-2 g c =
     find_passes (λ (n : Message g.row.P.Denot). same_peer cmp o n.origin && same_peer cmp r n.recipient) m
     (map message_of old.waiting.messages) found in
     record {
+      one_each =
+          ∣ one_joins cmp g.met.P.Ord.total (in_flight old.flights) (in_flight c.push.new.self) f
+          (one_if_so cmp (rated_messages (in_flight old.flights)) old.one_each)
+          (idle_if_may cmp g.met.P.Ord.total c.args.now (planned cmp old) m
+          (ap (may_launch_first cmp c.args.now (planned cmp old)) (sym found) ∙ c.requires.ready))
+          c.in_default-push.ensures.sending ∣₁;
       rated = λ e.
           ∥∥₁_map (old.rated e)
           (still_rated cmp (caps_of cmp old.peers.entries old.pairs.entries) old.flights c.push.new.self

@@ -7,6 +7,10 @@ use Rattle.link_pairs.specs.declared.pair.PeerPair.{PeerPair}
 use Rattle.link_events.specs.Steps.AsPlanned.{planned}
 use Rattle.link_events.proofs.Steps.Settling.{at_once_refused, enqueues_at_once, enqueue_launch_refused}
 use Rattle.link_events.proofs.Steps.Settling.{enqueue_finish_refused, enqueues_launched}
+use Rattle.std.proofs.lemmas.Bool.{and_from}
+use Rattle.link_simulation.specs.Simulation.Messages.{Message}
+use Rattle.link_simulation.specs.Rule.Planned.{rated_messages}
+use Rattle.link_simulation.proofs.Simulation.Queue.{any_like}
 use Rattle.link_events.proofs.ledger.Ledger.enqueue.Goals as goal
 
 pub returns-in_err-complete_at_once-clause-refused : goal.returns-in_err-complete_at_once-clause-refused
@@ -69,6 +73,19 @@ returns-then-may_start-clause-enqueues g c =
     (h.1 ∙ ap (λ l. map ended_of l ++ h.0) c.new-ended.ensures.items)
 
 -- where it joins those that wait
+
+pub may_start-requires : goal.may_start-requires
+may_start-requires g c = c.requires c.if-not-self.false
+
+pub join-requires-clause-busy : goal.join-requires-clause-busy
+join-requires-clause-busy g c =
+    let p = planned g.P.Ord.cmp c.args.self.now in
+    let m : Message g.row.P.Denot = message_of c.args.message in
+    let n : Message g.row.P.Denot =
+    record m { origin = c.in_ok-pair.pair.origin; recipient = c.in_ok-pair.pair.recipient } in
+    any_like g.P.Ord.cmp g.met.P.Ord.total m n (rated_messages p.sending)
+    (and_from _ _ c.in_ok-pair.ensures.origin c.in_ok-pair.ensures.recipient)
+    ∙ c.requires c.if-not-self.false
 
 pub launch_from-requires : goal.launch_from-requires
 launch_from-requires g c = c.in_ok-since.ensures.idle

@@ -1,4 +1,4 @@
-use Rattle.std.proofs.Common.{[], map, sym, ap, ◌∙◌, subst, refl}
+use Rattle.std.proofs.Common.{Bool, ◌&&◌, [], map, sym, ap, ◌∙◌, subst, refl}
 use Rattle.std.proofs.lemmas.List.{append-nil, map-append}
 use Rattle.std.proofs.lemmas.Result.{err_from_is_err_and}
 use Rattle.link_simulation.specs.Simulation.RefusalCauses.{IsRefusedFor}
@@ -6,12 +6,14 @@ use Rattle.link_simulation.specs.Simulation.World.{meets}
 use Rattle.link_simulation.specs.Rule.Events.{Enqueues}
 use Rattle.fair_rates.proofs.Lists.Booleans.{first_of_both, second_of_both}
 use Rattle.link_events.specs.Steps.Standing.{IsStanding}
+use Rattle.link_waiting.specs.Idle.AtRest.{is_sending}
 use Rattle.link_events.specs.Steps.AsPlanned.{planned}
 use Rattle.link_flights.specs.Flights.InFlight.{in_units}
 use Rattle.link_pairs.specs.Pairs.Messages.{message_of, ended_of}
 use Rattle.link_events.proofs.Steps.Standing.{goes_waiting, goes_starting, goes_otherwise, read_positive}
 use Rattle.link_events.proofs.Steps.Standing.{read_lowest}
 use Rattle.link_events.proofs.Steps.Standing.{starts_so}
+use Rattle.link_simulation.proofs.Laws.Orderly.{idle_if_may}
 use Rattle.link_events.proofs.ledger.Ledger.enqueue_next.Goals as goal
 
 pub returns-then-has_to_wait-clause-enqueues : goal.returns-then-has_to_wait-clause-enqueues
@@ -25,10 +27,44 @@ returns-then-has_to_wait-clause-enqueues g c =
     c.in_ok-wait.ensures.waits c.in_ok-wait.ensures.enqueues h in
     ([], go.0, sym (append-nil (map ended_of c.args.ended.now.items)), go.1, go.2)
 
+pub only_starts-requires : goal.only_starts-requires
+only_starts-requires g c limited =
+    sym
+    (ap
+    (λ (b : Bool). b
+    && is_sending g.P.Ord.cmp (planned g.P.Ord.cmp c.args.self.now) c.args.message.origin c.args.message.recipient)
+    limited)
+    ∙ sym c.if-has_to_wait.ensures
+
+pub starts_at_once-starts-requires : goal.starts_at_once-starts-requires
+starts_at_once-starts-requires g c =
+    c.in_ok-catch_up.ensures.free c.args.message.origin c.args.message.recipient (λ limited. sym
+    (ap
+    (λ (b : Bool). b
+    && is_sending g.P.Ord.cmp (planned g.P.Ord.cmp c.args.self.now) c.args.message.origin c.args.message.recipient)
+    limited)
+    ∙ sym c.if-has_to_wait.ensures)
+
+pub enqueue-requires : goal.enqueue-requires
+enqueue-requires g c =
+    c.in_ok-catch_up.ensures.free c.args.message.origin c.args.message.recipient (λ limited. sym
+    (ap
+    (λ (b : Bool). b
+    && is_sending g.P.Ord.cmp (planned g.P.Ord.cmp c.args.self.now) c.args.message.origin c.args.message.recipient)
+    limited)
+    ∙ sym c.if-has_to_wait.ensures)
+
 pub start-requires-clause-alone : goal.start-requires-clause-alone
 start-requires-clause-alone g c =
     (starts_so g.P.Ord.cmp g.met.P.Ord.total c.args.now (planned g.P.Ord.cmp c.args.self.now)
     (message_of c.args.message) (c.if-only_starts.ensures refl).starts).alone
+
+pub start-requires-clause-idle : goal.start-requires-clause-idle
+start-requires-clause-idle g c =
+    idle_if_may g.P.Ord.cmp g.met.P.Ord.total c.args.now (planned g.P.Ord.cmp c.args.self.now)
+    (message_of c.args.message)
+    (starts_so g.P.Ord.cmp g.met.P.Ord.total c.args.now (planned g.P.Ord.cmp c.args.self.now)
+    (message_of c.args.message) (c.if-only_starts.ensures refl).starts).may
 
 pub returns-then-only_starts-clause-enqueues : goal.returns-then-only_starts-clause-enqueues
 returns-then-only_starts-clause-enqueues g c =

@@ -12,15 +12,15 @@ none_read : {X Y : Type 0} (f : X → Y) (r : Option X) (o : Option Y) → is_so
 none_read f None o none is = sym is
 none_read f (Some x) o none is = cc
 
-pub returns-then-has : goal.returns-then-has
-returns-then-has g c =
+pub returns-then-is_busy : goal.returns-then-is_busy
+returns-then-is_busy g c =
     let p = planned g.P.Ord.cmp c.args.self.now in
     let m = message_of c.args.message.now in
     let none : is_some c.first.result ≡ false = search rules in
     may_start_is g.P.Ord.cmp g.met.P.Ord.total c.args.now p m true
     (nat_le (first_moment (p.last_arrival m.origin m.recipient) m.latency) c.args.now)
     (none_read (λ b. message_of b.now) c.first.result _ none c.first.ensures)
-    (sym c.if-has.true ∙ c.has.ensures) refl
+    (sym (c.requires ∙ c.if-is_busy.true)) refl
 
 pub returns : goal.returns
 returns g c =
@@ -32,5 +32,5 @@ returns g c =
     c.ready_moment.ensures ∙ ap (λ last. first_moment last m.latency) c.last_arrival.ensures in
     may_start_is g.P.Ord.cmp g.met.P.Ord.total c.args.now p m false (nat_le c.ready_moment.result c.args.now)
     (none_read (λ b. message_of b.now) c.first.result _ none c.first.ensures)
-    (sym c.if-has.false ∙ c.has.ensures)
+    (sym (c.requires ∙ c.if-is_busy.false))
     (ap (λ k. nat_le k c.args.now) moment)

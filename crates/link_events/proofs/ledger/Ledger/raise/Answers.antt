@@ -23,7 +23,7 @@ change-changed-requires g c t =
     (sym
     (c.ready_from-before.ensures
     ∙ ap (λ last. option_map (first_moment last) c.idle_latency-latency.result) c.in_ok-last.ensures.last
-    ∙ c.idle_latency-latency.ensures old.pairs.entries))
+    ∙ c.idle_latency-latency.ensures old.pairs.entries (in_flight old.flights) c.requires))
 
 pub returns-clause-idle : goal.returns-clause-idle
 returns-clause-idle g c =
@@ -32,12 +32,13 @@ returns-clause-idle g c =
     (in_flight old.flights) c.args.origin.now c.args.recipient.now c.args.moment
     c.idle_latency-latency.result c.in_ok-last.last c.later_of.result c.in_ok-last.ensures.last
     c.in_ok-last.ensures.arrival c.later_of.ensures c.ready_from-moved.ensures
-    (c.idle_latency-latency.ensures c.raise.new.self.entries)
+    (c.idle_latency-latency.ensures c.raise.new.self.entries (in_flight old.flights) c.requires)
 
 pub invariant_of-self-in_default : goal.invariant_of-self-in_default
 invariant_of-self-in_default g c =
     let old = c.args.self.now in
     record {
+      one_each = old.one_each;
       rated = λ e.
           subst
           (λ l. ∥ AreRated g.P.Ord.cmp (record (caps_of g.P.Ord.cmp old.peers.entries old.pairs.entries) { link = l })
@@ -53,7 +54,7 @@ invariant_of-self-in_default g c =
           (in_flight old.flights) c.args.origin.now c.args.recipient.now c.args.moment
           c.idle_latency-latency.result c.in_ok-last.last c.later_of.result c.in_ok-last.ensures.last
           c.in_ok-last.ensures.arrival c.later_of.ensures c.ready_from-moved.ensures
-          (c.idle_latency-latency.ensures c.raise.new.self.entries));
+          (c.idle_latency-latency.ensures c.raise.new.self.entries (in_flight old.flights) c.requires));
     }
 
 pub returns-clause-raised : goal.returns-clause-raised
@@ -82,6 +83,7 @@ invariant_of-self g c =
     let old = c.args.self.now in
     let kept = c.in_err-last.ensures.kept in
     record {
+      one_each = old.one_each;
       rated = λ e.
           subst (λ es. ∥ AreRated cmp (caps_of cmp old.peers.entries es) old.flights ∥₁) (sym kept) (old.rated e);
       indexed =

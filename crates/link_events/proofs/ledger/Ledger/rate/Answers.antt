@@ -2,6 +2,7 @@ use Rattle.std.proofs.Common.{◌≡◌, ◌≢◌, length, not, true, sym, ap, 
 use Rattle.std.specs.List.{AllZip}
 use Rattle.std.proofs.lemmas.Bool.{false≢true, eq-eqb}
 use Rattle.fair_rates.specs.Sides.Caps.{Caps}
+use Rattle.link_simulation.specs.Simulation.Messages.{OneForEachPair}
 use Rattle.link_simulation.specs.Rule.Events.{Accounts}
 use Rattle.link_simulation.specs.Rule.Planned.{Planned, rated_messages, drained_to, is_spent}
 use Rattle.link_flights.specs.Flights.Flight.{UnitFlight, flights_at}
@@ -95,6 +96,7 @@ invariant_of-self g c =
       indexed =
           same_flights_index cmp g.met.P.Ord.total old.pairs.entries old.waiting.messages (in_flight old.flights)
           (in_flight new) old.idle.entries messages_same old.indexed;
+      one_each = subst (λ ms. ∥ OneForEachPair cmp ms ∥₁) (sym messages_same) old.one_each;
       rated = λ e. ∣ record {
         fair = rw all h.fair;
         limited = rw all (rated_limited cmp caps flying.at h.times (in_units flying) (in_units new) h.each limited);

@@ -4,8 +4,11 @@ use Rattle.std.proofs.lemmas.Result.{err_from_is_err_and}
 use Rattle.link_simulation.specs.Simulation.World.{is_late, completed, completion_of}
 use Rattle.link_simulation.specs.Rule.Events.{landed}
 use Rattle.link_pairs.specs.Pairs.Messages.{message_of, messages, ended_of}
+use Rattle.link_simulation.specs.Rule.Planned.{rated_messages}
+use Rattle.link_flights.specs.Flights.InFlight.{in_flight}
 use Rattle.link_pairs.specs.Pairs.CapsOf.{caps_of}
 use Rattle.link_events.specs.Steps.AsPlanned.{planned}
+use Rattle.link_events.proofs.Steps.OneEach.{one_if_so, first_left_idle}
 use Rattle.link_events.proofs.Steps.SettledFirst.{first_and_others, others_and_more, fair_still}
 use Rattle.link_events.proofs.Steps.SettledFirst.{settles_none, stopped_first, late_first, settles_others}
 use Rattle.link_events.proofs.ledger.Ledger.settle_first.Goals as goal
@@ -106,3 +109,14 @@ returns-clause-settles g c =
     (map ended_of c.push.new.self.items) first others out in_time
     (c.in_ok-more.ensures.launches (planned g.P.Ord.cmp c.args.self.now) (planned g.P.Ord.cmp c.leave_at.new.self)
     (messages c.in_ok-queue.queue.items) c.in_ok-queue.ensures.leaves lands)
+
+pub land-requires : goal.land-requires
+land-requires g c =
+    let first =
+    first_and_others c.in_ok-queue.queue.items c.in-Some.first.now c.deref.result.now c.in-Some.ensures.item.3.0
+    c.in-Some.ensures.lookup (c.deref.ensures ∙ c.in_ok-message-in-Some.ensures.cases) in
+    first_left_idle g.P.Ord.cmp g.met.P.Ord.total c.args.now (planned g.P.Ord.cmp c.args.self.now)
+    (planned g.P.Ord.cmp c.leave_at.new.self) (message_of c.deref.result.now) (messages c.in_ok-queue.queue.items)
+    (messages (drop 1 c.in_ok-queue.queue.items))
+    (one_if_so g.P.Ord.cmp (rated_messages (in_flight c.args.self.now.flights)) c.args.self.now.one_each)
+    c.in_ok-queue.ensures.leaves first

@@ -3,8 +3,8 @@ use Rattle.link_waiting.specs.Idle.AtRest.{of_pairs}
 use Rattle.link_waiting.specs.Idle.Index.{IsIndexOf}
 use Rattle.std.proofs.Math.Logic.{∥∥₁_map}
 use Rattle.fair_rates.specs.Numbers.Amount.{whole}
-use Rattle.link_simulation.specs.Simulation.Messages.{Message}
-use Rattle.link_simulation.specs.Rule.Planned.{RatedFlight}
+use Rattle.link_simulation.specs.Simulation.Messages.{Message, OneForEachPair}
+use Rattle.link_simulation.specs.Rule.Planned.{RatedFlight, rated_messages}
 use Rattle.link_pairs.specs.declared.message.Message as code
 use Rattle.link_flights.specs.Flights.InFlight.{in_flight}
 use Rattle.link_pairs.specs.Pairs.Messages.{message_of}
@@ -14,6 +14,7 @@ use Rattle.link_pairs.proofs.Pairs.LookedUp.{arrivals_looked_up}
 use Rattle.link_waiting.proofs.Idle.IndexChanges.{started_index}
 use Rattle.link_waiting.proofs.Idle.Starting.{without_joined}
 use Rattle.link_flights.proofs.Flights.Standing.{still_rated}
+use Rattle.link_events.proofs.Steps.OneEach.{one_if_so, one_joins}
 use Rattle.link_events.proofs.ledger.Ledger.start.Goals as goal
 
 pub invariant_of-self-2 : goal.invariant_of-self-2
@@ -25,6 +26,10 @@ invariant_of-self-2 g c =
     record { message = m; left = whole (length m.bytes); rate = Some (whole 0); updated = c.args.now } in
     let same : c.in_ok-message.message.value ≡ c.args.message = search rules in
     record {
+      one_each =
+          ∣ one_joins cmp g.met.P.Ord.total (in_flight old.flights) (in_flight c.push.new.self) f
+          (one_if_so cmp (rated_messages (in_flight old.flights)) old.one_each) (rw same c.requires.idle)
+          c.in_ok-push.ensures.sending ∣₁;
       rated = λ e.
           ∥∥₁_map (old.rated e)
           (still_rated cmp (caps_of cmp old.peers.entries old.pairs.entries) old.flights c.push.new.self
@@ -71,6 +76,8 @@ invariant_of-self g c =
     let cmp = g.P.Ord.cmp in
     let old = c.args.self.now in
     record {
+      one_each =
+          subst (λ fs. ∥ OneForEachPair cmp (rated_messages fs) ∥₁) (sym c.in_err-push.ensures.kept) old.one_each;
       rated = λ e.
           ∥∥₁_map (old.rated e)
           (still_rated cmp (caps_of cmp old.peers.entries old.pairs.entries) old.flights c.push.new.self

@@ -1,4 +1,8 @@
 use Rattle.std.proofs.Common.{arith}
+use Rattle.std.specs.Prelude.{is_none}
+use Rattle.fair_rates.proofs.Lists.Booleans.{second_of_both}
+use Rattle.link_simulation.proofs.Laws.Orderly.{idle_if_may}
+use Rattle.link_pairs.specs.Pairs.Entries.{first_of}
 use Rattle.link_pairs.specs.Pairs.Messages.{message_of, messages}
 use Rattle.link_events.specs.Steps.AsPlanned.{planned}
 use Rattle.link_waiting.proofs.Idle.Starting.{started_so, no_id_left}
@@ -15,3 +19,12 @@ pub returns-clause-refused : goal.returns-clause-refused
 returns-clause-refused g c =
     no_id_left g.P.Ord.cmp g.met.P.Ord.total c.args.now (planned g.P.Ord.cmp c.args.self.now)
     (message_of c.args.message) c.requires (omega arith)
+
+pub start-requires-clause-idle : goal.start-requires-clause-idle
+start-requires-clause-idle g c =
+    idle_if_may g.P.Ord.cmp g.met.P.Ord.total c.args.now (planned g.P.Ord.cmp c.args.self.now)
+    (message_of c.args.message)
+    (second_of_both
+    (is_none
+    (first_of g.P.Ord.cmp (planned g.P.Ord.cmp c.args.self.now).waiting c.args.message.origin c.args.message.recipient))
+    _ c.requires)

@@ -51,6 +51,7 @@ invariant_of-self g c =
     let cmp = g.P.Ord.cmp in
     let old = c.args.self.now in
     record {
+      one_each = old.one_each;
       rated = old.rated;
       indexed = on_either c.push.result
           (λ joined. waited_index cmp g.met.P.Ord.total old.pairs.entries old.waiting.messages c.push.new.self.messages

@@ -21,6 +21,7 @@ invariant_of-result g c =
             in_flight_alike old.flights copy same,
           )
           old.indexed;
+      one_each = rw (in_flight_alike old.flights copy same) old.one_each;
       rated = λ e. ∥∥₁_map (old.rated e) (λ f.
           rw (c.in_ok-peers.ensures.peers, c.in_ok-peers.ensures.pairs)
           (rated_copy old.flights copy same g.P.Ord.cmp (caps_of g.P.Ord.cmp old.peers.entries old.pairs.entries) f));
