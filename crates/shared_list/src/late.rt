@@ -176,7 +176,7 @@ impl<T: Drop> LateList<T> {
     }
 
     /// The item at that place, if there is one.
-    #[tactic(auto, using(crate::proofs::LateEdits::get_below, crate::proofs::LateEdits::get_inserted, crate::proofs::LateEdits::get_above, crate::proofs::LateEdits::get_left, crate::proofs::LateEdits::get_next, crate::proofs::LateEdits::get_past))]
+    #[tactic(auto, using(crate::proofs::LateEdits::late_places))]
     pub fn get(&self, at: usize) -> Option<&T>
         ensures { option_map (λ item. item.now) result ≡ slice_get self.now at }
     {
