@@ -115,3 +115,8 @@ remove_only (z ∷ zs) (suc k) one low = absurd (omega (arith, one, low))
 
 pub less_by_one : {T : Type 0} (xs : List T) (at : ℕ) → at < length xs → length (remove xs at) + 1 ≡ length xs
 less_by_one xs at low = length-remove xs at low
+
+-- where an item comes to stand, and where one goes
+pub ruleset set_places = (set_before, set_here, set_after)
+
+pub ruleset take_places = (remove_before, remove_here, remove_after, get_before, get_here, get_after)

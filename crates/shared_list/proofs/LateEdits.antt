@@ -60,3 +60,6 @@ pub get_past : {T : Type 0} (xs : List T) (from at : ℕ) → from < length xs �
     → slice_get (remove xs from) at ≡ None
 get_past xs from at low above past =
     get_next xs from at low above ∙ slice_get_past xs (at + 1) (omega (arith, past))
+
+-- what stands at a place of a list with a late edit
+pub ruleset late_places = (get_below, get_inserted, get_above, get_left, get_next, get_past)

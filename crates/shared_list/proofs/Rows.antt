@@ -105,6 +105,7 @@ module _ {T : Type 0} where
   amid xs [] at n k x some first rest long = absurd (omega (arith, some))
   amid xs (y ∷ ys) at n k x some first rest long =
       let same : x ≡ y = first in
-      ap₂ (λ l r. l ++ x.value ∷ (values (take k ys) ++ r)) (sym (take-map (λ r. r.value) at xs)) (from_place xs at n long)
+      ap₂ (λ l r. l ++ x.value ∷ (values (take k ys) ++ r)) (sym (take-map (λ r. r.value) at xs))
+      (from_place xs at n long)
       ∙ ap (λ z. take at (values xs) ++ z.value ∷ (values (take k ys) ++ drop at (values xs))) same
       ∙ ap (λ l. take at (values xs) ++ y.value ∷ (values l ++ drop at (values xs))) (all_of ys k (omega (arith, rest)))

@@ -1,5 +1,6 @@
 -- Rows of items that come to stand in a list, and others that go.
-use Rattle.std.proofs.Common.{◌≡◌, ℕ, zero, suc, ◌+◌, ◌-◌, ◌<◌, ◌≤◌, Bool, true, false, if◌then◌else◌, List, [], ◌∷◌, ◌++◌, length, take, drop, slice_get, None}
+use Rattle.std.proofs.Common.{◌≡◌, ℕ, zero, suc, ◌+◌, ◌-◌, ◌<◌, ◌≤◌, Bool, true, false, if◌then◌else◌, List, []}
+use Rattle.std.proofs.Common.{◌∷◌, ◌++◌, length, take, drop, slice_get, None}
 use Rattle.std.proofs.Common.{refl, sym, ap, ap₂, ◌∙◌, subst, arith, length-append, append_assoc, take_at, drop-drop}
 use Rattle.std.proofs.lemmas.List.{take-append-le, drop-append-le, take-append-drop, length-take-le, length-drop}
 use Rattle.std.proofs.lemmas.List.{drop_all}
@@ -105,7 +106,8 @@ module _ {T : Type 0} (xs : List T) (x : T) (ys : List T) (at : ℕ) where
       }
 
   pub gone_after_at : (most : ℕ) (new : List T) (n : ℕ) (rest : List T) (k : ℕ) → length xs < at
-      → AreGone rest k most new n → rest ≡ ys → k ≡ at - length xs - 1 → AreGone (xs ++ x ∷ ys) at most (xs ++ x ∷ new) n
+      → AreGone rest k most new n → rest ≡ ys → k ≡ at - length xs - 1
+      → AreGone (xs ++ x ∷ ys) at most (xs ++ x ∷ new) n
   gone_after_at most new n rest k above gone same there =
       gone_after most new n above
       (subst (λ i. AreGone ys i most new n) there (subst (λ l. AreGone l k most new n) same gone))

@@ -176,7 +176,7 @@ impl<T: Drop> LateList<T> {
     }
 
     /// The item at that place, if there is one.
-    #[tactic(auto, using(crate::proofs::LateEdits::get_below, crate::proofs::LateEdits::get_inserted, crate::proofs::LateEdits::get_above, crate::proofs::LateEdits::get_left, crate::proofs::LateEdits::get_next, crate::proofs::LateEdits::get_past))]
+    #[tactic(auto, using(crate::proofs::LateEdits::late_places))]
     pub fn get(&self, at: usize) -> Option<&T>
         ensures { option_map (λ item. item.now) result ≡ slice_get self.now at }
     {
@@ -238,6 +238,9 @@ impl<T: Drop> LateList<T> {
         self.late = Late::Nothing;
         self.pace.come(at, at.saturating_add(1));
         if !self.settled.is_shared() {
+            if !self.pace.is_even() {
+                return self.settled.insert(alloc, at, item);
+            }
             self.settled.insert(alloc, at, item)?;
             self.open(at);
             return Ok(());
@@ -268,6 +271,9 @@ impl<T: Drop> LateList<T> {
         self.late = Late::Nothing;
         self.pace.come(at, at);
         if !self.settled.is_shared() {
+            if !self.pace.is_even() {
+                return self.settled.remove(at);
+            }
             let item = self.settled.remove(at)?;
             self.open(at);
             return Ok(item);
@@ -277,12 +283,12 @@ impl<T: Drop> LateList<T> {
         Ok(item)
     }
 
-    /// The list stays. If many edits came in a row, and none is late, it is seen through a window at that
-    /// place from now on, where memory allows.
+    /// The list stays. If it is long, and no edit is late, it is seen through a window at that place from
+    /// now on, where memory allows.
     fn open(&mut self, at: usize)
         ensures { self.new ≡ self.old }
     {
-        if !self.pace.is_even() || self.settled.len() < FAR || !self.late.is_nothing() {
+        if self.settled.len() < FAR || !self.late.is_nothing() {
             return;
         }
         let Some(alloc) = self.settled.alloc() else {
@@ -297,7 +303,10 @@ impl<T: Drop> LateList<T> {
     pub fn settle(&mut self)
         ensures { self.new ≡ self.old }
     {
-        if self.late.make(&mut self.settled).is_ok() {
+        if let Late::Nothing = &self.late {
+            return;
+        }
+        if self.late.make_some(&mut self.settled).is_ok() {
             self.late = Late::Nothing;
         }
     }
@@ -310,14 +319,17 @@ impl<T: Drop> LateList<T> {
             → IsParting (S.is_before sought.now) self.now result.0 }
         ensures item { option_map (λ item. item.now) result.1 ≡ slice_get self.now result.0 }
     {
-        if let Late::Edits(_) = &self.late {
-            return self.locate_near(sought, self.pace.near);
-        }
-        let (at, item) = self.settled.locate(sought);
-        match &self.late {
-            Late::Nothing => (at, item),
-            _ => self.locate_near(sought, at),
-        }
+        let near = match &self.late {
+            Late::Edits(_) => self.pace.near,
+            late => {
+                let found = self.settled.locate(sought);
+                if let Late::Nothing = late {
+                    return found;
+                }
+                found.0
+            }
+        };
+        self.locate_near(sought, near)
     }
 
     /// As `locate`. The items near that place are looked at first.

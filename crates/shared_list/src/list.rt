@@ -160,9 +160,6 @@ impl<T: Drop> SharedList<T> {
             Tree::Fork(node) => Rc::make_mut(node)?.take_some(at, most)?,
         };
         self.len -= some;
-        if self.len <= FEW {
-            self.join();
-        }
         Ok(some)
     }
 

@@ -167,7 +167,7 @@ impl<T: Drop> Node<T> {
 
     /// Another shared item comes to stand at that place.
     #[cycle(set)]
-    #[tactic(auto, using(crate::proofs::Edits::set_before, crate::proofs::Edits::set_here, crate::proofs::Edits::set_after))]
+    #[tactic(auto, using(crate::proofs::Edits::set_places))]
     pub(crate) fn set(&mut self, at: usize, item: Rc<T>) -> Result<(), AllocError>
         requires place { at < length (items_in self.old) }
         ensures items { items_in self.new ≡ (if is_ok result then slice_set (items_in self.old) at item.value
@@ -186,7 +186,7 @@ impl<T: Drop> Node<T> {
 
     /// The item at that place goes, which is not the only one.
     #[cycle(take)]
-    #[tactic(auto, using(crate::proofs::Edits::remove_before, crate::proofs::Edits::remove_here, crate::proofs::Edits::remove_after, crate::proofs::Edits::get_before, crate::proofs::Edits::get_here, crate::proofs::Edits::get_after))]
+    #[tactic(auto, using(crate::proofs::Edits::take_places))]
     pub(crate) fn take(&mut self, at: usize) -> Result<Rc<T>, AllocError>
         requires room { length (items_in self.old) < 2 ^ 64 }
         requires others { 1 < length (items_in self.old) }

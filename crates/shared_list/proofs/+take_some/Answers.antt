@@ -3,7 +3,9 @@ use Rattle.shared_list.specs.Tree.{items_in}
 use Rattle.shared_list.specs.Windows.{AreGone}
 use Rattle.shared_list.proofs.Windows.{gone_before, gone_here, gone_after_at}
 use Rattle.shared_list.proofs.+take_some.Goals as goal
-use Rattle.shared_list.proofs.+take_some.Goals.{node::Node::take_some-then-at-middle+in_ok-some, node::Node::take_some-else-at-middle+then-at-middle-2+in_ok-take_own, node::Node::take_some-else-at-middle+else-at-middle-2+in_ok-some-2}
+use Rattle.shared_list.proofs.+take_some.Goals.{node::Node::take_some-then-at-middle+in_ok-some}
+use Rattle.shared_list.proofs.+take_some.Goals.{node::Node::take_some-else-at-middle+then-at-middle-2+in_ok-take_own}
+use Rattle.shared_list.proofs.+take_some.Goals.{node::Node::take_some-else-at-middle+else-at-middle-2+in_ok-some-2}
 
 pub node::Node::take_some-returns-clause-gone : goal.node::Node::take_some-returns-clause-gone
 node::Node::take_some-returns-clause-gone g t c =

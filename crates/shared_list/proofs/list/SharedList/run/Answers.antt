@@ -35,7 +35,8 @@ loop-rest-preserved g c = λ row front.
     let node = c.in-Fork.node.value in
     let whole : c.loop-rest.rest.now ≡ items_in node = search rules in
     let middle : c.len-middle.result ≡ length node.before = search rules in
-    let above : length node.before < c.loop-rest.at = omega (arith, middle, c.if-at-middle.false, c.if-at-middle-2.false) in
+    let above : length node.before < c.loop-rest.at =
+    omega (arith, middle, c.if-at-middle.false, c.if-at-middle-2.false) in
     let same : c.deref-else-at-middle-2.result.now.after ≡ node.after = search rules in
     c.loop-rest.invariant row
     (subst (λ l. IsFront row (drop c.loop-rest.at l)) (sym whole)
@@ -52,4 +53,5 @@ returns-in-Leaf g c =
     record { rest = []; split = sym row ∙ sym (append-nil (values c.from.result.now)) })
 
 pub returns-in_default-root : goal.returns-in_default-root
-returns-in_default-root g c = c.loop-rest.invariant [] record { rest = drop c.loop-rest.at c.loop-rest.rest.now; split = refl }
+returns-in_default-root g c =
+    c.loop-rest.invariant [] record { rest = drop c.loop-rest.at c.loop-rest.rest.now; split = refl }

@@ -5,8 +5,8 @@ use Rattle.shared_list.proofs.window.Window.open.Goals as goal
 
 pub returns-clause-seen : goal.returns-clause-seen
 returns-clause-seen g c =
-    front_seen c.args.list.now (items_at c.extend-3.new.leaf) c.saturating_sub-at.result c.len-skip.result c.len-skip.ensures
-    c.in_ok-extend-3.ensures
+    front_seen c.args.list.now (items_at c.extend-3.new.leaf) c.saturating_sub-at.result c.len-skip.result
+    c.len-skip.ensures c.in_ok-extend-3.ensures
 
 pub returns-clause-frames : goal.returns-clause-frames
 returns-clause-frames g c =

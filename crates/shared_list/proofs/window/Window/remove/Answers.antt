@@ -24,7 +24,8 @@ returns-clause-frames g c = λ list frames.
     let seen = seen_through window list in
     let long = seen_length list (items_at window.leaf) window.at window.skip frames.0 in
     let low : c.args.at < length seen = omega (arith, frames.0, long, c.requires.0, c.requires.1) in
-    let same : take window.at list ++ (items_at c.take.new.self ++ drop (window.at + window.skip) list) ≡ remove seen c.args.at =
+    let same : take window.at list ++ (items_at c.take.new.self ++ drop (window.at + window.skip) list)
+    ≡ remove seen c.args.at =
     ap (λ l. take window.at list ++ (l ++ drop (window.at + window.skip) list)) c.take.ensures.items
     ∙ seen_remove list (items_at window.leaf) window.at window.skip frames.0 c.args.at c.requires.0 c.requires.1 in
     (frames.0, omega (arith, frames.1, ap length same, length-remove seen c.args.at low))
