@@ -24,8 +24,11 @@ const FEW_USERS: usize = 32;
 /// asks for another size, and finds a piece of memory that a side gave back.
 const VARIED_SIDES: usize = 256;
 
-/// There is room for so many sides, before their list has to move.
+/// There is room for at least so many sides, before their list has to move.
 const FEW_SIDES: usize = 16;
+
+/// There is room for so many sides at most, before any has come into being.
+const MANY_SIDES: usize = 64;
 
 /// What limits some flows together: its cap in bytes a second, and the places of those flows in
 /// the list, in its order.
@@ -67,12 +70,13 @@ struct Registry<'a, P: Ord> {
 impl<'a, P: Peer> Registry<'a, P> {
     ghost use Rattle.fair_rates.specs.Sides.Registry.{IsRegistryOf, IsInOrder, HasNumber};
 
-    /// No flow has asked yet.
-    fn new(alloc: Global) -> Result<Registry<'a, P>, AllocError>
+    /// None of so many flows has asked yet. Mostly there are no more sides than flows.
+    fn new(alloc: Global, flows: usize) -> Result<Registry<'a, P>, AllocError>
         ensures { IfOk result (IsRegistryOf P.cmp []) }
     {
+        let room = flows.min(MANY_SIDES).max(FEW_SIDES);
         Ok(Registry {
-            sides: Vec::with_capacity(alloc, FEW_SIDES)?,
+            sides: Vec::with_capacity(alloc, room)?,
             expected: Expected {
                 sender: 0,
                 recipient: 0,
@@ -416,7 +420,7 @@ where
     ensures users_rise { IfOk result (λ sides. All (λ side. AllPairs (λ a b. a < b) side.users.items) sides.items) }
     ensures refused { IfErr result (λ e. e ≡ Error.OutOfMemory) }
 {
-    let mut registry = Registry::new(alloc)?;
+    let mut registry = Registry::new(alloc, flows.len())?;
     for (place, flow) in flows.iter().enumerate() {
         let egress = egress_cap(&flow.origin);
         let ingress = if flow.delivered {
@@ -452,7 +456,7 @@ pub(crate) fn sides_under<P: Peer, C: KnownCaps<P>>(
         (λ side. All (λ flow. flow < length flows.now) side.users.items) sides.items) }
     ensures refused { IfErr result (λ e. e ≡ Error.OutOfMemory) }
 {
-    let mut registry = Registry::new(alloc)?;
+    let mut registry = Registry::new(alloc, flows.len())?;
     for (place, ends) in flows.iter().enumerate() {
         register_flow(alloc, &mut registry, place, ends, caps)?;
     }
