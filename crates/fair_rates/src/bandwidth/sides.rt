@@ -1,18 +1,17 @@
 //! What limits flows: the sides that the caps make.
 ghost use Rattle.std.specs.Prelude.{◌≡◌, OnOk, ◌<◌, [], ◌∷◌, List, Some, IfOk, IfErr, map, All, AllPairs, length, true};
-ghost use Rattle.std.specs.Prelude.{false, Option, ℕ};
+ghost use Rattle.std.specs.Prelude.{false, Option, None, ℕ};
 ghost use Rattle.std.specs.Fn.{CalledAt, TakesAt, CalledAtTwo, TakesAtTwo};
 ghost use Rattle.fair_rates.specs.Sides.Answers.{Answered, AnswerInOrder, CallableOnEach, CallableOnEachPair, origins};
 ghost use Rattle.fair_rates.specs.Sides.Answers.{recipients, pairs};
 ghost use Rattle.fair_rates.specs.Sides.Ends.{answered_for};
-ghost use Rattle.fair_rates.specs.Fairness.UnderCaps.{cap_of};
 ghost use Rattle.fair_rates.specs.Sides.Subjects.{sides_of, asks_of_one, same_subject};
 ghost use Rattle.fair_rates.specs.Sides.Subjects.{sent_by, received_by, sent_between};
 ghost use Rattle.fair_rates.specs.Sides.SideOf.{side_of};
-ghost use Rattle.fair_rates.specs.Sides.Registry.{FindsSides, Registers, subject_of};
+ghost use Rattle.fair_rates.specs.Sides.Registry.{FindsSides, IsGapFor, Registers, number_of, subject_of};
 
 use crate::bandwidth::known::{Ends, KnownCaps};
-use crate::bandwidth::numbers::{Found, Numbers};
+use crate::bandwidth::numbers::Numbers;
 use crate::bandwidth::{Flow, FlowCaps};
 use crate::error::Error;
 use crate::peer::Peer;
@@ -25,8 +24,11 @@ const FEW_USERS: usize = 32;
 /// asks for another size, and finds a piece of memory that a side gave back.
 const VARIED_SIDES: usize = 256;
 
-/// There is room for so many sides, before their list has to move.
+/// There is room for at least so many sides, before their list has to move.
 const FEW_SIDES: usize = 16;
+
+/// There is room for so many sides at most, before any has come into being.
+const MANY_SIDES: usize = 64;
 
 /// What limits some flows together: its cap in bytes a second, and the places of those flows in
 /// the list, in its order.
@@ -54,17 +56,6 @@ struct Expected {
     link: usize,
 }
 
-impl Expected {
-    /// Notes where the number stands that was asked for.
-    fn set<P>(&mut self, subject: &Subject<P>, place: usize) {
-        match subject {
-            Subject::SentBy(_) => self.sender = place,
-            Subject::ReceivedBy(_) => self.recipient = place.wrapping_add(1),
-            Subject::SentBetween(_, _) => self.link = place.wrapping_add(1),
-        }
-    }
-}
-
 /// The sides that have come into being, and the number of each, its place among them, by its subject.
 /// The numbers of each kind are by peers alone, and have no kind to compare.
 #[derive(Drop)]
@@ -77,15 +68,15 @@ struct Registry<'a, P: Ord> {
 }
 
 impl<'a, P: Peer> Registry<'a, P> {
-    ghost use Rattle.fair_rates.specs.Sides.Registry.{IsRegistryOf, IsInOrder, IsGapFor, HasNumber, number_of};
-    ghost use Rattle.std.specs.Prelude.{None};
+    ghost use Rattle.fair_rates.specs.Sides.Registry.{IsRegistryOf, IsInOrder, HasNumber};
 
-    /// No flow has asked yet.
-    fn new(alloc: Global) -> Result<Registry<'a, P>, AllocError>
+    /// None of so many flows has asked yet. Mostly there are no more sides than flows.
+    fn new(alloc: Global, flows: usize) -> Result<Registry<'a, P>, AllocError>
         ensures { IfOk result (IsRegistryOf P.cmp []) }
     {
+        let room = flows.min(MANY_SIDES).max(FEW_SIDES);
         Ok(Registry {
-            sides: Vec::with_capacity(alloc, FEW_SIDES)?,
+            sides: Vec::with_capacity(alloc, room)?,
             expected: Expected {
                 sender: 0,
                 recipient: 0,
@@ -95,19 +86,6 @@ impl<'a, P: Peer> Registry<'a, P> {
             receivers: Numbers::new(alloc),
             links: Numbers::new(alloc),
         })
-    }
-
-    /// The number of the side of the subject, if there is one.
-    fn find(&self, subject: &Subject<'a, P>) -> Found
-        requires { IsInOrder P.cmp self.now }
-        ensures number { result.number ≡ number_of P.cmp self.now (subject_of subject.now) }
-        ensures gap { result.number ≡ None → IsGapFor P.cmp self.now subject.now result.place }
-    {
-        match subject {
-            Subject::SentBy(peer) => self.senders.find(peer),
-            Subject::ReceivedBy(peer) => self.receivers.find(peer),
-            Subject::SentBetween(origin, recipient) => self.links.find(&(*origin, *recipient)),
-        }
     }
 
     /// Notes the number of the side of a subject that has none, which would stand at that place.
@@ -139,48 +117,34 @@ fn room_of(number: usize) -> usize {
     }
 }
 
-/// The cap of what a side limits.
-fn cap_of<P, C: KnownCaps<P>>(subject: &Subject<P>, caps: &C) -> Option<u128>
-    ensures { result ≡ cap_of (C.caps caps.now) (subject_of subject.now) }
-{
-    match subject {
-        Subject::SentBy(peer) => caps.egress(peer),
-        Subject::ReceivedBy(peer) => caps.ingress(peer),
-        Subject::SentBetween(origin, recipient) => caps.link(origin, recipient),
-    }
-}
-
-/// Registers that the flow at `place` asks for the side of `subject`. Its cap is asked for where the
-/// side is not there yet.
-fn register<'a, P: Peer, C: KnownCaps<P>>(
+/// Registers that the flow at `place` asks for the side of `subject`, which is not there yet, and whose
+/// number would stand at `gap`. It comes into being if there is a cap.
+fn open<'a, P: Peer>(
     alloc: Global,
     registry: &mut Registry<'a, P>,
     place: usize,
+    gap: usize,
     subject: Subject<'a, P>,
-    caps: &C,
+    cap: Option<u128>,
 ) -> Result<(), Error>
-    requires { FindsSides P.cmp registry.old }
+    requires finds { FindsSides P.cmp registry.old }
+    requires none { number_of P.cmp registry.old (subject_of subject) ≡ None }
+    requires gap { IsGapFor P.cmp registry.old subject gap }
     ensures registers { OnOk result (Registers P.cmp (record {
       place = place;
       subject = subject_of subject.entry;
-      answer = cap_of (C.caps caps.now) (subject_of subject.entry);
+      answer = cap;
     } ∷ []) registry.old registry.new) }
     ensures refused { IfErr result (λ e. e ≡ Error.OutOfMemory) }
 {
-    let found = registry.find(&subject);
-    registry.expected.set(&subject, found.place);
-    if let Some(number) = found.number {
-        registry.sides[number].users.push(place)?;
-        return Ok(());
-    }
-    let Some(cap) = cap_of(&subject, caps) else {
+    let Some(cap) = cap else {
         return Ok(());
     };
     let number = registry.sides.len();
     let mut users = Vec::with_capacity(alloc, room_of(number))?;
     users.push(place)?;
     registry.sides.push(Side { cap, users })?;
-    registry.note(found.place, &subject, number)?;
+    registry.note(gap, &subject, number)?;
     Ok(())
 }
 
@@ -230,8 +194,41 @@ fn register_any_link<'a, P: Peer, C: KnownCaps<P>>(
         registry.sides[number].users.push(place)?;
         return Ok(());
     }
-    let between = Subject::SentBetween(ends.origin, ends.recipient);
-    register(alloc, registry, place, between, caps)
+    search_link(alloc, registry, place, ends, caps)
+}
+
+/// The same where another link was expected.
+fn search_link<'a, P: Peer, C: KnownCaps<P>>(
+    alloc: Global,
+    registry: &mut Registry<'a, P>,
+    place: usize,
+    ends: &Ends<'a, P>,
+    caps: &C,
+) -> Result<(), Error>
+    requires { FindsSides P.cmp registry.old }
+    ensures registers { OnOk result (Registers P.cmp (record {
+      place = place;
+      subject = sent_between ends.now.origin.now ends.now.recipient.now;
+      answer = (C.caps caps.now).link ends.now.origin.now ends.now.recipient.now;
+    } ∷ []) registry.old registry.new) }
+    ensures refused { IfErr result (λ e. e ≡ Error.OutOfMemory) }
+{
+    let found = registry.links.find(&(ends.origin, ends.recipient));
+    registry.expected.link = found.place.wrapping_add(1);
+    if let Some(number) = found.number {
+        registry.sides[number].users.push(place)?;
+        return Ok(());
+    }
+    let subject = Subject::SentBetween(ends.origin, ends.recipient);
+    open(
+        alloc,
+        registry,
+        place,
+        found.place,
+        subject,
+        caps.link(ends.origin, ends.recipient),
+    )?;
+    Ok(())
 }
 
 /// Registers that the flow at `place` asks for the side of its origin. Flows of one sender mostly
@@ -256,7 +253,41 @@ fn register_sender<'a, P: Peer, C: KnownCaps<P>>(
         registry.sides[number].users.push(place)?;
         return Ok(());
     }
-    register(alloc, registry, place, Subject::SentBy(origin), caps)
+    search_sender(alloc, registry, place, origin, caps)
+}
+
+/// The same where another sender was expected.
+fn search_sender<'a, P: Peer, C: KnownCaps<P>>(
+    alloc: Global,
+    registry: &mut Registry<'a, P>,
+    place: usize,
+    origin: &'a P,
+    caps: &C,
+) -> Result<(), Error>
+    requires { FindsSides P.cmp registry.old }
+    ensures registers { OnOk result (Registers P.cmp (record {
+      place = place;
+      subject = sent_by origin.now;
+      answer = (C.caps caps.now).egress origin.now;
+    } ∷ []) registry.old registry.new) }
+    ensures refused { IfErr result (λ e. e ≡ Error.OutOfMemory) }
+{
+    let found = registry.senders.find(&origin);
+    registry.expected.sender = found.place;
+    if let Some(number) = found.number {
+        registry.sides[number].users.push(place)?;
+        return Ok(());
+    }
+    let subject = Subject::SentBy(origin);
+    open(
+        alloc,
+        registry,
+        place,
+        found.place,
+        subject,
+        caps.egress(origin),
+    )?;
+    Ok(())
 }
 
 /// Registers that the flow at `place` asks for the side of its recipient. Senders mostly have the same
@@ -307,7 +338,41 @@ fn register_other<'a, P: Peer, C: KnownCaps<P>>(
         registry.sides[number].users.push(place)?;
         return Ok(());
     }
-    register(alloc, registry, place, Subject::ReceivedBy(recipient), caps)
+    search_recipient(alloc, registry, place, recipient, caps)
+}
+
+/// The same where neither is the one that was expected.
+fn search_recipient<'a, P: Peer, C: KnownCaps<P>>(
+    alloc: Global,
+    registry: &mut Registry<'a, P>,
+    place: usize,
+    recipient: &'a P,
+    caps: &C,
+) -> Result<(), Error>
+    requires { FindsSides P.cmp registry.old }
+    ensures registers { OnOk result (Registers P.cmp (record {
+      place = place;
+      subject = received_by recipient.now;
+      answer = (C.caps caps.now).ingress recipient.now;
+    } ∷ []) registry.old registry.new) }
+    ensures refused { IfErr result (λ e. e ≡ Error.OutOfMemory) }
+{
+    let found = registry.receivers.find(&recipient);
+    registry.expected.recipient = found.place.wrapping_add(1);
+    if let Some(number) = found.number {
+        registry.sides[number].users.push(place)?;
+        return Ok(());
+    }
+    let subject = Subject::ReceivedBy(recipient);
+    open(
+        alloc,
+        registry,
+        place,
+        found.place,
+        subject,
+        caps.ingress(recipient),
+    )?;
+    Ok(())
 }
 
 /// Registers that the flow at `place` asks for its sides, under these caps.
@@ -355,7 +420,7 @@ where
     ensures users_rise { IfOk result (λ sides. All (λ side. AllPairs (λ a b. a < b) side.users.items) sides.items) }
     ensures refused { IfErr result (λ e. e ≡ Error.OutOfMemory) }
 {
-    let mut registry = Registry::new(alloc)?;
+    let mut registry = Registry::new(alloc, flows.len())?;
     for (place, flow) in flows.iter().enumerate() {
         let egress = egress_cap(&flow.origin);
         let ingress = if flow.delivered {
@@ -391,7 +456,7 @@ pub(crate) fn sides_under<P: Peer, C: KnownCaps<P>>(
         (λ side. All (λ flow. flow < length flows.now) side.users.items) sides.items) }
     ensures refused { IfErr result (λ e. e ≡ Error.OutOfMemory) }
 {
-    let mut registry = Registry::new(alloc)?;
+    let mut registry = Registry::new(alloc, flows.len())?;
     for (place, ends) in flows.iter().enumerate() {
         register_flow(alloc, &mut registry, place, ends, caps)?;
     }
