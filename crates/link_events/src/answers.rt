@@ -6,6 +6,7 @@ ghost use Rattle.link_simulation.specs.Rule.Refusals.{MayBeRefused};
 ghost use Rattle.link_pairs.specs.Pairs.Messages.{message_of, completed_of};
 ghost use Rattle.link_events.specs.Steps.Answered.{IsAnswered, IsAnsweredIn};
 ghost use Rattle.link_events.specs.Steps.Outgoing.{outgoing};
+ghost use Rattle.link_events.specs.Steps.Standing.{IsFree};
 
 use crate::ledger::Ledger;
 use crate::outgoing::Outgoing;
@@ -53,19 +54,19 @@ impl<P: Peer> Ledger<P> {
         answers_of(self.alloc, &ended)
     }
 
-    /// Sends a message, and answers what completes.
-    pub fn answer_enqueue(
+    /// Sends a message that does not have to wait, and answers what completes.
+    pub fn answer_free(
         &mut self,
         now: u64,
         message: Message<P>,
     ) -> Result<Vec<Completion<P>>, Error>
+        requires free { IsFree P.cmp (planned P.cmp self.old) message.origin message.recipient }
         ensures answered { IfOk result (λ done. IsAnswered P.cmp (planned P.cmp self.old)
             (call_enqueue now (message_of message)) (map completed_of done.items) (planned P.cmp self.new)) }
         ensures refused { IfErr result (MayBeRefused P.cmp (planned P.cmp self.old)
             (call_enqueue now (message_of message))) }
     {
-        let is_busy = self.has_to_wait(&message.origin, &message.recipient);
-        let ended = self.enqueue(now, message, is_busy)?;
+        let ended = self.enqueue(now, message, false)?;
         answers_of(self.alloc, &ended)
     }
 

@@ -238,7 +238,7 @@ impl<P: Peer> State<P> {
             return Ok(Vec::new(self.ledger.alloc));
         }
         let mut ledger = self.ledger.clone()?;
-        let completions = ledger.answer_enqueue(now, message)?;
+        let completions = ledger.answer_free(now, message)?;
         self.ledger.replace_by(ledger);
         Ok(completions)
     }

@@ -73,7 +73,7 @@ invariant_of-self-2-clause-arrivals g c =
 pub invariant_of-self-2-clause-right : goal.invariant_of-self-2-clause-right
 invariant_of-self-2-clause-right g c =
     (made_on_copy g.P.Ord.cmp g.met.P.Ord.total (planned g.P.Ord.cmp c.args.self.now.ledger)
-    (planned g.P.Ord.cmp c.in_ok-ledger.ledger) (planned g.P.Ord.cmp c.answer_enqueue.new.self)
+    (planned g.P.Ord.cmp c.in_ok-ledger.ledger) (planned g.P.Ord.cmp c.answer_free.new.self)
     (planned g.P.Ord.cmp c.replace_by.new.self)
     (call_enqueue c.args.now (message_of c.args.message)) c.args.now
     (map completed_of c.in_ok-completions.completions.items) refl c.ranges.now.fits c.in_ok-ledger.ensures.cases
@@ -83,7 +83,7 @@ invariant_of-self-2-clause-right g c =
 pub invariant_of-self-2-clause-orderly : goal.invariant_of-self-2-clause-orderly
 invariant_of-self-2-clause-orderly g c =
     (made_on_copy g.P.Ord.cmp g.met.P.Ord.total (planned g.P.Ord.cmp c.args.self.now.ledger)
-    (planned g.P.Ord.cmp c.in_ok-ledger.ledger) (planned g.P.Ord.cmp c.answer_enqueue.new.self)
+    (planned g.P.Ord.cmp c.in_ok-ledger.ledger) (planned g.P.Ord.cmp c.answer_free.new.self)
     (planned g.P.Ord.cmp c.replace_by.new.self)
     (call_enqueue c.args.now (message_of c.args.message)) c.args.now
     (map completed_of c.in_ok-completions.completions.items) refl c.ranges.now.fits c.in_ok-ledger.ensures.cases
@@ -93,7 +93,7 @@ invariant_of-self-2-clause-orderly g c =
 pub returns-clause-made : goal.returns-clause-made
 returns-clause-made g c =
     (made_on_copy g.P.Ord.cmp g.met.P.Ord.total (planned g.P.Ord.cmp c.args.self.now.ledger)
-    (planned g.P.Ord.cmp c.in_ok-ledger.ledger) (planned g.P.Ord.cmp c.answer_enqueue.new.self)
+    (planned g.P.Ord.cmp c.in_ok-ledger.ledger) (planned g.P.Ord.cmp c.answer_free.new.self)
     (planned g.P.Ord.cmp c.replace_by.new.self)
     (call_enqueue c.args.now (message_of c.args.message)) c.args.now
     (map completed_of c.in_ok-completions.completions.items) refl c.ranges.now.fits c.in_ok-ledger.ensures.cases

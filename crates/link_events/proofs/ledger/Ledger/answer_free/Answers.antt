@@ -1,10 +1,9 @@
-use Rattle.std.proofs.Common.{Bool, ◌&&◌, map, sym, ap, ◌∙◌}
-use Rattle.link_waiting.specs.Idle.AtRest.{is_sending}
+use Rattle.std.proofs.Common.{map}
 use Rattle.link_simulation.specs.Simulation.Calls.{call_enqueue}
 use Rattle.link_events.specs.Steps.AsPlanned.{planned}
 use Rattle.link_pairs.specs.Pairs.Messages.{message_of, completed_of, ended_of}
 use Rattle.link_events.proofs.Steps.Answered.{answered_if}
-use Rattle.link_events.proofs.ledger.Ledger.answer_enqueue.Goals as goal
+use Rattle.link_events.proofs.ledger.Ledger.answer_free.Goals as goal
 
 pub returns-clause-answered : goal.returns-clause-answered
 returns-clause-answered g c =
@@ -14,12 +13,3 @@ returns-clause-answered g c =
     (map ended_of c.in_ok-ended.ended.items)
     (rw (← c.deref.ensures.value) c.answers_of.ensures.same)
     c.in_ok-ended.ensures.enqueues
-
-pub enqueue-requires : goal.enqueue-requires
-enqueue-requires g c limited =
-    sym
-    (c.has_to_wait-is_busy.ensures
-    ∙ ap
-    (λ (b : Bool). b
-    && is_sending g.P.Ord.cmp (planned g.P.Ord.cmp c.args.self.now) c.args.message.origin c.args.message.recipient)
-    limited)
