@@ -31,8 +31,8 @@ use std::rc::Rc;
 /// So many messages a component may join. Where there are more, it pays to rate all that is in flight.
 const MOST_JOINED: usize = 20;
 
-/// So many in flight a component may have an end of.
-const MOST_NEAR: usize = 64;
+/// So many in flight a component may have an end of. Where there are more, it mostly joins too many.
+const MOST_NEAR: usize = 24;
 
 /// The senders and the receivers of some messages, or all of them. A message in flight whose rate is
 /// below the level goes on as it is.

@@ -1,5 +1,5 @@
 -- Those that are passed where what is done is looked for, and the first finish of them.
-use Rattle.std.proofs.Common.{◌≡◌, ℕ, ◌+◌, ◌<◌, ◌≤◌, false, List, length, get_or, sym, ap, ◌∙◌, arith, inl, inr, Option}
+use Rattle.std.proofs.Common.{◌≡◌, ℕ, ◌+◌, ◌<◌, false, List, length, get_or, sym, ap, ◌∙◌, arith, inl, inr, Option}
 use Rattle.std.specs.declared.rc.Rc.{Rc}
 use Rattle.std.specs.declared.alloc.Global.{Global}
 use Rattle.std.specs.List.{remove}

@@ -1,7 +1,7 @@
 -- What an event touches, found one message in flight after another.
-use Rattle.std.proofs.Common.{◌≡◌, ℕ, zero, suc, ◌+◌, ◌<◌, ◌≤◌, Bool, true, false, ◌||◌, ◌⊎◌}
-use Rattle.std.proofs.Common.{inl, inr, List, [], ◌∷◌, ◌++◌, length, take, drop, get_or, cond, All, Contains, Some, refl}
-use Rattle.std.proofs.Common.{sym, ap, ap₂, ◌∙◌, subst, arith, if◌then◌else◌}
+use Rattle.std.proofs.Common.{◌≡◌, ℕ, zero, suc, ◌+◌, ◌<◌, ◌≤◌, Bool, true, false, ◌||◌}
+use Rattle.std.proofs.Common.{inl, inr, List, [], ◌∷◌, ◌++◌, length, take, drop, get_or, Contains, Some, refl}
+use Rattle.std.proofs.Common.{sym, ap, ◌∙◌, subst, arith, if◌then◌else◌}
 use Rattle.std.specs.Prelude.{slice_get, Option, IfSome}
 use Rattle.std.specs.Cmp.{IsTotalOrder}
 use Rattle.std.specs.List.{filter, insert, list_all, list_any}
@@ -25,7 +25,7 @@ use Rattle.link_flights.specs.declared.component.Component.{Component}
 use Rattle.link_flights.specs.declared.flight.Flight.{Flight}
 use Rattle.link_flights.specs.Flights.Flight.{UnitFlight, flight_at, flights_at, HaveRates}
 use Rattle.link_flights.specs.Flights.Components.{keeps, has_both, touches, suits, is_closed}
-use Rattle.link_flights.specs.Flights.Components.{AreNear, AreSuited, near_of, those_near, places_of}
+use Rattle.link_flights.specs.Flights.Components.{AreSuited, near_of, those_near}
 use Rattle.link_flights.specs.Flights.Components.{is_sender, is_receiver, share_an_end, StartsWith}
 use Rattle.link_flights.specs.Flights.Components.{AreStillListed, AreListed, AreAllListed}
 use Rattle.link_flights.specs.Flights.Components.{AllNewTouch}
