@@ -2,15 +2,14 @@
 use Rattle.std.proofs.Common.{◌≡◌, ◌↔◌, ◌≢◌, ◌==◌, ℕ, suc, zero, ◌+◌, ◌<◌, Bool, true, false, cond, ◌||◌, ◌&&◌, List}
 use Rattle.std.proofs.Common.{[]}
 use Rattle.std.proofs.Common.{◌∷◌, Bor, ◌++◌, Option, Some, None, map, length, get_or, refl, sym, ap, ◌∙◌, arith, subst}
-use Rattle.std.proofs.Common.{⊎_elim, vec_len, not}
+use Rattle.std.proofs.Common.{⊎_elim, vec_len}
 use Rattle.std.proofs.Math.ListN.{set}
 use Rattle.std.proofs.lemmas.List.{append-nil, map-append, map-set, length-set, length-map, same_lists, get_or-set_same}
 use Rattle.std.proofs.lemmas.List.{get_or-set_other, get_or-map, get_or_append_left, get_or_push, get_or_default}
-use Rattle.std.proofs.lemmas.List.{length_push, nil_from_length}
+use Rattle.std.proofs.lemmas.List.{length_push}
 use Rattle.std.proofs.lemmas.Option.{same_Some}
 use Rattle.std.proofs.lemmas.Bool.{eqb-true, eqb-false, cases_lt, false_from_ne_true as is_false, or_right}
-use Rattle.std.proofs.lemmas.Bool.{ltb-true}
-use Rattle.std.specs.Prelude.{is_some, nat_lt}
+use Rattle.std.specs.Prelude.{is_some}
 use Rattle.std.specs.List.{list_any}
 use Rattle.std.specs.Cmp.{IsTotalOrder}
 use Rattle.std.specs.declared.cmp.Ordering.{Ordering}
@@ -25,7 +24,7 @@ use Rattle.fair_rates.specs.declared.bandwidth.numbers.Numbers.{Numbers}
 use Rattle.fair_rates.specs.declared.bandwidth.sides.Registry.{Registry}
 use Rattle.fair_rates.specs.declared.bandwidth.sides.Side as declared_side
 use Rattle.fair_rates.proofs.Sides.Numbers.{numbers_agree}
-use Rattle.fair_rates.proofs.Sides.Subjects.{same_symm, same_congr, same_itself, peer_congr}
+use Rattle.fair_rates.proofs.Sides.Subjects.{same_symm, same_congr, peer_congr}
 use Rattle.fair_rates.proofs.Sides.OneMoreAsk.{Share, limit_of, shares_after, opened_share, is_side_of, with_user}
 use Rattle.fair_rates.proofs.Sides.OneMoreAsk.{limits_are, subjects_are, shares_push}
 

@@ -1,5 +1,5 @@
 //! The share of a side, in whole parts.
-ghost use Rattle.std.specs.Prelude.{◌≡◌, ◌*◌, ◌<◌, IfOk};
+ghost use Rattle.std.specs.Prelude.{◌≡◌, ◌*◌, ◌<◌, ◌≤◌, ℕ, IfOk};
 
 use crate::ratio::numbers::gcd_of_narrow;
 use natural::Natural;
@@ -19,6 +19,8 @@ pub(crate) fn whole_share(alloc: Global, slack: Natural, count: u64) -> Result<S
     requires { 0 < count }
     ensures factor { IfOk result (λ share. 0 < share.factor) }
     ensures whole { IfOk result (λ share. share.parts * count ≡ slack * share.factor) }
+    ensures least { IfOk result (λ share. (parts factor : ℕ) → 0 < factor → parts * count ≡ slack * factor
+        → share.factor ≤ factor) }
 {
     let mut parts = slack;
     let rest = parts.divide(count);

@@ -1,4 +1,4 @@
-use Rattle.std.proofs.Common.{sym, ◌∙◌, ◌≡◌, refl, ap, length, vec_len, Some, None, ◌++◌, ◌∷◌, []}
+use Rattle.std.proofs.Common.{◌∙◌, ◌≡◌, refl, ap, length, vec_len, ◌++◌, ◌∷◌, []}
 use Rattle.fair_rates.specs.declared.bandwidth.sides.Registry.{Registry}
 use Rattle.fair_rates.specs.Sides.Registry.{subject_of, number_of, HasNumber}
 use Rattle.fair_rates.proofs.Sides.Registry.{absent, opens, finds_more}

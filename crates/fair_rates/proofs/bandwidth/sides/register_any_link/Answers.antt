@@ -1,4 +1,4 @@
-use Rattle.std.proofs.Common.{refl, sym, ◌∙◌, ◌≡◌, Some}
+use Rattle.std.proofs.Common.{refl, sym, ◌∙◌}
 use Rattle.fair_rates.specs.Sides.Registry.{number_of}
 use Rattle.fair_rates.specs.Sides.Subjects.{sent_between}
 use Rattle.fair_rates.proofs.Sides.Registry.{found, link_is}

@@ -1,4 +1,4 @@
-use Rattle.std.proofs.Common.{refl, sym, ap, ◌∙◌}
+use Rattle.std.proofs.Common.{sym, ap, ◌∙◌}
 use Rattle.std.specs.Prelude.{is_some}
 use Rattle.fair_rates.proofs.Sides.Registry.{no_link}
 use Rattle.fair_rates.proofs.bandwidth.sides.register_link.Goals as goal

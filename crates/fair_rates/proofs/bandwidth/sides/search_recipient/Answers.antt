@@ -1,4 +1,4 @@
-use Rattle.std.proofs.Common.{◌≡◌, Some, refl, sym, subst, ◌∙◌, ◌∷◌, []}
+use Rattle.std.proofs.Common.{refl, sym, subst, ◌∙◌, ◌∷◌, []}
 use Rattle.fair_rates.specs.Sides.Registry.{number_of, Registers}
 use Rattle.fair_rates.specs.Sides.Subjects.{received_by}
 use Rattle.fair_rates.proofs.Sides.Registry.{found}

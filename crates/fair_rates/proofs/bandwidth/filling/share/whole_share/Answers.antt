@@ -2,7 +2,7 @@ use Prim.Native.Nat.{◌∣◌}
 use Rattle.std.proofs.Common.{◌*◌, ◌/◌, ap, subst, sym, arith}
 use Rattle.std.proofs.Math.Nat.{div-mul_cancel}
 use Rattle.fair_rates.specs.Numbers.Gcd.{gcd-pos, gcd-IsGcd}
-use Rattle.fair_rates.proofs.Filling.Share.{quotient_positive, whole}
+use Rattle.fair_rates.proofs.Filling.Share.{quotient_positive, whole, least_factor}
 use Rattle.fair_rates.proofs.bandwidth.filling.share.whole_share.Goals as goal
 
 pub nonzero_div-factor : goal.nonzero_div-factor
@@ -31,3 +31,13 @@ returns-clause-whole c =
     (div-mul_cancel shared (subst (λ n. n ∣ c.args.count) (sym c.gcd_of_narrow-shared.ensures) g.1))
     (div-mul_cancel shared (subst (λ n. n ∣ rest) (sym c.gcd_of_narrow-shared.ensures) g.0))
     (omega (arith, c.in_ok-add_assign.ensures.value, c.in_ok-multiply.ensures.value, c.from_u64.ensures))
+
+pub returns-clause-least : goal.returns-clause-least
+returns-clause-least c parts factor any is =
+    let shared = c.gcd_of_narrow-shared.result in
+    let rest = c.divide-rest.result in
+    least_factor c.args.slack c.args.count c.divide-rest.new.self rest shared (c.args.count / shared) parts factor
+    c.requires (omega (arith, ap (λ n. c.args.count * n) c.divide-rest.ensures.quotient, c.divide-rest.ensures.rest))
+    c.gcd_of_narrow-shared.ensures
+    (div-mul_cancel shared
+    (subst (λ n. n ∣ c.args.count) (sym c.gcd_of_narrow-shared.ensures) (gcd-IsGcd rest c.args.count).1)) any is

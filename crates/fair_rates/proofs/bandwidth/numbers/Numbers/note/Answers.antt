@@ -1,4 +1,4 @@
-use Rattle.std.proofs.Common.{◌≡◌, ℕ, cond, None, Some, ◌++◌, ◌∷◌, [], ap, sym, subst, refl, ◌∙◌, arith, length}
+use Rattle.std.proofs.Common.{◌≡◌, ℕ, cond, Some, ◌++◌, ◌∷◌, [], ap, sym, ◌∙◌, arith, length}
 use Rattle.std.specs.List.{insert}
 use Rattle.std.specs.Map.{lookup}
 use Rattle.std.specs.Ordering.{is_eq}
