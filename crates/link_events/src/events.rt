@@ -46,6 +46,19 @@ impl<P: Peer> Ledger<P> {
         }
     }
 
+    /// The moment from which on the first waiting message of the pair may start, if one waits and the
+    /// pair is not busy. Pairs mostly start when they are the first of those that are idle.
+    fn idle_since(&self, origin: &P, recipient: &P) -> Option<u64>
+        ensures { result ≡ idle_since P.cmp (planned P.cmp self.now) origin.now recipient.now }
+    {
+        let first = self.idle.since_if_first(origin, recipient);
+        if first.is_some() {
+            return first;
+        }
+        let is_busy = self.flights.has(origin, recipient);
+        idle_from(is_busy, &self.waiting, &self.pairs, origin, recipient)
+    }
+
     /// The first waiting message of the pair starts if it may, and an account follows, whose
     /// leavers are answered.
     pub(crate) fn launch(
@@ -60,8 +73,7 @@ impl<P: Peer> Ledger<P> {
         ensures refused { IfErr result (IsRefusedFor (λ fault. Launches P.cmp now (planned P.cmp self.old)
             (first_of P.cmp (planned P.cmp self.old).waiting origin.now recipient.now) (meets fault))) }
     {
-        let is_busy = self.flights.has(origin, recipient);
-        let since = idle_from(is_busy, &self.waiting, &self.pairs, origin, recipient);
+        let since = self.idle_since(origin, recipient);
         self.launch_from(since, origin, recipient, now)
     }
 

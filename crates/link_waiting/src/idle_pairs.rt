@@ -1,6 +1,6 @@
 //! The idle pairs, by the moment from which on they may start.
 ghost use Rattle.std.specs.Prelude.{◌≡◌, ◌&&◌, ℕ, Bool, List, true, false, if◌then◌else◌, map, nat_le, option_map};
-ghost use Rattle.std.specs.Prelude.{slice_get, [], OnOk, IfErr};
+ghost use Rattle.std.specs.Prelude.{slice_get, [], OnOk, IfErr, IfSome};
 ghost use Rattle.std.specs.Ordering.{is_lt, is_eq};
 ghost use Rattle.fair_rates.specs.Sides.Subjects.{same_peer};
 ghost use Rattle.fair_rates.specs.Lists.Sorted.{are_ascending};
@@ -175,6 +175,18 @@ impl<P: Peer> IdlePairs<P> {
         }) {
             None => false,
             Some(pair) => pair.compare(moment, origin, recipient).is_eq(),
+        }
+    }
+
+    /// The moment from which on the pair may start, if no other pair stands before it.
+    pub fn since_if_first(&self, origin: &P, recipient: &P) -> Option<u64>
+        ensures { IfSome result (λ moment. is_listed P.cmp self.now.entries moment origin.now recipient.now ≡ true) }
+    {
+        let pair = self.entries.get(0)?;
+        if pair.compare(pair.moment, origin, recipient).is_eq() {
+            Some(pair.moment)
+        } else {
+            None
         }
     }
 

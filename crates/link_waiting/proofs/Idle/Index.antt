@@ -1,6 +1,6 @@
 -- Idle pairs in the order of moments, and what of them is listed after a change.
 use Rattle.std.proofs.Common.{◌≡◌, ℕ, ◌<◌, ◌≤◌, Bool, true, false, not, ◌&&◌, if◌then◌else◌, List, ◌∷◌, length, map}
-use Rattle.std.proofs.Common.{Option, Some, None, refl, sym, ◌∙◌, ap, arith}
+use Rattle.std.proofs.Common.{Option, Some, None, [], slice_get, refl, sym, ◌∙◌, ap, arith}
 use Rattle.std.specs.Prelude.{◌==◌, nat_lt}
 use Rattle.std.specs.List.{find, position_or_len, insert, remove}
 use Rattle.std.proofs.lemmas.List.Folds.{find_at}
@@ -12,6 +12,7 @@ use Rattle.std.specs.Cmp.{IsTotalOrder, ranks}
 use Rattle.std.proofs.lemmas.Bool.{eqb-true, eq-eqb, ltb-true, ltb-false, and_from}
 use Rattle.std.proofs.lemmas.Cmp.{on_total, then_total, nat_cmp_total, by_ranked, tied_itself}
 use Rattle.std.proofs.Math.Bool.{and-false}
+use Rattle.std.proofs.lemmas.Option.{none-some, same_Some}
 use Rattle.fair_rates.proofs.Lists.Booleans.{by_bool}
 use Rattle.link_waiting.specs.declared.idle_pairs.IdlePair.{IdlePair}
 use Rattle.fair_rates.specs.Sides.Subjects.{same_peer}
@@ -30,6 +31,17 @@ pub idle_total : {P : Type 0} (cmp : P → P → Ordering) → IsTotalOrder cmp 
 idle_total {P} cmp total =
     then_total (on_total (λ (k : ℕ × (P × P)). k.0) nat_cmp_total)
     (on_total (λ (k : ℕ × (P × P)). k.1) (pair_total cmp total))
+
+-- the first pair is listed under its moment
+pub first_is_listed : {P : Type 0} (cmp : P → P → Ordering) (entries : List (IdlePair P)) (pair : IdlePair P)
+    (origin recipient : P) → Some pair ≡ slice_get entries 0
+    → is_eq (idle_cmp cmp (idle_key pair) (pair.moment, (origin, recipient))) ≡ true
+    → is_listed cmp entries pair.moment origin recipient ≡ true
+first_is_listed cmp [] pair origin recipient there same = absurd (none-some pair (sym there))
+first_is_listed {P} cmp (first ∷ rest) pair origin recipient there same =
+    let is : first ≡ pair = same_Some first pair (sym there) in
+    ap (λ b. if b then true else is_listed cmp rest pair.moment origin recipient)
+    (ap (λ (one : IdlePair P). is_eq (idle_cmp cmp (idle_key one) (pair.moment, (origin, recipient)))) is ∙ same)
 
 pub same_moment : (s t : ℕ) → is_eq (nat_cmp s t) ≡ (s == t)
 same_moment s t = by_ranked (s < t) (s ≡ t) (t < s) (nat_cmp s t) (ranks s t)
