@@ -188,13 +188,49 @@ impl<P: Peer> Flights<P> {
             × PassesNowhere (λ one. has_come t one.value.finish) self.now.list.items from
             (or_end result self.now.list.items) }
     {
-        for at in from..self.list.len() {
+        let start = if were_rated {
+            self.pass(from, passed)
+        } else {
+            from
+        };
+        for at in start..self.list.len() {
             if self.is_done(at, peers, pairs, were_rated) {
                 return Some(at);
             }
             passed.join(self.list[at].finish, at);
         }
         None
+    }
+
+    /// Passes those from that place on that have got a rate and have not finished, and notes them. Answers
+    /// the place behind them.
+    fn pass(&self, from: usize, passed: &mut Soonest) -> usize
+        ensures low { from ≤ result }
+        ensures rated { (i : ℕ) → from ≤ i → i < result → i < self.now.settled }
+        ensures go_on { PassesNowhere (λ one. has_come self.now.at one.value.finish) self.now.list.items from result }
+        ensures noted { (t : ℕ) → has_come t passed.new.finish ≡ false → (has_come t passed.old.finish ≡ false)
+            × PassesNowhere (λ one. has_come t one.value.finish) self.now.list.items from result }
+    {
+        let mut least = passed.finish.unwrap_or(u64::MAX);
+        let mut front = passed.place;
+        let mut at = from;
+        while at < self.settled {
+            if let Some(finish) = self.list[at].finish {
+                if finish <= self.at {
+                    break;
+                }
+                if finish < least {
+                    least = finish;
+                    front = at;
+                }
+            }
+            at += 1;
+        }
+        if at > from {
+            passed.finish = Some(least);
+            passed.place = front;
+        }
+        at
     }
 
     /// Where nothing is in flight, units begin anew: one is a byte a second.

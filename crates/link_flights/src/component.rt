@@ -29,10 +29,10 @@ use std::collections::VecDeque;
 use std::rc::Rc;
 
 /// So many messages a component may join. Where there are more, it pays to rate all that is in flight.
-const MOST_JOINED: usize = 20;
+const MOST_JOINED: usize = 28;
 
 /// So many in flight a component may have an end of. Where there are more, it mostly joins too many.
-const MOST_NEAR: usize = 24;
+const MOST_NEAR: usize = 32;
 
 /// The senders and the receivers of some messages, or all of them. A message in flight whose rate is
 /// below the level goes on as it is.
@@ -145,7 +145,7 @@ impl<P: Peer> Component<P> {
 
     /// Whether it has too many ends.
     fn is_large(&self) -> bool
-        ensures { result ≡ false → length self.now.joined.items ≤ MOST_JOINED }
+        ensures { result ≡ false → length self.now.near.items ≤ MOST_NEAR }
     {
         self.joined.len() > MOST_JOINED || self.near.len() > MOST_NEAR
     }
@@ -360,9 +360,10 @@ impl<P: Peer> Flights<P> {
         }
         self.list_from(0, component)?;
         component.level = self.level(component, peers, pairs)?;
-        let mut listed = 0;
-        while listed < component.joined.len() {
-            listed = component.joined.len();
+        let mut seen = 0;
+        while seen < component.near.len() {
+            seen = component.near.len();
+            let listed = component.joined.len();
             self.join_near(component)?;
             if component.is_large() {
                 return Ok(false);

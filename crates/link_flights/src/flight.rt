@@ -15,15 +15,15 @@ use std::rc::Rc;
 #[derive(Drop)]
 pub(crate) struct Flight<P> {
     pub(crate) message: Rc<Message<P>>,
-    /// The units that were left at the moment `since`.
-    pub(crate) left: Natural,
-    /// The units that drain in a nanosecond from then on. `None` drains nothing.
-    pub(crate) rate: Option<Rc<Natural>>,
-    pub(crate) since: u64,
-    /// The moment from which on nothing is left, if there is one up to the last moment.
-    pub(crate) finish: Option<u64>,
     /// Whether an account has given it a rate since its start.
     pub(crate) rated: bool,
+    /// The moment from which on nothing is left, if there is one up to the last moment.
+    pub(crate) finish: Option<u64>,
+    pub(crate) since: u64,
+    /// The units that drain in a nanosecond from then on. `None` drains nothing.
+    pub(crate) rate: Option<Rc<Natural>>,
+    /// The units that were left at the moment `since`.
+    pub(crate) left: Natural,
 }
 
 impl<P: Peer> Flight<P> {

@@ -1,13 +1,16 @@
 -- Those that are passed where what is done is looked for, and the first finish of them.
-use Rattle.std.proofs.Common.{◌≡◌, ℕ, ◌+◌, ◌<◌, false, List, length, get_or, sym, ap, ◌∙◌, arith, inl, inr, Option}
+use Rattle.std.proofs.Common.{◌≡◌, ℕ, ◌+◌, ◌<◌, ◌≤◌, false, List, length, get_or, sym, ap, ◌∙◌, arith, inl, inr}
+use Rattle.std.proofs.Common.{Option, Some, None, refl}
 use Rattle.std.specs.declared.rc.Rc.{Rc}
 use Rattle.std.specs.declared.alloc.Global.{Global}
 use Rattle.std.specs.List.{remove}
-use Rattle.std.proofs.lemmas.Bool.{cases_lt}
+use Rattle.std.specs.Option.{unwrap_or}
+use Rattle.std.proofs.lemmas.Bool.{cases_lt, leb-false, lt-leb}
 use Rattle.std.proofs.lemmas.List.{get_or_default}
 use Rattle.std.proofs.lemmas.List.Edits.{get_or-remove_below}
 use Rattle.std.proofs.lemmas.List.Folds.{list_any_none}
 use Rattle.link_simulation.specs.Rule.Planned.{earlier}
+use Rattle.link_simulation.specs.Simulation.World.{last_moment}
 use Rattle.link_flights.specs.declared.flight.Flight.{Flight}
 use Rattle.link_flights.specs.Flights.Flight.{has_come, FinishFrom}
 use Rattle.link_flights.specs.Flights.InFlight.{PassesNowhere}
@@ -39,6 +42,32 @@ module _ {P : Type 0} where
               ap (λ k. has_come t (get_or list k d).value.finish) here
               ∙ ap (λ (f : Rc (Flight P) Global). has_come t f.value.finish)
               (sym (is ∙ get_or_default list at one d inside)) ∙ both.1
+        ],
+      )
+
+  -- none is passed yet
+  pub none_passed : (old : Option ℕ) (least : ℕ) (list : List (Rc (Flight P) Global)) (from : ℕ)
+      → least ≡ unwrap_or old last_moment → HasPassed old (Some least) list from from
+  none_passed None least list from is t e = (refl, λ i low high d. absurd (omega (arith, low, high)))
+  none_passed (Some first) least list from is t e =
+      (ap (λ n. has_come t (Some n)) (sym is) ∙ e, λ i low high d. absurd (omega (arith, low, high)))
+
+  -- one more is passed, which finishes no earlier than a moment that is no later than the one before
+  pub passed_later : (old : Option ℕ) (least next : ℕ) (list : List (Rc (Flight P) Global)) (from at : ℕ)
+      (one : Rc (Flight P) Global) → HasPassed old (Some least) list from at → at < length list → one ≡ get_or list at one
+      → next ≤ least → ((t : ℕ) → t < next → has_come t one.value.finish ≡ false)
+      → HasPassed old (Some next) list from (at + 1)
+  passed_later old least next list from at one so_far inside is less later t e =
+      let early : t < next = leb-false next t e in
+      let before = so_far t (lt-leb least t (omega (arith, early, less))) in (
+        before.0,
+        λ i low high d. elim (cases_lt i at) [
+          | inl lower ↦ before.1 i low lower d
+          | inr past ↦
+              let here : i ≡ at = omega (arith, past, high) in
+              ap (λ k. has_come t (get_or list k d).value.finish) here
+              ∙ ap (λ (f : Rc (Flight P) Global). has_come t f.value.finish)
+              (sym (is ∙ get_or_default list at one d inside)) ∙ later t early
         ],
       )
 

@@ -142,10 +142,9 @@ module _ {P : Type 0} (cmp : P → P → Ordering) where
     pub level : new.level ≡ old.level
     pub whole : new.whole ≡ old.whole
 
-  -- all that is joined has, and there is not much of it
+  -- all that is joined has
   pub record HasGrown (list : List (Rc (Flight P) Global)) (floor : Option ℕ) (old new : Component P) : Type 0 where
     pub listed : AreAllListed cmp new.joined.items new.near.items list
-    pub few : length new.joined.items ≤ 20
     pub level : IfSome floor (λ floor. new.level ≤ floor)
     pub whole : new.whole ≡ old.whole
 

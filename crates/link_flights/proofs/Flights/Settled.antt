@@ -8,9 +8,11 @@ use Rattle.std.specs.declared.rc.Rc.{Rc}
 use Rattle.std.specs.declared.alloc.Global.{Global}
 use Rattle.std.proofs.lemmas.Bool.{and_from, or_parts, leb-false, lt-leb}
 use Rattle.std.proofs.lemmas.List.{length-set, length-take-le, take-append-drop}
-use Rattle.std.proofs.lemmas.List.{take_all}
+use Rattle.std.proofs.lemmas.List.{take_all, get_or_default}
 use Rattle.std.proofs.lemmas.List.Edits.{length-remove}
 use Rattle.std.proofs.lemmas.List.Elements.{length_all_zip}
+use Rattle.std.proofs.lemmas.Option.{slice_get_read}
+use Rattle.std.specs.Prelude.{slice_get}
 use Rattle.fair_rates.specs.Sides.Caps.{Caps}
 use Rattle.fair_rates.proofs.Lists.Booleans.{first_of_both, second_of_both}
 use Rattle.fair_rates.proofs.Lists.InPlace.{IsChangedUpTo}
@@ -23,8 +25,9 @@ use Rattle.link_flights.specs.Flights.InFlight.{PassesNowhere}
 use Rattle.link_flights.specs.Flights.Rated.{is_out, are_limited, rated_ones, IsRatedFrom}
 use Rattle.link_flights.proofs.Flights.Copies.{AreShared}
 use Rattle.link_flights.proofs.Flights.Done.{out_by_finish, limited_there}
-use Rattle.link_flights.proofs.Flights.Flight.{IsBrought, is_past, is_counted_on, past_so}
+use Rattle.link_flights.proofs.Flights.Flight.{IsBrought, is_past, is_counted_on, past_so, all_there}
 use Rattle.link_flights.proofs.Flights.InFlight.{filter_yes}
+use Rattle.link_flights.proofs.Flights.Search.{passed_there}
 
 -- ---- the first elements of a list pass a test
 
@@ -218,6 +221,23 @@ module _ {P : Type 0} where
           limited_rest u us is limited =
               second_of_both _ (are_limited cmp caps (rated_ones us))
               (sym (ap (are_limited cmp caps) (filter_yes (λ v. v.rated) u us is)) ∙ limited)
+
+      -- nor does one of those between two places that have got a rate, where their finishes have not come
+      pub none_out_between : (n : ℕ) (fs : List (Rc (Flight P) Global)) (from to : ℕ) → HaveRates n fs
+          → list_all (is_past at) fs ≡ true → ((i : ℕ) → from ≤ i → i < to → i < n)
+          → PassesNowhere (λ f. has_come at f.value.finish) fs from to → AreTimed fs
+          → are_limited cmp caps (rated_ones (flights_at at fs)) ≡ true → PassesNowhere out fs from to
+      none_out_between n fs from to have past inside none timed limited i low high d =
+          let f = get_or fs i d in
+          let below : i < length fs = omega (arith, inside i low high, have.0) in
+          let is : f ≡ get_or fs i f = get_or_default fs i d f below in
+          let there : slice_get fs i ≡ Some f = slice_get_read fs (length fs) i f refl below is in
+          let rated = passed_there (λ (f : Rc (Flight P) Global). f.value.rated) n fs i f have.1 (inside i low high) there
+          in
+          sym (out_by_finish cmp caps scale some at f.value rated
+          (past_so at f (all_there (is_past at) fs i f past below is) rated) here (timed i f there rated)
+          (limited_there cmp caps scale some at fs i f limited below is rated))
+          ∙ none i low high d
 
 -- all have rates, once each has got one
 pub all_have_got : {P : Type 0} (now times at : ℕ) (us : List (UnitFlight P)) (fs : List (Rc (Flight P) Global))

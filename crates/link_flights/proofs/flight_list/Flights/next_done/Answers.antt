@@ -8,7 +8,9 @@ use Rattle.link_flights.specs.declared.flight.Flight.{Flight}
 use Rattle.link_flights.specs.Flights.Flight.{flight_at}
 use Rattle.link_flights.specs.Flights.Rated.{is_out}
 use Rattle.link_flights.proofs.Flights.Passed.{passed_one}
+use Rattle.link_flights.proofs.Flights.Settled.{none_out_between}
 use Rattle.link_flights.proofs.flight_list.Flights.next_done.Goals as goal
+use Rattle.link_flights.proofs.flight_list.Flights.next_done.Goals.{then-were_rated, else-were_rated}
 
 pub loop-at-preserved : goal.loop-at-preserved
 loop-at-preserved g c =
@@ -30,3 +32,22 @@ loop-at-preserved g c =
           c.index.result.now so_far.1 inside c.index.ensures
           (c.join.ensures ∙ ap (λ (f : Flight g.row.P.Denot). earlier c.loop-at.passed.finish f.finish) c.deref.ensures),
     )
+
+pub loop-at-init : goal.loop-at-init
+loop-at-init g c = elim c.if-were_rated.branch [
+  | then-were_rated w ↦
+      let self = c.args.self.now in
+      let caps = caps_of g.P.Ord.cmp c.args.peers.now.entries c.args.pairs.now.entries in
+      let passes = w.pass-start.ensures in
+      rw (w.start-is, w.passed-is) (
+        none_out_between g.P.Ord.cmp caps self.scale self.scaled self.at (omega arith) self.settled self.list.items
+            c.args.from w.pass-start.result self.have_rates self.past passes.rated passes.go_on
+            (c.requires.timed w.if-were_rated.true) (c.requires.limited w.if-were_rated.true),
+        passes.noted,
+      )
+  | else-were_rated w ↦
+      rw (w.start-is, w.passed-is) (
+        λ i low high d. absurd (omega (arith, low, high)),
+        λ t e. (e, λ i low high d. absurd (omega (arith, low, high))),
+      )
+]

@@ -9,4 +9,4 @@ abbrev pub invariant-loop-at : goal.invariant-loop-at
 invariant-loop-at g l =
     PassesNowhere (λ one. is_out g.P.Ord.cmp (caps_of g.P.Ord.cmp l.peers.entries l.pairs.entries) l.self.scale
     (flight_at l.self.at one.value)) l.self.list.items l.from l.at
-    × HasPassed l.initial.passed.finish l.passed.finish l.self.list.items l.from l.at
+    × HasPassed l.fn.passed.finish l.passed.finish l.self.list.items l.from l.at
