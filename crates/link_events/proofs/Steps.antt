@@ -4,6 +4,7 @@ pub mod Answered
 pub mod Batch
 pub mod FewerEvents
 pub mod Finishing
+pub mod Landing
 pub mod Limits
 pub mod MessageCounts
 pub mod OneEach

@@ -2,6 +2,7 @@
 pub mod Answered
 pub mod AsPlanned
 pub mod Due
+pub mod Landing
 pub mod Outgoing
 pub mod Standing
 pub mod Starting

@@ -1,14 +1,16 @@
 //! What is done leaves.
-ghost use Rattle.std.specs.Prelude.{◌≡◌, ◌≤◌, true, not, IfOk, IfErr, OnOk};
+ghost use Rattle.std.specs.Prelude.{◌≡◌, ◌≤◌, ◌⊎◌, [], ◌∷◌, List, true, not, IfOk, IfErr, OnOk};
 ghost use Rattle.std.specs.List.{filter};
-ghost use Rattle.link_simulation.specs.Simulation.Messages.{OneForEachPair};
+ghost use Rattle.link_simulation.specs.Simulation.Messages.{Message as AnyMessage, OneForEachPair};
 ghost use Rattle.link_simulation.specs.Rule.Planned.{rated_messages, drained_to, is_spent};
 ghost use Rattle.link_waiting.specs.Idle.AtRest.{of_pairs};
-ghost use Rattle.link_waiting.specs.Idle.Index.{IsIndexOf};
+ghost use Rattle.link_waiting.specs.Idle.Index.{IsIndexOf, idle_from as idle_since};
 ghost use Rattle.link_flights.specs.Flights.InFlight.{in_flight};
 ghost use Rattle.link_flights.specs.Flights.Rated.{AreRated, HadFairRates};
 ghost use Rattle.link_pairs.specs.Pairs.Messages.{messages};
 ghost use Rattle.link_pairs.specs.Pairs.CapsOf.{caps_of};
+ghost use Rattle.link_pairs.specs.Pairs.Entries.{link_of, arrival_of};
+ghost use Rattle.link_events.specs.Steps.Landing.{LandsAt, IsFirstLate};
 
 use crate::readiness::rest_all;
 use fair_rates::error::Error;
@@ -22,6 +24,35 @@ use link_waiting::waiting::Waiting;
 use std::alloc::Global;
 use std::collections::VecDeque;
 use std::rc::Rc;
+
+/// All that is in flight drains to that moment. What is done leaves, in order of start.
+fn part<P: Peer>(
+    now: u64,
+    flights: &mut Flights<P>,
+    peers: &Peers<P>,
+    pairs: &Pairs<P>,
+    were_fair: bool,
+) -> Result<VecDeque<Rc<Message<P>>>, Error>
+    requires one_each { ∥ OneForEachPair P.cmp (rated_messages (in_flight flights.old)) ∥₁ }
+    requires later { were_fair ≡ true → flights.old.at ≤ now }
+    requires rated { were_fair ≡ true
+        → AreRated P.cmp (caps_of P.cmp peers.now.entries pairs.now.entries) flights.old }
+    ensures done { IfOk result (λ done. messages done.items
+        ≡ rated_messages (filter (is_spent P.cmp (caps_of P.cmp peers.now.entries pairs.now.entries))
+        (drained_to now (in_flight flights.old)))) }
+    ensures rest { OnOk result (in_flight flights.new ≡ filter
+        (λ f. not (is_spent P.cmp (caps_of P.cmp peers.now.entries pairs.now.entries) f))
+        (drained_to now (in_flight flights.old))) }
+    ensures one_each { OnOk result (∥ OneForEachPair P.cmp (rated_messages (in_flight flights.new)) ∥₁) }
+    ensures fair { IfOk result (λ done. were_fair ≡ true → HadFairRates P.cmp
+        (caps_of P.cmp peers.now.entries pairs.now.entries) flights.new (messages done.items)) }
+    ensures at { OnOk result (flights.new.at ≡ now) }
+    ensures refused { IfErr result (λ e. e ≡ Error.OutOfMemory) }
+{
+    flights.drain(now)?;
+    let done = flights.take_done(peers, pairs, were_fair)?;
+    Ok(done)
+}
 
 /// All that is in flight drains to that moment. What is done leaves, in order of start, and its
 /// pairs are idle from now on.
@@ -55,8 +86,96 @@ pub(crate) fn leave<P: Peer>(
         (in_flight flights.new)) idle.new.entries) }
     ensures refused { IfErr result (λ e. e ≡ Error.OutOfMemory) }
 {
-    flights.drain(now)?;
-    let done = flights.take_done(peers, pairs, were_fair)?;
+    let done = part(now, flights, peers, pairs, were_fair)?;
     rest_all(alloc, idle, waiting, pairs, &done)?;
     Ok(done)
+}
+
+/// What left, and what came of the first of it, which has landed.
+#[derive(Drop)]
+pub(crate) struct Left<P> {
+    pub(crate) done: VecDeque<Rc<Message<P>>>,
+    /// When the first arrives, if it does.
+    pub(crate) deliver_at: Option<u64>,
+    /// From when on the next message of its pair may start, if one waits.
+    pub(crate) since: Option<u64>,
+}
+
+/// The first of what is done lands: no later one of its pair arrives before it. Answers when it
+/// arrives, if it does.
+fn land_first<P: Peer>(
+    alloc: Global,
+    now: u64,
+    pairs: &mut Pairs<P>,
+    done: &VecDeque<Rc<Message<P>>>,
+) -> Result<Option<u64>, Error>
+    ensures link { OnOk result (link_of P.cmp pairs.new.entries ≡ link_of P.cmp pairs.old.entries) }
+    ensures none { OnOk result (messages done.now.items ≡ []
+        → arrival_of P.cmp pairs.new.entries ≡ arrival_of P.cmp pairs.old.entries) }
+    ensures first { IfOk result (λ deliver_at. (m : AnyMessage P) (ms : List (AnyMessage P))
+        → messages done.now.items ≡ m ∷ ms → LandsAt P.cmp now m (arrival_of P.cmp pairs.old.entries)
+        (arrival_of P.cmp pairs.new.entries) deliver_at) }
+    ensures refused { IfErr result (λ e. (e ≡ Error.OutOfMemory)
+        ⊎ ((e ≡ Error.MomentTooLate) × IsFirstLate P.cmp now (messages done.now.items))) }
+{
+    let Some(first) = done.front() else {
+        return Ok(None);
+    };
+    let first = Rc::as_ref(first);
+    let arrival = first.arrival(now)?;
+    pairs.raise(alloc, &first.origin, &first.recipient, arrival)?;
+    Ok(first.is_delivered().then_some(arrival))
+}
+
+/// As `leave`; and the first of what is done lands before its pair is idle.
+pub(crate) fn leave_landing<P: Peer>(
+    alloc: Global,
+    now: u64,
+    flights: &mut Flights<P>,
+    idle: &mut IdlePairs<P>,
+    peers: &Peers<P>,
+    pairs: &mut Pairs<P>,
+    waiting: &Waiting<P>,
+    were_fair: bool,
+) -> Result<Left<P>, Error>
+    requires indexed { IsIndexOf P.cmp (of_pairs P.cmp pairs.old.entries waiting.now.messages
+        (in_flight flights.old)) idle.old.entries }
+    requires one_each { ∥ OneForEachPair P.cmp (rated_messages (in_flight flights.old)) ∥₁ }
+    requires later { were_fair ≡ true → flights.old.at ≤ now }
+    requires rated { were_fair ≡ true
+        → AreRated P.cmp (caps_of P.cmp peers.now.entries pairs.old.entries) flights.old }
+    ensures done { IfOk result (λ left. messages left.done.items
+        ≡ rated_messages (filter (is_spent P.cmp (caps_of P.cmp peers.now.entries pairs.old.entries))
+        (drained_to now (in_flight flights.old)))) }
+    ensures rest { OnOk result (in_flight flights.new ≡ filter
+        (λ f. not (is_spent P.cmp (caps_of P.cmp peers.now.entries pairs.old.entries) f))
+        (drained_to now (in_flight flights.old))) }
+    ensures one_each { OnOk result (∥ OneForEachPair P.cmp (rated_messages (in_flight flights.new)) ∥₁) }
+    ensures fair { IfOk result (λ left. were_fair ≡ true → HadFairRates P.cmp
+        (caps_of P.cmp peers.now.entries pairs.old.entries) flights.new (messages left.done.items)) }
+    ensures at { OnOk result (flights.new.at ≡ now) }
+    ensures link { OnOk result (link_of P.cmp pairs.new.entries ≡ link_of P.cmp pairs.old.entries) }
+    ensures none { IfOk result (λ left. messages left.done.items ≡ []
+        → arrival_of P.cmp pairs.new.entries ≡ arrival_of P.cmp pairs.old.entries) }
+    ensures first { IfOk result (λ left. (m : AnyMessage P) (ms : List (AnyMessage P))
+        → messages left.done.items ≡ m ∷ ms → LandsAt P.cmp now m (arrival_of P.cmp pairs.old.entries)
+        (arrival_of P.cmp pairs.new.entries) left.deliver_at) }
+    ensures idle { IfOk result (λ left. (m : AnyMessage P) (ms : List (AnyMessage P))
+        → messages left.done.items ≡ m ∷ ms → left.since ≡ idle_since P.cmp (of_pairs P.cmp pairs.new.entries
+        waiting.now.messages (in_flight flights.new)) m.origin m.recipient) }
+    ensures indexed { OnOk result (IsIndexOf P.cmp (of_pairs P.cmp pairs.new.entries waiting.now.messages
+        (in_flight flights.new)) idle.new.entries) }
+    ensures refused { IfErr result (λ e. (e ≡ Error.OutOfMemory) ⊎ ((e ≡ Error.MomentTooLate)
+        × IsFirstLate P.cmp now
+        (rated_messages (filter (is_spent P.cmp (caps_of P.cmp peers.now.entries pairs.old.entries))
+        (drained_to now (in_flight flights.old)))))) }
+{
+    let done = part(now, flights, peers, pairs, were_fair)?;
+    let deliver_at = land_first(alloc, now, pairs, &done)?;
+    let since = rest_all(alloc, idle, waiting, pairs, &done)?;
+    Ok(Left {
+        done,
+        deliver_at,
+        since,
+    })
 }

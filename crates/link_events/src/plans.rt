@@ -1,5 +1,5 @@
 //! The next finish, which is planned at an account, and the next start.
-ghost use Rattle.std.specs.Prelude.{◌≡◌, ◌↔◌, true, List, IfOk, IfErr, OnOk};
+ghost use Rattle.std.specs.Prelude.{◌≡◌, ◌≤◌, ◌↔◌, ◌⊎◌, [], ◌∷◌, true, false, List, IfOk, IfErr, OnOk};
 ghost use Rattle.std.specs.List.{AllZip};
 ghost use Rattle.link_simulation.specs.Rule.Events.{Accounts, PlansStart};
 ghost use Rattle.link_simulation.specs.Rule.Leaving.{Leaves};
@@ -8,8 +8,9 @@ ghost use Rattle.link_simulation.specs.Simulation.Messages.{Message as AnyMessag
 ghost use Rattle.link_flights.specs.Flights.Rated.{HadFairRates};
 ghost use Rattle.link_pairs.specs.Pairs.CapsOf.{caps_of};
 ghost use Rattle.link_pairs.specs.Pairs.Messages.{messages};
+ghost use Rattle.link_events.specs.Steps.Landing.{LandsFirst, LandsLate};
 
-use crate::leave::leave;
+use crate::leave::{Left, leave, leave_landing};
 use crate::ledger::Ledger;
 use fair_rates::error::Error;
 use fair_rates::peer::Peer;
@@ -38,6 +39,14 @@ impl<P: Peer> Ledger<P> {
         Ok(done)
     }
 
+    /// Whether those in flight have had fair rates up to that moment.
+    fn were_fair_until(&self, now: u64) -> bool
+        ensures rated { result ≡ true → self.now.stale ≡ false }
+        ensures later { result ≡ true → self.now.flights.at ≤ now }
+    {
+        !self.stale && self.flights.at <= now
+    }
+
     /// The first half of an account: all that is in flight drains to that moment, and what is done
     /// leaves, in order of start. Answers, too, whether those in flight had fair rates with it.
     pub(crate) fn leave_at(&mut self, now: u64) -> Result<(VecDeque<Rc<Message<P>>>, bool), Error>
@@ -49,7 +58,7 @@ impl<P: Peer> Ledger<P> {
         ensures stale { self.new.stale ≡ true }
         ensures refused { IfErr result (λ e. e ≡ Error.OutOfMemory) }
     {
-        let were_fair = !self.stale && self.flights.at <= now;
+        let were_fair = self.were_fair_until(now);
         self.stale = true;
         let left = leave(
             self.alloc,
@@ -63,6 +72,45 @@ impl<P: Peer> Ledger<P> {
         );
         match left {
             Ok(done) => Ok((done, were_fair)),
+            Err(error) => {
+                // What stopped half-way is given up.
+                self.flights = Flights::new(self.alloc);
+                self.waiting = Waiting::new();
+                self.idle = IdlePairs::new();
+                Err(error)
+            }
+        }
+    }
+
+    /// As `leave_at`; and the first of what leaves lands with it.
+    pub(crate) fn leave_landing_at(&mut self, now: u64) -> Result<(Left<P>, bool), Error>
+        ensures none { IfOk result (λ left. messages left.0.done.items ≡ []
+            → Leaves P.cmp now (planned P.cmp self.old) [] (planned P.cmp self.new)) }
+        ensures first { IfOk result (λ left. (m : AnyMessage P) (ms : List (AnyMessage P))
+            → messages left.0.done.items ≡ m ∷ ms → LandsFirst P.cmp now (planned P.cmp self.old) m ms
+            left.0.deliver_at left.0.since (planned P.cmp self.new)) }
+        ensures fair { IfOk result (λ left. left.1 ≡ true → HadFairRates P.cmp
+            (caps_of P.cmp self.new.peers.entries self.new.pairs.entries) self.new.flights
+            (messages left.0.done.items)) }
+        ensures moment { OnOk result (self.new.flights.at ≡ now) }
+        ensures stale { self.new.stale ≡ true }
+        ensures refused { IfErr result (λ e. (e ≡ Error.OutOfMemory) ⊎ ((e ≡ Error.MomentTooLate)
+            × LandsLate P.cmp now (planned P.cmp self.old))) }
+    {
+        let were_fair = self.were_fair_until(now);
+        self.stale = true;
+        let left = leave_landing(
+            self.alloc,
+            now,
+            &mut self.flights,
+            &mut self.idle,
+            &self.peers,
+            &mut self.pairs,
+            &self.waiting,
+            were_fair,
+        );
+        match left {
+            Ok(left) => Ok((left, were_fair)),
             Err(error) => {
                 // What stopped half-way is given up.
                 self.flights = Flights::new(self.alloc);

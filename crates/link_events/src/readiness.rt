@@ -1,5 +1,6 @@
 //! Ordered pairs of peers, and from when on their next messages may start.
-ghost use Rattle.std.specs.Prelude.{◌≡◌, ℕ, true, false, List, [], option_map, IfErr, OnOk};
+ghost use Rattle.std.specs.Prelude.{◌≡◌, ℕ, true, false, List, [], ◌∷◌, option_map, IfOk, IfErr, OnOk};
+ghost use Rattle.link_simulation.specs.Simulation.Messages.{Message as AnyMessage};
 ghost use Rattle.std.specs.List.{list_any};
 ghost use Rattle.link_waiting.specs.Idle.Index.{is_listed, is_of_pair, AreAtRest, idle_from as idle_since};
 ghost use Rattle.link_waiting.specs.Idle.FirstMoment.{first_moment};
@@ -79,26 +80,35 @@ pub(crate) fn idle_from<P: Peer>(
     Some(ready_moment(last, latency))
 }
 
-/// The pairs of messages that are done are idle from now on: none of them is in flight.
+/// The pairs of messages that are done are idle from now on: none of them is in flight. Answers the
+/// moment from which on the next message of the first one's pair may start, if one waits.
 pub(crate) fn rest_all<P: Peer>(
     alloc: Global,
     idle: &mut IdlePairs<P>,
     waiting: &Waiting<P>,
     pairs: &Pairs<P>,
     done: &VecDeque<Rc<Message<P>>>,
-) -> Result<(), Error>
+) -> Result<Option<u64>, Error>
     requires unlisted { (t : ℕ) (a b : P) → list_any (is_of_pair P.cmp a b) (messages done.now.items) ≡ true
         → is_listed P.cmp idle.old.entries t a b ≡ false }
     ensures listed { OnOk result (AreAtRest P.cmp (of_pairs P.cmp pairs.now.entries waiting.now.messages [])
         (messages done.now.items) idle.old.entries idle.new.entries) }
+    ensures first { IfOk result (λ since. (m : AnyMessage P) (ms : List (AnyMessage P))
+        → messages done.now.items ≡ m ∷ ms
+        → since ≡ idle_since P.cmp (of_pairs P.cmp pairs.now.entries waiting.now.messages []) m.origin m.recipient) }
     ensures refused { IfErr result (λ e. e ≡ Error.OutOfMemory) }
 {
+    let mut first = None;
     for at in 0..done.len() {
         let message = Rc::as_ref(&done[at]);
         let (origin, recipient) = (&message.origin, &message.recipient);
-        if let Some(moment) = idle_from(false, waiting, pairs, origin, recipient) {
+        let since = idle_from(false, waiting, pairs, origin, recipient);
+        if let Some(moment) = since {
             idle.add(alloc, origin, recipient, moment)?;
         }
+        if at == 0 {
+            first = since;
+        }
     }
-    Ok(())
+    Ok(first)
 }

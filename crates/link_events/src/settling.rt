@@ -14,6 +14,7 @@ ghost use Rattle.link_waiting.specs.Idle.AtRest.{is_sending};
 ghost use Rattle.link_flights.specs.Flights.Rated.{HadFairRates};
 ghost use Rattle.link_events.specs.Steps.Starting.{WouldStay, StartsNext};
 
+use crate::leave::Left;
 use crate::ledger::Ledger;
 use fair_rates::error::Error;
 use fair_rates::peer::Peer;
@@ -144,7 +145,12 @@ impl<P: Peer> Ledger<P> {
         ensures refused { IfErr result (IsRefusedFor (λ fault. Settles P.cmp now (planned P.cmp self.old)
             (meets fault))) }
     {
-        let (mut queue, were_fair) = self.leave_at(now)?;
+        let (left, were_fair) = self.leave_landing_at(now)?;
+        let Left {
+            done: mut queue,
+            deliver_at,
+            since,
+        } = left;
         let message = match queue.front() {
             Some(first) => first.clone()?,
             None => {
@@ -152,7 +158,6 @@ impl<P: Peer> Ledger<P> {
                 return Ok(queue);
             }
         };
-        let (deliver_at, since) = self.land(&message, now, false)?;
         let mut more = self.rate_with_next(&message, since, &queue, were_fair, now)?;
         queue.pop_front();
         queue.append(&mut more)?;

@@ -1,6 +1,6 @@
 -- An account, and the first of those that left with it.
 use Rattle.std.proofs.Common.{◌≡◌, ℕ, ◌<◌, List, [], ◌∷◌, ◌++◌, length, true, false, ◌⊎◌, inl, inr, get_or, drop}
-use Rattle.std.proofs.Common.{drop-cons, append_assoc, Result, Ok, Err, IfOk, IfErr, sym, ap, ◌∙◌, subst}
+use Rattle.std.proofs.Common.{drop-cons, append_assoc, Result, Ok, Err, IfOk, IfErr, refl, sym, ap, ◌∙◌, subst}
 use Rattle.std.specs.declared.alloc.Global.{Global}
 use Rattle.std.specs.declared.cmp.Ordering.{Ordering}
 use Rattle.std.specs.declared.rc.Rc.{Rc}
@@ -18,6 +18,7 @@ use Rattle.link_simulation.specs.Simulation.World.{Completed, Course, goes, meet
 use Rattle.link_simulation.specs.Simulation.RefusalCauses.{IsRefusedFor}
 use Rattle.link_simulation.specs.Rule.Planned.{Planned, next_of}
 use Rattle.link_simulation.specs.Rule.Leaving.{Leaves}
+use Rattle.link_events.specs.Steps.Landing.{LandsLate}
 use Rattle.link_simulation.specs.Rule.Events.{Accounts, Launches, landed, Finishes, late, stopped, Settles, settling}
 use Rattle.link_simulation.proofs.Rule.Following.{account_of, settles_first}
 use Rattle.link_simulation.proofs.Simulation.Queue.{preceded_none}
@@ -109,6 +110,15 @@ module _ {P : Type 0} (cmp : P → P → Ordering) where
         subst (IsRefusedFor (λ fault. Settles cmp t old (meets fault))) (sym h.0) (settling a (late h.1))
     late_first t old here m ls ms first leaves e (inr is) =
         refused_memory (λ fault. Settles cmp t old (meets fault)) e is
+
+    pub refused_landing : (t : ℕ) (old : Planned P) (e : Error)
+        → (e ≡ OutOfMemory) ⊎ ((e ≡ MomentTooLate) × LandsLate cmp t old)
+        → IsRefusedFor (λ fault. Settles cmp t old (meets fault)) e
+    refused_landing t old e (inl is) = refused_memory (λ fault. Settles cmp t old (meets fault)) e is
+    refused_landing t old e (inr h) =
+        let lands = h.1 in
+        late_first t old lands.here lands.first (lands.first ∷ lands.others) lands.others refl lands.leaves e
+        (inl (h.0, lands.late))
 
     -- the first one completes, the next of its pair has its turn, and the finishes of the others settle all
     pub settles_others : (t : ℕ) (old new : Planned P) (m : Message P) (ls ms more queue : List (Message P))

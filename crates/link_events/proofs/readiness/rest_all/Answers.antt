@@ -2,17 +2,18 @@ use Rattle.std.proofs.Common.{◌≡◌, ◌+◌, ◌<◌, ℕ, false, true, Lis
 use Rattle.std.proofs.Common.{refl, subst, arith, rules}
 use Rattle.std.specs.declared.rc.Rc.{Rc}
 use Rattle.std.specs.declared.alloc.Global.{Global}
-use Rattle.std.proofs.lemmas.List.{map-append, take_more}
+use Rattle.std.proofs.lemmas.List.{map-append, take_more, length-map}
 use Rattle.link_simulation.specs.Simulation.Messages.{Message}
 use Rattle.link_simulation.specs.Rule.Planned.{Planned}
 use Rattle.link_pairs.specs.declared.message.Message as code
 use Rattle.link_waiting.specs.Idle.AtRest.{of_pairs}
-use Rattle.link_waiting.specs.Idle.Index.{is_listed, is_of_pair, AreAtRest}
+use Rattle.link_waiting.specs.Idle.Index.{is_listed, is_of_pair, idle_from, AreAtRest}
 use Rattle.link_pairs.specs.Pairs.Messages.{message_of, messages}
 use Rattle.link_pairs.proofs.Pairs.LookedUp.{arrivals_looked_up}
 use Rattle.link_waiting.proofs.Idle.IndexChanges.{any_at, rests_more, rests_none}
+use Rattle.link_events.proofs.Steps.Landing.{first_message}
 use Rattle.link_events.proofs.readiness.rest_all.Goals as goal
-use Rattle.link_events.proofs.readiness.rest_all.Goals.{in-Some+in_ok-add, in_default}
+use Rattle.link_events.proofs.readiness.rest_all.Goals.{in-Some+in_ok-add, in_default, then-at-eq0, else-at-eq0}
 
 pub loop-at-preserved : goal.loop-at-preserved
 loop-at-preserved g c =
@@ -36,17 +37,43 @@ loop-at-preserved g c =
     c.requires.unlisted t a b
     (any_at (is_of_pair cmp a b) (λ x. message_of x.value) done at c.index.result.now lt c.index.ensures
     (ap (is_of_pair cmp a b) there ∙ h)) in
-    elim c.match-idle_from.branch [
+    let since_is : c.match-since.since ≡ c.idle_from-since.result = elim c.match-since.branch [
+      | in-Some+in_ok-add w ↦ w.since-is ∙ sym w.in-Some.is
+      | in_default w ↦ w.since-is
+    ] in
+    let rest : AreAtRest cmp q (messages (take (at + 1) done)) old c.match-since.idle.entries =
+    elim c.match-since.branch [
       | in-Some+in_ok-add w ↦
           subst (λ es. AreAtRest cmp q (messages (take (at + 1) done)) old es) (sym (ap (λ x. x.entries) w.idle-is))
           (subst (λ (ms : List (Message g.row.P.Denot)). AreAtRest cmp q ms old w.add.new.self.entries) (sym more)
           (rests_more cmp g.met.P.Ord.total q alike old (messages (take at done)) m c.loop-at.idle.entries
-          c.loop-at.invariant busy _ w.add.new.self.entries
-          (sym (c.idle_from.ensures [] refl) ∙ w.in-Some.is) w.in_ok-add.ensures.listed))
+          c.loop-at.invariant.rest busy _ w.add.new.self.entries
+          (sym (c.idle_from-since.ensures [] refl) ∙ w.in-Some.is) w.in_ok-add.ensures.listed))
       | in_default w ↦
-          let none : c.idle_from.result ≡ None = search rules in
+          let none : c.idle_from-since.result ≡ None = search rules in
           subst (λ es. AreAtRest cmp q (messages (take (at + 1) done)) old es) (sym (ap (λ x. x.entries) w.idle-is))
           (subst (λ (ms : List (Message g.row.P.Denot)). AreAtRest cmp q ms old c.loop-at.idle.entries) (sym more)
           (rests_none cmp g.met.P.Ord.total q alike old (messages (take at done)) m c.loop-at.idle.entries
-          c.loop-at.invariant busy (sym (c.idle_from.ensures [] refl) ∙ none)))
-    ]
+          c.loop-at.invariant.rest busy (sym (c.idle_from-since.ensures [] refl) ∙ none)))
+    ] in
+    record {
+      rest = rest;
+      first = λ m ms is some. elim c.if-at-eq0.branch [
+        | then-at-eq0 w ↦
+            let own = first_message done c.index.result.now at m ms is lt w.if-at-eq0.true c.index.ensures in
+            w.first-is ∙ since_is ∙ c.idle_from-since.ensures [] refl
+            ∙ ap (λ (n : Message g.row.P.Denot). idle_from cmp q n.origin n.recipient) (sym there ∙ own)
+        | else-at-eq0 w ↦ w.first-is ∙ c.loop-at.invariant.first m ms is (omega (arith, w.if-at-eq0.false))
+      ];
+    }
+
+pub returns-clause-first : goal.returns-clause-first
+returns-clause-first g c m ms is =
+    c.loop-at.invariant.first m ms is (omega (
+      arith,
+      ap length is,
+      length-map c.args.done.now.items (λ (x : Rc (code.Message g.row.P.Denot) Global). message_of x.value),
+      c.loop-at-test.false,
+      c.len-at-end.ensures,
+      c.args.done.now.ok.0,
+    ))

@@ -1,0 +1,48 @@
+use Rattle.std.proofs.Common.{◌≡◌, List, drop, get_or, inr, sym, ap, ap₂, ◌∙◌, subst}
+use Rattle.std.specs.Bool.{then_some}
+use Rattle.link_simulation.specs.Simulation.Messages.{is_delivered}
+use Rattle.link_simulation.specs.Simulation.World.{arrival, completion_of}
+use Rattle.link_events.proofs.Steps.Landing.{then_is}
+use Rattle.std.proofs.lemmas.Result.{err_from_is_err_and}
+use Rattle.link_simulation.specs.Simulation.Messages.{Message}
+use Rattle.link_pairs.specs.Pairs.Messages.{message_of, messages}
+use Rattle.link_pairs.specs.Pairs.Entries.{arrival_of}
+use Rattle.link_events.specs.Steps.Landing.{LandsAt}
+use Rattle.link_events.proofs.Steps.SettledFirst.{first_and_others}
+use Rattle.link_events.proofs.leave.land_first.Goals as goal
+
+pub returns-in_err-arrival-clause-refused : goal.returns-in_err-arrival-clause-refused
+returns-in_err-arrival-clause-refused g c =
+    let p = err_from_is_err_and c.from_residual.result c.from_residual.ensures.1 in
+    let late = c.in_err-arrival.ensures.refused in
+    rw (p.1, p.2) (inr (
+      late.0,
+      record {
+        first = message_of c.as_ref-first.result.now;
+        others = messages (drop 1 c.args.done.now.items);
+        done_is = first_and_others c.args.done.now.items c.in-Some.first.now c.as_ref-first.result.now
+            c.in-Some.ensures.item.3.0 c.in-Some.ensures.lookup c.as_ref-first.ensures;
+        is = late.1;
+      },
+    ))
+
+pub returns-clause-first : goal.returns-clause-first
+returns-clause-first g c m ms is =
+    let cmp = g.P.Ord.cmp in
+    let x = message_of c.as_ref-first.result.now in
+    let first = first_and_others c.args.done.now.items c.in-Some.first.now c.as_ref-first.result.now
+    c.in-Some.ensures.item.3.0 c.in-Some.ensures.lookup c.as_ref-first.ensures in
+    let own : x ≡ m = ap (λ (l : List (Message g.row.P.Denot)). get_or l 0 m) (sym first ∙ is) in
+    subst
+    (λ (n : Message g.row.P.Denot). LandsAt cmp c.args.now n (arrival_of cmp c.args.pairs.now.entries)
+    (arrival_of cmp c.raise.new.self.entries) c.then_some.result) own
+    (record {
+      at = c.in_ok-arrival.arrival;
+      moment = c.in_ok-arrival.ensures.moment;
+      raised = c.in_ok-raise.ensures.arrival;
+      in_time = c.in_ok-arrival.ensures.in_time;
+      completion =
+          ap (completion_of x)
+          (c.then_some.ensures ∙ ap₂ then_some c.is_delivered.ensures c.in_ok-arrival.ensures.moment
+          ∙ then_is (is_delivered cmp x) (arrival cmp c.args.now x));
+    })

@@ -1,0 +1,45 @@
+-- The first half of an account, where the first of what leaves lands with it.
+use Rattle.std.specs.Prelude.{◌≡◌, ℕ, false, true, List, ◌∷◌, Option}
+use Rattle.std.specs.declared.cmp.Ordering.{Ordering}
+use Rattle.link_simulation.specs.Simulation.Messages.{Message}
+use Rattle.link_simulation.specs.Simulation.World.{is_late, arrival, completed, completion_of}
+use Rattle.link_simulation.specs.Rule.Planned.{Planned}
+use Rattle.link_simulation.specs.Rule.Events.{landed}
+use Rattle.link_simulation.specs.Rule.Leaving.{Leaves}
+use Rattle.link_pairs.specs.Pairs.Entries.{raised_at}
+use Rattle.link_waiting.specs.Idle.Index.{idle_from}
+
+-- a message that is done lands in time: from now on no later one of its pair arrives before it
+pub record LandsAt {P : Type 0} (cmp : P → P → Ordering) (t : ℕ) (m : Message P) (old new : P → P → Option ℕ)
+    (deliver_at : Option ℕ) : Type 0 where
+  pub at : ℕ
+  pub moment : at ≡ arrival cmp t m
+  pub raised : new ≡ raised_at cmp old m.origin m.recipient at
+  pub in_time : is_late cmp t m ≡ false
+  pub completion : completion_of m deliver_at ≡ completed cmp t m
+
+-- the first of some messages that are done would arrive too late
+pub record IsFirstLate {P : Type 0} (cmp : P → P → Ordering) (t : ℕ) (done : List (Message P)) : Type 0 where
+  pub first : Message P
+  pub others : List (Message P)
+  pub done_is : done ≡ first ∷ others
+  pub is : is_late cmp t first ≡ true
+
+-- what is done leaves, and the first of it lands: it arrives at that moment, if it does, and the next of its pair may
+-- start from that other one on
+pub record LandsFirst {P : Type 0} (cmp : P → P → Ordering) (t : ℕ) (old : Planned P) (m : Message P)
+    (ms : List (Message P)) (deliver_at since : Option ℕ) (new : Planned P) : Type 0 where
+  pub here : Planned P
+  pub leaves : Leaves cmp t old (m ∷ ms) here
+  pub lands : new ≡ landed cmp t here m
+  pub in_time : is_late cmp t m ≡ false
+  pub completion : completion_of m deliver_at ≡ completed cmp t m
+  pub idle : since ≡ idle_from cmp new m.origin m.recipient
+
+-- what is done leaves, and the first of it would arrive too late
+pub record LandsLate {P : Type 0} (cmp : P → P → Ordering) (t : ℕ) (old : Planned P) : Type 0 where
+  pub first : Message P
+  pub others : List (Message P)
+  pub here : Planned P
+  pub leaves : Leaves cmp t old (first ∷ others) here
+  pub late : is_late cmp t first ≡ true
