@@ -28,6 +28,9 @@ use std::alloc::Global;
 use std::collections::VecDeque;
 use std::rc::Rc;
 
+/// So many messages a component has room for before their list has to move. Most join no more.
+const FEW_JOINED: usize = 8;
+
 /// So many messages a component may join. Where there are more, it pays to rate all that is in flight.
 const MOST_JOINED: usize = 28;
 
@@ -50,16 +53,17 @@ pub(crate) struct Component<P> {
 
 impl<P: Peer> Component<P> {
     /// No sender, no receiver, and no level.
-    fn new(alloc: Global) -> Component<P>
-        ensures part { result.whole ≡ false }
-        ensures joined { result.joined.items ≡ [] }
+    fn new(alloc: Global) -> Result<Component<P>, Error>
+        ensures part { IfOk result (λ component. component.whole ≡ false) }
+        ensures joined { IfOk result (λ component. component.joined.items ≡ []) }
+        ensures refused { IfErr result (λ e. e ≡ Error.OutOfMemory) }
     {
-        Component {
+        Ok(Component {
             whole: false,
             level: Natural::from_u64(alloc, 0),
-            joined: Vec::new(alloc),
-            near: Vec::new(alloc),
-        }
+            joined: Vec::with_capacity(alloc, FEW_JOINED)?,
+            near: Vec::with_capacity(alloc, MOST_NEAR)?,
+        })
     }
 
     /// All senders and all receivers, and no level.
@@ -231,7 +235,7 @@ impl<P: Peer> Flights<P> {
             AreNear P.cmp component component.near.items self.now.list.items)) }
         ensures refused { IfErr result (λ e. e ≡ Error.OutOfMemory) }
     {
-        let mut component = Component::new(self.alloc);
+        let mut component = Component::new(self.alloc)?;
         self.join_touched(done, &mut component)?;
         if !self.grow(&mut component, peers, pairs)? || !self.are_near(&component) {
             return Ok(None);
