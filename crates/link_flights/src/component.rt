@@ -10,8 +10,8 @@ ghost use Rattle.std.specs.List.{list_all, list_any};
 ghost use Rattle.fair_rates.specs.Sides.Subjects.{same_peer};
 ghost use Rattle.link_flights.specs.Flights.Components.{is_sender, is_receiver, keeps, is_of, has_both, touches};
 ghost use Rattle.link_flights.specs.Flights.Components.{is_closed, AreNear};
-ghost use Rattle.link_flights.specs.Flights.Components.{StartsWith, AreStillListed, AreListed, AreAllListed};
-ghost use Rattle.link_flights.specs.Flights.Components.{AllNewTouch, AreSuited, place_of};
+ghost use Rattle.link_flights.specs.Flights.Components.{StartsWith, AreStillListed, IsSameOrLonger};
+ghost use Rattle.link_flights.specs.Flights.Components.{AreListed, AreAllListed, AllNewTouch, AreSuited, place_of};
 ghost use Rattle.link_flights.specs.Flights.Components.{share_an_end as share_end};
 ghost use Rattle.link_flights.specs.Flights.Flight.{flight_at};
 ghost use Rattle.link_flights.specs.Flights.InFlight.{in_units, IsNextPlace};
@@ -135,6 +135,7 @@ impl<P: Peer> Component<P> {
 
     /// Takes in the ends of the message.
     fn join(&mut self, message: &Rc<Message<P>>) -> Result<(), Error>
+        ensures has { OnOk result (has_both P.cmp self.new message.now.value ≡ true) }
         ensures joined { OnOk result (StartsWith self.old.joined.items self.new.joined.items) }
         ensures near { self.new.near.items ≡ self.old.near.items }
         ensures level { self.new.level ≡ self.old.level }
@@ -240,7 +241,7 @@ impl<P: Peer> Flights<P> {
         if !self.grow(&mut component, peers, pairs)? || !self.are_near(&component) {
             return Ok(None);
         }
-        if component.has_all(done) && self.new_touch(&component) && self.suits_near(&component) {
+        if component.has_all(done) && self.new_touch(&component) {
             return Ok(Some(component));
         }
         Ok(None)
@@ -345,8 +346,8 @@ impl<P: Peer> Flights<P> {
     }
 
     /// Takes in the ends of those in flight that the component's ends join, until there are no more, and
-    /// lists the places of those of which it has an end. Answers whether all are listed: not where it is
-    /// large.
+    /// lists the places of those of which it has an end. Answers whether all are listed, and those of
+    /// them that keep no rate have both ends in it: not where it is large.
     fn grow(
         &self,
         component: &mut Component<P>,
@@ -355,6 +356,8 @@ impl<P: Peer> Flights<P> {
     ) -> Result<bool, Error>
         ensures listed { IfOk result (λ all. all ≡ true →
             AreAllListed P.cmp component.new.joined.items component.new.near.items self.now.list.items) }
+        ensures suited { IfOk result (λ all. all ≡ true →
+            AreSuited P.cmp component.new component.new.near.items self.now.list.items) }
         ensures level { IfOk result (λ all. all ≡ true → IfSome self.now.floor (λ floor. component.new.level ≤ floor)) }
         ensures whole { component.new.whole ≡ component.old.whole }
         ensures refused { IfErr result (λ e. e ≡ Error.OutOfMemory) }
@@ -368,8 +371,7 @@ impl<P: Peer> Flights<P> {
         while seen < component.near.len() {
             seen = component.near.len();
             let listed = component.joined.len();
-            self.join_near(component)?;
-            if component.is_large() {
+            if !self.join_near(component)? {
                 return Ok(false);
             }
             self.list_from(listed, component)?;
@@ -385,6 +387,7 @@ impl<P: Peer> Flights<P> {
             self.now.list.items }
         ensures listed { OnOk result
             (AreAllListed P.cmp component.new.joined.items component.new.near.items self.now.list.items) }
+        ensures longer { OnOk result (IsSameOrLonger component.old.near.items component.new.near.items) }
         ensures joined { component.new.joined.items ≡ component.old.joined.items }
         ensures level { component.new.level ≡ component.old.level }
         ensures whole { component.new.whole ≡ component.old.whole }
@@ -400,6 +403,7 @@ impl<P: Peer> Flights<P> {
     fn list_sharing(&self, message: &Message<P>, near: &mut Vec<usize>) -> Result<(), Error>
         ensures listed { OnOk result (AreListed P.cmp message.now near.new.items self.now.list.items) }
         ensures more { OnOk result (AreStillListed near.old.items near.new.items) }
+        ensures longer { OnOk result (IsSameOrLonger near.old.items near.new.items) }
         ensures refused { IfErr result (λ e. e ≡ Error.OutOfMemory) }
     {
         let mut from = 0;
@@ -411,8 +415,12 @@ impl<P: Peer> Flights<P> {
         Ok(())
     }
 
-    /// Takes in the ends of those listed that keep no rate, as long as it is not large.
-    fn join_near(&self, component: &mut Component<P>) -> Result<(), Error>
+    /// Takes in the ends of those listed that keep no rate, as long as it is not large. Answers whether
+    /// it has both ends of each of these: not where it is large.
+    fn join_near(&self, component: &mut Component<P>) -> Result<bool, Error>
+        ensures suited { IfOk result (λ all. all ≡ true →
+            AreSuited P.cmp component.new component.new.near.items self.now.list.items) }
+        ensures few { IfOk result (λ all. all ≡ true → length component.new.near.items ≤ MOST_NEAR) }
         ensures joined { OnOk result (StartsWith component.old.joined.items component.new.joined.items) }
         ensures near { component.new.near.items ≡ component.old.near.items }
         ensures level { component.new.level ≡ component.old.level }
@@ -421,7 +429,7 @@ impl<P: Peer> Flights<P> {
     {
         for number in 0..component.near.len() {
             if component.is_large() {
-                break;
+                return Ok(false);
             }
             if let Some(one) = self.list.get(component.near[number]) {
                 if !component.keeps(one) {
@@ -429,7 +437,7 @@ impl<P: Peer> Flights<P> {
                 }
             }
         }
-        Ok(())
+        Ok(!component.is_large())
     }
 
     /// The first place from that one on at which one shares an end with the message, if there is one.
@@ -465,20 +473,6 @@ impl<P: Peer> Flights<P> {
         true
     }
 
-    /// Whether the component has both ends of each of those near it that keeps no rate.
-    fn suits_near(&self, component: &Component<P>) -> bool
-        requires near { AreNear P.cmp component.now component.now.near.items self.now.list.items }
-        ensures { result ≡ true → AreSuited P.cmp component.now self.now.list.items }
-    {
-        for at in &component.near {
-            let one = &self.list[*at];
-            if !component.keeps(one) && !component.has_both(&one.message) {
-                return false;
-            }
-        }
-        true
-    }
-
     /// Whether the component has an end of each of those that have got no rate yet.
     fn new_touch(&self, component: &Component<P>) -> bool
         ensures { result ≡ true → AllNewTouch P.cmp component.now self.now.settled self.now.list.items }
@@ -497,6 +491,7 @@ impl<P: Peer> Flights<P> {
 fn list(places: &mut Vec<usize>, from: usize, at: usize) -> Result<usize, Error>
     ensures here { OnOk result (Contains places.new.items at) }
     ensures others { OnOk result (AreStillListed places.old.items places.new.items) }
+    ensures longer { OnOk result (IsSameOrLonger places.old.items places.new.items) }
     ensures refused { IfErr result (λ e. e ≡ Error.OutOfMemory) }
 {
     let mut place = from.min(places.len());

@@ -1,8 +1,8 @@
 -- What an event touches, found one message in flight after another.
-use Rattle.std.proofs.Common.{◌≡◌, ℕ, zero, suc, ◌+◌, ◌<◌, ◌≤◌, Bool, true, false, ◌||◌}
+use Rattle.std.proofs.Common.{◌≡◌, ℕ, zero, suc, ◌+◌, ◌<◌, ◌≤◌, Bool, true, false, not, ◌&&◌, ◌||◌}
 use Rattle.std.proofs.Common.{inl, inr, List, [], ◌∷◌, ◌++◌, length, take, drop, get_or, Contains, Some, refl}
 use Rattle.std.proofs.Common.{sym, ap, ◌∙◌, subst, arith, if◌then◌else◌}
-use Rattle.std.specs.Prelude.{slice_get, Option, IfSome}
+use Rattle.std.specs.Prelude.{slice_get, Option, IfSome, nat_le}
 use Rattle.std.specs.Cmp.{IsTotalOrder}
 use Rattle.std.specs.List.{filter, insert, list_all, list_any}
 use Rattle.std.specs.declared.cmp.Ordering.{Ordering}
@@ -12,22 +12,22 @@ use Rattle.std.proofs.lemmas.Bool.{cases_lt, false≢true, and_from, or_cases}
 use Rattle.std.proofs.lemmas.Cmp.{eq_by_cmp_equiv}
 use Rattle.link_flights.proofs.Flights.InFlight.{filter_yes, filter_no}
 use Rattle.link_flights.proofs.Flights.Places.{or_first, or_second}
-use Rattle.std.proofs.lemmas.List.{append_assoc, take-append-drop}
-use Rattle.std.proofs.lemmas.List.Elements.{All-more, Contains-append_left, Contains-append_right}
+use Rattle.std.proofs.lemmas.List.{append_assoc, length-append, take-append-drop}
+use Rattle.std.proofs.lemmas.List.Elements.{All-more, All-contains, Contains-append_left, Contains-append_right}
 use Rattle.std.proofs.lemmas.List.Elements.{Contains-append_cases}
-use Rattle.std.proofs.lemmas.List.Folds.{list_all-map, Any-from_list_any}
+use Rattle.std.proofs.lemmas.List.Folds.{list_all-map, list_any-append, Any-from_list_any}
 use Rattle.std.proofs.lemmas.Option.{none-some, same_Some, get_or_from_slice_get, slice_get_within}
 use Rattle.fair_rates.specs.Sides.Subjects.{same_peer}
 use Rattle.fair_rates.proofs.Lists.Booleans.{by_bool, first_of_both, second_of_both}
-use Rattle.fair_rates.proofs.Lists.Members.{In, in_map, in_filter, get_in, all_pass, all_passed}
+use Rattle.fair_rates.proofs.Lists.Members.{In, get_in, all_passed}
 use Rattle.link_pairs.specs.declared.message.Message.{Message}
 use Rattle.link_flights.specs.declared.component.Component.{Component}
 use Rattle.link_flights.specs.declared.flight.Flight.{Flight}
 use Rattle.link_flights.specs.Flights.Flight.{UnitFlight, flight_at, flights_at, HaveRates}
 use Rattle.link_flights.specs.Flights.Components.{keeps, has_both, touches, suits, is_closed}
-use Rattle.link_flights.specs.Flights.Components.{AreSuited, near_of, those_near}
+use Rattle.link_flights.specs.Flights.Components.{IsSuited, AreSuited, near_of, those_near}
 use Rattle.link_flights.specs.Flights.Components.{is_sender, is_receiver, share_an_end, StartsWith}
-use Rattle.link_flights.specs.Flights.Components.{AreStillListed, AreListed, AreAllListed}
+use Rattle.link_flights.specs.Flights.Components.{AreStillListed, IsSameOrLonger, AreListed, AreAllListed}
 use Rattle.link_flights.specs.Flights.Components.{AllNewTouch}
 use Rattle.link_flights.specs.Flights.InFlight.{PassesNowhere, PassesFirstAt}
 
@@ -78,12 +78,33 @@ still_with_one before to at p is =
           (Contains-append_right (at ∷ []) (drop to before) p high)
     ]
 
--- the component has joined more
-pub record HasJoined {P : Type 0} (old new : Component P) : Type 0 where
-  pub joined : StartsWith old.joined.items new.joined.items
-  pub near : new.near.items ≡ old.near.items
-  pub level : new.level ≡ old.level
-  pub whole : new.whole ≡ old.whole
+-- the same or longer, twice
+pub longer_on : (xs ys zs : List ℕ) → IsSameOrLonger xs ys → IsSameOrLonger ys zs → IsSameOrLonger xs zs
+longer_on xs ys zs (inl e) (inl f) = inl (f ∙ e)
+longer_on xs ys zs (inl e) (inr more) = inr (omega (arith, ap length e, more))
+longer_on xs ys zs (inr more) (inl f) = inr (omega (arith, ap length f, more))
+longer_on xs ys zs (inr more) (inr further) = inr (omega (arith, more, further))
+
+-- and with one more between
+pub longer_with_one : (before : List ℕ) (to at : ℕ) → IsSameOrLonger before (insert before to at)
+longer_with_one before to at =
+    inr (omega (
+      arith,
+      length-append (take to before) (at ∷ drop to before),
+      ap length (take-append-drop to before),
+      length-append (take to before) (drop to before),
+    ))
+
+-- where there are no more, they are the same
+pub same_if_no_longer : (before after : List ℕ) → IsSameOrLonger before after → length after ≤ length before
+    → after ≡ before
+same_if_no_longer before after (inl e) short = e
+same_if_no_longer before after (inr more) short = absurd (omega (arith, more, short))
+
+any_more : {X : Type 0} (test : X → Bool) (xs ys : List X) → StartsWith xs ys → list_any test xs ≡ true
+    → list_any test ys ≡ true
+any_more test xs ys (more, is) any =
+    ap (list_any test) is ∙ list_any-append test xs more ∙ or_first (list_any test xs) (list_any test more) any
 
 module _ {P : Type 0} (cmp : P → P → Ordering) where
   -- ---- an end of each of those that have come
@@ -101,6 +122,7 @@ module _ {P : Type 0} (cmp : P → P → Ordering) where
     pub listed : (i : ℕ) (one : Rc (Flight P) Global) → i < at → slice_get list i ≡ Some one
         → share_an_end cmp m one.value.message.value ≡ true → Contains near i
     pub more : AreStillListed before near
+    pub longer : IsSameOrLonger before near
 
   module _ (m : Message P) (list : List (Rc (Flight P) Global)) (from : ℕ) (before near : List ℕ)
       (so_far : HasListed m list from before near) where
@@ -114,8 +136,9 @@ module _ {P : Type 0} (cmp : P → P → Ordering) where
     -- one more is listed, the next that shares an end
     pub listed_more : (at : ℕ) (next : List ℕ)
         → PassesFirstAt (λ one. share_an_end cmp m one.value.message.value) list from at
-        → Contains next at → AreStillListed near next → HasListed m list (at + 1) before next
-    listed_more at next first here still = record {
+        → Contains next at → AreStillListed near next → IsSameOrLonger near next
+        → HasListed m list (at + 1) before next
+    listed_more at next first here still longer = record {
       listed = each_more (λ i (one : Rc (Flight P) Global).
           share_an_end cmp m one.value.message.value ≡ true → Contains next i) list at
           (λ i one below there shares. elim (cases_lt i from) [
@@ -124,6 +147,7 @@ module _ {P : Type 0} (cmp : P → P → Ordering) where
           ])
           (λ one there shares. here);
       more = λ i is. still i (so_far.more i is);
+      longer = longer_on before near next so_far.longer longer;
     }
 
     -- no other shares an end
@@ -135,16 +159,86 @@ module _ {P : Type 0} (cmp : P → P → Ordering) where
           (sym (apart_there (length list) apart i one past (slice_get_within list i one there) there) ∙ shares))
     ]
 
+  -- ---- both ends of those that keep no rate
+
+  module _ (old new : Component P) (starts : StartsWith old.joined.items new.joined.items)
+      (level : new.level ≡ old.level) (whole : new.whole ≡ old.whole) where
+    still_has_both : (m : Message P) → has_both cmp old m ≡ true → has_both cmp new m ≡ true
+    still_has_both m has =
+        and_from _ _
+        (still (λ n. same_peer cmp m.origin n.value.origin) (first_of_both _ _ has))
+        (still (λ n. same_peer cmp m.recipient n.value.recipient)
+        (second_of_both (is_sender cmp old m.origin) (is_receiver cmp old m.recipient) has))
+      where
+        still : (test : Rc (Message P) Global → Bool) → (old.whole || list_any test old.joined.items) ≡ true
+            → (new.whole || list_any test new.joined.items) ≡ true
+        still test is = elim (or_cases old.whole (list_any test old.joined.items) is) [
+          | inl all ↦ or_first new.whole (list_any test new.joined.items) (whole ∙ all)
+          | inr any ↦ or_second new.whole (list_any test new.joined.items)
+              (any_more test old.joined.items new.joined.items starts any)
+        ]
+
+    -- what was suited still is, where it has joined more
+    pub still_suited : (list : List (Rc (Flight P) Global)) (near : List ℕ) → AreSuited cmp old near list
+        → AreSuited cmp new near list
+    still_suited list near all k d lt one there =
+        let u = flight_at 0 one.value in
+        let m : Message P = one.value.message.value in
+        elim (or_cases (keeps old u) (has_both cmp old m) (all k d lt one there)) [
+          | inl kept ↦ or_first (keeps new u) (has_both cmp new m)
+              (ap (λ n. u.rated && not (nat_le n u.rate)) level ∙ kept)
+          | inr both ↦ or_second (keeps new u) (has_both cmp new m) (still_has_both m both)
+        ]
+
+  -- what is read at a place is what stands there
+  pub suited_there : (component : Component P) (list : List (Rc (Flight P) Global)) (at : ℕ)
+      (read : Rc (Flight P) Global) → read ≡ get_or list at read
+      → (keeps component (flight_at 0 read.value) || has_both cmp component read.value.message.value) ≡ true
+      → IsSuited cmp component list at
+  suited_there component list at read is suited one there =
+      subst
+      (λ (x : Rc (Flight P) Global). (keeps component (flight_at 0 x.value)
+      || has_both cmp component x.value.message.value) ≡ true)
+      (same_there list at read one is there) suited
+
+  -- it has both ends of the first so many of those listed that keep no rate
+  pub record HasJoinedUpTo (list : List (Rc (Flight P) Global)) (n : ℕ) (old new : Component P) : Type 0 where
+    pub suited : AreSuited cmp new (take n new.near.items) list
+    pub joined : StartsWith old.joined.items new.joined.items
+    pub near : new.near.items ≡ old.near.items
+    pub level : new.level ≡ old.level
+    pub whole : new.whole ≡ old.whole
+
+  -- and of one more
+  pub joined_one : (list : List (Rc (Flight P) Global)) (n : ℕ) (old mid new : Component P)
+      → HasJoinedUpTo list n old mid → StartsWith mid.joined.items new.joined.items
+      → new.near.items ≡ mid.near.items → new.level ≡ mid.level → new.whole ≡ mid.whole → n < length mid.near.items
+      → (at : ℕ) → at ≡ get_or mid.near.items n at → IsSuited cmp new list at → HasJoinedUpTo list (n + 1) old new
+  joined_one list n old mid new so_far joined near level whole inside at here one = record {
+    suited =
+        subst (λ places. AreSuited cmp new (take (n + 1) places) list) (sym near)
+        (All-more (IsSuited cmp new list) mid.near.items n at inside
+        (still_suited mid new joined level whole list (take n mid.near.items) so_far.suited)
+        (subst (IsSuited cmp new list) here one));
+    joined = starts_on old.joined.items mid.joined.items new.joined.items so_far.joined joined;
+    near = near ∙ so_far.near;
+    level = level ∙ so_far.level;
+    whole = whole ∙ so_far.whole;
+  }
+
   -- so many of the messages that are joined have listed those that share an end with them
   pub record HasListedUpTo (list : List (Rc (Flight P) Global)) (n : ℕ) (old new : Component P) : Type 0 where
     pub listed : AreAllListed cmp (take n new.joined.items) new.near.items list
+    pub longer : IsSameOrLonger old.near.items new.near.items
     pub joined : new.joined.items ≡ old.joined.items
     pub level : new.level ≡ old.level
     pub whole : new.whole ≡ old.whole
 
-  -- all that is joined has
-  pub record HasGrown (list : List (Rc (Flight P) Global)) (floor : Option ℕ) (old new : Component P) : Type 0 where
+  -- all that is joined has, and where no more are listed than were seen, it has both ends of those that keep no rate
+  pub record HasGrown (list : List (Rc (Flight P) Global)) (floor : Option ℕ) (seen : ℕ) (old new : Component P)
+      : Type 0 where
     pub listed : AreAllListed cmp new.joined.items new.near.items list
+    pub suited : length new.near.items ≤ seen → AreSuited cmp new new.near.items list
     pub level : IfSome floor (λ floor. new.level ≤ floor)
     pub whole : new.whole ≡ old.whole
 
@@ -229,20 +323,18 @@ module _ {P : Type 0} (cmp : P → P → Ordering) where
         ap (λ b. keeps component u || (if b then has_both cmp component u.message else u.rated)) here
         ∙ either (keeps component u) u.rated rated
 
-    -- it is closed, where it has what is done and suits those that are near, and has an end of each that has no rate
-    pub closed_if_near : (done : List (Rc (Message P) Global)) (now settled : ℕ) (list : List (Rc (Flight P) Global))
+    -- it is closed, where it has what is done and suits those listed, and has an end of each that has no rate
+    pub closed_if_near : IsTotalOrder cmp → component.whole ≡ false → (near : List ℕ)
+        (done : List (Rc (Message P) Global)) (now settled : ℕ) (list : List (Rc (Flight P) Global))
         → list_all (λ m. has_both cmp component m.value) done ≡ true → HaveRates settled list
         → AllNewTouch cmp component settled list
-        → AreSuited cmp component list → is_closed cmp component done (flights_at now list) ≡ true
-    closed_if_near done now settled list has have new suited =
+        → AreAllListed cmp component.joined.items near list → AreSuited cmp component near list
+        → is_closed cmp component done (flights_at now list) ≡ true
+    closed_if_near order part near done now settled list has have new listed suited =
         and_from _ _ has
         (list_all-map (suits cmp component) (λ f. flight_at now f.value) list
         ∙ all_passed (λ f. suits cmp component (flight_at now f.value)) list each)
       where
-        all_near : list_all is_suited (filter is_touched (flights_at 0 list)) ≡ true
-        all_near = ap (list_all is_suited) (sym (near_read 0 list))
-            ∙ list_all-map is_suited (λ f. flight_at 0 f.value) (those_near cmp component list) ∙ suited
-
         rated_there : (at : ℕ) (f : Rc (Flight P) Global) → slice_get list at ≡ Some f
             → touches cmp component f.value.message.value ≡ false → f.value.rated ≡ true
         rated_there at f there far = elim (cases_lt at settled) [
@@ -251,11 +343,10 @@ module _ {P : Type 0} (cmp : P → P → Ordering) where
         ]
 
         each : (f : Rc (Flight P) Global) → In list f → suits cmp component (flight_at now f.value) ≡ true
-        each f among = by_bool (touches cmp component f.value.message.value)
-            (λ here. suits_touched (flight_at now f.value) here
-            (all_pass is_suited (filter is_touched (flights_at 0 list)) all_near (flight_at 0 f.value)
-            (in_filter is_touched (flights_at 0 list) (flight_at 0 f.value)
-            (in_map (λ (f : Rc (Flight P) Global). flight_at 0 f.value) list f among) here)))
-            (λ far.
+        each f among =
             let there = get_in list f among in
-            suits_far (flight_at now f.value) far (rated_there there.0 f there.1 far))
+            by_bool (touches cmp component f.value.message.value)
+            (λ here. suits_touched (flight_at now f.value) here
+            (All-contains (IsSuited cmp component list) near there.0 suited
+            (touched_listed order list near there.0 f there.1 component part listed here) f there.1))
+            (λ far. suits_far (flight_at now f.value) far (rated_there there.0 f there.1 far))

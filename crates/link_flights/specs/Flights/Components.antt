@@ -1,6 +1,6 @@
 -- What an event touches: senders and receivers of messages in flight, and the level below which rates stay.
-use Rattle.std.specs.Prelude.{◌≡◌, ℕ, suc, ◌≤◌, nat_le, Bool, true, not, ◌&&◌, ◌||◌, [], ◌∷◌, cond}
-use Rattle.std.specs.Prelude.{if◌then◌else◌, List}
+use Rattle.std.specs.Prelude.{◌≡◌, ℕ, suc, ◌<◌, ◌≤◌, nat_le, Bool, true, not, ◌&&◌, ◌||◌, [], ◌∷◌, cond}
+use Rattle.std.specs.Prelude.{if◌then◌else◌, List, length, ◌⊎◌}
 use Rattle.std.specs.Prelude.{slice_get, slice_index, Some, ◌++◌, All, Contains}
 use Rattle.std.specs.List.{filter, list_all, list_any}
 use Rattle.std.specs.declared.cmp.Ordering.{Ordering}
@@ -68,10 +68,14 @@ module _ {P : Type 0} (cmp : P → P → Ordering) where
   abbrev pub AreNear : Component P → List ℕ → List (Rc (Flight P) Global) → Type 0
   AreNear component near list = near ≡ places_of (λ f. touches component f.value.message.value) 0 list
 
-  -- it has both ends of each of them that keeps no rate
-  abbrev pub AreSuited : Component P → List (Rc (Flight P) Global) → Type 0
-  AreSuited component list = list_all (λ f. keeps component (flight_at 0 f.value)
-      || has_both component f.value.message.value) (those_near component list) ≡ true
+  -- it has both ends of the one at a place, if that keeps no rate
+  abbrev pub IsSuited : Component P → List (Rc (Flight P) Global) → ℕ → Type 0
+  IsSuited component list at = (one : Rc (Flight P) Global) → slice_get list at ≡ Some one
+      → (keeps component (flight_at 0 one.value) || has_both component one.value.message.value) ≡ true
+
+  -- and so at each of these places
+  abbrev pub AreSuited : Component P → List ℕ → List (Rc (Flight P) Global) → Type 0
+  AreSuited component near list = All (IsSuited component list) near
 
   -- whether it has both ends of a message in flight that keeps no rate, or neither where that has a rate
   abbrev pub suits : Component P → UnitFlight P → Bool
@@ -93,6 +97,10 @@ StartsWith {X} xs ys = (more : List X) × (ys ≡ xs ++ more)
 -- the places that were listed still are
 abbrev pub AreStillListed : List ℕ → List ℕ → Type 0
 AreStillListed before after = (at : ℕ) → Contains before at → Contains after at
+
+-- they are the same, or there are more
+abbrev pub IsSameOrLonger : List ℕ → List ℕ → Type 0
+IsSameOrLonger before after = (after ≡ before) ⊎ (length before < length after)
 
 module _ {P : Type 0} (cmp : P → P → Ordering) where
   -- each in flight that shares an end with the message is listed

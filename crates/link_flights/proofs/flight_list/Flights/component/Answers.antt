@@ -2,11 +2,12 @@ use Rattle.std.proofs.Common.{sym, ◌∙◌}
 use Rattle.link_flights.proofs.Flights.Search.{closed_if_near}
 use Rattle.link_flights.proofs.flight_list.Flights.component.Goals as goal
 
-pub returns-then-suits_near-clause-closed : goal.returns-then-suits_near-clause-closed
-returns-then-suits_near-clause-closed g c =
-    let cmp = g.P.Ord.cmp in
+pub returns-then-new_touch-clause-closed : goal.returns-then-new_touch-clause-closed
+returns-then-new_touch-clause-closed g c =
     let self = c.args.self.now in
-    closed_if_near cmp c.grow.new.component c.args.done.now.items self.at
-    self.settled self.list.items
+    let found = c.grow.new.component in
+    closed_if_near g.P.Ord.cmp found g.met.P.Ord.total
+    (c.grow.ensures.whole ∙ c.join_touched.ensures.whole ∙ c.in_ok-component.ensures.part)
+    found.near.items c.args.done.now.items self.at self.settled self.list.items
     (sym c.has_all.ensures ∙ c.if-has_all.true) self.have_rates (c.new_touch.ensures c.if-new_touch.true)
-    (c.suits_near.ensures c.if-suits_near.true)
+    (c.in_ok-grow.ensures.listed c.if-not-branch.false) (c.in_ok-grow.ensures.suited c.if-not-branch.false)
