@@ -53,7 +53,6 @@ module _ {P : Type 0} (cmp : P → P → Ordering) (order : IsTotalOrder cmp) wh
   -- what passes longer passes here quietly
   passes_through : {n : ℕ} {w v : World P} → Passes cmp n w v → (k : ℕ) (x u : World P) → Passes cmp (suc k) w x → n ≤ k
       → ArePositive w.sending → Drains cmp v u → IsQuietNow cmp order u
-  unfolding IsQuietNow
   passes_through {w = w} no_time k x u p le pos d =
       let f : (v : World P) × Drains cmp w v × IsQuiet cmp v.moment v × Passes cmp k v x = first_step p k refl in
       subst (λ (v : World P). IsQuiet cmp v.moment v) (one_world cmp (same_itself cmp order) w f.0 u pos f.1 d) f.2
@@ -69,7 +68,6 @@ module _ {P : Type 0} (cmp : P → P → Ordering) (order : IsTotalOrder cmp) wh
   -- an event stops what would pass it
   not_passed : (w : World P) (n k : ℕ) (v u x : World P) → ArePositive w.sending → Passes cmp n w v → Drains cmp v u
       → ¬ IsQuiet cmp u.moment u → Passes cmp k w x → n < k → ⊥
-  unfolding IsQuietNow
   not_passed w n zero v u x pos p d event q lt = absurd (omega arith)
   not_passed w n (suc k) v u x pos p d event q lt = event (passes_through p k x u q (omega arith) pos d)
 
