@@ -4,14 +4,15 @@
 //! may get other rates, and so on from these. But a message whose rate is below a level goes on as it
 //! is, and passes nothing on: below the least rate of what is done, and below the least share that a
 //! cap leaves to each of its users with what is new, filling goes as it went before.
-ghost use Rattle.std.specs.Prelude.{◌≡◌, ◌<◌, ◌≤◌, ◌||◌, true, false, not, [], length, take};
-ghost use Rattle.std.specs.Prelude.{IfOk, IfErr, IfSome, OnOk, nat_le, Contains};
+ghost use Rattle.std.specs.Prelude.{◌≡◌, ℕ, ◌+◌, ◌<◌, ◌≤◌, ◌||◌, ◌⊎◌, true, false, not, [], length, take};
+ghost use Rattle.std.specs.Prelude.{All, IfOk, IfErr, IfSome, OnOk, nat_le, Contains};
 ghost use Rattle.std.specs.List.{list_all, list_any};
 ghost use Rattle.fair_rates.specs.Sides.Subjects.{same_peer};
 ghost use Rattle.link_flights.specs.Flights.Components.{is_sender, is_receiver, keeps, is_of, has_both, touches};
 ghost use Rattle.link_flights.specs.Flights.Components.{is_closed, AreNear};
 ghost use Rattle.link_flights.specs.Flights.Components.{StartsWith, AreStillListed, IsSameOrLonger};
-ghost use Rattle.link_flights.specs.Flights.Components.{AreListed, AreAllListed, AllNewTouch, AreSuited, place_of};
+ghost use Rattle.link_flights.specs.Flights.Components.{AreListed, AreAllListed, AllNewTouch, place_of};
+ghost use Rattle.link_flights.specs.Flights.Components.{IsSuited, AreSuited};
 ghost use Rattle.link_flights.specs.Flights.Components.{share_an_end as share_end};
 ghost use Rattle.link_flights.specs.Flights.Flight.{flight_at};
 ghost use Rattle.link_flights.specs.Flights.InFlight.{in_units, IsNextPlace};
@@ -150,7 +151,7 @@ impl<P: Peer> Component<P> {
 
     /// Whether it has too many ends.
     fn is_large(&self) -> bool
-        ensures { result ≡ false → length self.now.near.items ≤ MOST_NEAR }
+        ensures { result ≡ false → length self.now.joined.items ≤ MOST_JOINED }
     {
         self.joined.len() > MOST_JOINED || self.near.len() > MOST_NEAR
     }
@@ -367,14 +368,16 @@ impl<P: Peer> Flights<P> {
         }
         self.list_from(0, component)?;
         component.level = self.level(component, peers, pairs)?;
-        let mut seen = 0;
-        while seen < component.near.len() {
-            seen = component.near.len();
-            let listed = component.joined.len();
-            if !self.join_near(component)? {
+        let mut next = component.joined.len();
+        if !self.join_near(component)? {
+            return Ok(false);
+        }
+        while next < component.joined.len() {
+            self.list_joining(next, component)?;
+            if component.is_large() {
                 return Ok(false);
             }
-            self.list_from(listed, component)?;
+            next += 1;
         }
         Ok(true)
     }
@@ -387,7 +390,6 @@ impl<P: Peer> Flights<P> {
             self.now.list.items }
         ensures listed { OnOk result
             (AreAllListed P.cmp component.new.joined.items component.new.near.items self.now.list.items) }
-        ensures longer { OnOk result (IsSameOrLonger component.old.near.items component.new.near.items) }
         ensures joined { component.new.joined.items ≡ component.old.joined.items }
         ensures level { component.new.level ≡ component.old.level }
         ensures whole { component.new.whole ≡ component.old.whole }
@@ -403,7 +405,6 @@ impl<P: Peer> Flights<P> {
     fn list_sharing(&self, message: &Message<P>, near: &mut Vec<usize>) -> Result<(), Error>
         ensures listed { OnOk result (AreListed P.cmp message.now near.new.items self.now.list.items) }
         ensures more { OnOk result (AreStillListed near.old.items near.new.items) }
-        ensures longer { OnOk result (IsSameOrLonger near.old.items near.new.items) }
         ensures refused { IfErr result (λ e. e ≡ Error.OutOfMemory) }
     {
         let mut from = 0;
@@ -420,7 +421,7 @@ impl<P: Peer> Flights<P> {
     fn join_near(&self, component: &mut Component<P>) -> Result<bool, Error>
         ensures suited { IfOk result (λ all. all ≡ true →
             AreSuited P.cmp component.new component.new.near.items self.now.list.items) }
-        ensures few { IfOk result (λ all. all ≡ true → length component.new.near.items ≤ MOST_NEAR) }
+        ensures few { IfOk result (λ all. all ≡ true → length component.new.joined.items ≤ MOST_JOINED) }
         ensures joined { OnOk result (StartsWith component.old.joined.items component.new.joined.items) }
         ensures near { component.new.near.items ≡ component.old.near.items }
         ensures level { component.new.level ≡ component.old.level }
@@ -431,13 +432,55 @@ impl<P: Peer> Flights<P> {
             if component.is_large() {
                 return Ok(false);
             }
-            if let Some(one) = self.list.get(component.near[number]) {
-                if !component.keeps(one) {
-                    component.join(&one.message)?;
-                }
-            }
+            self.join_one(component.near[number], component)?;
         }
         Ok(!component.is_large())
+    }
+
+    /// Takes in the ends of the one at that place, if it keeps no rate.
+    fn join_one(&self, at: usize, component: &mut Component<P>) -> Result<(), Error>
+        ensures suited { OnOk result (IsSuited P.cmp component.new self.now.list.items at) }
+        ensures joined { OnOk result (StartsWith component.old.joined.items component.new.joined.items) }
+        ensures near { component.new.near.items ≡ component.old.near.items }
+        ensures level { component.new.level ≡ component.old.level }
+        ensures whole { component.new.whole ≡ component.old.whole }
+        ensures refused { IfErr result (λ e. e ≡ Error.OutOfMemory) }
+    {
+        if let Some(one) = self.list.get(at) {
+            if !component.keeps(one) {
+                component.join(&one.message)?;
+            }
+        }
+        Ok(())
+    }
+
+    /// Lists the places of those in flight that share an end with the joined message of that number, and
+    /// takes in the ends of those that were not listed before and keep no rate.
+    fn list_joining(&self, number: usize, component: &mut Component<P>) -> Result<(), Error>
+        requires number { number < length component.old.joined.items }
+        requires others { AreAllListed P.cmp (take number component.old.joined.items) component.old.near.items
+            self.now.list.items }
+        requires suited { AreSuited P.cmp component.old component.old.near.items self.now.list.items }
+        ensures listed { OnOk result (AreAllListed P.cmp (take (number + 1) component.new.joined.items)
+            component.new.near.items self.now.list.items) }
+        ensures suited { OnOk result
+            (AreSuited P.cmp component.new component.new.near.items self.now.list.items) }
+        ensures level { component.new.level ≡ component.old.level }
+        ensures whole { component.new.whole ≡ component.old.whole }
+        ensures refused { IfErr result (λ e. e ≡ Error.OutOfMemory) }
+    {
+        let message = component.joined[number].clone()?;
+        let mut from = 0;
+        let mut place = 0;
+        while let Some(at) = self.next_sharing(&message, from) {
+            let listed = component.near.len();
+            place = list(&mut component.near, place, at)?;
+            if component.near.len() > listed {
+                self.join_one(at, component)?;
+            }
+            from = at + 1;
+        }
+        Ok(())
     }
 
     /// The first place from that one on at which one shares an end with the message, if there is one.
@@ -491,6 +534,7 @@ impl<P: Peer> Flights<P> {
 fn list(places: &mut Vec<usize>, from: usize, at: usize) -> Result<usize, Error>
     ensures here { OnOk result (Contains places.new.items at) }
     ensures others { OnOk result (AreStillListed places.old.items places.new.items) }
+    ensures only { OnOk result (All (λ p. Contains places.old.items p ⊎ (p ≡ at)) places.new.items) }
     ensures longer { OnOk result (IsSameOrLonger places.old.items places.new.items) }
     ensures refused { IfErr result (λ e. e ≡ Error.OutOfMemory) }
 {

@@ -1,6 +1,6 @@
 -- What an event touches, found one message in flight after another.
 use Rattle.std.proofs.Common.{◌≡◌, ℕ, zero, suc, ◌+◌, ◌<◌, ◌≤◌, Bool, true, false, not, ◌&&◌, ◌||◌}
-use Rattle.std.proofs.Common.{inl, inr, List, [], ◌∷◌, ◌++◌, length, take, drop, get_or, Contains, Some, refl}
+use Rattle.std.proofs.Common.{inl, inr, ◌⊎◌, List, [], ◌∷◌, ◌++◌, length, take, drop, get_or, All, Contains, Some, refl}
 use Rattle.std.proofs.Common.{sym, ap, ◌∙◌, subst, arith, if◌then◌else◌}
 use Rattle.std.specs.Prelude.{slice_get, Option, IfSome, nat_le}
 use Rattle.std.specs.Cmp.{IsTotalOrder}
@@ -12,9 +12,10 @@ use Rattle.std.proofs.lemmas.Bool.{cases_lt, false≢true, and_from, or_cases}
 use Rattle.std.proofs.lemmas.Cmp.{eq_by_cmp_equiv}
 use Rattle.link_flights.proofs.Flights.InFlight.{filter_yes, filter_no}
 use Rattle.link_flights.proofs.Flights.Places.{or_first, or_second}
-use Rattle.std.proofs.lemmas.List.{append_assoc, length-append, take-append-drop}
+use Rattle.std.proofs.lemmas.List.{append_assoc, length-append, take-append-drop, take-append-le}
 use Rattle.std.proofs.lemmas.List.Elements.{All-more, All-contains, Contains-append_left, Contains-append_right}
 use Rattle.std.proofs.lemmas.List.Elements.{Contains-append_cases}
+use Rattle.std.proofs.lemmas.List.Elements.{All-append, All-cons, All-contains_itself, All-drop, All-take, All-weaker}
 use Rattle.std.proofs.lemmas.List.Folds.{list_all-map, list_any-append, Any-from_list_any}
 use Rattle.std.proofs.lemmas.Option.{none-some, same_Some, get_or_from_slice_get, slice_get_within}
 use Rattle.fair_rates.specs.Sides.Subjects.{same_peer}
@@ -78,14 +79,17 @@ still_with_one before to at p is =
           (Contains-append_right (at ∷ []) (drop to before) p high)
     ]
 
--- the same or longer, twice
-pub longer_on : (xs ys zs : List ℕ) → IsSameOrLonger xs ys → IsSameOrLonger ys zs → IsSameOrLonger xs zs
-longer_on xs ys zs (inl e) (inl f) = inl (f ∙ e)
-longer_on xs ys zs (inl e) (inr more) = inr (omega (arith, ap length e, more))
-longer_on xs ys zs (inr more) (inl f) = inr (omega (arith, ap length f, more))
-longer_on xs ys zs (inr more) (inr further) = inr (omega (arith, more, further))
+-- each is one of those before, or the one that comes to stand between
+pub only_with_one : (before : List ℕ) (to at : ℕ) → All (λ p. Contains before p ⊎ (p ≡ at)) (insert before to at)
+only_with_one before to at =
+    let was : (xs : List ℕ) → All (Contains before) xs → All (λ p. Contains before p ⊎ (p ≡ at)) xs = λ xs.
+    All-weaker (Contains before) (λ p. Contains before p ⊎ (p ≡ at)) (λ p is. inl is) xs in
+    All-append (λ p. Contains before p ⊎ (p ≡ at)) (take to before) (at ∷ drop to before)
+    (was (take to before) (All-take (Contains before) to before (All-contains_itself before)))
+    (All-cons (λ p. Contains before p ⊎ (p ≡ at)) at (drop to before) (inr refl)
+    (was (drop to before) (All-drop (Contains before) to before (All-contains_itself before))))
 
--- and with one more between
+-- with one more between they are longer
 pub longer_with_one : (before : List ℕ) (to at : ℕ) → IsSameOrLonger before (insert before to at)
 longer_with_one before to at =
     inr (omega (
@@ -122,7 +126,6 @@ module _ {P : Type 0} (cmp : P → P → Ordering) where
     pub listed : (i : ℕ) (one : Rc (Flight P) Global) → i < at → slice_get list i ≡ Some one
         → share_an_end cmp m one.value.message.value ≡ true → Contains near i
     pub more : AreStillListed before near
-    pub longer : IsSameOrLonger before near
 
   module _ (m : Message P) (list : List (Rc (Flight P) Global)) (from : ℕ) (before near : List ℕ)
       (so_far : HasListed m list from before near) where
@@ -136,9 +139,8 @@ module _ {P : Type 0} (cmp : P → P → Ordering) where
     -- one more is listed, the next that shares an end
     pub listed_more : (at : ℕ) (next : List ℕ)
         → PassesFirstAt (λ one. share_an_end cmp m one.value.message.value) list from at
-        → Contains next at → AreStillListed near next → IsSameOrLonger near next
-        → HasListed m list (at + 1) before next
-    listed_more at next first here still longer = record {
+        → Contains next at → AreStillListed near next → HasListed m list (at + 1) before next
+    listed_more at next first here still = record {
       listed = each_more (λ i (one : Rc (Flight P) Global).
           share_an_end cmp m one.value.message.value ≡ true → Contains next i) list at
           (λ i one below there shares. elim (cases_lt i from) [
@@ -147,7 +149,6 @@ module _ {P : Type 0} (cmp : P → P → Ordering) where
           ])
           (λ one there shares. here);
       more = λ i is. still i (so_far.more i is);
-      longer = longer_on before near next so_far.longer longer;
     }
 
     -- no other shares an end
@@ -201,6 +202,30 @@ module _ {P : Type 0} (cmp : P → P → Ordering) where
       || has_both cmp component x.value.message.value) ≡ true)
       (same_there list at read one is there) suited
 
+  -- where one more is listed of which it has both ends, if that keeps no rate, it still has those of all
+  pub suited_with_one : (old new : Component P) → StartsWith old.joined.items new.joined.items
+      → new.level ≡ old.level → new.whole ≡ old.whole → (list : List (Rc (Flight P) Global)) (at : ℕ)
+      (before after : List ℕ) → All (λ p. Contains before p ⊎ (p ≡ at)) after → AreSuited cmp old before list
+      → IsSuited cmp new list at → AreSuited cmp new after list
+  suited_with_one old new starts level whole list at before after only suited one =
+      All-weaker (λ p. Contains before p ⊎ (p ≡ at)) (IsSuited cmp new list)
+      (λ p listed. elim listed [
+        | inl is ↦ All-contains (IsSuited cmp new list) before p
+            (still_suited old new starts level whole list before suited) is
+        | inr is ↦ subst (IsSuited cmp new list) (sym is) one
+      ])
+      after only
+
+  -- those before a place that share an end with the message are listed, and it has both ends of those listed that
+  -- keep no rate
+  pub record HasJoinedAll (m : Message P) (list : List (Rc (Flight P) Global)) (at : ℕ) (old new : Component P)
+      : Type 0 where
+    pub listed : HasListed m list at old.near.items new.near.items
+    pub suited : AreSuited cmp new new.near.items list
+    pub joined : StartsWith old.joined.items new.joined.items
+    pub level : new.level ≡ old.level
+    pub whole : new.whole ≡ old.whole
+
   -- it has both ends of the first so many of those listed that keep no rate
   pub record HasJoinedUpTo (list : List (Rc (Flight P) Global)) (n : ℕ) (old new : Component P) : Type 0 where
     pub suited : AreSuited cmp new (take n new.near.items) list
@@ -229,16 +254,16 @@ module _ {P : Type 0} (cmp : P → P → Ordering) where
   -- so many of the messages that are joined have listed those that share an end with them
   pub record HasListedUpTo (list : List (Rc (Flight P) Global)) (n : ℕ) (old new : Component P) : Type 0 where
     pub listed : AreAllListed cmp (take n new.joined.items) new.near.items list
-    pub longer : IsSameOrLonger old.near.items new.near.items
     pub joined : new.joined.items ≡ old.joined.items
     pub level : new.level ≡ old.level
     pub whole : new.whole ≡ old.whole
 
-  -- all that is joined has, and where no more are listed than were seen, it has both ends of those that keep no rate
-  pub record HasGrown (list : List (Rc (Flight P) Global)) (floor : Option ℕ) (seen : ℕ) (old new : Component P)
+  -- so many of them have, and it has both ends of those listed that keep no rate
+  pub record HasGrown (list : List (Rc (Flight P) Global)) (floor : Option ℕ) (n : ℕ) (old new : Component P)
       : Type 0 where
-    pub listed : AreAllListed cmp new.joined.items new.near.items list
-    pub suited : length new.near.items ≤ seen → AreSuited cmp new new.near.items list
+    pub listed : AreAllListed cmp (take n new.joined.items) new.near.items list
+    pub suited : AreSuited cmp new new.near.items list
+    pub few : length new.joined.items ≤ 28
     pub level : IfSome floor (λ floor. new.level ≤ floor)
     pub whole : new.whole ≡ old.whole
 
@@ -256,6 +281,16 @@ module _ {P : Type 0} (cmp : P → P → Ordering) where
       All-more (λ m. AreListed cmp m.value after list) ms n m inside
       (still_listed list before after still (take n ms) all)
       (subst (λ (x : Rc (Message P) Global). AreListed cmp x.value after list) is listed)
+
+  -- and where more messages have joined since
+  pub all_listed_next : (list : List (Rc (Flight P) Global)) (ms more : List (Rc (Message P) Global))
+      → StartsWith ms more → (n : ℕ) (before after : List ℕ) → n < length ms → AreAllListed cmp (take n ms) before list
+      → AreStillListed before after → (m : Rc (Message P) Global) → m ≡ get_or ms n m
+      → AreListed cmp m.value after list → AreAllListed cmp (take (n + 1) more) after list
+  all_listed_next list ms more (rest, e) n before after inside all still m is listed =
+      subst (λ (l : List (Rc (Message P) Global)). AreAllListed cmp l after list)
+      (sym (ap (take (n + 1)) e ∙ take-append-le (n + 1) ms rest (omega (arith, inside))))
+      (all_listed_more list ms n before after all inside m is listed still)
 
   -- one of which the component has an end is listed
   module _ (order : IsTotalOrder cmp) (list : List (Rc (Flight P) Global)) (near : List ℕ) (at : ℕ)

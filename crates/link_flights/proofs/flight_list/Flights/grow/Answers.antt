@@ -1,27 +1,49 @@
-use Rattle.std.proofs.Common.{◌≤◌, [], length, sym, ap, ◌∙◌, subst, arith}
+use Rattle.std.proofs.Common.{◌≡◌, ◌<◌, ◌≤◌, ◌++◌, length, take, refl, sym, ap, ◌∙◌, subst, arith}
 use Rattle.std.specs.Prelude.{IfSome}
-use Rattle.std.proofs.lemmas.List.{append-nil}
-use Rattle.link_flights.specs.Flights.Components.{AreSuited}
-use Rattle.link_flights.proofs.Flights.Search.{same_if_no_longer, still_suited}
+use Rattle.std.proofs.Math.Seq.{take-append_seam}
+use Rattle.std.proofs.lemmas.List.{take_all}
+use Rattle.link_flights.specs.Flights.Components.{AreAllListed}
 use Rattle.link_flights.proofs.flight_list.Flights.grow.Goals as goal
 
-pub loop-seen-preserved : goal.loop-seen-preserved
-loop-seen-preserved g c =
-    let before = c.loop-seen.invariant in
-    let join = c.join_near.ensures in
-    let last = c.list_from-in-loop-seen.ensures in
-    let mid = c.join_near.new.component in
-    let new = c.list_from-in-loop-seen.new.component in
+pub loop-next-init : goal.loop-next-init
+loop-next-init g c =
+    let cmp = g.P.Ord.cmp in
     let list = c.args.self.now.list.items in
+    let mid = c.list_from.new.component in
+    let new = c.join_near.new.component in
+    let join = c.in_ok-join_near.ensures in
+    let as_many : c.len-next.result ≡ length mid.joined.items = omega (arith, c.len-next.ensures) in
+    let first : take c.len-next.result new.joined.items ≡ mid.joined.items =
+    ap (take c.len-next.result) join.joined.1 ∙ ap (λ n. take n (mid.joined.items ++ join.joined.0)) as_many
+    ∙ take-append_seam mid.joined.items join.joined.0 in
     record {
-      suited = λ seen.
-          subst (λ places. AreSuited g.P.Ord.cmp new places list)
-          (sym (same_if_no_longer mid.near.items new.near.items c.in_ok-list_from-2.ensures.longer
-          (omega (arith, seen, c.len-seen.ensures, ap length join.near))))
-          (still_suited g.P.Ord.cmp mid new ([], last.joined ∙ sym (append-nil mid.joined.items)) last.level last.whole
-          list mid.near.items (c.in_ok-join_near.ensures.suited c.if-not-branch.false));
-      listed = c.in_ok-list_from-2.ensures.listed;
-      level = subst (λ level. IfSome c.args.self.now.floor (λ floor. level ≤ floor))
-          (sym (last.level ∙ join.level)) before.level;
-      whole = last.whole ∙ join.whole ∙ before.whole;
+      listed = subst (λ places. AreAllListed cmp (take c.len-next.result new.joined.items) places list)
+          (sym c.join_near.ensures.near)
+          (subst (λ ms. AreAllListed cmp ms mid.near.items list) (sym first) c.in_ok-list_from.ensures.listed);
+      suited = join.suited c.if-not-branch.false;
+      few = join.few c.if-not-branch.false;
+      level = subst (λ level. IfSome c.args.self.now.floor (λ floor. level ≤ floor)) (sym c.join_near.ensures.level)
+          c.in_ok-component.ensures.level;
+      whole = refl;
     }
+
+pub loop-next-preserved : goal.loop-next-preserved
+loop-next-preserved g c =
+    let before = c.loop-next.invariant in
+    let join = c.list_joining.ensures in
+    let more = c.in_ok-list_joining.ensures in
+    record {
+      listed = more.listed;
+      suited = more.suited;
+      few = c.is_large-in-loop-next.ensures c.if-is_large-2.false;
+      level = subst (λ level. IfSome c.args.self.now.floor (λ floor. level ≤ floor)) (sym join.level) before.level;
+      whole = join.whole ∙ before.whole;
+    }
+
+pub returns-clause-listed : goal.returns-clause-listed
+returns-clause-listed g c all =
+    let found = c.loop-next.component in
+    let done : length found.joined.items ≤ c.loop-next.next =
+    omega (arith, c.loop-next-test.false, c.len.ensures) in
+    subst (λ ms. AreAllListed g.P.Ord.cmp ms found.near.items c.args.self.now.list.items)
+    (take_all c.loop-next.next found.joined.items done) c.loop-next.invariant.listed

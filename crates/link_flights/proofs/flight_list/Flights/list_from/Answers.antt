@@ -2,7 +2,7 @@ use Rattle.std.proofs.Common.{◌<◌, ◌≤◌, length, ap, subst, arith}
 use Rattle.std.proofs.lemmas.List.{take_all}
 use Rattle.link_pairs.specs.declared.message.Message.{Message}
 use Rattle.link_flights.specs.Flights.Components.{AreListed, AreAllListed}
-use Rattle.link_flights.proofs.Flights.Search.{all_listed_more, longer_on}
+use Rattle.link_flights.proofs.Flights.Search.{all_listed_more}
 use Rattle.link_flights.proofs.flight_list.Flights.list_from.Goals as goal
 
 pub loop-number-preserved : goal.loop-number-preserved
@@ -26,8 +26,6 @@ loop-number-preserved g c =
           (subst (λ (m : Message g.row.P.Denot). AreListed cmp m after list)
           c.deref.ensures c.in_ok-list_sharing.ensures.listed)
           c.in_ok-list_sharing.ensures.more;
-      longer = longer_on c.args.component.now.near.items mid.near.items after so_far.longer
-          c.in_ok-list_sharing.ensures.longer;
       joined = so_far.joined;
       level = so_far.level;
       whole = so_far.whole;

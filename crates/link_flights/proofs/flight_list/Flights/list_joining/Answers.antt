@@ -1,0 +1,76 @@
+use Rattle.std.proofs.Common.{◌≡◌, ◌+◌, ◌≤◌, [], length, refl, sym, ap, ◌∙◌, subst, arith}
+use Rattle.std.proofs.lemmas.List.{append-nil}
+use Rattle.link_flights.specs.Flights.Components.{AreListed, AreSuited, share_an_end}
+use Rattle.link_flights.specs.Flights.InFlight.{PassesNowhere, PassesFirstAt}
+use Rattle.link_pairs.specs.declared.message.Message.{Message}
+use Rattle.link_flights.proofs.Flights.Search.{HasListed, HasJoinedAll, listed_more, listed_all, all_listed_next}
+use Rattle.link_flights.proofs.Flights.Search.{starts_on, same_if_no_longer, suited_with_one}
+use Rattle.link_flights.proofs.flight_list.Flights.list_joining.Goals.{then-len-listed+in_ok-join_one, else-len-listed}
+use Rattle.link_flights.proofs.flight_list.Flights.list_joining.Goals as goal
+
+pub loop-at-init : goal.loop-at-init
+loop-at-init g c = record {
+  listed = record { listed = λ i one below. absurd (omega (arith, below)); more = λ i is. is };
+  suited = c.requires.suited;
+  joined = ([], sym (append-nil c.args.component.now.joined.items));
+  level = refl;
+  whole = refl;
+}
+
+pub loop-at-preserved : goal.loop-at-preserved
+loop-at-preserved g c =
+    let cmp = g.P.Ord.cmp in
+    let list = c.args.self.now.list.items in
+    let m = c.in_ok-message.message.value in
+    let old = c.args.component.now in
+    let mid = c.loop-at.component in
+    let so_far = c.loop-at.invariant in
+    let at = c.in-Some.at in
+    let after = c.list.new.places.items in
+    let place = c.in_ok-place.ensures in
+    let listed : HasListed cmp m list (at + 1) old.near.items after =
+    listed_more cmp m list c.loop-at.from old.near.items mid.near.items so_far.listed at after
+    (subst (λ (x : Message g.row.P.Denot). PassesFirstAt (λ one. share_an_end cmp x one.value.message.value) list
+    c.loop-at.from at) c.deref.ensures c.in-Some.ensures)
+    place.here place.others in
+    elim c.if-len-listed.branch [
+      | then-len-listed+in_ok-join_one w ↦
+          let new = w.join_one.new.component in
+          let join = w.join_one.ensures in
+          let more = w.in_ok-join_one.ensures in
+          subst (HasJoinedAll cmp m list (at + 1) old) (sym w.component-is) (record {
+            listed = subst (HasListed cmp m list (at + 1) old.near.items) (sym join.near) listed;
+            suited = subst (λ places. AreSuited cmp new places list) (sym join.near)
+                (suited_with_one cmp mid new more.joined join.level join.whole list at mid.near.items after place.only
+                so_far.suited more.suited);
+            joined = starts_on old.joined.items mid.joined.items new.joined.items so_far.joined more.joined;
+            level = join.level ∙ so_far.level;
+            whole = join.whole ∙ so_far.whole;
+          })
+      | else-len-listed w ↦
+          let same : after ≡ mid.near.items =
+          same_if_no_longer mid.near.items after place.longer
+          (omega (arith, w.if-len-listed.false, c.len.ensures, c.len-listed.ensures)) in
+          subst (HasJoinedAll cmp m list (at + 1) old) (sym w.component-is) (record {
+            listed = listed;
+            suited = subst (λ places. AreSuited cmp mid places list) (sym same) so_far.suited;
+            joined = so_far.joined;
+            level = so_far.level;
+            whole = so_far.whole;
+          })
+    ]
+
+pub returns-clause-listed : goal.returns-clause-listed
+returns-clause-listed g c =
+    let so_far = c.loop-at.invariant in
+    let list = c.args.self.now.list.items in
+    all_listed_next g.P.Ord.cmp c.args.self.now.list.items c.args.component.now.joined.items
+    c.loop-at.component.joined.items so_far.joined c.args.number c.args.component.now.near.items
+    c.loop-at.component.near.items c.requires.number c.requires.others so_far.listed.more c.index.result.now
+    c.index.ensures
+    (subst (λ (x : Message g.row.P.Denot). AreListed g.P.Ord.cmp x c.loop-at.component.near.items list)
+    c.in_ok-message.ensures.cases
+    (listed_all g.P.Ord.cmp c.in_ok-message.message.value list c.loop-at.from c.args.component.now.near.items
+    c.loop-at.component.near.items so_far.listed
+    (subst (λ (x : Message g.row.P.Denot). PassesNowhere (λ one. share_an_end g.P.Ord.cmp x one.value.message.value)
+    list c.loop-at.from (length list)) c.deref.ensures c.in_default.ensures)))
