@@ -1,9 +1,9 @@
 -- What stands in flight at the moment of an account, and what joins it.
 use Rattle.std.proofs.Common.{◌≡◌, ℕ, suc, ◌-◌, ◌*◌, ◌<◌, Bool, true, false, not, cond, List, [], ◌∷◌, ◌++◌, Some, All}
-use Rattle.std.proofs.Common.{refl, sym, ap, ◌∙◌, subst, arith, inl, inr, get_or}
-use Rattle.std.specs.Prelude.{length, Contains, ◌||◌}
+use Rattle.std.proofs.Common.{sym, ap, ◌∙◌, subst, arith, inl, inr}
+use Rattle.std.specs.Prelude.{length, ◌||◌}
 use Rattle.std.specs.Bool.{◌==◌}
-use Rattle.std.specs.List.{AllZip, filter, list_all}
+use Rattle.std.specs.List.{AllZip, filter}
 use Rattle.std.specs.declared.cmp.Ordering.{Ordering}
 use Rattle.std.proofs.lemmas.Bool.{false≢true}
 use Rattle.std.proofs.lemmas.List.Elements.{filter-append}
@@ -15,17 +15,16 @@ use Rattle.fair_rates.proofs.Lists.Members.{In, from_filter, in_from_contains, i
 use Rattle.fair_rates.proofs.Lists.SumOrder.{All-from_contains}
 use Rattle.link_simulation.specs.Simulation.Messages.{Message}
 use Rattle.link_simulation.specs.Simulation.Rates.{is_unlimited}
-use Rattle.link_simulation.specs.Rule.Planned.{RatedFlight, rated_messages, drained_to, is_spent}
+use Rattle.link_simulation.specs.Rule.Planned.{RatedFlight, drained_to, is_spent}
 use Rattle.link_pairs.specs.declared.message.Message as code
 use Rattle.link_pairs.specs.Pairs.Messages.{message_of}
 use Rattle.link_flights.specs.declared.flight_list.Flights.{Flights}
 use Rattle.link_flights.specs.Flights.Flight.{UnitFlight, DrainsTo}
-use Rattle.link_flights.specs.Flights.InFlight.{in_units, in_flight, Joins}
+use Rattle.link_flights.specs.Flights.InFlight.{in_units, Joins}
 use Rattle.link_flights.specs.Flights.RatedFlights.{rated_flight_of, sending_of}
-use Rattle.link_flights.specs.Flights.Rated.{is_out, are_limited, rated_ones, sent_messages, AreFairlyRated, IsFloorOf}
+use Rattle.link_flights.specs.Flights.Rated.{is_out, are_limited, rated_ones, sent_messages, AreFairlyRated}
 use Rattle.link_flights.specs.Flights.Rated.{ArePartedBy, HadFairRates, IsNoMore}
-use Rattle.link_flights.proofs.Flights.Rated.{drained_sending, sent_as_read, stay_as_read}
-use Rattle.link_flights.proofs.Flights.Accounted.{stays_limited}
+use Rattle.link_flights.proofs.Flights.Rated.{drained_sending}
 
 module _ {X : Type 0} (test : X → Bool) (xs : List X) (x : X) where
   one_more_in : test x ≡ true → filter test (xs ++ x ∷ []) ≡ filter test xs ++ x ∷ []

@@ -1,4 +1,4 @@
-use Rattle.std.proofs.Common.{◌≡◌, ◌+◌, ◌≤◌, [], length, refl, sym, ap, ◌∙◌, subst, arith}
+use Rattle.std.proofs.Common.{◌≡◌, ◌+◌, [], length, refl, sym, ◌∙◌, subst, arith}
 use Rattle.std.proofs.lemmas.List.{append-nil}
 use Rattle.link_flights.specs.Flights.Components.{AreListed, AreSuited, share_an_end}
 use Rattle.link_flights.specs.Flights.InFlight.{PassesNowhere, PassesFirstAt}
