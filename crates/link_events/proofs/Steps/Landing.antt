@@ -40,7 +40,7 @@ module _ {P : Type 0} (cmp : P → P → Ordering) (order : IsTotalOrder cmp) wh
     pub done_unlisted : (t : ℕ) (a b : P) → list_any (is_of_pair cmp a b) done ≡ true
         → is_listed cmp idle t a b ≡ false
     done_unlisted =
-        left_unlisted cmp order pairs waiting spent (drained_to now sending) after done idle left index_drained
+        left_unlisted cmp order pairs waiting spent (drained_to now sending) done idle left index_drained
 
     -- none of them is in flight any more
     pub done_apart : (a b : P) → list_any (is_of_pair cmp a b) done ≡ true
@@ -67,7 +67,7 @@ module _ {P : Type 0} (cmp : P → P → Ordering) (order : IsTotalOrder cmp) wh
         index_drained (rests_beside cmp known waiting after done idle new done_apart rests)
 
   -- where the first lands, no other pair has got another last arrival
-  pub others_stay : (pairs known : List (Pair P)) (m : Message P) (ms done : List (Message P)) (at : ℕ)
+  others_stay : (pairs known : List (Pair P)) (m : Message P) (ms done : List (Message P)) (at : ℕ)
       → done ≡ m ∷ ms → arrival_of cmp known ≡ raised_at cmp (arrival_of cmp pairs) m.origin m.recipient at
       → (a b : P) → list_any (is_of_pair cmp a b) done ≡ false → arrival_of cmp known a b ≡ arrival_of cmp pairs a b
   others_stay pairs known m ms done at first raised a b none =

@@ -1,10 +1,6 @@
-use Rattle.std.proofs.Common.{◌≡◌, ℕ, List, not, ap, sym, ◌∙◌, subst}
+use Rattle.std.proofs.Common.{◌≡◌, ℕ, not, ap, sym, ◌∙◌, subst}
 use Rattle.std.specs.List.{filter, AllZip}
-use Rattle.std.specs.Cmp.{IsTotalOrder}
 use Rattle.std.specs.declared.cmp.Ordering.{Ordering}
-use Rattle.link_pairs.specs.declared.known_pairs.Pair.{Pair}
-use Rattle.link_pairs.specs.declared.message.Message as code
-use Rattle.link_waiting.specs.declared.idle_pairs.IdlePair.{IdlePair}
 use Rattle.link_flights.specs.declared.flight_list.Flights.{Flights}
 use Rattle.fair_rates.proofs.Lists.Zips.{zip_weaker}
 use Rattle.link_simulation.specs.Rule.Planned.{drained_to, is_spent, rated_messages}
@@ -16,9 +12,6 @@ use Rattle.link_pairs.specs.Pairs.Messages.{messages}
 use Rattle.link_pairs.specs.Pairs.CapsOf.{caps_of}
 use Rattle.link_flights.proofs.Flights.Rated.{drained_as_rated, drained_sending, still_fair_after, still_limited}
 use Rattle.link_flights.proofs.Flights.Rated.{out_as_read, stay_as_read}
-use Rattle.link_waiting.specs.Idle.AtRest.{of_pairs}
-use Rattle.link_waiting.specs.Idle.Index.{IsIndexOf}
-use Rattle.link_waiting.proofs.Idle.IndexChanges.{flows_drained, same_flights_index}
 use Rattle.link_events.proofs.Steps.OneEach.{one_if_so, one_stays}
 use Rattle.link_events.proofs.leave.part.Goals as goal
 
@@ -31,14 +24,6 @@ module _ {P : Type 0} {a : _} {b : _} {c : _} (cmp : P → P → Ordering) (now 
   drained_so =
       ap (λ n. sending_of n (in_units drained)) scale
       ∙ drained_sending old.scale now (in_units old) (in_units drained) old.scaled all
-
-  -- the same pairs are idle
-  indexed_so : IsTotalOrder cmp → (pairs : List (Pair P)) (waiting : List (code.Message P))
-      (idle : List (IdlePair P)) → IsIndexOf cmp (of_pairs cmp pairs waiting (in_flight old)) idle
-      → IsIndexOf cmp (of_pairs cmp pairs waiting (in_flight drained)) idle
-  indexed_so order pairs waiting idle indexed =
-      same_flights_index cmp order pairs waiting (in_flight old) (in_flight drained) idle
-      (ap rated_messages drained_so ∙ flows_drained now (in_flight old)) indexed
 
 pub take_done-requires-clause-limited : goal.take_done-requires-clause-limited
 take_done-requires-clause-limited g c e =
