@@ -43,8 +43,7 @@ fn part<P: Peer>(
     ensures refused { IfErr result (λ e. e ≡ Error.OutOfMemory) }
 {
     flights.drain(now)?;
-    let done = flights.take_done(peers, pairs, were_fair)?;
-    Ok(done)
+    flights.take_done(peers, pairs, were_fair)
 }
 
 /// All that is in flight drains to that moment. What is done leaves, in order of start, and its

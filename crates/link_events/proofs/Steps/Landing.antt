@@ -30,7 +30,8 @@ use Rattle.link_events.proofs.Steps.OneEach.{one_apart, one_drained, rests_besid
 module _ {P : Type 0} (cmp : P → P → Ordering) (order : IsTotalOrder cmp) where
   module _ (now : ℕ) (pairs : List (Pair P)) (waiting : List (code.Message P)) (spent : RatedFlight P → Bool)
       (sending after : List (RatedFlight P)) (done : List (Message P)) (idle : List (IdlePair P))
-      (one : OneForEachPair cmp (rated_messages sending)) (index : IsIndexOf cmp (of_pairs cmp pairs waiting sending) idle)
+      (one : OneForEachPair cmp (rated_messages sending))
+      (index : IsIndexOf cmp (of_pairs cmp pairs waiting sending) idle)
       (left : done ≡ rated_messages (filter spent (drained_to now sending)))
       (stays : after ≡ filter (λ f. not (spent f)) (drained_to now sending)) where
     -- the same pairs are idle once all has drained
@@ -64,7 +65,8 @@ module _ {P : Type 0} (cmp : P → P → Ordering) (order : IsTotalOrder cmp) wh
         (λ a b none. alike_from cmp (of_pairs cmp pairs waiting (drained_to now sending))
         (of_pairs cmp known waiting after) a b
         (ap (λ fs. list_any (is_of_pair cmp a b) (rated_messages fs)) stays
-        ∙ left_else cmp (is_of_pair cmp a b) spent (drained_to now sending) (ap (list_any (is_of_pair cmp a b)) (sym left) ∙ none))
+        ∙ left_else cmp (is_of_pair cmp a b) spent (drained_to now sending)
+        (ap (list_any (is_of_pair cmp a b)) (sym left) ∙ none))
         refl (others a b none))
         index_drained (rests_beside cmp known waiting after done idle new done_apart rests)
 
@@ -78,7 +80,7 @@ module _ {P : Type 0} (cmp : P → P → Ordering) (order : IsTotalOrder cmp) wh
       = (or_parts (is_of_pair cmp a b m) (list_any (is_of_pair cmp a b) ms) none).0 in
       ap (λ f. f a b) lands.raised ∙ rw (pair_sym cmp order m (record m { origin = a; recipient = b }) ∙ apart) refl
 
-  -- the next of the first one's pair may start from the same moment on, where the pairs of what is done may
+  -- in planned worlds in which the pairs of what is done may start alike, the next of the first one's pair may, too
   pub since_alike : (p q : Planned P) (done : List (Message P))
       → ((a b : P) → list_any (is_of_pair cmp a b) done ≡ true → idle_from cmp p a b ≡ idle_from cmp q a b)
       → since_of_first cmp p done ≡ since_of_first cmp q done
@@ -88,7 +90,8 @@ module _ {P : Type 0} (cmp : P → P → Ordering) (order : IsTotalOrder cmp) wh
       (or_left (is_of_pair cmp m.origin m.recipient m) (list_any (is_of_pair cmp m.origin m.recipient) ms)
       (pair_itself cmp order m))
 
-  -- so planned worlds lead from one to the other
+  -- where what is done has left, last arrivals alone are new, and the first of it has landed, that is what leads from
+  -- the one planned world to the other
   pub leaves_landing : (t : ℕ) (old new : Planned P) (stay : List (RatedFlight P)) (arrivals : P → P → Option ℕ)
       (done : List (Message P)) (deliver_at since : Option ℕ)
       → Leaves cmp t old done (record old { sending = stay })
@@ -128,14 +131,14 @@ then_is true moment = refl
 then_is false moment = refl
 
 module _ {P : Type 0} (cmp : P → P → Ordering) (t : ℕ) (old new : Planned P) where
-  -- where nothing is done
+  -- where nothing is done, that leaves
   pub none_leaves : (done : List (Message P)) (deliver_at since : Option ℕ) → done ≡ []
       → LeavesLanding cmp t old done deliver_at since new → Leaves cmp t old done new
   none_leaves done deliver_at since none lands =
       subst (λ (l : List (Message P)). Leaves cmp t old l new) (sym none)
       (subst (λ (l : List (Message P)). LeavesLanding cmp t old l deliver_at since new) none lands).leaves
 
-  -- where something is
+  -- where something is, the first of it lands
   pub first_lands : (m : Message P) (ms done : List (Message P)) (deliver_at since : Option ℕ) → done ≡ m ∷ ms
       → LeavesLanding cmp t old done deliver_at since new → LandsFirst cmp t old m ms deliver_at since new
   first_lands m ms done deliver_at since first =
