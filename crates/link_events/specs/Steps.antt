@@ -4,5 +4,6 @@ pub mod AsPlanned
 pub mod Due
 pub mod Landing
 pub mod Outgoing
+pub mod Parting
 pub mod Standing
 pub mod Starting

@@ -1,16 +1,16 @@
 //! What is done leaves.
-ghost use Rattle.std.specs.Prelude.{◌≡◌, ◌≤◌, ◌⊎◌, [], ◌∷◌, List, true, not, IfOk, IfErr, OnOk};
-ghost use Rattle.std.specs.List.{filter};
-ghost use Rattle.link_simulation.specs.Simulation.Messages.{Message as AnyMessage, OneForEachPair};
-ghost use Rattle.link_simulation.specs.Rule.Planned.{rated_messages, drained_to, is_spent};
+ghost use Rattle.std.specs.Prelude.{◌≡◌, ◌≤◌, ◌⊎◌, true, IfOk, IfErr, OnOk};
+ghost use Rattle.link_simulation.specs.Simulation.Messages.{OneForEachPair};
+ghost use Rattle.link_simulation.specs.Rule.Planned.{rated_messages};
 ghost use Rattle.link_waiting.specs.Idle.AtRest.{of_pairs};
-ghost use Rattle.link_waiting.specs.Idle.Index.{IsIndexOf, idle_from as idle_since};
+ghost use Rattle.link_waiting.specs.Idle.Index.{IsIndexOf};
 ghost use Rattle.link_flights.specs.Flights.InFlight.{in_flight};
-ghost use Rattle.link_flights.specs.Flights.Rated.{AreRated, HadFairRates};
+ghost use Rattle.link_flights.specs.Flights.Rated.{AreRated};
 ghost use Rattle.link_pairs.specs.Pairs.Messages.{messages};
 ghost use Rattle.link_pairs.specs.Pairs.CapsOf.{caps_of};
 ghost use Rattle.link_pairs.specs.Pairs.Entries.{link_of, arrival_of};
-ghost use Rattle.link_events.specs.Steps.Landing.{LandsAt, IsFirstLate};
+ghost use Rattle.link_events.specs.Steps.Parting.{IsParted, done_by};
+ghost use Rattle.link_events.specs.Steps.Landing.{FirstLands, IsFirstLate, since_of_first};
 
 use crate::readiness::rest_all;
 use fair_rates::error::Error;
@@ -37,21 +37,13 @@ fn part<P: Peer>(
     requires later { were_fair ≡ true → flights.old.at ≤ now }
     requires rated { were_fair ≡ true
         → AreRated P.cmp (caps_of P.cmp peers.now.entries pairs.now.entries) flights.old }
-    ensures done { IfOk result (λ done. messages done.items
-        ≡ rated_messages (filter (is_spent P.cmp (caps_of P.cmp peers.now.entries pairs.now.entries))
-        (drained_to now (in_flight flights.old)))) }
-    ensures rest { OnOk result (in_flight flights.new ≡ filter
-        (λ f. not (is_spent P.cmp (caps_of P.cmp peers.now.entries pairs.now.entries) f))
-        (drained_to now (in_flight flights.old))) }
-    ensures one_each { OnOk result (∥ OneForEachPair P.cmp (rated_messages (in_flight flights.new)) ∥₁) }
-    ensures fair { IfOk result (λ done. were_fair ≡ true → HadFairRates P.cmp
-        (caps_of P.cmp peers.now.entries pairs.now.entries) flights.new (messages done.items)) }
-    ensures at { OnOk result (flights.new.at ≡ now) }
+    ensures parted { IfOk result (λ done. IsParted P.cmp now
+        (caps_of P.cmp peers.now.entries pairs.now.entries) were_fair flights.old flights.new
+        (messages done.items)) }
     ensures refused { IfErr result (λ e. e ≡ Error.OutOfMemory) }
 {
     flights.drain(now)?;
-    let done = flights.take_done(peers, pairs, were_fair)?;
-    Ok(done)
+    flights.take_done(peers, pairs, were_fair)
 }
 
 /// All that is in flight drains to that moment. What is done leaves, in order of start, and its
@@ -72,16 +64,9 @@ pub(crate) fn leave<P: Peer>(
     requires later { were_fair ≡ true → flights.old.at ≤ now }
     requires rated { were_fair ≡ true
         → AreRated P.cmp (caps_of P.cmp peers.now.entries pairs.now.entries) flights.old }
-    ensures done { IfOk result (λ done. messages done.items
-        ≡ rated_messages (filter (is_spent P.cmp (caps_of P.cmp peers.now.entries pairs.now.entries))
-        (drained_to now (in_flight flights.old)))) }
-    ensures rest { OnOk result (in_flight flights.new ≡ filter
-        (λ f. not (is_spent P.cmp (caps_of P.cmp peers.now.entries pairs.now.entries) f))
-        (drained_to now (in_flight flights.old))) }
-    ensures one_each { OnOk result (∥ OneForEachPair P.cmp (rated_messages (in_flight flights.new)) ∥₁) }
-    ensures fair { IfOk result (λ done. were_fair ≡ true → HadFairRates P.cmp
-        (caps_of P.cmp peers.now.entries pairs.now.entries) flights.new (messages done.items)) }
-    ensures at { OnOk result (flights.new.at ≡ now) }
+    ensures parted { IfOk result (λ done. IsParted P.cmp now
+        (caps_of P.cmp peers.now.entries pairs.now.entries) were_fair flights.old flights.new
+        (messages done.items)) }
     ensures indexed { OnOk result (IsIndexOf P.cmp (of_pairs P.cmp pairs.now.entries waiting.now.messages
         (in_flight flights.new)) idle.new.entries) }
     ensures refused { IfErr result (λ e. e ≡ Error.OutOfMemory) }
@@ -110,11 +95,8 @@ fn land_first<P: Peer>(
     done: &VecDeque<Rc<Message<P>>>,
 ) -> Result<Option<u64>, Error>
     ensures link { OnOk result (link_of P.cmp pairs.new.entries ≡ link_of P.cmp pairs.old.entries) }
-    ensures none { OnOk result (messages done.now.items ≡ []
-        → arrival_of P.cmp pairs.new.entries ≡ arrival_of P.cmp pairs.old.entries) }
-    ensures first { IfOk result (λ deliver_at. (m : AnyMessage P) (ms : List (AnyMessage P))
-        → messages done.now.items ≡ m ∷ ms → LandsAt P.cmp now m (arrival_of P.cmp pairs.old.entries)
-        (arrival_of P.cmp pairs.new.entries) deliver_at) }
+    ensures lands { IfOk result (λ deliver_at. FirstLands P.cmp now (messages done.now.items)
+        (arrival_of P.cmp pairs.old.entries) (arrival_of P.cmp pairs.new.entries) deliver_at) }
     ensures refused { IfErr result (λ e. (e ≡ Error.OutOfMemory)
         ⊎ ((e ≡ Error.MomentTooLate) × IsFirstLate P.cmp now (messages done.now.items))) }
 {
@@ -144,31 +126,19 @@ pub(crate) fn leave_landing<P: Peer>(
     requires later { were_fair ≡ true → flights.old.at ≤ now }
     requires rated { were_fair ≡ true
         → AreRated P.cmp (caps_of P.cmp peers.now.entries pairs.old.entries) flights.old }
-    ensures done { IfOk result (λ left. messages left.done.items
-        ≡ rated_messages (filter (is_spent P.cmp (caps_of P.cmp peers.now.entries pairs.old.entries))
-        (drained_to now (in_flight flights.old)))) }
-    ensures rest { OnOk result (in_flight flights.new ≡ filter
-        (λ f. not (is_spent P.cmp (caps_of P.cmp peers.now.entries pairs.old.entries) f))
-        (drained_to now (in_flight flights.old))) }
-    ensures one_each { OnOk result (∥ OneForEachPair P.cmp (rated_messages (in_flight flights.new)) ∥₁) }
-    ensures fair { IfOk result (λ left. were_fair ≡ true → HadFairRates P.cmp
-        (caps_of P.cmp peers.now.entries pairs.old.entries) flights.new (messages left.done.items)) }
-    ensures at { OnOk result (flights.new.at ≡ now) }
+    ensures parted { IfOk result (λ left. IsParted P.cmp now
+        (caps_of P.cmp peers.now.entries pairs.old.entries) were_fair flights.old flights.new
+        (messages left.done.items)) }
     ensures link { OnOk result (link_of P.cmp pairs.new.entries ≡ link_of P.cmp pairs.old.entries) }
-    ensures none { IfOk result (λ left. messages left.done.items ≡ []
-        → arrival_of P.cmp pairs.new.entries ≡ arrival_of P.cmp pairs.old.entries) }
-    ensures first { IfOk result (λ left. (m : AnyMessage P) (ms : List (AnyMessage P))
-        → messages left.done.items ≡ m ∷ ms → LandsAt P.cmp now m (arrival_of P.cmp pairs.old.entries)
-        (arrival_of P.cmp pairs.new.entries) left.deliver_at) }
-    ensures idle { IfOk result (λ left. (m : AnyMessage P) (ms : List (AnyMessage P))
-        → messages left.done.items ≡ m ∷ ms → left.since ≡ idle_since P.cmp (of_pairs P.cmp pairs.new.entries
-        waiting.now.messages (in_flight flights.new)) m.origin m.recipient) }
+    ensures lands { IfOk result (λ left. FirstLands P.cmp now (messages left.done.items)
+        (arrival_of P.cmp pairs.old.entries) (arrival_of P.cmp pairs.new.entries) left.deliver_at) }
+    ensures idle { IfOk result (λ left. left.since ≡ since_of_first P.cmp (of_pairs P.cmp pairs.new.entries
+        waiting.now.messages (in_flight flights.new)) (messages left.done.items)) }
     ensures indexed { OnOk result (IsIndexOf P.cmp (of_pairs P.cmp pairs.new.entries waiting.now.messages
         (in_flight flights.new)) idle.new.entries) }
     ensures refused { IfErr result (λ e. (e ≡ Error.OutOfMemory) ⊎ ((e ≡ Error.MomentTooLate)
         × IsFirstLate P.cmp now
-        (rated_messages (filter (is_spent P.cmp (caps_of P.cmp peers.now.entries pairs.old.entries))
-        (drained_to now (in_flight flights.old)))))) }
+        (done_by P.cmp now (caps_of P.cmp peers.now.entries pairs.old.entries) flights.old))) }
 {
     let done = part(now, flights, peers, pairs, were_fair)?;
     let deliver_at = land_first(alloc, now, pairs, &done)?;

@@ -1,5 +1,5 @@
 //! The next finish, which is planned at an account, and the next start.
-ghost use Rattle.std.specs.Prelude.{◌≡◌, ◌≤◌, ◌↔◌, ◌⊎◌, [], ◌∷◌, true, false, List, IfOk, IfErr, OnOk};
+ghost use Rattle.std.specs.Prelude.{◌≡◌, ◌≤◌, ◌↔◌, ◌⊎◌, true, false, List, IfOk, IfErr, OnOk};
 ghost use Rattle.std.specs.List.{AllZip};
 ghost use Rattle.link_simulation.specs.Rule.Events.{Accounts, PlansStart};
 ghost use Rattle.link_simulation.specs.Rule.Leaving.{Leaves};
@@ -8,7 +8,7 @@ ghost use Rattle.link_simulation.specs.Simulation.Messages.{Message as AnyMessag
 ghost use Rattle.link_flights.specs.Flights.Rated.{HadFairRates};
 ghost use Rattle.link_pairs.specs.Pairs.CapsOf.{caps_of};
 ghost use Rattle.link_pairs.specs.Pairs.Messages.{messages};
-ghost use Rattle.link_events.specs.Steps.Landing.{LandsFirst, LandsLate};
+ghost use Rattle.link_events.specs.Steps.Landing.{LeavesLanding, LandsLate};
 
 use crate::leave::{Left, leave, leave_landing};
 use crate::ledger::Ledger;
@@ -84,11 +84,8 @@ impl<P: Peer> Ledger<P> {
 
     /// As `leave_at`; and the first of what leaves lands with it.
     pub(crate) fn leave_landing_at(&mut self, now: u64) -> Result<(Left<P>, bool), Error>
-        ensures none { IfOk result (λ left. messages left.0.done.items ≡ []
-            → Leaves P.cmp now (planned P.cmp self.old) [] (planned P.cmp self.new)) }
-        ensures first { IfOk result (λ left. (m : AnyMessage P) (ms : List (AnyMessage P))
-            → messages left.0.done.items ≡ m ∷ ms → LandsFirst P.cmp now (planned P.cmp self.old) m ms
-            left.0.deliver_at left.0.since (planned P.cmp self.new)) }
+        ensures lands { IfOk result (λ left. LeavesLanding P.cmp now (planned P.cmp self.old)
+            (messages left.0.done.items) left.0.deliver_at left.0.since (planned P.cmp self.new)) }
         ensures fair { IfOk result (λ left. left.1 ≡ true → HadFairRates P.cmp
             (caps_of P.cmp self.new.peers.entries self.new.pairs.entries) self.new.flights
             (messages left.0.done.items)) }

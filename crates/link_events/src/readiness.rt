@@ -1,6 +1,5 @@
 //! Ordered pairs of peers, and from when on their next messages may start.
-ghost use Rattle.std.specs.Prelude.{◌≡◌, ℕ, true, false, List, [], ◌∷◌, option_map, IfOk, IfErr, OnOk};
-ghost use Rattle.link_simulation.specs.Simulation.Messages.{Message as AnyMessage};
+ghost use Rattle.std.specs.Prelude.{◌≡◌, ℕ, true, false, List, [], option_map, IfOk, IfErr, OnOk};
 ghost use Rattle.std.specs.List.{list_any};
 ghost use Rattle.link_waiting.specs.Idle.Index.{is_listed, is_of_pair, AreAtRest, idle_from as idle_since};
 ghost use Rattle.link_waiting.specs.Idle.FirstMoment.{first_moment};
@@ -9,6 +8,7 @@ ghost use Rattle.link_simulation.specs.Rule.Planned.{RatedFlight};
 ghost use Rattle.link_pairs.specs.declared.known_pairs.Pair.{Pair};
 ghost use Rattle.link_pairs.specs.Pairs.Entries.{arrival_of};
 ghost use Rattle.link_pairs.specs.Pairs.Messages.{messages};
+ghost use Rattle.link_events.specs.Steps.Landing.{since_of_first};
 
 use fair_rates::error::Error;
 use fair_rates::peer::Peer;
@@ -93,9 +93,8 @@ pub(crate) fn rest_all<P: Peer>(
         → is_listed P.cmp idle.old.entries t a b ≡ false }
     ensures listed { OnOk result (AreAtRest P.cmp (of_pairs P.cmp pairs.now.entries waiting.now.messages [])
         (messages done.now.items) idle.old.entries idle.new.entries) }
-    ensures first { IfOk result (λ since. (m : AnyMessage P) (ms : List (AnyMessage P))
-        → messages done.now.items ≡ m ∷ ms
-        → since ≡ idle_since P.cmp (of_pairs P.cmp pairs.now.entries waiting.now.messages []) m.origin m.recipient) }
+    ensures first { IfOk result (λ since. since ≡ since_of_first P.cmp
+        (of_pairs P.cmp pairs.now.entries waiting.now.messages []) (messages done.now.items)) }
     ensures refused { IfErr result (λ e. e ≡ Error.OutOfMemory) }
 {
     let mut first = None;

@@ -4,7 +4,7 @@ ghost use Rattle.std.specs.Prelude.{slice_get, [], OnOk, IfErr, IfSome};
 ghost use Rattle.std.specs.Ordering.{is_lt, is_eq};
 ghost use Rattle.fair_rates.specs.Sides.Subjects.{same_peer};
 ghost use Rattle.fair_rates.specs.Lists.Sorted.{are_ascending};
-ghost use Rattle.link_waiting.specs.Idle.Index.{idle_cmp, idle_key, is_listed};
+ghost use Rattle.link_waiting.specs.Idle.Index.{idle_cmp, idle_key, is_listed, moment_if_first};
 ghost use Rattle.link_waiting.specs.Idle.Departed.{is_moment};
 
 use fair_rates::error::Error;
@@ -180,7 +180,9 @@ impl<P: Peer> IdlePairs<P> {
 
     /// The moment from which on the pair may start, if no other pair stands before it.
     pub fn since_if_first(&self, origin: &P, recipient: &P) -> Option<u64>
-        ensures { IfSome result (λ moment. is_listed P.cmp self.now.entries moment origin.now recipient.now ≡ true) }
+        ensures listed { IfSome result
+            (λ moment. is_listed P.cmp self.now.entries moment origin.now recipient.now ≡ true) }
+        ensures moment { result ≡ moment_if_first P.cmp self.now.entries origin.now recipient.now }
     {
         let pair = self.entries.get(0)?;
         if pair.compare(pair.moment, origin, recipient).is_eq() {

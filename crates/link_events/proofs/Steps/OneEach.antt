@@ -1,19 +1,17 @@
 -- At most one message of each pair is in flight.
-use Rattle.std.proofs.Common.{◌≡◌, ℕ, Bool, true, false, not, ◌||◌, cond, List, [], ◌∷◌, ◌++◌, refl, sym, ap, ◌∙◌}
-use Rattle.std.proofs.Common.{subst}
+use Rattle.std.proofs.Common.{◌≡◌, ℕ, Bool, true, false, not, ◌||◌, cond, List, [], ◌∷◌, ◌++◌}
+use Rattle.std.proofs.Common.{refl, sym, ap, ◌∙◌, subst}
 use Rattle.std.proofs.Math.Logic.{∥∥₁_elim}
 use Rattle.std.proofs.Props.{props}
 use Rattle.std.specs.List.{filter, list_any}
 use Rattle.std.specs.declared.cmp.Ordering.{Ordering}
 use Rattle.std.specs.Cmp.{IsTotalOrder}
-use Rattle.std.proofs.lemmas.Bool.{or_from, or_left}
+use Rattle.std.proofs.lemmas.Bool.{or_from}
 use Rattle.std.proofs.lemmas.List.{map-append}
 use Rattle.fair_rates.proofs.Lists.Booleans.{by_bool}
 use Rattle.link_simulation.specs.Simulation.Messages.{Message, OneForEachPair, same_pair}
 use Rattle.link_simulation.specs.Rule.Planned.{Planned, RatedFlight, rated_messages, drained_to, is_spent}
 use Rattle.link_simulation.specs.Rule.Events.{Accounts}
-use Rattle.link_simulation.specs.Rule.Leaving.{Leaves}
-use Rattle.link_simulation.proofs.Simulation.AlikeMessages.{pair_itself}
 use Rattle.link_simulation.proofs.Simulation.Queue.{any_like, one_pair_more}
 use Rattle.link_simulation.proofs.Laws.Orderly.{any_of_fewer, drained_messages, stayed_messages, one_of_fewer}
 use Rattle.link_pairs.specs.declared.message.Message as code
@@ -87,19 +85,6 @@ module _ {P : Type 0} (cmp : P → P → Ordering) (order : IsTotalOrder cmp) wh
       subst (λ (gs : List (RatedFlight P)). OneForEachPair cmp (rated_messages gs)) (sym pushed)
       (subst (OneForEachPair cmp) (sym (map-append (λ (g : RatedFlight P). g.message) fs (f ∷ [])))
       (one_pair_more cmp order (rated_messages fs) f.message one idle))
-
-  -- the first that leaves is of a pair that is idle then
-  pub first_left_idle : (t : ℕ) (old new : Planned P) (m : Message P) (leavers ms : List (Message P))
-      → OneForEachPair cmp (rated_messages old.sending) → Leaves cmp t old leavers new → leavers ≡ m ∷ ms
-      → is_sending cmp new m.origin m.recipient ≡ false
-  first_left_idle t old new m leavers ms one leaves first =
-      let own : list_any (is_of_pair cmp m.origin m.recipient) leavers ≡ true
-      = ap (list_any (is_of_pair cmp m.origin m.recipient)) first
-      ∙ or_left (is_of_pair cmp m.origin m.recipient m) (list_any (is_of_pair cmp m.origin m.recipient) ms)
-      (pair_itself cmp order m) in
-      ap (λ (p : Planned P). is_sending cmp p m.origin m.recipient) leaves.is
-      ∙ one_apart (is_spent cmp old.caps) (drained_to t old.sending) (one_drained t old.sending one) m.origin
-      m.recipient (ap (list_any (is_of_pair cmp m.origin m.recipient)) (sym leaves.left) ∙ own)
 
 -- no pair is busy after an account that was not before
 pub account_frees : {P : Type 0} (cmp : P → P → Ordering) (t : ℕ) (old new : Planned P) (leavers : List (Message P))

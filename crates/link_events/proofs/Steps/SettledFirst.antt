@@ -1,18 +1,15 @@
 -- An account, and the first of those that left with it.
-use Rattle.std.proofs.Common.{◌≡◌, ℕ, ◌<◌, List, [], ◌∷◌, ◌++◌, length, true, false, ◌⊎◌, inl, inr, get_or, drop}
-use Rattle.std.proofs.Common.{drop-cons, append_assoc, Result, Ok, Err, IfOk, IfErr, refl, sym, ap, ◌∙◌, subst}
+use Rattle.std.proofs.Common.{◌≡◌, ℕ, ◌<◌, List, [], ◌∷◌, ◌++◌, length, true, false, ◌⊎◌, inl, inr}
+use Rattle.std.proofs.Common.{get_or, drop, drop-cons, append_assoc, Result, Ok, Err, IfOk, IfErr, refl, sym, ap, ◌∙◌, subst}
 use Rattle.std.specs.declared.alloc.Global.{Global}
 use Rattle.std.specs.declared.cmp.Ordering.{Ordering}
 use Rattle.std.specs.declared.rc.Rc.{Rc}
 use Rattle.std.specs.Cmp.{IsTotalOrder}
 use Rattle.std.proofs.lemmas.List.{append-nil, map-append}
-use Rattle.fair_rates.specs.Sides.Caps.{Caps}
 use Rattle.fair_rates.specs.declared.error.Error.{Error}
 use Rattle.fair_rates.specs.declared.error.Error.TheVariants.{OutOfMemory, MomentTooLate}
 use Rattle.link_pairs.specs.declared.message.Message as code
 use Rattle.link_pairs.specs.Pairs.Messages.{message_of, messages}
-use Rattle.link_flights.specs.declared.flight_list.Flights.{Flights}
-use Rattle.link_flights.specs.Flights.Rated.{HadFairRates}
 use Rattle.link_simulation.specs.Simulation.Messages.{Message}
 use Rattle.link_simulation.specs.Simulation.World.{Completed, Course, goes, meets, is_late, completed, preceded}
 use Rattle.link_simulation.specs.Simulation.RefusalCauses.{IsRefusedFor}
@@ -43,14 +40,6 @@ others_and_more {P} queue rest more joined is joins =
     ∙ ap (λ (l : List (Rc (code.Message P) Global)). messages l ++ messages more) is
 
 module _ {P : Type 0} (cmp : P → P → Ordering) where
-  -- the same flights under the same caps had fair rates no less
-  pub fair_still : {a : _} {b : _} {c : _} (caps other : Caps P) (flights same : Flights P a b c)
-      (done : List (Message P))
-      → other ≡ caps → same ≡ flights → HadFairRates cmp caps flights done → HadFairRates cmp other same done
-  fair_still {a} {b} {c} caps other flights same done caps_are is fair =
-      subst (λ (f : Flights P a b c). HadFairRates cmp other f done) (sym is)
-      (subst (λ (k : Caps P). HadFairRates cmp k flights done) (sym caps_are) fair)
-
   -- this came out, and the finishes of a queue settle what is left
   abbrev pub SettlesSo : ℕ → Planned P → List (Completed P) → List (Message P) → Planned P → List (Completed P)
       → Type 0
@@ -111,6 +100,7 @@ module _ {P : Type 0} (cmp : P → P → Ordering) where
     late_first t old here m ls ms first leaves e (inr is) =
         refused_memory (λ fault. Settles cmp t old (meets fault)) e is
 
+    -- what is done leaves, and memory runs out, or the first of it arrives too late
     pub refused_landing : (t : ℕ) (old : Planned P) (e : Error)
         → (e ≡ OutOfMemory) ⊎ ((e ≡ MomentTooLate) × LandsLate cmp t old)
         → IsRefusedFor (λ fault. Settles cmp t old (meets fault)) e

@@ -1,5 +1,5 @@
 -- The first half of an account, where the first of what leaves lands with it.
-use Rattle.std.specs.Prelude.{◌≡◌, ℕ, false, true, List, ◌∷◌, Option}
+use Rattle.std.specs.Prelude.{◌≡◌, ℕ, false, true, List, [], ◌∷◌, Option, None}
 use Rattle.std.specs.declared.cmp.Ordering.{Ordering}
 use Rattle.link_simulation.specs.Simulation.Messages.{Message}
 use Rattle.link_simulation.specs.Simulation.World.{is_late, arrival, completed, completion_of}
@@ -18,6 +18,18 @@ pub record LandsAt {P : Type 0} (cmp : P → P → Ordering) (t : ℕ) (m : Mess
   pub in_time : is_late cmp t m ≡ false
   pub completion : completion_of m deliver_at ≡ completed cmp t m
 
+-- the first of what is done lands, and arrives at that moment, if it does; where nothing is done, nothing lands
+abbrev pub FirstLands : {P : Type 0} → (P → P → Ordering) → ℕ → List (Message P) → (P → P → Option ℕ)
+    → (P → P → Option ℕ) → Option ℕ → Type 0
+FirstLands cmp t [] old new deliver_at = (new ≡ old) × (deliver_at ≡ None)
+FirstLands cmp t (m ∷ ms) old new deliver_at = LandsAt cmp t m old new deliver_at
+
+-- the moment from which on the next message of the pair of the first that is done may start, if one is done and one
+-- waits
+abbrev pub since_of_first : {P : Type 0} → (P → P → Ordering) → Planned P → List (Message P) → Option ℕ
+since_of_first cmp p [] = None
+since_of_first cmp p (m ∷ ms) = idle_from cmp p m.origin m.recipient
+
 -- the first of some messages that are done would arrive too late
 pub record IsFirstLate {P : Type 0} (cmp : P → P → Ordering) (t : ℕ) (done : List (Message P)) : Type 0 where
   pub first : Message P
@@ -35,6 +47,19 @@ pub record LandsFirst {P : Type 0} (cmp : P → P → Ordering) (t : ℕ) (old :
   pub in_time : is_late cmp t m ≡ false
   pub completion : completion_of m deliver_at ≡ completed cmp t m
   pub idle : since ≡ idle_from cmp new m.origin m.recipient
+
+-- nothing is done: all drains, and nothing lands
+pub record NoneLeaves {P : Type 0} (cmp : P → P → Ordering) (t : ℕ) (old : Planned P) (deliver_at since : Option ℕ)
+    (new : Planned P) : Type 0 where
+  pub leaves : Leaves cmp t old [] new
+  pub no_arrival : deliver_at ≡ None
+  pub no_next : since ≡ None
+
+-- what is done leaves, and the first of it lands, if something is done
+abbrev pub LeavesLanding : {P : Type 0} → (P → P → Ordering) → ℕ → Planned P → List (Message P) → Option ℕ → Option ℕ
+    → Planned P → Type 0
+LeavesLanding cmp t old [] deliver_at since new = NoneLeaves cmp t old deliver_at since new
+LeavesLanding cmp t old (m ∷ ms) deliver_at since new = LandsFirst cmp t old m ms deliver_at since new
 
 -- what is done leaves, and the first of it would arrive too late
 pub record LandsLate {P : Type 0} (cmp : P → P → Ordering) (t : ℕ) (old : Planned P) : Type 0 where

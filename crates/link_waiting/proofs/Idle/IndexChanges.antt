@@ -448,7 +448,7 @@ module _ {P : Type 0} (cmp : P → P → Ordering) (order : IsTotalOrder cmp) (p
       (λ a b. alike_from cmp (of_pairs cmp pairs ms sending) (of_pairs cmp pairs ms after) a b
       (ap (list_any (is_of_pair cmp a b)) same) refl refl)
 
-  module _ (spent : RatedFlight P → Bool) (sending after : List (RatedFlight P)) (leavers : List (Message P))
+  module _ (spent : RatedFlight P → Bool) (sending : List (RatedFlight P)) (leavers : List (Message P))
       (es : List (IdlePair P)) (left : leavers ≡ rated_messages (filter spent sending))
       (index : IsIndexOf cmp (of_pairs cmp pairs ms sending) es) where
     -- the pairs of what left were not idle
@@ -465,14 +465,3 @@ module _ {P : Type 0} (cmp : P → P → Ordering) (order : IsTotalOrder cmp) (p
         (λ (c : Bool). if c then None else option_map
         (λ (m : Message P). first_moment (p.last_arrival a b) m.latency) (first_of cmp p.waiting a b))
         busy)
-
-    pub left_index : (new : List (IdlePair P)) → PairsAlike cmp (arrival_of cmp pairs) (arrival_of cmp pairs)
-        → after ≡ filter (λ f. not (spent f)) sending → AreAtRest cmp (of_pairs cmp pairs ms after) leavers es new
-        → IsIndexOf cmp (of_pairs cmp pairs ms after) new
-    left_index new alike stays rests =
-        rests_index cmp order (of_pairs cmp pairs ms after) alike es (of_pairs cmp pairs ms sending) leavers new
-        (λ a b none. alike_from cmp (of_pairs cmp pairs ms sending) (of_pairs cmp pairs ms after) a b
-        (ap (λ l. list_any (is_of_pair cmp a b) (rated_messages l)) stays
-        ∙ left_else cmp (is_of_pair cmp a b) spent sending (ap (list_any (is_of_pair cmp a b)) (sym left) ∙ none))
-        refl refl)
-        index rests

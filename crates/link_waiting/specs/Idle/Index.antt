@@ -1,5 +1,6 @@
 -- The idle pairs, in the order of the moments from which on they may start.
-use Rattle.std.specs.Prelude.{◌≡◌, ℕ, Bool, true, false, ◌&&◌, if◌then◌else◌, List, Option, None, option_map}
+use Rattle.std.specs.Prelude.{◌≡◌, ℕ, Bool, true, false, ◌&&◌, if◌then◌else◌, List, [], ◌∷◌, Option}
+use Rattle.std.specs.Prelude.{Some, None, option_map}
 use Rattle.std.specs.List.{list_any}
 use Rattle.std.specs.declared.cmp.Ordering.{Ordering}
 use Rattle.std.specs.Ordering.{nat_cmp, ordering_then}
@@ -26,6 +27,12 @@ module _ {P : Type 0} (cmp : P → P → Ordering) where
   abbrev pub is_listed : List (IdlePair P) → ℕ → P → P → Bool
   is_listed entries moment origin recipient = value_at (idle_cmp cmp) idle_key (λ pair. true) false entries
       (moment, (origin, recipient))
+
+  -- the moment under which the first of the pairs is listed, if it has that origin and that recipient
+  abbrev pub moment_if_first : List (IdlePair P) → P → P → Option ℕ
+  moment_if_first [] origin recipient = None
+  moment_if_first (pair ∷ pairs) origin recipient =
+      if same_peer cmp pair.origin origin && same_peer cmp pair.recipient recipient then Some pair.moment else None
 
   -- the moment from which on the first waiting message of the pair may start, if the pair is idle and one waits
   abbrev pub idle_from : Planned P → P → P → Option ℕ

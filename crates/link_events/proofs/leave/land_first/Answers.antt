@@ -1,4 +1,4 @@
-use Rattle.std.proofs.Common.{◌≡◌, List, drop, get_or, inr, sym, ap, ap₂, ◌∙◌, subst}
+use Rattle.std.proofs.Common.{List, drop, inr, sym, ap, ap₂, ◌∙◌, subst}
 use Rattle.std.specs.Bool.{then_some}
 use Rattle.link_simulation.specs.Simulation.Messages.{is_delivered}
 use Rattle.link_simulation.specs.Simulation.World.{arrival, completion_of}
@@ -7,7 +7,7 @@ use Rattle.std.proofs.lemmas.Result.{err_from_is_err_and}
 use Rattle.link_simulation.specs.Simulation.Messages.{Message}
 use Rattle.link_pairs.specs.Pairs.Messages.{message_of, messages}
 use Rattle.link_pairs.specs.Pairs.Entries.{arrival_of}
-use Rattle.link_events.specs.Steps.Landing.{LandsAt}
+use Rattle.link_events.specs.Steps.Landing.{FirstLands}
 use Rattle.link_events.proofs.Steps.SettledFirst.{first_and_others}
 use Rattle.link_events.proofs.leave.land_first.Goals as goal
 
@@ -26,16 +26,15 @@ returns-in_err-arrival-clause-refused g c =
       },
     ))
 
-pub returns-clause-first : goal.returns-clause-first
-returns-clause-first g c m ms is =
+pub returns-clause-lands : goal.returns-clause-lands
+returns-clause-lands g c =
     let cmp = g.P.Ord.cmp in
     let x = message_of c.as_ref-first.result.now in
     let first = first_and_others c.args.done.now.items c.in-Some.first.now c.as_ref-first.result.now
     c.in-Some.ensures.item.3.0 c.in-Some.ensures.lookup c.as_ref-first.ensures in
-    let own : x ≡ m = ap (λ (l : List (Message g.row.P.Denot)). get_or l 0 m) (sym first ∙ is) in
     subst
-    (λ (n : Message g.row.P.Denot). LandsAt cmp c.args.now n (arrival_of cmp c.args.pairs.now.entries)
-    (arrival_of cmp c.raise.new.self.entries) c.then_some.result) own
+    (λ (ms : List (Message g.row.P.Denot)). FirstLands cmp c.args.now ms (arrival_of cmp c.args.pairs.now.entries)
+    (arrival_of cmp c.raise.new.self.entries) c.then_some.result) (sym first)
     (record {
       at = c.in_ok-arrival.arrival;
       moment = c.in_ok-arrival.ensures.moment;

@@ -18,7 +18,7 @@ rest_all-requires g c =
           (is_spent cmp (caps_of cmp c.args.peers.now.entries c.args.pairs.now.entries)) (in_flight old)
           (in_flight c.part.new.flights) (messages c.in_ok-done.done.items) c.args.idle.now.entries
           (one_if_so cmp (rated_messages (in_flight old)) c.requires.one_each) c.requires.indexed
-          c.in_ok-done.ensures.done c.in_ok-done.ensures.rest;
+          c.in_ok-done.ensures.parted.left c.in_ok-done.ensures.parted.stays;
     }
 
 pub returns-clause-indexed : goal.returns-clause-indexed
@@ -29,7 +29,7 @@ returns-clause-indexed g c =
     (is_spent cmp (caps_of cmp c.args.peers.now.entries c.args.pairs.now.entries)) (in_flight old)
     (in_flight c.part.new.flights) (messages c.in_ok-done.done.items) c.args.idle.now.entries
     (one_if_so cmp (rated_messages (in_flight old)) c.requires.one_each) c.requires.indexed
-    c.in_ok-done.ensures.done c.in_ok-done.ensures.rest
+    c.in_ok-done.ensures.parted.left c.in_ok-done.ensures.parted.stays
     c.args.pairs.now.entries c.rest_all.new.idle.entries
     (arrivals_looked_up cmp g.met.P.Ord.total c.args.pairs.now.entries) (λ a b none. refl)
     c.in_ok-rest_all.ensures.listed

@@ -1,5 +1,5 @@
 use Rattle.std.proofs.Common.{[], refl, sym, ◌∙◌}
-use Rattle.link_simulation.specs.Rule.Planned.{is_spent, rated_messages}
+use Rattle.link_simulation.specs.Rule.Planned.{Planned, is_spent, rated_messages}
 use Rattle.link_flights.specs.Flights.InFlight.{in_flight}
 use Rattle.link_pairs.specs.Pairs.Messages.{messages}
 use Rattle.link_pairs.specs.Pairs.CapsOf.{caps_of}
@@ -7,7 +7,7 @@ use Rattle.link_pairs.proofs.Pairs.LookedUp.{arrivals_looked_up}
 use Rattle.link_waiting.specs.Idle.AtRest.{of_pairs}
 use Rattle.link_waiting.proofs.Idle.IndexChanges.{alike_from}
 use Rattle.link_events.proofs.Steps.OneEach.{one_if_so}
-use Rattle.link_events.proofs.Steps.Landing.{done_unlisted, done_apart, index_after, others_after, first_among}
+use Rattle.link_events.proofs.Steps.Landing.{done_unlisted, done_apart, index_after, others_after, since_alike}
 use Rattle.link_events.proofs.leave.leave_landing.Goals as goal
 
 pub rest_all-requires : goal.rest_all-requires
@@ -20,24 +20,25 @@ rest_all-requires g c =
           (is_spent cmp (caps_of cmp c.args.peers.now.entries c.args.pairs.now.entries)) (in_flight old)
           (in_flight c.part.new.flights) (messages c.in_ok-done.done.items) c.args.idle.now.entries
           (one_if_so cmp (rated_messages (in_flight old)) c.requires.one_each) c.requires.indexed
-          c.in_ok-done.ensures.done c.in_ok-done.ensures.rest;
+          c.in_ok-done.ensures.parted.left c.in_ok-done.ensures.parted.stays;
     }
 
 pub returns-clause-idle : goal.returns-clause-idle
-returns-clause-idle g c m ms is =
+returns-clause-idle g c =
     let cmp = g.P.Ord.cmp in
     let old = c.args.flights.now in
     let known = c.land_first.new.pairs.entries in
     let waiting = c.args.waiting.now.messages in
-    c.in_ok-since.ensures.first m ms is
-    ∙ sym (alike_from cmp (of_pairs cmp known waiting []) (of_pairs cmp known waiting (in_flight c.part.new.flights))
-    m.origin m.recipient
+    let alone : Planned g.row.P.Denot = of_pairs cmp known waiting [] in
+    let beside : Planned g.row.P.Denot = of_pairs cmp known waiting (in_flight c.part.new.flights) in
+    c.in_ok-since.ensures.first
+    ∙ since_alike cmp g.met.P.Ord.total alone beside (messages c.in_ok-done.done.items)
+    (λ a b some. sym (alike_from cmp alone beside a b
     (done_apart cmp g.met.P.Ord.total c.args.now c.args.pairs.now.entries waiting
     (is_spent cmp (caps_of cmp c.args.peers.now.entries c.args.pairs.now.entries)) (in_flight old)
     (in_flight c.part.new.flights) (messages c.in_ok-done.done.items) c.args.idle.now.entries
     (one_if_so cmp (rated_messages (in_flight old)) c.requires.one_each) c.requires.indexed
-    c.in_ok-done.ensures.done c.in_ok-done.ensures.rest m.origin m.recipient
-    (first_among cmp g.met.P.Ord.total m ms (messages c.in_ok-done.done.items) is)) refl refl)
+    c.in_ok-done.ensures.parted.left c.in_ok-done.ensures.parted.stays a b some) refl refl))
 
 pub returns-clause-indexed : goal.returns-clause-indexed
 returns-clause-indexed g c =
@@ -48,8 +49,8 @@ returns-clause-indexed g c =
     (is_spent cmp (caps_of cmp c.args.peers.now.entries c.args.pairs.now.entries)) (in_flight old)
     (in_flight c.part.new.flights) (messages c.in_ok-done.done.items) c.args.idle.now.entries
     (one_if_so cmp (rated_messages (in_flight old)) c.requires.one_each) c.requires.indexed
-    c.in_ok-done.ensures.done c.in_ok-done.ensures.rest known c.rest_all.new.idle.entries
+    c.in_ok-done.ensures.parted.left c.in_ok-done.ensures.parted.stays known c.rest_all.new.idle.entries
     (arrivals_looked_up cmp g.met.P.Ord.total known)
     (others_after cmp g.met.P.Ord.total c.args.now c.args.pairs.now.entries known (messages c.in_ok-done.done.items)
-    c.in_ok-deliver_at.deliver_at c.in_ok-deliver_at.ensures.none c.in_ok-deliver_at.ensures.first)
+    c.in_ok-deliver_at.deliver_at c.in_ok-deliver_at.ensures.lands)
     c.in_ok-since.ensures.listed

@@ -1,10 +1,6 @@
-use Rattle.std.proofs.Common.{◌≡◌, ℕ, List, not, ap, sym, ◌∙◌, subst}
+use Rattle.std.proofs.Common.{◌≡◌, ℕ, not, Result, Ok, Err, IfOk, ap, sym, ◌∙◌, subst}
 use Rattle.std.specs.List.{filter, AllZip}
-use Rattle.std.specs.Cmp.{IsTotalOrder}
 use Rattle.std.specs.declared.cmp.Ordering.{Ordering}
-use Rattle.link_pairs.specs.declared.known_pairs.Pair.{Pair}
-use Rattle.link_pairs.specs.declared.message.Message as code
-use Rattle.link_waiting.specs.declared.idle_pairs.IdlePair.{IdlePair}
 use Rattle.link_flights.specs.declared.flight_list.Flights.{Flights}
 use Rattle.fair_rates.proofs.Lists.Zips.{zip_weaker}
 use Rattle.link_simulation.specs.Rule.Planned.{drained_to, is_spent, rated_messages}
@@ -16,9 +12,6 @@ use Rattle.link_pairs.specs.Pairs.Messages.{messages}
 use Rattle.link_pairs.specs.Pairs.CapsOf.{caps_of}
 use Rattle.link_flights.proofs.Flights.Rated.{drained_as_rated, drained_sending, still_fair_after, still_limited}
 use Rattle.link_flights.proofs.Flights.Rated.{out_as_read, stay_as_read}
-use Rattle.link_waiting.specs.Idle.AtRest.{of_pairs}
-use Rattle.link_waiting.specs.Idle.Index.{IsIndexOf}
-use Rattle.link_waiting.proofs.Idle.IndexChanges.{flows_drained, same_flights_index}
 use Rattle.link_events.proofs.Steps.OneEach.{one_if_so, one_stays}
 use Rattle.link_events.proofs.leave.part.Goals as goal
 
@@ -31,14 +24,6 @@ module _ {P : Type 0} {a : _} {b : _} {c : _} (cmp : P → P → Ordering) (now 
   drained_so =
       ap (λ n. sending_of n (in_units drained)) scale
       ∙ drained_sending old.scale now (in_units old) (in_units drained) old.scaled all
-
-  -- the same pairs are idle
-  indexed_so : IsTotalOrder cmp → (pairs : List (Pair P)) (waiting : List (code.Message P))
-      (idle : List (IdlePair P)) → IsIndexOf cmp (of_pairs cmp pairs waiting (in_flight old)) idle
-      → IsIndexOf cmp (of_pairs cmp pairs waiting (in_flight drained)) idle
-  indexed_so order pairs waiting idle indexed =
-      same_flights_index cmp order pairs waiting (in_flight old) (in_flight drained) idle
-      (ap rated_messages drained_so ∙ flows_drained now (in_flight old)) indexed
 
 pub take_done-requires-clause-limited : goal.take_done-requires-clause-limited
 take_done-requires-clause-limited g c e =
@@ -53,55 +38,50 @@ take_done-requires-clause-timed g c e =
 
 -- ---- what is done
 
-pub returns-clause-done : goal.returns-clause-done
-returns-clause-done g c =
-    let caps = caps_of g.P.Ord.cmp c.args.peers.now.entries c.args.pairs.now.entries in
-    let drained = c.drain.new.self in
-    c.in_ok-done.ensures.parted.left ∙ sym (out_as_read g.P.Ord.cmp caps drained.scale (in_units drained))
-    ∙ ap (λ fs. rated_messages (filter (is_spent g.P.Ord.cmp caps) fs)) (drained_so g.P.Ord.cmp c.args.now c.args.flights.now drained c.drain.ensures.scale
-    c.in_ok-drain.ensures.drained)
+-- what two facts about an answer make of it
+if_ok_both : {X E : Type 0} {A B C : X → Type 0} (r : Result X E) → ((x : X) → A x → B x → C x) → IfOk r A → IfOk r B
+    → IfOk r C
+if_ok_both (Ok x) f a b = f x a b
+if_ok_both (Err e) f a b = tt
 
-pub returns-clause-rest : goal.returns-clause-rest
-returns-clause-rest g c =
-    let caps = caps_of g.P.Ord.cmp c.args.peers.now.entries c.args.pairs.now.entries in
-    let drained = c.drain.new.self in
-    ap (λ n. sending_of n (in_units c.take_done.new.self)) c.take_done.ensures.scale
-    ∙ ap (sending_of drained.scale) c.in_ok-done.ensures.parted.stay
-    ∙ sym (stay_as_read g.P.Ord.cmp caps drained.scale (in_units drained))
-    ∙ ap (filter (λ f. not (is_spent g.P.Ord.cmp caps f))) (drained_so g.P.Ord.cmp c.args.now c.args.flights.now drained c.drain.ensures.scale
-    c.in_ok-drain.ensures.drained)
-
-pub returns-clause-one_each : goal.returns-clause-one_each
-returns-clause-one_each g c =
-    let cmp = g.P.Ord.cmp in
-    let caps = caps_of cmp c.args.peers.now.entries c.args.pairs.now.entries in
-    let old = c.args.flights.now in
-    ∣ one_stays cmp g.met.P.Ord.total c.args.now (is_spent cmp caps) (in_flight old)
-    (in_flight c.take_done.new.self) (one_if_so cmp (rated_messages (in_flight old)) c.requires.one_each)
-    (returns-clause-rest g c) ∣₁
-
-pub returns-clause-fair : goal.returns-clause-fair
-returns-clause-fair g c e =
+pub returns-clause-parted : goal.returns-clause-parted
+returns-clause-parted g c =
     let cmp = g.P.Ord.cmp in
     let caps = caps_of cmp c.args.peers.now.entries c.args.pairs.now.entries in
     let old = c.args.flights.now in
     let drained = c.drain.new.self in
     let left = c.take_done.new.self in
-    let rated = c.requires.rated e in
     let scale = c.take_done.ensures.scale in
+    let drains = drained_so cmp c.args.now old drained c.drain.ensures.scale c.in_ok-drain.ensures.drained in
+    if_ok_both c.take_done.result (λ done parted floor.
+    let stays : in_flight left ≡ filter (λ f. not (is_spent cmp caps f)) (drained_to c.args.now (in_flight old)) =
+    ap (λ n. sending_of n (in_units left)) scale
+    ∙ ap (sending_of drained.scale) parted.stay
+    ∙ sym (stay_as_read cmp caps drained.scale (in_units drained))
+    ∙ ap (filter (λ f. not (is_spent cmp caps f))) drains in
     record {
-      before = in_units drained;
-      parted =
-          subst (λ n. ArePartedBy (is_out cmp caps n) (in_units drained) (messages c.in_ok-done.done.items)
-          (in_units left)) (sym scale) c.in_ok-done.ensures.parted;
-      fair =
-          subst (λ n. AreFairlyRated cmp caps n (rated_ones (in_units drained)))
-          (sym (scale ∙ c.drain.ensures.scale))
-          (still_fair_after cmp caps old.scale (in_units old) (in_units drained)
-          (zip_weaker (DrainsTo c.args.now) IsAsRated (drained_as_rated c.args.now) (in_units old) (in_units drained)
-          c.in_ok-drain.ensures.drained) rated.fair);
-      no_less =
-          subst (λ n. IsFloorOf (is_out cmp caps n) (in_units drained) left.floor) (sym scale)
-          c.in_ok-done.ensures.floor;
-      timed = c.take_done.ensures.timed (c.in_ok-drain.ensures.timed (c.requires.later e) rated.timed);
-    }
+      left =
+          parted.left ∙ sym (out_as_read cmp caps drained.scale (in_units drained))
+          ∙ ap (λ fs. rated_messages (filter (is_spent cmp caps) fs)) drains;
+      stays = stays;
+      one_each =
+          ∣ one_stays cmp g.met.P.Ord.total c.args.now (is_spent cmp caps) (in_flight old) (in_flight left)
+          (one_if_so cmp (rated_messages (in_flight old)) c.requires.one_each) stays ∣₁;
+      fair = λ e.
+          let rated = c.requires.rated e in
+          record {
+            before = in_units drained;
+            parted =
+                subst (λ n. ArePartedBy (is_out cmp caps n) (in_units drained) (messages done.items) (in_units left))
+                (sym scale) parted;
+            fair =
+                subst (λ n. AreFairlyRated cmp caps n (rated_ones (in_units drained)))
+                (sym (scale ∙ c.drain.ensures.scale))
+                (still_fair_after cmp caps old.scale (in_units old) (in_units drained)
+                (zip_weaker (DrainsTo c.args.now) IsAsRated (drained_as_rated c.args.now) (in_units old)
+                (in_units drained) c.in_ok-drain.ensures.drained) rated.fair);
+            no_less = subst (λ n. IsFloorOf (is_out cmp caps n) (in_units drained) left.floor) (sym scale) floor;
+            timed = c.take_done.ensures.timed (c.in_ok-drain.ensures.timed (c.requires.later e) rated.timed);
+          };
+      moment = c.take_done.ensures.at ∙ c.in_ok-drain.ensures.at;
+    }) c.take_done.ensures.parted c.take_done.ensures.floor

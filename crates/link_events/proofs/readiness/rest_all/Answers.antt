@@ -1,8 +1,8 @@
-use Rattle.std.proofs.Common.{◌≡◌, ◌+◌, ◌<◌, ℕ, false, true, List, [], ◌∷◌, ◌++◌, length, None, take, sym, ap, ◌∙◌}
-use Rattle.std.proofs.Common.{refl, subst, arith, rules}
+use Rattle.std.proofs.Common.{◌≡◌, ◌+◌, ◌<◌, ℕ, false, true, List, [], ◌∷◌, ◌++◌, length, None, take}
+use Rattle.std.proofs.Common.{sym, ap, ◌∙◌, refl, subst, arith, rules}
 use Rattle.std.specs.declared.rc.Rc.{Rc}
 use Rattle.std.specs.declared.alloc.Global.{Global}
-use Rattle.std.proofs.lemmas.List.{map-append, take_more, length-map}
+use Rattle.std.proofs.lemmas.List.{map-append, take_more}
 use Rattle.link_simulation.specs.Simulation.Messages.{Message}
 use Rattle.link_simulation.specs.Rule.Planned.{Planned}
 use Rattle.link_pairs.specs.declared.message.Message as code
@@ -11,7 +11,7 @@ use Rattle.link_waiting.specs.Idle.Index.{is_listed, is_of_pair, idle_from, AreA
 use Rattle.link_pairs.specs.Pairs.Messages.{message_of, messages}
 use Rattle.link_pairs.proofs.Pairs.LookedUp.{arrivals_looked_up}
 use Rattle.link_waiting.proofs.Idle.IndexChanges.{any_at, rests_more, rests_none}
-use Rattle.link_events.proofs.Steps.Landing.{first_message}
+use Rattle.link_events.proofs.Steps.Landing.{since_taken, since_taken_first}
 use Rattle.link_events.proofs.readiness.rest_all.Goals as goal
 use Rattle.link_events.proofs.readiness.rest_all.Goals.{in-Some+in_ok-add, in_default, then-at-eq0, else-at-eq0}
 
@@ -58,22 +58,13 @@ loop-at-preserved g c =
     ] in
     record {
       rest = rest;
-      first = λ m ms is some. elim c.if-at-eq0.branch [
+      first = elim c.if-at-eq0.branch [
         | then-at-eq0 w ↦
-            let own = first_message done c.index.result.now at m ms is lt w.if-at-eq0.true c.index.ensures in
             w.first-is ∙ since_is ∙ c.idle_from-since.ensures [] refl
-            ∙ ap (λ (n : Message g.row.P.Denot). idle_from cmp q n.origin n.recipient) (sym there ∙ own)
-        | else-at-eq0 w ↦ w.first-is ∙ c.loop-at.invariant.first m ms is (omega (arith, w.if-at-eq0.false))
+            ∙ ap (λ (n : Message g.row.P.Denot). idle_from cmp q n.origin n.recipient) (sym there)
+            ∙ sym (since_taken_first cmp q done c.index.result.now at lt w.if-at-eq0.true c.index.ensures)
+        | else-at-eq0 w ↦
+            w.first-is ∙ c.loop-at.invariant.first
+            ∙ since_taken cmp q done at (at + 1) (omega (arith, w.if-at-eq0.false)) (omega arith)
       ];
     }
-
-pub returns-clause-first : goal.returns-clause-first
-returns-clause-first g c m ms is =
-    c.loop-at.invariant.first m ms is (omega (
-      arith,
-      ap length is,
-      length-map c.args.done.now.items (λ (x : Rc (code.Message g.row.P.Denot) Global). message_of x.value),
-      c.loop-at-test.false,
-      c.len-at-end.ensures,
-      c.args.done.now.ok.0,
-    ))

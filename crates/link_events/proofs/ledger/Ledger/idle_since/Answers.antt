@@ -8,7 +8,7 @@ pub returns-then-is_some : goal.returns-then-is_some
 returns-then-is_some g c =
     let old = c.args.self.now in
     since_when_listed g.P.Ord.cmp (planned g.P.Ord.cmp old) old.idle.entries c.args.origin.now c.args.recipient.now
-    c.since_if_first-first.result old.indexed c.since_if_first-first.ensures
+    c.since_if_first-first.result old.indexed c.since_if_first-first.ensures.listed
     (sym c.is_some.ensures ∙ c.if-is_some.true)
 
 pub returns : goal.returns

@@ -1,14 +1,16 @@
-use Rattle.std.proofs.Common.{not, sym, ◌∙◌, refl, subst, inl, inr, map}
+use Rattle.std.proofs.Common.{not, sym, ◌∙◌, refl, subst, inl, inr}
 use Rattle.std.specs.List.{filter}
 use Rattle.link_simulation.specs.Rule.Planned.{Planned, is_spent, drained_to}
 use Rattle.link_pairs.specs.Pairs.CapsOf.{caps_of}
 use Rattle.link_pairs.specs.Pairs.PeerCaps.{egress_of, ingress_of}
-use Rattle.link_pairs.specs.Pairs.Messages.{message_of, messages}
+use Rattle.link_pairs.specs.Pairs.Messages.{messages}
 use Rattle.link_flights.specs.Flights.InFlight.{in_flight}
 use Rattle.link_flights.specs.Flights.Rated.{HadFairRates}
 use Rattle.link_flights.proofs.Flights.Rated.{rated_if_so}
 use Rattle.link_events.specs.Steps.AsPlanned.{planned}
-use Rattle.link_events.proofs.Steps.Finishing.{landed_so}
+use Rattle.link_events.proofs.Steps.Landing.{leaves_landing, since_alike}
+use Rattle.link_pairs.specs.Pairs.Entries.{arrival_of}
+use Rattle.link_waiting.specs.Idle.AtRest.{of_pairs}
 use Rattle.link_events.proofs.ledger.Ledger.leave_landing_at.Goals as goal
 
 pub leave_landing-left-requires-clause-rated : goal.leave_landing-left-requires-clause-rated
@@ -17,38 +19,37 @@ leave_landing-left-requires-clause-rated g c e =
     rated_if_so g.P.Ord.cmp (caps_of g.P.Ord.cmp old.peers.entries old.pairs.entries) old.flights
     (old.rated (c.were_fair_until-were_fair.ensures.rated e))
 
-pub returns-in-Ok-clause-first : goal.returns-in-Ok-clause-first
-returns-in-Ok-clause-first g c m ms is =
+pub returns-in-Ok-clause-lands : goal.returns-in-Ok-clause-lands
+returns-in-Ok-clause-lands g c =
     let cmp = g.P.Ord.cmp in
     let old = c.args.self.now in
     let caps = caps_of cmp old.peers.entries old.pairs.entries in
-    let here : Planned g.row.P.Denot = record (planned cmp old) {
-      sending = filter (λ f. not (is_spent cmp caps f)) (drained_to c.args.now (in_flight old.flights));
-    } in
+    let known = c.leave_landing-left.new.pairs.entries in
+    let flights = c.leave_landing-left.new.flights in
     let left = c.in-Ok.ensures in
-    let lands = left.first m ms is in
-    record {
-      here = here;
-      leaves = record { left = sym is ∙ left.done; is = refl };
-      lands = landed_so cmp c.args.now here _ m lands.at lands.moment (λ i. record {
-        caps =
-            record {
-              egress = egress_of cmp old.peers.entries;
-              ingress = ingress_of cmp old.peers.entries;
-              link = left.link i;
-            };
-        limited = old.limited;
-        sending = left.rest i;
-        waiting = map message_of old.waiting.messages;
-        last_arrival = lands.raised i;
-        next_id = old.next_id;
-        finish = old.finish;
-        start = old.start;
-      });
-      in_time = lands.in_time;
-      completion = lands.completion;
-      idle = left.idle m ms is;
-    }
+    let new : Planned g.row.P.Denot = record (planned cmp old) {
+      caps = caps_of cmp old.peers.entries known;
+      sending = in_flight flights;
+      last_arrival = arrival_of cmp known;
+    } in
+    leaves_landing cmp g.met.P.Ord.total c.args.now (planned cmp old) new
+    (filter (λ f. not (is_spent cmp caps f)) (drained_to c.args.now (in_flight old.flights))) (arrival_of cmp known)
+    (messages c.in-Ok.left.done.items) c.in-Ok.left.deliver_at c.in-Ok.left.since
+    (record { left = left.parted.left; is = refl })
+    (λ i. record (planned cmp old) {
+      caps =
+          record {
+            egress = egress_of cmp old.peers.entries;
+            ingress = ingress_of cmp old.peers.entries;
+            link = left.link i;
+          };
+      sending = left.parted.stays i;
+      last_arrival = arrival_of cmp known;
+    })
+    left.lands
+    (left.idle
+    ∙ since_alike cmp g.met.P.Ord.total (of_pairs cmp known old.waiting.messages (in_flight flights)) new
+    (messages c.in-Ok.left.done.items) (λ a b some. refl))
 
 pub returns-in-Ok-clause-fair : goal.returns-in-Ok-clause-fair
 returns-in-Ok-clause-fair g c e =
@@ -57,7 +58,7 @@ returns-in-Ok-clause-fair g c e =
     subst
     (λ l. HadFairRates cmp (record (caps_of cmp old.peers.entries old.pairs.entries) { link = l })
     c.leave_landing-left.new.flights (messages c.in-Ok.left.done.items))
-    (sym c.in-Ok.ensures.link) (c.in-Ok.ensures.fair e)
+    (sym c.in-Ok.ensures.link) (c.in-Ok.ensures.parted.fair e)
 
 pub returns-in-Err-clause-refused : goal.returns-in-Err-clause-refused
 returns-in-Err-clause-refused g c =

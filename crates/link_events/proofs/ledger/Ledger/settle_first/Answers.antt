@@ -6,7 +6,7 @@ use Rattle.link_simulation.specs.Simulation.World.{completion_of}
 use Rattle.link_simulation.specs.Rule.Leaving.{Leaves}
 use Rattle.link_pairs.specs.Pairs.Messages.{message_of, messages, ended_of}
 use Rattle.link_events.specs.Steps.AsPlanned.{planned}
-use Rattle.link_events.proofs.Steps.Landing.{no_message}
+use Rattle.link_events.proofs.Steps.Landing.{no_message, none_leaves, first_lands}
 use Rattle.link_events.proofs.Steps.SettledFirst.{first_and_others, others_and_more}
 use Rattle.link_events.proofs.Steps.SettledFirst.{settles_none, stopped_first, refused_landing, settles_others}
 use Rattle.link_events.proofs.ledger.Ledger.settle_first.Goals as goal
@@ -14,19 +14,23 @@ use Rattle.link_events.proofs.ledger.Ledger.settle_first.Goals as goal
 pub rate-requires-clause-leaves : goal.rate-requires-clause-leaves
 rate-requires-clause-leaves g c = (
   planned g.P.Ord.cmp c.args.self.now,
-  [],
-  c.in_ok-left.ensures.none (no_message c.in_ok-left.left.done.items c.in-None.ensures.item.3),
+  messages c.in_ok-left.left.done.items,
+  none_leaves g.P.Ord.cmp c.args.now (planned g.P.Ord.cmp c.args.self.now)
+      (planned g.P.Ord.cmp c.leave_landing_at.new.self) (messages c.in_ok-left.left.done.items)
+      c.in_ok-left.left.deliver_at c.in_ok-left.left.since
+      (no_message c.in_ok-left.left.done.items c.in-None.ensures.item.3) c.in_ok-left.ensures.lands,
 )
 
 pub returns-in-None-clause-settles : goal.returns-in-None-clause-settles
 returns-in-None-clause-settles g c =
     let old = planned g.P.Ord.cmp c.args.self.now in
-    let none = no_message c.in_ok-left.left.done.items c.in-None.ensures.item.3 in
-    settles_none g.P.Ord.cmp c.args.now old (planned g.P.Ord.cmp c.rate.new.self)
-    (messages c.in_ok-left.left.done.items) (map ended_of c.args.ended.now.items)
-    (c.in_ok-rate-in-None.ensures.accounts old (messages c.in_ok-left.left.done.items)
-    (subst (λ (l : List (Message g.row.P.Denot)). Leaves g.P.Ord.cmp c.args.now old l
-    (planned g.P.Ord.cmp c.leave_landing_at.new.self)) (sym none) (c.in_ok-left.ensures.none none)))
+    let queue = messages c.in_ok-left.left.done.items in
+    settles_none g.P.Ord.cmp c.args.now old (planned g.P.Ord.cmp c.rate.new.self) queue
+    (map ended_of c.args.ended.now.items)
+    (c.in_ok-rate-in-None.ensures.accounts old queue
+    (none_leaves g.P.Ord.cmp c.args.now old (planned g.P.Ord.cmp c.leave_landing_at.new.self) queue
+    c.in_ok-left.left.deliver_at c.in_ok-left.left.since
+    (no_message c.in_ok-left.left.done.items c.in-None.ensures.item.3) c.in_ok-left.ensures.lands))
 
 pub returns-in_err-left-clause-refused : goal.returns-in_err-left-clause-refused
 returns-in_err-left-clause-refused g c =
@@ -43,7 +47,10 @@ returns-in_err-more-clause-refused g c =
     let m = message_of c.deref.result.now in
     let first = first_and_others queue c.in-Some.first.now c.deref.result.now c.in-Some.ensures.item.3.0
     c.in-Some.ensures.lookup (c.deref.ensures ∙ c.in_ok-message-in-Some.ensures.cases) in
-    let lands = c.in_ok-left.ensures.first m (messages (drop 1 queue)) first in
+    let lands =
+    first_lands g.P.Ord.cmp c.args.now old (planned g.P.Ord.cmp c.leave_landing_at.new.self) m
+    (messages (drop 1 queue)) (messages queue) c.in_ok-left.left.deliver_at c.in_ok-left.left.since first
+    c.in_ok-left.ensures.lands in
     let leaves : Leaves g.P.Ord.cmp c.args.now old (messages queue) lands.here =
     subst (λ (l : List (Message g.row.P.Denot)). Leaves g.P.Ord.cmp c.args.now old l lands.here) (sym first)
     lands.leaves in
@@ -58,7 +65,10 @@ returns-clause-settles g c =
     let m = message_of c.deref.result.now in
     let first = first_and_others queue c.in-Some.first.now c.deref.result.now c.in-Some.ensures.item.3.0
     c.in-Some.ensures.lookup (c.deref.ensures ∙ c.in_ok-message-in-Some.ensures.cases) in
-    let lands = c.in_ok-left.ensures.first m (messages (drop 1 queue)) first in
+    let lands =
+    first_lands g.P.Ord.cmp c.args.now old (planned g.P.Ord.cmp c.leave_landing_at.new.self) m
+    (messages (drop 1 queue)) (messages queue) c.in_ok-left.left.deliver_at c.in_ok-left.left.since first
+    c.in_ok-left.ensures.lands in
     let leaves : Leaves g.P.Ord.cmp c.args.now old (messages queue) lands.here =
     subst (λ (l : List (Message g.row.P.Denot)). Leaves g.P.Ord.cmp c.args.now old l lands.here) (sym first)
     lands.leaves in
