@@ -12,7 +12,7 @@ ghost use Rattle.link_flights.specs.Flights.Components.{is_sender, is_receiver, 
 ghost use Rattle.link_flights.specs.Flights.Components.{is_closed, AreNear};
 ghost use Rattle.link_flights.specs.Flights.Components.{StartsWith, AreStillListed, IsSameOrLonger};
 ghost use Rattle.link_flights.specs.Flights.Components.{AreListed, AreAllListed, AllNewTouch, place_of};
-ghost use Rattle.link_flights.specs.Flights.Components.{IsSuited, AreSuited};
+ghost use Rattle.link_flights.specs.Flights.Components.{IsSuited, AreSuited, AreTouched, SharesAt, Ascends};
 ghost use Rattle.link_flights.specs.Flights.Components.{share_an_end as share_end};
 ghost use Rattle.link_flights.specs.Flights.Flight.{flight_at};
 ghost use Rattle.link_flights.specs.Flights.InFlight.{in_units, IsNextPlace};
@@ -57,6 +57,7 @@ impl<P: Peer> Component<P> {
     fn new(alloc: Global) -> Result<Component<P>, Error>
         ensures part { IfOk result (λ component. component.whole ≡ false) }
         ensures joined { IfOk result (λ component. component.joined.items ≡ []) }
+        ensures near { IfOk result (λ component. component.near.items ≡ []) }
         ensures refused { IfErr result (λ e. e ≡ Error.OutOfMemory) }
     {
         Ok(Component {
@@ -239,7 +240,7 @@ impl<P: Peer> Flights<P> {
     {
         let mut component = Component::new(self.alloc)?;
         self.join_touched(done, &mut component)?;
-        if !self.grow(&mut component, peers, pairs)? || !self.are_near(&component) {
+        if !self.grow(&mut component, peers, pairs)? {
             return Ok(None);
         }
         if component.has_all(done) && self.new_touch(&component) {
@@ -333,6 +334,7 @@ impl<P: Peer> Flights<P> {
         done: &VecDeque<Rc<Message<P>>>,
         component: &mut Component<P>,
     ) -> Result<(), Error>
+        ensures near { component.new.near.items ≡ component.old.near.items }
         ensures level { component.new.level ≡ component.old.level }
         ensures whole { component.new.whole ≡ component.old.whole }
         ensures refused { IfErr result (λ e. e ≡ Error.OutOfMemory) }
@@ -355,8 +357,12 @@ impl<P: Peer> Flights<P> {
         peers: &Peers<P>,
         pairs: &Pairs<P>,
     ) -> Result<bool, Error>
+        requires none { component.old.near.items ≡ [] }
         ensures listed { IfOk result (λ all. all ≡ true →
             AreAllListed P.cmp component.new.joined.items component.new.near.items self.now.list.items) }
+        ensures order { IfOk result (λ all. all ≡ true → Ascends 0 component.new.near.items) }
+        ensures touched { IfOk result (λ all. all ≡ true →
+            AreTouched P.cmp component.new component.new.near.items self.now.list.items) }
         ensures suited { IfOk result (λ all. all ≡ true →
             AreSuited P.cmp component.new component.new.near.items self.now.list.items) }
         ensures level { IfOk result (λ all. all ≡ true → IfSome self.now.floor (λ floor. component.new.level ≤ floor)) }
@@ -388,8 +394,13 @@ impl<P: Peer> Flights<P> {
         requires first { first ≤ length component.old.joined.items }
         requires others { AreAllListed P.cmp (take first component.old.joined.items) component.old.near.items
             self.now.list.items }
+        requires order { Ascends 0 component.old.near.items }
+        requires touched { AreTouched P.cmp component.old component.old.near.items self.now.list.items }
         ensures listed { OnOk result
             (AreAllListed P.cmp component.new.joined.items component.new.near.items self.now.list.items) }
+        ensures order { OnOk result (Ascends 0 component.new.near.items) }
+        ensures touched { OnOk result
+            (AreTouched P.cmp component.new component.new.near.items self.now.list.items) }
         ensures joined { component.new.joined.items ≡ component.old.joined.items }
         ensures level { component.new.level ≡ component.old.level }
         ensures whole { component.new.whole ≡ component.old.whole }
@@ -403,8 +414,12 @@ impl<P: Peer> Flights<P> {
 
     /// Lists the places of those in flight that share an end with the message.
     fn list_sharing(&self, message: &Message<P>, near: &mut Vec<usize>) -> Result<(), Error>
+        requires order { Ascends 0 near.old.items }
         ensures listed { OnOk result (AreListed P.cmp message.now near.new.items self.now.list.items) }
         ensures more { OnOk result (AreStillListed near.old.items near.new.items) }
+        ensures only { OnOk result (All (λ p. Contains near.old.items p
+            ⊎ SharesAt P.cmp message.now self.now.list.items p) near.new.items) }
+        ensures order { OnOk result (Ascends 0 near.new.items) }
         ensures refused { IfErr result (λ e. e ≡ Error.OutOfMemory) }
     {
         let mut from = 0;
@@ -461,8 +476,13 @@ impl<P: Peer> Flights<P> {
         requires others { AreAllListed P.cmp (take number component.old.joined.items) component.old.near.items
             self.now.list.items }
         requires suited { AreSuited P.cmp component.old component.old.near.items self.now.list.items }
+        requires order { Ascends 0 component.old.near.items }
+        requires touched { AreTouched P.cmp component.old component.old.near.items self.now.list.items }
         ensures listed { OnOk result (AreAllListed P.cmp (take (number + 1) component.new.joined.items)
             component.new.near.items self.now.list.items) }
+        ensures order { OnOk result (Ascends 0 component.new.near.items) }
+        ensures touched { OnOk result
+            (AreTouched P.cmp component.new component.new.near.items self.now.list.items) }
         ensures suited { OnOk result
             (AreSuited P.cmp component.new component.new.near.items self.now.list.items) }
         ensures level { component.new.level ≡ component.old.level }
@@ -496,26 +516,6 @@ impl<P: Peer> Flights<P> {
         None
     }
 
-    /// Whether the listed places are in order, and the component has an end of what stands at each.
-    fn are_near(&self, component: &Component<P>) -> bool
-        requires part { component.now.whole ≡ false }
-        requires listed { AreAllListed P.cmp component.now.joined.items component.now.near.items self.now.list.items }
-        ensures { result ≡ true → AreNear P.cmp component.now component.now.near.items self.now.list.items }
-    {
-        let mut from = 0;
-        for at in &component.near {
-            let touched = match self.list.get(*at) {
-                Some(one) => component.touches(&one.message),
-                None => false,
-            };
-            if *at < from || !touched {
-                return false;
-            }
-            from = *at + 1;
-        }
-        true
-    }
-
     /// Whether the component has an end of each of those that have got no rate yet.
     fn new_touch(&self, component: &Component<P>) -> bool
         ensures { result ≡ true → AllNewTouch P.cmp component.now self.now.settled self.now.list.items }
@@ -529,13 +529,17 @@ impl<P: Peer> Flights<P> {
     }
 }
 
-/// The place is listed from now on, among those that are. If these are in order, and those before
-/// `from` are less, it stands in order, too: at the place that is answered.
+/// The place is listed from now on, among those that are, in order: at the place that is answered.
+/// Those before `from` are less.
 fn list(places: &mut Vec<usize>, from: usize, at: usize) -> Result<usize, Error>
+    requires order { Ascends 0 places.old.items }
+    requires past { All (λ p. p < at) (take from places.old.items) }
     ensures here { OnOk result (Contains places.new.items at) }
     ensures others { OnOk result (AreStillListed places.old.items places.new.items) }
     ensures only { OnOk result (All (λ p. Contains places.old.items p ⊎ (p ≡ at)) places.new.items) }
     ensures longer { OnOk result (IsSameOrLonger places.old.items places.new.items) }
+    ensures order { OnOk result (Ascends 0 places.new.items) }
+    ensures past { IfOk result (λ place. All (λ p. p < at) (take place places.new.items)) }
     ensures refused { IfErr result (λ e. e ≡ Error.OutOfMemory) }
 {
     let mut place = from.min(places.len());

@@ -1,28 +1,54 @@
 -- Places that are listed in order are those at which a test passes.
-use Rattle.std.proofs.Common.{◌≡◌, ℕ, zero, suc, ◌+◌, ◌<◌, ◌≤◌, Bool, true, false, List, [], ◌∷◌, length, drop}
-use Rattle.std.proofs.Common.{Some, get_or, slice_get, refl, sym, ap, ◌∙◌, subst, arith, inl, inr}
+use Rattle.std.proofs.Common.{◌≡◌, ℕ, zero, suc, ◌+◌, ◌<◌, ◌≤◌, Bool, true, false, List, [], ◌∷◌, ◌++◌, length}
+use Rattle.std.proofs.Common.{Some, get_or, slice_get, All, take, refl, sym, ap, ◌∙◌, subst, arith, inl, inr}
+use Rattle.std.specs.List.{insert}
 use Rattle.std.proofs.lemmas.Bool.{false≢true}
+use Rattle.std.proofs.lemmas.List.Elements.{All-cons, All-nil}
 use Rattle.std.proofs.lemmas.Option.{none-some, same_Some}
 use Rattle.fair_rates.proofs.Lists.Members.{In}
-use Rattle.link_flights.specs.Flights.Components.{places_of}
+use Rattle.link_flights.specs.Flights.Components.{places_of, Ascends}
 use Rattle.link_flights.proofs.Flights.Places.{places_yes, places_no}
-
--- they are in order, from a place on
-abbrev pub Ascends : ℕ → List ℕ → Type 0
-Ascends first [] = Unit {0}
-Ascends first (p ∷ ps) = (first ≤ p) × Ascends (suc p) ps
 
 no_less : (first : ℕ) (ps : List ℕ) → Ascends first ps → (p : ℕ) → In ps p → first ≤ p
 no_less first [] a p h = absurd h
 no_less first (q ∷ qs) (from, rest) p (inl e) = omega (arith, from, e)
 no_less first (q ∷ qs) (from, rest) p (inr h) = omega (arith, from, no_less (suc q) qs rest p h)
 
-drop_here : (ps : List ℕ) (k : ℕ) → k < length ps → drop k ps ≡ get_or ps k 0 ∷ drop (k + 1) ps
-drop_here [] k inside = absurd (omega (arith, inside))
-drop_here (p ∷ ps) zero inside = refl
-drop_here (p ∷ ps) (suc k) inside =
-    let next : suc (k + 1) ≡ suc k + 1 = omega arith in
-    drop_here ps k (omega (arith, inside)) ∙ ap (λ n. get_or ps k 0 ∷ drop n (p ∷ ps)) next
+-- one more stands where all before are less, and all from there on are greater
+pub ascends_with_one : (first : ℕ) (ps : List ℕ) (to at : ℕ) → Ascends first ps → first ≤ at
+    → All (λ p. p < at) (take to ps) → (to < length ps → at < get_or ps to 0) → Ascends first (insert ps to at)
+ascends_with_one first [] zero at order from below above = (from, tt)
+ascends_with_one first [] (suc to) at order from below above = (from, tt)
+ascends_with_one first (p ∷ ps) zero at (low, rest) from below above = (from, (above (omega arith), rest))
+ascends_with_one first (p ∷ ps) (suc to) at (low, rest) from below above =
+    let less : p < at = below 0 p (omega arith) in
+    (low, ascends_with_one (suc p) ps to at rest (omega (arith, less))
+    (λ k d inside. below (suc k) d (omega (arith, inside))) (λ inside. above (omega (arith, inside))))
+
+-- what holds of the first so many holds of fewer
+pub holds_of_fewer : (Q : ℕ → Type 0) (n m : ℕ) (ps : List ℕ) → n ≤ m → All Q (take m ps) → All Q (take n ps)
+holds_of_fewer Q zero m ps fewer all = All-nil Q
+holds_of_fewer Q (suc n) zero ps fewer all = absurd (omega (arith, fewer))
+holds_of_fewer Q (suc n) (suc m) [] fewer all = All-nil Q
+holds_of_fewer Q (suc n) (suc m) (p ∷ ps) fewer all =
+    All-cons Q p (take n ps) (all 0 p (omega arith))
+    (holds_of_fewer Q n m ps (omega (arith, fewer)) (λ k d inside. all (suc k) d (omega (arith, inside))))
+
+-- and still does where one more stands behind them
+pub holds_with_one : (Q : ℕ → Type 0) (ps : List ℕ) (to at : ℕ) → to ≤ length ps → All Q (take to ps)
+    → All Q (take to (insert ps to at))
+holds_with_one Q ps zero at inside all = All-nil Q
+holds_with_one Q [] (suc to) at inside all = absurd (omega (arith, inside))
+holds_with_one Q (p ∷ ps) (suc to) at inside all =
+    All-cons Q p (take to (insert ps to at)) (all 0 p (omega arith))
+    (holds_with_one Q ps to at (omega (arith, inside)) (λ k d low. all (suc k) d (omega (arith, low))))
+
+-- what comes to the end comes to stand there
+pub pushed_is_inserted : (ps : List ℕ) (to at : ℕ) → to ≡ length ps → ps ++ at ∷ [] ≡ insert ps to at
+pushed_is_inserted [] zero at is = refl
+pushed_is_inserted [] (suc to) at is = absurd (omega (arith, is))
+pushed_is_inserted (p ∷ ps) zero at is = absurd (omega (arith, is))
+pushed_is_inserted (p ∷ ps) (suc to) at is = ap (λ l. p ∷ l) (pushed_is_inserted ps to at (omega (arith, is)))
 
 module _ {X : Type 0} (test : X → Bool) where
   -- the test passes at a place, where the first of the list has a place
@@ -105,39 +131,3 @@ module _ {X : Type 0} (test : X → Bool) where
           ih near (after near order past) (λ p h. later first x xs p (each p h) (past p h))
           (λ k one there is. subst (In near) (omega arith) (all (suc k) one there is))
           ∙ sym (places_no test first x xs fails)
-
-  -- ---- places that are looked at one after the other
-
-  module _ (list : List X) where
-    -- the test passes at each of them, and they are in order from a place on
-    abbrev pub Stand : ℕ → List ℕ → Type 0
-    Stand from [] = Unit {0}
-    Stand from (p ∷ ps) = (from ≤ p) × ((one : X) × (slice_get list p ≡ Some one) × (test one ≡ true)) × Stand (suc p) ps
-
-    in_order : (from : ℕ) (ps : List ℕ) → Stand from ps → Ascends from ps
-    in_order from [] stand = stand
-    in_order from (p ∷ ps) (low, here, rest) = (low, in_order (suc p) ps rest)
-
-    each_passes : (from : ℕ) (ps : List ℕ) → Stand from ps → (p : ℕ) → In ps p → PassesAt 0 list p
-    each_passes from [] stand p h = absurd h
-    each_passes from (q ∷ qs) (low, (one, there, passes), rest) p (inl e) = record {
-      at = p;
-      one = one;
-      place = omega arith;
-      there = ap (slice_get list) (sym e) ∙ there;
-      passes = passes;
-    }
-    each_passes from (q ∷ qs) (low, here, rest) p (inr h) = each_passes (suc q) qs rest p h
-
-    pub stand_in_order : (near : List ℕ) → Stand 0 near
-        → ((k : ℕ) (one : X) → slice_get list k ≡ Some one → test one ≡ true → In near k)
-        → near ≡ places_of test 0 list
-    stand_in_order near stand all = places_are 0 list near (in_order 0 near stand) (each_passes 0 near stand)
-        (λ k one there is. subst (In near) (omega arith) (all k one there is))
-
-    pub stand_more : (near : List ℕ) (k from : ℕ) (one : X) → k < length near → from ≤ get_or near k 0
-        → slice_get list (get_or near k 0) ≡ Some one → test one ≡ true
-        → Stand (get_or near k 0 + 1) (drop (k + 1) near) → Stand from (drop k near)
-    stand_more near k from one inside low there passes rest =
-        subst (Stand from) (sym (drop_here near k inside))
-        (low, (one, there, passes), subst (λ n. Stand n (drop (k + 1) near)) (omega arith) rest)

@@ -15,18 +15,21 @@ use Rattle.link_flights.proofs.Flights.Places.{or_first, or_second}
 use Rattle.std.proofs.lemmas.List.{append_assoc, length-append, take-append-drop, take-append-le}
 use Rattle.std.proofs.lemmas.List.Elements.{All-more, All-contains, Contains-append_left, Contains-append_right}
 use Rattle.std.proofs.lemmas.List.Elements.{Contains-append_cases}
-use Rattle.std.proofs.lemmas.List.Elements.{All-append, All-cons, All-contains_itself, All-drop, All-take, All-weaker}
-use Rattle.std.proofs.lemmas.List.Folds.{list_all-map, list_any-append, Any-from_list_any}
+use Rattle.std.proofs.lemmas.List.Elements.{All-append, All-cons, All-contains_itself, All-drop, All-nil}
+use Rattle.std.proofs.lemmas.List.Elements.{All-take, All-weaker}
+use Rattle.std.proofs.lemmas.List.Folds.{list_all-map, list_any-append, list_any_at, Any-from_list_any}
 use Rattle.std.proofs.lemmas.Option.{none-some, same_Some, get_or_from_slice_get, slice_get_within}
 use Rattle.fair_rates.specs.Sides.Subjects.{same_peer}
 use Rattle.fair_rates.proofs.Lists.Booleans.{by_bool, first_of_both, second_of_both}
-use Rattle.fair_rates.proofs.Lists.Members.{In, get_in, all_passed}
+use Rattle.fair_rates.proofs.Lists.Members.{In, get_in, in_from_contains, contains_from_in, all_passed}
+use Rattle.link_flights.proofs.Flights.Listed.{places_are}
 use Rattle.link_pairs.specs.declared.message.Message.{Message}
 use Rattle.link_flights.specs.declared.component.Component.{Component}
 use Rattle.link_flights.specs.declared.flight.Flight.{Flight}
 use Rattle.link_flights.specs.Flights.Flight.{UnitFlight, flight_at, flights_at, HaveRates}
 use Rattle.link_flights.specs.Flights.Components.{keeps, has_both, touches, suits, is_closed}
-use Rattle.link_flights.specs.Flights.Components.{IsSuited, AreSuited, near_of, those_near}
+use Rattle.link_flights.specs.Flights.Components.{IsSuited, AreSuited, IsTouched, AreTouched, near_of, those_near}
+use Rattle.link_flights.specs.Flights.Components.{AreNear, Ascends, SharesAt}
 use Rattle.link_flights.specs.Flights.Components.{is_sender, is_receiver, share_an_end, StartsWith}
 use Rattle.link_flights.specs.Flights.Components.{AreStillListed, IsSameOrLonger, AreListed, AreAllListed}
 use Rattle.link_flights.specs.Flights.Components.{AllNewTouch}
@@ -49,6 +52,12 @@ module _ {X : Type 0} where
         let last : at ≡ i = omega (arith, below, past) in
         subst (λ k. Q k x) last (here x (ap (slice_get xs) last ∙ there))
   ]
+
+  -- one stands at each place of a list
+  one_there : (xs : List X) (at : ℕ) → at < length xs → (x : X) × (slice_get xs at ≡ Some x)
+  one_there [] at inside = absurd (omega (arith, inside))
+  one_there (x ∷ xs) zero inside = (x, refl)
+  one_there (x ∷ xs) (suc at) inside = one_there xs at (omega (arith, inside))
 
   -- what all of the first ones pass, one of them passes
   pub passed_there : (test : X → Bool) (n : ℕ) (xs : List X) (at : ℕ) (x : X) → list_all test (take n xs) ≡ true
@@ -120,15 +129,31 @@ module _ {P : Type 0} (cmp : P → P → Ordering) where
 
   -- ---- places that are listed
 
-  -- those before a place that share an end with the message are listed, and so is what was listed before
-  pub record HasListed (m : Message P) (list : List (Rc (Flight P) Global)) (at : ℕ) (before near : List ℕ)
+  -- those before a place that share an end with the message are listed, and no others but what was listed before;
+  -- they are in order, and the first so many stand before that place
+  pub record HasListed (m : Message P) (list : List (Rc (Flight P) Global)) (at first : ℕ) (before near : List ℕ)
       : Type 0 where
     pub listed : (i : ℕ) (one : Rc (Flight P) Global) → i < at → slice_get list i ≡ Some one
         → share_an_end cmp m one.value.message.value ≡ true → Contains near i
     pub more : AreStillListed before near
+    pub only : All (λ p. Contains before p ⊎ SharesAt cmp m list p) near
+    pub order : Ascends 0 near
+    pub past : All (λ p. p < at) (take first near)
 
-  module _ (m : Message P) (list : List (Rc (Flight P) Global)) (from : ℕ) (before near : List ℕ)
-      (so_far : HasListed m list from before near) where
+  -- nothing is yet
+  pub none_listed : (m : Message P) (list : List (Rc (Flight P) Global)) (before : List ℕ) → Ascends 0 before
+      → HasListed m list 0 0 before before
+  none_listed m list before order = record {
+    listed = λ i one below. absurd (omega (arith, below));
+    more = λ i is. is;
+    only = All-weaker (Contains before) (λ p. Contains before p ⊎ SharesAt cmp m list p) (λ p is. inl is) before
+        (All-contains_itself before);
+    order = order;
+    past = All-nil (λ p. p < 0);
+  }
+
+  module _ (m : Message P) (list : List (Rc (Flight P) Global)) (from first : ℕ) (before near : List ℕ)
+      (so_far : HasListed m list from first before near) where
     apart_there : (to : ℕ) → PassesNowhere (λ one. share_an_end cmp m one.value.message.value) list from to
         → (i : ℕ) (one : Rc (Flight P) Global) → from ≤ i → i < to → slice_get list i ≡ Some one
         → share_an_end cmp m one.value.message.value ≡ false
@@ -136,11 +161,26 @@ module _ {P : Type 0} (cmp : P → P → Ordering) where
         subst (λ (y : Rc (Flight P) Global). share_an_end cmp m y.value.message.value ≡ false)
         (get_or_from_slice_get list i one one there) (apart i low high one)
 
+    -- the first so many stand before the next that shares an end
+    pub still_past : (at : ℕ) → PassesFirstAt (λ one. share_an_end cmp m one.value.message.value) list from at
+        → All (λ p. p < at) (take first near)
+    still_past at next =
+        All-weaker (λ p. p < from) (λ p. p < at) (λ p less. omega (arith, less, next.low)) (take first near) so_far.past
+
+    shares_there : (at : ℕ) → PassesFirstAt (λ one. share_an_end cmp m one.value.message.value) list from at
+        → SharesAt cmp m list at
+    shares_there at next =
+        let there = one_there list at next.high in
+        (there.0, there.1,
+        sym (ap (λ (y : Rc (Flight P) Global). share_an_end cmp m y.value.message.value)
+        (get_or_from_slice_get list at there.0 there.0 there.1)) ∙ next.here there.0)
+
     -- one more is listed, the next that shares an end
-    pub listed_more : (at : ℕ) (next : List ℕ)
+    pub listed_more : (at place : ℕ) (next : List ℕ)
         → PassesFirstAt (λ one. share_an_end cmp m one.value.message.value) list from at
-        → Contains next at → AreStillListed near next → HasListed m list (at + 1) before next
-    listed_more at next first here still = record {
+        → Contains next at → AreStillListed near next → All (λ p. Contains near p ⊎ (p ≡ at)) next → Ascends 0 next
+        → All (λ p. p < at) (take place next) → HasListed m list (at + 1) place before next
+    listed_more at place next first here still only order past = record {
       listed = each_more (λ i (one : Rc (Flight P) Global).
           share_an_end cmp m one.value.message.value ≡ true → Contains next i) list at
           (λ i one below there shares. elim (cases_lt i from) [
@@ -149,6 +189,14 @@ module _ {P : Type 0} (cmp : P → P → Ordering) where
           ])
           (λ one there shares. here);
       more = λ i is. still i (so_far.more i is);
+      only = All-weaker (λ p. Contains near p ⊎ (p ≡ at)) (λ p. Contains before p ⊎ SharesAt cmp m list p)
+          (λ p listed. elim listed [
+            | inl is ↦ All-contains (λ p. Contains before p ⊎ SharesAt cmp m list p) near p so_far.only is
+            | inr is ↦ inr (subst (SharesAt cmp m list) (sym is) (shares_there at first))
+          ])
+          next only;
+      order = order;
+      past = All-weaker (λ p. p < at) (λ p. p < at + 1) (λ p less. omega (arith, less)) (take place next) past;
     }
 
     -- no other shares an end
@@ -160,6 +208,72 @@ module _ {P : Type 0} (cmp : P → P → Ordering) where
           (sym (apart_there (length list) apart i one past (slice_get_within list i one there) there) ∙ shares))
     ]
 
+  -- ---- an end of each of those that are listed
+
+  -- who sends or receives still does, where more have joined
+  still_any : (old new : Component P) → StartsWith old.joined.items new.joined.items → new.whole ≡ old.whole
+      → (test : Rc (Message P) Global → Bool) → (old.whole || list_any test old.joined.items) ≡ true
+      → (new.whole || list_any test new.joined.items) ≡ true
+  still_any old new starts whole test is = elim (or_cases old.whole (list_any test old.joined.items) is) [
+    | inl all ↦ or_first new.whole (list_any test new.joined.items) (whole ∙ all)
+    | inr any ↦ or_second new.whole (list_any test new.joined.items)
+        (any_more test old.joined.items new.joined.items starts any)
+  ]
+
+  still_touches : (old new : Component P) → StartsWith old.joined.items new.joined.items → new.whole ≡ old.whole
+      → (m : Message P) → touches cmp old m ≡ true → touches cmp new m ≡ true
+  still_touches old new starts whole m touched =
+      elim (or_cases (is_sender cmp old m.origin) (is_receiver cmp old m.recipient) touched) [
+        | inl sends ↦ or_first (is_sender cmp new m.origin) (is_receiver cmp new m.recipient)
+            (still_any old new starts whole (λ n. same_peer cmp m.origin n.value.origin) sends)
+        | inr receives ↦ or_second (is_sender cmp new m.origin) (is_receiver cmp new m.recipient)
+            (still_any old new starts whole (λ n. same_peer cmp m.recipient n.value.recipient) receives)
+      ]
+
+  -- what was touched still is
+  pub still_touched : (old new : Component P) → StartsWith old.joined.items new.joined.items → new.whole ≡ old.whole
+      → (list : List (Rc (Flight P) Global)) (near : List ℕ) → AreTouched cmp old near list
+      → AreTouched cmp new near list
+  still_touched old new starts whole list near =
+      All-weaker (IsTouched cmp old list) (IsTouched cmp new list)
+      (λ p touched. (touched.0, touched.1, still_touches old new starts whole touched.0.value.message.value touched.2))
+      near
+
+  -- it has an end of what shares one with a message that has joined
+  shares_touches : IsTotalOrder cmp → (component : Component P) (n : ℕ) (m : Rc (Message P) Global)
+      → n < length component.joined.items → m ≡ get_or component.joined.items n m → (other : Message P)
+      → share_an_end cmp m.value other ≡ true → touches cmp component other ≡ true
+  shares_touches order component n m inside is other shares =
+      let ms = component.joined.items in
+      let found : (test : Rc (Message P) Global → Bool) → test m ≡ true → (component.whole || list_any test ms) ≡ true =
+      λ test passes. or_second component.whole (list_any test ms)
+      (list_any_at test ms n m inside (sym (ap test is) ∙ passes)) in
+      elim (or_cases (same_peer cmp m.value.origin other.origin) (same_peer cmp m.value.recipient other.recipient)
+      shares) [
+        | inl same ↦ or_first (is_sender cmp component other.origin) (is_receiver cmp component other.recipient)
+            (found (λ x. same_peer cmp other.origin x.value.origin)
+            ((eq_by_cmp_equiv order).symm other.origin m.value.origin ∙ same))
+        | inr same ↦ or_second (is_sender cmp component other.origin) (is_receiver cmp component other.recipient)
+            (found (λ x. same_peer cmp other.recipient x.value.recipient)
+            ((eq_by_cmp_equiv order).symm other.recipient m.value.recipient ∙ same))
+      ]
+
+  -- those listed are touched, where no others came but such that share an end with one that has joined
+  pub touched_with : IsTotalOrder cmp → (old new : Component P) → StartsWith old.joined.items new.joined.items
+      → new.whole ≡ old.whole → (list : List (Rc (Flight P) Global)) (n : ℕ) (m : Rc (Message P) Global)
+      → n < length old.joined.items → m ≡ get_or old.joined.items n m → (before after : List ℕ)
+      → All (λ p. Contains before p ⊎ SharesAt cmp m.value list p) after → AreTouched cmp old before list
+      → AreTouched cmp new after list
+  touched_with order old new starts whole list n m inside is before after only touched =
+      still_touched old new starts whole list after
+      (All-weaker (λ p. Contains before p ⊎ SharesAt cmp m.value list p) (IsTouched cmp old list)
+      (λ p listed. elim listed [
+        | inl was ↦ All-contains (IsTouched cmp old list) before p touched was
+        | inr shares ↦ (shares.0, shares.1,
+            shares_touches order old n m inside is shares.0.value.message.value shares.2)
+      ])
+      after only)
+
   -- ---- both ends of those that keep no rate
 
   module _ (old new : Component P) (starts : StartsWith old.joined.items new.joined.items)
@@ -167,17 +281,9 @@ module _ {P : Type 0} (cmp : P → P → Ordering) where
     still_has_both : (m : Message P) → has_both cmp old m ≡ true → has_both cmp new m ≡ true
     still_has_both m has =
         and_from _ _
-        (still (λ n. same_peer cmp m.origin n.value.origin) (first_of_both _ _ has))
-        (still (λ n. same_peer cmp m.recipient n.value.recipient)
+        (still_any old new starts whole (λ n. same_peer cmp m.origin n.value.origin) (first_of_both _ _ has))
+        (still_any old new starts whole (λ n. same_peer cmp m.recipient n.value.recipient)
         (second_of_both (is_sender cmp old m.origin) (is_receiver cmp old m.recipient) has))
-      where
-        still : (test : Rc (Message P) Global → Bool) → (old.whole || list_any test old.joined.items) ≡ true
-            → (new.whole || list_any test new.joined.items) ≡ true
-        still test is = elim (or_cases old.whole (list_any test old.joined.items) is) [
-          | inl all ↦ or_first new.whole (list_any test new.joined.items) (whole ∙ all)
-          | inr any ↦ or_second new.whole (list_any test new.joined.items)
-              (any_more test old.joined.items new.joined.items starts any)
-        ]
 
     -- what was suited still is, where it has joined more
     pub still_suited : (list : List (Rc (Flight P) Global)) (near : List ℕ) → AreSuited cmp old near list
@@ -218,9 +324,9 @@ module _ {P : Type 0} (cmp : P → P → Ordering) where
 
   -- those before a place that share an end with the message are listed, and it has both ends of those listed that
   -- keep no rate
-  pub record HasJoinedAll (m : Message P) (list : List (Rc (Flight P) Global)) (at : ℕ) (old new : Component P)
+  pub record HasJoinedAll (m : Message P) (list : List (Rc (Flight P) Global)) (at first : ℕ) (old new : Component P)
       : Type 0 where
-    pub listed : HasListed m list at old.near.items new.near.items
+    pub listed : HasListed m list at first old.near.items new.near.items
     pub suited : AreSuited cmp new new.near.items list
     pub joined : StartsWith old.joined.items new.joined.items
     pub level : new.level ≡ old.level
@@ -254,6 +360,8 @@ module _ {P : Type 0} (cmp : P → P → Ordering) where
   -- so many of the messages that are joined have listed those that share an end with them
   pub record HasListedUpTo (list : List (Rc (Flight P) Global)) (n : ℕ) (old new : Component P) : Type 0 where
     pub listed : AreAllListed cmp (take n new.joined.items) new.near.items list
+    pub order : Ascends 0 new.near.items
+    pub touched : AreTouched cmp new new.near.items list
     pub joined : new.joined.items ≡ old.joined.items
     pub level : new.level ≡ old.level
     pub whole : new.whole ≡ old.whole
@@ -262,6 +370,8 @@ module _ {P : Type 0} (cmp : P → P → Ordering) where
   pub record HasGrown (list : List (Rc (Flight P) Global)) (floor : Option ℕ) (n : ℕ) (old new : Component P)
       : Type 0 where
     pub listed : AreAllListed cmp (take n new.joined.items) new.near.items list
+    pub order : Ascends 0 new.near.items
+    pub touched : AreTouched cmp new new.near.items list
     pub suited : AreSuited cmp new new.near.items list
     pub few : length new.joined.items ≤ 28
     pub level : IfSome floor (λ floor. new.level ≤ floor)
@@ -318,6 +428,20 @@ module _ {P : Type 0} (cmp : P → P → Ordering) where
               (sym (ap (λ b. b || list_any (λ n. same_peer cmp m.recipient n.value.recipient) component.joined.items)
               part) ∙ receives)
         ]
+
+  -- so those listed in order are near, if all are listed
+  pub near_if_listed : IsTotalOrder cmp → (component : Component P) → component.whole ≡ false
+      → (list : List (Rc (Flight P) Global)) → AreAllListed cmp component.joined.items component.near.items list
+      → Ascends 0 component.near.items → AreTouched cmp component component.near.items list
+      → AreNear cmp component component.near.items list
+  near_if_listed order component part list listed ascends touched =
+      let near = component.near.items in
+      places_are (λ f. touches cmp component f.value.message.value) 0 list near ascends
+      (λ p among.
+      let one = All-contains (IsTouched cmp component list) near p touched (contains_from_in near p among) in
+      record { at = p; one = one.0; place = omega arith; there = one.1; passes = one.2 })
+      (λ k one there touches. subst (In near) (omega arith)
+      (in_from_contains near k (touched_listed order list near k one there component part listed touches)))
 
   -- ---- those that are near
 

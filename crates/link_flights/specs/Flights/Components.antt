@@ -68,6 +68,16 @@ module _ {P : Type 0} (cmp : P → P → Ordering) where
   abbrev pub AreNear : Component P → List ℕ → List (Rc (Flight P) Global) → Type 0
   AreNear component near list = near ≡ places_of (λ f. touches component f.value.message.value) 0 list
 
+  -- it has an end of the one at a place
+  abbrev pub IsTouched : Component P → List (Rc (Flight P) Global) → ℕ → Type 0
+  IsTouched component list at =
+      (one : Rc (Flight P) Global) × (slice_get list at ≡ Some one)
+      × (touches component one.value.message.value ≡ true)
+
+  -- and so of each at these places
+  abbrev pub AreTouched : Component P → List ℕ → List (Rc (Flight P) Global) → Type 0
+  AreTouched component near list = All (IsTouched component list) near
+
   -- it has both ends of the one at a place, if that keeps no rate
   abbrev pub IsSuited : Component P → List (Rc (Flight P) Global) → ℕ → Type 0
   IsSuited component list at = (one : Rc (Flight P) Global) → slice_get list at ≡ Some one
@@ -102,7 +112,18 @@ AreStillListed before after = (at : ℕ) → Contains before at → Contains aft
 abbrev pub IsSameOrLonger : List ℕ → List ℕ → Type 0
 IsSameOrLonger before after = (after ≡ before) ⊎ (length before < length after)
 
+-- they are in order, from a place on
+abbrev pub Ascends : ℕ → List ℕ → Type 0
+Ascends first [] = Unit {0}
+Ascends first (p ∷ ps) = (first ≤ p) × Ascends (suc p) ps
+
 module _ {P : Type 0} (cmp : P → P → Ordering) where
+  -- the one at a place shares an end with the message
+  abbrev pub SharesAt : Message P → List (Rc (Flight P) Global) → ℕ → Type 0
+  SharesAt m list at =
+      (one : Rc (Flight P) Global) × (slice_get list at ≡ Some one)
+      × (share_an_end cmp m one.value.message.value ≡ true)
+
   -- each in flight that shares an end with the message is listed
   abbrev pub AreListed : Message P → List ℕ → List (Rc (Flight P) Global) → Type 0
   AreListed m near list = (at : ℕ) (one : Rc (Flight P) Global) → slice_get list at ≡ Some one

@@ -2,7 +2,8 @@ use Rattle.std.proofs.Common.{◌≡◌, ◌≤◌, ◌++◌, length, take, refl
 use Rattle.std.specs.Prelude.{IfSome}
 use Rattle.std.proofs.Math.Seq.{take-append_seam}
 use Rattle.std.proofs.lemmas.List.{take_all}
-use Rattle.link_flights.specs.Flights.Components.{AreAllListed}
+use Rattle.link_flights.specs.Flights.Components.{AreAllListed, AreTouched, Ascends}
+use Rattle.link_flights.proofs.Flights.Search.{still_touched}
 use Rattle.link_flights.proofs.flight_list.Flights.grow.Goals as goal
 
 pub loop-next-init : goal.loop-next-init
@@ -20,6 +21,10 @@ loop-next-init g c =
       listed = subst (λ places. AreAllListed cmp (take c.len-next.result new.joined.items) places list)
           (sym c.join_near.ensures.near)
           (subst (λ ms. AreAllListed cmp ms mid.near.items list) (sym first) c.in_ok-list_from.ensures.listed);
+      order = subst (Ascends 0) (sym c.join_near.ensures.near) c.in_ok-list_from.ensures.order;
+      touched = subst (λ places. AreTouched cmp new places list) (sym c.join_near.ensures.near)
+          (still_touched cmp mid new join.joined c.join_near.ensures.whole list mid.near.items
+          c.in_ok-list_from.ensures.touched);
       suited = join.suited c.if-not-branch.false;
       few = join.few c.if-not-branch.false;
       level = subst (λ level. IfSome c.args.self.now.floor (λ floor. level ≤ floor)) (sym c.join_near.ensures.level)
@@ -34,6 +39,8 @@ loop-next-preserved g c =
     let more = c.in_ok-list_joining.ensures in
     record {
       listed = more.listed;
+      order = more.order;
+      touched = more.touched;
       suited = more.suited;
       few = c.is_large-in-loop-next.ensures c.if-is_large-2.false;
       level = subst (λ level. IfSome c.args.self.now.floor (λ floor. level ≤ floor)) (sym join.level) before.level;

@@ -1,8 +1,8 @@
-use Rattle.std.proofs.Common.{◌<◌, ◌≤◌, length, ap, subst, arith}
-use Rattle.std.proofs.lemmas.List.{take_all}
+use Rattle.std.proofs.Common.{◌<◌, ◌≤◌, ◌⊎◌, [], length, All, Contains, refl, sym, ap, subst, arith}
+use Rattle.std.proofs.lemmas.List.{append-nil, take_all}
 use Rattle.link_pairs.specs.declared.message.Message.{Message}
-use Rattle.link_flights.specs.Flights.Components.{AreListed, AreAllListed}
-use Rattle.link_flights.proofs.Flights.Search.{all_listed_more}
+use Rattle.link_flights.specs.Flights.Components.{AreListed, AreAllListed, SharesAt}
+use Rattle.link_flights.proofs.Flights.Search.{all_listed_more, touched_with}
 use Rattle.link_flights.proofs.flight_list.Flights.list_from.Goals as goal
 
 pub loop-number-preserved : goal.loop-number-preserved
@@ -26,6 +26,11 @@ loop-number-preserved g c =
           (subst (λ (m : Message g.row.P.Denot). AreListed cmp m after list)
           c.deref.ensures c.in_ok-list_sharing.ensures.listed)
           c.in_ok-list_sharing.ensures.more;
+      order = c.in_ok-list_sharing.ensures.order;
+      touched = touched_with cmp g.met.P.Ord.total mid mid ([], sym (append-nil mid.joined.items)) refl list
+          c.loop-number.number c.index.result.now inside c.index.ensures mid.near.items after
+          (subst (λ (m : Message g.row.P.Denot). All (λ p. Contains mid.near.items p ⊎ SharesAt cmp m list p) after)
+          c.deref.ensures c.in_ok-list_sharing.ensures.only) so_far.touched;
       joined = so_far.joined;
       level = so_far.level;
       whole = so_far.whole;
