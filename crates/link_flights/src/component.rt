@@ -156,13 +156,6 @@ impl<P: Peer> Component<P> {
     {
         self.joined.len() > MOST_JOINED || self.near.len() > MOST_NEAR
     }
-
-    /// Whether it has both ends of each of the messages.
-    fn has_all(&self, done: &VecDeque<Rc<Message<P>>>) -> bool
-        ensures { result ≡ list_all (λ m. has_both P.cmp self.now m.value) done.now.items }
-    {
-        done.iter().all(|message| self.has_both(message))
-    }
 }
 
 /// Whether the peer sends one of the messages.
@@ -243,10 +236,7 @@ impl<P: Peer> Flights<P> {
         if !self.grow(&mut component, peers, pairs)? {
             return Ok(None);
         }
-        if component.has_all(done) && self.new_touch(&component) {
-            return Ok(Some(component));
-        }
-        Ok(None)
+        Ok(Some(component))
     }
 
     /// A level below which what goes on keeps its rate: the least rate of what is done, or the least
@@ -334,6 +324,8 @@ impl<P: Peer> Flights<P> {
         done: &VecDeque<Rc<Message<P>>>,
         component: &mut Component<P>,
     ) -> Result<(), Error>
+        ensures done { OnOk result (All (λ m. has_both P.cmp component.new m.value ≡ true) done.now.items) }
+        ensures new { OnOk result (AllNewTouch P.cmp component.new self.now.settled self.now.list.items) }
         ensures near { component.new.near.items ≡ component.old.near.items }
         ensures level { component.new.level ≡ component.old.level }
         ensures whole { component.new.whole ≡ component.old.whole }
@@ -358,6 +350,7 @@ impl<P: Peer> Flights<P> {
         pairs: &Pairs<P>,
     ) -> Result<bool, Error>
         requires none { component.old.near.items ≡ [] }
+        ensures joined { OnOk result (StartsWith component.old.joined.items component.new.joined.items) }
         ensures listed { IfOk result (λ all. all ≡ true →
             AreAllListed P.cmp component.new.joined.items component.new.near.items self.now.list.items) }
         ensures order { IfOk result (λ all. all ≡ true → Ascends 0 component.new.near.items) }
@@ -483,6 +476,7 @@ impl<P: Peer> Flights<P> {
         ensures order { OnOk result (Ascends 0 component.new.near.items) }
         ensures touched { OnOk result
             (AreTouched P.cmp component.new component.new.near.items self.now.list.items) }
+        ensures joined { OnOk result (StartsWith component.old.joined.items component.new.joined.items) }
         ensures suited { OnOk result
             (AreSuited P.cmp component.new component.new.near.items self.now.list.items) }
         ensures level { component.new.level ≡ component.old.level }
@@ -514,18 +508,6 @@ impl<P: Peer> Flights<P> {
             }
         }
         None
-    }
-
-    /// Whether the component has an end of each of those that have got no rate yet.
-    fn new_touch(&self, component: &Component<P>) -> bool
-        ensures { result ≡ true → AllNewTouch P.cmp component.now self.now.settled self.now.list.items }
-    {
-        for at in self.settled..self.list.len() {
-            if !component.touches(&self.list[at].message) {
-                return false;
-            }
-        }
-        true
     }
 }
 

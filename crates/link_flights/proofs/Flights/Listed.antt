@@ -21,9 +21,11 @@ ascends_with_one first [] zero at order from below above = (from, tt)
 ascends_with_one first [] (suc to) at order from below above = (from, tt)
 ascends_with_one first (p ∷ ps) zero at (low, rest) from below above = (from, (above (omega arith), rest))
 ascends_with_one first (p ∷ ps) (suc to) at (low, rest) from below above =
-    let less : p < at = below 0 p (omega arith) in
-    (low, ascends_with_one (suc p) ps to at rest (omega (arith, less))
-    (λ k d inside. below (suc k) d (omega (arith, inside))) (λ inside. above (omega (arith, inside))))
+    let less : p < at = below 0 p (omega arith) in (
+      low,
+      ascends_with_one (suc p) ps to at rest (omega (arith, less))
+          (λ k d inside. below (suc k) d (omega (arith, inside))) (λ inside. above (omega (arith, inside))),
+    )
 
 -- what holds of the first so many holds of fewer
 pub holds_of_fewer : (Q : ℕ → Type 0) (n m : ℕ) (ps : List ℕ) → n ≤ m → All Q (take m ps) → All Q (take n ps)

@@ -170,10 +170,12 @@ module _ {P : Type 0} (cmp : P → P → Ordering) where
     shares_there : (at : ℕ) → PassesFirstAt (λ one. share_an_end cmp m one.value.message.value) list from at
         → SharesAt cmp m list at
     shares_there at next =
-        let there = one_there list at next.high in
-        (there.0, there.1,
-        sym (ap (λ (y : Rc (Flight P) Global). share_an_end cmp m y.value.message.value)
-        (get_or_from_slice_get list at there.0 there.0 there.1)) ∙ next.here there.0)
+        let there = one_there list at next.high in (
+          there.0,
+          there.1,
+          sym (ap (λ (y : Rc (Flight P) Global). share_an_end cmp m y.value.message.value)
+              (get_or_from_slice_get list at there.0 there.0 there.1)) ∙ next.here there.0,
+        )
 
     -- one more is listed, the next that shares an end
     pub listed_more : (at place : ℕ) (next : List ℕ)
@@ -269,15 +271,18 @@ module _ {P : Type 0} (cmp : P → P → Ordering) where
       (All-weaker (λ p. Contains before p ⊎ SharesAt cmp m.value list p) (IsTouched cmp old list)
       (λ p listed. elim listed [
         | inl was ↦ All-contains (IsTouched cmp old list) before p touched was
-        | inr shares ↦ (shares.0, shares.1,
-            shares_touches order old n m inside is shares.0.value.message.value shares.2)
+        | inr shares ↦ (
+          shares.0,
+          shares.1,
+          shares_touches order old n m inside is shares.0.value.message.value shares.2,
+        )
       ])
       after only)
 
   -- ---- both ends of those that keep no rate
 
   module _ (old new : Component P) (starts : StartsWith old.joined.items new.joined.items)
-      (level : new.level ≡ old.level) (whole : new.whole ≡ old.whole) where
+      (whole : new.whole ≡ old.whole) where
     still_has_both : (m : Message P) → has_both cmp old m ≡ true → has_both cmp new m ≡ true
     still_has_both m has =
         and_from _ _
@@ -285,10 +290,44 @@ module _ {P : Type 0} (cmp : P → P → Ordering) where
         (still_any old new starts whole (λ n. same_peer cmp m.recipient n.value.recipient)
         (second_of_both (is_sender cmp old m.origin) (is_receiver cmp old m.recipient) has))
 
+    -- it still has both ends of each of these
+    pub still_has_all : (ms : List (Rc (Message P) Global)) → All (λ m. has_both cmp old m.value ≡ true) ms
+        → All (λ m. has_both cmp new m.value ≡ true) ms
+    still_has_all ms =
+        All-weaker (λ m. has_both cmp old m.value ≡ true) (λ m. has_both cmp new m.value ≡ true)
+        (λ m has. still_has_both m.value has) ms
+
+    -- and of one more
+    pub has_one_more : (ms : List (Rc (Message P) Global)) (n : ℕ) (m : Rc (Message P) Global) → n < length ms
+        → m ≡ get_or ms n m → All (λ m. has_both cmp old m.value ≡ true) (take n ms) → has_both cmp new m.value ≡ true
+        → All (λ m. has_both cmp new m.value ≡ true) (take (n + 1) ms)
+    has_one_more ms n m inside is all has =
+        All-more (λ m. has_both cmp new m.value ≡ true) ms n m inside (still_has_all (take n ms) all)
+        (subst (λ (x : Rc (Message P) Global). has_both cmp new x.value ≡ true) is has)
+
+    -- what it touches from a place on it still does, and one more of which it has both ends
+    pub touches_one_more : (n end : ℕ) (list : List (Rc (Flight P) Global)) → AllTouchFrom old n end list
+        → (read : Rc (Flight P) Global) → read ≡ get_or list end read
+        → has_both cmp new read.value.message.value ≡ true → AllTouchFrom new n (end + 1) list
+    touches_one_more n end list so_far read is has =
+        each_more (λ i (one : Rc (Flight P) Global). n ≤ i → touches cmp new one.value.message.value ≡ true) list end
+        (λ i one below there from. still_touches old new starts whole one.value.message.value
+        (so_far i one below there from))
+        (λ one there from. subst (λ (x : Rc (Flight P) Global). touches cmp new x.value.message.value ≡ true)
+        (same_there list end read one is there)
+        (or_first (is_sender cmp new read.value.message.value.origin)
+        (is_receiver cmp new read.value.message.value.recipient) (first_of_both _ _ has)))
+
+    -- what it touched it still does
+    pub still_touches_new : (n : ℕ) (list : List (Rc (Flight P) Global)) → AllNewTouch cmp old n list
+        → AllNewTouch cmp new n list
+    still_touches_new n list new_touch at one from there =
+        still_touches old new starts whole one.value.message.value (new_touch at one from there)
+
     -- what was suited still is, where it has joined more
-    pub still_suited : (list : List (Rc (Flight P) Global)) (near : List ℕ) → AreSuited cmp old near list
-        → AreSuited cmp new near list
-    still_suited list near all k d lt one there =
+    pub still_suited : new.level ≡ old.level → (list : List (Rc (Flight P) Global)) (near : List ℕ)
+        → AreSuited cmp old near list → AreSuited cmp new near list
+    still_suited level list near all k d lt one there =
         let u = flight_at 0 one.value in
         let m : Message P = one.value.message.value in
         elim (or_cases (keeps old u) (has_both cmp old m) (all k d lt one there)) [
@@ -317,7 +356,7 @@ module _ {P : Type 0} (cmp : P → P → Ordering) where
       All-weaker (λ p. Contains before p ⊎ (p ≡ at)) (IsSuited cmp new list)
       (λ p listed. elim listed [
         | inl is ↦ All-contains (IsSuited cmp new list) before p
-            (still_suited old new starts level whole list before suited) is
+            (still_suited old new starts whole level list before suited) is
         | inr is ↦ subst (IsSuited cmp new list) (sym is) one
       ])
       after only
@@ -349,7 +388,7 @@ module _ {P : Type 0} (cmp : P → P → Ordering) where
     suited =
         subst (λ places. AreSuited cmp new (take (n + 1) places) list) (sym near)
         (All-more (IsSuited cmp new list) mid.near.items n at inside
-        (still_suited mid new joined level whole list (take n mid.near.items) so_far.suited)
+        (still_suited mid new joined whole level list (take n mid.near.items) so_far.suited)
         (subst (IsSuited cmp new list) here one));
     joined = starts_on old.joined.items mid.joined.items new.joined.items so_far.joined joined;
     near = near ∙ so_far.near;
@@ -373,6 +412,7 @@ module _ {P : Type 0} (cmp : P → P → Ordering) where
     pub order : Ascends 0 new.near.items
     pub touched : AreTouched cmp new new.near.items list
     pub suited : AreSuited cmp new new.near.items list
+    pub joined : StartsWith old.joined.items new.joined.items
     pub few : length new.joined.items ≤ 28
     pub level : IfSome floor (λ floor. new.level ≤ floor)
     pub whole : new.whole ≡ old.whole
@@ -485,12 +525,14 @@ module _ {P : Type 0} (cmp : P → P → Ordering) where
     -- it is closed, where it has what is done and suits those listed, and has an end of each that has no rate
     pub closed_if_near : IsTotalOrder cmp → component.whole ≡ false → (near : List ℕ)
         (done : List (Rc (Message P) Global)) (now settled : ℕ) (list : List (Rc (Flight P) Global))
-        → list_all (λ m. has_both cmp component m.value) done ≡ true → HaveRates settled list
+        → All (λ m. has_both cmp component m.value ≡ true) done → HaveRates settled list
         → AllNewTouch cmp component settled list
         → AreAllListed cmp component.joined.items near list → AreSuited cmp component near list
         → is_closed cmp component done (flights_at now list) ≡ true
     closed_if_near order part near done now settled list has have new listed suited =
-        and_from _ _ has
+        and_from _ _
+        (all_passed (λ m. has_both cmp component m.value) done
+        (λ m among. All-contains (λ m. has_both cmp component m.value ≡ true) done m has (contains_from_in done m among)))
         (list_all-map (suits cmp component) (λ f. flight_at now f.value) list
         ∙ all_passed (λ f. suits cmp component (flight_at now f.value)) list each)
       where

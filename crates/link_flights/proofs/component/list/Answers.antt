@@ -1,4 +1,4 @@
-use Rattle.std.proofs.Common.{◌≡◌, ◌+◌, ◌<◌, ◌≤◌, ◌⊎◌, All, Contains, length, take, get_or, subst, sym, ap, ◌∙◌, arith}
+use Rattle.std.proofs.Common.{◌≡◌, ◌<◌, ◌⊎◌, All, Contains, length, get_or, subst, sym, ◌∙◌, arith}
 use Rattle.std.proofs.lemmas.List.{get_or_default}
 use Rattle.std.proofs.lemmas.List.Elements.{All-more}
 use Rattle.link_flights.specs.Flights.Components.{AreStillListed, IsSameOrLonger, Ascends}
@@ -34,12 +34,12 @@ returns-in_ok-insert-clause-order c =
     let greater : place < length places → c.args.at < get_or places place 0 = λ inside.
     elim c.loop-place-test.branch [
       | then-loop-place-test+else-index-at w ↦ omega (
-          arith,
-          w.if-index-at.false,
-          w.index.ensures ∙ get_or_default places place w.index.result.now 0 inside,
-          c.if-index-at-2.true,
-          c.index-else-place-len.ensures ∙ get_or_default places place c.index-else-place-len.result.now 0 inside,
-        )
+        arith,
+        w.if-index-at.false,
+        w.index.ensures ∙ get_or_default places place w.index.result.now 0 inside,
+        c.if-index-at-2.true,
+        c.index-else-place-len.ensures ∙ get_or_default places place c.index-else-place-len.result.now 0 inside,
+      )
       | else-loop-place-test w ↦ absurd (omega (arith, inside, w.loop-place-test.false, c.len-in-loop-place.ensures))
     ] in
     subst (Ascends 0) (sym c.in_ok-insert.ensures.items)

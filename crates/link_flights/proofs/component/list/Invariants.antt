@@ -1,4 +1,4 @@
-use Rattle.std.proofs.Common.{◌<◌, ◌≤◌, ◌-◌, ◌*◌, All, length, take}
+use Rattle.std.proofs.Common.{◌<◌, ◌≤◌, ◌-◌, All, length, take}
 use Rattle.link_flights.proofs.component.list.Given as goal
 
 abbrev pub invariant-loop-place : goal.invariant-loop-place

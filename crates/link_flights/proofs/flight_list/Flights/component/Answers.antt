@@ -1,19 +1,24 @@
-use Rattle.std.proofs.Common.{sym, ◌∙◌}
-use Rattle.link_flights.proofs.Flights.Search.{closed_if_near, near_if_listed}
+use Rattle.std.proofs.Common.{◌∙◌}
+use Rattle.link_flights.proofs.Flights.Search.{closed_if_near, near_if_listed, still_has_all, still_touches_new}
 use Rattle.link_flights.proofs.flight_list.Flights.component.Goals as goal
 
-pub returns-then-new_touch-clause-closed : goal.returns-then-new_touch-clause-closed
-returns-then-new_touch-clause-closed g c =
+pub returns-clause-closed : goal.returns-clause-closed
+returns-clause-closed g c =
     let self = c.args.self.now in
+    let mid = c.join_touched.new.component in
     let found = c.grow.new.component in
+    let touched = c.in_ok-join_touched.ensures in
+    let joined = c.in_ok-grow.ensures.joined in
     closed_if_near g.P.Ord.cmp found g.met.P.Ord.total
     (c.grow.ensures.whole ∙ c.join_touched.ensures.whole ∙ c.in_ok-component.ensures.part)
     found.near.items c.args.done.now.items self.at self.settled self.list.items
-    (sym c.has_all.ensures ∙ c.if-has_all.true) self.have_rates (c.new_touch.ensures c.if-new_touch.true)
+    (still_has_all g.P.Ord.cmp mid found joined c.grow.ensures.whole c.args.done.now.items touched.done)
+    self.have_rates
+    (still_touches_new g.P.Ord.cmp mid found joined c.grow.ensures.whole self.settled self.list.items touched.new)
     (c.in_ok-grow.ensures.listed c.if-not-branch.false) (c.in_ok-grow.ensures.suited c.if-not-branch.false)
 
-pub returns-then-new_touch-clause-near : goal.returns-then-new_touch-clause-near
-returns-then-new_touch-clause-near g c =
+pub returns-clause-near : goal.returns-clause-near
+returns-clause-near g c =
     let all = c.if-not-branch.false in
     let grown = c.in_ok-grow.ensures in
     near_if_listed g.P.Ord.cmp g.met.P.Ord.total c.grow.new.component

@@ -1,9 +1,10 @@
+use Rattle.std.proofs.Common.{[]}
 use Rattle.std.proofs.Common.{◌≡◌, ◌≤◌, ◌++◌, length, take, refl, sym, ap, ◌∙◌, subst, arith}
 use Rattle.std.specs.Prelude.{IfSome}
 use Rattle.std.proofs.Math.Seq.{take-append_seam}
-use Rattle.std.proofs.lemmas.List.{take_all}
+use Rattle.std.proofs.lemmas.List.{append-nil, take_all}
 use Rattle.link_flights.specs.Flights.Components.{AreAllListed, AreTouched, Ascends}
-use Rattle.link_flights.proofs.Flights.Search.{still_touched}
+use Rattle.link_flights.proofs.Flights.Search.{still_touched, starts_on}
 use Rattle.link_flights.proofs.flight_list.Flights.grow.Goals as goal
 
 pub loop-next-init : goal.loop-next-init
@@ -26,6 +27,7 @@ loop-next-init g c =
           (still_touched cmp mid new join.joined c.join_near.ensures.whole list mid.near.items
           c.in_ok-list_from.ensures.touched);
       suited = join.suited c.if-not-branch.false;
+      joined = ([], sym (append-nil new.joined.items));
       few = join.few c.if-not-branch.false;
       level = subst (λ level. IfSome c.args.self.now.floor (λ floor. level ≤ floor)) (sym c.join_near.ensures.level)
           c.in_ok-component.ensures.level;
@@ -42,6 +44,8 @@ loop-next-preserved g c =
       order = more.order;
       touched = more.touched;
       suited = more.suited;
+      joined = starts_on c.join_near.new.component.joined.items c.loop-next.component.joined.items
+          c.list_joining.new.component.joined.items before.joined more.joined;
       few = c.is_large-in-loop-next.ensures c.if-is_large-2.false;
       level = subst (λ level. IfSome c.args.self.now.floor (λ floor. level ≤ floor)) (sym join.level) before.level;
       whole = join.whole ∙ before.whole;

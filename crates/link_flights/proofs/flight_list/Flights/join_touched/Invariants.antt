@@ -1,12 +1,17 @@
-use Rattle.std.proofs.Common.{◌≡◌}
+use Rattle.std.proofs.Common.{◌≡◌, All, true, take}
+use Rattle.link_flights.specs.Flights.Components.{has_both}
+use Rattle.link_flights.proofs.Flights.Search.{AllTouchFrom}
 use Rattle.link_flights.proofs.flight_list.Flights.join_touched.Given as goal
 
 abbrev pub invariant-loop-at : goal.invariant-loop-at
 invariant-loop-at g l =
-    (l.component.near.items ≡ l.initial.component.near.items)
+    All (λ m. has_both g.P.Ord.cmp l.component m.value ≡ true) (take l.at l.done.items)
+    × (l.component.near.items ≡ l.initial.component.near.items)
     × (l.component.level ≡ l.initial.component.level) × (l.component.whole ≡ l.initial.component.whole)
 
 abbrev pub invariant-loop-at-2 : goal.invariant-loop-at-2
 invariant-loop-at-2 g l =
-    (l.component.near.items ≡ l.fn.component.near.items)
+    All (λ m. has_both g.P.Ord.cmp l.component m.value ≡ true) l.done.items
+    × AllTouchFrom g.P.Ord.cmp l.component l.self.settled l.at l.self.list.items
+    × (l.component.near.items ≡ l.fn.component.near.items)
     × (l.component.level ≡ l.fn.component.level) × (l.component.whole ≡ l.fn.component.whole)
