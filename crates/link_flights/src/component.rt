@@ -33,10 +33,10 @@ use std::rc::Rc;
 const FEW_JOINED: usize = 8;
 
 /// So many messages a component may join. Where there are more, it pays to rate all that is in flight.
-const MOST_JOINED: usize = 28;
+const MOST_JOINED: usize = 48;
 
 /// So many in flight a component may have an end of. Where there are more, it mostly joins too many.
-const MOST_NEAR: usize = 32;
+const MOST_NEAR: usize = 56;
 
 /// The senders and the receivers of some messages, or all of them. A message in flight whose rate is
 /// below the level goes on as it is.

@@ -413,7 +413,7 @@ module _ {P : Type 0} (cmp : P → P → Ordering) where
     pub touched : AreTouched cmp new new.near.items list
     pub suited : AreSuited cmp new new.near.items list
     pub joined : StartsWith old.joined.items new.joined.items
-    pub few : length new.joined.items ≤ 28
+    pub few : length new.joined.items ≤ 48
     pub level : IfSome floor (λ floor. new.level ≤ floor)
     pub whole : new.whole ≡ old.whole
 

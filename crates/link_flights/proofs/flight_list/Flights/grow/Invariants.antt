@@ -6,4 +6,4 @@ abbrev pub invariant-loop-next : goal.invariant-loop-next
 invariant-loop-next g l = HasGrown g.P.Ord.cmp l.self.list.items l.self.floor l.next l.initial.component l.component
 
 abbrev pub decreases-loop-next : goal.decreases-loop-next
-decreases-loop-next g l = 28 - l.next
+decreases-loop-next g l = 48 - l.next
