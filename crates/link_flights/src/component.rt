@@ -12,7 +12,7 @@ ghost use Rattle.link_flights.specs.Flights.Components.{is_sender, is_receiver, 
 ghost use Rattle.link_flights.specs.Flights.Components.{is_closed, AreNear};
 ghost use Rattle.link_flights.specs.Flights.Components.{StartsWith, AreStillListed, IsSameOrLonger};
 ghost use Rattle.link_flights.specs.Flights.Components.{AreListed, AreAllListed, AllNewTouch, place_of};
-ghost use Rattle.link_flights.specs.Flights.Components.{IsSuited, AreSuited, AreTouched, SharesAt, Ascends};
+ghost use Rattle.link_flights.specs.Flights.Components.{IsSuited, AreSuited, AreTouched, SharesAt, Ascends, IsWalked};
 ghost use Rattle.link_flights.specs.Flights.Components.{share_an_end as share_end};
 ghost use Rattle.link_flights.specs.Flights.Flight.{flight_at};
 ghost use Rattle.link_flights.specs.Flights.InFlight.{in_units, IsNextPlace};
@@ -351,13 +351,8 @@ impl<P: Peer> Flights<P> {
     ) -> Result<bool, Error>
         requires none { component.old.near.items ≡ [] }
         ensures joined { OnOk result (StartsWith component.old.joined.items component.new.joined.items) }
-        ensures listed { IfOk result (λ all. all ≡ true →
-            AreAllListed P.cmp component.new.joined.items component.new.near.items self.now.list.items) }
-        ensures order { IfOk result (λ all. all ≡ true → Ascends 0 component.new.near.items) }
-        ensures touched { IfOk result (λ all. all ≡ true →
-            AreTouched P.cmp component.new component.new.near.items self.now.list.items) }
-        ensures suited { IfOk result (λ all. all ≡ true →
-            AreSuited P.cmp component.new component.new.near.items self.now.list.items) }
+        ensures walked { IfOk result (λ all. all ≡ true →
+            IsWalked P.cmp (length component.new.joined.items) component.new self.now.list.items) }
         ensures level { IfOk result (λ all. all ≡ true → IfSome self.now.floor (λ floor. component.new.level ≤ floor)) }
         ensures whole { component.new.whole ≡ component.old.whole }
         ensures refused { IfErr result (λ e. e ≡ Error.OutOfMemory) }
@@ -365,7 +360,7 @@ impl<P: Peer> Flights<P> {
         if component.is_large() {
             return Ok(false);
         }
-        self.list_from(0, component)?;
+        self.list_joined(component)?;
         component.level = self.level(component, peers, pairs)?;
         let mut next = component.joined.len();
         if !self.join_near(component)? {
@@ -381,14 +376,9 @@ impl<P: Peer> Flights<P> {
         Ok(true)
     }
 
-    /// Lists the places of those in flight that share an end with one of the messages that are joined,
-    /// from that one on. Those of the others are listed.
-    fn list_from(&self, first: usize, component: &mut Component<P>) -> Result<(), Error>
-        requires first { first ≤ length component.old.joined.items }
-        requires others { AreAllListed P.cmp (take first component.old.joined.items) component.old.near.items
-            self.now.list.items }
-        requires order { Ascends 0 component.old.near.items }
-        requires touched { AreTouched P.cmp component.old component.old.near.items self.now.list.items }
+    /// Lists the places of those in flight that share an end with one of the messages that have joined.
+    fn list_joined(&self, component: &mut Component<P>) -> Result<(), Error>
+        requires none { component.old.near.items ≡ [] }
         ensures listed { OnOk result
             (AreAllListed P.cmp component.new.joined.items component.new.near.items self.now.list.items) }
         ensures order { OnOk result (Ascends 0 component.new.near.items) }
@@ -399,7 +389,7 @@ impl<P: Peer> Flights<P> {
         ensures whole { component.new.whole ≡ component.old.whole }
         ensures refused { IfErr result (λ e. e ≡ Error.OutOfMemory) }
     {
-        for number in first..component.joined.len() {
+        for number in 0..component.joined.len() {
             self.list_sharing(&component.joined[number], &mut component.near)?;
         }
         Ok(())
@@ -466,19 +456,9 @@ impl<P: Peer> Flights<P> {
     /// takes in the ends of those that were not listed before and keep no rate.
     fn list_joining(&self, number: usize, component: &mut Component<P>) -> Result<(), Error>
         requires number { number < length component.old.joined.items }
-        requires others { AreAllListed P.cmp (take number component.old.joined.items) component.old.near.items
-            self.now.list.items }
-        requires suited { AreSuited P.cmp component.old component.old.near.items self.now.list.items }
-        requires order { Ascends 0 component.old.near.items }
-        requires touched { AreTouched P.cmp component.old component.old.near.items self.now.list.items }
-        ensures listed { OnOk result (AreAllListed P.cmp (take (number + 1) component.new.joined.items)
-            component.new.near.items self.now.list.items) }
-        ensures order { OnOk result (Ascends 0 component.new.near.items) }
-        ensures touched { OnOk result
-            (AreTouched P.cmp component.new component.new.near.items self.now.list.items) }
+        requires walked { IsWalked P.cmp number component.old self.now.list.items }
+        ensures walked { OnOk result (IsWalked P.cmp (number + 1) component.new self.now.list.items) }
         ensures joined { OnOk result (StartsWith component.old.joined.items component.new.joined.items) }
-        ensures suited { OnOk result
-            (AreSuited P.cmp component.new component.new.near.items self.now.list.items) }
         ensures level { component.new.level ≡ component.old.level }
         ensures whole { component.new.whole ≡ component.old.whole }
         ensures refused { IfErr result (λ e. e ≡ Error.OutOfMemory) }

@@ -12,7 +12,7 @@ use Rattle.std.proofs.lemmas.Bool.{cases_lt, false≢true, and_from, or_cases}
 use Rattle.std.proofs.lemmas.Cmp.{eq_by_cmp_equiv}
 use Rattle.link_flights.proofs.Flights.InFlight.{filter_yes, filter_no}
 use Rattle.link_flights.proofs.Flights.Places.{or_first, or_second}
-use Rattle.std.proofs.lemmas.List.{append_assoc, length-append, take-append-drop, take-append-le}
+use Rattle.std.proofs.lemmas.List.{append_assoc, length-append, take-append-drop, take-append-le, take_all}
 use Rattle.std.proofs.lemmas.List.Elements.{All-more, All-contains, Contains-append_left, Contains-append_right}
 use Rattle.std.proofs.lemmas.List.Elements.{Contains-append_cases}
 use Rattle.std.proofs.lemmas.List.Elements.{All-append, All-cons, All-contains_itself, All-drop, All-nil}
@@ -29,7 +29,7 @@ use Rattle.link_flights.specs.declared.flight.Flight.{Flight}
 use Rattle.link_flights.specs.Flights.Flight.{UnitFlight, flight_at, flights_at, HaveRates}
 use Rattle.link_flights.specs.Flights.Components.{keeps, has_both, touches, suits, is_closed}
 use Rattle.link_flights.specs.Flights.Components.{IsSuited, AreSuited, IsTouched, AreTouched, near_of, those_near}
-use Rattle.link_flights.specs.Flights.Components.{AreNear, Ascends, SharesAt}
+use Rattle.link_flights.specs.Flights.Components.{AreNear, Ascends, SharesAt, IsWalked}
 use Rattle.link_flights.specs.Flights.Components.{is_sender, is_receiver, share_an_end, StartsWith}
 use Rattle.link_flights.specs.Flights.Components.{AreStillListed, IsSameOrLonger, AreListed, AreAllListed}
 use Rattle.link_flights.specs.Flights.Components.{AllNewTouch}
@@ -405,13 +405,10 @@ module _ {P : Type 0} (cmp : P → P → Ordering) where
     pub level : new.level ≡ old.level
     pub whole : new.whole ≡ old.whole
 
-  -- so many of them have, and it has both ends of those listed that keep no rate
+  -- so many of them were looked through, and no more than may have joined
   pub record HasGrown (list : List (Rc (Flight P) Global)) (floor : Option ℕ) (n : ℕ) (old new : Component P)
       : Type 0 where
-    pub listed : AreAllListed cmp (take n new.joined.items) new.near.items list
-    pub order : Ascends 0 new.near.items
-    pub touched : AreTouched cmp new new.near.items list
-    pub suited : AreSuited cmp new new.near.items list
+    pub walked : IsWalked cmp n new list
     pub joined : StartsWith old.joined.items new.joined.items
     pub few : length new.joined.items ≤ 48
     pub level : IfSome floor (λ floor. new.level ≤ floor)
@@ -441,6 +438,14 @@ module _ {P : Type 0} (cmp : P → P → Ordering) where
       subst (λ (l : List (Rc (Message P) Global)). AreAllListed cmp l after list)
       (sym (ap (take (n + 1)) e ∙ take-append-le (n + 1) ms rest (omega (arith, inside))))
       (all_listed_more list ms n before after all inside m is listed still)
+
+  -- once each was looked through, all are listed
+  pub all_listed : (component : Component P) (list : List (Rc (Flight P) Global))
+      → IsWalked cmp (length component.joined.items) component list
+      → AreAllListed cmp component.joined.items component.near.items list
+  all_listed component list walked =
+      subst (λ ms. AreAllListed cmp ms component.near.items list)
+      (take_all (length component.joined.items) component.joined.items (omega arith)) walked.listed
 
   -- one of which the component has an end is listed
   module _ (order : IsTotalOrder cmp) (list : List (Rc (Flight P) Global)) (near : List ℕ) (at : ℕ)

@@ -1,6 +1,6 @@
 -- What an event touches: senders and receivers of messages in flight, and the level below which rates stay.
 use Rattle.std.specs.Prelude.{◌≡◌, ℕ, suc, ◌<◌, ◌≤◌, nat_le, Bool, true, not, ◌&&◌, ◌||◌, [], ◌∷◌, cond}
-use Rattle.std.specs.Prelude.{if◌then◌else◌, List, length, ◌⊎◌}
+use Rattle.std.specs.Prelude.{if◌then◌else◌, List, length, take, ◌⊎◌}
 use Rattle.std.specs.Prelude.{slice_get, slice_index, Some, ◌++◌, All, Contains}
 use Rattle.std.specs.List.{filter, list_all, list_any}
 use Rattle.std.specs.declared.cmp.Ordering.{Ordering}
@@ -132,6 +132,14 @@ module _ {P : Type 0} (cmp : P → P → Ordering) where
   -- each that shares one with any of these messages
   abbrev pub AreAllListed : List (Rc (Message P) Global) → List ℕ → List (Rc (Flight P) Global) → Type 0
   AreAllListed joined near list = All (λ m. AreListed m.value near list) joined
+
+  -- the first so many of the messages that have joined were looked through: what shares an end with one is listed, in
+  -- order, with an end in the component, and with both unless it keeps its rate
+  pub record IsWalked (n : ℕ) (component : Component P) (list : List (Rc (Flight P) Global)) : Type 0 where
+    pub listed : AreAllListed (take n component.joined.items) component.near.items list
+    pub order : Ascends 0 component.near.items
+    pub touched : AreTouched cmp component component.near.items list
+    pub suited : AreSuited cmp component component.near.items list
 
   -- those that have come after so many have an end in the component
   abbrev pub AllNewTouch : Component P → ℕ → List (Rc (Flight P) Global) → Type 0

@@ -1,5 +1,6 @@
 use Rattle.std.proofs.Common.{◌∙◌}
-use Rattle.link_flights.proofs.Flights.Search.{closed_if_near, near_if_listed, still_has_all, still_touches_new}
+use Rattle.link_flights.proofs.Flights.Search.{all_listed, closed_if_near, near_if_listed}
+use Rattle.link_flights.proofs.Flights.Search.{still_has_all, still_touches_new}
 use Rattle.link_flights.proofs.flight_list.Flights.component.Goals as goal
 
 pub returns-clause-closed : goal.returns-clause-closed
@@ -9,18 +10,20 @@ returns-clause-closed g c =
     let found = c.grow.new.component in
     let touched = c.in_ok-join_touched.ensures in
     let joined = c.in_ok-grow.ensures.joined in
+    let walked = c.in_ok-grow.ensures.walked c.if-not-branch.false in
     closed_if_near g.P.Ord.cmp found g.met.P.Ord.total
     (c.grow.ensures.whole ∙ c.join_touched.ensures.whole ∙ c.in_ok-component.ensures.part)
     found.near.items c.args.done.now.items self.at self.settled self.list.items
     (still_has_all g.P.Ord.cmp mid found joined c.grow.ensures.whole c.args.done.now.items touched.done)
     self.have_rates
     (still_touches_new g.P.Ord.cmp mid found joined c.grow.ensures.whole self.settled self.list.items touched.new)
-    (c.in_ok-grow.ensures.listed c.if-not-branch.false) (c.in_ok-grow.ensures.suited c.if-not-branch.false)
+    (all_listed g.P.Ord.cmp found self.list.items walked) walked.suited
 
 pub returns-clause-near : goal.returns-clause-near
 returns-clause-near g c =
-    let all = c.if-not-branch.false in
-    let grown = c.in_ok-grow.ensures in
-    near_if_listed g.P.Ord.cmp g.met.P.Ord.total c.grow.new.component
-    (c.grow.ensures.whole ∙ c.join_touched.ensures.whole ∙ c.in_ok-component.ensures.part) c.args.self.now.list.items
-    (grown.listed all) (grown.order all) (grown.touched all)
+    let found = c.grow.new.component in
+    let list = c.args.self.now.list.items in
+    let walked = c.in_ok-grow.ensures.walked c.if-not-branch.false in
+    near_if_listed g.P.Ord.cmp g.met.P.Ord.total found
+    (c.grow.ensures.whole ∙ c.join_touched.ensures.whole ∙ c.in_ok-component.ensures.part) list
+    (all_listed g.P.Ord.cmp found list walked) walked.order walked.touched

@@ -12,8 +12,8 @@ use Rattle.link_flights.proofs.flight_list.Flights.list_joining.Goals as goal
 pub loop-at-init : goal.loop-at-init
 loop-at-init g c = record {
   listed = none_listed g.P.Ord.cmp c.in_ok-message.message.value c.args.self.now.list.items
-      c.args.component.now.near.items c.requires.order;
-  suited = c.requires.suited;
+      c.args.component.now.near.items c.requires.walked.order;
+  suited = c.requires.walked.suited;
   joined = ([], sym (append-nil c.args.component.now.joined.items));
   level = refl;
   whole = refl;
@@ -71,29 +71,26 @@ loop-at-preserved g c =
           })
     ]
 
-pub returns-clause-listed : goal.returns-clause-listed
-returns-clause-listed g c =
-    let so_far = c.loop-at.invariant in
-    let list = c.args.self.now.list.items in
-    all_listed_next g.P.Ord.cmp c.args.self.now.list.items c.args.component.now.joined.items
-    c.loop-at.component.joined.items so_far.joined c.args.number c.args.component.now.near.items
-    c.loop-at.component.near.items c.requires.number c.requires.others so_far.listed.more c.index.result.now
-    c.index.ensures
-    (subst (λ (x : Message g.row.P.Denot). AreListed g.P.Ord.cmp x c.loop-at.component.near.items list)
-    c.in_ok-message.ensures.cases
-    (listed_all g.P.Ord.cmp c.in_ok-message.message.value list c.loop-at.from c.loop-at.place
-    c.args.component.now.near.items c.loop-at.component.near.items so_far.listed
-    (subst (λ (x : Message g.row.P.Denot). PassesNowhere (λ one. share_an_end g.P.Ord.cmp x one.value.message.value)
-    list c.loop-at.from (length list)) c.deref.ensures c.in_default.ensures)))
-
-pub returns-clause-touched : goal.returns-clause-touched
-returns-clause-touched g c =
+pub returns-clause-walked : goal.returns-clause-walked
+returns-clause-walked g c =
     let cmp = g.P.Ord.cmp in
     let list = c.args.self.now.list.items in
     let old = c.args.component.now in
     let new = c.loop-at.component in
     let so_far = c.loop-at.invariant in
-    touched_with cmp g.met.P.Ord.total old new so_far.joined so_far.whole list c.args.number c.index.result.now
-    c.requires.number c.index.ensures old.near.items new.near.items
-    (subst (λ (x : Message g.row.P.Denot). All (λ p. Contains old.near.items p ⊎ SharesAt cmp x list p) new.near.items)
-    c.in_ok-message.ensures.cases so_far.listed.only) c.requires.touched
+    let walked = c.requires.walked in
+    let m = c.in_ok-message.message.value in
+    record {
+      listed = all_listed_next cmp list old.joined.items new.joined.items so_far.joined c.args.number old.near.items
+          new.near.items c.requires.number walked.listed so_far.listed.more c.index.result.now c.index.ensures
+          (subst (λ (x : Message g.row.P.Denot). AreListed cmp x new.near.items list) c.in_ok-message.ensures.cases
+          (listed_all cmp m list c.loop-at.from c.loop-at.place old.near.items new.near.items so_far.listed
+          (subst (λ (x : Message g.row.P.Denot). PassesNowhere (λ one. share_an_end cmp x one.value.message.value)
+          list c.loop-at.from (length list)) c.deref.ensures c.in_default.ensures)));
+      order = so_far.listed.order;
+      touched = touched_with cmp g.met.P.Ord.total old new so_far.joined so_far.whole list c.args.number
+          c.index.result.now c.requires.number c.index.ensures old.near.items new.near.items
+          (subst (λ (x : Message g.row.P.Denot). All (λ p. Contains old.near.items p ⊎ SharesAt cmp x list p)
+          new.near.items) c.in_ok-message.ensures.cases so_far.listed.only) walked.touched;
+      suited = so_far.suited;
+    }

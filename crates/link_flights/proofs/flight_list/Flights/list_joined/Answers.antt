@@ -1,9 +1,24 @@
 use Rattle.std.proofs.Common.{◌<◌, ◌≤◌, ◌⊎◌, [], length, All, Contains, refl, sym, ap, subst, arith}
 use Rattle.std.proofs.lemmas.List.{append-nil, take_all}
 use Rattle.link_pairs.specs.declared.message.Message.{Message}
-use Rattle.link_flights.specs.Flights.Components.{AreListed, AreAllListed, SharesAt}
+use Rattle.link_flights.specs.Flights.Components.{AreListed, AreAllListed, AreTouched, IsTouched, SharesAt, Ascends}
+use Rattle.std.proofs.lemmas.List.Elements.{All-nil}
 use Rattle.link_flights.proofs.Flights.Search.{all_listed_more, touched_with}
-use Rattle.link_flights.proofs.flight_list.Flights.list_from.Goals as goal
+use Rattle.link_flights.proofs.flight_list.Flights.list_joined.Goals as goal
+
+pub loop-number-init : goal.loop-number-init
+loop-number-init g c =
+    let old = c.args.component.now in
+    let list = c.args.self.now.list.items in
+    record {
+      listed = All-nil (λ m. AreListed g.P.Ord.cmp m.value old.near.items list);
+      order = subst (Ascends 0) (sym c.requires.none) tt;
+      touched = subst (λ places. AreTouched g.P.Ord.cmp old places list) (sym c.requires.none)
+          (All-nil (IsTouched g.P.Ord.cmp old list));
+      joined = refl;
+      level = refl;
+      whole = refl;
+    }
 
 pub loop-number-preserved : goal.loop-number-preserved
 loop-number-preserved g c =
