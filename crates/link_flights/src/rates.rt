@@ -16,7 +16,7 @@ ghost use Rattle.fair_rates.specs.Filling.FairParts.{parts_of_level};
 ghost use Rattle.link_flights.specs.Flights.InFlight.{in_units, in_flight};
 ghost use Rattle.link_flights.specs.Flights.Rated.{WereRated, AreFairOf, AreFairBeside, HaveFairRates};
 ghost use Rattle.link_flights.specs.Flights.Rated.{rerated, rates_found, AreOthersTimed, IsReratedAt};
-ghost use Rattle.link_flights.specs.Flights.Rated.{AreFairFor, AreRatedBeside, none_is_rated, rates_of_levels};
+ghost use Rattle.link_flights.specs.Flights.Rated.{AreFairFor, GivesBeside, none_is_rated, rates_of_levels};
 ghost use Rattle.link_flights.specs.Flights.Rated.{AreKeptBut, AreKept, AreToldOf, has_no_rate, IsCountedAt};
 ghost use Rattle.link_flights.specs.Flights.Rated.{levels_rated};
 ghost use Rattle.link_flights.specs.declared.flight.Flight.{Flight as AnyFlight};
@@ -248,11 +248,8 @@ impl<P: Peer> Flights<P> {
             → AreNear P.cmp touched.now touched.now.near.items self.old.list.items }
         requires left { All (λ u. u.left ≢ 0) (in_units self.old) }
         requires timed { AreTimed self.old.list.items }
-        ensures rated { IfOk result (λ found. IsSome found → AreRatedBeside P.cmp
-            (caps_of P.cmp peers.now.entries pairs.now.entries) touched.now self.old self.new) }
-        ensures kept { IfOk result (λ found. IsSome found
-            → AreKeptBut self.new.rated_anew self.old.list.items self.new.list.items) }
-        ensures stays { IfOk result (λ found. found ≡ None → self.new ≡ self.old) }
+        ensures gives { IfOk result (GivesBeside P.cmp (caps_of P.cmp peers.now.entries pairs.now.entries)
+            touched.now self.old self.new) }
         ensures refused { IfErr result (λ e. e ≡ Error.OutOfMemory) }
     {
         if !touched.whole {
@@ -298,11 +295,8 @@ impl<P: Peer> Flights<P> {
             → those_near P.cmp component.now self.old.list.items ≡ slice_index_or self.old.list.items at d ∷ [] }
         requires rated { (d : AnyRc (AnyFlight P) Allocator)
             → is_of P.cmp component.now (flight_at 0 (slice_index_or self.old.list.items at d).value) ≡ true }
-        ensures rated { IfOk result (λ found. IsSome found → AreRatedBeside P.cmp
-            (caps_of P.cmp peers.now.entries pairs.now.entries) component.now self.old self.new) }
-        ensures kept { IfOk result (λ found. IsSome found
-            → AreKeptBut self.new.rated_anew self.old.list.items self.new.list.items) }
-        ensures stays { IfOk result (λ found. found ≡ None → self.new ≡ self.old) }
+        ensures gives { IfOk result (GivesBeside P.cmp (caps_of P.cmp peers.now.entries pairs.now.entries)
+            component.now self.old self.new) }
         ensures refused { IfErr result (λ e. e ≡ Error.OutOfMemory) }
     {
         let level = self.rate_alone(at, peers, pairs)?;
@@ -343,11 +337,8 @@ impl<P: Peer> Flights<P> {
             → AreNear P.cmp component.now component.now.near.items self.old.list.items }
         requires left { All (λ u. u.left ≢ 0) (in_units self.old) }
         requires timed { AreTimed self.old.list.items }
-        ensures rated { IfOk result (λ found. IsSome found → AreRatedBeside P.cmp
-            (caps_of P.cmp peers.now.entries pairs.now.entries) component.now self.old self.new) }
-        ensures kept { IfOk result (λ found. IsSome found
-            → AreKeptBut self.new.rated_anew self.old.list.items self.new.list.items) }
-        ensures stays { IfOk result (λ found. found ≡ None → self.new ≡ self.old) }
+        ensures gives { IfOk result (GivesBeside P.cmp (caps_of P.cmp peers.now.entries pairs.now.entries)
+            component.now self.old self.new) }
         ensures refused { IfErr result (λ e. e ≡ Error.OutOfMemory) }
     {
         let (part, kept) = self.rates_beside(component, peers, pairs)?;

@@ -12,10 +12,6 @@ use Rattle.link_scripts.specs.Words.{parts_of}
 abbrev pub LackSpaces : List ℕ → Type 0
 LackSpaces bytes = All (λ b. eqb b 32 ≡ false) bytes
 
--- no byte yet
-pub none_yet : LackSpaces []
-none_yet = All-nil (λ b. eqb b 32 ≡ false)
-
 -- one byte more that is no space
 pub one_byte_more : (line : List ℕ) (n : ℕ) → n < length line → LackSpaces (take n line) → ¬ (get_or line n 0 ≡ 32)
     → LackSpaces (take (n + 1) line)

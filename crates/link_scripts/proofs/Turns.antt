@@ -15,23 +15,6 @@ use Rattle.link_scripts.specs.Schedule.{world_call}
 use Rattle.link_scripts.specs.Session.{SaysSame, KeepsPlanned, SaysAfter, AnswersTo, MayRefuseCommand}
 use Rattle.link_scripts.proofs.InTurn.{one_printed}
 
--- nothing is printed
-Appends-nil : (contents : Option (List ℕ)) → Appends contents contents []
-Appends-nil None = tt
-Appends-nil (Some bytes) = sym (append-nil bytes)
-
--- where a command is gathered behind the others, nothing is made
-pub gathered_behind : (command : Command) (before after : Gathered) (session : Session) (contents : Option (List ℕ))
-    → IsGathered command (gathered_calls before) after
-    → TakesItsTurn command before session contents after session contents
-gathered_behind (commands.Schedule call) before after session contents is =
-    ([], sym is, ([], Appends-nil contents, (refl, refl)))
-gathered_behind (commands.Flow flow) before after session contents is = absurd is
-gathered_behind (commands.Egress peer cap) before after session contents is = absurd is
-gathered_behind (commands.Ingress peer cap) before after session contents is = absurd is
-gathered_behind (commands.Link origin recipient cap) before after session contents is = absurd is
-gathered_behind commands.Rates before after session contents is = absurd is
-
 module _ (gathered sent left : Gathered) (old between new : Session) (before printed after : Option (List ℕ))
     (sends : PrintsInTurn (gathered_calls gathered) old before between printed) (none : HasNone sent) where
   -- where it is gathered after the others are sent

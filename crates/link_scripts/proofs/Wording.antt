@@ -143,16 +143,6 @@ parts_of-join w (v ∷ ws) are =
     slice_split_at (λ b. eqb b 32) w 32 (join_with_byte 32 (v ∷ ws)) (no_space w are.0) (eq-eqb 32 32 refl)
     ∙ ap (λ parts. w ∷ parts) (parts_of-join v ws are.1)
 
--- and the line is ASCII
-ascii_line : (ws : List (List ℕ)) → AreWords ws → IsAscii (join_with_byte 32 ws)
-ascii_line [] are = IsAscii-nil
-ascii_line (w ∷ []) are = IsAscii-from_all w (below_128 w are.0)
-ascii_line (w ∷ v ∷ ws) are =
-    let rest = join_with_byte 32 (v ∷ ws) in
-    let space = IsAscii-from_all (32 ∷ []) (All-cons (λ b. b < 128) 32 [] (omega arith) (All-nil (λ b. b < 128))) in
-    IsAscii-append w (32 ∷ rest) (IsAscii-from_all w (below_128 w are.0))
-    (IsAscii-append (32 ∷ []) rest space (ascii_line (v ∷ ws) are.1))
-
 IsWord-small : (n : ℕ) → IsNumberInRange n → IsWord (number_word n)
 IsWord-small n small = IsWord-number n (omega (arith, small))
 

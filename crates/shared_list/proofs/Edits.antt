@@ -24,10 +24,6 @@ empty : {T : Type 0} (ys : List T) → length ys ≡ 0 → ys ≡ []
 empty [] none = refl
 empty (y ∷ ys) none = absurd (omega (arith, none))
 
-nothing_after : {T : Type 0} (xs : List T) → xs ++ [] ≡ xs
-nothing_after [] = refl
-nothing_after (x ∷ xs) = ap (λ l. x ∷ l) (nothing_after xs)
-
 module _ {T : Type 0} (xs : List T) (x : T) (ys : List T) (at : ℕ) where
   pub insert_before : (y : T) → at ≤ length xs → insert (xs ++ x ∷ ys) at y ≡ insert xs at y ++ x ∷ ys
   insert_before y low = insert-append_left xs (x ∷ ys) at y low
@@ -61,9 +57,6 @@ module _ {T : Type 0} (xs : List T) (x : T) (ys : List T) (at : ℕ) where
   remove_here here =
       remove-append_right xs (x ∷ ys) (length xs) at refl (omega (arith, here))
       ∙ ap (λ k. xs ++ remove (x ∷ ys) k) (nothing (length xs) at here)
-
-  pub remove_last : at ≡ length xs → length ys ≡ 0 → remove (xs ++ x ∷ ys) at ≡ xs
-  remove_last here none = remove_here here ∙ ap (λ l. xs ++ l) (empty ys none) ∙ nothing_after xs
 
 -- what a list says of places on one side of an item
 pub get_before : {T : Type 0} (xs : List T) (x : T) (ys : List T) (at : ℕ) → at < length xs

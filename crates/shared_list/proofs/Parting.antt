@@ -2,7 +2,6 @@
 use Rattle.std.proofs.Common.{◌≡◌, ℕ, suc, ◌+◌, Bool, true, false, not, ◌&&◌, if◌then◌else◌, List, [], ◌∷◌, ◌++◌}
 use Rattle.std.proofs.Common.{length, slice_get, Option, Some, None, zero, ◌≤◌, refl, sym, ap, ◌∙◌, subst, arith}
 use Rattle.std.proofs.Common.{length-append, take, drop, ◌<◌, add-one, option_map}
-use Rattle.std.proofs.lemmas.List.{take-append-drop, length-take-le}
 use Rattle.std.proofs.Math.Seq.{drop-length}
 use Rattle.std.specs.List.{list_all, find, position_or_len}
 use Rattle.std.specs.Option.{option_or}
@@ -299,17 +298,3 @@ module _ {T : Type 0} (p : T → Bool) where
     below = between.below;
     above = λ h. from_there xs k x there is h;
   }
-
-  pub parting_between : (xs : List T) (low high : ℕ) → high ≤ low → IsBetween xs low high → are_parted p xs ≡ true
-      → IsParting p xs low
-  parting_between xs low high met between h =
-      let same : high ≡ low = let order = between.order in omega arith in
-      let bound = between.bound in
-      record {
-        before = take low xs;
-        after = drop low xs;
-        split = sym (take-append-drop low xs);
-        is_at = sym (length-take-le low xs (omega arith));
-        below = between.below h;
-        above = subst (λ k. others (drop k xs) ≡ true) same (between.above h);
-      }

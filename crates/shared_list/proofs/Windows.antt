@@ -3,7 +3,6 @@ use Rattle.std.proofs.Common.{◌≡◌, ℕ, zero, suc, ◌+◌, ◌-◌, ◌<�
 use Rattle.std.proofs.Common.{◌∷◌, ◌++◌, length, take, drop, slice_get, None}
 use Rattle.std.proofs.Common.{refl, sym, ap, ap₂, ◌∙◌, subst, arith, length-append, append_assoc, take_at, drop-drop}
 use Rattle.std.proofs.lemmas.List.{take-append-le, drop-append-le, take-append-drop, length-take-le, length-drop}
-use Rattle.std.proofs.lemmas.List.{drop_all}
 use Rattle.std.proofs.lemmas.Option.{slice_get_past}
 use Rattle.std.proofs.Math.Seq.{take-append-add, drop-append-add}
 use Rattle.std.specs.List.{insert, remove}
@@ -125,15 +124,6 @@ gone_length old at most new n gone =
       length-take-le at old (omega (arith, inside)),
       length-drop (at + n) old,
     )
-
-pub all_gone : {T : Type 0} (old : List T) (most : ℕ) → 0 < length old → length old ≤ most
-    → AreGone old 0 most [] (length old)
-all_gone old most some few = record {
-  some = some;
-  few = few;
-  inside = omega arith;
-  rest = sym (drop_all (0 + length old) old (omega arith));
-}
 
 -- what is seen through a window
 module _ {T : Type 0} (items row : List T) (from skip : ℕ) (frames : from + skip ≤ length items) where

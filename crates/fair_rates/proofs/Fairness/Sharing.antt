@@ -14,7 +14,7 @@ use Rattle.fair_rates.specs.Fairness.Fair.{Side, load, Uses, IsLimited, IsFair, 
 use Rattle.fair_rates.specs.Sides.Subjects.{Subject}
 use Rattle.fair_rates.specs.Sides.Caps.{Caps}
 use Rattle.fair_rates.specs.Fairness.UnderCaps.{cap_of, AreOfPeers, limits, sides_under, IsCappedSide}
-use Rattle.fair_rates.proofs.Lists.Members.{In, in_map, in_get, get_in, in_from_contains, in_filter, from_filter}
+use Rattle.fair_rates.proofs.Lists.Members.{In, in_map, in_get, get_in, in_from_contains, from_filter}
 use Rattle.fair_rates.proofs.Lists.Members.{some_or_none, get_from_map}
 use Rattle.fair_rates.proofs.Lists.SumOrder.{All-from_contains}
 use Rattle.fair_rates.proofs.Sides.CapSides.{capped_from_listed, listed_from_capped, side_of_subject}
@@ -278,21 +278,6 @@ module _ {P X : Type 0} (cmp : P → P → Ordering) (caps : Caps P) (flow : X �
               ∙ b.full;
           greatest = λ y among l. b.greatest y (from_filter mine xs y among).0 l;
         };
-  }
-
-  -- what one of them says holds of the side in both
-  held_more : (mine : X → Bool) (per : ℕ) (xs : List X) (x : X)
-      → ((s : Subject P) (cap : ℕ) (y : X) → cap_of caps s ≡ Some cap → In xs y → limits cmp s (flow x) ≡ true
-      → limits cmp s (flow y) ≡ true → mine y ≡ true)
-      → IsHeldAmong per (filter mine xs) x → IsHeldAmong per xs x
-  held_more mine per xs x all b = record {
-    by = b.by;
-    full =
-        sym
-        (total_same mine b.by.subject xs (λ y among l. all b.by.subject b.by.cap y b.by.capped among b.by.limited l))
-        ∙ b.full;
-    greatest = λ y among l.
-        b.greatest y (in_filter mine xs y among (all b.by.subject b.by.cap y b.by.capped among b.by.limited l)) l;
   }
 
   not_true : (b c : Bool) → b ≡ c → c ≡ false → not b ≡ true

@@ -44,16 +44,6 @@ module _ (scale place : ℕ) (parts : Option ℕ) (old new : FairParts) (scale_i
     others = λ flow apart. limited.others sound flow apart ∙ none_has flow;
   }
 
-pub limited_to_none : (place : ℕ) (found : FairParts) → IsLimitedTo place None found found
-limited_to_none place found = record {
-  scale = refl;
-  growth = refl;
-  one_each = refl;
-  sound = λ s. s;
-  has = λ none s. none;
-  others = λ s other apart. refl;
-}
-
 -- ---- the rate
 
 -- it is the own cap, or what is left of that of both, and there is none where there is no cap

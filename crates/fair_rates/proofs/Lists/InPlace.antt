@@ -4,7 +4,7 @@ use Rattle.std.proofs.Common.{subst, arith, append_assoc}
 use Rattle.std.specs.List.{AllZip}
 use Rattle.std.proofs.lemmas.List.{length-append, append-nil}
 use Rattle.fair_rates.proofs.Lists.Sorted.{get_or-seam, set-seam}
-use Rattle.fair_rates.proofs.Lists.Zips.{zip-same, zip_weaker, zip-push, zip-append}
+use Rattle.fair_rates.proofs.Lists.Zips.{zip-push}
 
 -- up to a place the new elements stand to the old ones as R says, and from there on nothing has changed
 pub record IsChangedUpTo {X : Type 0} (R : X → X → Type 0) (old now : List X) (at : ℕ) : Type 0 where
@@ -53,28 +53,3 @@ module _ {X : Type 0} (R : X → X → Type 0) where
             (subst (AllZip R h.from) (sym (now_is ∙ append-nil h.to)) h.changed)
         by_rest (z ∷ rest) old_is now_is =
             absurd (omega (arith, h.at_is, ap length now_is, length-append h.to (z ∷ rest)))
-
-    -- and with a weaker relation all has changed at any time
-    pub weakly_changed : (S : X → X → Type 0) → ((x y : X) → R x y → S x y) → ((x : X) → S x x) → AllZip S old now
-    weakly_changed S weaker same =
-        subst (λ l. AllZip S l now) (sym h.old_is)
-        (subst (AllZip S (h.from ++ h.rest)) (sym h.now_is)
-        (zip-append S h.from h.rest h.to h.rest (zip_weaker R S weaker h.from h.to h.changed)
-        (zip-same S same h.rest)))
-
-    -- so it has where the element at the place stands so to what it was
-    pub changed_but_one : (S : X → X → Type 0) → ((x y : X) → R x y → S x y) → ((x : X) → S x x) → (x y : X)
-        → at < length now → x ≡ get_or now at x → S x y → AllZip S old (set now at y)
-    changed_but_one S weaker same x y lt is s = by_rest h.rest h.old_is h.now_is
-      where
-        by_rest : (rest : List X) → old ≡ h.from ++ rest → now ≡ h.to ++ rest → AllZip S old (set now at y)
-        by_rest [] old_is now_is = absurd (omega (arith, h.at_is, ap length now_is, length-append h.to []))
-        by_rest (z ∷ rest) old_is now_is =
-            let here : x ≡ z =
-            is ∙ ap (λ l. get_or l at x) now_is ∙ ap (λ n. get_or (h.to ++ z ∷ rest) n x) h.at_is
-            ∙ get_or-seam h.to rest z x in
-            let written : set now at y ≡ h.to ++ y ∷ rest =
-            ap (λ l. set l at y) now_is ∙ ap (λ n. set (h.to ++ z ∷ rest) n y) h.at_is ∙ set-seam h.to rest z y in
-            subst (λ l. AllZip S l (set now at y)) (sym old_is) (subst (AllZip S (h.from ++ z ∷ rest)) (sym written)
-            (zip-append S h.from (z ∷ rest) h.to (y ∷ rest) (zip_weaker R S weaker h.from h.to h.changed)
-            (subst (λ v. S v y) here s, zip-same S same rest)))

@@ -403,18 +403,3 @@ module _ {K : Type 0} (cmp : K → K → Ordering) (total : IsTotalOrder cmp) wh
       value_respects (e ∷ es) k q same =
           ap (λ o. if is_eq o then says e else value_at cmp key says none es k) (alike_right total k q (key e) same)
           ∙ ap (λ v. if is_eq (cmp (key e) q) then says e else v) (value_respects es k q same)
-
-      -- where the new entry says the same, each key has its old value
-      pub value_kept : (es : List E) (k : K) (at : ℕ) (p : IsPlace cmp key es k at) (e : E) → key e ≡ key p.entry
-          → says e ≡ says p.entry → (q : K)
-          → value_at cmp key says none (set es at e) q ≡ value_at cmp key says none es q
-      value_kept es k at p e same says_same q = value_set_at es k at p e same q ∙ by_bool (is_eq (cmp k q))
-          (λ h. rw h (says_same ∙ sym (at_place says none es k at p) ∙ value_respects es k q (is_eq_equal _ h)))
-          (λ h. rw h refl)
-
-      pub value_added_none : (es : List E) (k : K) (at : ℕ) (g : IsGap cmp key es k at) (e : E)
-          → is_eq (cmp (key e) k) ≡ true → says e ≡ none → (q : K)
-          → value_at cmp key says none (insert es at e) q ≡ value_at cmp key says none es q
-      value_added_none es k at g e same says_none q = value_insert_at es k at g e same q ∙ by_bool (is_eq (cmp k q))
-          (λ h. rw h (says_none ∙ sym (at_gap says none es k at g) ∙ value_respects es k q (is_eq_equal _ h)))
-          (λ h. rw h refl)

@@ -161,7 +161,6 @@ over_fits a b x y d over h j k =
 -- a product of fractions in lowest terms, reduced before it is formed
 pub record CrossReduced (a b c d f s : ℕ) : Type 0 where
   pub first_positive : 0 < f
-  pub second_positive : 0 < s
   pub positive : 0 < b / s * (d / f)
   pub lowest : IsReduced (a / f * (c / s)) (b / s * (d / f))
   pub same : reduced (a * c) (b * d) ≡ record { num = a / f * (c / s); den = b / s * (d / f) }
@@ -206,7 +205,6 @@ cross_reduced a b c d h j r t =
     let den : f * s * (b / s * (d / f)) ≡ b * d = regroup_down f s (b / s) (d / f) ∙ multiplied _ _ _ _ b_is d_is in
     record {
       first_positive = gcd-pos a d j;
-      second_positive = gcd-pos c b h;
       positive = some;
       lowest = lowest;
       same = sym (reduced_alike _ _ _ _ num den)

@@ -24,7 +24,7 @@ use Rattle.fair_rates.specs.declared.bandwidth.numbers.Numbers.{Numbers}
 use Rattle.fair_rates.specs.declared.bandwidth.sides.Registry.{Registry}
 use Rattle.fair_rates.specs.declared.bandwidth.sides.Side as declared_side
 use Rattle.fair_rates.proofs.Sides.Numbers.{numbers_agree}
-use Rattle.fair_rates.proofs.Sides.Subjects.{same_symm, same_congr, peer_congr}
+use Rattle.fair_rates.proofs.Sides.Subjects.{same_symm, same_congr}
 use Rattle.fair_rates.proofs.Sides.OneMoreAsk.{Share, limit_of, shares_after, opened_share, is_side_of, with_user}
 use Rattle.fair_rates.proofs.Sides.OneMoreAsk.{limits_are, subjects_are, shares_push}
 
@@ -340,18 +340,6 @@ module _ {P : Type 0} (cmp : P → P → Ordering) (o : IsTotalOrder cmp) where
                 ∙ ap (λ m. cond (same_subject cmp s q) (Some m) (number q))
                 (last ∙ as_many ∙ sym as_many_subjects)));
           }
-
--- equal subjects have one number
-pub number_congr : {P : Type 0} (cmp : P → P → Ordering) (o : IsTotalOrder cmp) (registry : Registry P) (s t : Subject P)
-    → same_subject cmp s t ≡ true → number_of cmp registry s ≡ number_of cmp registry t
-number_congr cmp o registry (sent_by p) (sent_by q) e =
-    numbers_agree _ _ registry.senders (λ other. peer_congr cmp o p q other.now e)
-number_congr cmp o registry (received_by p) (received_by q) e =
-    numbers_agree _ _ registry.receivers (λ other. peer_congr cmp o p q other.now e)
-number_congr cmp o registry (sent_between p q) (sent_between r s) e =
-    numbers_agree _ _ registry.links
-    (λ other. same_congr cmp o (sent_between p q) (sent_between r s) (sent_between other.0.now other.1.now) e)
-number_congr cmp o registry s t e = cc e
 
 -- each number that the registry finds is that of a side
 pub finds_sides : {P : Type 0} (cmp : P → P → Ordering) (o : IsTotalOrder cmp) (asks : List (Ask P))

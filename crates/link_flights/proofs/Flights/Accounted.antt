@@ -1,12 +1,11 @@
 -- From one step of an account to the next.
-use Rattle.std.proofs.Common.{◌≡◌, ℕ, Bool, true, false, cond, not, ◌||◌, List, [], ◌∷◌, All}
+use Rattle.std.proofs.Common.{◌≡◌, ℕ, Bool, true, false, cond, not, ◌||◌, List, [], ◌∷◌}
 use Rattle.std.proofs.Common.{refl, sym, ap, ◌∙◌, inl, inr}
 use Rattle.std.specs.Bool.{◌==◌}
 use Rattle.std.specs.List.{AllZip, filter}
 use Rattle.std.specs.declared.cmp.Ordering.{Ordering}
 use Rattle.fair_rates.specs.Sides.Caps.{Caps}
-use Rattle.fair_rates.proofs.Lists.Members.{In, from_filter, in_from_contains, all_passed}
-use Rattle.fair_rates.proofs.Lists.SumOrder.{All-from_contains}
+use Rattle.fair_rates.proofs.Lists.Members.{In, from_filter, all_passed}
 use Rattle.link_simulation.specs.Simulation.Rates.{is_unlimited}
 use Rattle.link_flights.specs.Flights.Flight.{UnitFlight, DrainsTo}
 use Rattle.link_flights.specs.Flights.Rated.{rated_ones, is_out, are_limited, IsRatedFrom}
@@ -22,12 +21,6 @@ module _ {P : Type 0} where
   there now (u ∷ us) (w ∷ vs) z v (inl is) =
       ap (λ (x : UnitFlight P). x.updated) (sym is) ∙ ap (λ (x : UnitFlight P). x.updated) z.0
   there now (u ∷ us) (w ∷ vs) z v (inr among) = there now us vs z.1 v among
-
-  -- what stays of what has drained to a moment has it as its update
-  pub stays_updated : (now : ℕ) (us vs : List (UnitFlight P)) (test : UnitFlight P → Bool) → AllZip (DrainsTo now) us vs
-      → All (λ (u : UnitFlight P). u.updated ≡ now) (filter test vs)
-  stays_updated now us vs test z = All-from_contains (λ (u : UnitFlight P). u.updated ≡ now) (filter test vs)
-      (λ u has. there now us vs z u (from_filter test vs u (in_from_contains (filter test vs) u has)).0)
 
   -- all have rates
   pub all_have_rates : (now times : ℕ) (us vs : List (UnitFlight P)) → AllZip (IsRatedFrom now times) us vs

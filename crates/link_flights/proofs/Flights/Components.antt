@@ -14,7 +14,6 @@ use Rattle.std.proofs.lemmas.Cmp.{eq_by_cmp_equiv}
 use Rattle.std.proofs.lemmas.List.{length-map}
 use Rattle.std.proofs.lemmas.List.Elements.{All-contains}
 use Rattle.std.proofs.lemmas.List.Sums.{sum_by-cons}
-use Rattle.fair_rates.specs.Fairness.Exists.{product}
 use Rattle.fair_rates.proofs.Lists.SumOrder.{All-from_contains}
 use Rattle.fair_rates.specs.declared.bandwidth.Flow.{Flow}
 use Rattle.fair_rates.specs.declared.bandwidth.parts.FairParts.{FairParts}
@@ -190,15 +189,6 @@ module _ {X : Type 0} (p q r : X → Bool) where
           either_way (q x) x (filter q xs) (filter r xs) ih
           ∙ ap (λ b. filter p (cond b (x ∷ filter r xs) (filter r xs))) (h x (inl refl) is)
       by_test false is ih = dropped (q x) x (filter q xs) is ∙ ih ∙ sym (dropped (r x) x (filter r xs) is)
-
--- a scale that has not grown
-pub same_scale : (found : FairParts) (scale : ℕ) → found.scale ≡ scale * product found.growth.items
-    → found.growth.items ≡ [] → found.scale ≡ scale
-same_scale found scale grown none =
-    let one : scale * 1 ≡ scale = omega arith in grown ∙ ap (λ l. scale * product l) none ∙ one
-
-pub grows_once : (found : FairParts) → found.growth.items ≡ [] → product found.growth.items ≡ 1
-grows_once found none = ap product none
 
 -- ---- the component and the rest
 

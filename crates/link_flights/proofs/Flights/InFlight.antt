@@ -6,7 +6,6 @@ use Rattle.std.specs.List.{AllZip, remove, filter}
 use Rattle.std.specs.declared.cmp.Ordering.{Ordering}
 use Rattle.fair_rates.specs.declared.bandwidth.Flow.{Flow}
 use Rattle.std.specs.Bool.{◌==◌}
-use Rattle.std.proofs.lemmas.Bool.Decides.{nat_tests}
 use Rattle.fair_rates.specs.Sides.Subjects.{same_peer}
 use Rattle.link_simulation.specs.Simulation.Messages.{Message, is_delivered}
 use Rattle.std.proofs.lemmas.List.{length-append, append-nil}
@@ -223,10 +222,3 @@ module _ {P X : Type 0} (message : X → Message P) (spent : X → Bool) where
 
 pub nothing_is_done : (n : ℕ) (b : Bool) → n ≡ 0 → ((n == 0) || b) ≡ true
 nothing_is_done n b h = rw h refl
-
-pub something_is_not : (n : ℕ) (b : Bool) → (n ≡ 0 → ⊥) → ((n == 0) || b) ≡ b
-something_is_not zero b h = absurd (h refl)
-something_is_not (suc n) b h = rw (differs n) refl
-  where
-    differs : (n : ℕ) → (suc n == 0) ≡ false
-    differs n = grind (arith, nat_tests)

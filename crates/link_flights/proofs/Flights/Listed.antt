@@ -3,7 +3,6 @@ use Rattle.std.proofs.Common.{◌≡◌, ℕ, zero, suc, ◌+◌, ◌<◌, ◌�
 use Rattle.std.proofs.Common.{Some, get_or, slice_get, All, take, refl, sym, ap, ◌∙◌, subst, arith, inl, inr}
 use Rattle.std.specs.List.{insert}
 use Rattle.std.proofs.lemmas.Bool.{false≢true}
-use Rattle.std.proofs.lemmas.List.Elements.{All-cons, All-nil}
 use Rattle.std.proofs.lemmas.Option.{none-some, same_Some}
 use Rattle.fair_rates.proofs.Lists.Members.{In}
 use Rattle.link_flights.specs.Flights.Components.{places_of, Ascends}
@@ -26,24 +25,6 @@ ascends_with_one first (p ∷ ps) (suc to) at (low, rest) from below above =
       ascends_with_one (suc p) ps to at rest (omega (arith, less))
           (λ k d inside. below (suc k) d (omega (arith, inside))) (λ inside. above (omega (arith, inside))),
     )
-
--- what holds of the first so many holds of fewer
-pub holds_of_fewer : (Q : ℕ → Type 0) (n m : ℕ) (ps : List ℕ) → n ≤ m → All Q (take m ps) → All Q (take n ps)
-holds_of_fewer Q zero m ps fewer all = All-nil Q
-holds_of_fewer Q (suc n) zero ps fewer all = absurd (omega (arith, fewer))
-holds_of_fewer Q (suc n) (suc m) [] fewer all = All-nil Q
-holds_of_fewer Q (suc n) (suc m) (p ∷ ps) fewer all =
-    All-cons Q p (take n ps) (all 0 p (omega arith))
-    (holds_of_fewer Q n m ps (omega (arith, fewer)) (λ k d inside. all (suc k) d (omega (arith, inside))))
-
--- and still does where one more stands behind them
-pub holds_with_one : (Q : ℕ → Type 0) (ps : List ℕ) (to at : ℕ) → to ≤ length ps → All Q (take to ps)
-    → All Q (take to (insert ps to at))
-holds_with_one Q ps zero at inside all = All-nil Q
-holds_with_one Q [] (suc to) at inside all = absurd (omega (arith, inside))
-holds_with_one Q (p ∷ ps) (suc to) at inside all =
-    All-cons Q p (take to (insert ps to at)) (all 0 p (omega arith))
-    (holds_with_one Q ps to at (omega (arith, inside)) (λ k d low. all (suc k) d (omega (arith, low))))
 
 -- what comes to the end comes to stand there
 pub pushed_is_inserted : (ps : List ℕ) (to at : ℕ) → to ≡ length ps → ps ++ at ∷ [] ≡ insert ps to at

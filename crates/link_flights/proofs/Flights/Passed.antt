@@ -1,16 +1,14 @@
 -- Those that are passed where what is done is looked for, and the first finish of them.
 use Rattle.std.proofs.Common.{◌≡◌, ℕ, ◌+◌, ◌<◌, ◌≤◌, false, List, length, get_or, sym, ap, ◌∙◌, arith, inl, inr}
-use Rattle.std.proofs.Common.{Option, Some, None, refl}
+use Rattle.std.proofs.Common.{Option, Some}
 use Rattle.std.specs.declared.rc.Rc.{Rc}
 use Rattle.std.specs.declared.alloc.Global.{Global}
 use Rattle.std.specs.List.{remove}
-use Rattle.std.specs.Option.{unwrap_or}
 use Rattle.std.proofs.lemmas.Bool.{cases_lt, leb-false, lt-leb}
 use Rattle.std.proofs.lemmas.List.{get_or_default}
 use Rattle.std.proofs.lemmas.List.Edits.{get_or-remove_below}
 use Rattle.std.proofs.lemmas.List.Folds.{list_any_none}
 use Rattle.link_simulation.specs.Rule.Planned.{earlier}
-use Rattle.link_simulation.specs.Simulation.World.{last_moment}
 use Rattle.link_flights.specs.declared.flight.Flight.{Flight}
 use Rattle.link_flights.specs.Flights.Flight.{has_come, FinishFrom}
 use Rattle.link_flights.specs.Flights.InFlight.{PassesNowhere}
@@ -44,13 +42,6 @@ module _ {P : Type 0} where
               (sym (is ∙ get_or_default list at one d inside)) ∙ both.1
         ],
       )
-
-  -- none is passed yet
-  pub none_passed : (old : Option ℕ) (least : ℕ) (list : List (Rc (Flight P) Global)) (from : ℕ)
-      → least ≡ unwrap_or old last_moment → HasPassed old (Some least) list from from
-  none_passed None least list from is t e = (refl, λ i low high d. absurd (omega (arith, low, high)))
-  none_passed (Some first) least list from is t e =
-      (ap (λ n. has_come t (Some n)) (sym is) ∙ e, λ i low high d. absurd (omega (arith, low, high)))
 
   -- one more is passed, which finishes no earlier than a moment that is no later than the one before
   pub passed_later : (old : Option ℕ) (least next : ℕ) (list : List (Rc (Flight P) Global)) (from at : ℕ)

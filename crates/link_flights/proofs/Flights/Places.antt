@@ -1,6 +1,6 @@
 -- The places of those of a list that pass a test.
-use Rattle.std.proofs.Common.{◌≡◌, ℕ, zero, suc, ◌+◌, ◌<◌, ◌≤◌, Bool, true, false, ◌||◌, List, [], ◌∷◌, ◌++◌, length}
-use Rattle.std.proofs.Common.{cond, Some, get_or, slice_get, drop, refl, sym, ap, ◌∙◌, arith}
+use Rattle.std.proofs.Common.{◌≡◌, ℕ, zero, suc, ◌+◌, ◌<◌, ◌≤◌, Bool, true, false, ◌||◌, List, [], ◌∷◌, length}
+use Rattle.std.proofs.Common.{Some, get_or, slice_get, drop, refl, sym, ap, ◌∙◌, arith}
 use Rattle.std.specs.List.{filter, list_all}
 use Rattle.std.proofs.lemmas.Bool.{and_from}
 use Rattle.std.proofs.lemmas.Option.{none-some}
@@ -59,29 +59,6 @@ module _ {X : Type 0} (test : X → Bool) where
             place = ap (λ l. get_or l i 0) (places_no n y ys fails) ∙ s.place ∙ omega arith;
             there = s.there;
           }
-
-  -- one more at the end of the list
-  pub places_more : (n : ℕ) (xs : List X) (x : X)
-      → places_of test n (xs ++ x ∷ []) ≡ places_of test n xs ++ cond (test x) ((n + length xs) ∷ []) []
-  places_more n [] x = ap (λ p. cond (test x) (p ∷ []) []) (let it : n ≡ n + 0 = omega arith in it)
-  places_more n (y ∷ ys) x = by_test (test y) refl (places_more (suc n) ys x)
-    where
-      shift : suc n + length ys ≡ n + length (y ∷ ys)
-      shift = omega arith
-
-      by_test : (b : Bool) → test y ≡ b
-          → places_of test (suc n) (ys ++ x ∷ [])
-          ≡ places_of test (suc n) ys ++ cond (test x) ((suc n + length ys) ∷ []) []
-          → places_of test n (y ∷ ys ++ x ∷ [])
-          ≡ places_of test n (y ∷ ys) ++ cond (test x) ((n + length (y ∷ ys)) ∷ []) []
-      by_test true passes ih =
-          places_yes n y (ys ++ x ∷ []) passes ∙ ap (λ l. n ∷ l) ih
-          ∙ ap (λ p. n ∷ places_of test (suc n) ys ++ cond (test x) (p ∷ []) []) shift
-          ∙ sym (ap (λ l. l ++ cond (test x) ((n + length (y ∷ ys)) ∷ []) []) (places_yes n y ys passes))
-      by_test false fails ih =
-          places_no n y (ys ++ x ∷ []) fails ∙ ih
-          ∙ ap (λ p. places_of test (suc n) ys ++ cond (test x) (p ∷ []) []) shift
-          ∙ sym (ap (λ l. l ++ cond (test x) ((n + length (y ∷ ys)) ∷ []) []) (places_no n y ys fails))
 
   -- where all pass, each stands at its number
   pub all_places : ((x : X) → test x ≡ true) → (n : ℕ) (xs : List X) (k : ℕ) → k < length xs

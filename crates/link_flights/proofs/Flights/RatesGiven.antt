@@ -1,5 +1,5 @@
 -- Rates that are given to what is in flight.
-use Rattle.std.proofs.Common.{◌≡◌, ◌≢◌, ℕ, zero, suc, ◌*◌, ◌<◌, ◌≤◌, List, [], All, IfSome, length, refl}
+use Rattle.std.proofs.Common.{◌≡◌, ◌≢◌, ℕ, zero, suc, ◌*◌, ◌<◌, ◌≤◌, List, All, IfSome, length, refl}
 use Rattle.std.proofs.Common.{sym, ap}
 use Rattle.std.proofs.Common.{◌∙◌, subst, arith, true}
 use Rattle.std.specs.Prelude.{nat_le}
@@ -28,16 +28,6 @@ use Rattle.link_flights.specs.Flights.Rated.{IsRatedFrom, HaveFairRates}
 use Rattle.link_flights.proofs.Flights.Components.{found_each, whole_rerated, whole_fair}
 use Rattle.link_flights.proofs.Flights.Components.{component_rerated}
 use Rattle.link_flights.proofs.Flights.Restarting.{restart_fair, kept_within}
-
--- where something is left, so there is in the same units
-pub left_still : {P : Type 0} (us : List (UnitFlight P)) (growth : List ℕ) → growth ≡ [] → All (λ u. u.left ≢ 0) us
-    → All (λ u. u.left * product growth ≢ 0) us
-left_still us growth none left =
-    All-from_contains (λ u. u.left * product growth ≢ 0) us (λ u listed is.
-    All-contains (λ u. u.left ≢ 0) us u left listed (once u.left (product growth) (ap product none) is))
-  where
-    once : (n times : ℕ) → times ≡ 1 → n * times ≡ 0 → n ≡ 0
-    once n times one is = let same : n * 1 ≡ n = omega arith in sym same ∙ ap (λ m. n * m) (sym one) ∙ is
 
 module _ {P : Type 0} (cmp : P → P → Ordering) (caps : Caps P) (component : Component P) (found : FairParts) where
   -- where something is left, so there is in smaller units

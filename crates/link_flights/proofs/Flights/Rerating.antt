@@ -268,19 +268,6 @@ module _ {P : Type 0} {cmp : P → P → Ordering} {component : Component P} {no
     pub rest : List (Rc (Flight P) Global)
     pub was : h.rest ≡ x ∷ rest
 
-  pub stands_next : (x : Rc (Flight P) Global) → at < length so_far → x ≡ get_or so_far at x → StandsNext x
-  stands_next x lt is = by_rest h.rest refl
-    where
-      by_rest : (rest : List (Rc (Flight P) Global)) → h.rest ≡ rest → StandsNext x
-      by_rest [] e =
-          let whole = ap length (h.is ∙ ap (λ l. h.to ++ l) e) in
-          absurd (omega (arith, lt, h.at_is, whole, length-append h.to []))
-      by_rest (z ∷ rest) e =
-          let here : x ≡ z =
-          is ∙ ap (λ l. get_or l at x) (h.is ∙ ap (λ l. h.to ++ l) e)
-          ∙ ap (λ n. get_or (h.to ++ z ∷ rest) n x) h.at_is ∙ get_or-seam h.to rest z x in
-          record { rest = rest; was = e ∙ ap (λ v. v ∷ rest) (sym here) }
-
   module _ (x : Rc (Flight P) Global) (s : StandsNext x) where
     abbrev u : UnitFlight P
     u = flight_at now x.value
@@ -367,19 +354,6 @@ module _ {P : Type 0} {cmp : P → P → Ordering} {component : Component P} {no
           timed = more_timed h.to y h.timed (λ is. put.timed);
           others = λ i g there. others_all (suc i) g there;
         }
-
-  -- where a rate is left to be given, one of them still stands
-  pub more_stand : next < length rates → at < length so_far
-  more_stand some = by_rest h.rest refl
-    where
-      by_rest : (rest : List (Rc (Flight P) Global)) → h.rest ≡ rest → at < length so_far
-      by_rest [] e =
-          let none : length rates ≡ next + 0 =
-          h.one_each ∙ ap (λ l. next + length (those_of cmp component (flights_at now l))) e in
-          absurd (omega (arith, some, none))
-      by_rest (z ∷ rest) e =
-          let whole = ap length (h.is ∙ ap (λ l. h.to ++ l) e) in
-          omega (arith, h.at_is, whole, length-append h.to (z ∷ rest))
 
   -- all of them
   pub record AreAllRerated : Type 0 where

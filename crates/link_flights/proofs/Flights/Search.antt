@@ -11,7 +11,7 @@ use Rattle.std.specs.declared.alloc.Global.{Global}
 use Rattle.std.proofs.lemmas.Bool.{cases_lt, false≢true, and_from, or_cases}
 use Rattle.std.proofs.lemmas.Cmp.{eq_by_cmp_equiv}
 use Rattle.link_flights.proofs.Flights.InFlight.{filter_yes, filter_no}
-use Rattle.link_flights.proofs.Flights.Places.{or_first, or_second}
+use Rattle.link_flights.proofs.Flights.Places.{one_there, or_first, or_second}
 use Rattle.std.proofs.lemmas.List.{append_assoc, length-append, take-append-drop, take-append-le, take_all}
 use Rattle.std.proofs.lemmas.List.Elements.{All-more, All-contains, Contains-append_left, Contains-append_right}
 use Rattle.std.proofs.lemmas.List.Elements.{Contains-append_cases}
@@ -52,12 +52,6 @@ module _ {X : Type 0} where
         let last : at ≡ i = omega (arith, below, past) in
         subst (λ k. Q k x) last (here x (ap (slice_get xs) last ∙ there))
   ]
-
-  -- one stands at each place of a list
-  one_there : (xs : List X) (at : ℕ) → at < length xs → (x : X) × (slice_get xs at ≡ Some x)
-  one_there [] at inside = absurd (omega (arith, inside))
-  one_there (x ∷ xs) zero inside = (x, refl)
-  one_there (x ∷ xs) (suc at) inside = one_there xs at (omega (arith, inside))
 
   -- what all of the first ones pass, one of them passes
   pub passed_there : (test : X → Bool) (n : ℕ) (xs : List X) (at : ℕ) (x : X) → list_all test (take n xs) ≡ true
@@ -335,17 +329,6 @@ module _ {P : Type 0} (cmp : P → P → Ordering) where
               (ap (λ n. u.rated && not (nat_le n u.rate)) level ∙ kept)
           | inr both ↦ or_second (keeps new u) (has_both cmp new m) (still_has_both m both)
         ]
-
-  -- what is read at a place is what stands there
-  pub suited_there : (component : Component P) (list : List (Rc (Flight P) Global)) (at : ℕ)
-      (read : Rc (Flight P) Global) → read ≡ get_or list at read
-      → (keeps component (flight_at 0 read.value) || has_both cmp component read.value.message.value) ≡ true
-      → IsSuited cmp component list at
-  suited_there component list at read is suited one there =
-      subst
-      (λ (x : Rc (Flight P) Global). (keeps component (flight_at 0 x.value)
-      || has_both cmp component x.value.message.value) ≡ true)
-      (same_there list at read one is there) suited
 
   -- where one more is listed of which it has both ends, if that keeps no rate, it still has those of all
   pub suited_with_one : (old new : Component P) → StartsWith old.joined.items new.joined.items

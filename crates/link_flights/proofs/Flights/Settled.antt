@@ -8,7 +8,7 @@ use Rattle.std.specs.declared.rc.Rc.{Rc}
 use Rattle.std.specs.declared.alloc.Global.{Global}
 use Rattle.std.proofs.lemmas.Bool.{and_from, or_parts, leb-false, lt-leb}
 use Rattle.std.proofs.lemmas.List.{length-set, length-take-le, take-append-drop}
-use Rattle.std.proofs.lemmas.List.{take_all, get_or_default}
+use Rattle.std.proofs.lemmas.List.{get_or_default}
 use Rattle.std.proofs.lemmas.List.Edits.{length-remove}
 use Rattle.std.proofs.lemmas.List.Elements.{length_all_zip}
 use Rattle.std.proofs.lemmas.Option.{slice_get_read}
@@ -130,11 +130,6 @@ module _ {P : Type 0} where
   pub rates_alike : (n : ℕ) (fs gs : List (Rc (Flight P) Global)) → AreShared fs gs → HaveRates n fs → HaveRates n gs
   rates_alike n fs gs z h = (omega (arith, h.0, length_all_zip _ fs gs z), rated_alike n fs gs z ∙ h.1)
 
-  pub rates_all : (fs : List (Rc (Flight P) Global)) → list_all (λ f. f.value.rated) fs ≡ true
-      → HaveRates (length fs) fs
-  rates_all fs all =
-      (omega arith, ap (list_all (λ f. f.value.rated)) (take_all (length fs) fs (omega arith)) ∙ all)
-
   -- ---- none finishes before a moment
 
   pub finish_put : (first : Option ℕ) (fs : List (Rc (Flight P) Global)) (at : ℕ) (one : Rc (Flight P) Global)
@@ -246,8 +241,3 @@ all_have_got now times at [] [] z = refl
 all_have_got now times at [] (f ∷ fs) z = absurd z
 all_have_got now times at (u ∷ us) [] z = absurd z
 all_have_got now times at (u ∷ us) (f ∷ fs) z = and_from f.value.rated _ z.0.rated (all_have_got now times at us fs z.1)
-
--- with the first finish, none finishes before it
-pub finish_known : {P : Type 0} (first : Option ℕ) (fs : List (Rc (Flight P) Global))
-    → ((t : ℕ) → has_come t first ≡ list_any (λ f. has_come t f.value.finish) fs) → FinishFrom first fs
-finish_known first fs is t e = sym (is t) ∙ e

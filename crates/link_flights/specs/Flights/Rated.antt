@@ -214,6 +214,13 @@ pub record AreRatedBeside {P : Type 0} {a : _} {b : _} {c : _} (cmp : P → P �
   pub at : new.at ≡ old.at
   pub timed : AreTimed new.list.items
 
+-- that is so where rates were found, and the others have kept theirs; where none were, all is as it was
+abbrev pub GivesBeside : {P : Type 0} {a : _} {b : _} {c : _} → (P → P → Ordering) → Caps P → Component P
+    → Flights P a b c → Flights P a b c → Option ℕ → Type 0
+GivesBeside cmp caps component old new None = new ≡ old
+GivesBeside cmp caps component old new (Some found) =
+    AreRatedBeside cmp caps component old new × AreKeptBut new.rated_anew old.list.items new.list.items
+
 -- whether none of those of a list of which a component has an end is rated anew
 abbrev pub none_is_rated : {P : Type 0} → (P → P → Ordering) → Component P → List (Rc (Flight P) Global) → Bool
 none_is_rated cmp component list =

@@ -4,7 +4,6 @@ use Rattle.std.proofs.Common.{slice_get, slice_set, Option, Some, None, refl, sy
 use Rattle.std.specs.List.{list_all}
 use Rattle.std.specs.declared.cmp.Ordering.{Ordering}
 use Rattle.std.specs.Ordering.{is_lt}
-use Rattle.std.proofs.lemmas.List.{length-set}
 use Rattle.fair_rates.proofs.Lists.Booleans.{by_bool, first_of_both, second_of_both}
 use Rattle.fair_rates.proofs.Lists.Sorted.{list_all-map}
 use Rattle.shared_list.specs.Places.{are_parted, IsParting}
@@ -99,11 +98,6 @@ module _ {P : Type 0} where
       → map key_of (with_late late pairs) ≡ map key_of pairs
   keys_stay None pairs is = refl
   keys_stay (Some late) pairs is = is.1
-
-  pub length_stays : (late : Option (Late P)) (pairs : List (Pair P))
-      → length (with_late late pairs) ≡ length pairs
-  length_stays None pairs = refl
-  length_stays (Some late) pairs = length-set pairs late.at late.pair.value
 
   -- a place that is found without the late pair is right with it
   pub parting_late : (cmp : P → P → Ordering) (o r : P) (late : Option (Late P)) (pairs : List (Pair P)) (at : ℕ)

@@ -57,12 +57,6 @@ module _ {P : Type 0} (cmp : P → P → Ordering) (order : IsTotalOrder cmp) wh
       let c = advances_same cmp order q p now n (goes cs r) (same_turned cmp order p q same) advances in
       advances_as now n p r cs c.0 c.1 c.2
 
-  -- a copy that is read as what it is of
-  pub same_copy : (p q : Planned P) → q ≡ p → CapsAlike cmp p.caps p.caps → PairsAlike cmp p.last_arrival p.last_arrival
-      → IsSamePlanned cmp p q
-  same_copy p q is caps arrivals =
-      subst (λ (r : Planned P). IsSamePlanned cmp p r) (sym is) (same_itself cmp order p caps arrivals)
-
   -- what goes so is answered with clones of what came out
   pub goes_answered : (p r : Planned P) (call : Call P) (ds cs : List (Completed P)) → AllZip (SameCompletion cmp) ds cs
       → GoesByRule cmp p call cs r → GoesByRule cmp p call ds r

@@ -2,7 +2,7 @@
 use Rattle.std.proofs.Common.{◌≡◌, ℕ, zero, suc, ◌<◌, map, get_or, arith, Bool, true, false, not, ◌&&◌, ◌||◌, cond}
 use Rattle.std.proofs.Common.{if◌then◌else◌, List, [], ◌∷◌, ◌++◌, length, Option, Some, None, refl, sym, ◌∙◌, ap}
 use Rattle.std.specs.Prelude.{option_map, ◌==◌}
-use Rattle.std.specs.List.{find, filter, list_any, AllZip}
+use Rattle.std.specs.List.{find, filter, list_any}
 use Rattle.std.specs.declared.cmp.Ordering.{Ordering}
 use Rattle.std.specs.Ordering.{is_eq}
 use Rattle.std.specs.Cmp.{IsTotalOrder}
@@ -151,19 +151,6 @@ module _ {P : Type 0} (cmp : P → P → Ordering) where
             or_parts (u f.message) (list_any u (rated_messages (filter spent fs))) none in
             rw (is, parts.0) (ih parts.1)
         by_test false is none ih = rw is (ap (λ c. u f.message || c) (ih none))
-
-    pub drained_else : (t : ℕ) (fs : List (RatedFlight P))
-        → list_any u (rated_messages (drained_to t fs)) ≡ list_any u (rated_messages fs)
-    drained_else t [] = refl
-    drained_else t (f ∷ fs) = ap (λ c. u f.message || c) (drained_else t fs)
-
-    stayed_else : (t : ℕ) (fs gs : List (RatedFlight P))
-        → AllZip (λ f g. (g.message ≡ f.message) × (g.left ≡ f.left) × (g.updated ≡ t)) fs gs
-        → list_any u (rated_messages gs) ≡ list_any u (rated_messages fs)
-    stayed_else t [] [] zip = refl
-    stayed_else t [] (g ∷ gs) zip = absurd zip
-    stayed_else t (f ∷ fs) [] zip = absurd zip
-    stayed_else t (f ∷ fs) (g ∷ gs) zip = rw (zip.0.0, stayed_else t fs gs zip.1) refl
 
     -- what left was in flight
     pub left_in_flight : (spent : RatedFlight P → Bool) (fs : List (RatedFlight P))

@@ -1,8 +1,9 @@
-use Rattle.std.proofs.Common.{rules, ◌≤◌, ℕ, IfSome, Option, IsSome, refl, sym, subst, arith}
+use Rattle.std.proofs.Common.{rules, ◌≤◌, IfSome, subst, arith}
 use Rattle.link_simulation.specs.Simulation.World.{last_moment}
 use Rattle.link_pairs.specs.Pairs.CapsOf.{caps_of}
 use Rattle.link_pairs.proofs.Pairs.LookedUp.{looked_up}
 use Rattle.link_flights.specs.Flights.InFlight.{in_units}
+use Rattle.link_flights.specs.Flights.Rated.{GivesBeside}
 use Rattle.link_flights.proofs.Flights.RatesGiven.{beside_given, still_given}
 use Rattle.link_flights.proofs.Flights.Rerating.{first_finish_is}
 use Rattle.link_flights.proofs.Flights.Settled.{all_have_got}
@@ -15,7 +16,7 @@ settle-requires g c =
     let caps = caps_of cmp c.args.peers.now.entries c.args.pairs.now.entries in
     let component = c.in_ok-touched.touched in
     let mid = c.rate_touched.new.self in
-    let r = c.in_ok-found.ensures.rated (subst (λ (o : Option ℕ). IsSome o) (sym c.in-Some.is) refl) in
+    let r = (subst (GivesBeside cmp caps component old mid) c.in-Some.is c.in_ok-found.ensures.gives).0 in
     let h =
     beside_given cmp caps component old mid r g.met.P.Ord.total
     (looked_up cmp g.met.P.Ord.total c.args.peers.now.entries c.args.pairs.now.entries) c.args.done.now.items
@@ -30,7 +31,7 @@ returns-in-Some-clause-rated g c =
     let caps = caps_of cmp c.args.peers.now.entries c.args.pairs.now.entries in
     let component = c.in_ok-touched.touched in
     let mid = c.rate_touched.new.self in
-    let r = c.in_ok-found.ensures.rated (subst (λ (o : Option ℕ). IsSome o) (sym c.in-Some.is) refl) in
+    let r = (subst (GivesBeside cmp caps component old mid) c.in-Some.is c.in_ok-found.ensures.gives).0 in
     let h =
     beside_given cmp caps component old mid r g.met.P.Ord.total
     (looked_up cmp g.met.P.Ord.total c.args.peers.now.entries c.args.pairs.now.entries) c.args.done.now.items
@@ -55,7 +56,7 @@ returns-in-Some-clause-finish g c =
     let caps = caps_of cmp c.args.peers.now.entries c.args.pairs.now.entries in
     let component = c.in_ok-touched.touched in
     let mid = c.rate_touched.new.self in
-    let r = c.in_ok-found.ensures.rated (subst (λ (o : Option ℕ). IsSome o) (sym c.in-Some.is) refl) in
+    let r = (subst (GivesBeside cmp caps component old mid) c.in-Some.is c.in_ok-found.ensures.gives).0 in
     let h =
     beside_given cmp caps component old mid r g.met.P.Ord.total
     (looked_up cmp g.met.P.Ord.total c.args.peers.now.entries c.args.pairs.now.entries) c.args.done.now.items

@@ -6,7 +6,7 @@ use Rattle.link_flights.specs.declared.flight.Flight.{Flight}
 use Rattle.link_flights.specs.Flights.Components.{near_of, those_near}
 use Rattle.link_flights.specs.Flights.Flight.{flight_at, flights_at}
 use Rattle.link_flights.specs.Flights.InFlight.{in_units}
-use Rattle.link_flights.specs.Flights.Rated.{rerated}
+use Rattle.link_flights.specs.Flights.Rated.{rerated, AreRatedBeside}
 use Rattle.link_flights.proofs.Flights.FewNear.{only_fair, only_told}
 use Rattle.link_flights.proofs.Flights.Places.{one_there}
 use Rattle.link_flights.proofs.Flights.Search.{near_read}
@@ -37,8 +37,8 @@ set_rates-requires-clause-kept g c =
     only_told cmp component (get_or list c.args.at x.0) (c.requires.rated x.0) (those_near cmp component list)
     (c.requires.only x.0)
 
-pub returns-then-le-clause-rated : goal.returns-then-le-clause-rated
-returns-then-le-clause-rated g c some =
+pub returns-then-le-clause-gives : goal.returns-then-le-clause-gives
+returns-then-le-clause-gives g c =
     let cmp = g.P.Ord.cmp in
     let component = c.args.component.now in
     let self = c.args.self.now in
@@ -48,12 +48,12 @@ returns-then-le-clause-rated g c some =
     let u = flight_at self.at one.value in
     let near : near_of cmp component (in_units self) ≡ u ∷ [] =
     sym (near_read cmp component self.at list) ∙ ap (flights_at self.at) (c.requires.only x.0) in
-    let fair = only_fair cmp component u (c.requires.rated x.0)
-    (caps_of cmp c.args.peers.now.entries c.args.pairs.now.entries) self.scale c.in_ok-level.level (in_units self) near
+    let caps = caps_of cmp c.args.peers.now.entries c.args.pairs.now.entries in
+    let fair = only_fair cmp component u (c.requires.rated x.0) caps self.scale c.in_ok-level.level (in_units self) near
     (c.in_ok-level.ensures.fair x.0) in
     let e = c.in_ok-set_rates.ensures in
     let reach : nat_le component.level c.in_ok-level.level ≡ true = search rules in
-    record {
+    let rated : AreRatedBeside cmp caps component self c.set_rates.new.self = record {
       rates = c.in_ok-level.level ∷ [];
       fair = fair;
       reach = ap (λ b. b && true) reach;
@@ -63,4 +63,4 @@ returns-then-le-clause-rated g c some =
       scale = e.scale;
       at = e.at;
       timed = e.timed;
-    }
+    } in (rated, e.kept)

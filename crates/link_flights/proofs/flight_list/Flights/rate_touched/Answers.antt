@@ -3,20 +3,21 @@ use Rattle.link_pairs.specs.Pairs.CapsOf.{caps_of}
 use Rattle.link_flights.specs.Flights.Components.{is_of}
 use Rattle.link_flights.specs.Flights.Flight.{flight_at}
 use Rattle.link_flights.specs.Flights.InFlight.{in_units}
+use Rattle.link_flights.specs.Flights.Rated.{AreRatedBeside}
 use Rattle.link_flights.proofs.Flights.FewNear.{none_anew, none_of, none_fair, one_near, one_rated}
 use Rattle.link_flights.proofs.Flights.Near.{part_within}
 use Rattle.link_flights.proofs.Flights.Rerating.{all_kept}
 use Rattle.link_flights.proofs.flight_list.Flights.rate_touched.Goals as goal
 
-pub returns-then-has_none-clause-rated : goal.returns-then-has_none-clause-rated
-returns-then-has_none-clause-rated g c some =
+pub returns-then-has_none-clause-gives : goal.returns-then-has_none-clause-gives
+returns-then-has_none-clause-gives g c =
     let cmp = g.P.Ord.cmp in
     let self = c.args.self.now in
     let component = c.args.touched.now in
     let caps = caps_of cmp c.args.peers.now.entries c.args.pairs.now.entries in
     let us = in_units self in
     let none = none_of cmp component self.at self.list.items (sym c.has_none.ensures ∙ c.if-has_none.true) in
-    record {
+    let rated : AreRatedBeside cmp caps component self _ = record {
       rates = [];
       fair = none_fair cmp component g.met.P.Ord.total caps self.scale us none;
       reach = refl;
@@ -24,10 +25,7 @@ returns-then-has_none-clause-rated g c some =
       scale = refl;
       at = refl;
       timed = c.requires.timed;
-    }
-
-pub returns-then-has_none-clause-kept : goal.returns-then-has_none-clause-kept
-returns-then-has_none-clause-kept g c some = all_kept c.args.self.now.list.items
+    } in (rated, all_kept self.list.items)
 
 pub rate_only-requires-clause-place : goal.rate_only-requires-clause-place
 rate_only-requires-clause-place g c =
