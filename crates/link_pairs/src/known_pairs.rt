@@ -13,12 +13,11 @@ use fair_rates::error::Error;
 use fair_rates::peer::Peer;
 use shared_list::Seek;
 use std::alloc::{AllocError, Global};
-use std::rc::Rc;
 
 /// What is known of one ordered pair of peers.
 #[derive(Drop)]
 pub(crate) struct Pair<P> {
-    pub(crate) key: Rc<PeerPair<P>>,
+    pub(crate) key: PeerPair<P>,
     /// The cap on what goes from the one to the other, in bytes a second.
     cap: Option<usize>,
     /// No later message of the pair arrives before this moment.
@@ -136,24 +135,14 @@ impl<P: Peer> Pairs<P> {
         ensures kept { OnErr result (self.new.entries ≡ self.old.entries) }
         ensures refused { IfErr result (λ e. e ≡ Error.OutOfMemory) }
     {
+        let pair = Pair {
+            key: PeerPair::new(origin, recipient)?,
+            cap,
+            last_arrival,
+        };
         match self.search(origin, recipient) {
-            Ok((at, pair)) => {
-                let pair = Pair {
-                    key: pair.key.clone()?,
-                    cap,
-                    last_arrival,
-                };
-                self.entries.replace(alloc, at, pair)?;
-            }
-            Err(at) => {
-                let key = Rc::new(alloc, PeerPair::new(origin, recipient)?)?;
-                let pair = Pair {
-                    key,
-                    cap,
-                    last_arrival,
-                };
-                self.entries.insert(alloc, at, pair)?;
-            }
+            Ok((at, _known)) => self.entries.replace(alloc, at, pair)?,
+            Err(at) => self.entries.insert(alloc, at, pair)?,
         }
         Ok(())
     }
@@ -200,7 +189,7 @@ impl<P: Peer> Pairs<P> {
         let last = pair.last_arrival;
         let arrival = later_of(last, moment);
         let raised = Pair {
-            key: pair.key.clone()?,
+            key: PeerPair::new(origin, recipient)?,
             cap: pair.cap,
             last_arrival: Some(arrival),
         };

@@ -23,12 +23,12 @@ pub(crate) struct Late<P> {
 /// as another list shares it. So the last pair that was replaced is kept beside the list until `settle`,
 /// which comes once nothing is shared any more.
 #[derive(Drop)]
-pub(crate) struct PairList<P> {
+pub(crate) struct PairList<P: Peer> {
     settled: SharedList<Pair<P>>,
     late: Option<Late<P>>,
 }
 
-impl<P> Model for PairList<P> {
+impl<P: Peer> Model for PairList<P> {
     ghost use Rattle.std.specs.Prelude.{List};
     ghost use Rattle.link_pairs.specs.declared.known_pairs.Pair.{Pair as AnyPair};
     ghost use Rattle.link_pairs.specs.Pairs.Late.{with_late, IsLate};
@@ -37,7 +37,7 @@ impl<P> Model for PairList<P> {
 
     ghost view = { λ list. with_late list.late list.settled };
 
-    ghost invariant = { λ list. IsLate list.late list.settled };
+    ghost invariant = { λ list. IsLate P.cmp list.late list.settled };
 }
 
 impl<P: Peer> PairList<P> {
@@ -77,7 +77,9 @@ impl<P: Peer> PairList<P> {
         pair: Pair<P>,
     ) -> Result<(), AllocError>
         requires place { at < length self.old }
-        requires same { map key_of (slice_set self.old at pair) ≡ map key_of self.old }
+        requires same { (origin recipient : P) → map (λ other. is_lt (pair_cmp P.cmp (key_of other) (origin, recipient)))
+            (slice_set self.old at pair)
+            ≡ map (λ other. is_lt (pair_cmp P.cmp (key_of other) (origin, recipient))) self.old }
         ensures items { self.new ≡ (if is_ok result then slice_set self.old at pair else self.old) }
     {
         let pair = Rc::new(alloc, pair)?;

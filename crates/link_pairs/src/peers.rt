@@ -8,12 +8,11 @@ use fair_rates::error::Error;
 use fair_rates::peer::Peer;
 use shared_list::{Seek, SharedList};
 use std::alloc::{AllocError, Global};
-use std::rc::Rc;
 
 /// The caps of one peer, in bytes a second.
 #[derive(Drop)]
 pub(crate) struct PeerCaps<P> {
-    peer: Rc<P>,
+    peer: P,
     egress: Option<usize>,
     ingress: Option<usize>,
 }
@@ -22,7 +21,7 @@ pub(crate) struct PeerCaps<P> {
 #[derive(Drop)]
 pub struct Peers<P: Peer> {
     entries: SharedList<PeerCaps<P>>,
-    pub ghost ascending: { are_ascending P.cmp (map (λ entry. entry.peer.value) entries) ≡ true },
+    pub ghost ascending: { are_ascending P.cmp (map (λ entry. entry.peer) entries) ≡ true },
 }
 
 /// Where a peer stands among those that have been limited.
@@ -32,10 +31,10 @@ struct PlaceOfPeer<'a, P> {
 }
 
 impl<P: Peer> Seek<PeerCaps<P>> for PlaceOfPeer<'_, P> {
-    ghost is_before = { λ place caps. is_lt (P.cmp caps.peer.value place.peer.now) };
+    ghost is_before = { λ place caps. is_lt (P.cmp caps.peer place.peer.now) };
 
     fn is_before(&self, caps: &PeerCaps<P>) -> bool {
-        Rc::as_ref(&caps.peer).cmp(self.peer).is_lt()
+        caps.peer.cmp(self.peer).is_lt()
     }
 }
 
@@ -55,12 +54,12 @@ impl<P: Peer> Peers<P> {
 
     /// Where the peer stands, or where it would.
     fn search(&self, peer: &P) -> Result<usize, usize>
-        ensures found { IfOk result (IsPlace P.cmp (λ entry. entry.peer.value) self.now.entries peer.now) }
-        ensures absent { IfErr result (IsGap P.cmp (λ entry. entry.peer.value) self.now.entries peer.now) }
+        ensures found { IfOk result (IsPlace P.cmp (λ entry. entry.peer) self.now.entries peer.now) }
+        ensures absent { IfErr result (IsGap P.cmp (λ entry. entry.peer) self.now.entries peer.now) }
     {
         let (at, entry) = self.entries.locate(&PlaceOfPeer { peer });
         match entry {
-            Some(entry) if Rc::as_ref(&entry.peer).cmp(peer).is_eq() => Ok(at),
+            Some(entry) if entry.peer.cmp(peer).is_eq() => Ok(at),
             _ => Err(at),
         }
     }
@@ -68,10 +67,10 @@ impl<P: Peer> Peers<P> {
     /// The entry of the peer, if it has one.
     fn find(&self, peer: &P) -> Option<&PeerCaps<P>>
         ensures { option_map (λ entry. entry.now) result ≡ find
-            (λ entry. is_eq (P.cmp entry.peer.value peer.now)) self.now.entries }
+            (λ entry. is_eq (P.cmp entry.peer peer.now)) self.now.entries }
     {
         let entry = self.entries.first_from(&PlaceOfPeer { peer })?;
-        if Rc::as_ref(&entry.peer).cmp(peer).is_eq() {
+        if entry.peer.cmp(peer).is_eq() {
             Some(entry)
         } else {
             None
@@ -108,32 +107,14 @@ impl<P: Peer> Peers<P> {
             ≡ with_cap P.cmp (ingress_of P.cmp self.old.entries) peer.now ingress) }
         ensures refused { IfErr result (λ e. e ≡ Error.OutOfMemory) }
     {
+        let caps = PeerCaps {
+            peer: peer.clone_peer().ok_or(Error::OutOfMemory)?,
+            egress,
+            ingress,
+        };
         match self.search(peer) {
-            Ok(at) => {
-                let peer = self.entries.at(at).peer.clone()?;
-                self.entries.replace(
-                    alloc,
-                    at,
-                    PeerCaps {
-                        peer,
-                        egress,
-                        ingress,
-                    },
-                )?;
-            }
-            Err(at) => {
-                let peer = peer.clone_peer().ok_or(Error::OutOfMemory)?;
-                let peer = Rc::new(alloc, peer)?;
-                self.entries.insert(
-                    alloc,
-                    at,
-                    PeerCaps {
-                        peer,
-                        egress,
-                        ingress,
-                    },
-                )?;
-            }
+            Ok(at) => self.entries.replace(alloc, at, caps)?,
+            Err(at) => self.entries.insert(alloc, at, caps)?,
         }
         Ok(())
     }

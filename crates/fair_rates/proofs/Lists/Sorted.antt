@@ -172,6 +172,17 @@ module _ {K : Type 0} (cmp : K → K → Ordering) (total : IsTotalOrder cmp) wh
       (ascending_insert ks ls k (second_of_both (list_all (λ l. is_lt (cmp j l)) (ks ++ ls)) _ h)
       (second_of_both (is_lt (cmp j k)) _ below) above)
 
+  -- without one of them they still ascend
+  ascending_less : (ks ls : List K) (k : K) → are_ascending cmp (ks ++ k ∷ ls) ≡ true
+      → are_ascending cmp (ks ++ ls) ≡ true
+  ascending_less [] ls k h = second_of_both (list_all (λ l. is_lt (cmp k l)) ls) _ h
+  ascending_less (j ∷ ks) ls k h =
+      let first = first_of_both (list_all (λ l. is_lt (cmp j l)) (ks ++ k ∷ ls)) _ h in
+      and_from _ _
+      (list_all-append (λ l. is_lt (cmp j l)) ks ls (list_all-left _ ks (k ∷ ls) first)
+      (second_of_both (is_lt (cmp j k)) _ (list_all-right _ ks (k ∷ ls) first)))
+      (ascending_less ks ls k (second_of_both (list_all (λ l. is_lt (cmp j l)) (ks ++ k ∷ ls)) _ h))
+
   module _ {E : Type 0} (key : E → K) where
     -- the comparisons with a key rise along an ascending list
     comparisons_rise : (es : List E) (k : K) → are_ascending cmp (map key es) ≡ true
@@ -351,39 +362,49 @@ module _ {K : Type 0} (cmp : K → K → Ordering) (total : IsTotalOrder cmp) wh
         ap (λ l. insert l at e) g.split ∙ ap (λ n. insert (g.before ++ g.after) n e) g.is_at
         ∙ insert-seam g.before g.after e
 
-    pub ascending_set_at : (es : List E) (k : K) (at : ℕ) (p : IsPlace cmp key es k at) (e : E) → key e ≡ key p.entry
-        → are_ascending cmp (map key es) ≡ true → are_ascending cmp (map key (set es at e)) ≡ true
-    ascending_set_at es k at p e same h =
-        let keys : map key (set es at e) ≡ map key es =
-        ap (map key) (set_place es k at p e) ∙ map-append key p.before (e ∷ p.after)
-        ∙ ap (λ x. map key p.before ++ x ∷ map key p.after) same
-        ∙ sym (map-append key p.before (p.entry ∷ p.after)) ∙ ap (map key) (sym p.split) in
-        ap (are_ascending cmp) keys ∙ h
+    -- an entry of a key stands between those of lesser and of greater ones
+    ascending_between : (before after : List E) (k : K) (e : E) → is_eq (cmp (key e) k) ≡ true
+        → are_ascending cmp (map key before ++ map key after) ≡ true
+        → list_all (λ f. is_lt (cmp (key f) k)) before ≡ true → list_all (λ f. is_gt (cmp (key f) k)) after ≡ true
+        → are_ascending cmp (map key before ++ key e ∷ map key after) ≡ true
+    ascending_between before after k e same h below above =
+        let equal : cmp k (key e) ≡ Equal = tied_back total (key e) k (is_eq_equal _ same) in
+        ascending_insert (map key before) (map key after) (key e) h
+        (list_all-map _ key before
+        ∙ list_all-mono (λ f. is_lt (cmp (key f) k)) (λ f. is_lt (cmp (key f) (key e)))
+        (λ f l. is_lt_alike (key f) k (key e) equal l) before below)
+        (list_all-map _ key after
+        ∙ list_all-mono (λ f. is_gt (cmp (key f) k)) (λ f. is_gt (cmp (key f) (key e)))
+        (λ f l. ap is_gt (sym (alike_right total k (key e) (key f) equal)) ∙ l) after above)
 
     pub ascending_insert_at : (es : List E) (k : K) (at : ℕ) (g : IsGap cmp key es k at) (e : E)
         → is_eq (cmp (key e) k) ≡ true → are_ascending cmp (map key es) ≡ true
         → are_ascending cmp (map key (insert es at e)) ≡ true
     ascending_insert_at es k at g e same h =
-        let equal : cmp k (key e) ≡ Equal = tied_back total (key e) k (is_eq_equal _ same) in
         ap (λ l. are_ascending cmp (map key l)) (insert_gap es k at g e)
         ∙ ap (are_ascending cmp) (map-append key g.before (e ∷ g.after))
-        ∙ ascending_insert (map key g.before) (map key g.after) (key e)
-        (ap (are_ascending cmp) (sym (map-append key g.before g.after) ∙ ap (map key) (sym g.split)) ∙ h)
-        (list_all-map _ key g.before
-        ∙ list_all-mono (λ f. is_lt (cmp (key f) k)) (λ f. is_lt (cmp (key f) (key e)))
-        (λ f l. is_lt_alike (key f) k (key e) equal l) g.before g.below)
-        (list_all-map _ key g.after
-        ∙ list_all-mono (λ f. is_gt (cmp (key f) k)) (λ f. is_gt (cmp (key f) (key e)))
-        (λ f l. ap is_gt (sym (alike_right total k (key e) (key f) equal)) ∙ l) g.after g.above)
+        ∙ ascending_between g.before g.after k e same
+        (ap (are_ascending cmp) (sym (map-append key g.before g.after) ∙ ap (map key) (sym g.split)) ∙ h) g.below g.above
+
+    -- an entry of an equal key stands in the place of another as well
+    pub ascending_set_at : (es : List E) (k : K) (at : ℕ) (p : IsPlace cmp key es k at) (e : E)
+        → is_eq (cmp (key e) k) ≡ true → are_ascending cmp (map key es) ≡ true
+        → are_ascending cmp (map key (set es at e)) ≡ true
+    ascending_set_at es k at p e same h =
+        let without : are_ascending cmp (map key p.before ++ map key p.after) ≡ true =
+        ascending_less (map key p.before) (map key p.after) (key p.entry)
+        (ap (are_ascending cmp) (sym (map-append key p.before (p.entry ∷ p.after)) ∙ ap (map key) (sym p.split)) ∙ h) in
+        ap (λ l. are_ascending cmp (map key l)) (set_place es k at p e)
+        ∙ ap (are_ascending cmp) (map-append key p.before (e ∷ p.after))
+        ∙ ascending_between p.before p.after k e same without p.below p.above
 
     module _ {V : Type 0} (says : E → V) (none : V) where
-      pub value_set_at : (es : List E) (k : K) (at : ℕ) (p : IsPlace cmp key es k at) (e : E) → key e ≡ key p.entry
-          → (q : K)
+      pub value_set_at : (es : List E) (k : K) (at : ℕ) (p : IsPlace cmp key es k at) (e : E)
+          → is_eq (cmp (key e) k) ≡ true → (q : K)
           → value_at cmp key says none (set es at e) q
           ≡ (if is_eq (cmp k q) then says e else value_at cmp key says none es q)
       value_set_at es k at p e same q =
-          ap (λ l. value_at cmp key says none l q) (set_place es k at p e)
-          ∙ replaced says none es k at p e (ap (λ j. is_eq (cmp j k)) same ∙ p.same) q
+          ap (λ l. value_at cmp key says none l q) (set_place es k at p e) ∙ replaced says none es k at p e same q
 
       pub value_insert_at : (es : List E) (k : K) (at : ℕ) (g : IsGap cmp key es k at) (e : E)
           → is_eq (cmp (key e) k) ≡ true → (q : K)

@@ -1,11 +1,11 @@
 -- What is known of pairs after the entry of one of them has changed.
-use Rattle.std.proofs.Common.{◌≡◌, ℕ, true, if◌then◌else◌, ◌&&◌, List, map, set, slice_get, Option, Some, None, refl}
+use Rattle.std.proofs.Common.{◌≡◌, ℕ, true, if◌then◌else◌, ◌&&◌, List, ◌∷◌, ◌++◌, map, set, Option, Some, None, refl}
 use Rattle.std.proofs.Common.{sym, ◌∙◌, ap}
 use Rattle.std.specs.List.{insert}
 use Rattle.std.specs.declared.cmp.Ordering.{Ordering}
-use Rattle.std.specs.Ordering.{is_eq}
+use Rattle.std.specs.Ordering.{is_eq, is_lt}
 use Rattle.std.specs.Cmp.{IsTotalOrder}
-use Rattle.std.proofs.lemmas.Option.{get_or_from_slice_get}
+use Rattle.std.proofs.lemmas.List.{map-append}
 use Rattle.std.proofs.lemmas.Bool.{and_from}
 use Rattle.fair_rates.proofs.Lists.Booleans.{by_bool, first_of_both, second_of_both}
 use Rattle.link_pairs.specs.declared.known_pairs.Pair.{Pair}
@@ -14,7 +14,7 @@ use Rattle.link_simulation.specs.Simulation.Messages.{with_link, PairsAlike}
 use Rattle.link_simulation.specs.Simulation.World.{later_of}
 use Rattle.fair_rates.specs.Lists.Sorted.{are_ascending, IsPlace, IsGap}
 use Rattle.link_pairs.specs.Pairs.Entries.{pair_cmp, key_of, link_of, arrival_of, raised_at}
-use Rattle.fair_rates.proofs.Lists.Sorted.{is_eq_equal, read_place, ascending_set_at, ascending_insert_at, value_set_at}
+use Rattle.fair_rates.proofs.Lists.Sorted.{is_eq_equal, set_place, ascending_set_at, ascending_insert_at, value_set_at}
 use Rattle.fair_rates.proofs.Lists.Sorted.{value_insert_at, value_respects}
 use Rattle.link_pairs.proofs.Pairs.PairOrder.{pair_total, is_eq-then}
 
@@ -26,28 +26,37 @@ pub record SetsPair {P : Type 0} (cmp : P → P → Ordering) (old new : List (P
   pub arrival_is : arrival_of cmp new ≡ with_link cmp (arrival_of cmp old) o r last
 
 module _ {P : Type 0} (cmp : P → P → Ordering) (total : IsTotalOrder cmp) where
-  pub pair_found : (es : List (Pair P)) (o r : P) (at : ℕ) (e f : Pair P)
+  pub pair_found : (es : List (Pair P)) (o r : P) (at : ℕ) (e : Pair P)
       → are_ascending (pair_cmp cmp) (map key_of es) ≡ true → IsPlace (pair_cmp cmp) key_of es (o, r) at
-      → slice_get es at ≡ Some f → key_of e ≡ key_of f → SetsPair cmp es (set es at e) o r e.cap e.last_arrival
-  pair_found es o r at e f ascending p there same =
-      let key : key_of e ≡ key_of p.entry =
-      same
-      ∙ ap key_of
-      (sym (get_or_from_slice_get es at f f there)
-      ∙ read_place (pair_cmp cmp) (pair_total cmp total) key_of es (o, r) at p f) in
-      record {
-        ascending = ascending_set_at (pair_cmp cmp) (pair_total cmp total) key_of es (o, r) at p e key ascending;
-        link_is = λ i a b.
-            (value_set_at (pair_cmp cmp) (pair_total cmp total) key_of (λ pair. pair.cap) None es (o, r) at p e key
-            (a, b)
-            ∙ ap (λ t. if t then e.cap else link_of cmp es a b) (is_eq-then (cmp o a) (cmp r b)))
-            i;
-        arrival_is = λ i a b.
-            (value_set_at (pair_cmp cmp) (pair_total cmp total) key_of (λ pair. pair.last_arrival) None es (o, r) at p e
-            key (a, b)
-            ∙ ap (λ t. if t then e.last_arrival else arrival_of cmp es a b) (is_eq-then (cmp o a) (cmp r b)))
-            i;
-      }
+      → is_eq (pair_cmp cmp (key_of e) (o, r)) ≡ true → SetsPair cmp es (set es at e) o r e.cap e.last_arrival
+  pair_found es o r at e ascending p same = record {
+    ascending = ascending_set_at (pair_cmp cmp) (pair_total cmp total) key_of es (o, r) at p e same ascending;
+    link_is = λ i a b.
+        (value_set_at (pair_cmp cmp) (pair_total cmp total) key_of (λ pair. pair.cap) None es (o, r) at p e same (a, b)
+        ∙ ap (λ t. if t then e.cap else link_of cmp es a b) (is_eq-then (cmp o a) (cmp r b)))
+        i;
+    arrival_is = λ i a b.
+        (value_set_at (pair_cmp cmp) (pair_total cmp total) key_of (λ pair. pair.last_arrival) None es (o, r) at p e
+        same (a, b)
+        ∙ ap (λ t. if t then e.last_arrival else arrival_of cmp es a b) (is_eq-then (cmp o a) (cmp r b)))
+        i;
+  }
+
+  -- and it stands before the same keys as the one that stood there
+  pub order_found : (es : List (Pair P)) (o r : P) (at : ℕ) (e : Pair P) → IsPlace (pair_cmp cmp) key_of es (o, r) at
+      → is_eq (pair_cmp cmp (key_of e) (o, r)) ≡ true → (a b : P)
+      → map (λ pair. is_lt (pair_cmp cmp (key_of pair) (a, b))) (set es at e)
+      ≡ map (λ pair. is_lt (pair_cmp cmp (key_of pair) (a, b))) es
+  order_found es o r at e p same a b =
+      let test = λ (pair : Pair P). is_lt (pair_cmp cmp (key_of pair) (a, b)) in
+      let order = pair_total cmp total in
+      let alike : test e ≡ test p.entry =
+      ap is_lt (order.congr (key_of e) (o, r) (a, b) (is_eq_equal _ same))
+      ∙ sym (ap is_lt (order.congr (key_of p.entry) (o, r) (a, b) (is_eq_equal _ p.same))) in
+      ap (map test) (set_place (pair_cmp cmp) order key_of es (o, r) at p e)
+      ∙ map-append test p.before (e ∷ p.after)
+      ∙ ap (λ t. map test p.before ++ t ∷ map test p.after) alike
+      ∙ sym (map-append test p.before (p.entry ∷ p.after)) ∙ ap (map test) (sym p.split)
 
   pub pair_added : (es : List (Pair P)) (o r : P) (at : ℕ) (e : Pair P)
       → are_ascending (pair_cmp cmp) (map key_of es) ≡ true → IsGap (pair_cmp cmp) key_of es (o, r) at

@@ -94,21 +94,21 @@ keys_set key (d ∷ es) (suc at) e f there same = ap (λ ks. key d ∷ ks) (keys
 -- ---- a pair that is late
 
 module _ {P : Type 0} where
-  pub keys_stay : (late : Option (Late P)) (pairs : List (Pair P)) → IsLate late pairs
-      → map key_of (with_late late pairs) ≡ map key_of pairs
-  keys_stay None pairs is = refl
-  keys_stay (Some late) pairs is = is.1
+  pub order_stays : (cmp : P → P → Ordering) (o r : P) (late : Option (Late P)) (pairs : List (Pair P))
+      → IsLate cmp late pairs → map (λ pair. is_lt (pair_cmp cmp (key_of pair) (o, r))) (with_late late pairs)
+      ≡ map (λ pair. is_lt (pair_cmp cmp (key_of pair) (o, r))) pairs
+  order_stays cmp o r None pairs is = refl
+  order_stays cmp o r (Some late) pairs is = is.1 o r
 
   -- a place that is found without the late pair is right with it
   pub parting_late : (cmp : P → P → Ordering) (o r : P) (late : Option (Late P)) (pairs : List (Pair P)) (at : ℕ)
-      → IsLate late pairs
+      → IsLate cmp late pairs
       → (are_parted (λ pair. is_lt (pair_cmp cmp (key_of pair) (o, r))) pairs ≡ true
       → IsParting (λ pair. is_lt (pair_cmp cmp (key_of pair) (o, r))) pairs at)
       → are_parted (λ pair. is_lt (pair_cmp cmp (key_of pair) (o, r))) (with_late late pairs) ≡ true
       → IsParting (λ pair. is_lt (pair_cmp cmp (key_of pair) (o, r))) (with_late late pairs) at
   parting_late cmp o r late pairs at is further parted =
-      parting_alike key_of (λ k. is_lt (pair_cmp cmp k (o, r))) pairs (with_late late pairs) at
-      (sym (keys_stay late pairs is))
-      (further
-      (parted_alike key_of (λ k. is_lt (pair_cmp cmp k (o, r))) pairs (with_late late pairs)
-      (sym (keys_stay late pairs is)) ∙ parted))
+      let test = λ (pair : Pair P). is_lt (pair_cmp cmp (key_of pair) (o, r)) in
+      let same = sym (order_stays cmp o r late pairs is) in
+      parting_alike test (λ b. b) pairs (with_late late pairs) at same
+      (further (parted_alike test (λ b. b) pairs (with_late late pairs) same ∙ parted))

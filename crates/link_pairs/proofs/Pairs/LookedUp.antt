@@ -16,10 +16,10 @@ pub looked_up : {P : Type 0} (cmp : P → P → Ordering) → IsTotalOrder cmp
     → (peers : List (PeerCaps P)) (pairs : List (Pair P)) → AreOfPeers cmp (caps_of cmp peers pairs)
 looked_up {P} cmp order peers pairs = record {
   egress = λ p q same.
-      value_respects cmp order (λ (entry : PeerCaps P). entry.peer.value) (λ (entry : PeerCaps P). entry.egress) None
+      value_respects cmp order (λ (entry : PeerCaps P). entry.peer) (λ (entry : PeerCaps P). entry.egress) None
       peers p q (is_eq_equal _ same);
   ingress = λ p q same.
-      value_respects cmp order (λ (entry : PeerCaps P). entry.peer.value) (λ (entry : PeerCaps P). entry.ingress) None
+      value_respects cmp order (λ (entry : PeerCaps P). entry.peer) (λ (entry : PeerCaps P). entry.ingress) None
       peers p q (is_eq_equal _ same);
   link = links_alike cmp order pairs;
 }

@@ -15,7 +15,7 @@ pair_cmp cmp a b = ordering_then (cmp a.0 b.0) (cmp a.1 b.1)
 
 -- the ordered pair of peers
 abbrev pub key_of : {P : Type 0} → Pair P → P × P
-key_of pair = (pair.key.value.origin, pair.key.value.recipient)
+key_of pair = (pair.key.origin, pair.key.recipient)
 
 module _ {P : Type 0} (cmp : P → P → Ordering) where
   -- the cap on what goes from one peer to another

@@ -6,8 +6,8 @@ use Rattle.fair_rates.specs.Lists.Sorted.{value_at}
 
 -- the cap on all that a peer sends
 abbrev pub egress_of : {P : Type 0} → (P → P → Ordering) → List (PeerCaps P) → P → Option ℕ
-egress_of cmp entries = value_at cmp (λ entry. entry.peer.value) (λ entry. entry.egress) None entries
+egress_of cmp entries = value_at cmp (λ entry. entry.peer) (λ entry. entry.egress) None entries
 
 -- the cap on all that a peer receives
 abbrev pub ingress_of : {P : Type 0} → (P → P → Ordering) → List (PeerCaps P) → P → Option ℕ
-ingress_of cmp entries = value_at cmp (λ entry. entry.peer.value) (λ entry. entry.ingress) None entries
+ingress_of cmp entries = value_at cmp (λ entry. entry.peer) (λ entry. entry.ingress) None entries

@@ -7,9 +7,8 @@ use Rattle.link_simulation.specs.Simulation.World.{later_of}
 use Rattle.link_simulation.specs.Simulation.Messages.{with_link}
 use Rattle.link_pairs.specs.Pairs.Entries.{pair_cmp, key_of, link_of, arrival_of}
 use Rattle.link_pairs.proofs.Pairs.PairOrder.{pair_total}
-use Rattle.link_pairs.proofs.Pairs.Entries.{pair_found, link_again, link_raised, links_alike, arrivals_alike}
+use Rattle.link_pairs.proofs.Pairs.Entries.{pair_found, order_found, same_key, link_again, link_raised, links_alike, arrivals_alike}
 use Rattle.link_pairs.proofs.Pairs.Entries.{link_free}
-use Rattle.link_pairs.proofs.Pairs.Late.{keys_set}
 use Rattle.link_pairs.proofs.Pairs.Searching.{find_place, find_gap, found_says, absent_says}
 use Rattle.link_pairs.proofs.known_pairs.Pairs.raise.Goals as goal
 
@@ -72,53 +71,64 @@ returns-clause-last g c =
     ∙ c.in-Ok.ensures.pair))
 
 pub replace-requires-clause-same : goal.replace-requires-clause-same
-replace-requires-clause-same g c =
-    keys_set key_of c.args.self.now.entries c.in-Ok.at
+replace-requires-clause-same g c origin recipient =
+    let key = c.in_ok-new.field-0 in
+    let same : is_eq (pair_cmp g.P.Ord.cmp (key.origin, key.recipient) (c.args.origin.now, c.args.recipient.now)) ≡ true =
+    same_key g.P.Ord.cmp g.met.P.Ord.total c.args.origin.now c.args.recipient.now key.origin key.recipient
+    c.in_ok-new.ensures.origin c.in_ok-new.ensures.recipient in
+    order_found g.P.Ord.cmp g.met.P.Ord.total c.args.self.now.entries c.args.origin.now c.args.recipient.now c.in-Ok.at
     (record {
-      key = c.in_ok-clone.field-0;
+      key = c.in_ok-new.field-0;
       cap = c.in-Ok.pair.now.cap;
       last_arrival = Some c.later_of-arrival.result;
     })
-    c.in-Ok.pair.now c.in-Ok.ensures.pair (ap (λ key. (key.origin, key.recipient)) c.in_ok-clone.ensures.cases)
+    c.in-Ok.ensures.found same origin recipient
 
 pub invariant_of-self : goal.invariant_of-self
-invariant_of-self g c = record {
-  ascending = rw c.replace.ensures.items (either (λ es. are_ascending (pair_cmp g.P.Ord.cmp) (map key_of es) ≡ true) _
-      (pair_found g.P.Ord.cmp g.met.P.Ord.total c.args.self.now.entries c.args.origin.now c.args.recipient.now
-      c.in-Ok.at
-      (record {
-        key = c.in_ok-clone.field-0;
-        cap = c.in-Ok.pair.now.cap;
-        last_arrival = Some c.later_of-arrival.result;
-      })
-      c.in-Ok.pair.now c.args.self.now.ascending c.in-Ok.ensures.found c.in-Ok.ensures.pair
-      (ap (λ key. (key.origin, key.recipient)) c.in_ok-clone.ensures.cases)).ascending
-      c.args.self.now.ascending);
-  unlinked = λ free a b. rw c.replace.ensures.items (either (λ es. link_of g.P.Ord.cmp es a b ≡ None) _
-      (ap (λ links. links a b) (pair_found g.P.Ord.cmp g.met.P.Ord.total c.args.self.now.entries c.args.origin.now
-      c.args.recipient.now c.in-Ok.at
-      (record {
-        key = c.in_ok-clone.field-0;
-        cap = c.in-Ok.pair.now.cap;
-        last_arrival = Some c.later_of-arrival.result;
-      })
-      c.in-Ok.pair.now c.args.self.now.ascending c.in-Ok.ensures.found c.in-Ok.ensures.pair
-      (ap (λ key. (key.origin, key.recipient)) c.in_ok-clone.ensures.cases)).link_is
-      ∙ link_free g.P.Ord.cmp g.met.P.Ord.total (link_of g.P.Ord.cmp c.args.self.now.entries) c.args.origin.now
-      c.args.recipient.now c.in-Ok.pair.now.cap
-      (found_says (pair_cmp g.P.Ord.cmp) (pair_total g.P.Ord.cmp g.met.P.Ord.total) key_of
-      (c.args.origin.now, c.args.recipient.now) (λ pair. pair.cap) None c.args.self.now.entries c.in-Ok.pair.now
-      (sym
-      (find_place (pair_cmp g.P.Ord.cmp) (pair_total g.P.Ord.cmp g.met.P.Ord.total) key_of
-      (c.args.origin.now, c.args.recipient.now) c.args.self.now.entries c.in-Ok.at c.in-Ok.ensures.found
-      ∙ c.in-Ok.ensures.pair))
-      ∙ c.args.self.now.unlinked free c.args.origin.now c.args.recipient.now)
-      (c.args.self.now.unlinked free) a b)
-      (c.args.self.now.unlinked free a b));
-}
+invariant_of-self g c =
+    let key = c.in_ok-new.field-0 in
+    let same : is_eq (pair_cmp g.P.Ord.cmp (key.origin, key.recipient) (c.args.origin.now, c.args.recipient.now)) ≡ true =
+    same_key g.P.Ord.cmp g.met.P.Ord.total c.args.origin.now c.args.recipient.now key.origin key.recipient
+    c.in_ok-new.ensures.origin c.in_ok-new.ensures.recipient in
+    record {
+      ascending = rw c.replace.ensures.items (either (λ es. are_ascending (pair_cmp g.P.Ord.cmp) (map key_of es) ≡ true) _
+          (pair_found g.P.Ord.cmp g.met.P.Ord.total c.args.self.now.entries c.args.origin.now c.args.recipient.now
+          c.in-Ok.at
+          (record {
+            key = c.in_ok-new.field-0;
+            cap = c.in-Ok.pair.now.cap;
+            last_arrival = Some c.later_of-arrival.result;
+          })
+          c.args.self.now.ascending c.in-Ok.ensures.found same).ascending
+          c.args.self.now.ascending);
+      unlinked = λ free a b. rw c.replace.ensures.items (either (λ es. link_of g.P.Ord.cmp es a b ≡ None) _
+          (ap (λ links. links a b) (pair_found g.P.Ord.cmp g.met.P.Ord.total c.args.self.now.entries c.args.origin.now
+          c.args.recipient.now c.in-Ok.at
+          (record {
+            key = c.in_ok-new.field-0;
+            cap = c.in-Ok.pair.now.cap;
+            last_arrival = Some c.later_of-arrival.result;
+          })
+          c.args.self.now.ascending c.in-Ok.ensures.found same).link_is
+          ∙ link_free g.P.Ord.cmp g.met.P.Ord.total (link_of g.P.Ord.cmp c.args.self.now.entries) c.args.origin.now
+          c.args.recipient.now c.in-Ok.pair.now.cap
+          (found_says (pair_cmp g.P.Ord.cmp) (pair_total g.P.Ord.cmp g.met.P.Ord.total) key_of
+          (c.args.origin.now, c.args.recipient.now) (λ pair. pair.cap) None c.args.self.now.entries c.in-Ok.pair.now
+          (sym
+          (find_place (pair_cmp g.P.Ord.cmp) (pair_total g.P.Ord.cmp g.met.P.Ord.total) key_of
+          (c.args.origin.now, c.args.recipient.now) c.args.self.now.entries c.in-Ok.at c.in-Ok.ensures.found
+          ∙ c.in-Ok.ensures.pair))
+          ∙ c.args.self.now.unlinked free c.args.origin.now c.args.recipient.now)
+          (c.args.self.now.unlinked free) a b)
+          (c.args.self.now.unlinked free a b));
+    }
 
 pub returns-clause-arrival : goal.returns-clause-arrival
 returns-clause-arrival g c =
+    let key = c.in_ok-new.field-0 in
+    let same : is_eq (pair_cmp g.P.Ord.cmp (key.origin, key.recipient) (c.args.origin.now, c.args.recipient.now)) ≡ true =
+    same_key g.P.Ord.cmp g.met.P.Ord.total c.args.origin.now c.args.recipient.now key.origin key.recipient
+    c.in_ok-new.ensures.origin c.in_ok-new.ensures.recipient in
     let there : Some c.in-Ok.pair.now
     ≡ find (λ e. is_eq (pair_cmp g.P.Ord.cmp (key_of e) (c.args.origin.now, c.args.recipient.now)))
     c.args.self.now.entries =
@@ -135,12 +145,11 @@ returns-clause-arrival g c =
     ((pair_found g.P.Ord.cmp g.met.P.Ord.total c.args.self.now.entries c.args.origin.now c.args.recipient.now
     c.in-Ok.at
     (record {
-      key = c.in_ok-clone.field-0;
+      key = c.in_ok-new.field-0;
       cap = c.in-Ok.pair.now.cap;
       last_arrival = Some c.later_of-arrival.result;
     })
-    c.in-Ok.pair.now c.args.self.now.ascending c.in-Ok.ensures.found c.in-Ok.ensures.pair
-    (ap (λ key. (key.origin, key.recipient)) c.in_ok-clone.ensures.cases)).arrival_is
+    c.args.self.now.ascending c.in-Ok.ensures.found same).arrival_is
     ∙ ap
     (λ at. with_link g.P.Ord.cmp (arrival_of g.P.Ord.cmp c.args.self.now.entries) c.args.origin.now
     c.args.recipient.now (Some at))
@@ -151,6 +160,10 @@ returns-clause-arrival g c =
 
 pub returns-clause-link : goal.returns-clause-link
 returns-clause-link g c =
+    let key = c.in_ok-new.field-0 in
+    let same : is_eq (pair_cmp g.P.Ord.cmp (key.origin, key.recipient) (c.args.origin.now, c.args.recipient.now)) ≡ true =
+    same_key g.P.Ord.cmp g.met.P.Ord.total c.args.origin.now c.args.recipient.now key.origin key.recipient
+    c.in_ok-new.ensures.origin c.in_ok-new.ensures.recipient in
     let there : Some c.in-Ok.pair.now
     ≡ find (λ e. is_eq (pair_cmp g.P.Ord.cmp (key_of e) (c.args.origin.now, c.args.recipient.now)))
     c.args.self.now.entries =
@@ -167,12 +180,11 @@ returns-clause-link g c =
     ((pair_found g.P.Ord.cmp g.met.P.Ord.total c.args.self.now.entries c.args.origin.now c.args.recipient.now
     c.in-Ok.at
     (record {
-      key = c.in_ok-clone.field-0;
+      key = c.in_ok-new.field-0;
       cap = c.in-Ok.pair.now.cap;
       last_arrival = Some c.later_of-arrival.result;
     })
-    c.in-Ok.pair.now c.args.self.now.ascending c.in-Ok.ensures.found c.in-Ok.ensures.pair
-    (ap (λ key. (key.origin, key.recipient)) c.in_ok-clone.ensures.cases)).link_is
+    c.args.self.now.ascending c.in-Ok.ensures.found same).link_is
     ∙ ap
     (λ cap. with_link g.P.Ord.cmp (link_of g.P.Ord.cmp c.args.self.now.entries) c.args.origin.now
     c.args.recipient.now cap)

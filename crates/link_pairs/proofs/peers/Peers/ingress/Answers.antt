@@ -4,12 +4,12 @@ use Rattle.link_pairs.proofs.peers.Peers.ingress.Goals as goal
 
 pub returns-in_err-find-clause-cap : goal.returns-in_err-find-clause-cap
 returns-in_err-find-clause-cap g c = c.from_residual.ensures
-    ∙ absent_says g.P.Ord.cmp g.met.P.Ord.total (λ entry. entry.peer.value) c.args.peer.now (λ entry. entry.ingress)
+    ∙ absent_says g.P.Ord.cmp g.met.P.Ord.total (λ entry. entry.peer) c.args.peer.now (λ entry. entry.ingress)
     None c.args.self.now.entries c.in_err-find.ensures
 
 pub returns-clause-cap : goal.returns-clause-cap
 returns-clause-cap g c =
     let same : c.map.result ≡ c.in_ok-find.field-0.now.ingress = search rules in
     same
-    ∙ found_says g.P.Ord.cmp g.met.P.Ord.total (λ entry. entry.peer.value) c.args.peer.now (λ entry. entry.ingress)
+    ∙ found_says g.P.Ord.cmp g.met.P.Ord.total (λ entry. entry.peer) c.args.peer.now (λ entry. entry.ingress)
     None c.args.self.now.entries c.in_ok-find.field-0.now c.in_ok-find.ensures
