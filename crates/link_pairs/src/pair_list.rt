@@ -42,6 +42,7 @@ impl<P: Peer> Model for PairList<P> {
 
 impl<P: Peer> PairList<P> {
     ghost use Rattle.link_pairs.specs.Pairs.Entries.{pair_cmp, key_of};
+    ghost use Rattle.link_pairs.specs.Pairs.Late.{StandsAsWell};
 
     /// No pair.
     pub(crate) fn new() -> PairList<P>
@@ -77,9 +78,7 @@ impl<P: Peer> PairList<P> {
         pair: Pair<P>,
     ) -> Result<(), AllocError>
         requires place { at < length self.old }
-        requires same { (origin recipient : P) → map (λ other. is_lt (pair_cmp P.cmp (key_of other) (origin, recipient)))
-            (slice_set self.old at pair)
-            ≡ map (λ other. is_lt (pair_cmp P.cmp (key_of other) (origin, recipient))) self.old }
+        requires same { StandsAsWell P.cmp self.old at pair }
         ensures items { self.new ≡ (if is_ok result then slice_set self.old at pair else self.old) }
     {
         let pair = Rc::new(alloc, pair)?;

@@ -214,7 +214,8 @@ pub record AreRatedBeside {P : Type 0} {a : _} {b : _} {c : _} (cmp : P → P �
   pub at : new.at ≡ old.at
   pub timed : AreTimed new.list.items
 
--- that is so where rates were found, and the others have kept theirs; where none were, all is as it was
+-- where rates were found, those of a component have got them beside the others, and all but so many are as they were;
+-- where none were, all is as it was
 abbrev pub GivesBeside : {P : Type 0} {a : _} {b : _} {c : _} → (P → P → Ordering) → Caps P → Component P
     → Flights P a b c → Flights P a b c → Option ℕ → Type 0
 GivesBeside cmp caps component old new None = new ≡ old

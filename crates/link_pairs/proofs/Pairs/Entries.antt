@@ -1,12 +1,12 @@
 -- What is known of pairs after the entry of one of them has changed.
-use Rattle.std.proofs.Common.{◌≡◌, ℕ, true, if◌then◌else◌, ◌&&◌, List, ◌∷◌, ◌++◌, map, set, Option, Some, None, refl}
+use Rattle.std.proofs.Common.{◌≡◌, ℕ, true, if◌then◌else◌, ◌&&◌, List, map, set, Option, Some, None, refl}
 use Rattle.std.proofs.Common.{sym, ◌∙◌, ap}
 use Rattle.std.specs.List.{insert}
 use Rattle.std.specs.declared.cmp.Ordering.{Ordering}
 use Rattle.std.specs.Ordering.{is_eq, is_lt}
 use Rattle.std.specs.Cmp.{IsTotalOrder}
-use Rattle.std.proofs.lemmas.List.{map-append}
 use Rattle.std.proofs.lemmas.Bool.{and_from}
+use Rattle.std.proofs.lemmas.Option.{get_or_from_slice_get}
 use Rattle.fair_rates.proofs.Lists.Booleans.{by_bool, first_of_both, second_of_both}
 use Rattle.link_pairs.specs.declared.known_pairs.Pair.{Pair}
 use Rattle.fair_rates.specs.Sides.Subjects.{same_peer}
@@ -14,8 +14,9 @@ use Rattle.link_simulation.specs.Simulation.Messages.{with_link, PairsAlike}
 use Rattle.link_simulation.specs.Simulation.World.{later_of}
 use Rattle.fair_rates.specs.Lists.Sorted.{are_ascending, IsPlace, IsGap}
 use Rattle.link_pairs.specs.Pairs.Entries.{pair_cmp, key_of, link_of, arrival_of, raised_at}
-use Rattle.fair_rates.proofs.Lists.Sorted.{is_eq_equal, set_place, ascending_set_at, ascending_insert_at, value_set_at}
-use Rattle.fair_rates.proofs.Lists.Sorted.{value_insert_at, value_respects}
+use Rattle.link_pairs.specs.Pairs.Late.{StandsAsWell}
+use Rattle.fair_rates.proofs.Lists.Sorted.{is_eq_equal, ascending_set_at, ascending_insert_at, value_set_at}
+use Rattle.fair_rates.proofs.Lists.Sorted.{value_insert_at, value_respects, read_place}
 use Rattle.link_pairs.proofs.Pairs.PairOrder.{pair_total, is_eq-then}
 
 -- the new list says that of a pair, and else what the old one says
@@ -42,21 +43,16 @@ module _ {P : Type 0} (cmp : P → P → Ordering) (total : IsTotalOrder cmp) wh
         i;
   }
 
-  -- and it stands before the same keys as the one that stood there
+  -- and it stands before the same pairs as the one that stood there
   pub order_found : (es : List (Pair P)) (o r : P) (at : ℕ) (e : Pair P) → IsPlace (pair_cmp cmp) key_of es (o, r) at
-      → is_eq (pair_cmp cmp (key_of e) (o, r)) ≡ true → (a b : P)
-      → map (λ pair. is_lt (pair_cmp cmp (key_of pair) (a, b))) (set es at e)
-      ≡ map (λ pair. is_lt (pair_cmp cmp (key_of pair) (a, b))) es
-  order_found es o r at e p same a b =
-      let test = λ (pair : Pair P). is_lt (pair_cmp cmp (key_of pair) (a, b)) in
+      → is_eq (pair_cmp cmp (key_of e) (o, r)) ≡ true → StandsAsWell cmp es at e
+  order_found es o r at e p same a b there is =
       let order = pair_total cmp total in
-      let alike : test e ≡ test p.entry =
+      let found : there ≡ p.entry =
+      sym (get_or_from_slice_get es at there there is) ∙ read_place (pair_cmp cmp) order key_of es (o, r) at p there in
       ap is_lt (order.congr (key_of e) (o, r) (a, b) (is_eq_equal _ same))
-      ∙ sym (ap is_lt (order.congr (key_of p.entry) (o, r) (a, b) (is_eq_equal _ p.same))) in
-      ap (map test) (set_place (pair_cmp cmp) order key_of es (o, r) at p e)
-      ∙ map-append test p.before (e ∷ p.after)
-      ∙ ap (λ t. map test p.before ++ t ∷ map test p.after) alike
-      ∙ sym (map-append test p.before (p.entry ∷ p.after)) ∙ ap (map test) (sym p.split)
+      ∙ sym (ap is_lt (order.congr (key_of p.entry) (o, r) (a, b) (is_eq_equal _ p.same)))
+      ∙ ap (λ (pair : Pair P). is_lt (pair_cmp cmp (key_of pair) (a, b))) (sym found)
 
   pub pair_added : (es : List (Pair P)) (o r : P) (at : ℕ) (e : Pair P)
       → are_ascending (pair_cmp cmp) (map key_of es) ≡ true → IsGap (pair_cmp cmp) key_of es (o, r) at

@@ -1,6 +1,8 @@
 -- Lists whose entries have the same keys, place by place, are searched alike; and a pair that is late.
 use Rattle.std.proofs.Common.{◌≡◌, ℕ, zero, suc, ◌<◌, Bool, true, not, List, [], ◌∷◌, ◌++◌, length, map}
 use Rattle.std.proofs.Common.{slice_get, slice_set, Option, Some, None, refl, sym, ◌∙◌, ap, arith}
+use Rattle.std.proofs.lemmas.Option.{slice_get-get_or}
+use Rattle.std.proofs.Math.ListN.{get_or}
 use Rattle.std.specs.List.{list_all}
 use Rattle.std.specs.declared.cmp.Ordering.{Ordering}
 use Rattle.std.specs.Ordering.{is_lt}
@@ -94,11 +96,16 @@ keys_set key (d ∷ es) (suc at) e f there same = ap (λ ks. key d ∷ ks) (keys
 -- ---- a pair that is late
 
 module _ {P : Type 0} where
+  -- with the late pair in its place the pairs stand before the same pairs
   pub order_stays : (cmp : P → P → Ordering) (o r : P) (late : Option (Late P)) (pairs : List (Pair P))
       → IsLate cmp late pairs → map (λ pair. is_lt (pair_cmp cmp (key_of pair) (o, r))) (with_late late pairs)
       ≡ map (λ pair. is_lt (pair_cmp cmp (key_of pair) (o, r))) pairs
   order_stays cmp o r None pairs is = refl
-  order_stays cmp o r (Some late) pairs is = is.1 o r
+  order_stays cmp o r (Some late) pairs is =
+      let before = λ (pair : Pair P). is_lt (pair_cmp cmp (key_of pair) (o, r)) in
+      let there : slice_get pairs late.at ≡ Some (get_or pairs late.at late.pair.value) =
+      slice_get-get_or pairs late.at late.pair.value is.0 in
+      keys_set before pairs late.at late.pair.value (get_or pairs late.at late.pair.value) there (is.1 o r _ there)
 
   -- a place that is found without the late pair is right with it
   pub parting_late : (cmp : P → P → Ordering) (o r : P) (late : Option (Late P)) (pairs : List (Pair P)) (at : ℕ)

@@ -7,8 +7,8 @@ use Rattle.link_simulation.specs.Simulation.World.{later_of}
 use Rattle.link_simulation.specs.Simulation.Messages.{with_link}
 use Rattle.link_pairs.specs.Pairs.Entries.{pair_cmp, key_of, link_of, arrival_of}
 use Rattle.link_pairs.proofs.Pairs.PairOrder.{pair_total}
-use Rattle.link_pairs.proofs.Pairs.Entries.{pair_found, order_found, same_key, link_again, link_raised, links_alike, arrivals_alike}
-use Rattle.link_pairs.proofs.Pairs.Entries.{link_free}
+use Rattle.link_pairs.proofs.Pairs.Entries.{pair_found, order_found, same_key, link_again, link_raised, links_alike}
+use Rattle.link_pairs.proofs.Pairs.Entries.{arrivals_alike, link_free}
 use Rattle.link_pairs.proofs.Pairs.Searching.{find_place, find_gap, found_says, absent_says}
 use Rattle.link_pairs.proofs.known_pairs.Pairs.raise.Goals as goal
 
@@ -72,10 +72,8 @@ returns-clause-last g c =
 
 pub replace-requires-clause-same : goal.replace-requires-clause-same
 replace-requires-clause-same g c origin recipient =
-    let key = c.in_ok-new.field-0 in
-    let same : is_eq (pair_cmp g.P.Ord.cmp (key.origin, key.recipient) (c.args.origin.now, c.args.recipient.now)) ≡ true =
-    same_key g.P.Ord.cmp g.met.P.Ord.total c.args.origin.now c.args.recipient.now key.origin key.recipient
-    c.in_ok-new.ensures.origin c.in_ok-new.ensures.recipient in
+    let same =
+    same_key g.P.Ord.cmp g.met.P.Ord.total _ _ _ _ c.in_ok-new.ensures.origin c.in_ok-new.ensures.recipient in
     order_found g.P.Ord.cmp g.met.P.Ord.total c.args.self.now.entries c.args.origin.now c.args.recipient.now c.in-Ok.at
     (record {
       key = c.in_ok-new.field-0;
@@ -86,12 +84,11 @@ replace-requires-clause-same g c origin recipient =
 
 pub invariant_of-self : goal.invariant_of-self
 invariant_of-self g c =
-    let key = c.in_ok-new.field-0 in
-    let same : is_eq (pair_cmp g.P.Ord.cmp (key.origin, key.recipient) (c.args.origin.now, c.args.recipient.now)) ≡ true =
-    same_key g.P.Ord.cmp g.met.P.Ord.total c.args.origin.now c.args.recipient.now key.origin key.recipient
-    c.in_ok-new.ensures.origin c.in_ok-new.ensures.recipient in
+    let same =
+    same_key g.P.Ord.cmp g.met.P.Ord.total _ _ _ _ c.in_ok-new.ensures.origin c.in_ok-new.ensures.recipient in
     record {
-      ascending = rw c.replace.ensures.items (either (λ es. are_ascending (pair_cmp g.P.Ord.cmp) (map key_of es) ≡ true) _
+      ascending =
+          rw c.replace.ensures.items (either (λ es. are_ascending (pair_cmp g.P.Ord.cmp) (map key_of es) ≡ true) _
           (pair_found g.P.Ord.cmp g.met.P.Ord.total c.args.self.now.entries c.args.origin.now c.args.recipient.now
           c.in-Ok.at
           (record {
@@ -125,10 +122,8 @@ invariant_of-self g c =
 
 pub returns-clause-arrival : goal.returns-clause-arrival
 returns-clause-arrival g c =
-    let key = c.in_ok-new.field-0 in
-    let same : is_eq (pair_cmp g.P.Ord.cmp (key.origin, key.recipient) (c.args.origin.now, c.args.recipient.now)) ≡ true =
-    same_key g.P.Ord.cmp g.met.P.Ord.total c.args.origin.now c.args.recipient.now key.origin key.recipient
-    c.in_ok-new.ensures.origin c.in_ok-new.ensures.recipient in
+    let same =
+    same_key g.P.Ord.cmp g.met.P.Ord.total _ _ _ _ c.in_ok-new.ensures.origin c.in_ok-new.ensures.recipient in
     let there : Some c.in-Ok.pair.now
     ≡ find (λ e. is_eq (pair_cmp g.P.Ord.cmp (key_of e) (c.args.origin.now, c.args.recipient.now)))
     c.args.self.now.entries =
@@ -160,10 +155,8 @@ returns-clause-arrival g c =
 
 pub returns-clause-link : goal.returns-clause-link
 returns-clause-link g c =
-    let key = c.in_ok-new.field-0 in
-    let same : is_eq (pair_cmp g.P.Ord.cmp (key.origin, key.recipient) (c.args.origin.now, c.args.recipient.now)) ≡ true =
-    same_key g.P.Ord.cmp g.met.P.Ord.total c.args.origin.now c.args.recipient.now key.origin key.recipient
-    c.in_ok-new.ensures.origin c.in_ok-new.ensures.recipient in
+    let same =
+    same_key g.P.Ord.cmp g.met.P.Ord.total _ _ _ _ c.in_ok-new.ensures.origin c.in_ok-new.ensures.recipient in
     let there : Some c.in-Ok.pair.now
     ≡ find (λ e. is_eq (pair_cmp g.P.Ord.cmp (key_of e) (c.args.origin.now, c.args.recipient.now)))
     c.args.self.now.entries =

@@ -1,5 +1,4 @@
 use Rattle.std.proofs.Common.{◌≡◌, true, None, map, ap, ◌∙◌}
-use Rattle.std.specs.Ordering.{is_eq}
 use Rattle.fair_rates.specs.Lists.Sorted.{are_ascending}
 use Rattle.link_pairs.specs.Pairs.Entries.{pair_cmp, key_of, link_of}
 use Rattle.fair_rates.proofs.Lists.Sorted.{either}
@@ -10,20 +9,16 @@ use Rattle.link_pairs.proofs.known_pairs.Pairs.set.Goals as goal
 
 pub replace-requires-clause-same : goal.replace-requires-clause-same
 replace-requires-clause-same g c origin recipient =
-    let key = c.in_ok-new.field-0 in
-    let same : is_eq (pair_cmp g.P.Ord.cmp (key.origin, key.recipient) (c.args.origin.now, c.args.recipient.now)) ≡ true =
-    same_key g.P.Ord.cmp g.met.P.Ord.total c.args.origin.now c.args.recipient.now key.origin key.recipient
-    c.in_ok-new.ensures.origin c.in_ok-new.ensures.recipient in
+    let same =
+    same_key g.P.Ord.cmp g.met.P.Ord.total _ _ _ _ c.in_ok-new.ensures.origin c.in_ok-new.ensures.recipient in
     order_found g.P.Ord.cmp g.met.P.Ord.total c.args.self.now.entries c.args.origin.now c.args.recipient.now c.in-Ok.at
-    (record { key = c.in_ok-new.field-0; cap = c.args.cap; last_arrival = c.args.last_arrival }) c.in-Ok.ensures.found same
-    origin recipient
+    (record { key = c.in_ok-new.field-0; cap = c.args.cap; last_arrival = c.args.last_arrival }) c.in-Ok.ensures.found
+    same origin recipient
 
 pub invariant_of-self : goal.invariant_of-self
 invariant_of-self g c =
-    let key = c.in_ok-new.field-0 in
-    let same : is_eq (pair_cmp g.P.Ord.cmp (key.origin, key.recipient) (c.args.origin.now, c.args.recipient.now)) ≡ true =
-    same_key g.P.Ord.cmp g.met.P.Ord.total c.args.origin.now c.args.recipient.now key.origin key.recipient
-    c.in_ok-new.ensures.origin c.in_ok-new.ensures.recipient in
+    let same =
+    same_key g.P.Ord.cmp g.met.P.Ord.total _ _ _ _ c.in_ok-new.ensures.origin c.in_ok-new.ensures.recipient in
     record {
       ascending =
           rw c.replace.ensures.items (either (λ es. are_ascending (pair_cmp g.P.Ord.cmp) (map key_of es) ≡ true) _
@@ -33,8 +28,9 @@ invariant_of-self g c =
           c.args.self.now.ascending);
       unlinked =
           λ free a b. rw c.replace.ensures.items (either (λ es. link_of g.P.Ord.cmp es a b ≡ None) _
-          (ap (λ links. links a b) (pair_found g.P.Ord.cmp g.met.P.Ord.total c.args.self.now.entries c.args.origin.now c.args.recipient.now
-          c.in-Ok.at (record { key = c.in_ok-new.field-0; cap = c.args.cap; last_arrival = c.args.last_arrival })
+          (ap (λ links. links a b) (pair_found g.P.Ord.cmp g.met.P.Ord.total c.args.self.now.entries c.args.origin.now
+          c.args.recipient.now c.in-Ok.at
+          (record { key = c.in_ok-new.field-0; cap = c.args.cap; last_arrival = c.args.last_arrival })
           c.args.self.now.ascending c.in-Ok.ensures.found same).link_is
           ∙ link_free g.P.Ord.cmp g.met.P.Ord.total (link_of g.P.Ord.cmp c.args.self.now.entries) c.args.origin.now
           c.args.recipient.now c.args.cap (c.requires.linked free) (c.args.self.now.unlinked free) a b)
@@ -43,10 +39,8 @@ invariant_of-self g c =
 
 pub returns-in_ok-replace-in-Ok-clause-link : goal.returns-in_ok-replace-in-Ok-clause-link
 returns-in_ok-replace-in-Ok-clause-link g c =
-    let key = c.in_ok-new.field-0 in
-    let same : is_eq (pair_cmp g.P.Ord.cmp (key.origin, key.recipient) (c.args.origin.now, c.args.recipient.now)) ≡ true =
-    same_key g.P.Ord.cmp g.met.P.Ord.total c.args.origin.now c.args.recipient.now key.origin key.recipient
-    c.in_ok-new.ensures.origin c.in_ok-new.ensures.recipient in
+    let same =
+    same_key g.P.Ord.cmp g.met.P.Ord.total _ _ _ _ c.in_ok-new.ensures.origin c.in_ok-new.ensures.recipient in
     rw c.in_ok-replace-in-Ok.ensures.items
     (pair_found g.P.Ord.cmp g.met.P.Ord.total c.args.self.now.entries c.args.origin.now c.args.recipient.now
     c.in-Ok.at (record { key = c.in_ok-new.field-0; cap = c.args.cap; last_arrival = c.args.last_arrival })
@@ -54,10 +48,8 @@ returns-in_ok-replace-in-Ok-clause-link g c =
 
 pub returns-in_ok-replace-in-Ok-clause-arrival : goal.returns-in_ok-replace-in-Ok-clause-arrival
 returns-in_ok-replace-in-Ok-clause-arrival g c =
-    let key = c.in_ok-new.field-0 in
-    let same : is_eq (pair_cmp g.P.Ord.cmp (key.origin, key.recipient) (c.args.origin.now, c.args.recipient.now)) ≡ true =
-    same_key g.P.Ord.cmp g.met.P.Ord.total c.args.origin.now c.args.recipient.now key.origin key.recipient
-    c.in_ok-new.ensures.origin c.in_ok-new.ensures.recipient in
+    let same =
+    same_key g.P.Ord.cmp g.met.P.Ord.total _ _ _ _ c.in_ok-new.ensures.origin c.in_ok-new.ensures.recipient in
     rw c.in_ok-replace-in-Ok.ensures.items
     (pair_found g.P.Ord.cmp g.met.P.Ord.total c.args.self.now.entries c.args.origin.now c.args.recipient.now
     c.in-Ok.at (record { key = c.in_ok-new.field-0; cap = c.args.cap; last_arrival = c.args.last_arrival })
@@ -67,10 +59,8 @@ returns-in_ok-replace-in-Ok-clause-arrival g c =
 
 pub invariant_of-self-in-Err : goal.invariant_of-self-in-Err
 invariant_of-self-in-Err g c =
-    let key = c.in_ok-new.field-0 in
-    let same : is_eq (pair_cmp g.P.Ord.cmp (key.origin, key.recipient) (c.args.origin.now, c.args.recipient.now)) ≡ true =
-    same_key g.P.Ord.cmp g.met.P.Ord.total c.args.origin.now c.args.recipient.now key.origin key.recipient
-    c.in_ok-new.ensures.origin c.in_ok-new.ensures.recipient in
+    let same =
+    same_key g.P.Ord.cmp g.met.P.Ord.total _ _ _ _ c.in_ok-new.ensures.origin c.in_ok-new.ensures.recipient in
     record {
       ascending =
           rw c.insert.ensures.items (either (λ es. are_ascending (pair_cmp g.P.Ord.cmp) (map key_of es) ≡ true) _
@@ -80,8 +70,9 @@ invariant_of-self-in-Err g c =
           c.args.self.now.ascending);
       unlinked =
           λ free a b. rw c.insert.ensures.items (either (λ es. link_of g.P.Ord.cmp es a b ≡ None) _
-          (ap (λ links. links a b) (pair_added g.P.Ord.cmp g.met.P.Ord.total c.args.self.now.entries c.args.origin.now c.args.recipient.now
-          c.in-Err.at (record { key = c.in_ok-new.field-0; cap = c.args.cap; last_arrival = c.args.last_arrival })
+          (ap (λ links. links a b) (pair_added g.P.Ord.cmp g.met.P.Ord.total c.args.self.now.entries c.args.origin.now
+          c.args.recipient.now c.in-Err.at
+          (record { key = c.in_ok-new.field-0; cap = c.args.cap; last_arrival = c.args.last_arrival })
           c.args.self.now.ascending c.in-Err.ensures.absent same).link_is
           ∙ link_free g.P.Ord.cmp g.met.P.Ord.total (link_of g.P.Ord.cmp c.args.self.now.entries) c.args.origin.now
           c.args.recipient.now c.args.cap (c.requires.linked free) (c.args.self.now.unlinked free) a b)
@@ -90,10 +81,8 @@ invariant_of-self-in-Err g c =
 
 pub returns-in_ok-insert-in-Err-clause-link : goal.returns-in_ok-insert-in-Err-clause-link
 returns-in_ok-insert-in-Err-clause-link g c =
-    let key = c.in_ok-new.field-0 in
-    let same : is_eq (pair_cmp g.P.Ord.cmp (key.origin, key.recipient) (c.args.origin.now, c.args.recipient.now)) ≡ true =
-    same_key g.P.Ord.cmp g.met.P.Ord.total c.args.origin.now c.args.recipient.now key.origin key.recipient
-    c.in_ok-new.ensures.origin c.in_ok-new.ensures.recipient in
+    let same =
+    same_key g.P.Ord.cmp g.met.P.Ord.total _ _ _ _ c.in_ok-new.ensures.origin c.in_ok-new.ensures.recipient in
     rw c.in_ok-insert-in-Err.ensures.items
     (pair_added g.P.Ord.cmp g.met.P.Ord.total c.args.self.now.entries c.args.origin.now c.args.recipient.now
     c.in-Err.at (record { key = c.in_ok-new.field-0; cap = c.args.cap; last_arrival = c.args.last_arrival })
@@ -101,10 +90,8 @@ returns-in_ok-insert-in-Err-clause-link g c =
 
 pub returns-in_ok-insert-in-Err-clause-arrival : goal.returns-in_ok-insert-in-Err-clause-arrival
 returns-in_ok-insert-in-Err-clause-arrival g c =
-    let key = c.in_ok-new.field-0 in
-    let same : is_eq (pair_cmp g.P.Ord.cmp (key.origin, key.recipient) (c.args.origin.now, c.args.recipient.now)) ≡ true =
-    same_key g.P.Ord.cmp g.met.P.Ord.total c.args.origin.now c.args.recipient.now key.origin key.recipient
-    c.in_ok-new.ensures.origin c.in_ok-new.ensures.recipient in
+    let same =
+    same_key g.P.Ord.cmp g.met.P.Ord.total _ _ _ _ c.in_ok-new.ensures.origin c.in_ok-new.ensures.recipient in
     rw c.in_ok-insert-in-Err.ensures.items
     (pair_added g.P.Ord.cmp g.met.P.Ord.total c.args.self.now.entries c.args.origin.now c.args.recipient.now
     c.in-Err.at (record { key = c.in_ok-new.field-0; cap = c.args.cap; last_arrival = c.args.last_arrival })

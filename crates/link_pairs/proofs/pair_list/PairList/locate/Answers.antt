@@ -25,7 +25,8 @@ returns-in-Some-clause-item g c =
     let inside = c.self.inside in
     let late = c.in-Some.late in
     let this : inside.late ≡ Some late = search rules in
-    let is : IsLate g.P.Ord.cmp (Some late) inside.settled = subst (λ o. IsLate g.P.Ord.cmp o inside.settled) this c.self.invariant in
+    let is : IsLate g.P.Ord.cmp (Some late) inside.settled =
+    subst (λ o. IsLate g.P.Ord.cmp o inside.settled) this c.self.invariant in
     let there : late.at ≡ c.locate-at.result.0 = search rules in
     let pair : c.as_ref.result.now ≡ late.pair.value = search rules in
     ap Some pair

@@ -1,7 +1,5 @@
-use Rattle.std.proofs.Common.{◌≡◌, ◌<◌, Bool, List, length, map, slice_set, sym, ap, ◌∙◌, subst, rules}
-use Rattle.std.specs.Ordering.{is_lt}
-use Rattle.link_pairs.specs.Pairs.Entries.{pair_cmp, key_of}
-use Rattle.link_pairs.specs.declared.known_pairs.Pair.{Pair}
+use Rattle.std.proofs.Common.{◌≡◌, ◌<◌, length, sym, subst, rules}
+use Rattle.link_pairs.specs.Pairs.Late.{StandsAsWell}
 use Rattle.link_pairs.proofs.pair_list.PairList.replace.Goals.{in-Some+in_ok-clone+in_ok-set, in_default}
 use Rattle.link_pairs.proofs.pair_list.PairList.replace.Goals as goal
 
@@ -11,12 +9,10 @@ invariant_of-self-2 g c =
       | in-Some+in_ok-clone+in_ok-set w ↦ search rules
       | in_default w ↦ search rules
     ] in
-    let pair = c.in_ok-pair.ensures.ok in (
-      subst (λ l. c.args.at < length l) (sym settled) c.requires.place,
-      λ o r.
-          let before : Pair g.row.P.Denot → Bool = λ p. is_lt (pair_cmp g.P.Ord.cmp (key_of p) (o, r)) in
-          ap (λ (p : Pair g.row.P.Denot). map before (slice_set c.match-self.self-inside.settled c.args.at p)) pair
-          ∙ ap (λ (l : List (Pair g.row.P.Denot)). map before (slice_set l c.args.at c.args.pair)) settled
-          ∙ c.requires.same o r
-          ∙ sym (ap (map before) settled),
+    let place : c.args.at < length c.match-self.self-inside.settled =
+    subst (λ l. c.args.at < length l) (sym settled) c.requires.place in
+    let as_well : StandsAsWell g.P.Ord.cmp c.match-self.self-inside.settled c.args.at c.args.pair =
+    subst (λ l. StandsAsWell g.P.Ord.cmp l c.args.at c.args.pair) (sym settled) c.requires.same in (
+      place,
+      subst (StandsAsWell g.P.Ord.cmp c.match-self.self-inside.settled c.args.at) (sym c.in_ok-pair.ensures.ok) as_well,
     )
